@@ -1,0 +1,81 @@
+-- The rows, computed.
+use Rattle.std.proofs.Common.{◌≡◌, ℕ, ◌+◌, ◌<◌, ◌≤◌, Bool, true, List, [], ◌∷◌, length, get_or, Contains, refl, sym, subst, arith, zero, suc}
+use Rattle.std.specs.List.{list_any, list_all}
+use Rattle.std.specs.List.Sorted.{IsStrictlyIncreasing}
+use Rattle.std.specs.Prelude.{All, slice_index, nat_lt, ◌==◌, ◌&&◌}
+use Rattle.std.proofs.lemmas.List.Sums.{AllPass-from_list_all}
+use Rattle.std.proofs.lemmas.List.Elements.{All-contains}
+use Rattle.std.proofs.lemmas.Bool.{and_parts, ltb-true}
+use Rattle.coflow_units.specs.declared.fabric.Flow.{Flow}
+use Rattle.coflow_units.specs.Flows.{Instance, IsInstance, coflow_of, units_of}
+use Rattle.coflow_units.specs.Completion.{cost}
+use Rattle.coflow_units.specs.Certificate.{Entry, bound, front, order_of, slack}
+use Rattle.coflow_units.specs.Ordering.{IsOrdering}
+use Rattle.coflow_units.specs.Rows.{IsRow, equal_weights, EqualWeights, unequal_weights, UnequalWeights, one_empty, OneEmpty, all_ties, AllTies, realistic, Realistic}
+use Rattle.coflow_units.proofs.Ends.{into_reverse}
+use Rattle.coflow_units.proofs.OrderingExists.{ordering_of, ordering_exists}
+use Rattle.coflow_units.proofs.ServedExists.{serve, served_exists}
+use Rattle.coflow_units.proofs.Sums.{any_has}
+
+-- the tests of IsInstance on a list that is written out
+abbrev Rising : List ℕ → Type 0
+Rising [] = Unit {0}
+Rising (x ∷ []) = Unit {0}
+Rising (x ∷ y ∷ xs) = (x < y) × Rising (y ∷ xs)
+
+rising : (xs : List ℕ) → Rising xs → IsStrictlyIncreasing xs
+rising [] up k lt = absurd (omega arith)
+rising (x ∷ []) up k lt = absurd (omega arith)
+rising (x ∷ y ∷ xs) up zero lt = up.0
+rising (x ∷ y ∷ xs) up (suc k) lt =
+    let e : suc k + 1 ≡ suc (k + 1) = omega arith in
+    subst (λ n. slice_index (y ∷ xs) k < slice_index (x ∷ y ∷ xs) n) (sym e) (rising (y ∷ xs) up.1 k (omega arith))
+
+abbrev fits : List ℕ → ℕ → Flow → Bool
+fits coflows ports x = list_any (λ c. c == x.coflow) coflows && (nat_lt x.ingress ports && nat_lt x.egress ports)
+
+all_fit : (coflows : List ℕ) (ports : ℕ) (flows : List Flow) → list_all (fits coflows ports) flows ≡ true → All (λ (x : Flow). fits coflows ports x ≡ true) flows
+all_fit coflows ports flows e = AllPass-from_list_all (fits coflows ports) flows e
+
+is_instance : (i : Instance) → Rising i.coflows → 1 ≤ i.ports → list_all (fits i.coflows i.ports) i.flows ≡ true → IsInstance i
+is_instance i up some e =
+    let each = λ (k : ℕ) (d : Flow) (lt : k < length i.flows). and_parts (list_any (λ c. c == (get_or i.flows k d).coflow) i.coflows) (nat_lt (get_or i.flows k d).ingress i.ports && nat_lt (get_or i.flows k d).egress i.ports) (all_fit i.coflows i.ports i.flows e k d lt) in
+    let ports = λ (k : ℕ) (d : Flow) (lt : k < length i.flows). and_parts (nat_lt (get_or i.flows k d).ingress i.ports) (nat_lt (get_or i.flows k d).egress i.ports) (each k d lt).1 in
+    record {
+      ascending = rising i.coflows up;
+      has_ports = some;
+      coflow = λ k d lt units. any_has i.coflows (get_or i.flows k d).coflow (each k d lt).0;
+      ingress = λ k d lt. ltb-true (get_or i.flows k d).ingress i.ports (ports k d lt).0;
+      egress = λ k d lt. ltb-true (get_or i.flows k d).egress i.ports (ports k d lt).1;
+    }
+
+-- the ordering certificate names the coflow of each flow
+named : (i : Instance) (entries : List Entry) → IsInstance i → IsOrdering i entries → (f : ℕ) → f < length i.flows → 0 < units_of i.flows f → Contains (order_of entries) (coflow_of i.flows f)
+named i entries inst ordering f lt some =
+    into_reverse (front entries) (coflow_of i.flows f) (All-contains (Contains (front entries)) i.coflows (coflow_of i.flows f) ordering.certificate.all (inst.coflow f record { coflow = 0; ingress = 0; egress = 0; units = 0 } lt some))
+
+-- the row of an instance, from what is computed for it
+row : (i : Instance) (low lack total : ℕ) → IsInstance i → bound i.flows (ordering_of i) ≡ low → slack i.flows i.weight (ordering_of i) ≡ lack →
+    cost i.flows i.weight i.coflows (serve i.flows (order_of (ordering_of i))) ≡ total → IsRow i (ordering_of i) (serve i.flows (order_of (ordering_of i))) low lack total
+row i low lack total inst b s c = record {
+  ordering = ordering_exists i inst;
+  served = served_exists i.flows (order_of (ordering_of i)) (named i (ordering_of i) inst (ordering_exists i inst));
+  bound_is = b;
+  slack_is = s;
+  cost_is = c;
+}
+
+pub equal_row : EqualWeights
+equal_row = row equal_weights 5 1 5 (is_instance equal_weights (omega arith, tt) (omega arith) refl) refl refl refl
+
+pub unequal_row : UnequalWeights
+unequal_row = row unequal_weights 19 1 19 (is_instance unequal_weights (omega arith, tt) (omega arith) refl) refl refl refl
+
+pub empty_row : OneEmpty
+empty_row = row one_empty 2 0 2 (is_instance one_empty (omega arith, tt) (omega arith) refl) refl refl refl
+
+pub ties_row : AllTies
+ties_row = row all_ties 3 0 4 (is_instance all_ties (omega arith, tt) (omega arith) refl) refl refl refl
+
+pub realistic_row : Realistic
+realistic_row = row realistic 15 1 16 (is_instance realistic (omega arith, (omega arith, tt)) (omega arith) refl) refl refl refl

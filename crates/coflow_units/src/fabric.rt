@@ -1,0 +1,24 @@
+//! Ports and flows of the fabric. Ingress port 3 and egress port 3 are different ports.
+
+/// The side of the fabric on which a port lies.
+#[derive(Clone, Copy, Debug, PartialEq, Eq)]
+pub enum Side {
+    Ingress,
+    Egress,
+}
+
+/// A port of the fabric. It carries at most one unit in a slot.
+#[derive(Clone, Copy, Debug, PartialEq, Eq)]
+pub struct Port {
+    pub side: Side,
+    pub number: u32,
+}
+
+/// What one coflow sends from one ingress port to one egress port, in units.
+#[derive(Clone, Copy, Debug, PartialEq, Eq)]
+pub struct Flow {
+    pub coflow: u32,
+    pub ingress: u32,
+    pub egress: u32,
+    pub units: u64,
+}

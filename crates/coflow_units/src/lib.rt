@@ -1,0 +1,22 @@
+// Coflows on a fabric of ports: the values that all crates speak of, the limits of an input, and the definitions and laws that contracts cite.
+#![tactic(auto)]
+
+mod fabric;
+mod items;
+pub mod laws;
+mod limits;
+mod memory;
+mod plan;
+mod quantity;
+mod trace;
+
+pub use fabric::{Flow, Port, Side};
+pub use items::Items;
+pub use limits::{
+    MAX_CLIENTS, MAX_COFLOWS, MAX_COMMANDS, MAX_FLOWS, MAX_MAPPERS, MAX_MEGABYTES, MAX_PORTS,
+    MAX_PUBLISHINGS, MAX_REDUCERS, MAX_SLOT, MAX_TEXT, MAX_UNITS, MAX_WEIGHT,
+};
+pub use memory::NoMemory;
+pub use plan::{Place, Run};
+pub use quantity::Quantity;
+pub use trace::{CoflowLine, Reducer, Trace};
