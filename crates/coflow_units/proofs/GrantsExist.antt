@@ -9,11 +9,9 @@ use Rattle.std.proofs.lemmas.Bool.{ltb-true, ltb-false, lt-ltb, eqb-true, eq-eqb
 use Rattle.coflow_units.specs.declared.fabric.Flow.{Flow}
 use Rattle.coflow_units.specs.Flows.{coflow_of, ingress_of, egress_of, SharesPort}
 use Rattle.coflow_units.specs.Grants.{place_in, ComesBefore, IsBlocked, IsGrants}
-use Rattle.coflow_units.proofs.CoflowEnds.{any_where, any_from}
+use Rattle.coflow_units.proofs.Lists.{any_where, any_from, filter_in, keeps, number_in, number_below, numbers_apart}
 use Rattle.coflow_units.proofs.GrantLaws.{rank, rank_falls}
-use Rattle.coflow_units.proofs.OrderingExists.{filter_in, keeps}
 use Rattle.coflow_units.proofs.ServedLaws.{some_order}
-use Rattle.coflow_units.proofs.SlotLoads.{number_in, number_below, numbers_apart}
 use Rattle.coflow_units.proofs.Sums.{any_has, any_in, in_first, in_tail, nothing_in, first_or_tail, all_of_members, Apart, or_right}
 
 -- ---- numbers sorted by a key

@@ -4,16 +4,12 @@ use Rattle.std.specs.List.{list_any, list_all}
 use Rattle.std.specs.List.Sorted.{IsStrictlyIncreasing}
 use Rattle.std.specs.Prelude.{All, slice_index, nat_lt, ◌==◌, ◌&&◌}
 use Rattle.std.proofs.lemmas.List.Sums.{AllPass-from_list_all}
-use Rattle.std.proofs.lemmas.List.Elements.{All-contains}
 use Rattle.std.proofs.lemmas.Bool.{and_parts, ltb-true}
 use Rattle.coflow_units.specs.declared.fabric.Flow.{Flow}
 use Rattle.coflow_units.specs.Flows.{Instance, IsInstance, coflow_of, units_of}
 use Rattle.coflow_units.specs.Completion.{cost}
-use Rattle.coflow_units.specs.Certificate.{Entry, bound, front, order_of, slack}
-use Rattle.coflow_units.specs.Ordering.{IsOrdering}
-use Rattle.coflow_units.specs.Rows.{IsRow, equal_weights, EqualWeights, unequal_weights, UnequalWeights, one_empty, OneEmpty, all_ties, AllTies, realistic, Realistic}
-use Rattle.coflow_units.proofs.Ends.{into_reverse}
-use Rattle.coflow_units.proofs.OrderingExists.{ordering_of, ordering_exists}
+use Rattle.coflow_units.specs.Certificate.{Entry, bound, order_of, slack}
+use Rattle.coflow_units.specs.Rows.{IsRow, equal_weights, equal_weights_places, EqualWeights, unequal_weights, unequal_weights_places, UnequalWeights, one_empty, one_empty_places, OneEmpty, all_ties, all_ties_places, AllTies, realistic, realistic_places, Realistic}
 use Rattle.coflow_units.proofs.ServedExists.{serve, served_exists}
 use Rattle.coflow_units.proofs.Sums.{any_has}
 
@@ -49,33 +45,48 @@ is_instance i up some e =
       egress = λ k d lt. ltb-true (get_or i.flows k d).egress i.ports (ports k d lt).1;
     }
 
--- the ordering certificate names the coflow of each flow
-named : (i : Instance) (entries : List Entry) → IsInstance i → IsOrdering i entries → (f : ℕ) → f < length i.flows → 0 < units_of i.flows f → Contains (order_of entries) (coflow_of i.flows f)
-named i entries inst ordering f lt some =
-    into_reverse (front entries) (coflow_of i.flows f) (All-contains (Contains (front entries)) i.coflows (coflow_of i.flows f) ordering.certificate.all (inst.coflow f record { coflow = 0; ingress = 0; egress = 0; units = 0 } lt some))
+-- a line names the coflow of each flow
+named : (flows : List Flow) (line : List ℕ) → list_all (λ (x : Flow). list_any (λ c. c == x.coflow) line) flows ≡ true → (f : ℕ) → f < length flows → 0 < units_of flows f → Contains line (coflow_of flows f)
+named flows line e f lt some =
+    any_has line (coflow_of flows f) (AllPass-from_list_all (λ (x : Flow). list_any (λ c. c == x.coflow) line) flows e f record { coflow = 0; ingress = 0; egress = 0; units = 0 } lt)
 
--- the row of an instance, from what is computed for it
-row : (i : Instance) (low lack total : ℕ) → IsInstance i → bound i.flows (ordering_of i) ≡ low → slack i.flows i.weight (ordering_of i) ≡ lack →
-    cost i.flows i.weight i.coflows (serve i.flows (order_of (ordering_of i))) ≡ total → IsRow i (ordering_of i) (serve i.flows (order_of (ordering_of i))) low lack total
-row i low lack total inst b s c = record {
-  ordering = ordering_exists i inst;
-  served = served_exists i.flows (order_of (ordering_of i)) (named i (ordering_of i) inst (ordering_exists i inst));
+-- the row of an instance and entries, from what is computed for them
+row : (i : Instance) (entries : List Entry) (low lack total : ℕ) → IsInstance i → list_all (λ (x : Flow). list_any (λ c. c == x.coflow) (order_of entries)) i.flows ≡ true → bound i.flows entries ≡ low → slack i.flows i.weight entries ≡ lack →
+    cost i.flows i.weight i.coflows (serve i.flows (order_of entries)) ≡ total → IsRow i entries (serve i.flows (order_of entries)) low lack total
+row i entries low lack total inst all b s c = record {
+  instance = inst;
+  served = served_exists i.flows (order_of entries) (named i.flows (order_of entries) all);
   bound_is = b;
   slack_is = s;
   cost_is = c;
 }
 
+pub equal_instance : IsInstance equal_weights
+equal_instance = is_instance equal_weights (omega arith, tt) (omega arith) refl
+
+pub unequal_instance : IsInstance unequal_weights
+unequal_instance = is_instance unequal_weights (omega arith, tt) (omega arith) refl
+
+pub empty_instance : IsInstance one_empty
+empty_instance = is_instance one_empty (omega arith, tt) (omega arith) refl
+
+pub ties_instance : IsInstance all_ties
+ties_instance = is_instance all_ties (omega arith, tt) (omega arith) refl
+
+pub realistic_instance : IsInstance realistic
+realistic_instance = is_instance realistic (omega arith, (omega arith, tt)) (omega arith) refl
+
 pub equal_row : EqualWeights
-equal_row = row equal_weights 5 1 5 (is_instance equal_weights (omega arith, tt) (omega arith) refl) refl refl refl
+equal_row = row equal_weights equal_weights_places 5 1 5 equal_instance refl refl refl refl
 
 pub unequal_row : UnequalWeights
-unequal_row = row unequal_weights 19 1 19 (is_instance unequal_weights (omega arith, tt) (omega arith) refl) refl refl refl
+unequal_row = row unequal_weights unequal_weights_places 19 1 19 unequal_instance refl refl refl refl
 
 pub empty_row : OneEmpty
-empty_row = row one_empty 2 0 2 (is_instance one_empty (omega arith, tt) (omega arith) refl) refl refl refl
+empty_row = row one_empty one_empty_places 2 0 2 empty_instance refl refl refl refl
 
 pub ties_row : AllTies
-ties_row = row all_ties 3 0 4 (is_instance all_ties (omega arith, tt) (omega arith) refl) refl refl refl
+ties_row = row all_ties all_ties_places 3 0 4 ties_instance refl refl refl refl
 
 pub realistic_row : Realistic
-realistic_row = row realistic 15 1 16 (is_instance realistic (omega arith, (omega arith, tt)) (omega arith) refl) refl refl refl
+realistic_row = row realistic realistic_places 15 1 16 realistic_instance refl refl refl refl

@@ -12,10 +12,9 @@ use Rattle.coflow_units.specs.Flows.{coflow_of, units_of}
 use Rattle.coflow_units.specs.Grants.{IsGrants}
 use Rattle.coflow_units.specs.Schedule.{holds, times}
 use Rattle.coflow_units.specs.Served.{left_after, IsServed, IsServedSoFar}
-use Rattle.coflow_units.proofs.CoflowEnds.{any_where, any_from}
+use Rattle.coflow_units.proofs.Lists.{any_where, any_from, number_in, number_below}
 use Rattle.coflow_units.proofs.GrantsExist.{grants_of, grants_exist, numbers_of}
 use Rattle.coflow_units.proofs.Numbers.{zero_or_more}
-use Rattle.coflow_units.proofs.SlotLoads.{number_in, number_below}
 use Rattle.coflow_units.proofs.Sums.{any_in, nothing_in, first_or_tail, member_within_sum, sum_mono}
 
 abbrev pub owes : List Flow → List (List ℕ) → Bool

@@ -1,0 +1,5 @@
+pub mod BestOf
+pub mod OrderingLaws
+pub mod OrderingExists
+pub mod OrderingSteps
+pub mod RowOrders

@@ -1,0 +1,5 @@
+pub mod DualLaw
+pub mod Ends
+pub mod FourLaw
+pub mod PlaceNumbers
+pub mod SizeLaws

@@ -1,0 +1,47 @@
+//! Laws of certificates.
+ghost use Rattle.std.specs.Prelude.{◌≡◌, ℕ, ◌+◌, ◌*◌, ◌<◌, ◌≤◌, List, map, reverse, sum_by};
+ghost use Rattle.coflow_units.specs.declared.fabric.Flow.{Flow};
+ghost use Rattle.coflow_units.specs.declared.fabric.Port.{Port};
+ghost use Rattle.coflow_units.specs.Flows.{Instance, IsInstance};
+ghost use Rattle.coflow_units.specs.Load.{load, load_of_all};
+ghost use Rattle.coflow_units.specs.Schedule.{IsValid};
+ghost use Rattle.coflow_units.specs.Completion.{cost};
+ghost use Rattle.coflow_units.specs.Certificate.{Entry, dual_value_by_number, over_places, over_places_by_number, used_by_number, IsCertificate, IsFeasible, TakesGreatestPorts, bound, budget, front, unspent, order_of, rest, scale, slack, used, dual_value};
+ghost use Rattle.coflow_units.specs.Patient.{IsPatient};
+
+/// No valid schedule costs less than the bound of a feasible certificate.
+pub fn dual_is_bound()
+    ensures dual_value { (i : Instance) (entries : List Entry) (slots : List (List ℕ)) → IsCertificate i entries → IsFeasible i.flows i.weight entries → IsValid i.flows slots →
+        dual_value i.flows entries ≤ 2 * scale * cost i.flows i.weight i.coflows slots }
+    ensures bound { (i : Instance) (entries : List Entry) (slots : List (List ℕ)) → IsCertificate i entries → IsFeasible i.flows i.weight entries → IsValid i.flows slots →
+        bound i.flows entries ≤ cost i.flows i.weight i.coflows slots }
+{}
+
+/// A schedule that is patient for the order of a feasible certificate with greatest ports costs at most four times its bound and its slack.
+pub fn within_four()
+    ensures dual_value { (i : Instance) (entries : List Entry) (slots : List (List ℕ)) → IsInstance i → IsCertificate i entries → IsFeasible i.flows i.weight entries → TakesGreatestPorts i.flows i.ports entries →
+        IsValid i.flows slots → IsPatient i.flows (order_of entries) slots → scale * cost i.flows i.weight i.coflows slots ≤ 2 * dual_value i.flows entries + 2 * unspent i.flows i.weight entries }
+    ensures bound { (i : Instance) (entries : List Entry) (slots : List (List ℕ)) → IsInstance i → IsCertificate i entries → IsFeasible i.flows i.weight entries → TakesGreatestPorts i.flows i.ports entries →
+        IsValid i.flows slots → IsPatient i.flows (order_of entries) slots → cost i.flows i.weight i.coflows slots ≤ 4 * bound i.flows entries + slack i.flows i.weight entries }
+{}
+
+/// In a feasible certificate what a coflow pays and what it keeps are together its budget.
+pub fn rest_is_exact()
+    ensures { (flows : List Flow) (weight : ℕ → ℕ) (entries : List Entry) → IsFeasible flows weight entries → (c : ℕ) → used flows entries c + rest flows weight entries c ≡ budget weight c }
+{}
+
+/// The numbers of a feasible certificate are within the greatest load times the budgets.
+pub fn values_fit()
+    ensures dual_value { (i : Instance) (entries : List Entry) (k : ℕ) → IsCertificate i entries → IsFeasible i.flows i.weight entries → ((port : Port) → port.number < i.ports → load_of_all i.flows (front entries) port ≤ k) →
+        dual_value i.flows entries ≤ 2 * (k * sum_by (budget i.weight) (front entries)) }
+    ensures unspent { (i : Instance) (entries : List Entry) (k : ℕ) → IsCertificate i entries → ((port : Port) → port.number < i.ports → load_of_all i.flows (front entries) port ≤ k) →
+        unspent i.flows i.weight entries ≤ k * sum_by (budget i.weight) (front entries) }
+{}
+
+/// A certificate may be read from place 1 on, as a report lists the places: each sum over the list from the last place is the sum over the numbers of the places.
+pub fn places_have_numbers()
+    ensures used { (flows : List Flow) (places : List Entry) (c : ℕ) → used flows (reverse places) c ≡ used_by_number flows places c }
+    ensures dual_value { (flows : List Flow) (places : List Entry) → dual_value flows (reverse places) ≡ dual_value_by_number flows places }
+    ensures over_places { (flows : List Flow) (number : ℕ → ℕ) (places : List Entry) → over_places flows number (reverse places) ≡ over_places_by_number flows number places }
+    ensures order { (places : List Entry) → order_of (reverse places) ≡ map (λ (e : Entry). e.coflow) places }
+{}
