@@ -46,7 +46,7 @@ is_instance i up some e =
     }
 
 -- a line names the coflow of each flow
-named : (flows : List Flow) (line : List ℕ) → list_all (λ (x : Flow). list_any (λ c. c == x.coflow) line) flows ≡ true → (f : ℕ) → f < length flows → 0 < units_of flows f → Contains line (coflow_of flows f)
+pub named : (flows : List Flow) (line : List ℕ) → list_all (λ (x : Flow). list_any (λ c. c == x.coflow) line) flows ≡ true → (f : ℕ) → f < length flows → 0 < units_of flows f → Contains line (coflow_of flows f)
 named flows line e f lt some =
     any_has line (coflow_of flows f) (AllPass-from_list_all (λ (x : Flow). list_any (λ c. c == x.coflow) line) flows e f record { coflow = 0; ingress = 0; egress = 0; units = 0 } lt)
 

@@ -1,13 +1,16 @@
 //! Laws of the definitions. Each says something of every set of flows, order and schedule.
-ghost use Rattle.std.specs.Prelude.{◌≡◌, ℕ, ◌+◌, ◌<◌, ◌≤◌, ◌++◌, List, Contains, length, replicate};
+ghost use Rattle.std.specs.Prelude.{◌≡◌, ◌≢◌, ℕ, ◌+◌, ◌<◌, ◌≤◌, ◌++◌, List, Contains, length, replicate};
 ghost use Rattle.std.specs.List.Sorted.{IsStrictlyIncreasing};
 ghost use Rattle.coflow_units.specs.declared.fabric.Flow.{Flow};
 ghost use Rattle.coflow_units.specs.Flows.{Instance, IsInstance, coflow_of, units_of, with_units};
 ghost use Rattle.coflow_units.specs.Schedule.{IsClear, IsRuns, IsValid};
 ghost use Rattle.coflow_units.specs.Patient.{IsPatient};
+ghost use Rattle.coflow_units.specs.PortWord.{FitsWord, word_of};
+ghost use Rattle.coflow_units.specs.PortWord.PortStage.{drawn, granted, reported};
 ghost use Rattle.coflow_units.specs.Grants.{IsGrants};
 ghost use Rattle.coflow_units.specs.Rows.{AllTies, EqualWeights, OneEmpty, Realistic, UnequalWeights};
 ghost use Rattle.coflow_units.specs.Served.{IsServed, IsServedSoFar, left_after};
+ghost use Rattle.coflow_units.specs.SmallCases.{TwoFlowsHold, TwoFlowsRefuse};
 
 /// One set alone is the grants of a slot.
 pub fn grants_are_one()
@@ -72,4 +75,19 @@ pub fn rows_hold()
     ensures one_empty { OneEmpty }
     ensures all_ties { AllTies }
     ensures realistic { Realistic }
+{}
+
+/// Each definition holds of some of the small cases and not of others.
+pub fn small_cases_hold()
+    ensures holds { TwoFlowsHold }
+    ensures refuses { TwoFlowsRefuse }
+{}
+
+/// The word of a port tells its stage, its slot and its flow.
+pub fn port_words_tell()
+    ensures same { (slot flow slot' flow' : ℕ) → FitsWord slot flow → FitsWord slot' flow' → word_of granted slot flow ≡ word_of granted slot' flow' → (slot ≡ slot') × (flow ≡ flow') }
+    ensures granted { (agent slot flow slot' flow' : ℕ) → FitsWord slot flow → FitsWord slot' flow' → word_of granted slot flow ≢ word_of (drawn agent) slot' flow' }
+    ensures drawn { (agent other units slot flow slot' flow' : ℕ) → FitsWord slot flow → FitsWord slot' flow' → word_of (drawn agent) slot flow ≢ word_of (reported other units) slot' flow' }
+    ensures posted { word_of granted 1 0 ≡ 2305843009214742528 }
+    ensures taken { (agent : ℕ) → word_of (drawn agent) 1 0 ≡ 4611686018428436480 }
 {}

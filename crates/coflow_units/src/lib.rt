@@ -6,6 +6,7 @@ mod items;
 pub mod laws;
 mod limits;
 mod memory;
+mod plain;
 mod plan;
 mod quantity;
 mod trace;
@@ -17,6 +18,10 @@ pub use limits::{
     MAX_PUBLISHINGS, MAX_REDUCERS, MAX_SLOT, MAX_TEXT, MAX_UNITS, MAX_WEIGHT,
 };
 pub use memory::NoMemory;
+pub use plain::load_of;
 pub use plan::{Place, Run};
 pub use quantity::Quantity;
 pub use trace::{CoflowLine, Reducer, Trace};
+
+#[cfg(test)]
+mod tests;
