@@ -109,29 +109,6 @@ rests_below flows weight ports whole later (e ∷ before) ordered apart pays =
 pub ordering_rests : (i : Instance) (entries : List Entry) → IsOrdering i entries → IsBelowLoads i.flows (rest i.flows i.weight entries) entries
 ordering_rests i entries ordering = rests_below i.flows i.weight i.ports entries [] entries ordering.ordered (apart_from_pairs (front entries) ordering.certificate.once) (λ c has. omega arith)
 
--- ---- the slack
-
-term_within : (r l b k : ℕ) → (0 < b → r < l) → l ≤ b → b ≤ k → r * b ≤ k * k
-term_within r l b k below own cap = elim (zero_or_more b) [
-  | inl e ↦ omega (arith, ap (λ n. r * n) e)
-  | inr some ↦ le_trans (mul-le-mul_right b (le_trans (le_of_lt (below some)) (le_trans own cap))) (mul-le-mul_left k cap)
-]
-
-loose_within : (flows : List Flow) (ports k : ℕ) (rests : ℕ → ℕ) (entries : List Entry) → All (λ (e : Entry). e.port.number < ports) entries → IsBelowLoads flows rests entries →
-    ((port : Port) → port.number < ports → load_of_all flows (front entries) port ≤ k) → over_places flows rests entries ≤ length entries * (k * k)
-loose_within flows ports k rests [] inside below cap = omega arith
-loose_within flows ports k rests (e ∷ before) inside below cap =
-    let here = cap e.port (All-head (λ (x : Entry). x.port.number < ports) e before inside) in
-    let term = term_within (rests e.coflow) (load flows e.coflow e.port) (front_load flows (e ∷ before)) k below.0 (member_within_sum (λ c. load flows c e.port) (front (e ∷ before)) e.coflow (in_first e.coflow (front before))) here in
-    let later = loose_within flows ports k rests before (All-tail (λ (x : Entry). x.port.number < ports) e before inside) below.1
-    (λ port lt. le_trans (omega (arith, sum_by-cons (λ c. load flows c port) e.coflow (front before))) (cap port lt)) in
-    omega (arith, term, later)
-
-pub slack_law : (i : Instance) (entries : List Entry) → IsOrdering i entries → ((port : Port) → port.number < i.ports → load_of_all i.flows (front entries) port ≤ 2 ^ 20) → slack i.flows i.weight entries ≤ 2 * length entries
-slack_law i entries ordering cap =
-    div_up_least (2 * unspent i.flows i.weight entries) scale (2 * length entries) (omega arith)
-    (omega (arith, loose_within i.flows i.ports (2 ^ 20) (rest i.flows i.weight entries) entries ordering.certificate.port (ordering_rests i entries ordering) cap))
-
 -- ---- one alone
 
 same_port : (ports : ℕ) (s t : Side) (m n : ℕ) → m < ports → n < ports → port_place_on s ports m ≡ port_place_on t ports n → (s ≡ t) × (m ≡ n)

@@ -7,26 +7,21 @@ ghost use Rattle.coflow_units.specs.Certificate.{Entry, IsBelowLoads, IsFeasible
 ghost use Rattle.coflow_units.specs.Ordering.{IsOrdering};
 ghost use Rattle.coflow_units.specs.Rows.{all_ties, all_ties_places, equal_weights, equal_weights_places, one_empty, one_empty_places, realistic, realistic_places, unequal_weights, unequal_weights_places};
 
-/// An instance has one ordering certificate at most.
+/// An instance has at most one ordering certificate: the rules leave no tie open.
 pub fn ordering_is_one()
     ensures { (i : Instance) (a b : List Entry) → IsOrdering i a → IsOrdering i b → a ≡ b }
 {}
 
-/// An instance has an ordering certificate.
+/// Each instance has an ordering certificate, also one without coflows or without flows.
 pub fn ordering_exists()
     ensures { (i : Instance) → IsInstance i → (entries : List Entry) × IsOrdering i entries }
 {}
 
-/// The ordering certificate is feasible, its ports are greatest ones, and each rest is below the load.
+/// The ordering certificate is feasible; each of its ports has the greatest load of its front; and where that load is not 0, what the placed coflow keeps is below its own load there.
 pub fn ordering_is_feasible()
     ensures feasible { (i : Instance) (entries : List Entry) → IsOrdering i entries → IsFeasible i.flows i.weight entries }
     ensures greatest { (i : Instance) (entries : List Entry) → IsOrdering i entries → TakesGreatestPorts i.flows i.ports entries }
     ensures below { (i : Instance) (entries : List Entry) → IsOrdering i entries → IsBelowLoads i.flows (rest i.flows i.weight entries) entries }
-{}
-
-/// The slack of the ordering certificate is at most 2 for each coflow, where no port has more than 2^20 units.
-pub fn slack_is_small()
-    ensures { (i : Instance) (entries : List Entry) → IsOrdering i entries → ((port : Port) → port.number < i.ports → load_of_all i.flows (front entries) port ≤ 2 ^ 20) → slack i.flows i.weight entries ≤ 2 * length entries }
 {}
 
 /// The orders that were worked out by hand are the ordering certificates of their instances.

@@ -4,7 +4,7 @@ use Rattle.std.specs.List.{slice_index_or}
 use Rattle.std.proofs.lemmas.Bool.{ltb-true}
 use Rattle.std.proofs.lemmas.List.Elements.{All-from_recursion}
 use Rattle.coflow_units.specs.Flows.{IsInstance, SharesPort, units_of}
-use Rattle.coflow_units.specs.Grants.{IsGrants}
+use Rattle.coflow_units.specs.Grants.{IsRunLength, IsGrants}
 use Rattle.coflow_units.specs.Schedule.{IsClear, IsRuns, IsValid}
 use Rattle.coflow_units.specs.Patient.{IsPatient}
 use Rattle.coflow_units.specs.Served.{IsServed}
@@ -17,6 +17,7 @@ use Rattle.coflow_units.proofs.RowChecks.{named}
 use Rattle.coflow_units.proofs.ServedExists.{served_exists}
 use Rattle.coflow_units.proofs.ServedLaws.{grants_clear, served_valid, served_patient}
 use Rattle.coflow_units.proofs.ServeLaws.{one_served}
+use Rattle.coflow_units.proofs.RunLengths.{one_run_length, run_length_is}
 use Rattle.coflow_units.proofs.Sums.{all_of_members, first_or_tail, in_first, in_tail, nothing_in, pairs_from_apart}
 
 served_case : IsServed two_flows (0 ∷ 1 ∷ []) longer_first_slots
@@ -68,6 +69,7 @@ two_flows_hold = record {
   patient = served_patient two_flows (0 ∷ 1 ∷ []) longer_first_slots served_case;
   feasible = feasible_case;
   certificate = certificate_case;
+  length = run_length_is (units_of two_flows) (0 ∷ []) 2;
   apart = grants_clear crossing (0 ∷ 1 ∷ []) (units_of crossing) (0 ∷ 1 ∷ []) (grants_exist crossing (0 ∷ 1 ∷ []) (units_of crossing));
 }
 
@@ -119,6 +121,8 @@ two_flows_refuse = record {
   valid = short;
   runs = cut;
   granted = idle_grants;
+  shorter = λ l. omega (arith, one_run_length (units_of two_flows) (0 ∷ []) 2 1 2 l (run_length_is (units_of two_flows) (0 ∷ []) 2));
+  longer = λ l. omega (arith, l.owed 0 (in_first 0 []));
   served = other_order;
   patient = waits_for_nobody;
   feasible = dear;

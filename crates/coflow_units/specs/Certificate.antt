@@ -1,4 +1,4 @@
--- Certificates: lists of entries that prove a lower bound on the cost of every schedule.
+-- Certificates: solutions of the dual of the linear program of the parallel inequalities, in fixed point. A feasible one bounds the cost of every schedule from below (Mastrolilli, Queyranne, Schulz, Svensson and Uhan, "Minimizing the sum of weighted completion times in a concurrent open shop", Operations Research Letters 2010).
 -- A list of entries is taken from the last place to the first. So the head of the list is its last place, the tail holds the places before it, and the front of the head's place is all coflows of the list. A report that begins with place 1 is turned by `reverse`.
 use Rattle.std.specs.Prelude.{ℕ, ◌<◌, ◌≤◌, ◌+◌, ◌-◌, ◌*◌, ◌/◌, ◌^◌, ◌==◌, if◌then◌else◌, List, [], ◌∷◌, All, Contains, length, map, reverse, sum_by, take}
 use Rattle.std.specs.List.{list_any, range_with_len, slice_index_or}
@@ -45,7 +45,7 @@ used flows [] coflow = 0
 used flows (e ∷ before) coflow =
     (if list_any (λ c. c == coflow) (front (e ∷ before)) then e.y * load flows coflow e.port else 0) + used flows before coflow
 
--- the sum over the places of y times (the square of the front's load and the squares of its coflows' loads)
+-- 2 * scale times the value of the dual solution: the sum over the places of y times (the square of the front's load and the squares of its coflows' loads)
 abbrev pub dual_value : List Flow → List Entry → ℕ
 dual_value flows [] = 0
 dual_value flows (e ∷ before) =
@@ -71,6 +71,16 @@ over_places flows number (e ∷ before) = number e.coflow * front_load flows (e 
 -- the sum over the places of rest times the load of the front
 abbrev pub unspent : List Flow → (ℕ → ℕ) → List Entry → ℕ
 unspent flows weight entries = over_places flows (rest flows weight entries) entries
+
+-- the sum over the places of the placed coflow's load on the place's port times the load of the front
+abbrev pub own_loads : List Flow → List Entry → ℕ
+own_loads flows [] = 0
+own_loads flows (e ∷ before) = load flows e.coflow e.port * front_load flows (e ∷ before) + own_loads flows before
+
+-- the sum over the places of the load of the front
+abbrev pub front_loads : List Flow → List Entry → ℕ
+front_loads flows [] = 0
+front_loads flows (e ∷ before) = front_load flows (e ∷ before) + front_loads flows before
 
 -- what the factor of four lacks at most
 abbrev pub slack : List Flow → (ℕ → ℕ) → List Entry → ℕ

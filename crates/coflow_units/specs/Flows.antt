@@ -1,13 +1,13 @@
 -- Flows, and the instances of which the laws speak. Flows have numbers: their places in the list of flows.
-use Rattle.std.specs.Prelude.{◌≡◌, ◌≢◌, ℕ, ◌+◌, ◌<◌, ◌≤◌, ◌⊎◌, ◌==◌, Bool, List, [], ◌∷◌, All, AllPairs, Contains}
-use Rattle.std.specs.List.{slice_index_or}
+use Rattle.std.specs.Prelude.{◌≡◌, ◌≢◌, ℕ, ◌+◌, ◌<◌, ◌≤◌, ◌⊎◌, ◌==◌, Bool, List, [], ◌∷◌, All, AllPairs, Contains, length}
+use Rattle.std.specs.List.{range_with_len, slice_index_or}
 use Rattle.std.specs.List.Sorted.{IsStrictlyIncreasing}
 use Rattle.coflow_units.specs.declared.fabric.Flow.{Flow}
 use Rattle.coflow_units.specs.declared.fabric.Port.{Port}
 use Rattle.coflow_units.specs.declared.fabric.Side.{Side}
 use Rattle.coflow_units.specs.declared.fabric.Side.TheVariants.{Ingress, Egress}
 
--- the flow with a number; a number past the end has zeros
+-- the flow with a number; a number past the end has zeros, and is read only where the number is known to be a flow's
 abbrev pub flow_at : List Flow → ℕ → Flow
 flow_at flows f = slice_index_or flows f record { coflow = 0; ingress = 0; egress = 0; units = 0 }
 
@@ -55,6 +55,20 @@ pub record IsInstance (i : Instance) : Type 0 where
   pub coflow : All (λ (x : Flow). 0 < x.units → Contains i.coflows x.coflow) i.flows
   pub ingress : All (λ (x : Flow). x.ingress < i.ports) i.flows
   pub egress : All (λ (x : Flow). x.egress < i.ports) i.flows
+
+-- flows come by coflow, then ingress, then egress
+abbrev pub FlowBefore : Flow → Flow → Type 0
+FlowBefore x y =
+    (x.coflow < y.coflow)
+    ⊎ ((x.coflow ≡ y.coflow) × ((x.ingress < y.ingress) ⊎ ((x.ingress ≡ y.ingress) × (x.egress < y.egress))))
+
+-- an instance as a trace gives it: coflows count from 0, weights and units are at least 1, and no two flows agree in coflow, ingress and egress
+pub record IsWhole (i : Instance) : Type 0 where
+  pub instance : IsInstance i
+  pub numbered : i.coflows ≡ range_with_len 0 (length i.coflows)
+  pub weights : All (λ c. 1 ≤ i.weight c) i.coflows
+  pub units : All (λ (x : Flow). 1 ≤ x.units) i.flows
+  pub sorted : (k : ℕ) (d : Flow) → k + 1 < length i.flows → FlowBefore (slice_index_or i.flows k d) (slice_index_or i.flows (k + 1) d)
 
 -- the flows from a number on, each with the units given for its number
 abbrev pub with_units_from : ℕ → (ℕ → ℕ) → List Flow → List Flow

@@ -1,4 +1,4 @@
--- The grants of one slot: the one set of flows that the rule below describes.
+-- The grants of one slot: the greedy matching of the flows, taken in the order of the line. It is the one set of flows that the rule below describes.
 use Rattle.std.specs.Prelude.{◌≡◌, ℕ, ◌<◌, ◌≤◌, ◌⊎◌, ◌==◌, List, All, Contains, length, position, unwrap_or}
 use Rattle.std.specs.List.Sorted.{IsStrictlyIncreasing}
 use Rattle.coflow_units.specs.declared.fabric.Flow.{Flow}

@@ -1,4 +1,5 @@
 -- The ordering certificate: from the last place to the first, take the port with the greatest load, place the coflow there whose budget is used up first, and let each coflow pay for its load on the port.
+-- This is bottleneck, select, scale, iterate of Sincronia (Agarwal and others, SIGCOMM 2018), in exact arithmetic over budgets in parts of 2^40; the rules for ties are this project's.
 use Rattle.std.specs.Prelude.{◌≡◌, ℕ, ◌<◌, ◌≤◌, ◌+◌, ◌-◌, ◌*◌, ◌/◌, ◌⊎◌, List, [], ◌∷◌, Contains, sum_by}
 use Rattle.coflow_units.specs.declared.fabric.Flow.{Flow}
 use Rattle.coflow_units.specs.declared.fabric.Port.{Port}

@@ -1,4 +1,4 @@
--- Schedules that keep an order and let no port idle that could serve.
+-- Schedules that keep an order and leave no port idle that could serve. Sincronia (Agarwal and others, SIGCOMM 2018) calls them order-preserving and work-conserving.
 use Rattle.std.specs.Prelude.{ℕ, ◌+◌, ◌<◌, ◌≤◌, ◌⊎◌, List, [], Contains, length, take}
 use Rattle.std.specs.List.{slice_index_or}
 use Rattle.coflow_units.specs.declared.fabric.Flow.{Flow}

@@ -5,7 +5,7 @@ use Rattle.coflow_units.specs.declared.fabric.Port.{Port}
 use Rattle.coflow_units.specs.declared.fabric.Side.TheVariants.{Ingress}
 use Rattle.coflow_units.specs.Flows.{Instance, IsInstance, SharesPort, units_of}
 use Rattle.coflow_units.specs.Load.{load, load_of_all}
-use Rattle.coflow_units.specs.Grants.{IsGrants}
+use Rattle.coflow_units.specs.Grants.{IsGrants, IsRunLength}
 use Rattle.coflow_units.specs.Schedule.{IsClear, IsRuns, IsValid, slots_of}
 use Rattle.coflow_units.specs.Completion.{completion, cost}
 use Rattle.coflow_units.specs.Patient.{IsPatient}
@@ -67,9 +67,10 @@ pub record TwoFlowsHold : Type 0 where
   pub patient : IsPatient two_flows (0 ∷ 1 ∷ []) longer_first_slots
   pub feasible : IsFeasible two_flows one_each equal_weights_places
   pub certificate : IsCertificate equal_weights equal_weights_places
+  pub length : IsRunLength (units_of two_flows) (0 ∷ []) 2 2
   pub apart : IsClear crossing (0 ∷ 1 ∷ [])
 
--- what does not
+-- what does not hold
 pub record TwoFlowsRefuse : Type 0 where
   pub instance : IsInstance out_of_range → ⊥
   pub shared : IsClear two_flows (0 ∷ 1 ∷ []) → ⊥
@@ -77,6 +78,8 @@ pub record TwoFlowsRefuse : Type 0 where
   pub valid : IsValid two_flows one_too_few → ⊥
   pub runs : IsRuns longer_first_slots cut_in_two → ⊥
   pub granted : IsGrants two_flows (0 ∷ 1 ∷ []) (units_of two_flows) [] → ⊥
+  pub shorter : IsRunLength (units_of two_flows) (0 ∷ []) 2 1 → ⊥
+  pub longer : IsRunLength (units_of two_flows) (0 ∷ []) 4 4 → ⊥
   pub served : IsServed two_flows (0 ∷ 1 ∷ []) equal_weights_slots → ⊥
   pub patient : IsPatient two_flows (0 ∷ 1 ∷ []) idle_first → ⊥
   pub feasible : IsFeasible two_flows one_each too_dear → ⊥

@@ -7,33 +7,44 @@ ghost use Rattle.coflow_units.specs.Schedule.{IsClear, IsRuns, IsValid};
 ghost use Rattle.coflow_units.specs.Patient.{IsPatient};
 ghost use Rattle.coflow_units.specs.PortWord.{FitsWord, word_of};
 ghost use Rattle.coflow_units.specs.PortWord.PortStage.{drawn, granted, reported};
-ghost use Rattle.coflow_units.specs.Grants.{IsGrants};
+ghost use Rattle.coflow_units.specs.Grants.{IsGrants, IsRunLength};
 ghost use Rattle.coflow_units.specs.Rows.{AllTies, EqualWeights, OneEmpty, Realistic, UnequalWeights};
 ghost use Rattle.coflow_units.specs.Served.{IsServed, IsServedSoFar, left_after};
 ghost use Rattle.coflow_units.specs.SmallCases.{TwoFlowsHold, TwoFlowsRefuse};
 
-/// One set alone is the grants of a slot.
+/// For a line and the units left, at most one set of flows is the grants of a slot.
 pub fn grants_are_one()
     ensures { (flows : List Flow) (line : List ℕ) (left : ℕ → ℕ) (a b : List ℕ) → IsGrants flows line left a → IsGrants flows line left b → a ≡ b }
 {}
 
-/// Each slot has grants.
+/// For every line and all units left, some set of flows is the grants of a slot.
 pub fn grants_exist()
     ensures { (flows : List Flow) (line : List ℕ) (left : ℕ → ℕ) → (granted : List ℕ) × IsGrants flows line left granted }
 {}
 
-/// The grants of a slot can be served together.
+/// No two granted flows share a port, so one slot serves them all.
 pub fn grants_are_clear()
     ensures { (flows : List Flow) (line : List ℕ) (left : ℕ → ℕ) (granted : List ℕ) → IsGrants flows line left granted → IsClear flows granted }
 {}
 
-/// Of the units left, only which flows have some counts for the grants.
+/// The grants depend on which flows have units left, and not on how many.
 pub fn grants_look_at_owing()
     ensures { (flows : List Flow) (line : List ℕ) (left after : ℕ → ℕ) (granted : List ℕ) → ((f : ℕ) → f < length flows → 0 < left f → 0 < after f) → ((f : ℕ) → f < length flows → 0 < after f → 0 < left f) →
         IsGrants flows line left granted → IsGrants flows line after granted }
 {}
 
-/// One schedule alone is served.
+/// Where a flow of the line has units left, something is granted.
+pub fn grants_are_not_idle()
+    ensures { (flows : List Flow) (line : List ℕ) (left : ℕ → ℕ) (granted : List ℕ) (f : ℕ) → IsGrants flows line left granted → f < length flows → Contains line (coflow_of flows f) → 0 < left f → (g : ℕ) × Contains granted g }
+{}
+
+/// The grants of a slot may be served as they are for one number of slots, the greatest that is asked for and that each granted flow has units for.
+pub fn run_length_is_one()
+    ensures exists { (left : ℕ → ℕ) (granted : List ℕ) (most : ℕ) → (n : ℕ) × IsRunLength left granted most n }
+    ensures one { (left : ℕ → ℕ) (granted : List ℕ) (most a b : ℕ) → IsRunLength left granted most a → IsRunLength left granted most b → a ≡ b }
+{}
+
+/// An order has at most one served schedule.
 pub fn served_is_one()
     ensures { (flows : List Flow) (line : List ℕ) (a b : List (List ℕ)) → IsServed flows line a → IsServed flows line b → a ≡ b }
 {}
@@ -43,19 +54,19 @@ pub fn served_exists()
     ensures { (flows : List Flow) (line : List ℕ) → ((f : ℕ) → f < length flows → 0 < units_of flows f → Contains line (coflow_of flows f)) → (slots : List (List ℕ)) × IsServed flows line slots }
 {}
 
-/// The served schedule is valid, and patient for its order.
+/// The served schedule of an order is valid and patient for that order: it serves each unit once, and a flow waits only where a port serves a coflow no later in the order.
 pub fn served_is_patient()
     ensures valid { (flows : List Flow) (line : List ℕ) (slots : List (List ℕ)) → IsServed flows line slots → IsValid flows slots }
     ensures patient { (flows : List Flow) (line : List ℕ) (slots : List (List ℕ)) → IsServed flows line slots → IsPatient flows line slots }
 {}
 
-/// The grants may be served as they are for as many slots as each granted flow has units left.
+/// Where something is granted, the same grants may be served for n slots at once, as long as each granted flow has n units left. So runs and single slots make the same schedule.
 pub fn served_by_runs()
     ensures { (flows : List Flow) (line : List ℕ) (slots : List (List ℕ)) (granted : List ℕ) (n f : ℕ) → IsServedSoFar flows line slots → IsGrants flows line (left_after flows slots) granted → Contains granted f →
         ((g : ℕ) → Contains granted g → n ≤ left_after flows slots g) → IsServedSoFar flows line (slots ++ replicate n granted) }
 {}
 
-/// A schedule has one list of runs.
+/// A schedule is cut into longest runs of equal slots in one way alone.
 pub fn runs_are_one()
     ensures { (slots : List (List ℕ)) (a b : List (ℕ × List ℕ)) → IsRuns slots a → IsRuns slots b → a ≡ b }
 {}

@@ -6,13 +6,13 @@ use crate::items::Items;
 #[derive(Clone, Copy, Debug, PartialEq, Eq)]
 pub struct Place {
     pub coflow: u32,
-    /// The port with the greatest load of the coflows up to this place.
+    /// The port that this place charges; in the ordering certificate the first one with the greatest load of the coflows up to this place.
     pub port: Port,
-    /// What each unit of load on the port costs, in parts of 2^40.
+    /// What each coflow up to this place pays for each unit of its load on the port, in parts of 2^40 of a weight of 1.
     pub y: u128,
     /// What the coflow keeps of its budget of weight times 2^40.
     pub rest: u128,
-    /// The load of the port, in units.
+    /// The load of that port over the coflows up to this place, in units.
     pub load: u64,
 }
 

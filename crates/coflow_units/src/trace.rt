@@ -1,7 +1,7 @@
 //! What a trace in the coflow-benchmark format says.
 use crate::items::Items;
 
-/// A reducer: its location, and its size in millionths of a megabyte.
+/// A reducer: its location, and its size in millionths of a megabyte, rounded up.
 #[derive(Clone, Copy, Debug, PartialEq, Eq)]
 pub struct Reducer {
     pub location: u32,

@@ -3,3 +3,4 @@ pub mod Ends
 pub mod FourLaw
 pub mod PlaceNumbers
 pub mod SizeLaws
+pub mod SlackLaw

@@ -1,15 +1,17 @@
 //! Laws of certificates.
-ghost use Rattle.std.specs.Prelude.{◌≡◌, ℕ, ◌+◌, ◌*◌, ◌<◌, ◌≤◌, List, map, reverse, sum_by};
+ghost use Rattle.std.specs.Prelude.{◌≡◌, ℕ, ◌+◌, ◌*◌, ◌^◌, ◌<◌, ◌≤◌, List, length, map, reverse, sum_by};
 ghost use Rattle.coflow_units.specs.declared.fabric.Flow.{Flow};
 ghost use Rattle.coflow_units.specs.declared.fabric.Port.{Port};
 ghost use Rattle.coflow_units.specs.Flows.{Instance, IsInstance};
 ghost use Rattle.coflow_units.specs.Load.{load, load_of_all};
 ghost use Rattle.coflow_units.specs.Schedule.{IsValid};
 ghost use Rattle.coflow_units.specs.Completion.{cost};
-ghost use Rattle.coflow_units.specs.Certificate.{Entry, dual_value_by_number, over_places, over_places_by_number, used_by_number, IsCertificate, IsFeasible, TakesGreatestPorts, bound, budget, front, unspent, order_of, rest, scale, slack, used, dual_value};
+ghost use Rattle.coflow_units.specs.Certificate.{Entry, dual_value_by_number, over_places, over_places_by_number, used_by_number, IsCertificate, IsFeasible, IsBelowLoads, TakesGreatestPorts, front_loads, own_loads, bound, budget, front, unspent, order_of, rest, scale, slack, used, dual_value};
 ghost use Rattle.coflow_units.specs.Patient.{IsPatient};
 
-/// No valid schedule costs less than the bound of a feasible certificate.
+/// Weak duality: no valid schedule, patient or not, costs less than the bound of a feasible certificate.
+///
+/// Source: Mastrolilli, Queyranne, Schulz, Svensson and Uhan, "Minimizing the sum of weighted completion times in a concurrent open shop", Operations Research Letters 2010.
 pub fn dual_is_bound()
     ensures dual_value { (i : Instance) (entries : List Entry) (slots : List (List ℕ)) → IsCertificate i entries → IsFeasible i.flows i.weight entries → IsValid i.flows slots →
         dual_value i.flows entries ≤ 2 * scale * cost i.flows i.weight i.coflows slots }
@@ -17,7 +19,10 @@ pub fn dual_is_bound()
         bound i.flows entries ≤ cost i.flows i.weight i.coflows slots }
 {}
 
-/// A schedule that is patient for the order of a feasible certificate with greatest ports costs at most four times its bound and its slack.
+/// A valid schedule that is patient for the order of a feasible certificate, each of whose ports is a greatest one of its front, costs at most four times
+/// the bound and the slack, which is what rounding down leaves unspent. A feasible certificate that is not the ordering one may have a large slack.
+///
+/// Source: the factor of four of Agarwal, Rajakrishnan, Narayan, Agarwal, Shmoys and Vahdat, "Sincronia: near-optimal network design for coflows", SIGCOMM 2018.
 pub fn within_four()
     ensures dual_value { (i : Instance) (entries : List Entry) (slots : List (List ℕ)) → IsInstance i → IsCertificate i entries → IsFeasible i.flows i.weight entries → TakesGreatestPorts i.flows i.ports entries →
         IsValid i.flows slots → IsPatient i.flows (order_of entries) slots → scale * cost i.flows i.weight i.coflows slots ≤ 2 * dual_value i.flows entries + 2 * unspent i.flows i.weight entries }
@@ -25,12 +30,13 @@ pub fn within_four()
         IsValid i.flows slots → IsPatient i.flows (order_of entries) slots → cost i.flows i.weight i.coflows slots ≤ 4 * bound i.flows entries + slack i.flows i.weight entries }
 {}
 
-/// In a feasible certificate what a coflow pays and what it keeps are together its budget.
+/// In a feasible certificate, what a coflow spends and what it keeps are together its budget.
 pub fn rest_is_exact()
     ensures { (flows : List Flow) (weight : ℕ → ℕ) (entries : List Entry) → IsFeasible flows weight entries → (c : ℕ) → used flows entries c + rest flows weight entries c ≡ budget weight c }
 {}
 
-/// The numbers of a feasible certificate are within the greatest load times the budgets.
+/// Where no port has more load than k, the dual value of a feasible certificate is at most 2 * k times the sum of the budgets,
+/// and what is unspent, times the loads, at most k times that sum.
 pub fn values_fit()
     ensures dual_value { (i : Instance) (entries : List Entry) (k : ℕ) → IsCertificate i entries → IsFeasible i.flows i.weight entries → ((port : Port) → port.number < i.ports → load_of_all i.flows (front entries) port ≤ k) →
         dual_value i.flows entries ≤ 2 * (k * sum_by (budget i.weight) (front entries)) }
@@ -44,4 +50,16 @@ pub fn places_have_numbers()
     ensures dual_value { (flows : List Flow) (places : List Entry) → dual_value flows (reverse places) ≡ dual_value_by_number flows places }
     ensures over_places { (flows : List Flow) (number : ℕ → ℕ) (places : List Entry) → over_places flows number (reverse places) ≡ over_places_by_number flows number places }
     ensures order { (places : List Entry) → order_of (reverse places) ≡ map (λ (e : Entry). e.coflow) places }
+{}
+
+/// The slack of a certificate whose rests are below the loads, as the ordering certificate's are, comes from rounding alone.
+/// It is below `2 * sum(load * front load) / 2^40 + 1`; at most 2 for each coflow where no port has more than 2^20 units;
+/// and at most twice the sum of the front loads where no port has more than 2^40 units.
+pub fn slack_is_small()
+    ensures by_loads { (i : Instance) (entries : List Entry) → IsBelowLoads i.flows (rest i.flows i.weight entries) entries →
+        scale * slack i.flows i.weight entries < 2 * own_loads i.flows entries + scale }
+    ensures two_each { (i : Instance) (entries : List Entry) → IsCertificate i entries → IsBelowLoads i.flows (rest i.flows i.weight entries) entries →
+        ((port : Port) → port.number < i.ports → load_of_all i.flows (front entries) port ≤ 2 ^ 20) → slack i.flows i.weight entries ≤ 2 * length entries }
+    ensures by_fronts { (i : Instance) (entries : List Entry) → IsCertificate i entries → IsBelowLoads i.flows (rest i.flows i.weight entries) entries →
+        ((port : Port) → port.number < i.ports → load_of_all i.flows (front entries) port ≤ scale) → slack i.flows i.weight entries ≤ 2 * front_loads i.flows entries }
 {}
