@@ -13,7 +13,7 @@ use Rattle.coflow_units.specs.Completion.{end_of, completion}
 use Rattle.coflow_units.specs.Patient.{IsPatient, up_to, ingress_port, egress_port}
 use Rattle.coflow_units.specs.Certificate.{Entry, front, front_load, TakesGreatestPorts}
 use Rattle.schedule_model.proofs.CoflowEnds.{some_flow}
-use Rattle.schedule_model.proofs.Lines.{first_place, place_is}
+use Rattle.coflow_units.proofs.LinePlaces.{first_place, place_is}
 use Rattle.coflow_units.proofs.Sums.{Apart, in_first, in_tail}
 use Rattle.schedule_model.proofs.WaitingLaw.{short_law}
 use Rattle.coflow_units.proofs.Lists.{reverse-cons, in_reverse, sum_reverse}
