@@ -5,8 +5,8 @@ use Rattle.coflow_units.specs.declared.fabric.Flow.{Flow}
 use Rattle.coflow_units.specs.declared.trace.CoflowLine.{CoflowLine}
 use Rattle.coflow_units.specs.declared.trace.Trace.{Trace}
 use Rattle.coflow_units.specs.Flows.{IsDistinct}
-use Rattle.trace_reader.specs.declared.plain.PlainFault.{PlainFault}
-use Rattle.trace_reader.specs.declared.plain.PlainFault.TheVariants.{NotBuilt, NoMemory}
+use Rattle.trace_reader.specs.declared.fault.PlainFault.{PlainFault}
+use Rattle.trace_reader.specs.declared.fault.PlainFault.TheVariants.{NotBuilt, NoMemory}
 
 -- a coflow: its id, the location of its mapper, that of its reducer, and the whole megabytes that it sends between them
 pub record PlainCoflow : Type 0 where

@@ -1,18 +1,14 @@
 //! The plain form of a trace.
-ghost use Rattle.std.specs.Prelude.{◌≤◌, ◌^◌, length};
+ghost use Rattle.std.specs.Prelude.{◌≤◌, ◌^◌, ◌↔◌, length, IsTrue};
 ghost use Rattle.trace_reader.specs.Plain.{GivesTrace};
+ghost use Rattle.trace_reader.specs.Readers.{AreCounts, GivesLines};
 
-use coflow_units::Trace;
+use crate::fault::PlainFault;
+use crate::line::{coflow_line, fits, line_then};
+use crate::number::number_then;
+use coflow_units::{CoflowLine, Items, MAX_COFLOWS, MAX_PORTS, Trace};
+use indexmap::IndexSet;
 use std::alloc::Global;
-
-/// Why a text gave no trace.
-#[derive(Clone, Copy, Debug, PartialEq, Eq)]
-pub enum PlainFault {
-    /// The bytes are no text of the plain form.
-    NotBuilt,
-    /// No memory was to be had.
-    NoMemory,
-}
 
 /// Reads a trace of the plain form from a text of at most 2^26 bytes.
 ///
@@ -26,5 +22,60 @@ pub fn read_plain(alloc: Global, bytes: &[u8]) -> Result<Trace, PlainFault>
     requires { length bytes.now ≤ 2 ^ 26 }
     ensures trace { GivesTrace bytes.now result }
 {
-    Err(PlainFault::NoMemory)
+    let Some((number, rest)) = number_then(bytes, b" ") else {
+        return Err(PlainFault::NotBuilt);
+    };
+    let Some((count, rest)) = number_then(rest, b"\n") else {
+        return Err(PlainFault::NotBuilt);
+    };
+    if !are_counts(number, count) {
+        return Err(PlainFault::NotBuilt);
+    }
+    let coflows = match read_lines(alloc, number, count, rest) {
+        Ok(coflows) => coflows,
+        Err(fault) => return Err(fault),
+    };
+    Ok(Trace { number, coflows })
+}
+
+/// The first line may name so many ports and coflows.
+fn are_counts(number: u32, count: u32) -> bool
+    ensures { IsTrue result ↔ AreCounts number count }
+{
+    number >= 1 && number <= MAX_PORTS && count <= MAX_COFLOWS
+}
+
+/// The lines of so many coflows over so many ports, where the bytes are just these lines.
+fn read_lines(
+    alloc: Global,
+    number: u32,
+    count: u32,
+    bytes: &[u8],
+) -> Result<Items<CoflowLine>, PlainFault>
+    requires { count ≤ 4096 }
+    ensures { GivesLines number count bytes.now result }
+{
+    let mut coflows = Vec::new(alloc);
+    let mut ids = IndexSet::<u32>::new(alloc);
+    let mut sent: u64 = 0;
+    let mut rest = bytes;
+    for _k in 0..count {
+        let Some((line, behind)) = line_then(rest) else {
+            return Err(PlainFault::NotBuilt);
+        };
+        if !fits(line, number, sent) {
+            return Err(PlainFault::NotBuilt);
+        }
+        let (_place, added) = ids.insert_full(line.id)?;
+        if !added {
+            return Err(PlainFault::NotBuilt);
+        }
+        coflows.push(coflow_line(alloc, line)?)?;
+        sent += u64::from(line.megabytes);
+        rest = behind;
+    }
+    if !rest.is_empty() {
+        return Err(PlainFault::NotBuilt);
+    }
+    Ok(Items::from_vec(coflows))
 }
