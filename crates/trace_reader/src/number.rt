@@ -1,5 +1,5 @@
 //! A number and the word that follows it.
-ghost use Rattle.std.specs.Prelude.{◌≡◌, ◌≤◌, not, length};
+ghost use Rattle.std.specs.Prelude.{◌≡◌, ◌≤◌, not, length, position};
 ghost use Rattle.std.specs.Char.{is_ascii_digit};
 ghost use Rattle.std.specs.List.{position_or_len};
 ghost use Rattle.trace_reader.specs.Readers.{EndsNumber, IsNumberThen};
@@ -7,12 +7,18 @@ ghost use Rattle.trace_reader.specs.Readers.{EndsNumber, IsNumberThen};
 use itoa::Buffer;
 use std::str;
 
+fn first_other(bytes: &[u8]) -> Option<usize>
+    ensures { result ≡ position (λ b. not (is_ascii_digit b)) bytes.now }
+{
+    bytes.iter().position(|b| !b.is_ascii_digit())
+}
+
 /// How many digits the bytes begin with.
 fn digits_length(bytes: &[u8]) -> usize
     ensures digits { result ≡ position_or_len (λ b. not (is_ascii_digit b)) bytes.now }
     ensures inside { result ≤ length bytes.now }
 {
-    match bytes.iter().position(|b| !b.is_ascii_digit()) {
+    match first_other(bytes) {
         Some(place) => place,
         None => bytes.len(),
     }

@@ -59,7 +59,7 @@ fn read_lines(
     let mut ids = IndexSet::<u32>::new(alloc);
     let mut sent: u64 = 0;
     let mut rest = bytes;
-    for _k in 0..count {
+    for _place in 0..count {
         let Some((line, behind)) = line_then(rest) else {
             return Err(PlainFault::NotBuilt);
         };

@@ -7,7 +7,7 @@ use std::test::Fail;
 fn reads_two_coflows(rt: HostRuntime) -> Result<(), Fail> {
     let text = b"2 2\n1 0 1 0 1 1:3\n2 0 1 0 1 1:1\n";
     let Ok(trace) = read_plain(rt.alloc(), text) else {
-        return Err(Fail);
+        return Err(Fail::new("refused"));
     };
     assert!(rt; trace.number == 2);
     let coflows = trace.coflows.as_slice();
@@ -38,7 +38,7 @@ fn accepts(rt: HostRuntime) -> Result<(), Fail> {
     ];
     for (text, count) in texts {
         let Ok(trace) = read_plain(rt.alloc(), text) else {
-            return Err(Fail);
+            return Err(Fail::new("refused"));
         };
         assert!(rt; trace.coflows.as_slice().len() == count);
     }

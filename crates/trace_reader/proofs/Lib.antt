@@ -1,0 +1,3 @@
+pub mod NumberText
+pub mod LineText
+pub mod LinesText
