@@ -1,3 +1,4 @@
 pub mod NumberText
 pub mod LineText
 pub mod LinesText
+pub mod TraceText

@@ -66,7 +66,7 @@ fn read_lines(
         if !fits(line, number, sent) {
             return Err(PlainFault::NotBuilt);
         }
-        let (_place, added) = ids.insert_full(line.id)?;
+        let (_index, added) = ids.insert_full(line.id)?;
         if !added {
             return Err(PlainFault::NotBuilt);
         }

@@ -25,12 +25,13 @@ returns-in_default-number_then-3 c = λ x rest small e.
     c.in_default-number_then-3.ensures x.megabytes rest small.megabytes d.1
 
 pub returns : goal.returns
-returns c =
-    (record {
-        id = c.in-Some.ensures.0;
-        from = c.in-Some-number_then.ensures.0;
-        to = c.in-Some-number_then-2.ensures.0;
-        megabytes = c.in-Some-number_then-3.ensures.0;
-    },
-    line_found _ c.args.bytes.now c.in-Some.rest.now c.in-Some-number_then.rest.now c.in-Some-number_then-2.rest.now c.in-Some-number_then-3.rest.now
-        c.in-Some.ensures.1 c.in-Some-number_then.ensures.1 c.in-Some-number_then-2.ensures.1 c.in-Some-number_then-3.ensures.1)
+returns c = (
+  record {
+    id = c.in-Some.ensures.0;
+    from = c.in-Some-number_then.ensures.0;
+    to = c.in-Some-number_then-2.ensures.0;
+    megabytes = c.in-Some-number_then-3.ensures.0;
+  },
+  line_found _ c.args.bytes.now c.in-Some.rest.now c.in-Some-number_then.rest.now c.in-Some-number_then-2.rest.now c.in-Some-number_then-3.rest.now
+      c.in-Some.ensures.1 c.in-Some-number_then.ensures.1 c.in-Some-number_then-2.ensures.1 c.in-Some-number_then-3.ensures.1,
+)
