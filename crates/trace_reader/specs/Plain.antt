@@ -48,9 +48,13 @@ coflow_line x = record { id = x.id; arrival = 0; mappers = x.from ∷ []; reduce
 abbrev pub trace_of : PlainTrace → Trace
 trace_of t = record { number = t.number; coflows = map coflow_line t.coflows }
 
--- the flows of the trace, where a unit is a megabyte: flow k is that of coflow k
+-- what coflow k sends, where a unit is a megabyte
+abbrev pub flow_of : ℕ → PlainCoflow → Flow
+flow_of k x = record { coflow = k; ingress = x.from; egress = x.to; units = x.megabytes }
+
+-- the flows of the trace: flow k is that of coflow k
 abbrev pub plain_flows : PlainTrace → List Flow
-plain_flows t = map (λ (p : ℕ × PlainCoflow). record { coflow = p.0; ingress = p.1.from; egress = p.1.to; units = p.1.megabytes }) (enumerate_from 0 t.coflows)
+plain_flows t = map (λ (p : ℕ × PlainCoflow). flow_of p.0 p.1) (enumerate_from 0 t.coflows)
 
 -- what a reader of the plain form answers: the trace whose text the bytes are, or a refusal exactly where there is none; want of memory is free
 abbrev pub GivesTrace : List ℕ → Result Trace PlainFault → Type 0

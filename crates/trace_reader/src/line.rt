@@ -11,7 +11,7 @@ use std::alloc::{AllocError, Global};
 const MAX_PLAIN_MEGABYTES: u64 = 1_048_576;
 
 /// A coflow of the plain form, with whole megabytes.
-#[derive(Clone, Copy, Debug, PartialEq, Eq)]
+#[derive(Clone, Copy)]
 pub(crate) struct Line {
     pub id: u32,
     pub from: u32,

@@ -86,4 +86,5 @@ fn refuses(rt: HostRuntime) -> Result<(), Fail> {
 #[test]
 fn has_laws() {
     laws::plain_texts_are_one();
+    laws::flow_is_coflow();
 }

@@ -50,7 +50,7 @@ loop-place-preserved c =
     let lines : c.push.new.self.items ≡ c.loop-place.coflows.items ++ (coflow_line (plain_coflow c.in-Some.line) ∷ []) = c.in_ok-push.ensures.items ∙ ap (λ (x : CoflowLine). c.loop-place.coflows.items ++ (x ∷ [])) c.in_ok-coflow_line.ensures in
     let sent : c.loop-place.sent + c.in-Some.line.megabytes ≡ c.loop-place.sent + c.from.result = ap (λ n. c.loop-place.sent + n) (sym c.from.ensures) in
     let more = one_more c.args.number c.loop-place._place c.loop-place.sent c.args.bytes.now c.loop-place.rest.now c.loop-place.ids.keys c.loop-place.coflows.items c.loop-place.invariant.0 (plain_coflow c.in-Some.line) c.in-Some.behind.now c.insert_full.new.self.keys c.push.new.self.items
-        c.loop-place.invariant.1 c.in-Some.ensures.0 c.in-Some.ensures.1 fits new keys lines in
+    c.loop-place.invariant.1 c.in-Some.ensures.0 c.in-Some.ensures.1 fits new keys lines in
     (c.loop-place.invariant.0 ++ (plain_coflow c.in-Some.line ∷ []), rw sent at more)
 
 pub returns-then-not-is_empty : goal.returns-then-not-is_empty

@@ -32,8 +32,10 @@ returns c =
     let n = c.in-Ok.ensures.2 in
     let counts : AreCounts c.in-Some.number c.in-Some-number_then.count = c.if-not-are_counts.ensures.0 refl in
     record {
-      trace = (record { number = c.in-Some.number; coflows = xs },
-          is_plain c.in-Some.number c.in-Some-number_then.count xs counts h n,
-          trace_found c.args.bytes.now c.in-Some.rest.now c.in-Some-number_then.rest.now c.in-Some.number c.in-Some-number_then.count xs c.in-Some.ensures.1 c.in-Some-number_then.ensures.1 c.in-Ok.ensures.3 n,
-          ap (λ lines. record { number = c.in-Some.number; coflows = lines }) c.in-Ok.ensures.4);
+      trace = (
+        record { number = c.in-Some.number; coflows = xs },
+        is_plain c.in-Some.number c.in-Some-number_then.count xs counts h n,
+        trace_found c.args.bytes.now c.in-Some.rest.now c.in-Some-number_then.rest.now c.in-Some.number c.in-Some-number_then.count xs c.in-Some.ensures.1 c.in-Some-number_then.ensures.1 c.in-Ok.ensures.3 n,
+        ap (λ lines. record { number = c.in-Some.number; coflows = lines }) c.in-Ok.ensures.4,
+      );
     }
