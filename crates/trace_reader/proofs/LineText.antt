@@ -1,5 +1,5 @@
 -- The line of a coflow in front of other text.
-use Rattle.std.proofs.Common.{◌≡◌, ℕ, ◌<◌, ◌≤◌, ◌^◌, List, [], ◌∷◌, ◌++◌, append_assoc, refl, sym, ap, ◌∙◌, arith}
+use Rattle.std.proofs.Common.{◌≡◌, ℕ, ◌<◌, ◌^◌, List, ◌++◌, append_assoc, refl, sym, ap, ◌∙◌}
 use Rattle.std.specs.Prelude.{decimal, codes}
 use Rattle.trace_reader.specs.Plain.{PlainCoflow, coflow_text}
 use Rattle.trace_reader.specs.Readers.{HasSmallNumbers}

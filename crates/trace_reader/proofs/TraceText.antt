@@ -1,8 +1,7 @@
 -- The text of a whole trace.
-use Rattle.std.proofs.Common.{◌≡◌, ℕ, ◌+◌, ◌<◌, ◌≤◌, ◌^◌, List, [], ◌∷◌, ◌++◌, Result, Ok, Err, append_assoc, append-nil, length, length-append, refl, sym, ap, ◌∙◌, arith}
+use Rattle.std.proofs.Common.{◌≡◌, ℕ, ◌<◌, ◌^◌, List, [], ◌∷◌, ◌++◌, Err, append_assoc, append-nil, length, length-append, refl, sym, ap, ◌∙◌, arith}
 use Rattle.std.specs.Prelude.{decimal, codes}
 use Rattle.std.specs.List.{flat_map}
-use Rattle.coflow_units.specs.declared.trace.CoflowLine.{CoflowLine}
 use Rattle.trace_reader.specs.declared.fault.PlainFault.{PlainFault}
 use Rattle.trace_reader.specs.declared.fault.PlainFault.TheVariants.{NotBuilt, NoMemory}
 use Rattle.trace_reader.specs.Plain.{GivesTrace, IsPlain, PlainCoflow, PlainTrace, coflow_text, plain_text}

@@ -1,5 +1,5 @@
 use crate::{PlainFault, laws, read_plain};
-use coflow_units::{Reducer, Trace};
+use coflow_units::{MAX_TEXT, Reducer};
 use std::test::Fail;
 
 /// The ids, arrivals, mappers and reducers of two coflows.
@@ -37,6 +37,7 @@ fn accepts(rt: HostRuntime) -> Result<(), Fail> {
         (b"3 2\n7 0 1 3 1 0:1048575\n6 0 1 3 1 0:1\n", 2),
     ];
     for (text, count) in texts {
+        assert!(rt; text.len() <= MAX_TEXT);
         let Ok(trace) = read_plain(rt.alloc(), text) else {
             return Err(Fail::new("refused"));
         };
@@ -45,10 +46,25 @@ fn accepts(rt: HostRuntime) -> Result<(), Fail> {
     Ok(())
 }
 
+/// As many ports, coflows and megabytes as there may be.
+#[test]
+fn accepts_the_most(rt: HostRuntime) -> Result<(), Fail> {
+    let mut text = String::from_str(rt.alloc(), "1024 4096\n")?;
+    for id in 0..4096 {
+        write!(text, "{id} 0 1 1024 1 0:256\n")?;
+    }
+    assert!(rt; text.len() <= MAX_TEXT);
+    let Ok(trace) = read_plain(rt.alloc(), text.as_bytes()) else {
+        return Err(Fail::new("refused"));
+    };
+    assert!(rt; trace.coflows.as_slice().len() == 4096);
+    Ok(())
+}
+
 /// Texts that miss the plain form in one thing.
 #[test]
 fn refuses(rt: HostRuntime) -> Result<(), Fail> {
-    let texts: [&[u8]; 27] = [
+    let texts: [&[u8]; 29] = [
         b"",
         b"\n",
         b"2 0",
@@ -56,6 +72,8 @@ fn refuses(rt: HostRuntime) -> Result<(), Fail> {
         b"2 0 \n",
         b"2  0\n",
         b"02 0\n",
+        b"+2 0\n",
+        b"4294967298 0\n",
         b"0 0\n",
         b"1025 0\n",
         b"1 4097\n",
@@ -78,6 +96,7 @@ fn refuses(rt: HostRuntime) -> Result<(), Fail> {
         b"2 1\n1 0 1 0 1 1:3\n2 0 1 0 1 1:1\n",
     ];
     for text in texts {
+        assert!(rt; text.len() <= MAX_TEXT);
         assert!(rt; matches!(read_plain(rt.alloc(), text), Err(PlainFault::NotBuilt)));
     }
     Ok(())

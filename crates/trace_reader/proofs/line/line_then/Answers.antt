@@ -1,5 +1,4 @@
-use Rattle.std.proofs.Common.{◌≡◌, ℕ, List, ◌++◌, ◌∙◌, ap, sym, arith}
-use Rattle.trace_reader.specs.Readers.{plain_coflow}
+use Rattle.std.proofs.Common.{◌∙◌}
 use Rattle.trace_reader.proofs.LineText.{after_from, after_id, after_to, first_is, line_found, line_parts, second_is, third_is}
 use Rattle.trace_reader.proofs.line.line_then.Goals as goal
 

@@ -1,4 +1,4 @@
-use Rattle.std.proofs.Common.{rules, ◌≡◌, ◌≤◌, not, length, ℕ, ◌+◌, ◌-◌, ◌*◌, ◌<◌, Bool, true, false, nat_eq, List, [], ◌∷◌, ◌++◌, take, drop, sym, ap, ◌∙◌, arith, Ok, Err, Result}
+use Rattle.std.proofs.Common.{◌≡◌, sym, ap, ◌∙◌, arith, Ok}
 use Rattle.std.specs.Prelude.{decimal}
 use Rattle.trace_reader.proofs.NumberText.{is_text, not_same, not_there, number_found, number_parts, parses, same_list}
 use Rattle.trace_reader.proofs.number.number_then.Goals as goal

@@ -1,9 +1,9 @@
-use Rattle.std.proofs.Common.{◌≡◌, ℕ, List, [], ◌∷◌, ◌++◌, ◌<◌, ◌≤◌, ◌+◌, ◌^◌, length, arith, sym, ap, ◌∙◌, true, false, not, Bool, refl, subst}
+use Rattle.std.proofs.Common.{◌≡◌, ℕ, List, [], ◌∷◌, ◌++◌, ◌+◌, length, arith, sym, ap, ◌∙◌, true, false, not, Bool, refl, subst}
 use Rattle.std.specs.Prelude.{nat_eq, ◌==◌}
 use Rattle.std.specs.List.{flat_map, list_any}
 use Rattle.coflow_units.specs.declared.trace.CoflowLine.{CoflowLine}
-use Rattle.trace_reader.specs.Plain.{PlainCoflow, coflow_line, coflow_text}
-use Rattle.trace_reader.specs.Readers.{ArePlain, Fits, HasSmallNumbers, plain_coflow}
+use Rattle.trace_reader.specs.Plain.{coflow_line, coflow_text}
+use Rattle.trace_reader.specs.Readers.{Fits, plain_coflow}
 use Rattle.indexmap.specs.IndexSet.{insert_key}
 use Rattle.trace_reader.proofs.LinesText.{empty_is, whole_text, next_fits, next_is_fresh, next_of, none_yet, nothing_left, one_more, same_coflow}
 use Rattle.trace_reader.proofs.plain.read_lines.Goals as goal

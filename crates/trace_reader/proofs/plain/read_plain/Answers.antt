@@ -1,6 +1,6 @@
-use Rattle.std.proofs.Common.{◌≡◌, ℕ, List, ◌++◌, ◌∙◌, ap, sym, arith, true, false, length, refl}
+use Rattle.std.proofs.Common.{◌≡◌, ap, arith, true, false, length, refl}
 use Rattle.trace_reader.specs.Readers.{AreCounts}
-use Rattle.trace_reader.proofs.TraceText.{after_count, after_number, count_is, counts_hold, is_plain, number_is, refused, trace_found}
+use Rattle.trace_reader.proofs.TraceText.{after_count, count_is, counts_hold, is_plain, number_is, refused, trace_found}
 use Rattle.trace_reader.proofs.plain.read_plain.Goals as goal
 
 pub returns-in_default-number_then : goal.returns-in_default-number_then
