@@ -7,6 +7,7 @@ ghost use Rattle.trace_reader.specs.Readers.{EndsNumber, IsNumberThen};
 use itoa::Buffer;
 use std::str;
 
+/// The place of the first byte that is no digit.
 fn first_other(bytes: &[u8]) -> Option<usize>
     ensures { result ≡ position (λ b. not (is_ascii_digit b)) bytes.now }
 {

@@ -2,27 +2,21 @@ use crate::{PlainFault, laws, read_plain};
 use coflow_units::{MAX_TEXT, Reducer};
 use std::test::Fail;
 
-/// The ids, arrivals, mappers and reducers of two coflows.
 #[test]
 fn reads_two_coflows(rt: HostRuntime) -> Result<(), Fail> {
     let text = b"2 2\n1 0 1 0 1 1:3\n2 0 1 0 1 1:1\n";
-    let Ok(trace) = read_plain(rt.alloc(), text) else {
-        return Err(Fail::new("refused"));
-    };
+    let trace = read_plain(rt.alloc(), text)?;
     assert!(rt; trace.number == 2);
     let coflows = trace.coflows.as_slice();
     assert!(rt; coflows.len() == 2);
     for (coflow, (id, millionths)) in coflows.iter().zip([(1, 3_000_000), (2, 1_000_000)]) {
+        let reducer = Reducer {
+            location: 1,
+            millionths,
+        };
         assert!(rt; coflow.id == id && coflow.arrival == 0);
         assert!(rt; coflow.mappers.as_slice() == [0].as_slice());
-        assert!(rt;
-            coflow.reducers.as_slice()
-                == [Reducer {
-                    location: 1,
-                    millionths
-                }]
-                .as_slice()
-        );
+        assert!(rt; coflow.reducers.as_slice() == [reducer].as_slice());
     }
     Ok(())
 }
@@ -38,9 +32,7 @@ fn accepts(rt: HostRuntime) -> Result<(), Fail> {
     ];
     for (text, count) in texts {
         assert!(rt; text.len() <= MAX_TEXT);
-        let Ok(trace) = read_plain(rt.alloc(), text) else {
-            return Err(Fail::new("refused"));
-        };
+        let trace = read_plain(rt.alloc(), text)?;
         assert!(rt; trace.coflows.as_slice().len() == count);
     }
     Ok(())
@@ -54,9 +46,7 @@ fn accepts_the_most(rt: HostRuntime) -> Result<(), Fail> {
         write!(text, "{id} 0 1 1024 1 0:256\n")?;
     }
     assert!(rt; text.len() <= MAX_TEXT);
-    let Ok(trace) = read_plain(rt.alloc(), text.as_bytes()) else {
-        return Err(Fail::new("refused"));
-    };
+    let trace = read_plain(rt.alloc(), text.as_bytes())?;
     assert!(rt; trace.coflows.as_slice().len() == 4096);
     Ok(())
 }
