@@ -1,0 +1,3 @@
+pub mod Rose
+pub mod Shelf
+pub mod Sink

@@ -1,0 +1,12 @@
+// The world outside of the program: shelves of files that are read, and sinks that take a text. Each has a count of faults, and each fault that a call answers raised it.
+#![tactic(auto)]
+
+mod reading;
+mod shelf;
+mod sink;
+mod writing;
+
+pub use reading::{ReadStop, read_all};
+pub use shelf::{Place4, Shelf};
+pub use sink::{Failed, Sink};
+pub use writing::write_all;
