@@ -1,1 +1,3 @@
 pub mod SoFar
+pub mod WriteSteps
+pub mod ReadSteps
