@@ -1,3 +1,4 @@
 pub mod SoFar
 pub mod WriteSteps
 pub mod ReadSteps
+pub mod FileSteps

@@ -14,12 +14,12 @@ use Rattle.outside.specs.Shelf.{Told, Keeps, SameElsewhere, ReadsAt, Reads, Read
 use Rattle.outside.proofs.SoFar.{ReadsSoFar, ToldSoFar}
 
 pub keeps_on : (a b c : Told) → Keeps a b → Keeps b c → Keeps a c
-keeps_on a b c x y = record { key = y.key ∙ x.key; bytes = y.bytes ∙ x.bytes; later = λ k. omega (arith, x.later k, y.later k) }
+keeps_on a b c x y = record { file = y.file ∙ x.file; bytes = y.bytes ∙ x.bytes; later = λ k. omega (arith, x.later k, y.later k) }
 
 step_at : {E : Type 0} (old mid new : Told) (place : Place4) (bytes buffer : List ℕ) (n : ℕ) → ReadsSoFar old mid place bytes → ReadsAt {E = E} mid new place buffer (Ok n) → ReadsSoFar old new place (bytes ++ take n buffer)
 step_at old mid new place bytes buffer n s r = record {
   keeps = keeps_on old mid new s.keeps r.keeps;
-  set_at = r.set_at ∙ s.set_at;
+  file_at = r.file_at ∙ s.file_at;
   left = append_assoc bytes (take n buffer) (new.left place) ∙ ap (λ v. bytes ++ v) r.moves.0 ∙ s.left;
   others_left = λ p other. r.others_left p other ∙ s.others_left p other;
 }
@@ -41,7 +41,7 @@ left_is bytes now before e = sym (drop-append_seam bytes now) ∙ ap (drop (leng
 fault_at : {E : Type 0} (old mid new : Told) (place : Place4) (bytes buffer : List ℕ) (most : ℕ) (e : E) → length bytes ≤ most → ReadsSoFar old mid place bytes → ReadsAt mid new place buffer (Err e) → ReadsWholeAt old new place most (Err Fault)
 fault_at old mid new place bytes buffer most e short s r = record {
   keeps = keeps_on old mid new s.keeps r.keeps;
-  set_at = r.set_at ∙ s.set_at;
+  file_at = r.file_at ∙ s.file_at;
   takes =
     (length bytes, short, r.moves ∙ left_is bytes (mid.left place) (old.left place) s.left, rose);
   others_left = λ p other. r.others_left p other ∙ s.others_left p other;
@@ -49,10 +49,10 @@ fault_at old mid new place bytes buffer most e short s r = record {
   where
     rose : Rose (faults_at old place) (faults_at new place)
     rose =
-        let same : mid.set_at place ≡ old.set_at place = ap (λ f. f place) s.set_at in
-        let now : new.set_at place ≡ mid.set_at place = ap (λ f. f place) r.set_at in
-        let risen : Rose (mid.faults (old.set_at place)) (new.faults (new.set_at place)) = rw (← same) r.cause in
-        omega (arith, risen, s.keeps.later (old.set_at place))
+        let same : mid.file_at place ≡ old.file_at place = ap (λ f. f place) s.file_at in
+        let now : new.file_at place ≡ mid.file_at place = ap (λ f. f place) r.file_at in
+        let risen : Rose (mid.faults (old.file_at place)) (new.faults (new.file_at place)) = rw (← same) r.cause in
+        omega (arith, risen, s.keeps.later (old.file_at place))
 
 -- the shelf failed
 pub read_fault : (E : Type 0) (old m new : Option Told) (place : Place4) (bytes buffer : List ℕ) (most : ℕ) (e : E) → length bytes ≤ most → ToldSoFar old m place bytes → Reads {E = E} m new place buffer (Err e) →
@@ -69,14 +69,14 @@ read_too_long (Some x) new place bytes most long s =
     let t = s.0 in
     let left = left_is bytes (t.left place) (x.left place) s.2.left in
     let whole : length bytes + length (t.left place) ≡ length (x.left place) = sym (length-append bytes (t.left place)) ∙ ap length s.2.left in
-    (t, s.1, record { keeps = s.2.keeps; set_at = s.2.set_at; takes = (omega (arith, whole, long), rw long at left); others_left = s.2.others_left })
+    (t, s.1, record { keeps = s.2.keeps; file_at = s.2.file_at; takes = (omega (arith, whole, long), rw long at left); others_left = s.2.others_left })
 
 -- there was no memory for the bytes that came
 pub read_no_memory : (old new : Option Told) (place : Place4) (bytes : List ℕ) (most : ℕ) → length bytes ≤ most → ToldSoFar old new place bytes → ReadsWhole old new place most (Err NoMemory)
 read_no_memory None new place bytes most short s = s
 read_no_memory (Some x) new place bytes most short s =
     let t = s.0 in
-    (t, s.1, record { keeps = s.2.keeps; set_at = s.2.set_at; takes = (length bytes, short, left_is bytes (t.left place) (x.left place) s.2.left); others_left = s.2.others_left })
+    (t, s.1, record { keeps = s.2.keeps; file_at = s.2.file_at; takes = (length bytes, short, left_is bytes (t.left place) (x.left place) s.2.left); others_left = s.2.others_left })
 
 -- a result whose error is known
 pub err_is : {T E : Type 0} (r : Result T E) (e : E) → IsErrAnd r (λ x. x ≡ e) → r ≡ Err e

@@ -6,7 +6,7 @@ use Rattle.outside.specs.Shelf.{Told, Keeps, SameElsewhere}
 -- the bytes were moved out of the place
 pub record ReadsSoFar (old new : Told) (place : Place4) (bytes : List ℕ) : Type 0 where
   pub keeps : Keeps old new
-  pub set_at : new.set_at ≡ old.set_at
+  pub file_at : new.file_at ≡ old.file_at
   pub left : bytes ++ new.left place ≡ old.left place
   pub others_left : SameElsewhere place old.left new.left
 

@@ -1,3 +1,6 @@
 pub mod Rose
 pub mod Shelf
 pub mod Sink
+pub mod Files
+pub mod MemShelf
+pub mod SureShelf

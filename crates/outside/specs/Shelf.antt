@@ -7,47 +7,47 @@ use Rattle.outside.specs.declared.reading.ReadStop.{ReadStop}
 use Rattle.outside.specs.declared.reading.ReadStop.TheVariants.{Fault, TooLong, NoMemory}
 use Rattle.outside.specs.Rose.{Rose}
 
--- What a shelf tells. A name has a key, and names of one key share their bytes and their count of faults.
+-- What a shelf tells. Files have numbers. Names may stand for one file, and then share its bytes and its count of faults.
 pub record Told : Type 0 where
-  -- the key of a name
-  pub key : List ℕ → List ℕ
-  -- the bytes under a key
-  pub bytes : List ℕ → List ℕ
-  -- the count of faults of a key
-  pub faults : List ℕ → ℕ
-  -- the key of the name that is set at a place
-  pub set_at : Place4 → List ℕ
+  -- the file for which a name stands
+  pub file : List ℕ → ℕ
+  -- the bytes of a file
+  pub bytes : ℕ → List ℕ
+  -- the count of faults of a file
+  pub faults : ℕ → ℕ
+  -- the file that is set at a place
+  pub file_at : Place4 → ℕ
   -- the bytes that are left at a place
   pub left : Place4 → List ℕ
 
 -- the bytes under a name
 abbrev pub bytes_of : Told → List ℕ → List ℕ
-bytes_of told name = told.bytes (told.key name)
+bytes_of told name = told.bytes (told.file name)
 
 -- the count of faults of a name
 abbrev pub faults_of : Told → List ℕ → ℕ
-faults_of told name = told.faults (told.key name)
+faults_of told name = told.faults (told.file name)
 
--- the count of faults of the name that is set at a place
+-- the count of faults of the file that is set at a place
 abbrev pub faults_at : Told → Place4 → ℕ
-faults_at told place = told.faults (told.set_at place)
+faults_at told place = told.faults (told.file_at place)
 
 -- the two agree at every other place
 abbrev pub SameElsewhere : {X : Type 0} → Place4 → (Place4 → X) → (Place4 → X) → Type 0
 SameElsewhere place old new = (p : Place4) → p ≢ place → new p ≡ old p
 
--- No call changes a key or the bytes under one, and no count of faults falls.
+-- No call changes the file of a name or its bytes, and no count of faults falls.
 pub record Keeps (old new : Told) : Type 0 where
-  pub key : new.key ≡ old.key
+  pub file : new.file ≡ old.file
   pub bytes : new.bytes ≡ old.bytes
-  pub later : (k : List ℕ) → old.faults k ≤ new.faults k
+  pub later : (file : ℕ) → old.faults file ≤ new.faults file
 
--- a start that succeeds sets the name at the place, and leaves all its bytes there; at a fault the count of the name rose
+-- a start that succeeds sets the file of the name at the place, and leaves all its bytes there; at a fault the count of the name rose
 pub record StartsAt {X E : Type 0} (old new : Told) (place : Place4) (name : List ℕ) (result : Result X E) : Type 0 where
   pub keeps : Keeps old new
-  pub set_at : OnOk result (new.set_at place ≡ old.key name)
+  pub file_at : OnOk result (new.file_at place ≡ old.file name)
   pub left : OnOk result (new.left place ≡ bytes_of old name)
-  pub others_set_at : SameElsewhere place old.set_at new.set_at
+  pub others_file_at : SameElsewhere place old.file_at new.file_at
   pub others_left : SameElsewhere place old.left new.left
   pub cause : OnErr result (Rose (faults_of old name) (faults_of new name))
 
@@ -56,15 +56,15 @@ abbrev pub Moves : {E : Type 0} → List ℕ → List ℕ → List ℕ → Resul
 Moves old new buffer (Ok n) = (take n buffer ++ new ≡ old) × (n ≡ 0 → old ≡ [])
 Moves old new buffer (Err e) = new ≡ old
 
--- a read moves bytes out of the place; at a fault the count of the name there rose
+-- a read moves bytes out of the place; at a fault the count of the file there rose
 pub record ReadsAt {E : Type 0} (old new : Told) (place : Place4) (buffer : List ℕ) (result : Result ℕ E) : Type 0 where
   pub keeps : Keeps old new
-  pub set_at : new.set_at ≡ old.set_at
+  pub file_at : new.file_at ≡ old.file_at
   pub moves : Moves (old.left place) (new.left place) buffer result
   pub others_left : SameElsewhere place old.left new.left
   pub cause : OnErr result (Rose (faults_at old place) (faults_at new place))
 
--- All bytes that were left at the place are the answer. Too long: `most + 1` bytes were taken. Otherwise at most `most` bytes were taken, and at a fault the count of the name there rose.
+-- All bytes that were left at the place are the answer. Too long: `most + 1` bytes were taken. Otherwise at most `most` bytes were taken, and at a fault the count of the file there rose.
 abbrev pub TakesWhole : Told → Told → Place4 → ℕ → Result (Vec ℕ Global) ReadStop → Type 0
 TakesWhole old new place most (Ok bytes) = (bytes.items ≡ old.left place) × (new.left place ≡ [])
 TakesWhole old new place most (Err TooLong) =
@@ -76,7 +76,7 @@ TakesWhole old new place most (Err NoMemory) = (n : ℕ) × (n ≤ most) × (new
 -- reading to the end
 pub record ReadsWholeAt (old new : Told) (place : Place4) (most : ℕ) (result : Result (Vec ℕ Global) ReadStop) : Type 0 where
   pub keeps : Keeps old new
-  pub set_at : new.set_at ≡ old.set_at
+  pub file_at : new.file_at ≡ old.file_at
   pub takes : TakesWhole old new place most result
   pub others_left : SameElsewhere place old.left new.left
 
@@ -94,3 +94,14 @@ Reads (Some old) new place buffer result = (t : Told) × (new ≡ Some t) × Rea
 abbrev pub ReadsWhole : Option Told → Option Told → Place4 → ℕ → Result (Vec ℕ Global) ReadStop → Type 0
 ReadsWhole None new place most result = new ≡ None
 ReadsWhole (Some old) new place most result = (t : Told) × (new ≡ Some t) × ReadsWholeAt old t place most result
+
+-- the bytes are those under the name, the bytes under every other name are as before, and so are all counts of faults
+pub record PutsBytes (old new : Told) (name bytes : List ℕ) : Type 0 where
+  pub bytes_are : bytes_of new name ≡ bytes
+  pub others : (n : List ℕ) → n ≢ name → bytes_of new n ≡ bytes_of old n
+  pub faults : (n : List ℕ) → faults_of new n ≡ faults_of old n
+
+-- no name has bytes, and no name has a fault
+pub record IsBare (told : Told) : Type 0 where
+  pub bytes : (n : List ℕ) → bytes_of told n ≡ []
+  pub faults : (n : List ℕ) → faults_of told n ≡ 0
