@@ -2,3 +2,4 @@ pub mod SoFar
 pub mod WriteSteps
 pub mod ReadSteps
 pub mod FileSteps
+pub mod MemorySteps

@@ -126,6 +126,7 @@ pub(crate) fn next_fails(calls: &mut u64, fails: &[u32]) -> bool
 /// Adds one to the count of all faults and to that of a file. Counts end at 2^64 - 1.
 pub(crate) fn raise(files: &mut [File], counts: &mut Counts, number: usize)
     ensures all { counts.new.all ≡ min (counts.old.all + 1) (2 ^ 64 - 1) }
+    ensures grows { counts.old.all ≤ counts.new.all }
     ensures names { names_of files.new ≡ names_of files.old }
     ensures contents { contents_of files.new ≡ contents_of files.old }
     ensures later { (k : ℕ) → count_at (counts_of files.old) counts.old.missing k ≤ count_at (counts_of files.new) counts.new.missing k }

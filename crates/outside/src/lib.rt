@@ -1,18 +1,26 @@
 // The world outside of the program: shelves of files that are read, and sinks that take a text. Each has a count of faults, and each fault that a call answers raised it.
 #![tactic(auto)]
 
+mod disk_shelf;
 mod files;
 mod mem_shelf;
+mod mem_sink;
 mod piece;
 mod reading;
 mod shelf;
 mod sink;
+mod std_sink;
 mod sure_shelf;
+mod sure_sink;
 mod writing;
 
+pub use disk_shelf::DiskShelf;
 pub use mem_shelf::MemShelf;
+pub use mem_sink::MemSink;
 pub use reading::{ReadStop, read_all};
 pub use shelf::{Place4, Shelf};
 pub use sink::{Failed, Sink};
+pub use std_sink::StdSink;
 pub use sure_shelf::SureShelf;
+pub use sure_sink::SureSink;
 pub use writing::write_all;
