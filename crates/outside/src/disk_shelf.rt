@@ -1,5 +1,5 @@
 //! The files of the system as a shelf.
-ghost use Rattle.std.specs.Prelude.{◌≡◌, ◌+◌, ◌-◌, ◌^◌, ◌≤◌, ◌<◌, IfErr, OnErr, is_ok, is_some, length, min};
+ghost use Rattle.std.specs.Prelude.{◌≡◌, ◌≤◌, OnErr, is_ok, is_some, true};
 ghost use Rattle.std.specs.Io.{ReadsAtMost};
 ghost use Rattle.outside.specs.Rose.{Rose};
 

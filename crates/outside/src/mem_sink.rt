@@ -1,5 +1,5 @@
 //! A sink in memory.
-ghost use Rattle.std.specs.Prelude.{◌≡◌, ◌+◌, ◌-◌, ◌^◌, ◌<◌, ◌≤◌, [], IfOk, OnErr, Some, length, min};
+ghost use Rattle.std.specs.Prelude.{◌≡◌, ◌+◌, ◌-◌, ◌^◌, ◌<◌, ◌≤◌, [], IfOk, OnErr, Some, length, min, vec_capacity};
 ghost use Rattle.outside.specs.MemSink.{limit};
 ghost use Rattle.outside.specs.Rose.{Rose};
 ghost use Rattle.outside.specs.Sink.{Takes};
@@ -14,6 +14,7 @@ pub struct MemSink {
     taken: Vec<u8>,
     limit: usize,
     faults: u64,
+    ghost has_room: { limit ≤ vec_capacity taken },
 }
 
 impl MemSink {
@@ -58,12 +59,9 @@ impl Sink for MemSink {
             self.faults = self.faults.saturating_add(1);
             return Err(Failed);
         }
-        match self.taken.extend_from_slice(&piece[..count]) {
-            Ok(()) => Ok(count),
-            Err(_) => {
-                self.faults = self.faults.saturating_add(1);
-                Err(Failed)
-            }
-        }
+        let Ok(()) = self.taken.extend_from_slice(&piece[..count]) else {
+            unreachable!()
+        };
+        Ok(count)
     }
 }
