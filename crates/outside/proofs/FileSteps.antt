@@ -38,7 +38,7 @@ other_count files i missing k f other = rw (map-set (λ (x : File). x.faults) fi
 pub later_counts : (files : List File) (i missing : ℕ) (f d : File) → i < length files → (get_or files i d).faults ≤ f.faults → (k : ℕ) → count_at (counts_of files) missing k ≤ count_at (counts_of (set files i f)) missing k
 later_counts files i missing f d inside up k =
     elim (eqb_tells k i) [
-      inl same ↦ rw (same.1, count_of files i missing d inside, set_count files i missing f inside) up
+      | inl same ↦ rw (same.1, count_of files i missing d inside, set_count files i missing f inside) up
       | inr other ↦ rw (other_count files i missing k f other.1) (omega arith)
     ]
 
@@ -63,18 +63,21 @@ pub set_puts : (files : List File) (i missing : ℕ) (f d : File) (name bytes : 
     string_bytes f.name ≡ string_bytes (get_or files i d).name → f.faults ≡ (get_or files i d).faults → Puts files (set files i f) missing name bytes
 set_puts files i missing f d name bytes at inside b nm ct = record {
   bytes_are =
-    rw (names, contents) (get_or-set_at (contents_of files) i (number_of (names_of files) name) f.bytes.items [] (sym at) there ∙ b);
+      rw (names, contents) (get_or-set_at (contents_of files) i (number_of (names_of files) name) f.bytes.items [] (sym at) there ∙ b);
   others = λ n differ.
-    rw (names, contents) (get_or-set_other (contents_of files) i (number_of (names_of files) n) f.bytes.items [] (elsewhere n differ));
+      rw (names, contents) (get_or-set_other (contents_of files) i (number_of (names_of files) n) f.bytes.items [] (elsewhere n differ));
   faults = λ n. rw (names, same_counts files i f d ct) refl;
 }
   where
     names : names_of (set files i f) ≡ names_of files
     names = same_names files i f d nm
+
     contents : contents_of (set files i f) ≡ set (contents_of files) i f.bytes.items
     contents = map-set (λ (x : File). x.bytes.items) files i f
+
     there : i < length (contents_of files)
     there = rw (length-map files (λ (x : File). x.bytes.items)) inside
+
     elsewhere : (n : List ℕ) → n ≢ name → number_of (names_of files) n ≢ i
     elsewhere n differ same =
         let within : number_of (names_of files) name < length (names_of files) = rw (length-map files (λ (x : File). string_bytes x.name), ← at) inside in
@@ -91,7 +94,7 @@ stands names name n =
     let push = position_or_len_push (λ x. pointwise nat_eq x n) names name in
     let within : number_of names n ≤ length names = prefix_len-le-length _ names in
     elim (eqb_tells (number_of names n) (length names)) [
-      inl end ↦ at_the_end end.1 (rw end.0 at push)
+      | inl end ↦ at_the_end end.1 (rw end.0 at push)
       | inr inside ↦ before (omega (arith, within, inside.1)) (rw inside.0 at push)
     ]
   where
@@ -125,26 +128,35 @@ push_puts files missing f name bytes absent b nm ct = record {
   where
     N : List (List ℕ)
     N = names_of files
+
     names : names_of (files ++ f ∷ []) ≡ names_of files ++ name ∷ []
     names = map-append (λ (x : File). string_bytes x.name) files (f ∷ []) ∙ ap (λ v. names_of files ++ v ∷ []) nm
+
     contents : contents_of (files ++ f ∷ []) ≡ contents_of files ++ bytes ∷ []
     contents = map-append (λ (x : File). x.bytes.items) files (f ∷ []) ∙ ap (λ v. contents_of files ++ v ∷ []) b
+
     counts : counts_of (files ++ f ∷ []) ≡ counts_of files ++ missing ∷ []
     counts = map-append (λ (x : File). x.faults) files (f ∷ []) ∙ ap (λ v. counts_of files ++ v ∷ []) ct
+
     many : length N ≡ length files
     many = length-map files (λ (x : File). string_bytes x.name)
+
     many_contents : length (contents_of files) ≡ length files
     many_contents = length-map files (λ (x : File). x.bytes.items)
+
     many_counts : length (counts_of files) ≡ length files
     many_counts = length-map files (λ (x : File). x.faults)
+
     by_name : Stands N name name → bytes_at (contents_of files ++ bytes ∷ []) (number_of (N ++ name ∷ []) name) ≡ bytes
     by_name (before inside at) = absurd (omega (arith, many, inside, absent))
     by_name (at_end end same at) = read_last (contents_of files) bytes [] _ (omega (arith, at, many, many_contents))
     by_name (nowhere end differ at) = absurd (differ refl)
+
     by_other : (n : List ℕ) → n ≢ name → Stands N name n → bytes_at (contents_of files ++ bytes ∷ []) (number_of (N ++ name ∷ []) n) ≡ bytes_at (contents_of files) (number_of N n)
     by_other n differ (before inside at) = read_before (contents_of files) bytes [] _ _ at (omega (arith, inside, many, many_contents))
     by_other n differ (at_end end same at) = absurd (differ same)
     by_other n differ (nowhere end other at) = read_past (contents_of files) bytes [] _ _ (omega (arith, end, many, many_contents)) (omega (arith, at, many, many_contents))
+
     by_count : (n : List ℕ) → Stands N name n → count_at (counts_of files ++ missing ∷ []) missing (number_of (N ++ name ∷ []) n) ≡ count_at (counts_of files) missing (number_of N n)
     by_count n (before inside at) = read_before (counts_of files) missing missing _ _ at (omega (arith, inside, many, many_counts))
     by_count n (at_end end same at) =
@@ -156,7 +168,7 @@ pub name_test : (files : List File) (i : ℕ) (f : File) (text name : List ℕ) 
     pointwise nat_eq (get_or (names_of files) i []) name ≡ told
 name_test files i f text name answer told inside read is tested by =
     let there : get_or (names_of files) i [] ≡ string_bytes f.name =
-        get_or-map (λ (x : File). string_bytes x.name) files i f [] inside ∙ ap (λ (x : File). string_bytes x.name) (sym read)
+    get_or-map (λ (x : File). string_bytes x.name) files i f [] inside ∙ ap (λ (x : File). string_bytes x.name) (sym read)
     in
     rw there (rw (← is) (sym tested ∙ by))
 
@@ -178,7 +190,7 @@ copy_moves bytes buffer got taken start k piece n at is k_is n_is some room =
         let R = drop taken bytes in
         let long : length got ≡ n = ap length got_is ∙ length-take-le n (drop taken bytes) within in
         let front : take n (got ++ drop n buffer) ≡ take n (drop taken bytes) =
-            take-append-le n got (drop n buffer) (omega (arith, long)) ∙ ap (take n) got_is ∙ take-take n n (drop taken bytes) (omega arith)
+        take-append-le n got (drop n buffer) (omega (arith, long)) ∙ ap (take n) got_is ∙ take-take n n (drop taken bytes) (omega arith)
         in
         let back : drop (taken + n) bytes ≡ drop n (drop taken bytes) = sym (drop-drop n taken bytes) in
         (rw (front, back) (take-append-drop n (drop taken bytes)), λ e. nil_from_length (drop taken bytes) (none e))

@@ -43,7 +43,7 @@ fault_at old mid new place bytes buffer most e short s r = record {
   keeps = keeps_on old mid new s.keeps r.keeps;
   file_at = r.file_at ∙ s.file_at;
   takes =
-    (length bytes, short, r.moves ∙ left_is bytes (mid.left place) (old.left place) s.left, rose);
+      (length bytes, short, r.moves ∙ left_is bytes (mid.left place) (old.left place) s.left, rose);
   others_left = λ p other. r.others_left p other ∙ s.others_left p other;
 }
   where

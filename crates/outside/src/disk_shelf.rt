@@ -37,7 +37,12 @@ impl<R: Files + Drop> DiskShelf<R> {
 }
 
 /// Opens a file to be read, and counts a failure.
-fn open<R: Files>(files: &R, name: &str, opened: &mut Option<R::File>, faults: &mut u64) -> Result<(), Failed>
+fn open<R: Files>(
+    files: &R,
+    name: &str,
+    opened: &mut Option<R::File>,
+    faults: &mut u64,
+) -> Result<(), Failed>
     ensures opened { is_some opened.new ≡ is_ok result }
     ensures later { faults.old ≤ faults.new }
     ensures cause { OnErr result (Rose faults.old faults.new) }
@@ -56,7 +61,11 @@ fn open<R: Files>(files: &R, name: &str, opened: &mut Option<R::File>, faults: &
 }
 
 /// Reads from an open file, and counts a failure.
-fn read_some<F: Read>(opened: &mut Option<F>, buffer: &mut [u8], faults: &mut u64) -> Result<usize, Failed>
+fn read_some<F: Read>(
+    opened: &mut Option<F>,
+    buffer: &mut [u8],
+    faults: &mut u64,
+) -> Result<usize, Failed>
     requires { is_some opened.old ≡ true }
     ensures opened { is_some opened.new ≡ true }
     ensures later { faults.old ≤ faults.new }

@@ -142,7 +142,13 @@ pub(crate) fn raise(files: &mut [File], counts: &mut Counts, number: usize)
 }
 
 /// Puts bytes under a name. A new file begins with the count of the missing file.
-pub(crate) fn put(alloc: Global, files: &mut Vec<File>, missing: u64, name: &str, bytes: &[u8]) -> Result<(), NoMemory>
+pub(crate) fn put(
+    alloc: Global,
+    files: &mut Vec<File>,
+    missing: u64,
+    name: &str,
+    bytes: &[u8],
+) -> Result<(), NoMemory>
     ensures ok { OnOk result (Puts files.old.items files.new.items missing name.now bytes.now) }
     ensures no_memory { OnErr result (files.new.items ≡ files.old.items) }
 {

@@ -12,6 +12,8 @@ mod sink;
 mod std_sink;
 mod sure_shelf;
 mod sure_sink;
+#[cfg(test)]
+mod tests;
 mod writing;
 
 pub use disk_shelf::DiskShelf;

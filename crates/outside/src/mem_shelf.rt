@@ -3,7 +3,9 @@ ghost use Rattle.std.specs.Prelude.{◌≡◌, ◌≤◌, false, IsOkAnd, OnErr,
 ghost use Rattle.outside.specs.Shelf.{IsBare, PutsBytes};
 ghost use Rattle.outside.specs.MemShelf.{mem_faults, mem_started, mem_told};
 
-use crate::files::{Counts, File, Opened, Places, bytes_at, copy_some, next_fails, number_of, put, raise};
+use crate::files::{
+    Counts, File, Opened, Places, bytes_at, copy_some, next_fails, number_of, put, raise,
+};
 use crate::piece::Piece;
 use crate::shelf::{Place4, Shelf};
 use crate::sink::Failed;
@@ -53,7 +55,13 @@ impl MemShelf {
         ensures no_memory { OnErr result (mem_told self.new ≡ mem_told self.old) }
         ensures started { OnErr result (mem_started self.new ≡ mem_started self.old) }
     {
-        put(self.alloc, &mut self.files, self.counts.missing, name, bytes)?;
+        put(
+            self.alloc,
+            &mut self.files,
+            self.counts.missing,
+            name,
+            bytes,
+        )?;
         self.places = Places::new();
         Ok(())
     }

@@ -43,7 +43,12 @@ impl From<AllocError> for ReadStop {
 /// Reads what is left at a started place to its end: at most `most` bytes.
 ///
 /// `Fault` comes only where the shelf's count of faults rose, and that of the name at the place where it is told. `TooLong` comes exactly where `most + 1` bytes were taken.
-pub fn read_all<H: Shelf>(alloc: Global, shelf: &mut H, place: Place4, most: usize) -> Result<Vec<u8>, ReadStop>
+pub fn read_all<H: Shelf>(
+    alloc: Global,
+    shelf: &mut H,
+    place: Place4,
+    most: usize,
+) -> Result<Vec<u8>, ReadStop>
     requires { H.started shelf.old place ≡ true }
     ensures later { H.faults shelf.old ≤ H.faults shelf.new }
     ensures fault { result ≡ Err ReadStop.Fault → Rose (H.faults shelf.old) (H.faults shelf.new) }

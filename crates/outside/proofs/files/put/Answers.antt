@@ -11,7 +11,7 @@ returns-then-number-len-clause-ok c =
     let at = rw c.deref.ensures.value at c.number_of-number.ensures in
     let inside : c.number_of-number.result < length c.args.files.now.items = omega (arith, c.args.files.now.ok.0) in
     set_puts c.args.files.now.items c.number_of-number.result c.args.missing _ c.index_mut.result.now c.args.name.now c.args.bytes.now at inside c.in_ok-bytes.ensures.items
-        (ap (λ (x : File). string_bytes x.name) c.index_mut.ensures.value) (ap (λ (x : File). x.faults) c.index_mut.ensures.value)
+    (ap (λ (x : File). string_bytes x.name) c.index_mut.ensures.value) (ap (λ (x : File). x.faults) c.index_mut.ensures.value)
 
 pub returns-clause-ok : goal.returns-clause-ok
 returns-clause-ok c =
