@@ -1,8 +1,7 @@
 -- The list of files under a change of one of them.
-use Rattle.std.proofs.Common.{◌≡◌, ◌≢◌, ℕ, ◌+◌, ◌-◌, ◌^◌, ◌<◌, ◌≤◌, ◌⊎◌, inl, inr, Bool, true, false, List, [], ◌∷◌, ◌++◌, length, take, drop, map, get_or, refl, sym, ◌∙◌, ap, subst, arith, cond, eqb}
+use Rattle.std.proofs.Common.{◌≡◌, ◌≢◌, ℕ, ◌+◌, ◌-◌, ◌^◌, ◌<◌, ◌≤◌, inl, inr, Bool, true, false, List, [], ◌∷◌, ◌++◌, length, take, drop, get_or, refl, sym, ◌∙◌, ap, arith, cond}
 use Rattle.std.proofs.Math.ListN.{set, drop_of_length-le}
-use Rattle.std.specs.Prelude.{nat_eq, string_bytes, min, max}
-use Rattle.std.specs.List.{position_or_len}
+use Rattle.std.specs.Prelude.{nat_eq, string_bytes, min}
 use Rattle.std.specs.Cmp.Lexicographic.{pointwise, bytes_decides}
 use Rattle.std.proofs.lemmas.List.{get_or-map, get_or-set_other, get_or_append_left, get_or_past, length-append, length-map, length-take-le, map-append, map-set, drop-drop, take-append-le, take-take, take-append-drop, nil_from_length}
 use Rattle.std.proofs.lemmas.List.Folds.{position_or_len_push}
@@ -13,7 +12,7 @@ use Rattle.std.proofs.lemmas.Grind.{common_steps, get_or-set_at}
 use Rattle.std.proofs.Math.Seq.{map-set_same, get_or-append_seam}
 use Rattle.outside.specs.declared.files.File.{File}
 use Rattle.outside.specs.Rose.{Rose}
-use Rattle.outside.specs.Files.{names_of, contents_of, counts_of, number_of, bytes_at, count_at, bytes_under, faults_under, Puts}
+use Rattle.outside.specs.Files.{names_of, contents_of, counts_of, number_of, bytes_at, count_at, Puts}
 
 pub same_names : (files : List File) (i : ℕ) (f d : File) → string_bytes f.name ≡ string_bytes (get_or files i d).name → names_of (set files i f) ≡ names_of files
 same_names files i f d e = map-set_same (λ (x : File). string_bytes x.name) files i f d e

@@ -1,6 +1,6 @@
 -- What the calls of a shelf in memory do to what it tells.
-use Rattle.std.proofs.Common.{◌≡◌, ◌≢◌, ℕ, ◌+◌, ◌<◌, ◌≤◌, List, [], length, take, drop, refl, sym, ◌∙◌, ap, arith, Bool, true, ◌++◌}
-use Rattle.std.specs.Prelude.{Option, Some, None, Result, Ok, Err, is_some}
+use Rattle.std.proofs.Common.{◌≡◌, ◌≢◌, ℕ, ◌+◌, ◌≤◌, List, drop, refl, ◌∙◌, ap, arith}
+use Rattle.std.specs.Prelude.{Option, Some, None, Ok, Err, is_some}
 use Rattle.outside.specs.declared.shelf.Place4.{Place4}
 use Rattle.outside.specs.declared.shelf.Place4.TheVariants.{Trace, Weights, Report, Script}
 use Rattle.outside.specs.declared.sink.Failed.{Failed}
@@ -8,7 +8,7 @@ use Rattle.outside.specs.declared.files.File.{File}
 use Rattle.outside.specs.declared.files.Opened.{Opened}
 use Rattle.outside.specs.declared.files.Places.{Places}
 use Rattle.outside.specs.Rose.{Rose}
-use Rattle.outside.specs.Shelf.{Told, Keeps, Moves, ReadsAt, SameElsewhere, StartsAt}
+use Rattle.outside.specs.Shelf.{Keeps, Moves, ReadsAt, StartsAt}
 use Rattle.outside.specs.Files.{bytes_at, contents_of, file_held, held, is_started, left_held, memory_told, names_of, number_of, with_held}
 
 -- two functions of a place that agree everywhere are one

@@ -1,16 +1,13 @@
 -- The steps of reading to the end.
-use Rattle.std.proofs.Common.{◌≡◌, ◌≢◌, ℕ, ◌+◌, ◌-◌, ◌<◌, ◌≤◌, ◌++◌, List, [], length, take, drop, refl, sym, ◌∙◌, ap, subst, append_assoc, arith, length-append}
+use Rattle.std.proofs.Common.{◌≡◌, ℕ, ◌+◌, ◌≤◌, ◌++◌, List, length, take, drop, sym, ◌∙◌, ap, subst, append_assoc, arith, length-append}
 use Rattle.std.specs.Prelude.{Option, Some, None, Result, Ok, Err}
 use Rattle.std.specs.Result.{IsErrAnd}
-use Rattle.std.specs.declared.vec.Vec.{Vec}
-use Rattle.std.specs.declared.alloc.Global.{Global}
 use Rattle.std.proofs.lemmas.List.{length-take-le}
 use Rattle.std.proofs.Math.Seq.{drop-append_seam}
 use Rattle.outside.specs.declared.shelf.Place4.{Place4}
-use Rattle.outside.specs.declared.reading.ReadStop.{ReadStop}
 use Rattle.outside.specs.declared.reading.ReadStop.TheVariants.{Fault, TooLong, NoMemory}
 use Rattle.outside.specs.Rose.{Rose}
-use Rattle.outside.specs.Shelf.{Told, Keeps, SameElsewhere, ReadsAt, Reads, ReadsWhole, ReadsWholeAt, faults_at}
+use Rattle.outside.specs.Shelf.{Told, Keeps, ReadsAt, Reads, ReadsWhole, ReadsWholeAt, faults_at}
 use Rattle.outside.proofs.SoFar.{ReadsSoFar, ToldSoFar}
 
 pub keeps_on : (a b c : Told) → Keeps a b → Keeps b c → Keeps a c

@@ -1,5 +1,5 @@
 -- How far a read to the end has come, and how far the write of a text has.
-use Rattle.std.specs.Prelude.{◌≡◌, ℕ, ◌++◌, List, Option, Some, None, take}
+use Rattle.std.specs.Prelude.{◌≡◌, ℕ, ◌++◌, List, Option, Some, None}
 use Rattle.outside.specs.declared.shelf.Place4.{Place4}
 use Rattle.outside.specs.Shelf.{Told, Keeps, SameElsewhere}
 

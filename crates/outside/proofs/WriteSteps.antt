@@ -1,6 +1,6 @@
 -- The steps of writing a text.
-use Rattle.std.proofs.Common.{◌≡◌, ℕ, ◌+◌, ◌-◌, ◌<◌, ◌≤◌, ◌++◌, List, length, take, drop, refl, sym, ◌∙◌, ap, subst, append_assoc, arith}
-use Rattle.std.specs.Prelude.{Option, Some, None, Result, Ok, Err}
+use Rattle.std.proofs.Common.{◌≡◌, ℕ, ◌+◌, ◌++◌, List, take, drop, ◌∙◌, ap, append_assoc}
+use Rattle.std.specs.Prelude.{Option, Some, None, Ok}
 use Rattle.std.proofs.Math.Seq.{take-add}
 use Rattle.outside.specs.Sink.{Takes}
 use Rattle.outside.proofs.SoFar.{TakenSoFar}

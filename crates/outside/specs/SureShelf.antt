@@ -1,5 +1,5 @@
 -- What a shelf that never fails tells.
-use Rattle.std.specs.Prelude.{ℕ, Bool}
+use Rattle.std.specs.Prelude.{Bool}
 use Rattle.outside.specs.declared.shelf.Place4.{Place4}
 use Rattle.outside.specs.declared.sure_shelf.SureShelf.{SureShelf}
 use Rattle.outside.specs.Shelf.{Told}

@@ -1,7 +1,9 @@
 //! A shelf in memory, of which some calls fail.
-ghost use Rattle.std.specs.Prelude.{◌≡◌, ◌≤◌, false, IsOkAnd, OnErr, OnOk};
-ghost use Rattle.outside.specs.Shelf.{IsBare, PutsBytes};
-ghost use Rattle.outside.specs.MemShelf.{mem_faults, mem_started, mem_told};
+ghost use Rattle.std.specs.Prelude.{◌≡◌, ◌+◌, ◌-◌, ◌^◌, ◌<◌, ◌≤◌, ◌⊎◌, false, is_ok, length, min, true, IsOkAnd, OnErr, OnOk, Some};
+ghost use Rattle.std.specs.Io.{ReadsAtMost};
+ghost use Rattle.outside.specs.Rose.{Rose};
+ghost use Rattle.outside.specs.Shelf.{IsBare, PutsBytes, Reads, SameElsewhere, Starts};
+ghost use Rattle.outside.specs.MemShelf.{mem_faults, mem_started, mem_told, FailsNow, HasMade, IsMissing};
 
 use crate::files::{
     Counts, File, Opened, Places, bytes_at, copy_some, next_fails, number_of, put, raise,
@@ -33,6 +35,7 @@ impl MemShelf {
         ensures faults { IsOkAnd result (λ s. mem_faults s ≡ 0) }
         ensures told { IsOkAnd result (λ s. IsBare (mem_told s)) }
         ensures started { IsOkAnd result (λ s. (p : _) → mem_started s p ≡ false) }
+        ensures calls { IsOkAnd result (λ s. (s.fails.items ≡ fails.items) × (s.calls ≡ 0)) }
     {
         Ok(MemShelf {
             alloc,
@@ -52,6 +55,7 @@ impl MemShelf {
         ensures put { OnOk result (PutsBytes (mem_told self.old) (mem_told self.new) name.now bytes.now) }
         ensures stopped { OnOk result ((p : _) → mem_started self.new p ≡ false) }
         ensures faults { mem_faults self.new ≡ mem_faults self.old }
+        ensures calls { HasMade self.old self.new self.old.calls }
         ensures no_memory { OnErr result (mem_told self.new ≡ mem_told self.old) }
         ensures started { OnErr result (mem_started self.new ≡ mem_started self.old) }
     {
@@ -77,7 +81,17 @@ impl Shelf for MemShelf {
 
     ghost told = { λ s. Some (mem_told s) };
 
-    fn start(&mut self, place: Place4, name: &str) -> Result<(), Failed> {
+    /// Fails exactly at a name that was not put and at a call that is to fail.
+    fn start(&mut self, place: Place4, name: &str) -> Result<(), Failed>
+        ensures later { mem_faults self.old ≤ mem_faults self.new }
+        ensures cause { OnErr result (Rose (mem_faults self.old) (mem_faults self.new)) }
+        ensures started { mem_started self.new place ≡ is_ok result }
+        ensures others { SameElsewhere place (mem_started self.old) (mem_started self.new) }
+        ensures told { Starts (Some (mem_told self.old)) (Some (mem_told self.new)) place name.now result }
+        ensures counted { HasMade self.old self.new (min (self.old.calls + 1) (2 ^ 64 - 1)) }
+        ensures fails { OnErr result (FailsNow self.new ⊎ IsMissing self.old name.now) }
+        ensures succeeds { OnOk result ((FailsNow self.new → ⊥) × (IsMissing self.old name.now → ⊥)) }
+    {
         let file = number_of(&self.files, name);
         let failing = next_fails(&mut self.calls, &self.fails);
         if failing || file == self.files.len() {
@@ -89,7 +103,19 @@ impl Shelf for MemShelf {
         Ok(())
     }
 
-    fn read(&mut self, place: Place4, buffer: &mut [u8]) -> Result<usize, Failed> {
+    /// Fails exactly at a call that is to fail.
+    fn read(&mut self, place: Place4, buffer: &mut [u8]) -> Result<usize, Failed>
+        requires room { 0 < length buffer.old }
+        requires started { mem_started self.old place ≡ true }
+        ensures later { mem_faults self.old ≤ mem_faults self.new }
+        ensures cause { OnErr result (Rose (mem_faults self.old) (mem_faults self.new)) }
+        ensures bound { ReadsAtMost result buffer.new }
+        ensures started { mem_started self.new ≡ mem_started self.old }
+        ensures told { Reads (Some (mem_told self.old)) (Some (mem_told self.new)) place buffer.new result }
+        ensures counted { HasMade self.old self.new (min (self.old.calls + 1) (2 ^ 64 - 1)) }
+        ensures fails { OnErr result (FailsNow self.new) }
+        ensures succeeds { OnOk result (FailsNow self.new → ⊥) }
+    {
         let Some(opened) = self.places.get(place) else {
             unreachable!()
         };

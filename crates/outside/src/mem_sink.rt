@@ -51,8 +51,17 @@ impl Sink for MemSink {
 
     ghost taken = { λ s. Some s.taken.items };
 
-    /// Takes what there is room for. It fails at a piece that is not empty only where the limit is reached.
-    fn write(&mut self, piece: &[u8]) -> Result<usize, Failed> {
+    /// Takes what there is room for. It fails exactly where none is left for a piece that is not empty.
+    fn write(&mut self, piece: &[u8]) -> Result<usize, Failed>
+        ensures later { self.old.faults ≤ self.new.faults }
+        ensures cause { OnErr result (Rose self.old.faults self.new.faults) }
+        ensures bound { IfOk result (λ n. n ≤ length piece.now) }
+        ensures some { 0 < length piece.now → IfOk result (λ n. 0 < n) }
+        ensures taken { Takes (Some self.old.taken.items) (Some self.new.taken.items) piece.now result }
+        ensures room { IfOk result (λ n. n ≡ min (self.old.limit - length self.old.taken.items) (length piece.now)) }
+        ensures full { OnErr result (self.old.limit ≤ length self.old.taken.items) }
+        ensures limit { self.new.limit ≡ self.old.limit }
+    {
         let room = self.limit.saturating_sub(self.taken.len());
         let count = room.min(piece.len());
         if count == 0 && !piece.is_empty() {

@@ -1,4 +1,3 @@
-use Rattle.std.proofs.Common.{◌≡◌, ℕ, ◌+◌, ◌<◌, ◌≤◌, List, length, refl, arith}
 use Rattle.outside.proofs.FileSteps.{copy_moves}
 use Rattle.outside.proofs.files.copy_some.Goals as goal
 

@@ -1,4 +1,4 @@
-use Rattle.std.proofs.Common.{◌≡◌, ℕ, ◌+◌, ◌<◌, ◌≤◌, List, length, refl, sym, arith, true, false, below_more}
+use Rattle.std.proofs.Common.{◌≡◌, ◌<◌, length, sym, arith, true, false, below_more}
 use Rattle.std.proofs.lemmas.List.{length-map}
 use Rattle.std.specs.Prelude.{string_bytes}
 use Rattle.outside.specs.declared.files.File.{File}

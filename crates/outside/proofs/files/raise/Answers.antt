@@ -1,4 +1,4 @@
-use Rattle.std.proofs.Common.{◌≡◌, ℕ, ◌+◌, ◌<◌, ◌≤◌, length, refl, arith}
+use Rattle.std.proofs.Common.{◌<◌, length, refl, arith}
 use Rattle.outside.proofs.FileSteps.{same_names, same_contents, later_counts, risen_count}
 use Rattle.outside.proofs.files.raise.Goals as goal
 

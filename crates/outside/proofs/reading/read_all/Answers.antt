@@ -1,8 +1,7 @@
-use Rattle.std.proofs.Common.{◌≡◌, ◌+◌, ◌-◌, ◌≤◌, ◌<◌, ℕ, List, ◌++◌, length, take, drop, arith, length-append, refl, ap, ◌∙◌}
-use Rattle.std.proofs.lemmas.List.{take-append-le, length-take-le, length-take}
+use Rattle.std.proofs.Common.{◌≡◌, ◌+◌, ◌-◌, ◌≤◌, ◌<◌, ◌++◌, length, take, drop, arith, ap, ◌∙◌}
+use Rattle.std.proofs.lemmas.List.{take-append-le, length-take}
 use Rattle.outside.specs.declared.sink.Failed.{Failed}
 use Rattle.outside.specs.declared.reading.ReadStop.TheVariants.{Fault, NoMemory}
-use Rattle.outside.proofs.SoFar.{ToldSoFar}
 use Rattle.outside.proofs.ReadSteps.{err_is, length_step, read_step, read_fault, read_too_long, read_no_memory}
 use Rattle.outside.proofs.reading.read_all.Goals as goal
 

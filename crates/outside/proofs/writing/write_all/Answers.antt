@@ -1,7 +1,6 @@
-use Rattle.std.proofs.Common.{◌≡◌, ◌+◌, ◌-◌, ◌≤◌, ◌<◌, ℕ, List, length, take, drop, arith, length-drop}
+use Rattle.std.proofs.Common.{◌≡◌, ◌-◌, ◌≤◌, ℕ, List, length, take, drop, arith, length-drop}
 use Rattle.std.proofs.lemmas.Grind.{common_steps}
 use Rattle.outside.specs.declared.sink.Failed.{Failed}
-use Rattle.outside.proofs.SoFar.{TakenSoFar}
 use Rattle.outside.proofs.WriteSteps.{write_step}
 use Rattle.outside.proofs.writing.write_all.Goals as goal
 

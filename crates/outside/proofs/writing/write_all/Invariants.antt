@@ -1,4 +1,4 @@
-use Rattle.std.proofs.Common.{length, ◌-◌, ◌≤◌, ℕ}
+use Rattle.std.proofs.Common.{length, ◌-◌, ◌≤◌}
 use Rattle.std.specs.Prelude.{take}
 use Rattle.outside.proofs.SoFar.{TakenSoFar}
 use Rattle.outside.proofs.writing.write_all.Given as goal
