@@ -164,8 +164,6 @@ pub(crate) fn put(
         bytes,
         faults: missing,
     };
-    let Ok(()) = files.push(file) else {
-        return Err(NoMemory);
-    };
+    files.push(file)?;
     Ok(())
 }

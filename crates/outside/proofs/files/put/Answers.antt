@@ -18,5 +18,5 @@ returns-clause-ok c =
     let many = length-map c.args.files.now.items (λ (x : File). string_bytes x.name) in
     let at = rw c.deref.ensures.value at c.number_of-number.ensures in
     let absent : length c.args.files.now.items ≤ number_of (names_of c.args.files.now.items) c.args.name.now = omega (arith, at, c.args.files.now.ok.0) in
-    let items = c.in-Ok.ensures.items in
+    let items = c.in_ok-push.ensures.items in
     rw items (push_puts c.args.files.now.items c.args.missing _ c.args.name.now c.args.bytes.now absent c.in_ok-bytes.ensures.items c.in_ok-name.ensures.ok refl)
