@@ -6,3 +6,5 @@ pub mod Files
 pub mod MemShelf
 pub mod SureShelf
 pub mod MemSink
+pub mod Wire
+pub mod MemWire

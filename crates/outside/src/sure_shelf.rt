@@ -1,6 +1,7 @@
 //! A shelf in memory that never fails.
-ghost use Rattle.std.specs.Prelude.{◌≡◌, ◌≤◌, false, IsOkAnd, OnErr, OnOk};
-ghost use Rattle.outside.specs.Shelf.{IsBare, PutsBytes};
+ghost use Rattle.std.specs.Prelude.{◌≡◌, ◌<◌, ◌≤◌, false, length, true, IsOk, IsOkAnd, OnErr, OnOk, Some};
+ghost use Rattle.std.specs.Io.{ReadsAtMost};
+ghost use Rattle.outside.specs.Shelf.{IsBare, PutsBytes, Reads, SameElsewhere, Starts};
 ghost use Rattle.outside.specs.SureShelf.{sure_started, sure_told};
 
 use crate::files::{File, Opened, Places, bytes_at, copy_some, number_of, put};
@@ -61,13 +62,27 @@ impl Shelf for SureShelf {
 
     ghost told = { λ s. Some (sure_told s) };
 
-    fn start(&mut self, place: Place4, name: &str) -> Result<(), Failed> {
+    /// Never fails.
+    fn start(&mut self, place: Place4, name: &str) -> Result<(), Failed>
+        ensures never_fails { IsOk result }
+        ensures started { sure_started self.new place ≡ true }
+        ensures others { SameElsewhere place (sure_started self.old) (sure_started self.new) }
+        ensures told { Starts (Some (sure_told self.old)) (Some (sure_told self.new)) place name.now result }
+    {
         let file = number_of(&self.files, name);
         self.places.set(place, Some(Opened { file, taken: 0 }));
         Ok(())
     }
 
-    fn read(&mut self, place: Place4, buffer: &mut [u8]) -> Result<usize, Failed> {
+    /// Never fails.
+    fn read(&mut self, place: Place4, buffer: &mut [u8]) -> Result<usize, Failed>
+        requires room { 0 < length buffer.old }
+        requires started { sure_started self.old place ≡ true }
+        ensures never_fails { IsOk result }
+        ensures bound { ReadsAtMost result buffer.new }
+        ensures started { sure_started self.new ≡ sure_started self.old }
+        ensures told { Reads (Some (sure_told self.old)) (Some (sure_told self.new)) place buffer.new result }
+    {
         let Some(opened) = self.places.get(place) else {
             unreachable!()
         };

@@ -1,5 +1,5 @@
 //! A sink that never fails.
-ghost use Rattle.std.specs.Prelude.{◌≡◌, ◌+◌, ◌-◌, ◌^◌, ◌≤◌, None, length, min};
+ghost use Rattle.std.specs.Prelude.{◌≡◌, ◌+◌, ◌-◌, ◌^◌, length, min, Ok};
 
 use crate::sink::{Failed, Sink};
 
@@ -32,7 +32,11 @@ impl Sink for SureSink {
 
     ghost taken = { λ _. None };
 
-    fn write(&mut self, piece: &[u8]) -> Result<usize, Failed> {
+    /// Takes all of the piece.
+    fn write(&mut self, piece: &[u8]) -> Result<usize, Failed>
+        ensures all { result ≡ Ok (length piece.now) }
+        ensures length { self.new.length ≡ min (self.old.length + length piece.now) (2 ^ 64 - 1) }
+    {
         self.length = self.length.saturating_add(piece.len() as u64);
         Ok(piece.len())
     }

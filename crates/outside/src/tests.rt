@@ -1,7 +1,7 @@
 //! The shelves and sinks on worked cases.
 use crate::{
-    DiskShelf, Failed, MemShelf, MemSink, Place4, ReadStop, Shelf, Sink, StdSink, SureShelf,
-    SureSink, read_all, write_all,
+    CountWire, DiskShelf, Failed, MemShelf, MemSink, MemWire, Place4, ReadStop, Shelf, Sink,
+    StdSink, SureShelf, SureSink, Wire, read_all, write_all,
 };
 use std::alloc::Global;
 use std::fs;
@@ -131,5 +131,29 @@ fn files_of_the_system_are_read(rt: HostRuntime) -> Result<(), Fail> {
 fn the_standard_output_takes_a_text(rt: HostRuntime) -> Result<(), Fail> {
     let mut sink = StdSink::new(rt.clone()?);
     write_all(&mut sink, REPORT)?;
+    Ok(())
+}
+
+#[test]
+fn wires_refuse_one_unit(rt: HostRuntime) -> Result<(), Fail> {
+    // Two sends, of 4 units in slot 1 and of 3 in slot 5.
+    let alloc = rt.alloc();
+    for (room, fail_at, first, second, runs, begins) in [
+        (2, Some(2), 1, 3, 2, (1, 7, 1)),
+        (2, Some(1), 0, 3, 1, (5, 7, 3)),
+        (2, Some(5), 4, 0, 1, (1, 7, 4)),
+        (2, Some(8), 4, 3, 2, (1, 7, 4)),
+        (1, None, 4, 0, 1, (1, 7, 4)),
+    ] {
+        let mut wire = MemWire::new(alloc, room, fail_at)?;
+        assert_eq!(rt; wire.send(1, 7, 4), first);
+        assert_eq!(rt; wire.send(5, 7, 3), second);
+        assert_eq!(rt; wire.len(), runs);
+        assert!(rt; wire.len() > 0);
+        assert_eq!(rt; wire.run(0), begins);
+    }
+    let mut wire = CountWire { sent: u64::MAX - 5 };
+    assert_eq!(rt; (wire.send(1, 0, 5), wire.send(6, 0, 3)), (5, 3));
+    assert_eq!(rt; wire.sent, u64::MAX);
     Ok(())
 }
