@@ -1,0 +1,5 @@
+pub mod SoFar
+pub mod WriteSteps
+pub mod ReadSteps
+pub mod FileSteps
+pub mod MemorySteps

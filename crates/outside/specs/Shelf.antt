@@ -1,0 +1,107 @@
+-- What a shelf tells, and what its calls do to it.
+use Rattle.std.specs.Prelude.{◌≡◌, ◌≢◌, ℕ, ◌+◌, ◌≤◌, ◌++◌, List, [], Option, Some, None, Result, Ok, Err, OnOk, OnErr, length, take, drop}
+use Rattle.std.specs.declared.vec.Vec.{Vec}
+use Rattle.std.specs.declared.alloc.Global.{Global}
+use Rattle.outside.specs.declared.shelf.Place4.{Place4}
+use Rattle.outside.specs.declared.reading.ReadStop.{ReadStop}
+use Rattle.outside.specs.declared.reading.ReadStop.TheVariants.{Fault, TooLong, NoMemory}
+use Rattle.outside.specs.Rose.{Rose}
+
+-- What a shelf tells. Files have numbers. Names may stand for one file, and then share its bytes and its count of faults.
+pub record Told : Type 0 where
+  -- the file for which a name stands
+  pub file : List ℕ → ℕ
+  -- the bytes of a file
+  pub bytes : ℕ → List ℕ
+  -- the count of faults of a file
+  pub faults : ℕ → ℕ
+  -- the file that is set at a place
+  pub file_at : Place4 → ℕ
+  -- the bytes that are left at a place
+  pub left : Place4 → List ℕ
+
+-- the bytes under a name
+abbrev pub bytes_of : Told → List ℕ → List ℕ
+bytes_of told name = told.bytes (told.file name)
+
+-- the count of faults of a name
+abbrev pub faults_of : Told → List ℕ → ℕ
+faults_of told name = told.faults (told.file name)
+
+-- the count of faults of the file that is set at a place
+abbrev pub faults_at : Told → Place4 → ℕ
+faults_at told place = told.faults (told.file_at place)
+
+-- the two agree at every other place
+abbrev pub SameElsewhere : {X : Type 0} → Place4 → (Place4 → X) → (Place4 → X) → Type 0
+SameElsewhere place old new = (p : Place4) → p ≢ place → new p ≡ old p
+
+-- No call changes the file of a name or its bytes, and no count of faults falls.
+pub record Keeps (old new : Told) : Type 0 where
+  pub file : new.file ≡ old.file
+  pub bytes : new.bytes ≡ old.bytes
+  pub later : (file : ℕ) → old.faults file ≤ new.faults file
+
+-- a start that succeeds sets the file of the name at the place, and leaves all its bytes there; at a fault the count of the name rose
+pub record StartsAt {X E : Type 0} (old new : Told) (place : Place4) (name : List ℕ) (result : Result X E) : Type 0 where
+  pub keeps : Keeps old new
+  pub file_at : OnOk result (new.file_at place ≡ old.file name)
+  pub left : OnOk result (new.left place ≡ bytes_of old name)
+  pub others_file_at : SameElsewhere place old.file_at new.file_at
+  pub others_left : SameElsewhere place old.left new.left
+  pub cause : OnErr result (Rose (faults_of old name) (faults_of new name))
+
+-- the first bytes that were left came into the buffer, none only where none was left; at a fault all are left
+abbrev pub Moves : {E : Type 0} → List ℕ → List ℕ → List ℕ → Result ℕ E → Type 0
+Moves old new buffer (Ok n) = (take n buffer ++ new ≡ old) × (n ≡ 0 → old ≡ [])
+Moves old new buffer (Err e) = new ≡ old
+
+-- a read moves bytes out of the place; at a fault the count of the file there rose
+pub record ReadsAt {E : Type 0} (old new : Told) (place : Place4) (buffer : List ℕ) (result : Result ℕ E) : Type 0 where
+  pub keeps : Keeps old new
+  pub file_at : new.file_at ≡ old.file_at
+  pub moves : Moves (old.left place) (new.left place) buffer result
+  pub others_left : SameElsewhere place old.left new.left
+  pub cause : OnErr result (Rose (faults_at old place) (faults_at new place))
+
+-- All bytes that were left at the place are the answer. Too long: `most + 1` bytes were taken. Otherwise at most `most` bytes were taken, and at a fault the count of the file there rose.
+abbrev pub TakesWhole : Told → Told → Place4 → ℕ → Result (Vec ℕ Global) ReadStop → Type 0
+TakesWhole old new place most (Ok bytes) = (bytes.items ≡ old.left place) × (new.left place ≡ [])
+TakesWhole old new place most (Err TooLong) =
+    (most + 1 ≤ length (old.left place)) × (new.left place ≡ drop (most + 1) (old.left place))
+TakesWhole old new place most (Err Fault) =
+    (n : ℕ) × (n ≤ most) × (new.left place ≡ drop n (old.left place)) × Rose (faults_at old place) (faults_at new place)
+TakesWhole old new place most (Err NoMemory) = (n : ℕ) × (n ≤ most) × (new.left place ≡ drop n (old.left place))
+
+-- reading to the end
+pub record ReadsWholeAt (old new : Told) (place : Place4) (most : ℕ) (result : Result (Vec ℕ Global) ReadStop) : Type 0 where
+  pub keeps : Keeps old new
+  pub file_at : new.file_at ≡ old.file_at
+  pub takes : TakesWhole old new place most result
+  pub others_left : SameElsewhere place old.left new.left
+
+-- a start, where the shelf tells; a shelf tells after every call or after none
+abbrev pub Starts : {X E : Type 0} → Option Told → Option Told → Place4 → List ℕ → Result X E → Type 0
+Starts None new place name result = new ≡ None
+Starts (Some old) new place name result = (t : Told) × (new ≡ Some t) × StartsAt old t place name result
+
+-- a read, where the shelf tells
+abbrev pub Reads : {E : Type 0} → Option Told → Option Told → Place4 → List ℕ → Result ℕ E → Type 0
+Reads None new place buffer result = new ≡ None
+Reads (Some old) new place buffer result = (t : Told) × (new ≡ Some t) × ReadsAt old t place buffer result
+
+-- reading to the end, where the shelf tells
+abbrev pub ReadsWhole : Option Told → Option Told → Place4 → ℕ → Result (Vec ℕ Global) ReadStop → Type 0
+ReadsWhole None new place most result = new ≡ None
+ReadsWhole (Some old) new place most result = (t : Told) × (new ≡ Some t) × ReadsWholeAt old t place most result
+
+-- the bytes are those under the name, the bytes under every other name are as before, and so are all counts of faults
+pub record PutsBytes (old new : Told) (name bytes : List ℕ) : Type 0 where
+  pub bytes_are : bytes_of new name ≡ bytes
+  pub others : (n : List ℕ) → n ≢ name → bytes_of new n ≡ bytes_of old n
+  pub faults : (n : List ℕ) → faults_of new n ≡ faults_of old n
+
+-- no name has bytes, and no name has a fault
+pub record IsBare (told : Told) : Type 0 where
+  pub bytes : (n : List ℕ) → bytes_of told n ≡ []
+  pub faults : (n : List ℕ) → faults_of told n ≡ 0

@@ -1,0 +1,112 @@
+//! The files of the system as a shelf.
+ghost use Rattle.std.specs.Prelude.{◌≡◌, ◌≤◌, OnErr, is_ok, is_some, true};
+ghost use Rattle.std.specs.Io.{ReadsAtMost};
+ghost use Rattle.outside.specs.Rose.{Rose};
+
+use crate::shelf::{Place4, Shelf};
+use crate::sink::Failed;
+use std::fs;
+use std::io::Read;
+use std::rt::Files;
+
+/// Files of the system by their paths. It tells no content, and its count rises at each error of the system.
+#[derive(Drop)]
+pub struct DiskShelf<R: Files + Drop> {
+    files: R,
+    trace: Option<R::File>,
+    weights: Option<R::File>,
+    report: Option<R::File>,
+    script: Option<R::File>,
+    faults: u64,
+}
+
+impl<R: Files + Drop> DiskShelf<R> {
+    /// A shelf over the files of a runtime. It takes no memory.
+    pub fn new(files: R) -> DiskShelf<R>
+        ensures { result.faults ≡ 0 }
+    {
+        DiskShelf {
+            files,
+            trace: None,
+            weights: None,
+            report: None,
+            script: None,
+            faults: 0,
+        }
+    }
+}
+
+/// Opens a file to be read, and counts a failure.
+fn open<R: Files>(
+    files: &R,
+    name: &str,
+    opened: &mut Option<R::File>,
+    faults: &mut u64,
+) -> Result<(), Failed>
+    ensures opened { is_some opened.new ≡ is_ok result }
+    ensures later { faults.old ≤ faults.new }
+    ensures cause { OnErr result (Rose faults.old faults.new) }
+{
+    match fs::open(files, name) {
+        Ok(file) => {
+            *opened = Some(file);
+            Ok(())
+        }
+        Err(_) => {
+            *opened = None;
+            *faults = faults.saturating_add(1);
+            Err(Failed)
+        }
+    }
+}
+
+/// Reads from an open file, and counts a failure.
+fn read_some<F: Read>(
+    opened: &mut Option<F>,
+    buffer: &mut [u8],
+    faults: &mut u64,
+) -> Result<usize, Failed>
+    requires { is_some opened.old ≡ true }
+    ensures opened { is_some opened.new ≡ true }
+    ensures later { faults.old ≤ faults.new }
+    ensures cause { OnErr result (Rose faults.old faults.new) }
+    ensures bound { ReadsAtMost result buffer.new }
+{
+    let Some(file) = opened else { unreachable!() };
+    match file.read(buffer) {
+        Ok(count) => Ok(count),
+        Err(_) => {
+            *faults = faults.saturating_add(1);
+            Err(Failed)
+        }
+    }
+}
+
+impl<R: Files + Drop> Shelf for DiskShelf<R> {
+    ghost use Rattle.std.specs.Prelude.{None, is_some};
+    ghost use Rattle.outside.specs.Places.{at_place};
+
+    ghost faults = { λ s. s.faults };
+
+    ghost started = { λ s. at_place (is_some s.trace) (is_some s.weights) (is_some s.report) (is_some s.script) };
+
+    ghost told = { λ _. None };
+
+    fn start(&mut self, place: Place4, name: &str) -> Result<(), Failed> {
+        match place {
+            Place4::Trace => open(&self.files, name, &mut self.trace, &mut self.faults),
+            Place4::Weights => open(&self.files, name, &mut self.weights, &mut self.faults),
+            Place4::Report => open(&self.files, name, &mut self.report, &mut self.faults),
+            Place4::Script => open(&self.files, name, &mut self.script, &mut self.faults),
+        }
+    }
+
+    fn read(&mut self, place: Place4, buffer: &mut [u8]) -> Result<usize, Failed> {
+        match place {
+            Place4::Trace => read_some(&mut self.trace, buffer, &mut self.faults),
+            Place4::Weights => read_some(&mut self.weights, buffer, &mut self.faults),
+            Place4::Report => read_some(&mut self.report, buffer, &mut self.faults),
+            Place4::Script => read_some(&mut self.script, buffer, &mut self.faults),
+        }
+    }
+}
