@@ -1,0 +1,39 @@
+//! Runs of equal slots.
+ghost use Rattle.std.specs.Prelude.{◌≡◌, ℕ, ◌<◌, ◌≤◌, List, [], IfOk, length, map, replicate, take};
+ghost use Rattle.std.specs.List.{slice_index_or};
+ghost use Rattle.coflow_units.specs.Schedule.{IsRuns};
+ghost use Rattle.sincronia_cli.specs.ReportText.{run_pair};
+ghost use Rattle.sincronia_cli.specs.RunLength.{IsLengthOfFirstRun};
+
+use coflow_units::{Items, Run};
+use std::alloc::{AllocError, Global};
+
+/// The runs of equal slots of the schedule.
+pub fn runs_of(alloc: Global, slots: &[Items<u32>]) -> Result<Vec<Run>, AllocError>
+    ensures { IfOk result (λ runs. IsRuns slots.now (map run_pair runs.items)) }
+{
+    let mut runs = Vec::new(alloc);
+    let mut start = 0;
+    while start < slots.len() {
+        let length = equal_slots(&slots[start..]);
+        let flows = Vec::from_slice(alloc, slots[start].as_slice())?;
+        runs.push(Run {
+            length: length as u64,
+            flows: Items::from_vec(flows),
+        })?;
+        start += length;
+    }
+    Ok(runs)
+}
+
+/// How many slots from the first on are equal to it.
+fn equal_slots(slots: &[Items<u32>]) -> usize
+    requires { 1 ≤ length slots.now }
+    ensures { IsLengthOfFirstRun slots.now result }
+{
+    let mut count = 1;
+    while count < slots.len() && slots[count].as_slice() == slots[0].as_slice() {
+        count += 1;
+    }
+    count
+}
