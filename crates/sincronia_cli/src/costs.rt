@@ -1,5 +1,5 @@
 //! The cost of a schedule.
-ghost use Rattle.std.specs.Prelude.{◌≡◌, ℕ, ◌<◌, ◌*◌, ◌^◌, All, IfOk, if◌then◌else◌, length, map, slice_index, sum, sum_by};
+ghost use Rattle.std.specs.Prelude.{◌≡◌, ℕ, ◌<◌, ◌*◌, ◌^◌, All, IfOk, if◌then◌else◌, length, slice_index, sum, sum_by};
 ghost use Rattle.std.specs.List.{range_with_len};
 ghost use Rattle.coflow_units.specs.declared.fabric.Flow.{Flow};
 ghost use Rattle.coflow_units.specs.Completion.{completion, cost, holds_coflow};
@@ -32,7 +32,8 @@ fn completions(
 ) -> Result<Vec<u64>, AllocError>
     requires coflow { All (λ (x : Flow). x.coflow < coflows) flows.now }
     requires flow { All (All (λ f. f < length flows.now)) slots.now }
-    ensures { IfOk result (λ ends. ends.items ≡ map (λ c. completion flows.now slots.now c) (range_with_len 0 coflows)) }
+    ensures count { IfOk result (λ ends. length ends.items ≡ coflows) }
+    ensures ends { IfOk result (λ ends. (c : ℕ) → c < coflows → slice_index ends.items c ≡ completion flows.now slots.now c) }
 {
     let mut ends = vec![in alloc; 0u64; coflows]?;
     for (index, slot) in slots.iter().enumerate() {
@@ -59,8 +60,8 @@ fn weighted_sum(weights: &[u64], ends: &[u64]) -> u128
     ensures { result ≡ sum_by (λ c. slice_index weights.now c * slice_index ends.now c) (range_with_len 0 (length weights.now)) }
 {
     let mut sum: u128 = 0;
-    for (weight, end) in weights.iter().zip(ends) {
-        sum += u128::from(*weight) * u128::from(*end);
+    for (coflow, weight) in weights.iter().enumerate() {
+        sum += u128::from(*weight) * u128::from(ends[coflow]);
     }
     sum
 }

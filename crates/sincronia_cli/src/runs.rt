@@ -31,9 +31,12 @@ fn equal_slots(slots: &[Items<u32>]) -> usize
     requires { 1 ≤ length slots.now }
     ensures { IsLengthOfFirstRun slots.now result }
 {
-    let mut count = 1;
-    while count < slots.len() && slots[count].as_slice() == slots[0].as_slice() {
-        count += 1;
+    let first = slots[0].as_slice();
+    for (index, slot) in slots.iter().enumerate() {
+        if slot.as_slice() == first {
+            continue;
+        }
+        return index;
     }
-    count
+    slots.len()
 }

@@ -1,0 +1,6 @@
+pub mod Lists
+pub mod Ranges
+pub mod CostSteps
+pub mod RunSteps
+pub mod UnitSteps
+pub mod GrantSteps
