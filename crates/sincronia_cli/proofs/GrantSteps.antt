@@ -4,10 +4,10 @@ use Rattle.std.specs.Prelude.{All, AllPairs}
 use Rattle.std.specs.List.Sorted.{IsPermutation, IsSorted}
 use Rattle.std.specs.Ordering.{nat_cmp}
 use Rattle.std.proofs.Math.Dec.{eqb}
-use Rattle.std.proofs.lemmas.Bool.{cases_eq, ne_eqb, cases_Bool, eqb-true, eq-eqb}
+use Rattle.std.proofs.lemmas.Bool.{cases_eq, ne_eqb, eq-eqb}
 use Rattle.std.proofs.lemmas.Bool.Decides.{Decides-eqb}
 use Rattle.std.proofs.lemmas.Grind.{get_or-set_at}
-use Rattle.std.proofs.lemmas.List.{get_or-set_other, get_or_default}
+use Rattle.std.proofs.lemmas.List.{get_or-set_other, take_more}
 use Rattle.std.proofs.lemmas.List.Elements.{All-set, All-weaker, All-contains, Contains-push, Contains-push_cases, Contains-append_left, Contains-get_or}
 use Rattle.std.proofs.lemmas.List.Quantifiers.{all_pairs_push}
 use Rattle.std.proofs.lemmas.List.Sorted.{Contains-permutation, IsPermutation-sym, IsNonDecreasingBy-from_sort}
@@ -128,6 +128,31 @@ granted_too flows line left seen granted f so_far some later clear = record {
       let both : ComesBefore flows line f f = subst (λ n. ComesBefore flows line n f) same h in
       not_both flows line f f both both);
 }
+
+-- ---- the next flow in order
+
+-- the next flow owes nothing, or shares a port with a granted one
+pub skip_next : (flows : List Flow) (line : List ℕ) (left : ℕ → ℕ) (ranked granted : List ℕ) (k : ℕ) → k < length ranked → IsRanked flows line ranked → IsGranting flows line left (take k ranked) granted →
+    (0 < left (get_or ranked k 0) → (g : ℕ) × Contains granted g × SharesPort flows g (get_or ranked k 0)) → IsGranting flows line left (take (k + 1) ranked) granted
+skip_next flows line left ranked granted k lt order so_far blocking = subst (λ (xs : List ℕ). IsGranting flows line left xs granted) (sym (take_more ranked k 0 lt)) (passed_over flows line left (take k ranked) granted (get_or ranked k 0) so_far (λ some.
+    let (g, has, shares) = blocking some in
+    (g, has, earlier (ComesBefore flows line) ranked k order.in_order lt g (so_far.inside g has), shares)))
+
+-- the next flow owes, and shares no port with a granted one
+pub grant_next : (flows : List Flow) (line : List ℕ) (left : ℕ → ℕ) (ranked granted after : List ℕ) (k : ℕ) → k < length ranked → IsRanked flows line ranked → after ≡ granted ++ get_or ranked k 0 ∷ [] → IsGranting flows line left (take k ranked) granted → 0 < left (get_or ranked k 0) →
+    ((g : ℕ) → Contains granted g → SharesPort flows g (get_or ranked k 0) → ⊥) → IsGranting flows line left (take (k + 1) ranked) after
+grant_next flows line left ranked granted after k lt order e so_far some clear = subst (λ (xs : List ℕ). IsGranting flows line left xs after) (sym (take_more ranked k 0 lt)) (subst (λ (xs : List ℕ). IsGranting flows line left (take k ranked ++ get_or ranked k 0 ∷ []) xs) (sym e)
+    (granted_too flows line left (take k ranked) granted (get_or ranked k 0) so_far some (earlier (ComesBefore flows line) ranked k order.in_order lt) clear))
+
+-- its port is in use then
+pub use_next : (port_of : ℕ → ℕ) (slot : ℕ) (granted after last : List ℕ) (f : ℕ) → after ≡ granted ++ f ∷ [] → IsInUse port_of slot granted last → port_of f < length last → IsInUse port_of slot after (set last (port_of f) slot)
+use_next port_of slot granted after last f e use' lt = subst (λ (xs : List ℕ). IsInUse port_of slot xs (set last (port_of f) slot)) (sym e) (more_in_use port_of slot granted last f use' lt)
+
+-- neither of its ports was in use, so it shares none with a granted flow
+pub shares_none : (flows : List Flow) (slot : ℕ) (granted ingress egress : List ℕ) (f : ℕ) → IsInUse (ingress_of flows) slot granted ingress → IsInUse (egress_of flows) slot granted egress → (get_or ingress (ingress_of flows f) 0 ≡ slot → ⊥) → (get_or egress (egress_of flows f) 0 ≡ slot → ⊥) →
+    (g : ℕ) → Contains granted g → SharesPort flows g f → ⊥
+shares_none flows slot granted ingress egress f in' out in_free out_free g has (inl e) = in_free (ap (λ (p : ℕ). get_or ingress p 0) (sym e) ∙ in'.used g has)
+shares_none flows slot granted ingress egress f in' out in_free out_free g has (inr e) = out_free (ap (λ (p : ℕ). get_or egress p 0) (sym e) ∙ out.used g has)
 
 -- ---- all flows were looked at
 

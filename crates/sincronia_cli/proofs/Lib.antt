@@ -4,3 +4,4 @@ pub mod CostSteps
 pub mod RunSteps
 pub mod UnitSteps
 pub mod GrantSteps
+pub mod RankSteps
