@@ -5,3 +5,4 @@ pub mod RunSteps
 pub mod UnitSteps
 pub mod GrantSteps
 pub mod RankSteps
+pub mod ServeSteps

@@ -20,7 +20,7 @@ pub fn ranked_flows(
     requires coflows { All (λ c. c + 1 < length starts.now) order.now }
     ensures { IfOk result (λ ranked. IsRanked flows.now order.now ranked.items) }
 {
-    let mut ranked = Vec::new(alloc);
+    let mut ranked = Vec::with_capacity(alloc, flows.len())?;
     for coflow in order {
         let first = starts[*coflow as usize];
         let end = starts[*coflow as usize + 1];
