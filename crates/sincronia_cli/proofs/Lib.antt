@@ -6,3 +6,4 @@ pub mod UnitSteps
 pub mod GrantSteps
 pub mod RankSteps
 pub mod ServeSteps
+pub mod PlanSteps

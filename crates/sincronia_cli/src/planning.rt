@@ -22,8 +22,9 @@ pub fn plan_text(
     ensures { IfOk result (λ text. IsPlanText flows.now coflows text.items) }
 {
     let starts = numbers_below(alloc, coflows + 1)?;
+    let order = numbers_below(alloc, coflows)?;
     let weights = vec![in alloc; 1u64; coflows as usize]?;
-    let slots = serve(alloc, flows, &starts, &starts[..coflows as usize], ports)?;
+    let slots = serve(alloc, flows, &starts, &order, ports)?;
     let cost = cost_of(alloc, flows, &weights, &slots)?;
     let runs = runs_of(alloc, &slots)?;
     let text = write_report(alloc, cost, &runs)?;
