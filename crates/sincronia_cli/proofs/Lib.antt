@@ -7,3 +7,4 @@ pub mod GrantSteps
 pub mod RankSteps
 pub mod ServeSteps
 pub mod PlanSteps
+pub mod TwoFlows

@@ -53,7 +53,7 @@ coflows_have_weights flows coflows ports weights lent e are one k d lt =
       one.own k (omega (arith, lt, one.count)),
       ap (λ (x : Flow). x.coflow) (get_or_default flows k d record { coflow = 0; ingress = 0; egress = 0; units = 0 } lt),
       ap (λ (xs : List ℕ). length xs) (e ∙ are),
-      length-replicate {A = ℕ} coflows 1
+      length-replicate {A = ℕ} coflows 1,
     )
 
 pub slots_hold_flows : (flows : List Flow) (line : List ℕ) (slots lent : List (List ℕ)) → lent ≡ slots → IsServed flows line slots → All (All (λ f. f < length flows)) lent
@@ -64,7 +64,7 @@ pub cost_with_ones : (flows : List Flow) (coflows : ℕ) (slots lent_slots : Lis
     cost flows (λ c. get_or lent c 0) (range_with_len 0 (length lent)) lent_slots ≡ cost flows (λ c. 1) (by_number coflows) slots
 cost_with_ones flows coflows slots lent_slots weights lent s e are =
     ap (λ (xs : List (List ℕ)). cost flows (λ c. get_or lent c 0) (range_with_len 0 (length lent)) xs) s
-      ∙ ap (λ (xs : List ℕ). cost flows (λ c. get_or xs c 0) (range_with_len 0 (length xs)) slots) (e ∙ are)
-      ∙ ap (λ (n : ℕ). cost flows (λ c. get_or (replicate coflows 1) c 0) (range_with_len 0 n) slots) (length-replicate {A = ℕ} coflows 1)
-      ∙ sum_same (λ c. get_or (replicate coflows 1) c 0 * completion flows slots c) (λ c. 1 * completion flows slots c) (range_with_len 0 coflows)
-          (λ c has. ap (λ (w : ℕ). w * completion flows slots c) (get_or-replicate coflows c 1 0 (omega (arith, number_below 0 coflows c has))))
+    ∙ ap (λ (xs : List ℕ). cost flows (λ c. get_or xs c 0) (range_with_len 0 (length xs)) slots) (e ∙ are)
+    ∙ ap (λ (n : ℕ). cost flows (λ c. get_or (replicate coflows 1) c 0) (range_with_len 0 n) slots) (length-replicate {A = ℕ} coflows 1)
+    ∙ sum_same (λ c. get_or (replicate coflows 1) c 0 * completion flows slots c) (λ c. 1 * completion flows slots c) (range_with_len 0 coflows)
+    (λ c has. ap (λ (w : ℕ). w * completion flows slots c) (get_or-replicate coflows c 1 0 (omega (arith, number_below 0 coflows c has))))

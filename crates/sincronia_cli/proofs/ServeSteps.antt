@@ -155,5 +155,5 @@ pub same_state : (flows : List Flow) (line left left_is : List ℕ) (slots slots
     IsServing flows line left slots ports ingress egress → IsServing flows line left_is slots_are ports ingress_is egress_is
 same_state flows line left left_is slots slots_are ports ingress ingress_is egress egress_is el es ei ee now =
     subst (λ (xs : List ℕ). IsServing flows line left_is slots_are ports ingress_is xs) (sym ee)
-      (subst (λ (xs : List ℕ). IsServing flows line left_is slots_are ports xs egress) (sym ei)
-        (subst (λ (xs : List (List ℕ)). IsServing flows line left_is xs ports ingress egress) (sym es) (subst (λ (xs : List ℕ). IsServing flows line xs slots ports ingress egress) (sym el) now)))
+    (subst (λ (xs : List ℕ). IsServing flows line left_is slots_are ports xs egress) (sym ei)
+    (subst (λ (xs : List (List ℕ)). IsServing flows line left_is xs ports ingress egress) (sym es) (subst (λ (xs : List ℕ). IsServing flows line xs slots ports ingress egress) (sym el) now)))

@@ -47,7 +47,9 @@ mod tests {
     use super::*;
     use std::test::Fail;
 
-    fn flow(coflow: u32, ingress: u32, egress: u32, units: u64) -> Flow {
+    fn flow(coflow: u32, ingress: u32, egress: u32, units: u64) -> Flow
+        ensures { result ≡ record { coflow = coflow; ingress = ingress; egress = egress; units = units } }
+    {
         Flow {
             coflow,
             ingress,
@@ -57,34 +59,32 @@ mod tests {
     }
 
     #[test]
-    fn plans_are_written(rt: HostRuntime) -> Result<(), Fail> {
-        let two = [flow(0, 0, 1, 3), flow(1, 0, 1, 1)];
-        let text = plan_text(rt.alloc(), &two, 2, 3)?;
+    fn flows_at_one_port_follow_each_other(rt: HostRuntime) -> Result<(), Fail> {
+        let flows = [flow(0, 0, 1, 3), flow(1, 0, 1, 1)];
+        let text = plan_text(rt.alloc(), &flows, 2, 2)?;
         assert_eq!(rt;
             text.as_slice(),
             b"sincronia 0\ncost 7\nrun 3 0\nrun 1 1\nend\n".as_slice()
         );
-        let none = plan_text(rt.alloc(), &[], 0, 3)?;
-        assert_eq!(rt; none.as_slice(), b"sincronia 0\ncost 0\nend\n".as_slice());
         Ok(())
     }
 
-    // Ties at both ports: two coflows of two flows each.
+    // Ingress 1 and egress 1 are different ports.
     #[test]
-    fn orders_are_served(rt: HostRuntime) -> Result<(), Fail> {
-        let ties = [
-            flow(0, 0, 0, 1),
-            flow(0, 1, 0, 1),
-            flow(1, 0, 1, 1),
-            flow(1, 1, 1, 1),
-        ];
-        let rows = [([0, 1], [[0, 3], [1, 2]]), ([1, 0], [[1, 2], [0, 3]])];
-        for (order, wanted) in &rows {
-            let slots = serve(rt.alloc(), &ties, &[0, 2, 4], order, 2)?;
-            assert_eq!(rt; slots.len(), 2);
-            assert_eq!(rt; slots[0].as_slice(), wanted[0].as_slice());
-            assert_eq!(rt; slots[1].as_slice(), wanted[1].as_slice());
-        }
+    fn flows_at_different_ports_share_a_line(rt: HostRuntime) -> Result<(), Fail> {
+        let flows = [flow(0, 0, 1, 2), flow(1, 1, 0, 1)];
+        let text = plan_text(rt.alloc(), &flows, 2, 2)?;
+        assert_eq!(rt;
+            text.as_slice(),
+            b"sincronia 0\ncost 3\nrun 1 0 1\nrun 1 0\nend\n".as_slice()
+        );
+        Ok(())
+    }
+
+    #[test]
+    fn no_flows_have_no_runs(rt: HostRuntime) -> Result<(), Fail> {
+        let text = plan_text(rt.alloc(), &[], 0, 2)?;
+        assert_eq!(rt; text.as_slice(), b"sincronia 0\ncost 0\nend\n".as_slice());
         Ok(())
     }
 }

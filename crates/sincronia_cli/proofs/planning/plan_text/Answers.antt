@@ -31,16 +31,16 @@ cost_of-requires-clause-flow c = slots_hold_flows c.args.flows.now c.deref-2.res
 pub returns : goal.returns
 returns c =
     let served : IsServed c.args.flows.now (by_number c.args.coflows) c.in_ok-slots.slots.items =
-        subst (λ (line : List ℕ). IsServed c.args.flows.now line c.in_ok-slots.slots.items) (c.deref-2.ensures.value ∙ c.in_ok-order.ensures) c.in_ok-slots.ensures in
+    subst (λ (line : List ℕ). IsServed c.args.flows.now line c.in_ok-slots.slots.items) (c.deref-2.ensures.value ∙ c.in_ok-order.ensures) c.in_ok-slots.ensures in
     let runs : IsRuns c.in_ok-slots.slots.items (map run_pair c.in_ok-runs.runs.items) =
-        subst (λ (slots : List (List ℕ)). IsRuns slots (map run_pair c.in_ok-runs.runs.items)) c.deref-5.ensures.value c.in_ok-runs.ensures in
+    subst (λ (slots : List (List ℕ)). IsRuns slots (map run_pair c.in_ok-runs.runs.items)) c.deref-5.ensures.value c.in_ok-runs.ensures in
     let total : c.in_ok-cost.cost ≡ cost c.args.flows.now (λ c. 1) (by_number c.args.coflows) c.in_ok-slots.slots.items =
-        c.in_ok-cost.ensures ∙ cost_with_ones c.args.flows.now c.args.coflows c.in_ok-slots.slots.items c.deref-4.result.now c.in_ok-weights.weights.items c.deref-3.result.now c.deref-4.ensures.value c.deref-3.ensures.value (c.in_ok-weights.ensures.items_if_clones_equal (λ y same. same)) in
+    c.in_ok-cost.ensures ∙ cost_with_ones c.args.flows.now c.args.coflows c.in_ok-slots.slots.items c.deref-4.result.now c.in_ok-weights.weights.items c.deref-3.result.now c.deref-4.ensures.value c.deref-3.ensures.value (c.in_ok-weights.ensures.items_if_clones_equal (λ y same. same)) in
     record {
       slots = c.in_ok-slots.slots.items;
       served = served;
       runs = map run_pair c.in_ok-runs.runs.items;
       of_slots = runs;
       is = c.in_ok-text.ensures ∙ ap (λ (n : ℕ). report_text n (map run_pair c.deref-6.result.now)) total
-        ∙ ap (λ (rs : List Run). report_text (cost c.args.flows.now (λ c. 1) (by_number c.args.coflows) c.in_ok-slots.slots.items) (map run_pair rs)) c.deref-6.ensures.value;
+          ∙ ap (λ (rs : List Run). report_text (cost c.args.flows.now (λ c. 1) (by_number c.args.coflows) c.in_ok-slots.slots.items) (map run_pair rs)) c.deref-6.ensures.value;
     }

@@ -8,7 +8,7 @@ use Rattle.sincronia_cli.proofs.serving.serve.Goals as goal
 pub take_units-requires-clause-ascending : goal.take_units-requires-clause-ascending
 take_units-requires-clause-ascending c =
     let grants = lent_grants c.args.flows.now c.args.order.now c.in_ok-ranked.ranked.items c.deref-in-loop-alloc.result.now c.loop-alloc.left.items c.deref-in-loop-alloc-2.result.now c.in_ok-granted.granted.items
-        c.deref-in-loop-alloc.ensures.value c.deref-in-loop-alloc-2.ensures.value c.in_ok-ranked.ensures c.in_ok-granted.ensures.grants in
+    c.deref-in-loop-alloc.ensures.value c.deref-in-loop-alloc-2.ensures.value c.in_ok-ranked.ensures c.in_ok-granted.ensures.grants in
     subst (λ (xs : List ℕ). IsStrictlyIncreasing xs) (sym c.deref-in-loop-alloc-3.ensures.value) grants.ascending
 
 pub take_units-requires-clause-flow : goal.take_units-requires-clause-flow
@@ -16,14 +16,14 @@ take_units-requires-clause-flow c =
     lent_within c.args.flows.now c.args.order.now c.loop-alloc.left.items c.deref_mut-in-loop-alloc-2.result.now c.in_ok-granted.granted.items c.deref-in-loop-alloc-3.result.now
     c.deref_mut-in-loop-alloc-2.ensures.value c.deref-in-loop-alloc-3.ensures.value c.loop-alloc.invariant.count
     (lent_grants c.args.flows.now c.args.order.now c.in_ok-ranked.ranked.items c.deref-in-loop-alloc.result.now c.loop-alloc.left.items c.deref-in-loop-alloc-2.result.now c.in_ok-granted.granted.items
-        c.deref-in-loop-alloc.ensures.value c.deref-in-loop-alloc-2.ensures.value c.in_ok-ranked.ensures c.in_ok-granted.ensures.grants)
+    c.deref-in-loop-alloc.ensures.value c.deref-in-loop-alloc-2.ensures.value c.in_ok-ranked.ensures c.in_ok-granted.ensures.grants)
 
 pub take_units-requires-clause-owed : goal.take_units-requires-clause-owed
 take_units-requires-clause-owed c =
     lent_owed c.args.flows.now c.args.order.now c.loop-alloc.left.items c.deref_mut-in-loop-alloc-2.result.now c.in_ok-granted.granted.items c.deref-in-loop-alloc-3.result.now
     c.deref_mut-in-loop-alloc-2.ensures.value c.deref-in-loop-alloc-3.ensures.value
     (lent_grants c.args.flows.now c.args.order.now c.in_ok-ranked.ranked.items c.deref-in-loop-alloc.result.now c.loop-alloc.left.items c.deref-in-loop-alloc-2.result.now c.in_ok-granted.granted.items
-        c.deref-in-loop-alloc.ensures.value c.deref-in-loop-alloc-2.ensures.value c.in_ok-ranked.ensures c.in_ok-granted.ensures.grants)
+    c.deref-in-loop-alloc.ensures.value c.deref-in-loop-alloc-2.ensures.value c.in_ok-ranked.ensures c.in_ok-granted.ensures.grants)
 
 pushed : (c : goal.In_ok-push) → c.push.new.self.items ≡ c.loop-alloc.slots.items ++ c.in_ok-granted.granted.items ∷ []
 pushed c = c.in_ok-push.ensures.items ∙ ap (λ (x : List ℕ). c.loop-alloc.slots.items ++ x ∷ []) c.from_vec.ensures
@@ -32,7 +32,7 @@ served : (c : goal.In_ok-push) → IsServing c.args.flows.now c.args.order.now c
     × (left_sum c.args.flows.now (c.loop-alloc.slots.items ++ c.in_ok-granted.granted.items ∷ []) < left_sum c.args.flows.now c.loop-alloc.slots.items)
 served c =
     let grants = lent_grants c.args.flows.now c.args.order.now c.in_ok-ranked.ranked.items c.deref-in-loop-alloc.result.now c.loop-alloc.left.items c.deref-in-loop-alloc-2.result.now c.in_ok-granted.granted.items
-        c.deref-in-loop-alloc.ensures.value c.deref-in-loop-alloc-2.ensures.value c.in_ok-ranked.ensures c.in_ok-granted.ensures.grants in
+    c.deref-in-loop-alloc.ensures.value c.deref-in-loop-alloc-2.ensures.value c.in_ok-ranked.ensures c.in_ok-granted.ensures.grants in
     let (f, lt, some) = owing c.loop-alloc.left.items c.deref.result.now c.deref.ensures.value (c.is_owed.ensures.0 c.loop-alloc-test.true) in
     let slot : c.len.result ≡ length c.loop-alloc.slots.items = c.len.ensures ∙ c.loop-alloc.slots.ok.0 in
     serve_more c.args.flows.now c.args.order.now c.loop-alloc.left.items c.take_units.new.left c.loop-alloc.slots.items c.args.ports c.loop-alloc.ingress.items c.loop-alloc.egress.items c.grants_of_slot.new.ingress c.grants_of_slot.new.egress
