@@ -1,5 +1,5 @@
 -- Elements of a list and of its front.
-use Rattle.std.proofs.Common.{◌≡◌, ℕ, ◌+◌, ◌≤◌, ◌<◌, Bool, true, false, List, [], ◌∷◌, ◌++◌, length, get_or, take, Contains, refl, sym, subst, ◌∙◌, arith}
+use Rattle.std.proofs.Common.{◌≡◌, ℕ, ◌<◌, Bool, true, false, List, length, get_or, take, Contains, refl, sym, subst, ◌∙◌, arith}
 use Rattle.std.specs.Prelude.{AllPairs, ◌||◌}
 use Rattle.std.proofs.lemmas.List.{get_or-take, length-take-le, get_or_default}
 

@@ -1,6 +1,5 @@
-use Rattle.std.proofs.Common.{◌≡◌, ◌<◌, ◌+◌, ℕ, List, [], length, get_or, take, drop, ◌++◌, ◌∙◌, ap, sym, subst, arith}
+use Rattle.std.proofs.Common.{◌≡◌, ℕ, List, [], length, get_or, take, drop, ◌++◌, ◌∙◌, ap, arith}
 use Rattle.std.proofs.lemmas.List.{take_at, get_or_read}
-use Rattle.coflow_units.specs.Completion.{completion}
 use Rattle.sincronia_cli.proofs.CostSteps.{end_more}
 use Rattle.sincronia_cli.proofs.costs.completions.Goals as goal
 

@@ -1,5 +1,5 @@
 -- the ends after the slots so far
-use Rattle.std.proofs.Common.{◌≡◌, ℕ, ◌<◌, get_or, length, take, vec_len}
+use Rattle.std.proofs.Common.{◌≡◌, ℕ, ◌<◌, get_or, length, take}
 use Rattle.coflow_units.specs.Completion.{completion}
 use Rattle.sincronia_cli.proofs.costs.completions.Given as goal
 

@@ -1,5 +1,4 @@
-use Rattle.std.proofs.Common.{◌≡◌, ◌<◌, ℕ, get_or, length, ◌∙◌, ap}
-use Rattle.coflow_units.specs.Completion.{completion}
+use Rattle.std.proofs.Common.{get_or, length, ◌∙◌, ap}
 use Rattle.sincronia_cli.proofs.CostSteps.{cost_is}
 use Rattle.sincronia_cli.proofs.costs.cost_of.Goals as goal
 

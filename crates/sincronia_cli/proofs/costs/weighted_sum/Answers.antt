@@ -1,6 +1,5 @@
 -- The sum of the products stays within 128 bits.
-use Rattle.std.proofs.Common.{◌≡◌, ◌<◌, ◌≤◌, ◌+◌, ◌*◌, ◌^◌, ◌-◌, get_or, take, arith, ℕ, ap, ◌∙◌, sym}
-use Rattle.std.specs.Prelude.{sum}
+use Rattle.std.proofs.Common.{◌≡◌, ◌<◌, ◌+◌, ◌*◌, ◌^◌, get_or, arith, ℕ, ap, ◌∙◌, sym}
 use Rattle.sincronia_cli.proofs.CostSteps.{products_more, products_fit}
 use Rattle.sincronia_cli.proofs.Ranges.{sum_range_more}
 use Rattle.sincronia_cli.proofs.costs.weighted_sum.Goals as goal

@@ -1,5 +1,5 @@
 -- Each flow is passed over or granted, and the sorted list holds the same flows.
-use Rattle.std.proofs.Common.{◌≡◌, ℕ, ◌<◌, ◌≤◌, ◌++◌, List, [], ◌∷◌, length, get_or, take, inl, inr, arith, subst}
+use Rattle.std.proofs.Common.{ℕ, ◌<◌, List, length, get_or, inl, inr, arith, subst}
 use Rattle.std.proofs.lemmas.List.{take_all}
 use Rattle.coflow_units.specs.Flows.{ingress_of, egress_of}
 use Rattle.sincronia_cli.proofs.GrantSteps.{IsGranting, skip_next, grant_next, use_next, shares_none, sorted_grants}

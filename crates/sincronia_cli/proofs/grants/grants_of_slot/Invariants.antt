@@ -1,5 +1,5 @@
 -- the tables tell the granted flows of the flows so far, and these are the grants among those
-use Rattle.std.proofs.Common.{◌≡◌, ℕ, List, get_or, take}
+use Rattle.std.proofs.Common.{ℕ, List, get_or, take}
 use Rattle.coflow_units.specs.Flows.{ingress_of, egress_of}
 use Rattle.sincronia_cli.specs.Ranks.{IsRanked}
 use Rattle.sincronia_cli.proofs.GrantSteps.{IsGranting, IsInUse}

@@ -1,5 +1,5 @@
 use Rattle.sincronia_cli.proofs.Ranges.{range_more}
-use Rattle.std.proofs.Common.{arith, sym, ◌∙◌, ap, ◌++◌, ◌∷◌, []}
+use Rattle.std.proofs.Common.{arith, sym}
 use Rattle.sincronia_cli.proofs.planning.numbers_below.Goals as goal
 
 pub loop-number-preserved : goal.loop-number-preserved

@@ -1,6 +1,6 @@
 -- The numbers are starts and an order, and the served schedule gives the cost, the runs and the text.
-use Rattle.std.proofs.Common.{◌≡◌, ℕ, List, ap, subst, sym, ◌∙◌}
-use Rattle.std.specs.Prelude.{map, replicate}
+use Rattle.std.proofs.Common.{◌≡◌, ℕ, List, ap, subst, ◌∙◌}
+use Rattle.std.specs.Prelude.{map}
 use Rattle.coflow_units.specs.Completion.{cost}
 use Rattle.coflow_units.specs.Schedule.{IsRuns}
 use Rattle.coflow_units.specs.Served.{IsServed}

@@ -1,5 +1,5 @@
 use Rattle.sincronia_cli.proofs.Ranges.{range_step}
-use Rattle.std.proofs.Common.{arith, sym, ◌∙◌, ap, ◌++◌, ◌∷◌, [], ◌≤◌, append_assoc, refl}
+use Rattle.std.proofs.Common.{arith, append_assoc, refl}
 use Rattle.sincronia_cli.proofs.ranks.push_numbers.Goals as goal
 
 pub loop-number-preserved : goal.loop-number-preserved

@@ -1,5 +1,4 @@
-use Rattle.std.proofs.Common.{◌≡◌, ℕ, ◌-◌, ◌+◌, ◌++◌, List, get_or, subst, sym, arith}
-use Rattle.std.specs.List.{range_with_len}
+use Rattle.std.proofs.Common.{ℕ, ◌+◌, List, subst, sym}
 use Rattle.sincronia_cli.proofs.RankSteps.{IsRanking, rank_more, all_ranked}
 use Rattle.sincronia_cli.proofs.ranks.ranked_flows.Goals as goal
 

@@ -1,4 +1,4 @@
-use Rattle.std.proofs.Common.{[], ◌≡◌, List, ℕ, get_or, sym, ◌∙◌}
+use Rattle.std.proofs.Common.{[], ◌≡◌, get_or, sym, ◌∙◌}
 use Rattle.std.specs.Cmp.Lexicographic.{same_text}
 use Rattle.std.proofs.lemmas.List.{get_or_read}
 use Rattle.sincronia_cli.proofs.RunSteps.{equal_more}

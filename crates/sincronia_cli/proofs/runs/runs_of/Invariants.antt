@@ -1,7 +1,6 @@
 -- the runs of the slots so far, and the next slot differs from the last run
-use Rattle.std.proofs.Common.{◌≡◌, ◌≢◌, ℕ, ◌<◌, ◌≤◌, ◌-◌, List, [], get_or, length, take}
+use Rattle.std.proofs.Common.{◌-◌, length}
 use Rattle.std.specs.Prelude.{map}
-use Rattle.coflow_units.specs.Schedule.{IsRuns}
 use Rattle.sincronia_cli.specs.ReportText.{run_pair}
 use Rattle.sincronia_cli.proofs.RunSteps.{IsRunsSoFar}
 use Rattle.sincronia_cli.proofs.runs.runs_of.Given as goal

@@ -1,6 +1,5 @@
-use Rattle.std.proofs.Common.{◌≡◌, ℕ, ◌-◌, ◌+◌, ◌++◌, ◌∷◌, [], ◌<◌, ◌≤◌, List, get_or, subst, sym, ap, ◌∙◌, arith, take, drop, length}
+use Rattle.std.proofs.Common.{◌≡◌, ℕ, ◌++◌, ◌∷◌, [], ◌<◌, List, subst, sym, ap, ◌∙◌, arith, length}
 use Rattle.std.specs.List.Sorted.{IsStrictlyIncreasing}
-use Rattle.coflow_units.specs.Grants.{IsGrants}
 use Rattle.sincronia_cli.proofs.ServeSteps.{lent_grants, lent_owed, lent_within, lent_units, written, owing, same_state, serve_more, IsServing}
 use Rattle.coflow_units.proofs.ServedExists.{left_sum}
 use Rattle.sincronia_cli.proofs.serving.serve.Goals as goal

@@ -1,5 +1,4 @@
-use Rattle.std.proofs.Common.{◌≡◌, ◌<◌, ℕ, length, arith}
-use Rattle.std.specs.Prelude.{All}
+use Rattle.std.proofs.Common.{arith}
 use Rattle.sincronia_cli.proofs.UnitSteps.{has_unit, unit_more}
 use Rattle.sincronia_cli.proofs.serving.take_units.Goals as goal
 

@@ -1,4 +1,4 @@
-use Rattle.std.proofs.Common.{◌≡◌, ap, refl, arith}
+use Rattle.std.proofs.Common.{ap, arith}
 use Rattle.coflow_units.specs.declared.fabric.Flow.{Flow}
 use Rattle.sincronia_cli.proofs.TwoFlows.{two_flows}
 use Rattle.sincronia_cli.proofs.planning.tests.flows_at_different_ports_share_a_line.Goals as goal
