@@ -7,7 +7,8 @@ ghost use Rattle.coflow_units.specs.Completion.{completion, cost, holds_coflow};
 use coflow_units::{Flow, Items};
 use std::alloc::{AllocError, Global};
 
-/// The sum over the coflows of weight times completion. `weights` has the weight of each coflow by its number.
+/// The sum over the coflows of weight times completion, where slots count from 1. `weights` has the weight of each coflow by its number.
+/// The error is want of memory.
 pub fn cost_of(
     alloc: Global,
     flows: &[Flow],
@@ -53,7 +54,7 @@ fn mark_ends(flows: &[Flow], slot: &[u32], time: u64, ends: &mut [u64])
     }
 }
 
-/// The sum of the products.
+/// The sum of the products of weights and ends.
 fn weighted_sum(weights: &[u64], ends: &[u64]) -> u128
     requires same_length { length ends.now ≡ length weights.now }
     requires fits { sum weights.now < 2 ^ 64 }

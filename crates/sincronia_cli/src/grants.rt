@@ -7,8 +7,11 @@ ghost use Rattle.sincronia_cli.specs.Ranks.{IsRanked};
 use coflow_units::Flow;
 use std::alloc::{AllocError, Global};
 
-/// The flows that are served in the slot, ascending: each flow of `ranked` that has units left and finds both of its ports free.
-/// `ingress` and `egress` have for each port the last slot that used it, and are written.
+/// The flows that are served in one slot, ascending: in the order of `ranked` each flow that has units left and finds both of its ports free.
+/// This is the greedy allocation of Sincronia (Agarwal, Rajakrishnan, Narayan, Agarwal, Shmoys and Vahdat, SIGCOMM 2018).
+///
+/// `left` has the units left of each flow. `ingress` and `egress` have for each port the number of the last slot that used it; slots count from 1, and `slot` is above all of them.
+/// The ports that this slot uses are written there. The error is want of memory.
 pub fn grants_of_slot(
     alloc: Global,
     flows: &[Flow],

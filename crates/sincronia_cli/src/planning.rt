@@ -11,7 +11,8 @@ use coflow_units::{Flow, NoMemory};
 use std::alloc::{AllocError, Global};
 
 /// The text of the plan that serves the coflows in the order of their numbers, each with weight 1.
-/// The flows are the one flow of each coflow, by the coflow's number. Port numbers are below `ports`, on each side.
+/// The flows are the one flow of each coflow, by the coflow's number. Port numbers are below `ports` on each side.
+/// `NoMemory` comes only where an allocation was refused.
 pub fn plan_text(
     alloc: Global,
     flows: &[Flow],
@@ -31,7 +32,7 @@ pub fn plan_text(
     Ok(text)
 }
 
-/// The numbers from 0 up to the count.
+/// The numbers from 0 on that are below the count.
 fn numbers_below(alloc: Global, count: u32) -> Result<Vec<u32>, AllocError>
     ensures { IfOk result (λ numbers. numbers.items ≡ range_with_len 0 count) }
 {

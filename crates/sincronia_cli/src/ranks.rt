@@ -8,7 +8,7 @@ use coflow_units::Flow;
 use std::alloc::{AllocError, Global};
 
 /// The numbers of the flows of the coflows of `order`: by the place of the coflow, then by number.
-/// `starts` has for each coflow the number of its first flow, and the number of flows at its end.
+/// `starts` has for each coflow the number of its first flow, and the number of flows at its end. The error is want of memory.
 pub fn ranked_flows(
     alloc: Global,
     flows: &[Flow],
@@ -29,7 +29,7 @@ pub fn ranked_flows(
     Ok(ranked)
 }
 
-/// Appends the numbers from `first` up to `end`.
+/// Appends the numbers from `first` on that are below `end`.
 fn push_numbers(ranked: &mut Vec<u32>, first: u32, end: u32) -> Result<(), AllocError>
     ensures { OnOk result (ranked.new.items ≡ ranked.old.items ++ range_with_len first (end - first)) }
 {

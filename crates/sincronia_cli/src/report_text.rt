@@ -6,7 +6,7 @@ use coflow_units::Run;
 use itoa::Buffer;
 use std::alloc::{AllocError, Global};
 
-/// The text of the report.
+/// The text of a cost and of runs, in bytes: a line each, and a last line `end`. The error is want of memory.
 pub fn write_report(alloc: Global, cost: u128, runs: &[Run]) -> Result<Vec<u8>, AllocError>
     ensures { IfOk result (λ text. text.items ≡ report_text cost (map run_pair runs.now)) }
 {

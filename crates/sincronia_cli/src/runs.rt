@@ -1,6 +1,5 @@
 //! Runs of equal slots.
-ghost use Rattle.std.specs.Prelude.{◌≡◌, ℕ, ◌<◌, ◌≤◌, List, [], IfOk, length, map, replicate, take};
-ghost use Rattle.std.specs.List.{slice_index_or};
+ghost use Rattle.std.specs.Prelude.{◌≤◌, IfOk, length, map};
 ghost use Rattle.coflow_units.specs.Schedule.{IsRuns};
 ghost use Rattle.sincronia_cli.specs.ReportText.{run_pair};
 ghost use Rattle.sincronia_cli.specs.RunLength.{IsLengthOfFirstRun};
@@ -8,7 +7,7 @@ ghost use Rattle.sincronia_cli.specs.RunLength.{IsLengthOfFirstRun};
 use coflow_units::{Items, Run};
 use std::alloc::{AllocError, Global};
 
-/// The runs of equal slots of the schedule.
+/// The runs of equal neighbouring slots, in the order of the slots: each as long as it can be.
 pub fn runs_of(alloc: Global, slots: &[Items<u32>]) -> Result<Vec<Run>, AllocError>
     ensures { IfOk result (λ runs. IsRuns slots.now (map run_pair runs.items)) }
 {
@@ -26,7 +25,7 @@ pub fn runs_of(alloc: Global, slots: &[Items<u32>]) -> Result<Vec<Run>, AllocErr
     Ok(runs)
 }
 
-/// How many slots from the first on are equal to it.
+/// How many slots from the first one on are equal to it. There is a first slot.
 fn equal_slots(slots: &[Items<u32>]) -> usize
     requires { 1 ≤ length slots.now }
     ensures { IsLengthOfFirstRun slots.now result }

@@ -12,7 +12,9 @@ use crate::ranks::ranked_flows;
 use coflow_units::{Flow, Items};
 use std::alloc::{AllocError, Global};
 
-/// The served schedule of the order, slot by slot.
+/// The schedule that serves the coflows in the given order: a list of slots, each with the numbers of its flows.
+/// `starts` has for each coflow the number of its first flow, and the number of flows at its end. Port numbers are below `ports` on each side, and the units are at most 2^40 together.
+/// The error is want of memory.
 pub fn serve(
     alloc: Global,
     flows: &[Flow],
