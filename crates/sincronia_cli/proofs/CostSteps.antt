@@ -8,7 +8,7 @@ use Rattle.std.proofs.lemmas.Bool.{ne_eqb}
 use Rattle.std.proofs.lemmas.List.Sums.{sum_by-take-le, sum_by_more}
 use Rattle.coflow_units.specs.declared.fabric.Flow.{Flow}
 use Rattle.coflow_units.specs.Completion.{completion, cost, holds_coflow, last_where}
-use Rattle.coflow_units.proofs.SlotLoads.{number_below}
+use Rattle.coflow_units.proofs.Lists.{number_below}
 use Rattle.coflow_units.proofs.Sums.{sum_same}
 
 -- with each weight below 2^64 in sum, a sum of products with ends below 2^64 is below 2^128

@@ -8,7 +8,7 @@ use Rattle.coflow_units.specs.declared.fabric.Flow.{Flow}
 use Rattle.coflow_units.specs.Completion.{completion, cost}
 use Rattle.coflow_units.specs.Flows.{coflow_of, IsDistinct}
 use Rattle.coflow_units.specs.Served.{IsServed}
-use Rattle.coflow_units.proofs.SlotLoads.{number_in, number_below}
+use Rattle.coflow_units.proofs.Lists.{number_in, number_below}
 use Rattle.coflow_units.proofs.Sums.{sum_same}
 use Rattle.sincronia_cli.specs.PlanText.{HasOneFlowEach, by_number}
 use Rattle.sincronia_cli.specs.Ranks.{IsStarts}

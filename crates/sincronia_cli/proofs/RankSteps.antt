@@ -10,8 +10,8 @@ use Rattle.std.proofs.lemmas.List.Quantifiers.{all_pairs_push}
 use Rattle.coflow_units.specs.declared.fabric.Flow.{Flow}
 use Rattle.coflow_units.specs.Flows.{coflow_of, IsDistinct}
 use Rattle.coflow_units.specs.Grants.{place_in, ComesBefore}
-use Rattle.coflow_units.proofs.Lines.{place_of_member, at_place}
-use Rattle.coflow_units.proofs.SlotLoads.{number_in}
+use Rattle.coflow_units.proofs.LinePlaces.{place_of_member, at_place}
+use Rattle.coflow_units.proofs.Lists.{number_in}
 use Rattle.coflow_units.proofs.Sums.{all_of_members, nothing_in}
 use Rattle.sincronia_cli.specs.Ranks.{IsRanked, IsStarts}
 use Rattle.sincronia_cli.proofs.Ranges.{range_more}

@@ -14,7 +14,7 @@ use Rattle.coflow_units.proofs.Numbers.{zero_or_more}
 use Rattle.coflow_units.proofs.ServedExists.{goes_on, left_sum, times_push}
 use Rattle.coflow_units.proofs.ServedRuns.{same_grants}
 use Rattle.coflow_units.proofs.GrantsExist.{numbers_of}
-use Rattle.coflow_units.proofs.SlotLoads.{number_in}
+use Rattle.coflow_units.proofs.Lists.{number_in}
 use Rattle.coflow_units.proofs.Sums.{any_in, all_of_members, first_or_tail, nothing_in, sum_mono}
 use Rattle.sincronia_cli.specs.Ranks.{IsRanked}
 use Rattle.sincronia_cli.proofs.Ranges.{sum_range_more}
