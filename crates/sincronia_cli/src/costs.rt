@@ -4,8 +4,8 @@ ghost use Rattle.std.specs.List.{range_with_len};
 ghost use Rattle.coflow_units.specs.declared.fabric.Flow.{Flow};
 ghost use Rattle.coflow_units.specs.Completion.{completion, cost, holds_coflow};
 
-use coflow_units::{Flow, Items};
-use std::alloc::{AllocError, Global};
+use coflow_units::{Flow, Items, NoMemory};
+use std::alloc::Global;
 
 /// The sum over the coflows of weight times completion, where slots count from 1. `weights` has the weight of each coflow by its number.
 /// The error is want of memory.
@@ -14,7 +14,7 @@ pub fn cost_of(
     flows: &[Flow],
     weights: &[u64],
     slots: &[Items<u32>],
-) -> Result<u128, AllocError>
+) -> Result<u128, NoMemory>
     requires coflow { All (λ (x : Flow). x.coflow < length weights.now) flows.now }
     requires flow { All (All (λ f. f < length flows.now)) slots.now }
     requires fits { sum weights.now < 2 ^ 64 }
@@ -30,7 +30,7 @@ fn completions(
     flows: &[Flow],
     coflows: usize,
     slots: &[Items<u32>],
-) -> Result<Vec<u64>, AllocError>
+) -> Result<Vec<u64>, NoMemory>
     requires coflow { All (λ (x : Flow). x.coflow < coflows) flows.now }
     requires flow { All (All (λ f. f < length flows.now)) slots.now }
     ensures count { IfOk result (λ ends. length ends.items ≡ coflows) }

@@ -4,8 +4,8 @@ ghost use Rattle.coflow_units.specs.declared.fabric.Flow.{Flow};
 ghost use Rattle.coflow_units.specs.Grants.{IsGrants};
 ghost use Rattle.sincronia_cli.specs.Ranks.{IsRanked};
 
-use coflow_units::Flow;
-use std::alloc::{AllocError, Global};
+use coflow_units::{Flow, NoMemory};
+use std::alloc::Global;
 
 /// The flows that are served in one slot, ascending: in the order of `ranked` each flow that has units left and finds both of its ports free.
 /// This is the greedy allocation of Sincronia (Agarwal, Rajakrishnan, Narayan, Agarwal, Shmoys and Vahdat, SIGCOMM 2018).
@@ -20,7 +20,7 @@ pub fn grants_of_slot(
     slot: u64,
     ingress: &mut [u64],
     egress: &mut [u64],
-) -> Result<Vec<u32>, AllocError>
+) -> Result<Vec<u32>, NoMemory>
     requires ranked { All (λ f. f < length flows.now) ranked.now }
     requires left { length left.now ≡ length flows.now }
     requires ingress_in_range { All (λ (x : Flow). x.ingress < length ingress.old) flows.now }

@@ -8,7 +8,7 @@ use crate::report_text::write_report;
 use crate::runs::runs_of;
 use crate::serving::serve;
 use coflow_units::{Flow, NoMemory};
-use std::alloc::{AllocError, Global};
+use std::alloc::Global;
 
 /// The text of the plan that serves the coflows in the order of their numbers, each with weight 1.
 /// The flows are the one flow of each coflow, by the coflow's number. Port numbers are below `ports` on each side.
@@ -33,7 +33,7 @@ pub fn plan_text(
 }
 
 /// The numbers from 0 on that are below the count.
-fn numbers_below(alloc: Global, count: u32) -> Result<Vec<u32>, AllocError>
+fn numbers_below(alloc: Global, count: u32) -> Result<Vec<u32>, NoMemory>
     ensures { IfOk result (λ numbers. numbers.items ≡ range_with_len 0 count) }
 {
     let mut numbers = Vec::new(alloc);

@@ -2,12 +2,12 @@
 ghost use Rattle.std.specs.Prelude.{◌≡◌, ◌++◌, IfOk, OnOk, map};
 ghost use Rattle.sincronia_cli.specs.ReportText.{cost_line, report_text, run_line, run_pair};
 
-use coflow_units::Run;
+use coflow_units::{NoMemory, Run};
 use itoa::Buffer;
-use std::alloc::{AllocError, Global};
+use std::alloc::Global;
 
 /// The text of a cost and of runs, in bytes: a line each, and a last line `end`. The error is want of memory.
-pub fn write_report(alloc: Global, cost: u128, runs: &[Run]) -> Result<Vec<u8>, AllocError>
+pub fn write_report(alloc: Global, cost: u128, runs: &[Run]) -> Result<Vec<u8>, NoMemory>
     ensures { IfOk result (λ text. text.items ≡ report_text cost (map run_pair runs.now)) }
 {
     let mut text = Vec::new(alloc);
@@ -21,7 +21,7 @@ pub fn write_report(alloc: Global, cost: u128, runs: &[Run]) -> Result<Vec<u8>, 
 }
 
 /// The line of the cost.
-fn push_cost(text: &mut Vec<u8>, cost: u128) -> Result<(), AllocError>
+fn push_cost(text: &mut Vec<u8>, cost: u128) -> Result<(), NoMemory>
     ensures { OnOk result (text.new.items ≡ text.old.items ++ cost_line cost) }
 {
     let mut buffer = Buffer::new();
@@ -32,7 +32,7 @@ fn push_cost(text: &mut Vec<u8>, cost: u128) -> Result<(), AllocError>
 }
 
 /// The line of a run.
-fn push_run(text: &mut Vec<u8>, run: &Run) -> Result<(), AllocError>
+fn push_run(text: &mut Vec<u8>, run: &Run) -> Result<(), NoMemory>
     ensures { OnOk result (text.new.items ≡ text.old.items ++ run_line (run_pair run.now)) }
 {
     let mut buffer = Buffer::new();

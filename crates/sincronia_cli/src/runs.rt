@@ -4,11 +4,11 @@ ghost use Rattle.coflow_units.specs.Schedule.{IsRuns};
 ghost use Rattle.sincronia_cli.specs.ReportText.{run_pair};
 ghost use Rattle.sincronia_cli.specs.RunLength.{IsLengthOfFirstRun};
 
-use coflow_units::{Items, Run};
-use std::alloc::{AllocError, Global};
+use coflow_units::{Items, NoMemory, Run};
+use std::alloc::Global;
 
 /// The runs of equal neighbouring slots, in the order of the slots: each as long as it can be.
-pub fn runs_of(alloc: Global, slots: &[Items<u32>]) -> Result<Vec<Run>, AllocError>
+pub fn runs_of(alloc: Global, slots: &[Items<u32>]) -> Result<Vec<Run>, NoMemory>
     ensures { IfOk result (λ runs. IsRuns slots.now (map run_pair runs.items)) }
 {
     let mut runs = Vec::new(alloc);

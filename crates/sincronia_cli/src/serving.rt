@@ -9,8 +9,8 @@ ghost use Rattle.sincronia_cli.specs.Ranks.{IsStarts};
 
 use crate::grants::grants_of_slot;
 use crate::ranks::ranked_flows;
-use coflow_units::{Flow, Items};
-use std::alloc::{AllocError, Global};
+use coflow_units::{Flow, Items, NoMemory};
+use std::alloc::Global;
 
 /// The schedule that serves the coflows in the given order: a list of slots, each with the numbers of its flows.
 /// `starts` has for each coflow the number of its first flow, and the number of flows at its end. Port numbers are below `ports` on each side, and the units are at most 2^40 together.
@@ -21,7 +21,7 @@ pub fn serve(
     starts: &[u32],
     order: &[u32],
     ports: u32,
-) -> Result<Vec<Items<u32>>, AllocError>
+) -> Result<Vec<Items<u32>>, NoMemory>
     requires starts { IsStarts flows.now starts.now }
     requires distinct { IsDistinct order.now }
     requires coflows { All (λ c. c + 1 < length starts.now) order.now }
