@@ -1,0 +1,4 @@
+pub mod Ranks
+pub mod ReportText
+pub mod RunLength
+pub mod PlanText
