@@ -8,3 +8,8 @@ pub mod RankSteps
 pub mod ServeSteps
 pub mod PlanSteps
 pub mod TwoFlows
+pub mod WordSteps
+pub mod InstanceSteps
+pub mod PlainLength
+pub mod PlainFlows
+pub mod FileSteps

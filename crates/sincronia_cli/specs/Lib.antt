@@ -2,3 +2,8 @@ pub mod Ranks
 pub mod ReportText
 pub mod RunLength
 pub mod PlanText
+pub mod Code
+pub mod Messages
+pub mod Words
+pub mod Plan
+pub mod LineFlow

@@ -1,10 +1,22 @@
-// The program's commands: from words and a trace's flows to the bytes that are written.
+// The program's commands: from the words of a command line and the bytes of files to the bytes that are written.
 #![tactic(auto)]
 
+mod command;
 mod costs;
 mod grants;
+mod instance;
+mod messages;
 mod planning;
 mod ranks;
 mod report_text;
 mod runs;
 mod serving;
+mod status;
+mod words;
+
+pub use command::sincronia;
+pub use messages::message_of;
+pub use status::Status;
+
+#[cfg(test)]
+mod tests;
