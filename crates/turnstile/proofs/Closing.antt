@@ -80,17 +80,19 @@ module _ {T E C : Type 0} (by : E → ℕ) (entries : T → List E) (setting : T
       let same : v.made ≡ r.made = m in (
         h.0,
         h.1,
-        (r.each_setting id v at (subst IsNumbered (sym is) tt) ∙ ap Some (sym h.3),
-        subst (λ l. GoesOn by l 0 v.seen) (sym h.2) mine.0,
-        All-weaker (λ (p : Returned E). GoesOn by r.log p.number p.seen × (r.seat_of p.number ≡ id) × (0 < p.number) × (p.number ≤ r.made)) (λ (p : Returned E). GoesOn by (entries h.0) p.number p.seen)
-            (λ p g. subst (λ l. GoesOn by l p.number p.seen) (sym h.2) g.0) v.back mine.4,
-        (λ k low high.
-            let d = r.each_number k low (omega arith) in
-            dite (ℕ_discrete (r.seat_of k) id)
-            (λ e. let u : d.0 ≡ v = some-injective d.0 v (sym d.1 ∙ (ap (get_elem? s.views) e ∙ at)) in
-            subst (λ (z : Role). Numbers z v.back k) is (subst (λ (z : V). Numbers z.role z.back k) u d.2))
-            (λ other. absurd (let two = total_two numbered s.views (r.seat_of k) id d.0 v other d.1 at in let there = numbers_one d.0.role d.0.back k d.2 in omega arith))),
-        subst (λ l. NoneAbove by v.made l) (sym h.2) (All-weaker (λ e. by e ≤ r.made) (λ e. by e ≤ v.made) (λ e l. omega arith) r.log r.above)),
+        (
+          r.each_setting id v at (subst IsNumbered (sym is) tt) ∙ ap Some (sym h.3),
+          subst (λ l. GoesOn by l 0 v.seen) (sym h.2) mine.0,
+          All-weaker (λ (p : Returned E). GoesOn by r.log p.number p.seen × (r.seat_of p.number ≡ id) × (0 < p.number) × (p.number ≤ r.made)) (λ (p : Returned E). GoesOn by (entries h.0) p.number p.seen)
+              (λ p g. subst (λ l. GoesOn by l p.number p.seen) (sym h.2) g.0) v.back mine.4,
+          (λ k low high.
+              let d = r.each_number k low (omega arith) in
+              dite (ℕ_discrete (r.seat_of k) id)
+              (λ e. let u : d.0 ≡ v = some-injective d.0 v (sym d.1 ∙ (ap (get_elem? s.views) e ∙ at)) in
+              subst (λ (z : Role). Numbers z v.back k) is (subst (λ (z : V). Numbers z.role z.back k) u d.2))
+              (λ other. absurd (let two = total_two numbered s.views (r.seat_of k) id d.0 v other d.1 at in let there = numbers_one d.0.role d.0.back k d.2 in omega arith))),
+          subst (λ l. NoneAbove by v.made l) (sym h.2) (All-weaker (λ e. by e ≤ r.made) (λ e. by e ≤ v.made) (λ e l. omega arith) r.log r.above),
+        ),
       )
     where
       numbers_one : (k : Role) (back : List (Returned E)) (n : ℕ) → Numbers k back n → counts_if k 1 ≡ 1

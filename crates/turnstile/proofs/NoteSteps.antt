@@ -152,8 +152,7 @@ module _ {T E C : Type 0} (by : E → ℕ) (entries : T → List E) (setting : T
       let in_t = r.in_turn in
       let seated = r.seated in
       let one : numbered v ≡ 1 = counts_one v.role 1 has in
-      let some_one = total_here numbered s.views id v at in
-      (
+      let some_one = total_here numbered s.views id v at in (
         w,
         keeps,
         tt,

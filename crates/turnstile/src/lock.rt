@@ -220,12 +220,7 @@ fn take_turn<T: Chronicle, R: Wait>(rt: &R, steps: &Steps<T>, place: &mut Place<
 }
 
 // Waits until this ticket is served, and takes the value out.
-fn wait_for<T: Chronicle, R: Wait>(
-    rt: &R,
-    steps: &Steps<T>,
-    place: &mut Place<T>,
-    ticket: u64,
-) -> T
+fn wait_for<T: Chronicle, R: Wait>(rt: &R, steps: &Steps<T>, place: &mut Place<T>, ticket: u64) -> T
     requires table { (place.old.table_id ≡ steps.now.table_id) × (steps.now.table_id.words ≡ 2) × (steps.now.table_id.slots ≡ 1) }
     requires waits { IsNumbered place.old.me.0.role × (place.old.me.1 ≡ []) × Has place.old.me.0.stage ticket }
     ensures same { (place.new.table_id ≡ place.old.table_id) × (place.new.id ≡ place.old.id) }
