@@ -1,7 +1,6 @@
 -- Functions changed at one place.
-use Rattle.std.proofs.Common.{◌≡◌, ◌≢◌, ℕ, refl, sym, subst}
+use Rattle.std.proofs.Common.{◌≡◌, ◌≢◌, ℕ, refl}
 use native.Mathlib.Decide.{ℕ_discrete}
-use mathlib.Core.Logic.{dite}
 
 module _ {A : Type 0} where
   abbrev pick : {P : Type 0} → Dec P → A → A → A

@@ -1,6 +1,7 @@
 pub mod Totals
 pub mod Changes
 pub mod Beginnings
+pub mod OwnEntries
 pub mod Views
 pub mod Stages
 pub mod TurnSteps

@@ -1,31 +1,25 @@
 -- A new turnstile meets the rule, and making a seat and taking one back keep it.
-use Rattle.std.proofs.Common.{◌≡◌, ◌≢◌, ◌⊎◌, inl, inr, ℕ, zero, suc, ◌+◌, ◌*◌, ◌%◌, ◌<◌, ◌≤◌, List, [], ◌∷◌, ◌++◌, length, get_or, set, sym, refl, ap, ◌∙◌, subst, ⊎_elim, arith, Option, Some, None, length-set, length-append, cond, get_or-set_other, get_or-set_same}
-use Rattle.std.proofs.lemmas.List.{append-nil, append_assoc}
-use Rattle.std.proofs.lemmas.List.Elements.{All-nil, All-push, All-weaker, All-append, All-tail, All-head, All-cons, All-contains, Contains-push, Contains-append_left}
-use Rattle.std.specs.Prelude.{All, Contains, nat_lt}
-use Rattle.std.proofs.lemmas.Bool.{cond_both, ltb-true, ltb-false}
+use Rattle.std.proofs.Common.{◌≡◌, ◌≢◌, ℕ, zero, suc, ◌+◌, ◌<◌, ◌≤◌, List, [], ◌∷◌, ◌++◌, length, set, sym, refl, ap, ◌∙◌, subst, ⊎_elim, arith, Option, Some, length-set, length-append}
+use Rattle.std.proofs.lemmas.List.Elements.{All-nil, All-push, All-weaker, All-tail, Contains-push, Contains-append_left}
+use Rattle.std.specs.Prelude.{All}
 use mathlib.Core.Logic.{dite}
-use mathlib.Core.Option.{none, some, some-injective, some-ne-none}
-use mathlib.Core.Option as maybe
+use mathlib.Core.Option.{some, some-injective, some-ne-none}
 use native.Mathlib.Decide.{ℕ_discrete}
 use lib.ListN.{get_elem?}
-use lib.Seq.{set-get_or}
-use Rattle.atomic_table.specs.Table.{State, Me, Act, step, keeps, takes, gives, stepped, homes_after, put_back, rest, opening, Allows, Splits, Joins, Final, Seen}
-use Rattle.atomic_table.proofs.Lists.{at_set, set_here, set_else, set_again, at_last, at_longer, one_turn}
-use Rattle.turnstile.specs.declared.view.Stage.{Stage}
-use Rattle.turnstile.specs.declared.view.Stage.TheVariants.{Idle, Waiting, InTurn}
+use Rattle.atomic_table.specs.Table.{State, Me, opening, Splits, Joins}
+use Rattle.atomic_table.proofs.Lists.{at_set, set_here, set_else, at_last, at_longer}
+use Rattle.turnstile.specs.declared.view.Stage.TheVariants.{Idle}
 use Rattle.turnstile.specs.declared.view.Role.{Role}
 use Rattle.turnstile.specs.declared.view.Role.TheVariants.{Note, Seat, Root}
 use Rattle.turnstile.specs.declared.view.View.{View}
 use Rattle.turnstile.specs.declared.view.Returned.{Returned}
-use Rattle.turnstile.specs.Histories.{NoneBy, GoesOn, Begins, AddsAtMostOne, NoneAbove, longer}
-use Rattle.turnstile.specs.Models.{handed_back, EachCameBack, GoesOnForEach}
-use Rattle.turnstile.specs.Tickets.{total, Numbers, queues, has_turn, counts_if, numbered, queued, turning, number_of, IsNumbered, Saw, Queues, IsHome, Kept, root_of}
-use Rattle.turnstile.specs.Tells.{takes_ticket, Took, looks, MayLeave, leaves, one_more, newcomer, same_view, note_of, hears, takes_in, spent, learned, learns}
-use Rattle.turnstile.proofs.Beginnings.{begins_on, begins_with, whole_beginning, longer_begins, longer_left, longer_right, goes_on, whole, goes_longer, goes_between}
-use Rattle.turnstile.proofs.Totals.{total_set, total_le, total_push}
+use Rattle.turnstile.specs.Histories.{NoneBy, GoesOn, Begins}
+use Rattle.turnstile.specs.Models.{handed_back}
+use Rattle.turnstile.specs.Tickets.{Numbers, queues, has_turn, counts_if, numbered, queued, turning, number_of, IsNumbered, Saw, Queues, Kept, root_of}
+use Rattle.turnstile.specs.Tells.{one_more, newcomer, takes_in, spent}
+use Rattle.turnstile.proofs.Totals.{total_set, total_push}
 use Rattle.turnstile.proofs.Changes.{put, put_here, put_else}
-use Rattle.turnstile.proofs.Views.{seats_stay, splits_stay, joins_stay, numbers_stay, inside, own_seat}
+use Rattle.turnstile.proofs.Views.{seats_stay, splits_stay, numbers_stay, inside}
 
 module _ {T E C : Type 0} (by : E → ℕ) (entries : T → List E) (setting : T → C) (c : C) where
   abbrev V : Type 0

@@ -1,5 +1,5 @@
 -- Between two calls a seat is idle and holds no slot, or it has the turn and holds the slot of the value.
-use Rattle.std.proofs.Common.{◌≡◌, ℕ, true, false, List, [], ◌∷◌, Option, None, refl, sym}
+use Rattle.std.proofs.Common.{◌≡◌, ℕ, true, false, List, [], ◌∷◌, Option, None, refl}
 use Rattle.std.proofs.lemmas.Bool.{true≢false, false≢true}
 use Rattle.turnstile.specs.declared.view.Stage.{Stage}
 use Rattle.turnstile.specs.declared.view.Stage.TheVariants.{Idle, Waiting, InTurn}

@@ -1,5 +1,6 @@
 -- What a caller knows of a list of entries that only grows.
-use Rattle.std.specs.Prelude.{◌≡◌, ◌≢◌, ◌⊎◌, ◌≤◌, ℕ, List, [], ◌∷◌, ◌++◌, All, cond, nat_lt, length, Option, Some}
+use Rattle.std.specs.List.{filter}
+use Rattle.std.specs.Prelude.{◌==◌, ◌≡◌, ◌≢◌, ◌⊎◌, ◌≤◌, ℕ, List, [], ◌∷◌, ◌++◌, All, cond, nat_lt, length}
 
 -- the list begins with what was seen
 abbrev pub Begins : {E : Type 0} → List E → List E → Type 0
@@ -10,6 +11,10 @@ abbrev pub longer : {E : Type 0} → List E → List E → List E
 longer xs ys = cond (nat_lt (length xs) (length ys)) ys xs
 
 module _ {E : Type 0} (by : E → ℕ) where
+  -- the entries that the caller of this number made
+  abbrev pub made_by : ℕ → List E → List E
+  made_by number entries = filter (λ e. by e == number) entries
+
   -- the caller of this number made none of the entries
   abbrev pub NoneBy : ℕ → List E → Type 0
   NoneBy number entries = All (λ e. by e ≢ number) entries

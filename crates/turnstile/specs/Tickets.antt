@@ -1,7 +1,6 @@
 -- The rule that the turnstile's table keeps between any two steps: how the two words, the slot and all views fit one list of entries.
-use Rattle.std.specs.Prelude.{◌≡◌, ◌≢◌, ℕ, ◌+◌, ◌*◌, ◌%◌, ◌^◌, ◌<◌, ◌≤◌, List, [], ◌∷◌, ◌++◌, All, Contains, length, slice_index, Option, Some, None}
+use Rattle.std.specs.Prelude.{◌≡◌, ℕ, ◌+◌, ◌%◌, ◌<◌, ◌≤◌, List, [], ◌∷◌, All, Contains, length, slice_index, Option, Some}
 use mathlib.Core.Option.{some}
-use mathlib.Core.Option as maybe
 use lib.ListN.{get_elem?}
 use Rattle.atomic_table.specs.Table.{State}
 use Rattle.turnstile.specs.declared.view.Stage.{Stage}
@@ -10,7 +9,7 @@ use Rattle.turnstile.specs.declared.view.Role.{Role}
 use Rattle.turnstile.specs.declared.view.Role.TheVariants.{Note, Seat, Root}
 use Rattle.turnstile.specs.declared.view.View.{View}
 use Rattle.turnstile.specs.declared.view.Returned.{Returned}
-use Rattle.turnstile.specs.Histories.{Begins, NoneBy, GoesOn, NoneAbove}
+use Rattle.turnstile.specs.Histories.{Begins, GoesOn, NoneAbove}
 
 -- f of each view, added up
 abbrev pub total : {V : Type 0} → (V → ℕ) → List V → ℕ

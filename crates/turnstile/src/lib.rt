@@ -2,6 +2,7 @@
 #![tactic(auto)]
 
 mod chronicle;
+pub mod laws;
 mod lock;
 mod plays;
 mod seats;

@@ -26,6 +26,7 @@ const SERVING: usize = 1;
 // The slot in which the value lies while nobody has the turn.
 const VALUE: usize = 0;
 
+// The table as all threads share it.
 type Steps<T> = Shared<
     Option<T>,
     View<<T as Chronicle>::Entry, <T as Chronicle>::Setting>,
@@ -33,7 +34,7 @@ type Steps<T> = Shared<
     Tickets,
 >;
 
-/// One value behind a lock by tickets (Reed and Kanodia, "Synchronization with Eventcounts and Sequencers", CACM 1979): callers have the turn in the order of their tickets.
+/// One value behind a lock by tickets (Reed and Kanodia, "Synchronization with Eventcounts and Sequencers", CACM 1979): a caller takes the next ticket, and has the turn once that ticket is served.
 /// The value means a list of entries, each made by one caller, and a setting, which stays the one that it had at `new`.
 #[derive(Drop)]
 pub struct Turnstile<T: Chronicle> {
@@ -171,6 +172,7 @@ impl<T: Chronicle> Turnstile<T> {
         requires free { (root.old.in_turn ≡ false) × (seat.old.in_turn ≡ false) }
         ensures root { root.new ≡ record root.old { seen = longer root.old.seen seat.old.seen } }
         ensures seat { seat.new ≡ record seat.old { seen = longer root.old.seen seat.old.seen } }
+        ensures same { seat.new.seen ≡ root.new.seen }
         ensures root_list { GoesOn T.by root.new.seen 0 root.old.seen }
         ensures seat_list { GoesOn T.by seat.new.seen seat.old.number seat.old.seen }
     {

@@ -1,6 +1,7 @@
 ghost use Rattle.std.specs.Prelude.{◌≡◌, ◌≤◌, ℕ, List, [], length, false};
 
 use crate::chronicle::Chronicle;
+use crate::laws::own_entries_are_seen;
 use crate::lock::Turnstile;
 use crate::seats::{Root, TurnSeat};
 use std::alloc::Global;
@@ -175,6 +176,11 @@ fn a_new_seat_finds_the_entry_of_the_root(rt: HostRuntime) -> Result<(), Fail> {
     };
     assert_eq!(rt; log.lines.as_slice(), [line].as_slice());
     Ok(())
+}
+
+#[test]
+fn laws_hold_of_the_log() {
+    own_entries_are_seen::<Log>();
 }
 
 #[test]

@@ -1,4 +1,4 @@
-use Rattle.std.proofs.Common.{rules, ◌≡◌, sym, ap, ◌∙◌, subst, refl}
+use Rattle.std.proofs.Common.{rules, sym, ap, subst}
 use Rattle.turnstile.specs.Tickets.{IsNumbered}
 use Rattle.turnstile.proofs.NoteSteps.{writes_note, reads_note, learns_on}
 use Rattle.turnstile.proofs.lock.tell.Goals as goal

@@ -1,4 +1,4 @@
-use Rattle.std.proofs.Common.{◌≡◌, sym, ap, ◌∙◌}
+use Rattle.std.proofs.Common.{sym, ap, ◌∙◌}
 use Rattle.turnstile.proofs.Closing.{has_value, value_is}
 use Rattle.turnstile.proofs.lock.Turnstile.close.Goals as goal
 

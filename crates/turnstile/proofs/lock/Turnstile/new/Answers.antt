@@ -1,6 +1,4 @@
-use Rattle.std.proofs.Common.{rules, ◌≡◌, List, [], ◌∷◌, Option, Some, sym, ap, ◌∙◌, subst, refl}
-use Rattle.atomic_table.specs.Table.{opening}
-use Rattle.turnstile.specs.Tickets.{Kept, root_of}
+use Rattle.std.proofs.Common.{rules, ◌≡◌, [], ◌∷◌, Some}
 use Rattle.turnstile.proofs.SeatSteps.{starts}
 use Rattle.turnstile.proofs.lock.Turnstile.new.Goals as goal
 

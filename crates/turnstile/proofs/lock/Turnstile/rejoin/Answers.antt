@@ -1,7 +1,5 @@
-use Rattle.std.proofs.Common.{rules, ◌≡◌, ℕ, List, [], ◌∷◌, length, sym, ap, ◌∙◌, subst, refl}
-use Rattle.turnstile.specs.declared.view.Stage.{Stage}
+use Rattle.std.proofs.Common.{rules, sym, ap, ◌∙◌, subst}
 use Rattle.turnstile.specs.Tickets.{IsNumbered}
-use Rattle.turnstile.specs.Tells.{Holds}
 use Rattle.turnstile.proofs.Stages.{is_idle}
 use Rattle.turnstile.proofs.SeatSteps.{takes_in_on}
 use Rattle.turnstile.proofs.NoteSteps.{learns_on}

@@ -1,4 +1,4 @@
-use Rattle.std.proofs.Common.{rules, ◌≡◌, sym, ap, ◌∙◌, subst, refl}
+use Rattle.std.proofs.Common.{rules}
 use Rattle.turnstile.proofs.SeatSteps.{makes_seat}
 use Rattle.turnstile.proofs.lock.Turnstile.seat.Goals as goal
 
