@@ -91,7 +91,10 @@ module _ {T E C : Type 0} (by : E → ℕ) (entries : T → List E) (setting : T
   abbrev pub IsHome : State (Option T) (View E C) → List E → Type 0
   IsHome s log = (x : T) × (get_elem? s.homes 0 ≡ some (some (Some x))) × (entries x ≡ log) × (setting x ≡ c)
 
-  -- The list is `log`. The tickets are counted without end; `holder` names the place of the view that took a ticket, `seat_of` the place of the view that has a number.
+  -- `log` is the list. Tickets are counted without end, and the two words are the next one and the one that is served, modulo 2^64 (next_is, serving_is).
+  -- Each ticket between the two is held by one view (in_queue, each_stage), whose place `holder` names. At most one view has the turn (in_turn), and while none has it the value is at home (home).
+  -- Each number up to `made` is that of one view, or of a seat that came back to the root; `seat_of` names the place (seated, each_number). No entry has another number (above).
+  -- What a view has seen, or was told, begins the list, and in the rest there is no entry of its number (each_list, each_told).
   pub record Kept (s : State (Option T) (View E C)) : Type 0 where
     pub next : ℕ
     pub serving : ℕ

@@ -60,7 +60,7 @@ pub struct TurnstileBack<T: Chronicle> {
 }
 
 impl<T: Chronicle + Drop> Turnstile<T> {
-    /// Puts a value with an empty list behind a new turnstile. `NoMemory` drops the value.
+    /// Puts a value with an empty list behind a new turnstile, and makes its root. `NoMemory` is want of memory, and drops the value.
     pub fn new(alloc: Global, value: T) -> Result<(Turnstile<T>, Root<T>), NoMemory>
         requires empty { T.entries value ≡ [] }
         ensures setting { IfOk result (λ made. made.0.setting ≡ T.setting value) }
@@ -84,7 +84,7 @@ impl<T: Chronicle + Drop> Turnstile<T> {
 }
 
 impl<T: Chronicle> Turnstile<T> {
-    /// Makes a seat with the next number, from 1 on. It has seen what the root has seen.
+    /// Makes a seat with the next number, from 1 on. It has seen what the root has seen. A root makes at most 2^32 - 1 seats.
     pub fn seat(&self, root: &mut Root<T>) -> TurnSeat<T>
         requires own { root.old.table ≡ self.now.table }
         requires room { root.old.made < 2 ^ 32 - 1 }
@@ -111,7 +111,7 @@ impl<T: Chronicle> Turnstile<T> {
         Turn { value, due: Due }
     }
 
-    /// Puts the value back and ends the turn. The seat has then seen its list.
+    /// Puts the value back and ends the turn. Its list is the one at entering, or that list with one entry of the seat's number. The seat has then seen it.
     pub fn leave(&self, seat: &mut TurnSeat<T>, turn: Turn<T>)
         requires own { seat.old.table ≡ self.now.table }
         requires turn { seat.old.in_turn ≡ true }
@@ -148,7 +148,7 @@ impl<T: Chronicle> Turnstile<T> {
         end_turn(&self.table.shared, &mut root.place, value);
     }
 
-    /// Takes a seat back. The root has then seen all that the seat had seen, and keeps the seat's number with that list.
+    /// Takes a seat back, also while the root has the turn. The root has then seen all that the seat had seen, and keeps the seat's number with that list.
     pub fn rejoin(&self, root: &mut Root<T>, seat: TurnSeat<T>)
         requires own { (root.old.table ≡ self.now.table) × (seat.table ≡ self.now.table) }
         requires free { seat.in_turn ≡ false }
@@ -182,7 +182,7 @@ impl<T: Chronicle> Turnstile<T> {
     }
 
     /// Takes the value out, once all seats came back. It needs no memory, so it always answers `Ok`.
-    /// The list begins with all that the root has seen. Its entries of number 0 are exactly the root's own, those of each other number are exactly those that the seat of that number had seen when it came back.
+    /// Its list begins with all that the root has seen. The entries of number 0 are exactly the root's own, those of each seat's number exactly the ones that the root keeps for that seat, and no other number has an entry.
     pub fn close(self, root: Root<T>) -> Result<T, TurnstileBack<T>>
         requires own { root.table ≡ self.table }
         requires free { root.in_turn ≡ false }

@@ -71,6 +71,7 @@ impl<T: Chronicle> Root<T> {
 
 /// The value, out of the turnstile while its caller has the turn. Only `leave` and `leave_root` spend a turn.
 pub struct Turn<T> {
+    /// To be read and changed in place.
     pub value: T,
     pub(crate) due: Due,
 }
