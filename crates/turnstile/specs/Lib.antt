@@ -1,0 +1,4 @@
+pub mod Histories
+pub mod Tickets
+pub mod Tells
+pub mod Models
