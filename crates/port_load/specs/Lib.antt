@@ -1,0 +1,2 @@
+pub mod LoadTable
+pub mod Kept
