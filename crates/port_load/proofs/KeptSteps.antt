@@ -1,14 +1,17 @@
 -- The totals of a table follow its cells.
 use Rattle.std.proofs.Common.{◌≡◌, ◌≢◌, ℕ, ◌+◌, ◌*◌, ◌<◌, ◌≤◌, inl, inr, Bool, true, false, List, length, refl, sym, ap, subst, ◌∙◌, arith, length-set, true≢false}
-use Rattle.std.specs.Prelude.{sum_by, slice_index, slice_set}
+use Rattle.std.specs.Prelude.{sum_by, replicate, slice_index, slice_set}
 use Rattle.std.specs.List.{range_with_len, slice_index_or}
-use Rattle.std.proofs.lemmas.List.{get_or-set_same, get_or-set_other}
-use Rattle.std.proofs.lemmas.Bool.{cases_eq}
-use Rattle.coflow_units.proofs.Sums.{member_within_sum, sum_same}
+use Rattle.std.proofs.lemmas.List.{get_or-replicate, length-replicate, get_or-set_same, get_or-set_other}
+use Rattle.std.proofs.Math.ListN.{get_or-eq_default}
+use Rattle.std.proofs.lemmas.Bool.{cases_eq, cases_lt}
+use Rattle.coflow_units.proofs.Sums.{member_within_sum, sum_same, sum_zero}
 use Rattle.coflow_units.specs.declared.fabric.Port.{Port}
-use Rattle.coflow_units.specs.Ordering.{port_place}
+use Rattle.coflow_units.specs.declared.fabric.Side.{Side}
+use Rattle.coflow_units.specs.declared.fabric.Side.TheVariants.{Ingress, Egress}
+use Rattle.coflow_units.specs.Ordering.{port_place, port_place_on}
 use Rattle.port_load.specs.Kept.{IsKept, row_total}
-use Rattle.port_load.specs.LoadTable.{LoadTable, load_at, total_at}
+use Rattle.port_load.specs.LoadTable.{DropsCoflow, LoadTable, load_at, total_at}
 use Rattle.port_load.proofs.Grid.{below_in, in_below, in_table, other_place, sum_grows}
 
 
@@ -94,3 +97,84 @@ port_inside t coflows ports cells c view lt = subst (λ (x : LoadTable). c < x.p
 -- the cell of a table seen from its list of cells
 pub cell_is : (t : LoadTable) (coflows ports : ℕ) (cells : List ℕ) (c row : ℕ) (port : Port) → table_of coflows ports cells ≡ t → row ≡ port_place ports port → slice_index cells (row * coflows + c) ≡ load_at t c port
 cell_is t coflows ports cells c row port view is = ap (λ r. slice_index cells (r * coflows + c)) is ∙ ap (λ (x : LoadTable). load_at x c port) view
+
+-- ---- a table of noughts
+
+pub nought_at : (n k : ℕ) → slice_index (replicate n 0) k ≡ 0
+nought_at n k = elim (cases_lt k n) [
+  | inl lt ↦ get_or-replicate n k 0 0 lt
+  | inr le ↦ get_or-eq_default (replicate n 0) 0 (omega (arith, length-replicate {A = ℕ} n 0, le))
+]
+
+noughts_total : (n columns row : ℕ) → row_total (replicate n 0) columns row ≡ 0
+noughts_total n columns row = sum_same (λ c. slice_index (replicate n 0) (row * columns + c)) (λ c. 0) (range_with_len 0 columns) (λ c has. nought_at n (row * columns + c)) ∙ sum_zero (range_with_len 0 columns)
+
+pub kept_nought : (coflows ports m n : ℕ) (cells totals : List ℕ) (loaded : List Bool) → coflows ≤ 4096 → 1 ≤ ports → ports ≤ 1025 → cells ≡ replicate m 0 → m ≡ (ports + ports) * coflows → totals ≡ replicate n 0 → n ≡ ports + ports →
+    length loaded ≡ coflows → IsKept coflows ports cells totals loaded
+kept_nought coflows ports m n cells totals loaded lc some lp cells_are m_is totals_are n_is len = record {
+  coflows_limit = lc;
+  has_ports = some;
+  ports_limit = lp;
+  cells_len = ap length cells_are ∙ length-replicate m 0 ∙ m_is;
+  totals_len = ap length totals_are ∙ length-replicate n 0 ∙ n_is;
+  loaded_len = len;
+  total = λ row lt. ap (λ xs. slice_index xs row) totals_are ∙ nought_at n row ∙ sym (noughts_total m coflows row) ∙ ap (λ xs. row_total xs coflows row) (sym cells_are);
+  empty = λ c row lt mark lr. ap (λ xs. slice_index xs (row * coflows + c)) cells_are ∙ nought_at m (row * coflows + c);
+}
+
+-- ---- a coflow less
+
+still_empty : (loaded : List Bool) (coflow c : ℕ) → slice_index_or (slice_set loaded coflow false) c true ≡ false → c ≢ coflow → slice_index_or loaded c true ≡ false
+still_empty loaded coflow c is ne = sym (get_or-set_other loaded coflow c false true ne) ∙ is
+
+pub kept_less : (coflows ports : ℕ) (cells totals cells' totals' : List ℕ) (loaded : List Bool) (coflow : ℕ) → IsKept coflows ports cells totals loaded → coflow < coflows → length cells' ≡ length cells → length totals' ≡ length totals →
+    ((row : ℕ) → row < length totals → slice_index cells' (row * coflows + coflow) ≡ 0) →
+    ((row other : ℕ) → row < length totals → other < coflows → other ≢ coflow → slice_index cells' (row * coflows + other) ≡ slice_index cells (row * coflows + other)) →
+    ((row : ℕ) → row < length totals → slice_index totals' row + slice_index cells (row * coflows + coflow) ≡ slice_index totals row) →
+    IsKept coflows ports cells' totals' (slice_set loaded coflow false)
+kept_less coflows ports cells totals cells' totals' loaded coflow kept lc cells_len totals_len gone others taken = record {
+  coflows_limit = kept.coflows_limit;
+  has_ports = kept.has_ports;
+  ports_limit = kept.ports_limit;
+  cells_len = cells_len ∙ kept.cells_len;
+  totals_len = totals_len ∙ kept.totals_len;
+  loaded_len = length-set loaded coflow false ∙ kept.loaded_len;
+  total = λ row lr.
+      let lt : row < length totals = omega (arith, kept.totals_len) in
+      let grows = sum_grows (λ c. slice_index cells' (row * coflows + c)) (λ c. slice_index cells (row * coflows + c)) coflows coflow (slice_index cells (row * coflows + coflow)) lc (omega (arith, gone row lt)) (λ c l ne. sym (others row c lt l ne)) in
+      omega (arith, grows, kept.total row lr, taken row lt);
+  empty = λ c row l mark lr.
+      let lt : row < length totals = omega (arith, kept.totals_len) in
+      elim (cases_eq c coflow) [
+        | inl e ↦ ap (λ k. slice_index cells' (row * coflows + k)) e ∙ gone row lt
+        | inr ne ↦ others row c lt l ne ∙ kept.empty c row l (still_empty loaded coflow c mark ne) lr
+      ];
+}
+
+place_on : (s : Side) (ports number : ℕ) → number < ports → port_place_on s ports number < ports + ports
+place_on Ingress ports number lt = omega arith
+place_on Egress ports number lt = omega arith
+
+pub place_in_rows : (ports : ℕ) (port : Port) → port.number < ports → port_place ports port < ports + ports
+place_in_rows ports port lt = place_on port.side ports port.number lt
+
+pub drops_one : (t : LoadTable) (coflows ports : ℕ) (cells cells' : List ℕ) (coflow rows : ℕ) → table_of coflows ports cells ≡ t → rows ≡ ports + ports →
+    ((row : ℕ) → row < rows → slice_index cells' (row * coflows + coflow) ≡ 0) →
+    ((row other : ℕ) → row < rows → other < coflows → other ≢ coflow → slice_index cells' (row * coflows + other) ≡ slice_index cells (row * coflows + other)) →
+    DropsCoflow t (table_of coflows ports cells') coflow
+drops_one t coflows ports cells cells' coflow rows view rows_are gone others =
+    subst (λ (x : LoadTable). DropsCoflow x (table_of coflows ports cells') coflow) view record {
+      size = record { coflows = refl; ports = refl };
+      gone = λ port lp. gone (port_place ports port) (omega (arith, place_in_rows ports port lp));
+      others = λ other port lo ne lp. others (port_place ports port) other (omega (arith, place_in_rows ports port lp)) lo ne;
+    }
+
+-- a coflow that has no load is dropped already
+pub drops_nothing : (t : LoadTable) (coflows ports : ℕ) (cells totals : List ℕ) (loaded : List Bool) (coflow : ℕ) → IsKept coflows ports cells totals loaded → table_of coflows ports cells ≡ t → coflow < coflows →
+    slice_index_or loaded coflow true ≡ false → DropsCoflow t t coflow
+drops_nothing t coflows ports cells totals loaded coflow kept view lc none =
+    subst (λ (x : LoadTable). DropsCoflow x x coflow) view record {
+      size = record { coflows = refl; ports = refl };
+      gone = λ port lp. kept.empty coflow (port_place ports port) lc none (place_in_rows ports port lp);
+      others = λ other port lo ne lp. refl;
+    }

@@ -1,3 +1,5 @@
 pub mod Grid
 pub mod KeptSteps
 pub mod LoadSums
+pub mod ColumnSteps
+pub mod FlowSteps

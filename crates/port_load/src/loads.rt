@@ -71,14 +71,15 @@ impl Loads {
         self.clear();
         for number in 0..flows.len() {
             let flow = flows[number];
-            if present[flow.coflow as usize] {
-                self.add(Flow {
-                    coflow: flow.coflow,
-                    ingress: flow.ingress,
-                    egress: flow.egress,
-                    units: left[number],
-                });
+            if !present[flow.coflow as usize] {
+                continue;
             }
+            self.add(Flow {
+                coflow: flow.coflow,
+                ingress: flow.ingress,
+                egress: flow.egress,
+                units: left[number],
+            });
         }
     }
 
