@@ -11,6 +11,7 @@ use Rattle.port_load.specs.LoadTable.{DropsCoflow, LoadTable, is_present, load_a
 
 -- one residual and one mark for each coflow, numbers within their limits, and load only of coflows that wait
 pub record IsReady (t : LoadTable) (residuals : List ℕ) (waiting : List Bool) : Type 0 where
+  pub coflows_limit : t.coflows ≤ 4096
   pub residuals_len : length residuals ≡ t.coflows
   pub waiting_len : length waiting ≡ t.coflows
   pub residuals_fit : (coflow : ℕ) → coflow < t.coflows → slice_index residuals coflow ≤ 2 ^ 72

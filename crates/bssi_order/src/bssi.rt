@@ -1,5 +1,5 @@
 //! The order of the coflows that are present.
-ghost use Rattle.std.specs.Prelude.{◌≡◌, ◌≢◌, ℕ, ◌*◌, ◌^◌, ◌<◌, ◌≤◌, true, false, List, [], All, IfOk, Contains, count_by, length, reverse, slice_index};
+ghost use Rattle.std.specs.Prelude.{◌≡◌, ◌≢◌, ℕ, ◌*◌, ◌^◌, ◌<◌, ◌≤◌, true, false, List, [], All, IfOk, Contains, count_by, length, reverse, slice_index, take};
 ghost use Rattle.coflow_units.specs.declared.fabric.Port.{Port};
 ghost use Rattle.coflow_units.specs.Flows.{Instance};
 ghost use Rattle.coflow_units.specs.Certificate.{IsBelowLoads, IsFeasible, rest};
@@ -73,12 +73,7 @@ impl Bssi {
         ensures size { IsSameSize loads.old loads.new }
         ensures room { self.new.room ≡ self.old.room }
     {
-        let coflows = loads.coflows() as usize;
-        drop_absent(loads, present);
-        self.waiting[..coflows].copy_from_slice(present);
-        give_budgets(&mut self.residuals[..coflows], weights);
-        self.count = count_present(present);
-        step::place_all(&mut self.places[..self.count], loads, &mut self.residuals[..coflows], &mut self.waiting[..coflows]);
+        self.count = order(&mut self.places, &mut self.residuals, &mut self.waiting, loads, weights, present);
     }
 
     /// The places of the last run, from place 1 on, one for each coflow that was present; none before the first run.
@@ -87,6 +82,31 @@ impl Bssi {
     {
         &self.places[..self.count]
     }
+}
+
+/// Fills the first places, and tells how many they are. The lists may be longer than there are coflows.
+fn order(places: &mut [Place], residuals: &mut [u128], waiting: &mut [bool], loads: &mut Loads, weights: &[u64], present: &[bool]) -> usize
+    requires room { loads.old.coflows ≤ length places.old }
+    requires residuals_len { loads.old.coflows ≤ length residuals.old }
+    requires waiting_len { loads.old.coflows ≤ length waiting.old }
+    requires weights_len { length weights.now ≡ loads.old.coflows }
+    requires present_len { length present.now ≡ loads.old.coflows }
+    requires weights_fit { All (λ w. w ≤ 2 ^ 32) weights.now }
+    requires totals_fit { (port : Port) → port.number < loads.old.ports → total_at loads.old port ≤ 2 ^ 40 }
+    ensures order { (i : Instance) → IsOf i loads.old weights.now present.now → IsOrder i (take result places.new) }
+    ensures count { result ≡ count_by (λ here. here) present.now }
+    ensures within { result ≤ length places.old }
+    ensures size { IsSameSize loads.old loads.new }
+{
+    let coflows = loads.coflows() as usize;
+    let residuals = &mut residuals[..coflows];
+    let waiting = &mut waiting[..coflows];
+    drop_absent(loads, present);
+    waiting.copy_from_slice(present);
+    give_budgets(residuals, weights);
+    let count = count_present(present);
+    step::place_all(&mut places[..count], loads, residuals, waiting);
+    count
 }
 
 fn count_present(present: &[bool]) -> usize

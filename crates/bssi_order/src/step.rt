@@ -70,7 +70,6 @@ fn choose(loads: &Loads, residuals: &[u128], waiting: &[bool]) -> Place
 }
 
 fn greatest_port(loads: &Loads) -> Port
-    requires { 1 ≤ loads.now.ports }
     ensures { IsGreatestPort loads.now result }
 {
     let ingress = greatest_on(loads, Side::Ingress);
@@ -83,7 +82,6 @@ fn greatest_port(loads: &Loads) -> Port
 }
 
 fn greatest_on(loads: &Loads, side: Side) -> Port
-    requires { 1 ≤ loads.now.ports }
     ensures { IsGreatestOn loads.now side result }
 {
     let mut greatest = Port { side, number: 0 };
