@@ -1,5 +1,5 @@
 -- The loads of a list of flows grow by one flow.
-use Rattle.std.proofs.Common.{◌≡◌, ◌≢◌, ℕ, ◌+◌, ◌-◌, ◌*◌, ◌^◌, ◌<◌, ◌≤◌, inl, inr, Bool, true, false, List, length, take, get_or, zero, suc, refl, sym, ap, subst, ◌∙◌, arith}
+use Rattle.std.proofs.Common.{◌≡◌, ◌≢◌, ℕ, ◌+◌, ◌-◌, ◌*◌, ◌^◌, ◌<◌, ◌≤◌, inl, inr, Bool, true, false, List, length, take, take_all, get_or, zero, suc, refl, sym, ap, subst, ◌∙◌, arith}
 use Rattle.std.specs.Prelude.{◌==◌, ◌&&◌, if◌then◌else◌, not, slice_index, sum_by, sum}
 use Rattle.std.specs.List.{range_with_len}
 use Rattle.std.proofs.lemmas.Bool.{both_ways, cases_Bool, cases_eq, eq-eqb, ne_eqb}
@@ -170,3 +170,18 @@ fill_fits old new flows left present k most so_far lt same fits port lp =
     let lp' = subst (λ n. port.number < n) so_far.size.ports lp in
     let total = total_within (take k (flows_left left flows)) new port lp (λ c lc. at_most_loads old new flows left present k so_far port lp' c (subst (λ n. c < n) so_far.size.coflows lc)) in
     omega (arith, total, units_are_left left flows k same (omega arith), sum_by_more_le (λ n. n) left k 0 (omega (arith, same)), fits)
+
+-- no total is above the units, where all flows are counted
+pub filled_within : (old new : LoadTable) (flows : List Flow) (left : List ℕ) (present : List Bool) (k : ℕ) → FilledSoFar old new flows left present k → length flows ≤ k → length left ≡ length flows →
+    (port : Port) → port.number < old.ports → total_at new port ≤ sum left
+filled_within old new flows left present k so_far all same port lp =
+    let lp' = subst (λ n. port.number < n) (sym so_far.size.ports) lp in
+    let total = total_within (take k (flows_left left flows)) new port lp' (λ c lc. at_most_loads old new flows left present k so_far port lp c (subst (λ n. c < n) so_far.size.coflows lc)) in
+    let whole = ap (λ xs. sum_by (λ (x : Flow). x.units) xs) (take_all k (flows_left left flows) (omega (arith, same_length (λ f. slice_index left f) flows))) in
+    let units = units_are_left left flows (length flows) same (omega arith) in
+    let units_whole = ap (λ xs. sum_by (λ (x : Flow). x.units) xs) (take_all (length flows) (flows_left left flows) (omega (arith, same_length (λ f. slice_index left f) flows))) in
+    let left_whole = ap (λ xs. sum_by (λ n. n) xs) (take_all (length flows) left (omega (arith, same))) in
+    omega (arith, total, whole, units, units_whole, left_whole)
+
+pub loads_within : (flows : List Flow) (t : LoadTable) → HasLoads flows t → (port : Port) → port.number < t.ports → total_at t port ≤ sum_by (λ (x : Flow). x.units) flows
+loads_within flows t has port lp = total_within flows t port lp (λ c lc. omega (arith, has c port lc lp))

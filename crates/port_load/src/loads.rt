@@ -48,6 +48,7 @@ impl Loads {
         ensures coflows_are { IfOk result (λ t. t.coflows ≡ coflows) }
         ensures ports_are { IfOk result (λ t. t.ports ≡ ports) }
         ensures loads_are { IfOk result (λ t. HasLoads flows.now t) }
+        ensures totals_within { IfOk result (λ t. (port : Port) → port.number < ports → total_at t port ≤ sum_by (λ (x : Flow). x.units) flows.now) }
     {
         let mut loads = Loads::empty(alloc, coflows, ports)?;
         for flow in flows {
@@ -67,6 +68,7 @@ impl Loads {
             load_at self.new coflow port ≡ load (with_units (λ f. slice_index left.now f) flows.now) coflow port }
         ensures absent_are { (coflow : ℕ) (port : Port) → coflow < self.old.coflows → port.number < self.old.ports → is_present present.now coflow ≡ false →
             load_at self.new coflow port ≡ 0 }
+        ensures totals_within { (port : Port) → port.number < self.old.ports → total_at self.new port ≤ sum left.now }
     {
         self.clear();
         for number in 0..flows.len() {

@@ -4,7 +4,7 @@ use Rattle.coflow_units.specs.Flows.{flow_at}
 use Rattle.coflow_units.specs.Load.{load}
 use Rattle.coflow_units.proofs.WhatIsLeft.{same_length}
 use Rattle.port_load.specs.LoadTable.{is_present}
-use Rattle.port_load.proofs.FlowSteps.{fill_add, fill_fits, fill_none, fill_skip, flows_left}
+use Rattle.port_load.proofs.FlowSteps.{fill_add, fill_fits, fill_none, fill_skip, filled_within, flows_left}
 use Rattle.port_load.proofs.loads.Loads.fill.Goals as goal
 
 pub loop-number-preserved-then-not-present-flow : goal.loop-number-preserved-then-not-present-flow
@@ -29,3 +29,6 @@ pub returns-clause-present_are : goal.returns-clause-present_are
 returns-clause-present_are c = λ coflow port lc lp t.
     c.loop-number.invariant.present_are coflow port lc lp t
     ∙ ap (λ xs. load xs coflow port) (take_all c.loop-number.number (flows_left c.args.left.now c.args.flows.now) (omega (arith, same_length (λ f. slice_index c.args.left.now f) c.args.flows.now)))
+
+pub returns-clause-totals_within : goal.returns-clause-totals_within
+returns-clause-totals_within c = filled_within c.args.self.now c.loop-number.self c.args.flows.now c.args.left.now c.args.present.now c.loop-number.number c.loop-number.invariant (omega arith) c.requires.left_len

@@ -4,7 +4,7 @@ use Rattle.std.proofs.lemmas.List.Sums.{sum_by_more_le}
 use Rattle.coflow_units.specs.declared.fabric.Flow.{Flow}
 use Rattle.coflow_units.specs.Flows.{flow_at}
 use Rattle.coflow_units.specs.Load.{load, loads}
-use Rattle.port_load.proofs.FlowSteps.{load_more, total_within}
+use Rattle.port_load.proofs.FlowSteps.{load_more, loads_within, total_within}
 use Rattle.port_load.proofs.loads.Loads.of.Goals as goal
 
 pub add-requires-clause-units : goal.add-requires-clause-units
@@ -35,3 +35,7 @@ loop-flow-preserved c =
 pub returns-clause-loads_are : goal.returns-clause-loads_are
 returns-clause-loads_are c = λ coflow port lc lp.
     c.loop-flow.invariant.loads_are coflow port lc lp ∙ ap (λ xs. load xs coflow port) (take_all c.loop-flow.flow-index c.args.flows.now (omega arith))
+
+pub returns-clause-totals_within : goal.returns-clause-totals_within
+returns-clause-totals_within c = λ port lp.
+    loads_within c.args.flows.now c.loop-flow.loads (returns-clause-loads_are c) port (subst (λ n. port.number < n) (sym c.loop-flow.invariant.ports_are) lp)
