@@ -3,3 +3,4 @@ pub mod KeptSteps
 pub mod LoadSums
 pub mod ColumnSteps
 pub mod FlowSteps
+pub mod TestSteps
