@@ -41,7 +41,7 @@ pub left_total : (i : Instance) (later : List Entry) (left : List ℕ) (t : Load
 left_total i later left t residuals waiting ready stands port lp =
     let w = λ (c : ℕ). load_at t c port in
     let up = members_at_most w (range_with_len 0 t.coflows) left (range_apart t.coflows)
-        (λ c has some. stands.all c (in_below t.coflows c has) (waits_where t residuals waiting ready c port (in_below t.coflows c has) lp some)) in
+    (λ c has some. stands.all c (in_below t.coflows c has) (waits_where t residuals waiting ready c port (in_below t.coflows c has) lp some)) in
     let down = members_at_most w left (range_with_len 0 t.coflows) (apart_from_pairs left stands.distinct) (λ c has some. below_in t.coflows c (stands.members c has).0) in
     let same = sum_same w (λ c. load i.flows c port) left (λ c has. stands.load c port has lp) in
     omega (arith, up, down, same)
@@ -229,7 +229,7 @@ rests_told flows weight whole later coflows (x ∷ l) told apart pays =
     let before = map entry_of l in
     let c = x.coflow in
     let here = own_rest (used flows whole c) (spent flows later c) (used flows (entry_of x ∷ before) c) (used flows before c) (budget weight c) x.y (load flows c x.port) x.rest
-        (pays c (in_first c (front before))) (used_in flows (entry_of x) before c (in_first c (front before))) (used_outside flows before c apart.0) told.0 in
+    (pays c (in_first c (front before))) (used_in flows (entry_of x) before c (in_first c (front before))) (used_outside flows before c apart.0) told.0 in
     All-cons (λ (y : Place). y.rest ≡ rest flows weight whole y.coflow) x l here
     (rests_told flows weight whole (entry_of x ∷ later) (without c coflows) l told.2 apart.1
     (λ k has. omega (arith, pays k (in_tail c (front before) k has), used_in flows (entry_of x) before k (in_tail c (front before) k has), spent_more flows (entry_of x) later k)))

@@ -171,7 +171,7 @@ least_of t residuals port least least_load so_far some =
 pub affordable : (t : LoadTable) (residuals : List ℕ) (port : Port) (least : ℕ) → IsLeastRatio t residuals port least → (c : ℕ) → c < t.coflows → (slice_index residuals least / load_at t least port) * load_at t c port ≤ slice_index residuals c
 affordable t residuals port least is c lt = elim (cases_lt 0 (load_at t c port)) [
   | inl some ↦ within_ratio (slice_index residuals least / load_at t least port) (slice_index residuals least) (load_at t least port) (slice_index residuals c) (load_at t c port) is.has_load
-    (floor_within (slice_index residuals least) (load_at t least port)) (at_most_of (slice_index residuals least * load_at t c port) (slice_index residuals c * load_at t least port) c least (is.least c lt some))
+      (floor_within (slice_index residuals least) (load_at t least port)) (at_most_of (slice_index residuals least * load_at t c port) (slice_index residuals c * load_at t least port) c least (is.least c lt some))
   | inr none ↦
       let nought : load_at t c port ≡ 0 = omega arith in
       omega (arith, ap (λ n. (slice_index residuals least / load_at t least port) * n) nought)

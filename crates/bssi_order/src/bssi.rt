@@ -43,7 +43,10 @@ impl Bssi {
     {
         let no_place = Place {
             coflow: 0,
-            port: Port { side: Side::Ingress, number: 0 },
+            port: Port {
+                side: Side::Ingress,
+                number: 0,
+            },
             y: 0,
             rest: 0,
             load: 0,
@@ -73,7 +76,14 @@ impl Bssi {
         ensures size { IsSameSize loads.old loads.new }
         ensures room { self.new.room ≡ self.old.room }
     {
-        self.count = order(&mut self.places, &mut self.residuals, &mut self.waiting, loads, weights, present);
+        self.count = order(
+            &mut self.places,
+            &mut self.residuals,
+            &mut self.waiting,
+            loads,
+            weights,
+            present,
+        );
     }
 
     /// The places of the last run, from place 1 on, one for each coflow that was present; none before the first run.
@@ -85,7 +95,14 @@ impl Bssi {
 }
 
 /// Fills the first places, and tells how many they are. The lists may be longer than there are coflows.
-fn order(places: &mut [Place], residuals: &mut [u128], waiting: &mut [bool], loads: &mut Loads, weights: &[u64], present: &[bool]) -> usize
+fn order(
+    places: &mut [Place],
+    residuals: &mut [u128],
+    waiting: &mut [bool],
+    loads: &mut Loads,
+    weights: &[u64],
+    present: &[bool],
+) -> usize
     requires room { loads.old.coflows ≤ length places.old }
     requires residuals_len { loads.old.coflows ≤ length residuals.old }
     requires waiting_len { loads.old.coflows ≤ length waiting.old }

@@ -10,7 +10,12 @@ use coflow_units::{Place, Port, Side};
 use port_load::Loads;
 
 /// Fills the places from the last one on; each waiting coflow has one.
-pub fn place_all(places: &mut [Place], loads: &mut Loads, residuals: &mut [u128], waiting: &mut [bool])
+pub fn place_all(
+    places: &mut [Place],
+    loads: &mut Loads,
+    residuals: &mut [u128],
+    waiting: &mut [bool],
+)
     requires ready { IsReady loads.old residuals.old waiting.old }
     requires count { length places.old ≡ count_by (λ waits. waits) waiting.old }
     ensures order { (i : Instance) → Stands i [] i.coflows loads.old residuals.old waiting.old → IsOrder i places.new }

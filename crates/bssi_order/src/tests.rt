@@ -54,7 +54,14 @@ fn weights_fit(weights: &[u64]) -> bool
 }
 
 /// Runs the order over the flows.
-fn ordered(rt: &impl Abort, alloc: Global, flows: &[Flow], weights: &[u64], present: &[bool], ports: u32) -> Bssi
+fn ordered(
+    rt: &impl Abort,
+    alloc: Global,
+    flows: &[Flow],
+    weights: &[u64],
+    present: &[bool],
+    ports: u32,
+) -> Bssi
     requires coflows_limit { length weights.now ≤ 4096 }
     requires has_ports { 1 ≤ ports }
     requires ports_limit { ports ≤ 1025 }
@@ -65,7 +72,10 @@ fn ordered(rt: &impl Abort, alloc: Global, flows: &[Flow], weights: &[u64], pres
     assert!(rt; fit);
     let fit = weights_fit(weights);
     assert!(rt; fit);
-    match (Loads::of(alloc, flows, coflows, ports), Bssi::with_room(alloc, coflows, ports)) {
+    match (
+        Loads::of(alloc, flows, coflows, ports),
+        Bssi::with_room(alloc, coflows, ports),
+    ) {
         (Ok(mut loads), Ok(mut order)) => {
             order.run(&mut loads, weights, present);
             order
@@ -95,34 +105,86 @@ fn compare(rt: &impl Abort, have: &[Place], want: &[Place]) {
 fn orders_by_hand(rt: HostRuntime) {
     let alloc = rt.alloc();
     let two = [flow(0, 0, 1, 3), flow(1, 0, 1, 1)];
-    compare(&rt, ordered(&rt, alloc, &two, &[1, 1], &[true, true], 3).places(), &[
-        place(1, Side::Ingress, 0, 733007751851, 0, 1),
-        place(0, Side::Ingress, 0, 366503875925, 1, 4),
-    ]);
-    compare(&rt, ordered(&rt, alloc, &two, &[5, 1], &[true, true], 3).places(), &[
-        place(0, Side::Ingress, 0, 733007751850, 2, 3),
-        place(1, Side::Ingress, 0, 1099511627776, 0, 4),
-    ]);
+    compare(
+        &rt,
+        ordered(&rt, alloc, &two, &[1, 1], &[true, true], 3).places(),
+        &[
+            place(1, Side::Ingress, 0, 733007751851, 0, 1),
+            place(0, Side::Ingress, 0, 366503875925, 1, 4),
+        ],
+    );
+    compare(
+        &rt,
+        ordered(&rt, alloc, &two, &[5, 1], &[true, true], 3).places(),
+        &[
+            place(0, Side::Ingress, 0, 733007751850, 2, 3),
+            place(1, Side::Ingress, 0, 1099511627776, 0, 4),
+        ],
+    );
     let one_empty = [flow(1, 0, 1, 2)];
-    compare(&rt, ordered(&rt, alloc, &one_empty, &[1, 1], &[true, true], 2).places(), &[
-        place(0, Side::Ingress, 0, 0, 1099511627776, 0),
-        place(1, Side::Ingress, 0, 549755813888, 0, 2),
-    ]);
-    let ties = [flow(0, 0, 0, 1), flow(0, 1, 0, 1), flow(1, 0, 1, 1), flow(1, 1, 1, 1)];
-    compare(&rt, ordered(&rt, alloc, &ties, &[1, 1], &[true, true], 2).places(), &[
-        place(0, Side::Egress, 0, 0, 0, 2),
-        place(1, Side::Ingress, 0, 1099511627776, 0, 2),
-    ]);
+    compare(
+        &rt,
+        ordered(&rt, alloc, &one_empty, &[1, 1], &[true, true], 2).places(),
+        &[
+            place(0, Side::Ingress, 0, 0, 1099511627776, 0),
+            place(1, Side::Ingress, 0, 549755813888, 0, 2),
+        ],
+    );
+    let ties = [
+        flow(0, 0, 0, 1),
+        flow(0, 1, 0, 1),
+        flow(1, 0, 1, 1),
+        flow(1, 1, 1, 1),
+    ];
+    compare(
+        &rt,
+        ordered(&rt, alloc, &ties, &[1, 1], &[true, true], 2).places(),
+        &[
+            place(0, Side::Egress, 0, 0, 0, 2),
+            place(1, Side::Ingress, 0, 1099511627776, 0, 2),
+        ],
+    );
 }
 
 #[test]
 fn orders_at_the_limits(rt: HostRuntime) {
     let alloc = rt.alloc();
     // the rest is all but a whole load
-    compare(&rt, ordered(&rt, alloc, &[flow(0, 0, 0, 1048577)], &[1048576], &[true], 1).places(), &[place(0, Side::Ingress, 0, 1099510579200, 1048576, 1048577)]);
-    compare(&rt, ordered(&rt, alloc, &[flow(0, 1024, 1024, 1 << 40)], &[1 << 32], &[true], 1025).places(), &[place(0, Side::Ingress, 1024, 1 << 32, 0, 1 << 40)]);
+    compare(
+        &rt,
+        ordered(
+            &rt,
+            alloc,
+            &[flow(0, 0, 0, 1048577)],
+            &[1048576],
+            &[true],
+            1,
+        )
+        .places(),
+        &[place(0, Side::Ingress, 0, 1099510579200, 1048576, 1048577)],
+    );
+    compare(
+        &rt,
+        ordered(
+            &rt,
+            alloc,
+            &[flow(0, 1024, 1024, 1 << 40)],
+            &[1 << 32],
+            &[true],
+            1025,
+        )
+        .places(),
+        &[place(0, Side::Ingress, 1024, 1 << 32, 0, 1 << 40)],
+    );
     compare(&rt, ordered(&rt, alloc, &[], &[], &[], 1).places(), &[]);
-    let order = ordered(&rt, alloc, &[flow(7, 0, 0, 1), flow(4095, 0, 0, 1)], &[1 << 32; 4096], &[true; 4096], 1);
+    let order = ordered(
+        &rt,
+        alloc,
+        &[flow(7, 0, 0, 1), flow(4095, 0, 0, 1)],
+        &[1 << 32; 4096],
+        &[true; 4096],
+        1,
+    );
     assert_eq!(rt; order.places().len(), 4096);
     assert_eq!(rt; order.places().last().map(|last| last.coflow), Some(4095));
     assert_eq!(rt; order.places().first().map(|first| first.coflow), Some(0));
@@ -146,7 +208,11 @@ fn plain_residual(flows: &[Flow], weights: &[u64], later: &[Place], coflow: u32)
     let weight = weights.get(coflow as usize).copied().unwrap_or(0);
     let mut spent: u128 = 0;
     for place in later {
-        spent = spent.wrapping_add(place.y.wrapping_mul(load_of(flows, coflow, place.port) as u128));
+        spent = spent.wrapping_add(
+            place
+                .y
+                .wrapping_mul(load_of(flows, coflow, place.port) as u128),
+        );
     }
     (weight as u128).wrapping_mul(SCALE).saturating_sub(spent)
 }
@@ -171,7 +237,13 @@ fn plain_port(flows: &[Flow], waiting: &[u32], ports: u32) -> Port
 }
 
 /// The place before the later ones.
-fn plain_place(flows: &[Flow], weights: &[u64], waiting: &[u32], later: &[Place], ports: u32) -> Place
+fn plain_place(
+    flows: &[Flow],
+    weights: &[u64],
+    waiting: &[u32],
+    later: &[Place],
+    ports: u32,
+) -> Place
     requires { sum_by (λ (x : Flow). x.units) flows.now ≤ 2 ^ 62 }
 {
     let port = plain_port(flows, waiting, ports);
@@ -183,7 +255,9 @@ fn plain_place(flows: &[Flow], weights: &[u64], waiting: &[u32], later: &[Place]
         let is_better = match best {
             None => load == 0 || own > 0,
             Some(_) if load == 0 => true,
-            Some(other) => own > 0 && residual.wrapping_mul(load_of(flows, other, port) as u128) <= plain_residual(flows, weights, later, other).wrapping_mul(own),
+            Some(other) => own > 0
+                && residual.wrapping_mul(load_of(flows, other, port) as u128)
+                    <= plain_residual(flows, weights, later, other).wrapping_mul(own),
         };
         if is_better {
             best = Some(*coflow);
@@ -192,7 +266,11 @@ fn plain_place(flows: &[Flow], weights: &[u64], waiting: &[u32], later: &[Place]
     let coflow = best.unwrap_or(0);
     let residual = plain_residual(flows, weights, later, coflow);
     let own = load_of(flows, coflow, port) as u128;
-    let y = if load == 0 { 0 } else { residual.checked_div(own).unwrap_or(0) };
+    let y = if load == 0 {
+        0
+    } else {
+        residual.checked_div(own).unwrap_or(0)
+    };
     Place {
         coflow,
         port,
@@ -203,8 +281,15 @@ fn plain_place(flows: &[Flow], weights: &[u64], waiting: &[u32], later: &[Place]
 }
 
 /// The places by the definition, from the last to the first.
-fn plain_places(alloc: Global, flows: &[Flow], weights: &[u64], present: &[bool], ports: u32) -> Result<Vec<Place>, AllocError>
-    requires { sum_by (λ (x : Flow). x.units) flows.now ≤ 2 ^ 62 }
+fn plain_places(
+    alloc: Global,
+    flows: &[Flow],
+    weights: &[u64],
+    present: &[bool],
+    ports: u32,
+) -> Result<Vec<Place>, AllocError>
+    requires units { sum_by (λ (x : Flow). x.units) flows.now ≤ 2 ^ 62 }
+    requires small { length present.now ≤ 4096 }
 {
     let mut waiting = Vec::new(alloc);
     for coflow in 0..present.len() {
@@ -226,7 +311,14 @@ fn plain_places(alloc: Global, flows: &[Flow], weights: &[u64], present: &[bool]
 }
 
 /// A run and the plain program give the same places.
-fn agree(rt: &impl Abort, alloc: Global, flows: &[Flow], weights: &[u64], present: &[bool], ports: u32)
+fn agree(
+    rt: &impl Abort,
+    alloc: Global,
+    flows: &[Flow],
+    weights: &[u64],
+    present: &[bool],
+    ports: u32,
+)
     requires coflows_limit { length weights.now ≤ 4096 }
     requires has_ports { 1 ≤ ports }
     requires ports_limit { ports ≤ 1025 }
@@ -235,7 +327,11 @@ fn agree(rt: &impl Abort, alloc: Global, flows: &[Flow], weights: &[u64], presen
     let fit = flows_fit(flows, weights.len() as u32, ports);
     assert!(rt; fit);
     match plain_places(alloc, flows, weights, present, ports) {
-        Ok(want) => compare(rt, ordered(rt, alloc, flows, weights, present, ports).places(), &want),
+        Ok(want) => compare(
+            rt,
+            ordered(rt, alloc, flows, weights, present, ports).places(),
+            &want,
+        ),
         Err(_) => panic!(rt; "no memory"),
     }
 }
@@ -244,16 +340,75 @@ fn agree(rt: &impl Abort, alloc: Global, flows: &[Flow], weights: &[u64], presen
 fn runs_agree_with_the_definition(rt: HostRuntime) {
     let alloc = rt.alloc();
     // ties of ports and of ratios
-    agree(&rt, alloc, &[flow(0, 0, 0, 1), flow(1, 1, 1, 1), flow(2, 0, 1, 1), flow(3, 1, 0, 1)], &[1, 1, 1, 1], &[true; 4], 2);
-    agree(&rt, alloc, &[flow(0, 0, 1, 2), flow(1, 0, 1, 4), flow(2, 0, 0, 6)], &[1, 2, 3], &[true; 3], 2);
+    agree(
+        &rt,
+        alloc,
+        &[
+            flow(0, 0, 0, 1),
+            flow(1, 1, 1, 1),
+            flow(2, 0, 1, 1),
+            flow(3, 1, 0, 1),
+        ],
+        &[1, 1, 1, 1],
+        &[true; 4],
+        2,
+    );
+    agree(
+        &rt,
+        alloc,
+        &[flow(0, 0, 1, 2), flow(1, 0, 1, 4), flow(2, 0, 0, 6)],
+        &[1, 2, 3],
+        &[true; 3],
+        2,
+    );
     // an ingress port against an egress port, alike and not
-    agree(&rt, alloc, &[flow(0, 1, 0, 5), flow(1, 1, 0, 5)], &[2, 1], &[true; 2], 2);
-    agree(&rt, alloc, &[flow(0, 0, 1, 3), flow(1, 1, 1, 3), flow(2, 0, 0, 1)], &[3, 1, 2], &[true; 3], 2);
+    agree(
+        &rt,
+        alloc,
+        &[flow(0, 1, 0, 5), flow(1, 1, 0, 5)],
+        &[2, 1],
+        &[true; 2],
+        2,
+    );
+    agree(
+        &rt,
+        alloc,
+        &[flow(0, 0, 1, 3), flow(1, 1, 1, 3), flow(2, 0, 0, 1)],
+        &[3, 1, 2],
+        &[true; 3],
+        2,
+    );
     // coflows without flows, coflows that are absent, one coflow, none
-    agree(&rt, alloc, &[flow(1, 0, 0, 3)], &[1, 1, 1, 1], &[true; 4], 1);
-    agree(&rt, alloc, &[flow(0, 0, 1, 9), flow(1, 0, 1, 2), flow(2, 1, 1, 2), flow(3, 1, 0, 4)], &[1, 1, 1, 1], &[false, true, true, false], 2);
+    agree(
+        &rt,
+        alloc,
+        &[flow(1, 0, 0, 3)],
+        &[1, 1, 1, 1],
+        &[true; 4],
+        1,
+    );
+    agree(
+        &rt,
+        alloc,
+        &[
+            flow(0, 0, 1, 9),
+            flow(1, 0, 1, 2),
+            flow(2, 1, 1, 2),
+            flow(3, 1, 0, 4),
+        ],
+        &[1, 1, 1, 1],
+        &[false, true, true, false],
+        2,
+    );
     agree(&rt, alloc, &[flow(0, 2, 1, 7)], &[5], &[true], 3);
     agree(&rt, alloc, &[flow(0, 2, 1, 7)], &[5], &[false], 3);
     // flows without units
-    agree(&rt, alloc, &[flow(0, 0, 0, 0), flow(1, 1, 1, 0), flow(1, 0, 1, 2)], &[1, 1], &[true; 2], 2);
+    agree(
+        &rt,
+        alloc,
+        &[flow(0, 0, 0, 0), flow(1, 1, 1, 0), flow(1, 0, 1, 2)],
+        &[1, 1],
+        &[true; 2],
+        2,
+    );
 }

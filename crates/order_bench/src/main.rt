@@ -26,7 +26,10 @@ fn main(rt: HostRuntime) -> io::Result<()> {
     let ports = number_at(&words, 2, 3).clamp(1, 1025);
     let rounds = number_at(&words, 3, 1);
     match measured(alloc, coflows, ports, rounds) {
-        Ok(summary) => println!(rt; "places {} first {} last {}", summary.places, summary.first, summary.last),
+        Ok(summary) => println!(rt;
+            "places {} first {} last {}",
+            summary.places, summary.first, summary.last
+        ),
         Err(NoMemory) => println!(rt; "no memory"),
     }
 }
@@ -73,7 +76,12 @@ fn made_flows(alloc: Global, coflows: u32, ports: u32) -> Result<Vec<Flow>, Allo
     Ok(flows)
 }
 
-fn add_coflow(flows: &mut Vec<Flow>, coflow: u32, coflows: u32, ports: u32) -> Result<(), AllocError>
+fn add_coflow(
+    flows: &mut Vec<Flow>,
+    coflow: u32,
+    coflows: u32,
+    ports: u32,
+) -> Result<(), AllocError>
     requires coflow_in { coflow < coflows }
     requires coflows_limit { coflows ≤ 4096 }
     requires ports_limit { ports ≤ 1025 }

@@ -1,15 +1,15 @@
 -- The loads of a list of flows grow by one flow.
-use Rattle.std.proofs.Common.{◌≡◌, ◌≢◌, ℕ, ◌+◌, ◌-◌, ◌*◌, ◌^◌, ◌<◌, ◌≤◌, inl, inr, Bool, true, false, List, length, take, take_all, get_or, zero, suc, refl, sym, ap, subst, ◌∙◌, arith}
+use Rattle.std.proofs.Common.{◌≡◌, ◌≢◌, ℕ, ◌+◌, ◌<◌, ◌≤◌, inl, inr, Bool, true, false, List, length, take, take_all, get_or, zero, suc, refl, sym, ap, subst, ◌∙◌, arith}
 use Rattle.std.specs.Prelude.{◌==◌, ◌&&◌, if◌then◌else◌, not, slice_index, sum_by, sum}
 use Rattle.std.specs.List.{range_with_len}
 use Rattle.std.proofs.lemmas.Bool.{both_ways, cases_Bool, cases_eq, eq-eqb, ne_eqb}
-use Rattle.std.proofs.lemmas.List.Sums.{sum_by_more, sum_by_more_le, sum_by-take-le}
+use Rattle.std.proofs.lemmas.List.Sums.{sum_by_more, sum_by_more_le}
 use Rattle.coflow_units.specs.declared.fabric.Flow.{Flow}
 use Rattle.coflow_units.specs.declared.fabric.Port.{Port}
 use Rattle.coflow_units.specs.declared.fabric.Side.{Side}
 use Rattle.coflow_units.specs.declared.fabric.Side.TheVariants.{Ingress, Egress}
 use Rattle.coflow_units.specs.Flows.{flow_at, uses, with_units}
-use Rattle.coflow_units.specs.Load.{load, load_of_all, loads}
+use Rattle.coflow_units.specs.Load.{load, loads}
 use Rattle.coflow_units.specs.Ordering.{port_place, port_place_on}
 use Rattle.coflow_units.proofs.Sums.{sum_mono, sum_same}
 use Rattle.coflow_units.proofs.WhatIsLeft.{left_flow, same_length}
@@ -51,9 +51,9 @@ same_side : (s : Side) (old new : LoadTable) (coflow number units : ℕ) → Add
 same_side s old new coflow number units adds c n lc lp = elim (cases_eq number n) [
   | inl same ↦ elim (cases_eq coflow c) [
     | inl e ↦ subst (λ k. load_at new k (port_of s n) ≡ load_at old k (port_of s n) + units) e (subst (λ k. load_at new coflow (port_of s k) ≡ load_at old coflow (port_of s k) + units) same adds.added)
-      ∙ ap (λ k. load_at old c (port_of s n) + k) (test_both coflow c number n units e same)
+        ∙ ap (λ k. load_at old c (port_of s n) + k) (test_both coflow c number n units e same)
     | inr ne ↦ subst (λ k. load_at new c (port_of s k) ≡ load_at old c (port_of s k)) same (adds.others c lc (λ e. ne (sym e)))
-      ∙ omega (arith, test_first coflow c number n units ne)
+        ∙ omega (arith, test_first coflow c number n units ne)
   ]
   | inr ne ↦ adds.elsewhere c (port_of s n) lc lp (other_number s old.ports n number (λ e. ne (sym e))) ∙ omega (arith, test_second coflow c number n units ne)
 ]

@@ -1,6 +1,6 @@
 -- The totals of a table follow its cells.
 use Rattle.std.proofs.Common.{◌≡◌, ◌≢◌, ℕ, ◌+◌, ◌*◌, ◌<◌, ◌≤◌, inl, inr, Bool, true, false, List, length, refl, sym, ap, subst, ◌∙◌, arith, length-set, true≢false}
-use Rattle.std.specs.Prelude.{sum_by, replicate, slice_index, slice_set}
+use Rattle.std.specs.Prelude.{replicate, slice_index, slice_set}
 use Rattle.std.specs.List.{range_with_len, slice_index_or}
 use Rattle.std.proofs.lemmas.List.{get_or-replicate, length-replicate, get_or-set_same, get_or-set_other}
 use Rattle.std.proofs.Math.ListN.{get_or-eq_default}
@@ -13,7 +13,6 @@ use Rattle.coflow_units.specs.Ordering.{port_place, port_place_on}
 use Rattle.port_load.specs.Kept.{IsKept, row_total}
 use Rattle.port_load.specs.LoadTable.{DropsCoflow, LoadTable, load_at, total_at}
 use Rattle.port_load.proofs.Grid.{below_in, in_below, in_table, other_place, sum_grows}
-
 
 -- a cell after one was written
 cell_same : (cells : List ℕ) (place v : ℕ) → place < length cells → slice_index (slice_set cells place v) place ≡ v
@@ -62,7 +61,7 @@ kept_more coflows ports cells totals loaded row coflow units old total kept lr l
   loaded_len = length-set loaded coflow true ∙ kept.loaded_len;
   total = λ r lt. elim (cases_eq r row) [
     | inl e ↦ ap (λ k. slice_index (slice_set totals row (total + units)) k) e ∙ cell_same totals row (total + units) (omega (arith, kept.totals_len)) ∙ ap (λ k. k + units) (total_is ∙ kept.total row lr)
-      ∙ sym (row_grows cells coflows (ports + ports) row coflow old units kept.cells_len lr lc is) ∙ ap (λ k. row_total (slice_set cells (row * coflows + coflow) (old + units)) coflows k) (sym e)
+        ∙ sym (row_grows cells coflows (ports + ports) row coflow old units kept.cells_len lr lc is) ∙ ap (λ k. row_total (slice_set cells (row * coflows + coflow) (old + units)) coflows k) (sym e)
     | inr ne ↦ cell_other totals row r (total + units) ne ∙ kept.total r lt ∙ sym (row_stays cells coflows row coflow r (old + units) lc ne)
   ];
   empty = λ c r lt mark lt'.

@@ -1,15 +1,15 @@
 -- Loads of lists of flows.
-use Rattle.std.proofs.Common.{◌≡◌, ◌≢◌, ℕ, ◌+◌, ◌*◌, ◌<◌, ◌≤◌, ◌⊎◌, inl, inr, Bool, true, false, cond, List, [], ◌∷◌, ◌++◌, length, take, get_or, Contains, refl, sym, ap, subst, ◌∙◌, arith}
-use Rattle.std.specs.Prelude.{All, not, filter, sum_by, ◌==◌, ◌&&◌, ◌||◌, if◌then◌else◌}
-use Rattle.std.specs.List.{list_any, range_with_len}
+use Rattle.std.proofs.Common.{◌≡◌, ◌≢◌, ℕ, ◌+◌, ◌<◌, ◌≤◌, inl, inr, Bool, true, false, cond, List, [], ◌∷◌, refl, sym, ap, subst, ◌∙◌, arith}
+use Rattle.std.specs.Prelude.{not, sum_by, ◌==◌, ◌&&◌, ◌||◌, if◌then◌else◌}
+use Rattle.std.specs.List.{list_any}
 use Rattle.std.proofs.lemmas.List.Sums.{sum_by-cons}
-use Rattle.std.proofs.lemmas.Bool.{cases_Bool, eqb-true, cases_eq, ne_eqb, eq-eqb, both_ways, and_parts}
+use Rattle.std.proofs.lemmas.Bool.{cases_Bool, eqb-true, ne_eqb, eq-eqb, both_ways}
 use Rattle.coflow_units.specs.declared.fabric.Flow.{Flow}
 use Rattle.coflow_units.specs.declared.fabric.Port.{Port}
-use Rattle.coflow_units.specs.Flows.{uses, IsDistinct}
+use Rattle.coflow_units.specs.Flows.{uses}
 use Rattle.coflow_units.specs.Load.{load, loads, load_of_all}
-use Rattle.coflow_units.proofs.Sums.{Apart, apart_from_pairs, picked_most, sum_mono, sum_same, sum_swap, sum_zero, or_right}
-use Rattle.port_load.specs.LoadTable.{DropsAll, DropsCoflow, HasLoads, IsSameSize, LoadTable, flows_without, load_at}
+use Rattle.coflow_units.proofs.Sums.{Apart, picked_most, sum_mono, sum_same, sum_swap, sum_zero}
+use Rattle.port_load.specs.LoadTable.{DropsAll, HasLoads, IsSameSize, LoadTable, flows_without, load_at}
 
 -- ---- no port has more load than there are units
 

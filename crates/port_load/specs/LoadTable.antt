@@ -1,5 +1,5 @@
 -- Tables of loads, and what they say of flows.
-use Rattle.std.specs.Prelude.{◌≡◌, ◌≢◌, ℕ, ◌+◌, ◌*◌, ◌<◌, ◌==◌, Bool, true, false, not, List, [], ◌∷◌, All, filter, slice_index, sum_by}
+use Rattle.std.specs.Prelude.{◌≡◌, ◌≢◌, ℕ, ◌+◌, ◌*◌, ◌<◌, ◌==◌, Bool, false, not, List, [], ◌∷◌, All, filter, slice_index, sum_by}
 use Rattle.std.specs.List.{list_any, range_with_len, slice_index_or}
 use Rattle.coflow_units.specs.declared.fabric.Flow.{Flow}
 use Rattle.coflow_units.specs.declared.fabric.Port.{Port}

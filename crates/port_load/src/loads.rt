@@ -129,7 +129,12 @@ impl Loads {
         if !self.loaded[coflow as usize] {
             return;
         }
-        clear_column(&mut self.cells, &mut self.totals, self.coflows as usize, coflow as usize);
+        clear_column(
+            &mut self.cells,
+            &mut self.totals,
+            self.coflows as usize,
+            coflow as usize,
+        );
         self.loaded[coflow as usize] = false;
     }
 
@@ -172,8 +177,22 @@ impl Loads {
         ensures adds { (coflow : ℕ) (port : Port) → coflow < self.old.coflows → port.number < self.old.ports →
             load_at self.new coflow port ≡ load_at self.old coflow port + (if loads coflow port flow then flow.units else 0) }
     {
-        self.add_at(flow.coflow, Port { side: Side::Ingress, number: flow.ingress }, flow.units);
-        self.add_at(flow.coflow, Port { side: Side::Egress, number: flow.egress }, flow.units);
+        self.add_at(
+            flow.coflow,
+            Port {
+                side: Side::Ingress,
+                number: flow.ingress,
+            },
+            flow.units,
+        );
+        self.add_at(
+            flow.coflow,
+            Port {
+                side: Side::Egress,
+                number: flow.egress,
+            },
+            flow.units,
+        );
     }
 
     fn add_at(&mut self, coflow: u32, port: Port, units: u64)

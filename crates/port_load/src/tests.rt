@@ -72,9 +72,27 @@ fn two_flows_by_hand(rt: HostRuntime) {
         assert!(rt; coflow < 2 && number < 3);
         assert_eq!(rt; loads.get(coflow, port), want);
     }
-    assert_eq!(rt; loads.total(Port { side: Side::Ingress, number: 0 }), 4);
-    assert_eq!(rt; loads.total(Port { side: Side::Egress, number: 1 }), 4);
-    assert_eq!(rt; loads.total(Port { side: Side::Egress, number: 2 }), 0);
+    assert_eq!(rt;
+        loads.total(Port {
+            side: Side::Ingress,
+            number: 0
+        }),
+        4
+    );
+    assert_eq!(rt;
+        loads.total(Port {
+            side: Side::Egress,
+            number: 1
+        }),
+        4
+    );
+    assert_eq!(rt;
+        loads.total(Port {
+            side: Side::Egress,
+            number: 2
+        }),
+        0
+    );
 }
 
 /// The loads are those of the flows of the coflows that were not dropped, computed anew.
@@ -85,8 +103,16 @@ fn compare(rt: &impl Abort, loads: &Loads, flows: &[Flow], dropped: &[u32], side
         let port = Port { side, number };
         let mut total: u64 = 0;
         for coflow in 0..loads.coflows() {
-            let anew = if dropped.contains(&coflow) { 0 } else { load_of(flows, coflow, port) };
-            assert_eq!(rt; loads.get(coflow, port), anew, "coflow {coflow} port {number}");
+            let anew = if dropped.contains(&coflow) {
+                0
+            } else {
+                load_of(flows, coflow, port)
+            };
+            assert_eq!(rt;
+                loads.get(coflow, port),
+                anew,
+                "coflow {coflow} port {number}"
+            );
             total = total.wrapping_add(anew);
         }
         assert_eq!(rt; loads.total(port), total, "port {number}");
@@ -120,7 +146,12 @@ fn coflows_go_one_by_one(rt: HostRuntime) {
 
 #[test]
 fn what_is_left_of_present_coflows(rt: HostRuntime) {
-    let flows = [flow(0, 0, 1, 9), flow(1, 0, 1, 9), flow(1, 1, 0, 9), flow(2, 1, 1, 9)];
+    let flows = [
+        flow(0, 0, 1, 9),
+        flow(1, 0, 1, 9),
+        flow(1, 1, 0, 9),
+        flow(2, 1, 1, 9),
+    ];
     let mut loads = filled(&rt, rt.alloc(), &flows, 3, 2);
     let fit = fits(&flows, 3, 2);
     assert!(rt; fit);
@@ -137,12 +168,24 @@ fn what_is_left_of_present_coflows(rt: HostRuntime) {
         assert!(rt; coflow < 3 && number < 2);
         assert_eq!(rt; loads.get(coflow, Port { side, number }), want);
     }
-    assert_eq!(rt; loads.total(Port { side: Side::Egress, number: 1 }), 7);
+    assert_eq!(rt;
+        loads.total(Port {
+            side: Side::Egress,
+            number: 1
+        }),
+        7
+    );
 }
 
 #[test]
 fn limits_are_met(rt: HostRuntime) {
-    let mut loads = filled(&rt, rt.alloc(), &[flow(4095, 1024, 1024, 1 << 62)], 4096, 1025);
+    let mut loads = filled(
+        &rt,
+        rt.alloc(),
+        &[flow(4095, 1024, 1024, 1 << 62)],
+        4096,
+        1025,
+    );
     let port = Port {
         side: Side::Egress,
         number: 1024,
@@ -152,5 +195,11 @@ fn limits_are_met(rt: HostRuntime) {
     loads.drop_coflow(4095);
     assert_eq!(rt; loads.total(port), 0);
     let none = filled(&rt, rt.alloc(), &[], 0, 1);
-    assert_eq!(rt; none.total(Port { side: Side::Ingress, number: 0 }), 0);
+    assert_eq!(rt;
+        none.total(Port {
+            side: Side::Ingress,
+            number: 0
+        }),
+        0
+    );
 }

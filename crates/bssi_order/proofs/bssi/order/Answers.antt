@@ -35,5 +35,5 @@ returns-clause-order c = λ i of.
     let stands = stands_first i c.args.loads.now c.drop_absent.new.loads c.args.weights.now c.give_budgets.new.residuals c.args.present.now of begun in
     let order = c.place_all.ensures.order i (subst (λ w. Stands i [] i.coflows c.drop_absent.new.loads c.give_budgets.new.residuals w) (sym c.copy_from_slice.ensures.after) stands) in
     let filled = take_front c.count_present-count.result c.place_all.new.places (drop c.count_present-count.result c.args.places.now)
-        (length_part c.count_present-count.result c.place_all.new.places c.args.places.now c.place_all.auto.places (omega arith)) in
+    (length_part c.count_present-count.result c.place_all.new.places c.args.places.now c.place_all.auto.places (omega arith)) in
     subst (IsOrder i) (sym filled) order

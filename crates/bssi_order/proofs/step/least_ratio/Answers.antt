@@ -25,7 +25,7 @@ loop-coflow-preserved c =
     let load = c.get-load.result in
     let some : 0 < load = omega (arith, c.if-load-eq0.false) in
     elim c.if-ours-theirs.branch [
-      then-ours-theirs w ↦ subst (λ l. LeastSoFar t r c.args.port l c.if-ours-theirs.least_load (k + 1)) (sym w.least-is)
+      | then-ours-theirs w ↦ subst (λ l. LeastSoFar t r c.args.port l c.if-ours-theirs.least_load (k + 1)) (sym w.least-is)
           (subst (λ n. LeastSoFar t r c.args.port k n (k + 1)) (sym w.least_load-is) (least_take t r c.args.port c.loop-coflow.least c.loop-coflow.least_load k load c.loop-coflow.invariant (omega arith) c.get-load.ensures some w.if-ours-theirs.true))
       | else-ours-theirs w ↦ subst (λ l. LeastSoFar t r c.args.port l c.if-ours-theirs.least_load (k + 1)) (sym w.least-is)
           (subst (λ n. LeastSoFar t r c.args.port c.loop-coflow.least n (k + 1)) (sym w.least_load-is) (least_keep t r c.args.port c.loop-coflow.least c.loop-coflow.least_load k load c.loop-coflow.invariant c.get-load.ensures w.if-ours-theirs.false))

@@ -1,4 +1,4 @@
-use Rattle.std.proofs.Common.{◌≡◌, ◌+◌, ◌<◌, ap, sym, subst, ◌∙◌, arith}
+use Rattle.std.proofs.Common.{arith}
 use Rattle.coflow_units.specs.declared.fabric.Side.TheVariants.{Ingress, Egress}
 use Rattle.port_load.proofs.FlowSteps.{AddsAt, flow_added, port_of, total_elsewhere}
 use Rattle.port_load.proofs.loads.Loads.add.Goals as goal

@@ -1,8 +1,7 @@
-use Rattle.std.proofs.Common.{◌≡◌, ◌≢◌, ℕ, ◌+◌, ◌*◌, ◌^◌, ◌<◌, ◌≤◌, length, slice_index, refl, sym, ap, subst, ◌∙◌, arith}
+use Rattle.std.proofs.Common.{◌+◌, ◌*◌, ◌^◌, ◌<◌, length, sym, ap, ◌∙◌, arith}
 use Rattle.std.proofs.lemmas.Grind.{get_or_default_zero}
-use Rattle.coflow_units.specs.declared.fabric.Port.{Port}
 use Rattle.coflow_units.specs.Ordering.{port_place}
-use Rattle.port_load.specs.LoadTable.{LoadTable, load_at, total_at}
+use Rattle.port_load.specs.LoadTable.{LoadTable, load_at}
 use Rattle.port_load.proofs.Grid.{in_table}
 use Rattle.port_load.proofs.KeptSteps.{cell_is, cell_within, coflow_inside, kept_more, total_fits, written_other, written_same}
 use Rattle.port_load.proofs.loads.Loads.add_at.Goals as goal

@@ -1,4 +1,4 @@
-use Rattle.std.proofs.Common.{◌≡◌, ◌∙◌, vec_len, arith}
+use Rattle.std.proofs.Common.{vec_len, arith}
 use Rattle.port_load.proofs.KeptSteps.{kept_nought}
 use Rattle.port_load.proofs.loads.Loads.clear.Goals as goal
 

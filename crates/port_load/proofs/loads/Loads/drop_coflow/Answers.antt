@@ -1,12 +1,12 @@
-use Rattle.std.proofs.Common.{◌≡◌, ◌≢◌, ℕ, ◌+◌, ◌*◌, ◌<◌, ◌≤◌, true, false, List, [], ◌∷◌, length, slice_index, refl, sym, ap, subst, ◌∙◌, arith}
+use Rattle.std.proofs.Common.{◌≡◌, ◌+◌, ◌*◌, true, false, [], ◌∷◌, length, slice_index, refl, sym, ap, subst, ◌∙◌, arith}
 use Rattle.std.proofs.lemmas.List.{get_or_default, with_items_is}
 use Rattle.std.specs.Vec.{with_items}
 use Rattle.std.specs.List.{slice_index_or}
 use Rattle.std.specs.Prelude.{slice_set}
 use Rattle.port_load.specs.Kept.{IsKept}
-use Rattle.port_load.specs.LoadTable.{DropsCoflow, LoadTable}
+use Rattle.port_load.specs.LoadTable.{DropsCoflow}
 use Rattle.port_load.proofs.KeptSteps.{cell_within, coflow_inside, drops_nothing, drops_one, kept_less, table_of}
-use Rattle.port_load.proofs.ColumnSteps.{IsColumnCleared, cleared_along}
+use Rattle.port_load.proofs.ColumnSteps.{cleared_along}
 use Rattle.port_load.proofs.LoadSums.{drops_anew}
 use Rattle.port_load.proofs.loads.Loads.drop_coflow.Goals as goal
 

@@ -1,4 +1,4 @@
-use Rattle.std.proofs.Common.{◌≡◌, ◌+◌, ◌*◌, ◌∙◌, arith}
+use Rattle.std.proofs.Common.{◌*◌, arith}
 use Rattle.port_load.proofs.KeptSteps.{kept_nought}
 use Rattle.port_load.proofs.loads.Loads.empty.Goals as goal
 

@@ -1,10 +1,7 @@
-use Rattle.std.proofs.Common.{◌≡◌, ℕ, ◌+◌, ◌^◌, ◌<◌, ◌≤◌, true, false, length, slice_index, take, take_all, sym, ap, subst, ◌∙◌, arith}
-use Rattle.std.specs.Prelude.{sum_by}
-use Rattle.coflow_units.specs.Flows.{flow_at}
+use Rattle.std.proofs.Common.{◌^◌, ◌<◌, length, slice_index, take_all, ap, ◌∙◌, arith}
 use Rattle.coflow_units.specs.Load.{load}
 use Rattle.coflow_units.proofs.WhatIsLeft.{same_length}
-use Rattle.port_load.specs.LoadTable.{is_present}
-use Rattle.port_load.proofs.FlowSteps.{fill_add, fill_fits, fill_none, fill_skip, filled_within, flows_left}
+use Rattle.port_load.proofs.FlowSteps.{fill_add, fill_fits, fill_skip, filled_within, flows_left}
 use Rattle.port_load.proofs.loads.Loads.fill.Goals as goal
 
 pub loop-number-preserved-then-not-present-flow : goal.loop-number-preserved-then-not-present-flow
