@@ -3,3 +3,5 @@ pub mod OrderingLaws
 pub mod OrderingExists
 pub mod OrderingSteps
 pub mod RowOrders
+pub mod TableSteps
+pub mod StandSteps

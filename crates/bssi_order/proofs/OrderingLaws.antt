@@ -31,7 +31,7 @@ takes_greatest flows weight ports later (e ∷ before) ordered =
     (greatest_of flows ports (front (e ∷ before)) e.port ordered.0.port, takes_greatest flows weight ports (e ∷ later) before ordered.1)
 
 -- y times the load of a coflow not placed is within its residual: numbers
-within_ratio : (y rc lc rd ld : ℕ) → 0 < lc → y * lc ≤ rc → rc * ld ≤ rd * lc → y * ld ≤ rd
+pub within_ratio : (y rc lc rd ld : ℕ) → 0 < lc → y * lc ≤ rc → rc * ld ≤ rd * lc → y * ld ≤ rd
 within_ratio y rc lc rd ld some own ratio = le_of_mul-le-mul_right {k = lc} (omega (arith, mul-le-mul_right ld own, ratio)) some
 
 pay_within : (flows : List Flow) (weight : ℕ → ℕ) (ports : ℕ) (later : List Entry) (coflows : List ℕ) (e : Entry) → IsPlaced flows weight ports later coflows e →
@@ -52,7 +52,7 @@ pay_within flows weight ports later coflows e placed d has = elim (zero_or_more 
 ]
 
 -- what a coflow has spent after one more place
-spent_more : (flows : List Flow) (e : Entry) (later : List Entry) (c : ℕ) → spent flows (e ∷ later) c ≡ e.y * load flows c e.port + spent flows later c
+pub spent_more : (flows : List Flow) (e : Entry) (later : List Entry) (c : ℕ) → spent flows (e ∷ later) c ≡ e.y * load flows c e.port + spent flows later c
 spent_more flows e later c = sum_by-cons (λ (x : Entry). x.y * load flows c x.port) e later
 
 after_one : (s pay before b : ℕ) → s ≡ pay + before → pay ≤ b - before → before ≤ b → s ≤ b

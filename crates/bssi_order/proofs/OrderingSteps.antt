@@ -2,13 +2,13 @@
 use Rattle.std.proofs.Common.{◌≡◌, ℕ, ◌+◌, ◌-◌, ◌*◌, List, [], ◌∷◌, ◌++◌, Contains, refl, sym, subst, ap, ◌∙◌, arith}
 use Rattle.std.proofs.lemmas.List.Sums.{sum_by-cons}
 use Rattle.coflow_units.specs.declared.fabric.Flow.{Flow}
-use Rattle.coflow_units.specs.Flows.{Instance, IsInstance}
+use Rattle.coflow_units.specs.Flows.{Instance}
 use Rattle.coflow_units.specs.Load.{load}
 use Rattle.coflow_units.specs.Certificate.{Entry, front, budget}
 use Rattle.coflow_units.specs.Ordering.{IsPlaced, IsOrdering, spent, residual}
 use Rattle.bssi_order.proofs.BestOf.{without, without_apart}
 use Rattle.bssi_order.proofs.OrderingExists.{Made, grown, made_none}
-use Rattle.coflow_units.proofs.Sums.{Apart, all_of_members, pairs_from_apart, rising_apart}
+use Rattle.coflow_units.proofs.Sums.{Apart, all_of_members, pairs_from_apart}
 
 -- the entries are placed one after another, over the coflows and the places that were there before; these coflows are left
 abbrev pub IsPlacedSoFar : List Flow → (ℕ → ℕ) → ℕ → List Entry → List ℕ → List Entry → List ℕ → Type 0
@@ -38,14 +38,14 @@ pub residual_after : (flows : List Flow) (weight : ℕ → ℕ) (l : List Entry)
 residual_after flows weight l c = ap (λ n. budget weight c - n) (spent_after flows l [] c ∙ omega arith)
 
 -- none is left
-made_of : (flows : List Flow) (weight : ℕ → ℕ) (ports : ℕ) (later : List Entry) (coflows : List ℕ) (l : List Entry) → Apart coflows → IsPlacedSoFar flows weight ports later coflows l [] → Made flows weight ports later coflows l
+pub made_of : (flows : List Flow) (weight : ℕ → ℕ) (ports : ℕ) (later : List Entry) (coflows : List ℕ) (l : List Entry) → Apart coflows → IsPlacedSoFar flows weight ports later coflows l [] → Made flows weight ports later coflows l
 made_of flows weight ports later coflows [] apart none = made_none flows weight ports later coflows none
 made_of flows weight ports later coflows (e ∷ l) apart so_far =
     grown flows weight ports later coflows e l apart so_far.0 so_far.1 (made_of flows weight ports (e ∷ later) (without e.coflow coflows) l (without_apart e.coflow coflows apart) so_far.2)
 
-pub ordering_made : (i : Instance) (l : List Entry) → IsInstance i → IsPlacedSoFar i.flows i.weight i.ports [] i.coflows l [] → IsOrdering i l
-ordering_made i l inst so_far =
-    let made = made_of i.flows i.weight i.ports [] i.coflows l (rising_apart i.coflows inst.ascending) so_far in
+pub ordering_made : (i : Instance) (l : List Entry) → Apart i.coflows → IsPlacedSoFar i.flows i.weight i.ports [] i.coflows l [] → IsOrdering i l
+ordering_made i l apart so_far =
+    let made = made_of i.flows i.weight i.ports [] i.coflows l apart so_far in
     record {
       certificate = record {
         once = pairs_from_apart (front l) made.apart;

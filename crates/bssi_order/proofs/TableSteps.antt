@@ -1,0 +1,216 @@
+-- The loops over a table of loads, step by step.
+use Rattle.std.proofs.Common.{◌≡◌, ◌≢◌, ℕ, ◌+◌, ◌-◌, ◌*◌, ◌/◌, ◌^◌, ◌<◌, ◌≤◌, ◌⊎◌, inl, inr, Bool, true, false, cond, List, [], ◌∷◌, length, get_or, Contains, refl, sym, ap, subst, ◌∙◌, arith, zero, suc, length-set, true≢false}
+use Rattle.std.specs.Prelude.{count_by, sum_by, slice_index, slice_set, All}
+use Rattle.std.specs.List.{range_with_len, slice_index_or}
+use Rattle.std.proofs.lemmas.Bool.{both_ways, cases_Bool, cases_eq, cases_lt}
+use Rattle.std.proofs.lemmas.List.{get_or-set_same, get_or-set_other}
+use Rattle.std.proofs.Math.ListN.{get_or-eq_default}
+use Rattle.std.proofs.Math.Nat.{mul-le-mul, mul-le-mul_left, mul-le-mul_right, le_of_mul-le-mul_right}
+use Rattle.std.proofs.lemmas.List.Sums.{sum_by-cons}
+use Rattle.coflow_units.specs.declared.fabric.Port.{Port}
+use Rattle.coflow_units.specs.declared.fabric.Side.{Side}
+use Rattle.coflow_units.specs.declared.fabric.Side.TheVariants.{Ingress, Egress}
+use Rattle.coflow_units.specs.Ordering.{port_place, port_place_on}
+use Rattle.coflow_units.proofs.Numbers.{floor_within}
+use Rattle.coflow_units.proofs.Sums.{in_first, in_tail, member_within_sum, sum_same, sum_zero}
+use Rattle.bssi_order.proofs.OrderingLaws.{within_ratio}
+use Rattle.port_load.specs.LoadTable.{DropsCoflow, IsSameSize, LoadTable, is_present, load_at, total_at}
+use Rattle.port_load.proofs.Grid.{below_in, in_below}
+use Rattle.bssi_order.specs.Step.{IsGreatestOn, IsGreatestPort, IsGreatestWaiting, IsLeastRatio, Pays}
+
+-- ---- absent coflows are dropped
+
+pub record DroppedSoFar (old new : LoadTable) (present : List Bool) (done : ℕ) : Type 0 where
+  pub size : IsSameSize old new
+  pub stay : (c : ℕ) (port : Port) → c < old.coflows → port.number < old.ports → is_present present c ≡ true → load_at new c port ≡ load_at old c port
+  pub gone : (c : ℕ) (port : Port) → c < done → c < old.coflows → port.number < old.ports → is_present present c ≡ false → load_at new c port ≡ 0
+
+-- ---- the greatest number of a waiting coflow
+
+pub record GreatestSoFar (waiting : List Bool) (greatest done : ℕ) : Type 0 where
+  pub small : greatest ≤ done
+  pub waits : (c : ℕ) → c < done → is_present waiting c ≡ true → is_present waiting greatest ≡ true
+  pub most : (c : ℕ) → c < done → is_present waiting c ≡ true → c ≤ greatest
+
+-- ---- the least ratio
+
+pub record LeastSoFar (t : LoadTable) (residuals : List ℕ) (port : Port) (least least_load done : ℕ) : Type 0 where
+  pub small : least ≤ done
+  pub found : 0 < least_load → (least < t.coflows) × (least < done) × (least_load ≡ load_at t least port)
+  pub some : (c : ℕ) → c < done → 0 < load_at t c port → 0 < least_load
+  pub ratio : (c : ℕ) → c < done → 0 < load_at t c port →
+      (slice_index residuals least * load_at t c port < slice_index residuals c * least_load)
+      ⊎ ((slice_index residuals least * load_at t c port ≡ slice_index residuals c * least_load) × (c ≤ least))
+
+-- ---- each coflow pays
+
+pub record PaidSoFar (t : LoadTable) (port : Port) (y : ℕ) (old new : List ℕ) (done : ℕ) : Type 0 where
+  pub len : length new ≡ length old
+  pub paid : (c : ℕ) → c < done → slice_index new c ≡ slice_index old c - y * load_at t c port
+  pub later : (c : ℕ) → done ≤ c → slice_index new c ≡ slice_index old c
+
+-- ---- the first greatest port of a side
+
+pub record FirstSoFar (t : LoadTable) (side : Side) (port : Port) (done : ℕ) : Type 0 where
+  pub on_side : port.side ≡ side
+  pub in_range : port.number < t.ports
+  pub below : port.number < done
+  pub greatest : (other : Port) → other.side ≡ side → other.number < done → (total_at t other < total_at t port) ⊎ ((total_at t other ≡ total_at t port) × (port.number ≤ other.number))
+
+-- ---- marks
+
+pub present_below : (xs : List Bool) (c : ℕ) → is_present xs c ≡ true → c < length xs
+present_below xs c here = elim (cases_lt c (length xs)) [
+  | inl lt ↦ lt
+  | inr le ↦ absurd (true≢false (sym here ∙ get_or-eq_default xs false le))
+]
+
+one_first : (b : Bool) (xs : List Bool) → 0 < count_by (λ w. w) (b ∷ xs) → b ≡ false → 0 < count_by (λ w. w) xs
+one_first b xs lt e = omega (arith, lt, sum_by-cons (λ w. cond w 1 0) b xs, ap {B = ℕ} (λ w. cond w 1 0) e)
+
+pub one_is_marked : (xs : List Bool) → 0 < count_by (λ w. w) xs → (c : ℕ) × (c < length xs) × (is_present xs c ≡ true)
+one_is_marked [] lt = absurd (omega arith)
+one_is_marked (b ∷ xs) lt = elim (cases_Bool b) [
+  | inl t ↦ (0, omega arith, t)
+  | inr f ↦ let (c, lt', here) = one_is_marked xs (one_first b xs lt f) in (suc c, omega arith, here)
+]
+
+pub greatest_of : (waiting : List Bool) (greatest : ℕ) → GreatestSoFar waiting greatest (length waiting) → 0 < count_by (λ w. w) waiting → IsGreatestWaiting waiting greatest
+greatest_of waiting greatest so_far some =
+    let (c, lt, here) = one_is_marked waiting some in
+    record {
+      waits = so_far.waits c lt here;
+      greatest = λ other marked. so_far.most other (present_below waiting other marked) marked;
+    }
+
+-- ---- loads and totals
+
+pub within_total : (t : LoadTable) (c : ℕ) (port : Port) → c < t.coflows → load_at t c port ≤ total_at t port
+within_total t c port lt = member_within_sum (λ k. load_at t k port) (range_with_len 0 t.coflows) c (below_in t.coflows c lt)
+
+some_term : (f : ℕ → ℕ) (xs : List ℕ) → 0 < sum_by f xs → (x : ℕ) × Contains xs x × (0 < f x)
+some_term f [] lt = absurd (omega arith)
+some_term f (x ∷ xs) lt = elim (cases_lt 0 (f x)) [
+  | inl some ↦ (x, in_first x xs, some)
+  | inr none ↦ let (y, has, some) = some_term f xs (omega (arith, lt, sum_by-cons f x xs)) in (y, in_tail x xs y has, some)
+]
+
+pub some_load : (t : LoadTable) (port : Port) → 0 < total_at t port → (c : ℕ) × (c < t.coflows) × (0 < load_at t c port)
+some_load t port lt =
+    let (c, has, some) = some_term (λ k. load_at t k port) (range_with_len 0 t.coflows) lt in
+    (c, in_below t.coflows c has, some)
+
+-- ---- ratios
+
+pub product_fits : (a b : ℕ) → a ≤ 2 ^ 72 → b ≤ 2 ^ 40 → a * b ≤ 2 ^ 112
+product_fits a b la lb = let h : a * b ≤ 2 ^ 72 * 2 ^ 40 = mul-le-mul la lb in h
+
+ratio_le : (rk lk rl ll rc lc : ℕ) → 0 < ll → rk * ll ≤ rl * lk → rl * lc ≤ rc * ll → rk * lc ≤ rc * lk
+ratio_le rk lk rl ll rc lc some first second = le_of_mul-le-mul_right {k = ll} (omega (arith, mul-le-mul_right lc first, mul-le-mul_right lk second)) some
+
+pub least_load_fits : (t : LoadTable) (residuals : List ℕ) (port : Port) (least least_load done most : ℕ) → LeastSoFar t residuals port least least_load done → total_at t port ≤ most → least_load ≤ most
+least_load_fits t residuals port least least_load done most so_far fits = elim (cases_lt 0 least_load) [
+  | inl some ↦ let (lt, ld, is) = so_far.found some in omega (arith, is, within_total t least port lt)
+  | inr none ↦ omega arith
+]
+
+either_way : (a b c k : ℕ) → a ≤ b → c ≤ k → (a < b) ⊎ ((a ≡ b) × (c ≤ k))
+either_way a b c k le lt = elim (cases_lt a b) [
+  | inl less ↦ inl less
+  | inr same ↦ inr (omega arith, lt)
+]
+
+at_most_of : (a b c k : ℕ) → (a < b) ⊎ ((a ≡ b) × (c ≤ k)) → a ≤ b
+at_most_of a b c k (inl less) = omega arith
+at_most_of a b c k (inr same) = omega (arith, same.0)
+
+pub least_take : (t : LoadTable) (residuals : List ℕ) (port : Port) (least least_load k load : ℕ) → LeastSoFar t residuals port least least_load k → k < t.coflows → load ≡ load_at t k port → 0 < load →
+    slice_index residuals k * least_load ≤ slice_index residuals least * load → LeastSoFar t residuals port k load (k + 1)
+least_take t residuals port least least_load k load so_far lt is some le = record {
+  small = omega arith;
+  found = λ h. (lt, omega arith, is);
+  some = λ c lc h. some;
+  ratio = λ c lc h. elim (cases_eq c k) [
+    | inl e ↦ either_way (slice_index residuals k * load_at t c port) (slice_index residuals c * load) c k (omega (arith, ap (λ j. slice_index residuals j * load) e, ap (λ j. slice_index residuals k * load_at t j port) e, ap (λ n. slice_index residuals k * n) is)) (omega (arith, e))
+    | inr ne ↦
+        let before : c < k = omega (arith, ne) in
+        let old = at_most_of (slice_index residuals least * load_at t c port) (slice_index residuals c * least_load) c least (so_far.ratio c before h) in
+        either_way (slice_index residuals k * load_at t c port) (slice_index residuals c * load) c k
+        (ratio_le (slice_index residuals k) load (slice_index residuals least) least_load (slice_index residuals c) (load_at t c port) (so_far.some c before h) le old) (omega arith)
+  ];
+}
+
+above_nought : (a b n : ℕ) → a < b * n → 0 < n
+above_nought a b zero lt = absurd (omega arith)
+above_nought a b (suc n) lt = omega arith
+
+pub least_keep : (t : LoadTable) (residuals : List ℕ) (port : Port) (least least_load k load : ℕ) → LeastSoFar t residuals port least least_load k → load ≡ load_at t k port →
+    slice_index residuals least * load < slice_index residuals k * least_load → LeastSoFar t residuals port least least_load (k + 1)
+least_keep t residuals port least least_load k load so_far is less =
+    let some = above_nought (slice_index residuals least * load) (slice_index residuals k) least_load less in
+    record {
+      small = omega (arith, so_far.small);
+      found = λ h. let (a, b, c) = so_far.found h in (a, omega arith, c);
+      some = λ c lc h. some;
+      ratio = λ c lc h. elim (cases_eq c k) [
+        | inl e ↦ inl (omega (arith, less, ap (λ j. slice_index residuals j * least_load) e, ap (λ j. slice_index residuals least * load_at t j port) e, ap (λ n. slice_index residuals least * n) is))
+        | inr ne ↦ so_far.ratio c (omega (arith, ne)) h
+      ];
+    }
+
+pub least_of : (t : LoadTable) (residuals : List ℕ) (port : Port) (least least_load : ℕ) → LeastSoFar t residuals port least least_load t.coflows → 0 < total_at t port → IsLeastRatio t residuals port least
+least_of t residuals port least least_load so_far some =
+    let (c, lt, has) = some_load t port some in
+    let (ll, ld, is) = so_far.found (so_far.some c lt has) in
+    record {
+      coflow_in = ll;
+      has_load = subst (λ n. 0 < n) is (so_far.some c lt has);
+      least = λ other lo h. subst (λ n. (slice_index residuals least * load_at t other port < slice_index residuals other * n) ⊎ ((slice_index residuals least * load_at t other port ≡ slice_index residuals other * n) × (other ≤ least))) is (so_far.ratio other lo h);
+    }
+
+pub affordable : (t : LoadTable) (residuals : List ℕ) (port : Port) (least : ℕ) → IsLeastRatio t residuals port least → (c : ℕ) → c < t.coflows → (slice_index residuals least / load_at t least port) * load_at t c port ≤ slice_index residuals c
+affordable t residuals port least is c lt = elim (cases_lt 0 (load_at t c port)) [
+  | inl some ↦ within_ratio (slice_index residuals least / load_at t least port) (slice_index residuals least) (load_at t least port) (slice_index residuals c) (load_at t c port) is.has_load
+      (floor_within (slice_index residuals least) (load_at t least port)) (at_most_of (slice_index residuals least * load_at t c port) (slice_index residuals c * load_at t least port) c least (is.least c lt some))
+  | inr none ↦
+      let nought : load_at t c port ≡ 0 = omega arith in
+      omega (arith, ap (λ n. (slice_index residuals least / load_at t least port) * n) nought)
+]
+
+-- ---- ports
+
+abbrev pub port_of : Side → ℕ → Port
+port_of s n = record { side = s; number = n }
+
+same_total : (t : LoadTable) (s : Side) (n : ℕ) (other : Port) → other.side ≡ s → other.number ≡ n → total_at t other ≡ total_at t (port_of s n)
+same_total t s n other es en = ap (λ k. total_at t (port_of k other.number)) es ∙ ap (λ k. total_at t (port_of s k)) en
+
+pub first_none : (t : LoadTable) (s : Side) → 1 ≤ t.ports → FirstSoFar t s (port_of s 0) 1
+first_none t s some = record {
+  on_side = refl;
+  in_range = omega arith;
+  below = omega arith;
+  greatest = λ other es lt. inr (same_total t s 0 other es (omega arith), omega arith);
+}
+
+pub first_take : (t : LoadTable) (s : Side) (port : Port) (k : ℕ) → FirstSoFar t s port k → k < t.ports → total_at t port < total_at t (port_of s k) → FirstSoFar t s (port_of s k) (k + 1)
+first_take t s port k so_far lt more = record {
+  on_side = refl;
+  in_range = lt;
+  below = omega arith;
+  greatest = λ other es lo. elim (cases_eq other.number k) [
+    | inl e ↦ inr (same_total t s k other es e, omega (arith, e))
+    | inr ne ↦ inl (omega (arith, more, at_most_of (total_at t other) (total_at t port) port.number other.number (so_far.greatest other es (omega (arith, ne)))))
+  ];
+}
+
+pub first_keep : (t : LoadTable) (s : Side) (port : Port) (k : ℕ) → FirstSoFar t s port k → total_at t (port_of s k) ≤ total_at t port → FirstSoFar t s port (k + 1)
+first_keep t s port k so_far less = record {
+  on_side = so_far.on_side;
+  in_range = so_far.in_range;
+  below = omega (arith, so_far.below);
+  greatest = λ other es lo. elim (cases_eq other.number k) [
+    | inl e ↦ either_way (total_at t other) (total_at t port) port.number other.number (omega (arith, less, same_total t s k other es e)) (omega (arith, e, so_far.below))
+    | inr ne ↦ so_far.greatest other es (omega (arith, ne))
+  ];
+}

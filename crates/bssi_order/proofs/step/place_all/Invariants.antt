@@ -1,0 +1,5 @@
+use Rattle.bssi_order.proofs.StandSteps.{PlacesSoFar}
+use Rattle.bssi_order.proofs.step.place_all.Given as goal
+
+abbrev pub invariant-loop-number : goal.invariant-loop-number
+invariant-loop-number l = PlacesSoFar l.fn.loads l.loads l.fn.residuals l.residuals l.fn.waiting l.waiting l.places l.number

@@ -1,0 +1,155 @@
+//! The steps of the order: the port with the greatest load, the coflow whose budget is used up first there, and what each coflow pays.
+ghost use Rattle.std.specs.Prelude.{◌≡◌, ◌≢◌, ℕ, ◌+◌, ◌-◌, ◌*◌, ◌/◌, ◌^◌, ◌<◌, ◌≤◌, ◌⊎◌, true, false, List, [], Contains, count_by, length, slice_index, slice_set};
+ghost use Rattle.coflow_units.specs.declared.fabric.Port.{Port};
+ghost use Rattle.coflow_units.specs.Flows.{Instance};
+ghost use Rattle.port_load.specs.LoadTable.{DropsCoflow, IsSameSize, is_present, load_at, total_at};
+ghost use Rattle.bssi_order.specs.Order.{IsOrder};
+ghost use Rattle.bssi_order.specs.Step.{IsChosen, IsGreatestOn, IsGreatestPort, IsGreatestWaiting, IsLeastRatio, IsReady, Pays, Stands};
+
+use coflow_units::{Place, Port, Side};
+use port_load::Loads;
+
+/// Fills the places from the last one on; each waiting coflow has one.
+pub fn place_all(
+    places: &mut [Place],
+    loads: &mut Loads,
+    residuals: &mut [u128],
+    waiting: &mut [bool],
+)
+    requires ready { IsReady loads.old residuals.old waiting.old }
+    requires count { length places.old ≡ count_by (λ waits. waits) waiting.old }
+    ensures order { (i : Instance) → Stands i [] i.coflows loads.old residuals.old waiting.old → IsOrder i places.new }
+    ensures size { IsSameSize loads.old loads.new }
+{
+    for number in (0..places.len()).rev() {
+        places[number] = next_place(loads, residuals, waiting);
+    }
+}
+
+/// The place before those that are there. Each coflow pays for it, and the one placed goes.
+fn next_place(loads: &mut Loads, residuals: &mut [u128], waiting: &mut [bool]) -> Place
+    requires ready { IsReady loads.old residuals.old waiting.old }
+    requires some { 0 < count_by (λ waits. waits) waiting.old }
+    ensures chosen { IsChosen loads.old residuals.old waiting.old result }
+    ensures pays { Pays loads.old result.port result.y residuals.old residuals.new }
+    ensures placed { waiting.new ≡ slice_set waiting.old result.coflow false }
+    ensures dropped { DropsCoflow loads.old loads.new result.coflow }
+{
+    let place = choose(loads, residuals, waiting);
+    pay(residuals, loads, place.port, place.y);
+    waiting[place.coflow as usize] = false;
+    loads.drop_coflow(place.coflow);
+    place
+}
+
+fn choose(loads: &Loads, residuals: &[u128], waiting: &[bool]) -> Place
+    requires ready { IsReady loads.now residuals.now waiting.now }
+    requires some { 0 < count_by (λ waits. waits) waiting.now }
+    ensures chosen { IsChosen loads.now residuals.now waiting.now result }
+    ensures within { result.coflow < loads.now.coflows }
+    ensures affordable { (coflow : ℕ) → coflow < loads.now.coflows → result.y * load_at loads.now coflow result.port ≤ slice_index residuals.now coflow }
+{
+    let port = greatest_port(loads);
+    let load = loads.total(port);
+    if load == 0 {
+        let coflow = greatest_waiting(waiting);
+        return Place {
+            coflow,
+            port,
+            y: 0,
+            rest: residuals[coflow as usize],
+            load,
+        };
+    }
+    let coflow = least_ratio(loads, residuals, port);
+    let own = loads.get(coflow, port) as u128;
+    let residual = residuals[coflow as usize];
+    let y = residual / own;
+    Place {
+        coflow,
+        port,
+        y,
+        rest: residual - y * own,
+        load,
+    }
+}
+
+fn greatest_port(loads: &Loads) -> Port
+    ensures { IsGreatestPort loads.now result }
+{
+    let ingress = greatest_on(loads, Side::Ingress);
+    let egress = greatest_on(loads, Side::Egress);
+    if loads.total(egress) > loads.total(ingress) {
+        egress
+    } else {
+        ingress
+    }
+}
+
+fn greatest_on(loads: &Loads, side: Side) -> Port
+    ensures { IsGreatestOn loads.now side result }
+{
+    let mut greatest = Port { side, number: 0 };
+    for number in 1..loads.ports() {
+        let port = Port { side, number };
+        if loads.total(port) > loads.total(greatest) {
+            greatest = port;
+        }
+    }
+    greatest
+}
+
+fn greatest_waiting(waiting: &[bool]) -> u32
+    requires some { 0 < count_by (λ waits. waits) waiting.now }
+    requires limit { length waiting.now ≤ 4096 }
+    ensures { IsGreatestWaiting waiting.now result }
+{
+    let mut greatest = 0;
+    for coflow in 0..waiting.len() {
+        if waiting[coflow] {
+            greatest = coflow as u32;
+        }
+    }
+    greatest
+}
+
+/// The coflow with load on the port whose ratio of residual to load is least. Ratios are compared by products, which stay below 2^113.
+fn least_ratio(loads: &Loads, residuals: &[u128], port: Port) -> u32
+    requires residuals_len { length residuals.now ≡ loads.now.coflows }
+    requires residuals_fit { (coflow : ℕ) → coflow < loads.now.coflows → slice_index residuals.now coflow ≤ 2 ^ 72 }
+    requires port_in { port.number < loads.now.ports }
+    requires total_fits { total_at loads.now port ≤ 2 ^ 40 }
+    requires some { 0 < total_at loads.now port }
+    ensures { IsLeastRatio loads.now residuals.now port result }
+{
+    let mut least = 0;
+    let mut least_load = 0;
+    for coflow in 0..loads.coflows() {
+        let load = loads.get(coflow, port);
+        if load == 0 {
+            continue;
+        }
+        // a load of 0 stands for none so far: then the first product is 0
+        let ours = residuals[coflow as usize] * least_load as u128;
+        let theirs = residuals[least as usize] * load as u128;
+        if ours <= theirs {
+            least = coflow;
+            least_load = load;
+        }
+    }
+    least
+}
+
+fn pay(residuals: &mut [u128], loads: &Loads, port: Port, y: u128)
+    requires residuals_len { length residuals.old ≡ loads.now.coflows }
+    requires port_in { port.number < loads.now.ports }
+    requires affordable { (coflow : ℕ) → coflow < loads.now.coflows → y * load_at loads.now coflow port ≤ slice_index residuals.old coflow }
+    ensures { Pays loads.now port y residuals.old residuals.new }
+{
+    if y == 0 {
+        return;
+    }
+    for coflow in 0..loads.coflows() {
+        residuals[coflow as usize] -= y * loads.get(coflow, port) as u128;
+    }
+}

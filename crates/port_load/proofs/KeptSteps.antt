@@ -1,0 +1,179 @@
+-- The totals of a table follow its cells.
+use Rattle.std.proofs.Common.{◌≡◌, ◌≢◌, ℕ, ◌+◌, ◌*◌, ◌<◌, ◌≤◌, inl, inr, Bool, true, false, List, length, refl, sym, ap, subst, ◌∙◌, arith, length-set, true≢false}
+use Rattle.std.specs.Prelude.{replicate, slice_index, slice_set}
+use Rattle.std.specs.List.{range_with_len, slice_index_or}
+use Rattle.std.proofs.lemmas.List.{get_or-replicate, length-replicate, get_or-set_same, get_or-set_other}
+use Rattle.std.proofs.Math.ListN.{get_or-eq_default}
+use Rattle.std.proofs.lemmas.Bool.{cases_eq, cases_lt}
+use Rattle.coflow_units.proofs.Sums.{member_within_sum, sum_same, sum_zero}
+use Rattle.coflow_units.specs.declared.fabric.Port.{Port}
+use Rattle.coflow_units.specs.declared.fabric.Side.{Side}
+use Rattle.coflow_units.specs.declared.fabric.Side.TheVariants.{Ingress, Egress}
+use Rattle.coflow_units.specs.Ordering.{port_place, port_place_on}
+use Rattle.port_load.specs.Kept.{IsKept, row_total}
+use Rattle.port_load.specs.LoadTable.{DropsCoflow, LoadTable, load_at, total_at}
+use Rattle.port_load.proofs.Grid.{below_in, in_below, in_table, other_place, sum_grows}
+
+-- a cell after one was written
+cell_same : (cells : List ℕ) (place v : ℕ) → place < length cells → slice_index (slice_set cells place v) place ≡ v
+cell_same cells place v lt = get_or-set_same cells place v 0 lt
+
+cell_other : (cells : List ℕ) (place q v : ℕ) → q ≢ place → slice_index (slice_set cells place v) q ≡ slice_index cells q
+cell_other cells place q v ne = get_or-set_other cells place q v 0 ne
+
+-- a cell of another row or column
+pub written_other : (cells : List ℕ) (n row column r c v : ℕ) → column < n → c < n → (r ≡ row → c ≡ column → ⊥) → slice_index (slice_set cells (row * n + column) v) (r * n + c) ≡ slice_index cells (r * n + c)
+written_other cells n row column r c v lt lt' differ = cell_other cells (row * n + column) (r * n + c) v (other_place n r c row column lt' lt differ)
+
+pub written_same : (cells : List ℕ) (n rows row column r v : ℕ) → length cells ≡ rows * n → row < rows → column < n → r ≡ row → slice_index (slice_set cells (row * n + column) v) (r * n + column) ≡ v
+written_same cells n rows row column r v len lr lc e =
+    ap (λ k. slice_index (slice_set cells (row * n + column) v) (k * n + column)) e ∙ cell_same cells (row * n + column) v (omega (arith, len, in_table n row column rows lr lc))
+
+-- the total of a row after one of its cells grew, and of another row
+pub row_grows : (cells : List ℕ) (n rows row column old units : ℕ) → length cells ≡ rows * n → row < rows → column < n → old ≡ slice_index cells (row * n + column) →
+    row_total (slice_set cells (row * n + column) (old + units)) n row ≡ row_total cells n row + units
+row_grows cells n rows row column old units len lr lc is =
+    sum_grows (λ c. slice_index cells (row * n + c)) (λ c. slice_index (slice_set cells (row * n + column) (old + units)) (row * n + c)) n column units lc
+    (written_same cells n rows row column row (old + units) len lr lc refl ∙ ap (λ k. k + units) is)
+    (λ c lt ne. written_other cells n row column row c (old + units) lc lt (λ er ec. ne ec))
+
+pub row_stays : (cells : List ℕ) (n row column r v : ℕ) → column < n → r ≢ row → row_total (slice_set cells (row * n + column) v) n r ≡ row_total cells n r
+row_stays cells n row column r v lc ne =
+    sum_same (λ c. slice_index (slice_set cells (row * n + column) v) (r * n + c)) (λ c. slice_index cells (r * n + c)) (range_with_len 0 n)
+    (λ c has. written_other cells n row column r c v lc (in_below n c has) (λ er ec. ne er))
+
+still_marked : (loaded : List Bool) (coflow c : ℕ) → coflow < length loaded → slice_index_or (slice_set loaded coflow true) c true ≡ false → (c ≢ coflow) × (slice_index_or loaded c true ≡ false)
+still_marked loaded coflow c lt is = elim (cases_eq c coflow) [
+  | inl e ↦ absurd (true≢false (sym (get_or-set_same loaded coflow true true lt) ∙ ap (λ k. slice_index_or (slice_set loaded coflow true) k true) (sym e) ∙ is))
+  | inr ne ↦ (ne, sym (get_or-set_other loaded coflow c true true ne) ∙ is)
+]
+
+-- units are added to a cell and to the total of its row
+pub kept_more : (coflows ports : ℕ) (cells totals : List ℕ) (loaded : List Bool) (row coflow units old total : ℕ) → IsKept coflows ports cells totals loaded → row < ports + ports → coflow < coflows →
+    old ≡ slice_index cells (row * coflows + coflow) → total ≡ slice_index totals row →
+    IsKept coflows ports (slice_set cells (row * coflows + coflow) (old + units)) (slice_set totals row (total + units)) (slice_set loaded coflow true)
+kept_more coflows ports cells totals loaded row coflow units old total kept lr lc is total_is = record {
+  coflows_limit = kept.coflows_limit;
+  has_ports = kept.has_ports;
+  ports_limit = kept.ports_limit;
+  cells_len = length-set cells (row * coflows + coflow) (old + units) ∙ kept.cells_len;
+  totals_len = length-set totals row (total + units) ∙ kept.totals_len;
+  loaded_len = length-set loaded coflow true ∙ kept.loaded_len;
+  total = λ r lt. elim (cases_eq r row) [
+    | inl e ↦ ap (λ k. slice_index (slice_set totals row (total + units)) k) e ∙ cell_same totals row (total + units) (omega (arith, kept.totals_len)) ∙ ap (λ k. k + units) (total_is ∙ kept.total row lr)
+        ∙ sym (row_grows cells coflows (ports + ports) row coflow old units kept.cells_len lr lc is) ∙ ap (λ k. row_total (slice_set cells (row * coflows + coflow) (old + units)) coflows k) (sym e)
+    | inr ne ↦ cell_other totals row r (total + units) ne ∙ kept.total r lt ∙ sym (row_stays cells coflows row coflow r (old + units) lc ne)
+  ];
+  empty = λ c r lt mark lt'.
+      let (ne, was) = still_marked loaded coflow c (omega (arith, kept.loaded_len)) mark in
+      written_other cells coflows row coflow r c (old + units) lc lt (λ er ec. ne ec) ∙ kept.empty c r lt was lt';
+}
+
+-- a cell is within the total of its row
+pub cell_within : (coflows ports : ℕ) (cells totals : List ℕ) (loaded : List Bool) (row coflow : ℕ) → IsKept coflows ports cells totals loaded → row < ports + ports → coflow < coflows →
+    slice_index cells (row * coflows + coflow) ≤ slice_index totals row
+cell_within coflows ports cells totals loaded row coflow kept lr lc =
+    omega (arith, kept.total row lr, member_within_sum (λ c. slice_index cells (row * coflows + c)) (range_with_len 0 coflows) coflow (below_in coflows coflow lc))
+
+-- ---- the same in the words of the table
+
+abbrev pub table_of : ℕ → ℕ → List ℕ → LoadTable
+table_of coflows ports cells = record { coflows = coflows; ports = ports; cells = cells }
+
+pub total_fits : (t : LoadTable) (coflows ports : ℕ) (cells totals : List ℕ) (loaded : List Bool) (port : Port) (row units most : ℕ) → IsKept coflows ports cells totals loaded → table_of coflows ports cells ≡ t →
+    row ≡ port_place ports port → row < ports + ports → total_at t port + units < most → slice_index totals row + units < most
+total_fits t coflows ports cells totals loaded port row units most kept view is lt fits =
+    let here = subst (λ (x : LoadTable). total_at x port + units < most) (sym view) fits in
+    let same = ap (λ r. row_total cells coflows r) is in
+    omega (arith, kept.total row lt, same, here)
+
+pub coflow_inside : (t : LoadTable) (coflows ports : ℕ) (cells : List ℕ) (c : ℕ) → table_of coflows ports cells ≡ t → c < t.coflows → c < coflows
+coflow_inside t coflows ports cells c view lt = subst (λ (x : LoadTable). c < x.coflows) (sym view) lt
+
+pub port_inside : (t : LoadTable) (coflows ports : ℕ) (cells : List ℕ) (c : ℕ) → table_of coflows ports cells ≡ t → c < t.ports → c < ports
+port_inside t coflows ports cells c view lt = subst (λ (x : LoadTable). c < x.ports) (sym view) lt
+
+-- the cell of a table seen from its list of cells
+pub cell_is : (t : LoadTable) (coflows ports : ℕ) (cells : List ℕ) (c row : ℕ) (port : Port) → table_of coflows ports cells ≡ t → row ≡ port_place ports port → slice_index cells (row * coflows + c) ≡ load_at t c port
+cell_is t coflows ports cells c row port view is = ap (λ r. slice_index cells (r * coflows + c)) is ∙ ap (λ (x : LoadTable). load_at x c port) view
+
+-- ---- a table of noughts
+
+pub nought_at : (n k : ℕ) → slice_index (replicate n 0) k ≡ 0
+nought_at n k = elim (cases_lt k n) [
+  | inl lt ↦ get_or-replicate n k 0 0 lt
+  | inr le ↦ get_or-eq_default (replicate n 0) 0 (omega (arith, length-replicate {A = ℕ} n 0, le))
+]
+
+noughts_total : (n columns row : ℕ) → row_total (replicate n 0) columns row ≡ 0
+noughts_total n columns row = sum_same (λ c. slice_index (replicate n 0) (row * columns + c)) (λ c. 0) (range_with_len 0 columns) (λ c has. nought_at n (row * columns + c)) ∙ sum_zero (range_with_len 0 columns)
+
+pub kept_nought : (coflows ports m n : ℕ) (cells totals : List ℕ) (loaded : List Bool) → coflows ≤ 4096 → 1 ≤ ports → ports ≤ 1025 → cells ≡ replicate m 0 → m ≡ (ports + ports) * coflows → totals ≡ replicate n 0 → n ≡ ports + ports →
+    length loaded ≡ coflows → IsKept coflows ports cells totals loaded
+kept_nought coflows ports m n cells totals loaded lc some lp cells_are m_is totals_are n_is len = record {
+  coflows_limit = lc;
+  has_ports = some;
+  ports_limit = lp;
+  cells_len = ap length cells_are ∙ length-replicate m 0 ∙ m_is;
+  totals_len = ap length totals_are ∙ length-replicate n 0 ∙ n_is;
+  loaded_len = len;
+  total = λ row lt. ap (λ xs. slice_index xs row) totals_are ∙ nought_at n row ∙ sym (noughts_total m coflows row) ∙ ap (λ xs. row_total xs coflows row) (sym cells_are);
+  empty = λ c row lt mark lr. ap (λ xs. slice_index xs (row * coflows + c)) cells_are ∙ nought_at m (row * coflows + c);
+}
+
+-- ---- a coflow less
+
+still_empty : (loaded : List Bool) (coflow c : ℕ) → slice_index_or (slice_set loaded coflow false) c true ≡ false → c ≢ coflow → slice_index_or loaded c true ≡ false
+still_empty loaded coflow c is ne = sym (get_or-set_other loaded coflow c false true ne) ∙ is
+
+pub kept_less : (coflows ports : ℕ) (cells totals cells' totals' : List ℕ) (loaded : List Bool) (coflow : ℕ) → IsKept coflows ports cells totals loaded → coflow < coflows → length cells' ≡ length cells → length totals' ≡ length totals →
+    ((row : ℕ) → row < length totals → slice_index cells' (row * coflows + coflow) ≡ 0) →
+    ((row other : ℕ) → row < length totals → other < coflows → other ≢ coflow → slice_index cells' (row * coflows + other) ≡ slice_index cells (row * coflows + other)) →
+    ((row : ℕ) → row < length totals → slice_index totals' row + slice_index cells (row * coflows + coflow) ≡ slice_index totals row) →
+    IsKept coflows ports cells' totals' (slice_set loaded coflow false)
+kept_less coflows ports cells totals cells' totals' loaded coflow kept lc cells_len totals_len gone others taken = record {
+  coflows_limit = kept.coflows_limit;
+  has_ports = kept.has_ports;
+  ports_limit = kept.ports_limit;
+  cells_len = cells_len ∙ kept.cells_len;
+  totals_len = totals_len ∙ kept.totals_len;
+  loaded_len = length-set loaded coflow false ∙ kept.loaded_len;
+  total = λ row lr.
+      let lt : row < length totals = omega (arith, kept.totals_len) in
+      let grows = sum_grows (λ c. slice_index cells' (row * coflows + c)) (λ c. slice_index cells (row * coflows + c)) coflows coflow (slice_index cells (row * coflows + coflow)) lc (omega (arith, gone row lt)) (λ c l ne. sym (others row c lt l ne)) in
+      omega (arith, grows, kept.total row lr, taken row lt);
+  empty = λ c row l mark lr.
+      let lt : row < length totals = omega (arith, kept.totals_len) in
+      elim (cases_eq c coflow) [
+        | inl e ↦ ap (λ k. slice_index cells' (row * coflows + k)) e ∙ gone row lt
+        | inr ne ↦ others row c lt l ne ∙ kept.empty c row l (still_empty loaded coflow c mark ne) lr
+      ];
+}
+
+place_on : (s : Side) (ports number : ℕ) → number < ports → port_place_on s ports number < ports + ports
+place_on Ingress ports number lt = omega arith
+place_on Egress ports number lt = omega arith
+
+pub place_in_rows : (ports : ℕ) (port : Port) → port.number < ports → port_place ports port < ports + ports
+place_in_rows ports port lt = place_on port.side ports port.number lt
+
+pub drops_one : (t : LoadTable) (coflows ports : ℕ) (cells cells' : List ℕ) (coflow rows : ℕ) → table_of coflows ports cells ≡ t → rows ≡ ports + ports →
+    ((row : ℕ) → row < rows → slice_index cells' (row * coflows + coflow) ≡ 0) →
+    ((row other : ℕ) → row < rows → other < coflows → other ≢ coflow → slice_index cells' (row * coflows + other) ≡ slice_index cells (row * coflows + other)) →
+    DropsCoflow t (table_of coflows ports cells') coflow
+drops_one t coflows ports cells cells' coflow rows view rows_are gone others =
+    subst (λ (x : LoadTable). DropsCoflow x (table_of coflows ports cells') coflow) view record {
+      size = record { coflows = refl; ports = refl };
+      gone = λ port lp. gone (port_place ports port) (omega (arith, place_in_rows ports port lp));
+      others = λ other port lo ne lp. others (port_place ports port) other (omega (arith, place_in_rows ports port lp)) lo ne;
+    }
+
+-- a coflow that has no load is dropped already
+pub drops_nothing : (t : LoadTable) (coflows ports : ℕ) (cells totals : List ℕ) (loaded : List Bool) (coflow : ℕ) → IsKept coflows ports cells totals loaded → table_of coflows ports cells ≡ t → coflow < coflows →
+    slice_index_or loaded coflow true ≡ false → DropsCoflow t t coflow
+drops_nothing t coflows ports cells totals loaded coflow kept view lc none =
+    subst (λ (x : LoadTable). DropsCoflow x x coflow) view record {
+      size = record { coflows = refl; ports = refl };
+      gone = λ port lp. kept.empty coflow (port_place ports port) lc none (place_in_rows ports port lp);
+      others = λ other port lo ne lp. refl;
+    }

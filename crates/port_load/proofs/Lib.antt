@@ -1,0 +1,6 @@
+pub mod Grid
+pub mod KeptSteps
+pub mod LoadSums
+pub mod ColumnSteps
+pub mod FlowSteps
+pub mod TestSteps

@@ -1,0 +1,9 @@
+use Rattle.std.proofs.Common.{◌*◌, arith}
+use Rattle.port_load.proofs.KeptSteps.{kept_nought}
+use Rattle.port_load.proofs.loads.Loads.empty.Goals as goal
+
+pub invariant_of-result : goal.invariant_of-result
+invariant_of-result c =
+    kept_nought c.args.coflows c.args.ports ((2 * c.args.ports) * c.args.coflows) (2 * c.args.ports) c.in_ok-cells.cells.items c.in_ok-totals.totals.items c.in_ok-loaded.loaded.items
+    c.requires.coflows_limit c.requires.has_ports c.requires.ports_limit
+    (c.in_ok-cells.ensures.items_if_clones_equal (λ y e. e)) (omega arith) (c.in_ok-totals.ensures.items_if_clones_equal (λ y e. e)) (omega arith) (omega (arith, c.in_ok-loaded.ensures.len))

@@ -1,0 +1,3 @@
+pub mod LoadTable
+pub mod Kept
+pub mod TestInputs

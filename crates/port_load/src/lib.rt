@@ -1,0 +1,10 @@
+// The loads of coflows on the ports of the fabric: a table that is filled from flows, and from which coflows are taken away.
+#![tactic(auto)]
+
+pub mod laws;
+mod loads;
+
+pub use loads::Loads;
+
+#[cfg(test)]
+mod tests;

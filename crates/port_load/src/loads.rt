@@ -1,0 +1,243 @@
+//! The table of loads, and its totals.
+ghost use Rattle.std.specs.Prelude.{◌≡◌, ◌≢◌, ℕ, ◌+◌, ◌*◌, ◌^◌, ◌<◌, ◌≤◌, true, false, List, [], ◌∷◌, IfOk, if◌then◌else◌, length, slice_index, sum, sum_by};
+ghost use Rattle.coflow_units.specs.declared.fabric.Flow.{Flow};
+ghost use Rattle.coflow_units.specs.declared.fabric.Port.{Port};
+ghost use Rattle.coflow_units.specs.Flows.{with_units};
+ghost use Rattle.coflow_units.specs.Load.{load, loads};
+ghost use Rattle.coflow_units.specs.Ordering.{port_place};
+ghost use Rattle.port_load.specs.LoadTable.{DropsCoflow, HasLoads, IsSameSize, IsWithin, flows_without, is_present, load_at, total_at};
+ghost use Rattle.port_load.specs.Kept.{row_total};
+
+use coflow_units::{Flow, NoMemory, Port, Side};
+use std::alloc::Global;
+use std::marker::Model;
+
+/// The load, in units, of each coflow on each port, with the total of each port.
+///
+/// Contracts see a `Loads` as its number of coflows, its number of ports on each side, and its cells.
+#[derive(Drop)]
+pub struct Loads {
+    coflows: u32,
+    ports: u32,
+    /// Port by port, ingress ports before egress ports, the loads of the coflows by number.
+    cells: Vec<u64>,
+    totals: Vec<u64>,
+    /// A coflow that is not marked has no load on any port.
+    loaded: Vec<bool>,
+}
+
+impl Model for Loads {
+    ghost use Rattle.port_load.specs.LoadTable.{LoadTable};
+    ghost use Rattle.port_load.specs.Kept.{IsKept};
+
+    ghost Value = { LoadTable };
+
+    ghost view = { λ s. record { coflows = s.coflows; ports = s.ports; cells = s.cells.items } };
+
+    ghost invariant = { λ s. IsKept s.coflows s.ports s.cells.items s.totals.items s.loaded.items };
+}
+
+impl Loads {
+    /// The loads of the flows. Coflows count from 0 to `coflows`, at most 4096 of them, and the ports of a side from 0 to `ports`, from 1 to 1025 of them.
+    pub fn of(alloc: Global, flows: &[Flow], coflows: u32, ports: u32) -> Result<Loads, NoMemory>
+        requires coflows_limit { coflows ≤ 4096 }
+        requires has_ports { 1 ≤ ports }
+        requires ports_limit { ports ≤ 1025 }
+        requires within { IsWithin flows.now coflows ports }
+        requires units { sum_by (λ (x : Flow). x.units) flows.now ≤ 2 ^ 62 }
+        ensures coflows_are { IfOk result (λ t. t.coflows ≡ coflows) }
+        ensures ports_are { IfOk result (λ t. t.ports ≡ ports) }
+        ensures loads_are { IfOk result (λ t. HasLoads flows.now t) }
+        ensures totals_within { IfOk result (λ t. (port : Port) → port.number < ports → total_at t port ≤ sum_by (λ (x : Flow). x.units) flows.now) }
+    {
+        let mut loads = Loads::empty(alloc, coflows, ports)?;
+        for flow in flows {
+            loads.add(*flow);
+        }
+        Ok(loads)
+    }
+
+    /// Computes the loads anew: each flow of a present coflow counts with the units that it has left, one number in `left` for each flow and one mark in `present` for each coflow.
+    pub fn fill(&mut self, flows: &[Flow], left: &[u64], present: &[bool])
+        requires within { IsWithin flows.now self.old.coflows self.old.ports }
+        requires left_len { length left.now ≡ length flows.now }
+        requires present_len { length present.now ≡ self.old.coflows }
+        requires units { sum left.now ≤ 2 ^ 62 }
+        ensures size { IsSameSize self.old self.new }
+        ensures present_are { (coflow : ℕ) (port : Port) → coflow < self.old.coflows → port.number < self.old.ports → is_present present.now coflow ≡ true →
+            load_at self.new coflow port ≡ load (with_units (λ f. slice_index left.now f) flows.now) coflow port }
+        ensures absent_are { (coflow : ℕ) (port : Port) → coflow < self.old.coflows → port.number < self.old.ports → is_present present.now coflow ≡ false →
+            load_at self.new coflow port ≡ 0 }
+        ensures totals_within { (port : Port) → port.number < self.old.ports → total_at self.new port ≤ sum left.now }
+    {
+        self.clear();
+        for number in 0..flows.len() {
+            let flow = flows[number];
+            if !present[flow.coflow as usize] {
+                continue;
+            }
+            self.add(Flow {
+                coflow: flow.coflow,
+                ingress: flow.ingress,
+                egress: flow.egress,
+                units: left[number],
+            });
+        }
+    }
+
+    /// The number of coflows.
+    pub fn coflows(&self) -> u32
+        ensures coflows_are { result ≡ self.now.coflows }
+        ensures limit { self.now.coflows ≤ 4096 }
+    {
+        self.coflows
+    }
+
+    /// The number of ports on each side.
+    pub fn ports(&self) -> u32
+        ensures ports_are { result ≡ self.now.ports }
+        ensures has_ports { 1 ≤ self.now.ports }
+        ensures limit { self.now.ports ≤ 1025 }
+    {
+        self.ports
+    }
+
+    /// The load of a coflow on a port, in units.
+    pub fn get(&self, coflow: u32, port: Port) -> u64
+        requires coflow_in { coflow < self.now.coflows }
+        requires port_in { port.number < self.now.ports }
+        ensures { result ≡ load_at self.now coflow port }
+    {
+        self.cells[row_of(port, self.ports) * self.coflows as usize + coflow as usize]
+    }
+
+    /// The load of all coflows on a port, in units. It is kept, and not added up here.
+    pub fn total(&self, port: Port) -> u64
+        requires { port.number < self.now.ports }
+        ensures { result ≡ total_at self.now port }
+    {
+        self.totals[row_of(port, self.ports)]
+    }
+
+    /// Takes the loads of a coflow away. The others stay, and the totals are those of the others.
+    pub fn drop_coflow(&mut self, coflow: u32)
+        requires { coflow < self.old.coflows }
+        ensures dropped { DropsCoflow self.old self.new coflow }
+        // where the table had the loads of some flows, it has those of the flows of the other coflows
+        ensures anew { (flows : List Flow) → HasLoads flows self.old → HasLoads (flows_without (coflow ∷ []) flows) self.new }
+    {
+        if !self.loaded[coflow as usize] {
+            return;
+        }
+        clear_column(
+            &mut self.cells,
+            &mut self.totals,
+            self.coflows as usize,
+            coflow as usize,
+        );
+        self.loaded[coflow as usize] = false;
+    }
+
+    fn empty(alloc: Global, coflows: u32, ports: u32) -> Result<Loads, NoMemory>
+        requires coflows_limit { coflows ≤ 4096 }
+        requires has_ports { 1 ≤ ports }
+        requires ports_limit { ports ≤ 1025 }
+        ensures coflows_are { IfOk result (λ t. t.coflows ≡ coflows) }
+        ensures ports_are { IfOk result (λ t. t.ports ≡ ports) }
+        ensures none { IfOk result (λ t. (coflow : ℕ) (port : Port) → load_at t coflow port ≡ 0) }
+    {
+        let rows = 2 * ports as usize;
+        let cells = vec![in alloc; 0; rows * coflows as usize]?;
+        let totals = vec![in alloc; 0; rows]?;
+        let loaded = vec![in alloc; false; coflows as usize]?;
+        Ok(Loads {
+            coflows,
+            ports,
+            cells,
+            totals,
+            loaded,
+        })
+    }
+
+    fn clear(&mut self)
+        ensures size { IsSameSize self.old self.new }
+        ensures none { (coflow : ℕ) (port : Port) → load_at self.new coflow port ≡ 0 }
+    {
+        self.cells.fill(0);
+        self.totals.fill(0);
+        self.loaded.fill(false);
+    }
+
+    fn add(&mut self, flow: Flow)
+        requires coflow_in { flow.coflow < self.old.coflows }
+        requires ingress_in { flow.ingress < self.old.ports }
+        requires egress_in { flow.egress < self.old.ports }
+        requires units { (port : Port) → port.number < self.old.ports → total_at self.old port + flow.units < 2 ^ 64 }
+        ensures size { IsSameSize self.old self.new }
+        ensures adds { (coflow : ℕ) (port : Port) → coflow < self.old.coflows → port.number < self.old.ports →
+            load_at self.new coflow port ≡ load_at self.old coflow port + (if loads coflow port flow then flow.units else 0) }
+    {
+        self.add_at(
+            flow.coflow,
+            Port {
+                side: Side::Ingress,
+                number: flow.ingress,
+            },
+            flow.units,
+        );
+        self.add_at(
+            flow.coflow,
+            Port {
+                side: Side::Egress,
+                number: flow.egress,
+            },
+            flow.units,
+        );
+    }
+
+    fn add_at(&mut self, coflow: u32, port: Port, units: u64)
+        requires coflow_in { coflow < self.old.coflows }
+        requires port_in { port.number < self.old.ports }
+        requires units_fit { total_at self.old port + units < 2 ^ 64 }
+        ensures size { IsSameSize self.old self.new }
+        ensures added { load_at self.new coflow port ≡ load_at self.old coflow port + units }
+        ensures others { (other : ℕ) → other < self.old.coflows → other ≢ coflow → load_at self.new other port ≡ load_at self.old other port }
+        ensures elsewhere { (other : ℕ) (at : Port) → other < self.old.coflows → at.number < self.old.ports → port_place self.old.ports at ≢ port_place self.old.ports port →
+            load_at self.new other at ≡ load_at self.old other at }
+    {
+        let row = row_of(port, self.ports);
+        let cell = row * self.coflows as usize + coflow as usize;
+        self.cells[cell] += units;
+        self.totals[row] += units;
+        self.loaded[coflow as usize] = true;
+    }
+}
+
+/// The row of a port: its place among all ports, ingress ports before egress ports.
+fn row_of(port: Port, ports: u32) -> usize
+    requires in_range { port.number < ports }
+    requires limit { ports ≤ 1025 }
+    ensures row { result ≡ port_place ports port }
+    ensures within { result < ports + ports }
+{
+    match port.side {
+        Side::Ingress => port.number as usize,
+        Side::Egress => (ports + port.number) as usize,
+    }
+}
+
+/// Clears a column of a table with `columns` columns, and takes each cell from the total of its row.
+fn clear_column(cells: &mut [u64], totals: &mut [u64], columns: usize, column: usize)
+    requires column_in { column < columns }
+    requires cells_len { length cells.old ≡ length totals.old * columns }
+    requires within { (row : ℕ) → row < length totals.old → slice_index cells.old (row * columns + column) ≤ slice_index totals.old row }
+    ensures gone { (row : ℕ) → row < length totals.old → slice_index cells.new (row * columns + column) ≡ 0 }
+    ensures others { (row other : ℕ) → row < length totals.old → other < columns → other ≢ column → slice_index cells.new (row * columns + other) ≡ slice_index cells.old (row * columns + other) }
+    ensures totals_are { (row : ℕ) → row < length totals.old → slice_index totals.new row + slice_index cells.old (row * columns + column) ≡ slice_index totals.old row }
+{
+    for row in 0..totals.len() {
+        let cell = row * columns + column;
+        totals[row] -= cells[cell];
+        cells[cell] = 0;
+    }
+}
