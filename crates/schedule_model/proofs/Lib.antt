@@ -6,3 +6,4 @@ pub mod CoflowEnds
 pub mod RunSlots
 pub mod Standing
 pub mod Ascending
+pub mod TimeCounts

@@ -10,7 +10,7 @@ pub(crate) fn port_count(flows: &[Flow]) -> usize
     ensures ingress { All (λ (x : Flow). x.ingress < result) flows.now }
     ensures egress { All (λ (x : Flow). x.egress < result) flows.now }
 {
-    let mut count = 0;
+    let mut count: usize = 0;
     for flow in flows {
         count = count
             .max(flow.ingress as usize + 1)
