@@ -7,3 +7,7 @@ pub mod RunSlots
 pub mod Standing
 pub mod Ascending
 pub mod TimeCounts
+pub mod LastSlots
+pub mod CostSums
+pub mod ClashSteps
+pub mod RepeatSteps
