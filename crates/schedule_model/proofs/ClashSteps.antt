@@ -66,8 +66,8 @@ after_ingress Ingress a b le = le refl
 after_ingress Egress a b le = tt
 
 after_egress : (side : Side) (a b : ℕ) → (side ≡ Ingress → ⊥) → (side ≡ Egress → a ≤ b) → number_no_later Egress a side b
-after_egress Ingress a b no le = no refl
-after_egress Egress a b no le = le refl
+after_egress Ingress a b none le = none refl
+after_egress Egress a b none le = le refl
 
 pub first_clash : (flows : List Flow) (before rest : List (List ℕ)) (h : List ℕ) (side : Side) (number : ℕ) → NamesFlows (length flows) (before ++ (h ∷ rest)) → All (IsClear flows) before → Repeats flows side h number →
     ((other : Port) → Repeats flows other.side h other.number → number_no_later side number other.side other.number) →
