@@ -11,3 +11,4 @@ pub mod LastSlots
 pub mod CostSums
 pub mod ClashSteps
 pub mod RepeatSteps
+pub mod ValidSteps

@@ -1,9 +1,9 @@
 //! Whether a schedule keeps an order and leaves no port idle that could serve.
-ghost use Rattle.std.specs.Prelude.{◌≡◌, ◌<◌, ◌≤◌, ◌↔◌, ◌⊎◌, ℕ, All, IfOk, IsTrue, length, map, slice_index};
+ghost use Rattle.std.specs.Prelude.{◌≡◌, ◌<◌, ◌≤◌, ◌↔◌, ◌⊎◌, ℕ, All, ◌==◌, IfOk, IsTrue, length, position, map, slice_index};
 ghost use Rattle.coflow_units.specs.declared.fabric.Flow.{Flow};
 ghost use Rattle.coflow_units.specs.Flows.{coflow_of, egress_of, end_at, ingress_of, units_of};
 ghost use Rattle.coflow_units.specs.Grants.{place_in};
-ghost use Rattle.coflow_units.specs.Patient.{IsPatient};
+ghost use Rattle.coflow_units.specs.Patient.{IsPatient, IsServedOrWaits};
 ghost use Rattle.schedule_model.specs.RunList.{NamesFlows};
 ghost use Rattle.schedule_model.specs.Waiting.{ServesBy};
 
@@ -36,9 +36,7 @@ pub fn is_patient(
     let mut counts = vec![in alloc; 0u64; flows.len()]?;
     for run in schedule.kept() {
         let slot = run.flows.as_slice();
-        note_places(flows, &places, slot, Side::Ingress, order.len() + 1, &mut ingress);
-        note_places(flows, &places, slot, Side::Egress, order.len() + 1, &mut egress);
-        if !all_wait(flows, &places, &counts, &ingress, &egress) {
+        if !waits_well(flows, order, &places, &counts, slot, &mut ingress, &mut egress) {
             return Ok(false);
         }
         add_run(&mut counts, run.length, slot);
@@ -69,8 +67,37 @@ fn places_of(alloc: Global, flows: &[Flow], order: &[u32]) -> Result<Vec<usize>,
 fn place_of(order: &[u32], coflow: u32) -> usize
     ensures { result ≡ place_in order.now coflow }
 {
-    let place = order.iter().position(|c| *c == coflow);
-    place.unwrap_or(order.len())
+    find_place(order, coflow).unwrap_or(order.len())
+}
+
+fn find_place(order: &[u32], coflow: u32) -> Option<usize>
+    ensures { result ≡ position (λ c. c == coflow) order.now }
+{
+    order.iter().position(|c| *c == coflow)
+}
+
+/// Each flow that has units left stands in the slot, or one of its ports serves there a coflow no later in the order.
+fn waits_well(
+    flows: &[Flow],
+    order: &[u32],
+    places: &[usize],
+    counts: &[u64],
+    slot: &[u32],
+    ingress: &mut [usize],
+    egress: &mut [usize],
+) -> bool
+    requires names { All (λ f. f < length flows.now) slot.now }
+    requires places { places.now ≡ map (λ (x : Flow). place_in order.now x.coflow) flows.now }
+    requires counts { length counts.now ≡ length flows.now }
+    requires ingress { All (λ (x : Flow). x.ingress < length ingress.old) flows.now }
+    requires egress { All (λ (x : Flow). x.egress < length egress.old) flows.now }
+    ensures { IsTrue result
+        ↔ ((f : ℕ) → f < length flows.now → slice_index counts.now f < units_of flows.now f → IsServedOrWaits flows.now order.now slot.now f) }
+{
+    let none = order.len() + 1;
+    note_places(flows, places, slot, Side::Ingress, none, ingress);
+    note_places(flows, places, slot, Side::Egress, none, egress);
+    all_wait(flows, places, counts, ingress, egress)
 }
 
 /// Writes at each port of the side the least place that a flow of the slot has there, or `none` where no flow of the slot uses the port.

@@ -1,6 +1,8 @@
 //! A schedule as runs of equal slots.
-ghost use Rattle.std.specs.Prelude.{◌≡◌, ◌+◌, ◌≤◌, ◌++◌, All, List, [], OnErr, OnOk, length, length as count_of, replicate};
+ghost use Rattle.std.specs.Prelude.{◌≡◌, ◌≢◌, ◌+◌, ◌≤◌, ◌++◌, ℕ, All, List, [], MatchOption, OnErr, OnOk, length, length as count_of, replicate};
+ghost use Rattle.std.specs.List.{slice_index_or};
 ghost use Rattle.std.specs.List.Sorted.{IsStrictlyIncreasing};
+ghost use Rattle.coflow_units.specs.declared.plan.Run.{Run};
 ghost use Rattle.coflow_units.specs.Schedule.{IsRuns};
 ghost use Rattle.schedule_model.specs.RunList.{IsKept, pairs_of, slots_in};
 
@@ -47,9 +49,8 @@ impl Schedule {
         ensures pushed { OnOk result (self.new ≡ self.old ++ replicate length flows.now) }
         ensures refused { OnErr result (self.new ≡ self.old) }
     {
-        let count = self.runs.len();
-        if count > 0 && self.runs[count - 1].flows.as_slice() == flows {
-            let last = &mut self.runs[count - 1];
+        if let Some(place) = equal_last(&self.runs, flows) {
+            let last = &mut self.runs[place];
             last.length += length;
             return Ok(());
         }
@@ -76,4 +77,20 @@ impl Schedule {
     {
         &self.runs
     }
+}
+
+/// The place of the last run, where it serves these flows.
+fn equal_last(runs: &[Run], flows: &[u32]) -> Option<usize>
+    ensures { MatchOption result ((k : ℕ) (r : Run) → k + 1 ≡ length runs.now → (slice_index_or runs.now k r).flows ≢ flows.now)
+        (λ k. (k + 1 ≡ length runs.now) × ((r : Run) → (slice_index_or runs.now k r).flows ≡ flows.now)) }
+{
+    let count = runs.len();
+    if count == 0 {
+        return None;
+    }
+    let last = &runs[count - 1];
+    if last.flows.as_slice() == flows {
+        return Some(count - 1);
+    }
+    None
 }
