@@ -12,3 +12,5 @@ pub mod CostSums
 pub mod ClashSteps
 pub mod RepeatSteps
 pub mod ValidSteps
+pub mod RunPushes
+pub mod WaitSteps
