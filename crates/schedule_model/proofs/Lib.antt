@@ -14,3 +14,4 @@ pub mod RepeatSteps
 pub mod ValidSteps
 pub mod RunPushes
 pub mod WaitSteps
+pub mod IdleSlots

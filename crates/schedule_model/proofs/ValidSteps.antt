@@ -7,6 +7,7 @@ use Rattle.coflow_units.specs.declared.fabric.Port.{Port}
 use Rattle.coflow_units.specs.Schedule.{IsClear, IsValid}
 use Rattle.schedule_model.specs.declared.fault.ScheduleFault.{ScheduleFault}
 use Rattle.schedule_model.specs.declared.fault.ScheduleFault.TheVariants.{NoFlow, Clash, Units}
+use Rattle.schedule_model.specs.RunList.{NamesFlows}
 use Rattle.schedule_model.specs.Fault.{ClashesAt, IsFirstClash, IsFirstFault, IsFirstMiscount, IsFirstNoFlow, StandsIn}
 use Rattle.schedule_model.proofs.SlotLoads.{both_use}
 
@@ -30,3 +31,7 @@ none_where_valid flows slots None first = ((λ e. first), (λ valid. refl))
 none_where_valid flows slots (Some (NoFlow slot f)) first = ((λ e. cc), (λ valid. absurd (no_flow_refuses flows slots slot f first valid)))
 none_where_valid flows slots (Some (Clash slot port)) first = ((λ e. cc), (λ valid. absurd (clash_refuses flows slots slot port first valid)))
 none_where_valid flows slots (Some (Units f have want)) first = ((λ e. cc), (λ valid. absurd (miscount_refuses flows slots f have want first valid)))
+
+-- the numbers of a valid schedule are flows'
+pub valid_names : (flows : List Flow) (slots : List (List ℕ)) → IsValid flows slots → NamesFlows (length flows) slots
+valid_names flows slots valid k d lt = (valid.clear k d lt).flow

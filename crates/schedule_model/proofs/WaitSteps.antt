@@ -44,8 +44,7 @@ least_more flows places slot least side k q p m v lt e inside is before =
     let x = get_or slot k 0 in
     elim (cases_eq p q) [
       | inl same ↦
-          let now : get_or (set least q v) p 0 ≡ min (get_or least p 0) (get_or places x 0) = ap (λ n. get_or (set least q v) n 0) same ∙ get_or-set_same least q v 0 inside ∙ is ∙ ap (λ n. min (get_or least n 0) (get_or places x 0)) (sym same) in
-          (
+          let now : get_or (set least q v) p 0 ≡ min (get_or least p 0) (get_or places x 0) = ap (λ n. get_or (set least q v) n 0) same ∙ get_or-set_same least q v 0 inside ∙ is ∙ ap (λ n. min (get_or least n 0) (get_or places x 0)) (sym same) in (
             (λ le. elim (least_at_most (get_or least p 0) (get_or places x 0) m (omega (arith, le, now))) [
               | inl old ↦ serves_earlier flows places slot side k p m lt (before.0 old)
               | inr new ↦ (x, in_here slot k lt, sym (same ∙ e), new)
@@ -56,8 +55,7 @@ least_more flows places slot least side k q p m v lt e inside is before =
             ]),
           )
       | inr ne ↦
-          let now = get_or-set_other least q p v 0 ne in
-          (
+          let now = get_or-set_other least q p v 0 ne in (
             (λ le. serves_earlier flows places slot side k p m lt (before.0 (omega (arith, le, now)))),
             (λ serves. elim (in_more slot k serves.0 lt serves.1) [
               | inl has ↦ omega (arith, now, before.1 (serves.0, has, serves.2, serves.3))

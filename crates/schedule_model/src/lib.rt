@@ -5,18 +5,18 @@ mod clashes;
 mod counts;
 mod ends;
 mod fault;
-mod validity;
 pub mod laws;
 mod patience;
 mod ports;
 mod schedule;
 mod strangers;
+mod validity;
 
 pub use ends::{completion, completions, cost};
 pub use fault::ScheduleFault;
-pub use validity::find_fault;
 pub use patience::is_patient;
 pub use schedule::Schedule;
+pub use validity::find_fault;
 
 #[cfg(test)]
 mod tests;

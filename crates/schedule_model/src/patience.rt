@@ -36,7 +36,15 @@ pub fn is_patient(
     let mut counts = vec![in alloc; 0u64; flows.len()]?;
     for run in schedule.kept() {
         let slot = run.flows.as_slice();
-        if !waits_well(flows, order, &places, &counts, slot, &mut ingress, &mut egress) {
+        if !waits_well(
+            flows,
+            order,
+            &places,
+            &counts,
+            slot,
+            &mut ingress,
+            &mut egress,
+        ) {
             return Ok(false);
         }
         add_run(&mut counts, run.length, slot);
@@ -135,7 +143,7 @@ fn all_wait(
     requires egress { All (λ (x : Flow). x.egress < length egress.now) flows.now }
     ensures { IsTrue result
         ↔ ((f : ℕ) → f < length flows.now → slice_index counts.now f < units_of flows.now f →
-            (slice_index ingress.now (ingress_of flows.now f) ≤ slice_index places.now f) ⊎ (slice_index egress.now (egress_of flows.now f) ≤ slice_index places.now f)) }
+        (slice_index ingress.now (ingress_of flows.now f) ≤ slice_index places.now f) ⊎ (slice_index egress.now (egress_of flows.now f) ≤ slice_index places.now f)) }
 {
     for (number, flow) in flows.iter().enumerate() {
         let place = places[number];

@@ -15,7 +15,11 @@ use std::alloc::Global;
 ///
 /// It answers the first fault: `NoFlow` before `Clash` before `Units`, then the least slot, then the least flow number or the first port, ingress ports first.
 /// `None` says that the schedule is valid.
-pub fn find_fault(alloc: Global, flows: &[Flow], schedule: &Schedule) -> Result<Option<ScheduleFault>, NoMemory>
+pub fn find_fault(
+    alloc: Global,
+    flows: &[Flow],
+    schedule: &Schedule,
+) -> Result<Option<ScheduleFault>, NoMemory>
     requires { length flows.now ≤ 2 ^ 32 }
     ensures first { IfOk result (λ fault. IsFirstFault flows.now schedule.now fault) }
     ensures valid { IfOk result (λ fault. (fault ≡ None) ↔ IsValid flows.now schedule.now) }

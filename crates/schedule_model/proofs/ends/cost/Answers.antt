@@ -18,8 +18,11 @@ overflow_add-total c =
     let part : c.cost_between-total.result ≡ sum_by (part_of flows weights slots) (range_with_len from (to - from)) = c.cost_between-total.ensures in
     let le : from ≤ to = grind (arith, c.min-to.ensures, c.loop-from-test.true) in
     let inside : to ≤ length weights = grind (arith, c.min-to.ensures) in
-    omega (arith, sums_fit c.loop-from.total c.cost_between-total.result from to (omega (arith, c.loop-from.invariant.total_is, parts_small flows weights slots 0 from c.requires.small c.kept-runs.ensures.kept.short))
-        (omega (arith, part, parts_small flows weights slots from (to - from) c.requires.small c.kept-runs.ensures.kept.short)) le (omega (arith, inside, c.requires.few)))
+    omega (
+      arith,
+      sums_fit c.loop-from.total c.cost_between-total.result from to (omega (arith, c.loop-from.invariant.total_is, parts_small flows weights slots 0 from c.requires.small c.kept-runs.ensures.kept.short))
+          (omega (arith, part, parts_small flows weights slots from (to - from) c.requires.small c.kept-runs.ensures.kept.short)) le (omega (arith, inside, c.requires.few)),
+    )
 
 pub loop-from-preserved : goal.loop-from-preserved
 loop-from-preserved c =

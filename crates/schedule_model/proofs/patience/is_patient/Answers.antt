@@ -24,12 +24,11 @@ returns-then-not-waits_well c =
     let k = c.loop-run.run-index in
     let r = c.run-item.result in
     let split = sym c.kept-run-items.ensures.slots ∙ run_at runs k r c.kept-run-items.ensures.kept c.loop-run-test.true c.run-item.is in
-    let counted = λ (f : ℕ). ap (λ (xs : List ℕ). get_or xs f 0) c.deref-in-loop-run.ensures.value ∙ c.loop-run.invariant.times_are f in
-    (
+    let counted = λ (f : ℕ). ap (λ (xs : List ℕ). get_or xs f 0) c.deref-in-loop-run.ensures.value ∙ c.loop-run.invariant.times_are f in (
       (λ t. absurd (false≢true t)),
       (λ patient.
-        subst IsTrue c.if-not-waits_well.true
-        (c.waits_well.ensures.1 (λ f lt left.
+          subst IsTrue c.if-not-waits_well.true
+          (c.waits_well.ensures.1 (λ f lt left.
           subst (λ h. IsServedOrWaits flows order h f) (sym c.as_slice-slot.ensures)
           (patient_here flows order (slots_in (take k runs)) (after_first runs k r) r.flows f (subst (IsPatient flows order) split patient) lt (omega (arith, left, counted f)))))),
     )
@@ -74,7 +73,7 @@ loop-run-preserved c =
           ∙ sym (times_more runs k r f lt is);
       patient = subst (IsPatient flows order) (sym (run_more runs k r lt is))
           (patient_more flows order (slots_in (take k runs)) r.flows r.length c.loop-run.invariant.patient
-            (λ f in' left. subst (λ h. IsServedOrWaits flows order h f) c.as_slice-slot.ensures (c.waits_well.ensures.0 c.if-not-waits_well.false f in' (omega (arith, left, counted f)))));
+          (λ f in' left. subst (λ h. IsServedOrWaits flows order h f) c.as_slice-slot.ensures (c.waits_well.ensures.0 c.if-not-waits_well.false f in' (omega (arith, left, counted f)))));
     }
 
 pub returns : goal.returns

@@ -17,8 +17,7 @@ returns c =
     let ti : IsTable flows places Ingress slot (length order + 1) ingress = λ p m in' small. c.note_places.ensures p m (omega (arith, in', c.note_places.auto.least)) small in
     let te : IsTable flows places Egress slot (length order + 1) egress = λ p m in' small. c.note_places-2.ensures p m (omega (arith, in', c.note_places-2.auto.least)) small in
     let in_i = λ (f : ℕ) (lt : f < length flows). let h : ingress_of flows f < length ingress = omega (arith, c.requires.ingress f none lt, c.note_places.auto.least) in h in
-    let in_e = λ (f : ℕ) (lt : f < length flows). let h : egress_of flows f < length egress = omega (arith, c.requires.egress f none lt, c.note_places-2.auto.least) in h in
-    (
+    let in_e = λ (f : ℕ) (lt : f < length flows). let h : egress_of flows f < length egress = omega (arith, c.requires.egress f none lt, c.note_places-2.auto.least) in h in (
       (λ t f lt left. waits_from flows order places slot ingress egress f c.requires.names c.requires.places lt (in_i f lt) (in_e f lt) ti te (c.all_wait.ensures.0 t f lt left)),
       (λ all. c.all_wait.ensures.1 (λ f lt left. waits_to flows order places slot ingress egress f c.requires.names c.requires.places lt (in_i f lt) (in_e f lt) ti te (all f lt left))),
     )
