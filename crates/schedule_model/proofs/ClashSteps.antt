@@ -1,19 +1,17 @@
 -- Ports that two flows of a slot use.
-use Rattle.std.proofs.Common.{◌≡◌, ◌≢◌, ℕ, ◌+◌, ◌-◌, ◌≤◌, ◌<◌, ◌⊎◌, inl, inr, true, List, [], ◌∷◌, ◌++◌, length, get_or, set, take, Contains, refl, sym, ap, subst, ◌∙◌, arith}
-use Rattle.std.specs.Prelude.{All, ◌==◌, MatchOption, Option, Some, None}
+use Rattle.std.proofs.Common.{◌≡◌, ◌≢◌, ℕ, ◌+◌, ◌≤◌, ◌<◌, inl, inr, List, ◌∷◌, ◌++◌, length, Contains, refl, sym, subst}
+use Rattle.std.specs.Prelude.{All}
 use Rattle.std.specs.List.Sorted.{IsStrictlyIncreasing}
-use Rattle.std.proofs.lemmas.List.{take_more}
-use Rattle.std.proofs.lemmas.List.Elements.{All-contains, Contains-append_left, Contains-push, Contains-push_cases}
 use Rattle.std.proofs.lemmas.Bool.{cases_eq, eqb-true, eq-eqb}
 use Rattle.coflow_units.specs.declared.fabric.Flow.{Flow}
 use Rattle.coflow_units.specs.declared.fabric.Port.{Port}
 use Rattle.coflow_units.specs.declared.fabric.Side.{Side}
 use Rattle.coflow_units.specs.declared.fabric.Side.TheVariants.{Ingress, Egress}
-use Rattle.coflow_units.specs.Flows.{end_at, flow_at, uses, ingress_of, egress_of, SharesPort}
+use Rattle.coflow_units.specs.Flows.{ingress_of, egress_of, SharesPort}
 use Rattle.coflow_units.specs.Schedule.{IsClear}
 use Rattle.schedule_model.specs.RunList.{NamesFlows}
 use Rattle.schedule_model.specs.Repeat.{Repeats, end_number}
-use Rattle.schedule_model.specs.Fault.{ClashesAt, IsFirstClash, IsNoLater, StandsIn, number_no_later}
+use Rattle.schedule_model.specs.Fault.{ClashesAt, IsFirstClash, number_no_later}
 use Rattle.schedule_model.proofs.SlotLoads.{both_use}
 use Rattle.schedule_model.proofs.Standing.{slot_before, stands_at, stands_before, stands_here, which_slot}
 

@@ -1,12 +1,12 @@
 -- The runs of a schedule after one is appended or joined.
-use Rattle.std.proofs.Common.{◌≡◌, ◌≢◌, ℕ, ◌+◌, ◌-◌, ◌≤◌, ◌<◌, inl, inr, List, [], ◌∷◌, ◌++◌, length, get_or, set, take, map, replicate, refl, sym, ap, subst, ◌∙◌, arith, append_assoc}
+use Rattle.std.proofs.Common.{◌≡◌, ◌≢◌, ℕ, ◌+◌, ◌≤◌, ◌<◌, inl, inr, List, [], ◌∷◌, ◌++◌, length, get_or, set, take, replicate, refl, sym, ap, subst, ◌∙◌, arith, append_assoc}
 use Rattle.std.specs.Prelude.{All}
 use Rattle.std.specs.List.Sorted.{IsStrictlyIncreasing}
-use Rattle.std.proofs.lemmas.List.{get_or_default, take_more, take_all, set_at, get_or-map, get_or-set_same, get_or-set_other, get_or_append_left, get_or_push, get_or_at, length-append, length-map, length-replicate, length-set, length-take-le, length_push, replicate-append-replicate}
+use Rattle.std.proofs.lemmas.List.{get_or_default, take_more, take_all, set_at, get_or-map, get_or-set_same, get_or-set_other, get_or_append_left, get_or_push, length-append, length-map, length-replicate, length-set, length-take-le, length_push, replicate-append-replicate}
 use Rattle.std.proofs.lemmas.List.Elements.{All-append, All-head, All-map, All-nil, All-push, All-replicate, All-set, All-tail}
 use Rattle.std.proofs.lemmas.Bool.{cases_eq, cases_lt}
 use Rattle.coflow_units.specs.declared.plan.Run.{Run}
-use Rattle.coflow_units.specs.Schedule.{IsRuns, slots_of}
+use Rattle.coflow_units.specs.Schedule.{IsRuns}
 use Rattle.schedule_model.specs.RunList.{IsKept, pairs_of, slots_in}
 use Rattle.schedule_model.proofs.RunSlots.{slots_push}
 

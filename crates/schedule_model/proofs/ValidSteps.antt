@@ -1,5 +1,5 @@
 -- A schedule with a fault is not valid.
-use Rattle.std.proofs.Common.{◌≡◌, ℕ, ◌-◌, ◌≤◌, ◌<◌, List, [], length, get_or, refl, sym, ◌∙◌, arith}
+use Rattle.std.proofs.Common.{◌≡◌, ℕ, ◌-◌, ◌<◌, List, [], length, get_or, refl, sym, ◌∙◌, arith}
 use Rattle.std.specs.Prelude.{Option, Some, None}
 use Rattle.std.proofs.lemmas.List.Elements.{All-contains}
 use Rattle.coflow_units.specs.declared.fabric.Flow.{Flow}
@@ -8,7 +8,7 @@ use Rattle.coflow_units.specs.Schedule.{IsClear, IsValid}
 use Rattle.schedule_model.specs.declared.fault.ScheduleFault.{ScheduleFault}
 use Rattle.schedule_model.specs.declared.fault.ScheduleFault.TheVariants.{NoFlow, Clash, Units}
 use Rattle.schedule_model.specs.RunList.{NamesFlows}
-use Rattle.schedule_model.specs.Fault.{ClashesAt, IsFirstClash, IsFirstFault, IsFirstMiscount, IsFirstNoFlow, StandsIn}
+use Rattle.schedule_model.specs.Fault.{IsFirstClash, IsFirstFault, IsFirstMiscount, IsFirstNoFlow, StandsIn}
 use Rattle.schedule_model.proofs.SlotLoads.{both_use}
 
 clear_at : (flows : List Flow) (slots : List (List ℕ)) (slot f : ℕ) → IsValid flows slots → StandsIn slots slot f → IsClear flows (get_or slots (slot - 1) [])

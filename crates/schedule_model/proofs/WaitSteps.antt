@@ -1,14 +1,14 @@
 -- Flows that wait well, by the least places at their ports.
-use Rattle.std.proofs.Common.{◌≡◌, ℕ, cond, ◌+◌, ◌-◌, ◌≤◌, ◌<◌, ◌⊎◌, inl, inr, List, [], ◌∷◌, ◌++◌, length, get_or, set, take, map, min, replicate, Contains, refl, sym, ap, subst, ◌∙◌, arith, le_refl, length-take}
-use Rattle.std.specs.Prelude.{All, ◌↔◌, ◌==◌, not, count_by}
-use Rattle.std.proofs.lemmas.List.{get_or-map, get_or-set_same, get_or-set_other, get_or_append_left, get_or-append_right, get_or-replicate, get_or_default, get_or_at, length-append, length-replicate, length-set, take-append-le, take-take, take_all, take_at}
+use Rattle.std.proofs.Common.{◌≡◌, ℕ, cond, ◌+◌, ◌-◌, ◌≤◌, ◌<◌, ◌⊎◌, inl, inr, List, [], ◌∷◌, ◌++◌, length, get_or, set, take, map, min, replicate, refl, sym, ap, subst, ◌∙◌, arith, le_refl}
+use Rattle.std.specs.Prelude.{All, ◌↔◌, ◌==◌, not}
+use Rattle.std.proofs.lemmas.List.{get_or-map, get_or-set_same, get_or-set_other, get_or_append_left, get_or-append_right, get_or-replicate, get_or_at, length-append, length-replicate, take-append-le, take-take, take_at}
 use Rattle.std.proofs.lemmas.List.Elements.{All-contains}
 use Rattle.std.proofs.lemmas.List.Sums.{prefix_len-le-length, sum_by-take-le}
 use Rattle.std.proofs.lemmas.Bool.{cases_eq, cases_lt}
 use Rattle.coflow_units.specs.declared.fabric.Flow.{Flow}
 use Rattle.coflow_units.specs.declared.fabric.Side.{Side}
 use Rattle.coflow_units.specs.declared.fabric.Side.TheVariants.{Ingress, Egress}
-use Rattle.coflow_units.specs.Flows.{coflow_of, egress_of, ingress_of, units_of, SharesPort}
+use Rattle.coflow_units.specs.Flows.{coflow_of, egress_of, ingress_of, units_of}
 use Rattle.coflow_units.specs.Grants.{place_in}
 use Rattle.coflow_units.specs.Schedule.{holds, times}
 use Rattle.coflow_units.specs.Patient.{IsPatient, IsServedOrWaits}

@@ -100,39 +100,49 @@ fn worth(
     Ok(Some((cost(flows, weights, schedule), patient)))
 }
 
-/// The completions of the first three coflows of a valid schedule, one by one and together.
-fn ends(
+/// The completion of one coflow of a valid schedule.
+fn end(
     alloc: Global,
     flows: &[Flow],
     schedule: &Schedule,
-) -> Result<Option<([u64; 3], Vec<u64>)>, NoMemory>
+    coflow: u32,
+) -> Result<Option<u64>, NoMemory>
     requires { length flows.now ≤ 2 ^ 32 }
 {
     let None = find_fault(alloc, flows, schedule)? else {
         return Ok(None);
     };
-    let each = [
-        completion(flows, schedule, 0),
-        completion(flows, schedule, 1),
-        completion(flows, schedule, 2),
-    ];
-    Ok(Some((each, completions(alloc, flows, 3, schedule)?)))
+    Ok(Some(completion(flows, schedule, coflow)))
+}
+
+/// The completions of the first three coflows of a valid schedule.
+fn ends(alloc: Global, flows: &[Flow], schedule: &Schedule) -> Result<Option<Vec<u64>>, NoMemory>
+    requires { length flows.now ≤ 2 ^ 32 }
+{
+    let None = find_fault(alloc, flows, schedule)? else {
+        return Ok(None);
+    };
+    Ok(Some(completions(alloc, flows, 3, schedule)?))
 }
 
 #[test]
 fn three_coflows_are_served(rt: HostRuntime) -> Result<(), Fail> {
     let schedule = worked(rt.alloc())?;
     let flows = three_coflows();
-    assert_eq!(rt; schedule.runs().len(), 6);
-    assert_eq!(rt; schedule.runs()[2].length, 2);
+    let runs = schedule.runs();
+    assert_eq!(rt; runs.len(), 6);
+    assert_eq!(rt; runs[2].length, 2);
     let worth = worth(rt.alloc(), &flows, &[1, 1, 1], &[0, 2, 1], &schedule)?;
     assert_eq!(rt; worth, Some((16, true)));
-    let Some((each, together)) = ends(rt.alloc(), &flows, &schedule)? else {
+    let Some(ends) = ends(rt.alloc(), &flows, &schedule)? else {
         assert!(rt; false);
         return Ok(());
     };
-    assert_eq!(rt; each, [1, 8, 7]);
-    assert_eq!(rt; together.as_slice(), [1, 8, 7].as_slice());
+    assert_eq!(rt; ends.as_slice(), [1, 8, 7].as_slice());
+    for (coflow, want) in [(0, 1), (1, 8), (2, 7)] {
+        let end = end(rt.alloc(), &flows, &schedule, coflow)?;
+        assert_eq!(rt; end, Some(want));
+    }
     Ok(())
 }
 

@@ -1,9 +1,6 @@
-use Rattle.std.proofs.Common.{◌≡◌, ◌+◌, ◌≤◌, ◌<◌, ℕ, length, get_or, take, arith, subst}
-use Rattle.std.specs.Prelude.{All}
+use Rattle.std.proofs.Common.{◌≤◌, ◌<◌, length, get_or, take, arith, subst}
 use Rattle.std.proofs.lemmas.List.{take_all}
 use Rattle.std.proofs.lemmas.List.Elements.{All-set}
-use Rattle.coflow_units.specs.declared.fabric.Flow.{Flow}
-use Rattle.schedule_model.specs.Repeat.{end_number}
 use Rattle.schedule_model.proofs.RepeatSteps.{IsLeast, all_seen_more, all_seen_same, in_earlier, least_falls, least_stays, new_port, seen_more}
 use Rattle.schedule_model.proofs.clashes.least_repeat.Goals as goal
 

@@ -1,4 +1,4 @@
-use Rattle.std.proofs.Common.{◌<◌, length, arith, get_or}
+use Rattle.std.proofs.Common.{arith, get_or}
 use Rattle.schedule_model.proofs.TimeCounts.{add_fits, add_more}
 use Rattle.schedule_model.proofs.counts.add_run.Goals as goal
 

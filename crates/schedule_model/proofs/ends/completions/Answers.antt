@@ -1,4 +1,4 @@
-use Rattle.std.proofs.Common.{◌≡◌, ◌+◌, ◌<◌, ◌∙◌, ℕ, List, length, get_or, arith, ap}
+use Rattle.std.proofs.Common.{◌≡◌, ◌+◌, ◌∙◌, length, arith, ap}
 use Rattle.coflow_units.specs.Completion.{completion}
 use Rattle.schedule_model.proofs.CostSums.{by_place}
 use Rattle.schedule_model.proofs.TimeCounts.{refill}

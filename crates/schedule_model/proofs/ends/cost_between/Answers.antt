@@ -1,8 +1,7 @@
-use Rattle.std.proofs.Common.{◌≡◌, ◌+◌, ◌-◌, ◌*◌, ◌≤◌, ◌<◌, ◌∙◌, ℕ, List, length, get_or, arith, ap, sym}
+use Rattle.std.proofs.Common.{◌≡◌, ◌+◌, ◌-◌, ◌*◌, ◌≤◌, ◌<◌, ◌∙◌, ℕ, arith}
 use Rattle.coflow_units.specs.Completion.{completion}
 use Rattle.schedule_model.specs.RunList.{slots_in}
-use Rattle.schedule_model.specs.Weights.{weight_of}
-use Rattle.schedule_model.proofs.CostSums.{part_more, part_of, parts_small, product_small}
+use Rattle.schedule_model.proofs.CostSums.{part_more, parts_small, product_small}
 use Rattle.schedule_model.proofs.ends.cost_between.Goals as goal
 
 total_fits : (n total product : ℕ) → n ≤ 256 → total ≤ n * 9444732965739290427392 → product ≤ 9444732965739290427392 → total + product < 340282366920938463463374607431768211456

@@ -1,5 +1,5 @@
 -- the cost of the coflows so far
-use Rattle.std.proofs.Common.{◌≡◌, ◌-◌, ◌≤◌}
+use Rattle.std.proofs.Common.{◌≡◌, ◌-◌}
 use Rattle.std.specs.Prelude.{sum_by, ◌*◌}
 use Rattle.std.specs.List.{range_with_len}
 use Rattle.coflow_units.specs.Completion.{completion}

@@ -1,6 +1,6 @@
-use Rattle.std.proofs.Common.{◌≡◌, ◌+◌, ◌<◌, ◌∙◌, ℕ, List, cond, length, get_or, take, arith, ap, sym, subst}
+use Rattle.std.proofs.Common.{◌+◌, ◌<◌, ◌∙◌, ℕ, List, cond, length, get_or, take, arith, ap, sym, subst}
 use Rattle.std.specs.Prelude.{All}
-use Rattle.coflow_units.specs.Completion.{completion, holds_coflow}
+use Rattle.coflow_units.specs.Completion.{holds_coflow}
 use Rattle.schedule_model.specs.RunList.{slots_in}
 use Rattle.schedule_model.proofs.RunSlots.{run_count, run_fits, run_holds}
 use Rattle.schedule_model.proofs.LastSlots.{completion_more}

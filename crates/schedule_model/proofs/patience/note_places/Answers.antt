@@ -1,7 +1,6 @@
-use Rattle.std.proofs.Common.{◌≡◌, ◌+◌, ◌≤◌, ◌<◌, ◌∙◌, ℕ, List, length, get_or, take, arith, subst}
+use Rattle.std.proofs.Common.{◌≤◌, ◌<◌, length, get_or, arith, subst}
 use Rattle.std.specs.Prelude.{◌↔◌}
 use Rattle.std.proofs.lemmas.List.{length-set, take_all}
-use Rattle.coflow_units.specs.declared.fabric.Flow.{Flow}
 use Rattle.schedule_model.specs.Waiting.{ServesBy}
 use Rattle.schedule_model.proofs.WaitSteps.{least_more}
 use Rattle.schedule_model.proofs.patience.note_places.Goals as goal

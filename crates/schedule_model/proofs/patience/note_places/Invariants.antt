@@ -1,5 +1,5 @@
 -- the least places at the ports of the flows so far
-use Rattle.std.proofs.Common.{◌≡◌, ◌≤◌, ◌<◌, ℕ, get_or, length, take}
+use Rattle.std.proofs.Common.{◌≤◌, ◌<◌, ℕ, get_or, length, take}
 use Rattle.std.specs.Prelude.{◌↔◌}
 use Rattle.schedule_model.specs.Waiting.{ServesBy}
 use Rattle.schedule_model.proofs.patience.note_places.Given as goal

@@ -1,5 +1,5 @@
 -- the ports of the flows so far are below the count
-use Rattle.std.proofs.Common.{◌<◌, ◌≤◌, ◌^◌, take}
+use Rattle.std.proofs.Common.{◌<◌, take}
 use Rattle.std.specs.Prelude.{All}
 use Rattle.coflow_units.specs.declared.fabric.Flow.{Flow}
 use Rattle.schedule_model.proofs.ports.port_count.Given as goal

@@ -1,5 +1,5 @@
-use Rattle.std.proofs.Common.{◌≡◌, subst}
-use Rattle.std.specs.Prelude.{Some, None}
+use Rattle.std.proofs.Common.{subst}
+use Rattle.std.specs.Prelude.{Some}
 use Rattle.schedule_model.specs.declared.fault.ScheduleFault.TheVariants.{NoFlow, Clash}
 use Rattle.schedule_model.specs.Fault.{IsFirstClash, IsFirstFault, IsFirstNoFlow}
 use Rattle.schedule_model.proofs.ValidSteps.{none_where_valid}
