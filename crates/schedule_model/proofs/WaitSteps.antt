@@ -14,7 +14,7 @@ use Rattle.coflow_units.specs.Schedule.{holds, times}
 use Rattle.coflow_units.specs.Patient.{IsPatient, IsServedOrWaits}
 use Rattle.schedule_model.specs.Repeat.{end_number}
 use Rattle.schedule_model.specs.Waiting.{ServesBy}
-use Rattle.schedule_model.proofs.Lines.{place_is}
+use Rattle.coflow_units.proofs.LinePlaces.{place_is}
 use Rattle.schedule_model.proofs.RepeatSteps.{in_earlier, in_here, in_more}
 
 -- places of flows
