@@ -3,3 +3,15 @@ pub mod ParallelLaw
 pub mod SlotLoads
 pub mod WaitingLaw
 pub mod CoflowEnds
+pub mod RunSlots
+pub mod Standing
+pub mod Ascending
+pub mod TimeCounts
+pub mod LastSlots
+pub mod CostSums
+pub mod ClashSteps
+pub mod RepeatSteps
+pub mod ValidSteps
+pub mod RunPushes
+pub mod WaitSteps
+pub mod IdleSlots

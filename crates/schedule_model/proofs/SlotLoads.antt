@@ -44,7 +44,7 @@ same_end : (flows : List Flow) (side : Side) (f g : ℕ) → end_at side (flow_a
 same_end flows Ingress f g e = inl e
 same_end flows Egress f g e = inr e
 
-both_use : (flows : List Flow) (port : Port) (f g : ℕ) → uses port (flow_at flows f) ≡ true → uses port (flow_at flows g) ≡ true → SharesPort flows f g
+pub both_use : (flows : List Flow) (port : Port) (f g : ℕ) → uses port (flow_at flows f) ≡ true → uses port (flow_at flows g) ≡ true → SharesPort flows f g
 both_use flows port f g uf ug = same_end flows port.side f g (eqb-true (end_at port.side (flow_at flows f)) port.number uf ∙ sym (eqb-true (end_at port.side (flow_at flows g)) port.number ug))
 
 not_true : (b : Bool) → (b ≡ true → ⊥) → b ≡ false

@@ -1,4 +1,22 @@
-// Schedules on the fabric: when coflows end, what a schedule costs, and what every valid schedule must take.
+// Schedules on the fabric: whether a schedule is valid and patient, when coflows end, what a schedule costs, and what every valid schedule must take.
 #![tactic(auto)]
 
+mod clashes;
+mod counts;
+mod ends;
+mod fault;
 pub mod laws;
+mod patience;
+mod ports;
+mod schedule;
+mod strangers;
+mod validity;
+
+pub use ends::{completion, completions, cost};
+pub use fault::ScheduleFault;
+pub use patience::is_patient;
+pub use schedule::Schedule;
+pub use validity::find_fault;
+
+#[cfg(test)]
+mod tests;

@@ -1,0 +1,16 @@
+-- the slots so far are clear, and no table has a mark of a later slot
+use Rattle.std.proofs.Common.{◌≡◌, ◌≤◌, length, take}
+use Rattle.std.specs.Prelude.{All}
+use Rattle.coflow_units.specs.Schedule.{IsClear}
+use Rattle.schedule_model.specs.RunList.{slots_in}
+use Rattle.schedule_model.proofs.clashes.find_clash.Given as goal
+
+abbrev pub invariant-loop-run : goal.invariant-loop-run
+invariant-loop-run l = record {
+  slot_is : l.slot ≡ length (slots_in (take l.run-index l.runs));
+  ingress_count : length l.ingress.items ≡ l.ports;
+  egress_count : length l.egress.items ≡ l.ports;
+  ingress_marks : All (λ m. m ≤ l.slot) l.ingress.items;
+  egress_marks : All (λ m. m ≤ l.slot) l.egress.items;
+  clear : All (IsClear l.flows) (slots_in (take l.run-index l.runs));
+}

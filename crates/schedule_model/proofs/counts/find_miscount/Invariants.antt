@@ -1,0 +1,11 @@
+-- the counts are those of the slots so far
+use Rattle.std.proofs.Common.{◌≡◌, ℕ, get_or, length, take}
+use Rattle.coflow_units.specs.Schedule.{times}
+use Rattle.schedule_model.specs.RunList.{slots_in}
+use Rattle.schedule_model.proofs.counts.find_miscount.Given as goal
+
+abbrev pub invariant-loop-run : goal.invariant-loop-run
+invariant-loop-run l = record {
+  count : length l.counts.items ≡ length l.flows;
+  times_are : (f : ℕ) → get_or l.counts.items f 0 ≡ times (slots_in (take l.run-index l.runs)) f;
+}

@@ -1,0 +1,62 @@
+//! In how many slots each flow stands.
+ghost use Rattle.std.specs.Prelude.{◌≡◌, ◌≢◌, ◌<◌, ◌≤◌, ◌+◌, ◌^◌, ℕ, All, IfOk, MatchOption, if◌then◌else◌, length, slice_index};
+ghost use Rattle.std.specs.List.Sorted.{IsStrictlyIncreasing};
+ghost use Rattle.coflow_units.specs.Flows.{units_of};
+ghost use Rattle.coflow_units.specs.Schedule.{IsClear, holds};
+ghost use Rattle.schedule_model.specs.RunList.{IsKept, slots_in};
+ghost use Rattle.schedule_model.specs.Fault.{IsFirstFault};
+
+use crate::fault::ScheduleFault;
+use coflow_units::{Flow, NoMemory, Run};
+use std::alloc::Global;
+
+/// The first flow that stands in another number of slots than it has units.
+pub(crate) fn find_miscount(
+    alloc: Global,
+    flows: &[Flow],
+    runs: &[Run],
+) -> Result<Option<ScheduleFault>, NoMemory>
+    requires kept { IsKept runs.now }
+    requires few { length flows.now ≤ 2 ^ 32 }
+    requires clear { All (IsClear flows.now) (slots_in runs.now) }
+    ensures { IfOk result (λ fault. IsFirstFault flows.now (slots_in runs.now) fault) }
+{
+    let mut counts = vec![in alloc; 0u64; flows.len()]?;
+    for run in runs {
+        add_run(&mut counts, run.length, run.flows.as_slice());
+    }
+    let Some(number) = first_miscount(flows, &counts) else {
+        return Ok(None);
+    };
+    Ok(Some(ScheduleFault::Units {
+        flow: number as u32,
+        have: counts[number],
+        want: flows[number].units,
+    }))
+}
+
+/// Adds the number of slots to the count of each of the flows.
+pub(crate) fn add_run(counts: &mut [u64], slots: u64, flows: &[u32])
+    requires ascending { IsStrictlyIncreasing flows.now }
+    requires names { All (λ f. f < length counts.old) flows.now }
+    requires fits { (f : ℕ) → slice_index counts.old f + slots < 2 ^ 64 }
+    ensures { (f : ℕ) → slice_index counts.new f ≡ slice_index counts.old f + (if holds flows.now f then slots else 0) }
+{
+    for flow in flows {
+        counts[*flow as usize] += slots;
+    }
+}
+
+/// The number of the first flow whose count is not that of its units.
+fn first_miscount(flows: &[Flow], counts: &[u64]) -> Option<usize>
+    requires { length counts.now ≡ length flows.now }
+    ensures { MatchOption result ((f : ℕ) → f < length flows.now → slice_index counts.now f ≡ units_of flows.now f)
+        (λ f. (f < length flows.now) × (slice_index counts.now f ≢ units_of flows.now f) × ((g : ℕ) → g < f → slice_index counts.now g ≡ units_of flows.now g)) }
+{
+    for number in 0..flows.len() {
+        if counts[number] != flows[number].units {
+            return Some(number);
+        }
+    }
+    None
+}

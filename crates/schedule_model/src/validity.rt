@@ -1,0 +1,36 @@
+//! Whether a schedule is valid.
+ghost use Rattle.std.specs.Prelude.{◌≡◌, ◌≤◌, ◌^◌, ◌↔◌, IfOk, None, length};
+ghost use Rattle.coflow_units.specs.Schedule.{IsValid};
+ghost use Rattle.schedule_model.specs.Fault.{IsFirstFault};
+
+use crate::clashes::find_clash;
+use crate::counts::find_miscount;
+use crate::fault::ScheduleFault;
+use crate::schedule::Schedule;
+use crate::strangers::find_stranger;
+use coflow_units::{Flow, NoMemory};
+use std::alloc::Global;
+
+/// Tests whether a schedule is valid for the flows: each number is a flow's, no two flows of a slot share a port, and each flow stands in as many slots as it has units.
+///
+/// It answers the first fault: `NoFlow` before `Clash` before `Units`, then the least slot, then the least flow number or the first port, ingress ports first.
+/// `None` says that the schedule is valid.
+pub fn find_fault(
+    alloc: Global,
+    flows: &[Flow],
+    schedule: &Schedule,
+) -> Result<Option<ScheduleFault>, NoMemory>
+    requires { length flows.now ≤ 2 ^ 32 }
+    ensures first { IfOk result (λ fault. IsFirstFault flows.now schedule.now fault) }
+    ensures valid { IfOk result (λ fault. (fault ≡ None) ↔ IsValid flows.now schedule.now) }
+{
+    let runs = schedule.kept();
+    if let Some((slot, flow)) = find_stranger(flows, runs) {
+        return Ok(Some(ScheduleFault::NoFlow { slot, flow }));
+    }
+    if let Some((slot, port)) = find_clash(alloc, flows, runs)? {
+        return Ok(Some(ScheduleFault::Clash { slot, port }));
+    }
+    let fault = find_miscount(alloc, flows, runs)?;
+    Ok(fault)
+}
