@@ -26,7 +26,7 @@ pub fn completion(flows: &[Flow], schedule: &Schedule, coflow: u32) -> u64
 
 /// The completions of the coflows with the numbers from 0 to `coflows` less 1, by one pass over the runs.
 ///
-/// The numbers in the schedule are flows'.
+/// The numbers in the schedule are flows'. `NoMemory` says that there was no room for the answer.
 pub fn completions(
     alloc: Global,
     flows: &[Flow],

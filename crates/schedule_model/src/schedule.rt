@@ -41,7 +41,7 @@ impl Schedule {
 
     /// Appends `length` equal slots that hold the flows. A run that is equal to the last one is joined with it.
     ///
-    /// The flow numbers ascend strictly. Want of memory leaves the schedule as it was.
+    /// The flow numbers ascend strictly. `NoMemory` says that there was no room for the run, and leaves the schedule as it was.
     pub fn push_run(&mut self, length: u64, flows: &[u32]) -> Result<(), NoMemory>
         requires some { 1 ≤ length }
         requires ascending { IsStrictlyIncreasing flows.now }

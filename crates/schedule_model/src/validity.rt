@@ -14,7 +14,9 @@ use std::alloc::Global;
 /// Tests whether a schedule is valid for the flows: each number is a flow's, no two flows of a slot share a port, and each flow stands in as many slots as it has units.
 ///
 /// It answers the first fault: `NoFlow` before `Clash` before `Units`, then the least slot, then the least flow number or the first port, ingress ports first.
-/// `None` says that the schedule is valid.
+/// `None` says that the schedule is valid. There are at most 2^32 flows.
+///
+/// It takes a word of memory for each flow and two for each port number up to the greatest of the flows; `NoMemory` says that these were not to be had.
 pub fn find_fault(
     alloc: Global,
     flows: &[Flow],
