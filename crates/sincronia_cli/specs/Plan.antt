@@ -1,5 +1,5 @@
 -- What `plan` reads and writes.
-use Rattle.std.specs.Prelude.{◌≡◌, ℕ, ◌+◌, ◌++◌, List, Option, Some, None, IfSome, length, take}
+use Rattle.std.specs.Prelude.{◌≡◌, ℕ, ◌++◌, List, Option, Some, None, IfSome, length, take}
 use Rattle.outside.specs.Rose.{Rose}
 use Rattle.outside.specs.Shelf.{Told, bytes_of, faults_of}
 use Rattle.trace_reader.specs.Plain.{IsPlain, PlainTrace, plain_flows, plain_text}

@@ -1,5 +1,4 @@
 use Rattle.std.proofs.Common.{refl, sym, ◌∙◌}
-use Rattle.std.specs.Prelude.{IsTrue}
 use Rattle.sincronia_cli.proofs.WordSteps.{plan_words}
 use Rattle.sincronia_cli.proofs.words.plan_name.Goals as goal
 
