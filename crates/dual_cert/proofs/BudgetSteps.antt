@@ -1,0 +1,78 @@
+-- What a coflow keeps of its budget, place by place, and the least one that keeps nothing.
+use Rattle.std.proofs.Common.{◌≡◌, ℕ, ◌+◌, ◌-◌, ◌*◌, ◌/◌, ◌<◌, ◌≤◌, inl, inr, List, ◌∷◌, None, Some, Option, length, Contains, refl, sym, ap, subst, ◌∙◌, arith}
+use Rattle.std.specs.Prelude.{slice_index, IfSome}
+use Rattle.std.proofs.lemmas.Bool.{cases_eq, cases_lt}
+use Rattle.std.proofs.Math.Nat.{mul-le-mul_right}
+use Rattle.coflow_units.specs.declared.fabric.Flow.{Flow}
+use Rattle.coflow_units.specs.Load.{load}
+use Rattle.coflow_units.specs.Certificate.{Entry, IsFeasible, budget, front, scale, used}
+use Rattle.coflow_units.proofs.CertificateSteps.{used_in, used_outside}
+use Rattle.coflow_units.proofs.Numbers.{floor_within, floor_above}
+use Rattle.coflow_units.proofs.Sums.{Apart, apart_from_pairs}
+use Rattle.port_load.specs.LoadTable.{LoadTable, load_at}
+use Rattle.dual_cert.specs.declared.cert.Charge.{Charge}
+use Rattle.dual_cert.specs.TableCertificate.{HasLoadsOf, HasWeightsOf, IsCertificateOf, IsKept, IsLeastInfeasible, all_entries, charge_at, coflow_at, entries_to, entry_at, port_at}
+use Rattle.dual_cert.proofs.FirstPlaces.{coflow_in, entries_more, entries_whole, first_in, first_used, in_front, not_before, port_in}
+
+pub record KeptSoFar (t : LoadTable) (weights : List ℕ) (charges : List Charge) (place coflow rest k : ℕ) : Type 0 where
+  pub is : coflow ≡ coflow_at charges place
+  pub from : place ≤ k
+  pub exact : (flows : List Flow) → HasLoadsOf flows t (all_entries charges) → used flows (entries_to k charges) coflow + rest ≡ slice_index weights coflow * scale
+
+pub placed_in : (charges : List Charge) (place : ℕ) → place < length charges → Contains (front (all_entries charges)) (coflow_at charges place)
+placed_in charges place lt = subst (λ l. Contains (front l) (coflow_at charges place)) (entries_whole (length charges) charges (omega arith)) (in_front (length charges) charges place lt (omega arith))
+
+pub kept_none : (t : LoadTable) (weights : List ℕ) (charges : List Charge) (place rest : ℕ) → IsCertificateOf t (all_entries charges) → place < length charges →
+    rest ≡ slice_index weights (coflow_at charges place) * scale → KeptSoFar t weights charges place (coflow_at charges place) rest place
+kept_none t weights charges place rest certificate lt is = record {
+  is = refl;
+  from = omega arith;
+  exact = λ flows has.
+      let none = used_outside flows (entries_to place charges) (coflow_at charges place) (not_before place charges lt (apart_from_pairs (front (all_entries charges)) certificate.once)) in
+      omega (arith, none, is);
+}
+
+-- one more place charges the coflow
+pub charged : (flows : List Flow) (t : LoadTable) (charges : List Charge) (place k : ℕ) → IsCertificateOf t (all_entries charges) → HasLoadsOf flows t (all_entries charges) → place ≤ k → k < length charges →
+    used flows (entries_to (k + 1) charges) (coflow_at charges place) ≡ (charge_at charges k).y * load_at t (coflow_at charges place) (port_at charges k) + used flows (entries_to k charges) (coflow_at charges place)
+charged flows t charges place k certificate has from lt =
+    let c = coflow_at charges place in
+    let here = subst (λ l. Contains (front l) c) (entries_more k charges lt) (in_front (k + 1) charges place (omega arith) (omega arith)) in
+    ap (λ l. used flows l c) (entries_more k charges lt) ∙ used_in flows (entry_at (charge_at charges k)) (entries_to k charges) c here
+    ∙ ap (λ n. (charge_at charges k).y * n + used flows (entries_to k charges) c) (sym (has c (port_at charges k) (placed_in charges place (omega arith)) (port_in t charges k certificate lt)))
+
+pub kept_more : (t : LoadTable) (weights : List ℕ) (charges : List Charge) (place coflow rest k load rest' : ℕ) → IsCertificateOf t (all_entries charges) → KeptSoFar t weights charges place coflow rest k → k < length charges →
+    load ≡ load_at t coflow (port_at charges k) → rest' + (charge_at charges k).y * load ≡ rest → KeptSoFar t weights charges place coflow rest' (k + 1)
+kept_more t weights charges place coflow rest k load rest' certificate so_far lt is pays = record {
+  is = so_far.is;
+  from = omega (arith, so_far.from);
+  exact = λ flows has.
+      let more = subst (λ c. used flows (entries_to (k + 1) charges) c ≡ (charge_at charges k).y * load_at t c (port_at charges k) + used flows (entries_to k charges) c) (sym so_far.is) (charged flows t charges place k certificate has so_far.from lt) in
+      omega (arith, more, so_far.exact flows has, pays, ap (λ n. (charge_at charges k).y * n) is);
+}
+
+pub within_rest : (y rest load : ℕ) → y ≤ rest / load → y * load ≤ rest
+within_rest y rest load le = omega (arith, mul-le-mul_right load le, floor_within rest load)
+
+pub above_rest : (y rest load : ℕ) → 0 < load → rest / load < y → rest < y * load
+above_rest y rest load some lt =
+    let more : rest / load + 1 ≤ y = omega (arith, lt) in
+    omega (arith, mul-le-mul_right load more, floor_above rest load some)
+
+pub kept_fails : (t : LoadTable) (weights : List ℕ) (charges : List Charge) (place coflow rest k load : ℕ) → IsCertificateOf t (all_entries charges) → KeptSoFar t weights charges place coflow rest k → place < length charges → k < length charges →
+    load ≡ load_at t coflow (port_at charges k) → rest < (charge_at charges k).y * load → (flows : List Flow) (weight : ℕ → ℕ) → HasLoadsOf flows t (all_entries charges) → HasWeightsOf weight weights (all_entries charges) →
+    budget weight (coflow_at charges place) < used flows (all_entries charges) (coflow_at charges place)
+kept_fails t weights charges place coflow rest k load certificate so_far in' lt is above flows weight has hasw =
+    let c = coflow_at charges place in
+    let more = charged flows t charges place k certificate has so_far.from lt in
+    let old = subst (λ n. used flows (entries_to k charges) n + rest ≡ slice_index weights n * scale) so_far.is (so_far.exact flows has) in
+    let load_is : load ≡ load_at t c (port_at charges k) = is ∙ ap (λ n. load_at t n (port_at charges k)) so_far.is in
+    omega (arith, more, old, above, ap (λ n. (charge_at charges k).y * n) load_is, first_used flows (k + 1) charges c, ap (λ n. n * scale) (hasw c (placed_in charges place in')))
+
+pub kept_all : (t : LoadTable) (weights : List ℕ) (charges : List Charge) (place coflow rest k : ℕ) → KeptSoFar t weights charges place coflow rest k → place < length charges → length charges ≤ k →
+    (flows : List Flow) (weight : ℕ → ℕ) → HasLoadsOf flows t (all_entries charges) → HasWeightsOf weight weights (all_entries charges) →
+    used flows (all_entries charges) (coflow_at charges place) + rest ≡ budget weight (coflow_at charges place)
+kept_all t weights charges place coflow rest k so_far in' le flows weight has hasw =
+    let c = coflow_at charges place in
+    let old = subst (λ n. used flows (entries_to k charges) n + rest ≡ slice_index weights n * scale) so_far.is (so_far.exact flows has) in
+    omega (arith, old, ap (λ l. used flows l c) (entries_whole k charges le), ap (λ n. n * scale) (hasw c (placed_in charges place in')))
