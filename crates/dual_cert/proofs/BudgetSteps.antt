@@ -1,18 +1,19 @@
 -- What a coflow keeps of its budget, place by place, and the least one that keeps nothing.
-use Rattle.std.proofs.Common.{◌≡◌, ℕ, ◌+◌, ◌-◌, ◌*◌, ◌/◌, ◌<◌, ◌≤◌, inl, inr, List, ◌∷◌, None, Some, Option, length, Contains, refl, sym, ap, subst, ◌∙◌, arith}
-use Rattle.std.specs.Prelude.{slice_index, IfSome}
-use Rattle.std.proofs.lemmas.Bool.{cases_eq, cases_lt}
+use Rattle.std.proofs.Common.{◌≡◌, ℕ, ◌+◌, ◌-◌, ◌*◌, ◌/◌, ◌<◌, ◌≤◌, inl, inr, ◌⊎◌, List, ◌∷◌, None, Some, Option, length, Contains, zero, suc, refl, sym, ap, subst, ◌∙◌, arith}
+use Rattle.std.specs.Prelude.{◌==◌, slice_index}
+use Rattle.std.specs.List.{list_any}
+use Rattle.std.proofs.lemmas.Bool.{both_ways, cases_Bool, cases_eq, cases_lt}
 use Rattle.std.proofs.Math.Nat.{mul-le-mul_right}
 use Rattle.coflow_units.specs.declared.fabric.Flow.{Flow}
 use Rattle.coflow_units.specs.Load.{load}
 use Rattle.coflow_units.specs.Certificate.{Entry, IsFeasible, budget, front, scale, used}
 use Rattle.coflow_units.proofs.CertificateSteps.{used_in, used_outside}
 use Rattle.coflow_units.proofs.Numbers.{floor_within, floor_above}
-use Rattle.coflow_units.proofs.Sums.{Apart, apart_from_pairs}
+use Rattle.coflow_units.proofs.Sums.{any_has, any_in, apart_from_pairs, first_or_tail, nothing_in}
 use Rattle.port_load.specs.LoadTable.{LoadTable, load_at}
 use Rattle.dual_cert.specs.declared.cert.Charge.{Charge}
 use Rattle.dual_cert.specs.TableCertificate.{HasLoadsOf, HasWeightsOf, IsCertificateOf, IsKept, IsLeastInfeasible, all_entries, charge_at, coflow_at, entries_to, entry_at, port_at}
-use Rattle.dual_cert.proofs.FirstPlaces.{coflow_in, entries_more, entries_whole, first_in, first_used, in_front, not_before, port_in}
+use Rattle.dual_cert.proofs.FirstPlaces.{coflow_in, entries_more, entries_suc, entries_whole, first_in, first_used, in_front, not_before, port_in}
 
 pub record KeptSoFar (t : LoadTable) (weights : List ℕ) (charges : List Charge) (place coflow rest k : ℕ) : Type 0 where
   pub is : coflow ≡ coflow_at charges place
@@ -76,3 +77,49 @@ kept_all t weights charges place coflow rest k so_far in' le flows weight has ha
     let c = coflow_at charges place in
     let old = subst (λ n. used flows (entries_to k charges) n + rest ≡ slice_index weights n * scale) so_far.is (so_far.exact flows has) in
     omega (arith, old, ap (λ l. used flows l c) (entries_whole k charges le), ap (λ n. n * scale) (hasw c (placed_in charges place in')))
+
+-- ---- the least coflow that pays more than its budget
+
+-- of the first places, none where each coflow is within its budget, or else the least coflow that is not
+abbrev pub IsLeastTo : List Flow → (ℕ → ℕ) → List Charge → ℕ → Option ℕ → Type 0
+IsLeastTo flows weight charges k None = (place : ℕ) → place < k → used flows (all_entries charges) (coflow_at charges place) ≤ budget weight (coflow_at charges place)
+IsLeastTo flows weight charges k (Some c) =
+    (budget weight c < used flows (all_entries charges) c)
+    × ((place : ℕ) → place < k → coflow_at charges place < c → used flows (all_entries charges) (coflow_at charges place) ≤ budget weight (coflow_at charges place))
+
+pub record LeastSoFar (t : LoadTable) (weights : List ℕ) (charges : List Charge) (k : ℕ) (least : Option ℕ) : Type 0 where
+  pub is : (flows : List Flow) (weight : ℕ → ℕ) → HasLoadsOf flows t (all_entries charges) → HasWeightsOf weight weights (all_entries charges) → IsLeastTo flows weight charges k least
+
+place_of : (k : ℕ) (charges : List Charge) (c : ℕ) → k ≤ length charges → Contains (front (entries_to k charges)) c → (place : ℕ) × (place < k) × (coflow_at charges place ≡ c)
+place_of zero charges c le has = absurd (nothing_in c has)
+place_of (suc k) charges c le has = elim (first_or_tail (coflow_at charges k) (front (entries_to k charges)) c (subst (λ l. Contains (front l) c) (entries_suc k charges (omega arith)) has)) [
+  | inl e ↦ (k, omega arith, e)
+  | inr later ↦ let (place, lt, e) = place_of k charges c (omega arith) later in (place, omega arith, e)
+]
+
+-- a coflow that is at no place pays nothing
+pub placed_or_free : (flows : List Flow) (charges : List Charge) (c : ℕ) → ((place : ℕ) × (place < length charges) × (coflow_at charges place ≡ c)) ⊎ (used flows (all_entries charges) c ≡ 0)
+placed_or_free flows charges c = elim (cases_Bool (list_any (λ x. x == c) (front (all_entries charges)))) [
+  | inl e ↦ inl (place_of (length charges) charges c (omega arith) (subst (λ l. Contains (front l) c) (sym (entries_whole (length charges) charges (omega arith))) (any_has (front (all_entries charges)) c e)))
+  | inr e ↦ inr (used_outside flows (all_entries charges) c (λ has. both_ways (list_any (λ x. x == c) (front (all_entries charges))) e (any_in (front (all_entries charges)) c has)))
+]
+
+within_all : (flows : List Flow) (weight : ℕ → ℕ) (charges : List Charge) (c : ℕ) →
+    ((place : ℕ) → place < length charges → coflow_at charges place ≡ c → used flows (all_entries charges) (coflow_at charges place) ≤ budget weight (coflow_at charges place)) → used flows (all_entries charges) c ≤ budget weight c
+within_all flows weight charges c placed = elim (placed_or_free flows charges c) [
+  | inl (place, lt, e) ↦ subst (λ n. used flows (all_entries charges) n ≤ budget weight n) e (placed place lt e)
+  | inr none ↦ omega (arith, none)
+]
+
+pub none_infeasible : (t : LoadTable) (weights : List ℕ) (charges : List Charge) (k : ℕ) → LeastSoFar t weights charges k None → length charges ≤ k →
+    (flows : List Flow) (weight : ℕ → ℕ) → HasLoadsOf flows t (all_entries charges) → HasWeightsOf weight weights (all_entries charges) → IsFeasible flows weight (all_entries charges)
+none_infeasible t weights charges k so_far le flows weight has hasw = λ c. within_all flows weight charges c (λ place lt e. so_far.is flows weight has hasw place (omega arith))
+
+pub least_infeasible : (t : LoadTable) (weights : List ℕ) (charges : List Charge) (k c : ℕ) → LeastSoFar t weights charges k (Some c) → length charges ≤ k →
+    (flows : List Flow) (weight : ℕ → ℕ) → HasLoadsOf flows t (all_entries charges) → HasWeightsOf weight weights (all_entries charges) → IsLeastInfeasible flows weight (all_entries charges) c
+least_infeasible t weights charges k c so_far le flows weight has hasw =
+    let is = so_far.is flows weight has hasw in
+    record {
+      above = is.0;
+      least = λ other lt. within_all flows weight charges other (λ place lp e. is.1 place (omega arith) (omega (arith, lt, e)));
+    }

@@ -10,7 +10,7 @@ ghost use Rattle.dual_cert.specs.TableCertificate.{HasLoadsOf, HasWeightsOf, IsC
 
 use crate::budgets::kept;
 use crate::cert::{Cert, Charge};
-use coflow_units::SCALE;
+use coflow_units::{MAX_COFLOWS, SCALE};
 use port_load::Loads;
 
 /// The lower bound that a feasible certificate proves on the cost of every schedule: half the sum over the places of y times the square of the load of the front on the
@@ -23,6 +23,8 @@ pub fn bound(loads: &Loads, cert: &Cert) -> u128
     requires feasible { (weights : List ℕ) × All (λ w. w ≤ 2 ^ 32) weights × StaysInBudget loads.now weights (reverse cert.now) }
     ensures { (flows : List Flow) → HasLoadsOf flows loads.now (reverse cert.now) → result ≡ bound flows (reverse cert.now) }
 {
+    // with at most 4096 coflows the sum is at most 2^125
+    prove!(loads.coflows() <= MAX_COFLOWS);
     let charges = cert.charges();
     let mut value = 0;
     for place in 0..charges.len() {
@@ -41,6 +43,8 @@ pub fn slack(loads: &Loads, weights: &[u64], cert: &Cert) -> u128
     ensures { (flows : List Flow) (weight : ℕ → ℕ) → HasLoadsOf flows loads.now (reverse cert.now) → HasWeightsOf weight weights.now (reverse cert.now) →
         result ≡ slack flows weight (reverse cert.now) }
 {
+    // with at most 4096 coflows the sum is at most 2^124
+    prove!(loads.coflows() <= MAX_COFLOWS);
     let charges = cert.charges();
     let mut unspent = 0;
     for place in 0..charges.len() {
