@@ -98,7 +98,7 @@ places_more flows number charges k lt =
 -- ---- sizes
 
 sum_of_same : (k : ℕ) (xs : List ℕ) → sum_by (λ x. k) xs ≡ length xs * k
-sum_of_same k [] = refl
+sum_of_same k [] = omega arith
 sum_of_same k (x ∷ xs) = omega (arith, sum_by-cons (λ y. k) x xs, sum_of_same k xs)
 
 weight_small : (weights : List ℕ) (most c : ℕ) → All (λ w. w ≤ most) weights → slice_index weights c ≤ most
@@ -138,3 +138,6 @@ unspent_small t weights entries certificate few totals all stays =
     let fits = unspent_fits stays.flows stays.weight t.ports (2 ^ 40) entries certificate.port (fronts_within t stays.flows entries (2 ^ 40) certificate stays.has_loads totals) in
     let budgets = budgets_within t stays.weight weights entries (2 ^ 32) certificate stays.has_weights all in
     omega (arith, fits, budgets, few)
+
+pub square_fits : (n : ℕ) → n ≤ 2 ^ 40 → n * n ≤ 2 ^ 80
+square_fits n le = let h : n * n ≤ 2 ^ 40 * 2 ^ 40 = mul-le-mul le le in h

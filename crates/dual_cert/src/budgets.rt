@@ -23,10 +23,11 @@ pub fn infeasible(loads: &Loads, weights: &[u64], cert: &Cert) -> Option<u32>
     let charges = cert.charges();
     let mut least = None;
     for place in 0..charges.len() {
-        if kept(loads, weights, charges, place).is_none() {
-            let coflow = charges[place].coflow;
-            least = Some(least.map_or(coflow, |other| coflow.min(other)));
+        if kept(loads, weights, charges, place).is_some() {
+            continue;
         }
+        let coflow = charges[place].coflow;
+        least = Some(least.map_or(coflow, |other| coflow.min(other)));
     }
     least
 }
