@@ -1,7 +1,8 @@
 -- What a coflow keeps of its budget, place by place, and the least one that keeps nothing.
-use Rattle.std.proofs.Common.{◌≡◌, ℕ, ◌+◌, ◌-◌, ◌*◌, ◌/◌, ◌<◌, ◌≤◌, inl, inr, ◌⊎◌, List, ◌∷◌, None, Some, Option, length, Contains, zero, suc, refl, sym, ap, subst, ◌∙◌, arith}
-use Rattle.std.specs.Prelude.{◌==◌, slice_index}
+use Rattle.std.proofs.Common.{◌≡◌, ℕ, ◌+◌, ◌-◌, ◌*◌, ◌/◌, ◌<◌, ◌≤◌, inl, inr, ◌⊎◌, List, ◌∷◌, None, Some, Option, true, false, true≢false, length, min, Contains, zero, suc, refl, sym, ap, subst, ◌∙◌, arith}
+use Rattle.std.specs.Prelude.{◌==◌, IfSome, slice_index}
 use Rattle.std.specs.List.{list_any}
+use Rattle.std.specs.Option.{is_some}
 use Rattle.std.proofs.lemmas.Bool.{both_ways, cases_Bool, cases_eq, cases_lt}
 use Rattle.std.proofs.Math.Nat.{mul-le-mul_right}
 use Rattle.coflow_units.specs.declared.fabric.Flow.{Flow}
@@ -12,7 +13,7 @@ use Rattle.coflow_units.proofs.Numbers.{floor_within, floor_above}
 use Rattle.coflow_units.proofs.Sums.{any_has, any_in, apart_from_pairs, first_or_tail, nothing_in}
 use Rattle.port_load.specs.LoadTable.{LoadTable, load_at}
 use Rattle.dual_cert.specs.declared.cert.Charge.{Charge}
-use Rattle.dual_cert.specs.TableCertificate.{HasLoadsOf, HasWeightsOf, IsCertificateOf, IsKept, IsLeastInfeasible, all_entries, charge_at, coflow_at, entries_to, entry_at, port_at}
+use Rattle.dual_cert.specs.TableCertificate.{HasLoadsOf, HasWeightsOf, IsCertificateOf, IsKept, IsLeastInfeasible, all_entries, charge_at, coflow_at, entries_to, entry_at, lesser, port_at}
 use Rattle.dual_cert.proofs.FirstPlaces.{coflow_in, entries_more, entries_suc, entries_whole, first_in, first_used, in_front, not_before, port_in}
 
 pub record KeptSoFar (t : LoadTable) (weights : List ℕ) (charges : List Charge) (place coflow rest k : ℕ) : Type 0 where
@@ -123,3 +124,62 @@ least_infeasible t weights charges k c so_far le flows weight has hasw =
       above = is.0;
       least = λ other lt. within_all flows weight charges other (λ place lp e. is.1 place (omega arith) (omega (arith, lt, e)));
     }
+
+pub kept_some : (b u : ℕ) (r : Option ℕ) → IsKept b u r → is_some r ≡ true → u ≤ b
+kept_some b u None kept e = absurd (true≢false (sym e))
+kept_some b u (Some rest) kept e = omega (arith, kept)
+
+pub kept_not_some : (b u : ℕ) (r : Option ℕ) → IsKept b u r → is_some r ≡ false → b < u
+kept_not_some b u None kept e = kept
+kept_not_some b u (Some rest) kept e = absurd (true≢false e)
+
+keeps_least : (flows : List Flow) (weight : ℕ → ℕ) (charges : List Charge) (k : ℕ) (least : Option ℕ) → IsLeastTo flows weight charges k least →
+    used flows (all_entries charges) (coflow_at charges k) ≤ budget weight (coflow_at charges k) → IsLeastTo flows weight charges (k + 1) least
+keeps_least flows weight charges k None so_far within = λ place lt. elim (cases_eq place k) [
+  | inl e ↦ subst (λ n. used flows (all_entries charges) (coflow_at charges n) ≤ budget weight (coflow_at charges n)) (sym e) within
+  | inr ne ↦ so_far place (omega (arith, ne))
+]
+keeps_least flows weight charges k (Some c) so_far within = (so_far.0, λ place lt less. elim (cases_eq place k) [
+  | inl e ↦ subst (λ n. used flows (all_entries charges) (coflow_at charges n) ≤ budget weight (coflow_at charges n)) (sym e) within
+  | inr ne ↦ so_far.1 place (omega (arith, ne)) less
+])
+
+takes_least : (flows : List Flow) (weight : ℕ → ℕ) (charges : List Charge) (k : ℕ) (least : Option ℕ) → IsLeastTo flows weight charges k least →
+    budget weight (coflow_at charges k) < used flows (all_entries charges) (coflow_at charges k) → IsLeastTo flows weight charges (k + 1) (Some (lesser least (coflow_at charges k)))
+takes_least flows weight charges k None so_far above = (above, λ place lt less. elim (cases_eq place k) [
+  | inl e ↦ absurd (omega (arith, less, ap (coflow_at charges) e))
+  | inr ne ↦ so_far place (omega (arith, ne))
+])
+takes_least flows weight charges k (Some c) so_far above = elim (cases_lt (coflow_at charges k) c) [
+  | inl new ↦
+      let is : min c (coflow_at charges k) ≡ coflow_at charges k = omega (arith, new) in
+      subst (λ n. IsLeastTo flows weight charges (k + 1) (Some n)) (sym is) (above, λ place lt less. elim (cases_eq place k) [
+        | inl e ↦ absurd (omega (arith, less, ap (coflow_at charges) e))
+        | inr ne ↦ so_far.1 place (omega (arith, ne)) (omega (arith, less, new))
+      ])
+  | inr old ↦
+      let is : min c (coflow_at charges k) ≡ c = omega (arith, old) in
+      subst (λ n. IsLeastTo flows weight charges (k + 1) (Some n)) (sym is) (so_far.0, λ place lt less. elim (cases_eq place k) [
+        | inl e ↦ absurd (omega (arith, less, old, ap (coflow_at charges) e))
+        | inr ne ↦ so_far.1 place (omega (arith, ne)) less
+      ])
+]
+
+pub least_keep : (t : LoadTable) (weights : List ℕ) (charges : List Charge) (k : ℕ) (least kept : Option ℕ) → LeastSoFar t weights charges k least →
+    ((flows : List Flow) (weight : ℕ → ℕ) → HasLoadsOf flows t (all_entries charges) → HasWeightsOf weight weights (all_entries charges) → IsKept (budget weight (coflow_at charges k)) (used flows (all_entries charges) (coflow_at charges k)) kept) →
+    is_some kept ≡ true → LeastSoFar t weights charges (k + 1) least
+least_keep t weights charges k least kept so_far is e = record {
+  is = λ flows weight has hasw. keeps_least flows weight charges k least (so_far.is flows weight has hasw) (kept_some (budget weight (coflow_at charges k)) (used flows (all_entries charges) (coflow_at charges k)) kept (is flows weight has hasw) e);
+}
+
+pub least_take : (t : LoadTable) (weights : List ℕ) (charges : List Charge) (k : ℕ) (least kept : Option ℕ) → LeastSoFar t weights charges k least →
+    ((flows : List Flow) (weight : ℕ → ℕ) → HasLoadsOf flows t (all_entries charges) → HasWeightsOf weight weights (all_entries charges) → IsKept (budget weight (coflow_at charges k)) (used flows (all_entries charges) (coflow_at charges k)) kept) →
+    is_some kept ≡ false → LeastSoFar t weights charges (k + 1) (Some (lesser least (coflow_at charges k)))
+least_take t weights charges k least kept so_far is e = record {
+  is = λ flows weight has hasw. takes_least flows weight charges k least (so_far.is flows weight has hasw) (kept_not_some (budget weight (coflow_at charges k)) (used flows (all_entries charges) (coflow_at charges k)) kept (is flows weight has hasw) e);
+}
+
+pub if_some_least : (t : LoadTable) (weights : List ℕ) (charges : List Charge) (k : ℕ) (least : Option ℕ) → LeastSoFar t weights charges k least → length charges ≤ k →
+    (flows : List Flow) (weight : ℕ → ℕ) → HasLoadsOf flows t (all_entries charges) → HasWeightsOf weight weights (all_entries charges) → IfSome least (λ c. IsLeastInfeasible flows weight (all_entries charges) c)
+if_some_least t weights charges k None so_far le flows weight has hasw = tt
+if_some_least t weights charges k (Some c) so_far le flows weight has hasw = least_infeasible t weights charges k c so_far le flows weight has hasw

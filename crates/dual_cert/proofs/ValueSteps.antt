@@ -141,3 +141,45 @@ unspent_small t weights entries certificate few totals all stays =
 
 pub square_fits : (n : ℕ) → n ≤ 2 ^ 40 → n * n ≤ 2 ^ 80
 square_fits n le = let h : n * n ≤ 2 ^ 40 * 2 ^ 40 = mul-le-mul le le in h
+
+-- ---- one more place
+
+-- the square of a place's front load and the squares of its coflows' loads
+abbrev pub IsSquares : LoadTable → List Charge → ℕ → ℕ → Type 0
+IsSquares t charges k n = (flows : List Flow) → HasLoadsOf flows t (all_entries charges) →
+    n ≡ front_load flows (entries_to (k + 1) charges) * front_load flows (entries_to (k + 1) charges) + squares_of_loads flows (front (entries_to (k + 1) charges)) (port_at charges k)
+
+pub value_step : (t : LoadTable) (charges : List Charge) (value k n : ℕ) → ValueSoFar t charges value k → IsSquares t charges k n → k < length charges → ValueSoFar t charges (value + (charge_at charges k).y * n) (k + 1)
+value_step t charges value k n so_far is lt = record {
+  is = λ flows has. omega (arith, so_far.is flows has, ap (λ m. (charge_at charges k).y * m) (is flows has), value_more flows charges k lt);
+}
+
+abbrev pub IsPaidFor : LoadTable → List Entry → Type 0
+IsPaidFor t entries = (weights : List ℕ) × All (λ w. w ≤ 2 ^ 32) weights × StaysInBudget t weights entries
+
+pub value_fits_so_far : (t : LoadTable) (charges : List Charge) (value k : ℕ) → IsCertificateOf t (all_entries charges) → t.coflows ≤ 4096 → ((port : Port) → port.number < t.ports → total_at t port ≤ 2 ^ 40) →
+    IsPaidFor t (all_entries charges) → ValueSoFar t charges value k → value ≤ 2 ^ 125
+value_fits_so_far t charges value k certificate few totals (weights, all, stays) so_far =
+    omega (arith, so_far.is stays.flows stays.has_loads, first_value stays.flows k charges, value_small t weights (all_entries charges) certificate few totals all stays)
+
+-- what the coflow of a place keeps, as told for all flows and weights that fit
+abbrev pub IsKeptAt : LoadTable → List ℕ → List Charge → ℕ → ℕ → Type 0
+IsKeptAt t weights charges k kept = (flows : List Flow) (weight : ℕ → ℕ) → HasLoadsOf flows t (all_entries charges) → HasWeightsOf weight weights (all_entries charges) →
+    used flows (all_entries charges) (coflow_at charges k) + kept ≡ budget weight (coflow_at charges k)
+
+abbrev pub IsFrontLoad : LoadTable → List Charge → ℕ → ℕ → Type 0
+IsFrontLoad t charges k n = (flows : List Flow) → HasLoadsOf flows t (all_entries charges) → n ≡ front_load flows (entries_to (k + 1) charges)
+
+pub unspent_step : (t : LoadTable) (weights : List ℕ) (charges : List Charge) (sum k kept n : ℕ) → UnspentSoFar t weights charges sum k → IsKeptAt t weights charges k kept → IsFrontLoad t charges k n → k < length charges →
+    UnspentSoFar t weights charges (sum + kept * n) (k + 1)
+unspent_step t weights charges sum k kept n so_far keeps is lt = record {
+  is = λ flows weight has hasw.
+      let r = rest flows weight (all_entries charges) in
+      let kept_is : kept ≡ r (coflow_at charges k) = omega (arith, keeps flows weight has hasw) in
+      omega (arith, so_far.is flows weight has hasw, ap₂ (λ a b. a * b) kept_is (is flows has), places_more flows r charges k lt);
+}
+
+pub unspent_fits_so_far : (t : LoadTable) (weights : List ℕ) (charges : List Charge) (sum k : ℕ) → IsCertificateOf t (all_entries charges) → t.coflows ≤ 4096 → ((port : Port) → port.number < t.ports → total_at t port ≤ 2 ^ 40) →
+    All (λ w. w ≤ 2 ^ 32) weights → StaysInBudget t weights (all_entries charges) → UnspentSoFar t weights charges sum k → sum ≤ 2 ^ 124
+unspent_fits_so_far t weights charges sum k certificate few totals all stays so_far =
+    omega (arith, so_far.is stays.flows stays.weight stays.has_loads stays.has_weights, first_places stays.flows (rest stays.flows stays.weight (all_entries charges)) k charges, unspent_small t weights (all_entries charges) certificate few totals all stays)

@@ -1,5 +1,5 @@
 -- Certificates beside a table of loads and a list of weights. As in all definitions on certificates, entries stand from the last place to the first.
-use Rattle.std.specs.Prelude.{◌≡◌, ℕ, ◌+◌, ◌<◌, ◌≤◌, List, All, Contains, Option, None, Some, map, reverse, slice_index, take}
+use Rattle.std.specs.Prelude.{◌≡◌, ℕ, ◌+◌, ◌<◌, ◌≤◌, List, All, Contains, Option, None, Some, map, min, reverse, slice_index, take}
 use Rattle.std.specs.List.{slice_index_or}
 use Rattle.coflow_units.specs.declared.fabric.Flow.{Flow}
 use Rattle.coflow_units.specs.declared.fabric.Side.TheVariants.{Ingress}
@@ -41,6 +41,11 @@ pub record IsLeastInfeasible (flows : List Flow) (weight : ℕ → ℕ) (entries
 abbrev pub IsKept : ℕ → ℕ → Option ℕ → Type 0
 IsKept budget used None = budget < used
 IsKept budget used (Some rest) = used + rest ≡ budget
+
+-- the lesser of the two numbers, where there is another one
+abbrev pub lesser : Option ℕ → ℕ → ℕ
+lesser None number = number
+lesser (Some other) number = min other number
 
 -- the charge of a place, counted from 0; a number past the end has zeros, and is read only where it is known to be a place's
 abbrev pub charge_at : List Charge → ℕ → Charge

@@ -4,7 +4,7 @@ ghost use Rattle.std.specs.List.{slice_index_or};
 ghost use Rattle.coflow_units.specs.declared.fabric.Flow.{Flow};
 ghost use Rattle.coflow_units.specs.declared.fabric.Side.TheVariants.{Ingress};
 ghost use Rattle.coflow_units.specs.Certificate.{IsFeasible, budget, used};
-ghost use Rattle.dual_cert.specs.TableCertificate.{HasLoadsOf, HasWeightsOf, IsCertificateOf, IsKept, IsLeastInfeasible, all_entries, coflow_at};
+ghost use Rattle.dual_cert.specs.TableCertificate.{HasLoadsOf, HasWeightsOf, IsCertificateOf, IsKept, IsLeastInfeasible, all_entries, coflow_at, lesser};
 
 use crate::cert::{Cert, Charge};
 use coflow_units::SCALE;
@@ -27,9 +27,19 @@ pub fn infeasible(loads: &Loads, weights: &[u64], cert: &Cert) -> Option<u32>
             continue;
         }
         let coflow = charges[place].coflow;
-        least = Some(least.map_or(coflow, |other| coflow.min(other)));
+        least = Some(lesser(least, coflow));
     }
     least
+}
+
+/// The lesser of the two numbers, where there is another one.
+fn lesser(other: Option<u32>, number: u32) -> u32
+    ensures { result ≡ lesser other number }
+{
+    match other {
+        Some(other) => other.min(number),
+        None => number,
+    }
 }
 
 /// What the coflow of a place, counted from 0, keeps of its budget, or none where it pays more. It is in the fronts of its own place and those after it alone.
