@@ -14,7 +14,7 @@ use Rattle.coflow_units.proofs.Sums.{any_has, any_in, apart_from_pairs, first_or
 use Rattle.port_load.specs.LoadTable.{LoadTable, load_at}
 use Rattle.dual_cert.specs.declared.cert.Charge.{Charge}
 use Rattle.dual_cert.specs.TableCertificate.{HasLoadsOf, HasWeightsOf, IsCertificateOf, IsKept, IsLeastInfeasible, all_entries, charge_at, coflow_at, entries_to, entry_at, lesser, port_at}
-use Rattle.dual_cert.proofs.FirstPlaces.{coflow_in, entries_more, entries_suc, entries_whole, first_in, first_used, in_front, not_before, port_in}
+use Rattle.dual_cert.proofs.FirstPlaces.{coflow_in, entries_more, entries_suc, entries_whole, first_in, first_used, in_front, not_before, place_of, port_in}
 
 pub record KeptSoFar (t : LoadTable) (weights : List ℕ) (charges : List Charge) (place coflow rest k : ℕ) : Type 0 where
   pub is : coflow ≡ coflow_at charges place
@@ -90,13 +90,6 @@ IsLeastTo flows weight charges k (Some c) =
 
 pub record LeastSoFar (t : LoadTable) (weights : List ℕ) (charges : List Charge) (k : ℕ) (least : Option ℕ) : Type 0 where
   pub is : (flows : List Flow) (weight : ℕ → ℕ) → HasLoadsOf flows t (all_entries charges) → HasWeightsOf weight weights (all_entries charges) → IsLeastTo flows weight charges k least
-
-place_of : (k : ℕ) (charges : List Charge) (c : ℕ) → k ≤ length charges → Contains (front (entries_to k charges)) c → (place : ℕ) × (place < k) × (coflow_at charges place ≡ c)
-place_of zero charges c le has = absurd (nothing_in c has)
-place_of (suc k) charges c le has = elim (first_or_tail (coflow_at charges k) (front (entries_to k charges)) c (subst (λ l. Contains (front l) c) (entries_suc k charges (omega arith)) has)) [
-  | inl e ↦ (k, omega arith, e)
-  | inr later ↦ let (place, lt, e) = place_of k charges c (omega arith) later in (place, omega arith, e)
-]
 
 -- a coflow that is at no place pays nothing
 pub placed_or_free : (flows : List Flow) (charges : List Charge) (c : ℕ) → ((place : ℕ) × (place < length charges) × (coflow_at charges place ≡ c)) ⊎ (used flows (all_entries charges) c ≡ 0)

@@ -4,7 +4,7 @@ use Rattle.std.specs.Prelude.{All}
 use Rattle.std.proofs.lemmas.Bool.{cases_eq}
 use Rattle.std.proofs.lemmas.List.{map-append, reverse-append, take_all, take-append-drop}
 use Rattle.std.proofs.lemmas.List.{take_more}
-use Rattle.std.proofs.lemmas.List.Elements.{All-contains, All-head, All-tail}
+use Rattle.std.proofs.lemmas.List.Elements.{All-cons, All-contains, All-head, All-nil, All-tail}
 use Rattle.coflow_units.specs.declared.fabric.Flow.{Flow}
 use Rattle.coflow_units.specs.declared.fabric.Port.{Port}
 use Rattle.coflow_units.specs.declared.fabric.Side.TheVariants.{Ingress}
@@ -121,3 +121,16 @@ front_below n (e ∷ before) all c has = elim (first_or_tail e.coflow (front bef
 
 pub named_in : (t : LoadTable) (entries : List Entry) → IsCertificateOf t entries → (c : ℕ) → Contains (front entries) c → c < t.coflows
 named_in t entries certificate c has = front_below t.coflows entries certificate.coflow c has
+
+pub all_from_front : (n : ℕ) (entries : List Entry) → ((c : ℕ) → Contains (front entries) c → c < n) → All (λ (e : Entry). e.coflow < n) entries
+all_from_front n [] below = All-nil (λ (e : Entry). e.coflow < n)
+all_from_front n (e ∷ before) below =
+    All-cons (λ (x : Entry). x.coflow < n) e before (below e.coflow (in_first e.coflow (front before))) (all_from_front n before (λ c has. below c (in_tail e.coflow (front before) c has)))
+
+-- a coflow of the first places is that of one of them
+pub place_of : (k : ℕ) (charges : List Charge) (c : ℕ) → k ≤ length charges → Contains (front (entries_to k charges)) c → (place : ℕ) × (place < k) × (coflow_at charges place ≡ c)
+place_of zero charges c le has = absurd (nothing_in c has)
+place_of (suc k) charges c le has = elim (first_or_tail (coflow_at charges k) (front (entries_to k charges)) c (subst (λ l. Contains (front l) c) (entries_suc k charges (omega arith)) has)) [
+  | inl e ↦ (k, omega arith, e)
+  | inr later ↦ let (place, lt, e) = place_of k charges c (omega arith) later in (place, omega arith, e)
+]

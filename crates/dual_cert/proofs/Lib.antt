@@ -7,3 +7,6 @@ pub mod SlackLaw
 pub mod FirstPlaces
 pub mod BudgetSteps
 pub mod ValueSteps
+pub mod OfInstance
+pub mod FirstPays
+pub mod TestSteps

@@ -1,1 +1,3 @@
 pub mod TableCertificate
+pub mod OtherCertificate
+pub mod TestInputs

@@ -10,3 +10,5 @@ pub use budgets::infeasible;
 pub use cert::Cert;
 pub use value::{bound, slack};
 
+#[cfg(test)]
+mod tests;
