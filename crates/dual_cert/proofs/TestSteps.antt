@@ -1,7 +1,8 @@
 -- What the tests find out of a certificate.
-use Rattle.std.proofs.Common.{◌≡◌, ◌≢◌, ℕ, ◌+◌, ◌^◌, ◌<◌, ◌≤◌, List, [], ◌∷◌, length, Contains, refl, sym, ap, subst, ◌∙◌, arith, le_trans}
+use Rattle.std.proofs.Common.{◌≡◌, ◌≢◌, ℕ, ◌+◌, ◌^◌, ◌<◌, ◌≤◌, List, [], ◌∷◌, length, take, Contains, refl, sym, subst, arith}
 use Rattle.std.specs.Prelude.{All, slice_index, sum_by}
-use Rattle.std.proofs.lemmas.List.Elements.{All-cons, All-nil}
+use Rattle.std.proofs.lemmas.List.{take_more}
+use Rattle.std.proofs.lemmas.List.Elements.{All-cons, All-nil, All-push}
 use Rattle.coflow_units.specs.declared.fabric.Flow.{Flow}
 use Rattle.coflow_units.specs.Certificate.{Entry, IsFeasible, front}
 use Rattle.coflow_units.proofs.Sums.{apart_from_pairs, nothing_in, pairs_from_apart}
@@ -40,3 +41,6 @@ stays_in flows t weights entries certificate has feasible = record {
   has_weights = λ c in'. refl;
   feasible = feasible;
 }
+
+pub small_more : (xs : List ℕ) (k most : ℕ) → All (λ w. w ≤ most) (take k xs) → k < length xs → slice_index xs k ≤ most → All (λ w. w ≤ most) (take (k + 1) xs)
+small_more xs k most so_far lt le = subst (λ l. All (λ w. w ≤ most) l) (sym (take_more xs k 0 lt)) (All-push (λ w. w ≤ most) (take k xs) (slice_index xs k) so_far le)

@@ -108,15 +108,13 @@ fn stands_before(charges: &[Charge], place: usize) -> bool
 }
 
 /// The bound and the slack, or the least infeasible coflow.
-fn values(rt: &impl Abort, loads: &Loads, flows: &[Flow], weights: &[u64], cert: &Cert) -> Result<(u128, u128), u32>
+fn values(loads: &Loads, flows: &[Flow], weights: &[u64], cert: &Cert) -> Result<(u128, u128), u32>
     requires loads { HasLoads flows.now loads.now }
     requires totals { (port : Port) → port.number < loads.now.ports → total_at loads.now port ≤ 2 ^ 40 }
     requires weights_len { length weights.now ≡ loads.now.coflows }
+    requires weights_fit { All (λ w. w ≤ 2 ^ 32) weights.now }
+    requires certificate { IsCertificateOf loads.now (reverse cert.now) }
 {
-    let fit = weights_fit(weights);
-    assert!(rt; fit);
-    let fit = cert_fits(cert, loads);
-    assert!(rt; fit);
     match infeasible(loads, weights, cert) {
         Some(coflow) => Err(coflow),
         None => Ok((bound(loads, cert), slack(loads, weights, cert))),
@@ -131,8 +129,14 @@ fn measured(rt: &impl Abort, alloc: Global, flows: &[Flow], weights: &[u64], por
     let coflows = weights.len() as u32;
     let fit = flows_fit(flows, coflows, ports);
     assert!(rt; fit);
+    let fit = weights_fit(weights);
+    assert!(rt; fit);
     match (Loads::of(alloc, flows, coflows, ports), Cert::of(alloc, places)) {
-        (Ok(loads), Ok(cert)) => values(rt, &loads, flows, weights, &cert),
+        (Ok(loads), Ok(cert)) => {
+            let fit = cert_fits(&cert, &loads);
+            assert!(rt; fit);
+            values(&loads, flows, weights, &cert)
+        }
         _ => panic!(rt; "no memory"),
     }
 }
