@@ -1,5 +1,5 @@
 -- What a coflow keeps of its budget, place by place, and the least one that keeps nothing.
-use Rattle.std.proofs.Common.{◌≡◌, ℕ, ◌+◌, ◌-◌, ◌*◌, ◌/◌, ◌<◌, ◌≤◌, inl, inr, ◌⊎◌, List, ◌∷◌, None, Some, Option, true, false, true≢false, length, min, Contains, zero, suc, refl, sym, ap, subst, ◌∙◌, arith}
+use Rattle.std.proofs.Common.{◌≡◌, ℕ, ◌+◌, ◌*◌, ◌/◌, ◌<◌, ◌≤◌, inl, inr, ◌⊎◌, List, None, Some, Option, true, false, true≢false, length, min, Contains, refl, sym, ap, subst, ◌∙◌, arith}
 use Rattle.std.specs.Prelude.{◌==◌, IfSome, slice_index}
 use Rattle.std.specs.List.{list_any}
 use Rattle.std.specs.Option.{is_some}
@@ -7,14 +7,14 @@ use Rattle.std.proofs.lemmas.Bool.{both_ways, cases_Bool, cases_eq, cases_lt}
 use Rattle.std.proofs.Math.Nat.{mul-le-mul_right}
 use Rattle.coflow_units.specs.declared.fabric.Flow.{Flow}
 use Rattle.coflow_units.specs.Load.{load}
-use Rattle.coflow_units.specs.Certificate.{Entry, IsFeasible, budget, front, scale, used}
+use Rattle.coflow_units.specs.Certificate.{IsFeasible, budget, front, scale, used}
 use Rattle.coflow_units.proofs.CertificateSteps.{used_in, used_outside}
 use Rattle.coflow_units.proofs.Numbers.{floor_within, floor_above}
-use Rattle.coflow_units.proofs.Sums.{any_has, any_in, apart_from_pairs, first_or_tail, nothing_in}
+use Rattle.coflow_units.proofs.Sums.{any_has, any_in, apart_from_pairs}
 use Rattle.port_load.specs.LoadTable.{LoadTable, load_at}
 use Rattle.dual_cert.specs.declared.cert.Charge.{Charge}
 use Rattle.dual_cert.specs.TableCertificate.{HasLoadsOf, HasWeightsOf, IsCertificateOf, IsKept, IsLeastInfeasible, all_entries, charge_at, coflow_at, entries_to, entry_at, lesser, port_at}
-use Rattle.dual_cert.proofs.FirstPlaces.{coflow_in, entries_more, entries_suc, entries_whole, first_in, first_used, in_front, not_before, place_of, port_in}
+use Rattle.dual_cert.proofs.FirstPlaces.{entries_more, entries_whole, first_used, in_front, not_before, place_of, port_in}
 
 pub record KeptSoFar (t : LoadTable) (weights : List ℕ) (charges : List Charge) (place coflow rest k : ℕ) : Type 0 where
   pub is : coflow ≡ coflow_at charges place
@@ -89,6 +89,7 @@ IsLeastTo flows weight charges k (Some c) =
     × ((place : ℕ) → place < k → coflow_at charges place < c → used flows (all_entries charges) (coflow_at charges place) ≤ budget weight (coflow_at charges place))
 
 pub record LeastSoFar (t : LoadTable) (weights : List ℕ) (charges : List Charge) (k : ℕ) (least : Option ℕ) : Type 0 where
+  pub within : IfSome least (λ c. c < t.coflows)
   pub is : (flows : List Flow) (weight : ℕ → ℕ) → HasLoadsOf flows t (all_entries charges) → HasWeightsOf weight weights (all_entries charges) → IsLeastTo flows weight charges k least
 
 -- a coflow that is at no place pays nothing
@@ -132,43 +133,61 @@ keeps_least flows weight charges k None so_far within = λ place lt. elim (cases
   | inl e ↦ subst (λ n. used flows (all_entries charges) (coflow_at charges n) ≤ budget weight (coflow_at charges n)) (sym e) within
   | inr ne ↦ so_far place (omega (arith, ne))
 ]
-keeps_least flows weight charges k (Some c) so_far within = (so_far.0, λ place lt less. elim (cases_eq place k) [
-  | inl e ↦ subst (λ n. used flows (all_entries charges) (coflow_at charges n) ≤ budget weight (coflow_at charges n)) (sym e) within
-  | inr ne ↦ so_far.1 place (omega (arith, ne)) less
-])
+keeps_least flows weight charges k (Some c) so_far within = (
+  so_far.0,
+  λ place lt less. elim (cases_eq place k) [
+    | inl e ↦ subst (λ n. used flows (all_entries charges) (coflow_at charges n) ≤ budget weight (coflow_at charges n)) (sym e) within
+    | inr ne ↦ so_far.1 place (omega (arith, ne)) less
+  ],
+)
 
 takes_least : (flows : List Flow) (weight : ℕ → ℕ) (charges : List Charge) (k : ℕ) (least : Option ℕ) → IsLeastTo flows weight charges k least →
     budget weight (coflow_at charges k) < used flows (all_entries charges) (coflow_at charges k) → IsLeastTo flows weight charges (k + 1) (Some (lesser least (coflow_at charges k)))
-takes_least flows weight charges k None so_far above = (above, λ place lt less. elim (cases_eq place k) [
-  | inl e ↦ absurd (omega (arith, less, ap (coflow_at charges) e))
-  | inr ne ↦ so_far place (omega (arith, ne))
-])
+takes_least flows weight charges k None so_far above = (
+  above,
+  λ place lt less. elim (cases_eq place k) [
+    | inl e ↦ absurd (omega (arith, less, ap (coflow_at charges) e))
+    | inr ne ↦ so_far place (omega (arith, ne))
+  ],
+)
 takes_least flows weight charges k (Some c) so_far above = elim (cases_lt (coflow_at charges k) c) [
   | inl new ↦
       let is : min c (coflow_at charges k) ≡ coflow_at charges k = omega (arith, new) in
-      subst (λ n. IsLeastTo flows weight charges (k + 1) (Some n)) (sym is) (above, λ place lt less. elim (cases_eq place k) [
-        | inl e ↦ absurd (omega (arith, less, ap (coflow_at charges) e))
-        | inr ne ↦ so_far.1 place (omega (arith, ne)) (omega (arith, less, new))
-      ])
+      subst (λ n. IsLeastTo flows weight charges (k + 1) (Some n)) (sym is) (
+        above,
+        λ place lt less. elim (cases_eq place k) [
+          | inl e ↦ absurd (omega (arith, less, ap (coflow_at charges) e))
+          | inr ne ↦ so_far.1 place (omega (arith, ne)) (omega (arith, less, new))
+        ],
+      )
   | inr old ↦
       let is : min c (coflow_at charges k) ≡ c = omega (arith, old) in
-      subst (λ n. IsLeastTo flows weight charges (k + 1) (Some n)) (sym is) (so_far.0, λ place lt less. elim (cases_eq place k) [
-        | inl e ↦ absurd (omega (arith, less, old, ap (coflow_at charges) e))
-        | inr ne ↦ so_far.1 place (omega (arith, ne)) less
-      ])
+      subst (λ n. IsLeastTo flows weight charges (k + 1) (Some n)) (sym is) (
+        so_far.0,
+        λ place lt less. elim (cases_eq place k) [
+          | inl e ↦ absurd (omega (arith, less, old, ap (coflow_at charges) e))
+          | inr ne ↦ so_far.1 place (omega (arith, ne)) less
+        ],
+      )
 ]
+
+within_lesser : (n : ℕ) (least : Option ℕ) (c : ℕ) → IfSome least (λ k. k < n) → c < n → lesser least c < n
+within_lesser n None c some lt = lt
+within_lesser n (Some other) c some lt = omega (arith, lt)
 
 pub least_keep : (t : LoadTable) (weights : List ℕ) (charges : List Charge) (k : ℕ) (least kept : Option ℕ) → LeastSoFar t weights charges k least →
     ((flows : List Flow) (weight : ℕ → ℕ) → HasLoadsOf flows t (all_entries charges) → HasWeightsOf weight weights (all_entries charges) → IsKept (budget weight (coflow_at charges k)) (used flows (all_entries charges) (coflow_at charges k)) kept) →
     is_some kept ≡ true → LeastSoFar t weights charges (k + 1) least
 least_keep t weights charges k least kept so_far is e = record {
+  within = so_far.within;
   is = λ flows weight has hasw. keeps_least flows weight charges k least (so_far.is flows weight has hasw) (kept_some (budget weight (coflow_at charges k)) (used flows (all_entries charges) (coflow_at charges k)) kept (is flows weight has hasw) e);
 }
 
-pub least_take : (t : LoadTable) (weights : List ℕ) (charges : List Charge) (k : ℕ) (least kept : Option ℕ) → LeastSoFar t weights charges k least →
+pub least_take : (t : LoadTable) (weights : List ℕ) (charges : List Charge) (k : ℕ) (least kept : Option ℕ) → LeastSoFar t weights charges k least → coflow_at charges k < t.coflows →
     ((flows : List Flow) (weight : ℕ → ℕ) → HasLoadsOf flows t (all_entries charges) → HasWeightsOf weight weights (all_entries charges) → IsKept (budget weight (coflow_at charges k)) (used flows (all_entries charges) (coflow_at charges k)) kept) →
     is_some kept ≡ false → LeastSoFar t weights charges (k + 1) (Some (lesser least (coflow_at charges k)))
-least_take t weights charges k least kept so_far is e = record {
+least_take t weights charges k least kept so_far lt is e = record {
+  within = within_lesser t.coflows least (coflow_at charges k) so_far.within lt;
   is = λ flows weight has hasw. takes_least flows weight charges k least (so_far.is flows weight has hasw) (kept_not_some (budget weight (coflow_at charges k)) (used flows (all_entries charges) (coflow_at charges k)) kept (is flows weight has hasw) e);
 }
 

@@ -1,12 +1,12 @@
 -- A feasible certificate that is not the ordering one, and its bound.
-use Rattle.std.proofs.Common.{◌≡◌, ℕ, ◌*◌, ◌<◌, ◌≤◌, ◌⊎◌, inl, inr, List, [], ◌∷◌, Contains, refl, sym, subst, arith}
+use Rattle.std.proofs.Common.{◌≡◌, ℕ, ◌<◌, ◌≤◌, ◌⊎◌, inl, inr, List, [], ◌∷◌, Contains, refl, sym, subst, arith}
 use Rattle.std.specs.Prelude.{All}
 use Rattle.std.proofs.lemmas.Bool.{cases_eq}
 use Rattle.std.proofs.lemmas.List.Elements.{All-cons, All-nil}
 use Rattle.coflow_units.specs.declared.fabric.Side.TheVariants.{Ingress}
 use Rattle.coflow_units.specs.Schedule.{IsValid}
 use Rattle.coflow_units.specs.Completion.{cost}
-use Rattle.coflow_units.specs.Certificate.{Entry, IsCertificate, IsFeasible, bound, budget, front, used}
+use Rattle.coflow_units.specs.Certificate.{Entry, IsCertificate, IsFeasible, bound, budget, used}
 use Rattle.coflow_units.specs.Rows.{equal_weights}
 use Rattle.coflow_units.proofs.CertificateSteps.{used_outside}
 use Rattle.coflow_units.proofs.Sums.{all_of_members, first_or_tail, in_first, in_tail, nothing_in, pairs_from_apart}
@@ -63,10 +63,13 @@ first_pays_feasible c = elim (cases_eq c 0) [
   | inl e ↦ subst (λ n. used equal_weights.flows first_pays n ≤ budget equal_weights.weight n) (sym e) (omega arith)
   | inr ne ↦ elim (cases_eq c 1) [
     | inl e ↦ subst (λ n. used equal_weights.flows first_pays n ≤ budget equal_weights.weight n) (sym e) (omega arith)
-    | inr ne' ↦ omega (arith, used_outside equal_weights.flows first_pays c (λ has. elim (one_of_two c has) [
-      | inl e ↦ ne' e
-      | inr e ↦ ne e
-    ]))
+    | inr ne' ↦ omega (
+      arith,
+      used_outside equal_weights.flows first_pays c (λ has. elim (one_of_two c has) [
+        | inl e ↦ ne' e
+        | inr e ↦ ne e
+      ]),
+    )
   ]
 ]
 

@@ -1,14 +1,14 @@
 -- What the tests find out of a certificate.
-use Rattle.std.proofs.Common.{◌≡◌, ◌≢◌, ℕ, ◌+◌, ◌^◌, ◌<◌, ◌≤◌, List, [], ◌∷◌, length, take, Contains, refl, sym, subst, arith}
-use Rattle.std.specs.Prelude.{All, slice_index, sum_by}
+use Rattle.std.proofs.Common.{◌≢◌, ℕ, ◌+◌, ◌<◌, ◌≤◌, List, [], ◌∷◌, length, take, Contains, refl, sym, subst}
+use Rattle.std.specs.Prelude.{All, slice_index}
 use Rattle.std.proofs.lemmas.List.{take_more}
 use Rattle.std.proofs.lemmas.List.Elements.{All-cons, All-nil, All-push}
 use Rattle.coflow_units.specs.declared.fabric.Flow.{Flow}
 use Rattle.coflow_units.specs.Certificate.{Entry, IsFeasible, front}
-use Rattle.coflow_units.proofs.Sums.{apart_from_pairs, nothing_in, pairs_from_apart}
+use Rattle.coflow_units.proofs.Sums.{apart_from_pairs, pairs_from_apart}
 use Rattle.port_load.specs.LoadTable.{HasLoads, LoadTable}
 use Rattle.dual_cert.specs.declared.cert.Charge.{Charge}
-use Rattle.dual_cert.specs.TableCertificate.{HasLoadsOf, HasWeightsOf, IsCertificateOf, StaysInBudget, charge_at, coflow_at, entries_to, entry_at, port_at}
+use Rattle.dual_cert.specs.TableCertificate.{IsCertificateOf, StaysInBudget, charge_at, coflow_at, entries_to, entry_at, port_at}
 use Rattle.dual_cert.proofs.FirstPlaces.{entries_more, place_of}
 use Rattle.dual_cert.proofs.OfInstance.{loads_of}
 

@@ -1,5 +1,5 @@
 -- The sums over the places, place by place, and how large they can be.
-use Rattle.std.proofs.Common.{◌≡◌, ℕ, ◌+◌, ◌-◌, ◌*◌, ◌/◌, ◌%◌, ◌^◌, ◌<◌, ◌≤◌, inl, inr, List, [], ◌∷◌, length, get_or, Contains, refl, sym, ap, ap₂, subst, ◌∙◌, arith, le_trans, min}
+use Rattle.std.proofs.Common.{◌≡◌, ℕ, ◌+◌, ◌*◌, ◌/◌, ◌%◌, ◌^◌, ◌<◌, ◌≤◌, inl, inr, List, [], ◌∷◌, length, sym, ap, ap₂, ◌∙◌, arith, min}
 use Rattle.std.specs.Prelude.{All, slice_index, sum_by}
 use Rattle.std.specs.List.{range_with_len}
 use Rattle.std.proofs.lemmas.Bool.{cases_lt}
@@ -7,18 +7,18 @@ use Rattle.std.proofs.lemmas.Grind.{div_ceil_times}
 use Rattle.std.proofs.lemmas.List.FromFn.{length-range_with_len}
 use Rattle.std.proofs.lemmas.List.Sums.{sum_by-cons}
 use Rattle.std.proofs.Math.ListN.{get_or-eq_default}
-use Rattle.std.proofs.Math.Nat.{lt_of_mul-lt-mul_right, mul-le-mul, mul-le-mul_left, mul-le-mul_right}
+use Rattle.std.proofs.Math.Nat.{lt_of_mul-lt-mul_right, mul-le-mul, mul-le-mul_right}
 use Rattle.coflow_units.specs.declared.fabric.Flow.{Flow}
 use Rattle.coflow_units.specs.declared.fabric.Port.{Port}
 use Rattle.coflow_units.specs.Load.{load, load_of_all, squares_of_loads}
-use Rattle.coflow_units.specs.Certificate.{Entry, IsFeasible, budget, div_up, dual_value, front, front_load, over_places, rest, scale, unspent, used}
+use Rattle.coflow_units.specs.Certificate.{Entry, budget, div_up, dual_value, front, front_load, over_places, rest, scale, unspent, used}
 use Rattle.coflow_units.proofs.Numbers.{div_up_covers, div_up_least}
-use Rattle.coflow_units.proofs.Sums.{Apart, apart_from_pairs, members_at_most, sum_mono, sum_same}
+use Rattle.coflow_units.proofs.Sums.{apart_from_pairs, members_at_most, sum_mono, sum_same}
 use Rattle.port_load.specs.LoadTable.{LoadTable, load_at, total_at}
 use Rattle.port_load.proofs.Grid.{below_in}
 use Rattle.dual_cert.specs.declared.cert.Charge.{Charge}
-use Rattle.dual_cert.specs.TableCertificate.{HasLoadsOf, HasWeightsOf, IsCertificateOf, StaysInBudget, all_entries, charge_at, coflow_at, entries_to, entry_at, port_at}
-use Rattle.dual_cert.proofs.FirstPlaces.{entries_more, first_apart, first_in, first_places, first_value, named_in, port_in}
+use Rattle.dual_cert.specs.TableCertificate.{HasLoadsOf, HasWeightsOf, IsCertificateOf, StaysInBudget, all_entries, charge_at, coflow_at, entries_to, port_at}
+use Rattle.dual_cert.proofs.FirstPlaces.{entries_more, first_apart, first_in, first_places, first_value, named_in}
 use Rattle.dual_cert.proofs.SizeLaws.{square_of_sum, unspent_fits, value_fits}
 
 -- rounding up, in the words of the machine

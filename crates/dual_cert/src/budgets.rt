@@ -19,6 +19,7 @@ pub fn infeasible(loads: &Loads, weights: &[u64], cert: &Cert) -> Option<u32>
         result ≡ None → IsFeasible flows weight (reverse cert.now) }
     ensures least { (flows : List Flow) (weight : ℕ → ℕ) → HasLoadsOf flows loads.now (reverse cert.now) → HasWeightsOf weight weights.now (reverse cert.now) →
         IfSome result (λ coflow. IsLeastInfeasible flows weight (reverse cert.now) coflow) }
+    ensures within { IfSome result (λ coflow. coflow < loads.now.coflows) }
 {
     let charges = cert.charges();
     let mut least = None;

@@ -121,7 +121,14 @@ fn values(loads: &Loads, flows: &[Flow], weights: &[u64], cert: &Cert) -> Result
     }
 }
 
-fn measured(rt: &impl Abort, alloc: Global, flows: &[Flow], weights: &[u64], ports: u32, places: &[Place]) -> Result<(u128, u128), u32>
+fn measured(
+    rt: &impl Abort,
+    alloc: Global,
+    flows: &[Flow],
+    weights: &[u64],
+    ports: u32,
+    places: &[Place],
+) -> Result<(u128, u128), u32>
     requires coflows_limit { length weights.now ≤ 4096 }
     requires has_ports { 1 ≤ ports }
     requires ports_limit { ports ≤ 1025 }
@@ -131,7 +138,10 @@ fn measured(rt: &impl Abort, alloc: Global, flows: &[Flow], weights: &[u64], por
     assert!(rt; fit);
     let fit = weights_fit(weights);
     assert!(rt; fit);
-    match (Loads::of(alloc, flows, coflows, ports), Cert::of(alloc, places)) {
+    match (
+        Loads::of(alloc, flows, coflows, ports),
+        Cert::of(alloc, places),
+    ) {
         (Ok(loads), Ok(cert)) => {
             let fit = cert_fits(&cert, &loads);
             assert!(rt; fit);
@@ -142,16 +152,52 @@ fn measured(rt: &impl Abort, alloc: Global, flows: &[Flow], weights: &[u64], por
 }
 
 const THIRD: u128 = 366503875925;
+
 const ONE: u128 = 1099511627776;
 
 #[test]
 fn values_by_hand(rt: HostRuntime) {
     let alloc = rt.alloc();
     let two = [flow(0, 0, 1, 3), flow(1, 0, 1, 1)];
-    assert_eq!(rt; measured(&rt, alloc, &two, &[1, 1], 3, &[ingress(1, 0, 733007751851), ingress(0, 0, THIRD)]), Ok((5, 1)));
-    assert_eq!(rt; measured(&rt, alloc, &two, &[5, 1], 3, &[ingress(0, 0, 733007751850), ingress(1, 0, ONE)]), Ok((19, 1)));
-    let ties = [flow(0, 0, 0, 1), flow(0, 1, 0, 1), flow(1, 0, 1, 1), flow(1, 1, 1, 1)];
-    assert_eq!(rt; measured(&rt, alloc, &ties, &[1, 1], 2, &[egress(0, 0, 0), ingress(1, 0, ONE)]), Ok((3, 0)));
+    assert_eq!(rt;
+        measured(
+            &rt,
+            alloc,
+            &two,
+            &[1, 1],
+            3,
+            &[ingress(1, 0, 733007751851), ingress(0, 0, THIRD)]
+        ),
+        Ok((5, 1))
+    );
+    assert_eq!(rt;
+        measured(
+            &rt,
+            alloc,
+            &two,
+            &[5, 1],
+            3,
+            &[ingress(0, 0, 733007751850), ingress(1, 0, ONE)]
+        ),
+        Ok((19, 1))
+    );
+    let ties = [
+        flow(0, 0, 0, 1),
+        flow(0, 1, 0, 1),
+        flow(1, 0, 1, 1),
+        flow(1, 1, 1, 1),
+    ];
+    assert_eq!(rt;
+        measured(
+            &rt,
+            alloc,
+            &ties,
+            &[1, 1],
+            2,
+            &[egress(0, 0, 0), ingress(1, 0, ONE)]
+        ),
+        Ok((3, 0))
+    );
     let realistic = [
         flow(0, 20, 93, 1),
         flow(1, 7, 7, 2),
@@ -161,17 +207,44 @@ fn values_by_hand(rt: HostRuntime) {
         flow(2, 64, 38, 2),
         flow(2, 110, 38, 2),
     ];
-    let places = [ingress(0, 20, ONE), egress(2, 38, 157073089682), ingress(1, 7, 157073089682)];
-    assert_eq!(rt; measured(&rt, alloc, &realistic, &[1, 1, 1], 151, &places), Ok((15, 1)));
+    let places = [
+        ingress(0, 20, ONE),
+        egress(2, 38, 157073089682),
+        ingress(1, 7, 157073089682),
+    ];
+    assert_eq!(rt;
+        measured(&rt, alloc, &realistic, &[1, 1, 1], 151, &places),
+        Ok((15, 1))
+    );
 }
 
 #[test]
 fn coflows_without_load(rt: HostRuntime) {
     let alloc = rt.alloc();
     let one_empty = [flow(1, 0, 1, 2)];
-    assert_eq!(rt; measured(&rt, alloc, &one_empty, &[1, 1], 2, &[ingress(0, 0, 0), ingress(1, 0, ONE / 2)]), Ok((2, 0)));
+    assert_eq!(rt;
+        measured(
+            &rt,
+            alloc,
+            &one_empty,
+            &[1, 1],
+            2,
+            &[ingress(0, 0, 0), ingress(1, 0, ONE / 2)]
+        ),
+        Ok((2, 0))
+    );
     // the one without load may be left out
-    assert_eq!(rt; measured(&rt, alloc, &one_empty, &[1, 1], 2, &[ingress(1, 0, ONE / 2)]), Ok((2, 0)));
+    assert_eq!(rt;
+        measured(
+            &rt,
+            alloc,
+            &one_empty,
+            &[1, 1],
+            2,
+            &[ingress(1, 0, ONE / 2)]
+        ),
+        Ok((2, 0))
+    );
     assert_eq!(rt; measured(&rt, alloc, &[], &[], 1, &[]), Ok((0, 0)));
 }
 
@@ -180,11 +253,51 @@ fn prices_too_high(rt: HostRuntime) {
     let alloc = rt.alloc();
     let two = [flow(0, 0, 1, 3), flow(1, 0, 1, 1)];
     // the longer coflow pays three times a number just above a third
-    assert_eq!(rt; measured(&rt, alloc, &two, &[1, 1], 3, &[ingress(1, 0, 733007751851), ingress(0, 0, THIRD + 1)]), Err(0));
-    assert_eq!(rt; measured(&rt, alloc, &two, &[1, 1], 3, &[ingress(1, 0, 733007751852), ingress(0, 0, THIRD)]), Err(1));
+    assert_eq!(rt;
+        measured(
+            &rt,
+            alloc,
+            &two,
+            &[1, 1],
+            3,
+            &[ingress(1, 0, 733007751851), ingress(0, 0, THIRD + 1)]
+        ),
+        Err(0)
+    );
+    assert_eq!(rt;
+        measured(
+            &rt,
+            alloc,
+            &two,
+            &[1, 1],
+            3,
+            &[ingress(1, 0, 733007751852), ingress(0, 0, THIRD)]
+        ),
+        Err(1)
+    );
     // both pay too much, and the least is told wherever it stands
-    assert_eq!(rt; measured(&rt, alloc, &two, &[1, 1], 3, &[ingress(1, 0, u128::MAX), ingress(0, 0, u128::MAX)]), Err(0));
-    assert_eq!(rt; measured(&rt, alloc, &two, &[1, 1], 3, &[ingress(0, 0, u128::MAX), ingress(1, 0, u128::MAX)]), Err(0));
+    assert_eq!(rt;
+        measured(
+            &rt,
+            alloc,
+            &two,
+            &[1, 1],
+            3,
+            &[ingress(1, 0, u128::MAX), ingress(0, 0, u128::MAX)]
+        ),
+        Err(0)
+    );
+    assert_eq!(rt;
+        measured(
+            &rt,
+            alloc,
+            &two,
+            &[1, 1],
+            3,
+            &[ingress(0, 0, u128::MAX), ingress(1, 0, u128::MAX)]
+        ),
+        Err(0)
+    );
 }
 
 #[test]
@@ -192,21 +305,81 @@ fn other_certificates(rt: HostRuntime) {
     let alloc = rt.alloc();
     let two = [flow(0, 0, 1, 3), flow(1, 0, 1, 1)];
     // without prices nothing is bounded, and all budgets are left
-    assert_eq!(rt; measured(&rt, alloc, &two, &[1, 1], 3, &[ingress(1, 0, 0), ingress(0, 0, 0)]), Ok((0, 10)));
+    assert_eq!(rt;
+        measured(
+            &rt,
+            alloc,
+            &two,
+            &[1, 1],
+            3,
+            &[ingress(1, 0, 0), ingress(0, 0, 0)]
+        ),
+        Ok((0, 10))
+    );
     // any price is feasible on a port without load, and adds nothing
-    assert_eq!(rt; measured(&rt, alloc, &two, &[1, 1], 3, &[ingress(1, 2, u128::MAX), ingress(0, 0, THIRD)]), Ok((5, 1)));
-    assert_eq!(rt; measured(&rt, alloc, &two, &[1, 1], 3, &[ingress(0, 0, THIRD), ingress(1, 0, 0)]), Ok((3, 9)));
+    assert_eq!(rt;
+        measured(
+            &rt,
+            alloc,
+            &two,
+            &[1, 1],
+            3,
+            &[ingress(1, 2, u128::MAX), ingress(0, 0, THIRD)]
+        ),
+        Ok((5, 1))
+    );
+    assert_eq!(rt;
+        measured(
+            &rt,
+            alloc,
+            &two,
+            &[1, 1],
+            3,
+            &[ingress(0, 0, THIRD), ingress(1, 0, 0)]
+        ),
+        Ok((3, 9))
+    );
 }
 
 #[test]
 fn values_at_the_limits(rt: HostRuntime) {
     let alloc = rt.alloc();
-    assert_eq!(rt; measured(&rt, alloc, &[flow(0, 0, 0, 1048577)], &[1048576], 1, &[ingress(0, 0, 1099510579200)]), Ok((1099512676351, 3)));
-    assert_eq!(rt; measured(&rt, alloc, &[flow(0, 1024, 1024, 1 << 40)], &[1 << 32], 1025, &[ingress(0, 1024, 1 << 32)]), Ok((4722366482869645213696, 0)));
+    assert_eq!(rt;
+        measured(
+            &rt,
+            alloc,
+            &[flow(0, 0, 0, 1048577)],
+            &[1048576],
+            1,
+            &[ingress(0, 0, 1099510579200)]
+        ),
+        Ok((1099512676351, 3))
+    );
+    assert_eq!(rt;
+        measured(
+            &rt,
+            alloc,
+            &[flow(0, 1024, 1024, 1 << 40)],
+            &[1 << 32],
+            1025,
+            &[ingress(0, 1024, 1 << 32)]
+        ),
+        Ok((4722366482869645213696, 0))
+    );
     // each coflow keeps all of the greatest budget, and each front has all units: the slack is 2^85
     let mut places = Vec::new(alloc);
     for coflow in 0..4096 {
         places.push(ingress(coflow, 0, 0)).expect(&rt, "memory");
     }
-    assert_eq!(rt; measured(&rt, alloc, &[flow(0, 0, 0, 1 << 40)], &[1 << 32; 4096], 1, &places), Ok((0, 1 << 85)));
+    assert_eq!(rt;
+        measured(
+            &rt,
+            alloc,
+            &[flow(0, 0, 0, 1 << 40)],
+            &[1 << 32; 4096],
+            1,
+            &places
+        ),
+        Ok((0, 1 << 85))
+    );
 }

@@ -83,8 +83,8 @@ fn squares(loads: &Loads, charges: &[Charge], place: usize) -> u128
     let port = charges[place].port;
     let mut total = 0;
     let mut squares = 0;
-    for number in 0..place + 1 {
-        let load = loads.get(charges[number].coflow, port) as u128;
+    for earlier in 0..place + 1 {
+        let load = loads.get(charges[earlier].coflow, port) as u128;
         total += load;
         squares += load * load;
     }

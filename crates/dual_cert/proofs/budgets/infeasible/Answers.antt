@@ -1,7 +1,8 @@
-use Rattle.std.proofs.Common.{◌≡◌, ◌+◌, None, Some, true, false, reverse, sym, ap, subst, ◌∙◌, arith}
+use Rattle.std.proofs.Common.{◌≡◌, ◌+◌, Some, reverse, sym, ap, subst, ◌∙◌, arith}
 use Rattle.std.specs.Prelude.{IfSome}
 use Rattle.coflow_units.specs.Certificate.{IsFeasible}
-use Rattle.dual_cert.specs.TableCertificate.{HasLoadsOf, HasWeightsOf, IsLeastInfeasible, all_entries}
+use Rattle.dual_cert.specs.TableCertificate.{HasLoadsOf, HasWeightsOf, IsCertificateOf, IsLeastInfeasible, all_entries}
+use Rattle.dual_cert.proofs.FirstPlaces.{coflow_in}
 use Rattle.dual_cert.proofs.BudgetSteps.{LeastSoFar, if_some_least, least_keep, least_take, none_infeasible}
 use Rattle.dual_cert.proofs.budgets.infeasible.Goals as goal
 
@@ -11,8 +12,10 @@ loop-place-preserved-then-is_some c =
 
 pub loop-place-preserved : goal.loop-place-preserved
 loop-place-preserved c =
+    let same : all_entries c.charges-charges.result.now ≡ reverse c.args.cert.now = ap reverse c.charges-charges.ensures in
+    let below = coflow_in c.args.loads.now c.charges-charges.result.now c.loop-place.place (subst (λ l. IsCertificateOf c.args.loads.now l) (sym same) c.requires.certificate) (omega arith) in
     subst (λ n. LeastSoFar c.args.loads.now c.args.weights.now c.charges-charges.result.now (c.loop-place.place + 1) (Some n)) (sym c.lesser.ensures)
-    (least_take c.args.loads.now c.args.weights.now c.charges-charges.result.now c.loop-place.place c.loop-place.least c.kept.result c.loop-place.invariant c.kept.ensures (sym c.is_some.ensures ∙ c.if-is_some.false))
+    (least_take c.args.loads.now c.args.weights.now c.charges-charges.result.now c.loop-place.place c.loop-place.least c.kept.result c.loop-place.invariant below c.kept.ensures (sym c.is_some.ensures ∙ c.if-is_some.false))
 
 pub returns-clause-none : goal.returns-clause-none
 returns-clause-none c = λ flows weight has hasw none.

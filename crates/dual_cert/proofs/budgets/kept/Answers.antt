@@ -1,7 +1,5 @@
-use Rattle.std.proofs.Common.{◌≡◌, ℕ, ◌+◌, ◌-◌, ◌*◌, ◌/◌, ◌<◌, ◌≤◌, length, refl, sym, ap, subst, ◌∙◌, arith}
-use Rattle.std.proofs.lemmas.Bool.{cases_lt}
-use Rattle.port_load.specs.LoadTable.{load_at}
-use Rattle.dual_cert.specs.TableCertificate.{charge_at, coflow_at, port_at}
+use Rattle.std.proofs.Common.{◌≡◌, ◌-◌, ◌*◌, ◌<◌, refl, ap, arith}
+use Rattle.dual_cert.specs.TableCertificate.{charge_at, coflow_at}
 use Rattle.dual_cert.proofs.FirstPlaces.{coflow_in, port_in}
 use Rattle.dual_cert.proofs.BudgetSteps.{above_rest, kept_all, kept_fails, kept_more, kept_none, within_rest}
 use Rattle.dual_cert.proofs.budgets.kept.Goals as goal

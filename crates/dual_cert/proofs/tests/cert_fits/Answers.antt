@@ -1,4 +1,4 @@
-use Rattle.std.proofs.Common.{◌≡◌, ◌+◌, ◌<◌, ◌≤◌, arith}
+use Rattle.std.proofs.Common.{arith}
 use Rattle.dual_cert.proofs.TestSteps.{certificate_more}
 use Rattle.dual_cert.proofs.tests.cert_fits.Goals as goal
 

@@ -1,4 +1,4 @@
-use Rattle.std.proofs.Common.{◌≡◌, ◌<◌, length, arith}
+use Rattle.std.proofs.Common.{◌<◌, length, arith}
 use Rattle.std.proofs.lemmas.List.Sums.{sum_by_more}
 use Rattle.coflow_units.specs.declared.fabric.Flow.{Flow}
 use Rattle.port_load.proofs.TestSteps.{within_more}

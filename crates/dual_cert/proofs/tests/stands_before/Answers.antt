@@ -1,5 +1,4 @@
-use Rattle.std.proofs.Common.{◌≡◌, ◌≢◌, ℕ, ◌<◌, ◌≤◌, subst, arith}
-use Rattle.dual_cert.specs.TableCertificate.{coflow_at}
+use Rattle.std.proofs.Common.{arith}
 use Rattle.dual_cert.proofs.TestSteps.{not_found}
 use Rattle.dual_cert.proofs.tests.stands_before.Goals as goal
 

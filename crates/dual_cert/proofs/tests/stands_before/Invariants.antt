@@ -1,4 +1,4 @@
-use Rattle.std.proofs.Common.{◌≡◌, ◌≢◌, ℕ, ◌<◌}
+use Rattle.std.proofs.Common.{◌≢◌, ℕ, ◌<◌}
 use Rattle.dual_cert.specs.TableCertificate.{coflow_at}
 use Rattle.dual_cert.proofs.tests.stands_before.Given as goal
 

@@ -1,4 +1,4 @@
-use Rattle.std.proofs.Common.{◌≡◌, ◌+◌, ◌^◌, ◌<◌, ◌≤◌, arith, length, subst, take, take_all}
+use Rattle.std.proofs.Common.{◌^◌, ◌≤◌, arith, subst, take_all}
 use Rattle.std.specs.Prelude.{All}
 use Rattle.dual_cert.proofs.TestSteps.{small_more}
 use Rattle.dual_cert.proofs.tests.weights_fit.Goals as goal

@@ -1,6 +1,6 @@
-use Rattle.std.proofs.Common.{◌≡◌, ◌+◌, ◌*◌, ◌<◌, ◌≤◌, length, reverse, sym, ap, subst, ◌∙◌, arith}
+use Rattle.std.proofs.Common.{◌≡◌, ◌+◌, ◌*◌, reverse, sym, ap, subst, ◌∙◌, arith}
 use Rattle.coflow_units.specs.Certificate.{div_up, dual_value, scale}
-use Rattle.dual_cert.specs.TableCertificate.{HasLoadsOf, IsCertificateOf, all_entries, entries_to}
+use Rattle.dual_cert.specs.TableCertificate.{HasLoadsOf, IsCertificateOf, all_entries}
 use Rattle.dual_cert.proofs.FirstPlaces.{entries_whole}
 use Rattle.dual_cert.proofs.ValueSteps.{IsPaidFor, div_ceil_is, value_fits_so_far, value_step}
 use Rattle.dual_cert.proofs.value.bound.Goals as goal
@@ -24,5 +24,5 @@ returns c = λ flows has.
     let charges = c.charges-charges.result.now in
     let same : all_entries charges ≡ reverse c.args.cert.now = ap reverse c.charges-charges.ensures in
     let is : c.loop-place.value ≡ dual_value flows (reverse c.args.cert.now) =
-        c.loop-place.invariant.is flows (subst (λ l. HasLoadsOf flows t l) (sym same) has) ∙ ap (dual_value flows) (entries_whole c.loop-place.place charges (omega arith) ∙ same) in
+    c.loop-place.invariant.is flows (subst (λ l. HasLoadsOf flows t l) (sym same) has) ∙ ap (dual_value flows) (entries_whole c.loop-place.place charges (omega arith) ∙ same) in
     c.div_ceil.ensures ∙ div_ceil_is c.loop-place.value (2 * scale) (omega arith) ∙ ap (λ n. div_up n (2 * scale)) is

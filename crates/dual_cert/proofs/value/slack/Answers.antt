@@ -1,6 +1,6 @@
-use Rattle.std.proofs.Common.{◌≡◌, ◌+◌, ◌*◌, ◌<◌, ◌≤◌, None, Some, length, reverse, sym, ap, subst, ◌∙◌, arith}
+use Rattle.std.proofs.Common.{◌≡◌, ◌+◌, ◌*◌, ◌<◌, reverse, sym, ap, subst, ◌∙◌, arith}
 use Rattle.coflow_units.specs.Certificate.{budget, div_up, over_places, rest, scale, unspent, used}
-use Rattle.dual_cert.specs.TableCertificate.{HasLoadsOf, HasWeightsOf, IsCertificateOf, IsKept, StaysInBudget, all_entries, coflow_at, entries_to}
+use Rattle.dual_cert.specs.TableCertificate.{HasLoadsOf, HasWeightsOf, IsCertificateOf, StaysInBudget, all_entries, coflow_at}
 use Rattle.dual_cert.proofs.FirstPlaces.{entries_whole}
 use Rattle.dual_cert.proofs.ValueSteps.{div_ceil_is, unspent_fits_so_far, unspent_step}
 use Rattle.dual_cert.proofs.value.slack.Goals as goal

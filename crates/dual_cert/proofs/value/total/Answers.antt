@@ -1,6 +1,6 @@
-use Rattle.std.proofs.Common.{◌≡◌, ◌+◌, ◌*◌, ◌^◌, ◌<◌, ◌≤◌, length, refl, sym, ap, subst, ◌∙◌, arith}
+use Rattle.std.proofs.Common.{◌≡◌, ◌+◌, sym, ap, ◌∙◌, arith}
 use Rattle.coflow_units.specs.Certificate.{front}
-use Rattle.dual_cert.specs.TableCertificate.{coflow_at, entries_to, port_at}
+use Rattle.dual_cert.specs.TableCertificate.{entries_to, port_at}
 use Rattle.dual_cert.proofs.FirstPlaces.{coflow_in, port_in}
 use Rattle.dual_cert.proofs.ValueSteps.{front_load_is, load_is, load_more, load_within, table_load}
 use Rattle.dual_cert.proofs.value.total.Goals as goal

@@ -1,4 +1,4 @@
-use Rattle.std.proofs.Common.{◌≡◌, reverse, map, sym, ap, ◌∙◌}
+use Rattle.std.proofs.Common.{reverse, sym, ap, ◌∙◌}
 use Rattle.coflow_units.specs.Certificate.{entry_of}
 use Rattle.dual_cert.proofs.FirstPlaces.{map_reverse}
 use Rattle.dual_cert.proofs.cert.Cert.of.Goals as goal
