@@ -151,51 +151,90 @@ fn measured(
     }
 }
 
+/// Two coflows at the same two ports, with 3 units and 1 unit.
+fn of_two(
+    rt: &impl Abort,
+    alloc: Global,
+    weights: [u64; 2],
+    places: [Place; 2],
+) -> Result<(u128, u128), u32> {
+    measured(
+        rt,
+        alloc,
+        &[flow(0, 0, 1, 3), flow(1, 0, 1, 1)],
+        &weights,
+        3,
+        &places,
+    )
+}
+
 const THIRD: u128 = 366503875925;
 
 const ONE: u128 = 1099511627776;
 
 #[test]
-fn values_by_hand(rt: HostRuntime) {
+fn two_flows_by_hand(rt: HostRuntime) {
     let alloc = rt.alloc();
-    let two = [flow(0, 0, 1, 3), flow(1, 0, 1, 1)];
-    assert_eq!(rt;
-        measured(
-            &rt,
-            alloc,
-            &two,
-            &[1, 1],
-            3,
-            &[ingress(1, 0, 733007751851), ingress(0, 0, THIRD)]
+    let table = [
+        (
+            [1, 1],
+            [ingress(1, 0, 733007751851), ingress(0, 0, THIRD)],
+            Ok((5, 1)),
         ),
-        Ok((5, 1))
-    );
-    assert_eq!(rt;
-        measured(
-            &rt,
-            alloc,
-            &two,
-            &[5, 1],
-            3,
-            &[ingress(0, 0, 733007751850), ingress(1, 0, ONE)]
+        (
+            [5, 1],
+            [ingress(0, 0, 733007751850), ingress(1, 0, ONE)],
+            Ok((19, 1)),
         ),
-        Ok((19, 1))
-    );
+        // the longer coflow pays three times a number just above a third
+        (
+            [1, 1],
+            [ingress(1, 0, 733007751851), ingress(0, 0, THIRD + 1)],
+            Err(0),
+        ),
+        (
+            [1, 1],
+            [ingress(1, 0, 733007751852), ingress(0, 0, THIRD)],
+            Err(1),
+        ),
+        // both pay too much, and the least is told wherever it stands
+        (
+            [1, 1],
+            [ingress(1, 0, u128::MAX), ingress(0, 0, u128::MAX)],
+            Err(0),
+        ),
+        (
+            [1, 1],
+            [ingress(0, 0, u128::MAX), ingress(1, 0, u128::MAX)],
+            Err(0),
+        ),
+        // without prices nothing is bounded, and all budgets are left
+        ([1, 1], [ingress(1, 0, 0), ingress(0, 0, 0)], Ok((0, 10))),
+        ([1, 1], [ingress(0, 0, THIRD), ingress(1, 0, 0)], Ok((3, 9))),
+        // any price is feasible on a port without load, and adds nothing
+        (
+            [1, 1],
+            [ingress(1, 2, u128::MAX), ingress(0, 0, THIRD)],
+            Ok((5, 1)),
+        ),
+    ];
+    for (weights, places, want) in table {
+        assert_eq!(rt; of_two(&rt, alloc, weights, places), want);
+    }
+}
+
+#[test]
+fn other_flows_by_hand(rt: HostRuntime) {
+    let alloc = rt.alloc();
     let ties = [
         flow(0, 0, 0, 1),
         flow(0, 1, 0, 1),
         flow(1, 0, 1, 1),
         flow(1, 1, 1, 1),
     ];
+    let places = [egress(0, 0, 0), ingress(1, 0, ONE)];
     assert_eq!(rt;
-        measured(
-            &rt,
-            alloc,
-            &ties,
-            &[1, 1],
-            2,
-            &[egress(0, 0, 0), ingress(1, 0, ONE)]
-        ),
+        measured(&rt, alloc, &ties, &[1, 1], 2, &places),
         Ok((3, 0))
     );
     let realistic = [
@@ -222,128 +261,23 @@ fn values_by_hand(rt: HostRuntime) {
 fn coflows_without_load(rt: HostRuntime) {
     let alloc = rt.alloc();
     let one_empty = [flow(1, 0, 1, 2)];
+    let places = [ingress(0, 0, 0), ingress(1, 0, ONE / 2)];
     assert_eq!(rt;
-        measured(
-            &rt,
-            alloc,
-            &one_empty,
-            &[1, 1],
-            2,
-            &[ingress(0, 0, 0), ingress(1, 0, ONE / 2)]
-        ),
+        measured(&rt, alloc, &one_empty, &[1, 1], 2, &places),
         Ok((2, 0))
     );
     // the one without load may be left out
     assert_eq!(rt;
-        measured(
-            &rt,
-            alloc,
-            &one_empty,
-            &[1, 1],
-            2,
-            &[ingress(1, 0, ONE / 2)]
-        ),
+        measured(&rt, alloc, &one_empty, &[1, 1], 2, &places[1..]),
         Ok((2, 0))
     );
     assert_eq!(rt; measured(&rt, alloc, &[], &[], 1, &[]), Ok((0, 0)));
 }
 
 #[test]
-fn prices_too_high(rt: HostRuntime) {
-    let alloc = rt.alloc();
-    let two = [flow(0, 0, 1, 3), flow(1, 0, 1, 1)];
-    // the longer coflow pays three times a number just above a third
-    assert_eq!(rt;
-        measured(
-            &rt,
-            alloc,
-            &two,
-            &[1, 1],
-            3,
-            &[ingress(1, 0, 733007751851), ingress(0, 0, THIRD + 1)]
-        ),
-        Err(0)
-    );
-    assert_eq!(rt;
-        measured(
-            &rt,
-            alloc,
-            &two,
-            &[1, 1],
-            3,
-            &[ingress(1, 0, 733007751852), ingress(0, 0, THIRD)]
-        ),
-        Err(1)
-    );
-    // both pay too much, and the least is told wherever it stands
-    assert_eq!(rt;
-        measured(
-            &rt,
-            alloc,
-            &two,
-            &[1, 1],
-            3,
-            &[ingress(1, 0, u128::MAX), ingress(0, 0, u128::MAX)]
-        ),
-        Err(0)
-    );
-    assert_eq!(rt;
-        measured(
-            &rt,
-            alloc,
-            &two,
-            &[1, 1],
-            3,
-            &[ingress(0, 0, u128::MAX), ingress(1, 0, u128::MAX)]
-        ),
-        Err(0)
-    );
-}
-
-#[test]
-fn other_certificates(rt: HostRuntime) {
-    let alloc = rt.alloc();
-    let two = [flow(0, 0, 1, 3), flow(1, 0, 1, 1)];
-    // without prices nothing is bounded, and all budgets are left
-    assert_eq!(rt;
-        measured(
-            &rt,
-            alloc,
-            &two,
-            &[1, 1],
-            3,
-            &[ingress(1, 0, 0), ingress(0, 0, 0)]
-        ),
-        Ok((0, 10))
-    );
-    // any price is feasible on a port without load, and adds nothing
-    assert_eq!(rt;
-        measured(
-            &rt,
-            alloc,
-            &two,
-            &[1, 1],
-            3,
-            &[ingress(1, 2, u128::MAX), ingress(0, 0, THIRD)]
-        ),
-        Ok((5, 1))
-    );
-    assert_eq!(rt;
-        measured(
-            &rt,
-            alloc,
-            &two,
-            &[1, 1],
-            3,
-            &[ingress(0, 0, THIRD), ingress(1, 0, 0)]
-        ),
-        Ok((3, 9))
-    );
-}
-
-#[test]
 fn values_at_the_limits(rt: HostRuntime) {
     let alloc = rt.alloc();
+    let places = [ingress(0, 0, 1099510579200)];
     assert_eq!(rt;
         measured(
             &rt,
@@ -351,10 +285,11 @@ fn values_at_the_limits(rt: HostRuntime) {
             &[flow(0, 0, 0, 1048577)],
             &[1048576],
             1,
-            &[ingress(0, 0, 1099510579200)]
+            &places
         ),
         Ok((1099512676351, 3))
     );
+    let places = [ingress(0, 1024, 1 << 32)];
     assert_eq!(rt;
         measured(
             &rt,
@@ -362,7 +297,7 @@ fn values_at_the_limits(rt: HostRuntime) {
             &[flow(0, 1024, 1024, 1 << 40)],
             &[1 << 32],
             1025,
-            &[ingress(0, 1024, 1 << 32)]
+            &places
         ),
         Ok((4722366482869645213696, 0))
     );
