@@ -4,3 +4,9 @@ pub mod FourLaw
 pub mod PlaceNumbers
 pub mod SizeLaws
 pub mod SlackLaw
+pub mod FirstPlaces
+pub mod BudgetSteps
+pub mod ValueSteps
+pub mod OfInstance
+pub mod FirstPays
+pub mod TestSteps

@@ -1,0 +1,3 @@
+pub mod TableCertificate
+pub mod OtherCertificate
+pub mod TestInputs

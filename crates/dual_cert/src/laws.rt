@@ -8,6 +8,8 @@ ghost use Rattle.coflow_units.specs.Schedule.{IsValid};
 ghost use Rattle.coflow_units.specs.Completion.{cost};
 ghost use Rattle.coflow_units.specs.Certificate.{Entry, dual_value_by_number, over_places, over_places_by_number, used_by_number, IsCertificate, IsFeasible, IsBelowLoads, TakesGreatestPorts, front_loads, own_loads, bound, budget, front, unspent, order_of, rest, scale, slack, used, dual_value};
 ghost use Rattle.coflow_units.specs.Patient.{IsPatient};
+ghost use Rattle.coflow_units.specs.Rows.{equal_weights};
+ghost use Rattle.dual_cert.specs.OtherCertificate.{first_pays};
 
 /// Weak duality: no valid schedule, patient or not, costs less than the bound of a feasible certificate.
 ///
@@ -17,6 +19,14 @@ pub fn dual_is_bound()
         dual_value i.flows entries ≤ 2 * scale * cost i.flows i.weight i.coflows slots }
     ensures bound { (i : Instance) (entries : List Entry) (slots : List (List ℕ)) → IsCertificate i entries → IsFeasible i.flows i.weight entries → IsValid i.flows slots →
         bound i.flows entries ≤ cost i.flows i.weight i.coflows slots }
+{}
+
+/// A feasible certificate need not be the ordering one. This one of two coflows with 3 units and 1 unit at a port says that each valid schedule costs at least 3.
+pub fn first_pays_bounds()
+    ensures certificate { IsCertificate equal_weights first_pays }
+    ensures feasible { IsFeasible equal_weights.flows equal_weights.weight first_pays }
+    ensures bound { bound equal_weights.flows first_pays ≡ 3 }
+    ensures cost { (slots : List (List ℕ)) → IsValid equal_weights.flows slots → 3 ≤ cost equal_weights.flows equal_weights.weight equal_weights.coflows slots }
 {}
 
 /// A valid schedule that is patient for the order of a feasible certificate, each of whose ports is a greatest one of its front, costs at most four times

@@ -1,4 +1,14 @@
 // Certificates: lower bounds on the cost of every schedule, and how far a patient schedule can be from them.
 #![tactic(auto)]
 
+mod budgets;
+mod cert;
 pub mod laws;
+mod value;
+
+pub use budgets::infeasible;
+pub use cert::Cert;
+pub use value::{bound, slack};
+
+#[cfg(test)]
+mod tests;

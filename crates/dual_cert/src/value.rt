@@ -1,0 +1,92 @@
+//! The bound that a certificate proves, and its slack.
+ghost use Rattle.std.specs.Prelude.{◌≡◌, ℕ, ◌+◌, ◌*◌, ◌^◌, ◌<◌, ◌≤◌, All, List, length, reverse};
+ghost use Rattle.std.specs.List.{slice_index_or};
+ghost use Rattle.coflow_units.specs.declared.fabric.Flow.{Flow};
+ghost use Rattle.coflow_units.specs.declared.fabric.Port.{Port};
+ghost use Rattle.coflow_units.specs.Certificate.{bound, front, front_load, slack};
+ghost use Rattle.coflow_units.specs.Load.{squares_of_loads};
+ghost use Rattle.port_load.specs.LoadTable.{total_at};
+ghost use Rattle.dual_cert.specs.TableCertificate.{HasLoadsOf, HasWeightsOf, IsCertificateOf, StaysInBudget, all_entries, entries_to, port_at};
+
+use crate::budgets::kept;
+use crate::cert::{Cert, Charge};
+use coflow_units::{MAX_COFLOWS, SCALE};
+use port_load::Loads;
+
+/// The lower bound that a feasible certificate proves on the cost of every schedule: half the sum over the places of y times the square of the load of the front on the
+/// port, together with the squares of its coflows' loads there, in parts of 2^40 and rounded up.
+///
+/// Source: Mastrolilli, Queyranne, Schulz, Svensson and Uhan, "Minimizing the sum of weighted completion times in a concurrent open shop", Operations Research Letters 2010.
+pub fn bound(loads: &Loads, cert: &Cert) -> u128
+    requires totals_fit { (port : Port) → port.number < loads.now.ports → total_at loads.now port ≤ 2 ^ 40 }
+    requires certificate { IsCertificateOf loads.now (reverse cert.now) }
+    requires feasible { (weights : List ℕ) × All (λ w. w ≤ 2 ^ 32) weights × StaysInBudget loads.now weights (reverse cert.now) }
+    ensures { (flows : List Flow) → HasLoadsOf flows loads.now (reverse cert.now) → result ≡ bound flows (reverse cert.now) }
+{
+    // with at most 4096 coflows the sum is at most 2^125
+    prove!(loads.coflows() <= MAX_COFLOWS);
+    let charges = cert.charges();
+    let mut value = 0;
+    for place in 0..charges.len() {
+        value += charges[place].y * squares(loads, charges, place);
+    }
+    value.div_ceil(2 * SCALE)
+}
+
+/// What the factor of four lacks at most: twice the sum over the places of what the coflow keeps of its budget times the load of the front on the port, in parts of 2^40 and rounded up.
+pub fn slack(loads: &Loads, weights: &[u64], cert: &Cert) -> u128
+    requires weights_len { length weights.now ≡ loads.now.coflows }
+    requires weights_fit { All (λ w. w ≤ 2 ^ 32) weights.now }
+    requires totals_fit { (port : Port) → port.number < loads.now.ports → total_at loads.now port ≤ 2 ^ 40 }
+    requires certificate { IsCertificateOf loads.now (reverse cert.now) }
+    requires feasible { StaysInBudget loads.now weights.now (reverse cert.now) }
+    ensures { (flows : List Flow) (weight : ℕ → ℕ) → HasLoadsOf flows loads.now (reverse cert.now) → HasWeightsOf weight weights.now (reverse cert.now) →
+        result ≡ slack flows weight (reverse cert.now) }
+{
+    // with at most 4096 coflows the sum is at most 2^124
+    prove!(loads.coflows() <= MAX_COFLOWS);
+    let charges = cert.charges();
+    let mut unspent = 0;
+    for place in 0..charges.len() {
+        let Some(rest) = kept(loads, weights, charges, place) else {
+            unreachable!();
+        };
+        unspent += rest * total(loads, charges, place) as u128;
+    }
+    (2 * unspent).div_ceil(SCALE)
+}
+
+/// The load of a place's port over its front. Places count from 0.
+fn total(loads: &Loads, charges: &[Charge], place: usize) -> u64
+    requires totals_fit { (port : Port) → port.number < loads.now.ports → total_at loads.now port ≤ 2 ^ 40 }
+    requires place_in { place < length charges.now }
+    requires certificate { IsCertificateOf loads.now (all_entries charges.now) }
+    ensures load { (flows : List Flow) → HasLoadsOf flows loads.now (all_entries charges.now) → result ≡ front_load flows (entries_to (place + 1) charges.now) }
+    ensures fits { result ≤ 2 ^ 40 }
+{
+    let port = charges[place].port;
+    let mut total = 0;
+    for number in 0..place + 1 {
+        total += loads.get(charges[number].coflow, port);
+    }
+    total
+}
+
+/// The square of the load of a place's port over its front, and the squares of its coflows' loads there. Places count from 0.
+fn squares(loads: &Loads, charges: &[Charge], place: usize) -> u128
+    requires totals_fit { (port : Port) → port.number < loads.now.ports → total_at loads.now port ≤ 2 ^ 40 }
+    requires place_in { place < length charges.now }
+    requires certificate { IsCertificateOf loads.now (all_entries charges.now) }
+    ensures { (flows : List Flow) → HasLoadsOf flows loads.now (all_entries charges.now) →
+        result ≡ front_load flows (entries_to (place + 1) charges.now) * front_load flows (entries_to (place + 1) charges.now) + squares_of_loads flows (front (entries_to (place + 1) charges.now)) (port_at charges.now place) }
+{
+    let port = charges[place].port;
+    let mut total = 0;
+    let mut squares = 0;
+    for earlier in 0..place + 1 {
+        let load = loads.get(charges[earlier].coflow, port) as u128;
+        total += load;
+        squares += load * load;
+    }
+    total * total + squares
+}
