@@ -1,0 +1,11 @@
+// The texts of the program: the report of a plan, written and read strictly. Each value has one text, and each text stands for at most one value.
+#![tactic(auto)]
+
+mod value;
+mod writing;
+
+pub use value::{PlaceLine, Report};
+pub use writing::write_report;
+
+#[cfg(test)]
+mod tests;
