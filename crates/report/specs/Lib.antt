@@ -1,2 +1,4 @@
 pub mod Report
 pub mod Text
+pub mod Readers
+pub mod Reading

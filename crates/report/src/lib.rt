@@ -1,9 +1,13 @@
 // The texts of the program: the report of a plan, written and read strictly. Each value has one text, and each text stands for at most one value.
 #![tactic(auto)]
 
+mod fault;
+mod lines;
+mod parts;
 mod value;
 mod writing;
 
+pub use fault::ReportFault;
 pub use value::{PlaceLine, Report};
 pub use writing::write_report;
 
