@@ -3,3 +3,7 @@ pub mod LineText
 pub mod NumberText
 pub mod PartText
 pub mod FlowText
+pub mod LineLists
+pub mod DraftText
+pub mod DraftSteps
+pub mod ReadingText

@@ -7,7 +7,7 @@ use Rattle.coflow_units.specs.declared.fabric.Side.{Side}
 use Rattle.coflow_units.specs.declared.plan.Run.{Run}
 use Rattle.report.specs.declared.value.PlaceLine.{PlaceLine}
 use Rattle.report.specs.Report.{IsSmallPlace}
-use Rattle.report.specs.Text.{charge_words, ended, place_line, run_line, side_word, spaced, weight_word}
+use Rattle.report.specs.Text.{charge_words, ended, place_line, run_line, side_word, spaced, version_line, weight_word}
 
 -- a number ends where these bytes follow: there are none, or the first is no digit
 abbrev pub Stops : List ℕ → Type 0
@@ -18,6 +18,21 @@ Stops (b ∷ bs) = is_ascii_digit b ≡ false
 abbrev pub IsOneLine : List ℕ → Type 0
 IsOneLine [] = Unit {0}
 IsOneLine (b ∷ bs) = (b ≢ 10) × IsOneLine bs
+
+-- the weights of a text that has them, or none
+abbrev pub weights_if : Bool → List ℕ → Option (List ℕ)
+weights_if true weights = Some weights
+weights_if false weights = None
+
+-- the weight as a list of one, or none
+abbrev pub weights_list : Option ℕ → List ℕ
+weights_list (Some weight) = weight ∷ []
+weights_list None = []
+
+-- the line is the first one of a text with weights, or without; or it is no first line
+abbrev pub IsVersionOf : List ℕ → Option Bool → Type 0
+IsVersionOf line (Some weighed) = (weights : List ℕ) → line ≡ version_line (weights_if weighed weights)
+IsVersionOf line None = (weights : Option (List ℕ)) → line ≡ version_line weights → ⊥
 
 -- the bytes begin with a whole line, and these are the line and what follows; or they do not begin so
 abbrev pub IsLineThen : {V : Type 0} → (V → List ℕ × List ℕ) → List ℕ → Option V → Type 0

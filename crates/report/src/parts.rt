@@ -1,11 +1,31 @@
 //! What a line of a report says.
-ghost use Rattle.std.specs.Prelude.{◌≡◌, ◌^◌, ◌≤◌, IfOk, OnOk, map, true, false, Option};
-ghost use Rattle.report.specs.Readers.{IsChargeThen, IsFlowsOf, IsPlaceOf, IsRunOf, IsTotalOf, IsWeightWord, Rises, Stops};
+ghost use Rattle.std.specs.Prelude.{◌≡◌, ◌↔◌, IfOk, IsTrue, codes};
+ghost use Rattle.report.specs.Readers.{IsChargeThen, IsFlowsOf, IsPlaceOf, IsRunOf, IsTotalOf, IsVersionOf, IsWeightWord, Rises, Stops};
 
 use crate::lines::{number_then, side_then};
 use crate::value::PlaceLine;
 use coflow_units::{Items, MAX_SLOT, MAX_WEIGHT, NoMemory, Port, Run};
 use std::alloc::Global;
+
+/// Whether the first line is that of a text with weights.
+pub(crate) fn version_of(line: &[u8]) -> Option<bool>
+    ensures { IsVersionOf line.now result }
+{
+    if line == b"sincronia 1".as_slice() {
+        return Some(false);
+    }
+    if line == b"sincronia 2".as_slice() {
+        return Some(true);
+    }
+    None
+}
+
+/// The line is the last one.
+pub(crate) fn is_end(line: &[u8]) -> bool
+    ensures { IsTrue result ↔ (line.now ≡ codes "end") }
+{
+    line == b"end".as_slice()
+}
 
 /// The id, the port, the y and the slot of completion that the bytes begin with, and the bytes behind them.
 fn charge_then(bytes: &[u8]) -> Option<(PlaceLine, &[u8])>
