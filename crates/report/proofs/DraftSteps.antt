@@ -1,6 +1,6 @@
 -- A draft that takes the line of a place or of a run.
-use Rattle.std.proofs.Common.{◌≡◌, ◌≢◌, ℕ, suc, ◌+◌, ◌-◌, ◌<◌, ◌≤◌, ◌^◌, List, [], ◌∷◌, ◌++◌, Bool, true, false, Option, Some, None, append_assoc, append-nil, length, length-append, map, get_or, refl, sym, ap, subst, ◌∙◌, ltb, arith, zero-add}
-use Rattle.std.specs.Prelude.{All, codes, sum_by}
+use Rattle.std.proofs.Common.{◌≡◌, ◌≢◌, ℕ, ◌+◌, ◌-◌, ◌<◌, ◌≤◌, ◌^◌, List, [], ◌∷◌, ◌++◌, Bool, true, false, Option, Some, None, append_assoc, length, length-append, map, get_or, refl, sym, ap, ◌∙◌, ltb, arith, zero-add}
+use Rattle.std.specs.Prelude.{All, sum_by}
 use Rattle.std.specs.List.{range_with_len}
 use Rattle.std.specs.List.Sorted.{IsStrictlyIncreasing}
 use Rattle.std.proofs.lemmas.Bool.Decides.{nat_tests}
@@ -12,14 +12,13 @@ use Rattle.std.specs.declared.vec.Vec.{Vec}
 use Rattle.std.specs.declared.alloc.Global.{Global}
 use Rattle.coflow_units.specs.declared.plan.Run.{Run}
 use Rattle.report.specs.declared.draft.Draft.{Draft}
-use Rattle.report.specs.declared.draft.Stage.{Stage}
 use Rattle.report.specs.declared.draft.Stage.TheVariants.{Places, Runs}
 use Rattle.report.specs.declared.value.PlaceLine.{PlaceLine}
 use Rattle.report.specs.declared.value.Report.{Report}
-use Rattle.report.specs.Report.{ForEach, HasSmallNumbers, IsReport, IsSmallPlace}
+use Rattle.report.specs.Report.{ForEach, IsSmallPlace}
 use Rattle.report.specs.Text.{place_at, place_line, place_line_at, place_lines, run_line, total_lines, version_line, weight_at}
-use Rattle.report.specs.Readers.{AreFlows, IsRun, IsWeight, weights_if, weights_list}
-use Rattle.report.specs.Draft.{Differs, HasNothingLater, IsDraft, draft_lines, lines_before, report_of}
+use Rattle.report.specs.Readers.{IsRun, IsWeight, weights_if, weights_list}
+use Rattle.report.specs.Draft.{Differs, HasNothingLater, IsDraft, draft_lines, report_of}
 use Rattle.report.proofs.LineLists.{same_lines}
 
 InRange : ℕ → Type 0
@@ -55,34 +54,44 @@ version_same false xs ys = refl
 abbrev with_place : Draft → Vec PlaceLine Global → Vec ℕ Global → Draft
 with_place d places weights = record { stage = d.stage; weighed = d.weighed; places = places; weights = weights; bound = d.bound; slack = d.slack; cost = d.cost; runs = d.runs; slots = d.slots }
 
-pub place_taken : (d : Draft) (places : Vec PlaceLine Global) (weights : Vec ℕ Global) (p : PlaceLine) (w : Option ℕ) (line : List ℕ) → IsDraft d → d.stage ≡ Places → places.items ≡ d.places.items ++ (p ∷ []) → weights.items ≡ d.weights.items ++ weights_list w → IsSmallPlace p → IsWeight d.weighed w → line ≡ place_line (length d.places.items + 1) p w → IsDraft (with_place d places weights) × (draft_lines (with_place d places weights) ≡ draft_lines d ++ (line ∷ []))
-place_taken d places weights p w line h stage ps ws small fits is = (draft, lines)
+pub place_taken : (d : Draft) (places : Vec PlaceLine Global) (weights : Vec ℕ Global) (p : PlaceLine) (w : Option ℕ) (line : List ℕ) → IsDraft d → d.stage ≡ Places → places.items ≡ d.places.items ++ (p ∷ []) → weights.items ≡ d.weights.items ++ weights_list w → IsSmallPlace p → IsWeight d.weighed w → line ≡ place_line (length d.places.items + 1) p w → length d.places.items < 2 ^ 64 → IsDraft (with_place d places weights) × (draft_lines (with_place d places weights) ≡ draft_lines d ++ (line ∷ []))
+place_taken d places weights p w line h stage ps ws small fits is few = (draft, lines)
   where
     k : ℕ
     k = length d.places.items
+
     new : Report
     new = report_of (with_place d places weights)
+
     count : length places.items ≡ k + 1
     count = ap length ps ∙ length-append d.places.items (p ∷ [])
+
     each : ForEach (λ (x : List ℕ). length x ≡ length places.items) (weights_if d.weighed weights.items)
     each = rw (count, ws) (weights_each d.weighed d.weights.items w k fits h.report.weight_each)
+
     range : ForEach (All (λ x. (1 ≤ x) × (x ≤ 2 ^ 32))) (weights_if d.weighed weights.items)
     range = rw ws (weights_range d.weighed d.weights.items w fits h.report.weight_range)
+
     later : HasNothingLater d.stage (with_place d places weights)
     later = rw stage (rw stage at h.later)
+
     draft : IsDraft (with_place d places weights)
     draft = record {
       report = record { weight_each = each; weight_range = range; lengths = h.report.lengths; few_slots = h.report.few_slots; ascending = h.report.ascending; maximal = h.report.maximal };
-      small = record { places = rw ps (All-push IsSmallPlace d.places.items p h.small.places small); bound = h.small.bound; slack = h.small.slack; cost = h.small.cost; flows = h.small.flows };
+      small = record { count = omega (arith, count, few); places = rw ps (All-push IsSmallPlace d.places.items p h.small.places small); bound = h.small.bound; slack = h.small.slack; cost = h.small.cost; flows = h.small.flows };
       slots = h.slots;
       later = later;
     }
+
     before : (j : ℕ) → j < k → place_line_at new j ≡ place_line_at (report_of d) j
     before j lt = λ i. place_line (j + 1) ((ap (λ xs. place_at xs j) ps ∙ get_or_append_left d.places.items (p ∷ []) _ j lt) i) ((ap (λ xs. weight_at (weights_if d.weighed xs) j) ws ∙ weight_before d.weighed d.weights.items w k j h.report.weight_each lt) i)
+
     last : place_line_at new k ≡ line
     last = (λ i. place_line (k + 1) ((ap (λ xs. place_at xs k) ps ∙ get_or_push d.places.items p _ k refl) i) ((ap (λ xs. weight_at (weights_if d.weighed xs) k) ws ∙ weight_last d.weighed d.weights.items w k fits h.report.weight_each) i)) ∙ sym is
+
     own : place_lines new ≡ place_lines (report_of d) ++ (line ∷ [])
     own = ap (λ n. map (place_line_at new) (range_with_len 0 n)) count ∙ (map-range_with_len_more (place_line_at new) 0 k k (zero-add k) ∙ (λ i. same_lines (place_line_at new) (place_line_at (report_of d)) k before i ++ (last i ∷ [])))
+
     lines : draft_lines (with_place d places weights) ≡ draft_lines d ++ (line ∷ [])
     lines = rw stage (λ i. (ap (λ xs. version_line (weights_if d.weighed xs)) refl ∙ version_same d.weighed weights.items d.weights.items) i ∷ own i)
 
@@ -98,6 +107,7 @@ maximal_push runs run h other k d lt = go (ltb (k + 1) (length runs)) refl
   where
     flows_at : List Run → ℕ → List ℕ
     flows_at xs i = (get_or xs i d).flows
+
     go : (b : Bool) → ltb (k + 1) (length runs) ≡ b → flows_at (runs ++ (run ∷ [])) k ≢ flows_at (runs ++ (run ∷ [])) (k + 1)
     go true e same =
         let before : k + 1 < length runs = grind (arith, nat_tests) in
@@ -113,8 +123,10 @@ run_taken d runs run line h stage rs is_run is few other = (draft, lines)
   where
     total : sum_by slots_in runs.items ≡ d.slots + run.length
     total = omega (arith, ap (sum_by slots_in) rs, sum_by-append slots_in d.runs.items (run ∷ []), sum_by-cons slots_in run [], h.slots)
+
     later : HasNothingLater d.stage (with_run d runs (d.slots + run.length))
     later = rw stage tt
+
     draft : IsDraft (with_run d runs (d.slots + run.length))
     draft = record {
       report = record {
@@ -125,11 +137,13 @@ run_taken d runs run line h stage rs is_run is few other = (draft, lines)
         ascending = rw rs (All-push (λ (x : Run). IsStrictlyIncreasing x.flows) d.runs.items run h.report.ascending is_run.2.0);
         maximal = rw rs (maximal_push d.runs.items run h.report.maximal other);
       };
-      small = record { places = h.small.places; bound = h.small.bound; slack = h.small.slack; cost = h.small.cost; flows = rw rs (All-push (λ (x : Run). All (λ f. f < 2 ^ 32) x.flows) d.runs.items run h.small.flows is_run.2.1) };
+      small = record { count = h.small.count; places = h.small.places; bound = h.small.bound; slack = h.small.slack; cost = h.small.cost; flows = rw rs (All-push (λ (x : Run). All (λ f. f < 2 ^ 32) x.flows) d.runs.items run h.small.flows is_run.2.1) };
       slots = sym total;
       later = later;
     }
+
     grown : map run_line runs.items ≡ map run_line d.runs.items ++ (line ∷ [])
     grown = ap (map run_line) rs ∙ (map-append run_line d.runs.items (run ∷ []) ∙ ap (λ x. map run_line d.runs.items ++ (x ∷ [])) (sym is))
+
     lines : draft_lines (with_run d runs (d.slots + run.length)) ≡ draft_lines d ++ (line ∷ [])
     lines = rw stage (ap (λ x. version_line (weights_if d.weighed d.weights.items) ∷ x) (ap (λ x. (place_lines (report_of d) ++ total_lines (report_of d)) ++ x) grown ∙ sym (append_assoc (place_lines (report_of d) ++ total_lines (report_of d)) (map run_line d.runs.items) (line ∷ []))))

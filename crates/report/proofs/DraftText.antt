@@ -1,7 +1,7 @@
 -- What line may follow the lines that were read.
-use Rattle.std.proofs.Common.{◌≡◌, ◌≢◌, ◌⊎◌, inl, inr, ℕ, suc, ◌+◌, ◌-◌, ◌<◌, ◌≤◌, ◌^◌, List, [], ◌∷◌, ◌++◌, Bool, true, false, Option, Some, None, append_assoc, append-nil, length, length-append, map, drop, get_or, refl, sym, ap, subst, ◌∙◌, arith}
+use Rattle.std.proofs.Common.{◌≡◌, ◌≢◌, ◌⊎◌, inl, inr, ℕ, suc, ◌+◌, ◌-◌, ◌<◌, ◌≤◌, ◌^◌, List, [], ◌∷◌, ◌++◌, Bool, true, false, Option, Some, None, append_assoc, append-nil, length, length-append, map, drop, get_or, refl, sym, ap, ◌∙◌, arith}
 use Rattle.std.specs.Prelude.{All, codes, sum_by}
-use Rattle.std.specs.List.{flat_map, range_with_len}
+use Rattle.std.specs.List.{flat_map}
 use Rattle.std.proofs.lemmas.List.{get_or_append_left}
 use Rattle.std.proofs.Math.Seq.{get_or-append_seam}
 use Rattle.std.proofs.lemmas.List.Sums.{get_or-le-sum_by, sum_by-append, sum_by-cons}
@@ -40,10 +40,13 @@ refuse_bound d line stage no_place no_bound r more report small e = go (next_aft
   where
     whole : version_line (report_of d).weights ∷ (place_lines (report_of d) ++ (line ∷ more)) ≡ version_line r.weights ∷ (place_lines r ++ lines_behind r (last_lines r))
     whole = begins d Places r line more stage e
+
     versions : version_line (report_of d).weights ≡ version_line r.weights
     versions = head_is _ _ (place_lines (report_of d) ++ (line ∷ more)) (place_lines r ++ lines_behind r (last_lines r)) whole
+
     tails : place_lines (report_of d) ++ (line ∷ more) ≡ place_lines r ++ lines_behind r (last_lines r)
     tails = tail_is (version_line (report_of d).weights) (version_line r.weights) _ _ whole
+
     go : ((zs : List (List ℕ)) × (place_lines r ≡ place_lines (report_of d) ++ (line ∷ zs))) ⊎ ((place_lines (report_of d) ≡ place_lines r) × (line ≡ bound_line r.bound) × (more ≡ slack_line r.slack ∷ cost_line r.cost ∷ last_lines r)) → ⊥
     go (inl (zs, more_places)) =
         let k : ℕ = length d.places.items in
@@ -55,7 +58,7 @@ refuse_bound d line stage no_place no_bound r more report small e = go (next_aft
 after_places : (p r : Report) (b : List ℕ) (rest others : List (List ℕ)) → (first b ≡ 112 → ⊥) → version_line p.weights ∷ (place_lines p ++ (b ∷ rest)) ≡ version_line r.weights ∷ (place_lines r ++ lines_behind r others) → rest ≡ slack_line r.slack ∷ cost_line r.cost ∷ others
 after_places p r b rest others other e =
     (both_ended 112 (place_lines p) (place_lines r) b (bound_line r.bound) rest (slack_line r.slack ∷ cost_line r.cost ∷ others) (places_first p) (places_first r) other (λ bad. absurd (omega (arith, bad)))
-        (tail_is (version_line p.weights) (version_line r.weights) (place_lines p ++ (b ∷ rest)) (place_lines r ++ lines_behind r others) e)).2
+    (tail_is (version_line p.weights) (version_line r.weights) (place_lines p ++ (b ∷ rest)) (place_lines r ++ lines_behind r others) e)).2
 
 pub refuse_slack : (d : Draft) (line : List ℕ) → d.stage ≡ Slack → IsTotalOf (codes "slack") line None → Refuses d line
 refuse_slack d line stage no_slack r more report small e =

@@ -1,5 +1,5 @@
 -- The flow numbers of a run in a text.
-use Rattle.std.proofs.Common.{◌≡◌, ◌⊎◌, inl, inr, ℕ, suc, ◌+◌, ◌-◌, ◌<◌, ◌≤◌, ◌^◌, List, [], ◌∷◌, ◌++◌, Bool, true, false, Some, None, nat_lt, length, drop, get_or, append_assoc, append-nil, length-append, refl, sym, ap, subst, ◌∙◌, ltb, arith}
+use Rattle.std.proofs.Common.{◌≡◌, ◌⊎◌, inl, inr, ℕ, suc, ◌+◌, ◌-◌, ◌<◌, ◌≤◌, ◌^◌, List, [], ◌∷◌, ◌++◌, Bool, true, false, Some, None, nat_lt, length, drop, get_or, append_assoc, append-nil, length-append, refl, sym, ap, ◌∙◌, ltb, arith}
 use Rattle.std.specs.Prelude.{All, codes}
 use Rattle.std.specs.List.{flat_map, slice_get}
 use Rattle.std.specs.List.Sorted.{IsStrictlyIncreasing}
@@ -37,6 +37,7 @@ rises_is flows flow last e = go (slice_get_cases flows (length flows - 1)).1
     tell : (b : Bool) → nat_lt last flow ≡ b → 0 < length flows → get_or flows (length flows - 1) 0 ≡ last → Rises flows flow b
     tell true h some at = λ up. push_rises flows flow last up some at (grind (arith, nat_tests))
     tell false h some at = λ up. let less = push_falls flows flow last up some at in absurd (grind (arith, nat_tests))
+
     go : ((x : ℕ) × (length flows - 1 < length flows) × (slice_get flows (length flows - 1) ≡ Some x) × (get_or flows (length flows - 1) x ≡ x)) ⊎ ((length flows ≤ length flows - 1) × (slice_get flows (length flows - 1) ≡ None)) → Rises flows flow (nat_lt last flow)
     go (inl (x, lt, is, at)) =
         tell (nat_lt last flow) refl (omega arith) (get_or_from_slice_get flows (length flows - 1) last 0 (sym e))

@@ -7,3 +7,6 @@ pub mod LineLists
 pub mod DraftText
 pub mod DraftSteps
 pub mod ReadingText
+pub mod OneLine
+pub mod LastLine
+pub mod ReadingSteps

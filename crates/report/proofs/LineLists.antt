@@ -1,5 +1,5 @@
 -- Lists of lines that begin with one byte, up to a line that begins with another.
-use Rattle.std.proofs.Common.{◌≡◌, ◌≢◌, ◌⊎◌, inl, inr, ℕ, zero, suc, ◌+◌, ◌<◌, List, [], ◌∷◌, ◌++◌, append_assoc, length, map, drop, get_or, refl, sym, ap, subst, ◌∙◌, arith, zero-add, length-append}
+use Rattle.std.proofs.Common.{◌≡◌, ◌⊎◌, inl, inr, ℕ, zero, suc, ◌+◌, ◌<◌, List, [], ◌∷◌, ◌++◌, append_assoc, length, map, drop, get_or, refl, sym, ap, subst, ◌∙◌, arith, zero-add, length-append}
 use Rattle.std.specs.Prelude.{codes}
 use Rattle.std.specs.List.{range_with_len}
 use Rattle.std.proofs.lemmas.List.FromFn.{map-range_with_len_more, get_or-map-range_with_len, length-map-range_with_len}
@@ -40,6 +40,7 @@ next_after p (x ∷ xs) (y ∷ ys) l b more rest hx hy other e = go (next_after 
   where
     same : x ≡ y
     same = head_is x y (xs ++ (l ∷ more)) (ys ++ (b ∷ rest)) e
+
     go : ((zs : List (List ℕ)) × (ys ≡ xs ++ (l ∷ zs))) ⊎ ((xs ≡ ys) × (l ≡ b) × (more ≡ rest)) → ((zs : List (List ℕ)) × (y ∷ ys ≡ x ∷ xs ++ (l ∷ zs))) ⊎ ((x ∷ xs ≡ y ∷ ys) × (l ≡ b) × (more ≡ rest))
     go (inl (zs, whole)) = inl (zs, (λ i. sym same i ∷ whole i))
     go (inr (w, lb, mr)) = inr ((λ i. same i ∷ w i), lb, mr)
@@ -78,6 +79,7 @@ next_place f g n k l zs e =
   where
     length_append : (xs ys : List (List ℕ)) → length (xs ++ ys) ≡ length xs + length ys
     length_append xs ys = length-append xs ys
+
     seam : (xs : List (List ℕ)) (i : ℕ) → length xs ≡ i → (y : List ℕ) (ys : List (List ℕ)) → get_or (xs ++ (y ∷ ys)) i [] ≡ y
     seam xs i at y ys = rw (← at) (get_or-append_seam xs y ys [])
 

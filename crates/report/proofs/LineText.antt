@@ -1,6 +1,6 @@
 -- A line in front of other text.
-use Rattle.std.proofs.Common.{◌≡◌, ◌≢◌, ℕ, suc, ◌+◌, ◌<◌, ◌≤◌, List, [], ◌∷◌, ◌++◌, Bool, true, false, not, Some, None, length, take, drop, refl, sym, ap, ◌∙◌, append_assoc, ltb, arith}
-use Rattle.std.specs.Prelude.{◌==◌, codes, nat_eq, position}
+use Rattle.std.proofs.Common.{◌≡◌, ◌≢◌, ℕ, suc, ◌+◌, ◌≤◌, List, [], ◌∷◌, ◌++◌, Bool, true, false, not, Some, None, length, take, drop, refl, sym, ap, ◌∙◌, append_assoc, ltb, arith}
+use Rattle.std.specs.Prelude.{◌==◌, nat_eq, position}
 use Rattle.std.specs.List.{position_or_len}
 use Rattle.std.specs.Cmp.Lexicographic.{pointwise}
 use Rattle.std.proofs.lemmas.Bool.Decides.{nat_tests, Decides-eqb}

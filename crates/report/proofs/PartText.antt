@@ -1,19 +1,14 @@
 -- The parts of a line in front of other text.
-use Rattle.std.proofs.Common.{◌≡◌, ◌≢◌, ℕ, zero, suc, ◌+◌, ◌-◌, ◌<◌, ◌≤◌, ◌^◌, List, [], ◌∷◌, ◌++◌, Bool, true, false, Option, Some, None, length, drop, get_or, append_assoc, append-nil, length-append, refl, sym, ap, subst, ◌∙◌, ltb, arith}
-use Rattle.std.specs.Prelude.{◌==◌, All, codes, decimal}
-use Rattle.std.specs.List.{flat_map, slice_get}
-use Rattle.std.specs.List.Sorted.{IsStrictlyIncreasing}
+use Rattle.std.proofs.Common.{◌≡◌, ℕ, suc, ◌<◌, ◌≤◌, ◌^◌, List, [], ◌∷◌, ◌++◌, Bool, true, false, Option, Some, None, length, drop, get_or, append_assoc, append-nil, refl, sym, ap, ◌∙◌, arith}
+use Rattle.std.specs.Prelude.{◌==◌, codes}
 use Rattle.std.proofs.lemmas.Bool.Decides.{nat_tests}
-use Rattle.std.proofs.lemmas.Grind.{flat_map-append}
-use Rattle.std.proofs.lemmas.List.{append_cancel_left, get_or_append_left, get_or_push}
-use Rattle.std.proofs.lemmas.List.Elements.{All-push}
+use Rattle.std.proofs.lemmas.List.{append_cancel_left}
 use Rattle.coflow_units.specs.declared.fabric.Side.{Side}
 use Rattle.coflow_units.specs.declared.fabric.Side.TheVariants.{Ingress, Egress}
-use Rattle.coflow_units.specs.declared.plan.Run.{Run}
 use Rattle.report.specs.declared.value.PlaceLine.{PlaceLine}
 use Rattle.report.specs.Report.{IsSmallPlace}
-use Rattle.report.specs.Text.{charge_words, place_line, run_line, side_word, spaced, weight_word}
-use Rattle.report.specs.Readers.{AreFlows, IsRun, IsWeight, Stops, Rises}
+use Rattle.report.specs.Text.{charge_words, place_line, side_word, spaced, weight_word}
+use Rattle.report.specs.Readers.{IsWeight, Stops}
 use Rattle.report.proofs.NumberText.{spaced_unique}
 
 -- two numbers that the same bytes begin with are one

@@ -1,18 +1,6 @@
 -- The lines that bytes begin with, and what text of a report goes on from them.
-use Rattle.std.proofs.Common.{◌≡◌, ◌≢◌, ◌⊎◌, inl, inr, ℕ, zero, suc, ◌+◌, ◌-◌, ◌<◌, ◌≤◌, ◌^◌, List, [], ◌∷◌, ◌++◌, Bool, true, false, append_assoc, append-nil, length, length-append, map, drop, take, get_or, refl, sym, ap, subst, ◌∙◌, arith}
-use Rattle.std.specs.Prelude.{codes, decimal}
-use Rattle.std.specs.Char.{is_ascii_digit}
-use Rattle.std.specs.List.{flat_map, range_with_len}
-use Rattle.std.specs.Str.{all_ascii_digits}
-use Rattle.std.proofs.lemmas.Grind.{flat_map-append}
-use Rattle.std.proofs.lemmas.List.{take-append-drop}
-use Rattle.coflow_units.specs.declared.fabric.Side.{Side}
-use Rattle.coflow_units.specs.declared.fabric.Side.TheVariants.{Ingress, Egress}
-use Rattle.coflow_units.specs.declared.plan.Run.{Run}
-use Rattle.report.specs.declared.value.PlaceLine.{PlaceLine}
-use Rattle.report.specs.declared.value.Report.{Report}
-use Rattle.report.specs.Report.{HasSmallNumbers, IsReport, IsSmallPlace}
-use Rattle.report.specs.Text.{ended, report_lines, text_of}
+use Rattle.std.proofs.Common.{◌≡◌, ℕ, ◌+◌, List, [], ◌∷◌, ◌++◌, append_assoc, append-nil, length, length-append, refl, sym, ap, ◌∙◌, arith}
+use Rattle.report.specs.Text.{ended, text_of}
 use Rattle.report.specs.Readers.{IsOneLine}
 use Rattle.report.proofs.LineText.{line_unique}
 

@@ -1,5 +1,5 @@
 -- A report that was read in part.
-use Rattle.std.specs.Prelude.{◌≡◌, ◌≢◌, ℕ, ◌+◌, ◌-◌, ◌<◌, ◌≤◌, ◌^◌, ◌++◌, Bool, true, false, List, [], ◌∷◌, Option, Some, None, length, map, sum_by, codes}
+use Rattle.std.specs.Prelude.{◌≡◌, ◌≢◌, ℕ, ◌-◌, ◌<◌, ◌++◌, Bool, true, false, List, [], ◌∷◌, Option, Some, None, length, map, sum_by}
 use Rattle.std.specs.List.{slice_index_or}
 use Rattle.coflow_units.specs.declared.plan.Run.{Run}
 use Rattle.report.specs.declared.draft.Stage.{Stage}
@@ -56,3 +56,8 @@ Takes old new line false = Refuses old line
 abbrev pub Differs : List Run → List ℕ → Bool → Type 0
 Differs runs flows true = (d : Run) → 0 < length runs → (slice_index_or runs (length runs - 1) d).flows ≢ flows
 Differs runs flows false = (d : Run) → (0 < length runs) × ((slice_index_or runs (length runs - 1) d).flows ≡ flows)
+
+-- the report is finished where its last line was read
+abbrev pub Finishes : Draft → Option Report → Type 0
+Finishes d (Some r) = (d.stage ≡ Done) × (r ≡ report_of d)
+Finishes d None = d.stage ≢ Done

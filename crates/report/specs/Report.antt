@@ -35,8 +35,9 @@ pub record IsSmallPlace (p : PlaceLine) : Type 0 where
   pub y : p.y < 2 ^ 128
   pub done : p.done < 2 ^ 64
 
--- each number of the report fits its type; the length and the weights need no word here
+-- each number of the report fits its type, and places are counted below 2^128; the lengths and the weights need no word here
 pub record HasSmallNumbers (r : Report) : Type 0 where
+  pub count : length r.places < 2 ^ 128
   pub places : All IsSmallPlace r.places
   pub bound : r.bound < 2 ^ 128
   pub slack : r.slack < 2 ^ 128

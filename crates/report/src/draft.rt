@@ -1,7 +1,7 @@
 //! A report that is read line by line.
 ghost use Rattle.std.specs.Prelude.{◌≡◌, ◌+◌, ◌++◌, [], IfOk, None, OnOk, length};
 ghost use Rattle.report.specs.declared.draft.Stage.TheVariants.{Version as AtVersion, Places as AtPlaces, Slack as AtSlack, Cost as AtCost, Runs as AtRuns, Done as AtDone};
-ghost use Rattle.report.specs.Draft.{Differs, IsDraft, Takes, draft_lines, report_of};
+ghost use Rattle.report.specs.Draft.{Differs, Finishes, IsDraft, Takes, draft_lines, report_of};
 ghost use Rattle.report.specs.Readers.{IsPlaceOf, IsRunOf, weights_list};
 
 use crate::parts::{is_end, place_of, run_of, total_of, version_of};
@@ -53,8 +53,18 @@ impl Draft {
         }
     }
 
-    /// The report whose lines were read.
-    pub(crate) fn into_report(self) -> Report
+    /// The report whose lines were read, where the last line was read.
+    pub(crate) fn into_report(self) -> Option<Report>
+        ensures { Finishes self result }
+    {
+        match self.stage {
+            Stage::Done => Some(self.report()),
+            _ => None,
+        }
+    }
+
+    /// What was read, as a report.
+    fn report(self) -> Report
         ensures { result ≡ report_of self }
     {
         let Draft {

@@ -2,7 +2,7 @@
 ghost use Rattle.std.specs.Prelude.{◌≤◌, ◌^◌, length};
 ghost use Rattle.report.specs.Reading.{GivesReport};
 
-use crate::draft::{Draft, Stage};
+use crate::draft::Draft;
 use crate::fault::ReportFault;
 use crate::lines::line_then;
 use crate::value::Report;
@@ -30,9 +30,8 @@ pub fn read_report(alloc: Global, bytes: &[u8]) -> Result<Report, ReportFault>
         rest = behind;
         line_number += 1;
     }
-    if draft.stage == Stage::Done {
-        Ok(draft.into_report())
-    } else {
-        Err(ReportFault::BadText { line: line_number })
+    match draft.into_report() {
+        Some(report) => Ok(report),
+        None => Err(ReportFault::BadText { line: line_number }),
     }
 }

@@ -1,5 +1,4 @@
-use Rattle.std.proofs.Common.{◌≡◌, ◌∷◌, [], ap, ◌∙◌, sym}
-use Rattle.report.specs.Readers.{IsOneLine}
+use Rattle.std.proofs.Common.{◌∷◌, [], ◌∙◌}
 use Rattle.report.proofs.LineText.{feed_is_next, front_is_line, line_found, not_there, prefix_found}
 use Rattle.report.proofs.lines.line_then.Goals as goal
 

@@ -1,6 +1,5 @@
 use Rattle.std.proofs.Common.{◌≡◌, ◌<◌, ◌^◌, ◌++◌, ◌∷◌, [], sym, ap, ◌∙◌, arith, Ok}
 use Rattle.std.specs.Prelude.{codes, decimal}
-use Rattle.report.specs.Readers.{Stops}
 use Rattle.report.proofs.LineText.{not_same, prefix_found, same_list}
 use Rattle.report.proofs.NumberText.{behind_space, digits_stop, is_text, number_found, number_parts, parses}
 use Rattle.report.proofs.lines.number_then.Goals as goal
@@ -33,8 +32,7 @@ returns-then-number-most c = λ n rest le stops e.
 pub returns-then-eq : goal.returns-then-eq
 returns-then-eq c =
     let space : c.args.bytes.now ≡ codes " " ++ c.in-Some.digits.now = prefix_found (32 ∷ []) c.args.bytes.now c.in-Some.digits.now c.in-Some.ensures.cases.0 c.in-Some.ensures.cases.1 in
-    let field : c.split_at.result.0.now ≡ decimal c.in-Ok-parse.number = sym (same_list c.as_bytes.result.now c.split_at.result.0.now (sym c.if-eq.ensures)) ∙ (c.as_bytes.ensures.value ∙ c.format.ensures.text) in
-    (
+    let field : c.split_at.result.0.now ≡ decimal c.in-Ok-parse.number = sym (same_list c.as_bytes.result.now c.split_at.result.0.now (sym c.if-eq.ensures)) ∙ (c.as_bytes.ensures.value ∙ c.format.ensures.text) in (
       omega arith,
       number_found c.args.bytes.now c.in-Some.digits.now c.split_at.result.0.now c.split_at.result.1.now c.digits_length.result c.in-Ok-parse.number space c.split_at.ensures.front c.split_at.ensures.back field,
       rw (c.split_at.ensures.back, c.digits_length.ensures.digits) (digits_stop c.in-Some.digits.now),

@@ -1,4 +1,4 @@
-use Rattle.std.proofs.Common.{◌≡◌, true, false, sym, ◌∙◌}
+use Rattle.std.proofs.Common.{◌≡◌, true, false}
 use Rattle.report.proofs.DraftText.{refuse_end}
 use Rattle.report.proofs.draft.Draft.take_end.Goals as goal
 
