@@ -10,3 +10,4 @@ pub mod ReadingText
 pub mod OneLine
 pub mod LastLine
 pub mod ReadingSteps
+pub mod TextLaws

@@ -3,6 +3,7 @@
 
 mod draft;
 mod fault;
+pub mod laws;
 mod lines;
 mod parts;
 mod reading;
