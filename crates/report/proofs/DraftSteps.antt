@@ -21,9 +21,6 @@ use Rattle.report.specs.Readers.{IsRun, IsWeight, weights_if, weights_list}
 use Rattle.report.specs.Draft.{Differs, HasNothingLater, IsDraft, draft_lines, report_of}
 use Rattle.report.proofs.LineLists.{same_lines}
 
-InRange : ℕ → Type 0
-InRange w = (1 ≤ w) × (w ≤ 2 ^ 32)
-
 -- one more weight for one more place
 weights_each : (weighed : Bool) (ws : List ℕ) (w : Option ℕ) (n : ℕ) → IsWeight weighed w → ForEach (λ (x : List ℕ). length x ≡ n) (weights_if weighed ws) → ForEach (λ (x : List ℕ). length x ≡ n + 1) (weights_if weighed (ws ++ weights_list w))
 weights_each true ws (Some w) n h each = omega (arith, length-append ws (w ∷ []), each)
@@ -93,7 +90,7 @@ place_taken d places weights p w line h stage ps ws small fits is few = (draft, 
     own = ap (λ n. map (place_line_at new) (range_with_len 0 n)) count ∙ (map-range_with_len_more (place_line_at new) 0 k k (zero-add k) ∙ (λ i. same_lines (place_line_at new) (place_line_at (report_of d)) k before i ++ (last i ∷ [])))
 
     lines : draft_lines (with_place d places weights) ≡ draft_lines d ++ (line ∷ [])
-    lines = rw stage (λ i. (ap (λ xs. version_line (weights_if d.weighed xs)) refl ∙ version_same d.weighed weights.items d.weights.items) i ∷ own i)
+    lines = rw stage (λ i. version_same d.weighed weights.items d.weights.items i ∷ own i)
 
 -- the draft with one more run
 abbrev with_run : Draft → Vec Run Global → ℕ → Draft

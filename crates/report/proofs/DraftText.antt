@@ -1,5 +1,5 @@
 -- What line may follow the lines that were read.
-use Rattle.std.proofs.Common.{◌≡◌, ◌≢◌, ◌⊎◌, inl, inr, ℕ, suc, ◌+◌, ◌-◌, ◌<◌, ◌≤◌, ◌^◌, List, [], ◌∷◌, ◌++◌, Bool, true, false, Option, Some, None, append_assoc, append-nil, length, length-append, map, drop, get_or, refl, sym, ap, ◌∙◌, arith}
+use Rattle.std.proofs.Common.{◌≡◌, ◌⊎◌, inl, inr, ℕ, suc, ◌+◌, ◌-◌, ◌<◌, ◌≤◌, ◌^◌, List, [], ◌∷◌, ◌++◌, Bool, true, false, Option, Some, None, append_assoc, append-nil, length, length-append, map, drop, get_or, refl, sym, ap, ◌∙◌, arith}
 use Rattle.std.specs.Prelude.{All, codes, sum_by}
 use Rattle.std.specs.List.{flat_map}
 use Rattle.std.proofs.lemmas.List.{get_or_append_left}
@@ -24,9 +24,6 @@ slots_in run = run.length
 -- the lines of a report that begins as the draft does
 begins : (d : Draft) (s : Stage) (r : Report) (line : List ℕ) (more : List (List ℕ)) → d.stage ≡ s → report_lines r ≡ lines_before d.stage (report_of d) ++ (line ∷ more) → lines_before s (report_of d) ++ (line ∷ more) ≡ version_line r.weights ∷ (place_lines r ++ lines_behind r (last_lines r))
 begins d s r line more stage e = sym (e ∙ ap (λ t. lines_before t (report_of d) ++ (line ∷ more)) stage) ∙ lines_nested r
-
-not_number : (m n : ℕ) → m ≢ n → m ≡ n → ⊥
-not_number m n h e = h e
 
 -- a weight of a report of the draft's version
 weight_fits : (weighed : Bool) (ws : List ℕ) (weights : Option (List ℕ)) (n k : ℕ) → version_line (weights_if weighed ws) ≡ version_line weights → ForEach (λ (x : List ℕ). length x ≡ n) weights → ForEach (All (λ w. (1 ≤ w) × (w ≤ 2 ^ 32))) weights → k < n → IsWeight weighed (weight_at weights k)

@@ -108,9 +108,6 @@ one_more bytes rest flows behind flow r small e stops up =
       stops = stops;
     }
 
-pub whole_flows : (bytes rest flows : List ℕ) → FlowsSoFar bytes rest flows → rest ≡ [] → bytes ≡ flat_map spaced flows
-whole_flows bytes rest flows r none = r.text ∙ (ap (λ x. flat_map spaced flows ++ x) none ∙ append-nil (flat_map spaced flows))
-
 pub shorter : (rest behind : List ℕ) (flow : ℕ) → rest ≡ spaced flow ++ behind → length behind < length rest
 shorter rest behind flow e = omega (arith, ap length e, length-append (spaced flow) behind)
 
@@ -126,7 +123,3 @@ length_is run line rest r n h f e small g stops =
 -- the next number is the one that was read
 pub same_flow : (rest flows ys behind : List ℕ) (flow : ℕ) (n : NextFlow rest flows ys) → flow < 2 ^ 128 → rest ≡ spaced flow ++ behind → Stops behind → flow ≡ n.flow
 same_flow rest flows ys behind flow n small e stops = (spaced_unique behind (flat_map spaced n.others) flow n.flow small (omega (arith, n.small)) stops (stops_flows n.others) (sym e ∙ n.here)).0
-
--- what the test of a number tells
-pub told : (flows items : List ℕ) (flow cast : ℕ) (b : Bool) → items ≡ flows → cast ≡ flow → Rises items cast b → Rises flows flow b
-told flows items flow cast b e f h = rw (← e, ← f) h

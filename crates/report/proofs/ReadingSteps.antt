@@ -8,7 +8,7 @@ use Rattle.report.specs.declared.value.Report.{Report}
 use Rattle.report.specs.Report.{HasSmallNumbers, IsReport}
 use Rattle.report.specs.Text.{ended, report_lines, text_of}
 use Rattle.report.specs.Readers.{IsOneLine}
-use Rattle.report.specs.Draft.{IsDraft, Refuses, draft_lines, lines_before, report_of}
+use Rattle.report.specs.Draft.{IsDraft, Refuses, draft_lines, report_of}
 use Rattle.report.specs.Reading.{IsBadAt, IsBeginning, IsTextOf}
 use Rattle.report.proofs.LineText.{line_unique}
 use Rattle.report.proofs.OneLine.{report_is_lines}
@@ -112,11 +112,3 @@ open_some rest d some r report small whole none = some none
 
 pub open_early : (rest : List ℕ) (d : Draft) → d.stage ≢ Done → Open rest d
 open_early rest d early r report small whole none = unfinished d.stage (report_of d) r early whole
-
-pub whole_text : (bytes rest : List ℕ) (d : Draft) (n : ℕ) (q : Report) → ReadSoFar bytes rest d n → rest ≡ [] → d.stage ≡ Done → q ≡ report_of d → IsTextOf bytes q
-whole_text bytes rest d n q r none done is =
-    rw is (record {
-      report = r.draft.report;
-      small = r.draft.small;
-      text = r.text ∙ (ap (λ x. text_of (draft_lines d) ++ x) none ∙ (append-nil (text_of (draft_lines d)) ∙ ap (λ s. text_of (lines_before s (report_of d))) done));
-    })

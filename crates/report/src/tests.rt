@@ -1,8 +1,8 @@
 ghost use Rattle.std.specs.Prelude.{◌≡◌, IfOk, List, length, ℕ};
 ghost use Rattle.report.specs.Report.{ForEach, HasWeights};
 
-use crate::{PlaceLine, Report, write_report};
-use coflow_units::{Items, Port, Run, Side};
+use crate::{PlaceLine, Report, ReportFault, laws, read_report, write_report};
+use coflow_units::{Items, MAX_TEXT, Port, Run, Side};
 use std::alloc::{AllocError, Global};
 use std::test::Fail;
 
@@ -119,4 +119,116 @@ fn writes_an_egress_port_and_idle_slots(rt: HostRuntime) -> Result<(), Fail> {
         b"sincronia 2\nplace 1 4294967295 out 1024 340282366920938463463374607431768211455 18446744073709551615 4294967296\nbound 1\nslack 2\ncost 3\nrun 3\nrun 2199023255548 0 7\nend\n";
     assert!(rt; text.as_slice() == want.as_slice());
     Ok(())
+}
+
+const TWO_COFLOWS: &[u8] =
+    b"sincronia 1\nplace 1 2 in 0 733007751851 1\nplace 2 1 in 0 366503875925 4\nbound 5\nslack 1\ncost 5\nrun 1 1\nrun 3 0\nend\n";
+
+#[test]
+fn reads_two_coflows(rt: HostRuntime) -> Result<(), Fail> {
+    assert!(rt; TWO_COFLOWS.len() <= MAX_TEXT);
+    let report = read_report(rt.alloc(), TWO_COFLOWS)?;
+    let wanted = two_coflows(rt.alloc(), None)?;
+    assert!(rt; report.places.as_slice() == wanted.places.as_slice());
+    assert!(rt; report.weights.is_none());
+    assert!(rt; (report.bound, report.slack, report.cost) == (5, 1, 5));
+    let lengths = [(1, 1), (3, 0)];
+    assert!(rt; report.runs.as_slice().len() == 2);
+    for (run, (length, flow)) in report.runs.as_slice().iter().zip(lengths) {
+        assert!(rt; run.length == length && run.flows.as_slice() == [flow].as_slice());
+    }
+    Ok(())
+}
+
+#[test]
+fn reads_weights(rt: HostRuntime) -> Result<(), Fail> {
+    let text =
+        b"sincronia 2\nplace 1 4294967295 out 7 0 0 4294967296\nplace 2 4294967295 in 0 1 1 1\nbound 0\nslack 0\ncost 0\nrun 3\nrun 2199023255548 0 7\nend\n";
+    assert!(rt; text.len() <= MAX_TEXT);
+    let report = read_report(rt.alloc(), text)?;
+    assert!(rt; report.places.as_slice().len() == 2);
+    let Some(weights) = &report.weights else {
+        return Err(Fail::new("weights"));
+    };
+    assert!(rt; weights.as_slice() == [4_294_967_296, 1].as_slice());
+    Ok(())
+}
+
+/// Texts of no report, each with its first wrong line.
+#[test]
+fn refuses(rt: HostRuntime) -> Result<(), Fail> {
+    let texts: [(&[u8], u32); 34] = [
+        (b"", 1),
+        (b"\n", 1),
+        (b"sincronia 1", 1),
+        (b"sincronia 3\n", 1),
+        (b"sincronia 1\r\n", 1),
+        (b"sincronia 1\n", 2),
+        (b"sincronia 1\nend\n", 2),
+        (b"sincronia 1\nplace 2 2 in 0 1 1\n", 2),
+        (b"sincronia 1\nplace 0 2 in 0 1 1\n", 2),
+        (b"sincronia 1\nplace 1 2 at 0 1 1\n", 2),
+        (b"sincronia 1\nplace 1 4294967296 in 0 1 1\n", 2),
+        (
+            b"sincronia 1\nplace 1 2 in 0 340282366920938463463374607431768211456 1\n",
+            2,
+        ),
+        (b"sincronia 1\nplace 1 2 in 0 1 18446744073709551616\n", 2),
+        (b"sincronia 1\nplace 1 2 in 0 1 1 1\n", 2),
+        (b"sincronia 1\nplace 1 2 in 0 1 1 \n", 2),
+        (b"sincronia 2\nplace 1 2 in 0 1 1\n", 2),
+        (b"sincronia 2\nplace 1 2 in 0 1 1 0\n", 2),
+        (b"sincronia 2\nplace 1 2 in 0 1 1 4294967297\n", 2),
+        (b"sincronia 1\nplace 1 2 in 0 1 1\nplace 1 3 in 0 1 1\n", 3),
+        (b"sincronia 1\nbound 0\ncost 0\n", 3),
+        (b"sincronia 1\nbound 0\nslack 00\n", 3),
+        (b"sincronia 1\nbound 0\nslack 0\ncost +0\n", 4),
+        (b"sincronia 1\nbound 0\nslack 0\ncost 0\nrun 0\nend\n", 5),
+        (b"sincronia 1\nbound 0\nslack 0\ncost 0\nrun 1 \nend\n", 5),
+        (
+            b"sincronia 1\nbound 0\nslack 0\ncost 0\nrun 1 2 2\nend\n",
+            5,
+        ),
+        (
+            b"sincronia 1\nbound 0\nslack 0\ncost 0\nrun 1 3 2\nend\n",
+            5,
+        ),
+        (
+            b"sincronia 1\nbound 0\nslack 0\ncost 0\nrun 2199023255552\nend\n",
+            5,
+        ),
+        (
+            b"sincronia 1\nbound 0\nslack 0\ncost 0\nrun 2199023255551\nrun 1 0\nend\n",
+            6,
+        ),
+        (
+            b"sincronia 1\nbound 0\nslack 0\ncost 0\nrun 1 0\nrun 2 0\nend\n",
+            6,
+        ),
+        (b"sincronia 1\nbound 0\nslack 0\ncost 0\nend", 5),
+        (b"sincronia 1\nbound 0\nslack 0\ncost 0\nend\n\n", 6),
+        (b"sincronia 1\nbound 0\nslack 0\ncost 0\nend\nx", 6),
+        (
+            b"sincronia 1\nplace 1 2 in 0 733007751851 1\nplace 2 1 in 0 366503875925 4\nbound 5\nslack 1\ncost 5\nrun 1 1\nrun 3 0\n",
+            9,
+        ),
+        (
+            b"sincronia 1\nplace 1 2 in 0 733007751851 1\nplace 2 1 in 0 366503875925 4\nbound 5\nslack 1\ncost 5\nrun 1 1\nrun 03 0\nend\n",
+            8,
+        ),
+    ];
+    for (text, line) in texts {
+        assert!(rt; text.len() <= MAX_TEXT);
+        assert!(rt;
+            matches!(read_report(rt.alloc(), text), Err(ReportFault::BadText { line: found }) if found == line)
+        );
+    }
+    Ok(())
+}
+
+#[test]
+fn has_laws() {
+    laws::texts_are_one();
+    laws::written_is_read();
+    laws::bad_line_is_one();
 }
