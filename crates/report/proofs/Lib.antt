@@ -1,0 +1,13 @@
+pub mod TextSteps
+pub mod LineText
+pub mod NumberText
+pub mod PartText
+pub mod FlowText
+pub mod LineLists
+pub mod DraftText
+pub mod DraftSteps
+pub mod ReadingText
+pub mod OneLine
+pub mod LastLine
+pub mod ReadingSteps
+pub mod TextLaws

@@ -1,0 +1,5 @@
+use Rattle.report.proofs.FlowText.{rises_is}
+use Rattle.report.proofs.parts.rises.Goals as goal
+
+pub returns-in-Some : goal.returns-in-Some
+returns-in-Some c = rises_is c.args.flows.now c.args.flow c.in-Some.last.now c.in-Some.ensures.value

@@ -1,0 +1,5 @@
+pub mod Report
+pub mod Text
+pub mod Readers
+pub mod Reading
+pub mod Draft

@@ -1,0 +1,128 @@
+//! The text of a report.
+ghost use Rattle.std.specs.Prelude.{◌≡◌, ◌<◌, ◌+◌, ◌++◌, IfOk, OnOk, length};
+ghost use Rattle.report.specs.Text.{charge_words, ended, place_line_at, report_text, run_line, side_word, spaced, text_of, total_lines, version_line, weight_at, weight_word};
+ghost use Rattle.report.specs.Report.{HasWeights};
+
+use crate::value::{PlaceLine, Report};
+use coflow_units::{NoMemory, Run, Side};
+use itoa::Buffer;
+use std::alloc::Global;
+
+/// The text of a report, of version 2 where it has weights, and of version 1 where it has none.
+///
+/// Words are separated by one space, each line ends with one line feed, and numbers are decimal without leading zeros. The lines are `sincronia 2`, for each place
+/// `place K ID SIDE PORT Y DONE WEIGHT` with K counting from 1, `bound B`, `slack X`, `cost C`, for each run `run LENGTH FLOW FLOW ...`, and `end`.
+/// Version 1 has the first line `sincronia 1` and place lines without their last number.
+pub fn write_report(alloc: Global, report: &Report) -> Result<Vec<u8>, NoMemory>
+    requires weight_each { HasWeights report.now }
+    ensures text { IfOk result (λ bytes. bytes.items ≡ report_text report.now) }
+{
+    let mut text = Vec::new(alloc);
+    push_version(&mut text, report)?;
+    for place in 0..report.places.as_slice().len() {
+        push_place(&mut text, report, place)?;
+    }
+    push_totals(&mut text, report)?;
+    for run in report.runs.as_slice() {
+        push_run(&mut text, run)?;
+    }
+    text.extend_from_slice(b"end\n")?;
+    Ok(text)
+}
+
+/// The first line.
+fn push_version(text: &mut Vec<u8>, report: &Report) -> Result<(), NoMemory>
+    ensures { OnOk result (text.new.items ≡ text.old.items ++ ended (version_line report.now.weights)) }
+{
+    match report.weights {
+        Some(_) => text.extend_from_slice(b"sincronia 2\n")?,
+        None => text.extend_from_slice(b"sincronia 1\n")?,
+    }
+    Ok(())
+}
+
+/// The line of a place, which is counted from 0 here and from 1 in the text.
+fn push_place(text: &mut Vec<u8>, report: &Report, place: usize) -> Result<(), NoMemory>
+    requires place { place < length report.now.places }
+    requires weight_each { HasWeights report.now }
+    ensures { OnOk result (text.new.items ≡ text.old.items ++ ended (place_line_at report.now place)) }
+{
+    let line = report.places.as_slice()[place];
+    text.extend_from_slice(b"place")?;
+    push_number(text, place as u128 + 1)?;
+    push_charge(text, line)?;
+    push_weight(text, report, place)?;
+    text.extend_from_slice(b"\n")?;
+    Ok(())
+}
+
+/// The weight of a place, in version 2.
+fn push_weight(text: &mut Vec<u8>, report: &Report, place: usize) -> Result<(), NoMemory>
+    requires place { place < length report.now.places }
+    requires weight_each { HasWeights report.now }
+    ensures { OnOk result (text.new.items ≡ text.old.items ++ weight_word (weight_at report.now.weights place)) }
+{
+    match &report.weights {
+        Some(weights) => push_number(text, u128::from(weights.as_slice()[place])),
+        None => Ok(()),
+    }
+}
+
+/// What a place line says of the place, behind its number.
+fn push_charge(text: &mut Vec<u8>, line: PlaceLine) -> Result<(), NoMemory>
+    ensures { OnOk result (text.new.items ≡ text.old.items ++ charge_words line) }
+{
+    push_number(text, u128::from(line.id))?;
+    text.extend_from_slice(b" ")?;
+    text.extend_from_slice(word_of(line.port.side))?;
+    push_number(text, u128::from(line.port.number))?;
+    push_number(text, line.y)?;
+    push_number(text, u128::from(line.done))
+}
+
+/// The word of a side.
+fn word_of(side: Side) -> &'static [u8]
+    ensures { result.now ≡ side_word side }
+{
+    match side {
+        Side::Ingress => b"in",
+        Side::Egress => b"out",
+    }
+}
+
+/// The lines of the bound, the slack and the cost.
+fn push_totals(text: &mut Vec<u8>, report: &Report) -> Result<(), NoMemory>
+    ensures { OnOk result (text.new.items ≡ text.old.items ++ text_of (total_lines report.now)) }
+{
+    text.extend_from_slice(b"bound")?;
+    push_number(text, report.bound)?;
+    text.extend_from_slice(b"\nslack")?;
+    push_number(text, report.slack)?;
+    text.extend_from_slice(b"\ncost")?;
+    push_number(text, report.cost)?;
+    text.extend_from_slice(b"\n")?;
+    Ok(())
+}
+
+/// The line of a run.
+fn push_run(text: &mut Vec<u8>, run: &Run) -> Result<(), NoMemory>
+    ensures { OnOk result (text.new.items ≡ text.old.items ++ ended (run_line run.now)) }
+{
+    text.extend_from_slice(b"run")?;
+    push_number(text, u128::from(run.length))?;
+    for flow in run.flows.as_slice() {
+        push_number(text, u128::from(*flow))?;
+    }
+    text.extend_from_slice(b"\n")?;
+    Ok(())
+}
+
+/// A number behind a space.
+fn push_number(text: &mut Vec<u8>, number: u128) -> Result<(), NoMemory>
+    ensures { OnOk result (text.new.items ≡ text.old.items ++ spaced number) }
+{
+    let mut buffer = Buffer::new();
+    text.extend_from_slice(b" ")?;
+    text.extend_from_slice(buffer.format(number).as_bytes())?;
+    Ok(())
+}
