@@ -70,6 +70,14 @@ impl Schedule {
         self.kept()
     }
 
+    /// The runs themselves. It takes no memory.
+    pub fn into_runs(self) -> Vec<Run>
+        ensures runs { IsRuns self (pairs_of result.items) }
+    {
+        let Schedule { alloc: _, runs } = self;
+        runs
+    }
+
     /// The runs as they are kept.
     pub(crate) fn kept(&self) -> &[Run]
         ensures slots { slots_in result.now ≡ self.now }
