@@ -157,3 +157,7 @@ same_state flows line left left_is slots slots_are ports ingress ingress_is egre
     subst (λ (xs : List ℕ). IsServing flows line left_is slots_are ports ingress_is xs) (sym ee)
     (subst (λ (xs : List ℕ). IsServing flows line left_is slots_are ports xs egress) (sym ei)
     (subst (λ (xs : List (List ℕ)). IsServing flows line left_is xs ports ingress egress) (sym es) (subst (λ (xs : List ℕ). IsServing flows line xs slots ports ingress egress) (sym el) now)))
+
+-- there are no more slots than units
+pub slots_are_few : (flows : List Flow) (line left : List ℕ) (slots : List (List ℕ)) (ports : ℕ) (ingress egress : List ℕ) → IsServing flows line left slots ports ingress egress → sum_by (λ (x : Flow). x.units) flows ≤ 1099511627776 → length slots ≤ 1099511627776
+slots_are_few flows line left slots ports ingress egress now few = omega (arith, now.room, units_in_all flows, few)

@@ -1,9 +1,8 @@
 pub mod Ranks
-pub mod ReportText
-pub mod RunLength
-pub mod PlanText
+pub mod Instance
+pub mod PlanReport
 pub mod Code
 pub mod Messages
 pub mod Words
-pub mod Plan
 pub mod LineFlow
+pub mod Plan

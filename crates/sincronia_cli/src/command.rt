@@ -1,21 +1,25 @@
 //! The program's job, from the words to the written text.
 ghost use Rattle.std.specs.Prelude.{◌≡◌, ◌≢◌, ◌≤◌, ◌^◌, ℕ, List, Err, IfOk, IfErr, length};
 ghost use Rattle.outside.specs.Rose.{Rose};
+ghost use Rattle.trace_reader.specs.Plain.{IsPlain, PlainTrace, trace_of};
 ghost use Rattle.sincronia_cli.specs.Words.{IsPlan, texts};
-ghost use Rattle.sincronia_cli.specs.Plan.{HasBytes, IsNotPlain, IsWhyNot, NameFailed, PlanOf, WritesFront, WritesPlan};
+ghost use Rattle.sincronia_cli.specs.Plan.{HasBytes, IsNotPlain, IsWhyNot, NameFailed, PlanOf, PlansTrace, WritesBound, WritesFront, WritesPlan, WritesWithinFour};
 
-use crate::instance::flows_of;
-use crate::planning::plan_text;
+use crate::instance::{flows_of, ids_of};
+use crate::planning::plan;
 use crate::status::Status;
 use crate::words::plan_name;
-use coflow_units::MAX_TEXT;
+use coflow_units::{MAX_TEXT, NoMemory, Trace};
 use outside::{Place4, ReadStop, Shelf, Sink, read_all, write_all};
+use report::write_report;
 use std::alloc::Global;
 use trace_reader::{PlainFault, read_plain};
 
 /// Does what the words ask for: `plan NAME` reads the file of that name on the shelf and writes the plan of its trace to the sink.
 ///
-/// The plan serves the coflows in the order of their lines, each with weight 1. The statuses are:
+/// The plan is that of the order by bottleneck, select, scale, iterate, each coflow with weight 1: a report of version 2 with the order's places, a lower bound on the cost of
+/// every schedule with its slack, the schedule that serves the order, and its cost, which is at most four times the bound and the slack. (Sincronia: Agarwal, Rajakrishnan,
+/// Narayan, Agarwal, Shmoys and Vahdat, SIGCOMM 2018.) The statuses are:
 /// - `Ok`: the text of the plan was written whole.
 /// - `Usage`: the words are not the program's name, `plan` and the name of a file. A name is not empty and does not begin with a dash.
 /// - `NotBuilt`: the file's bytes are no text of the plain form.
@@ -31,6 +35,8 @@ pub fn sincronia<H: Shelf, K: Sink>(
     out: &mut K,
 ) -> Status
     ensures ok { result ≡ Status.Ok → (name : List ℕ) × IsPlan (texts words.now) name × WritesPlan (H.told shelf.old) name (K.taken out.old) (K.taken out.new) }
+    ensures bound { result ≡ Status.Ok → (name : List ℕ) × IsPlan (texts words.now) name × WritesBound (H.told shelf.old) name (K.taken out.old) (K.taken out.new) }
+    ensures four { result ≡ Status.Ok → (name : List ℕ) × IsPlan (texts words.now) name × WritesWithinFour (H.told shelf.old) name (K.taken out.old) (K.taken out.new) }
     ensures usage { result ≡ Status.Usage → (name : List ℕ) → IsPlan (texts words.now) name → ⊥ }
     ensures command { result ≢ Status.Usage → (name : List ℕ) × IsPlan (texts words.now) name }
     ensures not_built { result ≡ Status.NotBuilt → (name : List ℕ) × IsPlan (texts words.now) name × IsNotPlain (H.told shelf.old) name }
@@ -66,13 +72,22 @@ fn plan_of_file<H: Shelf>(alloc: Global, name: &str, shelf: &mut H) -> Result<Ve
         Err(PlainFault::NotBuilt) => return Err(Status::NotBuilt),
         Err(PlainFault::NoMemory) => return Err(Status::NoMemory),
     };
-    let Ok(flows) = flows_of(alloc, &trace) else {
-        return Err(Status::NoMemory);
-    };
-    let coflows = trace.coflows.as_slice().len() as u32;
-    let Ok(text) = plan_text(alloc, &flows, coflows, trace.number + 1) else {
-        return Err(Status::NoMemory);
-    };
+    match report_text(alloc, &trace) {
+        Ok(text) => Ok(text),
+        Err(NoMemory) => Err(Status::NoMemory),
+    }
+}
+
+/// The text of the report of the plan of a trace of the plain form.
+fn report_text(alloc: Global, trace: &Trace) -> Result<Vec<u8>, NoMemory>
+    requires { (t : PlainTrace) × IsPlain t × (trace.now ≡ trace_of t) }
+    ensures { IfOk result (λ text. PlansTrace trace.now text.items) }
+{
+    let flows = flows_of(alloc, trace)?;
+    let ids = ids_of(alloc, trace)?;
+    let weights = vec![in alloc; 1u64; trace.coflows.as_slice().len()]?;
+    let report = plan(alloc, &flows, &ids, &weights, trace.number + 1)?;
+    let text = write_report(alloc, &report)?;
     Ok(text)
 }
 

@@ -1,5 +1,6 @@
 //! The flows of a trace of the plain form.
-ghost use Rattle.std.specs.Prelude.{◌≡◌, IfOk};
+ghost use Rattle.std.specs.Prelude.{◌≡◌, IfOk, map};
+ghost use Rattle.coflow_units.specs.declared.trace.CoflowLine.{CoflowLine};
 ghost use Rattle.trace_reader.specs.Plain.{IsPlain, PlainCoflow, PlainTrace, coflow_line, plain_flows, trace_of};
 ghost use Rattle.sincronia_cli.specs.LineFlow.{line_flow};
 
@@ -18,6 +19,17 @@ pub fn flows_of(alloc: Global, trace: &Trace) -> Result<Vec<Flow>, AllocError>
         flows.push(flow_of(number as u32, line))?;
     }
     Ok(flows)
+}
+
+/// The ids of the coflows of the trace, by the coflow's number.
+pub fn ids_of(alloc: Global, trace: &Trace) -> Result<Vec<u32>, AllocError>
+    ensures { IfOk result (λ ids. ids.items ≡ map (λ (x : CoflowLine). x.id) trace.now.coflows) }
+{
+    let mut ids = Vec::new(alloc);
+    for line in trace.coflows.as_slice() {
+        ids.push(line.id)?;
+    }
+    Ok(ids)
 }
 
 /// The flow from the line's one mapper to its one reducer.

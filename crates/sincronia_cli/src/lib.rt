@@ -2,14 +2,13 @@
 #![tactic(auto)]
 
 mod command;
-mod costs;
 mod grants;
 mod instance;
 mod messages;
+mod order;
+mod places;
 mod planning;
 mod ranks;
-mod report_text;
-mod runs;
 mod serving;
 mod status;
 mod words;

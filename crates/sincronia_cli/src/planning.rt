@@ -1,35 +1,104 @@
-//! The plan of flows, as a text.
-ghost use Rattle.std.specs.Prelude.{◌≡◌, IfOk};
+//! The plan of flows, as a report.
+ghost use Rattle.std.specs.Prelude.{◌≡◌, ◌≤◌, ◌^◌, All, IfOk, length};
 ghost use Rattle.std.specs.List.{range_with_len};
-ghost use Rattle.sincronia_cli.specs.PlanText.{HasOneFlowEach, IsPlanText};
+ghost use Rattle.coflow_units.specs.Certificate.{bound, slack};
+ghost use Rattle.coflow_units.specs.Served.{IsServed};
+ghost use Rattle.bssi_order.specs.Order.{IsOrder, entries_of};
+ghost use Rattle.report.specs.Report.{HasWeights};
+ghost use Rattle.sincronia_cli.specs.Instance.{instance_of};
+ghost use Rattle.sincronia_cli.specs.PlanReport.{HasOneFlowEach, IsPlanOf, coflows_of};
 
-use crate::costs::cost_of;
-use crate::report_text::write_report;
-use crate::runs::runs_of;
+use crate::order::{coflows_in, order_of};
+use crate::places::{place_lines, place_weights};
 use crate::serving::serve;
-use coflow_units::{Flow, NoMemory};
+use coflow_units::{Flow, Items, NoMemory, Place};
+use dual_cert::{Cert, bound, slack};
+use port_load::Loads;
+use report::Report;
+use schedule_model::{Schedule, cost};
 use std::alloc::Global;
 
-/// The text of the plan that serves the coflows in the order of their numbers, each with weight 1.
-/// The flows are the one flow of each coflow, by the coflow's number. Port numbers are below `ports` on each side.
-/// `NoMemory` comes only where an allocation was refused.
-pub fn plan_text(
+/// The plan of the coflows: the order by bottleneck, select, scale, iterate, the schedule that serves it, the bound and slack of its certificate, and the cost.
+/// The flows are the one flow of each coflow, by the coflow's number; `ids` and `weights` have the id and the weight of each coflow.
+/// Port numbers are below `ports` on each side.
+pub fn plan(
     alloc: Global,
     flows: &[Flow],
-    coflows: u32,
+    ids: &[u32],
+    weights: &[u64],
     ports: u32,
-) -> Result<Vec<u8>, NoMemory>
-    requires { HasOneFlowEach flows.now coflows ports }
-    ensures { IfOk result (λ text. IsPlanText flows.now coflows text.items) }
+) -> Result<Report, NoMemory>
+    requires flows { HasOneFlowEach flows.now (length weights.now) ports }
+    requires ids { length ids.now ≡ length weights.now }
+    requires weights { All (λ w. w ≤ 2 ^ 32) weights.now }
+    requires has_ports { 1 ≤ ports }
+    requires few_ports { ports ≤ 1025 }
+    ensures plan { IfOk result (λ report. IsPlanOf (instance_of flows.now weights.now ports) ids.now report) }
+    ensures weights { IfOk result HasWeights }
 {
-    let starts = numbers_below(alloc, coflows + 1)?;
-    let order = numbers_below(alloc, coflows)?;
-    let weights = vec![in alloc; 1u64; coflows as usize]?;
-    let slots = serve(alloc, flows, &starts, &order, ports)?;
-    let cost = cost_of(alloc, flows, &weights, &slots)?;
-    let runs = runs_of(alloc, &slots)?;
-    let text = write_report(alloc, cost, &runs)?;
-    Ok(text)
+    let order = order_of(alloc, flows, weights, ports)?;
+    let places = order.places();
+    let schedule = served(alloc, flows, weights, places, ports)?;
+    let lines = place_lines(alloc, ids, flows, places, &schedule)?;
+    let list = place_weights(alloc, weights, places)?;
+    let values = values_of(alloc, flows, weights, places, ports)?;
+    let cost = cost(flows, weights, &schedule);
+    Ok(Report {
+        places: Items::from_vec(lines),
+        weights: Some(Items::from_vec(list)),
+        bound: values.bound,
+        slack: values.slack,
+        cost,
+        runs: Items::from_vec(schedule.into_runs()),
+    })
+}
+
+/// The schedule that serves the order of the places.
+fn served(
+    alloc: Global,
+    flows: &[Flow],
+    weights: &[u64],
+    places: &[Place],
+    ports: u32,
+) -> Result<Schedule, NoMemory>
+    requires flows { HasOneFlowEach flows.now (length weights.now) ports }
+    requires order { IsOrder (instance_of flows.now weights.now ports) places.now }
+    ensures { IfOk result (λ schedule. IsServed flows.now (coflows_of places.now) schedule) }
+{
+    let starts = numbers_below(alloc, weights.len() as u32 + 1)?;
+    let coflows = coflows_in(alloc, places)?;
+    let schedule = serve(alloc, flows, &starts, &coflows, ports)?;
+    Ok(schedule)
+}
+
+/// What the certificate of an order proves.
+#[derive(Drop)]
+struct Values {
+    bound: u128,
+    slack: u128,
+}
+
+/// The bound and the slack of the certificate of the places.
+fn values_of(
+    alloc: Global,
+    flows: &[Flow],
+    weights: &[u64],
+    places: &[Place],
+    ports: u32,
+) -> Result<Values, NoMemory>
+    requires flows { HasOneFlowEach flows.now (length weights.now) ports }
+    requires weights { All (λ w. w ≤ 2 ^ 32) weights.now }
+    requires has_ports { 1 ≤ ports }
+    requires few_ports { ports ≤ 1025 }
+    requires order { IsOrder (instance_of flows.now weights.now ports) places.now }
+    ensures bound { IfOk result (λ values. values.bound ≡ bound flows.now (entries_of places.now)) }
+    ensures slack { IfOk result (λ values. values.slack ≡ slack flows.now (instance_of flows.now weights.now ports).weight (entries_of places.now)) }
+{
+    let loads = Loads::of(alloc, flows, weights.len() as u32, ports)?;
+    let cert = Cert::of(alloc, places)?;
+    let bound = bound(&loads, &cert);
+    let slack = slack(&loads, weights, &cert);
+    Ok(Values { bound, slack })
 }
 
 /// The numbers from 0 on that are below the count.
@@ -41,51 +110,4 @@ fn numbers_below(alloc: Global, count: u32) -> Result<Vec<u32>, NoMemory>
         numbers.push(number)?;
     }
     Ok(numbers)
-}
-
-#[cfg(test)]
-mod tests {
-    use super::*;
-    use std::test::Fail;
-
-    fn flow(coflow: u32, ingress: u32, egress: u32, units: u64) -> Flow
-        ensures { result ≡ record { coflow = coflow; ingress = ingress; egress = egress; units = units } }
-    {
-        Flow {
-            coflow,
-            ingress,
-            egress,
-            units,
-        }
-    }
-
-    #[test]
-    fn flows_at_one_port_follow_each_other(rt: HostRuntime) -> Result<(), Fail> {
-        let flows = [flow(0, 0, 1, 3), flow(1, 0, 1, 1)];
-        let text = plan_text(rt.alloc(), &flows, 2, 2)?;
-        assert_eq!(rt;
-            text.as_slice(),
-            b"sincronia 0\ncost 7\nrun 3 0\nrun 1 1\nend\n".as_slice()
-        );
-        Ok(())
-    }
-
-    // Ingress 1 and egress 1 are different ports.
-    #[test]
-    fn flows_at_different_ports_share_a_line(rt: HostRuntime) -> Result<(), Fail> {
-        let flows = [flow(0, 0, 1, 2), flow(1, 1, 0, 1)];
-        let text = plan_text(rt.alloc(), &flows, 2, 2)?;
-        assert_eq!(rt;
-            text.as_slice(),
-            b"sincronia 0\ncost 3\nrun 1 0 1\nrun 1 0\nend\n".as_slice()
-        );
-        Ok(())
-    }
-
-    #[test]
-    fn no_flows_have_no_runs(rt: HostRuntime) -> Result<(), Fail> {
-        let text = plan_text(rt.alloc(), &[], 0, 2)?;
-        assert_eq!(rt; text.as_slice(), b"sincronia 0\ncost 0\nend\n".as_slice());
-        Ok(())
-    }
 }

@@ -9,10 +9,11 @@ ghost use Rattle.sincronia_cli.specs.Ranks.{IsStarts};
 
 use crate::grants::grants_of_slot;
 use crate::ranks::ranked_flows;
-use coflow_units::{Flow, Items, NoMemory};
+use coflow_units::{Flow, NoMemory};
+use schedule_model::Schedule;
 use std::alloc::Global;
 
-/// The schedule that serves the coflows in the given order: a list of slots, each with the numbers of its flows.
+/// The schedule that serves the coflows in the given order, slot by slot.
 /// `starts` has for each coflow the number of its first flow, and the number of flows at its end. Port numbers are below `ports` on each side, and the units are at most 2^40 together.
 /// The error is want of memory.
 pub fn serve(
@@ -21,7 +22,7 @@ pub fn serve(
     starts: &[u32],
     order: &[u32],
     ports: u32,
-) -> Result<Vec<Items<u32>>, NoMemory>
+) -> Result<Schedule, NoMemory>
     requires starts { IsStarts flows.now starts.now }
     requires distinct { IsDistinct order.now }
     requires coflows { All (λ c. c + 1 < length starts.now) order.now }
@@ -29,7 +30,7 @@ pub fn serve(
     requires ingress { All (λ (x : Flow). x.ingress < ports) flows.now }
     requires egress { All (λ (x : Flow). x.egress < ports) flows.now }
     requires units { sum_by (λ (x : Flow). x.units) flows.now ≤ 2 ^ 40 }
-    ensures { IfOk result (λ slots. IsServed flows.now order.now slots.items) }
+    ensures served { IfOk result (λ schedule. IsServed flows.now order.now schedule) }
 {
     let ranked = ranked_flows(alloc, flows, starts, order)?;
     let mut left = flows
@@ -38,9 +39,10 @@ pub fn serve(
         .collect::<Vec<u64>>(alloc)?;
     let mut ingress = vec![in alloc; 0u64; ports as usize]?;
     let mut egress = vec![in alloc; 0u64; ports as usize]?;
-    let mut slots = Vec::new(alloc);
+    let mut schedule = Schedule::new(alloc);
+    let mut slot = 0;
     while is_owed(&left) {
-        let slot = slots.len() as u64 + 1;
+        slot += 1;
         let granted = grants_of_slot(
             alloc,
             flows,
@@ -51,9 +53,9 @@ pub fn serve(
             &mut egress,
         )?;
         take_units(&mut left, &granted);
-        slots.push(Items::from_vec(granted))?;
+        schedule.push_run(1, &granted)?;
     }
-    Ok(slots)
+    Ok(schedule)
 }
 
 /// Some flow has units left.

@@ -6,7 +6,16 @@ use std::test::Fail;
 
 const TWO: &[u8] = b"2 2\n1 0 1 0 1 1:3\n2 0 1 0 1 1:1\n";
 
-const TWO_TEXT: &[u8] = b"sincronia 0\ncost 7\nrun 3 0\nrun 1 1\nend\n";
+const TWO_TEXT: &[u8] = b"sincronia 2
+place 1 2 in 0 733007751851 1 1
+place 2 1 in 0 366503875925 4 1
+bound 5
+slack 1
+cost 5
+run 1 1
+run 3 0
+end
+";
 
 fn words(alloc: Global, texts: &[&str]) -> Result<Vec<String>, Fail> {
     let mut words = Vec::new(alloc);
@@ -36,7 +45,11 @@ fn traces_are_planned_or_refused(rt: HostRuntime) -> Result<(), Fail> {
     let alloc = rt.alloc();
     let rows: [(&[u8], Status, &[u8]); 5] = [
         (TWO, Status::Ok, TWO_TEXT),
-        (b"2 0\n", Status::Ok, b"sincronia 0\ncost 0\nend\n"),
+        (
+            b"2 0\n",
+            Status::Ok,
+            b"sincronia 2\nbound 0\nslack 0\ncost 0\nend\n",
+        ),
         (b"1 1\n1 16 1 0 1 1:1\n", Status::NotBuilt, b""),
         (
             b"3 3\n1 0 1 0 1 1:1\n2 0 1 0 1 1:1\n",

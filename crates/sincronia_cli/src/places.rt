@@ -1,0 +1,58 @@
+//! What a report says of each place.
+ghost use Rattle.std.specs.Prelude.{◌≡◌, ◌<◌, ◌≤◌, ◌^◌, All, IfOk, length, map, slice_index};
+ghost use Rattle.coflow_units.specs.declared.plan.Place.{Place};
+ghost use Rattle.schedule_model.specs.RunList.{NamesFlows};
+ghost use Rattle.sincronia_cli.specs.PlanReport.{line_from, line_of};
+
+use coflow_units::{Flow, NoMemory, Place};
+use report::PlaceLine;
+use schedule_model::{Schedule, completions};
+use std::alloc::Global;
+
+/// The lines of the places: each with the id of its coflow and the coflow's completion in the schedule. `ids` has the id of each coflow.
+pub fn place_lines(
+    alloc: Global,
+    ids: &[u32],
+    flows: &[Flow],
+    places: &[Place],
+    schedule: &Schedule,
+) -> Result<Vec<PlaceLine>, NoMemory>
+    requires coflow { All (λ (x : Place). x.coflow < length ids.now) places.now }
+    requires names { NamesFlows (length flows.now) schedule.now }
+    requires few { length ids.now ≤ 4096 }
+    ensures { IfOk result (λ lines. lines.items ≡ map (line_of ids.now flows.now schedule.now) places.now) }
+{
+    let ends = completions(alloc, flows, ids.len() as u32, schedule)?;
+    let mut lines = Vec::new(alloc);
+    for place in places {
+        lines.push(line_of(ids, &ends, place))?;
+    }
+    Ok(lines)
+}
+
+/// The line of a place, from the ids and the completions of the coflows.
+fn line_of(ids: &[u32], ends: &[u64], place: &Place) -> PlaceLine
+    requires id { place.now.coflow < length ids.now }
+    requires end { place.now.coflow < length ends.now }
+    ensures { result ≡ line_from ids.now ends.now place.now }
+{
+    let coflow = place.coflow as usize;
+    PlaceLine {
+        id: ids[coflow],
+        port: place.port,
+        y: place.y,
+        done: ends[coflow],
+    }
+}
+
+/// The weight of the coflow of each place.
+pub fn place_weights(alloc: Global, weights: &[u64], places: &[Place]) -> Result<Vec<u64>, NoMemory>
+    requires coflow { All (λ (x : Place). x.coflow < length weights.now) places.now }
+    ensures { IfOk result (λ list. list.items ≡ map (λ (x : Place). slice_index weights.now x.coflow) places.now) }
+{
+    let mut list = Vec::new(alloc);
+    for place in places {
+        list.push(weights[place.coflow as usize])?;
+    }
+    Ok(list)
+}
