@@ -12,6 +12,16 @@ TOP = os.path.dirname(os.path.dirname(os.path.abspath(__file__)))
 PROGRAM = os.path.join(TOP, "crates", "sincronia", "out", "sincronia")
 
 TWO = b"2 2\n1 0 1 0 1 1:3\n2 0 1 0 1 1:1\n"
+TWO_TEXT = b"""sincronia 2
+place 1 2 in 0 733007751851 1 1
+place 2 1 in 0 366503875925 4 1
+bound 5
+slack 1
+cost 5
+run 1 1
+run 3 0
+end
+"""
 USAGE = b"sincronia: usage: sincronia COMMAND FIRST [SECOND] [options]\n"
 NOT_BUILT = b"sincronia: not built\n"
 READ_FAULT = b"sincronia: read fault\n"
@@ -19,8 +29,12 @@ WRITE_FAULT = b"sincronia: write fault\n"
 
 # name, bytes of the file `t` (None: there is no such file), words, code, standard output, standard error
 ROWS = [
-    ("two flows", TWO, ["plan", "t"], 0, b"sincronia 0\ncost 7\nrun 3 0\nrun 1 1\nend\n", b""),
-    ("no coflow", b"2 0\n", ["plan", "t"], 0, b"sincronia 0\ncost 0\nend\n", b""),
+    ("two flows", TWO, ["plan", "t"], 0, TWO_TEXT, b""),
+    ("no coflow", b"2 0\n", ["plan", "t"], 0, b"sincronia 2\nbound 0\nslack 0\ncost 0\nend\n", b""),
+    ("one coflow", b"1 1\n7 0 1 0 1 1:1\n", ["plan", "t"], 0,
+     b"sincronia 2\nplace 1 7 in 0 1099511627776 1 1\nbound 1\nslack 0\ncost 1\nrun 1 0\nend\n", b""),
+    ("from port 1 to port 0", b"1 1\n1 0 1 1 1 0:1\n", ["plan", "t"], 0,
+     b"sincronia 2\nplace 1 1 in 1 1099511627776 1 1\nbound 1\nslack 0\ncost 1\nrun 1 0\nend\n", b""),
     ("empty file", b"", ["plan", "t"], 12, b"", NOT_BUILT),
     ("carriage returns", TWO.replace(b"\n", b"\r\n"), ["plan", "t"], 12, b"", NOT_BUILT),
     ("no last line feed", TWO[:-1], ["plan", "t"], 12, b"", NOT_BUILT),
