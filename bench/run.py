@@ -13,6 +13,7 @@ import time
 
 TOP = os.path.dirname(os.path.dirname(os.path.abspath(__file__)))
 PROGRAM = os.path.join(TOP, "crates", "sincronia", "out", "sincronia")
+ORDER = os.path.join(TOP, "crates", "order_bench", "out", "order_bench")
 
 
 def plain(ports, coflows):
@@ -66,7 +67,16 @@ def peak(program, words, folder):
     return float(seconds), int(code), int(size), int(memory)
 
 
+def build(program):
+    """Proves and builds a program, where that was not done."""
+    if not os.path.exists(program):
+        subprocess.run(["rt", "run"], cwd=os.path.dirname(os.path.dirname(program)), check=False,
+                       stdout=subprocess.DEVNULL, stderr=subprocess.DEVNULL)
+
+
 def main():
+    build(PROGRAM)
+    build(ORDER)
     other = sys.argv[1] if len(sys.argv) > 1 else None
     with tempfile.TemporaryDirectory() as folder:
         for name, make, bound in TRACES:
@@ -79,6 +89,8 @@ def main():
             if other is not None:
                 line += "  other %.2f s" % timed(other, ["plan", "t"], folder)[0]
             print(line, flush=True)
+        seconds, code, _, memory = peak(ORDER, ["4096", "1024", "1"], folder)
+        print("%-55s %8.2f s  %5d MiB  code %d  (bound 2 s)" % ("loads and order, 4096 coflows over 1024 ports", seconds, memory, code))
 
 
 if __name__ == "__main__":
