@@ -15,3 +15,4 @@ pub mod PlainFlows
 pub mod FileSteps
 pub mod PlanLaw
 pub mod PlanFacts
+pub mod NoPriceFacts

@@ -6,3 +6,4 @@ pub mod Messages
 pub mod Words
 pub mod LineFlow
 pub mod Plan
+pub mod NoPrices

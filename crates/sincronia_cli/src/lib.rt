@@ -4,6 +4,7 @@
 mod command;
 mod grants;
 mod instance;
+pub mod laws;
 mod messages;
 mod order;
 mod places;
