@@ -105,7 +105,7 @@ reads_sent st m found m' = (m' ≡ (looked st.word found (settled_as (ready_port
 
 -- a look by which the poster learns what its lists say of one another
 abbrev pub learns : Of → Sat → ℕ → Sat → Type 0
-learns st m found m' = (m' ≡ (looked st.word found m.0, m.1)) × Agrees m'.0
+learns st m found m' = (m' ≡ (looked st.word found m.0, m.1)) × (length m.0.back ≤ m.0.made) × Agrees m'.0
 
 abbrev pub note_of : View → View
 note_of v = record (blank Note) { shown = v.posts }

@@ -37,6 +37,9 @@ number_of Note = 0
 number_of (Agent k) = k
 number_of Poster = 0
 
+abbrev pub IsPoster : Kind → Type 0
+IsPoster kind = kind ≡ Poster
+
 -- the grant is the one of this port and slot
 abbrev pub is_of : ℕ → ℕ → Grant → Bool
 is_of port slot g = (g.port == port) && (g.slot == slot)

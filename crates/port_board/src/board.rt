@@ -3,11 +3,11 @@ ghost use Rattle.std.specs.Prelude.{◌≡◌, ◌≢◌, ◌⊎◌, ℕ, ◌+�
 ghost use Rattle.coflow_units.specs.PortWord.{word_of};
 ghost use Rattle.coflow_units.specs.PortWord.PortStage.{granted};
 ghost use Rattle.port_board.specs.declared.view.Grant.{Grant};
-ghost use Rattle.port_board.specs.declared.view.Kind.TheVariants.{Agent, Poster};
+ghost use Rattle.port_board.specs.declared.view.Kind.TheVariants.{Agent};
 ghost use Rattle.port_board.specs.declared.view.Step.TheVariants.{Rests, Loaded};
 ghost use Rattle.port_board.specs.declared.view.View.{View};
 ghost use Rattle.port_board.specs.Words.{shows_granted, shows_drawn, shows_reported};
-ghost use Rattle.port_board.specs.Views.{grant, number_of, agents_out, is_unsettled, last_slot, last_at, LastIsListed, one_more, newcomer, sees, takes_in, looked, posted_too, settled_as, found_idle, found_other, drew, reported_as, Tried, IsLength};
+ghost use Rattle.port_board.specs.Views.{grant, IsPoster, number_of, agents_out, is_unsettled, last_slot, last_at, LastIsListed, one_more, newcomer, sees, takes_in, looked, posted_too, settled_as, found_idle, found_other, drew, reported_as, Tried, IsLength};
 ghost use Rattle.port_board.specs.Rule.{first_poster};
 ghost use Rattle.port_board.specs.Tells.{after_load, after_miss, drawn_now, poster_step};
 ghost use Rattle.port_board.specs.Agreement.{SharesNothing, EachOnce, EachPosted, EachMissedPosted, AnswersAgree, SentCameBack, NobodyHad, Agrees};
@@ -66,15 +66,14 @@ pub struct Poster {
 
 impl Model for Poster {
     ghost use Rattle.std.specs.Prelude.{◌≡◌, ℕ, ◌+◌, ◌≤◌, [], length, false, slice_index_or};
-    ghost use Rattle.port_board.specs.declared.view.Kind.TheVariants.{Poster};
     ghost use Rattle.port_board.specs.declared.view.Step.TheVariants.{Rests};
-    ghost use Rattle.port_board.specs.Views.{Sits, is_unsettled};
+    ghost use Rattle.port_board.specs.Views.{Sits, IsPoster, is_unsettled};
 
     ghost Value = { Sits };
 
     ghost view = { λ p. record { at = p.place.table_id; view = p.place.me.0 } };
 
-    ghost invariant = { λ p. (p.place.me.1 ≡ []) × (p.place.me.0.step ≡ Rests) × (p.place.me.0.kind ≡ Poster) × (length p.place.me.0.back + p.agents ≡ p.place.me.0.made) × (length p.posted.items + length p.posted.items ≡ p.place.table_id.words) × ((q : ℕ) → slice_index_or p.posted.items q false ≡ is_unsettled q p.place.me.0.posts p.place.me.0.settled) };
+    ghost invariant = { λ p. (p.place.me.1 ≡ []) × (p.place.me.0.step ≡ Rests) × (IsPoster p.place.me.0.kind) × (length p.place.me.0.back + p.agents ≡ p.place.me.0.made) × (length p.posted.items + length p.posted.items ≡ p.place.table_id.words) × ((q : ℕ) → slice_index_or p.posted.items q false ≡ is_unsettled q p.place.me.0.posts p.place.me.0.settled) };
 }
 
 /// The seat of an agent: a thread that draws grants and reports what it sent.
@@ -282,6 +281,7 @@ impl PortBoard {
     pub(crate) fn look(&self, place: &mut Place, port: u32) -> Result<u64, u64>
         requires own { place.old.table_id ≡ self.now.id }
         requires port { port < self.now.ports }
+        requires agent { (place.old.me.0.kind ≡ Agent (number_of place.old.me.0.kind)) × (place.old.me.0.step ≡ Rests) }
         ensures own { place.new.table_id ≡ place.old.table_id }
         ensures granted { (word : ℕ) → result ≡ Result.Ok word → shows_granted word ≡ true }
         ensures idle { (word : ℕ) → result ≡ Result.Err word → shows_granted word ≡ false }
@@ -366,7 +366,7 @@ impl PortBoard {
     fn try_settle(&self, place: &mut Place, port: u32) -> Settled
         requires own { place.old.table_id ≡ self.now.id }
         requires port { port < self.now.ports }
-        requires poster { (place.old.me.0.kind ≡ Poster) × (place.old.me.0.step ≡ Rests) × (place.old.me.1 ≡ []) }
+        requires poster { (IsPoster place.old.me.0.kind) × (place.old.me.0.step ≡ Rests) × (place.old.me.1 ≡ []) }
         requires unsettled { is_unsettled port place.old.me.0.posts place.old.me.0.settled ≡ true }
         ensures own { (place.new.table_id ≡ place.old.table_id) × (place.new.me.1 ≡ []) }
         ensures sent { (n : ℕ) → result ≡ Settled.Sent n → (word : ℕ) × (before : View) × Tried port place.old.me.0 before × (shows_reported word ≡ true) × (place.new.me.0 ≡ looked (self.now.ports + port) n (settled_as port (Some n) (looked port word before))) }
@@ -392,7 +392,7 @@ impl PortBoard {
     fn conclude(&self, place: &mut Place, port: u32, word: u64) -> Settled
         requires own { place.old.table_id ≡ self.now.id }
         requires port { port < self.now.ports }
-        requires poster { (place.old.me.0.kind ≡ Poster) × (place.old.me.0.step ≡ poster_step port word) }
+        requires poster { (IsPoster place.old.me.0.kind) × (place.old.me.0.step ≡ poster_step port word) }
         requires unsettled { is_unsettled port place.old.me.0.posts place.old.me.0.settled ≡ true }
         requires word { (shows_granted word ≡ false) × ((shows_granted word || (shows_drawn word || shows_reported word)) ≡ true) }
         requires agrees { Agrees place.old.me.0 }

@@ -1,0 +1,6 @@
+pub mod Words
+pub mod Puts
+pub mod Lists
+pub mod Stays
+pub mod Moves
+pub mod AgentSteps
