@@ -4,3 +4,4 @@ pub mod Lists
 pub mod Stays
 pub mod Moves
 pub mod AgentSteps
+pub mod Sitting

@@ -7,7 +7,7 @@ use Rattle.port_board.specs.declared.view.Step.TheVariants.{Rests, Loaded, Won, 
 use Rattle.port_board.specs.declared.view.Kind.TheVariants.{Note, Agent, Poster}
 use Rattle.port_board.specs.declared.view.View.{View}
 use Rattle.port_board.specs.Words.{shows_granted, shows_drawn, shows_reported, slot_of, flow_of}
-use Rattle.port_board.specs.Views.{grant, missed_after, looked, reported_as, posted_too, settled_as, last_at, is_unsettled, blank, sees, takes_in}
+use Rattle.port_board.specs.Views.{grant, missed_after, found_idle, looked, reported_as, posted_too, settled_as, last_at, is_unsettled, blank, sees, takes_in}
 use Rattle.port_board.specs.Agreement.{Agrees, NobodyHad}
 
 abbrev Sat : Type 0
@@ -16,12 +16,12 @@ Sat = Me (Unit {0}) View
 abbrev Of : Type 0
 Of = At (Unit {0})
 
--- an agent loads the word of a port
+-- an agent loads the word of a port: it is granted, or not
+abbrev pub loaded_now : ℕ → ℕ → View → View
+loaded_now port word v = record v { step = Loaded port word; looks = v.looks ++ (port, word) ∷ [] }
+
 abbrev pub after_load : ℕ → ℕ → View → View
-after_load port word v =
-    cond (shows_granted word)
-    (record v { step = Loaded port word; looks = v.looks ++ (port, word) ∷ [] })
-    (record v { step = Rests; looks = v.looks ++ (port, word) ∷ []; missed = missed_after v port })
+after_load port word v = cond (shows_granted word) (loaded_now port word v) (found_idle port word v)
 
 abbrev pub loads : Of → Sat → ℕ → Sat → Type 0
 loads st m found m' = m' ≡ (after_load st.word found m.0, m.1)

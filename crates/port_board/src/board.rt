@@ -1,6 +1,6 @@
 //! The board of port words, its poster and its agents.
 ghost use Rattle.std.specs.Prelude.{◌≡◌, ◌≢◌, ◌⊎◌, ℕ, ◌+◌, ◌-◌, ◌*◌, ◌/◌, ◌%◌, ◌^◌, ◌<◌, ◌≤◌, [], ◌∷◌, length, true, false, ◌||◌, AllPairs, Contains, Some, None, IfOk, Result};
-ghost use Rattle.coflow_units.specs.PortWord.{word_of};
+ghost use Rattle.coflow_units.specs.PortWord.{word_of, FitsWord};
 ghost use Rattle.coflow_units.specs.PortWord.PortStage.{granted};
 ghost use Rattle.port_board.specs.declared.view.Grant.{Grant};
 ghost use Rattle.port_board.specs.declared.view.Kind.TheVariants.{Agent};
@@ -9,7 +9,7 @@ ghost use Rattle.port_board.specs.declared.view.View.{View};
 ghost use Rattle.port_board.specs.Words.{shows_granted, shows_drawn, shows_reported};
 ghost use Rattle.port_board.specs.Views.{grant, IsPoster, number_of, agents_out, is_unsettled, last_slot, last_at, LastIsListed, one_more, newcomer, sees, takes_in, looked, posted_too, settled_as, found_idle, found_other, drew, reported_as, Tried, IsLength};
 ghost use Rattle.port_board.specs.Rule.{first_poster};
-ghost use Rattle.port_board.specs.Tells.{after_load, after_miss, drawn_now, poster_step};
+ghost use Rattle.port_board.specs.Tells.{loaded_now, after_miss, drawn_now, poster_step};
 ghost use Rattle.port_board.specs.Agreement.{SharesNothing, EachOnce, EachPosted, EachMissedPosted, AnswersAgree, SentCameBack, NobodyHad, Agrees};
 
 use crate::plays::{
@@ -254,7 +254,7 @@ impl PortBoard {
         ensures unsettled { is_unsettled port poster.new.view.posts poster.new.view.settled ≡ true }
     {
         let shared = &self.table.shared;
-        let count = self.count_place(port);
+        let count = count_place(self.ports, port);
         shared.store::<Counts>(&mut poster.place, count, length);
         let word = GRANTED * STATE + (slot * SLOT + u64::from(flow));
         shared.store::<Posts>(&mut poster.place, port as usize, word);
@@ -283,9 +283,8 @@ impl PortBoard {
         requires port { port < self.now.ports }
         requires agent { (place.old.me.0.kind ≡ Agent (number_of place.old.me.0.kind)) × (place.old.me.0.step ≡ Rests) }
         ensures own { place.new.table_id ≡ place.old.table_id }
-        ensures granted { (word : ℕ) → result ≡ Result.Ok word → shows_granted word ≡ true }
-        ensures idle { (word : ℕ) → result ≡ Result.Err word → shows_granted word ≡ false }
-        ensures view { (word : ℕ) → (result ≡ Result.Ok word) ⊎ (result ≡ Result.Err word) → place.new.me ≡ (after_load port word place.old.me.0, place.old.me.1) }
+        ensures granted { (word : ℕ) → result ≡ Result.Ok word → (shows_granted word ≡ true) × (place.new.me ≡ (loaded_now port word place.old.me.0, place.old.me.1)) }
+        ensures idle { (word : ℕ) → result ≡ Result.Err word → (shows_granted word ≡ false) × (place.new.me ≡ (found_idle port word place.old.me.0, place.old.me.1)) }
     {
         let loaded = self.table.shared.load::<Loads>(place, port as usize);
         if loaded / STATE == GRANTED {
@@ -302,9 +301,10 @@ impl PortBoard {
         requires agent { place.old.me.0.kind ≡ Agent (number_of place.old.me.0.kind) }
         requires loaded { (place.old.me.0.step ≡ Loaded port loaded) × (shows_granted loaded ≡ true) }
         ensures own { place.new.table_id ≡ place.old.table_id }
-        ensures drawn { (g : Grant) → result ≡ Draw.Drawn g → (g.port ≡ port) × (loaded ≡ word_of granted g.slot g.flow) × (place.new.me ≡ (drawn_now self.now.ports g loaded place.old.me.0, place.old.me.1)) }
+        ensures drawn { (g : Grant) → result ≡ Draw.Drawn g → (g.port ≡ port) × FitsWord g.slot g.flow × (loaded ≡ word_of granted g.slot g.flow) × (place.new.me ≡ (drawn_now self.now.ports g loaded place.old.me.0, place.old.me.1)) }
         ensures length { (g : Grant) → result ≡ Draw.Drawn g → IsLength g.length }
         ensures missed { (before found : ℕ) → result ≡ Draw.Missed before found → (before ≡ loaded) × (found ≢ loaded) × (place.new.me ≡ (after_miss port found place.old.me.0, place.old.me.1)) }
+        ensures range { (g : Grant) → result ≡ Draw.Drawn g → g.port + g.port < place.old.table_id.words }
         ensures tried { (word : ℕ) → result ≢ Draw.Idle word }
     {
         let shared = &self.table.shared;
@@ -313,7 +313,7 @@ impl PortBoard {
         if found != loaded {
             return Draw::Missed { loaded, found };
         }
-        let length = shared.load::<ReadsLength>(place, self.count_place(port));
+        let length = shared.load::<ReadsLength>(place, count_place(self.ports, port));
         Draw::Drawn(Drawn {
             port,
             slot: found / SLOT % SLOTS,
@@ -337,7 +337,7 @@ impl PortBoard {
             length: _,
         } = drawn;
         let shared = &self.table.shared;
-        let count = self.count_place(port);
+        let count = count_place(seat.ports, port);
         shared.store::<Counts>(&mut seat.place, count, sent);
         let word = REPORTED * STATE + (slot * SLOT + u64::from(flow));
         shared.store::<Reports>(&mut seat.place, port as usize, word);
@@ -406,16 +406,15 @@ impl PortBoard {
             return Settled::Busy(word);
         }
         let shared = &self.table.shared;
-        Settled::Sent(shared.load::<ReadsSent>(place, self.count_place(port)))
+        Settled::Sent(shared.load::<ReadsSent>(place, count_place(self.ports, port)))
     }
+}
 
-    // The place of a port's count word.
-    fn count_place(&self, port: u32) -> usize
-        requires { port < self.now.ports }
-        ensures { result ≡ self.now.ports + port }
-    {
-        self.ports as usize + port as usize
-    }
+// The place of a port's count word, behind the words of all ports.
+fn count_place(ports: u32, port: u32) -> usize
+    ensures { result ≡ ports + port }
+{
+    ports as usize + port as usize
 }
 
 impl Poster {
