@@ -34,7 +34,7 @@ use Rattle.port_board.proofs.Moves.{St, Goes, rebuilt, unmoved, same_seat, agent
 abbrev pub M : Type 0
 M = Me (Unit {0}) View
 
-goes_same : (v w : View) → w.kind ≡ v.kind → w.made ≡ v.made → w.back ≡ v.back → Goes v w
+pub goes_same : (v w : View) → w.kind ≡ v.kind → w.made ≡ v.made → w.back ≡ v.back → Goes v w
 goes_same v w a b c = record { kind = a; made = b; back = c }
 
 not_poster : (v : View) (a : ℕ) → v.kind ≡ Agent a → v.kind ≡ Poster → ⊥
@@ -55,7 +55,7 @@ member : (gs : List Grant) (i : ℕ) (d : Grant) → i < length gs → Contains 
 member gs i d lt = All-contains_itself gs i d lt
 
 -- a port whose last post changes its stage, once it was posted
-port_goes : (word word' count : ℕ) (slot : ℕ → ℕ) (cargo : ℕ → ℕ → Cargo) (stage : ℕ → ℕ → PortStage) (p : ℕ) (c : PortStage) → PortOk word count (slot p) (cargo p) (stage p) → stage p (slot p) ≢ unposted → c ≢ granted
+pub port_goes : (word word' count : ℕ) (slot : ℕ → ℕ) (cargo : ℕ → ℕ → Cargo) (stage : ℕ → ℕ → PortStage) (p : ℕ) (c : PortStage) → PortOk word count (slot p) (cargo p) (stage p) → stage p (slot p) ≢ unposted → c ≢ granted
     → word' ≡ word_of c (slot p) (cargo p (slot p)).0 → PortOk word' count (slot p) (cargo p) (put2 stage p (slot p) c p)
 port_goes word word' count slot cargo stage p c h had not_granted word_is = let here = put2_here stage p (slot p) c in record {
   word_is = subst (λ (x : PortStage). word' ≡ word_of x (slot p) (cargo p (slot p)).0) (sym here) word_is;

@@ -5,3 +5,5 @@ pub mod Stays
 pub mod Moves
 pub mod AgentSteps
 pub mod Sitting
+pub mod Agreements
+pub mod PosterSteps

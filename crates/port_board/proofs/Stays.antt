@@ -26,7 +26,7 @@ pub record Follows (before after : PortStage) : Type 0 where
   pub not_taken : before ≢ taken_back
   pub granted_new : after ≡ granted → before ≡ unposted
 
-grant_same : (cargo cargo' : ℕ → ℕ → Cargo) (p k : ℕ) → cargo' p k ≡ cargo p k → grant_at cargo p k ≡ grant_at cargo' p k
+pub grant_same : (cargo cargo' : ℕ → ℕ → Cargo) (p k : ℕ) → cargo' p k ≡ cargo p k → grant_at cargo p k ≡ grant_at cargo' p k
 grant_same cargo cargo' p k e = ap (λ (z : Cargo). record { port = p; slot = k; flow = z.0; length = z.1 }) (sym e)
 
 module _ (slot slot' : ℕ → ℕ) (cargo cargo' : ℕ → ℕ → Cargo) (stage : ℕ → ℕ → PortStage) (p k : ℕ) (c : PortStage) (f : Follows (stage p k) c)
