@@ -37,7 +37,7 @@ M = Me (Unit {0}) View
 pub goes_same : (v w : View) → w.kind ≡ v.kind → w.made ≡ v.made → w.back ≡ v.back → Goes v w
 goes_same v w a b c = record { kind = a; made = b; back = c }
 
-not_poster : (v : View) (a : ℕ) → v.kind ≡ Agent a → v.kind ≡ Poster → ⊥
+pub not_poster : (v : View) (a : ℕ) → v.kind ≡ Agent a → v.kind ≡ Poster → ⊥
 not_poster v a is e = subst is_agent (is_same) tt
   where
     is_same : Agent a ≡ Poster

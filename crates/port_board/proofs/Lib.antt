@@ -7,3 +7,5 @@ pub mod AgentSteps
 pub mod Sitting
 pub mod Agreements
 pub mod PosterSteps
+pub mod Posting
+pub mod Seats
