@@ -9,6 +9,7 @@ ghost use Rattle.port_board.specs.declared.view.View.{View};
 ghost use Rattle.port_board.specs.Words.{shows_granted, shows_drawn, shows_reported};
 ghost use Rattle.port_board.specs.Views.{grant, IsPoster, number_of, agents_out, is_unsettled, last_slot, last_at, LastIsListed, one_more, newcomer, sees, takes_in, looked, posted_too, settled_as, found_idle, found_other, drew, reported_as, Tried, IsLength};
 ghost use Rattle.port_board.specs.Rule.{first_poster};
+ghost use Rattle.port_board.specs.Answers.{is_busy};
 ghost use Rattle.port_board.specs.Tells.{loaded_now, after_miss, drawn_now, poster_step};
 ghost use Rattle.port_board.specs.Agreement.{SharesNothing, EachOnce, EachPosted, EachMissedPosted, AnswersAgree, SentCameBack, NobodyHad, Agrees};
 
@@ -163,6 +164,15 @@ pub enum Settled {
     TakenBack,
     /// An agent drew the grant and has not reported: the word that shows it.
     Busy(u64),
+}
+
+impl Settled {
+    // Whether the post stays unsettled.
+    fn is_busy(&self) -> bool
+        ensures { result ≡ is_busy self.now }
+    {
+        matches!(self, Settled::Busy(_))
+    }
 }
 
 impl PortBoard {
@@ -358,7 +368,7 @@ impl PortBoard {
         ensures returned { SentCameBack poster.new.view }
     {
         let answer = self.try_settle(&mut poster.place, port);
-        poster.posted[port as usize] = matches!(&answer, Settled::Busy(_));
+        poster.posted[port as usize] = answer.is_busy();
         answer
     }
 
@@ -369,6 +379,7 @@ impl PortBoard {
         requires poster { (IsPoster place.old.me.0.kind) × (place.old.me.0.step ≡ Rests) × (place.old.me.1 ≡ []) }
         requires unsettled { is_unsettled port place.old.me.0.posts place.old.me.0.settled ≡ true }
         ensures own { (place.new.table_id ≡ place.old.table_id) × (place.new.me.1 ≡ []) }
+        ensures range { port + port < place.old.table_id.words }
         ensures sent { (n : ℕ) → result ≡ Settled.Sent n → (word : ℕ) × (before : View) × Tried port place.old.me.0 before × (shows_reported word ≡ true) × (place.new.me.0 ≡ looked (self.now.ports + port) n (settled_as port (Some n) (looked port word before))) }
         ensures taken_back { result ≡ Settled.TakenBack → (word : ℕ) × (shows_granted word ≡ true) × (place.new.me.0 ≡ looked port word (settled_as port None (looked port word place.old.me.0))) }
         ensures busy { (word : ℕ) → result ≡ Settled.Busy word → (before : View) × Tried port place.old.me.0 before × (shows_drawn word ≡ true) × (place.new.me.0 ≡ looked port word before) }
