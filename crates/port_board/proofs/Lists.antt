@@ -10,8 +10,9 @@ use mathlib.Core.Logic.{dite}
 use native.Mathlib.Decide.{ℕ_discrete}
 use Rattle.port_board.specs.declared.view.Grant.{Grant}
 use Rattle.port_board.specs.declared.view.Report.{Report}
+use Rattle.port_board.specs.declared.view.Step.{Step}
 use Rattle.port_board.specs.declared.view.View.{View}
-use Rattle.port_board.specs.Views.{is_of, last_at, is_listed, missed_if, missed_after}
+use Rattle.port_board.specs.Views.{is_of, last_at, is_listed, missed_if, missed_after, LastIsListed}
 
 -- the last post of a port among these is one of them
 pub last_is : (P : Grant → Type 0) (port : ℕ) (h : Grant) (gs : List Grant) → All P gs → last_at port gs ≡ Some h → P h × (h.port ≡ port)
@@ -120,3 +121,25 @@ misses_once v port once = go (last_at port v.shown)
     go None = once
     go (Some g) = cond_both (is_listed v port g.slot) v.missed (v.missed ++ (port, g.slot) ∷ []) (AllPairs (λ m k. m ≢ k)) (λ _. once)
         (λ e. all_pairs_push (λ m k. m ≢ k) v.missed (port, g.slot) once (new g.slot e))
+
+-- the last post of the port that the seat has seen is then listed
+pub listed : (v : View) (st : Step) (looks : List (ℕ × ℕ)) (port : ℕ) → LastIsListed port (record v { step = st; looks = looks; missed = missed_after v port })
+listed v st looks port g last = ⊎_elim
+    (λ (was : is_listed v port g.slot ≡ true). with_list (cond-true (is_listed v port g.slot) v.missed (v.missed ++ (port, g.slot) ∷ []) was) was)
+    (λ (not_yet : is_listed v port g.slot ≡ false). with_list (cond-false (is_listed v port g.slot) v.missed (v.missed ++ (port, g.slot) ∷ []) not_yet)
+    (or_right (list_any (is_of port g.slot) v.out) _ (or_right (list_any (λ (r : Report). is_of port g.slot r.grant) v.done) _ (any_pushed (is_at g.slot) v.missed (port, g.slot) ∙ or_right (list_any (is_at g.slot) v.missed) _ here))))
+    (cases_Bool (is_listed v port g.slot))
+  where
+    is_at : ℕ → ℕ × ℕ → Bool
+    is_at slot m = (eqb m.0 port) && (eqb m.1 slot)
+
+    here : is_at g.slot (port, g.slot) ≡ true
+    here = rw (eq-eqb port port refl, eq-eqb g.slot g.slot refl) refl
+
+    or_right : (a b : Bool) → b ≡ true → (a || b) ≡ true
+    or_right true b e = refl
+    or_right false b e = e
+
+    -- the list of missed grants is this one
+    with_list : {l : List (ℕ × ℕ)} → missed_if v port (Some g) ≡ l → is_listed (record v { missed = l }) port g.slot ≡ true → is_listed (record v { step = st; looks = looks; missed = missed_after v port }) port g.slot ≡ true
+    with_list {l} e h = subst (λ (m : List (ℕ × ℕ)). is_listed (record v { step = st; looks = looks; missed = m }) port g.slot ≡ true) (sym (ap (missed_if v port) last ∙ e)) h

@@ -280,6 +280,8 @@ impl PortBoard {
         ensures length { (g : Grant) → result ≡ Draw.Drawn g → IsLength g.length }
         ensures idle { (word : ℕ) → result ≡ Draw.Idle word → (shows_granted word ≡ false) × (seat.new.view ≡ found_idle port word seat.old.view) }
         ensures missed { (loaded found : ℕ) → result ≡ Draw.Missed loaded found → (shows_granted loaded ≡ true) × (found ≢ loaded) × (seat.new.view ≡ found_other port loaded found seat.old.view) }
+        ensures idle_listed { (word : ℕ) → result ≡ Draw.Idle word → LastIsListed port seat.new.view }
+        ensures missed_listed { (loaded found : ℕ) → result ≡ Draw.Missed loaded found → LastIsListed port seat.new.view }
     {
         match self.look(&mut seat.place, port) {
             Ok(loaded) => self.exchange(&mut seat.place, port, loaded),

@@ -1,12 +1,14 @@
-use Rattle.std.proofs.Common.{rules, ◌≡◌, ◌≢◌, ℕ, ◌+◌, ◌<◌, ◌∙◌, sym, ap, refl, subst, true, false}
+use Rattle.std.proofs.Common.{rules, ◌≡◌, ◌≢◌, ℕ, ◌+◌, ◌<◌, [], ◌∙◌, sym, ap, refl, subst, true, false}
 use Rattle.port_board.specs.declared.view.Grant.{Grant}
 use Rattle.port_board.specs.declared.view.View.{View}
 use Rattle.port_board.specs.declared.view.Kind.TheVariants.{Agent}
 use Rattle.atomic_table.specs.Seated.{TableId}
 use Rattle.port_board.specs.Words.{shows_granted}
-use Rattle.port_board.specs.Views.{number_of, found_idle}
+use Rattle.port_board.specs.Views.{number_of, found_idle, LastIsListed}
 use Rattle.port_board.specs.Tells.{loaded_now, drawn_now, after_miss}
 use Rattle.port_board.proofs.AgentSteps.{M}
+use Rattle.port_board.specs.declared.view.Step.TheVariants.{Rests}
+use Rattle.port_board.proofs.Lists.{listed}
 use Rattle.port_board.proofs.Sitting.{SeatOk, draw_cases, after_drawn, after_missed, after_idle, carry}
 use Rattle.port_board.proofs.board.PortBoard.draw.Goals as goal
 
@@ -44,3 +46,12 @@ returns-in-Ok-clause-missed c a b is =
     let view = ap (λ u. u.view) c.seat.view_is in
     let d = c.exchange.ensures.missed a b is in
     (subst (λ z. shows_granted z ≡ true) (sym d.0) e.0, (λ x. d.1 (x ∙ d.0)), ap (λ (m : M). m.0) (d.2 ∙ ap (λ (m : M). (after_miss c.args.port b m.0, m.1)) e.1) ∙ (λ i. after_miss c.args.port b (loaded_now c.args.port (sym d.0 i) (view i))))
+
+pub returns-in-Ok-clause-missed_listed : goal.returns-in-Ok-clause-missed_listed
+returns-in-Ok-clause-missed_listed c a b is =
+    let e = c.in-Ok.ensures.granted _ refl in
+    let d = c.exchange.ensures.missed a b is in
+    subst (λ (m : M). LastIsListed c.args.port m.0) (sym (d.2 ∙ ap (λ (m : M). (after_miss c.args.port b m.0, m.1)) e.1)) (listed c.seat.inside.place.me.0 Rests [] c.args.port)
+
+pub returns-in-Err-clause-idle_listed : goal.returns-in-Err-clause-idle_listed
+returns-in-Err-clause-idle_listed c word is = subst (λ (m : M). LastIsListed c.args.port m.0) (sym (c.in-Err.ensures.idle _ refl).1) (listed c.seat.inside.place.me.0 Rests [] c.args.port)
