@@ -23,7 +23,7 @@ use Rattle.port_board.specs.declared.view.Kind.{Kind}
 use Rattle.port_board.specs.declared.view.Kind.TheVariants.{Note, Agent, Poster}
 use Rattle.port_board.specs.Words.{shows_granted, slot_of, flow_of}
 use Rattle.port_board.specs.Views.{grant, report, number_of, is_of, missed_after, reported_as}
-use Rattle.port_board.specs.Rule.{Cargo, PortOk, grant_at, count_after, DifferAt, ReportsDiffer, StandOnce, Posted, Out, Back, Gone, Closed, CameOk, StepOk, Counts, Knows, PosterOk, HasOut, HasDone, Seated, Kept}
+use Rattle.port_board.specs.Rule.{Cargo, PortOk, grant_at, count_after, DifferAt, ReportsDiffer, StandOnce, HoldsOnce, Posted, Out, Back, Gone, Closed, CameOk, StepOk, Counts, Knows, PosterOk, HasOut, HasDone, Seated, Kept}
 use Rattle.port_board.specs.Tells.{after_load, loads, after_win, after_miss, after_draw, draws, won_count, after_length, reads_length, counts, counted, reports}
 use Rattle.port_board.proofs.Words.{IsUnposted, IsGranted, IsDrawn, IsReported, IsTaken, drawer, reporter, units, slot_of-granted, flow_of-granted, slot_of-reported, granted_only, shows_granted-granted, stage_is}
 use Rattle.port_board.proofs.Puts.{put, put_here, put_else, put2, put2_here, put2_keeps, put2_other, put2_cases}
@@ -143,6 +143,14 @@ module _ (n : ℕ) where
       has_done u y h = ⊎_elim (λ (t : (v.kind ≡ Agent u) × Contains v.done y). inl (go.kind ∙ t.0, keep_done y t.1))
           (λ (t : (v.kind ≡ Poster) × ((z : Came) × Contains v.back z × (z.number ≡ u) × Contains z.done y)). absurd (not_poster v a agent_is t.0)) h
 
+  -- no grant stands twice in the lists of a seat
+  pub holds_once : (s : St) (cargo : ℕ → ℕ → Cargo) (stage : ℕ → ℕ → PortStage) (words : List ℕ) (slot : ℕ → ℕ) (v : View) → Knows cargo stage n words slot v → HoldsOnce v
+  holds_once s cargo stage words slot v k = (
+    k.drawn_once,
+    (λ i d lt j e within pe se. subst IsReported (sym (k.done j e within).0 ∙ (ap (λ (z : ℕ × ℕ). stage z.0 z.1) (λ t. (pe t, se t)) ∙ (k.out i d lt).0)) tt),
+    k.once,
+  )
+
   -- what an agent knows once a look has shown that the last post which it has seen is gone
   missing : (s : St) (r : Kept n s) (p : ℕ) (looks : List (ℕ × ℕ)) (v : View) (P : Grant → Type 0) → All P v.shown → ((g : Grant) → P g → g.port ≡ p → Gone r.cargo r.stage (p, g.slot)) → Knows r.cargo r.stage n s.words r.slot v
       → All (Counts r.cargo r.stage n s.words Rests) v.out → Knows r.cargo r.stage n s.words r.slot (record v { step = Rests; looks = looks; missed = missed_after v p })
@@ -173,11 +181,8 @@ module _ (n : ℕ) where
       ⊎_elim
       (λ (is : shows_granted x ≡ true).
       let g : r.stage p (r.slot p) ≡ granted = (stage_is (r.stage p (r.slot p)) (r.slot p) (r.cargo p (r.slot p)).0 1 fits (eqb-true _ 1 (subst (λ (y : ℕ). shows_granted y ≡ true) port.word_is is))).0 refl in
-      let posted : r.stage p (r.slot p) ≢ unposted = λ e. subst IsGranted (sym g ∙ e) tt in (
-        yes_view,
-        keeps,
-        tt,
-        unmoved n s r id v yes_view at (goes_same v yes_view refl refl refl) p (λ g h. h) (λ r h. h) record {
+      let posted : r.stage p (r.slot p) ≢ unposted = λ e. subst IsGranted (sym g ∙ e) tt in
+      let yes_knows : Knows r.cargo r.stage n s.words r.slot yes_view = record {
           shown = k.shown;
           out = k.out;
           counts = resting;
@@ -197,21 +202,26 @@ module _ (n : ℕ) where
           came = k.came;
           posts = k.posts;
           settled = k.settled;
-        } (λ e. absurd (not_poster v a agent_is e)),
-        λ i. (sym (cond-true (shows_granted x) yes_view no_view is) i, me.1),
-      ))
-      (λ (not_so : shows_granted x ≡ false). (
-        no_view,
+        } in (
+        yes_view,
         keeps,
         tt,
-        unmoved n s r id v no_view at (goes_same v no_view refl refl refl) p (λ g h. h) (λ r h. h)
-            (missing s r p (v.looks ++ (p, x) ∷ []) v (Posted r.cargo r.stage) k.shown
+        unmoved n s r id v yes_view at (goes_same v yes_view refl refl refl) p (λ g h. h) (λ r h. h) yes_knows (λ e. absurd (not_poster v a agent_is e)),
+        ((λ i. (sym (cond-true (shows_granted x) yes_view no_view is) i, me.1)), holds_once s r.cargo r.stage s.words r.slot yes_view yes_knows),
+      ))
+      (λ (not_so : shows_granted x ≡ false).
+      let no_knows = (missing s r p (v.looks ++ (p, x) ∷ []) v (Posted r.cargo r.stage) k.shown
             (λ q h e. (
               subst (λ (z : ℕ). r.stage z q.slot ≢ unposted) e h.0,
               (λ g. let last = port.granted_last q.slot g in let g' = subst (λ (z : ℕ). r.stage p z ≡ granted) last g in
                   true≢false (sym (shows_granted-granted _ _ fits) ∙ (ap shows_granted (sym (port.word_is ∙ ap (λ (z : PortStage). word_of z (r.slot p) (r.cargo p (r.slot p)).0) g')) ∙ not_so))),
-            )) k resting) (λ e. absurd (not_poster v a agent_is e)),
-        λ i. (sym (cond-false (shows_granted x) yes_view no_view not_so) i, me.1),
+            )) k resting) in (
+        no_view,
+        keeps,
+        tt,
+        unmoved n s r id v no_view at (goes_same v no_view refl refl refl) p (λ g h. h) (λ r h. h)
+            no_knows (λ e. absurd (not_poster v a agent_is e)),
+        ((λ i. (sym (cond-false (shows_granted x) yes_view no_view not_so) i, me.1)), holds_once s r.cargo r.stage s.words r.slot no_view no_knows),
       ))
       (cases_Bool (shows_granted x))
 
@@ -281,7 +291,7 @@ module _ (n : ℕ) where
         subst (λ (b : Bool). Kept n (stepped s p (either b new x) id me.1 w keeps)) (sym (eq-eqb x old hit))
             (moved s r id a p new v w c inside at agent_is (goes_same v w refl refl refl) f b (λ e. subst IsDrawn e tt) (omega arith) mine (λ u e. absurd (not_drawn u e))
             (λ u e. (sym (ap drawer e), subst (Contains w.out) it_is (Contains-push v.out it))) (λ u m e. absurd (subst IsDrawn e tt)) (λ q h _. Contains-append_left v.out (it ∷ []) q h) (λ y h. h)),
-        (count, ap (λ (b : Bool). (cond b (after_win p x count v) (after_miss p x v), me.1)) (sym (eq-eqb x old hit))),
+        (count, ap (λ (b : Bool). (cond b (after_win p x count v) (after_miss p x v), me.1)) (sym (eq-eqb x old hit)), holds_once s r.cargo stage' words' r.slot w mine),
       ))
       (λ miss.
       let w : View = after_miss p x v in
@@ -298,7 +308,7 @@ module _ (n : ℕ) where
         tt,
         subst (λ (b : Bool). Kept n (stepped s p (either b new x) id me.1 w keeps)) (sym (ne_eqb x old miss))
             (unmoved n s r id v w at (goes_same v w refl refl refl) p (λ g h. h) (λ r h. h) mine (λ e. absurd (not_poster v a agent_is e))),
-        (count, ap (λ (b : Bool). (cond b (after_win p x count v) (after_miss p x v), me.1)) (sym (ne_eqb x old miss))),
+        (count, ap (λ (b : Bool). (cond b (after_win p x count v) (after_miss p x v), me.1)) (sym (ne_eqb x old miss)), holds_once s r.cargo r.stage s.words r.slot w mine),
       ))
 
   -- the read of the length, by the agent that drew the grant
@@ -333,7 +343,7 @@ module _ (n : ℕ) where
           posts = k.posts;
           settled = k.settled;
         } (λ e. absurd (not_poster v a agent_is e)),
-        (refl, found ∙ ap won_count (sym won), subst (λ (z : ℕ). 1 ≤ z) length_is long.0, subst (λ (z : ℕ). z ≤ 2199023255552) length_is long.1),
+        (refl, found ∙ ap won_count (sym won), subst (λ (z : ℕ). 1 ≤ z) length_is long.0, subst (λ (z : ℕ). z ≤ 2199023255552) length_is long.1, holds_once s r.cargo r.stage s.words r.slot v k),
       )
 
   -- the count written by the agent that has the grant out

@@ -52,6 +52,10 @@ ReportsDiffer r s = DifferAt r.grant s.grant
 abbrev pub StandOnce : List Report → List (ℕ × ℕ) → Type 0
 StandOnce done missed = AllPairs ReportsDiffer done × AllPairs (λ m k. m ≢ k) missed
 
+-- no grant stands twice in the lists of a seat
+abbrev pub HoldsOnce : View → Type 0
+HoldsOnce v = AllPairs DifferAt v.out × All (λ (g : Grant). All (λ (r : Report). DifferAt r.grant g) v.done) v.out × StandOnce v.done v.missed
+
 abbrev pub stage_after : Option ℕ → PortStage → Type 0
 stage_after None s = s ≡ taken_back
 stage_after (Some n) s = (a : ℕ) × (s ≡ reported a n)

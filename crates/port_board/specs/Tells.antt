@@ -8,6 +8,7 @@ use Rattle.port_board.specs.declared.view.Kind.TheVariants.{Note, Agent, Poster}
 use Rattle.port_board.specs.declared.view.View.{View}
 use Rattle.port_board.specs.Words.{shows_granted, shows_drawn, shows_reported, slot_of, flow_of}
 use Rattle.port_board.specs.Views.{grant, missed_after, found_idle, looked, reported_as, posted_too, settled_as, last_at, is_unsettled, blank, sees, takes_in}
+use Rattle.port_board.specs.Rule.{HoldsOnce}
 use Rattle.port_board.specs.Agreement.{Agrees, NobodyHad}
 
 abbrev Sat : Type 0
@@ -24,7 +25,7 @@ abbrev pub after_load : ℕ → ℕ → View → View
 after_load port word v = cond (shows_granted word) (loaded_now port word v) (found_idle port word v)
 
 abbrev pub loads : Of → Sat → ℕ → Sat → Type 0
-loads st m found m' = m' ≡ (after_load st.word found m.0, m.1)
+loads st m found m' = (m' ≡ (after_load st.word found m.0, m.1)) × HoldsOnce m'.0
 
 -- an agent exchanges the granted word `old`
 abbrev pub after_win : ℕ → ℕ → ℕ → View → View
@@ -37,7 +38,7 @@ abbrev pub after_draw : ℕ → ℕ → ℕ → ℕ → View → View
 after_draw port old count found v = cond (found == old) (after_win port found count v) (after_miss port found v)
 
 abbrev pub draws : Of → Sat → ℕ → Sat → Type 0
-draws st m found m' = (count : ℕ) × (m' ≡ (after_draw st.word st.first count found m.0, m.1))
+draws st m found m' = (count : ℕ) × (m' ≡ (after_draw st.word st.first count found m.0, m.1)) × HoldsOnce m'.0
 
 abbrev pub won_count : Step → ℕ
 won_count (Won port count) = count
@@ -52,7 +53,7 @@ abbrev pub drawn_now : ℕ → Grant → ℕ → View → View
 drawn_now ports g word v = record v { step = Rests; looks = (v.looks ++ (g.port, word) ∷ []) ++ (ports + g.port, g.length) ∷ []; out = v.out ++ g ∷ [] }
 
 abbrev pub reads_length : Of → Sat → ℕ → Sat → Type 0
-reads_length st m found m' = (m' ≡ (after_length st.word found m.0, m.1)) × (found ≡ won_count m.0.step) × (1 ≤ found) × (found ≤ 2199023255552)
+reads_length st m found m' = (m' ≡ (after_length st.word found m.0, m.1)) × (found ≡ won_count m.0.step) × (1 ≤ found) × (found ≤ 2199023255552) × HoldsOnce m'.0
 
 -- a number is written in a count word, by the agent that drew or by the poster
 abbrev pub counts : Of → Sat → ℕ → Sat → Type 0

@@ -8,7 +8,7 @@ ghost use Rattle.port_board.specs.declared.view.Step.TheVariants.{Rests, Loaded}
 ghost use Rattle.port_board.specs.declared.view.View.{View};
 ghost use Rattle.port_board.specs.Words.{shows_granted, shows_drawn, shows_reported};
 ghost use Rattle.port_board.specs.Views.{grant, IsPoster, number_of, agents_out, is_unsettled, last_slot, last_at, LastIsListed, one_more, newcomer, sees, takes_in, looked, posted_too, settled_as, found_idle, found_other, drew, reported_as, Tried, IsLength};
-ghost use Rattle.port_board.specs.Rule.{first_poster};
+ghost use Rattle.port_board.specs.Rule.{first_poster, HoldsOnce};
 ghost use Rattle.port_board.specs.Answers.{is_busy};
 ghost use Rattle.port_board.specs.Tells.{loaded_now, after_miss, drawn_now, poster_step};
 ghost use Rattle.port_board.specs.Agreement.{SharesNothing, EachOnce, EachPosted, EachMissedPosted, AnswersAgree, SentCameBack, NobodyHad, Agrees};
@@ -53,7 +53,7 @@ impl Model for PortBoard {
 
     ghost view = { λ b. record { id = b.table.shared.table_id; ports = b.ports } };
 
-    ghost invariant = { λ b. (b.table.shared.table_id.words ≡ b.ports + b.ports) × (b.table.shared.key ≡ b.ports) × (b.table.shared.table_id.slots ≡ 0) × (1 ≤ b.ports) };
+    ghost invariant = { λ b. (b.table.shared.table_id.words ≡ b.ports + b.ports) × (b.table.shared.key ≡ b.ports) × (b.table.shared.table_id.slots ≡ 0) × (1 ≤ b.ports) × (b.ports ≤ 1025) };
 }
 
 /// The one seat that posts and settles. It makes the agents' seats.
@@ -280,6 +280,7 @@ impl PortBoard {
         ensures length { (g : Grant) → result ≡ Draw.Drawn g → IsLength g.length }
         ensures idle { (word : ℕ) → result ≡ Draw.Idle word → (shows_granted word ≡ false) × (seat.new.view ≡ found_idle port word seat.old.view) }
         ensures missed { (loaded found : ℕ) → result ≡ Draw.Missed loaded found → (shows_granted loaded ≡ true) × (found ≢ loaded) × (seat.new.view ≡ found_other port loaded found seat.old.view) }
+        ensures once { HoldsOnce seat.new.view }
         ensures idle_listed { (word : ℕ) → result ≡ Draw.Idle word → LastIsListed port seat.new.view }
         ensures missed_listed { (loaded found : ℕ) → result ≡ Draw.Missed loaded found → LastIsListed port seat.new.view }
     {
@@ -287,6 +288,14 @@ impl PortBoard {
             Ok(loaded) => self.exchange(&mut seat.place, port, loaded),
             Err(word) => Draw::Idle(word),
         }
+    }
+
+    /// How many ports the board has, from 1 to 1025.
+    pub fn ports(&self) -> u32
+        ensures ports { result ≡ self.now.ports }
+        ensures range { (1 ≤ result) × (result ≤ 1025) }
+    {
+        self.ports
     }
 
     // The first half of `draw`: the word, Ok where it is granted.
@@ -297,6 +306,7 @@ impl PortBoard {
         ensures own { place.new.table_id ≡ place.old.table_id }
         ensures granted { (word : ℕ) → result ≡ Result.Ok word → (shows_granted word ≡ true) × (place.new.me ≡ (loaded_now port word place.old.me.0, place.old.me.1)) }
         ensures idle { (word : ℕ) → result ≡ Result.Err word → (shows_granted word ≡ false) × (place.new.me ≡ (found_idle port word place.old.me.0, place.old.me.1)) }
+        ensures once { HoldsOnce place.new.me.0 }
     {
         let loaded = self.table.shared.load::<Loads>(place, port as usize);
         if loaded / STATE == GRANTED {
@@ -317,6 +327,7 @@ impl PortBoard {
         ensures length { (g : Grant) → result ≡ Draw.Drawn g → IsLength g.length }
         ensures missed { (before found : ℕ) → result ≡ Draw.Missed before found → (before ≡ loaded) × (found ≢ loaded) × (place.new.me ≡ (after_miss port found place.old.me.0, place.old.me.1)) }
         ensures range { (g : Grant) → result ≡ Draw.Drawn g → g.port + g.port < place.old.table_id.words }
+        ensures once { HoldsOnce place.new.me.0 }
         ensures tried { (word : ℕ) → result ≢ Draw.Idle word }
     {
         let shared = &self.table.shared;
