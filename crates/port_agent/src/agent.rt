@@ -1,7 +1,7 @@
 //! An agent and its round over the ports.
-ghost use Rattle.std.specs.Prelude.{◌≡◌, ℕ, ◌+◌, ◌<◌, ◌≤◌, List, [], ◌++◌, length, Option};
+ghost use Rattle.std.specs.Prelude.{◌≡◌, ℕ, ◌+◌, ◌<◌, ◌≤◌, List, [], ◌++◌, length, ◌-◌, ◌^◌, Option};
 ghost use Rattle.port_board.specs.declared.view.Report.{Report};
-ghost use Rattle.port_agent.specs.Served.{Attends, Attended, taken, units_of, shorts_of, adds};
+ghost use Rattle.port_agent.specs.Served.{Attended, ServesPort, taken, units_of, shorts_of, adds};
 
 use outside::Wire;
 use port_board::{AgentSeat, Draw, PortBoard};
@@ -76,11 +76,12 @@ impl Agent {
             sent: 0,
             short: 0,
         };
-        'ports: for offset in 0..wires.len() {
+        for offset in 0..wires.len() {
             let port = first + offset as u32;
-            if let Some((length, sent)) = self.serve_port(board, port, &mut wires[offset]) {
-                served.add(length, sent);
-            }
+            let Some((length, sent)) = self.serve_port(board, port, &mut wires[offset]) else {
+                continue;
+            };
+            served.add(length, sent);
         }
         served
     }
@@ -97,12 +98,18 @@ impl Agent {
         ensures own { self.new.at ≡ self.old.at }
         ensures port { ServesPort W.faults W.runs port self.old.view self.new.view wire.old wire.new result }
     {
-        let Draw::Drawn(drawn) = board.draw(&mut self.seat, port) else {
-            return None;
-        };
-        let length = drawn.length();
-        let sent = wire.send(drawn.slot(), drawn.flow(), length);
-        board.report(&mut self.seat, drawn, sent);
-        Some((length, sent))
+        match board.draw(&mut self.seat, port) {
+            Draw::Drawn(drawn) => {
+                let length = drawn.length();
+                let sent = wire.send(drawn.slot(), drawn.flow(), length);
+                board.report(&mut self.seat, drawn, sent);
+                Some((length, sent))
+            }
+            Draw::Idle(_word) => None,
+            Draw::Missed {
+                loaded: _loaded,
+                found: _found,
+            } => None,
+        }
     }
 }
