@@ -29,6 +29,7 @@ module _ {W : Type 0} (faults : W → ℕ) (runs : W → Option (List (ℕ × �
     pub each : (j : ℕ) (d e : W) → j < i → Attends faults runs w (first + j) (get_or old j d) (get_or now j e) (get_or took j None)
     pub rest : (j : ℕ) (d : W) → i ≤ j → get_or now j d ≡ get_or old j d
     pub out : w.out ≡ v.out
+    pub shown : w.shown ≡ v.shown
     pub done : w.done ≡ v.done ++ taken took
     pub drawn : s.drawn ≡ length (taken took)
     pub sent : s.sent ≡ units_of (taken took)
@@ -45,6 +46,7 @@ module _ {W : Type 0} (faults : W → ℕ) (runs : W → Option (List (ℕ × �
     each = λ j d e lt. absurd (omega arith);
     rest = λ j d le. refl;
     out = refl;
+    shown = refl;
     done = sym (append-nil v.done);
     drawn = a;
     sent = b;
@@ -99,6 +101,7 @@ module _ {W : Type 0} (faults : W → ℕ) (runs : W → Option (List (ℕ × �
           each = each_more so.took [] None so.as_many so.wires so.each h.2 (λ d. (h.0 ∙ (at d ∙ so.rest i d (omega arith)), h.1));
           rest = rest_more so.rest;
           out = h.2.out ∙ so.out;
+          shown = h.2.shown ∙ so.shown;
           done = h.2.done ∙ (append-nil w.done ∙ (so.done ∙ ap (λ l. v.done ++ l) (sym list)));
           drawn = so.drawn ∙ ap (λ (l : List Report). length l) (sym list);
           sent = so.sent ∙ ap units_of (sym list);
@@ -133,6 +136,7 @@ module _ {W : Type 0} (faults : W → ℕ) (runs : W → Option (List (ℕ × �
           each = each_more so.took (r ∷ []) (Some r) so.as_many so.wires so.each goes (λ d. (h.1, subst (λ (z : W). SentOn faults runs z y r) (at d ∙ so.rest i d (omega arith)) on));
           rest = rest_more so.rest;
           out = goes.out ∙ so.out;
+          shown = goes.shown ∙ so.shown;
           done = goes.done ∙ (ap (λ l. l ++ r ∷ []) so.done ∙ (append_assoc v.done (taken so.took) (r ∷ []) ∙ ap (λ l. v.done ++ l) (sym list)));
           drawn = add.0 ∙ (ap (λ z. z + 1) so.drawn ∙ (sym one_more ∙ ap (λ (l : List Report). length l) (sym list)));
           sent = add.1 ∙ ((λ t. so.sent t + sym h.3 t) ∙ (sym (sum_by_push (λ (q : Report). q.sent) (taken so.took) r) ∙ ap units_of (sym list)));

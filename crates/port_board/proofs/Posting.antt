@@ -76,7 +76,7 @@ settled_cases P TakenBack sent taken busy = taken refl
 settled_cases P (Busy w) sent taken busy = busy w refl
 
 -- what holds of a view, whatever its looks are, holds at the last look of a settling
-tried_is : (P : View → Type 0) (port : ℕ) (old before : View) → P old → ((w : ℕ) → P (looked port w old)) → Tried port old before → P before
+pub tried_is : (P : View → Type 0) (port : ℕ) (old before : View) → P old → ((w : ℕ) → P (looked port w old)) → Tried port old before → P before
 tried_is P port old before one two t = ⊎_elim (λ (e : before ≡ old). subst P (sym e) one) (λ (e : (w : ℕ) × (shows_granted w ≡ true) × (before ≡ looked port w old)). subst P (sym e.2) (two e.0)) t
 
 pub after_settled : (agents : ℕ) (flags : List Bool) (words : ℕ) (m k : M) (port place n word : ℕ) (sent : Option ℕ) (before : View) → PosterFits agents flags words m → k.1 ≡ [] → Tried port m.0 before → port < length flags → is_unsettled port m.0.posts m.0.settled ≡ true

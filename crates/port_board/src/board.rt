@@ -23,6 +23,9 @@ use coflow_units::NoMemory;
 use std::alloc::Global;
 use std::marker::Model;
 
+#[cfg(test)]
+mod tests;
+
 // A port word is its state times 2^61, its slot times 2^20, and its flow.
 const STATE: u64 = 1 << 61;
 
@@ -277,6 +280,7 @@ impl PortBoard {
         requires port { port < self.now.ports }
         ensures own { seat.new.at ≡ seat.old.at }
         ensures drawn { (g : Grant) → result ≡ Draw.Drawn g → (g.port ≡ port) × (seat.new.view ≡ drew self.now.ports (word_of granted g.slot g.flow) g seat.old.view) }
+        ensures held { (g : Grant) → result ≡ Draw.Drawn g → Contains seat.new.view.out g }
         ensures length { (g : Grant) → result ≡ Draw.Drawn g → IsLength g.length }
         ensures idle { (word : ℕ) → result ≡ Draw.Idle word → (shows_granted word ≡ false) × (seat.new.view ≡ found_idle port word seat.old.view) }
         ensures missed { (loaded found : ℕ) → result ≡ Draw.Missed loaded found → (shows_granted loaded ≡ true) × (found ≢ loaded) × (seat.new.view ≡ found_other port loaded found seat.old.view) }
@@ -299,7 +303,7 @@ impl PortBoard {
     }
 
     // The first half of `draw`: the word, Ok where it is granted.
-    pub(crate) fn look(&self, place: &mut Place, port: u32) -> Result<u64, u64>
+    fn look(&self, place: &mut Place, port: u32) -> Result<u64, u64>
         requires own { place.old.table_id ≡ self.now.id }
         requires port { port < self.now.ports }
         requires agent { (place.old.me.0.kind ≡ Agent (number_of place.old.me.0.kind)) × (place.old.me.0.step ≡ Rests) }
@@ -317,7 +321,7 @@ impl PortBoard {
     }
 
     // The second half of `draw`: the exchange, and the length where it won.
-    pub(crate) fn exchange(&self, place: &mut Place, port: u32, loaded: u64) -> Draw
+    fn exchange(&self, place: &mut Place, port: u32, loaded: u64) -> Draw
         requires own { place.old.table_id ≡ self.now.id }
         requires port { port < self.now.ports }
         requires agent { place.old.me.0.kind ≡ Agent (number_of place.old.me.0.kind) }
@@ -377,6 +381,8 @@ impl PortBoard {
         ensures busy { (word : ℕ) → result ≡ Settled.Busy word → (before : View) × Tried port poster.old.view before × (shows_drawn word ≡ true) × (poster.new.view ≡ looked port word before) }
         ensures out { (word : ℕ) → result ≡ Settled.Busy word → 0 < agents_out poster.old.view }
         ensures nobody { (g : Grant) → result ≡ Settled.TakenBack → last_at port poster.old.view.posts ≡ Some g → NobodyHad g poster.old.view }
+        ensures seats { (poster.new.view.back ≡ poster.old.view.back) × (poster.new.view.made ≡ poster.old.view.made) }
+        ensures posts { poster.new.view.posts ≡ poster.old.view.posts }
         ensures answers { AnswersAgree poster.new.view }
         ensures returned { SentCameBack poster.new.view }
     {

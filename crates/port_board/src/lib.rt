@@ -6,6 +6,3 @@ mod plays;
 mod view;
 
 pub use board::{AgentSeat, Draw, Drawn, PortBoard, Poster, Settled};
-
-#[cfg(test)]
-mod tests;

@@ -1,4 +1,6 @@
 use Rattle.std.proofs.Common.{rules, ◌≡◌, ◌≢◌, ℕ, ◌+◌, ◌<◌, [], ◌∙◌, sym, ap, refl, subst, true, false}
+use Rattle.std.specs.Prelude.{Contains}
+use Rattle.std.proofs.lemmas.List.Elements.{Contains-push}
 use Rattle.port_board.specs.declared.view.Grant.{Grant}
 use Rattle.port_board.specs.declared.view.View.{View}
 use Rattle.port_board.specs.declared.view.Kind.TheVariants.{Agent}
@@ -55,3 +57,6 @@ returns-in-Ok-clause-missed_listed c a b is =
 
 pub returns-in-Err-clause-idle_listed : goal.returns-in-Err-clause-idle_listed
 returns-in-Err-clause-idle_listed c word is = subst (λ (m : M). LastIsListed c.args.port m.0) (sym (c.in-Err.ensures.idle _ refl).1) (listed c.seat.inside.place.me.0 Rests [] c.args.port)
+
+pub returns-in-Ok-clause-held : goal.returns-in-Ok-clause-held
+returns-in-Ok-clause-held c g is = let d = c.exchange.ensures.drawn g is in subst (λ (m : M). Contains m.0.out g) (sym d.3) (Contains-push c.look.new.place.me.0.out g)
