@@ -1,4 +1,4 @@
-use Rattle.std.proofs.Common.{rules, ◌≡◌, ℕ, ◌<◌, length, get_or, sym, ◌∙◌, subst}
+use Rattle.std.proofs.Common.{rules, ◌≡◌, ℕ, ◌<◌, ◌≤◌, length, get_or, sym, ◌∙◌, refl, subst}
 use Rattle.std.proofs.lemmas.List.{get_or_default}
 use Rattle.port_agent.proofs.Rounds.{SoFar, begins, ends, goes_idle, goes_took}
 use Rattle.port_agent.proofs.agent.Agent.serve.Goals as goal
@@ -25,3 +25,6 @@ loop-offset-preserved g c =
       so_far = goes_took g.W.Wire.faults g.W.Wire.runs c.args.first i c.args.self.now.view c.loop-offset.self.view c.serve_port.new.self.view c.args.wires.now c.loop-offset.wires c.serve_port.new.wire c.loop-offset-test.true c.loop-offset.served c.add.new.self
           (get_or c.loop-offset.wires i c.index-wires-offset.result) c.in-Some.length c.in-Some.sent c.loop-offset.invariant.so_far (λ d. get_or_default c.loop-offset.wires i c.index-wires-offset.result d inside) c.in-Some.ensures.port c.add.ensures;
     }
+
+pub loop-offset-init : goal.loop-offset-init
+loop-offset-init g c = record { own = refl; few = subst (λ z. z ≤ 1025) c.ports-few.ensures.ports c.ports-few.ensures.range.1; so_far = begins g.W.Wire.faults g.W.Wire.runs c.args.first c.args.self.now.view c.args.wires.now (record { drawn = 0; sent = 0; short = 0 }) refl refl refl; }
