@@ -1,18 +1,18 @@
 -- Each step of an agent keeps the rule.
-use Rattle.std.proofs.Common.{◌≡◌, ◌≢◌, ◌⊎◌, inl, inr, ℕ, zero, suc, ◌+◌, ◌*◌, ◌/◌, ◌%◌, ◌<◌, ◌≤◌, eqb, List, [], ◌∷◌, ◌++◌, length, get_or, set, sym, refl, ap, ◌∙◌, subst, ⊎_elim, arith, Option, Some, None, Bool, true, false, cond, filter, not, true≢false, length-set, get_or-set_other, get_or-set_same, eq-eqb, ne_eqb}
-use Rattle.std.specs.Prelude.{All, AllPairs, Contains, slice_index}
-use Rattle.std.proofs.lemmas.List.Elements.{All-nil, All-push, All-weaker, All-filter, filter_passes, All-contains, All-contains_itself, Contains-push, Contains-append_left, Contains-push_cases}
+use Rattle.std.proofs.Common.{◌≡◌, ◌≢◌, ◌⊎◌, inl, inr, ℕ, ◌+◌, ◌<◌, ◌≤◌, eqb, List, [], ◌∷◌, ◌++◌, length, get_or, set, sym, refl, ap, ◌∙◌, subst, ⊎_elim, arith, Bool, true, false, cond, filter, not, true≢false, length-set, get_or-set_other, get_or-set_same, eq-eqb, ne_eqb}
+use Rattle.std.specs.Prelude.{All, Contains, slice_index}
+use Rattle.std.proofs.lemmas.List.Elements.{All-push, All-weaker, All-filter, filter_passes, All-contains, All-contains_itself, Contains-push, Contains-append_left}
 use Rattle.std.proofs.lemmas.List.Quantifiers.{all_pairs_push}
 use Rattle.std.proofs.lemmas.List.Kept.{AllPairs-filter}
-use Rattle.std.proofs.lemmas.Bool.{cond_both, cond-true, cond-false, cases_Bool, eqb-true}
+use Rattle.std.proofs.lemmas.Bool.{cond-true, cond-false, cases_Bool, eqb-true}
 use mathlib.Core.Logic.{dite}
-use mathlib.Core.Option.{none, some, some-injective, some-ne-none}
+use mathlib.Core.Option.{none, some}
 use native.Mathlib.Decide.{ℕ_discrete, dec_le}
 use lib.ListN.{get_elem?}
 use prog.Atomic.{either}
-use Rattle.atomic_table.specs.Table.{State, Me, step, keeps, stepped, Allows}
-use Rattle.coflow_units.specs.PortWord.{PortStage, word_of, FitsWord}
-use Rattle.coflow_units.specs.PortWord.PortStage.{unposted, granted, drawn, reported, taken_back}
+use Rattle.atomic_table.specs.Table.{Me, step, keeps, stepped, Allows}
+use Rattle.coflow_units.specs.PortWord.{PortStage, word_of}
+use Rattle.coflow_units.specs.PortWord.PortStage.{unposted, granted, drawn, reported}
 use Rattle.port_board.specs.declared.view.Grant.{Grant}
 use Rattle.port_board.specs.declared.view.Report.{Report}
 use Rattle.port_board.specs.declared.view.Step.{Step}
@@ -20,15 +20,15 @@ use Rattle.port_board.specs.declared.view.Step.TheVariants.{Rests, Loaded, Won, 
 use Rattle.port_board.specs.declared.view.View.{View}
 use Rattle.port_board.specs.declared.view.Came.{Came}
 use Rattle.port_board.specs.declared.view.Kind.{Kind}
-use Rattle.port_board.specs.declared.view.Kind.TheVariants.{Note, Agent, Poster}
+use Rattle.port_board.specs.declared.view.Kind.TheVariants.{Agent, Poster}
 use Rattle.port_board.specs.Words.{shows_granted, slot_of, flow_of}
 use Rattle.port_board.specs.Views.{grant, report, number_of, is_of, missed_after, reported_as}
-use Rattle.port_board.specs.Rule.{Cargo, PortOk, grant_at, count_after, DifferAt, ReportsDiffer, StandOnce, HoldsOnce, Posted, Out, Back, Gone, Closed, CameOk, StepOk, Counts, Knows, PosterOk, HasOut, HasDone, Seated, Kept}
-use Rattle.port_board.specs.Tells.{after_load, loads, after_win, after_miss, after_draw, draws, won_count, after_length, reads_length, counts, counted, reports}
-use Rattle.port_board.proofs.Words.{IsUnposted, IsGranted, IsDrawn, IsReported, IsTaken, drawer, reporter, units, slot_of-granted, flow_of-granted, slot_of-reported, granted_only, shows_granted-granted, stage_is}
-use Rattle.port_board.proofs.Puts.{put, put_here, put_else, put2, put2_here, put2_keeps, put2_other, put2_cases}
-use Rattle.port_board.proofs.Lists.{is_of-true, is_of-same, is_of-false, filter_keeps, misses, misses_once}
-use Rattle.port_board.proofs.Stays.{Follows, posted_stays, out_stays, back_stays, gone_stays, closed_stays, came_stays, step_stays, knows_stays, knows_stays_counted, ByAgent, poster_stays, poster_stays_counted}
+use Rattle.port_board.specs.Rule.{Cargo, PortOk, grant_at, count_after, DifferAt, ReportsDiffer, HoldsOnce, Posted, Out, Back, Gone, Closed, CameOk, StepOk, Counts, Knows, HasOut, HasDone, Seated, Kept}
+use Rattle.port_board.specs.Tells.{loads, after_win, after_miss, draws, won_count, after_length, reads_length, counts, counted, reports}
+use Rattle.port_board.proofs.Words.{IsGranted, IsDrawn, IsReported, drawer, reporter, units, slot_of-granted, flow_of-granted, slot_of-reported, granted_only, shows_granted-granted, stage_is}
+use Rattle.port_board.proofs.Puts.{put, put_else, put2, put2_here, put2_keeps, put2_other, put2_cases}
+use Rattle.port_board.proofs.Lists.{is_of-same, is_of-false, filter_keeps, misses, misses_once}
+use Rattle.port_board.proofs.Stays.{Follows, posted_stays, back_stays, gone_stays, closed_stays, came_stays, knows_stays, knows_stays_counted, ByAgent, poster_stays, poster_stays_counted}
 use Rattle.port_board.proofs.Moves.{St, Goes, rebuilt, unmoved, same_seat, agent_seated}
 
 abbrev pub M : Type 0
@@ -183,26 +183,26 @@ module _ (n : ℕ) where
       let g : r.stage p (r.slot p) ≡ granted = (stage_is (r.stage p (r.slot p)) (r.slot p) (r.cargo p (r.slot p)).0 1 fits (eqb-true _ 1 (subst (λ (y : ℕ). shows_granted y ≡ true) port.word_is is))).0 refl in
       let posted : r.stage p (r.slot p) ≢ unposted = λ e. subst IsGranted (sym g ∙ e) tt in
       let yes_knows : Knows r.cargo r.stage n s.words r.slot yes_view = record {
-          shown = k.shown;
-          out = k.out;
-          counts = resting;
-          done = k.done;
-          missed = k.missed;
-          drawn_once = k.drawn_once;
-          once = k.once;
-          stepping = (
-            r.slot p,
-            port.word_is ∙ ap (λ (z : PortStage). word_of z (r.slot p) (r.cargo p (r.slot p)).0) g,
-            omega arith,
-            fits,
-            posted,
-            All-weaker (Posted r.cargo r.stage) (λ (q : Grant). q.port ≡ p → q.slot ≤ r.slot p)
-                (λ q h e. dite (dec_le q.slot (r.slot p)) (λ l. l) (λ over. absurd (h.0 (subst (λ (z : ℕ). r.stage z q.slot ≡ unposted) (sym e) (port.later q.slot (omega arith)))))) v.shown k.shown,
-          );
-          came = k.came;
-          posts = k.posts;
-          settled = k.settled;
-        } in (
+        shown = k.shown;
+        out = k.out;
+        counts = resting;
+        done = k.done;
+        missed = k.missed;
+        drawn_once = k.drawn_once;
+        once = k.once;
+        stepping = (
+          r.slot p,
+          port.word_is ∙ ap (λ (z : PortStage). word_of z (r.slot p) (r.cargo p (r.slot p)).0) g,
+          omega arith,
+          fits,
+          posted,
+          All-weaker (Posted r.cargo r.stage) (λ (q : Grant). q.port ≡ p → q.slot ≤ r.slot p)
+              (λ q h e. dite (dec_le q.slot (r.slot p)) (λ l. l) (λ over. absurd (h.0 (subst (λ (z : ℕ). r.stage z q.slot ≡ unposted) (sym e) (port.later q.slot (omega arith)))))) v.shown k.shown,
+        );
+        came = k.came;
+        posts = k.posts;
+        settled = k.settled;
+      } in (
         yes_view,
         keeps,
         tt,
@@ -211,11 +211,11 @@ module _ (n : ℕ) where
       ))
       (λ (not_so : shows_granted x ≡ false).
       let no_knows = (missing s r p (v.looks ++ (p, x) ∷ []) v (Posted r.cargo r.stage) k.shown
-            (λ q h e. (
-              subst (λ (z : ℕ). r.stage z q.slot ≢ unposted) e h.0,
-              (λ g. let last = port.granted_last q.slot g in let g' = subst (λ (z : ℕ). r.stage p z ≡ granted) last g in
-                  true≢false (sym (shows_granted-granted _ _ fits) ∙ (ap shows_granted (sym (port.word_is ∙ ap (λ (z : PortStage). word_of z (r.slot p) (r.cargo p (r.slot p)).0) g')) ∙ not_so))),
-            )) k resting) in (
+      (λ q h e. (
+        subst (λ (z : ℕ). r.stage z q.slot ≢ unposted) e h.0,
+        (λ g. let last = port.granted_last q.slot g in let g' = subst (λ (z : ℕ). r.stage p z ≡ granted) last g in
+            true≢false (sym (shows_granted-granted _ _ fits) ∙ (ap shows_granted (sym (port.word_is ∙ ap (λ (z : PortStage). word_of z (r.slot p) (r.cargo p (r.slot p)).0) g')) ∙ not_so))),
+      )) k resting) in (
         no_view,
         keeps,
         tt,

@@ -1,31 +1,29 @@
 -- What the rule says of the poster's lists.
-use Rattle.std.proofs.Common.{◌≡◌, ◌≢◌, ◌⊎◌, inl, inr, ℕ, zero, suc, ◌+◌, ◌<◌, ◌≤◌, eqb, List, [], ◌∷◌, ◌++◌, length, get_or, set, sym, refl, ap, ◌∙◌, subst, ⊎_elim, arith, Option, Some, None, Bool, true, false, cond, not, true≢false, ◌||◌, eq-eqb, ne_eqb}
-use Rattle.std.specs.Prelude.{All, AllPairs, Contains, slice_index}
-use Rattle.std.specs.List.{list_any}
-use Rattle.std.proofs.lemmas.List.Elements.{All-nil, All-weaker, All-contains, All-head, All-tail, Contains-get_or}
+use Rattle.std.proofs.Common.{◌≡◌, ◌≢◌, ◌⊎◌, inl, inr, ℕ, zero, suc, ◌<◌, ◌≤◌, eqb, List, [], ◌∷◌, length, get_or, sym, refl, ap, ◌∙◌, subst, ⊎_elim, arith, Option, Some, None, Bool, true, false, cond, not, true≢false, ◌||◌, eq-eqb}
+use Rattle.std.specs.Prelude.{All, AllPairs, Contains}
+use Rattle.std.proofs.lemmas.List.Elements.{All-nil, All-weaker, All-contains}
 use Rattle.std.proofs.lemmas.List.Folds.{list_any_at, Any-from_list_any}
-use Rattle.std.proofs.lemmas.Bool.{cond-true, cond-false, cases_Bool, eqb-true}
+use Rattle.std.proofs.lemmas.Bool.{cond-true, eqb-true}
 use mathlib.Core.Logic.{dite}
-use mathlib.Core.Option.{none, some, some-injective}
-use native.Mathlib.Decide.{ℕ_discrete, dec_le}
+use mathlib.Core.Option.{some, some-injective}
+use native.Mathlib.Decide.{dec_le}
 use lib.ListN.{get_elem?}
-use Rattle.coflow_units.specs.PortWord.{PortStage, word_of, FitsWord}
+use Rattle.coflow_units.specs.PortWord.{PortStage, word_of}
 use Rattle.coflow_units.specs.PortWord.PortStage.{unposted, granted, drawn, reported, taken_back}
 use Rattle.port_board.specs.declared.view.Grant.{Grant}
 use Rattle.port_board.specs.declared.view.Report.{Report}
 use Rattle.port_board.specs.declared.view.Settlement.{Settlement}
 use Rattle.port_board.specs.declared.view.View.{View}
 use Rattle.port_board.specs.declared.view.Came.{Came}
-use Rattle.port_board.specs.declared.view.Kind.{Kind}
-use Rattle.port_board.specs.declared.view.Kind.TheVariants.{Note, Agent, Poster}
+use Rattle.port_board.specs.declared.view.Kind.TheVariants.{Agent, Poster}
 use Rattle.port_board.specs.Words.{shows_granted, shows_drawn, shows_reported}
-use Rattle.port_board.specs.Views.{report, settlement, is_of, last_at, last_slot, slot_or_none, is_settled, is_left, is_unsettled}
-use Rattle.port_board.specs.Rule.{Cargo, PortOk, grant_at, stage_after, DifferAt, StandOnce, Posted, Back, Gone, Closed, CameOk, Knows, PosterOk, total, agent, agents, IsNumber, Seated, HasOut, HasDone, Kept}
-use Rattle.port_board.specs.Agreement.{SharesNothing, EachOnce, EachPosted, EachMissedPosted, AnswersAgree, SentCameBack, Agrees, NobodyHad}
+use Rattle.port_board.specs.Views.{report, settlement, is_of, last_at, slot_or_none, is_settled, is_left, is_unsettled}
+use Rattle.port_board.specs.Rule.{grant_at, stage_after, DifferAt, StandOnce, Posted, Back, Gone, Closed, CameOk, Knows, PosterOk, agent, agents, Seated, Kept}
+use Rattle.port_board.specs.Agreement.{SharesNothing, EachPosted, EachMissedPosted, AnswersAgree, SentCameBack, Agrees, NobodyHad}
 use Rattle.port_board.specs.Tells.{IsPending}
-use Rattle.port_board.proofs.Words.{IsUnposted, IsGranted, IsDrawn, IsReported, IsTaken, drawer, reporter, units, shows_granted-granted, shows_drawn-drawn, shows_reported-reported, stage_is}
+use Rattle.port_board.proofs.Words.{IsGranted, IsDrawn, IsReported, IsTaken, reporter, units, shows_granted-granted, shows_drawn-drawn, shows_reported-reported, stage_is}
 use Rattle.port_board.proofs.Lists.{last_is, is_of-true, is_of-same}
-use Rattle.port_board.proofs.Moves.{St, total_none, seats_stay}
+use Rattle.port_board.proofs.Moves.{St, total_none}
 
 -- the agents out, where one is seen
 module _ (n : ℕ) (s : St) (r : Kept n s) (id : ℕ) (v : View) (at : get_elem? s.views id ≡ some v) (is : v.kind ≡ Poster) where
@@ -200,19 +198,20 @@ module _ (n : ℕ) (s : St) (r : Kept n s) (id : ℕ) (v : View) (at : get_elem?
   is_pending p inside left =
       let port = r.each_port p inside in
       let fits = port.fits in
-      let x : ℕ = get_or s.words p 0 in
-      (⊎_elim
-      (λ (t : r.stage p (r.slot p) ≡ granted). or_left _ _ (ap shows_granted (port.word_is ∙ ap (λ (z : PortStage). word_of z (r.slot p) (r.cargo p (r.slot p)).0) t) ∙ shows_granted-granted _ _ fits))
-      (λ (t : ((j : ℕ) × (r.stage p (r.slot p) ≡ drawn j)) ⊎ ((j m : ℕ) × (r.stage p (r.slot p) ≡ reported j m))).
-      ⊎_elim
-      (λ (t : (j : ℕ) × (r.stage p (r.slot p) ≡ drawn j)).
-      or_right _ _ (or_left _ _ (ap shows_drawn (port.word_is ∙ ap (λ (z : PortStage). word_of z (r.slot p) (r.cargo p (r.slot p)).0) t.1) ∙ shows_drawn-drawn t.0 _ _ fits)))
-      (λ (t : (j m : ℕ) × (r.stage p (r.slot p) ≡ reported j m)).
-      or_right _ _ (or_right _ _ (ap shows_reported (port.word_is ∙ ap (λ (z : PortStage). word_of z (r.slot p) (r.cargo p (r.slot p)).0) t.2) ∙ shows_reported-reported t.0 t.1 _ _ fits))) t)
-      (pending p inside left),
-      (λ shows.
-      let d = (stage_is (r.stage p (r.slot p)) (r.slot p) (r.cargo p (r.slot p)).0 2 fits (eqb-true _ 2 (subst (λ (y : ℕ). shows_drawn y ≡ true) port.word_is shows))).1 refl in
-      let u = r.drawn_there p (r.slot p) d.0 d.1 in one_out (r.who d.0) d.0 u.0 u.1 u.2.0))
+      let x : ℕ = get_or s.words p 0 in (
+        ⊎_elim
+            (λ (t : r.stage p (r.slot p) ≡ granted). or_left _ _ (ap shows_granted (port.word_is ∙ ap (λ (z : PortStage). word_of z (r.slot p) (r.cargo p (r.slot p)).0) t) ∙ shows_granted-granted _ _ fits))
+            (λ (t : ((j : ℕ) × (r.stage p (r.slot p) ≡ drawn j)) ⊎ ((j m : ℕ) × (r.stage p (r.slot p) ≡ reported j m))).
+            ⊎_elim
+            (λ (t : (j : ℕ) × (r.stage p (r.slot p) ≡ drawn j)).
+            or_right _ _ (or_left _ _ (ap shows_drawn (port.word_is ∙ ap (λ (z : PortStage). word_of z (r.slot p) (r.cargo p (r.slot p)).0) t.1) ∙ shows_drawn-drawn t.0 _ _ fits)))
+            (λ (t : (j m : ℕ) × (r.stage p (r.slot p) ≡ reported j m)).
+            or_right _ _ (or_right _ _ (ap shows_reported (port.word_is ∙ ap (λ (z : PortStage). word_of z (r.slot p) (r.cargo p (r.slot p)).0) t.2) ∙ shows_reported-reported t.0 t.1 _ _ fits))) t)
+            (pending p inside left),
+        (λ shows.
+            let d = (stage_is (r.stage p (r.slot p)) (r.slot p) (r.cargo p (r.slot p)).0 2 fits (eqb-true _ 2 (subst (λ (y : ℕ). shows_drawn y ≡ true) port.word_is shows))).1 refl in
+            let u = r.drawn_there p (r.slot p) d.0 d.1 in one_out (r.who d.0) d.0 u.0 u.1 u.2.0),
+      )
     where
       or_left : (a b : Bool) → a ≡ true → (a || b) ≡ true
       or_left a b e = ap (λ (z : Bool). z || b) e

@@ -1,38 +1,34 @@
 -- Each step of the poster keeps the rule.
-use Rattle.std.proofs.Common.{◌≡◌, ◌≢◌, ◌⊎◌, inl, inr, ℕ, zero, suc, ◌+◌, ◌*◌, ◌/◌, ◌%◌, ◌<◌, ◌≤◌, eqb, List, [], ◌∷◌, ◌++◌, length, get_or, set, sym, refl, ap, ◌∙◌, subst, ⊎_elim, arith, Option, Some, None, Bool, true, false, cond, not, true≢false, ◌||◌, length-set, get_or-set_other, get_or-set_same, eq-eqb, ne_eqb}
-use Rattle.std.specs.Prelude.{All, AllPairs, Contains, slice_index}
-use Rattle.std.specs.List.{list_any}
-use Rattle.std.proofs.lemmas.List.Elements.{All-nil, All-push, All-weaker, All-contains, All-contains_itself, Contains-push, Contains-append_left}
+use Rattle.std.proofs.Common.{◌≡◌, ◌≢◌, ◌⊎◌, inl, ℕ, ◌+◌, ◌/◌, ◌<◌, ◌≤◌, eqb, List, [], ◌∷◌, ◌++◌, get_or, set, sym, refl, ap, ◌∙◌, subst, ⊎_elim, arith, Option, Some, None, Bool, true, false, cond, not, true≢false, ◌||◌, length-set, get_or-set_other, get_or-set_same, eq-eqb, ne_eqb}
+use Rattle.std.specs.Prelude.{All, Contains, slice_index}
+use Rattle.std.proofs.lemmas.List.Elements.{All-push, All-weaker, Contains-push, Contains-append_left}
 use Rattle.std.proofs.lemmas.List.Folds.{list_any_none}
 use Rattle.std.proofs.lemmas.Bool.{cond_both, cond-true, cond-false, cases_Bool, eqb-true}
 use mathlib.Core.Logic.{dite}
-use mathlib.Core.Option.{none, some, some-injective}
-use native.Mathlib.Decide.{ℕ_discrete, dec_le}
+use mathlib.Core.Option.{none, some}
+use native.Mathlib.Decide.{ℕ_discrete}
 use lib.ListN.{get_elem?}
 use prog.Atomic.{either}
-use Rattle.atomic_table.specs.Table.{State, Me, step, keeps, stepped, Allows}
+use Rattle.atomic_table.specs.Table.{step, keeps, stepped, Allows}
 use Rattle.atomic_table.proofs.Lists.{set_here}
 use Rattle.coflow_units.specs.PortWord.{PortStage, word_of, FitsWord}
 use Rattle.coflow_units.specs.PortWord.PortStage.{unposted, granted, drawn, reported, taken_back}
 use Rattle.port_board.specs.declared.view.Grant.{Grant}
-use Rattle.port_board.specs.declared.view.Report.{Report}
 use Rattle.port_board.specs.declared.view.Settlement.{Settlement}
 use Rattle.port_board.specs.declared.view.Step.{Step}
-use Rattle.port_board.specs.declared.view.Step.TheVariants.{Rests, Loaded, Won, Counted, Offered, Ready}
+use Rattle.port_board.specs.declared.view.Step.TheVariants.{Rests, Counted, Offered, Ready}
 use Rattle.port_board.specs.declared.view.View.{View}
-use Rattle.port_board.specs.declared.view.Came.{Came}
-use Rattle.port_board.specs.declared.view.Kind.{Kind}
-use Rattle.port_board.specs.declared.view.Kind.TheVariants.{Note, Agent, Poster}
+use Rattle.port_board.specs.declared.view.Kind.TheVariants.{Poster}
 use Rattle.port_board.specs.Words.{shows_granted, shows_drawn, shows_reported, slot_of, flow_of}
-use Rattle.port_board.specs.Views.{grant, report, settlement, number_of, is_of, last_at, last_slot, slot_or_none, is_settled, is_left, is_unsettled, looked, posted_too, settled_if, settled_as}
-use Rattle.port_board.specs.Rule.{Cargo, PortOk, grant_at, count_after, stage_after, Posted, Out, Back, Gone, Closed, CameOk, StepOk, Counts, Knows, PosterStep, PosterOk, Seated, HasOut, HasDone, Kept}
-use Rattle.port_board.specs.Agreement.{Agrees, NobodyHad}
-use Rattle.port_board.specs.Tells.{counts, counted, posts, poster_step, seen_by_poster, IsPending, poster_loads, after_take, TakesOrNot, takes_back, ready_port, reads_sent, learns}
-use Rattle.port_board.proofs.Words.{IsUnposted, IsGranted, IsDrawn, IsReported, IsTaken, slot_of-granted, flow_of-granted, granted_only, shows_granted-granted, stage_is}
+use Rattle.port_board.specs.Views.{grant, report, settlement, number_of, is_of, last_at, last_slot, slot_or_none, is_left, is_unsettled, looked, posted_too, settled_if, settled_as}
+use Rattle.port_board.specs.Rule.{Cargo, PortOk, grant_at, count_after, stage_after, Posted, Out, Closed, StepOk, Counts, Knows, PosterStep, PosterOk, HasOut, HasDone, Kept}
+use Rattle.port_board.specs.Agreement.{NobodyHad}
+use Rattle.port_board.specs.Tells.{counts, counted, posts, poster_step, seen_by_poster, poster_loads, takes_back, ready_port, reads_sent, learns}
+use Rattle.port_board.proofs.Words.{IsUnposted, IsGranted, IsDrawn, IsReported, IsTaken, slot_of-granted, flow_of-granted, granted_only, stage_is}
 use Rattle.port_board.proofs.Puts.{put, put_here, put_else, put2, put2_here, put2_keeps, put2_other, put2_cases}
 use Rattle.port_board.proofs.Lists.{last_pushed, is_of-false}
-use Rattle.port_board.proofs.Stays.{Follows, grant_same, posted_stays, out_stays, back_stays, gone_stays, closed_stays, came_stays, knows_stays, knows_stays_counted}
-use Rattle.port_board.proofs.Moves.{St, Goes, rebuilt, unmoved, inside_of}
+use Rattle.port_board.proofs.Stays.{Follows, grant_same, knows_stays, knows_stays_counted}
+use Rattle.port_board.proofs.Moves.{St, rebuilt, unmoved, inside_of}
 use Rattle.port_board.proofs.AgentSteps.{M, goes_same, port_goes, ports_stay, counts_stay}
 use Rattle.port_board.proofs.Agreements.{its, agreeing, nobody_had, last_post, has_last, free_port, is_pending}
 

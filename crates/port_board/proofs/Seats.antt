@@ -1,31 +1,30 @@
 -- Seats that are cut and joined keep the rule.
-use Rattle.std.proofs.Common.{◌≡◌, ◌≢◌, ◌⊎◌, inl, inr, ℕ, zero, suc, ◌+◌, ◌<◌, ◌≤◌, List, [], ◌∷◌, ◌++◌, length, get_or, set, sym, refl, ap, ◌∙◌, subst, ⊎_elim, arith, Option, Some, None, length-append, length-set}
-use Rattle.std.specs.Prelude.{All, AllPairs, Contains, slice_index, replicate}
+use Rattle.std.proofs.Common.{◌≡◌, ◌≢◌, ◌⊎◌, inl, inr, ℕ, zero, suc, ◌+◌, ◌<◌, ◌≤◌, List, [], ◌∷◌, ◌++◌, length, get_or, set, sym, refl, ap, ◌∙◌, subst, ⊎_elim, arith, length-append, length-set}
+use Rattle.std.specs.Prelude.{All, AllPairs, Contains, slice_index}
 use Rattle.std.proofs.lemmas.List.Elements.{All-nil, All-push, All-weaker, All-contains, Contains-push, Contains-append_left}
 use Rattle.std.proofs.lemmas.List.Quantifiers.{all_pairs_push}
 use mathlib.Core.Logic.{dite}
-use mathlib.Core.Option.{none, some, some-injective, some-ne-none}
-use native.Mathlib.Decide.{ℕ_discrete, dec_le}
+use mathlib.Core.Option.{some, some-injective, some-ne-none}
+use native.Mathlib.Decide.{ℕ_discrete}
 use lib.ListN.{get_elem?}
-use Rattle.atomic_table.specs.Table.{State, Me, Splits, Joins, opening}
-use Rattle.atomic_table.proofs.Lists.{at_set, set_here, set_else, set_again, at_longer, at_last}
-use Rattle.coflow_units.specs.PortWord.{PortStage, word_of, FitsWord}
-use Rattle.coflow_units.specs.PortWord.PortStage.{unposted, granted, drawn, reported, taken_back}
+use Rattle.atomic_table.specs.Table.{Splits, Joins, opening}
+use Rattle.atomic_table.proofs.Lists.{at_set, set_here, set_else, set_again, at_longer}
+use Rattle.coflow_units.specs.PortWord.{PortStage}
+use Rattle.coflow_units.specs.PortWord.PortStage.{unposted}
 use Rattle.port_board.specs.declared.view.Grant.{Grant}
 use Rattle.port_board.specs.declared.view.Report.{Report}
-use Rattle.port_board.specs.declared.view.Settlement.{Settlement}
 use Rattle.port_board.specs.declared.view.Step.{Step}
 use Rattle.port_board.specs.declared.view.Step.TheVariants.{Rests, Loaded, Won, Counted, Offered, Ready}
 use Rattle.port_board.specs.declared.view.View.{View}
 use Rattle.port_board.specs.declared.view.Came.{Came}
 use Rattle.port_board.specs.declared.view.Kind.{Kind}
 use Rattle.port_board.specs.declared.view.Kind.TheVariants.{Note, Agent, Poster}
-use Rattle.port_board.specs.Views.{number_of, report, blank, one_more, newcomer, sees, came_of, takes_in}
-use Rattle.port_board.specs.Rule.{Cargo, PortOk, grant_at, DifferAt, ReportsDiffer, StandOnce, Posted, Out, Back, Gone, Closed, CameOk, StepOk, Counts, Knows, PosterStep, PosterOk, total, agent, agents, IsNumber, Seated, HasOut, HasDone, Kept, first_poster}
+use Rattle.port_board.specs.Views.{number_of, report, blank, one_more, newcomer, came_of, takes_in}
+use Rattle.port_board.specs.Rule.{Cargo, grant_at, DifferAt, ReportsDiffer, Posted, Out, Back, Gone, Closed, CameOk, StepOk, Counts, Knows, PosterOk, agent, agents, IsNumber, Seated, HasOut, HasDone, Kept, first_poster}
 use Rattle.port_board.specs.Tells.{note_of, hears, spent}
-use Rattle.port_board.proofs.Words.{IsUnposted, IsGranted, IsDrawn, IsReported, IsTaken}
+use Rattle.port_board.proofs.Words.{IsUnposted}
 use Rattle.port_board.proofs.Puts.{put, put_here, put_else}
-use Rattle.port_board.proofs.Moves.{St, Goes, seats_stay, total_set, total_push, inside_of, rebuilt, seated_stays, agent_seated}
+use Rattle.port_board.proofs.Moves.{St, seats_stay, total_set, total_push, inside_of, rebuilt, agent_seated}
 use Rattle.port_board.proofs.AgentSteps.{goes_same, not_poster}
 use Rattle.port_board.proofs.Agreements.{its}
 
@@ -100,7 +99,7 @@ module _ (n : ℕ) where
       step_of cargo stage slot v (Ready p) h = h
 
   lead_posts : (s : St) (r : Kept n s) (id : ℕ) (v : View) → get_elem? s.views id ≡ some v → v.kind ≡ Poster → PosterOk r.cargo r.stage n s.words r.slot (one_more v)
-  lead_posts s r id v at is = let h = r.posting id v at is in record { slot_is = h.slot_is; each_post = h.each_post; taken = h.taken; count = h.count; stepping = h.stepping; }
+  lead_posts s r id v at is = let h = r.posting id v at is in record { slot_is = h.slot_is; each_post = h.each_post; taken = h.taken; count = h.count; stepping = h.stepping }
 
   -- the poster makes one more agent
   pub makes_agent : (id : ℕ) (v : View) → v.kind ≡ Poster → Splits (Kept n) id v (one_more v) (newcomer v)
@@ -293,7 +292,7 @@ module _ (n : ℕ) where
             (at_set s.views id j u d e));
         posting = seats_stay (λ j d. d.kind ≡ Poster → PosterOk r.cargo r.stage n s.words r.slot d) vs other spent (λ e. absurd (subst IsNote e tt))
             (λ j d _ e. seats_stay (λ j d. d.kind ≡ Poster → PosterOk r.cargo r.stage n s.words r.slot d) s.views id u
-            (λ _. record { slot_is = h.slot_is; each_post = h.each_post; taken = h.taken; count = h.count; stepping = h.stepping; }) (λ i x _. r.posting i x) j d e);
+            (λ _. record { slot_is = h.slot_is; each_post = h.each_post; taken = h.taken; count = h.count; stepping = h.stepping }) (λ i x _. r.posting i x) j d e);
         drawn_there = λ q m b e.
             let d = r.drawn_there q m b e in
             let not_it : r.who b ≢ other = λ same. none_has (grant_at r.cargo q m) (subst (λ (l : List Grant). Contains l (grant_at r.cargo q m)) (ap (λ (z : View). z.out) (is_it (r.who b) d.0 d.1 same) ∙ none_out) d.2.1) in
@@ -306,18 +305,24 @@ module _ (n : ℕ) where
             dite (ℕ_discrete b a)
             (λ same.
             let at_other : r.who b ≡ other = ap r.who same ∙ theirs.0 in
-            let has = subst (HasDone b R) (is_it (r.who b) d.0 d.1 at_other) d.2 in
-            (u, ap (get_elem? (set vs other spent)) (ap who' same ∙ put_here r.who a id) ∙ at_id, ⊎_elim
-            (λ (t : (w.kind ≡ Agent b) × Contains w.done R). inr (is, (new, Contains-push v.back new, number_is ∙ sym same, t.1)))
-            (λ (t : (w.kind ≡ Poster) × ((c : Came) × Contains w.back c × (c.number ≡ b) × Contains c.done R)). absurd (subst IsAgent (sym agent_is ∙ t.0) tt)) has))
+            let has = subst (HasDone b R) (is_it (r.who b) d.0 d.1 at_other) d.2 in (
+              u,
+              ap (get_elem? (set vs other spent)) (ap who' same ∙ put_here r.who a id) ∙ at_id,
+              ⊎_elim
+                  (λ (t : (w.kind ≡ Agent b) × Contains w.done R). inr (is, (new, Contains-push v.back new, number_is ∙ sym same, t.1)))
+                  (λ (t : (w.kind ≡ Poster) × ((c : Came) × Contains w.back c × (c.number ≡ b) × Contains c.done R)). absurd (subst IsAgent (sym agent_is ∙ t.0) tt)) has,
+            ))
             (λ far.
             let place : who' b ≡ r.who b = put_else r.who a id b far in
             dite (ℕ_discrete (r.who b) id)
             (λ at_me.
-            let has = subst (HasDone b R) (is_me (r.who b) d.0 d.1 at_me) d.2 in
-            (u, ap (get_elem? (set vs other spent)) (place ∙ at_me) ∙ at_id, ⊎_elim
-            (λ (t : (v.kind ≡ Agent b) × Contains v.done R). absurd (subst IsAgent (sym t.0 ∙ is) tt))
-            (λ (t : (v.kind ≡ Poster) × ((c : Came) × Contains v.back c × (c.number ≡ b) × Contains c.done R)). inr (is, (t.1.0, Contains-append_left v.back (new ∷ []) t.1.0 t.1.1, t.1.2, t.1.3))) has))
+            let has = subst (HasDone b R) (is_me (r.who b) d.0 d.1 at_me) d.2 in (
+              u,
+              ap (get_elem? (set vs other spent)) (place ∙ at_me) ∙ at_id,
+              ⊎_elim
+                  (λ (t : (v.kind ≡ Agent b) × Contains v.done R). absurd (subst IsAgent (sym t.0 ∙ is) tt))
+                  (λ (t : (v.kind ≡ Poster) × ((c : Came) × Contains v.back c × (c.number ≡ b) × Contains c.done R)). inr (is, (t.1.0, Contains-append_left v.back (new ∷ []) t.1.0 t.1.1, t.1.2, t.1.3))) has,
+            ))
             (λ not_me. dite (ℕ_discrete (r.who b) other)
             (λ at_other.
             let has = subst (HasDone b R) (is_it (r.who b) d.0 d.1 at_other) d.2 in

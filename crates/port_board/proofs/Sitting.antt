@@ -1,16 +1,15 @@
 -- What each call leaves of an agent's seat.
-use Rattle.std.proofs.Common.{◌≡◌, ◌≢◌, ℕ, ◌+◌, ◌<◌, List, [], ◌∷◌, ◌++◌, ◌∙◌, sym, ap, refl, subst, arith, Bool, true, false}
+use Rattle.std.proofs.Common.{◌≡◌, ◌≢◌, ℕ, ◌+◌, ◌<◌, [], sym, ap, refl, subst, arith}
 use Rattle.std.specs.Prelude.{All}
-use Rattle.std.proofs.lemmas.List.Elements.{All-push, All-filter, All-nil}
+use Rattle.std.proofs.lemmas.List.Elements.{All-push, All-filter}
 use Rattle.atomic_table.specs.Seated.{TableId}
 use Rattle.coflow_units.specs.PortWord.{FitsWord}
 use Rattle.port_board.specs.declared.view.Grant.{Grant}
-use Rattle.port_board.specs.declared.view.View.{View}
 use Rattle.port_board.specs.declared.view.Kind.TheVariants.{Agent}
 use Rattle.port_board.specs.declared.view.Step.TheVariants.{Rests}
 use Rattle.port_board.specs.declared.board.Draw.{Draw}
 use Rattle.port_board.specs.declared.board.Draw.TheVariants.{Drawn, Idle, Missed}
-use Rattle.port_board.specs.Views.{number_of, found_idle, reported_as, is_of}
+use Rattle.port_board.specs.Views.{number_of, found_idle, reported_as}
 use Rattle.port_board.specs.Tells.{loaded_now, drawn_now, after_miss}
 use Rattle.port_board.proofs.AgentSteps.{M}
 

@@ -1,10 +1,8 @@
 -- What the views say stays true where one post changes its stage, and where one count word changes.
-use Rattle.std.proofs.Common.{◌≡◌, ◌≢◌, ◌⊎◌, inl, inr, ℕ, zero, suc, ◌+◌, ◌<◌, ◌≤◌, eqb, List, [], ◌∷◌, ◌++◌, length, get_or, set, sym, refl, ap, ◌∙◌, subst, ⊎_elim, arith, Option, Some, None, Bool, true, false, cond, get_or-set_other, get_or-set_same, ne_eqb}
-use Rattle.std.specs.Prelude.{All, AllPairs, Contains, slice_index}
-use Rattle.std.proofs.lemmas.List.Elements.{All-weaker, All-contains}
+use Rattle.std.proofs.Common.{◌≡◌, ◌≢◌, ℕ, ◌+◌, ◌≤◌, eqb, List, get_or, set, sym, refl, ap, ◌∙◌, subst, arith, Option, Some, None, get_or-set_other, ne_eqb}
+use Rattle.std.specs.Prelude.{Contains, slice_index}
+use Rattle.std.proofs.lemmas.List.Elements.{All-weaker}
 use Rattle.std.proofs.lemmas.Bool.{cond-false}
-use mathlib.Core.Logic.{dite}
-use native.Mathlib.Decide.{ℕ_discrete}
 use Rattle.coflow_units.specs.PortWord.{PortStage, word_of, FitsWord}
 use Rattle.coflow_units.specs.PortWord.PortStage.{unposted, granted, drawn, reported, taken_back}
 use Rattle.port_board.specs.declared.view.Grant.{Grant}
@@ -15,9 +13,9 @@ use Rattle.port_board.specs.declared.view.Step.TheVariants.{Rests, Loaded, Won, 
 use Rattle.port_board.specs.declared.view.View.{View}
 use Rattle.port_board.specs.declared.view.Came.{Came}
 use Rattle.port_board.specs.Views.{number_of}
-use Rattle.port_board.specs.Rule.{Cargo, PortOk, grant_at, count_after, stage_after, Posted, Out, Back, Gone, Closed, CameOk, LoadedOk, StepOk, Counts, Knows, PosterStep, PosterOk}
-use Rattle.port_board.proofs.Words.{IsUnposted, IsGranted, IsDrawn, IsReported, IsTaken}
-use Rattle.port_board.proofs.Puts.{put, put2, put2_here, put2_keeps}
+use Rattle.port_board.specs.Rule.{Cargo, grant_at, count_after, stage_after, Posted, Out, Back, Gone, Closed, CameOk, StepOk, Counts, Knows, PosterStep, PosterOk}
+use Rattle.port_board.proofs.Words.{IsDrawn, IsReported, IsTaken}
+use Rattle.port_board.proofs.Puts.{put2, put2_keeps}
 
 -- a post may be made, drawn, reported and taken back, and a made one is no longer unposted
 pub record Follows (before after : PortStage) : Type 0 where

@@ -1,5 +1,5 @@
 -- Port words: each stands for one stage, slot and flow.
-use Rattle.std.proofs.Common.{◌≡◌, ◌≢◌, ◌⊎◌, inl, inr, ℕ, ◌+◌, ◌*◌, ◌/◌, ◌%◌, ◌<◌, arith, refl, true, false, Bool, ◌||◌, eqb, eq-eqb, ne_eqb, sym, ap, ◌∙◌}
+use Rattle.std.proofs.Common.{◌≡◌, ℕ, ◌/◌, arith, refl, true, eq-eqb}
 use Rattle.coflow_units.specs.PortWord.{PortStage, word_of, FitsWord}
 use Rattle.coflow_units.specs.PortWord.PortStage.{unposted, granted, drawn, reported, taken_back}
 use Rattle.port_board.specs.Words.{shows_granted, shows_drawn, shows_reported, slot_of, flow_of}

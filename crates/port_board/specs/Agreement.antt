@@ -1,5 +1,5 @@
 -- What the poster's lists say of one another, at any moment.
-use Rattle.std.specs.Prelude.{◌≡◌, ℕ, List, All, AllPairs, Contains, length, Option, Some, None}
+use Rattle.std.specs.Prelude.{◌≡◌, ℕ, All, AllPairs, Contains, length, Some}
 use Rattle.port_board.specs.declared.view.Grant.{Grant}
 use Rattle.port_board.specs.declared.view.Report.{Report}
 use Rattle.port_board.specs.declared.view.Settlement.{Settlement}

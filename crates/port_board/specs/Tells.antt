@@ -1,13 +1,13 @@
 -- What each step on a word tells the seat that takes it.
-use Rattle.std.specs.Prelude.{◌≡◌, ℕ, ◌+◌, ◌<◌, ◌≤◌, List, [], ◌∷◌, ◌++◌, Contains, length, Bool, true, false, ◌==◌, ◌||◌, cond, Option, Some, None}
+use Rattle.std.specs.Prelude.{◌≡◌, ℕ, ◌+◌, ◌<◌, ◌≤◌, [], ◌∷◌, ◌++◌, Contains, length, true, false, ◌==◌, ◌||◌, cond, Some, None}
 use Rattle.atomic_table.specs.Table.{Me, Step as At}
 use Rattle.port_board.specs.declared.view.Grant.{Grant}
 use Rattle.port_board.specs.declared.view.Step.{Step}
 use Rattle.port_board.specs.declared.view.Step.TheVariants.{Rests, Loaded, Won, Counted, Offered, Ready}
-use Rattle.port_board.specs.declared.view.Kind.TheVariants.{Note, Agent, Poster}
+use Rattle.port_board.specs.declared.view.Kind.TheVariants.{Note}
 use Rattle.port_board.specs.declared.view.View.{View}
 use Rattle.port_board.specs.Words.{shows_granted, shows_drawn, shows_reported, slot_of, flow_of}
-use Rattle.port_board.specs.Views.{grant, missed_after, found_idle, looked, reported_as, posted_too, settled_as, last_at, is_unsettled, blank, sees, takes_in}
+use Rattle.port_board.specs.Views.{grant, missed_after, found_idle, looked, reported_as, posted_too, settled_as, last_at, is_unsettled, blank, sees}
 use Rattle.port_board.specs.Rule.{HoldsOnce}
 use Rattle.port_board.specs.Agreement.{Agrees, NobodyHad}
 

@@ -209,10 +209,7 @@ impl PortBoard {
         ensures seat { result.view ≡ newcomer poster.old.view }
     {
         poster.agents += 1;
-        let place = self
-            .table
-            .shared
-            .split_seat::<Another>(&mut poster.place);
+        let place = self.table.shared.split_seat::<Another>(&mut poster.place);
         AgentSeat {
             place,
             ports: self.ports,

@@ -2,8 +2,6 @@ ghost use Rattle.std.specs.Prelude.{◌≡◌, ◌≤◌, [], Contains};
 ghost use Rattle.port_board.specs.declared.view.Grant.{Grant};
 
 use crate::board::{AgentSeat, Draw, Drawn, PortBoard, Poster, Settled};
-
-
 use std::test::*;
 
 const GRANTED: u64 = 2305843009214742528;
@@ -63,7 +61,10 @@ fn one_of_two_agents_draws(rt: HostRuntime) -> Result<(), Fail> {
     let one = board.draw(&mut first, 0);
     let two = board.draw(&mut second, 0);
     assert_eq!(rt; finish(&board, &mut second, two), Seen::Idle(DRAWN));
-    assert!(rt; poster.posted(0) && !poster.posted(1), "port 0 has an unsettled post");
+    assert!(rt;
+        poster.posted(0) && !poster.posted(1),
+        "port 0 has an unsettled post"
+    );
     assert_eq!(rt; settled(board.settle(&mut poster, 0)), (2, DRAWN));
     assert_eq!(rt; finish(&board, &mut first, one), Seen::Took(1));
     assert!(rt; poster.posted(0), "the post is still unsettled");

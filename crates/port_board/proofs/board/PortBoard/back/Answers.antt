@@ -1,10 +1,9 @@
-use Rattle.std.proofs.Common.{rules, ◌≡◌, ℕ, ◌+◌, ◌≤◌, ◌∙◌, sym, ap, refl, subst, length}
-use Rattle.port_board.specs.declared.view.View.{View}
-use Rattle.port_board.specs.Views.{looked, takes_in, agents_out}
+use Rattle.std.proofs.Common.{rules, ◌+◌, ◌≤◌, ◌∙◌, ap, subst, length}
+use Rattle.port_board.specs.Views.{looked, agents_out}
 use Rattle.port_board.proofs.AgentSteps.{M}
 use Rattle.port_board.proofs.PosterSteps.{learning}
 use Rattle.port_board.proofs.Seats.{takes_agent}
-use Rattle.port_board.proofs.Posting.{PosterFits, after_back, some_out, one_fewer, carry_poster}
+use Rattle.port_board.proofs.Posting.{after_back, some_out, one_fewer, carry_poster}
 use Rattle.port_board.proofs.board.PortBoard.back.Goals as goal
 
 pub join_seat-requires : goal.join_seat-requires

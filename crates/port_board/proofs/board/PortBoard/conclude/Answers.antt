@@ -1,4 +1,4 @@
-use Rattle.std.proofs.Common.{rules, ap, ◌∙◌, sym}
+use Rattle.std.proofs.Common.{rules, ◌∙◌}
 use Rattle.port_board.proofs.PosterSteps.{reading_sent, is_reported, step_ready}
 use Rattle.port_board.proofs.board.PortBoard.conclude.Goals as goal
 

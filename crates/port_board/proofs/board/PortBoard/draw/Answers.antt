@@ -1,12 +1,10 @@
-use Rattle.std.proofs.Common.{rules, ◌≡◌, ◌≢◌, ℕ, ◌+◌, ◌<◌, [], ◌∙◌, sym, ap, refl, subst, true, false}
+use Rattle.std.proofs.Common.{◌≡◌, ◌+◌, ◌<◌, [], ◌∙◌, sym, ap, refl, subst, true}
 use Rattle.std.specs.Prelude.{Contains}
 use Rattle.std.proofs.lemmas.List.Elements.{Contains-push}
-use Rattle.port_board.specs.declared.view.Grant.{Grant}
-use Rattle.port_board.specs.declared.view.View.{View}
 use Rattle.port_board.specs.declared.view.Kind.TheVariants.{Agent}
 use Rattle.atomic_table.specs.Seated.{TableId}
 use Rattle.port_board.specs.Words.{shows_granted}
-use Rattle.port_board.specs.Views.{number_of, found_idle, LastIsListed}
+use Rattle.port_board.specs.Views.{number_of, LastIsListed}
 use Rattle.port_board.specs.Tells.{loaded_now, drawn_now, after_miss}
 use Rattle.port_board.proofs.AgentSteps.{M}
 use Rattle.port_board.specs.declared.view.Step.TheVariants.{Rests}
@@ -26,10 +24,10 @@ invariant_of-seat c =
     let table = c.exchange.ensures.own ∙ c.look.ensures.own in
     draw_cases (SeatOk c.seat.inside.ports c.exchange.new.place.table_id.words c.exchange.new.place.me) c.exchange.result
     (λ g is. let d = c.exchange.ensures.drawn g is in
-        carry _ _ _ _ _ table (d.3 ∙ ap (λ (m : M). (drawn_now c.args.self.now.ports g c.in-Ok.loaded m.0, m.1)) e)
-        (after_drawn c.seat.inside.ports _ c.args.self.now.ports c.args.port c.in-Ok.loaded c.seat.inside.place.me g c.seat.invariant (subst (λ (t : TableId). g.port + g.port < t.words) c.look.ensures.own (c.exchange.ensures.range g is)) d.1))
+    carry _ _ _ _ _ table (d.3 ∙ ap (λ (m : M). (drawn_now c.args.self.now.ports g c.in-Ok.loaded m.0, m.1)) e)
+    (after_drawn c.seat.inside.ports _ c.args.self.now.ports c.args.port c.in-Ok.loaded c.seat.inside.place.me g c.seat.invariant (subst (λ (t : TableId). g.port + g.port < t.words) c.look.ensures.own (c.exchange.ensures.range g is)) d.1))
     (λ a b is. let d = c.exchange.ensures.missed a b is in
-        carry _ _ _ _ _ table (d.2 ∙ ap (λ (m : M). (after_miss c.args.port b m.0, m.1)) e) (after_missed c.seat.inside.ports _ c.args.port c.in-Ok.loaded b c.seat.inside.place.me c.seat.invariant))
+    carry _ _ _ _ _ table (d.2 ∙ ap (λ (m : M). (after_miss c.args.port b m.0, m.1)) e) (after_missed c.seat.inside.ports _ c.args.port c.in-Ok.loaded b c.seat.inside.place.me c.seat.invariant))
     c.exchange.ensures.tried
 
 pub invariant_of-seat-in-Err : goal.invariant_of-seat-in-Err

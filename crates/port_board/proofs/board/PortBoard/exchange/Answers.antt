@@ -1,5 +1,5 @@
-use Rattle.std.proofs.Common.{rules, ◌≡◌, sym, ap, ◌∙◌, subst, refl, arith, cond, true, eq-eqb}
-use Rattle.std.proofs.lemmas.Bool.{cond-true, cond-false}
+use Rattle.std.proofs.Common.{rules, ap, ◌∙◌, refl, eq-eqb}
+use Rattle.std.proofs.lemmas.Bool.{cond-true}
 use Rattle.port_board.specs.declared.view.View.{View}
 use Rattle.port_board.proofs.AgentSteps.{drawing, reading_length}
 use Rattle.port_board.proofs.board.PortBoard.exchange.Goals as goal

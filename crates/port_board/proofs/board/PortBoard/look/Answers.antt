@@ -1,5 +1,4 @@
-use Rattle.std.proofs.Common.{rules, ◌≡◌, ◌∙◌, sym, ap, refl, true, false}
-use Rattle.std.proofs.lemmas.Bool.{cond-true, cond-false}
+use Rattle.std.proofs.Common.{rules}
 use Rattle.port_board.proofs.AgentSteps.{loading}
 use Rattle.port_board.proofs.board.PortBoard.look.Goals as goal
 

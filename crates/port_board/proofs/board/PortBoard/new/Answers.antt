@@ -1,7 +1,7 @@
-use Rattle.std.proofs.Common.{rules, ◌≡◌, ℕ, ◌+◌, ◌*◌, List, length, sym, ap, ◌∙◌, subst}
+use Rattle.std.proofs.Common.{◌*◌, sym, ap, ◌∙◌}
 use Rattle.std.specs.Prelude.{replicate}
 use Rattle.port_board.proofs.Seats.{starts}
-use Rattle.port_board.proofs.Posting.{new_words, new_flags}
+use Rattle.port_board.proofs.Posting.{new_words}
 use Rattle.port_board.proofs.board.PortBoard.new.Goals as goal
 
 pub of_words-requires : goal.of_words-requires

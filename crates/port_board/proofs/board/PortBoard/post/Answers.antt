@@ -1,4 +1,4 @@
-use Rattle.std.proofs.Common.{rules, ◌≡◌, ℕ, ◌+◌, ◌*◌, ◌<◌, ◌∙◌, sym, ap, refl, subst, arith, length, true, false}
+use Rattle.std.proofs.Common.{rules, ◌≡◌, ℕ, ◌+◌, ◌*◌, ◌<◌, ◌∙◌, sym, ap, refl, subst, length, true, false}
 use Rattle.port_board.specs.declared.view.View.{View}
 use Rattle.port_board.specs.declared.view.Step.TheVariants.{Counted}
 use Rattle.port_board.specs.declared.view.Grant.{Grant}
@@ -7,7 +7,7 @@ use Rattle.port_board.specs.Tells.{counted}
 use Rattle.port_board.specs.Views.{is_unsettled, last_slot, posted_too, grant}
 use Rattle.port_board.proofs.AgentSteps.{M}
 use Rattle.port_board.proofs.PosterSteps.{measuring, posting}
-use Rattle.port_board.proofs.Posting.{PosterFits, after_post, carry_poster, port_in}
+use Rattle.port_board.proofs.Posting.{after_post, carry_poster, port_in}
 use Rattle.port_board.proofs.board.PortBoard.post.Goals as goal
 
 pub store-requires : goal.store-requires

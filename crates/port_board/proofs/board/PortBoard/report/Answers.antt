@@ -1,11 +1,11 @@
-use Rattle.std.proofs.Common.{rules, ◌≡◌, ℕ, ◌+◌, ◌*◌, ◌<◌, [], ◌∷◌, sym, ap, ◌∙◌, subst, refl, arith, cond, true, eq-eqb}
+use Rattle.std.proofs.Common.{◌≡◌, ℕ, ◌+◌, ◌*◌, ◌<◌, sym, ap, ◌∙◌, subst, refl}
 use Rattle.std.specs.Prelude.{Contains}
 use Rattle.std.proofs.lemmas.List.Elements.{All-contains}
 use Rattle.coflow_units.specs.PortWord.{FitsWord}
 use Rattle.port_board.specs.declared.view.Grant.{Grant}
 use Rattle.port_board.specs.declared.view.View.{View}
 use Rattle.port_board.specs.declared.view.Step.TheVariants.{Counted}
-use Rattle.port_board.specs.Views.{grant, number_of, reported_as}
+use Rattle.port_board.specs.Views.{grant, reported_as}
 use Rattle.port_board.specs.Words.{slot_of}
 use Rattle.port_board.specs.Tells.{counted}
 use Rattle.port_board.proofs.Words.{slot_of-reported}

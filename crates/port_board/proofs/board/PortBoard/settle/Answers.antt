@@ -1,6 +1,4 @@
-use Rattle.std.proofs.Common.{rules, ◌≡◌, ◌⊎◌, inl, inr, ℕ, ◌+◌, ◌<◌, ◌∙◌, sym, ap, refl, subst, arith, length, set, Bool, Some, None, true}
-use Rattle.atomic_table.specs.Seated.{TableId}
-use Rattle.port_board.specs.declared.view.Grant.{Grant}
+use Rattle.std.proofs.Common.{◌≡◌, inl, ℕ, ◌+◌, ◌<◌, ◌∙◌, sym, ap, refl, subst, arith, length, set, Bool, Some, None, true}
 use Rattle.port_board.specs.declared.view.View.{View}
 use Rattle.port_board.specs.declared.board.Settled.{Settled}
 use Rattle.port_board.specs.Views.{last_at, is_unsettled, looked, settled_as, Tried}

@@ -1,4 +1,4 @@
-use Rattle.std.proofs.Common.{rules, ap, refl, ◌∙◌}
+use Rattle.std.proofs.Common.{rules, ap}
 use Rattle.port_board.proofs.AgentSteps.{M}
 use Rattle.port_board.proofs.Seats.{makes_note, hears_note}
 use Rattle.port_board.proofs.board.PortBoard.show.Goals as goal

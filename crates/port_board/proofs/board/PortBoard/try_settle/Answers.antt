@@ -1,7 +1,5 @@
-use Rattle.std.proofs.Common.{rules, ◌≡◌, ◌≢◌, ◌⊎◌, inl, inr, ℕ, ◌+◌, ◌∙◌, sym, ap, refl, subst, cond, true, false, eq-eqb, ne_eqb, Option, Some, None}
-use Rattle.std.proofs.lemmas.Bool.{cond-true, cond-false}
+use Rattle.std.proofs.Common.{rules, ◌≡◌, inl, inr, ◌+◌, ◌∙◌, sym, ap, refl, subst, cond, true, eq-eqb, ne_eqb, Some, None}
 use Rattle.port_board.specs.declared.view.Grant.{Grant}
-use Rattle.port_board.specs.declared.view.View.{View}
 use Rattle.port_board.specs.Words.{shows_drawn}
 use Rattle.port_board.specs.Views.{last_at, looked, settled_as}
 use Rattle.port_board.specs.Agreement.{NobodyHad}
@@ -40,7 +38,7 @@ returns-clause-sent c n is =
       inr (c.load-loaded.result, eq-eqb _ _ c.if-loaded-ne-GRANTED.false, refl),
       t.0,
       t.1 ∙ (ap (λ (m : M). looked (c.args.self.now.ports + c.args.port) n (settled_as c.args.port (Some n) m.0)) x
-      ∙ ap (λ (m : M). looked (c.args.self.now.ports + c.args.port) n (settled_as c.args.port (Some n) (seen_by_poster c.args.port c.compare_exchange-found.result m.0))) e),
+          ∙ ap (λ (m : M). looked (c.args.self.now.ports + c.args.port) n (settled_as c.args.port (Some n) (seen_by_poster c.args.port c.compare_exchange-found.result m.0))) e),
     )
 
 pub returns-clause-busy : goal.returns-clause-busy
@@ -53,5 +51,5 @@ returns-clause-busy c word is =
       inr (c.load-loaded.result, eq-eqb _ _ c.if-loaded-ne-GRANTED.false, refl),
       shown,
       ap (λ (m : M). m.0) (t.2 ∙ (x ∙ ap (λ (m : M). (seen_by_poster c.args.port c.compare_exchange-found.result m.0, m.1)) e))
-      ∙ (λ i. record (looked c.args.port (sym t.0 i) (looked c.args.port c.load-loaded.result c.args.place.now.me.0)) { step = (step_rests c.args.port c.compare_exchange-found.result t.1 ∙ sym c.requires.poster.1) i }),
+          ∙ (λ i. record (looked c.args.port (sym t.0 i) (looked c.args.port c.load-loaded.result c.args.place.now.me.0)) { step = (step_rests c.args.port c.compare_exchange-found.result t.1 ∙ sym c.requires.poster.1) i }),
     )

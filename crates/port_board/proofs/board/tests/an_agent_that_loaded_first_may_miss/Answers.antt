@@ -1,4 +1,4 @@
-use Rattle.std.proofs.Common.{rules, ◌≡◌, ◌∙◌, sym, ap, refl}
+use Rattle.std.proofs.Common.{◌∙◌, sym, ap, refl}
 use Rattle.port_board.specs.declared.view.Kind.TheVariants.{Agent}
 use Rattle.port_board.specs.Views.{number_of}
 use Rattle.port_board.proofs.AgentSteps.{M}
