@@ -1,14 +1,13 @@
 -- The round over the ports, so far.
-use Rattle.std.proofs.Common.{◌≡◌, ◌≢◌, ◌⊎◌, ℕ, zero, suc, ◌+◌, ◌*◌, ◌<◌, ◌≤◌, List, [], ◌∷◌, ◌++◌, length, get_or, set, sym, refl, ap, ◌∙◌, subst, ⊎_elim, arith, Option, Some, None, Bool, true, false, length-set, length-append, get_or-set_other, get_or-set_same}
-use Rattle.std.specs.Prelude.{sum_by, nat_lt, if◌then◌else◌}
+use Rattle.std.proofs.Common.{◌≡◌, ℕ, ◌+◌, ◌*◌, ◌<◌, ◌≤◌, List, [], ◌∷◌, ◌++◌, length, get_or, set, sym, refl, ap, ◌∙◌, subst, arith, Option, Some, None, Bool, true, false, length-set, length-append, get_or-set_other, get_or-set_same}
+use Rattle.std.specs.Prelude.{nat_lt, if◌then◌else◌}
 use Rattle.std.proofs.lemmas.List.{append-nil, append_assoc, get_or_append_left, get_or_push}
 use Rattle.std.proofs.lemmas.List.Sums.{sum_by_push}
 use mathlib.Core.Logic.{dite}
 use native.Mathlib.Decide.{ℕ_discrete}
-use Rattle.port_board.specs.declared.view.Grant.{Grant}
 use Rattle.port_board.specs.declared.view.Report.{Report}
 use Rattle.port_board.specs.declared.view.View.{View}
-use Rattle.port_board.specs.Views.{last_at, is_listed, LastIsListed}
+use Rattle.port_board.specs.Views.{last_at, LastIsListed}
 use Rattle.port_agent.specs.declared.agent.Served.{Served}
 use Rattle.port_agent.specs.Served.{GoesOn, SentOn, Attends, ServesPort, Attended, taken, units_of, shorts_of, adds}
 
@@ -60,7 +59,7 @@ module _ {W : Type 0} (faults : W → ℕ) (runs : W → Option (List (ℕ × �
       → (took : List (Option Report)) × Attended faults runs w first old now took × (w.done ≡ v.done ++ taken took) × (s.drawn ≡ length (taken took)) × (s.sent ≡ units_of (taken took)) × (s.short ≡ shorts_of (taken took))
   ends first i v w old now s all so = (
     so.took,
-    record { as_many = so.as_many ∙ all; wires = so.wires; each = λ j d e lt. so.each j d e (omega arith); },
+    record { as_many = so.as_many ∙ all; wires = so.wires; each = λ j d e lt. so.each j d e (omega arith) },
     so.done,
     so.drawn,
     so.sent,

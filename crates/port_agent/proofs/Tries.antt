@@ -1,16 +1,16 @@
 -- What one try at a port leaves of the lists of a seat.
-use Rattle.std.proofs.Common.{◌≡◌, ℕ, zero, suc, ◌+◌, ◌<◌, ◌≤◌, eqb, List, [], ◌∷◌, ◌++◌, length, get_or, sym, refl, ap, ◌∙◌, subst, arith, Option, Some, None, Bool, true, false, cond, filter, not, true≢false, ◌||◌, ◌&&◌}
-use Rattle.std.specs.Prelude.{All, AllPairs, Contains}
+use Rattle.std.proofs.Common.{◌≡◌, ℕ, eqb, List, [], ◌∷◌, ◌++◌, length, get_or, sym, refl, ap, ◌∙◌, subst, arith, Option, Some, None, Bool, true, false, filter, not, ◌||◌, ◌&&◌}
+use Rattle.std.specs.Prelude.{All, AllPairs}
 use Rattle.std.specs.List.{list_any}
 use Rattle.std.proofs.lemmas.List.{append-nil, get_or_append_left, get_or_push, length_push}
-use Rattle.std.proofs.lemmas.List.Elements.{All-head, All-tail, filter-append, Contains-push}
+use Rattle.std.proofs.lemmas.List.Elements.{All-head, All-tail, filter-append}
 use Rattle.std.proofs.lemmas.List.Folds.{list_any-append}
 use Rattle.std.proofs.lemmas.Bool.{cond-true, cond-false, cond_both}
 use Rattle.port_board.specs.declared.view.Grant.{Grant}
 use Rattle.port_board.specs.declared.view.Report.{Report}
 use Rattle.port_board.specs.declared.view.Step.{Step}
 use Rattle.port_board.specs.declared.view.View.{View}
-use Rattle.port_board.specs.Views.{is_of, last_at, is_listed, missed_if, missed_after, LastIsListed, report, reported_as, drew}
+use Rattle.port_board.specs.Views.{is_of, last_at, is_listed, missed_if, missed_after, report, reported_as, drew}
 use Rattle.port_board.specs.Rule.{DifferAt, HoldsOnce}
 use Rattle.port_board.proofs.Lists.{is_of-same, is_of-false}
 use Rattle.port_agent.specs.Served.{GoesOn}

@@ -15,7 +15,12 @@ fn settled(answer: Settled) -> (u64, u64) {
 }
 
 // One post of this length at port 0, served on one wire.
-fn serve_once(board: &PortBoard, poster: &mut Poster, wire: MemWire, length: u64) -> (Served, (u64, u64))
+fn serve_once(
+    board: &PortBoard,
+    poster: &mut Poster,
+    wire: MemWire,
+    length: u64,
+) -> (Served, (u64, u64))
     requires own { poster.old.at ≡ board.now.id }
     requires fresh { (poster.old.view.posts ≡ []) × (poster.old.view.settled ≡ []) × (poster.old.view.made ≡ 0) × (poster.old.view.back ≡ []) }
     requires ports { 1 ≤ board.now.ports }

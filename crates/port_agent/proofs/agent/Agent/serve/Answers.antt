@@ -1,6 +1,6 @@
-use Rattle.std.proofs.Common.{rules, ◌≡◌, ℕ, ◌<◌, ◌≤◌, length, get_or, sym, ◌∙◌, refl, subst}
+use Rattle.std.proofs.Common.{rules, ℕ, ◌<◌, ◌≤◌, length, get_or, sym, ◌∙◌, refl, subst}
 use Rattle.std.proofs.lemmas.List.{get_or_default}
-use Rattle.port_agent.proofs.Rounds.{SoFar, begins, ends, goes_idle, goes_took}
+use Rattle.port_agent.proofs.Rounds.{begins, ends, goes_idle, goes_took}
 use Rattle.port_agent.proofs.agent.Agent.serve.Goals as goal
 
 pub returns-clause-ports : goal.returns-clause-ports
@@ -27,4 +27,4 @@ loop-offset-preserved g c =
     }
 
 pub loop-offset-init : goal.loop-offset-init
-loop-offset-init g c = record { own = refl; few = subst (λ z. z ≤ 1025) c.ports-few.ensures.ports c.ports-few.ensures.range.1; so_far = begins g.W.Wire.faults g.W.Wire.runs c.args.first c.args.self.now.view c.args.wires.now (record { drawn = 0; sent = 0; short = 0 }) refl refl refl; }
+loop-offset-init g c = record { own = refl; few = subst (λ z. z ≤ 1025) c.ports-few.ensures.ports c.ports-few.ensures.range.1; so_far = begins g.W.Wire.faults g.W.Wire.runs c.args.first c.args.self.now.view c.args.wires.now (record { drawn = 0; sent = 0; short = 0 }) refl refl refl }
