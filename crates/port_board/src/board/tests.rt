@@ -52,7 +52,7 @@ fn post_first(board: &PortBoard, poster: &mut Poster)
 #[test]
 fn one_of_two_agents_draws(rt: HostRuntime) -> Result<(), Fail> {
     let Ok((board, mut poster)) = PortBoard::new(rt.alloc(), 2) else {
-        return Ok(());
+        panic!(&rt; "no memory");
     };
     let mut first = board.agent(&mut poster);
     let mut second = board.agent(&mut poster);
