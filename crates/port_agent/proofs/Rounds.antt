@@ -1,0 +1,150 @@
+-- The round over the ports, so far.
+use Rattle.std.proofs.Common.{◌≡◌, ℕ, ◌+◌, ◌*◌, ◌<◌, ◌≤◌, List, [], ◌∷◌, ◌++◌, length, get_or, set, sym, refl, ap, ◌∙◌, subst, arith, Option, Some, None, Bool, true, false, length-set, length-append, get_or-set_other, get_or-set_same}
+use Rattle.std.specs.Prelude.{nat_lt, if◌then◌else◌}
+use Rattle.std.proofs.lemmas.List.{append-nil, append_assoc, get_or_append_left, get_or_push}
+use Rattle.std.proofs.lemmas.List.Sums.{sum_by_push}
+use mathlib.Core.Logic.{dite}
+use native.Mathlib.Decide.{ℕ_discrete}
+use Rattle.port_board.specs.declared.view.Report.{Report}
+use Rattle.port_board.specs.declared.view.View.{View}
+use Rattle.port_board.specs.Views.{last_at, LastIsListed}
+use Rattle.port_agent.specs.declared.agent.Served.{Served}
+use Rattle.port_agent.specs.Served.{GoesOn, SentOn, Attends, ServesPort, Attended, taken, units_of, shorts_of, adds}
+
+taken_append : (xs ys : List (Option Report)) → taken (xs ++ ys) ≡ taken xs ++ taken ys
+taken_append [] ys = refl
+taken_append (None ∷ xs) ys = taken_append xs ys
+taken_append (Some r ∷ xs) ys = ap (λ l. r ∷ l) (taken_append xs ys)
+
+still_listed : (v w : View) (more : List Report) (port : ℕ) → GoesOn v w more → LastIsListed port v → LastIsListed port w
+still_listed v w more port goes h g e = goes.listed port g.slot (h g (subst (λ l. last_at port l ≡ Some g) goes.shown e))
+
+module _ {W : Type 0} (faults : W → ℕ) (runs : W → Option (List (ℕ × ℕ × ℕ))) where
+  -- after the first i ports
+  pub record SoFar (first i : ℕ) (v w : View) (old now : List W) (s : Served) : Type 0 where
+    pub took : List (Option Report)
+    pub as_many : length took ≡ i
+    pub wires : length now ≡ length old
+    pub each : (j : ℕ) (d e : W) → j < i → Attends faults runs w (first + j) (get_or old j d) (get_or now j e) (get_or took j None)
+    pub rest : (j : ℕ) (d : W) → i ≤ j → get_or now j d ≡ get_or old j d
+    pub out : w.out ≡ v.out
+    pub shown : w.shown ≡ v.shown
+    pub done : w.done ≡ v.done ++ taken took
+    pub drawn : s.drawn ≡ length (taken took)
+    pub sent : s.sent ≡ units_of (taken took)
+    pub short : s.short ≡ shorts_of (taken took)
+    pub few : s.drawn ≤ i
+    pub few_short : s.short ≤ i
+    pub small : s.sent ≤ i * 2199023255552
+
+  pub begins : (first : ℕ) (v : View) (old : List W) (s : Served) → s.drawn ≡ 0 → s.sent ≡ 0 → s.short ≡ 0 → SoFar first 0 v v old old s
+  begins first v old s a b c = record {
+    took = [];
+    as_many = refl;
+    wires = refl;
+    each = λ j d e lt. absurd (omega arith);
+    rest = λ j d le. refl;
+    out = refl;
+    shown = refl;
+    done = sym (append-nil v.done);
+    drawn = a;
+    sent = b;
+    short = c;
+    few = omega arith;
+    few_short = omega arith;
+    small = omega arith;
+  }
+
+  pub ends : (first i : ℕ) (v w : View) (old now : List W) (s : Served) → i ≡ length old → SoFar first i v w old now s
+      → (took : List (Option Report)) × Attended faults runs w first old now took × (w.done ≡ v.done ++ taken took) × (s.drawn ≡ length (taken took)) × (s.sent ≡ units_of (taken took)) × (s.short ≡ shorts_of (taken took))
+  ends first i v w old now s all so = (
+    so.took,
+    record { as_many = so.as_many ∙ all; wires = so.wires; each = λ j d e lt. so.each j d e (omega arith) },
+    so.done,
+    so.drawn,
+    so.sent,
+    so.short,
+  )
+
+  -- what was attended stays so where the lists grow
+  attends_on : (v w : View) (more : List Report) (port : ℕ) (x y : W) (o : Option Report) → GoesOn v w more → Attends faults runs v port x y o → Attends faults runs w port x y o
+  attends_on v w more port x y None goes h = (h.0, still_listed v w more port goes h.1)
+  attends_on v w more port x y (Some r) goes h = h
+
+  module _ (first i : ℕ) (v w u : View) (old now : List W) (y : W) (inside : i < length old) where
+    -- one more port
+    each_more : (took : List (Option Report)) (more : List Report) (o : Option Report) → length took ≡ i → length now ≡ length old → ((j : ℕ) (d e : W) → j < i → Attends faults runs w (first + j) (get_or old j d) (get_or now j e) (get_or took j None))
+        → GoesOn w u more → ((d : W) → Attends faults runs u (first + i) (get_or old i d) y o)
+        → (j : ℕ) (d e : W) → j < i + 1 → Attends faults runs u (first + j) (get_or old j d) (get_or (set now i y) j e) (get_or (took ++ o ∷ []) j None)
+    each_more took more o long many each goes new j d e lt = dite (ℕ_discrete j i)
+        (λ is. subst (λ (z : ℕ). Attends faults runs u (first + z) (get_or old z d) (get_or (set now i y) z e) (get_or (took ++ o ∷ []) z None)) (sym is)
+        (subst (λ (z : W × Option Report). Attends faults runs u (first + i) (get_or old i d) z.0 z.1) (λ t. (sym (get_or-set_same now i y e (omega arith)) t, sym (get_or_push took o None i long) t)) (new d)))
+        (λ far. subst (λ (z : W × Option Report). Attends faults runs u (first + j) (get_or old j d) z.0 z.1) (λ t. (sym (get_or-set_other now i j y e far) t, sym (get_or_append_left took (o ∷ []) None j (omega arith)) t))
+        (attends_on w u more (first + j) (get_or old j d) (get_or now j e) (get_or took j None) goes (each j d e (omega arith))))
+
+    rest_more : ((j : ℕ) (d : W) → i ≤ j → get_or now j d ≡ get_or old j d) → (j : ℕ) (d : W) → i + 1 ≤ j → get_or (set now i y) j d ≡ get_or old j d
+    rest_more rest j d le = get_or-set_other now i j y d (λ e. absurd (omega arith)) ∙ rest j d (omega arith)
+
+    -- nothing was drawn at the port
+    pub goes_idle : (s : Served) (x : W) → SoFar first i v w old now s → ((d : W) → x ≡ get_or now i d) → ServesPort faults runs (first + i) w u x y None → SoFar first (i + 1) v u old (set now i y) s
+    goes_idle s x so at h =
+        let long = length-append so.took (None ∷ []) in
+        let many = so.as_many in
+        let few = so.few in
+        let few_short = so.few_short in
+        let small = so.small in
+        let list : taken (so.took ++ None ∷ []) ≡ taken so.took = taken_append so.took (None ∷ []) ∙ append-nil (taken so.took) in record {
+          took = so.took ++ None ∷ [];
+          as_many = omega arith;
+          wires = length-set now i y ∙ so.wires;
+          each = each_more so.took [] None so.as_many so.wires so.each h.2 (λ d. (h.0 ∙ (at d ∙ so.rest i d (omega arith)), h.1));
+          rest = rest_more so.rest;
+          out = h.2.out ∙ so.out;
+          shown = h.2.shown ∙ so.shown;
+          done = h.2.done ∙ (append-nil w.done ∙ (so.done ∙ ap (λ l. v.done ++ l) (sym list)));
+          drawn = so.drawn ∙ ap (λ (l : List Report). length l) (sym list);
+          sent = so.sent ∙ ap units_of (sym list);
+          short = so.short ∙ ap shorts_of (sym list);
+          few = omega arith;
+          few_short = omega arith;
+          small = omega arith;
+        }
+
+    -- a grant was drawn at the port
+    pub goes_took : (s s' : Served) (x : W) (length_is sent_is : ℕ) → SoFar first i v w old now s → ((d : W) → x ≡ get_or now i d) → ServesPort faults runs (first + i) w u x y (Some (length_is, sent_is)) → adds length_is sent_is s s'
+        → SoFar first (i + 1) v u old (set now i y) s'
+    goes_took s s' x length_is sent_is so at h add =
+        let r : Report = h.0 in
+        let on = h.5 in
+        let goes = h.6 in
+        let long = length-append so.took (Some r ∷ []) in
+        let many = so.as_many in
+        let few = so.few in
+        let few_short = so.few_short in
+        let small = so.small in
+        let list : taken (so.took ++ Some r ∷ []) ≡ taken so.took ++ r ∷ [] = taken_append so.took (Some r ∷ []) in
+        let a = add.0 in
+        let b = add.1 in
+        let c = add.2 in
+        let one_more = length-append (taken so.took) (r ∷ []) in
+        let bound : sent_is ≤ 2199023255552 = let x = on.bound in let l = h.2 in let q = h.3 in let m = h.4.1 in omega arith in
+        let one_short : (if nat_lt sent_is length_is then 1 else 0) ≤ 1 = small_if (nat_lt sent_is length_is) in record {
+          took = so.took ++ Some r ∷ [];
+          as_many = omega arith;
+          wires = length-set now i y ∙ so.wires;
+          each = each_more so.took (r ∷ []) (Some r) so.as_many so.wires so.each goes (λ d. (h.1, subst (λ (z : W). SentOn faults runs z y r) (at d ∙ so.rest i d (omega arith)) on));
+          rest = rest_more so.rest;
+          out = goes.out ∙ so.out;
+          shown = goes.shown ∙ so.shown;
+          done = goes.done ∙ (ap (λ l. l ++ r ∷ []) so.done ∙ (append_assoc v.done (taken so.took) (r ∷ []) ∙ ap (λ l. v.done ++ l) (sym list)));
+          drawn = add.0 ∙ (ap (λ z. z + 1) so.drawn ∙ (sym one_more ∙ ap (λ (l : List Report). length l) (sym list)));
+          sent = add.1 ∙ ((λ t. so.sent t + sym h.3 t) ∙ (sym (sum_by_push (λ (q : Report). q.sent) (taken so.took) r) ∙ ap units_of (sym list)));
+          short = add.2 ∙ ((λ t. so.short t + (if nat_lt (sym h.3 t) (sym h.2 t) then 1 else 0)) ∙ (sym (sum_by_push (λ (q : Report). if nat_lt q.sent q.grant.length then 1 else 0) (taken so.took) r) ∙ ap shorts_of (sym list)));
+          few = omega arith;
+          few_short = omega arith;
+          small = omega arith;
+        }
+      where
+        small_if : (b : Bool) → (if b then 1 else 0) ≤ 1
+        small_if true = omega arith
+        small_if false = omega arith

@@ -1,0 +1,55 @@
+use Rattle.std.proofs.Common.{ℕ, ◌<◌, ◌≤◌, [], ◌∷◌, ◌++◌, sym, ap, refl, subst}
+use Rattle.std.specs.Prelude.{Contains}
+use Rattle.std.proofs.lemmas.List.Elements.{Contains-push}
+use Rattle.outside.specs.Wire.{Accepts}
+use Rattle.port_board.specs.declared.view.Grant.{Grant}
+use Rattle.port_board.specs.declared.view.Step.TheVariants.{Rests}
+use Rattle.port_board.specs.declared.view.View.{View}
+use Rattle.port_board.specs.Views.{report, IsLength}
+use Rattle.port_agent.specs.Served.{GoesOn}
+use Rattle.port_agent.proofs.Tries.{goes_missed, goes_drawn}
+use Rattle.port_agent.proofs.agent.Agent.serve_port.Goals as goal
+
+pub report-requires-clause-drawn : goal.report-requires-clause-drawn
+report-requires-clause-drawn g c = let d = c.in-Drawn.ensures.drawn _ refl in subst (λ (v : View). Contains v.out c.in-Drawn.drawn) (sym d.1) (Contains-push _ c.in-Drawn.drawn)
+
+pub returns-in-Drawn-clause-port : goal.returns-in-Drawn-clause-port
+returns-in-Drawn-clause-port g c =
+    let view = ap (λ u. u.view) c.self.view_is in
+    let d = c.in-Drawn.ensures.drawn _ refl in
+    let it : Grant = c.in-Drawn.drawn in
+    let sent : ℕ = c.send-sent.result in
+    let long = c.length-length.ensures in
+    let t = c.send-sent.ensures in
+    let goes = goes_drawn c.self.inside.seat.view c.draw.new.seat.view c.report.new.seat.view _ _ sent it d.1 c.in-Drawn.ensures.once c.report.ensures.report in (
+      report it sent,
+      d.0,
+      sym long,
+      refl,
+      subst IsLength (sym long) (c.in-Drawn.ensures.length _ refl),
+      record {
+        bound = subst (λ z. sent ≤ z) long t.bound;
+        run = subst (λ (z : ℕ × ℕ). Accepts (g.W.Wire.runs c.args.wire.now) (g.W.Wire.runs c.send-sent.new.self) z.0 z.1 sent) (λ i. (c.slot.ensures i, c.flow.ensures i)) t.runs;
+        cause = λ less. t.cause (subst (λ z. sent < z) (sym long) less);
+        later = t.later;
+      },
+      subst (λ (v : View). GoesOn v c.report.new.seat.view (report it sent ∷ [])) view goes,
+    )
+
+pub returns-in-Idle-clause-port : goal.returns-in-Idle-clause-port
+returns-in-Idle-clause-port g c =
+    let view = ap (λ u. u.view) c.self.view_is in
+    let e = (c.in-Idle.ensures.idle _ refl).1 in
+    let v : View = c.self.inside.seat.view in
+    (refl, c.in-Idle.ensures.idle_listed _ refl, subst (λ (z : View). GoesOn z c.draw.new.seat.view []) view (subst (λ (z : View). GoesOn v z []) (sym e) (goes_missed v Rests (v.looks ++ (c.args.port, c.in-Idle._word) ∷ []) c.args.port)))
+
+pub returns-in-Missed-clause-port : goal.returns-in-Missed-clause-port
+returns-in-Missed-clause-port g c =
+    let view = ap (λ u. u.view) c.self.view_is in
+    let e = (c.in-Missed.ensures.missed _ _ refl).2 in
+    let v : View = c.self.inside.seat.view in (
+      refl,
+      c.in-Missed.ensures.missed_listed _ _ refl,
+      subst (λ (z : View). GoesOn z c.draw.new.seat.view []) view
+          (subst (λ (z : View). GoesOn v z []) (sym e) (goes_missed v Rests ((v.looks ++ (c.args.port, c.in-Missed._loaded) ∷ []) ++ (c.args.port, c.in-Missed._found) ∷ []) c.args.port)),
+    )

@@ -1,0 +1,8 @@
+// An agent of the ports: it draws grants, sends them on the wires of their ports, and reports what the wires accepted.
+#![tactic(auto)]
+
+mod agent;
+#[cfg(test)]
+mod tests;
+
+pub use agent::{Agent, Served};

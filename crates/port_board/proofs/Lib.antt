@@ -1,0 +1,11 @@
+pub mod Words
+pub mod Puts
+pub mod Lists
+pub mod Stays
+pub mod Moves
+pub mod AgentSteps
+pub mod Sitting
+pub mod Agreements
+pub mod PosterSteps
+pub mod Posting
+pub mod Seats

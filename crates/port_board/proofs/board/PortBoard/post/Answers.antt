@@ -1,0 +1,42 @@
+use Rattle.std.proofs.Common.{rules, ◌≡◌, ℕ, ◌+◌, ◌*◌, ◌<◌, ◌∙◌, sym, ap, refl, subst, length, true, false}
+use Rattle.port_board.specs.declared.view.View.{View}
+use Rattle.port_board.specs.declared.view.Step.TheVariants.{Counted}
+use Rattle.port_board.specs.declared.view.Grant.{Grant}
+use Rattle.port_board.specs.Words.{slot_of, flow_of}
+use Rattle.port_board.specs.Tells.{counted}
+use Rattle.port_board.specs.Views.{is_unsettled, last_slot, posted_too, grant}
+use Rattle.port_board.proofs.AgentSteps.{M}
+use Rattle.port_board.proofs.PosterSteps.{measuring, posting}
+use Rattle.port_board.proofs.Posting.{after_post, carry_poster, port_in}
+use Rattle.port_board.proofs.board.PortBoard.post.Goals as goal
+
+pub store-requires : goal.store-requires
+store-requires c =
+    let view = ap (λ u. u.view) c.poster.view_is in
+    let table = ap (λ u. u.at) c.poster.view_is ∙ (c.requires.own ∙ sym (ap (λ u. u.id) c.self.view_is)) in
+    let free = subst (λ (v : View). is_unsettled c.args.port v.posts v.settled ≡ false) (sym view) c.requires.settled in
+    (table, search rules, measuring _ _ _ _ _ _ _ c.poster.invariant.2 c.poster.invariant.1 free (search rules) (search rules))
+
+pub store-requires-2 : goal.store-requires-2
+store-requires-2 c =
+    let view = ap (λ u. u.view) c.poster.view_is in
+    let table = ap (λ u. u.at) c.poster.view_is ∙ (c.requires.own ∙ sym (ap (λ u. u.id) c.self.view_is)) in
+    let e = c.store.ensures.2 in
+    let at = c.count_place-count.ensures ∙ ap (λ z. z + c.args.port) (sym c.self.invariant.1) in
+    let above = subst (λ (m : M). last_slot c.args.port m.0.posts < c.args.slot) (sym e) (subst (λ (v : View). last_slot c.args.port v.posts < c.args.slot) (sym view) c.requires.slot.0) in (
+      c.store.ensures.0 ∙ table,
+      search rules,
+      posting _ _ _ _ _ _ _ c.args.flow c.args.length (ap (λ (m : M). m.0.kind) e ∙ c.poster.invariant.2) (ap (λ (m : M). m.0.step) e ∙ ap (λ z. Counted z c.args.length) at) (search rules) above
+          (c.requires.slot.1, c.requires.flow) c.requires.length.0 c.requires.length.1 (ap (λ z. 2305843009213693952 + (c.args.slot * 1048576 + z)) c.from.ensures),
+    )
+
+pub invariant_of-poster : goal.invariant_of-poster
+invariant_of-poster c =
+    let table = ap (λ u. u.at) c.poster.view_is ∙ (c.requires.own ∙ sym (ap (λ u. u.id) c.self.view_is)) in
+    let e = c.store.ensures.2 in
+    let word : ℕ = 2305843009213693952 + (c.args.slot * 1048576 + c.from.result) in
+    let g : Grant = grant c.args.port (slot_of word) (flow_of word) c.args.length in
+    let went = c.store-2.ensures.2.0 ∙ ap (λ (m : M). (posted_too (grant c.args.port (slot_of word) (flow_of word) (counted m.0.step)) m.0, m.1)) e in
+    let new = subst (λ (m : M). is_unsettled c.args.port m.0.posts m.0.settled ≡ true) went c.store-2.ensures.2.1 in
+    let inside = port_in c.args.port (length c.poster.inside.posted.items) c.self.inside.ports c.poster.inside.place.table_id c.self.inside.table.shared.table_id (search rules) c.poster.invariant.4 table c.self.invariant.0 in
+    carry_poster _ _ _ _ _ _ (c.store-2.ensures.0 ∙ c.store.ensures.0) went (after_post c.poster.inside.agents c.poster.inside.posted.items _ c.poster.inside.place.me c.args.port g c.poster.invariant refl inside new)

@@ -1,0 +1,55 @@
+use Rattle.std.proofs.Common.{rules, ◌≡◌, inl, inr, ◌+◌, ◌∙◌, sym, ap, refl, subst, cond, true, eq-eqb, ne_eqb, Some, None}
+use Rattle.port_board.specs.declared.view.Grant.{Grant}
+use Rattle.port_board.specs.Words.{shows_drawn}
+use Rattle.port_board.specs.Views.{last_at, looked, settled_as}
+use Rattle.port_board.specs.Agreement.{NobodyHad}
+use Rattle.port_board.specs.Tells.{seen_by_poster}
+use Rattle.port_board.proofs.AgentSteps.{M}
+use Rattle.port_board.proofs.PosterSteps.{poster_loading, taking, step_offered, step_rests}
+use Rattle.port_board.proofs.board.PortBoard.try_settle.Goals as goal
+
+pub load-loaded-requires : goal.load-loaded-requires
+load-loaded-requires c = (search rules, search rules, poster_loading _ _ _ _ _ c.requires.poster.0 c.requires.poster.1 (search rules))
+
+pub returns-then-loaded-ne-GRANTED-clause-sent : goal.returns-then-loaded-ne-GRANTED-clause-sent
+returns-then-loaded-ne-GRANTED-clause-sent c n is =
+    let e = c.load-loaded.ensures.2.0 in
+    let t = c.conclude.ensures.sent n is in
+    (c.load-loaded.result, c.args.place.now.me.0, inl refl, t.0, t.1 ∙ ap (λ (m : M). looked (c.args.self.now.ports + c.args.port) n (settled_as c.args.port (Some n) m.0)) e)
+
+pub compare_exchange-found-requires : goal.compare_exchange-found-requires
+compare_exchange-found-requires c =
+    let e = c.load-loaded.ensures.2.0 in
+    (search rules, search rules, taking _ _ _ _ _ _ (ap (λ (m : M). m.0.kind) e ∙ c.requires.poster.0) (ap (λ (m : M). m.0.step) e ∙ step_offered _ _ (eq-eqb _ _ c.if-loaded-ne-GRANTED.false)) (search rules))
+
+pub returns-then-found-loaded-clause-nobody : goal.returns-then-found-loaded-clause-nobody
+returns-then-found-loaded-clause-nobody c g is last =
+    let e = c.load-loaded.ensures.2.0 in
+    let t = c.compare_exchange-found.ensures.2 in
+    subst (λ (m : M). (g : Grant) → last_at c.args.port m.0.posts ≡ Some g → NobodyHad g m.0) e (t.2.0 c.if-found-loaded.true) g last
+
+pub returns-clause-sent : goal.returns-clause-sent
+returns-clause-sent c n is =
+    let e = c.load-loaded.ensures.2.0 in
+    let x = c.compare_exchange-found.ensures.2.0 ∙ ap (λ b. (cond b (looked c.args.port c.compare_exchange-found.result (settled_as c.args.port None c.load-loaded.new.seat.me.0)) (seen_by_poster c.args.port c.compare_exchange-found.result c.load-loaded.new.seat.me.0), c.load-loaded.new.seat.me.1)) (ne_eqb _ _ c.if-found-loaded.false) in
+    let t = c.conclude-2.ensures.sent n is in (
+      c.compare_exchange-found.result,
+      looked c.args.port c.load-loaded.result c.args.place.now.me.0,
+      inr (c.load-loaded.result, eq-eqb _ _ c.if-loaded-ne-GRANTED.false, refl),
+      t.0,
+      t.1 ∙ (ap (λ (m : M). looked (c.args.self.now.ports + c.args.port) n (settled_as c.args.port (Some n) m.0)) x
+          ∙ ap (λ (m : M). looked (c.args.self.now.ports + c.args.port) n (settled_as c.args.port (Some n) (seen_by_poster c.args.port c.compare_exchange-found.result m.0))) e),
+    )
+
+pub returns-clause-busy : goal.returns-clause-busy
+returns-clause-busy c word is =
+    let e = c.load-loaded.ensures.2.0 in
+    let x = c.compare_exchange-found.ensures.2.0 ∙ ap (λ b. (cond b (looked c.args.port c.compare_exchange-found.result (settled_as c.args.port None c.load-loaded.new.seat.me.0)) (seen_by_poster c.args.port c.compare_exchange-found.result c.load-loaded.new.seat.me.0), c.load-loaded.new.seat.me.1)) (ne_eqb _ _ c.if-found-loaded.false) in
+    let t = c.conclude-2.ensures.busy word is in
+    let shown = subst (λ z. shows_drawn z ≡ true) (sym t.0) t.1 in (
+      looked c.args.port c.load-loaded.result c.args.place.now.me.0,
+      inr (c.load-loaded.result, eq-eqb _ _ c.if-loaded-ne-GRANTED.false, refl),
+      shown,
+      ap (λ (m : M). m.0) (t.2 ∙ (x ∙ ap (λ (m : M). (seen_by_poster c.args.port c.compare_exchange-found.result m.0, m.1)) e))
+          ∙ (λ i. record (looked c.args.port (sym t.0 i) (looked c.args.port c.load-loaded.result c.args.place.now.me.0)) { step = (step_rests c.args.port c.compare_exchange-found.result t.1 ∙ sym c.requires.poster.1) i }),
+    )
