@@ -1,0 +1,4 @@
+pub mod FieldCuts
+pub mod LineCuts
+pub mod Digits
+pub mod DecimalDigits
