@@ -2,3 +2,4 @@ pub mod FieldCuts
 pub mod LineCuts
 pub mod Digits
 pub mod DecimalDigits
+pub mod CheckLists
