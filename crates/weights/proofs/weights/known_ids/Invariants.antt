@@ -1,0 +1,7 @@
+use Rattle.std.proofs.Common.{take}
+use Rattle.weights.specs.Weights.{IsSameIds, ids_of}
+use Rattle.weights.proofs.weights.known_ids.Given as goal
+
+-- The set has the ids of the coflows up to here.
+abbrev pub invariant-loop-coflow : goal.invariant-loop-coflow
+invariant-loop-coflow l = IsSameIds l.known.keys (ids_of (take l.coflow-index l.coflows))
