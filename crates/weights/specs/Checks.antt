@@ -1,5 +1,5 @@
 -- The checks of a weights file, in reading order.
-use Rattle.std.specs.Prelude.{◌≡◌, ℕ, ◌-◌, ◌^◌, ◌==◌, ◌&&◌, nat_le, nat_eq, Bool, not, List, [], ◌∷◌, ◌++◌, Some, None, Result, Ok, Err, length, drop}
+use Rattle.std.specs.Prelude.{◌≡◌, ℕ, ◌^◌, ◌==◌, ◌<◌, All, ◌&&◌, nat_le, nat_eq, Bool, not, List, [], ◌∷◌, ◌++◌, Some, None, Result, Ok, Err, length, drop}
 use Rattle.std.specs.List.{list_any}
 use Rattle.coflow_units.specs.declared.quantity.Quantity.TheVariants as quantity
 use Rattle.text_fields.specs.Checks.{Check, first_fault}
@@ -17,9 +17,13 @@ id_of line = number (field_at line.texts 0)
 abbrev pub weight_in : Line → ℕ
 weight_in line = number (field_at line.texts 1)
 
--- The number is one of these ids, which have 32 bits.
+-- The number is one of these ids.
 abbrev pub is_known : List ℕ → ℕ → Bool
-is_known ids n = nat_le n (2 ^ 32 - 1) && list_any (nat_eq n) ids
+is_known ids n = list_any (nat_eq n) ids
+
+-- Ids have 32 bits.
+abbrev pub AreIds : List ℕ → Type 0
+AreIds ids = All (λ n. n < 2 ^ 32) ids
 
 -- The checks of an id: its form, and that the trace has it.
 abbrev pub id_checks : List ℕ → ℕ → Text → List (Check WeightsFault)

@@ -3,7 +3,7 @@ ghost use Rattle.std.specs.Prelude.{◌≡◌, ◌≤◌, ◌<◌, ◌^◌, ◌-
 ghost use Rattle.indexmap.specs.IndexMap.{keys};
 ghost use Rattle.text_fields.specs.Fields.{field_at};
 ghost use Rattle.text_fields.specs.Numbers.{number};
-ghost use Rattle.weights.specs.Checks.{Answers, id_checks, id_of, line_checks, weight_checks, weight_in};
+ghost use Rattle.weights.specs.Checks.{Answers, AreIds, id_checks, id_of, line_checks, weight_checks, weight_in};
 
 use crate::fault::WeightsFault;
 use coflow_units::{MAX_ID, MAX_WEIGHT, Quantity};
@@ -16,6 +16,7 @@ pub(crate) fn line_of(
     known: &IndexSet<u32>,
     given: &IndexMap<u32, u64>,
 ) -> Result<(u32, u64), WeightsFault>
+    requires { AreIds known.now.keys }
     ensures { Answers (line_checks known.now.keys (keys given.now) fields.old) (λ v. (v.0 ≡ id_of fields.old) × (v.1 ≡ weight_in fields.old)) result }
 {
     let line = fields.line();
@@ -39,6 +40,7 @@ pub(crate) fn line_of(
 
 /// The id that the field spells, where it is a known one.
 fn known_id(field: &[u8], line: u32, known: &IndexSet<u32>) -> Result<u32, WeightsFault>
+    requires { AreIds known.now.keys }
     ensures { Answers (id_checks known.now.keys line field.now) (λ v. v ≡ number field.now) result }
 {
     let Some(id) = number_of(field) else {

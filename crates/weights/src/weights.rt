@@ -2,7 +2,7 @@
 ghost use Rattle.std.specs.Prelude.{◌≡◌, ◌≤◌, ◌^◌, ℕ, List, IfOk, length, map, nat_eq, unwrap_or};
 ghost use Rattle.coflow_units.specs.declared.trace.CoflowLine.{CoflowLine};
 ghost use Rattle.indexmap.specs.IndexMap.{get};
-ghost use Rattle.weights.specs.Checks.{Answers};
+ghost use Rattle.weights.specs.Checks.{Answers, AreIds};
 ghost use Rattle.weights.specs.Weights.{IsSameIds, ids_of, text_checks, weights_of};
 
 use crate::fault::WeightsFault;
@@ -33,7 +33,7 @@ pub fn read_weights(alloc: Global, bytes: &[u8], trace: &Trace) -> Result<Items<
 
 /// The ids of the coflows.
 fn known_ids(alloc: Global, coflows: &[CoflowLine]) -> Result<IndexSet<u32>, NoMemory>
-    ensures { IfOk result (λ s. IsSameIds s.keys (ids_of coflows.now)) }
+    ensures { IfOk result (λ s. IsSameIds s.keys (ids_of coflows.now) × AreIds s.keys) }
 {
     let mut known = IndexSet::<u32>::new(alloc);
     for coflow in coflows {
