@@ -1,9 +1,8 @@
 -- Ids have 32 bits.
-use Rattle.std.proofs.Common.{◌≡◌, ℕ, ◌-◌, ◌<◌, ◌^◌, List, [], ◌∷◌, Bool, true, false, suc, zero, arith, refl, ltb, length}
+use Rattle.std.proofs.Common.{◌≡◌, ℕ, ◌-◌, ◌<◌, ◌^◌, List, [], ◌∷◌, false, suc, arith, refl}
 use Rattle.std.specs.Prelude.{nat_eq}
 use Rattle.std.specs.List.{list_any}
 use Rattle.std.proofs.lemmas.Bool.Decides.{nat_tests}
-use Rattle.text_fields.specs.Numbers.{capped}
 use Rattle.weights.specs.Checks.{AreIds}
 
 -- A number of more than 32 bits is no id.

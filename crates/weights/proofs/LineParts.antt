@@ -1,5 +1,5 @@
 -- The parts of a line, as the code reads them.
-use Rattle.std.proofs.Common.{◌≡◌, ℕ, List, [], ◌∷◌, ◌++◌, Some, None, Bool, true, false, not, refl, sym, ap, ◌∙◌, Ok, Err, is_some, drop, length, subst}
+use Rattle.std.proofs.Common.{◌≡◌, ℕ, List, [], ◌∷◌, ◌++◌, Some, None, Bool, true, false, refl, sym, ◌∙◌, Ok, Err, is_some, drop, length, subst}
 use Rattle.std.specs.Prelude.{nat_eq, ◌==◌}
 use Rattle.std.specs.List.{list_any}
 use Rattle.std.specs.Map.{keys_of, lookup}
@@ -8,7 +8,7 @@ use Rattle.text_fields.specs.Fields.{Text, field_at}
 use Rattle.text_fields.specs.Lines.{Line}
 use Rattle.text_fields.specs.Numbers.{number}
 use Rattle.text_fields.proofs.CheckLists.{pass_first, fail_first}
-use Rattle.weights.specs.Checks.{Answers, id_checks, fresh_checks, weight_checks, end_checks, line_checks, id_of, weight_in}
+use Rattle.weights.specs.Checks.{Answers, id_checks, fresh_checks, weight_checks, end_checks, line_checks}
 use Rattle.weights.specs.declared.fault.WeightsFault.{WeightsFault}
 use Rattle.weights.specs.declared.fault.WeightsFault.TheVariants as fault
 use Rattle.weights.proofs.Parts.{part_fails, after_passed}

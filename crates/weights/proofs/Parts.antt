@@ -1,5 +1,5 @@
 -- What a part of the checks says of all.
-use Rattle.std.proofs.Common.{◌≡◌, ℕ, List, [], ◌∷◌, ◌++◌, Some, None, Bool, true, false, not, refl, sym, ap, ◌∙◌, Err}
+use Rattle.std.proofs.Common.{◌≡◌, List, ◌++◌, None, sym, ap, ◌∙◌, Err}
 use Rattle.text_fields.specs.Checks.{Check, first_fault}
 use Rattle.text_fields.proofs.CheckLists.{pass_first, fail_first}
 use Rattle.weights.specs.Checks.{Answers}

@@ -1,6 +1,6 @@
-use Rattle.std.proofs.Common.{rules, ◌≡◌, ℕ, List, drop, length, true, false, None, Some, sym, ap, ◌∙◌}
+use Rattle.std.proofs.Common.{rules, ◌≡◌, ℕ, drop, ◌∙◌}
 use Rattle.indexmap.specs.IndexMap.{keys}
-use Rattle.text_fields.specs.Fields.{Text, field_at}
+use Rattle.text_fields.specs.Fields.{field_at}
 use Rattle.text_fields.specs.Lines.{Line}
 use Rattle.weights.specs.Checks.{id_of, weight_in}
 use Rattle.text_fields.specs.Numbers.{number}

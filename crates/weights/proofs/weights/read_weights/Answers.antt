@@ -1,11 +1,10 @@
-use Rattle.std.proofs.Common.{◌≡◌, ℕ, List, [], map, nat_eq, unwrap_or, sym, ap, subst, ◌∙◌, Err}
+use Rattle.std.proofs.Common.{◌≡◌, ℕ, List, [], map, nat_eq, unwrap_or, sym, ap, subst, ◌∙◌}
 use Rattle.coflow_units.specs.declared.trace.CoflowLine.{CoflowLine}
-use Rattle.indexmap.specs.IndexMap.{IndexMap, get}
-use Rattle.text_fields.specs.Checks.{Check, first_fault}
+use Rattle.indexmap.specs.IndexMap.{get}
+use Rattle.text_fields.specs.Checks.{first_fault}
 use Rattle.text_fields.specs.Lines.{Line, lines_of}
-use Rattle.weights.specs.Checks.{Answers, lines_checks}
+use Rattle.weights.specs.Checks.{lines_checks}
 use Rattle.weights.specs.Weights.{IsSameIds, ids_of, text_checks, weights_of}
-use Rattle.weights.specs.declared.fault.WeightsFault.{WeightsFault}
 use Rattle.weights.proofs.LineLists.{pairs, same_checks, weights_are}
 use Rattle.weights.proofs.Parts.{same_fault}
 use Rattle.weights.proofs.weights.read_weights.Goals as goal
