@@ -1,0 +1,5 @@
+pub mod FieldCuts
+pub mod LineCuts
+pub mod Digits
+pub mod DecimalDigits
+pub mod CheckLists

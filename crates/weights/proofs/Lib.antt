@@ -1,0 +1,4 @@
+pub mod Parts
+pub mod LineParts
+pub mod LineLists
+pub mod Known
