@@ -1,0 +1,3 @@
+pub mod PassSteps
+pub mod LineSteps
+pub mod ListSteps
