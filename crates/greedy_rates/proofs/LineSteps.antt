@@ -1,16 +1,10 @@
 -- One coflow of the line after another, and the grants once all were looked at.
 use Rattle.std.proofs.Common.{◌≡◌, ◌≢◌, ℕ, ◌+◌, ◌≤◌, ◌<◌, ◌⊎◌, inl, inr, Bool, List, Option, Some, None, length, get_or, Contains, refl, sym, ap, subst, ◌∙◌, arith}
-use Rattle.std.specs.Prelude.{◌↔◌}
-use Rattle.std.specs.List.Sorted.{IsPermutation, IsSorted}
-use Rattle.std.specs.Ordering.{nat_cmp}
-use Rattle.std.proofs.Math.Dec.{eqb}
-use Rattle.std.proofs.lemmas.Bool.{cases_eq, cases_lt, ne_eqb, eq-eqb}
-use Rattle.std.proofs.lemmas.Bool.Decides.{Decides-eqb}
+use Rattle.std.specs.Prelude.{◌↔◌, All}
+use Rattle.std.specs.List.Sorted.{IsStrictlyIncreasing}
+use Rattle.std.proofs.lemmas.Bool.{cases_eq, cases_lt}
 use Rattle.std.proofs.lemmas.List.{get_or_default, get_or_past}
 use Rattle.std.proofs.lemmas.List.Elements.{Contains-get_or}
-use Rattle.std.proofs.lemmas.List.Sorted.{Contains-permutation, IsPermutation-sym, IsNonDecreasingBy-from_sort}
-use Rattle.std.proofs.lemmas.Map.Keys.{IsDistinct-IsPermutation, IsStrictlyIncreasing-from_distinct}
-use Rattle.std.proofs.lemmas.Map.Made.{IsDistinct-from_AllPairs}
 use Rattle.coflow_units.specs.declared.fabric.Flow.{Flow}
 use Rattle.coflow_units.specs.Flows.{coflow_of, ingress_of, egress_of, IsDistinct, SharesPort}
 use Rattle.coflow_units.specs.Grants.{place_in, ComesBefore, IsGrants}
@@ -81,12 +75,6 @@ coflow_ends flows line left k first end n at busy next le so_far = front_moves f
 
 -- ---- all flows were looked at
 
-flips : (x y : ℕ) → eqb x y ≡ eqb y x
-flips x y = elim (cases_eq x y) [
-  | inl e ↦ eq-eqb x y e ∙ sym (eq-eqb y x (sym e))
-  | inr ne ↦ ne_eqb x y ne ∙ sym (ne_eqb y x (λ e. ne (sym e)))
-]
-
 within : (at : List (Option ℕ)) (p f : ℕ) → flow_at_ingress at p ≡ Some f → p < length at
 within at p f e = elim (cases_lt p (length at)) [
   | inl lt ↦ lt
@@ -107,15 +95,14 @@ listed_stands flows line left k n at busy listed all list f has =
     let (p, _, e) = list.from f has in
     ap (flow_at_ingress at) (all.own p f e) ∙ e
 
-pub grants_are : (flows : List Flow) (line : List ℕ) (left : ℕ → ℕ) (at : List (Option ℕ)) (busy : List Bool) (listed sorted : List ℕ) → IsGranting flows line left (length line) 0 at busy → IsListing at (length at) listed → IsPermutation listed sorted → IsSorted nat_cmp sorted →
-    IsGrants flows line left sorted
-grants_are flows line left at busy listed sorted all list moved ascends =
-    let stands = λ (f : ℕ) (has : Contains sorted f). listed_stands flows line left (length line) 0 at busy listed all list f (Contains-permutation sorted listed f (IsPermutation-sym listed sorted moved) has) in
-    let there = λ (f : ℕ) (s : Stands flows at f). Contains-permutation listed sorted f moved (list.all (ingress_of flows f) f (within at (ingress_of flows f) f s) s) in
+pub grants_are : (flows : List Flow) (line : List ℕ) (left : ℕ → ℕ) (at : List (Option ℕ)) (busy : List Bool) (listed : List ℕ) → IsGranting flows line left (length line) 0 at busy → IsListing at (length at) listed → IsStrictlyIncreasing listed → IsGrants flows line left listed
+grants_are flows line left at busy listed all list ascends =
+    let stands = λ (f : ℕ) (has : Contains listed f). listed_stands flows line left (length line) 0 at busy listed all list f has in
+    let there = λ (f : ℕ) (s : Stands flows at f). list.all (ingress_of flows f) f (within at (ingress_of flows f) f s) s in
     record {
-      ascending = IsStrictlyIncreasing-from_distinct sorted (IsNonDecreasingBy-from_sort (λ (x : ℕ). x) sorted ascends) (IsDistinct-IsPermutation eqb flips listed sorted moved (IsDistinct-from_AllPairs Decides-eqb listed list.once));
-      flow = all_of_members (λ f. f < length flows) sorted (λ f has. all.flow f (stands f has));
-      in_line = all_of_members (λ f. Contains line (coflow_of flows f)) sorted (λ f has. elim (all.looked_at f (stands f has)) [
+      ascending = ascends;
+      flow = all_of_members (λ f. f < length flows) listed (λ f has. all.flow f (stands f has));
+      in_line = all_of_members (λ f. Contains line (coflow_of flows f)) listed (λ f has. elim (all.looked_at f (stands f has)) [
         | inl low ↦ (place_in line (coflow_of flows f), low, at_place line (coflow_of flows f) low)
         | inr (_, low) ↦ absurd (omega (arith, low))
       ]);
@@ -127,10 +114,11 @@ grants_are flows line left at busy listed sorted all list moved ascends =
       ];
     }
 
-pub ingresses_are : (flows : List Flow) (line : List ℕ) (left : ℕ → ℕ) (k n : ℕ) (at : List (Option ℕ)) (busy : List Bool) (listed sorted : List ℕ) → IsGranting flows line left k n at busy → IsListing at (length at) listed → IsPermutation listed sorted → TellsIngresses flows sorted at
-ingresses_are flows line left k n at busy listed sorted all list moved = λ p f. (
-  (λ e. (Contains-permutation listed sorted f moved (list.all p f (within at p f e) e), all.own p f e)),
-  (λ (has, e). ap (flow_at_ingress at) (sym e) ∙ listed_stands flows line left k n at busy listed all list f (Contains-permutation sorted listed f (IsPermutation-sym listed sorted moved) has)))
+pub ingresses_are : (flows : List Flow) (line : List ℕ) (left : ℕ → ℕ) (k n : ℕ) (at : List (Option ℕ)) (busy : List Bool) (listed : List ℕ) → IsGranting flows line left k n at busy → IsListing at (length at) listed → TellsIngresses flows listed at
+ingresses_are flows line left k n at busy listed all list = λ p f. ((λ e. (list.all p f (within at p f e) e, all.own p f e)), (λ (has, e). ap (flow_at_ingress at) (sym e) ∙ listed_stands flows line left k n at busy listed all list f has))
+
+pub flows_are : (flows : List Flow) (line : List ℕ) (left : ℕ → ℕ) (k n : ℕ) (at : List (Option ℕ)) (busy : List Bool) (listed : List ℕ) → IsGranting flows line left k n at busy → IsListing at (length at) listed → All (λ f. f < length flows) listed
+flows_are flows line left k n at busy listed all list = all_of_members (λ f. f < length flows) listed (λ f has. all.flow f (listed_stands flows line left k n at busy listed all list f has))
 
 pub one_ingress : (flows : List Flow) (line : List ℕ) (left : ℕ → ℕ) (k n : ℕ) (at : List (Option ℕ)) (busy : List Bool) → IsGranting flows line left k n at busy → (p q f : ℕ) → flow_at_ingress at p ≡ Some f → flow_at_ingress at q ≡ Some f → p ≡ q
 one_ingress flows line left k n at busy all p q f a b = sym (all.own p f a) ∙ all.own q f b

@@ -14,6 +14,10 @@ use Rattle.greedy_rates.specs.Pass.{IsLookedAt, Stands, IsCrossed, IsGranting}
 pub not_none : (o : Option ℕ) (x : ℕ) → o ≡ None → o ≡ Some x → ⊥
 not_none o x a b = true≢false (ap is_some (sym b ∙ a))
 
+pub not_some : (o : Option ℕ) → is_some o ≡ false → o ≡ None
+not_some None e = refl
+not_some (Some x) e = absurd (true≢false e)
+
 pub same_some : (x y : ℕ) → Some x ≡ Some y → x ≡ y
 same_some x y e = ap (λ (o : Option ℕ). unwrap_or o 0) e
 

@@ -1,5 +1,6 @@
 //! One pass over the flows of a line, and what is told of the flows that it granted.
 ghost use Rattle.std.specs.Prelude.{◌≡◌, ℕ, ◌<◌, ◌≤◌, ◌+◌, ◌^◌, List, Some, All, length, slice_index, take};
+ghost use Rattle.std.specs.List.Sorted.{IsStrictlyIncreasing};
 ghost use Rattle.coflow_units.specs.declared.fabric.Flow.{Flow};
 ghost use Rattle.coflow_units.specs.Flows.{IsDistinct};
 ghost use Rattle.greedy_rates.specs.Pass.{IsGranting, IsListing, IsNext};
@@ -70,13 +71,29 @@ fn grant_coflow(
     }
 }
 
-/// Writes the flows that stand at an ingress to the front of `listed`, and tells how many they are.
+/// Writes the flows that stand at an ingress to the front of `listed`, ascending, and tells how many they are.
 pub fn list_granted(at: &[Option<u32>], listed: &mut [u32]) -> u32
     requires room { length listed.old ≡ length at.now }
     requires ports { length at.now < 2 ^ 32 }
     requires once { (p q f : ℕ) → flow_at_ingress at.now p ≡ Some f → flow_at_ingress at.now q ≡ Some f → p ≡ q }
     ensures listing { IsListing at.now (length at.now) (take result listed.new) }
+    ensures ascending { IsStrictlyIncreasing (take result listed.new) }
     ensures within { result ≤ length listed.old }
+    ensures len { length listed.new ≡ length listed.old }
+{
+    let count = collect_granted(at, listed);
+    listed[..count as usize].sort_unstable();
+    count
+}
+
+/// Writes the flows that stand at an ingress to the front of `listed`, by ingress, and tells how many they are.
+fn collect_granted(at: &[Option<u32>], listed: &mut [u32]) -> u32
+    requires room { length listed.old ≡ length at.now }
+    requires ports { length at.now < 2 ^ 32 }
+    requires once { (p q f : ℕ) → flow_at_ingress at.now p ≡ Some f → flow_at_ingress at.now q ≡ Some f → p ≡ q }
+    ensures listing { IsListing at.now (length at.now) (take result listed.new) }
+    ensures within { result ≤ length listed.old }
+    ensures len { length listed.new ≡ length listed.old }
 {
     let mut count = 0;
     for stands in at {

@@ -113,9 +113,7 @@ pub fn grants(
         left,
     );
     let count = pass::list_granted(&scratch.ingress, &mut scratch.listed);
-    let granted = &mut scratch.listed[..count as usize];
-    granted.sort_unstable();
-    let length = pass::least_left(left, granted);
+    let length = pass::least_left(left, &scratch.listed[..count as usize]);
     scratch.count = count;
     Granted { count, length }
 }

@@ -1,22 +1,24 @@
--- The flow at the next ingress is listed, where there is one.
-use Rattle.std.proofs.Common.{ℕ, take, arith}
-use Rattle.greedy_rates.proofs.ListSteps.{list_skips, list_takes}
+-- The sorted front is the listed flows again.
+use Rattle.std.proofs.Common.{◌≡◌, ℕ, List, length, take, subst, sym, arith}
+use Rattle.std.specs.List.Sorted.{IsStrictlyIncreasing}
+use Rattle.std.proofs.lemmas.List.{length-take-le}
+use Rattle.greedy_rates.specs.Pass.{IsListing}
+use Rattle.greedy_rates.proofs.ListSteps.{front_again, sorted_rises, sorted_lists}
 use Rattle.greedy_rates.proofs.pass.list_granted.Goals as goal
 
-pub loop-stands-preserved-in_default : goal.loop-stands-preserved-in_default
-loop-stands-preserved-in_default c =
-    let before = c.loop-stands.invariant in
-    record {
-      length_is = before.length_is;
-      count_fits = omega (arith, before.count_fits);
-      listing = list_skips c.args.at.now c.loop-stands.stands-index (take c.loop-stands.count c.loop-stands.listed) ? before.listing;
-    }
+pub returns-clause-listing : goal.returns-clause-listing
+returns-clause-listing c =
+    let n = c.collect_granted-count.result in
+    let listed = c.collect_granted-count.new.listed in
+    let sorted = c.sort_unstable.new.self in
+    let len : length sorted ≡ n = omega (arith, c.sort_unstable.ensures.len, length-take-le n listed, c.collect_granted-count.ensures.within, c.collect_granted-count.ensures.len) in
+    let rises = sorted_rises c.args.at.now (length c.args.at.now) (take n listed) sorted c.collect_granted-count.ensures.listing c.sort_unstable.ensures.permutation c.sort_unstable.ensures.sorted in
+    subst (λ (xs : List ℕ). IsListing c.args.at.now (length c.args.at.now) xs) (sym (front_again n sorted listed len)) (sorted_lists c.args.at.now (length c.args.at.now) (take n listed) sorted c.collect_granted-count.ensures.listing c.sort_unstable.ensures.permutation rises)
 
-pub loop-stands-preserved : goal.loop-stands-preserved
-loop-stands-preserved c =
-    let before = c.loop-stands.invariant in
-    record {
-      length_is = ?;
-      count_fits = omega (arith, before.count_fits);
-      listing = list_takes c.args.at.now c.loop-stands.stands-index c.loop-stands.count ? c.loop-stands.listed c.requires.once ? ? before.listing;
-    }
+pub returns-clause-ascending : goal.returns-clause-ascending
+returns-clause-ascending c =
+    let n = c.collect_granted-count.result in
+    let listed = c.collect_granted-count.new.listed in
+    let sorted = c.sort_unstable.new.self in
+    let len : length sorted ≡ n = omega (arith, c.sort_unstable.ensures.len, length-take-le n listed, c.collect_granted-count.ensures.within, c.collect_granted-count.ensures.len) in
+    subst (λ (xs : List ℕ). IsStrictlyIncreasing xs) (sym (front_again n sorted listed len)) (sorted_rises c.args.at.now (length c.args.at.now) (take n listed) sorted c.collect_granted-count.ensures.listing c.sort_unstable.ensures.permutation c.sort_unstable.ensures.sorted)

@@ -1,7 +1,7 @@
 -- the flows at the ingress ports so far
 use Rattle.std.proofs.Common.{◌≡◌, ◌≤◌, length, take}
 use Rattle.greedy_rates.specs.Pass.{IsListing}
-use Rattle.greedy_rates.proofs.pass.list_granted.Given as goal
+use Rattle.greedy_rates.proofs.pass.collect_granted.Given as goal
 
 abbrev pub invariant-loop-stands : goal.invariant-loop-stands
 invariant-loop-stands l = record {
