@@ -6,3 +6,5 @@ mod scratch;
 
 pub use scratch::{Granted, Scratch, grants};
 
+#[cfg(test)]
+mod tests;

@@ -20,7 +20,7 @@ least_left-length-requires c =
     let at_is : c.deref.result.now ≡ c.grant_line.new.at = c.deref.ensures.value ∙ written_back c.scratch.inside.ingress.len c.grant_line.new.at c.scratch.inside.ingress.items (c.grant_line.ensures.at_len ∙ c.deref_mut.ensures.len) in
     let listed_is : c.deref-2.result.now ≡ c.list_granted-count.new.listed = c.deref-2.ensures.value ∙ written_back c.scratch.inside.listed.len c.list_granted-count.new.listed c.scratch.inside.listed.items (c.list_granted-count.ensures.len ∙ c.deref_mut-3.ensures.len) in
     let flows = flows_are c.args.flows.now c.args.line.now (λ f. get_or c.args.left.now f 0) (length c.args.line.now) 0 c.grant_line.new.at c.grant_line.new.busy (take n c.list_granted-count.new.listed) c.grant_line.ensures.granting
-        (subst (λ (xs : List (Option ℕ)). IsListing xs (length xs) (take n c.list_granted-count.new.listed)) at_is c.list_granted-count.ensures.listing) in
+    (subst (λ (xs : List (Option ℕ)). IsListing xs (length xs) (take n c.list_granted-count.new.listed)) at_is c.list_granted-count.ensures.listing) in
     subst (λ (xs : List ℕ). All (λ f. f < length c.args.left.now) (take n xs)) (sym listed_is) (subst (λ (m : ℕ). All (λ f. f < m) (take n c.list_granted-count.new.listed)) (sym c.requires.left) flows)
 
 pub returns-clause-grants : goal.returns-clause-grants
