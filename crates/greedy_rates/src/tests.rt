@@ -175,7 +175,7 @@ fn ties_go_by_the_number(rt: HostRuntime) {
 fn what_has_no_grant(rt: HostRuntime) {
     let mut scratch = room(&rt, rt.alloc(), 3);
     let nothing: [u32; 0] = [];
-    assert_eq!(rt; scratch.flows(), &nothing);
+    assert!(rt; scratch.flows().is_empty());
     assert_eq!(rt; scratch.at(0), None);
     let flows = [flow(0, 0, 0), flow(1, 1, 1), flow(2, 2, 2)];
     let starts = [0, 1, 2, 3];
