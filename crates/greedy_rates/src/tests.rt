@@ -1,5 +1,6 @@
 //! What no clause says: that the definitions give the grants that were worked out by hand, that a pass agrees with a plain program of the rule, and that the limits can be met.
 ghost use Rattle.std.specs.Prelude.{◌≡◌, ℕ, ◌<◌, ◌≤◌, ◌+◌, All, IsTrue, length, slice_index};
+ghost use Rattle.std.specs.List.Sorted.{IsNonDecreasing};
 ghost use Rattle.coflow_units.specs.declared.fabric.Flow.{Flow};
 ghost use Rattle.coflow_units.specs.Flows.{IsDistinct, coflow_of};
 ghost use Rattle.greedy_rates.specs.Starts.{IsStarts};
@@ -38,14 +39,28 @@ fn stands_between(flows: &[Flow], starts: &[u32]) -> bool
     true
 }
 
+/// Tests that the starts do not fall.
+fn starts_rise(starts: &[u32]) -> bool
+    ensures { IsTrue result → IsNonDecreasing starts.now }
+{
+    starts.is_sorted()
+}
+
+/// Tests that the starts are numbers of flows, or the number past the last.
+fn starts_are_within(flows: &[Flow], starts: &[u32]) -> bool
+    ensures { IsTrue result → All (λ s. s ≤ length flows.now) starts.now }
+{
+    starts.iter().all(|start| *start as usize <= flows.len())
+}
+
 /// Tests that the starts are those of the flows.
 fn starts_fit(flows: &[Flow], starts: &[u32]) -> bool
     ensures { IsTrue result → IsStarts flows.now starts.now }
 {
-    if !starts.is_sorted() {
+    if !starts_rise(starts) {
         return false;
     }
-    if !starts.iter().all(|start| *start as usize <= flows.len()) {
+    if !starts_are_within(flows, starts) {
         return false;
     }
     stands_between(flows, starts)
@@ -71,20 +86,18 @@ fn have_starts(line: &[u32], starts: &[u32]) -> bool
         .all(|coflow| *coflow as usize + 1 < starts.len())
 }
 
-/// Tests that the ports of the flows are in range.
-fn ports_fit(flows: &[Flow], ports: u32) -> bool
-    ensures ingress { IsTrue result → All (λ (x : Flow). x.ingress < ports) flows.now }
-    ensures egress { IsTrue result → All (λ (x : Flow). x.egress < ports) flows.now }
+/// Tests that the ingress ports of the flows are in range.
+fn ingresses_fit(flows: &[Flow], ports: u32) -> bool
+    ensures { IsTrue result → All (λ (x : Flow). x.ingress < ports) flows.now }
 {
-    for flow in flows {
-        if flow.ingress >= ports {
-            return false;
-        }
-        if flow.egress >= ports {
-            return false;
-        }
-    }
-    true
+    flows.iter().all(|flow| flow.ingress < ports)
+}
+
+/// Tests that the egress ports of the flows are in range.
+fn egresses_fit(flows: &[Flow], ports: u32) -> bool
+    ensures { IsTrue result → All (λ (x : Flow). x.egress < ports) flows.now }
+{
+    flows.iter().all(|flow| flow.egress < ports)
 }
 
 fn room(rt: &impl Abort, alloc: Global, ports: u32) -> Scratch
@@ -115,7 +128,9 @@ fn grant(
     assert!(rt; fit);
     let fit = have_starts(line, starts);
     assert!(rt; fit);
-    let fit = ports_fit(flows, ports);
+    let fit = ingresses_fit(flows, ports);
+    assert!(rt; fit);
+    let fit = egresses_fit(flows, ports);
     assert!(rt; fit);
     let fit = left.len() == flows.len();
     assert!(rt; fit);
@@ -239,16 +254,11 @@ fn mark_plainly(marks: &mut [bool], flows: &[Flow], line: &[u32], left: &[u64])
     }
 }
 
-/// Compares the grants with the marks.
-fn agrees(rt: &impl Abort, scratch: &Scratch, marks: &[bool]) {
-    let mut expected = 0;
-    for number in 0..marks.len() {
-        if marks[number] {
-            assert!(rt; scratch.flows().contains(&(number as u32)));
-            expected += 1;
-        }
+/// The granted flows are those that are marked.
+fn agrees(rt: &impl Abort, scratch: &Scratch, marks: &[bool; 4]) {
+    for number in 0u32..4 {
+        assert_eq!(rt; scratch.flows().contains(&number), marks[number as usize]);
     }
-    assert_eq!(rt; scratch.flows().len(), expected);
 }
 
 /// All tables of two coflows with two flows each on a fabric of two ports on each side, with each set of flows that owe, in both orders.
