@@ -1,6 +1,7 @@
 -- What the tests of a table tell.
 use Rattle.std.proofs.Common.{◌≡◌, ◌≢◌, ℕ, ◌+◌, ◌≤◌, ◌<◌, List, ◌∷◌, ◌++◌, [], inl, inr, length, get_or, take, Contains, Bool, true, false, true≢false, refl, sym, ap, subst, ◌∙◌, arith}
-use Rattle.std.specs.Prelude.{All, MatchBool}
+use Rattle.std.specs.Prelude.{All}
+use Rattle.std.specs.Bool.{MatchBool}
 use Rattle.std.specs.List.Sorted.{IsNonDecreasing}
 use Rattle.std.proofs.lemmas.Bool.{cases_eq, cases_lt}
 use Rattle.std.proofs.lemmas.List.{take_more}
@@ -39,6 +40,6 @@ starts_are flows starts rises low between = record {
   all = between;
 }
 
-pub risen : {Q : Type 0} (xs : List ℕ) (r : Bool) → r ≡ true → MatchBool r (IsNonDecreasing xs) Q → IsNonDecreasing xs
-risen xs true e h = h
-risen xs false e h = absurd (true≢false (sym e))
+pub risen : (Q : Type 0) (xs : List ℕ) (r : Bool) → r ≡ true → MatchBool r (IsNonDecreasing xs) Q → IsNonDecreasing xs
+risen Q xs true e h = h
+risen Q xs false e h = absurd (true≢false (sym e))

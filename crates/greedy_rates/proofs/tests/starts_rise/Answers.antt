@@ -3,4 +3,4 @@ use Rattle.greedy_rates.proofs.TestSteps.{risen}
 use Rattle.greedy_rates.proofs.tests.starts_rise.Goals as goal
 
 pub returns : goal.returns
-returns c = λ is. risen c.args.starts.now c.is_sorted.result is (non_decreasing_from_is_sorted c.args.starts.now c.is_sorted.result c.is_sorted.ensures.cases)
+returns c = λ is. risen _ c.args.starts.now c.is_sorted.result is (non_decreasing_from_is_sorted c.args.starts.now c.is_sorted.result c.is_sorted.ensures.cases)
