@@ -1,0 +1,4 @@
+pub mod PassSteps
+pub mod LineSteps
+pub mod ListSteps
+pub mod TestSteps
