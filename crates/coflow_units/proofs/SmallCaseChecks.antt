@@ -4,7 +4,7 @@ use Rattle.std.specs.List.{slice_index_or}
 use Rattle.std.proofs.lemmas.Bool.{ltb-true}
 use Rattle.std.proofs.lemmas.List.Elements.{All-from_recursion}
 use Rattle.coflow_units.specs.Flows.{IsInstance, SharesPort, units_of}
-use Rattle.coflow_units.specs.Grants.{IsRunLength, IsGrants}
+use Rattle.coflow_units.specs.Grants.{IsGrants}
 use Rattle.coflow_units.specs.Schedule.{IsClear, IsRuns, IsValid}
 use Rattle.coflow_units.specs.Patient.{IsPatient}
 use Rattle.coflow_units.specs.Served.{IsServed}

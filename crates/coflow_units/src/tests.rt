@@ -34,6 +34,7 @@ fn loads_of_two_flows(rt: HostRuntime) {
 #[test]
 fn limits_are_powers_of_two(rt: HostRuntime) {
     assert_eq!(rt; MAX_TEXT, 1 << 26);
+    assert_eq!(rt; MAX_REPORT, 1 << 30);
     assert_eq!(rt; MAX_MEGABYTES, 1 << 40);
     assert_eq!(rt; MAX_WEIGHT, 1 << 32);
     assert_eq!(rt; MAX_UNITS, 1 << 40);

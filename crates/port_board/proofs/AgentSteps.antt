@@ -26,7 +26,8 @@ use Rattle.port_board.specs.Views.{grant, report, number_of, is_of, missed_after
 use Rattle.port_board.specs.Rule.{Cargo, PortOk, grant_at, count_after, DifferAt, ReportsDiffer, HoldsOnce, Posted, Out, Back, Gone, Closed, CameOk, StepOk, Counts, Knows, HasOut, HasDone, Seated, Kept}
 use Rattle.port_board.specs.Tells.{loads, after_win, after_miss, draws, won_count, after_length, reads_length, counts, counted, reports}
 use Rattle.port_board.proofs.Words.{IsGranted, IsDrawn, IsReported, drawer, reporter, units, slot_of-granted, flow_of-granted, slot_of-reported, granted_only, shows_granted-granted, stage_is}
-use Rattle.port_board.proofs.Puts.{put, put_else, put2, put2_here, put2_keeps, put2_other, put2_cases}
+use Rattle.coflow_units.proofs.Changes.{put, put_else}
+use Rattle.port_board.proofs.Puts.{put2, put2_here, put2_keeps, put2_other, put2_cases}
 use Rattle.port_board.proofs.Lists.{is_of-same, is_of-false, filter_keeps, misses, misses_once}
 use Rattle.port_board.proofs.Stays.{Follows, posted_stays, back_stays, gone_stays, closed_stays, came_stays, knows_stays, knows_stays_counted, ByAgent, poster_stays, poster_stays_counted}
 use Rattle.port_board.proofs.Moves.{St, Goes, rebuilt, unmoved, same_seat, agent_seated}

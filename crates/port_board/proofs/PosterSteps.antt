@@ -25,7 +25,8 @@ use Rattle.port_board.specs.Rule.{Cargo, PortOk, grant_at, count_after, stage_af
 use Rattle.port_board.specs.Agreement.{NobodyHad}
 use Rattle.port_board.specs.Tells.{counts, counted, posts, poster_step, seen_by_poster, poster_loads, takes_back, ready_port, reads_sent, learns}
 use Rattle.port_board.proofs.Words.{IsUnposted, IsGranted, IsDrawn, IsReported, IsTaken, slot_of-granted, flow_of-granted, granted_only, stage_is}
-use Rattle.port_board.proofs.Puts.{put, put_here, put_else, put2, put2_here, put2_keeps, put2_other, put2_cases}
+use Rattle.coflow_units.proofs.Changes.{put, put_here, put_else}
+use Rattle.port_board.proofs.Puts.{put2, put2_here, put2_keeps, put2_other, put2_cases}
 use Rattle.port_board.proofs.Lists.{last_pushed, is_of-false}
 use Rattle.port_board.proofs.Stays.{Follows, grant_same, knows_stays, knows_stays_counted}
 use Rattle.port_board.proofs.Moves.{St, rebuilt, unmoved, inside_of}

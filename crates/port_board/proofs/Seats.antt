@@ -23,7 +23,7 @@ use Rattle.port_board.specs.Views.{number_of, report, blank, one_more, newcomer,
 use Rattle.port_board.specs.Rule.{Cargo, grant_at, DifferAt, ReportsDiffer, Posted, Out, Back, Gone, Closed, CameOk, StepOk, Counts, Knows, PosterOk, agent, agents, IsNumber, Seated, HasOut, HasDone, Kept, first_poster}
 use Rattle.port_board.specs.Tells.{note_of, hears, spent}
 use Rattle.port_board.proofs.Words.{IsUnposted}
-use Rattle.port_board.proofs.Puts.{put, put_here, put_else}
+use Rattle.coflow_units.proofs.Changes.{put, put_here, put_else}
 use Rattle.port_board.proofs.Moves.{St, seats_stay, total_set, total_push, inside_of, rebuilt, agent_seated}
 use Rattle.port_board.proofs.AgentSteps.{goes_same, not_poster}
 use Rattle.port_board.proofs.Agreements.{its}

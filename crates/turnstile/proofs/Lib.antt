@@ -1,5 +1,4 @@
 pub mod Totals
-pub mod Changes
 pub mod Beginnings
 pub mod OwnEntries
 pub mod Views

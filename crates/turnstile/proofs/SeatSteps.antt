@@ -18,7 +18,7 @@ use Rattle.turnstile.specs.Models.{handed_back}
 use Rattle.turnstile.specs.Tickets.{Numbers, queues, has_turn, counts_if, numbered, queued, turning, number_of, IsNumbered, Saw, Queues, Kept, root_of}
 use Rattle.turnstile.specs.Tells.{one_more, newcomer, takes_in, spent}
 use Rattle.turnstile.proofs.Totals.{total_set, total_push}
-use Rattle.turnstile.proofs.Changes.{put, put_here, put_else}
+use Rattle.coflow_units.proofs.Changes.{put, put_here, put_else}
 use Rattle.turnstile.proofs.Views.{seats_stay, splits_stay, numbers_stay, inside}
 
 module _ {T E C : Type 0} (by : E → ℕ) (entries : T → List E) (setting : T → C) (c : C) where

@@ -19,7 +19,7 @@ use Rattle.turnstile.specs.Tickets.{queues, has_turn, counts_if, numbered, queue
 use Rattle.turnstile.specs.Tells.{takes_ticket, looks, MayLeave, leaves}
 use Rattle.turnstile.proofs.Beginnings.{begins_on, goes_on}
 use Rattle.turnstile.proofs.Totals.{total_set}
-use Rattle.turnstile.proofs.Changes.{put, put_here}
+use Rattle.coflow_units.proofs.Changes.{put, put_here}
 use Rattle.turnstile.proofs.Views.{ticket, counts_one, seats_stay, few_queued, few_turning, others_wait, others_next, others_queue, others_saw, saw_all, own_seat, numbers_stay}
 
 module _ {T E C : Type 0} (by : E → ℕ) (entries : T → List E) (setting : T → C) (c : C) where

@@ -17,7 +17,7 @@ use Rattle.turnstile.specs.Histories.{NoneBy, GoesOn, Begins}
 use Rattle.turnstile.specs.Tickets.{total, Numbers, queues, has_turn, counts_if, numbered, queued, turning, number_of, IsNumbered, Saw, Queues}
 use Rattle.turnstile.proofs.Beginnings.{begins_on, whole_beginning, goes_on, whole, goes_longer}
 use Rattle.turnstile.proofs.Totals.{total_le}
-use Rattle.turnstile.proofs.Changes.{put, put_else}
+use Rattle.coflow_units.proofs.Changes.{put, put_else}
 
 abbrev pub ticket : Stage → ℕ
 ticket Idle = 0
