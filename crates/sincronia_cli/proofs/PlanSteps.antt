@@ -11,7 +11,7 @@ use Rattle.coflow_units.specs.Served.{IsServed}
 use Rattle.coflow_units.proofs.Lists.{number_in, number_below}
 use Rattle.coflow_units.proofs.Sums.{sum_same}
 use Rattle.sincronia_cli.specs.PlanReport.{HasOneFlowEach}
-use Rattle.sincronia_cli.specs.Ranks.{IsStarts}
+use Rattle.greedy_rates.specs.Starts.{IsStarts}
 
 -- the numbers from 0 on that are below a count
 abbrev pub by_number : ℕ → List ℕ

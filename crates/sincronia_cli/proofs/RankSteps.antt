@@ -13,7 +13,8 @@ use Rattle.coflow_units.specs.Grants.{place_in, ComesBefore}
 use Rattle.coflow_units.proofs.LinePlaces.{place_of_member, at_place}
 use Rattle.coflow_units.proofs.Lists.{number_in}
 use Rattle.coflow_units.proofs.Sums.{all_of_members, nothing_in}
-use Rattle.sincronia_cli.specs.Ranks.{IsRanked, IsStarts}
+use Rattle.greedy_rates.specs.Starts.{IsStarts}
+use Rattle.sincronia_cli.specs.Ranks.{IsRanked}
 use Rattle.sincronia_cli.proofs.Ranges.{range_more}
 
 -- a number of a range lies within it

@@ -2,7 +2,8 @@
 ghost use Rattle.std.specs.Prelude.{◌≡◌, ◌<◌, ◌+◌, ◌-◌, ◌++◌, All, IfOk, OnOk, length};
 ghost use Rattle.std.specs.List.{range_with_len};
 ghost use Rattle.coflow_units.specs.Flows.{IsDistinct};
-ghost use Rattle.sincronia_cli.specs.Ranks.{IsRanked, IsStarts};
+ghost use Rattle.greedy_rates.specs.Starts.{IsStarts};
+ghost use Rattle.sincronia_cli.specs.Ranks.{IsRanked};
 
 use coflow_units::{Flow, NoMemory};
 use std::alloc::Global;
