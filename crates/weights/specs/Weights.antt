@@ -2,15 +2,12 @@
 use Rattle.std.specs.Prelude.{◌≡◌, ℕ, ◌==◌, List, [], ◌∷◌, if◌then◌else◌, map, nat_eq}
 use Rattle.std.specs.List.{list_any}
 use Rattle.coflow_units.specs.declared.trace.CoflowLine.{CoflowLine}
+use Rattle.coflow_units.specs.Trace.{ids_of}
 use Rattle.text_fields.specs.Checks.{Check}
 use Rattle.text_fields.specs.Fields.{Text}
 use Rattle.text_fields.specs.Lines.{Line, lines_of}
 use Rattle.weights.specs.Checks.{id_of, lines_checks, weight_in}
 use Rattle.weights.specs.declared.fault.WeightsFault.{WeightsFault}
-
--- The ids of the coflows, by number.
-abbrev pub ids_of : List CoflowLine → List ℕ
-ids_of coflows = map (λ (x : CoflowLine). x.id) coflows
 
 -- The checks of a whole text over these coflows, in reading order.
 abbrev pub text_checks : Text → List CoflowLine → List (Check WeightsFault)

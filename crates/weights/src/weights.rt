@@ -3,7 +3,8 @@ ghost use Rattle.std.specs.Prelude.{◌≡◌, ◌≤◌, ◌^◌, ℕ, List, If
 ghost use Rattle.coflow_units.specs.declared.trace.CoflowLine.{CoflowLine};
 ghost use Rattle.indexmap.specs.IndexMap.{get};
 ghost use Rattle.weights.specs.Checks.{Answers, AreIds};
-ghost use Rattle.weights.specs.Weights.{IsSameIds, ids_of, text_checks, weights_of};
+ghost use Rattle.coflow_units.specs.Trace.{ids_of};
+ghost use Rattle.weights.specs.Weights.{IsSameIds, text_checks, weights_of};
 
 use crate::fault::WeightsFault;
 use crate::lines::given_weights;

@@ -1,6 +1,7 @@
 use Rattle.std.proofs.Common.{take}
 use Rattle.weights.specs.Checks.{AreIds}
-use Rattle.weights.specs.Weights.{IsSameIds, ids_of}
+use Rattle.coflow_units.specs.Trace.{ids_of}
+use Rattle.weights.specs.Weights.{IsSameIds}
 use Rattle.weights.proofs.weights.known_ids.Given as goal
 
 -- The set has the ids of the coflows up to here, which have 32 bits.

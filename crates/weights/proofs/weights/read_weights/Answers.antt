@@ -4,7 +4,8 @@ use Rattle.indexmap.specs.IndexMap.{get}
 use Rattle.text_fields.specs.Checks.{first_fault}
 use Rattle.text_fields.specs.Lines.{Line, lines_of}
 use Rattle.weights.specs.Checks.{lines_checks}
-use Rattle.weights.specs.Weights.{IsSameIds, ids_of, text_checks, weights_of}
+use Rattle.coflow_units.specs.Trace.{ids_of}
+use Rattle.weights.specs.Weights.{IsSameIds, text_checks, weights_of}
 use Rattle.weights.proofs.LineLists.{pairs, same_checks, weights_are}
 use Rattle.weights.proofs.Parts.{same_fault}
 use Rattle.weights.proofs.weights.read_weights.Goals as goal
