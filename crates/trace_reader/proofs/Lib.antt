@@ -2,3 +2,10 @@ pub mod NumberText
 pub mod LineText
 pub mod LinesText
 pub mod TraceText
+pub mod Faults
+pub mod Rows
+pub mod LineParts
+pub mod CoflowLists
+pub mod Accepted
+pub mod TraceParts
+pub mod FieldsDecide

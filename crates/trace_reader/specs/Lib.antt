@@ -1,2 +1,7 @@
 pub mod Plain
 pub mod Readers
+pub mod Checks
+pub mod Header
+pub mod Coflow
+pub mod Parts
+pub mod Trace

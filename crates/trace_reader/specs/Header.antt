@@ -1,0 +1,35 @@
+-- The first line with fields.
+use Rattle.std.specs.Prelude.{◌≡◌, ℕ, ◌==◌, ◌&&◌, Bool, true, false, Option, Some, None, List, [], ◌∷◌, length}
+use Rattle.coflow_units.specs.declared.quantity.Quantity.TheVariants as quantity
+use Rattle.text_fields.specs.Checks.{Check}
+use Rattle.text_fields.specs.Fields.{field_at}
+use Rattle.text_fields.specs.Lines.{Line}
+use Rattle.text_fields.specs.Numbers.{capped, is_number, number}
+use Rattle.trace_reader.specs.Checks.{range}
+use Rattle.trace_reader.specs.declared.trace_fault.TraceFault.{TraceFault}
+use Rattle.trace_reader.specs.declared.trace_fault.TraceFault.TheVariants as fault
+
+-- The line has two fields, both numbers.
+abbrev pub is_header : Line → Bool
+is_header line = is_number (field_at line.texts 0) && (is_number (field_at line.texts 1) && (length line.texts == 2))
+
+-- The first field of the header is the number of ports.
+abbrev pub ports_of : Line → ℕ
+ports_of line = number (field_at line.texts 0)
+
+-- The second field of the header is the number of coflows.
+abbrev pub coflow_count : Line → ℕ
+coflow_count line = number (field_at line.texts 1)
+
+-- The checks of the header: its form, then the range of the ports, then that of the coflows.
+abbrev pub header_checks : Line → List (Check TraceFault)
+header_checks line =
+    (is_header line, fault.BadHeader)
+    ∷ range line.number quantity.Ports 1 1024 (field_at line.texts 0)
+    ∷ range line.number quantity.Coflows 0 4096 (field_at line.texts 1)
+    ∷ []
+
+-- The line has not two numbers, or these are the two, capped.
+abbrev pub HasTwo : Line → Option (ℕ × ℕ) → Type 0
+HasTwo line None = is_header line ≡ false
+HasTwo line (Some v) = (is_header line ≡ true) × (v.0 ≡ capped (ports_of line)) × (v.1 ≡ capped (coflow_count line))

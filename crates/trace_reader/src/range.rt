@@ -1,0 +1,45 @@
+//! Numbers in a range.
+ghost use Rattle.std.specs.Prelude.{◌≡◌, ◌≤◌, ◌^◌, ◌-◌, ℕ};
+ghost use Rattle.text_fields.specs.Numbers.{number};
+ghost use Rattle.trace_reader.specs.Checks.{Answers, number_checks};
+ghost use Rattle.trace_reader.specs.Parts.{IsInRange};
+
+use crate::trace_fault::TraceFault;
+use coflow_units::Quantity;
+use text_fields::number_of;
+
+/// The count, where it is from least to most.
+pub(crate) fn in_range(
+    count: u64,
+    line: u32,
+    which: Quantity,
+    least: u32,
+    most: u32,
+) -> Result<u32, TraceFault>
+    ensures { IsInRange line which least most count result }
+{
+    if count < u64::from(least) {
+        return Err(TraceFault::Limit { line, which, count });
+    }
+    if count > u64::from(most) {
+        return Err(TraceFault::Limit { line, which, count });
+    }
+    Ok(count as u32)
+}
+
+/// The number that field k of the line spells, where it is from least to most.
+pub(crate) fn number_in(
+    field: &[u8],
+    line: u32,
+    k: u32,
+    which: Quantity,
+    least: u32,
+    most: u32,
+) -> Result<u32, TraceFault>
+    ensures { Answers (number_checks line k which least most field.now) (λ v. (v ≡ number field.now) × (least ≤ v) × (v ≤ most)) result }
+{
+    let Some(count) = number_of(field) else {
+        return Err(TraceFault::BadLine { line, field: k });
+    };
+    in_range(count, line, which, least, most)
+}
