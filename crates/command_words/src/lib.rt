@@ -1,0 +1,14 @@
+// Reads the words of a command line: the command, the names behind it and the options.
+#![tactic(auto)]
+
+mod command;
+pub mod laws;
+mod parser;
+mod values;
+mod words;
+
+pub use command::Command;
+pub use words::{Words, WordsFault, read_words};
+
+#[cfg(test)]
+mod tests;

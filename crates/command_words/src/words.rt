@@ -1,0 +1,113 @@
+//! What a command line says.
+ghost use Rattle.std.specs.Prelude.{◌≡◌, ◌↔◌, Err, IfNone, IfOk, IfSome, IsTrue, option_map};
+ghost use Rattle.clap.specs.Words.{first_value, found_of};
+ghost use Rattle.command_words.specs.Commands.{IsFileName};
+ghost use Rattle.command_words.specs.Line.{texts};
+ghost use Rattle.command_words.specs.Words.{IsSaid, IsWords, Said, said_by};
+ghost use Rattle.command_words.specs.declared.words.WordsFault.TheVariants.{Usage};
+
+use crate::command::Command;
+use crate::parser::matches_of;
+use crate::values::{is_file_name, setting_of};
+use clap::ArgMatches;
+use coflow_units::MAX_OPTION_SLOTS;
+use std::alloc::Global;
+
+/// What a command line says: the command, the names behind it, and the value of each option or its default.
+#[derive(Clone, Copy, Debug, PartialEq, Eq)]
+pub struct Words<'a> {
+    pub command: Command,
+    /// The name of a file, or the seed of `make`: one or more decimal digits, whose number is below 2^64.
+    pub first: &'a str,
+    /// The name of a second file, which `check` alone has.
+    pub second: Option<&'a str>,
+    /// The name of a file of weights.
+    pub weights: Option<&'a str>,
+    /// The megabytes of a unit, from 1 to 2^20.
+    pub unit: u64,
+    /// From 1 to 64.
+    pub agents: u64,
+    /// The slots of an epoch, from 1 to 2^40.
+    pub epoch: u64,
+    /// The slots of a run, from 1 to 2^40.
+    pub run: u64,
+    /// The milliseconds of a slot, from 1 to 2^20.
+    pub slot_ms: u64,
+}
+
+/// Why there are no words.
+#[derive(Clone, Copy, Debug, PartialEq, Eq)]
+pub enum WordsFault {
+    /// The words are no command line.
+    Usage,
+    /// No memory was to be had.
+    NoMemory,
+}
+
+/// Reads the words of a command line, the first of which is the program's name.
+///
+/// The others are `COMMAND FIRST` or `COMMAND FIRST SECOND`, as the command wants it, and options before, between or behind them: `--weights FILE`, `--unit MEGABYTES`,
+/// `--agents NUMBER`, `--epoch SLOTS`, `--run SLOTS` and `--slot-ms MILLISECONDS`, each at most once. An option's value is the next word, which may then not begin with a dash,
+/// or stands behind an equals sign. A word `--` ends the options. A name of a file is not empty and is not `-`, and a number is one or more decimal digits.
+/// An option that the command does not use is read and tested all the same.
+///
+/// `Usage` comes exactly where the words are not such, and `NoMemory` where no memory was to be had.
+pub fn read_words<'a>(alloc: Global, words: &'a [String]) -> Result<Words<'a>, WordsFault>
+    ensures said { IfOk result (λ w. IsWords (texts words.entry.now) (said_by w)) }
+    ensures usage { result ≡ Err Usage → (said : Said) → IsWords (texts words.entry.now) said → ⊥ }
+{
+    let matches = match matches_of(alloc, words) {
+        Ok(matches) => matches,
+        Err(fault) => return Err(fault),
+    };
+    match words_of(&matches) {
+        Some(words) => Ok(words),
+        None => Err(WordsFault::Usage),
+    }
+}
+
+/// What the arguments say by their values, or `None` where a value does not fit.
+fn words_of<'a>(matches: &ArgMatches<'a>) -> Option<Words<'a>>
+    ensures some { IfSome result (λ w. IsSaid (first_value (found_of matches.now)) (said_by w)) }
+    ensures none { IfNone result ((said : Said) → IsSaid (first_value (found_of matches.now)) said → ⊥) }
+{
+    let command = Command::named(matches.get_str("COMMAND")?)?;
+    let first = matches.get_str("FIRST")?;
+    if !command.takes_first(first) {
+        return None;
+    }
+    let second = matches.get_str("SECOND");
+    if !command.takes_second(second) {
+        return None;
+    }
+    let weights = matches.get_str("weights");
+    if !is_optional_name(weights) {
+        return None;
+    }
+    let unit = setting_of(matches.get_str("unit"), 1 << 20, 1)?;
+    let agents = setting_of(matches.get_str("agents"), 64, 4)?;
+    let epoch = setting_of(matches.get_str("epoch"), MAX_OPTION_SLOTS, 1024)?;
+    let run = setting_of(matches.get_str("run"), MAX_OPTION_SLOTS, 1)?;
+    let slot_ms = setting_of(matches.get_str("slot-ms"), 1 << 20, 8)?;
+    Some(Words {
+        command,
+        first,
+        second,
+        weights,
+        unit,
+        agents,
+        epoch,
+        run,
+        slot_ms,
+    })
+}
+
+/// There is no name, or it is the name of a file.
+fn is_optional_name(name: Option<&str>) -> bool
+    ensures { IsTrue result ↔ IfSome (option_map (λ s. s.now) name.entry) IsFileName }
+{
+    match name {
+        Some(name) => is_file_name(name),
+        None => true,
+    }
+}
