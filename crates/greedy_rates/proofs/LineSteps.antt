@@ -1,18 +1,18 @@
 -- One coflow of the line after another, and the grants once all were looked at.
-use Rattle.std.proofs.Common.{◌≡◌, ◌≢◌, ℕ, ◌+◌, ◌≤◌, ◌<◌, ◌⊎◌, inl, inr, Bool, List, Option, Some, None, length, get_or, Contains, refl, sym, ap, subst, ◌∙◌, arith}
-use Rattle.std.specs.Prelude.{◌↔◌, All}
+use Rattle.std.proofs.Common.{◌≡◌, ℕ, ◌+◌, ◌≤◌, ◌<◌, inl, inr, Bool, List, Option, Some, None, length, get_or, Contains, sym, ap, ◌∙◌, arith}
+use Rattle.std.specs.Prelude.{All}
 use Rattle.std.specs.List.Sorted.{IsStrictlyIncreasing}
 use Rattle.std.proofs.lemmas.Bool.{cases_eq, cases_lt}
 use Rattle.std.proofs.lemmas.List.{get_or_default, get_or_past}
 use Rattle.std.proofs.lemmas.List.Elements.{Contains-get_or}
 use Rattle.coflow_units.specs.declared.fabric.Flow.{Flow}
-use Rattle.coflow_units.specs.Flows.{coflow_of, ingress_of, egress_of, IsDistinct, SharesPort}
+use Rattle.coflow_units.specs.Flows.{coflow_of, ingress_of, IsDistinct, SharesPort}
 use Rattle.coflow_units.specs.Grants.{place_in, ComesBefore, IsGrants}
 use Rattle.coflow_units.proofs.LinePlaces.{place_of_member, at_place}
 use Rattle.coflow_units.proofs.Sums.{all_of_members}
 use Rattle.greedy_rates.specs.Starts.{IsStarts}
 use Rattle.greedy_rates.specs.Room.{flow_at_ingress, TellsIngresses}
-use Rattle.greedy_rates.specs.Pass.{IsLookedAt, Stands, IsGranting, IsListing, IsNext}
+use Rattle.greedy_rates.specs.Pass.{Stands, IsGranting, IsListing, IsNext}
 use Rattle.greedy_rates.proofs.PassSteps.{front_moves, not_none, same_some}
 
 -- ---- one coflow after another
@@ -122,3 +122,6 @@ flows_are flows line left k n at busy listed all list = all_of_members (λ f. f 
 
 pub one_ingress : (flows : List Flow) (line : List ℕ) (left : ℕ → ℕ) (k n : ℕ) (at : List (Option ℕ)) (busy : List Bool) → IsGranting flows line left k n at busy → (p q f : ℕ) → flow_at_ingress at p ≡ Some f → flow_at_ingress at q ≡ Some f → p ≡ q
 one_ingress flows line left k n at busy all p q f a b = sym (all.own p f a) ∙ all.own q f b
+
+pub stands_within : (flows : List Flow) (line : List ℕ) (left : ℕ → ℕ) (k n : ℕ) (at : List (Option ℕ)) (busy : List Bool) (p f : ℕ) → IsGranting flows line left k n at busy → flow_at_ingress at p ≡ Some f → f < length flows
+stands_within flows line left k n at busy p f all e = all.flow f (ap (flow_at_ingress at) (all.own p f e) ∙ e)

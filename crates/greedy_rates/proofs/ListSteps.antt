@@ -1,5 +1,5 @@
 -- The flows at the ingress ports, one after another.
-use Rattle.std.proofs.Common.{◌≡◌, ◌≢◌, ℕ, ◌+◌, ◌≤◌, ◌<◌, inl, inr, List, [], ◌∷◌, ◌++◌, Option, Some, None, length, get_or, set, take, drop, min, true, false, true≢false, Contains, refl, sym, ap, subst, ◌∙◌, arith}
+use Rattle.std.proofs.Common.{◌≡◌, ◌≢◌, ℕ, ◌+◌, ◌≤◌, ◌<◌, inl, inr, List, [], ◌∷◌, ◌++◌, Option, Some, None, length, get_or, set, take, drop, min, false, true≢false, Contains, sym, ap, subst, ◌∙◌, arith}
 use Rattle.std.specs.Prelude.{Any, All, ◌==◌}
 use Rattle.std.proofs.lemmas.Grind.{common_steps}
 use Rattle.std.proofs.lemmas.Bool.{cases_eq, cases_lt, ne_eqb, eq-eqb}
@@ -13,7 +13,6 @@ use Rattle.std.proofs.lemmas.Bool.Decides.{Decides-eqb}
 use Rattle.std.proofs.lemmas.List.Sorted.{Contains-permutation, IsPermutation-sym, IsNonDecreasingBy-from_sort}
 use Rattle.std.proofs.lemmas.Map.Keys.{IsDistinct-IsPermutation, IsStrictlyIncreasing-from_distinct}
 use Rattle.std.proofs.lemmas.Map.Made.{IsDistinct-from_AllPairs}
-use Rattle.coflow_units.specs.Flows.{IsDistinct}
 use Rattle.coflow_units.proofs.Sums.{nothing_in, pairs_from_apart, rising_apart}
 use Rattle.greedy_rates.specs.Room.{flow_at_ingress}
 use Rattle.greedy_rates.specs.Pass.{IsListing}

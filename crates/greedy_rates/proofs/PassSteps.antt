@@ -1,5 +1,5 @@
 -- The pass over the flows of a line, one flow after another.
-use Rattle.std.proofs.Common.{◌≡◌, ◌≢◌, ℕ, ◌+◌, ◌≤◌, ◌<◌, ◌⊎◌, inl, inr, Bool, true, false, true≢false, List, Option, Some, None, length, get_or, set, refl, sym, ap, subst, ◌∙◌, arith}
+use Rattle.std.proofs.Common.{◌≡◌, ℕ, ◌+◌, ◌<◌, ◌⊎◌, inl, inr, Bool, true, false, true≢false, List, Option, Some, None, length, get_or, set, refl, sym, ap, subst, ◌∙◌, arith}
 use Rattle.std.specs.Option.{is_some}
 use Rattle.std.specs.Prelude.{unwrap_or}
 use Rattle.std.proofs.lemmas.Bool.{cases_eq, cases_lt}
@@ -9,7 +9,7 @@ use Rattle.coflow_units.specs.declared.fabric.Flow.{Flow}
 use Rattle.coflow_units.specs.Flows.{coflow_of, ingress_of, egress_of, SharesPort}
 use Rattle.coflow_units.specs.Grants.{place_in, ComesBefore}
 use Rattle.greedy_rates.specs.Room.{flow_at_ingress}
-use Rattle.greedy_rates.specs.Pass.{IsLookedAt, Stands, IsCrossed, IsGranting}
+use Rattle.greedy_rates.specs.Pass.{IsLookedAt, Stands, IsGranting}
 
 pub not_none : (o : Option ℕ) (x : ℕ) → o ≡ None → o ≡ Some x → ⊥
 not_none o x a b = true≢false (ap is_some (sym b ∙ a))

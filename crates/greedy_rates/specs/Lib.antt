@@ -1,3 +1,5 @@
 pub mod Starts
 pub mod Room
 pub mod Pass
+pub mod Owed
+pub mod OpenPorts

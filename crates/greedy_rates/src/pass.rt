@@ -1,5 +1,6 @@
 //! One pass over the flows of a line, and what is told of the flows that it granted.
-ghost use Rattle.std.specs.Prelude.{◌≡◌, ℕ, ◌<◌, ◌≤◌, ◌+◌, ◌^◌, List, Some, All, length, slice_index, take};
+ghost use Rattle.std.specs.Prelude.{◌≡◌, ℕ, ◌<◌, ◌≤◌, ◌+◌, ◌^◌, false, List, None, Some, All, length, slice_index, take};
+ghost use Rattle.std.specs.List.{slice_index_or};
 ghost use Rattle.std.specs.List.Sorted.{IsStrictlyIncreasing};
 ghost use Rattle.coflow_units.specs.declared.fabric.Flow.{Flow};
 ghost use Rattle.coflow_units.specs.Flows.{IsDistinct};
@@ -8,6 +9,13 @@ ghost use Rattle.greedy_rates.specs.Room.{IsLeastLeft, flow_at_ingress};
 ghost use Rattle.greedy_rates.specs.Starts.{IsStarts};
 
 use coflow_units::Flow;
+
+/// How many flows were granted, and the least units left among them. Both are 0 where nothing is granted.
+#[derive(Clone, Copy, Debug, PartialEq, Eq)]
+pub struct Granted {
+    pub count: u32,
+    pub length: u64,
+}
 
 /// Grants anew: afterwards `at` has for each ingress the granted flow, and `busy` marks the egress ports of granted flows.
 pub fn grant_line(
@@ -28,13 +36,23 @@ pub fn grant_line(
     ensures at_len { length at.new ≡ length at.old }
     ensures busy_len { length busy.new ≡ length busy.old }
 {
-    at.fill(None);
-    busy.fill(false);
+    clear(at, busy);
     for coflow in line {
         let first = starts[*coflow as usize];
         let end = starts[*coflow as usize + 1];
         grant_coflow(at, busy, flows, first, end, left);
     }
+}
+
+/// No flow stands, and no egress is busy.
+pub fn clear(at: &mut [Option<u32>], busy: &mut [bool])
+    ensures none { (p : ℕ) → flow_at_ingress at.new p ≡ None }
+    ensures free { (p : ℕ) → slice_index_or busy.new p false ≡ false }
+    ensures at_len { length at.new ≡ length at.old }
+    ensures busy_len { length busy.new ≡ length busy.old }
+{
+    at.fill(None);
+    busy.fill(false);
 }
 
 /// Grants each flow from `first` on and below `end` that has units left and finds both of its ports free.
@@ -71,8 +89,25 @@ fn grant_coflow(
     }
 }
 
+/// Writes the flows that stand at an ingress to the front of `listed`, ascending, and tells how many they are and the least units left among them.
+pub fn tell_granted(at: &[Option<u32>], listed: &mut [u32], left: &[u64]) -> Granted
+    requires room { length listed.old ≡ length at.now }
+    requires ports { length at.now < 2 ^ 32 }
+    requires once { (p q f : ℕ) → flow_at_ingress at.now p ≡ Some f → flow_at_ingress at.now q ≡ Some f → p ≡ q }
+    requires flows { (p f : ℕ) → flow_at_ingress at.now p ≡ Some f → f < length left.now }
+    ensures listing { IsListing at.now (length at.now) (take result.count listed.new) }
+    ensures ascending { IsStrictlyIncreasing (take result.count listed.new) }
+    ensures within { result.count ≤ length listed.old }
+    ensures len { length listed.new ≡ length listed.old }
+    ensures least { IsLeastLeft (λ f. slice_index left.now f) (take result.count listed.new) result.length }
+{
+    let count = list_granted(at, listed);
+    let length = least_left(left, &listed[..count as usize]);
+    Granted { count, length }
+}
+
 /// Writes the flows that stand at an ingress to the front of `listed`, ascending, and tells how many they are.
-pub fn list_granted(at: &[Option<u32>], listed: &mut [u32]) -> u32
+fn list_granted(at: &[Option<u32>], listed: &mut [u32]) -> u32
     requires room { length listed.old ≡ length at.now }
     requires ports { length at.now < 2 ^ 32 }
     requires once { (p q f : ℕ) → flow_at_ingress at.now p ≡ Some f → flow_at_ingress at.now q ≡ Some f → p ≡ q }
@@ -107,7 +142,7 @@ fn collect_granted(at: &[Option<u32>], listed: &mut [u32]) -> u32
 }
 
 /// The least units left among the granted flows, and 0 where nothing is granted.
-pub fn least_left(left: &[u64], granted: &[u32]) -> u64
+fn least_left(left: &[u64], granted: &[u32]) -> u64
     requires { All (λ f. f < length left.now) granted.now }
     ensures { IsLeastLeft (λ f. slice_index left.now f) granted.now result }
 {

@@ -3,10 +3,13 @@ ghost use Rattle.std.specs.Prelude.{◌≡◌, ℕ, ◌<◌, ◌≤◌, ◌+◌,
 ghost use Rattle.coflow_units.specs.declared.fabric.Flow.{Flow};
 ghost use Rattle.coflow_units.specs.Flows.{IsDistinct};
 ghost use Rattle.coflow_units.specs.Grants.{IsGrants};
+ghost use Rattle.greedy_rates.specs.Owed.{IsOwed};
 ghost use Rattle.greedy_rates.specs.Room.{IsLeastLeft, TellsIngresses, flow_at_ingress};
 ghost use Rattle.greedy_rates.specs.Starts.{IsStarts};
 
-use crate::pass;
+use crate::owed_pass;
+use crate::owing::Owing;
+use crate::pass::{self, Granted};
 use coflow_units::{Flow, NoMemory};
 use std::alloc::Global;
 use std::marker::Model;
@@ -72,13 +75,6 @@ impl Scratch {
     }
 }
 
-/// How many flows were granted, and the least units left among them. Both are 0 where nothing is granted.
-#[derive(Clone, Copy, Debug, PartialEq, Eq)]
-pub struct Granted {
-    pub count: u32,
-    pub length: u64,
-}
-
 /// Grants the flows of a slot: coflow by coflow in the order of `line`, and within a coflow by number, each flow that has units left and finds both of its ports free.
 /// This is the greedy allocation of Sincronia (Agarwal, Rajakrishnan, Narayan, Agarwal, Shmoys and Vahdat, "Sincronia: near-optimal network design
 /// for coflows", SIGCOMM 2018). The granted flows may be served so until the first of them has no units left.
@@ -112,8 +108,42 @@ pub fn grants(
         line,
         left,
     );
-    let count = pass::list_granted(&scratch.ingress, &mut scratch.listed);
-    let length = pass::least_left(left, &scratch.listed[..count as usize]);
-    scratch.count = count;
-    Granted { count, length }
+    let granted = pass::tell_granted(&scratch.ingress, &mut scratch.listed, left);
+    scratch.count = granted.count;
+    granted
+}
+
+/// The same as `grants` for the units left that `owing` has, with the sums that it keeps: coflows and groups of flows that owe nothing are passed over, a
+/// group whose ingress is taken too, and the pass ends where no free ingress, or no free egress, owes.
+pub fn grants_owed(
+    scratch: &mut Scratch,
+    flows: &[Flow],
+    starts: &[u32],
+    line: &[u32],
+    owing: &Owing,
+) -> Granted
+    requires starts { IsStarts flows.now starts.now }
+    requires distinct { IsDistinct line.now }
+    requires coflows { All (λ c. c + 1 < length starts.now) line.now }
+    requires owed { IsOwed flows.now owing.now }
+    requires sums { length starts.now ≡ length owing.now.of_coflow + 1 }
+    requires ingress_in_range { All (λ (x : Flow). x.ingress < scratch.old.ports) flows.now }
+    requires egress_in_range { All (λ (x : Flow). x.egress < scratch.old.ports) flows.now }
+    ensures grants { IsGrants flows.now line.now (λ f. slice_index owing.now.left f) scratch.new.flows }
+    ensures at { TellsIngresses flows.now scratch.new.flows scratch.new.at }
+    ensures count { result.count ≡ length scratch.new.flows }
+    ensures length { IsLeastLeft (λ f. slice_index owing.now.left f) scratch.new.flows result.length }
+    ensures ports { scratch.new.ports ≡ scratch.old.ports }
+{
+    owed_pass::grant_owing_line(
+        &mut scratch.ingress,
+        &mut scratch.busy,
+        flows,
+        starts,
+        line,
+        owing,
+    );
+    let granted = pass::tell_granted(&scratch.ingress, &mut scratch.listed, owing.left());
+    scratch.count = granted.count;
+    granted
 }

@@ -1,8 +1,9 @@
 //! What no clause says: that the definitions give the grants that were worked out by hand, that a pass agrees with a plain program of the rule, and that the limits can be met.
-ghost use Rattle.std.specs.Prelude.{◌≡◌, ℕ, ◌<◌, ◌≤◌, ◌+◌, All, IsTrue, length, slice_index};
+ghost use Rattle.std.specs.Prelude.{◌≡◌, ℕ, ◌<◌, ◌≤◌, ◌+◌, ◌^◌, All, IsTrue, length, slice_index, sum_by};
 ghost use Rattle.std.specs.List.Sorted.{IsNonDecreasing};
 ghost use Rattle.coflow_units.specs.declared.fabric.Flow.{Flow};
 ghost use Rattle.coflow_units.specs.Flows.{IsDistinct, coflow_of};
+ghost use Rattle.greedy_rates.specs.Owed.{IsOwed};
 ghost use Rattle.greedy_rates.specs.Starts.{IsStarts};
 
 use crate::*;
@@ -11,11 +12,15 @@ use std::alloc::Global;
 use std::process::Abort;
 
 fn flow(coflow: u32, ingress: u32, egress: u32) -> Flow {
+    flow_of(coflow, ingress, egress, 9)
+}
+
+fn flow_of(coflow: u32, ingress: u32, egress: u32, units: u64) -> Flow {
     Flow {
         coflow,
         ingress,
         egress,
-        units: 9,
+        units,
     }
 }
 
@@ -135,6 +140,75 @@ fn grant(
     let fit = left.len() == flows.len();
     assert!(rt; fit);
     grants(scratch, flows, starts, line, left)
+}
+
+/// Tests that the units of all flows are at most 2^62.
+fn units_fit(flows: &[Flow]) -> bool
+    ensures { IsTrue result → sum_by (λ (x : Flow). x.units) flows.now ≤ 2 ^ 62 }
+{
+    let mut room: u64 = 1 << 62;
+    for flow in flows {
+        if flow.units > room {
+            return false;
+        }
+        room -= flow.units;
+    }
+    true
+}
+
+/// Tests that the coflows of the flows are in range.
+fn coflows_fit(flows: &[Flow], coflows: u32) -> bool
+    ensures { IsTrue result → All (λ (x : Flow). x.coflow < coflows) flows.now }
+{
+    flows.iter().all(|flow| flow.coflow < coflows)
+}
+
+/// What the flows owe, where each owes all its units, over a table of which all conditions are tested first.
+fn owing_of(rt: &impl Abort, alloc: Global, flows: &[Flow], coflows: u32, ports: u32) -> Owing
+    requires { length flows.now < 2 ^ 32 }
+    ensures owed { IsOwed flows.now result }
+    ensures coflows_are { length result.of_coflow ≡ coflows }
+{
+    let fit = coflows_fit(flows, coflows);
+    assert!(rt; fit);
+    let fit = ingresses_fit(flows, ports);
+    assert!(rt; fit);
+    let fit = egresses_fit(flows, ports);
+    assert!(rt; fit);
+    let fit = units_fit(flows);
+    assert!(rt; fit);
+    match Owing::of(alloc, flows, coflows, ports) {
+        Ok(owing) => owing,
+        Err(_) => panic!(rt; "no memory"),
+    }
+}
+
+/// Grants by the sums of what is owed, over a table of which all conditions are tested first.
+fn grant_owed(
+    rt: &impl Abort,
+    scratch: &mut Scratch,
+    ports: u32,
+    flows: &[Flow],
+    starts: &[u32],
+    line: &[u32],
+    owing: &Owing,
+) -> Granted
+    requires ports { scratch.old.ports ≡ ports }
+    requires owed { IsOwed flows.now owing.now }
+    requires sums { length starts.now ≡ length owing.now.of_coflow + 1 }
+    ensures ports { scratch.new.ports ≡ ports }
+{
+    let fit = starts_fit(flows, starts);
+    assert!(rt; fit);
+    let fit = is_distinct(line);
+    assert!(rt; fit);
+    let fit = have_starts(line, starts);
+    assert!(rt; fit);
+    let fit = ingresses_fit(flows, ports);
+    assert!(rt; fit);
+    let fit = egresses_fit(flows, ports);
+    assert!(rt; fit);
+    grants_owed(scratch, flows, starts, line, owing)
 }
 
 /// Compares the flows, in ascending order, the count and the length.
@@ -261,23 +335,48 @@ fn agrees(rt: &impl Abort, scratch: &Scratch, marks: &[bool; 4]) {
     }
 }
 
+/// What is taken from a flow makes room for a later one, and a flow of which a part is taken stands for the rest.
+#[test]
+fn what_was_taken_is_not_owed(rt: HostRuntime) {
+    let mut scratch = room(&rt, rt.alloc(), 2);
+    let flows = [flow(0, 0, 0), flow(0, 0, 1), flow(1, 0, 0), flow(1, 1, 1)];
+    let starts = [0, 2, 4];
+    let mut owing = owing_of(&rt, rt.alloc(), &flows, 2, 2);
+    let granted = grant_owed(&rt, &mut scratch, 2, &flows, &starts, &[0, 1], &owing);
+    compare(&rt, &scratch, granted, &[0, 3], 9);
+    let enough = owing.left()[0] >= 9;
+    assert!(rt; enough);
+    owing.take(&flows, 0, 9);
+    let enough = owing.left()[3] >= 2;
+    assert!(rt; enough);
+    owing.take(&flows, 3, 2);
+    assert_eq!(rt; owing.left(), [0, 9, 9, 7].as_slice());
+    let granted = grant_owed(&rt, &mut scratch, 2, &flows, &starts, &[0, 1], &owing);
+    compare(&rt, &scratch, granted, &[1], 9);
+    let granted = grant_owed(&rt, &mut scratch, 2, &flows, &starts, &[1, 0], &owing);
+    compare(&rt, &scratch, granted, &[2, 3], 7);
+}
+
 /// All tables of two coflows with two flows each on a fabric of two ports on each side, with each set of flows that owe, in both orders.
 #[test]
 fn agrees_with_the_plain_rule(rt: HostRuntime) {
     let mut scratch = room(&rt, rt.alloc(), 2);
     let mut marks = [false; 4];
     for ends in 0u32..256 {
-        let flows = [
-            flow(0, ends % 2, ends / 2 % 2),
-            flow(0, ends / 4 % 2, ends / 8 % 2),
-            flow(1, ends / 16 % 2, ends / 32 % 2),
-            flow(1, ends / 64 % 2, ends / 128 % 2),
-        ];
         for owing in 0u64..16 {
             let left = [owing % 2, owing / 2 % 2, owing / 4 % 2, owing / 8 % 2];
+            let flows = [
+                flow_of(0, ends % 2, ends / 2 % 2, left[0]),
+                flow_of(0, ends / 4 % 2, ends / 8 % 2, left[1]),
+                flow_of(1, ends / 16 % 2, ends / 32 % 2, left[2]),
+                flow_of(1, ends / 64 % 2, ends / 128 % 2, left[3]),
+            ];
+            let owing = owing_of(&rt, rt.alloc(), &flows, 2, 2);
             for line in [[0, 1], [1, 0]] {
-                grant(&rt, &mut scratch, 2, &flows, &[0, 2, 4], &line, &left);
                 mark_plainly(&mut marks, &flows, &line, &left);
+                grant(&rt, &mut scratch, 2, &flows, &[0, 2, 4], &line, &left);
+                agrees(&rt, &scratch, &marks);
+                grant_owed(&rt, &mut scratch, 2, &flows, &[0, 2, 4], &line, &owing);
                 agrees(&rt, &scratch, &marks);
             }
         }

@@ -1,5 +1,5 @@
 -- The flow at the next ingress is listed, where there is one.
-use Rattle.std.proofs.Common.{ℕ, take, arith, length-set, ◌∙◌}
+use Rattle.std.proofs.Common.{take, arith, length-set, ◌∙◌}
 use Rattle.greedy_rates.proofs.ListSteps.{list_skips, list_takes}
 use Rattle.greedy_rates.proofs.pass.collect_granted.Goals as goal
 

@@ -1,5 +1,5 @@
 -- Each flow is passed over or granted.
-use Rattle.std.proofs.Common.{ℕ, get_or, length, length-set, Some, true, arith, ◌<◌, ◌∙◌, sym}
+use Rattle.std.proofs.Common.{get_or, length, length-set, Some, true, arith, ◌<◌, ◌∙◌, sym}
 use Rattle.coflow_units.specs.Flows.{ingress_of, egress_of}
 use Rattle.greedy_rates.specs.Room.{flow_at_ingress}
 use Rattle.greedy_rates.proofs.PassSteps.{not_some, skip_sent, skip_received, grant_flow}

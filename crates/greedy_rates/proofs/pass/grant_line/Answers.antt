@@ -1,5 +1,5 @@
 -- One coflow after another.
-use Rattle.std.proofs.Common.{ℕ, get_or, arith, ◌∙◌}
+use Rattle.std.proofs.Common.{◌∙◌}
 use Rattle.greedy_rates.proofs.LineSteps.{next_coflow}
 use Rattle.greedy_rates.proofs.pass.grant_line.Goals as goal
 

@@ -1,5 +1,5 @@
 -- the flows of the coflows so far were looked at
-use Rattle.std.proofs.Common.{◌≡◌, ℕ, List, length, get_or}
+use Rattle.std.proofs.Common.{◌≡◌, length, get_or}
 use Rattle.greedy_rates.specs.Pass.{IsGranting}
 use Rattle.greedy_rates.proofs.pass.grant_line.Given as goal
 

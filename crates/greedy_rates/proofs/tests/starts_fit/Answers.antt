@@ -1,4 +1,3 @@
-use Rattle.std.proofs.Common.{ℕ}
 use Rattle.greedy_rates.proofs.TestSteps.{starts_are}
 use Rattle.greedy_rates.proofs.tests.starts_fit.Goals as goal
 
