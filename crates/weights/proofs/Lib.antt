@@ -2,3 +2,4 @@ pub mod Parts
 pub mod LineParts
 pub mod LineLists
 pub mod Known
+pub mod Range
