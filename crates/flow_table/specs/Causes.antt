@@ -1,0 +1,22 @@
+-- Why a trace has no table.
+use Rattle.std.specs.Prelude.{◌≡◌, ℕ, ◌-◌, ◌<◌, ◌≤◌, ◌⊎◌, ◌^◌, min}
+use Rattle.coflow_units.specs.declared.quantity.Quantity.TheVariants.{Units, Flows}
+use Rattle.coflow_units.specs.declared.trace.Trace.{Trace}
+use Rattle.flow_table.specs.declared.fault.TableFault.{TableFault}
+use Rattle.flow_table.specs.declared.fault.TableFault.TheVariants.{Limit, NoMemory}
+use Rattle.flow_table.specs.Units.{units_in_all}
+use Rattle.flow_table.specs.FlowsOf.{IsTooMany}
+use Rattle.flow_table.specs.Sent.{sent}
+
+-- there are more than 2^40 units; their count is told as 2^64 - 1 where it is greater
+abbrev pub HasTooManyUnits : Trace → ℕ → ℕ → Type 0
+HasTooManyUnits t unit count = (2 ^ 40 < units_in_all t unit) × (count ≡ min (units_in_all t unit) (2 ^ 64 - 1))
+
+-- there are no more than 2^40 units, and more than 2^20 flows; their count is told as one more than 2^20
+abbrev pub HasTooManyFlows : Trace → ℕ → ℕ → Type 0
+HasTooManyFlows t unit count = (units_in_all t unit ≤ 2 ^ 40) × (count ≡ 1048577) × IsTooMany (sent t unit)
+
+-- each fault has its cause in the trace and the unit; want of memory is free
+abbrev pub HasCause : Trace → ℕ → TableFault → Type 0
+HasCause t unit (Limit which count) = ((which ≡ Units) × HasTooManyUnits t unit count) ⊎ ((which ≡ Flows) × HasTooManyFlows t unit count)
+HasCause t unit NoMemory = Unit {0}

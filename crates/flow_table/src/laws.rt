@@ -1,0 +1,29 @@
+//! Laws of the flows of a trace.
+ghost use Rattle.std.specs.Prelude.{◌≡◌, ℕ, ◌≤◌, All, List, length, sum_by};
+ghost use Rattle.coflow_units.specs.declared.fabric.Flow.{Flow};
+ghost use Rattle.coflow_units.specs.declared.trace.Trace.{Trace};
+ghost use Rattle.coflow_units.specs.Flows.{IsWhole};
+ghost use Rattle.coflow_units.specs.Trace.{IsTrace};
+ghost use Rattle.flow_table.specs.FlowsOf.{IsFlowsOf};
+ghost use Rattle.flow_table.specs.Table.{IsTable, TableFacts, instance_of};
+ghost use Rattle.flow_table.specs.Units.{units_in_all};
+
+/// At most one list is the flows of a trace.
+pub fn flows_are_one()
+    ensures { (t : Trace) (unit : ℕ) (a b : List Flow) → IsFlowsOf t unit a → IsFlowsOf t unit b → a ≡ b }
+{}
+
+/// Some list is the flows of a trace, however long it is.
+pub fn flows_exist()
+    ensures { (t : Trace) (unit : ℕ) → IsTrace t → (flows : List Flow) × IsFlowsOf t unit flows }
+{}
+
+/// The flows of a trace have the units of its reducers, no more and no fewer.
+pub fn units_are_kept()
+    ensures { (t : Trace) (unit : ℕ) (flows : List Flow) → IsTrace t → IsFlowsOf t unit flows → sum_by (λ (x : Flow). x.units) flows ≡ units_in_all t unit }
+{}
+
+/// The instance of a table with a weight of at least 1 for each coflow is one as a trace gives it.
+pub fn instance_is_whole()
+    ensures { (t : TableFacts) (weights : List ℕ) → IsTable t → length weights ≡ length t.ids → All (λ w. 1 ≤ w) weights → IsWhole (instance_of t weights) }
+{}
