@@ -2,7 +2,7 @@
 #![tactic(auto)]
 
 use outside::{DiskShelf, StdSink};
-use sincronia_cli::{Status, message_of, sincronia};
+use sincronia_cli::{Status, sincronia};
 use std::env;
 use std::io::ErrorKind;
 use std::process::ExitCode;
@@ -11,7 +11,7 @@ fn main(rt: HostRuntime) -> ExitCode {
     let status = run(&rt);
     if status.code() > 1 {
         // A line that cannot be written changes nothing.
-        let _ = eprintln!(rt; "{}", message_of(status));
+        let _ = eprintln!(rt; "sincronia: {status}");
     }
     ExitCode::from(status.code())
 }

@@ -1,13 +1,12 @@
 -- A certificate without prices is feasible and takes greatest ports, so the laws hold of it.
-use Rattle.std.proofs.Common.{◌≡◌, ℕ, ◌+◌, ◌*◌, ◌≤◌, ◌<◌, ◌⊎◌, inl, inr, Bool, true, false, cond, List, [], ◌∷◌, Contains, refl, ap, arith, zero, suc}
-use Rattle.std.specs.Prelude.{nat_lt, ◌==◌, ◌||◌}
+use Rattle.std.proofs.Common.{◌≡◌, ℕ, ◌+◌, ◌*◌, ◌≤◌, ◌<◌, inl, inr, Bool, true, false, cond, [], ◌∷◌, Contains, refl, arith, zero, suc}
+use Rattle.std.specs.Prelude.{◌==◌}
 use Rattle.std.specs.List.{list_any}
 use Rattle.std.proofs.lemmas.Bool.{ltb-true}
 use Rattle.std.proofs.lemmas.List.Elements.{All-from_recursion}
-use Rattle.coflow_units.specs.declared.fabric.Port.{Port}
 use Rattle.coflow_units.specs.declared.fabric.Side.{Side}
 use Rattle.coflow_units.specs.declared.fabric.Side.TheVariants.{Ingress, Egress}
-use Rattle.coflow_units.specs.Certificate.{Entry, IsCertificate, IsFeasible, TakesGreatestPorts, bound, budget, front, slack, used}
+use Rattle.coflow_units.specs.Certificate.{Entry, IsCertificate, IsFeasible, TakesGreatestPorts, bound, slack}
 use Rattle.coflow_units.specs.Completion.{cost, end_of}
 use Rattle.coflow_units.specs.Load.{load, load_of_all}
 use Rattle.coflow_units.specs.Flows.{units_of}

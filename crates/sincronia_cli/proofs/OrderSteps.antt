@@ -1,16 +1,13 @@
 -- The instance of all coflows, as the order's program sees it.
-use Rattle.std.proofs.Common.{◌≡◌, ℕ, ◌+◌, ◌<◌, ◌≤◌, Bool, true, false, List, [], ◌∷◌, length, get_or, Contains, refl, sym, ap, subst, ◌∙◌, arith, zero, suc}
-use Rattle.std.specs.Prelude.{filter, replicate, slice_index}
-use Rattle.std.specs.List.{range_with_len, slice_index_or}
+use Rattle.std.proofs.Common.{◌≡◌, ℕ, Bool, true, false, List, [], ◌∷◌, length, get_or, Contains, refl, sym, ap, ◌∙◌, arith}
+use Rattle.std.specs.Prelude.{filter, replicate}
+use Rattle.std.specs.List.{range_with_len}
 use Rattle.std.proofs.lemmas.List.{get_or-replicate, length-replicate}
-use Rattle.coflow_units.specs.declared.fabric.Flow.{Flow}
-use Rattle.coflow_units.specs.declared.fabric.Port.{Port}
-use Rattle.coflow_units.specs.Load.{load}
 use Rattle.coflow_units.proofs.Lists.{number_below}
 use Rattle.coflow_units.proofs.Sums.{in_first, in_tail}
-use Rattle.port_load.specs.LoadTable.{HasLoads, LoadTable, is_present, load_at}
+use Rattle.port_load.specs.LoadTable.{HasLoads, LoadTable, is_present}
 use Rattle.bssi_order.specs.Order.{IsOf, present_coflows}
-use Rattle.sincronia_cli.specs.Instance.{instance_of}
+use Rattle.flow_table.specs.Table.{TableFacts, instance_of}
 
 -- a test that holds of all elements keeps them all
 keeps_all : (p : ℕ → Bool) (xs : List ℕ) → ((x : ℕ) → Contains xs x → p x ≡ true) → filter p xs ≡ xs
@@ -24,11 +21,11 @@ all_present n present e =
     ap (λ k. filter (is_present present) (range_with_len 0 k)) count
     ∙ keeps_all (is_present present) (range_with_len 0 n) (λ c has. ap (λ xs. get_or xs c false) e ∙ get_or-replicate n c true false (omega (arith, number_below 0 n c has)))
 
-pub all_coflows : (flows : List Flow) (weights : List ℕ) (ports : ℕ) (t : LoadTable) (present lent : List Bool) → lent ≡ present → present ≡ replicate (length weights) true → t.coflows ≡ length weights → t.ports ≡ ports → HasLoads flows t →
-    IsOf (instance_of flows weights ports) t weights lent
-all_coflows flows weights ports t present lent l e n p loads = record {
-  coflows = sym (all_present (length weights) lent (l ∙ e));
+pub all_coflows : (table : TableFacts) (weights : List ℕ) (t : LoadTable) (present lent : List Bool) → lent ≡ present → present ≡ replicate (length table.ids) true → t.coflows ≡ length table.ids → t.ports ≡ table.ports → HasLoads table.flows t →
+    IsOf (instance_of table weights) t weights lent
+all_coflows table weights t present lent l e n p loads = record {
+  coflows = sym (all_present (length table.ids) lent (l ∙ e));
   ports = sym p;
   weight = λ c has. refl;
-  load = λ c port has in'. loads c port (omega (arith, n, number_below 0 (length weights) c has)) (omega (arith, p, in'));
+  load = λ c port has in'. loads c port (omega (arith, n, number_below 0 (length table.ids) c has)) (omega (arith, p, in'));
 }

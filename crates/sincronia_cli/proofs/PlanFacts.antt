@@ -1,6 +1,6 @@
 -- What the laws say of a plan as a report.
-use Rattle.std.proofs.Common.{◌≡◌, ℕ, ◌+◌, ◌*◌, ◌≤◌, List, [], ◌∷◌, ◌++◌, reverse, refl, sym, ap, subst, ◌∙◌, arith}
-use Rattle.std.specs.Prelude.{Option, Some, None, Result, Ok, Err}
+use Rattle.std.proofs.Common.{◌≡◌, ℕ, ◌≤◌, List, ◌++◌, reverse, sym, ap, subst, ◌∙◌, arith}
+use Rattle.std.specs.Prelude.{Option, Some, None, Ok}
 use Rattle.std.proofs.lemmas.List.{reverse-reverse}
 use Rattle.coflow_units.specs.declared.plan.Place.{Place}
 use Rattle.coflow_units.specs.Certificate.{order_of}
@@ -11,10 +11,12 @@ use Rattle.bssi_order.specs.Order.{entries_of}
 use Rattle.report.specs.declared.value.Report.{Report}
 use Rattle.outside.specs.Shelf.{Told}
 use Rattle.outside.specs.Sink.{TakesText}
-use Rattle.sincronia_cli.specs.Plan.{Appends, BoundsEverySchedule, IsWithinFour, WritesBound, WritesPlan, WritesWithinFour, plain_ids, plain_instance}
+use Rattle.sincronia_cli.specs.Plan.{Appends, BoundsEverySchedule, IsWithinFour, WritesBound, WritesPlan, WritesWithinFour}
 use Rattle.sincronia_cli.specs.PlanReport.{IsPlanOf, coflows_of}
 use Rattle.sincronia_cli.proofs.CertificateFacts.{front_of_places}
-use Rattle.sincronia_cli.proofs.PlainFlows.{plain_is_instance}
+use Rattle.flow_table.specs.Table.{instance_of}
+use Rattle.flow_table.proofs.Whole.{whole}
+use Rattle.command_words.specs.Words.{Said}
 use Rattle.sincronia_cli.proofs.PlanLaw.{plan_bound, plan_four}
 
 same_order : (places : List Place) → order_of (entries_of places) ≡ coflows_of places
@@ -32,8 +34,11 @@ pub appended : {X : Type 0} (E : Type 0) (old new : Option (List ℕ)) (text len
 appended E None new text lent x e takes = tt
 appended E (Some old) new text lent x e takes = takes ∙ ap (λ t. Some (old ++ t)) e
 
-pub writes_bound : (told : Option Told) (name : List ℕ) (old new : Option (List ℕ)) → WritesPlan told name old new → WritesBound told name old new
-writes_bound told name old new w = record { writes = w; bounds = plan_bounds (plain_instance w.plan.trace) (plain_ids w.plan.trace) w.plan.report w.plan.planned }
+pub writes_bound : (told : Option Told) (said : Said) (old new : Option (List ℕ)) → WritesPlan told said old new → WritesBound told said old new
+writes_bound told said old new w = record { writes = w; bounds = plan_bounds (instance_of w.plan.table w.plan.weights) w.plan.table.ids w.plan.report w.plan.planned }
 
-pub writes_within : (told : Option Told) (name : List ℕ) (old new : Option (List ℕ)) → WritesPlan told name old new → WritesWithinFour told name old new
-writes_within told name old new w = record { writes = w; within = plan_within (plain_instance w.plan.trace) (plain_ids w.plan.trace) w.plan.report (plain_is_instance w.plan.trace w.plan.plain) w.plan.planned }
+pub writes_within : (told : Option Told) (said : Said) (old new : Option (List ℕ)) → WritesPlan told said old new → WritesWithinFour told said old new
+writes_within told said old new w = record {
+  writes = w;
+  within = plan_within (instance_of w.plan.table w.plan.weights) w.plan.table.ids w.plan.report (whole w.plan.table w.plan.weights w.plan.input.table_fits w.plan.input.count w.plan.input.least).instance w.plan.planned;
+}

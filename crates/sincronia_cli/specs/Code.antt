@@ -1,12 +1,14 @@
 -- The exit codes.
 use Rattle.std.specs.Prelude.{ℕ}
 use Rattle.sincronia_cli.specs.declared.status.Status.{Status}
-use Rattle.sincronia_cli.specs.declared.status.Status.TheVariants.{Ok, Usage, NotBuilt, ReadFault, WriteFault, NoMemory}
+use Rattle.sincronia_cli.specs.declared.status.Status.TheVariants.{Ok, Usage, BadTrace, BadWeights, Limit, ReadFault, WriteFault, NoMemory}
 
 abbrev pub code_of : Status → ℕ
 code_of Ok = 0
 code_of Usage = 2
+code_of (BadTrace fault) = 3
+code_of (BadWeights fault) = 4
+code_of (Limit which count) = 7
 code_of (ReadFault count) = 8
 code_of (WriteFault count) = 9
 code_of NoMemory = 11
-code_of NotBuilt = 12

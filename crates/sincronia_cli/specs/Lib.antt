@@ -1,9 +1,7 @@
-pub mod Ranks
-pub mod Instance
+pub mod Inputs
 pub mod PlanReport
+pub mod Plan
+pub mod Causes
 pub mod Code
 pub mod Messages
-pub mod Words
-pub mod LineFlow
-pub mod Plan
 pub mod NoPrices

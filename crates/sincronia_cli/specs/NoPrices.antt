@@ -1,5 +1,5 @@
 -- A certificate that charges nothing, for two flows at one pair of ports. It is no ordering certificate.
-use Rattle.std.specs.Prelude.{ℕ, List, [], ◌∷◌}
+use Rattle.std.specs.Prelude.{List, [], ◌∷◌}
 use Rattle.coflow_units.specs.Certificate.{Entry}
 use Rattle.coflow_units.specs.SmallCases.{first_ingress}
 

@@ -1,25 +1,16 @@
 -- The plan of an instance, as a report.
-use Rattle.std.specs.Prelude.{◌≡◌, ℕ, ◌<◌, ◌≤◌, ◌^◌, List, Option, Some, All, length, map, slice_index, sum_by}
+use Rattle.std.specs.Prelude.{◌≡◌, ℕ, List, Some, map, slice_index}
 use Rattle.coflow_units.specs.declared.fabric.Flow.{Flow}
 use Rattle.coflow_units.specs.declared.plan.Place.{Place}
 use Rattle.coflow_units.specs.Certificate.{bound, slack}
 use Rattle.coflow_units.specs.Completion.{completion, cost}
-use Rattle.coflow_units.specs.Flows.{Instance, coflow_of}
+use Rattle.coflow_units.specs.Flows.{Instance}
 use Rattle.coflow_units.specs.Schedule.{IsRuns}
 use Rattle.coflow_units.specs.Served.{IsServed}
 use Rattle.bssi_order.specs.Order.{IsOrder, entries_of}
 use Rattle.report.specs.declared.value.PlaceLine.{PlaceLine}
 use Rattle.report.specs.declared.value.Report.{Report}
 use Rattle.schedule_model.specs.RunList.{pairs_of}
-
--- each coflow has the one flow of its number, and ports and units are within their limits
-pub record HasOneFlowEach (flows : List Flow) (coflows ports : ℕ) : Type 0 where
-  pub count : length flows ≡ coflows
-  pub few : coflows ≤ 4096
-  pub own : (k : ℕ) → k < coflows → coflow_of flows k ≡ k
-  pub ingress : All (λ (x : Flow). x.ingress < ports) flows
-  pub egress : All (λ (x : Flow). x.egress < ports) flows
-  pub units_are_few : sum_by (λ (x : Flow). x.units) flows ≤ 2 ^ 20
 
 -- the coflows of the places
 abbrev pub coflows_of : List Place → List ℕ

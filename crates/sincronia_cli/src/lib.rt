@@ -2,20 +2,15 @@
 #![tactic(auto)]
 
 mod command;
-mod grants;
-mod instance;
+mod inputs;
 pub mod laws;
 mod messages;
 mod order;
 mod places;
 mod planning;
-mod ranks;
-mod serving;
 mod status;
-mod words;
 
 pub use command::sincronia;
-pub use messages::message_of;
 pub use status::Status;
 
 #[cfg(test)]

@@ -1,37 +1,39 @@
 //! The order of the coflows.
-ghost use Rattle.std.specs.Prelude.{◌≡◌, ◌≤◌, ◌^◌, All, IfOk, length, map, sum_by};
-ghost use Rattle.coflow_units.specs.declared.fabric.Flow.{Flow};
-ghost use Rattle.port_load.specs.LoadTable.{IsWithin};
+ghost use Rattle.std.specs.Prelude.{◌≡◌, ◌<◌, ◌≤◌, ◌^◌, All, IfOk, length, map};
+ghost use Rattle.coflow_units.specs.declared.fabric.Port.{Port};
+ghost use Rattle.flow_table.specs.Table.{instance_of};
+ghost use Rattle.port_load.specs.LoadTable.{HasLoads, total_at};
 ghost use Rattle.bssi_order.specs.Order.{IsOrder};
-ghost use Rattle.sincronia_cli.specs.Instance.{instance_of};
 ghost use Rattle.sincronia_cli.specs.PlanReport.{coflows_of};
 
 use bssi_order::Bssi;
-use coflow_units::{Flow, NoMemory, Place};
+use coflow_units::{NoMemory, Place};
+use flow_table::Table;
 use port_load::Loads;
 use std::alloc::Global;
 
-/// The order of all coflows, one for each weight, with the places of the ordering certificate. Port numbers are below `ports` on each side.
-pub fn order_of(
-    alloc: Global,
-    flows: &[Flow],
-    weights: &[u64],
-    ports: u32,
-) -> Result<Bssi, NoMemory>
-    requires coflows { length weights.now ≤ 4096 }
-    requires has_ports { 1 ≤ ports }
-    requires few_ports { ports ≤ 1025 }
-    requires within { IsWithin flows.now (length weights.now) ports }
-    requires units { sum_by (λ (x : Flow). x.units) flows.now ≤ 2 ^ 40 }
+/// The order of all coflows of the table, one weight for each, with the places of the ordering certificate.
+pub fn order_of(alloc: Global, table: &Table, weights: &[u64]) -> Result<Bssi, NoMemory>
+    requires count { length weights.now ≡ length table.now.ids }
     requires weights { All (λ w. w ≤ 2 ^ 32) weights.now }
-    ensures order { IfOk result (λ order. IsOrder (instance_of flows.now weights.now ports) order.places) }
+    ensures order { IfOk result (λ order. IsOrder (instance_of table.now weights.now) order.places) }
 {
-    let coflows = weights.len() as u32;
-    let mut loads = Loads::of(alloc, flows, coflows, ports)?;
+    let mut loads = loads_of(alloc, table)?;
     let present = vec![in alloc; true; weights.len()]?;
-    let mut order = Bssi::with_room(alloc, coflows, ports)?;
+    let mut order = Bssi::with_room(alloc, table.coflows(), table.ports())?;
     order.run(&mut loads, weights, &present);
     Ok(order)
+}
+
+/// The loads of all coflows of the table on its ports.
+pub fn loads_of(alloc: Global, table: &Table) -> Result<Loads, NoMemory>
+    ensures coflows_are { IfOk result (λ loads. loads.coflows ≡ length table.now.ids) }
+    ensures ports_are { IfOk result (λ loads. loads.ports ≡ table.now.ports) }
+    ensures loads_are { IfOk result (λ loads. HasLoads table.now.flows loads) }
+    ensures totals_fit { IfOk result (λ loads. (port : Port) → port.number < loads.ports → total_at loads port ≤ 2 ^ 40) }
+{
+    let loads = Loads::of(alloc, table.flows(), table.coflows(), table.ports())?;
+    Ok(loads)
 }
 
 /// The coflows of the places.

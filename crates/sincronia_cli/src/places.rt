@@ -1,47 +1,45 @@
 //! What a report says of each place.
-ghost use Rattle.std.specs.Prelude.{◌≡◌, ◌<◌, ◌≤◌, ◌^◌, All, IfOk, length, map, slice_index};
+ghost use Rattle.std.specs.Prelude.{◌≡◌, ◌<◌, All, IfOk, length, map, slice_index};
 ghost use Rattle.coflow_units.specs.declared.plan.Place.{Place};
 ghost use Rattle.schedule_model.specs.RunList.{NamesFlows};
 ghost use Rattle.sincronia_cli.specs.PlanReport.{line_from, line_of};
 
-use coflow_units::{Flow, NoMemory, Place};
+use coflow_units::{NoMemory, Place};
+use flow_table::Table;
 use report::PlaceLine;
 use schedule_model::{Schedule, completions};
 use std::alloc::Global;
 
-/// The lines of the places: each with the id of its coflow and the coflow's completion in the schedule. `ids` has the id of each coflow.
+/// The lines of the places: each with the id of its coflow and the coflow's completion in the schedule.
 pub fn place_lines(
     alloc: Global,
-    ids: &[u32],
-    flows: &[Flow],
+    table: &Table,
     places: &[Place],
     schedule: &Schedule,
 ) -> Result<Vec<PlaceLine>, NoMemory>
-    requires coflow { All (λ (x : Place). x.coflow < length ids.now) places.now }
-    requires names { NamesFlows (length flows.now) schedule.now }
-    requires few { length ids.now ≤ 4096 }
-    ensures { IfOk result (λ lines. lines.items ≡ map (line_of ids.now flows.now schedule.now) places.now) }
+    requires coflow { All (λ (x : Place). x.coflow < length table.now.ids) places.now }
+    requires names { NamesFlows (length table.now.flows) schedule.now }
+    ensures { IfOk result (λ lines. lines.items ≡ map (line_of table.now.ids table.now.flows schedule.now) places.now) }
 {
-    let ends = completions(alloc, flows, ids.len() as u32, schedule)?;
+    let ends = completions(alloc, table.flows(), table.coflows(), schedule)?;
     let mut lines = Vec::new(alloc);
     for place in places {
-        lines.push(line_of(ids, &ends, place))?;
+        lines.push(line_of(table, &ends, place))?;
     }
     Ok(lines)
 }
 
-/// The line of a place, from the ids and the completions of the coflows.
-fn line_of(ids: &[u32], ends: &[u64], place: &Place) -> PlaceLine
-    requires id { place.now.coflow < length ids.now }
+/// The line of a place, from the id of its coflow and the completions of the coflows.
+fn line_of(table: &Table, ends: &[u64], place: &Place) -> PlaceLine
+    requires id { place.now.coflow < length table.now.ids }
     requires end { place.now.coflow < length ends.now }
-    ensures { result ≡ line_from ids.now ends.now place.now }
+    ensures { result ≡ line_from table.now.ids ends.now place.now }
 {
-    let coflow = place.coflow as usize;
     PlaceLine {
-        id: ids[coflow],
+        id: table.id(place.coflow),
         port: place.port,
         y: place.y,
-        done: ends[coflow],
+        done: ends[place.coflow as usize],
     }
 }
 

@@ -2,15 +2,23 @@
 ghost use Rattle.std.specs.Prelude.{◌≡◌};
 ghost use Rattle.sincronia_cli.specs.Code.{code_of};
 
-/// How the job ended. `count` is the number of calls that failed, which is 1: the first one ends the job.
+use coflow_units::Quantity;
+use trace_reader::TraceFault;
+use weights::WeightsFault;
+
+/// How the job ended. The `count` of a fault of shelf or sink is the number of calls that failed, which is 1: the first one ends the job.
 #[derive(Clone, Copy, Debug, PartialEq, Eq)]
 pub enum Status {
     /// The text was written whole.
     Ok,
     /// The words are no command.
     Usage,
-    /// The file is no trace of the plain form.
-    NotBuilt,
+    /// The file is no trace. The fault is the first in reading order, and one of form.
+    BadTrace(TraceFault),
+    /// The file is no weights of the trace's coflows. The fault is the first in reading order, and one of form.
+    BadWeights(WeightsFault),
+    /// A counted quantity is outside its range. The count is told as 2^64 - 1 where it is greater.
+    Limit { which: Quantity, count: u64 },
     /// A call to the shelf failed.
     ReadFault { count: u32 },
     /// A call to the sink failed. A front of the text was written.
@@ -27,10 +35,12 @@ impl Status {
         match self {
             Status::Ok => 0,
             Status::Usage => 2,
+            Status::BadTrace(_) => 3,
+            Status::BadWeights(_) => 4,
+            Status::Limit { which: _, count: _ } => 7,
             Status::ReadFault { count: _ } => 8,
             Status::WriteFault { count: _ } => 9,
             Status::NoMemory => 11,
-            Status::NotBuilt => 12,
         }
     }
 }

@@ -21,8 +21,8 @@ use Rattle.trace_reader.specs.Checks.{each, number_checks}
 use Rattle.trace_reader.specs.Coflow.{back_checks, behind_mappers, coflow_of, front_checks, id_checks, id_of, line_checks, mapper_checks, mapper_count, reducer_checks, reducer_of, reducer_count}
 use Rattle.trace_reader.specs.Header.{coflow_count, header_checks, ports_of}
 use Rattle.trace_reader.specs.Trace.{coflow_checks, lines_checks, lines_trace, missing}
-use Rattle.trace_reader.specs.declared.trace_fault.TraceFault.{TraceFault}
-use Rattle.trace_reader.specs.declared.trace_fault.TraceFault.TheVariants as fault
+use Rattle.trace_reader.specs.declared.fault.TraceFault.{TraceFault}
+use Rattle.trace_reader.specs.declared.fault.TraceFault.TheVariants as fault
 use Rattle.trace_reader.proofs.Rows.{all_values, length_values, row_passed}
 
 -- A number that passes is in its range.

@@ -9,7 +9,7 @@ use Rattle.text_fields.proofs.CheckLists.{pass_first, fail_first}
 use Rattle.trace_reader.specs.Checks.{Answers}
 use Rattle.trace_reader.specs.Coflow.{coflow_of, id_of, line_checks}
 use Rattle.trace_reader.specs.Trace.{coflow_checks}
-use Rattle.trace_reader.specs.declared.trace_fault.TraceFault.{TraceFault}
+use Rattle.trace_reader.specs.declared.fault.TraceFault.{TraceFault}
 use Rattle.trace_reader.proofs.Faults.{retold}
 
 -- The lines before those that are left passed, and gave these ids and coflows.

@@ -3,8 +3,8 @@ use Rattle.std.proofs.Common.{◌≡◌, List, ◌++◌, Some, None, sym, ◌∙
 use Rattle.text_fields.specs.Checks.{Check, first_fault}
 use Rattle.text_fields.proofs.CheckLists.{pass_first, fail_first}
 use Rattle.trace_reader.specs.Checks.{Answers}
-use Rattle.trace_reader.specs.declared.trace_fault.TraceFault.{TraceFault}
-use Rattle.trace_reader.specs.declared.trace_fault.TraceFault.TheVariants as fault
+use Rattle.trace_reader.specs.declared.fault.TraceFault.{TraceFault}
+use Rattle.trace_reader.specs.declared.fault.TraceFault.TheVariants as fault
 
 -- A fault of some checks is told as that of others.
 pub retold : {V W : Type 0} (P : V → Type 0) (Q : W → Type 0) (xs ys : List (Check TraceFault)) (f : TraceFault) → (first_fault xs ≡ Some f → first_fault ys ≡ Some f) → Answers xs P (Err f) → Answers ys Q (Err f)

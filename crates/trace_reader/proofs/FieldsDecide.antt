@@ -11,8 +11,8 @@ use Rattle.trace_reader.specs.Checks.{each}
 use Rattle.trace_reader.specs.Coflow.{back_checks, behind_mappers, coflow_of, front_checks, id_of, line_checks, mapper_checks, mapper_count, reducer_checks, reducer_count}
 use Rattle.trace_reader.specs.Header.{coflow_count, header_checks, ports_of}
 use Rattle.trace_reader.specs.Trace.{coflow_checks, fields_of_lines, lines_checks, lines_trace, missing}
-use Rattle.trace_reader.specs.declared.trace_fault.TraceFault.{TraceFault}
-use Rattle.trace_reader.specs.declared.trace_fault.TraceFault.TheVariants as fault
+use Rattle.trace_reader.specs.declared.fault.TraceFault.{TraceFault}
+use Rattle.trace_reader.specs.declared.fault.TraceFault.TheVariants as fault
 
 -- What the checks test.
 abbrev tests : List (Check TraceFault) → List Bool

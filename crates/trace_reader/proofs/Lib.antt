@@ -1,7 +1,3 @@
-pub mod NumberText
-pub mod LineText
-pub mod LinesText
-pub mod TraceText
 pub mod Faults
 pub mod Rows
 pub mod LineParts

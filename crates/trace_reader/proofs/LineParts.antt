@@ -13,8 +13,8 @@ use Rattle.text_fields.specs.Numbers.{number}
 use Rattle.text_fields.proofs.CheckLists.{pass_first, fail_first}
 use Rattle.trace_reader.specs.Checks.{Answers, each, number_checks, values}
 use Rattle.trace_reader.specs.Coflow.{arrival_of, back_checks, behind_mappers, coflow_of, front_checks, id_checks, id_of, line_checks, mapper_checks, mappers_of, mapper_count, reducer_checks, reducer_of, reducers_of, reducer_count, without}
-use Rattle.trace_reader.specs.declared.trace_fault.TraceFault.{TraceFault}
-use Rattle.trace_reader.specs.declared.trace_fault.TraceFault.TheVariants as fault
+use Rattle.trace_reader.specs.declared.fault.TraceFault.{TraceFault}
+use Rattle.trace_reader.specs.declared.fault.TraceFault.TheVariants as fault
 use Rattle.trace_reader.proofs.Faults.{retold}
 
 -- The number of a field was read.

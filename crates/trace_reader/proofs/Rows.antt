@@ -11,7 +11,7 @@ use Rattle.text_fields.specs.Lines.{Line, without_first}
 use Rattle.text_fields.proofs.CheckLists.{pass_first, fail_first, passed_parts}
 use Rattle.trace_reader.specs.Checks.{Answers, each, values}
 use Rattle.trace_reader.specs.Coflow.{without}
-use Rattle.trace_reader.specs.declared.trace_fault.TraceFault.{TraceFault}
+use Rattle.trace_reader.specs.declared.fault.TraceFault.{TraceFault}
 use Rattle.trace_reader.proofs.Faults.{retold}
 
 -- The fields before field j passed and say the items, and those from there on are left.

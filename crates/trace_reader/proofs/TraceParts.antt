@@ -14,8 +14,8 @@ use Rattle.trace_reader.specs.Checks.{Answers}
 use Rattle.trace_reader.specs.Coflow.{coflow_of}
 use Rattle.trace_reader.specs.Header.{coflow_count, header_checks, ports_of}
 use Rattle.trace_reader.specs.Trace.{coflow_checks, lines_checks, lines_trace, missing, trace_checks, trace_of}
-use Rattle.trace_reader.specs.declared.trace_fault.TraceFault.{TraceFault}
-use Rattle.trace_reader.specs.declared.trace_fault.TraceFault.TheVariants as fault
+use Rattle.trace_reader.specs.declared.fault.TraceFault.{TraceFault}
+use Rattle.trace_reader.specs.declared.fault.TraceFault.TheVariants as fault
 use Rattle.trace_reader.proofs.Accepted.{accepted, counts_in, lines_in, none_differ}
 use Rattle.trace_reader.proofs.Faults.{retold}
 

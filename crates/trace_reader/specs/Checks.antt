@@ -5,8 +5,8 @@ use Rattle.coflow_units.specs.declared.quantity.Quantity.{Quantity}
 use Rattle.text_fields.specs.Checks.{Check, first_fault}
 use Rattle.text_fields.specs.Fields.{Text, field_at}
 use Rattle.text_fields.specs.Numbers.{capped, is_number, number}
-use Rattle.trace_reader.specs.declared.trace_fault.TraceFault.{TraceFault}
-use Rattle.trace_reader.specs.declared.trace_fault.TraceFault.TheVariants as fault
+use Rattle.trace_reader.specs.declared.fault.TraceFault.{TraceFault}
+use Rattle.trace_reader.specs.declared.fault.TraceFault.TheVariants as fault
 
 -- All checks hold and the value is as said, or the fault is that of the first check that fails, or memory ran out.
 abbrev pub Answers : {V : Type 0} → List (Check TraceFault) → (V → Type 0) → Result V TraceFault → Type 0

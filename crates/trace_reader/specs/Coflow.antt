@@ -10,8 +10,8 @@ use Rattle.text_fields.specs.Fields.{Text, field_at}
 use Rattle.text_fields.specs.Lines.{Line}
 use Rattle.text_fields.specs.Numbers.{capped, is_number, number}
 use Rattle.trace_reader.specs.Checks.{each, number_checks, values}
-use Rattle.trace_reader.specs.declared.trace_fault.TraceFault.{TraceFault}
-use Rattle.trace_reader.specs.declared.trace_fault.TraceFault.TheVariants as fault
+use Rattle.trace_reader.specs.declared.fault.TraceFault.{TraceFault}
+use Rattle.trace_reader.specs.declared.fault.TraceFault.TheVariants as fault
 
 -- A location is from 0 to the number of ports.
 abbrev pub location : ℕ → ℕ → Text → Check TraceFault

@@ -6,8 +6,8 @@ use Rattle.text_fields.specs.Fields.{field_at}
 use Rattle.text_fields.specs.Lines.{Line}
 use Rattle.text_fields.specs.Numbers.{capped, is_number, number}
 use Rattle.trace_reader.specs.Checks.{range}
-use Rattle.trace_reader.specs.declared.trace_fault.TraceFault.{TraceFault}
-use Rattle.trace_reader.specs.declared.trace_fault.TraceFault.TheVariants as fault
+use Rattle.trace_reader.specs.declared.fault.TraceFault.{TraceFault}
+use Rattle.trace_reader.specs.declared.fault.TraceFault.TheVariants as fault
 
 -- The line has two fields, both numbers.
 abbrev pub is_header : Line → Bool

@@ -1,5 +1,3 @@
-pub mod Plain
-pub mod Readers
 pub mod Checks
 pub mod Header
 pub mod Coflow

@@ -6,8 +6,8 @@ use Rattle.text_fields.specs.Fields.{Text}
 use Rattle.text_fields.specs.Lines.{Line}
 use Rattle.text_fields.specs.Numbers.{capped, number}
 use Rattle.trace_reader.specs.Coflow.{arrival_of, id_of, is_reducer, location_part, mappers_of, megabytes_part}
-use Rattle.trace_reader.specs.declared.trace_fault.TraceFault.{TraceFault}
-use Rattle.trace_reader.specs.declared.trace_fault.TraceFault.TheVariants as fault
+use Rattle.trace_reader.specs.declared.fault.TraceFault.{TraceFault}
+use Rattle.trace_reader.specs.declared.fault.TraceFault.TheVariants as fault
 
 -- The count is from least to most and is the value, or it is not and the fault says so.
 abbrev pub IsInRange : ℕ → Quantity → ℕ → ℕ → ℕ → Result ℕ TraceFault → Type 0

@@ -6,8 +6,8 @@ use Rattle.text_fields.specs.Fields.{Text}
 use Rattle.text_fields.specs.Lines.{Line, lines_of}
 use Rattle.trace_reader.specs.Coflow.{coflow_of, id_of, line_checks}
 use Rattle.trace_reader.specs.Header.{coflow_count, header_checks, ports_of}
-use Rattle.trace_reader.specs.declared.trace_fault.TraceFault.{TraceFault}
-use Rattle.trace_reader.specs.declared.trace_fault.TraceFault.TheVariants as fault
+use Rattle.trace_reader.specs.declared.fault.TraceFault.{TraceFault}
+use Rattle.trace_reader.specs.declared.fault.TraceFault.TheVariants as fault
 
 -- The checks of the lines of coflows, where the lines before them have the earlier ids, and the header says how many lines there are: a line is none too many, and then its fields are as they should be.
 abbrev pub coflow_checks : ℕ → ℕ → List ℕ → List Line → List (Check TraceFault)

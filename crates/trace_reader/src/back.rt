@@ -7,7 +7,7 @@ ghost use Rattle.trace_reader.specs.Coflow.{back_checks, is_colon, location_part
 ghost use Rattle.trace_reader.specs.Parts.{CutsReducer};
 
 use crate::range::number_in;
-use crate::trace_fault::TraceFault;
+use crate::fault::TraceFault;
 use coflow_units::{MAX_MEGABYTES, MAX_REDUCERS, Quantity, Reducer};
 use std::alloc::Global;
 use text_fields::{Decimal, Fields, decimal_of, number_of};

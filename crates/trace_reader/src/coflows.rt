@@ -7,7 +7,7 @@ ghost use Rattle.trace_reader.specs.Trace.{coflow_checks};
 
 use crate::back::back_of;
 use crate::front::front_of;
-use crate::trace_fault::TraceFault;
+use crate::fault::TraceFault;
 use coflow_units::{CoflowLine, Items};
 use indexmap::IndexSet;
 use std::alloc::Global;

@@ -7,7 +7,7 @@ ghost use Rattle.trace_reader.specs.Coflow.{behind_mappers, front_checks, id_che
 ghost use Rattle.trace_reader.specs.Parts.{IsFront};
 
 use crate::range::number_in;
-use crate::trace_fault::TraceFault;
+use crate::fault::TraceFault;
 use coflow_units::{MAX_ARRIVAL, MAX_ID, MAX_MAPPERS, Quantity};
 use indexmap::IndexSet;
 use std::alloc::Global;

@@ -5,7 +5,7 @@ ghost use Rattle.trace_reader.specs.Checks.{Answers};
 ghost use Rattle.trace_reader.specs.Header.{HasTwo, coflow_count, header_checks, ports_of};
 
 use crate::range::in_range;
-use crate::trace_fault::TraceFault;
+use crate::fault::TraceFault;
 use coflow_units::{MAX_COFLOWS, MAX_PORTS, Quantity};
 use text_fields::{Fields, number_of};
 

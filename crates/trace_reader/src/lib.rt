@@ -1,5 +1,5 @@
 // Reading of a coflow trace, of which the answer is exactly known: a text gives the trace of its fields, or the first fault in reading order is
-// told. The plain form is a part of the format: there a text is refused just where no trace of that form has it.
+// told.
 #![tactic(auto)]
 
 mod back;
@@ -8,19 +8,11 @@ mod fault;
 mod front;
 mod header;
 pub mod laws;
-mod line;
-mod number;
-mod plain;
 mod range;
 mod trace;
-mod trace_fault;
 
-pub use fault::PlainFault;
-pub use plain::read_plain;
+pub use fault::TraceFault;
 pub use trace::read_trace;
-pub use trace_fault::TraceFault;
 
 #[cfg(test)]
 mod tests;
-#[cfg(test)]
-mod trace_tests;

@@ -4,7 +4,7 @@ ghost use Rattle.text_fields.specs.Numbers.{number};
 ghost use Rattle.trace_reader.specs.Checks.{Answers, number_checks};
 ghost use Rattle.trace_reader.specs.Parts.{IsInRange};
 
-use crate::trace_fault::TraceFault;
+use crate::fault::TraceFault;
 use coflow_units::Quantity;
 use text_fields::number_of;
 

@@ -6,7 +6,7 @@ ghost use Rattle.trace_reader.specs.Trace.{trace_checks, trace_of};
 
 use crate::coflows::coflows_of;
 use crate::header::header_of;
-use crate::trace_fault::TraceFault;
+use crate::fault::TraceFault;
 use coflow_units::{Items, Trace};
 use std::alloc::Global;
 use text_fields::Lines;

@@ -4,4 +4,4 @@ use Rattle.sincronia_cli.specs.PlanReport.{line_of}
 use Rattle.sincronia_cli.proofs.places.place_lines.Given as goal
 
 abbrev pub invariant-loop-place : goal.invariant-loop-place
-invariant-loop-place l = l.lines.items ≡ map (line_of l.ids l.flows l.schedule) (take l.place-index l.places)
+invariant-loop-place l = l.lines.items ≡ map (line_of l.table.ids l.table.flows l.schedule) (take l.place-index l.places)

@@ -1,0 +1,11 @@
+-- What the words of a plan say.
+use Rattle.std.proofs.Common.{ℕ, ◌^◌, ◌≤◌, List, Option, Some, None, arith}
+use Rattle.command_words.specs.Line.{Text}
+use Rattle.command_words.specs.Words.{IsSetting, IsWords, Said}
+
+setting_fits : (most default : ℕ) (value : Option Text) (n : ℕ) → 1 ≤ default → default ≤ most → IsSetting most default value n → (1 ≤ n) × (n ≤ most)
+setting_fits most default None n low high is = (omega (arith, is, low), omega (arith, is, high))
+setting_fits most default (Some text) n low high (_, least, greatest, is) = (omega (arith, is, least), omega (arith, is, greatest))
+
+pub unit_fits : (words : List Text) (said : Said) → IsWords words said → (1 ≤ said.unit) × (said.unit ≤ 2 ^ 20)
+unit_fits words said is = setting_fits (2 ^ 20) 1 _ said.unit (omega arith) (omega arith) is.says.unit
