@@ -132,7 +132,10 @@ fn weights_and_units_are_used(rt: HostRuntime) -> Result<(), Fail> {
     let heavy = b"1 1\n1 0 1 0 1 1:1099511627776\n";
     let (status, out) = run(alloc, &weighted, heavy, b"1 4294967296\n")?;
     assert_eq!(rt; status, Status::Ok);
-    assert_eq!(rt; out.bytes(), b"sincronia 2\nplace 1 1 in 0 4294967296 1099511627776 4294967296\nbound 4722366482869645213696\nslack 0\ncost 4722366482869645213696\nrun 1099511627776 0\nend\n".as_slice());
+    assert_eq!(rt;
+        out.bytes(),
+        b"sincronia 2\nplace 1 1 in 0 4294967296 1099511627776 4294967296\nbound 4722366482869645213696\nslack 0\ncost 4722366482869645213696\nrun 1099511627776 0\nend\n".as_slice()
+    );
     let (status, out) = run(alloc, &["sincronia", "--unit=2", "plan", "t"], TWO, b"")?;
     assert_eq!(rt; status, Status::Ok);
     assert_eq!(rt;

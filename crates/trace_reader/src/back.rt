@@ -6,8 +6,8 @@ ghost use Rattle.trace_reader.specs.Checks.{Answers, each, values};
 ghost use Rattle.trace_reader.specs.Coflow.{back_checks, is_colon, location_part, megabytes_part, reducer_checks, reducer_of, reducers_of, without};
 ghost use Rattle.trace_reader.specs.Parts.{CutsReducer};
 
-use crate::range::number_in;
 use crate::fault::TraceFault;
+use crate::range::number_in;
 use coflow_units::{MAX_MEGABYTES, MAX_REDUCERS, Quantity, Reducer};
 use std::alloc::Global;
 use text_fields::{Decimal, Fields, decimal_of, number_of};

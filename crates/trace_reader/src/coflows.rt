@@ -6,8 +6,8 @@ ghost use Rattle.trace_reader.specs.Coflow.{coflow_of as coflow_of_line, id_of, 
 ghost use Rattle.trace_reader.specs.Trace.{coflow_checks};
 
 use crate::back::back_of;
-use crate::front::front_of;
 use crate::fault::TraceFault;
+use crate::front::front_of;
 use coflow_units::{CoflowLine, Items};
 use indexmap::IndexSet;
 use std::alloc::Global;

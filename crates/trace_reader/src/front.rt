@@ -6,8 +6,8 @@ ghost use Rattle.trace_reader.specs.Checks.{Answers, each, values};
 ghost use Rattle.trace_reader.specs.Coflow.{behind_mappers, front_checks, id_checks, id_of, mapper_checks, without};
 ghost use Rattle.trace_reader.specs.Parts.{IsFront};
 
-use crate::range::number_in;
 use crate::fault::TraceFault;
+use crate::range::number_in;
 use coflow_units::{MAX_ARRIVAL, MAX_ID, MAX_MAPPERS, Quantity};
 use indexmap::IndexSet;
 use std::alloc::Global;

@@ -4,8 +4,8 @@ ghost use Rattle.text_fields.specs.Fields.{field_at};
 ghost use Rattle.trace_reader.specs.Checks.{Answers};
 ghost use Rattle.trace_reader.specs.Header.{HasTwo, coflow_count, header_checks, ports_of};
 
-use crate::range::in_range;
 use crate::fault::TraceFault;
+use crate::range::in_range;
 use coflow_units::{MAX_COFLOWS, MAX_PORTS, Quantity};
 use text_fields::{Fields, number_of};
 

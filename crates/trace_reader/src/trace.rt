@@ -5,8 +5,8 @@ ghost use Rattle.trace_reader.specs.Checks.{Answers};
 ghost use Rattle.trace_reader.specs.Trace.{trace_checks, trace_of};
 
 use crate::coflows::coflows_of;
-use crate::header::header_of;
 use crate::fault::TraceFault;
+use crate::header::header_of;
 use coflow_units::{Items, Trace};
 use std::alloc::Global;
 use text_fields::Lines;

@@ -1,0 +1,71 @@
+-- The flows of the line that owe units, as they are kept.
+use Rattle.std.proofs.Common.{◌≡◌, ℕ, ◌<◌, Bool, true, List, [], ◌∷◌, length, max, Option, Some, None, refl, sym, ap, ◌∙◌, arith}
+use Rattle.std.specs.Prelude.{◌==◌, ◌&&◌, if◌then◌else◌, nat_le, nat_lt, slice_index_or}
+use Rattle.std.proofs.lemmas.Bool.{lt-ltb, ne_eqb}
+use Rattle.coflow_units.specs.declared.fabric.Flow.{Flow}
+use Rattle.coflow_units.specs.Flows.{coflow_of}
+use Rattle.master_core.specs.declared.command.Reply.{Reply}
+use Rattle.master_core.specs.declared.command.Reply.TheVariants.{Late, NothingLeft, Opened, Skipped, StillOpen, StillOwed}
+use Rattle.master_core.specs.declared.opening.Opening.{Opening}
+use Rattle.master_core.specs.declared.standing.Standing.{Standing}
+use Rattle.master_core.specs.State.{has, owed, Run, slot_end, State}
+use Rattle.master_core.specs.Attendance.{marked}
+use Rattle.master_core.specs.Line.{line, owing}
+use Rattle.master_core.specs.Runs.{granted, slots_for}
+use Rattle.master_core.specs.Answer.{on_run, opened, skipped}
+use Rattle.master_core.specs.OpenRun.{KeptRun}
+use Rattle.master_core.specs.Standing.{IsFit, IsNoneOwing, Tells, TellsRun, is_owing}
+use Rattle.master_core.proofs.OwingSteps.{filter_first, filter_none}
+use Rattle.master_core.proofs.Present.{line_members}
+
+-- ---- the open run
+
+pub run_told : (flows : List Flow) (ports : ℕ) (r : Option Run) (x : Option KeptRun) (k : KeptRun) (other : Reply) → TellsRun flows ports r x → x ≡ Some k → on_run r (λ r. StillOpen r.first) other ≡ StillOpen k.first
+run_told flows ports None None k other t e = absurd (cc)
+run_told flows ports None (Some x) k other t e = absurd t
+run_told flows ports (Some r) None k other t e = absurd t
+run_told flows ports (Some r) (Some x) k other t e = let is : x ≡ k = cc in ap StillOpen (sym t.first ∙ ap (λ (y : KeptRun). y.first) is)
+
+pub none_told : (flows : List Flow) (ports : ℕ) (r : Option Run) (x : Option KeptRun) → TellsRun flows ports r x → x ≡ None → r ≡ None
+none_told flows ports None x t e = refl
+none_told flows ports (Some r) None t e = absurd t
+none_told flows ports (Some r) (Some x) t e = absurd (cc)
+
+-- ---- who owes
+
+same_test : (o : Opening) (s : State) (x : Standing) (f : ℕ) → IsFit o x → Tells o s x → f < length o.table.flows →
+    (has (line s) (coflow_of o.table.flows f) && nat_lt 0 (owed o s f)) ≡ is_owing o.table.flows x.roster.present x.ledger.owed f
+same_test o s x f fit t lt =
+    let c = coflow_of o.table.flows f in
+    ap (λ b. b && nat_lt 0 (owed o s f)) (line_members s t.orders.named c ∙ sym (t.coflows.present_is c)) ∙ ap (λ n. marked x.roster.present c && nat_lt 0 n) (sym (t.owed f))
+
+pub owing_none : (o : Opening) (s : State) (x : Standing) → IsFit o x → Tells o s x → IsNoneOwing o.table.flows x.roster.present x.ledger.owed (length o.table.flows) → owing o s ≡ []
+owing_none o s x fit t none = filter_none (λ f. has (line s) (coflow_of o.table.flows f) && nat_lt 0 (owed o s f)) (length o.table.flows) (λ f lt. same_test o s x f fit t lt ∙ none f lt)
+
+pub owing_first : (o : Opening) (s : State) (x : Standing) (f : ℕ) → IsFit o x → Tells o s x → f < length o.table.flows → is_owing o.table.flows x.roster.present x.ledger.owed f ≡ true → IsNoneOwing o.table.flows x.roster.present x.ledger.owed f →
+    (rest : List ℕ) × (owing o s ≡ f ∷ rest)
+owing_first o s x f fit t lt here none =
+    filter_first (λ f. has (line s) (coflow_of o.table.flows f) && nat_lt 0 (owed o s f)) (length o.table.flows) f lt (same_test o s x f fit t lt ∙ here)
+    (λ g before. same_test o s x g fit t (omega (arith, before, lt)) ∙ none g before)
+
+-- ---- a skip, and an opening, by who owes
+
+pub skip_owed : (o : Opening) (s : State) (to f : ℕ) (rest : List ℕ) → owing o s ≡ f ∷ rest → skipped o s to ≡ StillOwed f
+skip_owed o s to f rest e =
+    let last = if nat_le slot_end to then Late to else Skipped (max s.next to) in
+    ap (λ l. if nat_lt 0 (length l) then StillOwed (slice_index_or l 0 0) else last) e ∙ ap (λ (b : Bool). if b then StillOwed f else last) (lt-ltb 0 (length (f ∷ rest)) (omega arith))
+
+pub skip_free : (o : Opening) (s : State) (to : ℕ) → owing o s ≡ [] → skipped o s to ≡ (if nat_le slot_end to then Late to else Skipped (max s.next to))
+skip_free o s to e =
+    let last = if nat_le slot_end to then Late to else Skipped (max s.next to) in
+    ap (λ l. if nat_lt 0 (length l) then StillOwed (slice_index_or l 0 0) else last) e
+
+pub open_free : (o : Opening) (s : State) (most : ℕ) → owing o s ≡ [] → opened o s most ≡ NothingLeft
+open_free o s most e =
+    let last = if s.next == slot_end then Late s.next else Opened s.next (slots_for o s most) (length (granted o s)) in
+    ap (λ (l : List ℕ). if length l == 0 then NothingLeft else last) e
+
+pub open_owed : (o : Opening) (s : State) (most f : ℕ) (rest : List ℕ) → owing o s ≡ f ∷ rest → opened o s most ≡ (if s.next == slot_end then Late s.next else Opened s.next (slots_for o s most) (length (granted o s)))
+open_owed o s most f rest e =
+    let last = if s.next == slot_end then Late s.next else Opened s.next (slots_for o s most) (length (granted o s)) in
+    ap (λ (l : List ℕ). if length l == 0 then NothingLeft else last) e ∙ ap (λ (b : Bool). if b then NothingLeft else last) (ne_eqb (length (f ∷ rest)) 0 (λ z. omega (arith, z)))

@@ -1,0 +1,132 @@
+-- What the kept run tells of the open run, before and after a note.
+use Rattle.std.proofs.Common.{◌≡◌, ℕ, ◌<◌, ◌≤◌, Bool, List, [], ◌∷◌, length, min, Contains, inl, inr, Option, Some, None, refl, sym, ap, subst, ◌∙◌, arith, unwrap_or, true≢false}
+use Rattle.std.specs.Prelude.{◌==◌, if◌then◌else◌, slice_set}
+use Rattle.std.proofs.lemmas.Bool.{cases_Bool, cases_eq, cases_lt, eq-eqb, eqb-true, ne_eqb}
+use Rattle.std.proofs.lemmas.List.{get_or-set_other, get_or-set_same, length-set}
+use Rattle.std.proofs.Math.ListN.{get_or-eq_default}
+use Rattle.coflow_units.specs.declared.fabric.Flow.{Flow}
+use Rattle.coflow_units.specs.Flows.{ingress_of}
+use Rattle.coflow_units.proofs.Sums.{first_or_tail, in_first, in_tail, nothing_in}
+use Rattle.greedy_rates.specs.Room.{TellsIngresses, flow_at_ingress}
+use Rattle.master_core.specs.declared.command.Reply.{Reply}
+use Rattle.master_core.specs.declared.command.Reply.TheVariants.{NotGranted, Noted}
+use Rattle.master_core.specs.State.{Run}
+use Rattle.master_core.specs.Runs.{flow_at, grant_in, note_in}
+use Rattle.master_core.specs.Fold.{noted_in}
+use Rattle.master_core.specs.Answer.{noted, on_run}
+use Rattle.master_core.specs.OpenRun.{FitsOpen, KeptRun, flow_kept, note_at, note_of, number_noted, with_note}
+use Rattle.master_core.specs.Standing.{TellsOpen, TellsRun}
+
+-- ---- the grant at an ingress
+
+grant_is : (flows : List Flow) (granted : List ℕ) (p f : ℕ) → grant_in flows granted p ≡ Some f → Contains granted f × (ingress_of flows f ≡ p)
+grant_is flows [] p f e = absurd (cc)
+grant_is flows (g ∷ gs) p f e = elim (cases_Bool (ingress_of flows g == p)) [
+  | inl t ↦
+      let same : Some g ≡ Some f = sym (ap (λ (b : Bool). if b then Some g else grant_in flows gs p) t) ∙ e in
+      let is : g ≡ f = cc in
+      (subst (λ x. Contains (g ∷ gs) x) is (in_first g gs), ap (ingress_of flows) (sym is) ∙ eqb-true (ingress_of flows g) p t)
+  | inr t ↦ let (in', at) = grant_is flows gs p f (sym (ap (λ (b : Bool). if b then Some g else grant_in flows gs p) t) ∙ e) in (in_tail g gs f in', at)
+]
+
+grant_none : (flows : List Flow) (granted : List ℕ) (p f : ℕ) → grant_in flows granted p ≡ None → Contains granted f → ingress_of flows f ≡ p → ⊥
+grant_none flows [] p f e in' at = nothing_in f in'
+grant_none flows (g ∷ gs) p f e in' at = elim (cases_Bool (ingress_of flows g == p)) [
+  | inl t ↦ let wrong : Some g ≡ None = sym (ap (λ (b : Bool). if b then Some g else grant_in flows gs p) t) ∙ e in absurd (cc)
+  | inr t ↦ elim (first_or_tail g gs f in') [
+    | inl same ↦ true≢false (sym (eq-eqb (ingress_of flows g) p (ap (ingress_of flows) same ∙ at)) ∙ t)
+    | inr later ↦ grant_none flows gs p f (sym (ap (λ (b : Bool). if b then Some g else grant_in flows gs p) t) ∙ e) later at
+  ]
+]
+
+same_option : (a b : Option ℕ) → ((f : ℕ) → a ≡ Some f → b ≡ Some f) → (a ≡ None → (f : ℕ) → b ≡ Some f → ⊥) → a ≡ b
+same_option None None f g = refl
+same_option None (Some x) f g = absurd (g refl x refl)
+same_option (Some x) b f g = sym (f x refl)
+
+pub grant_told : (flows : List Flow) (granted : List ℕ) (at : List (Option ℕ)) (p : ℕ) → TellsIngresses flows granted at → grant_in flows granted p ≡ flow_at_ingress at p
+grant_told flows granted at p tells = same_option (grant_in flows granted p) (flow_at_ingress at p)
+    (λ f e. (tells p f).1 (grant_is flows granted p f e))
+    (λ none f e. let (in', is) = (tells p f).0 e in grant_none flows granted p f none in' is)
+
+pub flow_told : (flows : List Flow) (ports : ℕ) (r : Option Run) (x : Option KeptRun) (p : ℕ) → TellsRun flows ports r x → flow_kept x p ≡ flow_at flows r p
+flow_told flows ports None None p t = refl
+flow_told flows ports None (Some x) p t = absurd t
+flow_told flows ports (Some r) None p t = absurd t
+flow_told flows ports (Some r) (Some x) p t = sym (grant_told flows r.granted x.at p t.at)
+
+-- ---- notes
+
+abbrev reply_for : ℕ → Option ℕ → Reply
+reply_for p None = NotGranted p
+reply_for p (Some n) = Noted n
+
+noted_by : (r : Run) (p units : ℕ) (g : Option ℕ) → noted r p units g ≡ reply_for p (note_of r.slots units g)
+noted_by r p units None = refl
+noted_by r p units (Some f) = refl
+
+short_told : (flows : List Flow) (ports : ℕ) (r : Option Run) (x : Option KeptRun) (p units : ℕ) → TellsRun flows ports r x →
+    on_run r (λ r. noted r p units (grant_in flows r.granted p)) (NotGranted p) ≡ reply_for p (number_noted x p units)
+short_told flows ports None None p units t = refl
+short_told flows ports None (Some x) p units t = absurd t
+short_told flows ports (Some r) None p units t = absurd t
+short_told flows ports (Some r) (Some x) p units t =
+    noted_by r p units (grant_in flows r.granted p) ∙ ap (λ g. reply_for p (note_of r.slots units g)) (grant_told flows r.granted x.at p t.at) ∙ ap (λ n. reply_for p (note_of n units (flow_at_ingress x.at p))) (sym t.slots)
+
+note_kept : (flows : List Flow) (ports : ℕ) (r : Run) (x : KeptRun) (p n : ℕ) → p < ports → TellsOpen flows ports r x → TellsOpen flows ports (record r { notes = (p, n) ∷ r.notes }) (record x { noted = slice_set x.noted p (Some n) })
+note_kept flows ports r x p n lt t = record {
+  first = t.first;
+  slots = t.slots;
+  granted = t.granted;
+  at = t.at;
+  noted_len = length-set x.noted p (Some n) ∙ t.noted_len;
+  noted = λ q low. elim (cases_eq q p) [
+    | inl e ↦
+        ap (note_at (slice_set x.noted p (Some n))) e ∙ get_or-set_same x.noted p (Some n) None (omega (arith, t.noted_len))
+        ∙ sym (ap (λ (b : Bool). if b then Some n else note_in r.notes q) (eq-eqb p q (sym e)))
+    | inr ne ↦ get_or-set_other x.noted p q (Some n) None ne ∙ t.noted q low ∙ sym (ap (λ (b : Bool). if b then Some n else note_in r.notes q) (ne_eqb p q (λ e. ne (sym e))))
+  ];
+}
+
+pub run_noted : (flows : List Flow) (ports : ℕ) (r : Option Run) (x : Option KeptRun) (p n : ℕ) → p < ports → TellsRun flows ports r x → TellsRun flows ports (noted_in r p n) (with_note x p (Some n))
+run_noted flows ports None None p n lt t = t
+run_noted flows ports None (Some x) p n lt t = absurd t
+run_noted flows ports (Some r) None p n lt t = absurd t
+run_noted flows ports (Some r) (Some x) p n lt t = note_kept flows ports r x p n lt t
+
+pub with_none : (x : Option KeptRun) (p : ℕ) → with_note x p None ≡ x
+with_none None p = refl
+with_none (Some x) p = refl
+
+pub answer_noted : (flows : List Flow) (ports : ℕ) (r : Option Run) (x : Option KeptRun) (p units n : ℕ) → TellsRun flows ports r x → number_noted x p units ≡ Some n →
+    on_run r (λ r. noted r p units (grant_in flows r.granted p)) (NotGranted p) ≡ Noted n
+answer_noted flows ports r x p units n t e = short_told flows ports r x p units t ∙ ap (reply_for p) e
+
+pub answer_not_granted : (flows : List Flow) (ports : ℕ) (r : Option Run) (x : Option KeptRun) (p units : ℕ) → TellsRun flows ports r x → number_noted x p units ≡ None →
+    on_run r (λ r. noted r p units (grant_in flows r.granted p)) (NotGranted p) ≡ NotGranted p
+answer_not_granted flows ports r x p units t e = short_told flows ports r x p units t ∙ ap (reply_for p) e
+
+-- ---- what fits
+
+note_within : (slots units n : ℕ) (g : Option ℕ) → note_of slots units g ≡ Some n → n ≤ slots
+note_within slots units n None e = absurd (cc)
+note_within slots units n (Some f) e = let is : min units slots ≡ n = cc in omega (arith, is)
+
+set_within : (noted : List (Option ℕ)) (slots p n q : ℕ) → n ≤ slots → unwrap_or (note_at noted q) slots ≤ slots → unwrap_or (note_at (slice_set noted p (Some n)) q) slots ≤ slots
+set_within noted slots p n q le old = elim (cases_eq q p) [
+  | inl e ↦ elim (cases_lt p (length noted)) [
+    | inl lt ↦ subst (λ o. unwrap_or o slots ≤ slots) (sym (ap (note_at (slice_set noted p (Some n))) e ∙ get_or-set_same noted p (Some n) None lt)) le
+    | inr ge ↦ subst (λ o. unwrap_or o slots ≤ slots) (sym (get_or-eq_default (slice_set noted p (Some n)) None {n = q} (omega (arith, length-set noted p (Some n), e, ge)))) (omega arith)
+  ]
+  | inr ne ↦ subst (λ o. unwrap_or o slots ≤ slots) (sym (get_or-set_other noted p q (Some n) None ne)) old
+]
+
+pub fits_noted : (flows : List Flow) (owed : List ℕ) (x : Option KeptRun) (p units n : ℕ) → FitsOpen flows owed x → number_noted x p units ≡ Some n → FitsOpen flows owed (with_note x p (Some n))
+fits_noted flows owed None p units n h e = h
+fits_noted flows owed (Some x) p units n h e = record {
+  ends = h.ends;
+  ascending = h.ascending;
+  flow = h.flow;
+  each_owes = h.each_owes;
+  notes = λ q. set_within x.noted x.slots p n q (note_within x.slots units n (flow_at_ingress x.at p) e) (h.notes q);
+}

@@ -1,0 +1,10 @@
+-- The open run of the fields that keep it.
+use Rattle.std.specs.Prelude.{ℕ, List, Option, Some, None}
+use Rattle.greedy_rates.specs.Room.{Grants}
+use Rattle.master_core.specs.declared.runs.OpenRun.{OpenRun}
+use Rattle.master_core.specs.OpenRun.{KeptRun}
+
+-- where a run is open, its grants are those that were made last
+abbrev pub kept_run : Grants → List (Option ℕ) → Option OpenRun → Option KeptRun
+kept_run scratch noted None = None
+kept_run scratch noted (Some x) = Some (record { first = x.first; slots = x.slots; granted = scratch.flows; at = scratch.at; noted = noted })

@@ -1,0 +1,106 @@
+-- What is kept beside a journal, so as not to read it again, and what it tells of the state.
+use Rattle.std.specs.Prelude.{◌≡◌, ℕ, ◌+◌, ◌^◌, ◌<◌, ◌≤◌, ◌&&◌, Bool, true, false, not, nat_lt, List, [], ◌∷◌, All, Contains, length, map, slice_index, Option, Some, None}
+use Rattle.coflow_units.specs.declared.fabric.Flow.{Flow}
+use Rattle.coflow_units.specs.declared.plan.Place.{Place}
+use Rattle.coflow_units.specs.Flows.{Instance, coflow_of}
+use Rattle.greedy_rates.specs.Room.{TellsIngresses}
+use Rattle.bssi_order.specs.Order.{IsOrder}
+use Rattle.master_core.specs.declared.command.Command.{Command}
+use Rattle.master_core.specs.declared.command.Command.TheVariants.{Register, Withdraw, Pull, Open, Short, Reweigh}
+use Rattle.master_core.specs.declared.command.Reply.{Reply}
+use Rattle.master_core.specs.declared.opening.Opening.{Opening}
+use Rattle.master_core.specs.declared.standing.Standing.{Standing}
+use Rattle.master_core.specs.State.{has, IsOpening, owed, Run, slot_end, State}
+use Rattle.master_core.specs.Attendance.{Attendance, marked}
+use Rattle.master_core.specs.Line.{newest_in}
+use Rattle.master_core.specs.Published.{Published, ranked}
+use Rattle.master_core.specs.OpenRun.{FitsOpen, KeptRun, note_at}
+use Rattle.master_core.specs.Runs.{note_in}
+use Rattle.master_core.specs.Fold.{after}
+use Rattle.master_core.specs.Answer.{answer}
+
+-- the roster has the coflows that joined, and marks those of them that have not left
+pub record TellsCoflows (joined left : List ℕ) (x : Attendance) : Type 0 where
+  pub joined_is : x.joined ≡ joined
+  pub present_is : (coflow : ℕ) → marked x.present coflow ≡ (has joined coflow && not (has left coflow))
+  pub gone : (coflow : ℕ) → has left coflow ≡ true → has joined coflow ≡ true
+
+-- the last instance of a list that is not empty
+abbrev pub last_of : Instance → List Instance → Instance
+last_of i [] = i
+last_of i (j ∷ js) = last_of j js
+
+-- the places are those of the last publishing; before the first one there are none
+abbrev pub TellsPlaces : List Instance → List Place → Type 0
+TellsPlaces [] places = places ≡ []
+TellsPlaces (i ∷ is) places = IsOrder (last_of i is) places
+
+-- the version and the places are those of the last publishing, and its coflows joined
+pub record TellsOrders (joined : List ℕ) (published : List Instance) (x : Published) : Type 0 where
+  pub version_is : x.version ≡ length published
+  pub places_are : TellsPlaces published x.places
+  pub order_is : ranked x.places ≡ newest_in published
+  pub named : (coflow : ℕ) → Contains (newest_in published) coflow → has joined coflow ≡ true
+
+-- the kept run is the open run
+pub record TellsOpen (flows : List Flow) (ports : ℕ) (r : Run) (x : KeptRun) : Type 0 where
+  pub first : x.first ≡ r.first
+  pub slots : x.slots ≡ r.slots
+  pub granted : x.granted ≡ r.granted
+  pub at : TellsIngresses flows r.granted x.at
+  pub noted_len : length x.noted ≡ ports
+  pub noted : (ingress : ℕ) → ingress < ports → note_at x.noted ingress ≡ note_in r.notes ingress
+
+abbrev pub TellsRun : List Flow → ℕ → Option Run → Option KeptRun → Type 0
+TellsRun flows ports None None = Unit {0}
+TellsRun flows ports None (Some x) = ⊥
+TellsRun flows ports (Some r) None = ⊥
+TellsRun flows ports (Some r) (Some x) = TellsOpen flows ports r x
+
+-- the flow is of a coflow that is marked as present, and owes units
+abbrev pub is_owing : List Flow → List Bool → List ℕ → ℕ → Bool
+is_owing flows present owed f = marked present (coflow_of flows f) && nat_lt 0 (slice_index owed f)
+
+-- none of the first n flows is such a one
+abbrev pub IsNoneOwing : List Flow → List Bool → List ℕ → ℕ → Type 0
+IsNoneOwing flows present owed n = (f : ℕ) → f < n → is_owing flows present owed f ≡ false
+
+-- what is kept tells the state
+pub record Tells (o : Opening) (s : State) (x : Standing) : Type 0 where
+  pub coflows : TellsCoflows s.joined s.left x.roster
+  pub weight : (coflow : ℕ) → coflow < length o.table.ids → slice_index x.weights.items coflow ≡ s.weight coflow
+  pub orders : TellsOrders s.joined s.published x.orders
+  pub owed : (f : ℕ) → slice_index x.ledger.owed f ≡ owed o s f
+  pub run : TellsRun o.table.flows o.table.ports s.run x.runs.run
+  pub next : x.next ≡ s.next
+
+-- what is kept has the sizes of the opening and numbers within their limits
+pub record IsFit (o : Opening) (x : Standing) : Type 0 where
+  pub opening : IsOpening o
+  pub present_len : length x.roster.present ≡ length o.table.ids
+  pub weights_len : length x.weights.items ≡ length o.table.ids
+  pub weights_fit : All (λ w. w ≤ 2 ^ 32) x.weights.items
+  pub orders_coflows : x.orders.coflows ≡ length o.table.ids
+  pub orders_ports : x.orders.ports ≡ o.table.ports
+  pub line_room : length o.table.ids + length o.table.ids ≤ x.line.room
+  pub units : x.ledger.units ≡ map (λ (f : Flow). f.units) o.table.flows
+  pub owed_len : length x.ledger.owed ≡ length o.table.flows
+  pub runs_ports : x.runs.ports ≡ o.table.ports
+  pub run : FitsOpen o.table.flows x.ledger.owed x.runs.run
+  pub next_ends : x.next ≤ slot_end
+
+-- the command is in range: its coflow, its ingress, its number of slots and its weight
+abbrev pub IsInRange : Opening → Command → Type 0
+IsInRange o (Register coflow) = coflow < length o.table.ids
+IsInRange o (Withdraw coflow) = coflow < length o.table.ids
+IsInRange o (Pull coflow) = coflow < length o.table.ids
+IsInRange o (Open most) = 1 ≤ most
+IsInRange o (Short ingress units) = ingress < o.table.ports
+IsInRange o (Reweigh coflow weight) = (coflow < length o.table.ids) × (1 ≤ weight) × (weight ≤ 2 ^ 32)
+IsInRange o k = Unit {0}
+
+-- the reply is that of the state that was told, and the state after it is told
+pub record Follows (o : Opening) (k : Command) (old : Standing) (reply : Reply) (new : Standing) : Type 0 where
+  pub reply_is : (s : State) → Tells o s old → reply ≡ answer o s k
+  pub state_is : (s : State) → Tells o s old → Tells o (after o s k (answer o s k)) new
+  pub fit : IsFit o new

@@ -1,0 +1,12 @@
+//! What a master begins with.
+use coflow_units::Items;
+use flow_table::Table;
+
+/// What a master begins with, and what no command changes: the table of flows, the opening weight of each coflow, and how many entries the journal may have
+/// for a command to be answered.
+#[derive(Drop)]
+pub struct Opening {
+    pub table: Table,
+    pub weights: Items<u64>,
+    pub limit: u32,
+}

@@ -1,0 +1,117 @@
+//! The newest order, and the places that it gives.
+ghost use Rattle.std.specs.Prelude.{◌≡◌, ℕ, ◌+◌, ◌^◌, ◌<◌, ◌≤◌, List, [], All, IfOk, length, slice_index, sum};
+ghost use Rattle.coflow_units.specs.declared.plan.Place.{Place};
+ghost use Rattle.coflow_units.specs.Flows.{Instance, IsDistinct};
+ghost use Rattle.port_load.specs.LoadTable.{IsWithin};
+ghost use Rattle.bssi_order.specs.Order.{IsOrder};
+ghost use Rattle.master_core.specs.Line.{rank_in};
+ghost use Rattle.master_core.specs.Published.{IsLeft, ranked};
+
+use bssi_order::Bssi;
+use coflow_units::{Flow, NoMemory, Place};
+use port_load::Loads;
+use std::alloc::Global;
+use std::marker::Model;
+
+/// The newest order with its version, and the room to make the next one.
+///
+/// Contracts see `Orders` as the version, its places from place 1 on, and the numbers of coflows and ports that there is room for.
+#[derive(Drop)]
+pub struct Orders {
+    bssi: Bssi,
+    loads: Loads,
+    /// For each coflow its place in the newest order, counted from 1, or 0.
+    ranks: Vec<u32>,
+    version: u32,
+}
+
+impl Model for Orders {
+    ghost use Rattle.master_core.specs.Published.{IsPublished, Published};
+
+    ghost Value = { Published };
+
+    ghost view = { λ s. record { version = s.version; places = s.bssi.places; coflows = s.loads.coflows; ports = s.loads.ports } };
+
+    ghost invariant = { λ s. IsPublished s.bssi.places s.ranks.items s.loads.coflows s.loads.ports s.bssi.room s.loads.coflows s.loads.ports };
+}
+
+impl Orders {
+    /// Takes the room for orders of so many coflows, whose flows use so many ports on each side. Nothing is published: the version is 0, and its order is empty.
+    pub fn new(alloc: Global, coflows: u32, ports: u32) -> Result<Orders, NoMemory>
+        requires coflows_limit { coflows ≤ 4096 }
+        requires has_ports { 1 ≤ ports }
+        requires ports_limit { ports ≤ 1025 }
+        ensures version { IfOk result (λ r. r.version ≡ 0) }
+        ensures places { IfOk result (λ r. r.places ≡ []) }
+        ensures coflows_are { IfOk result (λ r. r.coflows ≡ coflows) }
+        ensures ports_are { IfOk result (λ r. r.ports ≡ ports) }
+    {
+        let bssi = Bssi::with_room(alloc, coflows, ports)?;
+        let loads = Loads::of(alloc, &[], coflows, ports)?;
+        let ranks = vec![in alloc; 0; coflows as usize]?;
+        Ok(Orders {
+            bssi,
+            loads,
+            ranks,
+            version: 0,
+        })
+    }
+
+    /// Makes the next version: the coflows that are present are ordered by the units that their flows have left, with one weight and one mark for each coflow.
+    pub fn publish(&mut self, flows: &[Flow], left: &[u64], weights: &[u64], present: &[bool])
+        requires version_fits { self.old.version + 1 < 2 ^ 32 }
+        requires within { IsWithin flows.now self.old.coflows self.old.ports }
+        requires left_len { length left.now ≡ length flows.now }
+        requires weights_len { length weights.now ≡ self.old.coflows }
+        requires present_len { length present.now ≡ self.old.coflows }
+        requires weights_fit { All (λ w. w ≤ 2 ^ 32) weights.now }
+        requires units { sum left.now ≤ 2 ^ 40 }
+        ensures version { self.new.version ≡ self.old.version + 1 }
+        ensures order { (i : Instance) → IsLeft i flows.now left.now weights.now present.now self.old.ports → IsOrder i self.new.places }
+        ensures coflows_are { self.new.coflows ≡ self.old.coflows }
+        ensures ports_are { self.new.ports ≡ self.old.ports }
+    {
+        self.loads.fill(flows, left, present);
+        self.bssi.run(&mut self.loads, weights, present);
+        rank_places(&mut self.ranks, self.bssi.places());
+        self.version += 1;
+    }
+
+    /// The newest version; 0 before the first publishing.
+    pub fn version(&self) -> u32
+        ensures { result ≡ self.now.version }
+    {
+        self.version
+    }
+
+    /// The places of the newest version, from place 1 on. No coflow has two.
+    pub fn places(&self) -> &[Place]
+        ensures places { result.now ≡ self.now.places }
+        ensures few { length self.now.places ≤ self.now.coflows }
+        ensures once { IsDistinct (ranked self.now.places) }
+        ensures coflow { All (λ (x : Place). x.coflow < self.now.coflows) self.now.places }
+    {
+        self.bssi.places()
+    }
+
+    /// The place of a coflow in the newest version, counted from 1, or 0 where it has none.
+    pub fn rank(&self, coflow: u32) -> u32
+        requires { coflow < self.now.coflows }
+        ensures { result ≡ rank_in (ranked self.now.places) coflow }
+    {
+        self.ranks[coflow as usize]
+    }
+}
+
+/// Gives each coflow its place, counted from 1, and 0 to those without one.
+fn rank_places(ranks: &mut [u32], places: &[Place])
+    requires few { length places.now ≤ 4096 }
+    requires once { IsDistinct (ranked places.now) }
+    requires coflow { All (λ (x : Place). x.coflow < length ranks.old) places.now }
+    ensures { (coflow : ℕ) → coflow < length ranks.old → slice_index ranks.new coflow ≡ rank_in (ranked places.now) coflow }
+{
+    ranks.fill(0);
+    for number in 0..places.len() {
+        ranks[places[number].coflow as usize] = number as u32 + 1;
+    }
+}
