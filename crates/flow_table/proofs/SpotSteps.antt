@@ -72,13 +72,6 @@ pub record StandsAt (spots : List Spot) (location first : ℕ) : Type 0 where
   pub earlier : (s : ℕ) (d : Spot) → s < first → (get_or spots s d).location < location
   pub later : (s : ℕ) (d : Spot) → first ≤ s → s < length spots → location ≤ (get_or spots s d).location
 
-pub stands_first : (spots : List Spot) → StandsAt spots 0 0
-stands_first spots = record {
-  within = omega arith;
-  earlier = λ s d lt. absurd (omega arith);
-  later = λ s d low high. omega arith;
-}
-
 -- past the spots of a location
 pub stands_next : (spots : List Spot) (location first end : ℕ) → IsNonDecreasingBy (λ (s : Spot). s.location) spots → StandsAt spots location first → EndsAt spots location first end → StandsAt spots (location + 1) end
 stands_next spots location first end up at ends = record {
