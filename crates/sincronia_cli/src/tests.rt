@@ -1,10 +1,16 @@
 //! The top call on worked rows, over shelves and sinks in memory.
+ghost use Rattle.std.specs.Prelude.{◌<◌, ℕ, All, Contains, IsTrue};
+ghost use Rattle.coflow_units.specs.Flows.{IsDistinct};
+
 use crate::{Status, sincronia};
-use coflow_units::Quantity;
+use coflow_units::{MAX_TEXT, Quantity};
+use flow_table::Table;
 use outside::{MemShelf, MemSink, SureShelf};
+use slot_switch::{serve_slot_by_slot, simulate};
 use std::alloc::Global;
+use std::process::Abort;
 use std::test::Fail;
-use trace_reader::TraceFault;
+use trace_reader::{TraceFault, read_trace};
 use weights::WeightsFault;
 
 const TWO: &[u8] = b"2 2\n1 0 1 0 1 1:3\n2 0 1 0 1 1:1\n";
@@ -19,6 +25,9 @@ run 1 1
 run 3 0
 end
 ";
+
+const THREE: &[u8] =
+    b"150 3\n1 0 2 20 38 1 93:1.0\n2 120 1 7 2 93:4.5 7:2\n3 250 3 20 64 110 2 38:6.25 93:1\n";
 
 const ONE_TEXT: &[u8] = b"sincronia 2
 place 1 7 in 0 1099511627776 1 1
@@ -91,7 +100,7 @@ fn traces_are_planned(rt: HostRuntime) -> Result<(), Fail> {
             b"sincronia 2\nplace 1 1 in 0 274877906944 4 1\nbound 4\nslack 0\ncost 4\nrun 4 0\nend\n",
         ),
         (
-            b"150 3\n1 0 2 20 38 1 93:1.0\n2 120 1 7 2 93:4.5 7:2\n3 250 3 20 64 110 2 38:6.25 93:1\n",
+            THREE,
             b"sincronia 2\nplace 1 1 in 20 1099511627776 1 1\nplace 2 3 out 38 157073089682 7 1\nplace 3 2 in 7 157073089682 8 1\nbound 15\nslack 1\ncost 16\nrun 1 0 1 5\nrun 1 1 3\nrun 2 2 3\nrun 1 4 5\nrun 2 2 6\nrun 1 2\nend\n",
         ),
         (
@@ -220,6 +229,80 @@ fn bad_files_have_their_first_fault(rt: HostRuntime) -> Result<(), Fail> {
         let (have, out) = run(alloc, &words, trace, weights)?;
         assert_eq!(rt; have, status);
         assert_eq!(rt; out.bytes().len(), 0);
+    }
+    Ok(())
+}
+
+/// Tests that no coflow stands twice.
+fn is_distinct(order: &[u32]) -> bool
+    ensures { IsTrue result → IsDistinct order.now }
+{
+    for place in 0..order.len() {
+        if order[..place].contains(&order[place]) {
+            return false;
+        }
+    }
+    true
+}
+
+/// Tests that each coflow of the order is below the count.
+fn are_below(order: &[u32], count: u32) -> bool
+    ensures { IsTrue result → All (λ c. c < count) order.now }
+{
+    order.iter().all(|coflow| *coflow < count)
+}
+
+/// Tests that the order has each coflow below the count.
+fn has_all_below(order: &[u32], count: u32) -> bool
+    ensures { IsTrue result → (c : ℕ) → c < count → Contains order.now c }
+{
+    for coflow in 0..count {
+        if order.contains(&coflow) {
+            continue;
+        }
+        return false;
+    }
+    true
+}
+
+/// Serves an order run by run and slot by slot, and compares the schedules.
+fn serve_both(rt: &impl Abort, alloc: Global, table: &Table, order: &[u32]) -> Result<(), Fail> {
+    let fit = is_distinct(order);
+    assert!(rt; fit);
+    let fit = are_below(order, table.coflows());
+    assert!(rt; fit);
+    let fit = has_all_below(order, table.coflows());
+    assert!(rt; fit);
+    let by_runs = simulate(alloc, table, order)?;
+    let by_slots = serve_slot_by_slot(alloc, table.flows(), table.starts(), order, table.ports())?;
+    assert_eq!(rt; by_runs.runs().len(), by_slots.runs().len());
+    for (run, other) in by_runs.runs().iter().zip(by_slots.runs()) {
+        assert_eq!(rt; run.length, other.length);
+        assert_eq!(rt; run.flows.as_slice(), other.flows.as_slice());
+    }
+    Ok(())
+}
+
+#[test]
+fn runs_and_single_slots_make_one_schedule(rt: HostRuntime) -> Result<(), Fail> {
+    let alloc = rt.alloc();
+    let rows: [(&[u8], u64, &[u32]); 5] = [
+        (TWO, 1, &[0, 1]),
+        (TWO, 2, &[1, 0]),
+        (THREE, 1, &[0, 2, 1]),
+        (THREE, 1, &[1, 2, 0]),
+        (THREE, 3, &[2, 0, 1]),
+    ];
+    for (text, unit, order) in rows {
+        let fit = text.len() <= MAX_TEXT && unit >= 1 && unit <= 1024;
+        assert!(rt; fit);
+        let Ok(trace) = read_trace(alloc, text) else {
+            panic!(rt; "no trace");
+        };
+        let Ok(table) = Table::build(alloc, &trace, unit) else {
+            panic!(rt; "no table");
+        };
+        serve_both(&rt, alloc, &table, order)?;
     }
     Ok(())
 }
