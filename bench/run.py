@@ -16,29 +16,82 @@ PROGRAM = os.path.join(TOP, "crates", "sincronia", "out", "sincronia")
 ORDER = os.path.join(TOP, "crates", "order_bench", "out", "order_bench")
 
 
-def plain(ports, coflows):
+def text(ports, coflows):
+    """The trace of coflows, each its mappers and its reducers with their megabytes."""
     lines = ["%d %d" % (ports, len(coflows))]
-    lines += ["%d 0 1 %d 1 %d:%d" % (ident, a, b, mb) for ident, (a, b, mb) in enumerate(coflows, 1)]
+    for ident, (mappers, reducers) in enumerate(coflows, 1):
+        lines.append("%d 0 %d %s %d %s" % (ident, len(mappers), " ".join(map(str, mappers)), len(reducers),
+                                           " ".join("%d:%s" % reducer for reducer in reducers)))
     return ("\n".join(lines) + "\n").encode()
 
 
 def spread():
     r = random.Random(1)
-    return plain(1024, [(r.randrange(1025), r.randrange(1025), 256) for _ in range(4096)])
+    return text(1024, [([r.randrange(1025)], [(r.randrange(1025), 256)]) for _ in range(4096)])
 
 
-def staircase():
-    return plain(1024, [(0, 0, 2**20)])
+def large():
+    return text(1024, [([0], [(0, 2**20)])])
 
 
 def one_pair():
-    return plain(1024, [(0, 0, 256)] * 4096)
+    return text(1024, [([0], [(0, 256)])] * 4096)
 
 
+def narrow():
+    r = random.Random(1)
+    return text(1024, [([r.randrange(1025)], [(r.randrange(1025), 1 + r.randrange(255))]) for _ in range(4096)])
+
+
+def many_fields():
+    """50 MB of lines of 3040 mappers each."""
+    r = random.Random(1)
+    return text(1024, [([100 + r.randrange(900) for _ in range(3040)], [(r.randrange(1025), 1)]) for _ in range(4096)])
+
+
+def one_location():
+    """64 MB of lines of 4096 mappers and 4096 reducers, all on location 0."""
+    line = "0 4096 %s 4096 %s" % (" ".join(["0"] * 4096), " ".join(["0:1"] * 4096))
+    count = (2**26 - 16) // (len(line) + 6)
+    lines = ["1024 %d" % count] + ["%d %s" % (ident, line) for ident in range(1, count + 1)]
+    return ("\n".join(lines) + "\n").encode()
+
+
+def hour():
+    """A trace of the shape of the public one-hour trace: 150 ports and 526 coflows, most of them short or narrow, and nearly all bytes in the long and wide ones."""
+    r = random.Random(1)
+
+    def between(low, high):
+        return low * (high / low) ** r.random()
+
+    coflows = []
+    for _ in range(526):
+        kind = r.random()
+        if kind < 0.52:
+            m, n, size = between(1, 8), between(1, 7), between(0.05, 4.9)
+        elif kind < 0.68:
+            m, n, size = between(1, 8), between(1, 7), between(5, 1000)
+        elif kind < 0.83:
+            m, n, size = between(12, 151), between(5, 100), between(0.05, 4.9)
+        elif kind < 0.87:
+            m, n, size = r.randrange(140, 151), r.randrange(140, 151), between(5, 40)
+        else:
+            m, n, size = between(25, 151), between(15, 151), between(5, 40)
+        m, n = min(150, int(m)), min(150, int(n))
+        mappers, reducers = sorted(r.sample(range(150), m)), sorted(r.sample(range(150), n))
+        coflows.append((mappers, [(place, "%.1f" % max(0.1, size * m * r.uniform(0.5, 1.5))) for place in reducers]))
+    return text(150, coflows)
+
+
+# name, trace, words behind `plan t`, seconds that the run is to take at most
 TRACES = [
-    ("plan, 4096 coflows of 256 MB over 1024 ports", spread, 10),
-    ("plan, one coflow of 2^20 MB", staircase, 10),
-    ("plan, 4096 coflows of 256 MB from port 0 to port 0", one_pair, None),
+    ("plan, 4096 coflows of 256 MB over 1024 ports", spread, [], 10),
+    ("plan, one coflow of 2^20 MB", large, [], 10),
+    ("plan, 4096 coflows of 256 MB from port 0 to port 0", one_pair, [], None),
+    ("plan, 4096 coflows of one flow over 1024 ports", narrow, [], 1),
+    ("plan, 50 MB of lines of 3040 mappers", many_fields, [], 2),
+    ("plan, 64 MB of lines on one location", one_location, [], 10),
+    ("plan, the shape of the public trace, --unit 16", hour, ["--unit", "16"], 10),
 ]
 
 
@@ -79,15 +132,16 @@ def main():
     build(ORDER)
     other = sys.argv[1] if len(sys.argv) > 1 else None
     with tempfile.TemporaryDirectory() as folder:
-        for name, make, bound in TRACES:
+        for name, make, options, bound in TRACES:
             with open(os.path.join(folder, "t"), "wb") as file:
                 file.write(make())
-            seconds, code, size, memory = peak(PROGRAM, ["plan", "t"], folder)
+            words = ["plan", "t", *options]
+            seconds, code, size, memory = peak(PROGRAM, words, folder)
             line = "%-55s %8.2f s  %5d MiB  code %d  %d bytes" % (name, seconds, memory, code, size)
             if bound is not None:
-                line += "  (bound %d s, 1024 MiB)" % bound
+                line += "  (bound %d s)" % bound
             if other is not None:
-                line += "  other %.2f s" % timed(other, ["plan", "t"], folder)[0]
+                line += "  other %.2f s" % timed(other, words, folder)[0]
             print(line, flush=True)
         seconds, code, _, memory = peak(ORDER, ["4096", "1024", "1"], folder)
         print("%-55s %8.2f s  %5d MiB  code %d  (bound 2 s)" % ("loads and order, 4096 coflows over 1024 ports", seconds, memory, code))
