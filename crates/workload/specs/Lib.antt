@@ -1,0 +1,3 @@
+pub mod Draws
+pub mod Coflows
+pub mod Text
