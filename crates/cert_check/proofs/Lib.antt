@@ -1,0 +1,12 @@
+pub mod LeastSteps
+pub mod IdSteps
+pub mod SlotSteps
+pub mod CostSteps
+pub mod CertificateOf
+pub mod NameSteps
+pub mod InstanceFacts
+pub mod Refusals
+pub mod Firsts
+pub mod EndFacts
+pub mod Verdicts
+pub mod TestSteps

@@ -1,0 +1,5 @@
+pub mod Places
+pub mod Stated
+pub mod Sound
+pub mod Reasons
+pub mod Parts

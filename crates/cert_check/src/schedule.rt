@@ -1,0 +1,105 @@
+//! What a report says of its schedule.
+ghost use Rattle.std.specs.Prelude.{◌≡◌, ◌<◌, ◌≤◌, ◌+◌, ◌-◌, ◌*◌, ◌^◌, All, IfOk, MatchOption, length, slice_index, sum_by};
+ghost use Rattle.std.specs.List.{range_with_len};
+ghost use Rattle.std.specs.List.Sorted.{IsStrictlyIncreasing};
+ghost use Rattle.coflow_units.specs.declared.plan.Run.{Run};
+ghost use Rattle.flow_table.specs.Table.{instance_of};
+ghost use Rattle.report.specs.Report.{IsReport};
+ghost use Rattle.schedule_model.specs.RunList.{slots_in};
+ghost use Rattle.cert_check.specs.Parts.{HasSoundSchedule, IsFirstFrom, reason_for};
+ghost use Rattle.cert_check.specs.Places.{NamesEach, coflows_in};
+
+use crate::stated::{ends_of, least_wrong};
+use crate::verdict::Reason;
+use coflow_units::{NoMemory, Run};
+use flow_table::Table;
+use report::Report;
+use schedule_model::{Schedule, ScheduleFault, completions, find_fault};
+use std::alloc::Global;
+
+/// The first reason of the schedule, the completions and the cost, where the places name these coflows.
+pub(crate) fn wrong_schedule(
+    alloc: Global,
+    table: &Table,
+    weights: &[u64],
+    coflows: &[u32],
+    report: &Report,
+) -> Result<Option<Reason>, NoMemory>
+    requires weight_each { length weights.now ≡ length table.now.ids }
+    requires weight_range { All (λ w. w ≤ 2 ^ 32) weights.now }
+    requires report { IsReport report.now }
+    requires fits { 4 * report.now.bound + report.now.slack < 340282366920938463463374607431768211456 }
+    requires coflows { coflows.now ≡ coflows_in table.now.ids report.now.places }
+    requires names { NamesEach (length table.now.ids) (coflows_in table.now.ids report.now.places) }
+    ensures { IfOk result (λ found. MatchOption found (HasSoundSchedule (instance_of table.now weights.now) table.now.ids report.now)
+        (IsFirstFrom (instance_of table.now weights.now) table.now.ids report.now 6)) }
+{
+    let flows = table.flows();
+    let schedule = schedule_of(alloc, report.runs.as_slice())?;
+    if let Some(fault) = find_fault(alloc, flows, &schedule)? {
+        return Ok(Some(reason_of(fault)));
+    }
+    let ends = completions(alloc, flows, table.coflows(), &schedule)?;
+    let stated = ends_of(alloc, report.places.as_slice())?;
+    if let Some(claim) = least_wrong(coflows, &stated, &ends) {
+        return Ok(Some(Reason::DoneWrong {
+            coflow: claim.coflow,
+            stated: claim.stated,
+            real: claim.real,
+        }));
+    }
+    let real = cost_of(weights, &ends);
+    if report.cost != real {
+        return Ok(Some(Reason::CostWrong {
+            stated: report.cost,
+            real,
+        }));
+    }
+    let most = 4 * report.bound + report.slack;
+    if report.cost > most {
+        return Ok(Some(Reason::RatioBroken {
+            cost: report.cost,
+            most,
+        }));
+    }
+    Ok(None)
+}
+
+/// The schedule of the runs.
+fn schedule_of(alloc: Global, runs: &[Run]) -> Result<Schedule, NoMemory>
+    requires lengths { All (λ (run : Run). 1 ≤ run.length) runs.now }
+    requires few_slots { sum_by (λ (run : Run). run.length) runs.now ≤ 2 ^ 41 - 1 }
+    requires ascending { All (λ (run : Run). IsStrictlyIncreasing run.flows) runs.now }
+    ensures { IfOk result (λ schedule. schedule ≡ slots_in runs.now) }
+{
+    let mut schedule = Schedule::new(alloc);
+    for run in runs {
+        schedule.push_run(run.length, run.flows.as_slice())?;
+    }
+    Ok(schedule)
+}
+
+/// The fault of a schedule, as a reason.
+fn reason_of(fault: ScheduleFault) -> Reason
+    ensures { result ≡ reason_for fault }
+{
+    match fault {
+        ScheduleFault::NoFlow { slot, flow } => Reason::NoFlow { slot, flow },
+        ScheduleFault::Clash { slot, port } => Reason::ClashIn { slot, port },
+        ScheduleFault::Units { flow, have, want } => Reason::UnitsOf { flow, have, want },
+    }
+}
+
+/// The sum of weight times completion over the coflows, which both lists have by number.
+fn cost_of(weights: &[u64], ends: &[u64]) -> u128
+    requires each { length ends.now ≡ length weights.now }
+    requires few { length weights.now ≤ 4096 }
+    requires small { All (λ w. w ≤ 2 ^ 32) weights.now }
+    ensures { result ≡ sum_by (λ c. slice_index weights.now c * slice_index ends.now c) (range_with_len 0 (length weights.now)) }
+{
+    let mut cost = 0;
+    for coflow in 0..weights.len() {
+        cost += u128::from(weights[coflow]) * u128::from(ends[coflow]);
+    }
+    cost
+}
