@@ -4,6 +4,7 @@
 Use: checks/program_runs.py            The last line is 'N passed, M failed'; the exit code is 0 where none failed.
 """
 import os
+import resource
 import subprocess
 import sys
 import tempfile
@@ -55,6 +56,7 @@ ROWS = [
     ("a size with an exponent", b"1 1\n1 0 1 0 1 1:1.0E-5\n", None, ["plan", "t"], 3, b"", b"sincronia: trace: line 2 field 6\n"),
     ("an id above 2^32 - 1", b"1 1\n4294967296 0 1 0 1 1:1\n", None, ["plan", "t"], 7, b"", b"sincronia: limit: id 4294967296\n"),
     ("more than 2^40 units", b"1 1\n1 0 1 0 2 1:1099511627776 1:1\n", None, ["plan", "t"], 7, b"", b"sincronia: limit: units 1099511627777\n"),
+    ("2^26 bytes", TWO + b"\n" * (2**26 - len(TWO)), None, ["plan", "t"], 0, TWO_TEXT, b""),
     ("2^26 + 1 bytes", b"1" * (2**26 + 1), None, ["plan", "t"], 7, b"", b"sincronia: limit: text 67108865\n"),
     ("weights of 2^26 + 1 bytes", TWO, b"1" * (2**26 + 1), WEIGHTED, 7, b"", b"sincronia: limit: text 67108865\n"),
     ("a weight of 0", TWO, b"1 0\n", WEIGHTED, 7, b"", b"sincronia: limit: weight 0\n"),
@@ -81,7 +83,12 @@ def build():
     return os.path.exists(PROGRAM)
 
 
-def run(row, stdout=None):
+def little_memory():
+    """Leaves the program 64 MiB of addresses."""
+    resource.setrlimit(resource.RLIMIT_AS, (2**26, 2**26))
+
+
+def run(row, stdout=None, before=None):
     name, trace, weights, words, code, out, err = row
     with tempfile.TemporaryDirectory() as folder:
         for file_name, content in (("t", trace), ("w", weights)):
@@ -90,7 +97,7 @@ def run(row, stdout=None):
                     file.write(content)
         words = [word if isinstance(word, bytes) else word.encode() for word in words]
         done = subprocess.run([PROGRAM.encode(), *words], cwd=folder, timeout=120,
-                              stdout=stdout or subprocess.PIPE, stderr=subprocess.PIPE, stdin=subprocess.DEVNULL)
+                              stdout=stdout or subprocess.PIPE, stderr=subprocess.PIPE, stdin=subprocess.DEVNULL, preexec_fn=before)
     have = (done.returncode, done.stdout or b"", done.stderr)
     if have == (code, out, err):
         return True
@@ -106,6 +113,7 @@ def main():
     results = [run(row) for row in ROWS]
     with open("/dev/full", "wb") as full:
         results.append(run(("a full device", TWO, None, ["plan", "t"], 9, b"", WRITE_FAULT), full))
+    results.append(run(("no memory for the text", b"\n" * 2**26, None, ["plan", "t"], 11, b"", b"sincronia: no memory\n"), before=little_memory))
     print("%d passed, %d failed" % (results.count(True), results.count(False)))
     return 0 if all(results) else 1
 
