@@ -64,7 +64,7 @@ unfoldable pub before_coflow : ℕ → ℕ → ℕ
 before_coflow seed zero = seed
 before_coflow seed (suc k) = behind_coflow (before_coflow seed k)
 
--- The arrival before the coflow with index k: it starts at 0 and grows for each coflow.
+-- The arrival before the coflow with index k: it starts at 0, and each of the coflows before this one has let it grow.
 abbrev pub arrival_before : ℕ → ℕ → ℕ
 arrival_before seed k = sum_by growth (map (before_coflow seed) (range_with_len 0 k))
 

@@ -8,9 +8,10 @@ use crate::numbers::Numbers;
 use coflow_units::{Items, NoMemory};
 use std::alloc::Global;
 
-/// How many coflows are made, and how many locations there are. The first line of a trace says so.
+/// How many coflows are made, as the first line of a trace says.
 const COFLOWS: u64 = 200;
 
+/// How many locations there are, as the first line of a trace says.
 const LOCATIONS: u64 = 150;
 
 /// The coflows of a seed.

@@ -2,9 +2,10 @@
 ghost use Rattle.std.specs.Prelude.{◌≡◌, ◌<◌, ◌≤◌};
 ghost use Rattle.workload.specs.Draws.{draw, next};
 
-/// The multiplier and the increment that Knuth uses for MMIX (The Art of Computer Programming, volume 2, section 3.3.4).
+/// The multiplier that Knuth uses for MMIX (The Art of Computer Programming, volume 2, section 3.3.4).
 const MULTIPLIER: u64 = 6_364_136_223_846_793_005;
 
+/// The increment that Knuth uses for MMIX.
 const INCREMENT: u64 = 1_442_695_040_888_963_407;
 
 /// A linear congruential generator of 64 bits, of which the high 31 are used.
