@@ -1,7 +1,7 @@
 -- The places of a report as entries of a certificate, one after another.
-use Rattle.std.proofs.Common.{◌≡◌, ℕ, ◌+◌, ◌<◌, List, [], ◌∷◌, ◌++◌, length, get_or, take, refl, sym, ap, ◌∙◌, arith, zero, suc}
+use Rattle.std.proofs.Common.{◌≡◌, ℕ, ◌+◌, ◌<◌, List, [], ◌∷◌, ◌++◌, length, take, refl, sym, ap, ◌∙◌, arith, zero, suc}
 use Rattle.std.specs.Prelude.{map, slice_index}
-use Rattle.std.proofs.lemmas.List.{map_push, take_all, length-map}
+use Rattle.std.proofs.lemmas.List.{map_push, take_all}
 use Rattle.coflow_units.specs.declared.plan.Place.{Place}
 use Rattle.coflow_units.specs.Certificate.{Entry, entry_of}
 use Rattle.report.specs.declared.value.PlaceLine.{PlaceLine}

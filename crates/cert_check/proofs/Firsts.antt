@@ -15,7 +15,7 @@ use Rattle.schedule_model.specs.RunList.{slots_in}
 use Rattle.dual_cert.specs.TableCertificate.{IsLeastInfeasible}
 use Rattle.cert_check.specs.declared.verdict.Reason.{Reason}
 use Rattle.cert_check.specs.declared.verdict.Reason.TheVariants.{BoundTooHigh, ClashIn, CostWrong, DoneWrong, Infeasible, NoFlow, NotPermutation, PortRange, RatioBroken, SlackWrong, UnitsOf, WeightWrong}
-use Rattle.cert_check.specs.Parts.{HasSoundCertificate, HasSoundSchedule, IsFirstFrom, reason_for}
+use Rattle.cert_check.specs.Parts.{HasSoundCertificate, IsFirstFrom, reason_for}
 use Rattle.cert_check.specs.Places.{IsFirstWrong, NamesEach, certificate_in, coflows_in, ends_in, ids_in}
 use Rattle.cert_check.specs.Reasons.{HasReason, IsFirstReason, kind}
 use Rattle.cert_check.specs.Stated.{AreReal, AreRealIfAny, IsLeastWrong}

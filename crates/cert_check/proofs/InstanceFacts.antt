@@ -6,22 +6,21 @@ use Rattle.std.proofs.lemmas.List.{length-map, reverse-append}
 use Rattle.std.proofs.Math.Nat.{mul-le-mul_left}
 use Rattle.std.proofs.lemmas.List.Sums.{sum_by-cons}
 use Rattle.std.proofs.lemmas.List.Elements.{All-contains, All-head, All-map, All-nil, All-push, All-tail, Contains-push_cases}
-use Rattle.coflow_units.specs.declared.fabric.Flow.{Flow}
 use Rattle.coflow_units.specs.declared.fabric.Port.{Port}
 use Rattle.coflow_units.specs.Certificate.{Entry, IsCertificate, IsFeasible, bound, budget, div_up, dual_value, front, slack, unspent}
-use Rattle.coflow_units.specs.Flows.{Instance, IsDistinct}
+use Rattle.coflow_units.specs.Flows.{IsDistinct}
 use Rattle.coflow_units.specs.Load.{load_of_all}
 use Rattle.coflow_units.proofs.Numbers.{div_up_least}
 use Rattle.coflow_units.proofs.Lists.{in_reverse, into_reverse, number_below, number_in, reverse-cons}
 use Rattle.coflow_units.proofs.Sums.{Apart, all_of_members, apart_from_pairs, in_first, in_tail, nothing_in, pairs_from_apart}
-use Rattle.port_load.specs.LoadTable.{HasLoads, LoadTable, load_at, total_at}
+use Rattle.port_load.specs.LoadTable.{LoadTable, total_at}
 use Rattle.port_load.proofs.FlowSteps.{loads_within}
 use Rattle.port_load.proofs.LoadSums.{within_units}
 use Rattle.dual_cert.specs.TableCertificate.{HasLoadsOf, HasWeightsOf, IsCertificateOf, StaysInBudget}
 use Rattle.dual_cert.proofs.FirstPlaces.{map_reverse}
 use Rattle.dual_cert.proofs.SizeLaws.{unspent_fits, value_fits}
 use Rattle.schedule_model.proofs.CostSums.{weight_small}
-use Rattle.dual_cert.proofs.OfInstance.{certificate_of, loads_of_coflows, stays_of, weights_of_coflows}
+use Rattle.dual_cert.proofs.OfInstance.{certificate_of, loads_of_coflows, stays_of}
 use Rattle.flow_table.specs.Table.{IsTable, TableFacts, instance_of}
 use Rattle.report.specs.declared.value.PlaceLine.{PlaceLine}
 use Rattle.cert_check.specs.Places.{NamesEach, certificate_in, coflows_in, entry_for}

@@ -1,9 +1,7 @@
 -- The wrong number of the least coflow, among the places so far.
-use Rattle.std.proofs.Common.{◌≡◌, ◌≢◌, ℕ, ◌+◌, ◌≤◌, ◌<◌, ◌⊎◌, inl, inr, List, length, refl, sym, ap, ◌∙◌, arith}
-use Rattle.std.specs.Prelude.{MatchOption, Option, None, Some, slice_index}
-use Rattle.std.proofs.lemmas.Bool.{cases_lt, cases_eq}
+use Rattle.std.proofs.Common.{◌≡◌, ◌≢◌, ℕ, ◌<◌, List}
+use Rattle.std.specs.Prelude.{Option, None, Some, slice_index}
 use Rattle.cert_check.specs.declared.stated.Claim.{Claim}
-use Rattle.cert_check.specs.Stated.{AreReal, IsLeastWrong}
 
 -- the numbers of the first k places are real
 abbrev pub AreRealTo : List ℕ → List ℕ → (ℕ → ℕ) → ℕ → Type 0

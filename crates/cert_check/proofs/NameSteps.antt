@@ -1,8 +1,8 @@
 -- Ids that name coflows, one after another.
-use Rattle.std.proofs.Common.{◌≡◌, ◌≢◌, ℕ, ◌+◌, ◌-◌, ◌≤◌, ◌<◌, ◌⊎◌, inl, inr, Bool, true, false, cond, List, [], ◌∷◌, ◌++◌, length, get_or, take, nat_eq, refl, sym, ap, subst, ◌∙◌, arith, Contains}
+use Rattle.std.proofs.Common.{◌≡◌, ℕ, ◌+◌, ◌-◌, ◌≤◌, ◌<◌, inl, inr, Bool, true, false, cond, List, [], ◌∷◌, ◌++◌, length, get_or, take, nat_eq, refl, sym, ap, subst, ◌∙◌, arith, Contains}
 use Rattle.std.specs.Prelude.{◌==◌, ◌||◌, All, None, Option, Some, map, slice_index, sum_by, unwrap_or}
 use Rattle.std.specs.List.{list_any, position_or_len, range_with_len}
-use Rattle.std.proofs.lemmas.Bool.{cases_Bool, cases_lt, eqb-true, false≢true, or_cases}
+use Rattle.std.proofs.lemmas.Bool.{cases_Bool, cases_lt, false≢true}
 use Rattle.std.proofs.lemmas.List.{get_or-map, get_or-take, get_or_default, length-map, length-take-le, map_push, take_all, take_more}
 use Rattle.std.proofs.lemmas.List.Elements.{All-contains}
 use Rattle.std.proofs.lemmas.List.Sums.{sum_by-cons}
@@ -11,8 +11,8 @@ use Rattle.std.proofs.lemmas.List.Folds.{list_any-append}
 use Rattle.coflow_units.specs.declared.fabric.Side.TheVariants.{Ingress}
 use Rattle.coflow_units.specs.Flows.{IsDistinct}
 use Rattle.coflow_units.proofs.LinePlaces.{at_place, place_of_member}
-use Rattle.coflow_units.proofs.Lists.{number_below, number_in, numbers_apart}
-use Rattle.coflow_units.proofs.Sums.{Apart, all_of_members, any_has, any_in, apart_from_pairs, first_or_tail, members_at_most}
+use Rattle.coflow_units.proofs.Lists.{number_in}
+use Rattle.coflow_units.proofs.Sums.{Apart, any_has, any_in, apart_from_pairs, first_or_tail, members_at_most}
 use Rattle.report.specs.declared.value.PlaceLine.{PlaceLine}
 use Rattle.cert_check.specs.Places.{IsFirstWrong, IsNew, IsNotNew, IsWrong, NamesEach, coflow_with, ids_in, place_at}
 use Rattle.cert_check.proofs.IdSteps.{found, found_at, found_not}
@@ -76,14 +76,14 @@ pub named_count : (ids stated : List ℕ) (k : ℕ) (left : ℕ → Option ℕ) 
 named_count ids stated k left coflows so_far = ap (λ l. length l) so_far.coflows_are ∙ length-map (take k stated) (coflow_with ids) ∙ length-take-le k stated so_far.inside
 
 -- the next id is new where it is left
-is_new : (ids stated : List ℕ) (k : ℕ) (o : Option ℕ) (coflow : ℕ) (b : Bool) → list_any (λ x. x == slice_index stated k) (take k stated) ≡ b → o ≡ cond b None (found ids (slice_index stated k)) → o ≡ Some coflow →
+pub is_new : (ids stated : List ℕ) (k : ℕ) (o : Option ℕ) (coflow : ℕ) (b : Bool) → list_any (λ x. x == slice_index stated k) (take k stated) ≡ b → o ≡ cond b None (found ids (slice_index stated k)) → o ≡ Some coflow →
     IsNew ids stated k × (coflow_with ids (slice_index stated k) ≡ coflow)
 is_new ids stated k o coflow true e is some = let no : None ≡ Some coflow = sym is ∙ some in cc
 is_new ids stated k o coflow false e is some =
     let (known, at) = found_known ids (slice_index stated k) coflow (sym is ∙ some) in
     (record { known = known; once = λ has. false≢true (sym e ∙ any_in (take k stated) (slice_index stated k) has) }, at)
 
-is_not_new : (ids stated : List ℕ) (k : ℕ) (o : Option ℕ) (b : Bool) → list_any (λ x. x == slice_index stated k) (take k stated) ≡ b → o ≡ cond b None (found ids (slice_index stated k)) → o ≡ None → IsNotNew ids stated k
+pub is_not_new : (ids stated : List ℕ) (k : ℕ) (o : Option ℕ) (b : Bool) → list_any (λ x. x == slice_index stated k) (take k stated) ≡ b → o ≡ cond b None (found ids (slice_index stated k)) → o ≡ None → IsNotNew ids stated k
 is_not_new ids stated k o true e is none = inr (any_has (take k stated) (slice_index stated k) e)
 is_not_new ids stated k o false e is none = inl (not_found ids (slice_index stated k) (sym is ∙ none))
 

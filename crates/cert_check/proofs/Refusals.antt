@@ -1,6 +1,6 @@
 -- What is right has no reason against it, kind by kind.
-use Rattle.std.proofs.Common.{◌≡◌, ◌≢◌, ℕ, ◌+◌, ◌*◌, ◌-◌, ◌≤◌, ◌<◌, inl, inr, List, [], length, get_or, map, refl, sym, ap, ◌∙◌, arith, Contains}
-use Rattle.std.specs.Prelude.{All, None, Option, Some, slice_index, sum_by}
+use Rattle.std.proofs.Common.{◌≡◌, ℕ, ◌-◌, ◌≤◌, ◌<◌, inl, inr, List, [], length, get_or, map, sym, ap, ◌∙◌, arith, Contains}
+use Rattle.std.specs.Prelude.{All, None, Option, Some, slice_index}
 use Rattle.std.specs.List.{range_with_len}
 use Rattle.std.proofs.lemmas.List.{get_or-map, get_or-take, get_or_default, length-map, length-take-le}
 use Rattle.std.proofs.lemmas.List.Elements.{All-contains}
@@ -8,7 +8,6 @@ use Rattle.std.proofs.lemmas.List.FromFn.{length-range_with_len}
 use Rattle.coflow_units.specs.declared.fabric.Flow.{Flow}
 use Rattle.coflow_units.specs.declared.fabric.Port.{Port}
 use Rattle.coflow_units.specs.Certificate.{Entry, IsFeasible}
-use Rattle.coflow_units.specs.Flows.{Instance}
 use Rattle.coflow_units.specs.Schedule.{IsClear, IsValid}
 use Rattle.coflow_units.proofs.Lists.{number_below, numbers_apart}
 use Rattle.coflow_units.proofs.Sums.{members_at_most}

@@ -1,5 +1,5 @@
 -- A right report has no reason against it, and a report without reasons is right.
-use Rattle.std.proofs.Common.{◌≡◌, ◌≢◌, ℕ, ◌+◌, ◌*◌, ◌≤◌, ◌<◌, List, length, get_or, map, reverse, refl, sym, ap, subst, ◌∙◌, arith, Contains}
+use Rattle.std.proofs.Common.{◌≡◌, ℕ, ◌<◌, List, length, map, reverse, refl, sym, subst, ◌∙◌, arith, Contains}
 use Rattle.std.specs.Prelude.{All}
 use Rattle.std.specs.List.{range_with_len}
 use Rattle.std.proofs.lemmas.List.{get_or-map, length-map, reverse-reverse}
@@ -19,7 +19,7 @@ use Rattle.cert_check.specs.declared.verdict.Verdict.{Verdict}
 use Rattle.cert_check.specs.declared.verdict.Verdict.TheVariants.{No, Yes}
 use Rattle.cert_check.specs.Parts.{HasSoundCertificate, HasSoundSchedule}
 use Rattle.cert_check.specs.Places.{NamesEach, certificate_in, coflows_in, ends_in, entry_for}
-use Rattle.cert_check.specs.Reasons.{HasReason, IsFirstReason, IsVerdict}
+use Rattle.cert_check.specs.Reasons.{HasReason, IsVerdict}
 use Rattle.cert_check.specs.Sound.{IsSound}
 use Rattle.cert_check.proofs.InstanceFacts.{all_reverse, apart_reverse, front_is, is_certificate}
 use Rattle.cert_check.proofs.Refusals.{clear_names, no_bad_port, no_clash, no_infeasible, no_miscount, no_stranger, no_wrong_number, no_wrong_place, no_wrong_weight}

@@ -1,5 +1,5 @@
 -- What the parts of a check find.
-use Rattle.std.specs.Prelude.{◌≡◌, ℕ, ◌+◌, ◌*◌, ◌<◌, ◌≤◌, List, All, length, map}
+use Rattle.std.specs.Prelude.{◌≡◌, ℕ, ◌+◌, ◌*◌, ◌^◌, ◌<◌, ◌≤◌, List, All, length}
 use Rattle.coflow_units.specs.Certificate.{IsFeasible, bound, slack}
 use Rattle.coflow_units.specs.Completion.{completion, cost}
 use Rattle.coflow_units.specs.Flows.{Instance}
@@ -34,7 +34,7 @@ pub record HasSoundCertificate (i : Instance) (ids : List ℕ) (r : Report) : Ty
   pub feasible : IsFeasible i.flows i.weight (certificate_in ids r.places)
   pub bound_is_low : r.bound ≤ bound i.flows (certificate_in ids r.places)
   pub slack_is : r.slack ≡ slack i.flows i.weight (certificate_in ids r.places)
-  pub fits : 4 * r.bound + r.slack < 340282366920938463463374607431768211456
+  pub fits : 4 * r.bound + r.slack < 2 ^ 128
 
 -- what a right report says of its schedule
 pub record HasSoundSchedule (i : Instance) (ids : List ℕ) (r : Report) : Type 0 where

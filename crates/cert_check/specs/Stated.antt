@@ -15,11 +15,12 @@ pub record IsLeastWrong (coflows stated : List ℕ) (real : ℕ → ℕ) (coflow
   pub differ : said ≢ is
   pub least : (k : ℕ) → k < length coflows → slice_index coflows k < coflow → slice_index stated k ≡ real (slice_index coflows k)
 
--- the same of numbers that need not be stated
+-- each number is the real one, where any are stated
 abbrev pub AreRealIfAny : List ℕ → Option (List ℕ) → (ℕ → ℕ) → Type 0
 AreRealIfAny coflows None real = Unit {0}
 AreRealIfAny coflows (Some stated) real = AreReal coflows stated real
 
+-- numbers are stated, and this is the least wrong one
 abbrev pub IsLeastWrongOfAny : List ℕ → Option (List ℕ) → (ℕ → ℕ) → ℕ → ℕ → ℕ → Type 0
 IsLeastWrongOfAny coflows None real coflow said is = ⊥
 IsLeastWrongOfAny coflows (Some stated) real coflow said is = IsLeastWrong coflows stated real coflow said is

@@ -28,7 +28,7 @@ pub(crate) fn wrong_schedule(
     requires weight_each { length weights.now ≡ length table.now.ids }
     requires weight_range { All (λ w. w ≤ 2 ^ 32) weights.now }
     requires report { IsReport report.now }
-    requires fits { 4 * report.now.bound + report.now.slack < 340282366920938463463374607431768211456 }
+    requires fits { 4 * report.now.bound + report.now.slack < 2 ^ 128 }
     requires coflows { coflows.now ≡ coflows_in table.now.ids report.now.places }
     requires names { NamesEach (length table.now.ids) (coflows_in table.now.ids report.now.places) }
     ensures { IfOk result (λ found. MatchOption found (HasSoundSchedule (instance_of table.now weights.now) table.now.ids report.now)

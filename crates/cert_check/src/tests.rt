@@ -117,7 +117,7 @@ fn egress(number: u32) -> Port {
     }
 }
 
-/// The reason alone.
+/// The verdict with this first reason.
 fn no(reason: Reason) -> Verdict {
     Verdict::No(reason)
 }

@@ -1,7 +1,7 @@
 use Rattle.std.proofs.Common.{sym, ap, ◌∙◌, arith, length, ◌<◌, ◌≡◌}
 use Rattle.coflow_units.specs.Certificate.{entry_of}
 use Rattle.std.specs.Prelude.{map}
-use Rattle.cert_check.proofs.CertificateOf.{all_entries_named, entries_with, places_more}
+use Rattle.cert_check.proofs.CertificateOf.{all_entries_named, places_more}
 use Rattle.cert_check.proofs.certificate.cert_of.Goals as goal
 
 pub loop-index-preserved : goal.loop-index-preserved

@@ -1,10 +1,10 @@
-use Rattle.std.proofs.Common.{ℕ, ◌≡◌, ◌≤◌, List, length, reverse, ap, refl, subst, sym, ◌∙◌, arith}
+use Rattle.std.proofs.Common.{ℕ, length, reverse, ap, refl, subst, ◌∙◌, arith}
 use Rattle.std.specs.Prelude.{slice_index}
-use Rattle.coflow_units.specs.Certificate.{Entry, IsCertificate, IsFeasible, bound, slack}
+use Rattle.coflow_units.specs.Certificate.{IsCertificate, IsFeasible, bound, slack}
 use Rattle.dual_cert.specs.TableCertificate.{IsLeastInfeasible}
 use Rattle.dual_cert.proofs.OfInstance.{stays_of}
 use Rattle.flow_table.specs.Table.{instance_of}
-use Rattle.cert_check.specs.Places.{certificate_in, coflows_in}
+use Rattle.cert_check.specs.Places.{certificate_in}
 use Rattle.cert_check.specs.Stated.{AreRealIfAny}
 use Rattle.cert_check.proofs.Firsts.{first_high_bound, first_infeasible, first_wrong_slack}
 use Rattle.cert_check.proofs.InstanceFacts.{few_places, settled, totals_fit, values_fit}

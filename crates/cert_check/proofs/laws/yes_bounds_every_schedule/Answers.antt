@@ -1,4 +1,4 @@
-use Rattle.std.proofs.Common.{◌≤◌, ◌*◌, arith}
+use Rattle.std.proofs.Common.{arith}
 use Rattle.dual_cert.proofs.DualLaw.{bound_law}
 use Rattle.cert_check.proofs.laws.yes_bounds_every_schedule.Goals as goal
 

@@ -1,4 +1,4 @@
-use Rattle.std.proofs.Common.{◌<◌, length, arith, sym, ap, ◌∙◌}
+use Rattle.std.proofs.Common.{◌<◌, length, arith}
 use Rattle.std.proofs.lemmas.Grind.{common_steps}
 use Rattle.cert_check.proofs.IdSteps.{found_more}
 use Rattle.cert_check.proofs.places.coflows_by_id.Goals as goal

@@ -1,7 +1,7 @@
-use Rattle.std.proofs.Common.{◌≡◌, ◌≤◌, ◌<◌, ◌+◌, ◌∙◌, ℕ, length, nat_eq, arith, subst, sym}
+use Rattle.std.proofs.Common.{◌≡◌, ◌<◌, ◌+◌, ℕ, length, nat_eq, arith, subst, sym}
 use Rattle.indexmap.specs.IndexMap.{get}
 use Rattle.cert_check.specs.Places.{ids_in}
-use Rattle.cert_check.proofs.NameSteps.{count_ids, id_at, named_all, named_few, named_more, named_none, named_short, named_wrong, NamedSoFar}
+use Rattle.cert_check.proofs.NameSteps.{count_ids, id_at, named_all, named_few, named_more, named_short, named_wrong, NamedSoFar}
 use Rattle.cert_check.proofs.places.coflows_of.Goals as goal
 
 pub overflow_cast-result : goal.overflow_cast-result

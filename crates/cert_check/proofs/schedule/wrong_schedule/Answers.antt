@@ -1,9 +1,9 @@
-use Rattle.std.proofs.Common.{ℕ, ◌≡◌, ◌<◌, List, length, ap, subst, sym, ◌∙◌, arith}
+use Rattle.std.proofs.Common.{◌≡◌, ◌<◌, length, ap, subst, sym, ◌∙◌, arith}
 use Rattle.std.specs.Prelude.{All, Some}
 use Rattle.coflow_units.specs.Completion.{completion}
 use Rattle.schedule_model.specs.RunList.{slots_in}
 use Rattle.schedule_model.proofs.ValidSteps.{valid_names}
-use Rattle.cert_check.specs.Places.{coflows_in, ends_in}
+use Rattle.cert_check.specs.Places.{ends_in}
 use Rattle.cert_check.specs.Parts.{IsFirstFrom}
 use Rattle.cert_check.specs.Stated.{AreReal, IsLeastWrong}
 use Rattle.flow_table.specs.Table.{instance_of}
