@@ -7,7 +7,7 @@ use Rattle.workload.specs.Coflows.{arrival_before, before_coflow, behind_coflow,
 use Rattle.workload.specs.Draws.{draw}
 use Rattle.workload.proofs.DrawSteps.{element_more}
 
-draw_below : (m x : ℕ) → 0 < m → draw m x < m
+pub draw_below : (m x : ℕ) → 0 < m → draw m x < m
 unfolding draw
 draw_below m x lt = mod-lt _ lt
 

@@ -1,2 +1,13 @@
 pub mod DrawSteps
 pub mod CoflowSteps
+pub mod LineWords
+pub mod TextLines
+pub mod DecimalFields
+pub mod MadeRanges
+pub mod MadeLines
+pub mod CoflowFields
+pub mod FieldChecks
+pub mod CoflowPasses
+pub mod TracePasses
+pub mod WeightsPass
+pub mod FlowsFit

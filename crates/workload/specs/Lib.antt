@@ -1,3 +1,4 @@
 pub mod Draws
 pub mod Coflows
 pub mod Text
+pub mod Made

@@ -4,6 +4,7 @@
 mod coflow;
 mod drawing;
 mod generator;
+pub mod laws;
 mod numbers;
 mod writing;
 
