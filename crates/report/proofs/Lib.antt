@@ -1,4 +1,5 @@
 pub mod TextSteps
+pub mod MadeSteps
 pub mod LineText
 pub mod NumberText
 pub mod PartText

@@ -12,7 +12,7 @@ text_more : (lines : List (List ℕ)) (line : List ℕ) → text_of (lines ++ (l
 text_more lines line = flat_map-append ended lines (line ∷ []) ∙ ap (λ x. text_of lines ++ x) (append-nil (ended line))
 
 -- one more line stands at the end of the text
-one_more : (text new : List ℕ) (lines more : List (List ℕ)) (line : List ℕ) → text ≡ text_of lines → new ≡ text ++ ended line → more ≡ lines ++ (line ∷ []) → new ≡ text_of more
+pub one_more : (text new : List ℕ) (lines more : List (List ℕ)) (line : List ℕ) → text ≡ text_of lines → new ≡ text ++ ended line → more ≡ lines ++ (line ∷ []) → new ≡ text_of more
 one_more text new lines more line old step grown = step ∙ (ap (λ x. x ++ ended line) old ∙ (sym (text_more lines line) ∙ ap text_of (sym grown)))
 
 -- the lines of one place more

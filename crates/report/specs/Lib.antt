@@ -1,5 +1,6 @@
 pub mod Report
 pub mod Text
+pub mod Made
 pub mod Readers
 pub mod Reading
 pub mod Draft

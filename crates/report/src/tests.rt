@@ -1,7 +1,7 @@
 ghost use Rattle.std.specs.Prelude.{◌≡◌, IfOk, List, length, ℕ};
 ghost use Rattle.report.specs.Report.{ForEach, HasWeights};
 
-use crate::{PlaceLine, Report, ReportFault, laws, read_report, write_report};
+use crate::{Made, PlaceLine, Report, ReportFault, laws, read_report, write_made, write_report};
 use coflow_units::{Items, MAX_TEXT, Port, Run, Side};
 use std::alloc::{AllocError, Global};
 use std::test::Fail;
@@ -118,6 +118,53 @@ fn writes_an_egress_port_and_idle_slots(rt: HostRuntime) -> Result<(), Fail> {
     let want =
         b"sincronia 2\nplace 1 4294967295 out 1024 340282366920938463463374607431768211455 18446744073709551615 4294967296\nbound 1\nslack 2\ncost 3\nrun 3\nrun 2199023255548 0 7\nend\n";
     assert!(rt; text.as_slice() == want.as_slice());
+    Ok(())
+}
+
+/// Summaries of made workloads: of zeros, of six numbers, and of the greatest numbers.
+#[test]
+fn writes_made(rt: HostRuntime) -> Result<(), Fail> {
+    let zeros = Made {
+        seed: 0,
+        flows: 0,
+        units: 0,
+        bound: 0,
+        slack: 0,
+        cost: 0,
+    };
+    let six = Made {
+        seed: 7,
+        flows: 1_200,
+        units: 10_305,
+        bound: 908_070,
+        slack: 16,
+        cost: 1_000_000,
+    };
+    let greatest = Made {
+        seed: u64::MAX,
+        flows: u32::MAX,
+        units: u64::MAX,
+        bound: u128::MAX,
+        slack: u128::MAX,
+        cost: u128::MAX,
+    };
+    for (made, want) in [
+        (
+            zeros,
+            "sincronia make 0\ncoflows 200 flows 0 units 0\nbound 0\nslack 0\ncost 0\ncheck yes\nend\n",
+        ),
+        (
+            six,
+            "sincronia make 7\ncoflows 200 flows 1200 units 10305\nbound 908070\nslack 16\ncost 1000000\ncheck yes\nend\n",
+        ),
+        (
+            greatest,
+            "sincronia make 18446744073709551615\ncoflows 200 flows 4294967295 units 18446744073709551615\nbound 340282366920938463463374607431768211455\nslack 340282366920938463463374607431768211455\ncost 340282366920938463463374607431768211455\ncheck yes\nend\n",
+        ),
+    ] {
+        let text = write_made(rt.alloc(), &made)?;
+        assert!(rt; text.as_slice() == want.as_bytes());
+    }
     Ok(())
 }
 

@@ -1,11 +1,11 @@
 //! The text of a report.
 ghost use Rattle.std.specs.Prelude.{◌≡◌, ◌<◌, ◌+◌, ◌++◌, IfOk, OnOk, length};
-ghost use Rattle.report.specs.Text.{charge_words, ended, place_line_at, report_text, run_line, side_word, spaced, text_of, total_lines, version_line, weight_at, weight_word};
+ghost use Rattle.report.specs.Text.{charge_words, ended, place_line_at, report_text, run_line, side_word, text_of, total_lines, version_line, weight_at, weight_word};
 ghost use Rattle.report.specs.Report.{HasWeights};
 
+use crate::numbers::{push_named, push_number};
 use crate::value::{PlaceLine, Report};
 use coflow_units::{NoMemory, Run, Side};
-use itoa::Buffer;
 use std::alloc::Global;
 
 /// The text of a report, of version 2 where it has weights, and of version 1 where it has none.
@@ -94,14 +94,9 @@ fn word_of(side: Side) -> &'static [u8]
 fn push_totals(text: &mut Vec<u8>, report: &Report) -> Result<(), NoMemory>
     ensures { OnOk result (text.new.items ≡ text.old.items ++ text_of (total_lines report.now)) }
 {
-    text.extend_from_slice(b"bound")?;
-    push_number(text, report.bound)?;
-    text.extend_from_slice(b"\nslack")?;
-    push_number(text, report.slack)?;
-    text.extend_from_slice(b"\ncost")?;
-    push_number(text, report.cost)?;
-    text.extend_from_slice(b"\n")?;
-    Ok(())
+    push_named(text, b"bound", report.bound)?;
+    push_named(text, b"slack", report.slack)?;
+    push_named(text, b"cost", report.cost)
 }
 
 /// The line of a run.
@@ -114,15 +109,5 @@ fn push_run(text: &mut Vec<u8>, run: &Run) -> Result<(), NoMemory>
         push_number(text, u128::from(*flow))?;
     }
     text.extend_from_slice(b"\n")?;
-    Ok(())
-}
-
-/// A number behind a space.
-fn push_number(text: &mut Vec<u8>, number: u128) -> Result<(), NoMemory>
-    ensures { OnOk result (text.new.items ≡ text.old.items ++ spaced number) }
-{
-    let mut buffer = Buffer::new();
-    text.extend_from_slice(b" ")?;
-    text.extend_from_slice(buffer.format(number).as_bytes())?;
     Ok(())
 }
