@@ -7,3 +7,7 @@ pub mod PlanFacts
 pub mod NoPriceFacts
 pub mod InputFacts
 pub mod WordFacts
+pub mod PlannedRuns
+pub mod PlannedPlaces
+pub mod PlanSound
+pub mod PlanReportFacts

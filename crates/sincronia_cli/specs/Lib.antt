@@ -5,3 +5,4 @@ pub mod Causes
 pub mod Code
 pub mod Messages
 pub mod NoPrices
+pub mod Weighed

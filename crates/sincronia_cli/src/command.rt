@@ -114,6 +114,7 @@ fn plan_text<'a, H: Shelf>(
 /// The text of the report of the plan.
 fn report_text(alloc: Global, input: &Input) -> Result<Vec<u8>, NoMemory>
     requires count { length input.now.weights ≡ length input.now.table.ids }
+    requires least { All (λ w. 1 ≤ w) input.now.weights }
     requires weights { All (λ w. w ≤ 2 ^ 32) input.now.weights }
     ensures { IfOk result (λ text. (report : Report) × IsPlanOf (instance_of input.now.table input.now.weights) input.now.table.ids report × (text.items ≡ report_text report)) }
 {

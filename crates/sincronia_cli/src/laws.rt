@@ -1,8 +1,9 @@
 //! Laws of plans, joined from those of schedules, certificates and orders.
-ghost use Rattle.std.specs.Prelude.{ℕ, ◌+◌, ◌*◌, ◌≤◌, List, [], ◌∷◌};
+ghost use Rattle.std.specs.Prelude.{◌≡◌, ℕ, ◌+◌, ◌*◌, ◌<◌, ◌≤◌, ◌^◌, All, Err, List, [], ◌∷◌, Ok};
+ghost use Rattle.coflow_units.specs.declared.trace.Trace.{Trace};
 ghost use Rattle.coflow_units.specs.Certificate.{Entry, bound, order_of, slack};
 ghost use Rattle.coflow_units.specs.Completion.{cost, end_of};
-ghost use Rattle.coflow_units.specs.Flows.{Instance, IsInstance, units_of};
+ghost use Rattle.coflow_units.specs.Flows.{Instance, IsDistinct, IsInstance, units_of};
 ghost use Rattle.coflow_units.specs.Load.{load_of_all};
 ghost use Rattle.coflow_units.specs.Ordering.{IsOrdering};
 ghost use Rattle.coflow_units.specs.Patient.{egress_port, ingress_port, up_to};
@@ -10,7 +11,20 @@ ghost use Rattle.coflow_units.specs.Rows.{two_flows};
 ghost use Rattle.coflow_units.specs.Schedule.{IsValid};
 ghost use Rattle.coflow_units.specs.Served.{IsServed};
 ghost use Rattle.coflow_units.specs.SmallCases.{longer_first_slots, one_each};
+ghost use Rattle.coflow_units.specs.Trace.{IsTrace};
+ghost use Rattle.flow_table.specs.Table.{IsTableOf, TableFacts, instance_of};
+ghost use Rattle.report.specs.declared.fault.ReportFault.TheVariants.{BadText};
+ghost use Rattle.report.specs.declared.value.Report.{Report};
+ghost use Rattle.report.specs.Reading.{GivesReport};
+ghost use Rattle.report.specs.Report.{HasSmallNumbers, IsReport};
+ghost use Rattle.report.specs.Text.{report_text};
+ghost use Rattle.cert_check.specs.declared.verdict.Verdict.{Verdict};
+ghost use Rattle.cert_check.specs.declared.verdict.Verdict.TheVariants.{Yes};
+ghost use Rattle.cert_check.specs.Reasons.{IsVerdict};
+ghost use Rattle.cert_check.specs.Sound.{IsSound};
 ghost use Rattle.sincronia_cli.specs.NoPrices.{no_prices};
+ghost use Rattle.sincronia_cli.specs.PlanReport.{IsPlanOf};
+ghost use Rattle.sincronia_cli.specs.Weighed.{IsWeighed};
 
 /// No valid schedule costs less than the bound of the ordering certificate, and the schedule that serves its order costs at most four times that bound and the slack.
 pub fn plan_is_within_four()
@@ -24,4 +38,23 @@ pub fn laws_hold_without_prices()
     ensures four { cost two_flows one_each (0 ∷ 1 ∷ []) longer_first_slots ≤ 4 * bound two_flows no_prices + slack two_flows one_each no_prices }
     ensures short { end_of longer_first_slots 1 + units_of two_flows 1 ≤
         load_of_all two_flows (up_to (0 ∷ 1 ∷ []) 1) (ingress_port two_flows 1) + load_of_all two_flows (up_to (0 ∷ 1 ∷ []) 1) (egress_port two_flows 1) }
+{}
+
+/// The plan of a table is right as the checker of reports defines it, so the checker's verdict on it is yes. The checker finds coflows by their ids, so ids must differ;
+/// those of the table of a trace do.
+pub fn plan_is_right()
+    ensures sound { (t : TableFacts) (weights : List ℕ) (r : Report) → IsWeighed t weights → IsDistinct t.ids → IsPlanOf (instance_of t weights) t.ids r → IsSound (instance_of t weights) t.ids r }
+    ensures verdict { (t : TableFacts) (weights : List ℕ) (r : Report) (verdict : Verdict) → IsWeighed t weights → IsDistinct t.ids → IsPlanOf (instance_of t weights) t.ids r →
+        IsVerdict (instance_of t weights) t.ids r verdict → verdict ≡ Yes }
+    ensures ids { (trace : Trace) (unit : ℕ) (t : TableFacts) → IsTrace trace → IsTableOf trace unit t → IsDistinct t.ids }
+{}
+
+/// The plan of a table is a report that a text can have, and its numbers fit their types where the ids do. So a reader of its text answers it, where there is memory.
+pub fn plan_is_read_back()
+    ensures report { (t : TableFacts) (weights : List ℕ) (r : Report) → IsWeighed t weights → IsPlanOf (instance_of t weights) t.ids r → IsReport r }
+    ensures small { (t : TableFacts) (weights : List ℕ) (r : Report) → IsWeighed t weights → All (λ id. id < 2 ^ 32) t.ids → IsPlanOf (instance_of t weights) t.ids r → HasSmallNumbers r }
+    ensures same { (t : TableFacts) (weights : List ℕ) (r read : Report) → IsWeighed t weights → All (λ id. id < 2 ^ 32) t.ids → IsPlanOf (instance_of t weights) t.ids r →
+        GivesReport (report_text r) (Ok read) → read ≡ r }
+    ensures taken { (t : TableFacts) (weights : List ℕ) (r : Report) (line : ℕ) → IsWeighed t weights → All (λ id. id < 2 ^ 32) t.ids → IsPlanOf (instance_of t weights) t.ids r →
+        GivesReport (report_text r) (Err (BadText line)) → ⊥ }
 {}

@@ -1,6 +1,7 @@
 //! What a report says of each place.
-ghost use Rattle.std.specs.Prelude.{◌≡◌, ◌<◌, All, IfOk, length, map, slice_index};
+ghost use Rattle.std.specs.Prelude.{◌≡◌, ◌<◌, ◌^◌, All, IfOk, length, map, slice_index};
 ghost use Rattle.coflow_units.specs.declared.plan.Place.{Place};
+ghost use Rattle.report.specs.declared.value.PlaceLine.{PlaceLine};
 ghost use Rattle.schedule_model.specs.RunList.{NamesFlows};
 ghost use Rattle.sincronia_cli.specs.PlanReport.{line_from, line_of};
 
@@ -19,7 +20,8 @@ pub fn place_lines(
 ) -> Result<Vec<PlaceLine>, NoMemory>
     requires coflow { All (λ (x : Place). x.coflow < length table.now.ids) places.now }
     requires names { NamesFlows (length table.now.flows) schedule.now }
-    ensures { IfOk result (λ lines. lines.items ≡ map (line_of table.now.ids table.now.flows schedule.now) places.now) }
+    ensures lines { IfOk result (λ lines. lines.items ≡ map (line_of table.now.ids table.now.flows schedule.now) places.now) }
+    ensures ids { IfOk result (λ lines. All (λ (line : PlaceLine). line.id < 2 ^ 32) lines.items) }
 {
     let ends = completions(alloc, table.flows(), table.coflows(), schedule)?;
     let mut lines = Vec::new(alloc);
@@ -33,7 +35,8 @@ pub fn place_lines(
 fn line_of(table: &Table, ends: &[u64], place: &Place) -> PlaceLine
     requires id { place.now.coflow < length table.now.ids }
     requires end { place.now.coflow < length ends.now }
-    ensures { result ≡ line_from table.now.ids ends.now place.now }
+    ensures line { result ≡ line_from table.now.ids ends.now place.now }
+    ensures id { result.id < 2 ^ 32 }
 {
     PlaceLine {
         id: table.id(place.coflow),

@@ -5,7 +5,7 @@ ghost use Rattle.coflow_units.specs.Flows.{IsDistinct};
 ghost use Rattle.coflow_units.specs.Served.{IsServed};
 ghost use Rattle.bssi_order.specs.Order.{IsOrder, entries_of};
 ghost use Rattle.flow_table.specs.Table.{instance_of};
-ghost use Rattle.report.specs.Report.{HasWeights};
+ghost use Rattle.report.specs.Report.{HasSmallNumbers, HasWeights, IsReport};
 ghost use Rattle.sincronia_cli.specs.PlanReport.{IsPlanOf, coflows_of};
 
 use crate::order::{coflows_in, loads_of, order_of};
@@ -19,12 +19,15 @@ use slot_switch::simulate;
 use std::alloc::Global;
 
 /// The plan of the coflows of a table: the order by bottleneck, select, scale, iterate, the schedule that serves it, the bound and slack of its certificate, and the cost.
-/// `weights` has the weight of each coflow, at most 2^32. The error is want of memory.
+/// A text can have the report, so it may be written and read back. `weights` has the weight of each coflow, from 1 to 2^32. The error is want of memory.
 pub fn plan(alloc: Global, table: &Table, weights: &[u64]) -> Result<Report, NoMemory>
     requires count { length weights.now ≡ length table.now.ids }
+    requires least { All (λ w. 1 ≤ w) weights.now }
     requires weights { All (λ w. w ≤ 2 ^ 32) weights.now }
     ensures plan { IfOk result (λ report. IsPlanOf (instance_of table.now weights.now) table.now.ids report) }
     ensures weights { IfOk result HasWeights }
+    ensures report { IfOk result IsReport }
+    ensures small { IfOk result HasSmallNumbers }
 {
     let order = order_of(alloc, table, weights)?;
     let places = order.places();

@@ -10,6 +10,8 @@ use Rattle.bssi_order.specs.Order.{IsOrder}
 use Rattle.flow_table.specs.Table.{instance_of}
 use Rattle.sincronia_cli.specs.PlanReport.{coflows_of}
 use Rattle.sincronia_cli.proofs.CertificateFacts.{each_place_within, places_distinct, places_known, places_all}
+use Rattle.report.specs.declared.value.PlaceLine.{PlaceLine}
+use Rattle.sincronia_cli.proofs.PlanReportFacts.{plan_is_report, plan_is_small}
 use Rattle.sincronia_cli.proofs.PlanSteps.{slots_hold_flows}
 use Rattle.sincronia_cli.proofs.planning.plan.Goals as goal
 
@@ -43,7 +45,7 @@ returns-clause-plan c = record {
   ordering = subst (IsOrder (instance_of c.args.table.now c.args.weights.now)) (sym c.places-places.ensures) c.in_ok-order.ensures.order;
   slots = c.in_ok-schedule.schedule;
   served = c.in_ok-schedule.ensures;
-  places = c.from_vec.ensures ∙ c.in_ok-lines.ensures;
+  places = c.from_vec.ensures ∙ c.in_ok-lines.ensures.lines;
   weights = ap Some (c.from_vec-2.ensures ∙ c.in_ok-list.ensures);
   bound_is = c.in_ok-values.ensures.bound;
   slack_is = c.in_ok-values.ensures.slack;
@@ -51,3 +53,11 @@ returns-clause-plan c = record {
       ∙ ap (λ n. cost c.args.table.now.flows (λ coflow. slice_index c.args.weights.now coflow) (range_with_len 0 n) c.in_ok-schedule.schedule) c.requires.count);
   runs = subst (λ rs. IsRuns c.in_ok-schedule.schedule (pairs_of rs)) (sym c.from_vec-3.ensures) c.into_runs.ensures.runs;
 }
+
+pub returns-clause-report : goal.returns-clause-report
+returns-clause-report c = plan_is_report c.args.table.now c.args.weights.now _ c.flows.ensures.table c.requires.count c.requires.least c.requires.weights (returns-clause-plan c)
+
+pub returns-clause-small : goal.returns-clause-small
+returns-clause-small c =
+    let ids = subst (All (λ (line : PlaceLine). line.id < 4294967296)) (sym c.from_vec.ensures) c.in_ok-lines.ensures.ids in
+    plan_is_small c.args.table.now c.args.weights.now _ c.flows.ensures.table c.requires.count c.requires.least c.requires.weights ids (returns-clause-plan c)

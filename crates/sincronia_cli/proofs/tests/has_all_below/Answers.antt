@@ -1,5 +1,5 @@
 -- The next coflow is in the order.
-use Rattle.std.proofs.Common.{◌≡◌, ℕ, ◌<◌, inl, inr, Contains, subst, sym, ◌∙◌, arith}
+use Rattle.std.proofs.Common.{ℕ, inl, inr, Contains, subst, sym, ◌∙◌, arith}
 use Rattle.std.proofs.lemmas.Bool.{cases_eq}
 use Rattle.coflow_units.proofs.Sums.{any_has}
 use Rattle.sincronia_cli.proofs.tests.has_all_below.Goals as goal
