@@ -1,6 +1,6 @@
 -- A plan is right, as a checker of reports defines it.
 use Rattle.std.proofs.Common.{◌≡◌, ℕ, ◌≤◌, List, length, sym, ap, subst, ◌∙◌, arith}
-use Rattle.std.specs.Prelude.{All, Option, map}
+use Rattle.std.specs.Prelude.{All, Option, map, Ok}
 use Rattle.coflow_units.specs.declared.plan.Place.{Place}
 use Rattle.coflow_units.specs.declared.trace.Trace.{Trace}
 use Rattle.coflow_units.specs.Certificate.{IsCertificate, IsFeasible, bound, slack}
@@ -14,6 +14,10 @@ use Rattle.bssi_order.proofs.OrderingLaws.{ordering_feasible}
 use Rattle.flow_table.specs.Table.{IsTable, IsTableOf, TableFacts, instance_of}
 use Rattle.flow_table.proofs.Whole.{whole}
 use Rattle.report.specs.declared.value.Report.{Report}
+use Rattle.report.specs.Reading.{GivesReport}
+use Rattle.report.specs.Report.{HasSmallNumbers, IsReport}
+use Rattle.report.specs.Text.{report_text}
+use Rattle.report.proofs.TextLaws.{reports_are_one}
 use Rattle.schedule_model.specs.RunList.{slots_in}
 use Rattle.cert_check.specs.declared.verdict.Verdict.{Verdict}
 use Rattle.cert_check.specs.declared.verdict.Verdict.TheVariants.{Yes}
@@ -59,3 +63,10 @@ plan_is_sound t weights r table once count least p =
 pub plan_has_yes : (t : TableFacts) (weights : List ℕ) (r : Report) (verdict : Verdict) → IsTable t → IsDistinct t.ids → length weights ≡ length t.ids → All (λ w. 1 ≤ w) weights → IsPlanOf (instance_of t weights) t.ids r →
     IsVerdict (instance_of t weights) t.ids r verdict → verdict ≡ Yes
 plan_has_yes t weights r verdict table once count least p is = (yes_where_sound t weights r verdict is).1 (plan_is_sound t weights r table once count least p)
+
+-- and so is that on the report that a reader answers from its text
+pub read_back_has_yes : (t : TableFacts) (weights : List ℕ) (r read : Report) (verdict : Verdict) → IsTable t → IsDistinct t.ids → length weights ≡ length t.ids → All (λ w. 1 ≤ w) weights → IsPlanOf (instance_of t weights) t.ids r →
+    IsReport r → HasSmallNumbers r → GivesReport (report_text r) (Ok read) → IsVerdict (instance_of t weights) t.ids read verdict → verdict ≡ Yes
+read_back_has_yes t weights r read verdict table once count least p report small given is =
+    plan_has_yes t weights r verdict table once count least p
+    (subst (λ (x : Report). IsVerdict (instance_of t weights) t.ids x verdict) (reports_are_one read r given.report given.small report small (sym given.text)) is)

@@ -49,12 +49,15 @@ pub fn plan_is_right()
     ensures ids { (trace : Trace) (unit : ℕ) (t : TableFacts) → IsTrace trace → IsTableOf trace unit t → IsDistinct t.ids }
 {}
 
-/// The plan of a table is a report that a text can have, and its numbers fit their types where the ids do. So a reader of its text answers it, where there is memory.
+/// The plan of a table is a report that a text can have, and its numbers fit their types where the ids do. So a reader of its text answers it, where there is memory,
+/// and where ids differ the verdict on what was read is yes.
 pub fn plan_is_read_back()
     ensures report { (t : TableFacts) (weights : List ℕ) (r : Report) → IsWeighed t weights → IsPlanOf (instance_of t weights) t.ids r → IsReport r }
     ensures small { (t : TableFacts) (weights : List ℕ) (r : Report) → IsWeighed t weights → All (λ id. id < 2 ^ 32) t.ids → IsPlanOf (instance_of t weights) t.ids r → HasSmallNumbers r }
     ensures same { (t : TableFacts) (weights : List ℕ) (r read : Report) → IsWeighed t weights → All (λ id. id < 2 ^ 32) t.ids → IsPlanOf (instance_of t weights) t.ids r →
         GivesReport (report_text r) (Ok read) → read ≡ r }
+    ensures yes { (t : TableFacts) (weights : List ℕ) (r read : Report) (verdict : Verdict) → IsWeighed t weights → IsDistinct t.ids → All (λ id. id < 2 ^ 32) t.ids → IsPlanOf (instance_of t weights) t.ids r →
+        GivesReport (report_text r) (Ok read) → IsVerdict (instance_of t weights) t.ids read verdict → verdict ≡ Yes }
     ensures taken { (t : TableFacts) (weights : List ℕ) (r : Report) (line : ℕ) → IsWeighed t weights → All (λ id. id < 2 ^ 32) t.ids → IsPlanOf (instance_of t weights) t.ids r →
         GivesReport (report_text r) (Err (BadText line)) → ⊥ }
 {}
