@@ -6,6 +6,7 @@ pub mod CertificateOf
 pub mod NameSteps
 pub mod InstanceFacts
 pub mod Refusals
+pub mod NamedCoflow
 pub mod Firsts
 pub mod EndFacts
 pub mod Verdicts

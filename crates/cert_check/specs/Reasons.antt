@@ -54,3 +54,15 @@ pub record IsFirstReason (i : Instance) (ids : List ℕ) (r : Report) (reason : 
 abbrev pub IsVerdict : Instance → List ℕ → Report → Verdict → Type 0
 IsVerdict i ids r Yes = IsSound i ids r
 IsVerdict i ids r (No reason) = IsFirstReason i ids r reason
+
+-- a coflow that the reason names is one of so many
+abbrev pub NamesCoflow : ℕ → Reason → Type 0
+NamesCoflow count (WeightWrong coflow stated real) = coflow < count
+NamesCoflow count (Infeasible coflow) = coflow < count
+NamesCoflow count (DoneWrong coflow stated real) = coflow < count
+NamesCoflow count _ = Unit {0}
+
+-- the same of the verdict's reason, if it has one
+abbrev pub NamesCoflowIfAny : ℕ → Verdict → Type 0
+NamesCoflowIfAny count Yes = Unit {0}
+NamesCoflowIfAny count (No reason) = NamesCoflow count reason

@@ -2,7 +2,7 @@
 ghost use Rattle.std.specs.Prelude.{◌≡◌, ◌≤◌, ◌^◌, ◌↔◌, All, IfOk, length};
 ghost use Rattle.flow_table.specs.Table.{instance_of};
 ghost use Rattle.report.specs.Report.{IsReport};
-ghost use Rattle.cert_check.specs.Reasons.{IsVerdict};
+ghost use Rattle.cert_check.specs.Reasons.{IsVerdict, NamesCoflowIfAny};
 ghost use Rattle.cert_check.specs.Sound.{AreLoadsOf, IsSound};
 
 use crate::certificate::wrong_certificate;
@@ -35,6 +35,7 @@ pub fn check(
     requires report { IsReport report.now }
     ensures verdict { IfOk result (IsVerdict (instance_of table.now weights.now) table.now.ids report.now) }
     ensures yes { IfOk result (λ verdict. (verdict ≡ Verdict.Yes) ↔ IsSound (instance_of table.now weights.now) table.now.ids report.now) }
+    ensures coflow { IfOk result (NamesCoflowIfAny (length table.now.ids)) }
 {
     let coflows = match coflows_of(alloc, table, report.places.as_slice())? {
         Named::Coflows(coflows) => coflows,

@@ -6,3 +6,4 @@ pub mod Forms
 pub mod AcceptedLines
 pub mod RefusedLines
 pub mod UseLists
+pub mod OneMeaning

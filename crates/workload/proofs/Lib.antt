@@ -11,3 +11,4 @@ pub mod CoflowPasses
 pub mod TracePasses
 pub mod WeightsPass
 pub mod FlowsFit
+pub mod MadeTexts

@@ -5,6 +5,7 @@ use Rattle.cert_check.specs.declared.verdict.Reason.TheVariants.{NotPermutation}
 use Rattle.cert_check.specs.declared.verdict.Verdict.TheVariants.{No, Yes}
 use Rattle.cert_check.specs.Places.{IsFirstWrong, NamesEach, coflows_in, ids_in}
 use Rattle.cert_check.proofs.Firsts.{first_of_certificate, first_of_schedule, first_wrong_place}
+use Rattle.cert_check.proofs.NamedCoflow.{names_coflow}
 use Rattle.cert_check.proofs.Verdicts.{all_parts, yes_where_sound}
 use Rattle.cert_check.proofs.checking.check.Goals as goal
 
@@ -52,3 +53,15 @@ returns-clause-yes c =
     let certificate = rw c.in_default.is at c.in_ok-reason.ensures in
     let schedule = rw c.in_default-2.is at c.in_ok-reason-2.ensures in
     yes_where_sound c.args.table.now c.args.weights.now c.args.report.now Yes (all_parts c.args.table.now c.args.weights.now c.args.report.now names certificate schedule)
+
+pub returns-in-Some-clause-coflow : goal.returns-in-Some-clause-coflow
+returns-in-Some-clause-coflow c =
+    let names = subst (λ (l : List PlaceLine). NamesEach (length c.args.table.now.ids) (coflows_in c.args.table.now.ids l)) c.as_slice.ensures ((rw c.in-Coflows.is at c.in_ok-coflows.ensures).1) in
+    let first = rw c.in-Some.is at c.in_ok-reason.ensures in
+    names_coflow (instance_of c.args.table.now c.args.weights.now) c.args.table.now.ids c.args.report.now c.in-Some.reason names first.holds
+
+pub returns-in-Some-2-clause-coflow : goal.returns-in-Some-2-clause-coflow
+returns-in-Some-2-clause-coflow c =
+    let names = subst (λ (l : List PlaceLine). NamesEach (length c.args.table.now.ids) (coflows_in c.args.table.now.ids l)) c.as_slice.ensures ((rw c.in-Coflows.is at c.in_ok-coflows.ensures).1) in
+    let first = rw c.in-Some-2.is at c.in_ok-reason-2.ensures in
+    names_coflow (instance_of c.args.table.now c.args.weights.now) c.args.table.now.ids c.args.report.now c.in-Some-2.reason names first.holds
