@@ -77,6 +77,34 @@ ROWS = [
 ]
 
 
+REPORT = TWO_TEXT.replace(b"sincronia 2", b"sincronia 1").replace(b" 1 1\n", b" 1\n").replace(b" 4 1\n", b" 4\n")
+CHECK = ["check", "t", "r"]
+
+# name, bytes of the report `r` for the trace of two flows, words, code, standard output, standard error
+CHECK_ROWS = [
+    ("a right report", TWO_TEXT, CHECK, 0, b"yes bound 5 slack 1 cost 5\n", b""),
+    ("a right report of version 1", REPORT, CHECK, 0, b"yes bound 5 slack 1 cost 5\n", b""),
+    ("a stated bound below the real one", TWO_TEXT.replace(b"bound 5", b"bound 1"), CHECK, 0, b"yes bound 1 slack 1 cost 5\n", b""),
+    ("a place twice", TWO_TEXT.replace(b"place 1 2", b"place 1 1"), CHECK, 1, b"no order 2\n", b""),
+    ("a port out of range", TWO_TEXT.replace(b"1 2 in 0", b"1 2 in 3"), CHECK, 1, b"no port 1 3\n", b""),
+    ("another weight", TWO_TEXT.replace(b" 4 1\n", b" 4 9\n"), CHECK, 1, b"no weight 1 9 1\n", b""),
+    ("a price too high", TWO_TEXT.replace(b"366503875925", b"366503875926"), CHECK, 1, b"no infeasible 1\n", b""),
+    ("a bound too high", TWO_TEXT.replace(b"bound 5", b"bound 6"), CHECK, 1, b"no bound 6 5\n", b""),
+    ("runs exchanged", TWO_TEXT.replace(b"run 1 1\nrun 3 0", b"run 3 0\nrun 1 1"), CHECK, 1, b"no done 1 4 3\n", b""),
+    ("a run too short", TWO_TEXT.replace(b"run 3 0", b"run 2 0"), CHECK, 1, b"no units 0 2 3\n", b""),
+    ("another unit", TWO_TEXT, CHECK + ["--unit", "2"], 1, b"no bound 5 4\n", b""),
+    ("no last line", TWO_TEXT[:-4], CHECK, 5, b"", b"sincronia: report: line 9\n"),
+    ("a leading zero", TWO_TEXT.replace(b"run 3 0", b"run 03 0"), CHECK, 5, b"", b"sincronia: report: line 8\n"),
+    ("a report with carriage returns", TWO_TEXT.replace(b"\n", b"\r\n"), CHECK, 5, b"", b"sincronia: report: line 1\n"),
+    ("a report behind its end", TWO_TEXT + b"\n", CHECK, 5, b"", b"sincronia: report: line 10\n"),
+    ("no report", None, CHECK, 8, b"", READ_FAULT),
+    ("no second name", TWO_TEXT, ["check", "t"], 2, b"", USAGE),
+    ("a second name too many", TWO_TEXT, ["plan", "t", "r"], 2, b"", USAGE),
+    ("a seed that is no number", None, ["make", "x"], 2, b"", USAGE),
+    ("a seed of 2^64", None, ["make", "18446744073709551616"], 2, b"", USAGE),
+]
+
+
 def build():
     """Proves and builds the program, where the tree has changed since."""
     subprocess.run([os.path.join(TOP, "sincronia")], stdout=subprocess.DEVNULL, stderr=subprocess.DEVNULL, check=False)
@@ -88,21 +116,73 @@ def little_memory():
     resource.setrlimit(resource.RLIMIT_AS, (2**26, 2**26))
 
 
-def run(row, stdout=None, before=None):
-    name, trace, weights, words, code, out, err = row
-    with tempfile.TemporaryDirectory() as folder:
-        for file_name, content in (("t", trace), ("w", weights)):
-            if content is not None:
-                with open(os.path.join(folder, file_name), "wb") as file:
-                    file.write(content)
-        words = [word if isinstance(word, bytes) else word.encode() for word in words]
-        done = subprocess.run([PROGRAM.encode(), *words], cwd=folder, timeout=120,
-                              stdout=stdout or subprocess.PIPE, stderr=subprocess.PIPE, stdin=subprocess.DEVNULL, preexec_fn=before)
-    have = (done.returncode, done.stdout or b"", done.stderr)
-    if have == (code, out, err):
+def started(folder, files, words, stdout=None, before=None):
+    """The exit code, standard output and standard error of the words over these files."""
+    for name, content in files.items():
+        if content is not None:
+            with open(os.path.join(folder, name), "wb") as file:
+                file.write(content)
+    words = [word if isinstance(word, bytes) else word.encode() for word in words]
+    done = subprocess.run([PROGRAM.encode(), *words], cwd=folder, timeout=120,
+                          stdout=stdout or subprocess.PIPE, stderr=subprocess.PIPE, stdin=subprocess.DEVNULL, preexec_fn=before)
+    return done.returncode, done.stdout or b"", done.stderr
+
+
+def same(name, have, want):
+    """Whether the run ended as it should."""
+    if have == want:
         return True
-    print("FAILED %s: want %r, have %r" % (name, (code, out, err), have))
+    print("FAILED %s: want %r, have %r" % (name, want, have))
     return False
+
+
+def run(row, stdout=None, before=None):
+    name, trace, weights, words, *want = row
+    with tempfile.TemporaryDirectory() as folder:
+        return same(name, started(folder, {"t": trace, "w": weights}, words, stdout, before), tuple(want))
+
+
+def run_check(row):
+    name, report, words, *want = row
+    with tempfile.TemporaryDirectory() as folder:
+        return same(name, started(folder, {"t": TWO, "r": report}, words), tuple(want))
+
+
+def run_long_report():
+    """A report of 2^30 + 1 bytes."""
+    with tempfile.TemporaryDirectory() as folder:
+        with open(os.path.join(folder, "r"), "wb") as file:
+            file.truncate(2**30 + 1)
+        return same("a long report", started(folder, {"t": TWO}, CHECK), (7, b"", b"sincronia: limit: text 1073741825\n"))
+
+
+def run_shuffle():
+    """The trace of the repository is planned, its report has a yes, and it has none after an edit by hand."""
+    with open(os.path.join(TOP, "traces", "shuffle-24x40.txt"), "rb") as file:
+        trace = file.read()
+    with tempfile.TemporaryDirectory() as folder:
+        code, report, err = started(folder, {"t": trace}, ["plan", "t"])
+        lines = report.split(b"\n")
+        totals = [line.split() for line in lines if line.split(b" ")[0] in (b"bound", b"slack", b"cost")]
+        good = same("a shuffle is planned", (code, [total[0] for total in totals], lines[-2:], err), (0, [b"bound", b"slack", b"cost"], [b"end", b""], b""))
+        if not good:
+            return False
+        bound, slack, cost = [int(total[1]) for total in totals]
+        yes = b"yes bound %d slack %d cost %d\n" % (bound, slack, cost)
+        no = b"no bound %d %d\n" % (bound + 1, bound)
+        edited = report.replace(b"\nbound %d\n" % bound, b"\nbound %d\n" % (bound + 1))
+        return all([same("a shuffle is within four", cost <= 4 * bound + slack, True),
+                    same("a shuffle is checked", started(folder, {"r": report}, CHECK), (0, yes, b"")),
+                    same("a shuffle is edited", started(folder, {"r": edited}, CHECK), (1, no, b""))])
+
+
+def run_made():
+    """A seed gives one summary, whatever the agents."""
+    with tempfile.TemporaryDirectory() as folder:
+        code, out, err = started(folder, {}, ["make", "7"])
+        lines = out.split(b"\n")
+        good = same("a seed is made", (code, lines[0], lines[-3:], err), (0, b"sincronia make 7", [b"check yes", b"end", b""], b""))
+        return good and same("a seed is made again", started(folder, {}, ["make", "--agents", "1", "007"]), (0, out, b""))
 
 
 def main():
@@ -110,7 +190,8 @@ def main():
         print("the program could not be built")
         print("0 passed, 1 failed")
         return 1
-    results = [run(row) for row in ROWS]
+    results = [run(row) for row in ROWS] + [run_check(row) for row in CHECK_ROWS]
+    results += [run_long_report(), run_shuffle(), run_made()]
     with open("/dev/full", "wb") as full:
         results.append(run(("a full device", TWO, None, ["plan", "t"], 9, b"", WRITE_FAULT), full))
     results.append(run(("no memory for the text", b"\n" * 2**26, None, ["plan", "t"], 11, b"", b"sincronia: no memory\n"), before=little_memory))

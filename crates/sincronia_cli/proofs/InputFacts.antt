@@ -21,7 +21,7 @@ use Rattle.weights.specs.declared.fault.WeightsFault.{WeightsFault}
 use Rattle.weights.specs.declared.fault.WeightsFault.TheVariants as weights_fault
 use Rattle.sincronia_cli.specs.declared.status.Status.{Status}
 use Rattle.sincronia_cli.specs.declared.status.Status.TheVariants as status
-use Rattle.sincronia_cli.specs.Causes.{AnyFailed, HasStatusCause, HasTraceFault, HasWeightsFault, IsFaultOf, IsFileCause, IsStatusOfTrace, IsStatusOfWeights, IsTableCause, IsTooLong, IsTraceCause, IsTraceForm, IsWeightsCause, IsWeightsForm, LimitCause, ShelfFailed, TraceLimit, WeightsLimit}
+use Rattle.sincronia_cli.specs.Causes.{InputFailed, HasInputCause, HasTraceFault, HasWeightsFault, IsFaultOf, IsFileCause, IsStatusOfTrace, IsStatusOfWeights, IsTableCause, IsTooLong, IsTraceCause, IsTraceForm, IsWeightsCause, IsWeightsForm, LimitCause, ShelfFailed, TraceLimit, WeightsLimit}
 use Rattle.sincronia_cli.specs.Causes.LimitCause.{in_trace, in_weights, in_table}
 use Rattle.sincronia_cli.specs.Inputs.{GiveWeights, Gives, HasBytes, IsInput, IsTraceOf, IsTraceText, IsWeightsOf, KeepsFiles, NameFailed, bytes_if}
 
@@ -34,6 +34,12 @@ keeps_both a b c k l = record {
   later = λ f. omega (arith, k.later f, l.later f);
 }
 
+pub files_kept : (a b c : Option Told) → KeepsFiles a b → KeepsFiles b c → KeepsFiles a c
+files_kept None b c k l = subst (λ m. KeepsFiles m c) k l
+files_kept (Some a) b c (t, is, k) l =
+    let there : KeepsFiles (Some t) c = subst (λ m. KeepsFiles m c) is l in
+    (there.0, there.1, keeps_both a t there.0 k there.2)
+
 pub file_kept : {X : Type 0} (E : Type 0) (old mid new : Option Told) (place : Place4) (name : List ℕ) (r : Result X E) (most : ℕ) (res : _) → Starts {E = E} old mid place name r → ReadsWhole mid new place most res → KeepsFiles old new
 file_kept E None mid new place name r most res started read = subst (λ m. ReadsWhole m new place most res → new ≡ None) (sym started) (λ h. h) read
 file_kept E (Some old) mid new place name r most res (t, is, at) read =
@@ -41,10 +47,10 @@ file_kept E (Some old) mid new place name r most res (t, is, at) read =
     let (t', is', at') = whole in
     (t', is', keeps_both old t t' at.keeps at'.keeps)
 
-pub too_long : {X : Type 0} (E : Type 0) (old mid new : Option Told) (place : Place4) (name : List ℕ) (x : X) → Starts {E = E} old mid place name (Ok x) → ReadsWhole mid new place 67108864 (Err TooLong) → IfSome old (λ t. 67108864 < length (bytes_of t name))
-too_long E None mid new place name x started read = tt
-too_long E (Some old) mid new place name x (t, is, at) read =
-    let whole : ReadsWhole (Some t) new place 67108864 (Err TooLong) = subst (λ m. ReadsWhole m new place 67108864 (Err TooLong)) is read in
+pub too_long : {X : Type 0} (E : Type 0) (old mid new : Option Told) (place : Place4) (name : List ℕ) (most : ℕ) (x : X) → Starts {E = E} old mid place name (Ok x) → ReadsWhole mid new place most (Err TooLong) → IfSome old (λ t. most < length (bytes_of t name))
+too_long E None mid new place name most x started read = tt
+too_long E (Some old) mid new place name most x (t, is, at) read =
+    let whole : ReadsWhole (Some t) new place most (Err TooLong) = subst (λ m. ReadsWhole m new place most (Err TooLong)) is read in
     omega (arith, whole.2.takes.0, ap (λ (xs : List ℕ). length xs) at.left)
 
 -- ---- the trace
@@ -78,7 +84,7 @@ trace_cause before now old new name bytes lent P (trace_fault.Limit line which c
     subst (λ (x : Status). IsTraceCause before now old new name x) (sym is) (trace_limit old name bytes lent line which count has e short first)
 trace_cause before now old new name bytes lent P trace_fault.NoMemory s has e short first is = subst (λ (x : Status). IsTraceCause before now old new name x) (sym is) tt
 
-pub file_to_trace : (before now : ℕ) (old new : Option Told) (name : List ℕ) (s : Status) → IsFileCause before now old new name s → IsTraceCause before now old new name s
+pub file_to_trace : (before now : ℕ) (old new : Option Told) (name : List ℕ) (s : Status) → IsFileCause 67108864 before now old new name s → IsTraceCause before now old new name s
 file_to_trace before now old new name (status.Limit which count) cause = go old cause.2 where
   go : (o : Option Told) → IfSome o (λ t. IsTooLong (bytes_of t name)) → IfSome o (λ t. TraceLimit (bytes_of t name) which count)
   go None long = tt
@@ -87,6 +93,8 @@ file_to_trace before now old new name (status.ReadFault count) cause = cause
 file_to_trace before now old new name status.NoMemory cause = tt
 file_to_trace before now old new name status.Ok cause = absurd cause
 file_to_trace before now old new name status.Usage cause = absurd cause
+file_to_trace before now old new name status.No cause = absurd cause
+file_to_trace before now old new name (status.BadReport line) cause = absurd cause
 file_to_trace before now old new name (status.BadTrace fault) cause = absurd cause
 file_to_trace before now old new name (status.BadWeights fault) cause = absurd cause
 file_to_trace before now old new name (status.WriteFault count) cause = absurd cause
@@ -129,7 +137,7 @@ weights_cause before now old new name bytes lent coflows P (weights_fault.Limit 
     subst (λ (x : Status). IsWeightsCause before now old new (Some name) coflows x) (sym is) (weights_limit old name bytes lent coflows line which count has e short first)
 weights_cause before now old new name bytes lent coflows P weights_fault.NoMemory s has e short first is = subst (λ (x : Status). IsWeightsCause before now old new (Some name) coflows x) (sym is) tt
 
-pub file_to_weights : (before now : ℕ) (old new : Option Told) (name : List ℕ) (coflows : List CoflowLine) (s : Status) → IsFileCause before now old new name s → IsWeightsCause before now old new (Some name) coflows s
+pub file_to_weights : (before now : ℕ) (old new : Option Told) (name : List ℕ) (coflows : List CoflowLine) (s : Status) → IsFileCause 67108864 before now old new name s → IsWeightsCause before now old new (Some name) coflows s
 file_to_weights before now old new name coflows (status.Limit which count) cause = go old cause.2 where
   go : (o : Option Told) → IfSome o (λ t. IsTooLong (bytes_of t name)) → IfSome o (λ t. WeightsLimit (bytes_if t (Some name)) coflows which count)
   go None long = tt
@@ -138,6 +146,8 @@ file_to_weights before now old new name coflows (status.ReadFault count) cause =
 file_to_weights before now old new name coflows status.NoMemory cause = tt
 file_to_weights before now old new name coflows status.Ok cause = absurd cause
 file_to_weights before now old new name coflows status.Usage cause = absurd cause
+file_to_weights before now old new name coflows status.No cause = absurd cause
+file_to_weights before now old new name coflows (status.BadReport line) cause = absurd cause
 file_to_weights before now old new name coflows (status.BadTrace fault) cause = absurd cause
 file_to_weights before now old new name coflows (status.BadWeights fault) cause = absurd cause
 file_to_weights before now old new name coflows (status.WriteFault count) cause = absurd cause
@@ -184,13 +194,13 @@ same_if a b None k = refl
 same_if a b (Some name) k = ap Some (same_bytes a b name k)
 
 -- what is told of the weights later holds of the files as they were told before
-told_before : (old mid : Option Told) (name : Option (List ℕ)) (P : Option (List ℕ) → Type 0) → KeepsFiles old mid → IfSome mid (λ t. P (bytes_if t name)) → IfSome old (λ t. P (bytes_if t name))
+pub told_before : (old mid : Option Told) (name : Option (List ℕ)) (P : Option (List ℕ) → Type 0) → KeepsFiles old mid → IfSome mid (λ t. P (bytes_if t name)) → IfSome old (λ t. P (bytes_if t name))
 told_before None mid name P keeps h = tt
 told_before (Some old) mid name P (t, is, k) h =
     let there : P (bytes_if t name) = subst (λ m. IfSome m (λ t. P (bytes_if t name))) is h in
     subst P (same_if old t name k) there
 
-with_both : (old : Option Told) (P Q R : Told → Type 0) → ((t : Told) → P t → Q t → R t) → IfSome old P → IfSome old Q → IfSome old R
+pub with_both : (old : Option Told) (P Q R : Told → Type 0) → ((t : Told) → P t → Q t → R t) → IfSome old P → IfSome old Q → IfSome old R
 with_both None P Q R f p q = tt
 with_both (Some t) P Q R f p q = f t p q
 
@@ -214,28 +224,29 @@ input_is old mid name file unit trace weights table read keeps given of fits = r
 
 -- ---- the causes of both together
 
-any_failed : (before now : ℕ) (old new : Option Told) (name : List ℕ) (file : Option (List ℕ)) (count : ℕ) → ShelfFailed before now old new name count → AnyFailed before now old new name file count
-any_failed before now old new name None count failed = failed
-any_failed before now old new name (Some weights) count (one, rose, named) = (one, rose, inl named)
+input_failed : (before now : ℕ) (old new : Option Told) (name : List ℕ) (file : Option (List ℕ)) (count : ℕ) → ShelfFailed before now old new name count → InputFailed before now old new name file count
+input_failed before now old new name file count (one, rose, named) = (one, rose, inl named)
 
-if_some : (old : Option Told) (P Q : Told → Type 0) → ((t : Told) → P t → Q t) → IfSome old P → IfSome old Q
+pub if_some : (old : Option Told) (P Q : Told → Type 0) → ((t : Told) → P t → Q t) → IfSome old P → IfSome old Q
 if_some None P Q f p = tt
 if_some (Some t) P Q f p = f t p
 
-pub from_trace : (before now : ℕ) (old new : Option Told) (name : List ℕ) (file : Option (List ℕ)) (unit : ℕ) (s : Status) → IsTraceCause before now old new name s → HasStatusCause before now old new name file unit s
+pub from_trace : (before now : ℕ) (old new : Option Told) (name : List ℕ) (file : Option (List ℕ)) (unit : ℕ) (s : Status) → IsTraceCause before now old new name s → HasInputCause before now old new name file unit s
 from_trace before now old new name file unit (status.BadTrace fault) cause = cause
 from_trace before now old new name file unit (status.Limit which count) cause = if_some old (λ t. TraceLimit (bytes_of t name) which count) (λ t. LimitCause (bytes_of t name) (bytes_if t file) unit which count) (λ t h. in_trace h) cause
-from_trace before now old new name file unit (status.ReadFault count) cause = any_failed before now old new name file count cause
+from_trace before now old new name file unit (status.ReadFault count) cause = input_failed before now old new name file count cause
 from_trace before now old new name file unit status.NoMemory cause = tt
 from_trace before now old new name file unit status.Ok cause = absurd cause
 from_trace before now old new name file unit status.Usage cause = absurd cause
+from_trace before now old new name file unit status.No cause = absurd cause
+from_trace before now old new name file unit (status.BadReport line) cause = absurd cause
 from_trace before now old new name file unit (status.BadWeights fault) cause = absurd cause
 from_trace before now old new name file unit (status.WriteFault count) cause = absurd cause
 
-rose_before : (before mid now : ℕ) → before ≤ mid → Rose mid now → Rose before now
+pub rose_before : (before mid now : ℕ) → before ≤ mid → Rose mid now → Rose before now
 rose_before before mid now le rose = omega (arith, le, rose)
 
-named_before : (old mid new : Option Told) (name : List ℕ) → KeepsFiles old mid → NameFailed mid new name → NameFailed old new name
+pub named_before : (old mid new : Option Told) (name : List ℕ) → KeepsFiles old mid → NameFailed mid new name → NameFailed old new name
 named_before None mid new name keeps failed = tt
 named_before (Some old) mid new name (t, is, k) failed =
     let there : NameFailed (Some t) new name = subst (λ m. NameFailed m new name) is failed in
@@ -246,7 +257,7 @@ named_before (Some old) mid new name (t, is, k) failed =
       go t' same rose = omega (arith, rose, k.later (old.file name), ap t.faults same)
 
 pub from_weights : (before mid_count now : ℕ) (old mid new : Option Told) (name : List ℕ) (file : Option (List ℕ)) (unit : ℕ) (trace : Trace) (s : Status) → before ≤ mid_count → KeepsFiles old mid → IsTraceOf old name trace → IsWeightsCause mid_count now mid new file trace.coflows s →
-    HasStatusCause before now old new name file unit s
+    HasInputCause before now old new name file unit s
 from_weights before mid_count now old mid new name file unit trace (status.BadWeights fault) le keeps read (form, h) = (
   form,
   with_both old (λ t. IsTraceText (bytes_of t name) × (trace ≡ trace_of (bytes_of t name))) (λ t. IsFaultOf (bytes_if t file) trace.coflows fault) (λ t. HasWeightsFault (bytes_of t name) (bytes_if t file) fault)
@@ -260,17 +271,21 @@ from_weights before mid_count now old mid new name None unit trace (status.ReadF
 from_weights before mid_count now old mid new name file unit trace status.NoMemory le keeps read h = tt
 from_weights before mid_count now old mid new name file unit trace status.Ok le keeps read h = absurd h
 from_weights before mid_count now old mid new name file unit trace status.Usage le keeps read h = absurd h
+from_weights before mid_count now old mid new name file unit trace status.No le keeps read h = absurd h
+from_weights before mid_count now old mid new name file unit trace (status.BadReport line) le keeps read h = absurd h
 from_weights before mid_count now old mid new name file unit trace (status.BadTrace fault) le keeps read h = absurd h
 from_weights before mid_count now old mid new name file unit trace (status.WriteFault count) le keeps read h = absurd h
 
 pub from_table : (before now : ℕ) (old mid new : Option Told) (name : List ℕ) (file : Option (List ℕ)) (unit : ℕ) (trace : Trace) (weights : List ℕ) (s : Status) → KeepsFiles old mid → IsTraceOf old name trace → IsWeightsOf mid file trace.coflows weights → IsTableCause trace unit s →
-    HasStatusCause before now old new name file unit s
+    HasInputCause before now old new name file unit s
 from_table before now old mid new name file unit trace weights (status.Limit which count) keeps read given h =
     with_both old (λ t. IsTraceText (bytes_of t name) × (trace ≡ trace_of (bytes_of t name))) (λ t. GiveWeights (bytes_if t file) trace.coflows weights) (λ t. LimitCause (bytes_of t name) (bytes_if t file) unit which count)
     (λ t (text, is) g. in_table text weights (subst (λ (x : Trace). GiveWeights (bytes_if t file) x.coflows weights) is g) (subst (λ (x : Trace). IsTableCause x unit (status.Limit which count)) is h)) read.reads (given_before old mid file trace.coflows weights keeps given.given)
 from_table before now old mid new name file unit trace weights status.NoMemory keeps read given h = tt
 from_table before now old mid new name file unit trace weights status.Ok keeps read given h = absurd h
 from_table before now old mid new name file unit trace weights status.Usage keeps read given h = absurd h
+from_table before now old mid new name file unit trace weights status.No keeps read given h = absurd h
+from_table before now old mid new name file unit trace weights (status.BadReport line) keeps read given h = absurd h
 from_table before now old mid new name file unit trace weights (status.BadTrace fault) keeps read given h = absurd h
 from_table before now old mid new name file unit trace weights (status.BadWeights fault) keeps read given h = absurd h
 from_table before now old mid new name file unit trace weights (status.ReadFault count) keeps read given h = absurd h

@@ -7,7 +7,12 @@ pub mod PlanFacts
 pub mod NoPriceFacts
 pub mod InputFacts
 pub mod WordFacts
+pub mod OutcomeFacts
+pub mod CheckFacts
+pub mod WrittenFacts
+pub mod MadeInput
 pub mod PlannedRuns
 pub mod PlannedPlaces
 pub mod PlanSound
 pub mod PlanReportFacts
+pub mod MadePlan

@@ -1,7 +1,8 @@
--- What the words of a plan say.
+-- What words say fits their command.
 use Rattle.std.proofs.Common.{ℕ, ◌^◌, ◌≤◌, List, Option, Some, None, arith}
 use Rattle.command_words.specs.Line.{Text}
 use Rattle.command_words.specs.Words.{IsSetting, IsWords, Said}
+use Rattle.sincronia_cli.specs.Command.{Fits}
 
 setting_fits : (most default : ℕ) (value : Option Text) (n : ℕ) → 1 ≤ default → default ≤ most → IsSetting most default value n → (1 ≤ n) × (n ≤ most)
 setting_fits most default None n low high is = (omega (arith, is, low), omega (arith, is, high))
@@ -9,3 +10,6 @@ setting_fits most default (Some text) n low high (_, least, greatest, is) = (ome
 
 pub unit_fits : (words : List Text) (said : Said) → IsWords words said → (1 ≤ said.unit) × (said.unit ≤ 2 ^ 20)
 unit_fits words said is = setting_fits (2 ^ 20) 1 _ said.unit (omega arith) (omega arith) is.says.unit
+
+pub words_fit : (words : List Text) (said : Said) → IsWords words said → Fits said
+words_fit words said is = record { some = (unit_fits words said is).0; unit_limit = (unit_fits words said is).1; first = is.says.first_fits; second = is.says.second_fits }

@@ -1,12 +1,17 @@
--- Why a command wrote nothing: what is wrong with its files, looked at in this order: the trace, the weights, the table.
-use Rattle.std.specs.Prelude.{◌≡◌, ℕ, ◌≤◌, ◌<◌, ◌⊎◌, ◌^◌, List, Option, Some, None, IfSome, length}
+-- Why a command wrote nothing: what is wrong with its files, looked at in this order: the trace, the weights, the table, the report.
+use Rattle.std.specs.Prelude.{◌≡◌, ℕ, ◌≤◌, ◌<◌, ◌+◌, ◌⊎◌, ◌^◌, List, Option, Some, None, IfSome, length}
+use Rattle.command_words.specs.declared.command.Command.{Command}
+use Rattle.command_words.specs.declared.command.Command.TheVariants as command
+use Rattle.command_words.specs.Words.{Said}
 use Rattle.coflow_units.specs.declared.trace.CoflowLine.{CoflowLine}
 use Rattle.coflow_units.specs.declared.trace.Trace.{Trace}
 use Rattle.coflow_units.specs.declared.quantity.Quantity.{Quantity}
 use Rattle.coflow_units.specs.declared.quantity.Quantity.TheVariants.{Text}
 use Rattle.flow_table.specs.declared.fault.TableFault.TheVariants as table_fault
 use Rattle.flow_table.specs.Causes.{HasCause}
+use Rattle.flow_table.specs.Table.{TableFacts}
 use Rattle.outside.specs.Shelf.{Told, bytes_of}
+use Rattle.report.specs.Reading.{IsBadAt}
 use Rattle.text_fields.specs.Checks.{first_fault}
 use Rattle.trace_reader.specs.Trace.{trace_checks, trace_of}
 use Rattle.trace_reader.specs.declared.fault.TraceFault.{TraceFault}
@@ -15,11 +20,12 @@ use Rattle.weights.specs.Weights.{text_checks}
 use Rattle.weights.specs.declared.fault.WeightsFault.{WeightsFault}
 use Rattle.weights.specs.declared.fault.WeightsFault.TheVariants as weights_fault
 use Rattle.sincronia_cli.specs.declared.status.Status.{Status}
-use Rattle.sincronia_cli.specs.declared.status.Status.TheVariants.{BadTrace, BadWeights, Limit, ReadFault, NoMemory}
+use Rattle.sincronia_cli.specs.declared.status.Status.TheVariants.{BadTrace, BadWeights, BadReport, Limit, ReadFault, NoMemory}
 use Rattle.outside.specs.Rose.{Rose}
-use Rattle.sincronia_cli.specs.Inputs.{GiveWeights, IsTraceText, NameFailed, bytes_if}
+use Rattle.sincronia_cli.specs.Inputs.{GiveWeights, Gives, IsTraceText, NameFailed, bytes_if}
+use Rattle.sincronia_cli.specs.Make.{PlansLongReport}
 
--- the text is longer than any that is read
+-- the text is longer than any trace or weights that are read
 abbrev pub IsTooLong : List ℕ → Type 0
 IsTooLong text = 2 ^ 26 < length text
 
@@ -68,6 +74,33 @@ pub data LimitCause (trace : List ℕ) (weights : Option (List ℕ)) (unit : ℕ
   in_weights : IsTraceText trace → WeightsLimit weights (trace_of trace).coflows which count → LimitCause trace weights unit which count
   in_table : IsTraceText trace → (ws : List ℕ) → GiveWeights weights (trace_of trace).coflows ws → HasCause (trace_of trace) unit (table_fault.Limit which count) → LimitCause trace weights unit which count
 
+-- the trace and the weights have no fault, and with the unit they give a table
+abbrev pub GiveTable : List ℕ → Option (List ℕ) → ℕ → Type 0
+GiveTable trace weights unit = (table : TableFacts) × (ws : List ℕ) × Gives trace weights unit table ws
+
+-- there is a name
+abbrev pub IsGiven : Option (List ℕ) → Type 0
+IsGiven None = ⊥
+IsGiven (Some name) = Unit {0}
+
+-- there is a file of a report, and this is the first line that no text of a report has
+abbrev pub IsBadReport : Option (List ℕ) → ℕ → Type 0
+IsBadReport None line = ⊥
+IsBadReport (Some text) line = (length text ≤ 2 ^ 30) × IsBadAt text line
+
+-- the trace and the weights give a table, and this is the first line that no text of a report has
+abbrev pub HasReportFault : List ℕ → Option (List ℕ) → ℕ → Option (List ℕ) → ℕ → Type 0
+HasReportFault trace weights unit report line = GiveTable trace weights unit × IsBadReport report line
+
+-- there is a file of a report, and it is longer than any report that is read
+abbrev pub IsLongReport : Option (List ℕ) → Type 0
+IsLongReport None = ⊥
+IsLongReport (Some text) = 2 ^ 30 < length text
+
+-- the trace and the weights give a table, and the bytes of the report are too many
+abbrev pub ReportLimit : List ℕ → Option (List ℕ) → ℕ → Option (List ℕ) → Quantity → ℕ → Type 0
+ReportLimit trace weights unit report which count = (which ≡ Text) × (count ≡ 1073741825) × GiveTable trace weights unit × IsLongReport report
+
 -- ---- the causes of the statuses that reading ends with
 
 -- the status says the fault
@@ -86,12 +119,12 @@ IsStatusOfWeights fault status = status ≡ BadWeights fault
 abbrev pub ShelfFailed : ℕ → ℕ → Option Told → Option Told → List ℕ → ℕ → Type 0
 ShelfFailed before now old new name count = (count ≡ 1) × Rose before now × NameFailed old new name
 
--- the cause of a status that says why the bytes of a file were not read
-abbrev pub IsFileCause : ℕ → ℕ → Option Told → Option Told → List ℕ → Status → Type 0
-IsFileCause before now old new name (Limit which count) = (which ≡ Text) × (count ≡ 67108865) × IfSome old (λ t. IsTooLong (bytes_of t name))
-IsFileCause before now old new name (ReadFault count) = ShelfFailed before now old new name count
-IsFileCause before now old new name NoMemory = Unit {0}
-IsFileCause before now old new name status = ⊥
+-- the cause of a status that says why the bytes of a file, of which so many are read at most, were not read
+abbrev pub IsFileCause : ℕ → ℕ → ℕ → Option Told → Option Told → List ℕ → Status → Type 0
+IsFileCause most before now old new name (Limit which count) = (which ≡ Text) × (count ≡ most + 1) × IfSome old (λ t. most < length (bytes_of t name))
+IsFileCause most before now old new name (ReadFault count) = ShelfFailed before now old new name count
+IsFileCause most before now old new name NoMemory = Unit {0}
+IsFileCause most before now old new name status = ⊥
 
 -- the cause of a status that says why the trace of a file was not read
 abbrev pub IsTraceCause : ℕ → ℕ → Option Told → Option Told → List ℕ → Status → Type 0
@@ -115,16 +148,74 @@ IsTableCause trace unit (Limit which count) = HasCause trace unit (table_fault.L
 IsTableCause trace unit NoMemory = Unit {0}
 IsTableCause trace unit status = ⊥
 
--- a call to the shelf failed, and, where told, the count of the name of the trace or of the weights rose
-abbrev pub AnyFailed : ℕ → ℕ → Option Told → Option Told → List ℕ → Option (List ℕ) → ℕ → Type 0
-AnyFailed before now old new trace None count = ShelfFailed before now old new trace count
-AnyFailed before now old new trace (Some weights) count = (count ≡ 1) × Rose before now × (NameFailed old new trace ⊎ NameFailed old new weights)
+-- the cause of a status that says why the report of a file was not read
+abbrev pub IsReportCause : ℕ → ℕ → Option Told → Option Told → List ℕ → Status → Type 0
+IsReportCause before now old new name (BadReport line) = IfSome old (λ t. IsBadReport (Some (bytes_of t name)) line)
+IsReportCause before now old new name (Limit which count) = (which ≡ Text) × (count ≡ 1073741825) × IfSome old (λ t. IsLongReport (Some (bytes_of t name)))
+IsReportCause before now old new name (ReadFault count) = ShelfFailed before now old new name count
+IsReportCause before now old new name NoMemory = Unit {0}
+IsReportCause before now old new name status = ⊥
 
--- The cause of a status that comes before anything is written. The shelf had and has these counts of faults, and told and tells these files.
-abbrev pub HasStatusCause : ℕ → ℕ → Option Told → Option Told → List ℕ → Option (List ℕ) → ℕ → Status → Type 0
-HasStatusCause before now old new trace weights unit (BadTrace fault) = IsTraceForm fault × IfSome old (λ t. HasTraceFault (bytes_of t trace) fault)
-HasStatusCause before now old new trace weights unit (BadWeights fault) = IsWeightsForm fault × IfSome old (λ t. HasWeightsFault (bytes_of t trace) (bytes_if t weights) fault)
-HasStatusCause before now old new trace weights unit (Limit which count) = IfSome old (λ t. LimitCause (bytes_of t trace) (bytes_if t weights) unit which count)
-HasStatusCause before now old new trace weights unit (ReadFault count) = AnyFailed before now old new trace weights count
-HasStatusCause before now old new trace weights unit NoMemory = Unit {0}
-HasStatusCause before now old new trace weights unit status = ⊥
+-- where it is told, the count of the file of a name rose, if there is a name
+abbrev pub NameFailedIf : Option Told → Option Told → Option (List ℕ) → Type 0
+NameFailedIf old new None = ⊥
+NameFailedIf old new (Some name) = NameFailed old new name
+
+-- a call to the shelf failed, and, where told, the count of the name of the trace or of the weights rose
+abbrev pub InputFailed : ℕ → ℕ → Option Told → Option Told → List ℕ → Option (List ℕ) → ℕ → Type 0
+InputFailed before now old new trace weights count = (count ≡ 1) × Rose before now × (NameFailed old new trace ⊎ NameFailedIf old new weights)
+
+-- The cause of a status that says why trace and weights gave no table. The shelf had and has these counts of faults, and told and tells these files.
+abbrev pub HasInputCause : ℕ → ℕ → Option Told → Option Told → List ℕ → Option (List ℕ) → ℕ → Status → Type 0
+HasInputCause before now old new trace weights unit (BadTrace fault) = IsTraceForm fault × IfSome old (λ t. HasTraceFault (bytes_of t trace) fault)
+HasInputCause before now old new trace weights unit (BadWeights fault) = IsWeightsForm fault × IfSome old (λ t. HasWeightsFault (bytes_of t trace) (bytes_if t weights) fault)
+HasInputCause before now old new trace weights unit (Limit which count) = IfSome old (λ t. LimitCause (bytes_of t trace) (bytes_if t weights) unit which count)
+HasInputCause before now old new trace weights unit (ReadFault count) = InputFailed before now old new trace weights count
+HasInputCause before now old new trace weights unit NoMemory = Unit {0}
+HasInputCause before now old new trace weights unit status = ⊥
+
+-- ---- the causes of the statuses of the commands
+
+-- a call to the shelf failed, and, where told, the count of one of the command's names rose
+abbrev pub AnyFailed : ℕ → ℕ → Option Told → Option Told → Said → ℕ → Type 0
+AnyFailed before now old new said count = (count ≡ 1) × Rose before now × (NameFailed old new said.first ⊎ NameFailedIf old new said.weights ⊎ NameFailedIf old new said.second)
+
+-- a quantity of the files is outside its range, and nothing that is looked at before it is wrong
+abbrev pub FilesLimit : Told → Said → Quantity → ℕ → Type 0
+FilesLimit t said which count = LimitCause (bytes_of t said.first) (bytes_if t said.weights) said.unit which count ⊎ ReportLimit (bytes_of t said.first) (bytes_if t said.weights) said.unit (bytes_if t said.second) which count
+
+-- the cause of a status that comes before anything is written, in a command that reads files
+abbrev pub HasFilesCause : ℕ → ℕ → Option Told → Option Told → Said → Status → Type 0
+HasFilesCause before now old new said (BadTrace fault) = IsTraceForm fault × IfSome old (λ t. HasTraceFault (bytes_of t said.first) fault)
+HasFilesCause before now old new said (BadWeights fault) = IsWeightsForm fault × IfSome old (λ t. HasWeightsFault (bytes_of t said.first) (bytes_if t said.weights) fault)
+HasFilesCause before now old new said (BadReport line) = IsGiven said.second × IfSome old (λ t. HasReportFault (bytes_of t said.first) (bytes_if t said.weights) said.unit (bytes_if t said.second) line)
+HasFilesCause before now old new said (Limit which count) = IfSome old (λ t. FilesLimit t said which count)
+HasFilesCause before now old new said (ReadFault count) = AnyFailed before now old new said count
+HasFilesCause before now old new said NoMemory = Unit {0}
+HasFilesCause before now old new said status = ⊥
+
+-- the report of the plan of `make` is longer than any that is read
+abbrev pub MadeLimit : Said → Quantity → ℕ → Type 0
+MadeLimit said which count = (which ≡ Text) × (count ≡ 1073741825) × PlansLongReport said
+
+-- the cause of a status that comes before anything is written, in `make`
+abbrev pub HasMadeCause : Said → Status → Type 0
+HasMadeCause said (Limit which count) = MadeLimit said which count
+HasMadeCause said NoMemory = Unit {0}
+HasMadeCause said status = ⊥
+
+-- the cause of a status that comes before anything is written
+abbrev pub CauseBy : Command → ℕ → ℕ → Option Told → Option Told → Said → Status → Type 0
+CauseBy command.Plan before now old new said status = HasFilesCause before now old new said status
+CauseBy command.Check before now old new said status = HasFilesCause before now old new said status
+CauseBy command.Make before now old new said status = HasMadeCause said status
+
+-- what is said has this cause of the status
+abbrev pub HasCauseOf : ℕ → ℕ → Option Told → Option Told → Said → Status → Type 0
+HasCauseOf before now old new said status = CauseBy said.command before now old new said status
+
+-- what is said has a quantity outside its range
+abbrev pub LimitBy : Command → Option Told → Said → Quantity → ℕ → Type 0
+LimitBy command.Plan told said which count = IfSome told (λ t. FilesLimit t said which count)
+LimitBy command.Check told said which count = IfSome told (λ t. FilesLimit t said which count)
+LimitBy command.Make told said which count = MadeLimit said which count

@@ -1,13 +1,15 @@
 -- The exit codes.
 use Rattle.std.specs.Prelude.{ℕ}
 use Rattle.sincronia_cli.specs.declared.status.Status.{Status}
-use Rattle.sincronia_cli.specs.declared.status.Status.TheVariants.{Ok, Usage, BadTrace, BadWeights, Limit, ReadFault, WriteFault, NoMemory}
+use Rattle.sincronia_cli.specs.declared.status.Status.TheVariants.{Ok, No, Usage, BadTrace, BadWeights, BadReport, Limit, ReadFault, WriteFault, NoMemory}
 
 abbrev pub code_of : Status → ℕ
 code_of Ok = 0
+code_of No = 1
 code_of Usage = 2
 code_of (BadTrace fault) = 3
 code_of (BadWeights fault) = 4
+code_of (BadReport line) = 5
 code_of (Limit which count) = 7
 code_of (ReadFault count) = 8
 code_of (WriteFault count) = 9

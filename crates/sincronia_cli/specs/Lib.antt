@@ -1,6 +1,11 @@
 pub mod Inputs
 pub mod PlanReport
+pub mod Command
 pub mod Plan
+pub mod VerdictLine
+pub mod Check
+pub mod Make
+pub mod Outcome
 pub mod Causes
 pub mod Code
 pub mod Messages

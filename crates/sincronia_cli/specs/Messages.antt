@@ -1,4 +1,4 @@
--- The lines on standard error, without their line feeds. There is none where the job ended well.
+-- The lines on standard error, without their line feeds. There is none where the job ended well, nor where the answer is no.
 use Rattle.std.specs.Prelude.{ℕ, ◌++◌, List, [], codes, decimal}
 use Rattle.coflow_units.specs.declared.quantity.Quantity.{Quantity}
 use Rattle.coflow_units.specs.declared.quantity.Quantity.TheVariants as quantity
@@ -7,7 +7,7 @@ use Rattle.trace_reader.specs.declared.fault.TraceFault.TheVariants as trace
 use Rattle.weights.specs.declared.fault.WeightsFault.{WeightsFault}
 use Rattle.weights.specs.declared.fault.WeightsFault.TheVariants as weight
 use Rattle.sincronia_cli.specs.declared.status.Status.{Status}
-use Rattle.sincronia_cli.specs.declared.status.Status.TheVariants.{Ok, Usage, BadTrace, BadWeights, Limit, ReadFault, WriteFault, NoMemory}
+use Rattle.sincronia_cli.specs.declared.status.Status.TheVariants.{Ok, No, Usage, BadTrace, BadWeights, BadReport, Limit, ReadFault, WriteFault, NoMemory}
 
 -- the name of a quantity
 abbrev pub name_of : Quantity → List ℕ
@@ -52,9 +52,11 @@ weights_text weight.NoMemory = codes "no memory"
 -- what a status says behind the program's name
 abbrev pub status_text : Status → List ℕ
 status_text Ok = []
+status_text No = []
 status_text Usage = codes "usage: sincronia COMMAND FIRST [SECOND] [options]"
 status_text (BadTrace fault) = trace_text fault
 status_text (BadWeights fault) = weights_text fault
+status_text (BadReport line) = codes "report: line " ++ decimal line
 status_text (Limit which count) = limit_text which count
 status_text (ReadFault count) = codes "read fault"
 status_text (WriteFault count) = codes "write fault"

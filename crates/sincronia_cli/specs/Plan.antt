@@ -1,8 +1,6 @@
 -- What `plan` reads and writes.
 use Rattle.std.specs.Prelude.{◌≡◌, ℕ, ◌+◌, ◌*◌, ◌≤◌, ◌++◌, List, Option, Some, None, take}
-use Rattle.command_words.specs.declared.command.Command.TheVariants.{Plan}
-use Rattle.command_words.specs.Line.{Text}
-use Rattle.command_words.specs.Words.{IsWords, Said}
+use Rattle.command_words.specs.Words.{Said}
 use Rattle.coflow_units.specs.Completion.{cost}
 use Rattle.coflow_units.specs.Flows.{Instance}
 use Rattle.coflow_units.specs.Schedule.{IsValid}
@@ -12,11 +10,6 @@ use Rattle.report.specs.declared.value.Report.{Report}
 use Rattle.report.specs.Text.{report_text}
 use Rattle.sincronia_cli.specs.Inputs.{IsInput}
 use Rattle.sincronia_cli.specs.PlanReport.{IsPlanOf}
-
--- the words are those of `plan`
-pub record IsPlan (words : List Text) (said : Said) : Type 0 where
-  pub words_say : IsWords words said
-  pub command : said.command ≡ Plan
 
 -- the instance that the files give, the report of its plan, and the text of the report
 pub record PlanOf (told : Option Told) (said : Said) (text : List ℕ) : Type 0 where
@@ -32,22 +25,16 @@ abbrev pub Appends : Option (List ℕ) → Option (List ℕ) → List ℕ → Ty
 Appends None new text = Unit {0}
 Appends (Some old) new text = new ≡ Some (old ++ text)
 
--- the same of a front of the text
-abbrev pub AppendsFront : Option (List ℕ) → Option (List ℕ) → List ℕ → Type 0
-AppendsFront None new text = Unit {0}
-AppendsFront (Some old) new text = (n : ℕ) × (new ≡ Some (old ++ take n text))
+-- the same of a beginning of the text
+abbrev pub AppendsBeginning : Option (List ℕ) → Option (List ℕ) → List ℕ → Type 0
+AppendsBeginning None new text = Unit {0}
+AppendsBeginning (Some old) new text = (n : ℕ) × (new ≡ Some (old ++ take n text))
 
 -- the text of the plan was written
 pub record WritesPlan (told : Option Told) (said : Said) (old new : Option (List ℕ)) : Type 0 where
   pub text : List ℕ
   pub plan : PlanOf told said text
   pub written : Appends old new text
-
--- a front of the text of the plan was written
-pub record WritesFront (told : Option Told) (said : Said) (old new : Option (List ℕ)) : Type 0 where
-  pub text : List ℕ
-  pub plan : PlanOf told said text
-  pub written : AppendsFront old new text
 
 -- the bound is at most the cost of every valid schedule of the instance, patient or not
 abbrev pub BoundsEverySchedule : Instance → Report → Type 0

@@ -1,14 +1,16 @@
-//! The files of a command: the trace, and the weights of its coflows.
+//! The files of a command: the trace, the weights of its coflows, and a report.
 ghost use Rattle.std.specs.Prelude.{◌≡◌, ◌≤◌, ◌^◌, ℕ, IfErr, IfOk, length, option_map, replicate};
 ghost use Rattle.coflow_units.specs.Trace.{IsTrace};
 ghost use Rattle.flow_table.specs.Table.{IsTable, IsTableOf};
-ghost use Rattle.sincronia_cli.specs.Causes.{HasStatusCause, IsFileCause, IsTableCause, IsTraceCause, IsWeightsCause, IsStatusOfTrace, IsStatusOfWeights};
+ghost use Rattle.sincronia_cli.specs.Causes.{HasInputCause, IsFileCause, IsReportCause, IsTableCause, IsTraceCause, IsWeightsCause, IsStatusOfTrace, IsStatusOfWeights};
+ghost use Rattle.sincronia_cli.specs.Check.{IsReportOf};
 ghost use Rattle.sincronia_cli.specs.Inputs.{HasBytes, IsInput, IsTraceOf, IsWeightsOf, KeepsFiles};
 
 use crate::status::Status;
-use coflow_units::{Items, MAX_TEXT, NoMemory, Quantity, Trace};
+use coflow_units::{Items, MAX_REPORT, MAX_TEXT, NoMemory, Quantity, Trace};
 use flow_table::{Table, TableFault};
 use outside::{Place4, ReadStop, Shelf, read_all};
+use report::{Report, ReportFault, read_report};
 use std::alloc::Global;
 use trace_reader::{TraceFault, read_trace};
 use weights::{WeightsFault, read_weights};
@@ -32,7 +34,9 @@ pub fn read_input<H: Shelf>(
     requires some { 1 ≤ unit }
     requires unit_limit { unit ≤ 2 ^ 20 }
     ensures input { IfOk result (λ i. IsInput (H.told shelf.old) name.now (option_map (λ s. s.now) weights_name.entry) unit i.table i.weights) }
-    ensures cause { IfErr result (λ status. HasStatusCause (H.faults shelf.old) (H.faults shelf.new) (H.told shelf.old) (H.told shelf.new) name.now (option_map (λ s. s.now) weights_name.entry) unit status) }
+    ensures keeps { KeepsFiles (H.told shelf.old) (H.told shelf.new) }
+    ensures later { H.faults shelf.old ≤ H.faults shelf.new }
+    ensures cause { IfErr result (λ status. HasInputCause (H.faults shelf.old) (H.faults shelf.new) (H.told shelf.old) (H.told shelf.new) name.now (option_map (λ s. s.now) weights_name.entry) unit status) }
 {
     let trace = match trace_of_file(alloc, name, shelf) {
         Ok(trace) => trace,
@@ -56,7 +60,7 @@ fn trace_of_file<H: Shelf>(alloc: Global, name: &str, shelf: &mut H) -> Result<T
     ensures later { H.faults shelf.old ≤ H.faults shelf.new }
     ensures cause { IfErr result (λ status. IsTraceCause (H.faults shelf.old) (H.faults shelf.new) (H.told shelf.old) (H.told shelf.new) name.now status) }
 {
-    let bytes = match read_file(alloc, Place4::Trace, name, shelf) {
+    let bytes = match read_file(alloc, Place4::Trace, name, MAX_TEXT, shelf) {
         Ok(bytes) => bytes,
         Err(status) => return Err(status),
     };
@@ -99,7 +103,7 @@ fn weights_of_file<H: Shelf>(
             Err(NoMemory) => Err(Status::NoMemory),
         };
     };
-    let bytes = match read_file(alloc, Place4::Weights, name, shelf) {
+    let bytes = match read_file(alloc, Place4::Weights, name, MAX_TEXT, shelf) {
         Ok(bytes) => bytes,
         Err(status) => return Err(status),
     };
@@ -147,28 +151,50 @@ fn table_of(alloc: Global, trace: &Trace, unit: u64) -> Result<Table, Status>
     }
 }
 
-/// The bytes of a file of at most 2^26 bytes.
+/// Reads the report under a name. The error is the status that says why there is none.
+pub(crate) fn read_report_file<H: Shelf>(
+    alloc: Global,
+    name: &str,
+    shelf: &mut H,
+) -> Result<Report, Status>
+    ensures report { IfOk result (IsReportOf (H.told shelf.old) name.now) }
+    ensures cause { IfErr result (λ status. IsReportCause (H.faults shelf.old) (H.faults shelf.new) (H.told shelf.old) (H.told shelf.new) name.now status) }
+{
+    let bytes = match read_file(alloc, Place4::Report, name, MAX_REPORT, shelf) {
+        Ok(bytes) => bytes,
+        Err(status) => return Err(status),
+    };
+    match read_report(alloc, &bytes) {
+        Ok(report) => Ok(report),
+        Err(ReportFault::BadText { line }) => Err(Status::BadReport { line }),
+        Err(ReportFault::NoMemory) => Err(Status::NoMemory),
+    }
+}
+
+/// The bytes of a file of at most `most` bytes.
 fn read_file<H: Shelf>(
     alloc: Global,
     place: Place4,
     name: &str,
+    most: usize,
     shelf: &mut H,
 ) -> Result<Vec<u8>, Status>
+    requires { most ≤ 2 ^ 30 }
     ensures bytes { IfOk result (λ bytes. HasBytes (H.told shelf.old) name.now bytes.items) }
-    ensures short { IfOk result (λ bytes. length bytes.items ≤ 2 ^ 26) }
+    ensures short { IfOk result (λ bytes. length bytes.items ≤ most) }
     ensures keeps { KeepsFiles (H.told shelf.old) (H.told shelf.new) }
     ensures later { H.faults shelf.old ≤ H.faults shelf.new }
-    ensures cause { IfErr result (λ status. IsFileCause (H.faults shelf.old) (H.faults shelf.new) (H.told shelf.old) (H.told shelf.new) name.now status) }
+    ensures cause { IfErr result (λ status. IsFileCause most (H.faults shelf.old) (H.faults shelf.new) (H.told shelf.old) (H.told shelf.new) name.now status) }
 {
     let Ok(()) = shelf.start(place, name) else {
         return Err(Status::ReadFault { count: 1 });
     };
-    match read_all(alloc, shelf, place, MAX_TEXT) {
+    match read_all(alloc, shelf, place, most) {
         Ok(bytes) => Ok(bytes),
         Err(ReadStop::Fault) => Err(Status::ReadFault { count: 1 }),
         Err(ReadStop::TooLong) => Err(Status::Limit {
             which: Quantity::Text,
-            count: MAX_TEXT as u64 + 1,
+            count: most as u64 + 1,
         }),
         Err(ReadStop::NoMemory) => Err(Status::NoMemory),
     }

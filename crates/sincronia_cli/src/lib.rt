@@ -1,17 +1,23 @@
 // The program's commands: from the words of a command line and the bytes of files to the bytes that are written.
 #![tactic(auto)]
 
+mod checking;
 mod command;
 mod inputs;
 pub mod laws;
+mod making;
 mod messages;
 mod order;
+mod outcome;
 mod places;
 mod planning;
 mod status;
+mod verdict_line;
 
 pub use command::sincronia;
 pub use status::Status;
 
+#[cfg(test)]
+mod check_tests;
 #[cfg(test)]
 mod tests;

@@ -18,10 +18,11 @@ impl fmt::Display for Status {
 
     fn fmt<W: fmt::Write>(&self, f: &mut fmt::Formatter<W>) -> fmt::Result {
         match self {
-            Status::Ok => Ok(()),
+            Status::Ok | Status::No => Ok(()),
             Status::Usage => f.write_str("usage: sincronia COMMAND FIRST [SECOND] [options]"),
             Status::BadTrace(fault) => write_trace_fault(f, *fault),
             Status::BadWeights(fault) => write_weights_fault(f, *fault),
+            Status::BadReport { line } => write!(f, "report: line {line}"),
             Status::Limit { which, count } => write_limit(f, *which, *count),
             Status::ReadFault { count: _ } => f.write_str("read fault"),
             Status::WriteFault { count: _ } => f.write_str("write fault"),

@@ -2,26 +2,30 @@
 ghost use Rattle.std.specs.Prelude.{◌≡◌};
 ghost use Rattle.sincronia_cli.specs.Code.{code_of};
 
-use coflow_units::Quantity;
+use coflow_units::{NoMemory, Quantity};
 use trace_reader::TraceFault;
 use weights::WeightsFault;
 
 /// How the job ended. The `count` of a fault of shelf or sink is the number of calls that failed, which is 1: the first one ends the job.
 #[derive(Clone, Copy, Debug, PartialEq, Eq)]
 pub enum Status {
-    /// The text was written whole.
+    /// The text was written whole. The answer of `check` is yes.
     Ok,
+    /// The report is not right. The line with the first reason was written whole.
+    No,
     /// The words are no command.
     Usage,
     /// The file is no trace. The fault is the first in reading order, and one of form.
     BadTrace(TraceFault),
     /// The file is no weights of the trace's coflows. The fault is the first in reading order, and one of form.
     BadWeights(WeightsFault),
+    /// The file is no report. No text of a report has this line, counted from 1, after the lines before it.
+    BadReport { line: u32 },
     /// A counted quantity is outside its range. The count is told as 2^64 - 1 where it is greater.
     Limit { which: Quantity, count: u64 },
     /// A call to the shelf failed.
     ReadFault { count: u32 },
-    /// A call to the sink failed. A front of the text was written.
+    /// A call to the sink failed. A beginning of the text was written.
     WriteFault { count: u32 },
     /// No memory was to be had.
     NoMemory,
@@ -34,13 +38,25 @@ impl Status {
     {
         match self {
             Status::Ok => 0,
+            Status::No => 1,
             Status::Usage => 2,
             Status::BadTrace(_) => 3,
             Status::BadWeights(_) => 4,
+            Status::BadReport { line: _ } => 5,
             Status::Limit { which: _, count: _ } => 7,
             Status::ReadFault { count: _ } => 8,
             Status::WriteFault { count: _ } => 9,
             Status::NoMemory => 11,
         }
+    }
+}
+
+impl From<NoMemory> for Status {
+    ghost use Rattle.sincronia_cli.specs.declared.status.Status.TheVariants.{NoMemory};
+
+    ghost from_gives = { λ _ e. e ≡ NoMemory };
+
+    fn from(_fault: NoMemory) -> Status {
+        Status::NoMemory
     }
 }

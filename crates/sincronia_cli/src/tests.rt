@@ -38,7 +38,7 @@ run 1 0
 end
 ";
 
-fn words(alloc: Global, texts: &[&str]) -> Result<Vec<String>, Fail> {
+pub(crate) fn words(alloc: Global, texts: &[&str]) -> Result<Vec<String>, Fail> {
     let mut words = Vec::new(alloc);
     for text in texts {
         words.push(String::from_str(alloc, text)?)?;
@@ -338,7 +338,7 @@ fn the_sink_fails_after_each_number_of_bytes(rt: HostRuntime) -> Result<(), Fail
 #[test]
 fn other_words_are_refused(rt: HostRuntime) -> Result<(), Fail> {
     let alloc = rt.alloc();
-    let rows: [&[&str]; 9] = [
+    let rows: [&[&str]; 12] = [
         &[],
         &["sincronia"],
         &["sincronia", "plan"],
@@ -346,7 +346,10 @@ fn other_words_are_refused(rt: HostRuntime) -> Result<(), Fail> {
         &["sincronia", "make", "x"],
         &["sincronia", "plan", "t", "--unit", "0"],
         &["sincronia", "plan", "t", "--unit=1", "--unit", "1"],
+        &["sincronia", "make", "18446744073709551616"],
+        &["sincronia", "make", "7", "t"],
         &["sincronia", "check", "t"],
+        &["sincronia", "check", "t", "t", "t"],
         &["sincronia", "paln", "t"],
     ];
     for row in rows {
@@ -377,6 +380,7 @@ fn statuses_have_their_codes_and_lines(rt: HostRuntime) -> Result<(), Fail> {
     let alloc = rt.alloc();
     let rows = [
         (Status::Ok, 0, ""),
+        (Status::No, 1, ""),
         (
             Status::Usage,
             2,
@@ -427,6 +431,7 @@ fn statuses_have_their_codes_and_lines(rt: HostRuntime) -> Result<(), Fail> {
             4,
             "weights: line 2 repeats id 1",
         ),
+        (Status::BadReport { line: 9 }, 5, "report: line 9"),
         (
             Status::Limit {
                 which: Quantity::Flows,

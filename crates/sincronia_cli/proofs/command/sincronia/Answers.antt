@@ -1,20 +1,40 @@
 use Rattle.std.proofs.Common.{ap, Err}
+use Rattle.command_words.specs.Line.{texts}
 use Rattle.command_words.specs.Words.{said_by}
-use Rattle.sincronia_cli.specs.Plan.{WritesPlan}
-use Rattle.sincronia_cli.proofs.PlanFacts.{appended, writes_bound, writes_within}
+use Rattle.sincronia_cli.proofs.OutcomeFacts.{bad_report_checked}
+use Rattle.sincronia_cli.proofs.PlanFacts.{writes_bound, writes_within}
+use Rattle.sincronia_cli.proofs.WrittenFacts.{made_written, plan_written, yes_written}
 use Rattle.sincronia_cli.proofs.command.sincronia.Goals as goal
 
 pub returns-in-Err-Usage-clause-usage : goal.returns-in-Err-Usage-clause-usage
 returns-in-Err-Usage-clause-usage g c = λ e said is. c.in-Err-Usage.ensures.usage (ap Err c.in-Err-Usage.field-0-is) said is
 
+pub returns-in-Err-clause-bad_report : goal.returns-in-Err-clause-bad_report
+returns-in-Err-clause-bad_report g c = λ line e.
+    let checked = bad_report_checked (texts c.args.words.now) (said_by c.in-Ok.words) (g.H.Shelf.faults c.args.shelf.now) (g.H.Shelf.faults c.carry_out.new.shelf) (g.H.Shelf.told c.args.shelf.now) (g.H.Shelf.told c.carry_out.new.shelf) line c.in-Err.status c.in-Ok.ensures.said c.in-Err.ensures.cause e in
+    (said_by c.in-Ok.words, checked.0, checked.1)
+
+pub returns-clause-plan : goal.returns-clause-plan
+returns-clause-plan g c = λ said is e.
+    plan_written _ (texts c.args.words.now) (said_by c.in-Ok.words) said (g.H.Shelf.told c.args.shelf.now) c.in-Ok-carry_out.outcome.status c.in-Ok-carry_out.outcome.text.items c.deref.result.now (g.K.Sink.taken c.args.out.now) (g.K.Sink.taken c.write_all.new.sink) c.in-Ok-write_all.field-0
+    c.in-Ok.ensures.said is c.in-Ok-carry_out.ensures.outcome c.deref.ensures.value c.in-Ok-write_all.ensures.taken
+
 pub returns-clause-bound : goal.returns-clause-bound
-returns-clause-bound g c = λ e.
-    let writes : WritesPlan (g.H.Shelf.told c.args.shelf.now) (said_by c.in-Ok.words) (g.K.Sink.taken c.args.out.now) (g.K.Sink.taken c.write_all.new.sink) =
-    record { text = c.in-Ok-plan_text.text.items; plan = c.in-Ok-plan_text.ensures.text; written = appended _ (g.K.Sink.taken c.args.out.now) (g.K.Sink.taken c.write_all.new.sink) c.in-Ok-plan_text.text.items c.deref.result.now _ c.deref.ensures.value c.in-Ok-write_all.ensures.taken } in
-    (said_by c.in-Ok.words, c.in-Ok.ensures.said, writes_bound (g.H.Shelf.told c.args.shelf.now) (said_by c.in-Ok.words) (g.K.Sink.taken c.args.out.now) (g.K.Sink.taken c.write_all.new.sink) writes)
+returns-clause-bound g c = λ said is e.
+    writes_bound (g.H.Shelf.told c.args.shelf.now) said (g.K.Sink.taken c.args.out.now) (g.K.Sink.taken c.write_all.new.sink) (plan_written _ (texts c.args.words.now) (said_by c.in-Ok.words) said (g.H.Shelf.told c.args.shelf.now) c.in-Ok-carry_out.outcome.status c.in-Ok-carry_out.outcome.text.items c.deref.result.now (g.K.Sink.taken c.args.out.now) (g.K.Sink.taken c.write_all.new.sink) c.in-Ok-write_all.field-0
+    c.in-Ok.ensures.said is c.in-Ok-carry_out.ensures.outcome c.deref.ensures.value c.in-Ok-write_all.ensures.taken)
 
 pub returns-clause-four : goal.returns-clause-four
-returns-clause-four g c = λ e.
-    let writes : WritesPlan (g.H.Shelf.told c.args.shelf.now) (said_by c.in-Ok.words) (g.K.Sink.taken c.args.out.now) (g.K.Sink.taken c.write_all.new.sink) =
-    record { text = c.in-Ok-plan_text.text.items; plan = c.in-Ok-plan_text.ensures.text; written = appended _ (g.K.Sink.taken c.args.out.now) (g.K.Sink.taken c.write_all.new.sink) c.in-Ok-plan_text.text.items c.deref.result.now _ c.deref.ensures.value c.in-Ok-write_all.ensures.taken } in
-    (said_by c.in-Ok.words, c.in-Ok.ensures.said, writes_within (g.H.Shelf.told c.args.shelf.now) (said_by c.in-Ok.words) (g.K.Sink.taken c.args.out.now) (g.K.Sink.taken c.write_all.new.sink) writes)
+returns-clause-four g c = λ said is e.
+    writes_within (g.H.Shelf.told c.args.shelf.now) said (g.K.Sink.taken c.args.out.now) (g.K.Sink.taken c.write_all.new.sink) (plan_written _ (texts c.args.words.now) (said_by c.in-Ok.words) said (g.H.Shelf.told c.args.shelf.now) c.in-Ok-carry_out.outcome.status c.in-Ok-carry_out.outcome.text.items c.deref.result.now (g.K.Sink.taken c.args.out.now) (g.K.Sink.taken c.write_all.new.sink) c.in-Ok-write_all.field-0
+    c.in-Ok.ensures.said is c.in-Ok-carry_out.ensures.outcome c.deref.ensures.value c.in-Ok-write_all.ensures.taken)
+
+pub returns-clause-yes : goal.returns-clause-yes
+returns-clause-yes g c = λ said is e.
+    yes_written _ (texts c.args.words.now) (said_by c.in-Ok.words) said (g.H.Shelf.told c.args.shelf.now) c.in-Ok-carry_out.outcome.status c.in-Ok-carry_out.outcome.text.items c.deref.result.now (g.K.Sink.taken c.args.out.now) (g.K.Sink.taken c.write_all.new.sink) c.in-Ok-write_all.field-0
+    c.in-Ok.ensures.said is c.in-Ok-carry_out.ensures.outcome e c.deref.ensures.value c.in-Ok-write_all.ensures.taken
+
+pub returns-clause-make : goal.returns-clause-make
+returns-clause-make g c = λ said is e.
+    made_written _ (texts c.args.words.now) (said_by c.in-Ok.words) said (g.H.Shelf.told c.args.shelf.now) c.in-Ok-carry_out.outcome.status c.in-Ok-carry_out.outcome.text.items c.deref.result.now (g.K.Sink.taken c.args.out.now) (g.K.Sink.taken c.write_all.new.sink) c.in-Ok-write_all.field-0
+    c.in-Ok.ensures.said is c.in-Ok-carry_out.ensures.outcome c.deref.ensures.value c.in-Ok-write_all.ensures.taken

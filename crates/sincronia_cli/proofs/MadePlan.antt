@@ -1,0 +1,45 @@
+-- The plan of a made trace, read back from its own text.
+use Rattle.std.proofs.Common.{◌≡◌, ℕ, ◌^◌, ◌≤◌, ◌<◌, ◌∙◌, List, length, ap, subst, sym, arith}
+use Rattle.std.specs.Prelude.{All}
+use Rattle.coflow_units.specs.Flows.{IsDistinct}
+use Rattle.cert_check.specs.Sound.{IsSound}
+use Rattle.flow_table.specs.Table.{IsTable, TableFacts, instance_of}
+use Rattle.report.specs.declared.value.Report.{Report}
+use Rattle.report.specs.Made.{made_text}
+use Rattle.report.specs.Reading.{IsTextOf}
+use Rattle.report.specs.Report.{HasSmallNumbers, IsReport}
+use Rattle.report.specs.Text.{report_text}
+use Rattle.report.proofs.TextLaws.{reports_are_one}
+use Rattle.text_fields.specs.Numbers.{capped, number}
+use Rattle.command_words.specs.Words.{Said}
+use Rattle.sincronia_cli.specs.Make.{GivesMade, MadeOf, summary_of}
+use Rattle.sincronia_cli.specs.PlanReport.{IsPlanOf}
+use Rattle.sincronia_cli.proofs.PlanSound.{plan_is_sound}
+
+pub seed_is : (seed n : ℕ) → seed ≡ capped n → n < 2 ^ 64 → seed ≡ n
+seed_is seed n is small = omega (arith, is, small)
+
+pub read_is_planned : (planned read : Report) (text lent : List ℕ) → IsReport planned → HasSmallNumbers planned → text ≡ report_text planned → lent ≡ text → IsTextOf lent read → read ≡ planned
+read_is_planned planned read text lent fits small written e back = reports_are_one read planned back.report back.small fits small (sym back.text ∙ e ∙ written)
+
+module _ (t : TableFacts) (weights lent : List ℕ) (planned read : Report) where
+  pub planned_for : lent ≡ weights → IsPlanOf (instance_of t lent) t.ids planned → IsPlanOf (instance_of t weights) t.ids planned
+  planned_for e plan = subst (λ (w : List ℕ). IsPlanOf (instance_of t w) t.ids planned) e plan
+
+  pub planned_is_sound : IsTable t → IsDistinct t.ids → length weights ≡ length t.ids → All (λ w. 1 ≤ w) weights → lent ≡ weights → IsPlanOf (instance_of t lent) t.ids planned → IsSound (instance_of t weights) t.ids planned
+  planned_is_sound table once count least e plan = plan_is_sound t weights planned table once count least (planned_for e plan)
+
+  pub read_is_sound : IsTable t → IsDistinct t.ids → length weights ≡ length t.ids → All (λ w. 1 ≤ w) weights → lent ≡ weights → IsPlanOf (instance_of t lent) t.ids planned → read ≡ planned → IsSound (instance_of t weights) t.ids read
+  read_is_sound table once count least e plan same = subst (λ (r : Report). IsSound (instance_of t weights) t.ids r) (sym same) (planned_is_sound table once count least e plan)
+
+  pub made_of : (said : Said) (seed : ℕ) (text : List ℕ) → IsTable t → IsDistinct t.ids → length weights ≡ length t.ids → All (λ w. 1 ≤ w) weights → lent ≡ weights → IsPlanOf (instance_of t lent) t.ids planned → read ≡ planned →
+      seed ≡ number said.first → GivesMade seed said.unit t weights → text ≡ made_text (summary_of seed t read) → MadeOf said text
+  made_of said seed text table once count least e plan same seed_said gives is = record {
+    table = t;
+    weights = weights;
+    gives = subst (λ (n : ℕ). GivesMade n said.unit t weights) seed_said gives;
+    report = planned;
+    planned = planned_for e plan;
+    sound = planned_is_sound table once count least e plan;
+    text_is = is ∙ ap (λ (r : Report). made_text (summary_of seed t r)) same ∙ ap (λ (n : ℕ). made_text (summary_of n t planned)) seed_said;
+  }

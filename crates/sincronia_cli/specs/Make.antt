@@ -1,0 +1,56 @@
+-- What `make` writes.
+use Rattle.std.specs.Prelude.{◌≡◌, ℕ, ◌<◌, ◌^◌, List, Option, Some, length, sum_by}
+use Rattle.coflow_units.specs.declared.fabric.Flow.{Flow}
+use Rattle.command_words.specs.Words.{Said}
+use Rattle.cert_check.specs.Sound.{IsSound}
+use Rattle.flow_table.specs.Table.{TableFacts, instance_of}
+use Rattle.report.specs.declared.made.Made.{Made}
+use Rattle.report.specs.declared.value.Report.{Report}
+use Rattle.report.specs.Made.{made_text}
+use Rattle.report.specs.Text.{report_text}
+use Rattle.text_fields.specs.Numbers.{number}
+use Rattle.workload.specs.Coflows.{made_coflows}
+use Rattle.workload.specs.Text.{trace_text, weights_text}
+use Rattle.sincronia_cli.specs.Inputs.{Gives}
+use Rattle.sincronia_cli.specs.Plan.{Appends}
+use Rattle.sincronia_cli.specs.PlanReport.{IsPlanOf}
+
+-- the texts of the seed give the table of flows and the weights
+abbrev pub GivesMade : ℕ → ℕ → TableFacts → List ℕ → Type 0
+GivesMade seed unit table weights = Gives (trace_text (made_coflows seed)) (Some (weights_text (made_coflows seed))) unit table weights
+
+-- the totals of the flows of a table and of a report of its plan
+abbrev pub summary_of : ℕ → TableFacts → Report → Made
+summary_of seed table r = record {
+  seed = seed;
+  flows = length table.flows;
+  units = sum_by (λ (x : Flow). x.units) table.flows;
+  bound = r.bound;
+  slack = r.slack;
+  cost = r.cost;
+}
+
+-- The instance that the texts of the seed give, the report of its plan, that it is right, and the text of the summary.
+pub record MadeOf (said : Said) (text : List ℕ) : Type 0 where
+  pub table : TableFacts
+  pub weights : List ℕ
+  pub gives : GivesMade (number said.first) said.unit table weights
+  pub report : Report
+  pub planned : IsPlanOf (instance_of table weights) table.ids report
+  pub sound : IsSound (instance_of table weights) table.ids report
+  pub text_is : text ≡ made_text (summary_of (number said.first) table report)
+
+-- the report of the plan of the texts of the seed is longer than any that is read
+pub record PlansLongReport (said : Said) : Type 0 where
+  pub table : TableFacts
+  pub weights : List ℕ
+  pub gives : GivesMade (number said.first) said.unit table weights
+  pub report : Report
+  pub planned : IsPlanOf (instance_of table weights) table.ids report
+  pub long : 2 ^ 30 < length (report_text report)
+
+-- the summary was written
+pub record WritesMade (said : Said) (old new : Option (List ℕ)) : Type 0 where
+  pub text : List ℕ
+  pub makes : MadeOf said text
+  pub written : Appends old new text
