@@ -14,6 +14,7 @@ import time
 TOP = os.path.dirname(os.path.dirname(os.path.abspath(__file__)))
 PROGRAM = os.path.join(TOP, "crates", "sincronia", "out", "sincronia")
 ORDER = os.path.join(TOP, "crates", "order_bench", "out", "order_bench")
+MASTER = os.path.join(TOP, "crates", "master_bench", "out", "master_bench")
 
 
 def text(ports, coflows):
@@ -95,6 +96,13 @@ TRACES = [
 ]
 
 
+# name, program, words, seconds that the run is to take at most; `t` has the shape of the public trace
+PARTS = [
+    ("loads and order, 4096 coflows over 1024 ports", ORDER, ["4096", "1024", "1"], 2),
+    ("master, the shape of the public trace, unit 16", MASTER, ["t", "16"], 15),
+]
+
+
 def timed(program, words, folder):
     before = time.monotonic()
     child = subprocess.Popen([program, *words], cwd=folder, stdout=subprocess.PIPE, stderr=subprocess.PIPE)
@@ -130,6 +138,7 @@ def build(program):
 def main():
     build(PROGRAM)
     build(ORDER)
+    build(MASTER)
     other = sys.argv[1] if len(sys.argv) > 1 else None
     with tempfile.TemporaryDirectory() as folder:
         for name, make, options, bound in TRACES:
@@ -143,8 +152,11 @@ def main():
             if other is not None:
                 line += "  other %.2f s" % timed(other, words, folder)[0]
             print(line, flush=True)
-        seconds, code, _, memory = peak(ORDER, ["4096", "1024", "1"], folder)
-        print("%-55s %8.2f s  %5d MiB  code %d  (bound 2 s)" % ("loads and order, 4096 coflows over 1024 ports", seconds, memory, code))
+        with open(os.path.join(folder, "t"), "wb") as file:
+            file.write(hour())
+        for name, program, words, bound in PARTS:
+            seconds, code, _, memory = peak(program, words, folder)
+            print("%-55s %8.2f s  %5d MiB  code %d  (bound %d s)" % (name, seconds, memory, code, bound), flush=True)
 
 
 if __name__ == "__main__":
