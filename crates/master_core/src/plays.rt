@@ -128,12 +128,12 @@ fn on_three_ports(alloc: Global) -> Result<Trace, NoMemory>
     })
 }
 
-/// A master of the table's coflows, each of weight 1.
+/// A master of the table's coflows, each of weight 2.
 fn master_of(rt: &impl Abort, alloc: Global, table: Table, limit: u32) -> Master {
     let few = 1 <= limit && limit <= 1000;
     assert!(rt; few);
     let coflows = table.coflows();
-    let Ok(weights) = vec![in alloc; 1u64; coflows as usize] else {
+    let Ok(weights) = vec![in alloc; 2u64; coflows as usize] else {
         panic!(rt; "no memory");
     };
     match Master::new(alloc, table, Items::from_vec(weights), limit) {
@@ -171,7 +171,7 @@ fn play(
     let coflows = table.coflows();
     let ports = table.ports();
     let flows = numbered(alloc, &table)?;
-    let weights = vec![in alloc; 1u64; coflows as usize]?;
+    let weights = vec![in alloc; 2u64; coflows as usize]?;
     let setting = Setting {
         flows: &flows,
         weights: &weights,
