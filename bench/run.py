@@ -14,6 +14,7 @@ import time
 TOP = os.path.dirname(os.path.dirname(os.path.abspath(__file__)))
 PROGRAM = os.path.join(TOP, "crates", "sincronia", "out", "sincronia")
 ORDER = os.path.join(TOP, "crates", "order_bench", "out", "order_bench")
+MASTER = os.path.join(TOP, "crates", "master_bench", "out", "master_bench")
 
 
 def text(ports, coflows):
@@ -95,6 +96,36 @@ TRACES = [
 ]
 
 
+# name, program, words, seconds that the run is to take at most; `t` has the shape of the public trace
+PARTS = [
+    ("loads and order, 4096 coflows over 1024 ports", ORDER, ["4096", "1024", "1"], 2),
+    ("master, the shape of the public trace, unit 16", MASTER, ["t", "16"], 15),
+]
+
+
+def many_runs():
+    """A trace of one flow of 2^19 units, and a report of it whose 2^20 runs are one slot each, every other one idle."""
+    trace = text(1, [([0], [(1, 2**19)])])
+    lines = ["sincronia 1", "place 1 1 in 0 %d %d" % (2**40 // 2**19, 2**20), "bound %d" % 2**19, "slack 0", "cost %d" % 2**20]
+    return trace, ("\n".join(lines) + "\n" + "run 1\nrun 1 0\n" * 2**19 + "end\n").encode()
+
+
+def planned(folder, options):
+    """Writes the report of the plan of `t` to `r`."""
+    with open(os.path.join(folder, "r"), "wb") as file:
+        subprocess.run([PROGRAM, "plan", "t", *options], cwd=folder, stdout=file, check=False)
+
+
+def put(folder, name, content):
+    with open(os.path.join(folder, name), "wb") as file:
+        file.write(content)
+
+
+def part(name, program, words, bound, folder):
+    seconds, code, _, memory = peak(program, words, folder)
+    print("%-55s %8.2f s  %5d MiB  code %d  (bound %d s)" % (name, seconds, memory, code, bound), flush=True)
+
+
 def timed(program, words, folder):
     before = time.monotonic()
     child = subprocess.Popen([program, *words], cwd=folder, stdout=subprocess.PIPE, stderr=subprocess.PIPE)
@@ -130,6 +161,7 @@ def build(program):
 def main():
     build(PROGRAM)
     build(ORDER)
+    build(MASTER)
     other = sys.argv[1] if len(sys.argv) > 1 else None
     with tempfile.TemporaryDirectory() as folder:
         for name, make, options, bound in TRACES:
@@ -143,8 +175,15 @@ def main():
             if other is not None:
                 line += "  other %.2f s" % timed(other, words, folder)[0]
             print(line, flush=True)
-        seconds, code, _, memory = peak(ORDER, ["4096", "1024", "1"], folder)
-        print("%-55s %8.2f s  %5d MiB  code %d  (bound 2 s)" % ("loads and order, 4096 coflows over 1024 ports", seconds, memory, code))
+        put(folder, "t", hour())
+        for name, program, words, bound in PARTS:
+            part(name, program, words, bound, folder)
+        planned(folder, ["--unit", "16"])
+        part("check, the shape of the public trace, --unit 16", PROGRAM, ["check", "t", "r", "--unit", "16"], 5, folder)
+        trace, report = many_runs()
+        put(folder, "t", trace)
+        put(folder, "r", report)
+        part("check, a report of 2^20 runs", PROGRAM, ["check", "t", "r"], 5, folder)
 
 
 if __name__ == "__main__":

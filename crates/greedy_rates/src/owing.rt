@@ -8,20 +8,24 @@ use coflow_units::{Flow, NoMemory};
 use std::alloc::Global;
 use std::marker::Model;
 
-/// The units that each flow has left, and their sums by coflow, by port and by group.
-/// A group is flows of one coflow that begin at one ingress and stand one behind another.
+/// The units that each flow has left, and their sums: over the flows of each coflow, over the flows that begin at each ingress, over the flows that end at each egress,
+/// and over the flows of each group. A group is flows of one coflow that begin at one ingress and stand one behind another.
 /// With these sums a pass over the flows leaves out what owes nothing without looking at it.
 ///
 /// Contracts see an `Owing` as the lists of these numbers. That they are those of certain flows is told apart.
 #[derive(Drop)]
 pub struct Owing {
+    /// For each flow the units that it has left.
     left: Vec<u64>,
+    /// For each coflow the sum over its flows.
     of_coflow: Vec<u64>,
+    /// For each ingress the sum over the flows that begin there.
     at_ingress: Vec<u64>,
+    /// For each egress the sum over the flows that end there.
     at_egress: Vec<u64>,
     /// For each flow the number behind its group.
     behind: Vec<u32>,
-    /// The sum of each group, at the number behind it.
+    /// For each group the sum over its flows, at the number behind it.
     of_group: Vec<u64>,
 }
 
@@ -137,7 +141,7 @@ impl Owing {
         &self.left
     }
 
-    /// The units that a coflow owes.
+    /// The units that a coflow owes: the sum over its flows.
     pub fn of_coflow(&self, coflow: u32) -> u64
         requires { coflow < length self.now.of_coflow }
         ensures { result ≡ slice_index self.now.of_coflow coflow }
@@ -145,14 +149,14 @@ impl Owing {
         self.of_coflow[coflow as usize]
     }
 
-    /// The units owed at each ingress.
+    /// The units owed at each ingress: the sum over the flows that begin there.
     pub(crate) fn at_ingress(&self) -> &[u64]
         ensures { result.now ≡ self.now.at_ingress }
     {
         &self.at_ingress
     }
 
-    /// The units owed at each egress.
+    /// The units owed at each egress: the sum over the flows that end there.
     pub(crate) fn at_egress(&self) -> &[u64]
         ensures { result.now ≡ self.now.at_egress }
     {
@@ -167,7 +171,7 @@ impl Owing {
         self.behind[flow as usize]
     }
 
-    /// The units that the group before a number owes.
+    /// The units that the group before a number owes: the sum over its flows.
     pub(crate) fn of_group(&self, behind: u32) -> u64
         requires { behind < length self.now.of_group }
         ensures { result ≡ slice_index self.now.of_group behind }

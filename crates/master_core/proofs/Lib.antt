@@ -24,3 +24,4 @@ pub mod Replies
 pub mod Opened
 pub mod RunSteps
 pub mod RowChecks
+pub mod LastWeight

@@ -1,14 +1,14 @@
 -- Journals: what a command adds, which ones are legal, and what is read from them.
-use Rattle.std.specs.Prelude.{◌≡◌, ℕ, ◌+◌, Bool, true, false, if◌then◌else◌, List, [], ◌∷◌, ◌++◌}
+use Rattle.std.specs.Prelude.{◌≡◌, ℕ, ◌+◌, ◌==◌, ◌&&◌, Bool, true, false, if◌then◌else◌, List, [], ◌∷◌, ◌++◌}
 use Rattle.coflow_units.specs.Flows.{Instance}
 use Rattle.master_core.specs.declared.command.Command.{Command}
 use Rattle.master_core.specs.declared.command.Reply.{Reply}
-use Rattle.master_core.specs.declared.command.Reply.TheVariants.{Full, Already, NotHere, StillOpen, Version, NothingLeft, Late, NotGranted, NoneOpen, StillOwed}
+use Rattle.master_core.specs.declared.command.Reply.TheVariants.{Full, Already, NotHere, StillOpen, Version, NothingLeft, Late, NotGranted, NoneOpen, StillOwed, Weighed}
 use Rattle.master_core.specs.declared.command.Entry.{Entry}
 use Rattle.master_core.specs.declared.opening.Opening.{Opening}
 use Rattle.master_core.specs.State.{what_is_left}
 use Rattle.master_core.specs.Line.{line, order, rank}
-use Rattle.master_core.specs.Fold.{state_of}
+use Rattle.master_core.specs.Fold.{coflow_named, state_of}
 use Rattle.master_core.specs.Answer.{reply_of}
 
 -- what contracts see of a master
@@ -58,6 +58,15 @@ abbrev pub IsLegal : Opening → List Entry → Type 0
 IsLegal o journal = LegalFrom o [] journal
 
 -- ---- what is read from a journal
+
+-- the reply tells the old weight of a coflow that gets a new one
+abbrev pub is_weighed : Reply → Bool
+is_weighed (Weighed old) = true
+is_weighed reply = false
+
+-- the entry gives the coflow a weight
+abbrev pub gives_weight : Entry → ℕ → Bool
+gives_weight e coflow = is_weighed e.reply && (coflow == coflow_named e.command)
 
 -- the reply tells a new version
 abbrev pub is_version : Reply → Bool

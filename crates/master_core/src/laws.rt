@@ -1,5 +1,6 @@
 //! Laws of the definitions. Each says something of every opening and every journal.
-ghost use Rattle.std.specs.Prelude.{◌≡◌, ℕ, ◌+◌, ◌-◌, min, ◌<◌, ◌≤◌, nat_le, true, false, Some, AllPairs, List, [], ◌∷◌, ◌++◌, length, map};
+ghost use Rattle.std.specs.Prelude.{◌≡◌, ℕ, ◌+◌, ◌-◌, min, ◌<◌, ◌≤◌, nat_le, true, false, Some, All, AllPairs, List, [], ◌∷◌, ◌++◌, length, map};
+ghost use Rattle.std.specs.List.{slice_index_or};
 ghost use Rattle.coflow_units.specs.declared.fabric.Flow.{Flow};
 ghost use Rattle.coflow_units.specs.Flows.{Instance, IsInstance, coflow_of, units_of};
 ghost use Rattle.coflow_units.specs.Certificate.{order_of};
@@ -9,15 +10,15 @@ ghost use Rattle.coflow_units.specs.Grants.{IsGrants, IsRunLength};
 ghost use Rattle.master_core.specs.declared.command.Command.{Command};
 ghost use Rattle.master_core.specs.declared.command.Entry.{Entry};
 ghost use Rattle.master_core.specs.declared.opening.Opening.{Opening};
-ghost use Rattle.master_core.specs.declared.command.Reply.TheVariants.{NothingLeft, Opened, Rank, Version};
-ghost use Rattle.master_core.specs.declared.command.Command.TheVariants.{Open, Pull};
+ghost use Rattle.master_core.specs.declared.command.Reply.TheVariants.{NothingLeft, Opened, Rank, Version, Weighed};
+ghost use Rattle.master_core.specs.declared.command.Command.TheVariants.{Open, Pull, Reweigh};
 ghost use Rattle.master_core.specs.Chosen.{the_grants, the_ordering};
 ghost use Rattle.master_core.specs.State.{has, is_present, IsOpening, owed, Run, slot_end, State, what_is_left};
 ghost use Rattle.master_core.specs.Line.{version};
 ghost use Rattle.master_core.specs.Runs.{credit, granted, slots_for};
 ghost use Rattle.master_core.specs.Fold.{after, state_of};
 ghost use Rattle.master_core.specs.Answer.{reply_of, room};
-ghost use Rattle.master_core.specs.Journal.{IsLegal, asked, is_full, is_refusal, journal_after, left_at, line_of, order_in, rank_of, version_of};
+ghost use Rattle.master_core.specs.Journal.{IsLegal, asked, gives_weight, is_full, is_refusal, journal_after, left_at, line_of, order_in, rank_of, version_of};
 ghost use Rattle.master_core.specs.Sound.{InRange, SoundState};
 ghost use Rattle.master_core.specs.Rows.{ClosesInFull, Fills, LastSlot, Ranks, Runs, Weights};
 
@@ -85,6 +86,13 @@ pub fn legal_is_sound()
 /// The coflows of the line are those that are present.
 pub fn line_is_present()
     ensures { (o : Opening) (journal : List Entry) → IsOpening o → (c : ℕ) → has (line_of o journal) c ≡ is_present (state_of o journal) c }
+{}
+
+/// The weight of a coflow is the last one that a `Reweigh` gave it, and before the first it is the opening's.
+pub fn weight_is_the_last()
+    ensures given { (o : Opening) (before more : List Entry) (e : Entry) (coflow weight old : ℕ) → e.command ≡ Reweigh coflow weight → e.reply ≡ Weighed old → All (λ x. gives_weight x coflow ≡ false) more →
+        (state_of o (before ++ e ∷ more)).weight coflow ≡ weight }
+    ensures opening { (o : Opening) (journal : List Entry) (coflow : ℕ) → All (λ x. gives_weight x coflow ≡ false) journal → (state_of o journal).weight coflow ≡ slice_index_or o.weights coflow 0 }
 {}
 
 /// A pull tells the newest version and the place in it, and an open finds nothing left only where no present coflow owes a unit.

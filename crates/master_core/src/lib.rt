@@ -16,4 +16,8 @@ pub use master::Master;
 pub use opening::Opening;
 
 #[cfg(test)]
+mod plain;
+#[cfg(test)]
+mod plays;
+#[cfg(test)]
 mod tests;

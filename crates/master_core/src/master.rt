@@ -167,7 +167,7 @@ impl Master {
         self.standing.ledger.owed(flow)
     }
 
-    /// The weight of a coflow, as it was changed last.
+    /// The weight of a coflow: the last one that a `Reweigh` gave it, or the opening's where none did. The next order takes it.
     pub fn weight(&self, coflow: u32) -> u64
         requires { coflow < length self.now.opening.table.ids }
         ensures { result ≡ (state_of self.now.opening self.now.journal).weight coflow }

@@ -16,5 +16,5 @@ ToldSoFar (Some old) new place bytes = (t : Told) × (new ≡ Some t) × ReadsSo
 
 -- the first bytes of the text were taken
 abbrev pub TakenSoFar : Option (List ℕ) → Option (List ℕ) → List ℕ → Type 0
-TakenSoFar None new front = new ≡ None
-TakenSoFar (Some old) new front = new ≡ Some (old ++ front)
+TakenSoFar None new beginning = new ≡ None
+TakenSoFar (Some old) new beginning = new ≡ Some (old ++ beginning)

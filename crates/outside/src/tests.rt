@@ -91,7 +91,7 @@ fn a_file_may_be_too_long(rt: HostRuntime) -> Result<(), Fail> {
 }
 
 #[test]
-fn sinks_take_a_front_of_the_text(rt: HostRuntime) -> Result<(), Fail> {
+fn sinks_take_a_beginning_of_the_text(rt: HostRuntime) -> Result<(), Fail> {
     let alloc = rt.alloc();
     for (room, fail_after, taken) in [
         (64, Some(10), b"sincronia ".as_slice()),

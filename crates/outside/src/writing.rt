@@ -7,7 +7,7 @@ use crate::sink::{Failed, Sink};
 
 /// Writes all of a text. It takes no memory.
 ///
-/// `Failed` comes only where the sink's count of faults rose. A front of the text was then taken.
+/// `Failed` comes only where the sink's count of faults rose. A beginning of the text was then taken.
 pub fn write_all<K: Sink>(sink: &mut K, text: &[u8]) -> Result<(), Failed>
     ensures later { K.faults sink.old ≤ K.faults sink.new }
     ensures cause { OnErr result (Rose (K.faults sink.old) (K.faults sink.new)) }

@@ -4,10 +4,10 @@ use Rattle.std.specs.Prelude.{nat_eq, unwrap_or}
 use Rattle.std.specs.List.{list_any}
 use Rattle.std.specs.Map.{keys_of, lookup}
 use Rattle.indexmap.specs.IndexMap.{insert_entry}
-use Rattle.text_fields.specs.Checks.{Check, first_fault}
+use Rattle.text_fields.specs.Checks.{first_fault}
 use Rattle.text_fields.specs.Fields.{field_at}
 use Rattle.text_fields.specs.Lines.{Line}
-use Rattle.text_fields.proofs.CheckLists.{pass_first}
+use Rattle.text_fields.proofs.CheckLists.{pass_first, passed_parts}
 use Rattle.weights.specs.Checks.{id_of, weight_in, id_checks, fresh_checks, weight_checks, end_checks, line_checks, lines_checks}
 use Rattle.weights.specs.Weights.{weight_of, IsSameIds}
 use Rattle.coflow_units.specs.declared.trace.CoflowLine.{CoflowLine}
@@ -50,15 +50,6 @@ same_checks xs ys earlier (line ∷ lines) h = rw (h (id_of line), same_checks x
 pub weights_are : (lines : List Line) (es : List (ℕ × ℕ)) (coflows : List CoflowLine) → es ≡ pairs lines → map (λ (x : CoflowLine). unwrap_or (lookup (nat_eq x.id) es) 1) coflows ≡ map (λ (x : CoflowLine). weight_of lines x.id) coflows
 weights_are lines es [] e = refl
 weights_are lines es (x ∷ coflows) e = rw (weights_are lines es coflows e, e, weight_is lines x.id) refl
-
--- Where all checks hold, those of each part hold.
-pub passed_parts : (xs ys : List (Check WeightsFault)) → first_fault (xs ++ ys) ≡ None → (first_fault xs ≡ None) × (first_fault ys ≡ None)
-passed_parts [] ys e = (refl, e)
-passed_parts (x ∷ xs) ys e = go x.0 refl (λ r. passed_parts xs ys r)
-  where
-    go : (b : Bool) → x.0 ≡ b → (first_fault (xs ++ ys) ≡ None → (first_fault xs ≡ None) × (first_fault ys ≡ None)) → (first_fault (x ∷ xs) ≡ None) × (first_fault ys ≡ None)
-    go true t rest = let r = rest (rw t at e) in (rw t r.0, r.1)
-    go false t rest = let bad : Some x.1 ≡ None = rw t at e in cc
 
 -- A line that passes has an id that no earlier line has.
 fresh_id : (ids earlier : List ℕ) (line : Line) → first_fault (line_checks ids earlier line) ≡ None → list_any (nat_eq (id_of line)) earlier ≡ false

@@ -8,11 +8,11 @@ use Rattle.text_fields.specs.Checks.{first_fault}
 use Rattle.text_fields.specs.Fields.{Text, field_at}
 use Rattle.text_fields.specs.Lines.{Line, lines_of}
 use Rattle.text_fields.specs.Numbers.{number}
+use Rattle.text_fields.proofs.CheckLists.{passed_parts}
 use Rattle.weights.specs.declared.fault.WeightsFault.{WeightsFault}
 use Rattle.weights.specs.Checks.{end_checks, fresh_checks, id_checks, id_of, line_checks, lines_checks, weight_checks, weight_in}
 use Rattle.weights.specs.Weights.{text_checks, weight_of, weights_of}
 use Rattle.coflow_units.specs.Trace.{ids_of}
-use Rattle.weights.proofs.LineLists.{passed_parts}
 
 second_holds : (p q : Bool) (f g : WeightsFault) → first_fault ((p, f) ∷ (q, g) ∷ []) ≡ None → q ≡ true
 second_holds true true f g e = refl
