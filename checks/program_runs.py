@@ -77,7 +77,7 @@ ROWS = [
 ]
 
 
-REPORT = TWO_TEXT.replace(b"sincronia 2", b"sincronia 1").replace(b" 1 1\n", b" 1\n").replace(b" 4 1\n", b" 4\n")
+REPORT = TWO_TEXT.replace(b"sincronia 2", b"sincronia 1").replace(b"51 1 1\n", b"51 1\n").replace(b"25 4 1\n", b"25 4\n")
 CHECK = ["check", "t", "r"]
 
 # name, bytes of the report `r` for the trace of two flows, words, code, standard output, standard error
@@ -92,7 +92,7 @@ CHECK_ROWS = [
     ("a bound too high", TWO_TEXT.replace(b"bound 5", b"bound 6"), CHECK, 1, b"no bound 6 5\n", b""),
     ("runs exchanged", TWO_TEXT.replace(b"run 1 1\nrun 3 0", b"run 3 0\nrun 1 1"), CHECK, 1, b"no done 1 4 3\n", b""),
     ("a run too short", TWO_TEXT.replace(b"run 3 0", b"run 2 0"), CHECK, 1, b"no units 0 2 3\n", b""),
-    ("another unit", TWO_TEXT, CHECK + ["--unit", "2"], 1, b"no bound 5 4\n", b""),
+    ("another unit", TWO_TEXT, CHECK + ["--unit", "2"], 1, b"no bound 5 3\n", b""),
     ("no last line", TWO_TEXT[:-4], CHECK, 5, b"", b"sincronia: report: line 9\n"),
     ("a leading zero", TWO_TEXT.replace(b"run 3 0", b"run 03 0"), CHECK, 5, b"", b"sincronia: report: line 8\n"),
     ("a report with carriage returns", TWO_TEXT.replace(b"\n", b"\r\n"), CHECK, 5, b"", b"sincronia: report: line 1\n"),

@@ -1,49 +1,104 @@
 #!/usr/bin/env python3
-"""Refuses each allocation of one run of the program in turn. It is no part of the gate, and takes about a quarter of a minute for each allocation.
+"""Refuses each allocation of runs of the built program in turn: that one alone, and that one with all later ones.
 
-Use: checks/refused_memory.py plan|check|make [FIRST [LAST]]     `plan` and `check` run over the files in crates/sincronia/data. Each run must end with status 11 and
-write nothing to standard output, or end with status 0 and write the whole text: then the library got over the refusal, or the run does not reach that
-allocation. Ten of these in a row end the check. The last line is 'N passed, M failed'.
+Use: checks/refused_memory.py            The last line is 'N passed, M failed'; the exit code is 0 where none failed.
+
+Each run in which an allocation was refused must end with code 11 and its line and write nothing to standard output, or end with code 0 and write the whole text:
+then the library got over the refusal. The run in which no allocation was refused ends a series. A library that is loaded before the program's own
+counts and refuses calls of `malloc` and `realloc`; it is made by the C compiler `cc`.
 """
 import os
 import subprocess
 import sys
+import tempfile
 
-TOP = os.path.dirname(os.path.dirname(os.path.abspath(__file__)))
-CRATE = os.path.join(TOP, "crates", "sincronia")
-WORDS = {"plan": ["plan", "data/t"], "check": ["check", "data/t", "data/r"], "make": ["make", "7", "--unit", "64"]}
-WHOLE_IN_A_ROW = 10
+from program_runs import PROGRAM, TWO, TWO_TEXT, build
+
+REFUSING = r"""
+#include <stddef.h>
+#include <stdlib.h>
+#include <unistd.h>
+void *__libc_malloc(size_t size);
+void *__libc_realloc(void *old, size_t size);
+static long calls, first, last;
+__attribute__((constructor)) static void start(void) {
+    const char *text = getenv("REFUSE_FIRST");
+    first = text ? atol(text) : 0;
+    text = getenv("REFUSE_LAST");
+    last = text ? atol(text) : 0;
+    calls = 0;
+}
+static int refused(void) {
+    calls++;
+    if (first == 0 || calls < first || calls > last) return 0;
+    if (write(9, "x", 1) != 1) _exit(99);
+    return 1;
+}
+void *malloc(size_t size) { return refused() ? NULL : __libc_malloc(size); }
+void *realloc(void *old, size_t size) { return refused() ? NULL : __libc_realloc(old, size); }
+"""
+
+NO_MEMORY = (11, b"", b"sincronia: no memory\n")
+
+# name, words, and by how much the number of the refused allocation grows
+SERIES = [
+    ("plan", ["plan", "t", "--weights", "w"], lambda number: 1),
+    ("check", ["check", "t", "r"], lambda number: 1),
+    ("make", ["make", "7", "--unit", "64"], lambda number: 1 + number // 20),
+]
 
 
-def run(words, refused):
-    """The status and the standard output of the words, where one allocation is refused, or none."""
-    fail = ["--fail-alloc", str(refused)] if refused else []
-    done = subprocess.run(["rt", "try", *fail, "--", *words], cwd=CRATE, stdout=subprocess.PIPE, stderr=subprocess.PIPE, check=False)
-    return done.returncode, done.stdout
+def run(folder, words, first, last):
+    """The code, standard output and standard error of the words, and how many allocations were refused."""
+    environment = dict(os.environ, LD_PRELOAD=os.path.join(folder, "refusing.so"), REFUSE_FIRST=str(first), REFUSE_LAST=str(last))
+    reader, writer = os.pipe()
+    done = subprocess.Popen([PROGRAM, *words], cwd=folder, env=environment, stdin=subprocess.DEVNULL, stdout=subprocess.PIPE, stderr=subprocess.PIPE,
+                            pass_fds=(9,) if writer == 9 else (), preexec_fn=lambda: os.dup2(writer, 9), close_fds=False)
+    os.close(writer)
+    out, err = done.communicate(timeout=120)
+    with os.fdopen(reader, "rb") as pipe:
+        refused = len(pipe.read())
+    return (done.returncode, out, err), refused
+
+
+def series(folder, name, words, step, last_of):
+    """How many runs ended as they should, and how many did not."""
+    whole, _ = run(folder, words, 0, 0)
+    passed, failed, over, number = 0, 0, [], 1
+    while True:
+        have, refused = run(folder, words, number, last_of(number))
+        if refused == 0:
+            break
+        if have == whole:
+            over.append(number)
+        if have == NO_MEMORY or (have == whole and whole[0] == 0):
+            passed += 1
+        else:
+            failed += 1
+            print("FAILED %s, allocation %d: %r" % (name, number, have))
+        number += step(number)
+    print("%s: %d runs, got over %s" % (name, passed + failed, over or "none"), flush=True)
+    return passed, failed
 
 
 def main():
-    words = WORDS[sys.argv[1]]
-    first = int(sys.argv[2]) if len(sys.argv) > 2 else 1
-    last = int(sys.argv[3]) if len(sys.argv) > 3 else 10000
-    whole = run(words, None)
-    if whole[0] != 0:
-        print("the run without a refusal ended with status %d" % whole[0])
+    if not build():
+        print("the program could not be built")
+        print("0 passed, 1 failed")
         return 1
-    passed, failed, in_a_row = 0, 0, 0
-    for number in range(first, last + 1):
-        have = run(words, number)
-        in_a_row = in_a_row + 1 if have == whole else 0
-        if have in (whole, (11, b"")):
-            passed += 1
-            print("allocation %d: %s" % (number, "the whole text" if have == whole else "status 11, nothing written"), flush=True)
-        else:
-            failed += 1
-            print("FAILED allocation %d: status %d, output %r" % (number, have[0], have[1][:200]), flush=True)
-        if in_a_row == WHOLE_IN_A_ROW:
-            break
+    passed, failed = 0, 0
+    with tempfile.TemporaryDirectory() as folder:
+        for name, content in (("refusing.c", REFUSING.encode()), ("t", TWO), ("w", b"1 1\n"), ("r", TWO_TEXT)):
+            with open(os.path.join(folder, name), "wb") as file:
+                file.write(content)
+        subprocess.run(["cc", "-O1", "-fno-builtin", "-shared", "-fPIC", "-o", "refusing.so", "refusing.c"], cwd=folder, check=True)
+        for name, words, step in SERIES:
+            for kind, last_of in (("alone", lambda number: number), ("and later ones", lambda number: 10**9)):
+                good, bad = series(folder, name + " " + kind, words, step, last_of)
+                passed += good
+                failed += bad
     print("%d passed, %d failed" % (passed, failed))
-    return 1 if failed else 0
+    return 1 if failed or passed < 100 else 0
 
 
 if __name__ == "__main__":

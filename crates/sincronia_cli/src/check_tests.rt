@@ -146,7 +146,7 @@ fn files_of_a_check_are_looked_at_in_turn(rt: HostRuntime) -> Result<(), Fail> {
 
 #[test]
 fn each_call_for_the_report_fails_in_turn(rt: HostRuntime) -> Result<(), Fail> {
-    // For the trace one start, 32 reads of one byte, and one read of none; and the same for the 129 bytes of the report.
+    // For the trace one start, 32 reads of one byte, and one read of none; and the same for the 115 bytes of the report.
     let alloc = rt.alloc();
     let report = format!(in alloc; "sincronia 1\n{PLACES}{TOTALS}{RUNS}end\n")?;
     let calls = 34 + 1 + report.len() as u32 + 1;

@@ -131,6 +131,13 @@ fn weights_and_units_are_used(rt: HostRuntime) -> Result<(), Fail> {
         out.bytes(),
         b"sincronia 2\nplace 1 1 in 0 733007751850 3 5\nplace 2 2 in 0 1099511627776 4 1\nbound 19\nslack 1\ncost 19\nrun 3 0\nrun 1 1\nend\n".as_slice()
     );
+    let one = b"1 1\n1 0 1 0 1 1:1048576\n";
+    let (status, out) = run(alloc, &weighted, one, b"1 1048576\n")?;
+    assert_eq!(rt; status, Status::Ok);
+    assert_eq!(rt;
+        out.bytes(),
+        b"sincronia 2\nplace 1 1 in 0 1099511627776 1048576 1048576\nbound 1099511627776\nslack 0\ncost 1099511627776\nrun 1048576 0\nend\n".as_slice()
+    );
     let one = b"1 1\n1 0 1 0 1 1:1048577\n";
     let (status, out) = run(alloc, &weighted, one, b"1 1048576")?;
     assert_eq!(rt; status, Status::Ok);
