@@ -2,6 +2,7 @@ pub mod TextSteps
 pub mod MadeSteps
 pub mod LineText
 pub mod NumberText
+pub mod TextLengths
 pub mod PartText
 pub mod FlowText
 pub mod LineLists

@@ -15,4 +15,5 @@ pub mod PlannedRuns
 pub mod PlannedPlaces
 pub mod PlanSound
 pub mod PlanReportFacts
+pub mod PlanLengths
 pub mod MadePlan

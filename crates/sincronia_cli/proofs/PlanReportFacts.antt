@@ -94,7 +94,7 @@ each_place P order all =
 
 -- ---- the numbers
 
-few_places : (t : TableFacts) (weights : List ℕ) (r : Report) → (p : IsPlanOf (instance_of t weights) t.ids r) → length r.places ≤ length t.ids
+pub few_places : (t : TableFacts) (weights : List ℕ) (r : Report) → (p : IsPlanOf (instance_of t weights) t.ids r) → length r.places ≤ length t.ids
 few_places t weights r p =
     let coflows = coflows_of p.order in
     omega (

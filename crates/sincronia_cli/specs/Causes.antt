@@ -23,7 +23,6 @@ use Rattle.sincronia_cli.specs.declared.status.Status.{Status}
 use Rattle.sincronia_cli.specs.declared.status.Status.TheVariants.{BadTrace, BadWeights, BadReport, Limit, ReadFault, NoMemory}
 use Rattle.outside.specs.Rose.{Rose}
 use Rattle.sincronia_cli.specs.Inputs.{GiveWeights, Gives, IsTraceText, NameFailed, bytes_if}
-use Rattle.sincronia_cli.specs.Make.{PlansLongReport}
 
 -- the text is longer than any trace or weights that are read
 abbrev pub IsTooLong : List ℕ → Type 0
@@ -194,28 +193,17 @@ HasFilesCause before now old new said (ReadFault count) = AnyFailed before now o
 HasFilesCause before now old new said NoMemory = Unit {0}
 HasFilesCause before now old new said status = ⊥
 
--- the report of the plan of `make` is longer than any that is read
-abbrev pub MadeLimit : Said → Quantity → ℕ → Type 0
-MadeLimit said which count = (which ≡ Text) × (count ≡ 1073741825) × PlansLongReport said
-
--- the cause of a status that comes before anything is written, in `make`
-abbrev pub HasMadeCause : Said → Status → Type 0
-HasMadeCause said (Limit which count) = MadeLimit said which count
-HasMadeCause said NoMemory = Unit {0}
-HasMadeCause said status = ⊥
+-- the cause of a status that comes before anything is written, in `make`, which reads no file: there was no memory
+abbrev pub HasMadeCause : Status → Type 0
+HasMadeCause NoMemory = Unit {0}
+HasMadeCause status = ⊥
 
 -- the cause of a status that comes before anything is written
 abbrev pub CauseBy : Command → ℕ → ℕ → Option Told → Option Told → Said → Status → Type 0
 CauseBy command.Plan before now old new said status = HasFilesCause before now old new said status
 CauseBy command.Check before now old new said status = HasFilesCause before now old new said status
-CauseBy command.Make before now old new said status = HasMadeCause said status
+CauseBy command.Make before now old new said status = HasMadeCause status
 
 -- what is said has this cause of the status
 abbrev pub HasCauseOf : ℕ → ℕ → Option Told → Option Told → Said → Status → Type 0
 HasCauseOf before now old new said status = CauseBy said.command before now old new said status
-
--- what is said has a quantity outside its range
-abbrev pub LimitBy : Command → Option Told → Said → Quantity → ℕ → Type 0
-LimitBy command.Plan told said which count = IfSome told (λ t. FilesLimit t said which count)
-LimitBy command.Check told said which count = IfSome told (λ t. FilesLimit t said which count)
-LimitBy command.Make told said which count = MadeLimit said which count

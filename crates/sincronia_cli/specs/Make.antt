@@ -1,5 +1,5 @@
 -- What `make` writes.
-use Rattle.std.specs.Prelude.{◌≡◌, ℕ, ◌<◌, ◌^◌, List, Option, Some, length, sum_by}
+use Rattle.std.specs.Prelude.{◌≡◌, ℕ, List, Option, Some, length, sum_by}
 use Rattle.coflow_units.specs.declared.fabric.Flow.{Flow}
 use Rattle.command_words.specs.Words.{Said}
 use Rattle.cert_check.specs.Sound.{IsSound}
@@ -7,7 +7,6 @@ use Rattle.flow_table.specs.Table.{TableFacts, instance_of}
 use Rattle.report.specs.declared.made.Made.{Made}
 use Rattle.report.specs.declared.value.Report.{Report}
 use Rattle.report.specs.Made.{made_text}
-use Rattle.report.specs.Text.{report_text}
 use Rattle.text_fields.specs.Numbers.{number}
 use Rattle.workload.specs.Coflows.{made_coflows}
 use Rattle.workload.specs.Text.{trace_text, weights_text}
@@ -39,15 +38,6 @@ pub record MadeOf (said : Said) (text : List ℕ) : Type 0 where
   pub planned : IsPlanOf (instance_of table weights) table.ids report
   pub sound : IsSound (instance_of table weights) table.ids report
   pub text_is : text ≡ made_text (summary_of (number said.first) table report)
-
--- the report of the plan of the texts of the seed is longer than any that is read
-pub record PlansLongReport (said : Said) : Type 0 where
-  pub table : TableFacts
-  pub weights : List ℕ
-  pub gives : GivesMade (number said.first) said.unit table weights
-  pub report : Report
-  pub planned : IsPlanOf (instance_of table weights) table.ids report
-  pub long : 2 ^ 30 < length (report_text report)
 
 -- the summary was written
 pub record WritesMade (said : Said) (old new : Option (List ℕ)) : Type 0 where

@@ -13,7 +13,7 @@ ghost use Rattle.cert_check.specs.declared.verdict.Verdict.{Verdict};
 ghost use Rattle.flow_table.specs.Table.{instance_of};
 ghost use Rattle.report.specs.declared.value.Report.{Report};
 ghost use Rattle.report.specs.Text.{report_text};
-ghost use Rattle.sincronia_cli.specs.Causes.{AnyFailed, HasCauseOf, HasFilesCause, HasReportFault, HasTraceFault, HasWeightsFault, IsTraceForm, IsWeightsForm, LimitBy};
+ghost use Rattle.sincronia_cli.specs.Causes.{AnyFailed, FilesLimit, HasCauseOf, HasFilesCause, HasReportFault, HasTraceFault, HasWeightsFault, IsTraceForm, IsWeightsForm};
 ghost use Rattle.sincronia_cli.specs.Check.{WritesSureBound, WritesVerdict};
 ghost use Rattle.sincronia_cli.specs.Command.{Fits, IsCommand, IsOfFiles};
 ghost use Rattle.sincronia_cli.specs.Inputs.{bytes_if};
@@ -51,7 +51,7 @@ use std::alloc::Global;
 /// - `BadTrace`: the file is no trace. The fault is its first in reading order.
 /// - `BadWeights`: the file is no weights of the trace's coflows. The fault is its first in reading order.
 /// - `BadReport`: the file is no report. The line is the first one that no text of a report has after the lines before it.
-/// - `Limit`: a quantity is outside its range, and nothing that is looked at before it is wrong.
+/// - `Limit`: a quantity of the files is outside its range, and nothing that is looked at before it is wrong. It does not come for `make`.
 /// - `ReadFault`: a call to the shelf failed, and its count of faults rose. `count` is 1.
 /// - `WriteFault`: a call to the sink failed, and its count of faults rose. `count` is 1. A beginning of the text was written.
 /// - `NoMemory`: no memory was to be had.
@@ -74,7 +74,7 @@ pub fn sincronia<H: Shelf, K: Sink>(
     ensures bad_trace { (fault : TraceFault) → result ≡ Status.BadTrace fault → (said : Said) × IsOfFiles (texts words.now) said × IsTraceForm fault × IfSome (H.told shelf.old) (λ t. HasTraceFault (bytes_of t said.first) fault) }
     ensures bad_weights { (fault : WeightsFault) → result ≡ Status.BadWeights fault → (said : Said) × IsOfFiles (texts words.now) said × IsWeightsForm fault × IfSome (H.told shelf.old) (λ t. HasWeightsFault (bytes_of t said.first) (bytes_if t said.weights) fault) }
     ensures bad_report { (line : ℕ) → result ≡ Status.BadReport line → (said : Said) × IsCommand Command.Check (texts words.now) said × IfSome (H.told shelf.old) (λ t. HasReportFault (bytes_of t said.first) (bytes_if t said.weights) said.unit (bytes_if t said.second) line) }
-    ensures limit { (which : Quantity) (count : ℕ) → result ≡ Status.Limit which count → (said : Said) × IsWords (texts words.now) said × LimitBy said.command (H.told shelf.old) said which count }
+    ensures limit { (which : Quantity) (count : ℕ) → result ≡ Status.Limit which count → (said : Said) × IsOfFiles (texts words.now) said × IfSome (H.told shelf.old) (λ t. FilesLimit t said which count) }
     ensures read { (count : ℕ) → result ≡ Status.ReadFault count → (said : Said) × IsOfFiles (texts words.now) said × AnyFailed (H.faults shelf.old) (H.faults shelf.new) (H.told shelf.old) (H.told shelf.new) said count }
     ensures write { (count : ℕ) → result ≡ Status.WriteFault count → (count ≡ 1) × Rose (K.faults out.old) (K.faults out.new) }
     ensures beginning { (count : ℕ) → result ≡ Status.WriteFault count → (said : Said) × IsWords (texts words.now) said × WritesBeginning (H.told shelf.old) said (K.taken out.old) (K.taken out.new) }

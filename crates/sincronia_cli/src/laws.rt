@@ -1,5 +1,6 @@
 //! Laws of plans, joined from those of schedules, certificates and orders.
-ghost use Rattle.std.specs.Prelude.{◌≡◌, ℕ, ◌+◌, ◌*◌, ◌<◌, ◌≤◌, ◌^◌, All, Err, List, [], ◌∷◌, Ok};
+ghost use Rattle.std.specs.Prelude.{◌≡◌, ℕ, ◌+◌, ◌*◌, ◌<◌, ◌≤◌, ◌^◌, All, Err, List, [], ◌∷◌, Ok, length, sum_by};
+ghost use Rattle.coflow_units.specs.declared.fabric.Flow.{Flow};
 ghost use Rattle.coflow_units.specs.declared.trace.Trace.{Trace};
 ghost use Rattle.coflow_units.specs.Certificate.{Entry, bound, order_of, slack};
 ghost use Rattle.coflow_units.specs.Completion.{cost, end_of};
@@ -60,4 +61,11 @@ pub fn plan_is_read_back()
         GivesReport (report_text r) (Ok read) → IsVerdict (instance_of t weights) t.ids read verdict → verdict ≡ Yes }
     ensures taken { (t : TableFacts) (weights : List ℕ) (r : Report) (line : ℕ) → IsWeighed t weights → All (λ id. id < 2 ^ 32) t.ids → IsPlanOf (instance_of t weights) t.ids r →
         GivesReport (report_text r) (Err (BadText line)) → ⊥ }
+{}
+
+/// The text of the report of a plan has at most 200 bytes, 200 more for each coflow and 50 more for each unit: each slot serves a flow, and no unit is served twice, so the runs have
+/// no more flows together than there are units.
+pub fn plan_text_is_short()
+    ensures { (t : TableFacts) (weights : List ℕ) (r : Report) → IsWeighed t weights → All (λ id. id < 2 ^ 32) t.ids → IsPlanOf (instance_of t weights) t.ids r →
+        length (report_text r) ≤ 200 + 200 * length t.ids + 50 * sum_by (λ (x : Flow). x.units) t.flows }
 {}

@@ -26,7 +26,7 @@ use crate::outcome::Outcome;
 use crate::planning::plan;
 use crate::status::Status;
 use cert_check::Verdict;
-use coflow_units::{Flow, Items, MAX_REPORT, NoMemory, Quantity, Trace};
+use coflow_units::{Flow, Items, NoMemory, Trace};
 use command_words::Words;
 use flow_table::{Table, TableFault};
 use report::{Made, Report, ReportFault, read_report, write_made, write_report};
@@ -36,14 +36,14 @@ use trace_reader::{TraceFault, read_trace};
 use weights::{WeightsFault, read_weights};
 use workload::made;
 
-/// The summary of the plan of the trace that is made from the seed of the words, whose report was read back and found right, or the status of why there is none.
+/// The summary of the plan of the trace that is made from the seed of the words, whose report was read back and found right. There is one where there is memory.
 pub(crate) fn make_workload<'a>(alloc: Global, words: Words<'a>) -> Result<Outcome, Status>
     requires some { 1 ≤ words.unit }
     requires unit_limit { words.unit ≤ 2 ^ 20 }
     requires is_number { is_number words.first.now ≡ true }
     requires small { number words.first.now < 2 ^ 64 }
     ensures outcome { IfOk result (λ o. (o.status ≡ Status.Ok) × MadeOf (said_by words.entry) o.text.items) }
-    ensures cause { IfErr result (HasMadeCause (said_by words.entry)) }
+    ensures cause { IfErr result HasMadeCause }
 {
     let Some(seed) = number_of(words.first.as_bytes()) else {
         unreachable!();
@@ -51,12 +51,6 @@ pub(crate) fn make_workload<'a>(alloc: Global, words: Words<'a>) -> Result<Outco
     let input = made_input(alloc, seed, words.unit)?;
     let planned = plan(alloc, &input.table, input.weights.as_slice())?;
     let text = write_report(alloc, &planned)?;
-    if text.len() > MAX_REPORT {
-        return Err(Status::Limit {
-            which: Quantity::Text,
-            count: MAX_REPORT as u64 + 1,
-        });
-    }
     let report = read_back(alloc, &text)?;
     let text = summary(alloc, seed, &input, &report)?;
     Ok(Outcome {

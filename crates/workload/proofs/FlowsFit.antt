@@ -55,13 +55,16 @@ count_within : (flows : List Flow) → All (λ (x : Flow). 1 ≤ x.units) flows 
 count_within [] h = omega arith
 count_within (x ∷ xs) h = omega (arith, sum_by-cons (λ (y : Flow). y.units) x xs, h 0 x (omega arith), count_within xs (λ k d lt. h (suc k) d (omega arith)))
 
--- neither the units nor the flows are too many
-pub flows_fit : (t : Trace) (unit : ℕ) (cs : List MadeCoflow) (which : Quantity) (count : ℕ) → t.coflows ≡ map said_coflow cs → IsTrace t → AreMade 1 cs → length cs ≡ 200 → 1 ≤ unit → HasCause t unit (Limit which count) → ⊥
-flows_fit t unit cs which count e trace h many some cause =
+-- a trace of made coflows has at most 102400 units: 200 coflows of at most 8 reducers, each of at most 64 megabytes
+pub units_few : (t : Trace) (unit : ℕ) (cs : List MadeCoflow) → t.coflows ≡ map said_coflow cs → AreMade 1 cs → length cs ≡ 200 → 1 ≤ unit → units_in_all t unit ≤ 102400
+units_few t unit cs e h many some =
     let all = sum_by-le (λ (x : CoflowLine). units_of_line unit x) 512 (map said_coflow cs) (lines_units unit 1 cs some h) in
     let same : units_in_all t unit ≡ sum_by (λ (x : CoflowLine). units_of_line unit x) (map said_coflow cs) = ap (λ (xs : List CoflowLine). sum_by (λ (x : CoflowLine). units_of_line unit x) xs) e in
-    let few : units_in_all t unit ≤ 102400 = omega (arith, length-map cs said_coflow) in
-    refuse cause few
+    omega (arith, length-map cs said_coflow)
+
+-- neither the units nor the flows are too many
+pub flows_fit : (t : Trace) (unit : ℕ) (cs : List MadeCoflow) (which : Quantity) (count : ℕ) → t.coflows ≡ map said_coflow cs → IsTrace t → AreMade 1 cs → length cs ≡ 200 → 1 ≤ unit → HasCause t unit (Limit which count) → ⊥
+flows_fit t unit cs which count e trace h many some cause = refuse cause (units_few t unit cs e h many some)
   where
     refuse : HasCause t unit (Limit which count) → units_in_all t unit ≤ 102400 → ⊥
     refuse (inl units) few = omega (arith, units.1.0)

@@ -5,6 +5,7 @@ use Rattle.coflow_units.specs.declared.quantity.Quantity.{Quantity}
 use Rattle.coflow_units.specs.declared.trace.Trace.{Trace}
 use Rattle.flow_table.specs.Causes.{HasCause}
 use Rattle.flow_table.specs.declared.fault.TableFault.TheVariants.{Limit}
+use Rattle.flow_table.specs.Units.{units_in_all}
 use Rattle.text_fields.specs.Checks.{first_fault}
 use Rattle.trace_reader.specs.Trace.{trace_checks, trace_of}
 use Rattle.trace_reader.proofs.TraceParts.{within_limits}
@@ -12,7 +13,7 @@ use Rattle.weights.specs.Weights.{text_checks, weights_of}
 use Rattle.workload.specs.Coflows.{made_coflows}
 use Rattle.workload.specs.Made.{made_trace, made_weights}
 use Rattle.workload.specs.Text.{trace_text, weights_text}
-use Rattle.workload.proofs.FlowsFit.{flows_fit}
+use Rattle.workload.proofs.FlowsFit.{flows_fit, units_few}
 use Rattle.workload.proofs.MadeRanges.{are_made, count_is}
 use Rattle.workload.proofs.TracePasses.{trace_is_short, trace_passes, trace_says}
 use Rattle.workload.proofs.WeightsPass.{weights_are_said, weights_are_short, weights_text_passes}
@@ -38,6 +39,12 @@ pub made_weights_say : (seed : ℕ) → weights_of (weights_text (made_coflows s
 made_weights_say seed =
     let made = are_made seed 200 (omega arith) in
     ap (λ (t : Trace). weights_of (weights_text (made_coflows seed)) t.coflows) (trace_says (made_coflows seed) made) ∙ weights_are_said (made_coflows seed) made
+
+pub made_units_few : (seed unit : ℕ) → 1 ≤ unit → units_in_all (trace_of (trace_text (made_coflows seed))) unit ≤ 102400
+made_units_few seed unit some =
+    let cs = made_coflows seed in
+    let made = are_made seed 200 (omega arith) in
+    units_few (trace_of (trace_text cs)) unit cs (ap (λ (x : Trace). x.coflows) (trace_says cs made)) made (count_is seed 200) some
 
 pub made_flows_few : (seed unit : ℕ) (which : Quantity) (count : ℕ) → 1 ≤ unit → HasCause (trace_of (trace_text (made_coflows seed))) unit (Limit which count) → ⊥
 made_flows_few seed unit which count some cause =

@@ -3,6 +3,7 @@ ghost use Rattle.std.specs.Prelude.{◌≡◌, ◌≤◌, ◌^◌, ℕ, None, le
 ghost use Rattle.coflow_units.specs.declared.quantity.Quantity.{Quantity};
 ghost use Rattle.flow_table.specs.Causes.{HasCause};
 ghost use Rattle.flow_table.specs.declared.fault.TableFault.TheVariants.{Limit};
+ghost use Rattle.flow_table.specs.Units.{units_in_all};
 ghost use Rattle.text_fields.specs.Checks.{first_fault};
 ghost use Rattle.trace_reader.specs.Trace.{trace_checks, trace_of};
 ghost use Rattle.weights.specs.Weights.{text_checks, weights_of};
@@ -24,7 +25,9 @@ pub fn made_weights_are_read()
     ensures are { (seed : ℕ) → weights_of (weights_text (made_coflows seed)) (trace_of (trace_text (made_coflows seed))).coflows ≡ made_weights seed }
 {}
 
-/// The trace of each seed fits a table of flows, whatever the unit in whole megabytes: neither its units nor its flows are too many.
+/// The trace of each seed fits a table of flows, whatever the unit in whole megabytes: neither its units nor its flows are too many. Its 200 coflows have at most 8 reducers
+/// each, of at most 64 megabytes, so there are at most 102400 units.
 pub fn made_flows_fit()
-    ensures { (seed unit : ℕ) (which : Quantity) (count : ℕ) → 1 ≤ unit → HasCause (trace_of (trace_text (made_coflows seed))) unit (Limit which count) → ⊥ }
+    ensures units { (seed unit : ℕ) → 1 ≤ unit → units_in_all (trace_of (trace_text (made_coflows seed))) unit ≤ 102400 }
+    ensures fits { (seed unit : ℕ) (which : Quantity) (count : ℕ) → 1 ≤ unit → HasCause (trace_of (trace_text (made_coflows seed))) unit (Limit which count) → ⊥ }
 {}
