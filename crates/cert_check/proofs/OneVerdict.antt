@@ -13,13 +13,14 @@ use Rattle.coflow_units.specs.Schedule.{times}
 use Rattle.flow_table.specs.Table.{TableFacts, instance_of}
 use Rattle.report.specs.declared.value.PlaceLine.{PlaceLine}
 use Rattle.report.specs.declared.value.Report.{Report}
+use Rattle.report.specs.Text.{place_at}
 use Rattle.schedule_model.specs.Fault.{IsFirstClash, IsFirstMiscount, IsFirstNoFlow, IsNoLater, number_no_later}
 use Rattle.schedule_model.specs.RunList.{slots_in}
 use Rattle.cert_check.specs.declared.verdict.Reason.{Reason}
 use Rattle.cert_check.specs.declared.verdict.Reason.TheVariants.{BoundTooHigh, ClashIn, CostWrong, DoneWrong, Infeasible, NoFlow, NotPermutation, PortRange, RatioBroken, SlackWrong, UnitsOf, WeightWrong}
 use Rattle.cert_check.specs.declared.verdict.Verdict.{Verdict}
 use Rattle.cert_check.specs.declared.verdict.Verdict.TheVariants.{No, Yes}
-use Rattle.cert_check.specs.Places.{IsFirstOutOfRange, IsFirstWrong, IsNew, IsNotNew, IsWrong, NamesEach, coflow_with, coflows_in, ends_in, ids_in, place_at}
+use Rattle.cert_check.specs.Places.{IsFirstOutOfRange, IsFirstWrong, IsNew, IsNotNew, IsWrong, NamesEach, coflow_with, coflows_in, ends_in, ids_in}
 use Rattle.cert_check.specs.Reasons.{IsFirstReason, IsVerdict, kind}
 use Rattle.cert_check.specs.Stated.{IsLeastWrong, IsLeastWrongOfAny}
 use Rattle.cert_check.proofs.IdSteps.{found}

@@ -1,10 +1,9 @@
 -- The places of a report. They name coflows by their ids, and stand from place 1 on, while a certificate stands from its last place to its first.
 use Rattle.std.specs.Prelude.{◌≡◌, ℕ, ◌+◌, ◌-◌, ◌<◌, ◌≤◌, ◌⊎◌, ◌==◌, List, All, Contains, length, map, position, reverse, slice_index, take, unwrap_or}
-use Rattle.std.specs.List.{slice_index_or}
-use Rattle.coflow_units.specs.declared.fabric.Side.TheVariants.{Ingress}
 use Rattle.coflow_units.specs.Certificate.{Entry}
 use Rattle.coflow_units.specs.Flows.{IsDistinct}
 use Rattle.report.specs.declared.value.PlaceLine.{PlaceLine}
+use Rattle.report.specs.Text.{place_at}
 
 -- the coflow that has the id, or the number of coflows where none has it
 abbrev pub coflow_with : List ℕ → ℕ → ℕ
@@ -33,10 +32,6 @@ entry_for ids p = entry_with (coflow_with ids p.id) p
 -- the places as a certificate
 abbrev pub certificate_in : List ℕ → List PlaceLine → List Entry
 certificate_in ids places = reverse (map (entry_for ids) places)
-
--- the place with a number, counted from 0; a number past the end has zeros, and is read only where the number is known to be a place's
-abbrev pub place_at : List PlaceLine → ℕ → PlaceLine
-place_at places k = slice_index_or places k record { id = 0; port = record { side = Ingress; number = 0 }; y = 0; done = 0 }
 
 -- the id at a place, counted from 0, is a coflow's, and stands at no place before
 pub record IsNew (ids stated : List ℕ) (k : ℕ) : Type 0 where

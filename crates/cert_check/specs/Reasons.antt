@@ -45,6 +45,14 @@ kind (DoneWrong coflow stated real) = 9
 kind (CostWrong stated real) = 10
 kind (RatioBroken cost most) = 11
 
+-- the first kind of the reasons that are looked for in the ports, the weights and the certificate
+abbrev pub certificate_kind : ℕ
+certificate_kind = kind (PortRange 0 0)
+
+-- the first kind of the reasons that are looked for in the schedule, the completions and the cost
+abbrev pub schedule_kind : ℕ
+schedule_kind = kind (NoFlow 0 0)
+
 -- the reason holds, and none of an earlier kind does
 pub record IsFirstReason (i : Instance) (ids : List ℕ) (r : Report) (reason : Reason) : Type 0 where
   pub holds : HasReason i ids r reason

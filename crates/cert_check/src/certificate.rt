@@ -5,6 +5,7 @@ ghost use Rattle.flow_table.specs.Table.{instance_of};
 ghost use Rattle.report.specs.Report.{HasWeights};
 ghost use Rattle.cert_check.specs.Parts.{HasSoundCertificate, IsFirstFrom};
 ghost use Rattle.cert_check.specs.Places.{NamesEach, coflows_in, entry_for, entry_with};
+ghost use Rattle.cert_check.specs.Reasons.{certificate_kind};
 ghost use Rattle.cert_check.specs.Sound.{AreLoadsOf};
 
 use crate::places::out_of_range;
@@ -33,7 +34,7 @@ pub(crate) fn wrong_certificate(
     requires coflows { coflows.now ≡ coflows_in table.now.ids report.now.places }
     requires names { NamesEach (length table.now.ids) (coflows_in table.now.ids report.now.places) }
     ensures { IfOk result (λ found. MatchOption found (HasSoundCertificate (instance_of table.now weights.now) table.now.ids report.now)
-        (IsFirstFrom (instance_of table.now weights.now) table.now.ids report.now 1)) }
+        (IsFirstFrom (instance_of table.now weights.now) table.now.ids report.now certificate_kind)) }
 {
     let places = report.places.as_slice();
     if let Some((place, number)) = out_of_range(table.ports(), places) {

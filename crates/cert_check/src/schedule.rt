@@ -8,6 +8,7 @@ ghost use Rattle.report.specs.Report.{IsReport};
 ghost use Rattle.schedule_model.specs.RunList.{slots_in};
 ghost use Rattle.cert_check.specs.Parts.{HasSoundSchedule, IsFirstFrom, reason_for};
 ghost use Rattle.cert_check.specs.Places.{NamesEach, coflows_in};
+ghost use Rattle.cert_check.specs.Reasons.{schedule_kind};
 
 use crate::stated::{ends_of, least_wrong};
 use crate::verdict::Reason;
@@ -32,7 +33,7 @@ pub(crate) fn wrong_schedule(
     requires coflows { coflows.now ≡ coflows_in table.now.ids report.now.places }
     requires names { NamesEach (length table.now.ids) (coflows_in table.now.ids report.now.places) }
     ensures { IfOk result (λ found. MatchOption found (HasSoundSchedule (instance_of table.now weights.now) table.now.ids report.now)
-        (IsFirstFrom (instance_of table.now weights.now) table.now.ids report.now 6)) }
+        (IsFirstFrom (instance_of table.now weights.now) table.now.ids report.now schedule_kind)) }
 {
     let flows = table.flows();
     let schedule = schedule_of(alloc, report.runs.as_slice())?;

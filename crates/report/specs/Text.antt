@@ -43,7 +43,7 @@ abbrev pub weight_at : Option (List ℕ) → ℕ → Option ℕ
 weight_at (Some weights) k = Some (slice_index_or weights k 0)
 weight_at None k = None
 
--- the place with index k
+-- the place with index k; an index past the end gives zeros, and is read only where it is known to be a place's
 abbrev pub place_at : List PlaceLine → ℕ → PlaceLine
 place_at places k = slice_index_or places k record { id = 0; port = record { side = Ingress; number = 0 }; y = 0; done = 0 }
 
@@ -55,12 +55,15 @@ place_line_at r k = place_line (k + 1) (place_at r.places k) (weight_at r.weight
 abbrev pub place_lines : Report → List (List ℕ)
 place_lines r = map (place_line_at r) (range_with_len 0 (length r.places))
 
+-- the line of the bound
 abbrev pub bound_line : ℕ → List ℕ
 bound_line bound = codes "bound" ++ spaced bound
 
+-- the line of the slack
 abbrev pub slack_line : ℕ → List ℕ
 slack_line slack = codes "slack" ++ spaced slack
 
+-- the line of the cost
 abbrev pub cost_line : ℕ → List ℕ
 cost_line cost = codes "cost" ++ spaced cost
 

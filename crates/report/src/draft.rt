@@ -106,6 +106,7 @@ impl Draft {
         }
     }
 
+    /// Takes the first line.
     fn take_version(&mut self, line: &[u8]) -> bool
         requires draft { IsDraft self.old }
         requires stage { self.old.stage ≡ AtVersion }
@@ -119,6 +120,7 @@ impl Draft {
         true
     }
 
+    /// Takes the line of the next place, or that of the bound.
     fn take_place(&mut self, line: &[u8]) -> Result<bool, NoMemory>
         requires draft { IsDraft self.old }
         requires stage { self.old.stage ≡ AtPlaces }
@@ -148,6 +150,7 @@ impl Draft {
         true
     }
 
+    /// Takes the line of the slack.
     fn take_slack(&mut self, line: &[u8]) -> bool
         requires draft { IsDraft self.old }
         requires stage { self.old.stage ≡ AtSlack }
@@ -161,6 +164,7 @@ impl Draft {
         true
     }
 
+    /// Takes the line of the cost.
     fn take_cost(&mut self, line: &[u8]) -> bool
         requires draft { IsDraft self.old }
         requires stage { self.old.stage ≡ AtCost }
@@ -174,6 +178,7 @@ impl Draft {
         true
     }
 
+    /// Takes the line of a run, or the last one.
     fn take_run(&mut self, alloc: Global, line: &[u8]) -> Result<bool, NoMemory>
         requires draft { IsDraft self.old }
         requires stage { self.old.stage ≡ AtRuns }

@@ -3,14 +3,16 @@ ghost use Rattle.std.specs.Prelude.{◌≡◌};
 ghost use Rattle.report.specs.declared.fault.ReportFault.TheVariants.{NoMemory as NoMemoryFault};
 
 use coflow_units::NoMemory;
-use std::alloc::{AllocError, AllocFailed};
+use thiserror::Error;
 
 /// Why a text was not read.
-#[derive(Clone, Copy, Debug, PartialEq, Eq)]
+#[derive(Clone, Copy, Debug, PartialEq, Eq, Error)]
 pub enum ReportFault {
     /// No text of a report has this line after the lines before it. Lines count from 1.
+    #[error("line {line}")]
     BadText { line: u32 },
     /// No memory was to be had.
+    #[error("no memory")]
     NoMemory,
 }
 

@@ -4,6 +4,7 @@ ghost use Rattle.report.specs.Report.{ForEach, HasWeights};
 use crate::{Made, PlaceLine, Report, ReportFault, laws, read_report, write_made, write_report};
 use coflow_units::{Items, MAX_TEXT, Port, Run, Side};
 use std::alloc::{AllocError, Global};
+use std::process::Abort;
 use std::test::Fail;
 
 /// The plan of two coflows that share both ports, of 3 units and of 1 unit.
@@ -168,13 +169,14 @@ fn writes_made(rt: HostRuntime) -> Result<(), Fail> {
     Ok(())
 }
 
-const TWO_COFLOWS: &[u8] =
-    b"sincronia 1\nplace 1 2 in 0 733007751851 1\nplace 2 1 in 0 366503875925 4\nbound 5\nslack 1\ncost 5\nrun 1 1\nrun 3 0\nend\n";
+/// The text of the plan of two coflows.
+const TWO_COFLOWS: &str =
+    "sincronia 1\nplace 1 2 in 0 733007751851 1\nplace 2 1 in 0 366503875925 4\nbound 5\nslack 1\ncost 5\nrun 1 1\nrun 3 0\nend\n";
 
 #[test]
 fn reads_two_coflows(rt: HostRuntime) -> Result<(), Fail> {
     assert!(rt; TWO_COFLOWS.len() <= MAX_TEXT);
-    let report = read_report(rt.alloc(), TWO_COFLOWS)?;
+    let report = read_report(rt.alloc(), TWO_COFLOWS.as_bytes())?;
     let wanted = two_coflows(rt.alloc(), None)?;
     assert!(rt; report.places.as_slice() == wanted.places.as_slice());
     assert!(rt; report.weights.is_none());
@@ -187,48 +189,168 @@ fn reads_two_coflows(rt: HostRuntime) -> Result<(), Fail> {
     Ok(())
 }
 
+/// Each number at its upper limit, and some at the lower one.
 #[test]
-fn reads_weights(rt: HostRuntime) -> Result<(), Fail> {
+fn reads_the_greatest_numbers(rt: HostRuntime) -> Result<(), Fail> {
     let text =
-        b"sincronia 2\nplace 1 4294967295 out 7 0 0 4294967296\nplace 2 4294967295 in 0 1 1 1\nbound 0\nslack 0\ncost 0\nrun 3\nrun 2199023255548 0 7\nend\n";
+        b"sincronia 2\nplace 1 4294967295 out 4294967295 340282366920938463463374607431768211455 18446744073709551615 4294967296\nplace 2 0 in 0 0 0 1\nbound 340282366920938463463374607431768211455\nslack 340282366920938463463374607431768211455\ncost 340282366920938463463374607431768211455\nrun 3\nrun 2199023255548 0 4294967295\nend\n";
     assert!(rt; text.len() <= MAX_TEXT);
     let report = read_report(rt.alloc(), text)?;
+    let port = Port {
+        side: Side::Egress,
+        number: u32::MAX,
+    };
+    let greatest = PlaceLine {
+        id: u32::MAX,
+        port,
+        y: u128::MAX,
+        done: u64::MAX,
+    };
     assert!(rt; report.places.as_slice().len() == 2);
+    assert!(rt; report.places.as_slice().first() == Some(&greatest));
     let Some(weights) = &report.weights else {
         return Err(Fail::new("weights"));
     };
     assert!(rt; weights.as_slice() == [4_294_967_296, 1].as_slice());
+    assert!(rt; (report.bound, report.slack, report.cost) == (u128::MAX, u128::MAX, u128::MAX));
+    let lengths = [3, 2_199_023_255_548];
+    let flows: [&[u32]; 2] = [&[], &[0, u32::MAX]];
+    assert!(rt; report.runs.as_slice().len() == 2);
+    for ((run, length), flows) in report.runs.as_slice().iter().zip(lengths).zip(flows) {
+        assert!(rt; run.length == length && run.flows.as_slice() == flows);
+    }
+    Ok(())
+}
+
+/// The line at which the text is refused, or 0 where it is read.
+fn refused_at(rt: &impl Abort, alloc: Global, text: &[u8]) -> Result<u32, Fail> {
+    assert!(rt; text.len() <= MAX_TEXT);
+    match read_report(alloc, text) {
+        Ok(_) => Ok(0),
+        Err(ReportFault::BadText { line }) => Ok(line),
+        Err(ReportFault::NoMemory) => Err(Fail::new("no memory")),
+    }
+}
+
+/// The line at which the text of two coflows is refused where `put` stands in place of the line with this number, or 0 where it is read.
+fn refused_with(rt: &impl Abort, alloc: Global, number: u32, put: &str) -> Result<u32, Fail> {
+    let mut text = String::new(alloc);
+    for (line, this) in TWO_COFLOWS.lines().zip(1..10) {
+        if this == number {
+            text.push_str(put)?;
+        } else {
+            text.push_str(line)?;
+            text.push_str("\n")?;
+        }
+    }
+    refused_at(rt, alloc, text.as_bytes())
+}
+
+/// Each line left out, and each line doubled. Without its second place or one of its runs a text is that of another report.
+#[test]
+fn refuses_lines_left_out_and_doubled(rt: HostRuntime) -> Result<(), Fail> {
+    let wanted = [
+        (1, 1, 2),
+        (2, 2, 3),
+        (3, 0, 4),
+        (4, 4, 5),
+        (5, 5, 6),
+        (6, 6, 7),
+        (7, 0, 8),
+        (8, 0, 9),
+        (9, 9, 10),
+    ];
+    for (line, (number, without, twice)) in TWO_COFLOWS.lines().zip(wanted) {
+        assert!(rt; refused_with(&rt, rt.alloc(), number, "")? == without);
+        let doubled = format!(in rt.alloc(); "{line}\n{line}\n")?;
+        assert!(rt; refused_with(&rt, rt.alloc(), number, doubled.as_str())? == twice);
+    }
+    Ok(())
+}
+
+/// In each line a carriage return or a space before the line feed, and two spaces in place of the first.
+#[test]
+fn refuses_blanks(rt: HostRuntime) -> Result<(), Fail> {
+    for (line, number) in TWO_COFLOWS.lines().zip(1..10) {
+        let returned = format!(in rt.alloc(); "{line}\r\n")?;
+        assert!(rt; refused_with(&rt, rt.alloc(), number, returned.as_str())? == number);
+        let trailing = format!(in rt.alloc(); "{line} \n")?;
+        assert!(rt; refused_with(&rt, rt.alloc(), number, trailing.as_str())? == number);
+        if let Some((word, rest)) = line.split_once(' ') {
+            let spaced = format!(in rt.alloc(); "{word}  {rest}\n")?;
+            assert!(rt; refused_with(&rt, rt.alloc(), number, spaced.as_str())? == number);
+        }
+    }
+    Ok(())
+}
+
+/// The text of two coflows cut before each line, before its last byte, and before its line feed.
+#[test]
+fn refuses_texts_cut_short(rt: HostRuntime) -> Result<(), Fail> {
+    let mut text = String::new(rt.alloc());
+    for (line, number) in TWO_COFLOWS.lines().zip(1..10) {
+        assert!(rt; refused_at(&rt, rt.alloc(), text.as_bytes())? == number);
+        text.push_str(line)?;
+        assert!(rt; refused_at(&rt, rt.alloc(), text.as_bytes())? == number);
+        let Some(last) = text.pop() else {
+            return Err(Fail::new("an empty line"));
+        };
+        assert!(rt; refused_at(&rt, rt.alloc(), text.as_bytes())? == number);
+        text.push(last)?;
+        text.push_str("\n")?;
+    }
+    assert!(rt; text.as_str() == TWO_COFLOWS);
+    Ok(())
+}
+
+/// Lines with a leading zero in one number, or with one number past its limit.
+#[test]
+fn refuses_numbers(rt: HostRuntime) -> Result<(), Fail> {
+    for (number, put) in [
+        (2, "place 01 2 in 0 733007751851 1\n"),
+        (2, "place 1 02 in 0 733007751851 1\n"),
+        (2, "place 1 2 in 00 733007751851 1\n"),
+        (2, "place 1 2 in 0 0733007751851 1\n"),
+        (2, "place 1 2 in 0 733007751851 01\n"),
+        (4, "bound 05\n"),
+        (5, "slack 01\n"),
+        (6, "cost 05\n"),
+        (7, "run 01 1\n"),
+        (7, "run 1 01\n"),
+        (2, "place 1 4294967296 in 0 733007751851 1\n"),
+        (2, "place 1 2 in 4294967296 733007751851 1\n"),
+        (
+            2,
+            "place 1 2 in 0 340282366920938463463374607431768211456 1\n",
+        ),
+        (2, "place 1 2 in 0 733007751851 18446744073709551616\n"),
+        (4, "bound 340282366920938463463374607431768211456\n"),
+        (5, "slack 340282366920938463463374607431768211456\n"),
+        (6, "cost 340282366920938463463374607431768211456\n"),
+        (7, "run 1 4294967296\n"),
+    ] {
+        assert!(rt; refused_with(&rt, rt.alloc(), number, put)? == number);
+    }
     Ok(())
 }
 
 /// Texts of no report, each with its first wrong line.
 #[test]
 fn refuses(rt: HostRuntime) -> Result<(), Fail> {
-    let texts: [(&[u8], u32); 34] = [
-        (b"", 1),
+    let texts: [(&[u8], u32); 23] = [
         (b"\n", 1),
-        (b"sincronia 1", 1),
         (b"sincronia 3\n", 1),
-        (b"sincronia 1\r\n", 1),
-        (b"sincronia 1\n", 2),
         (b"sincronia 1\nend\n", 2),
         (b"sincronia 1\nplace 2 2 in 0 1 1\n", 2),
         (b"sincronia 1\nplace 0 2 in 0 1 1\n", 2),
         (b"sincronia 1\nplace 1 2 at 0 1 1\n", 2),
-        (b"sincronia 1\nplace 1 4294967296 in 0 1 1\n", 2),
-        (
-            b"sincronia 1\nplace 1 2 in 0 340282366920938463463374607431768211456 1\n",
-            2,
-        ),
-        (b"sincronia 1\nplace 1 2 in 0 1 18446744073709551616\n", 2),
         (b"sincronia 1\nplace 1 2 in 0 1 1 1\n", 2),
-        (b"sincronia 1\nplace 1 2 in 0 1 1 \n", 2),
         (b"sincronia 2\nplace 1 2 in 0 1 1\n", 2),
         (b"sincronia 2\nplace 1 2 in 0 1 1 0\n", 2),
+        (b"sincronia 2\nplace 1 2 in 0 1 1 01\n", 2),
         (b"sincronia 2\nplace 1 2 in 0 1 1 4294967297\n", 2),
         (b"sincronia 1\nplace 1 2 in 0 1 1\nplace 1 3 in 0 1 1\n", 3),
         (b"sincronia 1\nbound 0\ncost 0\n", 3),
-        (b"sincronia 1\nbound 0\nslack 00\n", 3),
         (b"sincronia 1\nbound 0\nslack 0\ncost +0\n", 4),
         (b"sincronia 1\nbound 0\nslack 0\ncost 0\nrun 0\nend\n", 5),
         (b"sincronia 1\nbound 0\nslack 0\ncost 0\nrun 1 \nend\n", 5),
@@ -252,23 +374,22 @@ fn refuses(rt: HostRuntime) -> Result<(), Fail> {
             b"sincronia 1\nbound 0\nslack 0\ncost 0\nrun 1 0\nrun 2 0\nend\n",
             6,
         ),
-        (b"sincronia 1\nbound 0\nslack 0\ncost 0\nend", 5),
         (b"sincronia 1\nbound 0\nslack 0\ncost 0\nend\n\n", 6),
         (b"sincronia 1\nbound 0\nslack 0\ncost 0\nend\nx", 6),
-        (
-            b"sincronia 1\nplace 1 2 in 0 733007751851 1\nplace 2 1 in 0 366503875925 4\nbound 5\nslack 1\ncost 5\nrun 1 1\nrun 3 0\n",
-            9,
-        ),
-        (
-            b"sincronia 1\nplace 1 2 in 0 733007751851 1\nplace 2 1 in 0 366503875925 4\nbound 5\nslack 1\ncost 5\nrun 1 1\nrun 03 0\nend\n",
-            8,
-        ),
     ];
     for (text, line) in texts {
-        assert!(rt; text.len() <= MAX_TEXT);
-        assert!(rt;
-            matches!(read_report(rt.alloc(), text), Err(ReportFault::BadText { line: found }) if found == line)
-        );
+        assert!(rt; refused_at(&rt, rt.alloc(), text)? == line);
+    }
+    Ok(())
+}
+
+#[test]
+fn texts_of_faults(rt: HostRuntime) -> Result<(), Fail> {
+    for (fault, text) in [
+        (ReportFault::BadText { line: 9 }, "line 9"),
+        (ReportFault::NoMemory, "no memory"),
+    ] {
+        assert_eq!(rt; format!(in rt.alloc(); "{fault}")?.as_str(), text);
     }
     Ok(())
 }
