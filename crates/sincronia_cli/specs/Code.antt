@@ -3,6 +3,7 @@ use Rattle.std.specs.Prelude.{ℕ}
 use Rattle.sincronia_cli.specs.declared.status.Status.{Status}
 use Rattle.sincronia_cli.specs.declared.status.Status.TheVariants.{Ok, No, Usage, BadTrace, BadWeights, BadReport, Limit, ReadFault, WriteFault, NoMemory}
 
+-- the exit code of a status
 abbrev pub code_of : Status → ℕ
 code_of Ok = 0
 code_of No = 1

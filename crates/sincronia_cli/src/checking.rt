@@ -8,6 +8,7 @@ ghost use Rattle.flow_table.specs.Table.{instance_of};
 ghost use Rattle.report.specs.Report.{IsReport};
 ghost use Rattle.sincronia_cli.specs.Causes.{HasFilesCause};
 ghost use Rattle.sincronia_cli.specs.Check.{CheckOf, status_for};
+ghost use Rattle.sincronia_cli.specs.Inputs.{KeepsFiles};
 ghost use Rattle.sincronia_cli.specs.VerdictLine.{verdict_text};
 
 use crate::inputs::{Input, read_input, read_report_file};
@@ -33,6 +34,7 @@ pub(crate) fn check_report<'a, H: Shelf>(
     requires unit_limit { words.unit ≤ 2 ^ 20 }
     requires second { (said_by words).second ≡ Some name.now }
     ensures outcome { IfOk result (λ o. (verdict : Verdict) × (o.status ≡ status_for verdict) × CheckOf (H.told shelf.old) (said_by words.entry) verdict o.text.items) }
+    ensures keeps { KeepsFiles (H.told shelf.old) (H.told shelf.new) }
     ensures cause { IfErr result (λ status. HasFilesCause (H.faults shelf.old) (H.faults shelf.new) (H.told shelf.old) (H.told shelf.new) (said_by words.entry) status) }
 {
     let input = match read_input(alloc, words.first, words.weights, words.unit, shelf) {

@@ -10,28 +10,21 @@ ghost use Rattle.trace_reader.specs.declared.fault.TraceFault.{TraceFault};
 ghost use Rattle.weights.specs.declared.fault.WeightsFault.{WeightsFault};
 ghost use Rattle.cert_check.specs.declared.verdict.Reason.{Reason};
 ghost use Rattle.cert_check.specs.declared.verdict.Verdict.{Verdict};
-ghost use Rattle.flow_table.specs.Table.{instance_of};
-ghost use Rattle.report.specs.declared.value.Report.{Report};
-ghost use Rattle.report.specs.Text.{report_text};
-ghost use Rattle.sincronia_cli.specs.Causes.{AnyFailed, FilesLimit, HasCauseOf, HasFilesCause, HasReportFault, HasTraceFault, HasWeightsFault, IsTraceForm, IsWeightsForm};
+ghost use Rattle.sincronia_cli.specs.Causes.{AnyFailed, FilesLimit, HasCauseOf, HasReportFault, HasTraceFault, HasWeightsFault, IsTraceForm, IsWeightsForm};
 ghost use Rattle.sincronia_cli.specs.Check.{WritesSureBound, WritesVerdict};
 ghost use Rattle.sincronia_cli.specs.Command.{Fits, IsCommand, IsOfFiles};
-ghost use Rattle.sincronia_cli.specs.Inputs.{bytes_if};
+ghost use Rattle.sincronia_cli.specs.Inputs.{KeepsFiles, bytes_if};
 ghost use Rattle.sincronia_cli.specs.Make.{WritesMade};
 ghost use Rattle.sincronia_cli.specs.Outcome.{IsOutcome, WritesBeginning};
-ghost use Rattle.sincronia_cli.specs.Plan.{PlanOf, WritesBound, WritesPlan, WritesWithinFour};
-ghost use Rattle.sincronia_cli.specs.PlanReport.{IsPlanOf};
+ghost use Rattle.sincronia_cli.specs.Plan.{WritesBound, WritesPlan, WritesWithinFour};
 
 use crate::checking::check_report;
-use crate::inputs::{Input, read_input};
 use crate::making::make_workload;
 use crate::outcome::Outcome;
-use crate::planning::plan;
+use crate::planning::plan_trace;
 use crate::status::Status;
-use coflow_units::NoMemory;
 use command_words::{Command, Words, WordsFault, read_words};
 use outside::{Shelf, Sink, write_all};
-use report::write_report;
 use std::alloc::Global;
 
 /// Does what the words ask for, and writes one text to the sink.
@@ -56,7 +49,7 @@ use std::alloc::Global;
 /// - `WriteFault`: a call to the sink failed, and its count of faults rose. `count` is 1. A beginning of the text was written.
 /// - `NoMemory`: no memory was to be had.
 ///
-/// After a status other than `Ok`, `No` and `WriteFault` nothing was written.
+/// After a status other than `Ok`, `No` and `WriteFault` nothing was written. The files on the shelf are as before.
 pub fn sincronia<H: Shelf, K: Sink>(
     alloc: Global,
     words: &[String],
@@ -78,6 +71,8 @@ pub fn sincronia<H: Shelf, K: Sink>(
     ensures read { (count : ℕ) → result ≡ Status.ReadFault count → (said : Said) × IsOfFiles (texts words.now) said × AnyFailed (H.faults shelf.old) (H.faults shelf.new) (H.told shelf.old) (H.told shelf.new) said count }
     ensures write { (count : ℕ) → result ≡ Status.WriteFault count → (count ≡ 1) × Rose (K.faults out.old) (K.faults out.new) }
     ensures beginning { (count : ℕ) → result ≡ Status.WriteFault count → (said : Said) × IsWords (texts words.now) said × WritesBeginning (H.told shelf.old) said (K.taken out.old) (K.taken out.new) }
+    ensures keeps { KeepsFiles (H.told shelf.old) (H.told shelf.new) }
+    ensures untouched { (said : Said) → IsCommand Command.Make (texts words.now) said → (H.told shelf.new ≡ H.told shelf.old) × (H.faults shelf.new ≡ H.faults shelf.old) }
     ensures unwritten { result ≢ Status.Ok → result ≢ Status.No → ((count : ℕ) → result ≢ Status.WriteFault count) → K.taken out.new ≡ K.taken out.old }
 {
     let words = match read_words(alloc, words) {
@@ -104,6 +99,8 @@ fn carry_out<'a, H: Shelf>(
     requires { Fits (said_by words) }
     ensures outcome { IfOk result (λ o. IsOutcome (H.told shelf.old) (said_by words.entry) o.status o.text.items) }
     ensures cause { IfErr result (HasCauseOf (H.faults shelf.old) (H.faults shelf.new) (H.told shelf.old) (H.told shelf.new) (said_by words.entry)) }
+    ensures keeps { KeepsFiles (H.told shelf.old) (H.told shelf.new) }
+    ensures untouched { (said_by words.entry).command ≡ Command.Make → (H.told shelf.new ≡ H.told shelf.old) × (H.faults shelf.new ≡ H.faults shelf.old) }
 {
     match (words.command, words.second) {
         (Command::Plan, _) => plan_trace(alloc, words, shelf),
@@ -111,40 +108,4 @@ fn carry_out<'a, H: Shelf>(
         (Command::Check, None) => unreachable!(),
         (Command::Make, _) => make_workload(alloc, words),
     }
-}
-
-/// The text of the plan of the trace that the words name.
-fn plan_trace<'a, H: Shelf>(
-    alloc: Global,
-    words: Words<'a>,
-    shelf: &mut H,
-) -> Result<Outcome, Status>
-    requires some { 1 ≤ words.unit }
-    requires unit_limit { words.unit ≤ 2 ^ 20 }
-    ensures outcome { IfOk result (λ o. (o.status ≡ Status.Ok) × PlanOf (H.told shelf.old) (said_by words.entry) o.text.items) }
-    ensures cause { IfErr result (HasFilesCause (H.faults shelf.old) (H.faults shelf.new) (H.told shelf.old) (H.told shelf.new) (said_by words.entry)) }
-{
-    let input = match read_input(alloc, words.first, words.weights, words.unit, shelf) {
-        Ok(input) => input,
-        Err(status) => return Err(status),
-    };
-    match report_text(alloc, &input) {
-        Ok(text) => Ok(Outcome {
-            text,
-            status: Status::Ok,
-        }),
-        Err(NoMemory) => Err(Status::NoMemory),
-    }
-}
-
-/// The text of the report of the plan.
-fn report_text(alloc: Global, input: &Input) -> Result<Vec<u8>, NoMemory>
-    requires count { length input.now.weights ≡ length input.now.table.ids }
-    requires least { All (λ w. 1 ≤ w) input.now.weights }
-    requires weights { All (λ w. w ≤ 2 ^ 32) input.now.weights }
-    ensures { IfOk result (λ text. (report : Report) × IsPlanOf (instance_of input.now.table input.now.weights) input.now.table.ids report × (text.items ≡ report_text report)) }
-{
-    let report = plan(alloc, &input.table, input.weights.as_slice())?;
-    let text = write_report(alloc, &report)?;
-    Ok(text)
 }

@@ -158,6 +158,7 @@ pub(crate) fn read_report_file<H: Shelf>(
     shelf: &mut H,
 ) -> Result<Report, Status>
     ensures report { IfOk result (IsReportOf (H.told shelf.old) name.now) }
+    ensures keeps { KeepsFiles (H.told shelf.old) (H.told shelf.new) }
     ensures cause { IfErr result (λ status. IsReportCause (H.faults shelf.old) (H.faults shelf.new) (H.told shelf.old) (H.told shelf.new) name.now status) }
 {
     let bytes = match read_file(alloc, Place4::Report, name, MAX_REPORT, shelf) {

@@ -31,6 +31,7 @@ impl fmt::Display for Status {
     }
 }
 
+/// What is wrong with a trace.
 fn write_trace_fault<W: fmt::Write>(f: &mut fmt::Formatter<W>, fault: TraceFault) -> fmt::Result
     ensures { WritesOnOk W.write_str_gives f.old result (trace_text fault) f.new }
 {
@@ -52,6 +53,7 @@ fn write_trace_fault<W: fmt::Write>(f: &mut fmt::Formatter<W>, fault: TraceFault
     }
 }
 
+/// What is wrong with weights.
 fn write_weights_fault<W: fmt::Write>(f: &mut fmt::Formatter<W>, fault: WeightsFault) -> fmt::Result
     ensures { WritesOnOk W.write_str_gives f.old result (weights_text fault) f.new }
 {
@@ -70,6 +72,7 @@ fn write_weights_fault<W: fmt::Write>(f: &mut fmt::Formatter<W>, fault: WeightsF
     }
 }
 
+/// A limit, with what was found.
 fn write_limit<W: fmt::Write>(f: &mut fmt::Formatter<W>, which: Quantity, count: u64) -> fmt::Result
     ensures { WritesOnOk W.write_str_gives f.old result (limit_text which count) f.new }
 {

@@ -1,22 +1,70 @@
-//! The plan of a table of flows, as a report.
-ghost use Rattle.std.specs.Prelude.{◌≡◌, ◌<◌, ◌≤◌, ◌^◌, ℕ, All, Contains, IfOk, length};
+//! The command `plan`: the plan of a trace, as a report.
+ghost use Rattle.std.specs.Prelude.{◌≡◌, ◌<◌, ◌≤◌, ◌^◌, ℕ, All, Contains, IfErr, IfOk, length};
 ghost use Rattle.coflow_units.specs.Certificate.{bound, slack};
 ghost use Rattle.coflow_units.specs.Flows.{IsDistinct};
 ghost use Rattle.coflow_units.specs.Served.{IsServed};
 ghost use Rattle.bssi_order.specs.Order.{IsOrder, entries_of};
 ghost use Rattle.flow_table.specs.Table.{instance_of};
 ghost use Rattle.report.specs.Report.{HasSmallNumbers, HasWeights, IsReport};
+ghost use Rattle.command_words.specs.Words.{said_by};
+ghost use Rattle.report.specs.declared.value.Report.{Report};
+ghost use Rattle.report.specs.Text.{report_text};
+ghost use Rattle.sincronia_cli.specs.Causes.{HasFilesCause};
+ghost use Rattle.sincronia_cli.specs.Inputs.{KeepsFiles};
+ghost use Rattle.sincronia_cli.specs.Plan.{PlanOf};
 ghost use Rattle.sincronia_cli.specs.PlanReport.{IsPlanOf, coflows_of};
 
+use crate::inputs::{Input, read_input};
 use crate::order::{coflows_in, loads_of, order_of};
+use crate::outcome::Outcome;
 use crate::places::{place_lines, place_weights};
+use crate::status::Status;
 use coflow_units::{Items, NoMemory, Place};
+use command_words::Words;
 use dual_cert::{Cert, bound, slack};
 use flow_table::Table;
-use report::Report;
+use outside::Shelf;
+use report::{Report, write_report};
 use schedule_model::{Schedule, cost};
 use slot_switch::simulate;
 use std::alloc::Global;
+
+/// The text of the plan of the trace that the words name.
+pub(crate) fn plan_trace<'a, H: Shelf>(
+    alloc: Global,
+    words: Words<'a>,
+    shelf: &mut H,
+) -> Result<Outcome, Status>
+    requires some { 1 ≤ words.unit }
+    requires unit_limit { words.unit ≤ 2 ^ 20 }
+    ensures outcome { IfOk result (λ o. (o.status ≡ Status.Ok) × PlanOf (H.told shelf.old) (said_by words.entry) o.text.items) }
+    ensures keeps { KeepsFiles (H.told shelf.old) (H.told shelf.new) }
+    ensures cause { IfErr result (HasFilesCause (H.faults shelf.old) (H.faults shelf.new) (H.told shelf.old) (H.told shelf.new) (said_by words.entry)) }
+{
+    let input = match read_input(alloc, words.first, words.weights, words.unit, shelf) {
+        Ok(input) => input,
+        Err(status) => return Err(status),
+    };
+    match report_text(alloc, &input) {
+        Ok(text) => Ok(Outcome {
+            text,
+            status: Status::Ok,
+        }),
+        Err(NoMemory) => Err(Status::NoMemory),
+    }
+}
+
+/// The text of the report of the plan.
+fn report_text(alloc: Global, input: &Input) -> Result<Vec<u8>, NoMemory>
+    requires count { length input.now.weights ≡ length input.now.table.ids }
+    requires least { All (λ w. 1 ≤ w) input.now.weights }
+    requires weights { All (λ w. w ≤ 2 ^ 32) input.now.weights }
+    ensures { IfOk result (λ text. (report : Report) × IsPlanOf (instance_of input.now.table input.now.weights) input.now.table.ids report × (text.items ≡ report_text report)) }
+{
+    let report = plan(alloc, &input.table, input.weights.as_slice())?;
+    let text = write_report(alloc, &report)?;
+    Ok(text)
+}
 
 /// The plan of the coflows of a table: the order by bottleneck, select, scale, iterate, the schedule that serves it, the bound and slack of its certificate, and the cost.
 /// A text can have the report, so it may be written and read back. `weights` has the weight of each coflow, from 1 to 2^32. The error is want of memory.
