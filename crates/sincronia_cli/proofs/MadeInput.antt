@@ -1,18 +1,22 @@
 -- The texts of a seed, read as files are.
-use Rattle.std.proofs.Common.{◌≡◌, ℕ, ◌^◌, ◌≤◌, ◌∙◌, List, length, ap, subst, sym}
-use Rattle.std.specs.Prelude.{All, None}
+use Rattle.std.proofs.Common.{◌≡◌, ℕ, ◌^◌, ◌≤◌, ◌∙◌, List, length, ap, subst, sym, arith}
+use Rattle.std.specs.Prelude.{All, None, sum_by}
+use Rattle.coflow_units.specs.declared.fabric.Flow.{Flow}
 use Rattle.coflow_units.specs.declared.quantity.Quantity.{Quantity}
 use Rattle.coflow_units.specs.declared.trace.Trace.{Trace}
+use Rattle.coflow_units.specs.Trace.{IsTrace}
 use Rattle.flow_table.specs.Causes.{HasCause}
 use Rattle.flow_table.specs.declared.fault.TableFault.TheVariants.{Limit}
 use Rattle.flow_table.specs.Table.{IsTableOf, TableFacts}
+use Rattle.flow_table.specs.Units.{units_in_all}
+use Rattle.flow_table.proofs.Kept.{all_kept}
 use Rattle.text_fields.specs.Checks.{first_fault}
 use Rattle.trace_reader.specs.Trace.{trace_checks, trace_of}
 use Rattle.weights.specs.Weights.{text_checks, weights_of}
 use Rattle.weights.proofs.Range.{weights_in_range}
 use Rattle.workload.specs.Coflows.{made_coflows}
 use Rattle.workload.specs.Text.{trace_text, weights_text}
-use Rattle.workload.proofs.MadeTexts.{made_flows_few, made_trace_passes, made_trace_short, made_weights_pass, made_weights_short}
+use Rattle.workload.proofs.MadeTexts.{made_flows_few, made_units_few, made_trace_passes, made_trace_short, made_weights_pass, made_weights_short}
 use Rattle.sincronia_cli.specs.Make.{GivesMade}
 
 module _ (seed : ℕ) (text : List ℕ) where
@@ -35,6 +39,10 @@ weights_read seed text list trace is of weights_are =
 
 pub few_flows : (seed unit : ℕ) (text : List ℕ) (trace : Trace) → text ≡ trace_text (made_coflows seed) → trace ≡ trace_of text → 1 ≤ unit → (which : Quantity) (count : ℕ) → HasCause trace unit (Limit which count) → ⊥
 few_flows seed unit text trace is of some which count cause = made_flows_few seed unit which count some (subst (λ (t : Trace). HasCause t unit (Limit which count)) (says_coflows seed text trace is of) cause)
+
+pub few_units : (seed unit : ℕ) (text : List ℕ) (trace : Trace) (table : TableFacts) → text ≡ trace_text (made_coflows seed) → trace ≡ trace_of text → 1 ≤ unit → IsTrace trace → IsTableOf trace unit table → sum_by (λ (x : Flow). x.units) table.flows ≤ 102400
+few_units seed unit text trace table is of some fits table_is =
+    omega (arith, all_kept trace unit table.flows fits table_is.flows, ap (λ (t : Trace). units_in_all t unit) (says_coflows seed text trace is of), made_units_few seed unit some)
 
 module _ (seed : ℕ) (text list : List ℕ) (trace : Trace) (weights : List ℕ) where
   pub made_range : text ≡ trace_text (made_coflows seed) → trace ≡ trace_of text → list ≡ weights_text (made_coflows seed) → weights ≡ weights_of list trace.coflows → All (λ w. (1 ≤ w) × (w ≤ 2 ^ 32)) weights

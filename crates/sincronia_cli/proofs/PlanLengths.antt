@@ -1,5 +1,5 @@
--- The text of the report of a plan is short, and that of a made trace is short enough to be read.
-use Rattle.std.proofs.Common.{◌≡◌, ℕ, suc, ◌+◌, ◌*◌, ◌^◌, ◌≤◌, ◌<◌, List, [], ◌∷◌, length, replicate, get_or, take, Contains, refl, sym, ap, subst, ◌∙◌, arith}
+-- The text of the report of a plan is short.
+use Rattle.std.proofs.Common.{◌≡◌, ℕ, suc, ◌+◌, ◌*◌, ◌^◌, ◌≤◌, ◌<◌, List, [], ◌∷◌, length, replicate, get_or, take, Contains, sym, ap, subst, ◌∙◌, arith}
 use Rattle.std.specs.Prelude.{All, sum_by}
 use Rattle.std.specs.List.{range_with_len, slice_index_or}
 use Rattle.std.proofs.lemmas.List.{get_or_default}
@@ -15,8 +15,7 @@ use Rattle.coflow_units.specs.Served.{IsServed, left_after}
 use Rattle.coflow_units.proofs.Lists.{by_number, number_below}
 use Rattle.coflow_units.proofs.ServedLaws.{served_valid}
 use Rattle.coflow_units.proofs.Sums.{sum_same}
-use Rattle.flow_table.specs.Table.{IsTable, IsTableOf, TableFacts, instance_of}
-use Rattle.flow_table.proofs.Kept.{all_kept}
+use Rattle.flow_table.specs.Table.{IsTable, TableFacts, instance_of}
 use Rattle.report.specs.declared.value.Report.{Report}
 use Rattle.report.specs.Report.{HasSmallNumbers, IsReport}
 use Rattle.report.specs.Text.{report_text}
@@ -24,12 +23,6 @@ use Rattle.report.proofs.TextLengths.{text_is_short}
 use Rattle.schedule_model.specs.RunList.{slots_in}
 use Rattle.schedule_model.proofs.SlotLoads.{carried_by_times}
 use Rattle.slot_switch.proofs.ServeSteps.{some_grant}
-use Rattle.trace_reader.specs.Trace.{trace_of}
-use Rattle.trace_reader.proofs.TraceParts.{within_limits}
-use Rattle.workload.specs.Coflows.{made_coflows}
-use Rattle.workload.specs.Text.{trace_text}
-use Rattle.workload.proofs.MadeTexts.{made_trace_passes, made_units_few}
-use Rattle.sincronia_cli.specs.Make.{GivesMade}
 use Rattle.sincronia_cli.specs.PlanReport.{IsPlanOf, coflows_of}
 use Rattle.sincronia_cli.proofs.CertificateFacts.{places_all}
 use Rattle.sincronia_cli.proofs.PlannedRuns.{each_run, run_lengths}
@@ -98,15 +91,6 @@ plan_text_short t weights r table fits small p =
       slots_have_units t.flows p.slots (served_valid t.flows line p.slots p.served),
     )
 
--- ---- the plan of a made trace
-
--- a table of the trace of a seed has few units
-made_units : (seed unit : ℕ) (t : TableFacts) → 1 ≤ unit → IsTableOf (trace_of (trace_text (made_coflows seed))) unit t → sum_by (λ (x : Flow). x.units) t.flows ≤ 102400
-made_units seed unit t some is =
-    let trace = trace_of (trace_text (made_coflows seed)) in
-    omega (arith, all_kept trace unit t.flows (within_limits (trace_text (made_coflows seed)) trace (made_trace_passes seed) refl) is.flows, made_units_few seed unit some)
-
--- the report of its plan is short enough to be read back
-pub made_report_short : (seed unit : ℕ) (t : TableFacts) (weights lent text : List ℕ) (r : Report) → 1 ≤ unit → GivesMade seed unit t weights → IsTable t → IsReport r → HasSmallNumbers r → IsPlanOf (instance_of t lent) t.ids r → text ≡ report_text r → length text ≤ 2 ^ 30
-made_report_short seed unit t weights lent text r some gives table fits small plan is =
-    omega (arith, ap length is, plan_text_short t lent r table fits small plan, table.few_coflows, made_units seed unit t some gives.table_is)
+-- where there are few units, the text is short enough to be read back
+pub few_units_short : (t : TableFacts) (weights text : List ℕ) (r : Report) → IsTable t → sum_by (λ (x : Flow). x.units) t.flows ≤ 102400 → IsReport r → HasSmallNumbers r → IsPlanOf (instance_of t weights) t.ids r → text ≡ report_text r → length text ≤ 2 ^ 30
+few_units_short t weights text r table few fits small p is = omega (arith, ap length is, plan_text_short t weights r table fits small p, table.few_coflows)

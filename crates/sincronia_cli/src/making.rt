@@ -65,6 +65,7 @@ fn made_input(alloc: Global, seed: u64, unit: u64) -> Result<Input, NoMemory>
     requires unit_limit { unit ≤ 2 ^ 20 }
     ensures gives { IfOk result (λ i. GivesMade seed unit i.table i.weights) }
     ensures table { IfOk result (λ i. IsTable i.table) }
+    ensures units { IfOk result (λ i. sum_by (λ (x : Flow). x.units) i.table.flows ≤ 102400) }
     ensures ids { IfOk result (λ i. IsDistinct i.table.ids) }
     ensures count { IfOk result (λ i. length i.weights ≡ length i.table.ids) }
     ensures least { IfOk result (λ i. All (λ w. 1 ≤ w) i.weights) }

@@ -1,5 +1,5 @@
 use Rattle.std.proofs.Common.{◌∙◌}
-use Rattle.sincronia_cli.proofs.MadeInput.{few_flows, made_gives, made_range, short_trace, short_weights, trace_reads, weights_read}
+use Rattle.sincronia_cli.proofs.MadeInput.{few_flows, few_units, made_gives, made_range, short_trace, short_weights, trace_reads, weights_read}
 use Rattle.sincronia_cli.proofs.PlanSound.{ids_differ}
 use Rattle.sincronia_cli.proofs.making.made_input.Goals as goal
 
@@ -22,6 +22,11 @@ pub returns-clause-gives : goal.returns-clause-gives
 returns-clause-gives c =
     made_gives c.args.seed c.as_slice.result.now c.as_slice-2.result.now c.in_ok-trace.trace c.in_ok-weights.weights c.args.unit c.in_ok-table.table
     (c.as_slice.ensures ∙ c.in_ok-made.ensures.trace) c.in_ok-trace.ensures.trace (c.as_slice-2.ensures ∙ c.in_ok-made.ensures.weights) c.in_ok-weights.ensures c.in_ok-table.ensures.of
+
+pub returns-clause-units : goal.returns-clause-units
+returns-clause-units c =
+    few_units c.args.seed c.args.unit c.as_slice.result.now c.in_ok-trace.trace c.in_ok-table.table (c.as_slice.ensures ∙ c.in_ok-made.ensures.trace) c.in_ok-trace.ensures.trace
+    c.requires.some c.in_ok-trace.ensures.fits c.in_ok-table.ensures.of
 
 pub returns-clause-least : goal.returns-clause-least
 returns-clause-least c = λ k d lt. (made_range c.args.seed c.as_slice.result.now c.as_slice-2.result.now c.in_ok-trace.trace c.in_ok-weights.weights (c.as_slice.ensures ∙ c.in_ok-made.ensures.trace) c.in_ok-trace.ensures.trace (c.as_slice-2.ensures ∙ c.in_ok-made.ensures.weights) c.in_ok-weights.ensures k d lt).0

@@ -2,13 +2,13 @@ use Rattle.std.proofs.Common.{ℕ, ◌≡◌, ◌∙◌, List, ap, refl}
 use Rattle.text_fields.specs.Numbers.{capped, number}
 use Rattle.command_words.specs.Words.{said_by}
 use Rattle.sincronia_cli.proofs.MadePlan.{made_of, read_is_planned, read_is_sound, seed_is}
-use Rattle.sincronia_cli.proofs.PlanLengths.{made_report_short}
+use Rattle.sincronia_cli.proofs.PlanLengths.{few_units_short}
 use Rattle.sincronia_cli.proofs.making.make_workload.Goals as goal
 
 pub read_back-requires-clause-few : goal.read_back-requires-clause-few
 read_back-requires-clause-few c =
-    made_report_short c.in-Some.seed c.args.words.unit c.in_ok-input.input.table c.in_ok-input.input.weights c.as_slice.result.now c.deref.result.now c.in_ok-planned.planned
-    c.requires.some c.in_ok-input.ensures.gives c.in_ok-input.ensures.table c.in_ok-planned.ensures.report c.in_ok-planned.ensures.small c.in_ok-planned.ensures.plan (c.deref.ensures.value ∙ c.in_ok-text.ensures.text)
+    few_units_short c.in_ok-input.input.table c.as_slice.result.now c.deref.result.now c.in_ok-planned.planned c.in_ok-input.ensures.table c.in_ok-input.ensures.units
+    c.in_ok-planned.ensures.report c.in_ok-planned.ensures.small c.in_ok-planned.ensures.plan (c.deref.ensures.value ∙ c.in_ok-text.ensures.text)
 
 pub read_back-requires-clause-written : goal.read_back-requires-clause-written
 read_back-requires-clause-written c = (c.in_ok-planned.planned, record { report = c.in_ok-planned.ensures.report; small = c.in_ok-planned.ensures.small; text = c.deref.ensures.value ∙ c.in_ok-text.ensures.text })
