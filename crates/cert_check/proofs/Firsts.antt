@@ -17,7 +17,7 @@ use Rattle.cert_check.specs.declared.verdict.Reason.{Reason}
 use Rattle.cert_check.specs.declared.verdict.Reason.TheVariants.{BoundTooHigh, ClashIn, CostWrong, DoneWrong, Infeasible, NoFlow, NotPermutation, PortRange, RatioBroken, SlackWrong, UnitsOf, WeightWrong}
 use Rattle.cert_check.specs.Parts.{HasSoundCertificate, IsFirstFrom, reason_for}
 use Rattle.cert_check.specs.Places.{IsFirstWrong, NamesEach, certificate_in, coflows_in, ends_in, ids_in}
-use Rattle.cert_check.specs.Reasons.{HasReason, IsFirstReason, kind}
+use Rattle.cert_check.specs.Reasons.{HasReason, IsFirstReason, certificate_kind, kind, schedule_kind}
 use Rattle.cert_check.specs.Stated.{AreReal, AreRealIfAny, IsLeastWrong}
 use Rattle.cert_check.proofs.Refusals.{clear_names, no_bad_port, no_clash, no_infeasible, no_miscount, no_stranger, no_wrong_number, no_wrong_place, no_wrong_weight}
 
@@ -42,7 +42,7 @@ module _ (i : Instance) (ids : List ℕ) (r : Report) where
   before_budgets ports weights (WeightWrong coflow stated real) low high has = no_wrong_weight (coflows_in ids r.places) r.weights i.weight coflow stated real weights has
   before_budgets ports weights _ low high has = absurd (omega arith)
 
-  pub first_infeasible : (coflow : ℕ) → PortsAre → WeightsAre → IsLeastInfeasible i.flows i.weight (certificate_in ids r.places) coflow → IsFirstFrom i ids r 1 (Infeasible coflow)
+  pub first_infeasible : (coflow : ℕ) → PortsAre → WeightsAre → IsLeastInfeasible i.flows i.weight (certificate_in ids r.places) coflow → IsFirstFrom i ids r certificate_kind (Infeasible coflow)
   first_infeasible coflow ports weights least = record { holds = least; first = before_budgets ports weights }
 
   before_bounds : PortsAre → WeightsAre → IsFeasible i.flows i.weight (certificate_in ids r.places) → (other : Reason) → 1 ≤ kind other → kind other < 4 → HasReason i ids r other → ⊥
@@ -52,7 +52,7 @@ module _ (i : Instance) (ids : List ℕ) (r : Report) where
     | inr le ↦ absurd (omega arith)
   ]
 
-  pub first_high_bound : (real : ℕ) → PortsAre → WeightsAre → IsFeasible i.flows i.weight (certificate_in ids r.places) → real ≡ bound i.flows (certificate_in ids r.places) → real < r.bound → IsFirstFrom i ids r 1 (BoundTooHigh r.bound real)
+  pub first_high_bound : (real : ℕ) → PortsAre → WeightsAre → IsFeasible i.flows i.weight (certificate_in ids r.places) → real ≡ bound i.flows (certificate_in ids r.places) → real < r.bound → IsFirstFrom i ids r certificate_kind (BoundTooHigh r.bound real)
   first_high_bound real ports weights feasible is high = record { holds = (refl, is, high); first = before_bounds ports weights feasible }
 
   before_slack : PortsAre → WeightsAre → IsFeasible i.flows i.weight (certificate_in ids r.places) → r.bound ≤ bound i.flows (certificate_in ids r.places) → (other : Reason) → 1 ≤ kind other → kind other < 5 → HasReason i ids r other → ⊥
@@ -63,12 +63,12 @@ module _ (i : Instance) (ids : List ℕ) (r : Report) where
   ]
 
   pub first_wrong_slack : (real : ℕ) → PortsAre → WeightsAre → IsFeasible i.flows i.weight (certificate_in ids r.places) → r.bound ≤ bound i.flows (certificate_in ids r.places) → real ≡ slack i.flows i.weight (certificate_in ids r.places) → r.slack ≢ real →
-      IsFirstFrom i ids r 1 (SlackWrong r.slack real)
+      IsFirstFrom i ids r certificate_kind (SlackWrong r.slack real)
   first_wrong_slack real ports weights feasible within is differ = record { holds = (refl, is, differ); first = before_slack ports weights feasible within }
 
   -- ---- from the slots on
 
-  pub first_fault : (found : ScheduleFault) → IsFirstFault i.flows (slots_in r.runs) (Some found) → IsFirstFrom i ids r 6 (reason_for found)
+  pub first_fault : (found : ScheduleFault) → IsFirstFault i.flows (slots_in r.runs) (Some found) → IsFirstFrom i ids r schedule_kind (reason_for found)
   first_fault (fault.NoFlow slot flow) first = record { holds = first; first = λ other low high has. omega arith }
   first_fault (fault.Clash slot port) first = record { holds = first; first = before_clash first }
     where
@@ -88,7 +88,7 @@ module _ (i : Instance) (ids : List ℕ) (r : Report) where
   before_ends valid (UnitsOf flow have want) low high has = no_miscount i.flows (slots_in r.runs) flow have want valid has
   before_ends valid _ low high has = absurd (omega arith)
 
-  pub first_wrong_end : (coflow said is : ℕ) → IsValid i.flows (slots_in r.runs) → IsLeastWrong (coflows_in ids r.places) (ends_in r.places) (completion i.flows (slots_in r.runs)) coflow said is → IsFirstFrom i ids r 6 (DoneWrong coflow said is)
+  pub first_wrong_end : (coflow said is : ℕ) → IsValid i.flows (slots_in r.runs) → IsLeastWrong (coflows_in ids r.places) (ends_in r.places) (completion i.flows (slots_in r.runs)) coflow said is → IsFirstFrom i ids r schedule_kind (DoneWrong coflow said is)
   first_wrong_end coflow said is valid least = record { holds = least; first = before_ends valid }
 
   before_cost : IsValid i.flows (slots_in r.runs) → EndsAre → (other : Reason) → 6 ≤ kind other → kind other < 10 → HasReason i ids r other → ⊥
@@ -98,7 +98,7 @@ module _ (i : Instance) (ids : List ℕ) (r : Report) where
     | inr le ↦ absurd (omega arith)
   ]
 
-  pub first_wrong_cost : (real : ℕ) → IsValid i.flows (slots_in r.runs) → EndsAre → real ≡ cost i.flows i.weight i.coflows (slots_in r.runs) → r.cost ≢ real → IsFirstFrom i ids r 6 (CostWrong r.cost real)
+  pub first_wrong_cost : (real : ℕ) → IsValid i.flows (slots_in r.runs) → EndsAre → real ≡ cost i.flows i.weight i.coflows (slots_in r.runs) → r.cost ≢ real → IsFirstFrom i ids r schedule_kind (CostWrong r.cost real)
   first_wrong_cost real valid ends is differ = record { holds = (refl, is, differ); first = before_cost valid ends }
 
   before_ratio : IsValid i.flows (slots_in r.runs) → EndsAre → r.cost ≡ cost i.flows i.weight i.coflows (slots_in r.runs) → (other : Reason) → 6 ≤ kind other → kind other < 11 → HasReason i ids r other → ⊥
@@ -108,7 +108,7 @@ module _ (i : Instance) (ids : List ℕ) (r : Report) where
     | inr le ↦ absurd (omega arith)
   ]
 
-  pub first_broken_ratio : IsValid i.flows (slots_in r.runs) → EndsAre → r.cost ≡ cost i.flows i.weight i.coflows (slots_in r.runs) → 4 * r.bound + r.slack < r.cost → IsFirstFrom i ids r 6 (RatioBroken r.cost (4 * r.bound + r.slack))
+  pub first_broken_ratio : IsValid i.flows (slots_in r.runs) → EndsAre → r.cost ≡ cost i.flows i.weight i.coflows (slots_in r.runs) → 4 * r.bound + r.slack < r.cost → IsFirstFrom i ids r schedule_kind (RatioBroken r.cost (4 * r.bound + r.slack))
   first_broken_ratio valid ends is above = record { holds = (refl, refl, above); first = before_ratio valid ends is }
 
   -- ---- the whole certificate
@@ -126,7 +126,7 @@ module _ (i : Instance) (ids : List ℕ) (r : Report) where
   first_wrong_place place wrong = record { holds = wrong; first = λ other high has. omega arith }
 
   -- a reason of the certificate is the first of all where the coflows are named
-  pub first_of_certificate : (reason : Reason) → NamesEach (length ids) (coflows_in ids r.places) → IsFirstFrom i ids r 1 reason → IsFirstReason i ids r reason
+  pub first_of_certificate : (reason : Reason) → NamesEach (length ids) (coflows_in ids r.places) → IsFirstFrom i ids r certificate_kind reason → IsFirstReason i ids r reason
   first_of_certificate reason names from_ports = record {
     holds = from_ports.holds;
     first = λ other high has. elim (cases_lt (kind other) 1) [
@@ -136,7 +136,7 @@ module _ (i : Instance) (ids : List ℕ) (r : Report) where
   }
 
   -- a reason of the schedule is the first of all where the certificate is right
-  pub first_of_schedule : (reason : Reason) → NamesEach (length ids) (coflows_in ids r.places) → HasSoundCertificate i ids r → IsFirstFrom i ids r 6 reason → IsFirstReason i ids r reason
+  pub first_of_schedule : (reason : Reason) → NamesEach (length ids) (coflows_in ids r.places) → HasSoundCertificate i ids r → IsFirstFrom i ids r schedule_kind reason → IsFirstReason i ids r reason
   first_of_schedule reason names certificate from_slots = record {
     holds = from_slots.holds;
     first = λ other high has. elim (cases_lt (kind other) 6) [

@@ -20,6 +20,7 @@ struct Line {
     megabytes: u64,
 }
 
+/// The line of such a coflow in a trace. Its locations are at most 2, and it moves at most 1000 megabytes.
 fn coflow_line(rt: &impl Abort, alloc: Global, line: Line) -> Result<CoflowLine, NoMemory>
     ensures limits { IfOk result (IsCoflowLine 2) }
     ensures id { IfOk result (λ coflow. coflow.id ≡ line.id) }
@@ -89,6 +90,7 @@ fn verdict_of(
     Ok(verdict)
 }
 
+/// A coflow of this id that moves these megabytes from one location to another.
 fn coflow(id: u32, from: u32, to: u32, megabytes: u64) -> Line {
     Line {
         id,
@@ -103,6 +105,7 @@ fn shared() -> [Line; 2] {
     [coflow(1, 0, 1, 3), coflow(2, 0, 1, 1)]
 }
 
+/// The ingress port with this number.
 fn ingress(number: u32) -> Port {
     Port {
         side: Side::Ingress,
@@ -110,6 +113,7 @@ fn ingress(number: u32) -> Port {
     }
 }
 
+/// The egress port with this number.
 fn egress(number: u32) -> Port {
     Port {
         side: Side::Egress,
@@ -142,10 +146,13 @@ fn expect(
     Ok(())
 }
 
+/// The place lines of the right report of two coflows.
 const PLACES: &str = "place 1 2 in 0 733007751851 1\nplace 2 1 in 0 366503875925 4\n";
 
+/// Its bound, slack and cost.
 const TOTALS: &str = "bound 5\nslack 1\ncost 5\n";
 
+/// Its runs.
 const RUNS: &str = "run 1 1\nrun 3 0\n";
 
 /// A right report, and one edit of what it states after another.

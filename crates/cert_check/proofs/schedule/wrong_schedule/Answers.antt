@@ -5,6 +5,7 @@ use Rattle.schedule_model.specs.RunList.{slots_in}
 use Rattle.schedule_model.proofs.ValidSteps.{valid_names}
 use Rattle.cert_check.specs.Places.{ends_in}
 use Rattle.cert_check.specs.Parts.{IsFirstFrom}
+use Rattle.cert_check.specs.Reasons.{schedule_kind}
 use Rattle.cert_check.specs.Stated.{AreReal, IsLeastWrong}
 use Rattle.flow_table.specs.Table.{instance_of}
 use Rattle.cert_check.proofs.EndFacts.{cost_along, count_of, ends_are, fault_along, least_along, real_along, valid_along}
@@ -15,7 +16,7 @@ pub returns-in-Some : goal.returns-in-Some
 returns-in-Some c =
     let slots : c.in_ok-schedule.schedule ≡ slots_in c.args.report.now.runs = c.in_ok-schedule.ensures ∙ ap slots_in c.as_slice.ensures in
     let first = fault_along c.args.table.now.flows c.flows-flows.result.now (slots_in c.args.report.now.runs) c.in_ok-schedule.schedule c.in_ok-fault.field-0 (Some c.in-Some.fault) c.flows-flows.ensures.flows slots c.in-Some.is c.in_ok-fault.ensures.first in
-    subst (IsFirstFrom (instance_of c.args.table.now c.args.weights.now) c.args.table.now.ids c.args.report.now 6) (sym c.reason_of.ensures) (first_fault (instance_of c.args.table.now c.args.weights.now) c.args.table.now.ids c.args.report.now c.in-Some.fault first)
+    subst (IsFirstFrom (instance_of c.args.table.now c.args.weights.now) c.args.table.now.ids c.args.report.now schedule_kind) (sym c.reason_of.ensures) (first_fault (instance_of c.args.table.now c.args.weights.now) c.args.table.now.ids c.args.report.now c.in-Some.fault first)
 
 pub completions-requires : goal.completions-requires
 completions-requires c =
