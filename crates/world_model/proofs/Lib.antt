@@ -1,0 +1,11 @@
+pub mod Totals
+pub mod Within
+pub mod PortSteps
+pub mod SendSteps
+pub mod OpenSteps
+pub mod CloseSteps
+pub mod Legality
+pub mod Credits
+pub mod Events
+pub mod LawfulWorlds
+pub mod RowChecks
