@@ -20,10 +20,18 @@ use Rattle.world_model.specs.Sent.{sent_for}
 use Rattle.world_model.specs.World.{WorldFacts, port_at, run_of}
 use Rattle.world_model.specs.Guards.{can}
 
+-- the reply opens a run
+abbrev pub is_opened : Reply → Bool
+is_opened (Opened slot slots count) = true
+is_opened reply = false
+
+-- the ports with nothing settled
+abbrev pub cleared : List PortFacts → List PortFacts
+cleared xs = map (λ (x : PortFacts). record x { settled = None }) xs
+
 -- where a run is opened, nothing is settled for it yet
 abbrev pub ports_after : List PortFacts → Reply → List PortFacts
-ports_after xs (Opened slot slots count) = map (λ (x : PortFacts). record x { settled = None }) xs
-ports_after xs reply = xs
+ports_after xs reply = if is_opened reply then cleared xs else xs
 
 -- the master answers a command
 abbrev pub asks : WorldFacts → ℕ → Command → WorldFacts

@@ -5,7 +5,9 @@ mod event;
 pub mod laws;
 mod port;
 mod sent;
+mod world;
 
 pub use event::{Event, Happened};
 pub use port::{PortState, Stage};
 pub use sent::SentRun;
+pub use world::World;

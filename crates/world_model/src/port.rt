@@ -1,6 +1,6 @@
 //! An ingress port of a world: its word, its count, and what was settled.
 ghost use Rattle.std.specs.Prelude.{◌≡◌, Some};
-ghost use Rattle.coflow_units.specs.PortWord.{FitsWord, word_of};
+ghost use Rattle.coflow_units.specs.PortWord.{FitsWord, is_drawn_by, is_granted, word_of};
 ghost use Rattle.world_model.specs.Port.{answered_by, idle_port, port_of, settled_by, stage_of};
 
 use crate::event::Happened;
@@ -45,6 +45,26 @@ impl PortState {
             stage: Stage::Unposted,
             count: 0,
             settled: None,
+        }
+    }
+
+    /// Whether the last post waits for an agent.
+    pub fn is_granted(&self) -> bool
+        ensures { result ≡ is_granted (stage_of self.now.stage) }
+    {
+        match self.stage {
+            Stage::Granted => true,
+            Stage::Unposted | Stage::Drawn(_) | Stage::Reported { .. } | Stage::TakenBack => false,
+        }
+    }
+
+    /// Whether this agent drew the last post and has not reported.
+    pub fn is_drawn_by(&self, agent: u32) -> bool
+        ensures { result ≡ is_drawn_by agent (stage_of self.now.stage) }
+    {
+        match self.stage {
+            Stage::Drawn(drawer) => drawer == agent,
+            Stage::Unposted | Stage::Granted | Stage::Reported { .. } | Stage::TakenBack => false,
         }
     }
 
