@@ -7,5 +7,6 @@ pub mod CloseSteps
 pub mod Legality
 pub mod Credits
 pub mod Events
+pub mod Fields
 pub mod LawfulWorlds
 pub mod RowChecks

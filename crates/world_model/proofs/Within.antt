@@ -33,7 +33,7 @@ mine_fits slots mine count settled (drawn a) h = h.2
 mine_fits slots mine count settled (reported a n) h = h.2
 mine_fits slots mine count settled taken_back h = omega (arith, h.1)
 
-stage_fits : (r : Run) (grant : Option ℕ) (mine : ℕ) (x : PortFacts) → IsAtStage r grant mine x → mine ≤ r.slots
+pub stage_fits : (r : Run) (grant : Option ℕ) (mine : ℕ) (x : PortFacts) → IsAtStage r grant mine x → mine ≤ r.slots
 stage_fits r grant mine x (inl h) = omega (arith, h.3)
 stage_fits r grant mine x (inr h) = mine_fits r.slots mine x.count x.settled x.stage h.2
 

@@ -167,10 +167,10 @@ impl World {
             units,
             port,
         };
-        match self.sent.push(run) {
-            Ok(()) => Happened::Sent,
-            Err(_) => Happened::NoMemory,
-        }
+        let Ok(()) = self.sent.push(run) else {
+            return Happened::NoMemory;
+        };
+        Happened::Sent
     }
 
     fn report(&mut self, agent: u32, port: u32) -> Happened
@@ -271,7 +271,8 @@ impl World {
 
     /// Whether a run is open and each port is done with it.
     fn can_close(&self) -> bool
-        ensures { result ≡ can self.now Close }
+        ensures may { result ≡ can self.now Close }
+        ensures kept { IsWorld self.now }
     {
         let Some(slots) = self.master.open_slots() else {
             return false;
