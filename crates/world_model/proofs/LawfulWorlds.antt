@@ -1,5 +1,6 @@
 -- What holds of a world that has what every step keeps.
-use Rattle.std.proofs.Common.{◌≡◌, ℕ, ◌+◌, ◌≤◌, ◌<◌, ◌⊎◌, inl, inr, List, [], ◌∷◌, ◌++◌, Contains, length, refl, sym, ap, subst, ◌∙◌, arith, Option, Some}
+use Rattle.std.proofs.Common.{◌≡◌, ℕ, ◌+◌, ◌≤◌, ◌<◌, ◌⊎◌, inl, inr, List, [], ◌∷◌, ◌++◌, Contains, length, get_or, take, refl, sym, ap, subst, ◌∙◌, arith, Option, Some}
+use Rattle.std.proofs.lemmas.List.{take_more}
 use Rattle.coflow_units.specs.declared.fabric.Flow.{Flow}
 use Rattle.coflow_units.specs.Flows.{coflow_of}
 use Rattle.coflow_units.specs.Grants.{ComesBefore, IsBlocked, IsGrants, place_in}
@@ -19,7 +20,7 @@ use Rattle.world_model.specs.declared.event.Event.{Event}
 use Rattle.world_model.specs.declared.sent.SentRun.{SentRun}
 use Rattle.world_model.specs.Sent.{sent_in}
 use Rattle.world_model.specs.World.{WorldFacts, new_world}
-use Rattle.world_model.specs.Steps.{world_of}
+use Rattle.world_model.specs.Steps.{world_after, world_of}
 use Rattle.world_model.specs.Credited.{CreditsSent, IsCredited}
 use Rattle.world_model.specs.Lawful.{ClosesAsSent, IsLegalWorld, IsWorld, OpensGrants, OpensPatiently, SendsOnce, SendsWithin}
 use Rattle.world_model.proofs.Within.{kept_within}
@@ -77,3 +78,16 @@ opens_patiently w = λ before more e slot slots count r is reply run f lt in' ow
 -- a list of steps from a new world
 pub played : (o : Opening) (agents : ℕ) (events : List Event) → IsOpening o → IsWorld (world_of (new_world o agents) events)
 played o agents events ok = steps_keep (new_world o agents) events (new_is_world o agents ok)
+
+-- one step more
+one_more : (w : WorldFacts) (es : List Event) (e : Event) → world_of w (es ++ e ∷ []) ≡ world_after (world_of w es) e
+one_more w [] e = refl
+one_more w (x ∷ xs) e = one_more (world_after w x) xs e
+
+-- one step more of a list
+pub goes_on : (v w w' : WorldFacts) (es : List Event) (k : ℕ) (d : Event) → k < length es → w ≡ world_of v (take k es) → w' ≡ world_after w (get_or es k d) → w' ≡ world_of v (take (k + 1) es)
+goes_on v w w' es k d lt is went =
+    went ∙ ap (λ (u : WorldFacts). world_after u (get_or es k d)) is ∙ sym (one_more v (take k es) (get_or es k d)) ∙ ap (world_of v) (sym (take_more es k d lt))
+
+pub was_played : (w v : WorldFacts) (es : List Event) → IsWorld v → w ≡ world_of v es → IsWorld w
+was_played w v es h is = subst IsWorld (sym is) (steps_keep v es h)

@@ -69,7 +69,7 @@ impl PortState {
     }
 
     /// The word that the port shows: its stage, 0 where it is idle, and slot and flow of the last post. The slot is below 2^41, and the flow below 2^20.
-    pub fn word(&self) -> u64
+    fn word(&self) -> u64
         requires { FitsWord self.now.slot self.now.flow }
         ensures { result ≡ word_of (stage_of self.now.stage) self.now.slot self.now.flow }
     {

@@ -3,13 +3,14 @@ ghost use Rattle.std.specs.Prelude.{◌≡◌, ◌≢◌, ℕ, ◌<◌, true, fa
 ghost use Rattle.coflow_units.specs.PortWord.{is_drawn_by};
 ghost use Rattle.master_core.specs.declared.command.Command.TheVariants.{Short};
 ghost use Rattle.master_core.specs.Answer.{reply_of};
-ghost use Rattle.master_core.specs.Journal.{IsLegal};
+ghost use Rattle.master_core.specs.Fold.{state_of};
 ghost use Rattle.master_core.specs.Runs.{slots_of};
 ghost use Rattle.master_core.specs.Standing.{IsInRange};
 ghost use Rattle.world_model.specs.declared.event.Event.{Event};
 ghost use Rattle.world_model.specs.declared.event.Event.TheVariants.{Ask, Post, Draw, Send, Report, Settle, Note, Close};
 ghost use Rattle.world_model.specs.Port.{PortFacts, port_of, ports_of};
 ghost use Rattle.world_model.specs.World.{WorldFacts, new_world, port_at, run_of};
+ghost use Rattle.world_model.specs.Kept.{IsPort};
 ghost use Rattle.world_model.specs.Guards.{can, in_run, is_done, is_free};
 ghost use Rattle.world_model.specs.Steps.{asks, cleared, happened, is_full_answer, is_opened, is_send, world_after, world_of};
 ghost use Rattle.world_model.specs.Lawful.{ClosesAsSent, IsLegalWorld, IsWorld, OpensGrants, OpensPatiently, SendsOnce, SendsWithin};
@@ -48,7 +49,8 @@ impl World {
     /// A world of this master, whose journal is empty, and of so many agents. Nothing is posted and nothing sent. The error is want of memory.
     pub fn new(alloc: Global, master: Master, agents: u32) -> Result<World, NoMemory>
         requires { master.journal ≡ [] }
-        ensures { IfOk result (λ w. w ≡ new_world master.opening agents) }
+        ensures world { IfOk result (λ w. w ≡ new_world master.opening agents) }
+        ensures kept { IfOk result (λ w. IsWorld w) }
     {
         prove!(master.journal().is_empty());
         let ports = vec![in alloc; PortState::idle(); master.table().ports() as usize]?;
@@ -83,6 +85,79 @@ impl World {
             Event::Note { port } => self.note(port),
             Event::Close => self.close(),
         }
+    }
+
+    /// The world after a list of steps from a new one, of this master, whose journal is empty, and of so many agents. A step that may not be taken is passed over. The error is want
+    /// of memory.
+    ///
+    /// Whatever the steps are: the journal is legal; no pair of a slot and a flow was sent twice, and no flow more often than it has units; each closing credited to each flow what was
+    /// sent for it in the run; each opening granted the grants of its line, so that a flow of the line waits only for a coflow no later in it.
+    pub fn play(
+        alloc: Global,
+        master: Master,
+        agents: u32,
+        events: &[Event],
+    ) -> Result<World, NoMemory>
+        requires { master.journal ≡ [] }
+        ensures world { IfOk result (λ w. w ≡ world_of (new_world master.opening agents) events.now) }
+        ensures legal { IfOk result (λ w. IsLegalWorld w) }
+        ensures once { IfOk result (λ w. SendsOnce w) }
+        ensures within { IfOk result (λ w. SendsWithin w) }
+        ensures credited { IfOk result (λ w. ClosesAsSent w) }
+        ensures granted { IfOk result (λ w. OpensGrants w) }
+        ensures patient { IfOk result (λ w. OpensPatiently w) }
+    {
+        let mut world = World::new(alloc, master, agents)?;
+        for event in events {
+            if let Happened::NoMemory = world.step(*event) {
+                return Err(NoMemory);
+            }
+        }
+        Ok(world)
+    }
+
+    /// The master.
+    pub fn master(&self) -> &Master
+        ensures opening { result.now.opening ≡ self.now.opening }
+        ensures journal { result.now.journal ≡ self.now.journal }
+    {
+        &self.master
+    }
+
+    /// The master's journal, with what it says beside the runs that were sent.
+    pub fn journal(&self) -> &[Entry]
+        ensures journal { result.now ≡ self.now.journal }
+        ensures legal { IsLegalWorld self.now }
+        ensures credited { ClosesAsSent self.now }
+        ensures granted { OpensGrants self.now }
+        ensures patient { OpensPatiently self.now }
+    {
+        self.master.journal()
+    }
+
+    /// How many agents there are; their numbers are those below.
+    pub fn agents(&self) -> u32
+        ensures { result ≡ self.now.agents }
+    {
+        self.agents
+    }
+
+    /// An ingress port: the stage of its last post, its count, and what is settled for it. The master's table tells the number of ports.
+    pub fn port(&self, port: u32) -> PortState
+        requires { port < self.now.opening.table.ports }
+        ensures port { port_of result ≡ port_at self.now port }
+        ensures stage { IsPort self.now.opening.table.flows (state_of self.now.opening self.now.journal).next (run_of self.now) self.now.sent port (port_of result) }
+    {
+        self.ports[port as usize]
+    }
+
+    /// The runs that agents sent, the first first.
+    pub fn sent(&self) -> &[SentRun]
+        ensures sent { result.now ≡ self.now.sent }
+        ensures once { SendsOnce self.now }
+        ensures within { SendsWithin self.now }
+    {
+        &self.sent
     }
 
     fn ask(&mut self, who: u32, command: Command) -> Happened
