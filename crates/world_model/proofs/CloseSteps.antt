@@ -1,25 +1,20 @@
 -- A run is closed.
-use Rattle.std.proofs.Common.{◌≡◌, ℕ, ◌+◌, ◌-◌, ◌≤◌, ◌<◌, inl, inr, Bool, true, false, List, [], ◌∷◌, ◌++◌, length, map, get_or, Contains, refl, sym, ap, subst, ◌∙◌, arith, zero, suc, Option, Some, None, unwrap_or, is_some, is_none, length-set, true≢false, get_or-set_same, get_or-set_other, min, max}
-use Rattle.std.specs.Prelude.{if◌then◌else◌, nat_lt, ◌==◌, ◌&&◌, not, All, slice_set}
-use Rattle.std.proofs.lemmas.Bool.{and_from, and_parts, cases_Bool, cases_eq, eqb-true, eqb-false, eq-eqb, ne_eqb, ltb-false}
-use Rattle.std.proofs.lemmas.List.{length-map}
-use Rattle.std.proofs.lemmas.List.Elements.{All-push}
-use Rattle.std.proofs.lemmas.List.Quantifiers.{all_pairs_push}
-use Rattle.coflow_units.specs.declared.fabric.Flow.{Flow}
-use Rattle.coflow_units.specs.Flows.{ingress_of, units_of}
-use Rattle.coflow_units.specs.PortWord.{PortStage, is_drawn_by, is_granted}
+use Rattle.std.proofs.Common.{◌≡◌, ℕ, ◌+◌, ◌≤◌, ◌<◌, inl, inr, Bool, true, false, List, get_or, refl, sym, ap, subst, ◌∙◌, arith, Option, Some, None, unwrap_or, is_some, is_none, true≢false}
+use Rattle.std.specs.Prelude.{if◌then◌else◌, nat_lt, ◌==◌, ◌&&◌}
+use Rattle.std.proofs.lemmas.Bool.{and_parts, cases_Bool, ltb-false}
+use Rattle.coflow_units.specs.Flows.{ingress_of}
+use Rattle.coflow_units.specs.PortWord.{PortStage}
 use Rattle.coflow_units.specs.PortWord.PortStage.{unposted, granted, drawn, reported, taken_back}
-use Rattle.coflow_units.specs.Schedule.{IsClear}
-use Rattle.coflow_units.proofs.Sums.{any_has, any_in, in_first, in_tail, first_or_tail, nothing_in}
+use Rattle.coflow_units.proofs.Sums.{any_has}
 use Rattle.master_core.specs.declared.opening.Opening.{Opening}
 use Rattle.master_core.specs.State.{Run, has}
 use Rattle.master_core.specs.Runs.{credit, grant_in, note_in}
 use Rattle.master_core.specs.Sound.{IsSound}
 use Rattle.world_model.specs.declared.sent.SentRun.{SentRun}
-use Rattle.world_model.specs.Port.{PortFacts, idle_port, settled_by}
-use Rattle.world_model.specs.Sent.{sent_for, sent_of}
+use Rattle.world_model.specs.Port.{PortFacts, idle_port}
+use Rattle.world_model.specs.Sent.{sent_for}
 use Rattle.world_model.specs.Guards.{is_done, is_short}
-use Rattle.world_model.specs.Kept.{ByStage, IsApart, IsAtStage, IsKept, IsNote, IsPort, IsSentRun, Rests, sent_now}
+use Rattle.world_model.specs.Kept.{IsAtStage, IsKept, IsNote, Rests, sent_now}
 use Rattle.world_model.proofs.PortSteps.{mkp, no_way}
 use Rattle.world_model.proofs.SendSteps.{grant_there}
 

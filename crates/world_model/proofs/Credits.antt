@@ -1,5 +1,5 @@
 -- What closings credit stays as it is when the journal and the sent runs grow.
-use Rattle.std.proofs.Common.{◌≡◌, ◌≢◌, ℕ, ◌+◌, ◌≤◌, ◌⊎◌, inl, inr, Bool, true, false, List, [], ◌∷◌, ◌++◌, refl, sym, ap, subst, ◌∙◌, arith, suc, Option, Some, None, length, min, max, ◌-◌, Contains, append-nil, true≢false}
+use Rattle.std.proofs.Common.{◌≡◌, ◌≢◌, ℕ, ◌+◌, ◌≤◌, inl, inr, Bool, true, false, List, [], ◌∷◌, ◌++◌, refl, sym, ap, subst, ◌∙◌, arith, suc, Option, Some, None, Contains, append-nil}
 use Rattle.std.specs.Prelude.{if◌then◌else◌, ◌==◌, ◌&&◌, nat_le, nat_lt, All, AllPairs}
 use Rattle.std.proofs.lemmas.Bool.{and_parts, cases_Bool, cases_eq, eq-eqb, eqb-true, leb-true, ltb-true, ne_eqb}
 use Rattle.coflow_units.specs.declared.fabric.Flow.{Flow}
@@ -12,12 +12,11 @@ use Rattle.master_core.specs.declared.command.Reply.{Reply}
 use Rattle.master_core.specs.declared.command.Reply.TheVariants.{Closed}
 use Rattle.master_core.specs.declared.opening.Opening.{Opening}
 use Rattle.master_core.specs.State.{Run, State, has}
-use Rattle.master_core.specs.Runs.{credit, grant_in}
 use Rattle.master_core.specs.Fold.{after, start, state_from, state_of}
 use Rattle.master_core.specs.Journal.{entry, is_full, journal_after}
 use Rattle.master_core.specs.Answer.{reply_of}
 use Rattle.world_model.specs.declared.sent.SentRun.{SentRun}
-use Rattle.world_model.specs.Sent.{sends, sent_for, sent_in, sent_of, slots_within, times_sent}
+use Rattle.world_model.specs.Sent.{sends, sent_for, sent_in, slots_within, times_sent}
 use Rattle.world_model.specs.Kept.{IsApart, IsSentRun, sent_now}
 use Rattle.world_model.specs.Credited.{CreditedFrom, CreditsSent, IsCredited}
 use Rattle.world_model.proofs.SendSteps.{both_true, grant_has}

@@ -1,15 +1,14 @@
 -- Each step keeps what must hold of a world.
-use Rattle.std.proofs.Common.{◌≡◌, ℕ, ◌+◌, ◌-◌, ◌≤◌, ◌<◌, Bool, true, false, List, [], ◌∷◌, ◌++◌, length, min, max, get_or, replicate, refl, sym, ap, subst, ◌∙◌, arith, zero, suc, Option, Some, None, unwrap_or, is_some, is_none, inl, inr}
+use Rattle.std.proofs.Common.{◌≡◌, ℕ, ◌≤◌, ◌<◌, Bool, true, false, List, [], ◌∷◌, ◌++◌, length, min, max, get_or, replicate, refl, sym, ap, subst, ◌∙◌, arith, zero, suc, Option, Some, None, unwrap_or, is_some, is_none, inl, inr}
 use Rattle.std.specs.Prelude.{if◌then◌else◌, nat_lt, nat_le, slice_index_or, ◌==◌, ◌&&◌, not, slice_set}
 use Rattle.std.specs.List.{list_all, range_with_len}
 use Rattle.std.proofs.lemmas.Bool.{and_parts, cases_lt, eqb-true, leb-true, ltb-true}
 use Rattle.std.proofs.lemmas.List.FromFn.{get_or-range_with_len, length-range_with_len}
 use Rattle.std.proofs.lemmas.List.Sums.{AllPass-from_list_all}
 use Rattle.coflow_units.specs.declared.fabric.Flow.{Flow}
-use Rattle.coflow_units.specs.Flows.{Instance, ingress_of, units_of}
+use Rattle.coflow_units.specs.Flows.{Instance, ingress_of}
 use Rattle.coflow_units.specs.PortWord.{PortStage, is_drawn_by, is_granted}
 use Rattle.coflow_units.specs.PortWord.PortStage.{drawn, reported}
-use Rattle.flow_table.specs.Table.{IsTable}
 use Rattle.master_core.specs.declared.command.Command.{Command}
 use Rattle.master_core.specs.declared.command.Command.TheVariants.{Register, Withdraw, Publish, Pull, Open, Short, Skip, Reweigh}
 use Rattle.master_core.specs.declared.command.Command.TheVariants.{Close as CloseRun}
@@ -19,7 +18,7 @@ use Rattle.master_core.specs.declared.command.Entry.{Entry}
 use Rattle.master_core.specs.declared.opening.Opening.{Opening}
 use Rattle.master_core.specs.State.{has, is_present, IsOpening, Run, slot_end, State}
 use Rattle.master_core.specs.Line.{owing, rank, version}
-use Rattle.master_core.specs.Runs.{credit, grant_in, granted, slots_for}
+use Rattle.master_core.specs.Runs.{grant_in, granted, slots_for}
 use Rattle.master_core.specs.Fold.{after, noted_in, state_of}
 use Rattle.master_core.specs.Answer.{answer, in_range, noted, reply_of, room}
 use Rattle.master_core.specs.Journal.{journal_after}
@@ -34,7 +33,7 @@ use Rattle.world_model.specs.Sent.{sent_for}
 use Rattle.world_model.specs.World.{WorldFacts, new_world, port_at, run_of}
 use Rattle.world_model.specs.Guards.{can, in_run, is_done, is_free, is_posted, is_short}
 use Rattle.world_model.specs.Steps.{asks, moved, ports_after, posted, run_sent, sent_at, settled_note, world_after, world_of}
-use Rattle.world_model.specs.Kept.{IsKept, IsPort, KeepsWorld, sent_now}
+use Rattle.world_model.specs.Kept.{IsKept, IsPort, KeepsWorld}
 use Rattle.world_model.specs.Credited.{CreditsSent, IsCredited}
 use Rattle.world_model.specs.Lawful.{IsLegalWorld, IsWorld}
 use Rattle.world_model.proofs.PortSteps.{draw_ok, is_some_value, kept_port, mkp, no_way, post_ok, report_ok, settle_ok}

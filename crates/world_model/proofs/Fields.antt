@@ -1,15 +1,14 @@
 -- What the fields of a world tell of it, and how the world changes with them.
-use Rattle.std.proofs.Common.{◌≡◌, ◌≢◌, ℕ, ◌+◌, ◌-◌, ◌≤◌, ◌<◌, ◌^◌, Bool, true, false, List, [], ◌∷◌, ◌++◌, length, map, get_or, replicate, refl, sym, ap, subst, ◌∙◌, arith, zero, suc, Option, Some, None, unwrap_or, is_some, is_none, inl, inr, Contains, All}
+use Rattle.std.proofs.Common.{◌≡◌, ◌≢◌, ℕ, ◌≤◌, ◌<◌, ◌^◌, Bool, true, false, List, [], ◌∷◌, ◌++◌, length, map, get_or, replicate, refl, sym, ap, subst, ◌∙◌, arith, zero, suc, Option, Some, None, unwrap_or, is_some, is_none, inl, inr}
 use Rattle.std.specs.Prelude.{if◌then◌else◌, nat_lt, nat_le, ◌==◌, ◌&&◌, not, slice_set}
 use Rattle.std.specs.List.{list_all, range_with_len}
-use Rattle.std.proofs.lemmas.Bool.{and_from, and_parts, eq-eqb, eqb-true, ne_eqb, le-leb, lt-ltb, ltb-true}
+use Rattle.std.proofs.lemmas.Bool.{and_from, and_parts, eq-eqb, ne_eqb, le-leb, lt-ltb, ltb-true}
 use Rattle.std.proofs.lemmas.List.{get_or-map, get_or_default, length-map, map-set}
 use Rattle.std.proofs.lemmas.List.Elements.{All-contains}
 use Rattle.std.proofs.lemmas.List.FromFn.{get_or-range_with_len, length-range_with_len}
 use Rattle.std.proofs.lemmas.List.Folds.{list_all_at}
 use Rattle.std.proofs.lemmas.List.Sums.{list_all-from_AllPass}
 use Rattle.coflow_units.specs.declared.fabric.Flow.{Flow}
-use Rattle.coflow_units.specs.Flows.{ingress_of}
 use Rattle.coflow_units.specs.PortWord.{PortStage, is_drawn_by, is_granted}
 use Rattle.coflow_units.specs.PortWord.PortStage.{granted, drawn, reported}
 use Rattle.master_core.specs.declared.command.Entry.{Entry}
@@ -19,9 +18,9 @@ use Rattle.master_core.specs.State.{Run}
 use Rattle.master_core.specs.Runs.{flow_at, grant_in, slots_of}
 use Rattle.master_core.specs.Fold.{state_of}
 use Rattle.master_core.specs.Journal.{MasterFacts}
-use Rattle.master_core.specs.Sound.{IsSound, OnRun, SoundState}
+use Rattle.master_core.specs.Sound.{IsSound, OnRun}
 use Rattle.world_model.specs.declared.event.Event.{Event}
-use Rattle.world_model.specs.declared.event.Event.TheVariants.{Ask, Post, Draw, Send, Report, Settle, Note, Close}
+use Rattle.world_model.specs.declared.event.Event.TheVariants.{Post, Draw, Send, Report, Settle, Note}
 use Rattle.world_model.specs.declared.event.Happened.{Happened}
 use Rattle.world_model.specs.declared.event.Happened.TheVariants.{Blocked}
 use Rattle.world_model.specs.declared.port.Stage.TheVariants.{Granted, Drawn, Reported}
@@ -30,9 +29,9 @@ use Rattle.world_model.specs.declared.sent.SentRun.{SentRun}
 use Rattle.world_model.specs.Port.{PortFacts, answered_by, idle_port, port_of, ports_of, settled_by, stage_of}
 use Rattle.world_model.specs.Sent.{sent_for}
 use Rattle.world_model.specs.World.{WorldFacts, new_world, port_at, run_of, world_facts}
-use Rattle.world_model.specs.Guards.{can, in_run, is_done, is_posted, is_short}
+use Rattle.world_model.specs.Guards.{can, in_run, is_posted, is_short}
 use Rattle.world_model.specs.Steps.{answered, cleared, happened, moved, posted, sent_at, settled_note, with_port, world_after}
-use Rattle.world_model.specs.Kept.{IsAtStage, IsKept, IsPort}
+use Rattle.world_model.specs.Kept.{IsPort}
 use Rattle.world_model.specs.Lawful.{IsWorld}
 use Rattle.world_model.proofs.PortSteps.{mkp, no_way}
 use Rattle.world_model.proofs.SendSteps.{drawn_facts, grant_has, not_open}

@@ -1,28 +1,27 @@
 -- What holds of a world that has what every step keeps.
-use Rattle.std.proofs.Common.{◌≡◌, ℕ, ◌+◌, ◌≤◌, ◌<◌, ◌⊎◌, inl, inr, List, [], ◌∷◌, ◌++◌, Contains, length, get_or, take, refl, sym, ap, subst, ◌∙◌, arith, Option, Some}
+use Rattle.std.proofs.Common.{◌≡◌, ℕ, ◌+◌, ◌≤◌, ◌<◌, ◌⊎◌, inl, inr, List, [], ◌∷◌, ◌++◌, Contains, length, get_or, take, refl, sym, ap, subst, ◌∙◌, arith, Option, Some, None}
 use Rattle.std.proofs.lemmas.List.{take_more}
 use Rattle.coflow_units.specs.declared.fabric.Flow.{Flow}
-use Rattle.coflow_units.specs.Flows.{coflow_of}
-use Rattle.coflow_units.specs.Grants.{ComesBefore, IsBlocked, IsGrants, place_in}
+use Rattle.coflow_units.specs.Grants.{IsBlocked, IsGrants}
 use Rattle.coflow_units.specs.Patient.{IsServedOrWaits}
 use Rattle.master_core.specs.declared.command.Entry.{Entry}
 use Rattle.master_core.specs.declared.command.Reply.{Reply}
-use Rattle.master_core.specs.declared.command.Reply.TheVariants.{Closed, Opened}
+use Rattle.master_core.specs.declared.command.Reply.TheVariants.{Closed}
 use Rattle.master_core.specs.declared.opening.Opening.{Opening}
 use Rattle.master_core.specs.State.{IsOpening, Run, State, owed}
-use Rattle.master_core.specs.Runs.{credit, granted}
+use Rattle.master_core.specs.Runs.{granted}
 use Rattle.master_core.specs.Fold.{after, start, state_of}
 use Rattle.master_core.specs.Journal.{line_of}
 use Rattle.master_core.proofs.Growth.{state_snoc}
 use Rattle.master_core.proofs.Opened.{opened_grants}
-use Rattle.master_core.proofs.Sound.{legal_sound}
 use Rattle.world_model.specs.declared.event.Event.{Event}
 use Rattle.world_model.specs.declared.sent.SentRun.{SentRun}
 use Rattle.world_model.specs.Sent.{sent_in}
 use Rattle.world_model.specs.World.{WorldFacts, new_world}
 use Rattle.world_model.specs.Steps.{world_after, world_of}
+use Rattle.world_model.specs.Kept.{InTime}
 use Rattle.world_model.specs.Credited.{CreditsSent, IsCredited}
-use Rattle.world_model.specs.Lawful.{ClosesAsSent, IsLegalWorld, IsWorld, OpensGrants, OpensPatiently, SendsOnce, SendsWithin}
+use Rattle.world_model.specs.Lawful.{ClosesAsSent, IsWorld, OpensGrants, OpensPatiently, SendsInTime, SendsOnce, SendsWithin, end_of}
 use Rattle.world_model.proofs.Within.{kept_within}
 use Rattle.world_model.proofs.Credits.{credited_at, pair_once}
 use Rattle.world_model.proofs.Events.{low_of, new_is_world, sound_of, steps_keep}
@@ -34,6 +33,16 @@ pub sends_within : (w : WorldFacts) → IsWorld w → SendsWithin w
 sends_within w h = λ f.
     let s = state_of w.opening w.journal in
     kept_within w.opening.table.flows w.opening.table.ports s.sent s.next s.run w.ports w.sent (low_of w.opening h.opening) (sound_of w h) h.kept f
+
+ended : (flows : List Flow) (next : ℕ) (run : Option Run) (x : SentRun) → InTime flows next run x → x.slot + x.units ≤ end_of next run
+ended flows next None x h = h
+ended flows next (Some r) x (inl h) = omega (arith, h)
+ended flows next (Some r) x (inr h) = omega (arith, h.0, h.1)
+
+pub sends_in_time : (w : WorldFacts) → IsWorld w → SendsInTime w
+sends_in_time w h = λ k d lt.
+    let s = state_of w.opening w.journal in
+    ended w.opening.table.flows s.next s.run (get_or w.sent k d) ((h.kept.each_sent k d lt).in_time)
 
 closing_credits : (o : Opening) (sent : List SentRun) (next slot : ℕ) (s : State) (e : Entry) (r : Run) → e.reply ≡ Closed slot → s.run ≡ Some r → CreditsSent o sent next e.reply s.run → (f : ℕ) →
     (after o s e.command e.reply).sent f ≡ s.sent f + sent_in sent r f

@@ -1,10 +1,9 @@
 -- In every world that comes from a new one the journal is legal, its commands are in range, and the opening is as it was.
-use Rattle.std.proofs.Common.{◌≡◌, ℕ, Bool, true, false, List, [], ◌∷◌, ◌++◌, refl, sym, subst, arith, Option, Some, None, append-nil}
-use Rattle.std.specs.Prelude.{if◌then◌else◌, nat_lt, unwrap_or}
+use Rattle.std.proofs.Common.{◌≡◌, ℕ, Bool, true, false, List, [], ◌∷◌, ◌++◌, refl, sym, subst, Option, Some, None, append-nil}
+use Rattle.std.specs.Prelude.{if◌then◌else◌, nat_lt}
 use Rattle.std.proofs.lemmas.Bool.{and_parts}
 use Rattle.std.proofs.lemmas.List.Elements.{All-push}
 use Rattle.master_core.specs.declared.command.Command.{Command}
-use Rattle.master_core.specs.declared.command.Command.TheVariants.{Short}
 use Rattle.master_core.specs.declared.command.Command.TheVariants.{Close as CloseRun}
 use Rattle.master_core.specs.declared.command.Entry.{Entry}
 use Rattle.master_core.specs.declared.opening.Opening.{Opening}
@@ -16,7 +15,7 @@ use Rattle.master_core.specs.Sound.{InRange}
 use Rattle.master_core.proofs.Legal.{legal_after}
 use Rattle.world_model.specs.declared.event.Event.{Event}
 use Rattle.world_model.specs.declared.event.Event.TheVariants.{Ask, Post, Draw, Send, Report, Settle, Note, Close}
-use Rattle.world_model.specs.World.{WorldFacts, new_world, port_at, run_of}
+use Rattle.world_model.specs.World.{WorldFacts, port_at, run_of}
 use Rattle.world_model.specs.Guards.{can, in_run, is_free, is_short}
 use Rattle.world_model.specs.Steps.{asks, moved, posted, settled_note, world_after}
 use Rattle.world_model.specs.Lawful.{IsLegalWorld}

@@ -7,6 +7,7 @@ pub mod CloseSteps
 pub mod Legality
 pub mod Credits
 pub mod Events
+pub mod BusySteps
 pub mod Fields
 pub mod LawfulWorlds
 pub mod RowChecks

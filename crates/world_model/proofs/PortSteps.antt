@@ -1,25 +1,16 @@
 -- One port changes: a post, a draw, a report, a settling.
-use Rattle.std.proofs.Common.{◌≡◌, ℕ, ◌+◌, ◌-◌, ◌≤◌, ◌<◌, inl, inr, Bool, true, false, List, [], ◌∷◌, ◌++◌, length, map, get_or, Contains, refl, sym, ap, subst, ◌∙◌, arith, zero, suc, Option, Some, None, unwrap_or, is_some, is_none, length-set, true≢false, get_or-set_same, get_or-set_other, min, max}
-use Rattle.std.specs.Prelude.{if◌then◌else◌, nat_lt, ◌==◌, ◌&&◌, not, All, slice_set}
-use Rattle.std.proofs.lemmas.Bool.{and_from, and_parts, cases_Bool, cases_eq, eqb-true, eqb-false, eq-eqb, ne_eqb, ltb-false}
-use Rattle.std.proofs.lemmas.List.{length-map}
-use Rattle.std.proofs.lemmas.List.Elements.{All-push}
-use Rattle.std.proofs.lemmas.List.Quantifiers.{all_pairs_push}
+use Rattle.std.proofs.Common.{◌≡◌, ℕ, ◌<◌, inl, inr, true, false, List, length, get_or, refl, sym, ap, subst, ◌∙◌, arith, Option, Some, None, unwrap_or, is_some, is_none, length-set, true≢false, get_or-set_same, get_or-set_other}
+use Rattle.std.specs.Prelude.{◌==◌, not, slice_set}
+use Rattle.std.proofs.lemmas.Bool.{cases_eq, eqb-true, eq-eqb}
 use Rattle.coflow_units.specs.declared.fabric.Flow.{Flow}
-use Rattle.coflow_units.specs.Flows.{ingress_of, units_of}
 use Rattle.coflow_units.specs.PortWord.{PortStage, is_drawn_by, is_granted}
 use Rattle.coflow_units.specs.PortWord.PortStage.{unposted, granted, drawn, reported, taken_back}
-use Rattle.coflow_units.specs.Schedule.{IsClear}
-use Rattle.coflow_units.proofs.Sums.{any_has, any_in, in_first, in_tail, first_or_tail, nothing_in}
-use Rattle.master_core.specs.declared.opening.Opening.{Opening}
-use Rattle.master_core.specs.State.{Run, has}
-use Rattle.master_core.specs.Runs.{credit, grant_in, note_in}
-use Rattle.master_core.specs.Sound.{IsSound}
+use Rattle.master_core.specs.State.{Run}
+use Rattle.master_core.specs.Runs.{grant_in, note_in}
 use Rattle.world_model.specs.declared.sent.SentRun.{SentRun}
 use Rattle.world_model.specs.Port.{PortFacts, idle_port, settled_by}
-use Rattle.world_model.specs.Sent.{sent_for, sent_of}
-use Rattle.world_model.specs.Guards.{is_done, is_short}
-use Rattle.world_model.specs.Kept.{ByStage, IsApart, IsAtStage, IsKept, IsNote, IsPort, IsSentRun, Rests, sent_now}
+use Rattle.world_model.specs.Sent.{sent_for}
+use Rattle.world_model.specs.Kept.{IsKept, IsNote, IsPort}
 
 port_set : (P : PortFacts → Type 0) (xs : List PortFacts) (p : ℕ) (x : PortFacts) (q : ℕ) → p < length xs → (p ≡ q → P x) → P (get_or xs q idle_port) → P (get_or (slice_set xs p x) q idle_port)
 port_set P xs p x q lt new old = elim (cases_eq q p) [

@@ -1,5 +1,5 @@
 -- The law of the world: what holds after every list of steps.
-use Rattle.std.specs.Prelude.{◌≡◌, ℕ, ◌+◌, ◌<◌, ◌≤◌, List, [], ◌∷◌, ◌++◌, Contains, length, Some}
+use Rattle.std.specs.Prelude.{◌≡◌, ℕ, ◌+◌, ◌<◌, ◌≤◌, List, [], ◌∷◌, ◌++◌, All, Contains, length, Option, Some, None}
 use Rattle.coflow_units.specs.Flows.{coflow_of, units_of}
 use Rattle.coflow_units.specs.Grants.{IsGrants}
 use Rattle.coflow_units.specs.Patient.{IsServedOrWaits}
@@ -9,8 +9,9 @@ use Rattle.master_core.specs.State.{IsOpening, Run, owed}
 use Rattle.master_core.specs.Fold.{state_of}
 use Rattle.master_core.specs.Journal.{IsLegal, line_of}
 use Rattle.master_core.specs.Sound.{InRange}
+use Rattle.world_model.specs.declared.sent.SentRun.{SentRun}
 use Rattle.world_model.specs.Sent.{sent_in, sent_of, times_sent}
-use Rattle.world_model.specs.World.{WorldFacts}
+use Rattle.world_model.specs.World.{WorldFacts, run_of}
 use Rattle.world_model.specs.Kept.{KeepsWorld}
 use Rattle.world_model.specs.Credited.{IsCredited}
 
@@ -21,6 +22,15 @@ IsLegalWorld w = IsLegal w.opening w.journal × InRange w.opening w.journal
 -- no pair of a slot and a flow was sent twice
 abbrev pub SendsOnce : WorldFacts → Type 0
 SendsOnce w = (slot f : ℕ) → times_sent w.sent slot f ≤ 1
+
+-- the first slot after the open run, or the next slot where none is open
+abbrev pub end_of : ℕ → Option Run → ℕ
+end_of next None = next
+end_of next (Some r) = r.first + r.slots
+
+-- nothing was sent in that slot or a later one
+abbrev pub SendsInTime : WorldFacts → Type 0
+SendsInTime w = All (λ (x : SentRun). x.slot + x.units ≤ end_of (state_of w.opening w.journal).next (run_of w)) w.sent
 
 -- no flow was sent more units than it has
 abbrev pub SendsWithin : WorldFacts → Type 0

@@ -1,5 +1,5 @@
 -- Steps that were worked out by hand.
-use Rattle.std.specs.Prelude.{◌≡◌, ℕ, List, [], ◌∷◌}
+use Rattle.std.specs.Prelude.{◌≡◌, List, [], ◌∷◌}
 use Rattle.master_core.specs.declared.command.Command.TheVariants.{Register, Open, Pull}
 use Rattle.master_core.specs.declared.command.Reply.TheVariants.{Full, Joined, Opened, Noted, Closed}
 use Rattle.master_core.specs.Rows.{two}

@@ -1,5 +1,6 @@
 -- What each step does in a world, and what it is answered.
-use Rattle.std.specs.Prelude.{ℕ, ◌==◌, Bool, not, true, false, if◌then◌else◌, List, [], ◌∷◌, ◌++◌, map, Option, Some, None, slice_set, unwrap_or}
+use Rattle.std.specs.Prelude.{◌≡◌, ℕ, ◌==◌, Bool, not, true, false, if◌then◌else◌, List, [], ◌∷◌, ◌++◌, map, Option, Some, None, slice_set, unwrap_or}
+use Rattle.coflow_units.specs.PortWord.{word_of}
 use Rattle.coflow_units.specs.PortWord.PortStage.{granted, drawn, reported}
 use Rattle.master_core.specs.declared.command.Command.{Command}
 use Rattle.master_core.specs.declared.command.Command.TheVariants.{Short}
@@ -86,6 +87,11 @@ world_after w e = if can w e then moved w e else w
 
 abbrev pub happened : WorldFacts → Event → Happened
 happened w e = if can w e then answered w e else Blocked
+
+-- the step settles a post that an agent has drawn and not reported, and this is the word of its port
+abbrev pub IsBusy : WorldFacts → Event → ℕ → Type 0
+IsBusy w (Settle port) word = (agent : ℕ) × (can w (Settle port) ≡ true) × ((port_at w port).stage ≡ drawn agent) × (word ≡ word_of (drawn agent) (port_at w port).slot (port_at w port).flow)
+IsBusy w e word = ⊥
 
 -- after a list of steps
 abbrev pub world_of : WorldFacts → List Event → WorldFacts

@@ -8,8 +8,8 @@ ghost use Rattle.world_model.specs.declared.event.Event.TheVariants.{Ask, Post, 
 ghost use Rattle.world_model.specs.declared.event.Happened.TheVariants.{Blocked, Busy};
 ghost use Rattle.world_model.specs.World.{WorldFacts, new_world, port_at};
 ghost use Rattle.world_model.specs.Guards.{can};
-ghost use Rattle.world_model.specs.Steps.{happened, is_full_answer, leaves, moved, world_after, world_of};
-ghost use Rattle.world_model.specs.Lawful.{ClosesAsSent, IsLegalWorld, IsWorld, OpensGrants, OpensPatiently, SendsOnce, SendsWithin};
+ghost use Rattle.world_model.specs.Steps.{IsBusy, happened, is_full_answer, leaves, moved, world_after, world_of};
+ghost use Rattle.world_model.specs.Lawful.{ClosesAsSent, IsLegalWorld, IsWorld, OpensGrants, OpensPatiently, SendsInTime, SendsOnce, SendsWithin};
 ghost use Rattle.world_model.specs.Rows.{Shorts, Turns};
 
 /// After every list of steps from a new world, whatever callers, agents and the driver did and in whatever order: the journal is legal; no pair of a slot and a flow was sent twice; no
@@ -42,6 +42,7 @@ pub fn steps_keep_the_world()
 pub fn kept_worlds_are_lawful()
     ensures once { (w : WorldFacts) → IsWorld w → SendsOnce w }
     ensures within { (w : WorldFacts) → IsWorld w → SendsWithin w }
+    ensures in_time { (w : WorldFacts) → IsWorld w → SendsInTime w }
     ensures credited { (w : WorldFacts) → IsWorld w → ClosesAsSent w }
     ensures granted { (w : WorldFacts) → OpensGrants w }
     ensures patient { (w : WorldFacts) → OpensPatiently w }
@@ -51,7 +52,8 @@ pub fn kept_worlds_are_lawful()
 pub fn steps_leave_the_rest()
     ensures blocked { (w : WorldFacts) (e : Event) → can w e ≡ false → (happened w e ≡ Blocked) × (world_after w e ≡ w) }
     ensures full { (w : WorldFacts) (e : Event) → is_full_answer (happened w e) ≡ true → world_after w e ≡ w }
-    ensures busy { (w : WorldFacts) (e : Event) (word : ℕ) → IsWorld w → happened w e ≡ Busy word → world_after w e ≡ w }
+    ensures busy { (w : WorldFacts) (e : Event) (word : ℕ) → happened w e ≡ Busy word → IsBusy w e word × (world_after w e ≡ w) }
+    ensures drawn { (w : WorldFacts) (e : Event) (word : ℕ) → IsBusy w e word → happened w e ≡ Busy word }
     ensures others { (w : WorldFacts) (e : Event) (q : ℕ) → leaves e q ≡ true → port_at (world_after w e) q ≡ port_at w q }
 {}
 

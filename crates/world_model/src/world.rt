@@ -12,8 +12,8 @@ ghost use Rattle.world_model.specs.Port.{PortFacts, port_of, ports_of};
 ghost use Rattle.world_model.specs.World.{WorldFacts, new_world, port_at, run_of};
 ghost use Rattle.world_model.specs.Kept.{IsPort};
 ghost use Rattle.world_model.specs.Guards.{can, in_run, is_done, is_free};
-ghost use Rattle.world_model.specs.Steps.{asks, cleared, happened, is_full_answer, is_opened, is_send, world_after, world_of};
-ghost use Rattle.world_model.specs.Lawful.{ClosesAsSent, IsLegalWorld, IsWorld, OpensGrants, OpensPatiently, SendsOnce, SendsWithin};
+ghost use Rattle.world_model.specs.Steps.{IsBusy, asks, cleared, happened, is_full_answer, is_opened, is_send, world_after, world_of};
+ghost use Rattle.world_model.specs.Lawful.{ClosesAsSent, IsLegalWorld, IsWorld, OpensGrants, OpensPatiently, SendsInTime, SendsOnce, SendsWithin};
 
 use crate::event::{Event, Happened};
 use crate::port::{PortState, Stage};
@@ -64,7 +64,8 @@ impl World {
 
     /// Takes one step, where it may be taken.
     ///
-    /// `Blocked` comes exactly where the step may not be taken, and changes nothing. `NoMemory` is want of memory for one more sent run: it comes only from `Send`, where that
+    /// `Blocked` comes exactly where the step may not be taken, and changes nothing. `Busy` comes exactly where the step settles a post that an agent has drawn and not reported; it
+    /// tells the word of the port, and changes nothing. Nor does a step change anything that is answered `Full` by the master. `NoMemory` is want of memory for one more sent run: it comes only from `Send`, where that
     /// step might be taken, and changes nothing. Every other answer, and the world after it, is that of the definition.
     pub fn step(&mut self, event: Event) -> Happened
         ensures answer { result ≢ Happened.NoMemory → result ≡ happened self.old event }
@@ -72,7 +73,8 @@ impl World {
         ensures blocked { result ≡ Happened.Blocked → (can self.old event ≡ false) × (self.new ≡ self.old) }
         ensures may { can self.old event ≡ false → result ≡ Happened.Blocked }
         ensures no_memory { result ≡ Happened.NoMemory → (is_send event ≡ true) × (can self.old event ≡ true) × (self.new ≡ self.old) }
-        ensures busy { (word : ℕ) → result ≡ Happened.Busy word → self.new ≡ self.old }
+        ensures busy { (word : ℕ) → result ≡ Happened.Busy word → IsBusy self.old event word × (self.new ≡ self.old) }
+        ensures drawn { (word : ℕ) → IsBusy self.old event word → result ≡ Happened.Busy word }
         ensures full { is_full_answer result ≡ true → self.new ≡ self.old }
     {
         match event {
@@ -156,6 +158,7 @@ impl World {
         ensures sent { result.now ≡ self.now.sent }
         ensures once { SendsOnce self.now }
         ensures within { SendsWithin self.now }
+        ensures in_time { SendsInTime self.now }
     {
         &self.sent
     }

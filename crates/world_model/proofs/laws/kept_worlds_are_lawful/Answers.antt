@@ -1,4 +1,4 @@
-use Rattle.world_model.proofs.LawfulWorlds.{closes_as_sent, opens_grants, opens_patiently, sends_once, sends_within}
+use Rattle.world_model.proofs.LawfulWorlds.{closes_as_sent, opens_grants, opens_patiently, sends_in_time, sends_once, sends_within}
 use Rattle.world_model.proofs.laws.kept_worlds_are_lawful.Goals as goal
 
 pub returns-clause-once : goal.returns-clause-once
@@ -15,3 +15,6 @@ returns-clause-granted c = opens_grants
 
 pub returns-clause-patient : goal.returns-clause-patient
 returns-clause-patient c = opens_patiently
+
+pub returns-clause-in_time : goal.returns-clause-in_time
+returns-clause-in_time c = sends_in_time

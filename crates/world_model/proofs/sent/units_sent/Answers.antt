@@ -1,4 +1,4 @@
-use Rattle.std.proofs.Common.{◌≡◌, ◌∙◌, ◌+◌, ap, arith, sym}
+use Rattle.std.proofs.Common.{◌∙◌, ◌+◌, ap, arith}
 use Rattle.world_model.proofs.Totals.{sent_front, sent_up_to}
 use Rattle.world_model.proofs.sent.units_sent.Goals as goal
 

@@ -1,4 +1,4 @@
-use Rattle.std.proofs.Common.{◌≡◌, ◌∙◌, ◌++◌, ◌<◌, List, [], length, map, take, drop, ap, get_or, refl, arith, sym, append-nil}
+use Rattle.std.proofs.Common.{◌∙◌, ◌++◌, ◌<◌, List, length, map, drop, ap, get_or, arith, append-nil}
 use Rattle.std.specs.Prelude.{None}
 use Rattle.std.proofs.lemmas.List.{drop_all, get_or_default, take_all}
 use Rattle.std.proofs.lemmas.List.Edits.{map_over_more}

@@ -1,9 +1,8 @@
-use Rattle.std.proofs.Common.{rules, ◌≡◌, ◌∙◌, ◌<◌, ◌≤◌, ℕ, arith, ap, subst, sym, true, false, inl, inr, ◌+◌}
+use Rattle.std.proofs.Common.{rules, ◌≡◌, ◌∙◌, ◌<◌, ◌≤◌, arith, subst, sym, true, inl, inr}
 use Rattle.std.specs.Prelude.{Some}
 use Rattle.std.proofs.lemmas.Bool.{cases_lt}
-use Rattle.master_core.specs.State.{Run}
 use Rattle.master_core.specs.Runs.{slots_of}
-use Rattle.world_model.specs.World.{WorldFacts, port_at, run_of}
+use Rattle.world_model.specs.World.{port_at, run_of}
 use Rattle.world_model.specs.Guards.{in_run, is_done}
 use Rattle.world_model.proofs.Fields.{all_done_true, one_not_done}
 use Rattle.world_model.proofs.world.World.can_close.Goals as goal

@@ -1,6 +1,4 @@
 use Rattle.std.proofs.Common.{◌≡◌, ℕ, ◌<◌, true}
-use Rattle.std.specs.Prelude.{Some}
-use Rattle.master_core.specs.Runs.{slots_of}
 use Rattle.world_model.specs.World.{port_at, run_of}
 use Rattle.world_model.specs.Guards.{in_run, is_done}
 use Rattle.world_model.proofs.world.World.can_close.Given as goal

@@ -1,11 +1,9 @@
-use Rattle.std.proofs.Common.{rules, ◌≡◌, ◌∙◌, ◌<◌, ℕ, arith, ap, subst, sym, get_or, true, false, refl}
-use Rattle.std.specs.Prelude.{Option, slice_set}
+use Rattle.std.proofs.Common.{rules, ◌≡◌, ◌∙◌, ◌<◌, subst, sym}
+use Rattle.std.specs.Prelude.{slice_set}
 use Rattle.world_model.specs.World.{WorldFacts, world_facts}
-use Rattle.world_model.specs.Guards.{can}
-use Rattle.world_model.specs.Steps.{happened, moved, world_after}
+use Rattle.world_model.specs.Steps.{world_after}
 use Rattle.world_model.specs.Lawful.{IsWorld}
-use Rattle.world_model.specs.declared.event.Event.TheVariants.{Ask, Post, Draw, Send, Report, Settle, Note}
-use Rattle.world_model.specs.declared.event.Event.TheVariants.{Close as CloseIt}
+use Rattle.world_model.specs.declared.event.Event.TheVariants.{Draw}
 use Rattle.world_model.specs.declared.port.Stage.TheVariants.{Drawn}
 use Rattle.world_model.proofs.Events.{draw_keeps}
 use Rattle.world_model.proofs.Fields.{drawn_world, may_draw, stepped}

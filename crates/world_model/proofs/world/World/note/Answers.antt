@@ -1,21 +1,15 @@
-use Rattle.std.proofs.Common.{rules, ◌≡◌, ◌∙◌, ◌<◌, ℕ, List, arith, ap, subst, sym, get_or, true, false, refl}
-use Rattle.std.specs.Prelude.{Option, Some, slice_set, is_none, is_some, unwrap_or}
+use Rattle.std.proofs.Common.{rules, ◌≡◌, ◌∙◌, ◌<◌, ap, subst, sym}
+use Rattle.std.specs.Prelude.{Some}
 use Rattle.world_model.specs.World.{WorldFacts, world_facts}
-use Rattle.world_model.specs.Guards.{can}
-use Rattle.world_model.specs.Steps.{asks, happened, moved, world_after}
+use Rattle.world_model.specs.Steps.{asks, world_after}
 use Rattle.world_model.specs.Lawful.{IsWorld}
-use Rattle.world_model.specs.declared.event.Event.TheVariants.{Ask, Post, Draw, Send, Report, Settle, Note}
-use Rattle.world_model.specs.declared.event.Event.TheVariants.{Close as CloseIt}
-use Rattle.world_model.specs.declared.event.Happened.TheVariants.{Blocked, Posted}
-use Rattle.world_model.specs.declared.port.PortState.{PortState}
+use Rattle.world_model.specs.declared.event.Event.TheVariants.{Note}
 use Rattle.master_core.specs.Fold.{state_of}
-use Rattle.master_core.specs.Runs.{flow_at, slots_of}
+use Rattle.master_core.specs.Runs.{slots_of}
 use Rattle.master_core.specs.declared.command.Command.{Command}
 use Rattle.master_core.specs.declared.command.Command.TheVariants.{Short}
-use Rattle.master_core.specs.Answer.{reply_of}
-use Rattle.world_model.specs.declared.event.Happened.TheVariants.{Noted}
 use Rattle.world_model.proofs.Events.{note_keeps}
-use Rattle.world_model.proofs.Fields.{may_note, noted_units, stepped, told}
+use Rattle.world_model.proofs.Fields.{may_note, noted_units, stepped}
 use Rattle.world_model.proofs.world.World.note.Goals as goal
 
 pub carry_out-requires-clause-keeps : goal.carry_out-requires-clause-keeps

@@ -1,8 +1,5 @@
-use Rattle.std.proofs.Common.{◌≡◌, ◌∙◌, ℕ, List, ap, get_or, subst, sym, take}
-use Rattle.std.proofs.lemmas.List.{take_more}
-use Rattle.world_model.specs.declared.event.Event.{Event}
-use Rattle.world_model.specs.World.{WorldFacts, new_world}
-use Rattle.world_model.specs.Steps.{world_after, world_of}
+use Rattle.std.proofs.Common.{subst, take}
+use Rattle.world_model.specs.World.{new_world}
 use Rattle.world_model.specs.Lawful.{IsWorld}
 use Rattle.world_model.proofs.LawfulWorlds.{closes_as_sent, goes_on, opens_grants, opens_patiently, sends_once, sends_within, was_played}
 use Rattle.world_model.proofs.world.World.play.Goals as goal

@@ -1,7 +1,7 @@
-use Rattle.std.proofs.Common.{◌≡◌, ◌<◌, subst, sym}
+use Rattle.std.proofs.Common.{◌<◌, subst, sym}
 use Rattle.master_core.specs.Fold.{state_of}
 use Rattle.world_model.specs.Port.{PortFacts, port_of}
-use Rattle.world_model.specs.World.{WorldFacts, port_at, run_of, world_facts}
+use Rattle.world_model.specs.World.{WorldFacts, run_of}
 use Rattle.world_model.specs.Kept.{IsPort}
 use Rattle.world_model.proofs.Fields.{port_read}
 use Rattle.world_model.proofs.world.World.port.Goals as goal

@@ -1,11 +1,9 @@
-use Rattle.std.proofs.Common.{rules, ◌≡◌, ◌∙◌, ◌<◌, ℕ, arith, ap, subst, sym, get_or, true, false, refl}
-use Rattle.std.specs.Prelude.{Option, Some, slice_set, is_none, is_some}
+use Rattle.std.proofs.Common.{rules, ◌≡◌, ◌∙◌, ◌<◌, subst, sym, refl}
+use Rattle.std.specs.Prelude.{Some, slice_set}
 use Rattle.world_model.specs.World.{WorldFacts, world_facts}
-use Rattle.world_model.specs.Guards.{can}
-use Rattle.world_model.specs.Steps.{happened, moved, world_after}
+use Rattle.world_model.specs.Steps.{happened, world_after}
 use Rattle.world_model.specs.Lawful.{IsWorld}
-use Rattle.world_model.specs.declared.event.Event.TheVariants.{Ask, Post, Draw, Send, Report, Settle, Note}
-use Rattle.world_model.specs.declared.event.Event.TheVariants.{Close as CloseIt}
+use Rattle.world_model.specs.declared.event.Event.TheVariants.{Post}
 use Rattle.world_model.specs.declared.event.Happened.TheVariants.{Blocked, Posted}
 use Rattle.world_model.specs.declared.port.PortState.{PortState}
 use Rattle.master_core.specs.Fold.{state_of}

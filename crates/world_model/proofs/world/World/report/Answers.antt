@@ -1,15 +1,11 @@
-use Rattle.std.proofs.Common.{rules, ◌≡◌, ◌∙◌, ◌<◌, ℕ, List, arith, ap, subst, sym, get_or, true, false, refl}
-use Rattle.std.specs.Prelude.{Option, Some, slice_set, is_none, is_some, unwrap_or}
+use Rattle.std.proofs.Common.{◌≡◌, ◌∙◌, ◌<◌, List, ap, subst, sym, true}
+use Rattle.std.specs.Prelude.{slice_set}
 use Rattle.world_model.specs.World.{WorldFacts, world_facts}
 use Rattle.world_model.specs.Guards.{can}
-use Rattle.world_model.specs.Steps.{asks, happened, moved, world_after}
+use Rattle.world_model.specs.Steps.{world_after}
 use Rattle.world_model.specs.Lawful.{IsWorld}
-use Rattle.world_model.specs.declared.event.Event.TheVariants.{Ask, Post, Draw, Send, Report, Settle, Note}
-use Rattle.world_model.specs.declared.event.Event.TheVariants.{Close as CloseIt}
-use Rattle.world_model.specs.declared.event.Happened.TheVariants.{Blocked, Posted}
+use Rattle.world_model.specs.declared.event.Event.TheVariants.{Report}
 use Rattle.world_model.specs.declared.port.PortState.{PortState}
-use Rattle.master_core.specs.Fold.{state_of}
-use Rattle.master_core.specs.Runs.{flow_at, slots_of}
 use Rattle.world_model.specs.declared.port.Stage.TheVariants.{Reported}
 use Rattle.world_model.specs.declared.sent.SentRun.{SentRun}
 use Rattle.world_model.specs.Sent.{sent_for}

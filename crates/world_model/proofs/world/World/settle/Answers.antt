@@ -1,15 +1,13 @@
-use Rattle.std.proofs.Common.{rules, ◌≡◌, ◌∙◌, ◌<◌, ℕ, arith, ap, subst, sym, get_or, true, false, refl}
-use Rattle.std.specs.Prelude.{Option, Some, slice_set, is_none, is_some}
+use Rattle.std.proofs.Common.{rules, ◌≡◌, ◌∙◌, ◌<◌, arith, ap, subst, sym, false}
+use Rattle.std.specs.Prelude.{slice_set, is_none, is_some}
 use Rattle.world_model.specs.World.{WorldFacts, world_facts}
-use Rattle.world_model.specs.Guards.{can}
-use Rattle.world_model.specs.Steps.{happened, moved, world_after}
+use Rattle.world_model.specs.Steps.{happened, world_after}
 use Rattle.world_model.specs.Lawful.{IsWorld}
-use Rattle.world_model.specs.declared.event.Event.TheVariants.{Ask, Post, Draw, Send, Report, Settle, Note}
-use Rattle.world_model.specs.declared.event.Event.TheVariants.{Close as CloseIt}
-use Rattle.world_model.specs.declared.event.Happened.TheVariants.{Blocked, Posted}
+use Rattle.world_model.specs.declared.event.Event.TheVariants.{Settle}
+use Rattle.world_model.specs.declared.event.Happened.TheVariants.{Blocked}
 use Rattle.world_model.specs.declared.port.PortState.{PortState}
 use Rattle.master_core.specs.Fold.{state_of}
-use Rattle.master_core.specs.Runs.{flow_at, slots_of}
+use Rattle.master_core.specs.Runs.{slots_of}
 use Rattle.world_model.proofs.Events.{settle_keeps}
 use Rattle.world_model.proofs.Fields.{blocked, may_settle, ports_wide, same_read, settle_fits, settle_not_posted, settled_answer, settled_world, stays, stepped, told}
 use Rattle.world_model.proofs.world.World.settle.Goals as goal
