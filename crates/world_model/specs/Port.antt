@@ -8,7 +8,7 @@ use Rattle.world_model.specs.declared.port.Stage.{Stage}
 use Rattle.world_model.specs.declared.port.Stage.TheVariants.{Unposted, Granted, Drawn, Reported, TakenBack}
 use Rattle.world_model.specs.declared.port.PortState.{PortState}
 
--- the slot and the flow of the last post, with slot 0 where there was none, the stage that the post is in, the count beside the word, and what was settled in the open run
+-- the slot and the flow of the last post, with slot 0 where there was none, the stage that the post is in, the count beside the word, and what was settled since a run was opened last
 pub record PortFacts : Type 0 where
   pub slot : ℕ
   pub flow : ℕ

@@ -48,8 +48,10 @@ pub fn kept_worlds_are_lawful()
     ensures patient { (w : WorldFacts) → OpensPatiently w }
 {}
 
-/// What steps leave as it was: a step that is blocked, or answered Full or Busy, changes nothing, and a step at one port leaves the others.
+/// What steps leave as it was: no step changes the opening, a step that is blocked, or answered Full or Busy, changes nothing, and a step at one port leaves the others. Busy comes
+/// exactly where a post is to be settled that an agent has drawn and not reported.
 pub fn steps_leave_the_rest()
+    ensures opening { (w : WorldFacts) (e : Event) → (world_after w e).opening ≡ w.opening }
     ensures blocked { (w : WorldFacts) (e : Event) → can w e ≡ false → (happened w e ≡ Blocked) × (world_after w e ≡ w) }
     ensures full { (w : WorldFacts) (e : Event) → is_full_answer (happened w e) ≡ true → world_after w e ≡ w }
     ensures busy { (w : WorldFacts) (e : Event) (word : ℕ) → happened w e ≡ Busy word → IsBusy w e word × (world_after w e ≡ w) }

@@ -20,7 +20,7 @@ pub enum Stage {
     TakenBack,
 }
 
-/// An ingress port: slot and flow of its last post, with slot 0 where there was none, what became of it, its count, and what was settled in the open run.
+/// An ingress port: slot and flow of its last post, with slot 0 where there was none, what became of it, its count, and what was settled since a run was opened last.
 #[derive(Clone, Copy, Debug, PartialEq, Eq)]
 pub struct PortState {
     pub slot: u64,

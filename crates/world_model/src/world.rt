@@ -1,4 +1,4 @@
-//! The world.
+//! The world, and the steps that it takes.
 ghost use Rattle.std.specs.Prelude.{◌≡◌, ◌≢◌, ℕ, ◌<◌, true, false, [], IfOk, List, Some, None, length};
 ghost use Rattle.coflow_units.specs.PortWord.{is_drawn_by};
 ghost use Rattle.master_core.specs.declared.command.Command.TheVariants.{Short};
@@ -65,8 +65,8 @@ impl World {
     /// Takes one step, where it may be taken.
     ///
     /// `Blocked` comes exactly where the step may not be taken, and changes nothing. `Busy` comes exactly where the step settles a post that an agent has drawn and not reported; it
-    /// tells the word of the port, and changes nothing. Nor does a step change anything that is answered `Full` by the master. `NoMemory` is want of memory for one more sent run: it comes only from `Send`, where that
-    /// step might be taken, and changes nothing. Every other answer, and the world after it, is that of the definition.
+    /// tells the word of the port, and changes nothing. A step that the master answers by `Full` changes nothing either. `NoMemory` is want of memory for one more sent run: it comes
+    /// only from `Send`, where that step might be taken, and changes nothing. Every other answer, and the world after it, is that of the definition.
     pub fn step(&mut self, event: Event) -> Happened
         ensures answer { result ≢ Happened.NoMemory → result ≡ happened self.old event }
         ensures world { result ≢ Happened.NoMemory → self.new ≡ world_after self.old event }
@@ -126,7 +126,7 @@ impl World {
         &self.master
     }
 
-    /// The master's journal, with what it says beside the runs that were sent.
+    /// The master's journal. It is legal, each closing in it credited what was sent in its run, and each opening granted the grants of its line.
     pub fn journal(&self) -> &[Entry]
         ensures journal { result.now ≡ self.now.journal }
         ensures legal { IsLegalWorld self.now }
@@ -153,7 +153,7 @@ impl World {
         self.ports[port as usize]
     }
 
-    /// The runs that agents sent, the first first.
+    /// The runs that agents sent, the first first. No pair of a slot and a flow stands twice in them, no flow has more units there than it has, and none stands past the open run.
     pub fn sent(&self) -> &[SentRun]
         ensures sent { result.now ≡ self.now.sent }
         ensures once { SendsOnce self.now }
