@@ -11,10 +11,10 @@ use Rattle.greedy_rates.specs.Room.{TellsIngresses, flow_at_ingress}
 use Rattle.master_core.specs.declared.command.Reply.{Reply}
 use Rattle.master_core.specs.declared.command.Reply.TheVariants.{NotGranted, Noted}
 use Rattle.master_core.specs.State.{Run}
-use Rattle.master_core.specs.Runs.{flow_at, grant_in, note_in}
+use Rattle.master_core.specs.Runs.{flow_at, grant_in, note_in, noted_at}
 use Rattle.master_core.specs.Fold.{noted_in}
 use Rattle.master_core.specs.Answer.{noted, on_run}
-use Rattle.master_core.specs.OpenRun.{FitsOpen, KeptRun, flow_kept, note_at, note_of, number_noted, with_note}
+use Rattle.master_core.specs.OpenRun.{FitsOpen, KeptRun, flow_kept, kept_note, note_at, note_of, number_noted, with_note}
 use Rattle.master_core.specs.Standing.{TellsOpen, TellsRun}
 
 -- ---- the grant at an ingress
@@ -56,6 +56,12 @@ flow_told flows ports (Some r) None p t = absurd t
 flow_told flows ports (Some r) (Some x) p t = sym (grant_told flows r.granted x.at p t.at)
 
 -- ---- notes
+
+pub note_told : (flows : List Flow) (ports : ℕ) (r : Option Run) (x : Option KeptRun) (p : ℕ) → p < ports → TellsRun flows ports r x → kept_note x p ≡ noted_at r p
+note_told flows ports None None p lt t = refl
+note_told flows ports None (Some x) p lt t = absurd t
+note_told flows ports (Some r) None p lt t = absurd t
+note_told flows ports (Some r) (Some x) p lt t = t.noted p lt
 
 abbrev reply_for : ℕ → Option ℕ → Reply
 reply_for p None = NotGranted p

@@ -40,6 +40,11 @@ abbrev pub flow_kept : Option KeptRun → ℕ → Option ℕ
 flow_kept None ingress = None
 flow_kept (Some r) ingress = flow_at_ingress r.at ingress
 
+-- what was noted last at an ingress, where a run is open
+abbrev pub kept_note : Option KeptRun → ℕ → Option ℕ
+kept_note None ingress = None
+kept_note (Some r) ingress = note_at r.noted ingress
+
 -- the note of so many units at an ingress with this grant, in a run of so many slots
 abbrev pub note_of : ℕ → ℕ → Option ℕ → Option ℕ
 note_of slots units None = None

@@ -38,3 +38,13 @@ credit flows run f = if has run.granted f then unwrap_or (note_in run.notes (ing
 abbrev pub flow_at : List Flow → Option Run → ℕ → Option ℕ
 flow_at flows None port = None
 flow_at flows (Some r) port = grant_in flows r.granted port
+
+-- how many slots the open run has, where one is open
+abbrev pub slots_of : Option Run → Option ℕ
+slots_of None = None
+slots_of (Some r) = Some r.slots
+
+-- what was noted last for an ingress port, where a run is open
+abbrev pub noted_at : Option Run → ℕ → Option ℕ
+noted_at None port = None
+noted_at (Some r) port = note_in r.notes port

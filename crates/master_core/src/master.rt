@@ -5,7 +5,7 @@ ghost use Rattle.bssi_order.specs.Order.{IsOrder};
 ghost use Rattle.master_core.specs.Answer.{in_range, reply_of, room};
 ghost use Rattle.master_core.specs.Fold.{state_of};
 ghost use Rattle.master_core.specs.Journal.{IsLegal, journal_after, order_in, rank_of, version_of};
-ghost use Rattle.master_core.specs.Runs.{flow_at};
+ghost use Rattle.master_core.specs.Runs.{flow_at, noted_at, slots_of};
 ghost use Rattle.master_core.specs.Sound.{InRange};
 ghost use Rattle.master_core.specs.Standing.{IsInRange, TellsPlaces};
 ghost use Rattle.master_core.specs.Published.{ranked};
@@ -127,6 +127,24 @@ impl Master {
         ensures { result ≡ flow_at self.now.opening.table.flows (state_of self.now.opening self.now.journal).run ingress }
     {
         self.standing.runs.at(ingress)
+    }
+
+    /// How many slots the open run has; its first is the next slot. None comes exactly where no run is open.
+    pub fn open_slots(&self) -> Option<u64>
+        ensures { result ≡ slots_of (state_of self.now.opening self.now.journal).run }
+    {
+        match self.standing.runs.current() {
+            Some(run) => Some(run.slots),
+            None => None,
+        }
+    }
+
+    /// What was noted last at an ingress in the open run. None comes exactly where no run is open, or nothing was noted there in it.
+    pub fn noted(&self, ingress: u32) -> Option<u64>
+        requires { ingress < self.now.opening.table.ports }
+        ensures { result ≡ noted_at (state_of self.now.opening self.now.journal).run ingress }
+    {
+        self.standing.runs.noted(ingress)
     }
 
     /// The places of the newest version, from place 1 on; none before the first publishing.

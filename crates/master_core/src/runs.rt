@@ -5,7 +5,7 @@ ghost use Rattle.coflow_units.specs.declared.fabric.Flow.{Flow};
 ghost use Rattle.coflow_units.specs.Flows.{IsDistinct, coflow_of};
 ghost use Rattle.flow_table.specs.Table.{IsTable};
 ghost use Rattle.master_core.specs.State.{slot_end};
-ghost use Rattle.master_core.specs.OpenRun.{FitsOpen, IsBegun, KeptRun, credit_of, flow_kept, kept_credit, note_at, number_noted, with_note};
+ghost use Rattle.master_core.specs.OpenRun.{FitsOpen, IsBegun, KeptRun, credit_of, flow_kept, kept_credit, kept_note, note_at, number_noted, with_note};
 
 use coflow_units::{Flow, MAX_SLOT, NoMemory};
 use flow_table::Table;
@@ -73,6 +73,17 @@ impl Runs {
     {
         match self.current {
             Some(_) => self.scratch.at(ingress),
+            None => None,
+        }
+    }
+
+    /// What was noted last at an ingress in the open run. None comes exactly where no run is open, or nothing was noted there in it.
+    pub fn noted(&self, ingress: u32) -> Option<u64>
+        requires { ingress < self.now.ports }
+        ensures { result ≡ kept_note self.now.run ingress }
+    {
+        match self.current {
+            Some(_) => self.noted[ingress as usize],
             None => None,
         }
     }

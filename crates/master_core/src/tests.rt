@@ -210,6 +210,10 @@ fn an_open_run_is_told(rt: HostRuntime) {
     assert_eq!(rt; master.granted(0), Some(0));
     assert_eq!(rt; master.granted(1), None);
     assert_eq!(rt; master.next_slot(), 1);
+    assert_eq!(rt; master.open_slots(), Some(3));
+    let known = 0 < master.table().ports();
+    assert!(rt; known);
+    assert_eq!(rt; master.noted(0), None);
 }
 
 #[test]

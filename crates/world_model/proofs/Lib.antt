@@ -1,0 +1,13 @@
+pub mod Totals
+pub mod Within
+pub mod PortSteps
+pub mod SendSteps
+pub mod OpenSteps
+pub mod CloseSteps
+pub mod Legality
+pub mod Credits
+pub mod Events
+pub mod BusySteps
+pub mod Fields
+pub mod LawfulWorlds
+pub mod RowChecks

@@ -1,0 +1,61 @@
+-- The law of the world: what holds after every list of steps.
+use Rattle.std.specs.Prelude.{◌≡◌, ℕ, ◌+◌, ◌<◌, ◌≤◌, List, [], ◌∷◌, ◌++◌, All, Contains, length, Option, Some, None}
+use Rattle.coflow_units.specs.Flows.{coflow_of, units_of}
+use Rattle.coflow_units.specs.Grants.{IsGrants}
+use Rattle.coflow_units.specs.Patient.{IsServedOrWaits}
+use Rattle.master_core.specs.declared.command.Entry.{Entry}
+use Rattle.master_core.specs.declared.command.Reply.TheVariants.{Closed, Opened}
+use Rattle.master_core.specs.State.{IsOpening, Run, owed}
+use Rattle.master_core.specs.Fold.{state_of}
+use Rattle.master_core.specs.Journal.{IsLegal, line_of}
+use Rattle.master_core.specs.Sound.{InRange}
+use Rattle.world_model.specs.declared.sent.SentRun.{SentRun}
+use Rattle.world_model.specs.Sent.{sent_in, sent_of, times_sent}
+use Rattle.world_model.specs.World.{WorldFacts, run_of}
+use Rattle.world_model.specs.Kept.{KeepsWorld}
+use Rattle.world_model.specs.Credited.{IsCredited}
+
+-- each reply of the master is that of its definition, and each command was in range
+abbrev pub IsLegalWorld : WorldFacts → Type 0
+IsLegalWorld w = IsLegal w.opening w.journal × InRange w.opening w.journal
+
+-- no pair of a slot and a flow was sent twice
+abbrev pub SendsOnce : WorldFacts → Type 0
+SendsOnce w = (slot f : ℕ) → times_sent w.sent slot f ≤ 1
+
+-- the first slot after the open run, or the next slot where none is open
+abbrev pub end_of : ℕ → Option Run → ℕ
+end_of next None = next
+end_of next (Some r) = r.first + r.slots
+
+-- nothing was sent in that slot or a later one
+abbrev pub SendsInTime : WorldFacts → Type 0
+SendsInTime w = All (λ (x : SentRun). x.slot + x.units ≤ end_of (state_of w.opening w.journal).next (run_of w)) w.sent
+
+-- no flow was sent more units than it has
+abbrev pub SendsWithin : WorldFacts → Type 0
+SendsWithin w = (f : ℕ) → sent_of w.sent f ≤ units_of w.opening.table.flows f
+
+-- a closing credits to each flow exactly the units that were sent for it in the slots of the run
+abbrev pub ClosesAsSent : WorldFacts → Type 0
+ClosesAsSent w = (before more : List Entry) (e : Entry) (slot : ℕ) (r : Run) → w.journal ≡ before ++ e ∷ more → e.reply ≡ Closed slot → (state_of w.opening before).run ≡ Some r →
+    (f : ℕ) → (state_of w.opening (before ++ e ∷ [])).sent f ≡ (state_of w.opening before).sent f + sent_in w.sent r f
+
+-- an opening grants the flows that are the grants of the line and of what is owed at its entry
+abbrev pub OpensGrants : WorldFacts → Type 0
+OpensGrants w = (before more : List Entry) (e : Entry) (slot slots count : ℕ) → w.journal ≡ before ++ e ∷ more → e.reply ≡ Opened slot slots count →
+    (r : Run) × ((state_of w.opening (before ++ e ∷ [])).run ≡ Some r) × (r.first ≡ slot) × (r.slots ≡ slots)
+    × IsGrants w.opening.table.flows (line_of w.opening before) (owed w.opening (state_of w.opening before)) r.granted
+
+-- a flow of the line that owes units at an opening is granted, or waits for a granted flow of a coflow no later in the line, with which it has a port in common
+abbrev pub OpensPatiently : WorldFacts → Type 0
+OpensPatiently w = (before more : List Entry) (e : Entry) (slot slots count : ℕ) (r : Run) → w.journal ≡ before ++ e ∷ more → e.reply ≡ Opened slot slots count →
+    (state_of w.opening (before ++ e ∷ [])).run ≡ Some r → (f : ℕ) → f < length w.opening.table.flows → Contains (line_of w.opening before) (coflow_of w.opening.table.flows f) →
+    0 < owed w.opening (state_of w.opening before) f → IsServedOrWaits w.opening.table.flows (line_of w.opening before) r.granted f
+
+-- What every step keeps: the opening is one, the journal is legal, the ports and the sent runs are as they should be beside the master, and each closing credited what was sent.
+pub record IsWorld (w : WorldFacts) : Type 0 where
+  pub opening : IsOpening w.opening
+  pub legal : IsLegalWorld w
+  pub kept : KeepsWorld w
+  pub credited : IsCredited w.opening w.sent (state_of w.opening w.journal).next w.journal

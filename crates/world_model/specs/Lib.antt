@@ -1,0 +1,9 @@
+pub mod Port
+pub mod Sent
+pub mod World
+pub mod Guards
+pub mod Steps
+pub mod Kept
+pub mod Credited
+pub mod Lawful
+pub mod Rows

@@ -1,0 +1,468 @@
+//! What no clause says: that a world with ample memory is made and takes its steps as worked out by hand, and that a plain tally of what agents sent agrees with what the master credits.
+ghost use Rattle.std.specs.Prelude.{◌≡◌, ◌<◌, ◌≤◌, ◌^◌, All, IfOk};
+ghost use Rattle.coflow_units.specs.Trace.{IsCoflowLine, IsTrace};
+
+use crate::*;
+use coflow_units::{CoflowLine, Items, NoMemory, Reducer, Trace};
+use flow_table::Table;
+use master_core::{Command, Master, Reply};
+use std::alloc::Global;
+use std::process::Abort;
+
+/// A coflow that sends so many millionths of a megabyte from one location to another.
+fn line(alloc: Global, id: u32, from: u32, to: u32, millionths: u64) -> Result<CoflowLine, NoMemory>
+    requires from_in { from ≤ 2 }
+    requires to_in { to ≤ 2 }
+    requires size { millionths ≤ 2 ^ 40 }
+    ensures line { IfOk result (λ x. IsCoflowLine 2 x) }
+    ensures id { IfOk result (λ x. x.id ≡ id) }
+{
+    let mappers = Vec::from_array(alloc, [from])?;
+    let reducer = Reducer {
+        location: to,
+        millionths,
+    };
+    let reducers = Vec::from_array(alloc, [reducer])?;
+    Ok(CoflowLine {
+        id,
+        arrival: 0,
+        mappers: Items::from_vec(mappers),
+        reducers: Items::from_vec(reducers),
+    })
+}
+
+/// A coflow of 3 units and one of 1 unit, both from location 0 to location 1.
+fn two_lines(alloc: Global) -> Result<Trace, NoMemory>
+    ensures { IfOk result (λ t. IsTrace t) }
+{
+    let first = line(alloc, 1, 0, 1, 3_000_000)?;
+    let second = line(alloc, 2, 0, 1, 1_000_000)?;
+    let mut coflows = Vec::new(alloc);
+    coflows.push(first)?;
+    coflows.push(second)?;
+    Ok(Trace {
+        number: 2,
+        coflows: Items::from_vec(coflows),
+    })
+}
+
+/// A coflow of 30 units from location 0 to 2, one of 40 from 0 to 1, and one of 50 from 1 to 2.
+fn three_lines(alloc: Global) -> Result<Trace, NoMemory>
+    ensures { IfOk result (λ t. IsTrace t) }
+{
+    let first = line(alloc, 1, 0, 2, 30_000_000)?;
+    let second = line(alloc, 2, 0, 1, 40_000_000)?;
+    let third = line(alloc, 3, 1, 2, 50_000_000)?;
+    let mut coflows = Vec::new(alloc);
+    coflows.push(first)?;
+    coflows.push(second)?;
+    coflows.push(third)?;
+    Ok(Trace {
+        number: 2,
+        coflows: Items::from_vec(coflows),
+    })
+}
+
+/// A world of the trace's coflows, each of weight 1.
+fn world_of(
+    rt: &impl Abort,
+    alloc: Global,
+    trace: &Trace,
+    weights: Items<u64>,
+    limit: u32,
+    agents: u32,
+) -> World
+    requires trace { IsTrace trace.now }
+    requires weights { All (λ w. (1 ≤ w) × (w ≤ 2 ^ 32)) weights }
+    requires some { 1 ≤ limit }
+    requires few { limit ≤ 1000 }
+{
+    let Ok(table) = Table::build(alloc, trace, 1) else {
+        panic!(rt; "no table");
+    };
+    let each = weights.as_slice().len() == table.coflows() as usize;
+    assert!(rt; each);
+    let Ok(master) = Master::new(alloc, table, weights, limit) else {
+        panic!(rt; "no memory");
+    };
+    match World::new(alloc, master, agents) {
+        Ok(world) => world,
+        Err(_) => panic!(rt; "no memory"),
+    }
+}
+
+fn world_of_two(rt: &impl Abort, alloc: Global, limit: u32, agents: u32) -> World
+    requires some { 1 ≤ limit }
+    requires few { limit ≤ 1000 }
+{
+    let Ok(trace) = two_lines(alloc) else {
+        panic!(rt; "no memory");
+    };
+    let Ok(weights) = Vec::from_array(alloc, [1, 1]) else {
+        panic!(rt; "no memory");
+    };
+    world_of(rt, alloc, &trace, Items::from_vec(weights), limit, agents)
+}
+
+fn world_of_three(rt: &impl Abort, alloc: Global, limit: u32, agents: u32) -> World
+    requires some { 1 ≤ limit }
+    requires few { limit ≤ 1000 }
+{
+    let Ok(trace) = three_lines(alloc) else {
+        panic!(rt; "no memory");
+    };
+    let Ok(weights) = Vec::from_array(alloc, [1, 1, 1]) else {
+        panic!(rt; "no memory");
+    };
+    world_of(rt, alloc, &trace, Items::from_vec(weights), limit, agents)
+}
+
+/// Takes the steps, one after another, and compares the answers.
+fn compare(rt: &impl Abort, world: &mut World, row: &[(Event, Happened)]) {
+    for (event, answer) in row {
+        assert_eq!(rt; world.step(*event), *answer);
+    }
+}
+
+const REGISTER: Event = Event::Ask {
+    who: 1,
+    command: Command::Register(0),
+};
+
+const POST: Event = Event::Post { port: 0 };
+
+const SETTLE: Event = Event::Settle { port: 0 };
+
+const NOTE: Event = Event::Note { port: 0 };
+
+fn open(most: u64) -> Event {
+    Event::Ask {
+        who: 0,
+        command: Command::Open(most),
+    }
+}
+
+fn draw(agent: u32) -> Event {
+    Event::Draw { agent, port: 0 }
+}
+
+fn send(agent: u32, units: u64) -> Event {
+    Event::Send {
+        agent,
+        port: 0,
+        units,
+    }
+}
+
+fn report(agent: u32) -> Event {
+    Event::Report { agent, port: 0 }
+}
+
+#[test]
+fn a_grant_is_taken_back_and_another_is_sent(rt: HostRuntime) {
+    let mut world = world_of_two(&rt, rt.alloc(), 100, 1);
+    compare(
+        &rt,
+        &mut world,
+        &[
+            (REGISTER, Happened::Replied(Reply::Joined)),
+            (open(2), Happened::Replied(Reply::Opened(1, 2, 1))),
+            (POST, Happened::Posted),
+            (SETTLE, Happened::Settled(0)),
+            (POST, Happened::Blocked),
+            (Event::Close, Happened::Blocked),
+            (NOTE, Happened::Noted(Reply::Noted(0))),
+            (Event::Close, Happened::Replied(Reply::Closed(1))),
+            (open(1), Happened::Replied(Reply::Opened(3, 1, 1))),
+            (POST, Happened::Posted),
+            (draw(0), Happened::Drawn),
+            (SETTLE, Happened::Busy(4_611_686_018_430_533_632)),
+            (send(0, 1), Happened::Sent),
+            (report(0), Happened::Reported),
+            (SETTLE, Happened::Settled(1)),
+            (Event::Close, Happened::Replied(Reply::Closed(3))),
+        ],
+    );
+    let sent = SentRun {
+        slot: 3,
+        flow: 0,
+        units: 1,
+        port: 0,
+    };
+    assert_eq!(rt; world.sent().len(), 1);
+    assert_eq!(rt; world.sent().last(), Some(&sent));
+    assert_eq!(rt; world.journal().len(), 6);
+    assert_eq!(rt; world.agents(), 1);
+}
+
+#[test]
+fn a_short_run_is_closed_once_it_is_noted(rt: HostRuntime) {
+    let mut world = world_of_two(&rt, rt.alloc(), 2, 2);
+    let pull = Event::Ask {
+        who: 1,
+        command: Command::Pull(0),
+    };
+    compare(
+        &rt,
+        &mut world,
+        &[
+            (REGISTER, Happened::Replied(Reply::Joined)),
+            (open(5), Happened::Replied(Reply::Opened(1, 3, 1))),
+            (pull, Happened::Replied(Reply::Full(2))),
+            (draw(0), Happened::Blocked),
+            (POST, Happened::Posted),
+            (Event::Post { port: 1 }, Happened::Blocked),
+            (Event::Post { port: 3 }, Happened::Blocked),
+            (draw(2), Happened::Blocked),
+            (draw(1), Happened::Drawn),
+            (draw(0), Happened::Blocked),
+            (send(0, 1), Happened::Blocked),
+            (send(1, 4), Happened::Blocked),
+            (send(1, 0), Happened::Blocked),
+            (send(1, 2), Happened::Sent),
+            (send(1, 1), Happened::Blocked),
+            (report(0), Happened::Blocked),
+            (report(1), Happened::Reported),
+            (Event::Close, Happened::Blocked),
+            (SETTLE, Happened::Settled(2)),
+            (SETTLE, Happened::Blocked),
+            (Event::Close, Happened::Blocked),
+            (NOTE, Happened::Noted(Reply::Noted(2))),
+            (Event::Close, Happened::Replied(Reply::Closed(1))),
+            (Event::Close, Happened::Blocked),
+        ],
+    );
+    let known = 0 < world.master().table().ports();
+    assert!(rt; known);
+    let port = PortState {
+        slot: 1,
+        flow: 0,
+        stage: Stage::Reported { agent: 1, units: 2 },
+        count: 2,
+        settled: Some(2),
+    };
+    assert_eq!(rt; world.port(0), port);
+}
+
+#[test]
+fn a_list_of_steps_is_played(rt: HostRuntime) {
+    let events = [REGISTER, open(2), SETTLE, POST, draw(0), send(0, 2)];
+    let alloc = rt.alloc();
+    let Ok(trace) = two_lines(alloc) else {
+        panic!(&rt; "no memory");
+    };
+    let Ok(table) = Table::build(alloc, &trace, 1) else {
+        panic!(&rt; "no table");
+    };
+    let Ok(weights) = Vec::from_array(alloc, [1, 1]) else {
+        panic!(&rt; "no memory");
+    };
+    let two = table.coflows() == 2;
+    assert!(rt; two);
+    let Ok(master) = Master::new(alloc, table, Items::from_vec(weights), 9) else {
+        panic!(&rt; "no memory");
+    };
+    let Ok(world) = World::play(alloc, master, 1, &events) else {
+        panic!(&rt; "no memory");
+    };
+    assert_eq!(rt; world.journal().len(), 2);
+    assert_eq!(rt; world.sent().len(), 1);
+}
+
+/// Numbers that are drawn from a seed.
+#[derive(Drop)]
+struct Draws {
+    state: u64,
+}
+
+impl Draws {
+    /// The next number below a count.
+    fn below(&mut self, count: u32) -> u32
+        requires { 1 ≤ count }
+        ensures { result < count }
+    {
+        self.state = self
+            .state
+            .wrapping_mul(6_364_136_223_846_793_005)
+            .wrapping_add(1_442_695_040_888_963_407);
+        ((self.state >> 33) % u64::from(count)) as u32
+    }
+
+    /// A step of any kind. Agent 2 and port 3 are not there.
+    fn event(&mut self) -> Event {
+        let agent = self.below(3);
+        let port = self.below(4);
+        let number = self.below(6);
+        match self.below(15) {
+            0 => self.ask(number),
+            1 | 2 | 3 => Event::Post { port },
+            4 | 5 => Event::Draw { agent, port },
+            6 | 7 => Event::Send {
+                agent,
+                port,
+                units: u64::from(number),
+            },
+            8 | 9 => Event::Report { agent, port },
+            10 | 11 => Event::Settle { port },
+            12 => Event::Note { port },
+            _ => Event::Close,
+        }
+    }
+
+    fn ask(&mut self, number: u32) -> Event {
+        let coflow = self.below(3);
+        let command = match number {
+            0 => Command::Register(coflow),
+            1 => Command::Publish,
+            2 => Command::Pull(coflow),
+            _ => Command::Open(u64::from(self.below(5)) + 1),
+        };
+        Event::Ask {
+            who: coflow,
+            command,
+        }
+    }
+}
+
+/// A plain account of what was sent: every pair of a slot and a flow, by flow and by port what was sent in the open run, by flow what is owed, and how often something was met.
+#[derive(Drop)]
+struct Tally {
+    first: u64,
+    pairs: Vec<(u64, u32)>,
+    now: Vec<u64>,
+    at_port: Vec<u64>,
+    owed: Vec<u64>,
+    closed: u32,
+    short: u32,
+    taken_back: u32,
+    busy: u32,
+    full: u32,
+}
+
+fn new_tally(rt: &impl Abort, alloc: Global) -> Tally {
+    let Ok(now) = Vec::from_array(alloc, [0, 0, 0]) else {
+        panic!(rt; "no memory");
+    };
+    let Ok(owed) = Vec::from_array(alloc, [30, 40, 50]) else {
+        panic!(rt; "no memory");
+    };
+    let Ok(at_port) = Vec::from_array(alloc, [0, 0, 0]) else {
+        panic!(rt; "no memory");
+    };
+    Tally {
+        first: 0,
+        pairs: Vec::new(alloc),
+        now,
+        at_port,
+        owed,
+        closed: 0,
+        short: 0,
+        taken_back: 0,
+        busy: 0,
+        full: 0,
+    }
+}
+
+impl Tally {
+    /// So many units of a flow were sent, one in each slot from the run's first on.
+    fn send(&mut self, rt: &impl Abort, flow: u32, units: u64) {
+        for slot in 0..units {
+            let pair = (self.first.saturating_add(slot), flow);
+            let twice = self.pairs.contains(&pair);
+            assert!(rt; !twice);
+            assert!(rt; self.pairs.push(pair).is_ok());
+        }
+        if let Some(now) = self.now.get_mut(flow as usize) {
+            *now = now.saturating_add(units);
+        }
+    }
+
+    /// A run was opened.
+    fn open(&mut self, first: u64) {
+        self.first = first;
+        for sent in &mut self.at_port {
+            *sent = 0;
+        }
+    }
+
+    /// A run was closed: what was sent in it is no longer owed, as the master tells.
+    fn close(&mut self, rt: &impl Abort, world: &World) {
+        for flow in 0..3u32 {
+            let known = (flow as usize) < world.master().table().flows().len();
+            assert!(rt; known);
+            let sent = self.now.get(flow as usize).copied().unwrap_or(0);
+            let owed = self.owed.get(flow as usize).copied().unwrap_or(0);
+            assert_eq!(rt; world.master().owed(flow), owed.saturating_sub(sent));
+            if let Some(owed) = self.owed.get_mut(flow as usize) {
+                *owed = owed.saturating_sub(sent);
+            }
+            if let Some(now) = self.now.get_mut(flow as usize) {
+                *now = 0;
+            }
+        }
+        self.closed = self.closed.saturating_add(1);
+    }
+
+    fn answer(&mut self, rt: &impl Abort, world: &World, event: Event, answer: Happened) {
+        match answer {
+            Happened::Sent => self.sent(rt, world, event),
+            Happened::Replied(Reply::Opened(first, _, _)) => self.open(first),
+            Happened::Replied(Reply::Closed(first)) => {
+                assert_eq!(rt; first, self.first);
+                self.close(rt, world);
+            }
+            Happened::Noted(Reply::Noted(_)) => self.short = self.short.saturating_add(1),
+            Happened::Replied(Reply::Full(_)) => self.full = self.full.saturating_add(1),
+            Happened::Busy(_) => self.busy = self.busy.saturating_add(1),
+            Happened::Settled(units) => self.settled(rt, world, event, units),
+            Happened::NoMemory => panic!(rt; "no memory"),
+            _ => {}
+        }
+    }
+
+    fn sent(&mut self, rt: &impl Abort, world: &World, event: Event) {
+        let Event::Send { port, units, .. } = event else {
+            panic!(rt; "sent by another step");
+        };
+        match world.master().granted(port) {
+            Some(flow) => self.send(rt, flow, units),
+            None => panic!(rt; "sent without a grant"),
+        }
+        if let Some(sent) = self.at_port.get_mut(port as usize) {
+            *sent = sent.saturating_add(units);
+        }
+    }
+
+    fn settled(&mut self, rt: &impl Abort, world: &World, event: Event, units: u64) {
+        let Event::Settle { port } = event else {
+            panic!(rt; "settled by another step");
+        };
+        let sent = self.at_port.get(port as usize).copied().unwrap_or(0);
+        assert_eq!(rt; units, sent);
+        let known = port < world.master().table().ports();
+        assert!(rt; known);
+        if world.port(port).stage == Stage::TakenBack {
+            self.taken_back = self.taken_back.saturating_add(1);
+        }
+    }
+}
+
+#[test]
+fn the_master_credits_what_agents_sent(rt: HostRuntime) {
+    for seed in 0..4u64 {
+        let mut world = world_of_three(&rt, rt.alloc(), 150, 2);
+        let mut draws = Draws { state: seed };
+        let mut tally = new_tally(&rt, rt.alloc());
+        for _ in 0..3000 {
+            let event = draws.event();
+            let answer = world.step(event);
+            tally.answer(&rt, &world, event, answer);
+        }
+        let met = tally.closed > 5
+            && tally.short > 0
+            && tally.taken_back > 0
+            && tally.busy > 0
+            && tally.full > 0;
+        assert!(rt; met);
+    }
+}
