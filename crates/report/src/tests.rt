@@ -337,7 +337,7 @@ fn refuses_numbers(rt: HostRuntime) -> Result<(), Fail> {
 /// Texts of no report, each with its first wrong line.
 #[test]
 fn refuses(rt: HostRuntime) -> Result<(), Fail> {
-    let texts: [(&[u8], u32); 23] = [
+    let texts: [(&[u8], u32); 14] = [
         (b"\n", 1),
         (b"sincronia 3\n", 1),
         (b"sincronia 1\nend\n", 2),
@@ -352,33 +352,29 @@ fn refuses(rt: HostRuntime) -> Result<(), Fail> {
         (b"sincronia 1\nplace 1 2 in 0 1 1\nplace 1 3 in 0 1 1\n", 3),
         (b"sincronia 1\nbound 0\ncost 0\n", 3),
         (b"sincronia 1\nbound 0\nslack 0\ncost +0\n", 4),
-        (b"sincronia 1\nbound 0\nslack 0\ncost 0\nrun 0\nend\n", 5),
-        (b"sincronia 1\nbound 0\nslack 0\ncost 0\nrun 1 \nend\n", 5),
-        (
-            b"sincronia 1\nbound 0\nslack 0\ncost 0\nrun 1 2 2\nend\n",
-            5,
-        ),
-        (
-            b"sincronia 1\nbound 0\nslack 0\ncost 0\nrun 1 3 2\nend\n",
-            5,
-        ),
-        (
-            b"sincronia 1\nbound 0\nslack 0\ncost 0\nrun 2199023255552\nend\n",
-            5,
-        ),
-        (
-            b"sincronia 1\nbound 0\nslack 0\ncost 0\nrun 2199023255551\nrun 1 0\nend\n",
-            6,
-        ),
-        (
-            b"sincronia 1\nbound 0\nslack 0\ncost 0\nrun 1 0\nrun 2 0\nend\n",
-            6,
-        ),
-        (b"sincronia 1\nbound 0\nslack 0\ncost 0\nend\n\n", 6),
-        (b"sincronia 1\nbound 0\nslack 0\ncost 0\nend\nx", 6),
     ];
     for (text, line) in texts {
         assert!(rt; refused_at(&rt, rt.alloc(), text)? == line);
+    }
+    Ok(())
+}
+
+/// What stands behind the totals, from line 5 on, in texts of no report, each with its first wrong line.
+#[test]
+fn refuses_runs(rt: HostRuntime) -> Result<(), Fail> {
+    for (runs, line) in [
+        ("run 0\nend\n", 5),
+        ("run 1 \nend\n", 5),
+        ("run 1 2 2\nend\n", 5),
+        ("run 1 3 2\nend\n", 5),
+        ("run 2199023255552\nend\n", 5),
+        ("run 2199023255551\nrun 1 0\nend\n", 6),
+        ("run 1 0\nrun 2 0\nend\n", 6),
+        ("end\n\n", 6),
+        ("end\nx", 6),
+    ] {
+        let text = format!(in rt.alloc(); "sincronia 1\nbound 0\nslack 0\ncost 0\n{runs}")?;
+        assert!(rt; refused_at(&rt, rt.alloc(), text.as_bytes())? == line);
     }
     Ok(())
 }
