@@ -12,7 +12,7 @@ import subprocess
 import sys
 import tempfile
 
-from program_runs import PROGRAM, TWO, TWO_TEXT, build
+from program_runs import PROGRAM, TOP, TWO, TWO_TEXT, build
 
 REFUSING = r"""
 #include <stddef.h>
@@ -48,12 +48,19 @@ SERIES = [
 ]
 
 
-def run(folder, words, first, last):
-    """The code, standard output and standard error of the words, and how many allocations were refused."""
+def make_library(folder):
+    """Makes the library that refuses allocations."""
+    with open(os.path.join(folder, "refusing.c"), "wb") as file:
+        file.write(REFUSING.encode())
+    subprocess.run(["cc", "-O1", "-fno-builtin", "-shared", "-fPIC", "-o", "refusing.so", "refusing.c"], cwd=folder, check=True)
+
+
+def refusing(folder, program, words, first, last):
+    """The code, standard output and standard error of a program, and how many allocations were refused."""
     environment = dict(os.environ, LD_PRELOAD=os.path.join(folder, "refusing.so"), REFUSE_FIRST=str(first), REFUSE_LAST=str(last))
     reader, writer = os.pipe()
-    done = subprocess.Popen([PROGRAM, *words], cwd=folder, env=environment, stdin=subprocess.DEVNULL, stdout=subprocess.PIPE, stderr=subprocess.PIPE,
-                            pass_fds=(9,) if writer == 9 else (), preexec_fn=lambda: os.dup2(writer, 9), close_fds=False)
+    done = subprocess.Popen([program, *words], cwd=folder, env=environment, stdin=subprocess.DEVNULL, stdout=subprocess.PIPE, stderr=subprocess.PIPE,
+                            preexec_fn=lambda: os.dup2(writer, 9), close_fds=False)
     os.close(writer)
     out, err = done.communicate(timeout=120)
     with os.fdopen(reader, "rb") as pipe:
@@ -63,10 +70,10 @@ def run(folder, words, first, last):
 
 def series(folder, name, words, step, last_of):
     """How many runs ended as they should, and how many did not."""
-    whole, _ = run(folder, words, 0, 0)
+    whole, _ = refusing(folder, PROGRAM, words, 0, 0)
     passed, failed, over, number = 0, 0, [], 1
     while True:
-        have, refused = run(folder, words, number, last_of(number))
+        have, refused = refusing(folder, PROGRAM, words, number, last_of(number))
         if refused == 0:
             break
         if have == whole:
@@ -88,10 +95,10 @@ def main():
         return 1
     passed, failed = 0, 0
     with tempfile.TemporaryDirectory() as folder:
-        for name, content in (("refusing.c", REFUSING.encode()), ("t", TWO), ("w", b"1 1\n"), ("r", TWO_TEXT)):
+        for name, content in (("t", TWO), ("w", b"1 1\n"), ("r", TWO_TEXT)):
             with open(os.path.join(folder, name), "wb") as file:
                 file.write(content)
-        subprocess.run(["cc", "-O1", "-fno-builtin", "-shared", "-fPIC", "-o", "refusing.so", "refusing.c"], cwd=folder, check=True)
+        make_library(folder)
         for name, words, step in SERIES:
             for kind, last_of in (("alone", lambda number: number), ("and later ones", lambda number: 10**9)):
                 good, bad = series(folder, name + " " + kind, words, step, last_of)

@@ -5,6 +5,8 @@ use outside::{MemShelf, MemSink};
 use std::alloc::Global;
 use std::process::Abort;
 use std::test::Fail;
+use trace_reader::TraceFault;
+use weights::WeightsFault;
 
 const TWO: &[u8] = b"2 2\n1 0 1 0 1 1:3\n2 0 1 0 1 1:1\n";
 
@@ -128,17 +130,20 @@ fn files_of_a_check_are_looked_at_in_turn(rt: HostRuntime) -> Result<(), Fail> {
         b"sincronia 1\nplace 1 2 in 0 733007751851 1\nplace 2 1 in 0 366503875925 4\nbound 5\nslack 1\ncost 5\nrun 1 1\nrun 3 0\n";
     let zero: &[u8] =
         b"sincronia 1\nplace 1 2 in 0 733007751851 1\nplace 2 1 in 0 366503875925 4\nbound 5\nslack 1\ncost 5\nrun 1 1\nrun 03 0\nend\n";
-    let rows: [([&[u8]; 3], u8, &str); 5] = [
-        ([TWO, b"", no_end], 5, "report: line 9"),
-        ([TWO, b"", zero], 5, "report: line 8"),
-        ([TWO, b"", b""], 5, "report: line 1"),
-        ([TWO, b"9 1", no_end], 4, "weights: line 1 unknown id 9"),
-        ([b"", b"9 1", no_end], 3, "trace: bad header"),
+    let unknown = WeightsFault::UnknownId { line: 1, id: 9 };
+    let rows: [([&[u8]; 3], Status); 5] = [
+        ([TWO, b"", no_end], Status::BadReport { line: 9 }),
+        ([TWO, b"", zero], Status::BadReport { line: 8 }),
+        ([TWO, b"", b""], Status::BadReport { line: 1 }),
+        ([TWO, b"9 1", no_end], Status::BadWeights(unknown)),
+        (
+            [b"", b"9 1", no_end],
+            Status::BadTrace(TraceFault::BadHeader),
+        ),
     ];
-    for (files, code, line) in rows {
+    for (files, want) in rows {
         let (status, out) = checked(alloc, &["--weights=w"], files, Vec::new(alloc))?;
-        assert_eq!(rt; status.code(), code);
-        assert_eq!(rt; format!(in alloc; "{status}")?.as_str(), line);
+        assert_eq!(rt; status, want);
         assert_eq!(rt; out.bytes().len(), 0);
     }
     Ok(())

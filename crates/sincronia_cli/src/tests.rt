@@ -303,12 +303,8 @@ fn runs_and_single_slots_make_one_schedule(rt: HostRuntime) -> Result<(), Fail> 
     for (text, unit, order) in rows {
         let fit = text.len() <= MAX_TEXT && unit >= 1 && unit <= 1024;
         assert!(rt; fit);
-        let Ok(trace) = read_trace(alloc, text) else {
-            panic!(rt; "no trace");
-        };
-        let Ok(table) = Table::build(alloc, &trace, unit) else {
-            panic!(rt; "no table");
-        };
+        let trace = read_trace(alloc, text)?;
+        let table = Table::build(alloc, &trace, unit)?;
         serve_both(&rt, alloc, &table, order)?;
     }
     Ok(())
