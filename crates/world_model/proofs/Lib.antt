@@ -11,3 +11,4 @@ pub mod BusySteps
 pub mod Fields
 pub mod LawfulWorlds
 pub mod RowChecks
+pub mod RunReplies

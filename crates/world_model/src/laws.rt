@@ -13,12 +13,13 @@ ghost use Rattle.world_model.specs.Lawful.{ClosesAsSent, IsLegalWorld, IsWorld, 
 ghost use Rattle.world_model.specs.Rows.{Shorts, Turns};
 
 /// After every list of steps from a new world, whatever callers, agents and the driver did and in whatever order: the journal is legal; no pair of a slot and a flow was sent twice; no
-/// flow was sent more units than it has; each closing credited to each flow what was sent for it in the run; and each opening granted the grants of its line, so that a flow waits only for
-/// a coflow no later in the line.
+/// flow was sent more units than it has; nothing was sent past the open run; each closing credited to each flow what was sent for it in the run; and each opening granted the grants of its
+/// line, for as long as they allow, so that a flow waits only for a coflow no later in the line.
 pub fn worlds_are_lawful()
     ensures legal { (o : Opening) (agents : ℕ) (events : List Event) → IsOpening o → IsLegalWorld (world_of (new_world o agents) events) }
     ensures once { (o : Opening) (agents : ℕ) (events : List Event) → IsOpening o → SendsOnce (world_of (new_world o agents) events) }
     ensures within { (o : Opening) (agents : ℕ) (events : List Event) → IsOpening o → SendsWithin (world_of (new_world o agents) events) }
+    ensures in_time { (o : Opening) (agents : ℕ) (events : List Event) → IsOpening o → SendsInTime (world_of (new_world o agents) events) }
     ensures credited { (o : Opening) (agents : ℕ) (events : List Event) → IsOpening o → ClosesAsSent (world_of (new_world o agents) events) }
     ensures granted { (o : Opening) (agents : ℕ) (events : List Event) → IsOpening o → OpensGrants (world_of (new_world o agents) events) }
     ensures patient { (o : Opening) (agents : ℕ) (events : List Event) → IsOpening o → OpensPatiently (world_of (new_world o agents) events) }
@@ -44,7 +45,7 @@ pub fn kept_worlds_are_lawful()
     ensures within { (w : WorldFacts) → IsWorld w → SendsWithin w }
     ensures in_time { (w : WorldFacts) → IsWorld w → SendsInTime w }
     ensures credited { (w : WorldFacts) → IsWorld w → ClosesAsSent w }
-    ensures granted { (w : WorldFacts) → OpensGrants w }
+    ensures granted { (w : WorldFacts) → IsWorld w → OpensGrants w }
     ensures patient { (w : WorldFacts) → OpensPatiently w }
 {}
 

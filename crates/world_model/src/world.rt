@@ -92,8 +92,8 @@ impl World {
     /// The world after a list of steps from a new one, of this master, whose journal is empty, and of so many agents. A step that may not be taken is passed over. The error is want
     /// of memory.
     ///
-    /// Whatever the steps are: the journal is legal; no pair of a slot and a flow was sent twice, and no flow more often than it has units; each closing credited to each flow what was
-    /// sent for it in the run; each opening granted the grants of its line, so that a flow of the line waits only for a coflow no later in it.
+    /// Whatever the steps are: the journal is legal; no pair of a slot and a flow was sent twice, no flow more often than it has units, and nothing past the open run; each closing
+    /// credited to each flow what was sent for it in the run; each opening granted the grants of its line, so that a flow of the line waits only for a coflow no later in it.
     pub fn play(
         alloc: Global,
         master: Master,
@@ -105,6 +105,7 @@ impl World {
         ensures legal { IfOk result (λ w. IsLegalWorld w) }
         ensures once { IfOk result (λ w. SendsOnce w) }
         ensures within { IfOk result (λ w. SendsWithin w) }
+        ensures in_time { IfOk result (λ w. SendsInTime w) }
         ensures credited { IfOk result (λ w. ClosesAsSent w) }
         ensures granted { IfOk result (λ w. OpensGrants w) }
         ensures patient { IfOk result (λ w. OpensPatiently w) }
@@ -153,9 +154,11 @@ impl World {
         self.ports[port as usize]
     }
 
-    /// The runs that agents sent, the first first. No pair of a slot and a flow stands twice in them, no flow has more units there than it has, and none stands past the open run.
+    /// The runs that agents sent, the first first. No pair of a slot and a flow stands twice in them, no flow has more units there than it has, and none stands past the open run. The
+    /// world has what every step keeps.
     pub fn sent(&self) -> &[SentRun]
         ensures sent { result.now ≡ self.now.sent }
+        ensures kept { IsWorld self.now }
         ensures once { SendsOnce self.now }
         ensures within { SendsWithin self.now }
         ensures in_time { SendsInTime self.now }
