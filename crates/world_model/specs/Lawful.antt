@@ -14,7 +14,7 @@ use Rattle.master_core.specs.Sound.{InRange}
 use Rattle.world_model.specs.declared.sent.SentRun.{SentRun}
 use Rattle.world_model.specs.Sent.{sent_in, sent_of, times_sent}
 use Rattle.world_model.specs.World.{WorldFacts, run_of}
-use Rattle.world_model.specs.Kept.{KeepsWorld}
+use Rattle.world_model.specs.Kept.{IsKeptWorld}
 use Rattle.world_model.specs.Credited.{IsCredited}
 
 -- each reply of the master is that of its definition, and each command was in range
@@ -69,5 +69,5 @@ OpensPatiently w = (before more : List Entry) (e : Entry) (slot slots count : â„
 pub record IsWorld (w : WorldFacts) : Type 0 where
   pub opening : IsOpening w.opening
   pub legal : IsLegalWorld w
-  pub kept : KeepsWorld w
+  pub kept : IsKeptWorld w
   pub credited : IsCredited w.opening w.sent (state_of w.opening w.journal).next w.journal

@@ -81,10 +81,11 @@ answered w (Settle port) = answered_by (port_at w port) (port_at w port).stage
 answered w (Note port) = Noted (reply_of w.opening w.journal (settled_note w port))
 answered w Close = Replied (reply_of w.opening w.journal CloseRun)
 
--- a step that may not be taken is blocked and changes nothing
+-- the world after a step; one that may not be taken changes nothing
 abbrev pub world_after : WorldFacts → Event → WorldFacts
 world_after w e = if can w e then moved w e else w
 
+-- the answer to a step, which is Blocked where the step may not be taken
 abbrev pub happened : WorldFacts → Event → Happened
 happened w e = if can w e then answered w e else Blocked
 
