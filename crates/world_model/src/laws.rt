@@ -8,7 +8,7 @@ ghost use Rattle.world_model.specs.declared.event.Event.TheVariants.{Ask, Post, 
 ghost use Rattle.world_model.specs.declared.event.Happened.TheVariants.{Blocked, Busy};
 ghost use Rattle.world_model.specs.World.{WorldFacts, new_world, port_at};
 ghost use Rattle.world_model.specs.Guards.{can};
-ghost use Rattle.world_model.specs.Steps.{IsBusy, happened, is_full_answer, leaves, moved, world_after, world_of};
+ghost use Rattle.world_model.specs.Steps.{IsBusy, IsSameButJournal, happened, is_full_answer, is_refused_answer, leaves, moved, world_after, world_of};
 ghost use Rattle.world_model.specs.Lawful.{ClosesAsSent, IsLegalWorld, IsWorld, OpensGrants, OpensPatiently, SendsInTime, SendsOnce, SendsWithin};
 ghost use Rattle.world_model.specs.Rows.{Shorts, Turns};
 
@@ -49,12 +49,13 @@ pub fn kept_worlds_are_lawful()
     ensures patient { (w : WorldFacts) → OpensPatiently w }
 {}
 
-/// What steps leave as it was: no step changes the opening, a step that is blocked, or answered Full or Busy, changes nothing, and a step at one port leaves the others. Busy comes
-/// exactly where a post is to be settled that an agent has drawn and not reported.
+/// What steps leave as it was: no step changes the opening, a step that is blocked, or answered Full or Busy, changes nothing, one that the master refuses changes nothing but the journal,
+/// and a step at one port leaves the others. Busy comes exactly where a post is to be settled that an agent has drawn and not reported.
 pub fn steps_leave_the_rest()
     ensures opening { (w : WorldFacts) (e : Event) → (world_after w e).opening ≡ w.opening }
     ensures blocked { (w : WorldFacts) (e : Event) → can w e ≡ false → (happened w e ≡ Blocked) × (world_after w e ≡ w) }
     ensures full { (w : WorldFacts) (e : Event) → is_full_answer (happened w e) ≡ true → world_after w e ≡ w }
+    ensures refused { (w : WorldFacts) (e : Event) → is_refused_answer (happened w e) ≡ true → IsSameButJournal w (world_after w e) }
     ensures busy { (w : WorldFacts) (e : Event) (word : ℕ) → happened w e ≡ Busy word → IsBusy w e word × (world_after w e ≡ w) }
     ensures drawn { (w : WorldFacts) (e : Event) (word : ℕ) → IsBusy w e word → happened w e ≡ Busy word }
     ensures others { (w : WorldFacts) (e : Event) (q : ℕ) → leaves e q ≡ true → port_at (world_after w e) q ≡ port_at w q }
