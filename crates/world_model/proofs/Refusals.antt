@@ -1,5 +1,5 @@
 -- A command that the master refuses changes nothing but the journal.
-use Rattle.std.proofs.Common.{◌≡◌, ℕ, Bool, true, false, List, refl, sym, ap, ◌∙◌}
+use Rattle.std.proofs.Common.{◌≡◌, ℕ, Bool, true, false, List, refl, sym, ap, subst, ◌∙◌}
 use Rattle.std.specs.Prelude.{if◌then◌else◌}
 use Rattle.coflow_units.specs.PortWord.{PortStage}
 use Rattle.coflow_units.specs.PortWord.PortStage.{drawn, reported}
@@ -12,6 +12,7 @@ use Rattle.master_core.specs.Journal.{is_refusal}
 use Rattle.master_core.proofs.Growth.{state_stays}
 use Rattle.world_model.specs.declared.event.Event.{Event}
 use Rattle.world_model.specs.declared.event.Event.TheVariants.{Ask, Settle, Note, Close}
+use Rattle.world_model.specs.declared.event.Happened.{Happened}
 use Rattle.world_model.specs.declared.event.Happened.TheVariants.{Blocked}
 use Rattle.world_model.specs.Port.{PortFacts, answered_by}
 use Rattle.world_model.specs.World.{WorldFacts, port_at}
@@ -48,3 +49,6 @@ refused_by w e false is = no_way is
 
 pub refused_leaves : (w : WorldFacts) (e : Event) → is_refused_answer (happened w e) ≡ true → IsSameButJournal w (world_after w e)
 refused_leaves w e is = refused_by w e (can w e) is
+
+pub refused_goes : (w v : WorldFacts) (e : Event) (answer : Happened) → answer ≡ happened w e → v ≡ world_after w e → is_refused_answer answer ≡ true → IsSameButJournal w v
+refused_goes w v e answer is goes refused = subst (IsSameButJournal w) (sym goes) (refused_leaves w e (sym (ap is_refused_answer is) ∙ refused))
