@@ -79,3 +79,7 @@ pub record IsKept (flows : List Flow) (ports : ℕ) (credited : ℕ → ℕ) (ne
 abbrev pub IsKeptWorld : WorldFacts → Type 0
 IsKeptWorld w =
     IsKept w.opening.table.flows w.opening.table.ports (state_of w.opening w.journal).sent (state_of w.opening w.journal).next (state_of w.opening w.journal).run w.ports w.sent
+
+-- what holds of a port of a world, beside its master and the sent runs
+abbrev pub IsPortOf : WorldFacts → ℕ → PortFacts → Type 0
+IsPortOf w p x = IsPort w.opening.table.flows (state_of w.opening w.journal).next (state_of w.opening w.journal).run w.sent p x

@@ -10,7 +10,7 @@ ghost use Rattle.world_model.specs.declared.event.Event.{Event};
 ghost use Rattle.world_model.specs.declared.event.Event.TheVariants.{Ask, Post, Draw, Send, Report, Settle, Note, Close};
 ghost use Rattle.world_model.specs.Port.{PortFacts, port_of, ports_of};
 ghost use Rattle.world_model.specs.World.{WorldFacts, new_world, port_at, run_of};
-ghost use Rattle.world_model.specs.Kept.{IsPort};
+ghost use Rattle.world_model.specs.Kept.{IsPortOf};
 ghost use Rattle.world_model.specs.Guards.{can, in_run, is_done, is_free};
 ghost use Rattle.world_model.specs.Steps.{IsBusy, IsSameButJournal, asks, cleared, happened, is_full_answer, is_opened, is_refused_answer, is_send, world_after, world_of};
 ghost use Rattle.world_model.specs.Lawful.{ClosesAsSent, IsLegalWorld, IsWorld, OpensGrants, OpensPatiently, SendsInTime, SendsOnce, SendsWithin};
@@ -151,7 +151,7 @@ impl World {
     pub fn port(&self, port: u32) -> PortState
         requires { port < self.now.opening.table.ports }
         ensures port { port_of result ≡ port_at self.now port }
-        ensures stage { IsPort self.now.opening.table.flows (state_of self.now.opening self.now.journal).next (run_of self.now) self.now.sent port (port_of result) }
+        ensures stage { IsPortOf self.now port (port_of result) }
     {
         self.ports[port as usize]
     }
