@@ -1,5 +1,5 @@
 //! Laws of the world: what each step keeps, and what holds after every list of steps.
-ghost use Rattle.std.specs.Prelude.{◌≡◌, ◌≢◌, ℕ, ◌<◌, true, false, List};
+ghost use Rattle.std.specs.Prelude.{◌≡◌, ℕ, true, false, List};
 ghost use Rattle.master_core.specs.declared.command.Command.{Command};
 ghost use Rattle.master_core.specs.declared.opening.Opening.{Opening};
 ghost use Rattle.master_core.specs.State.{IsOpening};

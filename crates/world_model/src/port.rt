@@ -1,5 +1,5 @@
 //! An ingress port of a world: its word, its count, and what was settled.
-ghost use Rattle.std.specs.Prelude.{◌≡◌, Some};
+ghost use Rattle.std.specs.Prelude.{◌≡◌};
 ghost use Rattle.coflow_units.specs.PortWord.{FitsWord, is_drawn_by, is_granted, word_of};
 ghost use Rattle.world_model.specs.Port.{answered_by, idle_port, port_of, settled_by, stage_of};
 

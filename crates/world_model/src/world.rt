@@ -1,14 +1,10 @@
 //! The world, and the steps that it takes.
-ghost use Rattle.std.specs.Prelude.{◌≡◌, ◌≢◌, ℕ, ◌<◌, true, false, [], IfOk, List, Some, None, length};
-ghost use Rattle.coflow_units.specs.PortWord.{is_drawn_by};
-ghost use Rattle.master_core.specs.declared.command.Command.TheVariants.{Short};
+ghost use Rattle.std.specs.Prelude.{◌≡◌, ◌≢◌, ℕ, ◌<◌, true, false, [], IfOk, Some};
 ghost use Rattle.master_core.specs.Answer.{reply_of};
-ghost use Rattle.master_core.specs.Fold.{state_of};
 ghost use Rattle.master_core.specs.Runs.{slots_of};
 ghost use Rattle.master_core.specs.Standing.{IsInRange};
-ghost use Rattle.world_model.specs.declared.event.Event.{Event};
 ghost use Rattle.world_model.specs.declared.event.Event.TheVariants.{Ask, Post, Draw, Send, Report, Settle, Note, Close};
-ghost use Rattle.world_model.specs.Port.{PortFacts, port_of, ports_of};
+ghost use Rattle.world_model.specs.Port.{port_of, ports_of};
 ghost use Rattle.world_model.specs.World.{WorldFacts, new_world, port_at, run_of};
 ghost use Rattle.world_model.specs.Kept.{IsPortOf};
 ghost use Rattle.world_model.specs.Guards.{can, in_run, is_done, is_free};
