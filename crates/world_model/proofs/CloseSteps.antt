@@ -19,23 +19,23 @@ use Rattle.world_model.proofs.PortSteps.{mkp, no_way}
 use Rattle.world_model.proofs.SendSteps.{grant_there}
 
 -- where the port of a grant is done, the number that was sent for it is credited
-done_credit : (r : Run) (mine : ℕ) (note settled : Option ℕ) (b : Bool) → settled ≡ Some mine → mine ≤ r.slots → nat_lt mine r.slots ≡ b → IsNote r note settled →
-    (if is_some settled && nat_lt (unwrap_or settled 0) r.slots then is_some note && (unwrap_or note 0 == unwrap_or settled 0) else true) ≡ true → mine ≡ unwrap_or note r.slots
-done_credit r mine None settled true e le lt n done =
-    let known : (if nat_lt mine r.slots then false else true) ≡ true =
+done_credit : (r : Run) (sent_here : ℕ) (note settled : Option ℕ) (b : Bool) → settled ≡ Some sent_here → sent_here ≤ r.slots → nat_lt sent_here r.slots ≡ b → IsNote r note settled →
+    (if is_some settled && nat_lt (unwrap_or settled 0) r.slots then is_some note && (unwrap_or note 0 == unwrap_or settled 0) else true) ≡ true → sent_here ≡ unwrap_or note r.slots
+done_credit r sent_here None settled true e le lt n done =
+    let known : (if nat_lt sent_here r.slots then false else true) ≡ true =
     subst (λ (o : Option ℕ). (if is_some o && nat_lt (unwrap_or o 0) r.slots then false else true) ≡ true) e done in
     no_way (ap (λ b. if b then false else true) (sym lt) ∙ known)
-done_credit r mine None settled false e le lt n done = omega (arith, le, ltb-false mine r.slots lt)
-done_credit r mine (Some v) settled b e le lt n done = ap (λ (o : Option ℕ). unwrap_or o 0) (sym e ∙ n.0)
+done_credit r sent_here None settled false e le lt n done = omega (arith, le, ltb-false sent_here r.slots lt)
+done_credit r sent_here (Some v) settled b e le lt n done = ap (λ (o : Option ℕ). unwrap_or o 0) (sym e ∙ n.0)
 
 -- what a settled port shows
-settled_is : (r : Run) (grant : Option ℕ) (mine : ℕ) (slot flow : ℕ) (stage : PortStage) (count : ℕ) (settled : Option ℕ) → is_some settled ≡ true → IsAtStage r grant mine (mkp slot flow stage count settled) →
-    Rests stage × (slot ≤ r.first) × (settled ≡ Some mine) × (mine ≤ r.slots)
-settled_is r grant mine slot flow stage count settled some (inl x) = absurd (true≢false (sym some ∙ ap is_some x.2))
-settled_is r grant mine slot flow unposted count settled some (inr x) = absurd x.2
-settled_is r grant mine slot flow granted count settled some (inr x) = absurd (true≢false (sym some ∙ ap is_some x.2.1))
-settled_is r grant mine slot flow (drawn a) count settled some (inr x) = absurd (true≢false (sym some ∙ ap is_some x.2.1))
-settled_is r grant mine slot flow (reported a n) count settled some (inr x) = (
+settled_is : (r : Run) (grant : Option ℕ) (sent_here : ℕ) (slot flow : ℕ) (stage : PortStage) (count : ℕ) (settled : Option ℕ) → is_some settled ≡ true → IsAtStage r grant sent_here (mkp slot flow stage count settled) →
+    Rests stage × (slot ≤ r.first) × (settled ≡ Some sent_here) × (sent_here ≤ r.slots)
+settled_is r grant sent_here slot flow stage count settled some (inl x) = absurd (true≢false (sym some ∙ ap is_some x.2))
+settled_is r grant sent_here slot flow unposted count settled some (inr x) = absurd x.2
+settled_is r grant sent_here slot flow granted count settled some (inr x) = absurd (true≢false (sym some ∙ ap is_some x.2.1))
+settled_is r grant sent_here slot flow (drawn a) count settled some (inr x) = absurd (true≢false (sym some ∙ ap is_some x.2.1))
+settled_is r grant sent_here slot flow (reported a n) count settled some (inr x) = (
   tt,
   omega (arith, x.0),
   elim x.2.3 [
@@ -44,13 +44,13 @@ settled_is r grant mine slot flow (reported a n) count settled some (inr x) = (
   ],
   x.2.2,
 )
-settled_is r grant mine slot flow taken_back count settled some (inr x) = (tt, omega (arith, x.0), x.2.0 ∙ ap (λ (m : ℕ). Some m) (sym x.2.1), omega (arith, x.2.1))
+settled_is r grant sent_here slot flow taken_back count settled some (inr x) = (tt, omega (arith, x.0), x.2.0 ∙ ap (λ (m : ℕ). Some m) (sym x.2.1), omega (arith, x.2.1))
 
 -- a port without a grant
-idle_is : (r : Run) (mine : ℕ) (x : PortFacts) (g : Option ℕ) → is_none g ≡ true → IsAtStage r g mine x → Rests x.stage × (x.slot ≤ r.first)
-idle_is r mine x g none (inl h) = (h.0, omega (arith, h.1))
-idle_is r mine x None none (inr h) = absurd (true≢false (sym (ap is_some h.1)))
-idle_is r mine x (Some f) none (inr h) = no_way none
+idle_is : (r : Run) (sent_here : ℕ) (x : PortFacts) (g : Option ℕ) → is_none g ≡ true → IsAtStage r g sent_here x → Rests x.stage × (x.slot ≤ r.first)
+idle_is r sent_here x g none (inl h) = (h.0, omega (arith, h.1))
+idle_is r sent_here x None none (inr h) = absurd (true≢false (sym (ap is_some h.1)))
+idle_is r sent_here x (Some f) none (inr h) = no_way none
 
 done_parts : (g x : Bool) → g ≡ false → (if g then true else x) ≡ true → x ≡ true
 done_parts true x e h = absurd (true≢false e)
@@ -97,7 +97,7 @@ kept_close o credited next r xs sent low done sound h =
         ];
       };
       apart = h.apart;
-      paid = λ f. omega (arith, h.paid f, credits_sent o credited next r xs sent low done h f);
+      accounted = λ f. omega (arith, h.accounted f, credits_sent o credited next r xs sent low done h f);
       port = λ q lt. elim (cases_Bool (is_none (grant_in o.table.flows r.granted q))) [
         | inl none ↦ let k = idle_is r (sent_for sent q r.first) (at q) (g q) none ((h.port q lt).0) in (k.0, omega (arith, k.1, sound.open_run.some))
         | inr there ↦ let k = known q lt there in (k.0, omega (arith, k.1, sound.open_run.some))

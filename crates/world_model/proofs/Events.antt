@@ -33,7 +33,7 @@ use Rattle.world_model.specs.Sent.{sent_for}
 use Rattle.world_model.specs.World.{WorldFacts, new_world, port_at, run_of}
 use Rattle.world_model.specs.Guards.{can, in_run, is_done, is_free, is_posted, is_short}
 use Rattle.world_model.specs.Steps.{asks, moved, ports_after, posted, run_sent, sent_at, settled_note, world_after, world_of}
-use Rattle.world_model.specs.Kept.{IsKept, IsPort, KeepsWorld}
+use Rattle.world_model.specs.Kept.{IsKept, IsPort, IsKeptWorld}
 use Rattle.world_model.specs.Credited.{CreditsSent, IsCredited}
 use Rattle.world_model.specs.Lawful.{IsLegalWorld, IsWorld}
 use Rattle.world_model.proofs.PortSteps.{draw_ok, is_some_value, kept_port, mkp, no_way, post_ok, report_ok, settle_ok}
@@ -139,7 +139,7 @@ close_step o j l w p credited (Some r) next xs sent ok done sound h =
 
 -- what a command leaves, with room in the journal or without
 asked_kept : (w : WorldFacts) (who : ℕ) (k : Command) → KeptBy w.opening (state_of w.opening w.journal) w.ports w.sent k (reply_of w.opening w.journal k) → IsWorld w →
-    KeepsWorld (asks w who k) × IsCredited w.opening w.sent (state_of w.opening (journal_after w.opening w.journal who k)).next (journal_after w.opening w.journal who k)
+    IsKeptWorld (asks w who k) × IsCredited w.opening w.sent (state_of w.opening (journal_after w.opening w.journal who k)).next (journal_after w.opening w.journal who k)
 asked_kept w who k by h =
     let o = w.opening in
     let is = sym (state_after o w.journal who k) in (
@@ -326,7 +326,7 @@ new_is_world o agents ok = record {
     wide = many o.table.ports idle_port;
     each_sent = λ k d lt. absurd (omega arith);
     apart = λ i j d lt in'. absurd (omega arith);
-    paid = λ f. omega arith;
+    accounted = λ f. omega arith;
     port = λ p lt. subst (IsPort o.table.flows 1 None [] p) (sym (same_all o.table.ports p idle_port)) (tt, omega arith);
   };
   credited = tt;

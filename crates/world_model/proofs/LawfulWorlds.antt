@@ -1,19 +1,19 @@
 -- What holds of a world that has what every step keeps.
-use Rattle.std.proofs.Common.{◌≡◌, ℕ, ◌+◌, ◌≤◌, ◌<◌, ◌⊎◌, inl, inr, List, [], ◌∷◌, ◌++◌, Contains, length, get_or, take, refl, sym, ap, subst, ◌∙◌, arith, Option, Some, None}
+use Rattle.std.proofs.Common.{◌≡◌, ℕ, ◌+◌, ◌-◌, ◌≤◌, ◌<◌, ◌⊎◌, min, inl, inr, List, [], ◌∷◌, ◌++◌, Contains, length, get_or, take, refl, sym, ap, subst, ◌∙◌, arith, Option, Some, None}
 use Rattle.std.proofs.lemmas.List.{take_more}
 use Rattle.coflow_units.specs.declared.fabric.Flow.{Flow}
-use Rattle.coflow_units.specs.Grants.{IsBlocked, IsGrants}
+use Rattle.coflow_units.specs.Grants.{IsBlocked, IsGrants, IsRunLength}
 use Rattle.coflow_units.specs.Patient.{IsServedOrWaits}
 use Rattle.master_core.specs.declared.command.Entry.{Entry}
 use Rattle.master_core.specs.declared.command.Reply.{Reply}
 use Rattle.master_core.specs.declared.command.Reply.TheVariants.{Closed}
 use Rattle.master_core.specs.declared.opening.Opening.{Opening}
-use Rattle.master_core.specs.State.{IsOpening, Run, State, owed}
+use Rattle.master_core.specs.State.{IsOpening, Run, State, owed, slot_end}
 use Rattle.master_core.specs.Runs.{granted}
 use Rattle.master_core.specs.Fold.{after, start, state_of}
-use Rattle.master_core.specs.Journal.{line_of}
+use Rattle.master_core.specs.Journal.{IsLegal, line_of}
 use Rattle.master_core.proofs.Growth.{state_snoc}
-use Rattle.master_core.proofs.Opened.{opened_grants}
+use Rattle.master_core.proofs.Opened.{opened_grants, run_length_is}
 use Rattle.world_model.specs.declared.event.Event.{Event}
 use Rattle.world_model.specs.declared.sent.SentRun.{SentRun}
 use Rattle.world_model.specs.Sent.{sent_in}
@@ -24,6 +24,7 @@ use Rattle.world_model.specs.Credited.{CreditsSent, IsCredited}
 use Rattle.world_model.specs.Lawful.{ClosesAsSent, IsWorld, OpensGrants, OpensPatiently, SendsInTime, SendsOnce, SendsWithin, end_of}
 use Rattle.world_model.proofs.Within.{kept_within}
 use Rattle.world_model.proofs.Credits.{credited_at, pair_once}
+use Rattle.world_model.proofs.RunReplies.{TellsRun, entry_tells}
 use Rattle.world_model.proofs.Events.{low_of, new_is_world, sound_of, steps_keep}
 
 pub sends_once : (w : WorldFacts) → IsWorld w → SendsOnce w
@@ -51,17 +52,33 @@ closing_credits o sent next slot s e r reply run h f =
     ap (λ (x : Reply). (after o s e.command x).sent f) reply ∙ ap (λ (x : Option Run). (Rattle.master_core.specs.Fold.closed o s x).sent f) run ∙ ap (λ n. s.sent f + n) (closes.1 f)
 
 pub closes_as_sent : (w : WorldFacts) → IsWorld w → ClosesAsSent w
-closes_as_sent w h = λ before more e slot r is reply run f.
+closes_as_sent w h = λ before more e slot is reply.
     let o = w.opening in
     let next = (state_of o w.journal).next in
     let there = credited_at o w.sent next (start o) before more e (subst (IsCredited o w.sent next) is h.credited) in
-    ap (λ (s : State). s.sent f) (state_snoc o before e) ∙ closing_credits o w.sent next slot (state_of o before) e r reply run there f
+    let (r, run, first) = subst (TellsRun o (state_of o before) e.command) reply (entry_tells o before more e (subst (IsLegal o) is h.legal.0)) in
+    (r, run, first, λ f. ap (λ (s : State). s.sent f) (state_snoc o before e) ∙ closing_credits o w.sent next slot (state_of o before) e r reply run there f)
 
-pub opens_grants : (w : WorldFacts) → OpensGrants w
-opens_grants w = λ before more e slot slots count is reply.
+pub opens_grants : (w : WorldFacts) → IsWorld w → OpensGrants w
+opens_grants w h = λ before more e slot slots count is reply.
     let o = w.opening in
+    let s = state_of o before in
     let (run, grants) = opened_grants o before e slot slots count reply in
-    (record { first = slot; slots = slots; granted = granted o (state_of o before); notes = [] }, run, refl, refl, grants)
+    let (most, command, next, len, counted) = subst (TellsRun o s e.command) reply (entry_tells o before more e (subst (IsLegal o) is h.legal.0)) in
+    let long = subst (IsRunLength (owed o s) (granted o s) (min most (slot_end - s.next))) (sym len) (run_length_is o s most) in (
+      most,
+      record { first = slot; slots = slots; granted = granted o s; notes = [] },
+      command,
+      run,
+      record {
+        begins = refl;
+        at_next = next;
+        lasts = refl;
+        counted = sym counted;
+        grants = grants;
+        longest = subst (λ n. IsRunLength (owed o s) (granted o s) (min most (slot_end - n)) slots) (sym next) long;
+      },
+    )
 
 waits : (flows : List Flow) (line granted : List ℕ) (f : ℕ) → Contains granted f ⊎ IsBlocked flows line granted f → IsServedOrWaits flows line granted f
 waits flows line granted f (inl h) = inl h
@@ -78,7 +95,8 @@ waits flows line granted f (inr (g, in', before, shares)) = inr (
 pub opens_patiently : (w : WorldFacts) → OpensPatiently w
 opens_patiently w = λ before more e slot slots count r is reply run f lt in' owes.
     let o = w.opening in
-    let (r', made, first, len, grants) = opens_grants w before more e slot slots count is reply in
+    let r' : Run = record { first = slot; slots = slots; granted = granted o (state_of o before); notes = [] } in
+    let (made, grants) = opened_grants o before e slot slots count reply in
     let same : Some r' ≡ Some r = sym made ∙ run in
     let same' : r' ≡ r = cc in
     let grants' = subst (λ (x : Run). IsGrants o.table.flows (line_of o before) (owed o (state_of o before)) x.granted) same' grants in

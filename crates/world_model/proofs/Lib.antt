@@ -8,6 +8,8 @@ pub mod Legality
 pub mod Credits
 pub mod Events
 pub mod BusySteps
+pub mod Refusals
 pub mod Fields
 pub mod LawfulWorlds
 pub mod RowChecks
+pub mod RunReplies

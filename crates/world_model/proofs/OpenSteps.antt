@@ -17,7 +17,7 @@ kept_later flows ports credited next later xs sent le h = record {
   wide = h.wide;
   each_sent = λ k d low. let x = h.each_sent k d low in record { slot_some = x.slot_some; units_some = x.units_some; at_ingress = x.at_ingress; in_time = omega (arith, x.in_time, le) };
   apart = h.apart;
-  paid = h.paid;
+  accounted = h.accounted;
   port = λ q low. ((h.port q low).0, omega (arith, (h.port q low).1, le));
 }
 
@@ -52,7 +52,7 @@ kept_open flows ports credited next slots gs xs sent h =
       wide = length-map xs (λ (x : PortFacts). record x { settled = None }) ∙ h.wide;
       each_sent = λ k d low. let x = h.each_sent k d low in record { slot_some = x.slot_some; units_some = x.units_some; at_ingress = x.at_ingress; in_time = inl x.in_time };
       apart = h.apart;
-      paid = λ f. omega (arith, h.paid f, now_none (has gs f) (sent_for sent (ingress_of flows f) next) (none (ingress_of flows f)));
+      accounted = λ f. omega (arith, h.accounted f, now_none (has gs f) (sent_for sent (ingress_of flows f) next) (none (ingress_of flows f)));
       port = λ q low.
           subst (λ (y : PortFacts). IsPort flows next (Some (record { first = next; slots = slots; granted = gs; notes = [] })) sent q y)
           (sym (get_or-map-same xs q (omega (arith, low, h.wide))))
@@ -69,7 +69,7 @@ kept_note flows ports credited next r xs sent p n settled lt h = record {
   wide = h.wide;
   each_sent = λ k d low. let x = h.each_sent k d low in record { slot_some = x.slot_some; units_some = x.units_some; at_ingress = x.at_ingress; in_time = x.in_time };
   apart = h.apart;
-  paid = h.paid;
+  accounted = h.accounted;
   port = λ q low. (
     (h.port q low).0,
     note_more r p q n (get_or xs q idle_port).settled (p == q) refl (λ e. (ap (λ k. (get_or xs k idle_port).settled) (sym e) ∙ settled, lt)) ((h.port q low).1),

@@ -24,7 +24,7 @@ kept_port flows ports credited next run xs sent p x lt h new = record {
   wide = length-set xs p x ∙ h.wide;
   each_sent = h.each_sent;
   apart = h.apart;
-  paid = h.paid;
+  accounted = h.accounted;
   port = λ q low. port_set (λ (y : PortFacts). IsPort flows next run sent q y) xs p x q (omega (arith, h.wide, lt))
       (λ e. subst (λ n. IsPort flows next run sent n x) e (new (h.port p lt))) (h.port q low);
 }

@@ -119,7 +119,7 @@ kept_send flows ports credited next r xs sent p a u lt drew none some fits sound
     let (slot, grant, count) = drawn_facts flows next r sent p y.slot y.flow y.stage y.count y.settled a drew (h.port p lt) in
     let (in', at) = grant_has flows r.granted p y.flow grant in
     let x : SentRun = record { slot = y.slot; flow = y.flow; units = u; port = p } in
-    let mine : sent_for sent p r.first ≡ 0 = ap (sent_for sent p) (sym slot) ∙ none in
+    let sent_here : sent_for sent p r.first ≡ 0 = ap (sent_for sent p) (sym slot) ∙ none in
     record {
       wide = h.wide;
       each_sent = All-push (IsSentRun flows next (Some r)) sent x h.each_sent (record {
@@ -131,13 +131,13 @@ kept_send flows ports credited next r xs sent p a u lt drew none some fits sound
       apart = all_pairs_push IsApart sent x h.apart (λ k d low same. elim ((h.each_sent k d low).in_time) [
         | inl old ↦ inl (omega (arith, old, slot))
         | inr now ↦
-            absurd (omega (arith, sent_member sent p r.first k d low ((h.each_sent k d low).at_ingress ∙ ap (ingress_of flows) same ∙ at) now.0, mine, (h.each_sent k d low).units_some))
+            absurd (omega (arith, sent_member sent p r.first k d low ((h.each_sent k d low).at_ingress ∙ ap (ingress_of flows) same ∙ at) now.0, sent_here, (h.each_sent k d low).units_some))
       ]);
-      paid = λ f. paid_step flows (credited f) r sent x f (has r.granted f) refl sound.open_run.clear slot (sym at) in' (h.paid f);
+      accounted = λ f. paid_step flows (credited f) r sent x f (has r.granted f) refl sound.open_run.clear slot (sym at) in' (h.accounted f);
       port = λ q low. elim (cases_eq p q) [
         | inl e ↦ subst (λ n. IsPort flows next (Some r) (sent ++ x ∷ []) n (get_or xs n idle_port)) e
             (more_sent flows next r sent (sent ++ x ∷ []) p y.slot y.flow y.stage y.count y.settled a drew
-            (omega (arith, sent_more sent x p r.first, mine, fits, count, ap (λ b. if b then u else 0) (both_true p p y.slot r.first refl slot))) (h.port p lt))
+            (omega (arith, sent_more sent x p r.first, sent_here, fits, count, ap (λ b. if b then u else 0) (both_true p p y.slot r.first refl slot))) (h.port p lt))
         | inr ne ↦ as_much flows next r sent (sent ++ x ∷ []) q (get_or xs q idle_port)
             (omega (arith, sent_more sent x q r.first, ap (λ b. if b && (y.slot == r.first) then u else 0) (ne_eqb p q ne))) (h.port q low)
       ];

@@ -19,25 +19,25 @@ now_fits : (flows : List Flow) (sent : List SentRun) (r : Run) (f credited : ℕ
 now_fits flows sent r f credited true e le owes fits = omega (arith, owes (any_has r.granted f e))
 now_fits flows sent r f credited false e le owes fits = omega arith
 
-mine_fits : (slots mine count : ℕ) (settled : Option ℕ) (stage : PortStage) → ByStage slots mine count settled stage → mine ≤ slots
-mine_fits slots mine count settled unposted h = absurd h
-mine_fits slots mine count settled granted h = omega (arith, h.2)
-mine_fits slots mine count settled (drawn a) h = h.2
-mine_fits slots mine count settled (reported a n) h = h.2
-mine_fits slots mine count settled taken_back h = omega (arith, h.1)
+sent_here_fits : (slots sent_here count : ℕ) (settled : Option ℕ) (stage : PortStage) → ByStage slots sent_here count settled stage → sent_here ≤ slots
+sent_here_fits slots sent_here count settled unposted h = absurd h
+sent_here_fits slots sent_here count settled granted h = omega (arith, h.2)
+sent_here_fits slots sent_here count settled (drawn a) h = h.2
+sent_here_fits slots sent_here count settled (reported a n) h = h.2
+sent_here_fits slots sent_here count settled taken_back h = omega (arith, h.1)
 
-pub stage_fits : (r : Run) (grant : Option ℕ) (mine : ℕ) (x : PortFacts) → IsAtStage r grant mine x → mine ≤ r.slots
-stage_fits r grant mine x (inl h) = omega (arith, h.3)
-stage_fits r grant mine x (inr h) = mine_fits r.slots mine x.count x.settled x.stage h.2
+pub stage_fits : (r : Run) (grant : Option ℕ) (sent_here : ℕ) (x : PortFacts) → IsAtStage r grant sent_here x → sent_here ≤ r.slots
+stage_fits r grant sent_here x (inl h) = omega (arith, h.3)
+stage_fits r grant sent_here x (inr h) = sent_here_fits r.slots sent_here x.count x.settled x.stage h.2
 
 -- no flow is sent more units than it has
 pub kept_within : (flows : List Flow) (ports : ℕ) (credited : ℕ → ℕ) (next : ℕ) (run : Option Run) (xs : List PortFacts) (sent : List SentRun) → ((f : ℕ) → ingress_of flows f < ports) →
     IsSound flows credited next run → IsKept flows ports credited next run xs sent → (f : ℕ) → sent_of sent f ≤ units_of flows f
-kept_within flows ports credited next None xs sent low sound h f = omega (arith, h.paid f, sound.within f)
+kept_within flows ports credited next None xs sent low sound h f = omega (arith, h.accounted f, sound.within f)
 kept_within flows ports credited next (Some r) xs sent low sound h f =
     omega (
       arith,
-      h.paid f,
+      h.accounted f,
       now_fits flows sent r f (credited f) (has r.granted f) refl (sound.within f) (sound.open_run.owed f)
           (stage_fits r (grant_in flows r.granted (ingress_of flows f)) (sent_for sent (ingress_of flows f) r.first) (get_or xs (ingress_of flows f) idle_port) (h.port (ingress_of flows f) (low f)).0),
     )

@@ -21,5 +21,6 @@ abbrev pub CreditedFrom : Opening → List SentRun → ℕ → State → List En
 CreditedFrom o sent next s [] = Unit {0}
 CreditedFrom o sent next s (e ∷ es) = CreditsSent o sent next e.reply s.run × CreditedFrom o sent next (after o s e.command e.reply) es
 
+-- so it is with each entry of the journal
 abbrev pub IsCredited : Opening → List SentRun → ℕ → List Entry → Type 0
 IsCredited o sent next journal = CreditedFrom o sent next (start o) journal

@@ -42,19 +42,19 @@ Rests stage = Unit {0}
 
 -- the port was not posted in the run: its last post rests and is of an earlier run, and nothing is settled and nothing sent
 abbrev pub IsNotPosted : Run → ℕ → PortFacts → Type 0
-IsNotPosted r mine x = Rests x.stage × (x.slot < r.first) × (x.settled ≡ None) × (mine ≡ 0)
+IsNotPosted r sent_here x = Rests x.stage × (x.slot < r.first) × (x.settled ≡ None) × (sent_here ≡ 0)
 
 -- the count, what is settled, and what was sent, by the stage of a post in a run of so many slots
 abbrev pub ByStage : ℕ → ℕ → ℕ → Option ℕ → PortStage → Type 0
-ByStage slots mine count settled unposted = ⊥
-ByStage slots mine count settled granted = (count ≡ slots) × (settled ≡ None) × (mine ≡ 0)
-ByStage slots mine count settled (drawn agent) = (count ≡ slots) × (settled ≡ None) × (mine ≤ slots)
-ByStage slots mine count settled (reported agent n) = (n ≡ mine) × (count ≡ mine) × (mine ≤ slots) × ((settled ≡ None) ⊎ (settled ≡ Some mine))
-ByStage slots mine count settled taken_back = (settled ≡ Some 0) × (mine ≡ 0)
+ByStage slots sent_here count settled unposted = ⊥
+ByStage slots sent_here count settled granted = (count ≡ slots) × (settled ≡ None) × (sent_here ≡ 0)
+ByStage slots sent_here count settled (drawn agent) = (count ≡ slots) × (settled ≡ None) × (sent_here ≤ slots)
+ByStage slots sent_here count settled (reported agent n) = (n ≡ sent_here) × (count ≡ sent_here) × (sent_here ≤ slots) × ((settled ≡ None) ⊎ (settled ≡ Some sent_here))
+ByStage slots sent_here count settled taken_back = (settled ≡ Some 0) × (sent_here ≡ 0)
 
 -- the stage of the port in the run, by the port's grant and the units that were sent for it
 abbrev pub IsAtStage : Run → Option ℕ → ℕ → PortFacts → Type 0
-IsAtStage r grant mine x = IsNotPosted r mine x ⊎ ((x.slot ≡ r.first) × (grant ≡ Some x.flow) × ByStage r.slots mine x.count x.settled x.stage)
+IsAtStage r grant sent_here x = IsNotPosted r sent_here x ⊎ ((x.slot ≡ r.first) × (grant ≡ Some x.flow) × ByStage r.slots sent_here x.count x.settled x.stage)
 
 -- a note is the settled number, and below the run's length
 abbrev pub IsNote : Run → Option ℕ → Option ℕ → Type 0
@@ -72,9 +72,14 @@ pub record IsKept (flows : List Flow) (ports : ℕ) (credited : ℕ → ℕ) (ne
   pub wide : length xs ≡ ports
   pub each_sent : All (IsSentRun flows next run) sent
   pub apart : AllPairs IsApart sent
-  pub paid : (f : ℕ) → sent_of sent f ≡ credited f + sent_now flows run sent f
+  pub accounted : (f : ℕ) → sent_of sent f ≡ credited f + sent_now flows run sent f
   pub port : (p : ℕ) → p < ports → IsPort flows next run sent p (slice_index_or xs p idle_port)
 
-abbrev pub KeepsWorld : WorldFacts → Type 0
-KeepsWorld w =
+-- what holds of the ports and the sent runs of a world, beside its master
+abbrev pub IsKeptWorld : WorldFacts → Type 0
+IsKeptWorld w =
     IsKept w.opening.table.flows w.opening.table.ports (state_of w.opening w.journal).sent (state_of w.opening w.journal).next (state_of w.opening w.journal).run w.ports w.sent
+
+-- what holds of a port of a world, beside its master and the sent runs
+abbrev pub IsPortOf : WorldFacts → ℕ → PortFacts → Type 0
+IsPortOf w p x = IsPort w.opening.table.flows (state_of w.opening w.journal).next (state_of w.opening w.journal).run w.sent p x

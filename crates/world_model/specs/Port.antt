@@ -28,6 +28,7 @@ stage_of TakenBack = taken_back
 abbrev pub port_of : PortState → PortFacts
 port_of x = record { slot = x.slot; flow = x.flow; stage = stage_of x.stage; count = x.count; settled = x.settled }
 
+-- what kept ports tell, one after another
 abbrev pub ports_of : List PortState → List PortFacts
 ports_of xs = map port_of xs
 

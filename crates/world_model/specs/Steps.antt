@@ -10,7 +10,8 @@ use Rattle.master_core.specs.declared.command.Reply.TheVariants.{Opened}
 use Rattle.master_core.specs.State.{Run}
 use Rattle.master_core.specs.Runs.{grant_in}
 use Rattle.master_core.specs.Answer.{reply_of}
-use Rattle.master_core.specs.Journal.{is_full, journal_after}
+use Rattle.master_core.specs.Fold.{state_of}
+use Rattle.master_core.specs.Journal.{is_full, is_refusal, journal_after}
 use Rattle.world_model.specs.declared.event.Event.{Event}
 use Rattle.world_model.specs.declared.event.Event.TheVariants.{Ask, Post, Draw, Send, Report, Settle, Note, Close}
 use Rattle.world_model.specs.declared.event.Happened.{Happened}
@@ -81,10 +82,11 @@ answered w (Settle port) = answered_by (port_at w port) (port_at w port).stage
 answered w (Note port) = Noted (reply_of w.opening w.journal (settled_note w port))
 answered w Close = Replied (reply_of w.opening w.journal CloseRun)
 
--- a step that may not be taken is blocked and changes nothing
+-- the world after a step; one that may not be taken changes nothing
 abbrev pub world_after : WorldFacts → Event → WorldFacts
 world_after w e = if can w e then moved w e else w
 
+-- the answer to a step, which is Blocked where the step may not be taken
 abbrev pub happened : WorldFacts → Event → Happened
 happened w e = if can w e then answered w e else Blocked
 
@@ -112,6 +114,16 @@ abbrev pub is_full_answer : Happened → Bool
 is_full_answer (Replied reply) = is_full reply
 is_full_answer (Noted reply) = is_full reply
 is_full_answer answer = false
+
+-- the step was answered by a refusal of the master
+abbrev pub is_refused_answer : Happened → Bool
+is_refused_answer (Replied reply) = is_refusal reply
+is_refused_answer (Noted reply) = is_refusal reply
+is_refused_answer answer = false
+
+-- the second world differs from the first at most in its journal, and the state that is read from that is the same
+abbrev pub IsSameButJournal : WorldFacts → WorldFacts → Type 0
+IsSameButJournal w v = (v.opening ≡ w.opening) × (v.agents ≡ w.agents) × (v.ports ≡ w.ports) × (v.sent ≡ w.sent) × (state_of v.opening v.journal ≡ state_of w.opening w.journal)
 
 -- the step sends units: the only one that takes memory
 abbrev pub is_send : Event → Bool

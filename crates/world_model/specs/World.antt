@@ -26,6 +26,7 @@ world_facts master agents ports sent = record { opening = master.opening; journa
 abbrev pub new_world : Opening → ℕ → WorldFacts
 new_world o agents = record { opening = o; journal = []; agents = agents; ports = replicate o.table.ports idle_port; sent = [] }
 
+-- what the port tells, or an idle one where there is no such port
 abbrev pub port_at : WorldFacts → ℕ → PortFacts
 port_at w port = slice_index_or w.ports port idle_port
 

@@ -1,5 +1,5 @@
 //! Laws of the world: what each step keeps, and what holds after every list of steps.
-ghost use Rattle.std.specs.Prelude.{◌≡◌, ◌≢◌, ℕ, ◌<◌, true, false, List};
+ghost use Rattle.std.specs.Prelude.{◌≡◌, ℕ, true, false, List};
 ghost use Rattle.master_core.specs.declared.command.Command.{Command};
 ghost use Rattle.master_core.specs.declared.opening.Opening.{Opening};
 ghost use Rattle.master_core.specs.State.{IsOpening};
@@ -8,17 +8,18 @@ ghost use Rattle.world_model.specs.declared.event.Event.TheVariants.{Ask, Post, 
 ghost use Rattle.world_model.specs.declared.event.Happened.TheVariants.{Blocked, Busy};
 ghost use Rattle.world_model.specs.World.{WorldFacts, new_world, port_at};
 ghost use Rattle.world_model.specs.Guards.{can};
-ghost use Rattle.world_model.specs.Steps.{IsBusy, happened, is_full_answer, leaves, moved, world_after, world_of};
+ghost use Rattle.world_model.specs.Steps.{IsBusy, IsSameButJournal, happened, is_full_answer, is_refused_answer, leaves, moved, world_after, world_of};
 ghost use Rattle.world_model.specs.Lawful.{ClosesAsSent, IsLegalWorld, IsWorld, OpensGrants, OpensPatiently, SendsInTime, SendsOnce, SendsWithin};
 ghost use Rattle.world_model.specs.Rows.{Shorts, Turns};
 
 /// After every list of steps from a new world, whatever callers, agents and the driver did and in whatever order: the journal is legal; no pair of a slot and a flow was sent twice; no
-/// flow was sent more units than it has; each closing credited to each flow what was sent for it in the run; and each opening granted the grants of its line, so that a flow waits only for
-/// a coflow no later in the line.
+/// flow was sent more units than it has; nothing was sent past the open run; each closing credited to each flow what was sent for it in the run; and each opening granted the grants of its
+/// line, for as long as they allow, so that a flow waits only for a coflow no later in the line.
 pub fn worlds_are_lawful()
     ensures legal { (o : Opening) (agents : ℕ) (events : List Event) → IsOpening o → IsLegalWorld (world_of (new_world o agents) events) }
     ensures once { (o : Opening) (agents : ℕ) (events : List Event) → IsOpening o → SendsOnce (world_of (new_world o agents) events) }
     ensures within { (o : Opening) (agents : ℕ) (events : List Event) → IsOpening o → SendsWithin (world_of (new_world o agents) events) }
+    ensures in_time { (o : Opening) (agents : ℕ) (events : List Event) → IsOpening o → SendsInTime (world_of (new_world o agents) events) }
     ensures credited { (o : Opening) (agents : ℕ) (events : List Event) → IsOpening o → ClosesAsSent (world_of (new_world o agents) events) }
     ensures granted { (o : Opening) (agents : ℕ) (events : List Event) → IsOpening o → OpensGrants (world_of (new_world o agents) events) }
     ensures patient { (o : Opening) (agents : ℕ) (events : List Event) → IsOpening o → OpensPatiently (world_of (new_world o agents) events) }
@@ -44,16 +45,17 @@ pub fn kept_worlds_are_lawful()
     ensures within { (w : WorldFacts) → IsWorld w → SendsWithin w }
     ensures in_time { (w : WorldFacts) → IsWorld w → SendsInTime w }
     ensures credited { (w : WorldFacts) → IsWorld w → ClosesAsSent w }
-    ensures granted { (w : WorldFacts) → OpensGrants w }
+    ensures granted { (w : WorldFacts) → IsWorld w → OpensGrants w }
     ensures patient { (w : WorldFacts) → OpensPatiently w }
 {}
 
-/// What steps leave as it was: no step changes the opening, a step that is blocked, or answered Full or Busy, changes nothing, and a step at one port leaves the others. Busy comes
-/// exactly where a post is to be settled that an agent has drawn and not reported.
+/// What steps leave as it was: no step changes the opening, a step that is blocked, or answered Full or Busy, changes nothing, one that the master refuses changes nothing but the journal,
+/// and a step at one port leaves the others. Busy comes exactly where a post is to be settled that an agent has drawn and not reported.
 pub fn steps_leave_the_rest()
     ensures opening { (w : WorldFacts) (e : Event) → (world_after w e).opening ≡ w.opening }
     ensures blocked { (w : WorldFacts) (e : Event) → can w e ≡ false → (happened w e ≡ Blocked) × (world_after w e ≡ w) }
     ensures full { (w : WorldFacts) (e : Event) → is_full_answer (happened w e) ≡ true → world_after w e ≡ w }
+    ensures refused { (w : WorldFacts) (e : Event) → is_refused_answer (happened w e) ≡ true → IsSameButJournal w (world_after w e) }
     ensures busy { (w : WorldFacts) (e : Event) (word : ℕ) → happened w e ≡ Busy word → IsBusy w e word × (world_after w e ≡ w) }
     ensures drawn { (w : WorldFacts) (e : Event) (word : ℕ) → IsBusy w e word → happened w e ≡ Busy word }
     ensures others { (w : WorldFacts) (e : Event) (q : ℕ) → leaves e q ≡ true → port_at (world_after w e) q ≡ port_at w q }

@@ -1,5 +1,5 @@
 //! An ingress port of a world: its word, its count, and what was settled.
-ghost use Rattle.std.specs.Prelude.{◌≡◌, Some};
+ghost use Rattle.std.specs.Prelude.{◌≡◌};
 ghost use Rattle.coflow_units.specs.PortWord.{FitsWord, is_drawn_by, is_granted, word_of};
 ghost use Rattle.world_model.specs.Port.{answered_by, idle_port, port_of, settled_by, stage_of};
 
@@ -36,7 +36,7 @@ const STATE: u64 = 1 << 61;
 
 impl PortState {
     /// A port at which nothing was posted.
-    pub fn idle() -> PortState
+    pub(crate) fn idle() -> PortState
         ensures { port_of result ≡ idle_port }
     {
         PortState {
@@ -49,7 +49,7 @@ impl PortState {
     }
 
     /// Whether the last post waits for an agent.
-    pub fn is_granted(&self) -> bool
+    pub(crate) fn is_granted(&self) -> bool
         ensures { result ≡ is_granted (stage_of self.now.stage) }
     {
         match self.stage {
@@ -59,7 +59,7 @@ impl PortState {
     }
 
     /// Whether this agent drew the last post and has not reported.
-    pub fn is_drawn_by(&self, agent: u32) -> bool
+    pub(crate) fn is_drawn_by(&self, agent: u32) -> bool
         ensures { result ≡ is_drawn_by agent (stage_of self.now.stage) }
     {
         match self.stage {
@@ -83,8 +83,8 @@ impl PortState {
     }
 
     /// Settles the last post: by the count where it was reported, and by 0 where nobody drew it, which takes it back. Where an agent has drawn it and has not reported, the
-    /// answer is Busy with the word, and nothing changes.
-    pub fn settle(&mut self) -> Happened
+    /// answer is Busy with the word, and nothing changes. Where nothing was posted or the post was taken back, the answer is 0, and nothing changes.
+    pub(crate) fn settle(&mut self) -> Happened
         requires { FitsWord self.old.slot self.old.flow }
         ensures answer { result ≡ answered_by (port_of self.old) (stage_of self.old.stage) }
         ensures port { port_of self.new ≡ settled_by (port_of self.old) (stage_of self.old.stage) }

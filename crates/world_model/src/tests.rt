@@ -135,11 +135,12 @@ const SETTLE: Event = Event::Settle { port: 0 };
 
 const NOTE: Event = Event::Note { port: 0 };
 
+fn ask(command: Command) -> Event {
+    Event::Ask { who: 0, command }
+}
+
 fn open(most: u64) -> Event {
-    Event::Ask {
-        who: 0,
-        command: Command::Open(most),
-    }
+    ask(Command::Open(most))
 }
 
 fn draw(agent: u32) -> Event {
@@ -245,6 +246,67 @@ fn a_short_run_is_closed_once_it_is_noted(rt: HostRuntime) {
 }
 
 #[test]
+fn a_full_journal_holds_a_run_open(rt: HostRuntime) {
+    let mut world = world_of_two(&rt, rt.alloc(), 2, 1);
+    compare(
+        &rt,
+        &mut world,
+        &[
+            (REGISTER, Happened::Replied(Reply::Joined)),
+            (open(5), Happened::Replied(Reply::Opened(1, 3, 1))),
+            (POST, Happened::Posted),
+            (SETTLE, Happened::Settled(0)),
+            (NOTE, Happened::Noted(Reply::Noted(0))),
+            (NOTE, Happened::Noted(Reply::Noted(0))),
+            (NOTE, Happened::Noted(Reply::Noted(0))),
+            (NOTE, Happened::Noted(Reply::Noted(0))),
+            (NOTE, Happened::Noted(Reply::Full(6))),
+            (Event::Close, Happened::Replied(Reply::Full(6))),
+            (SETTLE, Happened::Blocked),
+        ],
+    );
+    assert_eq!(rt; world.journal().len(), 6);
+}
+
+#[test]
+fn a_command_that_may_not_be_asked_is_blocked(rt: HostRuntime) {
+    let mut world = world_of_two(&rt, rt.alloc(), 100, 1);
+    compare(
+        &rt,
+        &mut world,
+        &[
+            (ask(Command::Short(0, 1)), Happened::Blocked),
+            (ask(Command::Close), Happened::Blocked),
+            (ask(Command::Register(2)), Happened::Blocked),
+            (open(0), Happened::Blocked),
+            (
+                ask(Command::Reweigh {
+                    coflow: 0,
+                    weight: 0,
+                }),
+                Happened::Blocked,
+            ),
+            (
+                ask(Command::Reweigh {
+                    coflow: 0,
+                    weight: 4_294_967_297,
+                }),
+                Happened::Blocked,
+            ),
+            (REGISTER, Happened::Replied(Reply::Joined)),
+            (
+                ask(Command::Reweigh {
+                    coflow: 0,
+                    weight: 5,
+                }),
+                Happened::Replied(Reply::Weighed(1)),
+            ),
+        ],
+    );
+    assert_eq!(rt; world.journal().len(), 2);
+}
+
+#[test]
 fn a_list_of_steps_is_played(rt: HostRuntime) {
     let events = [REGISTER, open(2), SETTLE, POST, draw(0), send(0, 2)];
     let alloc = rt.alloc();
@@ -293,18 +355,18 @@ impl Draws {
         let agent = self.below(3);
         let port = self.below(4);
         let number = self.below(6);
-        match self.below(15) {
+        match self.below(20) {
             0 => self.ask(number),
-            1 | 2 | 3 => Event::Post { port },
-            4 | 5 => Event::Draw { agent, port },
-            6 | 7 => Event::Send {
+            1 | 2 | 3 | 4 => Event::Post { port },
+            5 | 6 | 7 | 8 => Event::Draw { agent, port },
+            9 | 10 | 11 | 12 | 13 | 14 => Event::Send {
                 agent,
                 port,
                 units: u64::from(number),
             },
-            8 | 9 => Event::Report { agent, port },
-            10 | 11 => Event::Settle { port },
-            12 => Event::Note { port },
+            15 | 16 => Event::Report { agent, port },
+            17 => Event::Settle { port },
+            18 => Event::Note { port },
             _ => Event::Close,
         }
     }
@@ -332,11 +394,15 @@ struct Tally {
     now: Vec<u64>,
     at_port: Vec<u64>,
     owed: Vec<u64>,
+    sent_by: Vec<u32>,
+    sent_whole: u32,
+    sent_short: u32,
     closed: u32,
-    short: u32,
+    noted: u32,
     taken_back: u32,
     busy: u32,
     full: u32,
+    note_full: u32,
 }
 
 fn new_tally(rt: &impl Abort, alloc: Global) -> Tally {
@@ -349,17 +415,24 @@ fn new_tally(rt: &impl Abort, alloc: Global) -> Tally {
     let Ok(at_port) = Vec::from_array(alloc, [0, 0, 0]) else {
         panic!(rt; "no memory");
     };
+    let Ok(sent_by) = Vec::from_array(alloc, [0, 0]) else {
+        panic!(rt; "no memory");
+    };
     Tally {
         first: 0,
         pairs: Vec::new(alloc),
         now,
         at_port,
         owed,
+        sent_by,
+        sent_whole: 0,
+        sent_short: 0,
         closed: 0,
-        short: 0,
+        noted: 0,
         taken_back: 0,
         busy: 0,
         full: 0,
+        note_full: 0,
     }
 }
 
@@ -392,9 +465,12 @@ impl Tally {
             assert!(rt; known);
             let sent = self.now.get(flow as usize).copied().unwrap_or(0);
             let owed = self.owed.get(flow as usize).copied().unwrap_or(0);
-            assert_eq!(rt; world.master().owed(flow), owed.saturating_sub(sent));
+            let within = sent <= owed;
+            assert!(rt; within);
+            let left = owed - sent;
+            assert_eq!(rt; world.master().owed(flow), left);
             if let Some(owed) = self.owed.get_mut(flow as usize) {
-                *owed = owed.saturating_sub(sent);
+                *owed = left;
             }
             if let Some(now) = self.now.get_mut(flow as usize) {
                 *now = 0;
@@ -411,7 +487,8 @@ impl Tally {
                 assert_eq!(rt; first, self.first);
                 self.close(rt, world);
             }
-            Happened::Noted(Reply::Noted(_)) => self.short = self.short.saturating_add(1),
+            Happened::Noted(Reply::Noted(_)) => self.noted = self.noted.saturating_add(1),
+            Happened::Noted(Reply::Full(_)) => self.note_full = self.note_full.saturating_add(1),
             Happened::Replied(Reply::Full(_)) => self.full = self.full.saturating_add(1),
             Happened::Busy(_) => self.busy = self.busy.saturating_add(1),
             Happened::Settled(units) => self.settled(rt, world, event, units),
@@ -421,9 +498,18 @@ impl Tally {
     }
 
     fn sent(&mut self, rt: &impl Abort, world: &World, event: Event) {
-        let Event::Send { port, units, .. } = event else {
+        let Event::Send { agent, port, units } = event else {
             panic!(rt; "sent by another step");
         };
+        if world.master().open_slots() == Some(units) {
+            self.sent_whole = self.sent_whole.saturating_add(1);
+        } else {
+            self.sent_short = self.sent_short.saturating_add(1);
+        }
+        match self.sent_by.get_mut(agent as usize) {
+            Some(count) => *count = count.saturating_add(1),
+            None => panic!(rt; "sent by an agent who is not there"),
+        }
         match world.master().granted(port) {
             Some(flow) => self.send(rt, flow, units),
             None => panic!(rt; "sent without a grant"),
@@ -445,24 +531,54 @@ impl Tally {
             self.taken_back = self.taken_back.saturating_add(1);
         }
     }
+    /// The run's pairs of a slot and a flow are among those that were sent.
+    fn has(&self, rt: &impl Abort, run: SentRun) {
+        for slot in 0..run.units {
+            let pair = (run.slot.saturating_add(slot), run.flow);
+            let known = self.pairs.contains(&pair);
+            assert!(rt; known);
+        }
+    }
+
+    /// The runs that the world tells have the pairs that were sent, as many and no others.
+    fn end(&self, rt: &impl Abort, world: &World) {
+        let mut count: u64 = 0;
+        for run in world.sent() {
+            self.has(rt, *run);
+            count = count.saturating_add(run.units);
+        }
+        assert_eq!(rt; count, self.pairs.len() as u64);
+    }
+
+    /// Each of the things that a drawn test is to meet was met.
+    fn met(&self) -> bool {
+        self.closed > 5
+            && self.sent_whole > 0
+            && self.sent_short > 0
+            && self.sent_by.as_slice().iter().all(|count| *count > 0)
+            && self.noted > 0
+            && self.taken_back > 0
+            && self.busy > 0
+            && self.full > 0
+    }
 }
 
 #[test]
 fn the_master_credits_what_agents_sent(rt: HostRuntime) {
+    let mut note_full: u32 = 0;
     for seed in 0..4u64 {
-        let mut world = world_of_three(&rt, rt.alloc(), 150, 2);
+        let mut world = world_of_three(&rt, rt.alloc(), 300, 2);
         let mut draws = Draws { state: seed };
         let mut tally = new_tally(&rt, rt.alloc());
-        for _ in 0..3000 {
+        for _ in 0..6000 {
             let event = draws.event();
             let answer = world.step(event);
             tally.answer(&rt, &world, event, answer);
         }
-        let met = tally.closed > 5
-            && tally.short > 0
-            && tally.taken_back > 0
-            && tally.busy > 0
-            && tally.full > 0;
-        assert!(rt; met);
+        tally.end(&rt, &world);
+        assert!(rt; tally.met());
+        note_full = note_full.saturating_add(tally.note_full);
     }
+    let refused = note_full > 0;
+    assert!(rt; refused);
 }

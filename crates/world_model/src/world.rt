@@ -1,18 +1,14 @@
 //! The world, and the steps that it takes.
-ghost use Rattle.std.specs.Prelude.{◌≡◌, ◌≢◌, ℕ, ◌<◌, true, false, [], IfOk, List, Some, None, length};
-ghost use Rattle.coflow_units.specs.PortWord.{is_drawn_by};
-ghost use Rattle.master_core.specs.declared.command.Command.TheVariants.{Short};
+ghost use Rattle.std.specs.Prelude.{◌≡◌, ◌≢◌, ℕ, ◌<◌, true, false, [], IfOk, Some};
 ghost use Rattle.master_core.specs.Answer.{reply_of};
-ghost use Rattle.master_core.specs.Fold.{state_of};
 ghost use Rattle.master_core.specs.Runs.{slots_of};
 ghost use Rattle.master_core.specs.Standing.{IsInRange};
-ghost use Rattle.world_model.specs.declared.event.Event.{Event};
 ghost use Rattle.world_model.specs.declared.event.Event.TheVariants.{Ask, Post, Draw, Send, Report, Settle, Note, Close};
-ghost use Rattle.world_model.specs.Port.{PortFacts, port_of, ports_of};
+ghost use Rattle.world_model.specs.Port.{port_of, ports_of};
 ghost use Rattle.world_model.specs.World.{WorldFacts, new_world, port_at, run_of};
-ghost use Rattle.world_model.specs.Kept.{IsPort};
+ghost use Rattle.world_model.specs.Kept.{IsPortOf};
 ghost use Rattle.world_model.specs.Guards.{can, in_run, is_done, is_free};
-ghost use Rattle.world_model.specs.Steps.{IsBusy, asks, cleared, happened, is_full_answer, is_opened, is_send, world_after, world_of};
+ghost use Rattle.world_model.specs.Steps.{IsBusy, IsSameButJournal, asks, cleared, happened, is_full_answer, is_opened, is_refused_answer, is_send, world_after, world_of};
 ghost use Rattle.world_model.specs.Lawful.{ClosesAsSent, IsLegalWorld, IsWorld, OpensGrants, OpensPatiently, SendsInTime, SendsOnce, SendsWithin};
 
 use crate::event::{Event, Happened};
@@ -64,9 +60,10 @@ impl World {
 
     /// Takes one step, where it may be taken.
     ///
-    /// `Blocked` comes exactly where the step may not be taken, and changes nothing. `Busy` comes exactly where the step settles a post that an agent has drawn and not reported; it
-    /// tells the word of the port, and changes nothing. A step that the master answers by `Full` changes nothing either. `NoMemory` is want of memory for one more sent run: it comes
-    /// only from `Send`, where that step might be taken, and changes nothing. Every other answer, and the world after it, is that of the definition.
+    /// `Blocked` comes exactly where the step may not be taken, and changes nothing. `Busy` comes exactly where the step settles a post that an agent has drawn and not reported;
+    /// it tells the word of the port, and changes nothing. A step that the master answers by `Full` changes nothing either, and one that it answers by another refusal changes nothing
+    /// but the journal. `NoMemory` is want of memory for one more sent run: it comes only from `Send`, where that step might be taken, and changes nothing. Every other answer, and the
+    /// world after it, is that of the definition.
     pub fn step(&mut self, event: Event) -> Happened
         ensures answer { result ≢ Happened.NoMemory → result ≡ happened self.old event }
         ensures world { result ≢ Happened.NoMemory → self.new ≡ world_after self.old event }
@@ -76,6 +73,7 @@ impl World {
         ensures busy { (word : ℕ) → result ≡ Happened.Busy word → IsBusy self.old event word × (self.new ≡ self.old) }
         ensures drawn { (word : ℕ) → IsBusy self.old event word → result ≡ Happened.Busy word }
         ensures full { is_full_answer result ≡ true → self.new ≡ self.old }
+        ensures refused { is_refused_answer result ≡ true → IsSameButJournal self.old self.new }
     {
         match event {
             Event::Ask { who, command } => self.ask(who, command),
@@ -89,11 +87,11 @@ impl World {
         }
     }
 
-    /// The world after a list of steps from a new one, of this master, whose journal is empty, and of so many agents. A step that may not be taken is passed over. The error is want
-    /// of memory.
+    /// The world after a list of steps from a new one, of this master, whose journal is empty, and of so many agents. A step that may not be taken is passed over. The error is
+    /// want of memory.
     ///
-    /// Whatever the steps are: the journal is legal; no pair of a slot and a flow was sent twice, and no flow more often than it has units; each closing credited to each flow what was
-    /// sent for it in the run; each opening granted the grants of its line, so that a flow of the line waits only for a coflow no later in it.
+    /// Whatever the steps are: the journal is legal; no pair of a slot and a flow was sent twice, no flow more often than it has units, and nothing past the open run; each
+    /// closing credited to each flow what was sent for it in the run; each opening granted the grants of its line, so that a flow of the line waits only for a coflow no later in it.
     pub fn play(
         alloc: Global,
         master: Master,
@@ -105,6 +103,7 @@ impl World {
         ensures legal { IfOk result (λ w. IsLegalWorld w) }
         ensures once { IfOk result (λ w. SendsOnce w) }
         ensures within { IfOk result (λ w. SendsWithin w) }
+        ensures in_time { IfOk result (λ w. SendsInTime w) }
         ensures credited { IfOk result (λ w. ClosesAsSent w) }
         ensures granted { IfOk result (λ w. OpensGrants w) }
         ensures patient { IfOk result (λ w. OpensPatiently w) }
@@ -148,14 +147,16 @@ impl World {
     pub fn port(&self, port: u32) -> PortState
         requires { port < self.now.opening.table.ports }
         ensures port { port_of result ≡ port_at self.now port }
-        ensures stage { IsPort self.now.opening.table.flows (state_of self.now.opening self.now.journal).next (run_of self.now) self.now.sent port (port_of result) }
+        ensures stage { IsPortOf self.now port (port_of result) }
     {
         self.ports[port as usize]
     }
 
     /// The runs that agents sent, the first first. No pair of a slot and a flow stands twice in them, no flow has more units there than it has, and none stands past the open run.
+    /// The world has what every step keeps.
     pub fn sent(&self) -> &[SentRun]
         ensures sent { result.now ≡ self.now.sent }
+        ensures kept { IsWorld self.now }
         ensures once { SendsOnce self.now }
         ensures within { SendsWithin self.now }
         ensures in_time { SendsInTime self.now }

@@ -7,7 +7,7 @@ pub returns-clause-credited : goal.returns-clause-credited
 returns-clause-credited c = closes_as_sent c.args.self.now (subst IsWorld c.self.view_is c.self.invariant)
 
 pub returns-clause-granted : goal.returns-clause-granted
-returns-clause-granted c = opens_grants c.args.self.now
+returns-clause-granted c = opens_grants c.args.self.now (subst IsWorld c.self.view_is c.self.invariant)
 
 pub returns-clause-patient : goal.returns-clause-patient
 returns-clause-patient c = opens_patiently c.args.self.now
