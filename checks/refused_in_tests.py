@@ -11,6 +11,7 @@ import subprocess
 import sys
 import tempfile
 
+sys.dont_write_bytecode = True
 from refused_memory import TOP, make_library, refusing
 
 # what a test prints that had no memory; those that make a table or a trace stop with such a word on any error

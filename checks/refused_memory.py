@@ -12,6 +12,7 @@ import subprocess
 import sys
 import tempfile
 
+sys.dont_write_bytecode = True
 from program_runs import PROGRAM, TOP, TWO, TWO_TEXT, build
 
 REFUSING = r"""
