@@ -1,10 +1,13 @@
 -- What the bytes of files give, and why they give nothing.
-use Rattle.std.proofs.Common.{◌≡◌, ℕ, ◌^◌, ◌≤◌, ◌<◌, inl, inr, List, Option, Some, None, Result, Ok, Err, length, refl, sym, ap, subst, ◌∙◌, arith}
+use Rattle.std.proofs.Common.{◌≡◌, IsErrAnd, IfErr, ℕ, ◌^◌, ◌≤◌, ◌<◌, inl, inr, List, Option, Some, None, Result, Ok, Err, length, refl, sym, ap, subst, ◌∙◌, arith}
 use Rattle.std.specs.Prelude.{All, IfSome, replicate}
 use Rattle.std.proofs.lemmas.List.{length-map, length-replicate, get_or-replicate}
 use Rattle.coflow_units.specs.declared.quantity.Quantity.{Quantity}
 use Rattle.coflow_units.specs.declared.trace.CoflowLine.{CoflowLine}
 use Rattle.coflow_units.specs.declared.trace.Trace.{Trace}
+use Rattle.flow_table.specs.Causes.{HasCause}
+use Rattle.flow_table.specs.declared.fault.TableFault.{TableFault}
+use Rattle.flow_table.specs.declared.fault.TableFault.TheVariants as table_fault
 use Rattle.flow_table.specs.Table.{IsTable, IsTableOf, TableFacts}
 use Rattle.outside.specs.declared.reading.ReadStop.TheVariants.{TooLong}
 use Rattle.outside.specs.declared.shelf.Place4.{Place4}
@@ -21,9 +24,20 @@ use Rattle.weights.specs.declared.fault.WeightsFault.{WeightsFault}
 use Rattle.weights.specs.declared.fault.WeightsFault.TheVariants as weights_fault
 use Rattle.sincronia_cli.specs.declared.status.Status.{Status}
 use Rattle.sincronia_cli.specs.declared.status.Status.TheVariants as status
-use Rattle.sincronia_cli.specs.Causes.{InputFailed, HasInputCause, HasTraceFault, HasWeightsFault, IsFaultOf, IsFileCause, IsStatusOfTrace, IsStatusOfWeights, IsTableCause, IsTooLong, IsTraceCause, IsTraceForm, IsWeightsCause, IsWeightsForm, LimitCause, ShelfFailed, TraceLimit, WeightsLimit}
+use Rattle.sincronia_cli.specs.Causes.{InputFailed, HasInputCause, HasTraceFault, HasWeightsFault, IsFaultOf, IsFileCause, IsStatusOfTable, IsStatusOfTrace, IsStatusOfWeights, IsTooLong, IsTraceCause, IsTraceForm, IsWeightsCause, IsWeightsForm, LimitCause, ShelfFailed, TraceLimit, WeightsLimit}
 use Rattle.sincronia_cli.specs.Causes.LimitCause.{in_trace, in_weights, in_table}
 use Rattle.sincronia_cli.specs.Inputs.{GiveWeights, Gives, HasBytes, IsInput, IsTraceOf, IsTraceText, IsWeightsOf, KeepsFiles, NameFailed, bytes_if}
+
+-- ---- an error that is handed on
+
+-- what holds of each status that the error becomes holds of the result
+pub passed_as : {T : Type 0} (r : Result T Status) (Q P : Status → Type 0) → IsErrAnd r Q → ((s : Status) → Q s → P s) → IfErr r P
+passed_as (Ok x) Q P is f = tt
+passed_as (Err s) Q P is f = f s is
+
+-- the status is handed on as it is
+pub passed_on : {T : Type 0} (r : Result T Status) (s : Status) (P : Status → Type 0) → IsErrAnd r (λ x. x ≡ s) → P s → IfErr r P
+passed_on r s P is h = passed_as r (λ x. x ≡ s) P is (λ x e. subst P (sym e) h)
 
 -- ---- a file that is read
 
@@ -276,17 +290,10 @@ from_weights before mid_count now old mid new name file unit trace (status.BadRe
 from_weights before mid_count now old mid new name file unit trace (status.BadTrace fault) le keeps read h = absurd h
 from_weights before mid_count now old mid new name file unit trace (status.WriteFault count) le keeps read h = absurd h
 
-pub from_table : (before now : ℕ) (old mid new : Option Told) (name : List ℕ) (file : Option (List ℕ)) (unit : ℕ) (trace : Trace) (weights : List ℕ) (s : Status) → KeepsFiles old mid → IsTraceOf old name trace → IsWeightsOf mid file trace.coflows weights → IsTableCause trace unit s →
-    HasInputCause before now old new name file unit s
-from_table before now old mid new name file unit trace weights (status.Limit which count) keeps read given h =
-    with_both old (λ t. IsTraceText (bytes_of t name) × (trace ≡ trace_of (bytes_of t name))) (λ t. GiveWeights (bytes_if t file) trace.coflows weights) (λ t. LimitCause (bytes_of t name) (bytes_if t file) unit which count)
-    (λ t (text, is) g. in_table text weights (subst (λ (x : Trace). GiveWeights (bytes_if t file) x.coflows weights) is g) (subst (λ (x : Trace). IsTableCause x unit (status.Limit which count)) is h)) read.reads (given_before old mid file trace.coflows weights keeps given.given)
-from_table before now old mid new name file unit trace weights status.NoMemory keeps read given h = tt
-from_table before now old mid new name file unit trace weights status.Ok keeps read given h = absurd h
-from_table before now old mid new name file unit trace weights status.Usage keeps read given h = absurd h
-from_table before now old mid new name file unit trace weights status.No keeps read given h = absurd h
-from_table before now old mid new name file unit trace weights (status.BadReport line) keeps read given h = absurd h
-from_table before now old mid new name file unit trace weights (status.BadTrace fault) keeps read given h = absurd h
-from_table before now old mid new name file unit trace weights (status.BadWeights fault) keeps read given h = absurd h
-from_table before now old mid new name file unit trace weights (status.ReadFault count) keeps read given h = absurd h
-from_table before now old mid new name file unit trace weights (status.WriteFault count) keeps read given h = absurd h
+pub from_table : (before now : ℕ) (old mid new : Option Told) (name : List ℕ) (file : Option (List ℕ)) (unit : ℕ) (trace : Trace) (weights : List ℕ) (fault : TableFault) (s : Status) → KeepsFiles old mid → IsTraceOf old name trace → IsWeightsOf mid file trace.coflows weights →
+    HasCause trace unit fault → IsStatusOfTable fault s → HasInputCause before now old new name file unit s
+from_table before now old mid new name file unit trace weights (table_fault.Limit which count) s keeps read given h is =
+    subst (λ (x : Status). HasInputCause before now old new name file unit x) (sym is)
+    (with_both old (λ t. IsTraceText (bytes_of t name) × (trace ≡ trace_of (bytes_of t name))) (λ t. GiveWeights (bytes_if t file) trace.coflows weights) (λ t. LimitCause (bytes_of t name) (bytes_if t file) unit which count)
+    (λ t (text, same) g. in_table text weights (subst (λ (x : Trace). GiveWeights (bytes_if t file) x.coflows weights) same g) (subst (λ (x : Trace). HasCause x unit (table_fault.Limit which count)) same h)) read.reads (given_before old mid file trace.coflows weights keeps given.given))
+from_table before now old mid new name file unit trace weights table_fault.NoMemory s keeps read given h is = subst (λ (x : Status). HasInputCause before now old new name file unit x) (sym is) tt

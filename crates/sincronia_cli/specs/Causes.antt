@@ -4,13 +4,15 @@ use Rattle.command_words.specs.declared.command.Command.{Command}
 use Rattle.command_words.specs.declared.command.Command.TheVariants as command
 use Rattle.command_words.specs.Words.{Said}
 use Rattle.coflow_units.specs.declared.trace.CoflowLine.{CoflowLine}
-use Rattle.coflow_units.specs.declared.trace.Trace.{Trace}
 use Rattle.coflow_units.specs.declared.quantity.Quantity.{Quantity}
 use Rattle.coflow_units.specs.declared.quantity.Quantity.TheVariants.{Text}
+use Rattle.flow_table.specs.declared.fault.TableFault.{TableFault}
 use Rattle.flow_table.specs.declared.fault.TableFault.TheVariants as table_fault
 use Rattle.flow_table.specs.Causes.{HasCause}
 use Rattle.flow_table.specs.Table.{TableFacts}
 use Rattle.outside.specs.Shelf.{Told, bytes_of}
+use Rattle.report.specs.declared.fault.ReportFault.{ReportFault}
+use Rattle.report.specs.declared.fault.ReportFault.TheVariants as report_fault
 use Rattle.report.specs.Reading.{IsBadAt}
 use Rattle.text_fields.specs.Checks.{first_fault}
 use Rattle.trace_reader.specs.Trace.{trace_checks, trace_of}
@@ -114,6 +116,16 @@ IsStatusOfWeights (weights_fault.Limit line which count) status = status ≡ Lim
 IsStatusOfWeights weights_fault.NoMemory status = status ≡ NoMemory
 IsStatusOfWeights fault status = status ≡ BadWeights fault
 
+-- the status says the fault
+abbrev pub IsStatusOfTable : TableFault → Status → Type 0
+IsStatusOfTable (table_fault.Limit which count) status = status ≡ Limit which count
+IsStatusOfTable table_fault.NoMemory status = status ≡ NoMemory
+
+-- the status says the fault
+abbrev pub IsStatusOfReport : ReportFault → Status → Type 0
+IsStatusOfReport (report_fault.BadText line) status = status ≡ BadReport line
+IsStatusOfReport report_fault.NoMemory status = status ≡ NoMemory
+
 -- a call to the shelf failed: its count of faults rose, and, where told, that of the name
 abbrev pub ShelfFailed : ℕ → ℕ → Option Told → Option Told → List ℕ → ℕ → Type 0
 ShelfFailed before now old new name count = (count ≡ 1) × Rose before now × NameFailed old new name
@@ -140,12 +152,6 @@ IsWeightsCause before now old new name coflows (Limit which count) = IfSome old 
 IsWeightsCause before now old new (Some name) coflows (ReadFault count) = ShelfFailed before now old new name count
 IsWeightsCause before now old new name coflows NoMemory = Unit {0}
 IsWeightsCause before now old new name coflows status = ⊥
-
--- the cause of a status that says why a trace has no table
-abbrev pub IsTableCause : Trace → ℕ → Status → Type 0
-IsTableCause trace unit (Limit which count) = HasCause trace unit (table_fault.Limit which count)
-IsTableCause trace unit NoMemory = Unit {0}
-IsTableCause trace unit status = ⊥
 
 -- the cause of a status that says why the report of a file was not read
 abbrev pub IsReportCause : ℕ → ℕ → Option Told → Option Told → List ℕ → Status → Type 0

@@ -37,18 +37,10 @@ pub(crate) fn check_report<'a, H: Shelf>(
     ensures keeps { KeepsFiles (H.told shelf.old) (H.told shelf.new) }
     ensures cause { IfErr result (λ status. HasFilesCause (H.faults shelf.old) (H.faults shelf.new) (H.told shelf.old) (H.told shelf.new) (said_by words.entry) status) }
 {
-    let input = match read_input(alloc, words.first, words.weights, words.unit, shelf) {
-        Ok(input) => input,
-        Err(status) => return Err(status),
-    };
-    let report = match read_report_file(alloc, name, shelf) {
-        Ok(report) => report,
-        Err(status) => return Err(status),
-    };
-    match outcome_of(alloc, &input, &report) {
-        Ok(outcome) => Ok(outcome),
-        Err(NoMemory) => Err(Status::NoMemory),
-    }
+    let input = read_input(alloc, words.first, words.weights, words.unit, shelf)?;
+    let report = read_report_file(alloc, name, shelf)?;
+    let outcome = outcome_of(alloc, &input, &report)?;
+    Ok(outcome)
 }
 
 /// The line of the verdict on a report, and its status.

@@ -2,7 +2,7 @@
 ghost use Rattle.std.specs.Prelude.{◌≡◌, ◌≤◌, ◌^◌, ℕ, IfErr, IfOk, length, option_map, replicate};
 ghost use Rattle.coflow_units.specs.Trace.{IsTrace};
 ghost use Rattle.flow_table.specs.Table.{IsTable, IsTableOf};
-ghost use Rattle.sincronia_cli.specs.Causes.{HasInputCause, IsFileCause, IsReportCause, IsTableCause, IsTraceCause, IsWeightsCause, IsStatusOfTrace, IsStatusOfWeights};
+ghost use Rattle.sincronia_cli.specs.Causes.{HasInputCause, IsFileCause, IsReportCause, IsTraceCause, IsWeightsCause};
 ghost use Rattle.sincronia_cli.specs.Check.{IsReportOf};
 ghost use Rattle.sincronia_cli.specs.Inputs.{HasBytes, IsInput, IsTraceOf, IsWeightsOf, KeepsFiles};
 
@@ -38,18 +38,9 @@ pub fn read_input<H: Shelf>(
     ensures later { H.faults shelf.old ≤ H.faults shelf.new }
     ensures cause { IfErr result (λ status. HasInputCause (H.faults shelf.old) (H.faults shelf.new) (H.told shelf.old) (H.told shelf.new) name.now (option_map (λ s. s.now) weights_name.entry) unit status) }
 {
-    let trace = match trace_of_file(alloc, name, shelf) {
-        Ok(trace) => trace,
-        Err(status) => return Err(status),
-    };
-    let weights = match weights_of_file(alloc, weights_name, &trace, shelf) {
-        Ok(weights) => weights,
-        Err(status) => return Err(status),
-    };
-    let table = match table_of(alloc, &trace, unit) {
-        Ok(table) => table,
-        Err(status) => return Err(status),
-    };
+    let trace = trace_of_file(alloc, name, shelf)?;
+    let weights = weights_of_file(alloc, weights_name, &trace, shelf)?;
+    let table = Table::build(alloc, &trace, unit)?;
     Ok(Input { table, weights })
 }
 
@@ -60,29 +51,9 @@ fn trace_of_file<H: Shelf>(alloc: Global, name: &str, shelf: &mut H) -> Result<T
     ensures later { H.faults shelf.old ≤ H.faults shelf.new }
     ensures cause { IfErr result (λ status. IsTraceCause (H.faults shelf.old) (H.faults shelf.new) (H.told shelf.old) (H.told shelf.new) name.now status) }
 {
-    let bytes = match read_file(alloc, Place4::Trace, name, MAX_TEXT, shelf) {
-        Ok(bytes) => bytes,
-        Err(status) => return Err(status),
-    };
-    match read_trace(alloc, &bytes) {
-        Ok(trace) => Ok(trace),
-        Err(fault) => Err(status_of_trace(fault)),
-    }
-}
-
-/// The status of a fault of a trace.
-fn status_of_trace(fault: TraceFault) -> Status
-    ensures { IsStatusOfTrace fault result }
-{
-    match fault {
-        TraceFault::Limit {
-            line: _,
-            which,
-            count,
-        } => Status::Limit { which, count },
-        TraceFault::NoMemory => Status::NoMemory,
-        fault => Status::BadTrace(fault),
-    }
+    let bytes = read_file(alloc, Place4::Trace, name, MAX_TEXT, shelf)?;
+    let trace = read_trace(alloc, &bytes)?;
+    Ok(trace)
 }
 
 /// The weights of the coflows of a trace, by a file where there is one, and 1 each where there is none.
@@ -98,19 +69,12 @@ fn weights_of_file<H: Shelf>(
     ensures cause { IfErr result (λ status. IsWeightsCause (H.faults shelf.old) (H.faults shelf.new) (H.told shelf.old) (H.told shelf.new) (option_map (λ s. s.now) name.entry) trace.now.coflows status) }
 {
     let Some(name) = name else {
-        return match equal_weights(alloc, trace) {
-            Ok(weights) => Ok(weights),
-            Err(NoMemory) => Err(Status::NoMemory),
-        };
+        let weights = equal_weights(alloc, trace)?;
+        return Ok(weights);
     };
-    let bytes = match read_file(alloc, Place4::Weights, name, MAX_TEXT, shelf) {
-        Ok(bytes) => bytes,
-        Err(status) => return Err(status),
-    };
-    match read_weights(alloc, &bytes, trace) {
-        Ok(weights) => Ok(weights),
-        Err(fault) => Err(status_of_weights(fault)),
-    }
+    let bytes = read_file(alloc, Place4::Weights, name, MAX_TEXT, shelf)?;
+    let weights = read_weights(alloc, &bytes, trace)?;
+    Ok(weights)
 }
 
 /// Weight 1 for each coflow.
@@ -119,36 +83,6 @@ fn equal_weights(alloc: Global, trace: &Trace) -> Result<Items<u64>, NoMemory>
 {
     let weights = vec![in alloc; 1u64; trace.coflows.as_slice().len()]?;
     Ok(Items::from_vec(weights))
-}
-
-/// The status of a fault of weights.
-fn status_of_weights(fault: WeightsFault) -> Status
-    ensures { IsStatusOfWeights fault result }
-{
-    match fault {
-        WeightsFault::Limit {
-            line: _,
-            which,
-            count,
-        } => Status::Limit { which, count },
-        WeightsFault::NoMemory => Status::NoMemory,
-        fault => Status::BadWeights(fault),
-    }
-}
-
-/// The table of flows of a trace.
-fn table_of(alloc: Global, trace: &Trace, unit: u64) -> Result<Table, Status>
-    requires trace { IsTrace trace.now }
-    requires some { 1 ≤ unit }
-    requires unit_limit { unit ≤ 2 ^ 20 }
-    ensures table { IfOk result (λ table. IsTableOf trace.now unit table × IsTable table) }
-    ensures cause { IfErr result (IsTableCause trace.now unit) }
-{
-    match Table::build(alloc, trace, unit) {
-        Ok(table) => Ok(table),
-        Err(TableFault::Limit { which, count }) => Err(Status::Limit { which, count }),
-        Err(TableFault::NoMemory) => Err(Status::NoMemory),
-    }
 }
 
 /// Reads the report under a name. The error is the status that says why there is none.
@@ -161,15 +95,9 @@ pub(crate) fn read_report_file<H: Shelf>(
     ensures keeps { KeepsFiles (H.told shelf.old) (H.told shelf.new) }
     ensures cause { IfErr result (λ status. IsReportCause (H.faults shelf.old) (H.faults shelf.new) (H.told shelf.old) (H.told shelf.new) name.now status) }
 {
-    let bytes = match read_file(alloc, Place4::Report, name, MAX_REPORT, shelf) {
-        Ok(bytes) => bytes,
-        Err(status) => return Err(status),
-    };
-    match read_report(alloc, &bytes) {
-        Ok(report) => Ok(report),
-        Err(ReportFault::BadText { line }) => Err(Status::BadReport { line }),
-        Err(ReportFault::NoMemory) => Err(Status::NoMemory),
-    }
+    let bytes = read_file(alloc, Place4::Report, name, MAX_REPORT, shelf)?;
+    let report = read_report(alloc, &bytes)?;
+    Ok(report)
 }
 
 /// The bytes of a file of at most `most` bytes.

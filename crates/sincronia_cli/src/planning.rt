@@ -41,17 +41,12 @@ pub(crate) fn plan_trace<'a, H: Shelf>(
     ensures keeps { KeepsFiles (H.told shelf.old) (H.told shelf.new) }
     ensures cause { IfErr result (HasFilesCause (H.faults shelf.old) (H.faults shelf.new) (H.told shelf.old) (H.told shelf.new) (said_by words.entry)) }
 {
-    let input = match read_input(alloc, words.first, words.weights, words.unit, shelf) {
-        Ok(input) => input,
-        Err(status) => return Err(status),
-    };
-    match report_text(alloc, &input) {
-        Ok(text) => Ok(Outcome {
-            text,
-            status: Status::Ok,
-        }),
-        Err(NoMemory) => Err(Status::NoMemory),
-    }
+    let input = read_input(alloc, words.first, words.weights, words.unit, shelf)?;
+    let text = report_text(alloc, &input)?;
+    Ok(Outcome {
+        text,
+        status: Status::Ok,
+    })
 }
 
 /// The text of the report of the plan.

@@ -3,6 +3,8 @@ ghost use Rattle.std.specs.Prelude.{◌≡◌};
 ghost use Rattle.sincronia_cli.specs.Code.{code_of};
 
 use coflow_units::{NoMemory, Quantity};
+use flow_table::TableFault;
+use report::ReportFault;
 use trace_reader::TraceFault;
 use weights::WeightsFault;
 
@@ -58,5 +60,67 @@ impl From<NoMemory> for Status {
 
     fn from(_fault: NoMemory) -> Status {
         Status::NoMemory
+    }
+}
+
+impl From<TraceFault> for Status {
+    ghost use Rattle.sincronia_cli.specs.Causes.{IsStatusOfTrace};
+
+    ghost from_gives = { λ fault status. IsStatusOfTrace fault status };
+
+    fn from(fault: TraceFault) -> Status {
+        match fault {
+            TraceFault::Limit {
+                line: _,
+                which,
+                count,
+            } => Status::Limit { which, count },
+            TraceFault::NoMemory => Status::NoMemory,
+            fault => Status::BadTrace(fault),
+        }
+    }
+}
+
+impl From<WeightsFault> for Status {
+    ghost use Rattle.sincronia_cli.specs.Causes.{IsStatusOfWeights};
+
+    ghost from_gives = { λ fault status. IsStatusOfWeights fault status };
+
+    fn from(fault: WeightsFault) -> Status {
+        match fault {
+            WeightsFault::Limit {
+                line: _,
+                which,
+                count,
+            } => Status::Limit { which, count },
+            WeightsFault::NoMemory => Status::NoMemory,
+            fault => Status::BadWeights(fault),
+        }
+    }
+}
+
+impl From<TableFault> for Status {
+    ghost use Rattle.sincronia_cli.specs.Causes.{IsStatusOfTable};
+
+    ghost from_gives = { λ fault status. IsStatusOfTable fault status };
+
+    fn from(fault: TableFault) -> Status {
+        match fault {
+            TableFault::Limit { which, count } => Status::Limit { which, count },
+            TableFault::NoMemory => Status::NoMemory,
+        }
+    }
+}
+
+impl From<ReportFault> for Status {
+    ghost use Rattle.sincronia_cli.specs.Causes.{IsStatusOfReport};
+
+    ghost from_gives = { λ fault status. IsStatusOfReport fault status };
+
+    fn from(fault: ReportFault) -> Status {
+        match fault {
+            ReportFault::BadText { line } => Status::BadReport { line },
+            ReportFault::NoMemory => Status::NoMemory,
+        }
     }
 }

@@ -1,12 +1,21 @@
-use Rattle.sincronia_cli.proofs.InputFacts.{from_weights, from_table}
+use Rattle.std.specs.Prelude.{option_map}
+use Rattle.sincronia_cli.specs.Causes.{IsStatusOfTable}
+use Rattle.sincronia_cli.proofs.InputFacts.{from_trace, from_weights, from_table, passed_as, passed_on}
 use Rattle.sincronia_cli.proofs.inputs.read_input.Goals as goal
 
-pub returns-in-Err-weights_of_file-clause-cause : goal.returns-in-Err-weights_of_file-clause-cause
-returns-in-Err-weights_of_file-clause-cause g c =
-    from_weights (g.H.Shelf.faults c.args.shelf.now) (g.H.Shelf.faults c.trace_of_file.new.shelf) (g.H.Shelf.faults c.weights_of_file.new.shelf) (g.H.Shelf.told c.args.shelf.now) (g.H.Shelf.told c.trace_of_file.new.shelf) (g.H.Shelf.told c.weights_of_file.new.shelf)
-    c.args.name.now _ c.args.unit c.in-Ok.trace c.in-Err-weights_of_file.status c.in-Ok.ensures.later c.in-Ok.ensures.keeps c.in-Ok.ensures.trace c.in-Err-weights_of_file.ensures.cause
+pub returns-in_err-trace-clause-cause : goal.returns-in_err-trace-clause-cause
+returns-in_err-trace-clause-cause g c =
+    passed_on c.from_residual.result c.in_err-trace.field-0.0 _ c.from_residual.ensures.1
+    (from_trace (g.H.Shelf.faults c.args.shelf.now) (g.H.Shelf.faults c.trace_of_file.new.shelf) (g.H.Shelf.told c.args.shelf.now) (g.H.Shelf.told c.trace_of_file.new.shelf) c.args.name.now (option_map (λ s. s.now) c.args.weights_name) c.args.unit c.in_err-trace.field-0.0 c.in_err-trace.ensures.cause)
 
-pub returns-in-Err-table_of-clause-cause : goal.returns-in-Err-table_of-clause-cause
-returns-in-Err-table_of-clause-cause g c =
-    from_table (g.H.Shelf.faults c.args.shelf.now) (g.H.Shelf.faults c.weights_of_file.new.shelf) (g.H.Shelf.told c.args.shelf.now) (g.H.Shelf.told c.trace_of_file.new.shelf) (g.H.Shelf.told c.weights_of_file.new.shelf)
-    c.args.name.now _ c.args.unit c.in-Ok.trace c.in-Ok-weights_of_file.weights c.in-Err-table_of.status c.in-Ok.ensures.keeps c.in-Ok.ensures.trace c.in-Ok-weights_of_file.ensures.weights c.in-Err-table_of.ensures.cause
+pub returns-in_err-weights-clause-cause : goal.returns-in_err-weights-clause-cause
+returns-in_err-weights-clause-cause g c =
+    passed_on c.from_residual-in_err-weights.result c.in_err-weights.field-0.0 _ c.from_residual-in_err-weights.ensures.1
+    (from_weights (g.H.Shelf.faults c.args.shelf.now) (g.H.Shelf.faults c.trace_of_file.new.shelf) (g.H.Shelf.faults c.weights_of_file.new.shelf) (g.H.Shelf.told c.args.shelf.now) (g.H.Shelf.told c.trace_of_file.new.shelf) (g.H.Shelf.told c.weights_of_file.new.shelf)
+    c.args.name.now _ c.args.unit c.in_ok-trace.trace c.in_err-weights.field-0.0 c.in_ok-trace.ensures.later c.in_ok-trace.ensures.keeps c.in_ok-trace.ensures.trace c.in_err-weights.ensures.cause)
+
+pub returns-in_err-table-clause-cause : goal.returns-in_err-table-clause-cause
+returns-in_err-table-clause-cause g c =
+    passed_as c.from_residual-in_err-table.result (IsStatusOfTable c.in_err-table.field-0.0) _ c.from_residual-in_err-table.ensures.1
+    (λ s is. from_table (g.H.Shelf.faults c.args.shelf.now) (g.H.Shelf.faults c.weights_of_file.new.shelf) (g.H.Shelf.told c.args.shelf.now) (g.H.Shelf.told c.trace_of_file.new.shelf) (g.H.Shelf.told c.weights_of_file.new.shelf)
+    c.args.name.now _ c.args.unit c.in_ok-trace.trace c.in_ok-weights.weights c.in_err-table.field-0.0 s c.in_ok-trace.ensures.keeps c.in_ok-trace.ensures.trace c.in_ok-weights.ensures.weights c.in_err-table.ensures.cause is)
