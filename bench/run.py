@@ -152,10 +152,13 @@ def peak(program, words, folder):
 
 
 def build(program):
-    """Proves and builds a program, where that was not done."""
+    """Proves and builds a program anew, so that none of an earlier tree is timed."""
+    if os.path.exists(program):
+        os.remove(program)
+    subprocess.run(["rt", "run"], cwd=os.path.dirname(os.path.dirname(program)), check=False,
+                   stdout=subprocess.DEVNULL, stderr=subprocess.DEVNULL)
     if not os.path.exists(program):
-        subprocess.run(["rt", "run"], cwd=os.path.dirname(os.path.dirname(program)), check=False,
-                       stdout=subprocess.DEVNULL, stderr=subprocess.DEVNULL)
+        sys.exit("bench: %s was not built" % os.path.basename(program))
 
 
 def main():

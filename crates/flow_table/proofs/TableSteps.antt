@@ -10,7 +10,7 @@ use Rattle.coflow_units.specs.declared.trace.CoflowLine.{CoflowLine}
 use Rattle.coflow_units.specs.declared.trace.Trace.{Trace}
 use Rattle.coflow_units.specs.Flows.{FlowBefore, coflow_of}
 use Rattle.coflow_units.specs.Trace.{IsTrace, ids_of}
-use Rattle.greedy_rates.specs.Starts.{IsStarts}
+use Rattle.coflow_units.specs.Starts.{IsStarts}
 use Rattle.flow_table.specs.FlowsOf.{IsFlowsOf}
 use Rattle.flow_table.specs.Table.{IsTable, TableFacts}
 use Rattle.flow_table.specs.Units.{units_in_all}

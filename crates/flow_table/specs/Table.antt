@@ -6,7 +6,7 @@ use Rattle.coflow_units.specs.declared.trace.CoflowLine.{CoflowLine}
 use Rattle.coflow_units.specs.declared.trace.Trace.{Trace}
 use Rattle.coflow_units.specs.Flows.{FlowBefore, Instance}
 use Rattle.coflow_units.specs.Trace.{ids_of}
-use Rattle.greedy_rates.specs.Starts.{IsStarts}
+use Rattle.coflow_units.specs.Starts.{IsStarts}
 use Rattle.flow_table.specs.FlowsOf.{IsFlowsOf}
 
 -- what a table tells: the flows, the first flow of each coflow with the number of flows at the end, the number of ports on each side, and the id and the arrival of each coflow

@@ -3,7 +3,7 @@ ghost use Rattle.std.specs.Prelude.{◌≡◌, ◌≢◌, ℕ, ◌+◌, ◌^◌,
 ghost use Rattle.std.specs.List.Sorted.{IsNonDecreasingBy};
 ghost use Rattle.coflow_units.specs.declared.fabric.Flow.{Flow};
 ghost use Rattle.coflow_units.specs.Flows.{coflow_of};
-ghost use Rattle.greedy_rates.specs.Starts.{IsStarts};
+ghost use Rattle.coflow_units.specs.Starts.{IsStarts};
 
 use coflow_units::Flow;
 use std::alloc::{AllocError, Global};

@@ -10,7 +10,7 @@ use Rattle.coflow_units.specs.Flows.{coflow_of, ingress_of, IsDistinct, SharesPo
 use Rattle.coflow_units.specs.Grants.{place_in, ComesBefore, IsGrants}
 use Rattle.coflow_units.proofs.LinePlaces.{place_of_member, at_place}
 use Rattle.coflow_units.proofs.Sums.{all_of_members}
-use Rattle.greedy_rates.specs.Starts.{IsStarts}
+use Rattle.coflow_units.specs.Starts.{IsStarts}
 use Rattle.greedy_rates.specs.Room.{flow_at_ingress, TellsIngresses}
 use Rattle.greedy_rates.specs.Pass.{Stands, IsGranting, IsListing, IsNext}
 use Rattle.greedy_rates.proofs.PassSteps.{front_moves, not_none, same_some}

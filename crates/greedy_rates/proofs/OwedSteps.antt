@@ -11,7 +11,7 @@ use Rattle.coflow_units.specs.Grants.{place_in}
 use Rattle.greedy_rates.specs.Room.{flow_at_ingress}
 use Rattle.greedy_rates.specs.Pass.{Stands, IsGranting, IsNext}
 use Rattle.greedy_rates.specs.Owed.{Owed, IsOwed, IsTally}
-use Rattle.greedy_rates.specs.Starts.{IsStarts}
+use Rattle.coflow_units.specs.Starts.{IsStarts}
 use Rattle.greedy_rates.specs.OpenPorts.{open_ingresses, open_egresses}
 use Rattle.greedy_rates.proofs.PassSteps.{skip_flow, grant_flow}
 use Rattle.greedy_rates.proofs.LineSteps.{coflow_begins, coflow_ends}

@@ -9,7 +9,7 @@ use Rattle.std.proofs.lemmas.List.Elements.{Contains-get_or}
 use Rattle.std.proofs.lemmas.List.Quantifiers.{all_pairs_push}
 use Rattle.coflow_units.specs.declared.fabric.Flow.{Flow}
 use Rattle.coflow_units.specs.Flows.{coflow_of, IsDistinct}
-use Rattle.greedy_rates.specs.Starts.{IsStarts}
+use Rattle.coflow_units.specs.Starts.{IsStarts}
 
 pub distinct_more : (xs : List ℕ) (k : ℕ) → k < length xs → IsDistinct (take k xs) → (Contains (take k xs) (get_or xs k 0) → ⊥) → IsDistinct (take (k + 1) xs)
 distinct_more xs k lt so_far new = subst (λ (ys : List ℕ). IsDistinct ys) (sym (take_more xs k 0 lt)) (all_pairs_push (λ (x : ℕ) (y : ℕ). x ≢ y) (take k xs) (get_or xs k 0) so_far (λ i d less same.

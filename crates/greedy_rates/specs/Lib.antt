@@ -1,4 +1,3 @@
-pub mod Starts
 pub mod Room
 pub mod Pass
 pub mod Owed

@@ -7,7 +7,7 @@ ghost use Rattle.greedy_rates.specs.OpenPorts.{how_many, open_egresses, open_ing
 ghost use Rattle.greedy_rates.specs.Owed.{IsOwed};
 ghost use Rattle.greedy_rates.specs.Pass.{IsGranting, IsNext};
 ghost use Rattle.greedy_rates.specs.Room.{flow_at_ingress};
-ghost use Rattle.greedy_rates.specs.Starts.{IsStarts};
+ghost use Rattle.coflow_units.specs.Starts.{IsStarts};
 
 use crate::owing::Owing;
 use crate::pass::clear;

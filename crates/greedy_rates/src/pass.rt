@@ -6,7 +6,7 @@ ghost use Rattle.coflow_units.specs.declared.fabric.Flow.{Flow};
 ghost use Rattle.coflow_units.specs.Flows.{IsDistinct};
 ghost use Rattle.greedy_rates.specs.Pass.{IsGranting, IsListing, IsNext};
 ghost use Rattle.greedy_rates.specs.Room.{IsLeastLeft, flow_at_ingress};
-ghost use Rattle.greedy_rates.specs.Starts.{IsStarts};
+ghost use Rattle.coflow_units.specs.Starts.{IsStarts};
 
 use coflow_units::Flow;
 

@@ -5,7 +5,7 @@ ghost use Rattle.coflow_units.specs.Flows.{IsDistinct};
 ghost use Rattle.coflow_units.specs.Grants.{IsGrants};
 ghost use Rattle.greedy_rates.specs.Owed.{IsOwed};
 ghost use Rattle.greedy_rates.specs.Room.{IsLeastLeft, TellsIngresses, flow_at_ingress};
-ghost use Rattle.greedy_rates.specs.Starts.{IsStarts};
+ghost use Rattle.coflow_units.specs.Starts.{IsStarts};
 
 use crate::owed_pass;
 use crate::owing::Owing;

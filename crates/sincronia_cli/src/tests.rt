@@ -293,12 +293,16 @@ fn serve_both(rt: &impl Abort, alloc: Global, table: &Table, order: &[u32]) -> R
 #[test]
 fn runs_and_single_slots_make_one_schedule(rt: HostRuntime) -> Result<(), Fail> {
     let alloc = rt.alloc();
-    let rows: [(&[u8], u64, &[u32]); 5] = [
+    // In the third trace flows of both coflows meet at each port.
+    let ties = b"1 2\n1 0 2 0 1 1 0:2\n2 0 2 0 1 1 1:2\n";
+    let rows: [(&[u8], u64, &[u32]); 7] = [
         (TWO, 1, &[0, 1]),
         (TWO, 2, &[1, 0]),
         (THREE, 1, &[0, 2, 1]),
         (THREE, 1, &[1, 2, 0]),
         (THREE, 3, &[2, 0, 1]),
+        (ties, 1, &[0, 1]),
+        (ties, 1, &[1, 0]),
     ];
     for (text, unit, order) in rows {
         let fit = text.len() <= MAX_TEXT && unit >= 1 && unit <= 1024;

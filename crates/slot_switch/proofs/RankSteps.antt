@@ -13,7 +13,7 @@ use Rattle.coflow_units.specs.Grants.{place_in, ComesBefore}
 use Rattle.coflow_units.proofs.LinePlaces.{place_of_member, at_place}
 use Rattle.coflow_units.proofs.Lists.{number_in}
 use Rattle.coflow_units.proofs.Sums.{all_of_members, nothing_in}
-use Rattle.greedy_rates.specs.Starts.{IsStarts}
+use Rattle.coflow_units.specs.Starts.{IsStarts}
 use Rattle.slot_switch.specs.Ranks.{IsRanked}
 use Rattle.slot_switch.proofs.Ranges.{range_more}
 

@@ -2,7 +2,7 @@
 ghost use Rattle.std.specs.Prelude.{◌≡◌, ◌<◌, ◌+◌, ◌-◌, ◌++◌, All, IfOk, OnOk, length};
 ghost use Rattle.std.specs.List.{range_with_len};
 ghost use Rattle.coflow_units.specs.Flows.{IsDistinct};
-ghost use Rattle.greedy_rates.specs.Starts.{IsStarts};
+ghost use Rattle.coflow_units.specs.Starts.{IsStarts};
 ghost use Rattle.slot_switch.specs.Ranks.{IsRanked};
 
 use coflow_units::{Flow, NoMemory};

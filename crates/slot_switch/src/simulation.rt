@@ -6,7 +6,7 @@ ghost use Rattle.coflow_units.specs.Flows.{IsDistinct};
 ghost use Rattle.coflow_units.specs.Schedule.{holds};
 ghost use Rattle.coflow_units.specs.Served.{IsServed};
 ghost use Rattle.greedy_rates.specs.Owed.{IsOwed};
-ghost use Rattle.greedy_rates.specs.Starts.{IsStarts};
+ghost use Rattle.coflow_units.specs.Starts.{IsStarts};
 
 use coflow_units::{Flow, NoMemory};
 use flow_table::Table;

@@ -5,7 +5,7 @@ ghost use Rattle.coflow_units.specs.declared.fabric.Flow.{Flow};
 ghost use Rattle.coflow_units.specs.Flows.{IsDistinct, coflow_of, units_of};
 ghost use Rattle.coflow_units.specs.Schedule.{holds};
 ghost use Rattle.coflow_units.specs.Served.{IsServed};
-ghost use Rattle.greedy_rates.specs.Starts.{IsStarts};
+ghost use Rattle.coflow_units.specs.Starts.{IsStarts};
 
 use crate::grants::grants_of_slot;
 use crate::ranks::ranked_flows;

@@ -4,7 +4,7 @@ use Rattle.std.specs.List.Sorted.{IsNonDecreasingBy}
 use Rattle.coflow_units.specs.declared.fabric.Flow.{Flow}
 use Rattle.coflow_units.specs.declared.trace.CoflowLine.{CoflowLine}
 use Rattle.coflow_units.specs.Trace.{ids_of}
-use Rattle.greedy_rates.specs.Starts.{IsStarts}
+use Rattle.coflow_units.specs.Starts.{IsStarts}
 use Rattle.flow_table.specs.Table.{IsTable}
 use Rattle.flow_table.proofs.TableSteps.{coflows_ascend, table_is}
 use Rattle.flow_table.proofs.Within.{flows_within}

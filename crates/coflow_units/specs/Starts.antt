@@ -1,4 +1,4 @@
--- Flows that stand coflow by coflow.
+-- Flows that stand coflow by coflow, as a table of flows has them.
 use Rattle.std.specs.Prelude.{◌≡◌, ℕ, ◌<◌, ◌≤◌, ◌+◌, List, All, length}
 use Rattle.std.specs.List.{slice_index}
 use Rattle.coflow_units.specs.declared.fabric.Flow.{Flow}
