@@ -84,6 +84,15 @@ def hour():
     return text(150, coflows)
 
 
+def many_locations():
+    """64 MB of lines of 4096 mappers on 48 locations and 4096 reducers on 48 others: each pair of locations has one flow, of 85 mappers to 85 reducers."""
+    mappers = " ".join(str(number % 48) for number in range(4096))
+    reducers = " ".join("%d:4095" % (100 + number % 48) for number in range(4096))
+    count = (2**26 - 16) // (len(mappers) + len(reducers) + 20)
+    lines = ["1024 %d" % count] + ["%d 0 4096 %s 4096 %s" % (ident, mappers, reducers) for ident in range(1, count + 1)]
+    return ("\n".join(lines) + "\n").encode()
+
+
 # name, trace, words behind `plan t`, seconds that the run is to take at most
 TRACES = [
     ("plan, 4096 coflows of 256 MB over 1024 ports", spread, [], 10),
@@ -92,6 +101,7 @@ TRACES = [
     ("plan, 4096 coflows of one flow over 1024 ports", narrow, [], 1),
     ("plan, 50 MB of lines of 3040 mappers", many_fields, [], 2),
     ("plan, 64 MB of lines on one location", one_location, [], 10),
+    ("plan, 64 MB of lines on 48 locations a side", many_locations, [], 10),
     ("plan, the shape of the public trace, --unit 16", hour, ["--unit", "16"], 10),
 ]
 
