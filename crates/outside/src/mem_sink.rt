@@ -1,5 +1,5 @@
 //! A sink in memory.
-ghost use Rattle.std.specs.Prelude.{◌≡◌, ◌+◌, ◌-◌, ◌^◌, ◌<◌, ◌≤◌, [], IfOk, OnErr, Some, length, min, vec_capacity};
+ghost use Rattle.std.specs.Prelude.{◌≡◌, ◌+◌, ◌-◌, ◌^◌, ◌<◌, ◌≤◌, [], IfOk, OnErr, OnOk, Some, length, min, vec_capacity};
 ghost use Rattle.outside.specs.MemSink.{limit};
 ghost use Rattle.outside.specs.Rose.{Rose};
 ghost use Rattle.outside.specs.Sink.{Takes};
@@ -18,7 +18,7 @@ pub struct MemSink {
 }
 
 impl MemSink {
-    /// A sink with room for `room` bytes. With `fail_after` it takes that many bytes in all and then fails. A full room is a fault.
+    /// A sink with room for `room` bytes. With `fail_after` it takes that many bytes in all and then fails. A full room is a fault. The error is want of memory.
     pub fn new(alloc: Global, room: usize, fail_after: Option<u64>) -> Result<MemSink, NoMemory>
         ensures taken { IfOk result (λ s. s.taken.items ≡ []) }
         ensures limit { IfOk result (λ s. s.limit ≡ limit room fail_after) }
@@ -59,7 +59,9 @@ impl Sink for MemSink {
         ensures some { 0 < length piece.now → IfOk result (λ n. 0 < n) }
         ensures taken { Takes (Some self.old.taken.items) (Some self.new.taken.items) piece.now result }
         ensures room { IfOk result (λ n. n ≡ min (self.old.limit - length self.old.taken.items) (length piece.now)) }
-        ensures full { OnErr result (self.old.limit ≤ length self.old.taken.items) }
+        ensures full { OnErr result ((0 < length piece.now) × (self.old.limit ≤ length self.old.taken.items)) }
+        ensures count { OnErr result (self.new.faults ≡ min (self.old.faults + 1) (2 ^ 64 - 1)) }
+        ensures still { OnOk result (self.new.faults ≡ self.old.faults) }
         ensures limit { self.new.limit ≡ self.old.limit }
     {
         let room = self.limit.saturating_sub(self.taken.len());

@@ -1,5 +1,5 @@
 //! A wire in memory.
-ghost use Rattle.std.specs.Prelude.{◌≡◌, ◌<◌, ◌≤◌, [], if◌then◌else◌, length, nat_lt, slice_index_or, vec_capacity, vec_len, IfOk, Some};
+ghost use Rattle.std.specs.Prelude.{◌≡◌, ◌+◌, ◌-◌, ◌^◌, ◌<◌, ◌≤◌, [], if◌then◌else◌, length, min, nat_lt, slice_index_or, vec_capacity, vec_len, IfOk, Some};
 ghost use Rattle.outside.specs.MemWire.{front_before, still_before, units_before};
 ghost use Rattle.outside.specs.Rose.{Rose};
 ghost use Rattle.outside.specs.Wire.{Accepts};
@@ -19,7 +19,7 @@ pub struct MemWire {
 }
 
 impl MemWire {
-    /// A wire with room for `room` runs. Unit number `fail_at`, counted from 1 over all units sent, is not accepted, once. A full room is a fault.
+    /// A wire with room for `room` runs. Unit number `fail_at`, counted from 1 over all units sent, is not accepted, once; with 0, as with none, no unit fails. A full room is a fault. The error is want of memory.
     pub fn new(alloc: Global, room: usize, fail_at: Option<u64>) -> Result<MemWire, NoMemory>
         ensures runs { IfOk result (λ w. w.runs.items ≡ []) }
         ensures room { IfOk result (λ w. w.room ≡ room) }
@@ -74,12 +74,13 @@ impl Wire for MemWire {
 
     ghost runs = { λ w. Some w.runs.items };
 
-    /// Accepts what comes before the unit that fails, and nothing where the room is full.
+    /// Accepts what comes before the unit that fails, and nothing where the room is full. The count rises by one exactly where not all units were accepted.
     fn send(&mut self, slot: u64, flow: u32, length: u64) -> u64
         requires { 1 ≤ length }
         ensures later { self.old.faults ≤ self.new.faults }
         ensures bound { result ≤ length }
         ensures cause { result < length → Rose self.old.faults self.new.faults }
+        ensures count { self.new.faults ≡ (if nat_lt result length then min (self.old.faults + 1) (2 ^ 64 - 1) else self.old.faults) }
         ensures runs { Accepts (Some self.old.runs.items) (Some self.new.runs.items) slot flow result }
         ensures accepts { result ≡ (if nat_lt (vec_len self.old.runs) self.old.room then front_before self.old.before length else 0) }
         ensures before { self.new.before ≡ (if nat_lt (vec_len self.old.runs) self.old.room then still_before self.old.before length else self.old.before) }
