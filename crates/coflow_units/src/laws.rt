@@ -6,7 +6,7 @@ ghost use Rattle.coflow_units.specs.Flows.{Instance, IsInstance, coflow_of, unit
 ghost use Rattle.coflow_units.specs.Schedule.{IsClear, IsRuns, IsValid};
 ghost use Rattle.coflow_units.specs.Patient.{IsPatient};
 ghost use Rattle.coflow_units.specs.PortWord.{FitsWord, word_of};
-ghost use Rattle.coflow_units.specs.PortWord.PortStage.{drawn, granted, reported};
+ghost use Rattle.coflow_units.specs.PortWord.PortStage.{drawn, granted, reported, taken_back, unposted};
 ghost use Rattle.coflow_units.specs.Grants.{IsGrants, IsRunLength};
 ghost use Rattle.coflow_units.specs.Rows.{AllTies, EqualWeights, OneEmpty, Realistic, UnequalWeights};
 ghost use Rattle.coflow_units.specs.Served.{IsServed, IsServedSoFar, left_after};
@@ -88,17 +88,25 @@ pub fn rows_hold()
     ensures realistic { Realistic }
 {}
 
-/// Each definition holds of some of the small cases and not of others.
+/// The definitions hold of some small cases, and not of others.
 pub fn small_cases_hold()
     ensures holds { TwoFlowsHold }
     ensures refuses { TwoFlowsRefuse }
 {}
 
-/// The word of a port tells its stage, its slot and its flow.
+/// The word of a port tells whether its last post waits for an agent, was drawn, or was reported, and its slot and its flow. It tells neither the agent nor the units of a report. A port without a post and one whose post was taken back have the word 0, and no other has.
 pub fn port_words_tell()
     ensures same { (slot flow slot' flow' : ℕ) → FitsWord slot flow → FitsWord slot' flow' → word_of granted slot flow ≡ word_of granted slot' flow' → (slot ≡ slot') × (flow ≡ flow') }
     ensures granted { (agent slot flow slot' flow' : ℕ) → FitsWord slot flow → FitsWord slot' flow' → word_of granted slot flow ≢ word_of (drawn agent) slot' flow' }
+    ensures granted_reported { (agent units slot flow slot' flow' : ℕ) → FitsWord slot flow → FitsWord slot' flow' → word_of granted slot flow ≢ word_of (reported agent units) slot' flow' }
     ensures drawn { (agent other units slot flow slot' flow' : ℕ) → FitsWord slot flow → FitsWord slot' flow' → word_of (drawn agent) slot flow ≢ word_of (reported other units) slot' flow' }
+    ensures same_drawn { (agent other slot flow slot' flow' : ℕ) → FitsWord slot flow → FitsWord slot' flow' → word_of (drawn agent) slot flow ≡ word_of (drawn other) slot' flow' → (slot ≡ slot') × (flow ≡ flow') }
+    ensures same_reported { (agent units other more slot flow slot' flow' : ℕ) → FitsWord slot flow → FitsWord slot' flow' → word_of (reported agent units) slot flow ≡ word_of (reported other more) slot' flow' → (slot ≡ slot') × (flow ≡ flow') }
+    ensures granted_not_zero { (slot flow : ℕ) → word_of granted slot flow ≢ 0 }
+    ensures drawn_not_zero { (agent slot flow : ℕ) → word_of (drawn agent) slot flow ≢ 0 }
+    ensures reported_not_zero { (agent units slot flow : ℕ) → word_of (reported agent units) slot flow ≢ 0 }
+    ensures unposted { (slot flow : ℕ) → word_of unposted slot flow ≡ 0 }
+    ensures taken_back { (slot flow : ℕ) → word_of taken_back slot flow ≡ 0 }
     ensures posted { word_of granted 1 0 ≡ 2305843009214742528 }
     ensures taken { (agent : ℕ) → word_of (drawn agent) 1 0 ≡ 4611686018428436480 }
 {}
