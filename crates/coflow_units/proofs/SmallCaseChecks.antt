@@ -1,19 +1,26 @@
 -- The small cases, decided.
-use Rattle.std.proofs.Common.{◌≡◌, ℕ, ◌+◌, ◌<◌, ◌≤◌, inl, inr, List, [], ◌∷◌, Contains, refl, ap, arith, zero, suc}
+use Rattle.std.proofs.Common.{◌≡◌, ℕ, ◌+◌, ◌*◌, ◌^◌, ◌<◌, ◌≤◌, Bool, true, false, inl, inr, List, [], ◌∷◌, Contains, refl, ap, arith, zero, suc}
 use Rattle.std.specs.List.{slice_index_or}
+use Rattle.std.specs.Prelude.{if◌then◌else◌}
 use Rattle.std.proofs.lemmas.Bool.{ltb-true}
 use Rattle.std.proofs.lemmas.List.Elements.{All-from_recursion}
-use Rattle.coflow_units.specs.Flows.{IsInstance, SharesPort, units_of}
+use Rattle.coflow_units.specs.Flows.{FlowBefore, IsInstance, IsWhole, SharesPort, units_of}
 use Rattle.coflow_units.specs.Grants.{IsGrants}
 use Rattle.coflow_units.specs.Schedule.{IsClear, IsRuns, IsValid}
 use Rattle.coflow_units.specs.Patient.{IsPatient}
 use Rattle.coflow_units.specs.Served.{IsServed}
-use Rattle.coflow_units.specs.Certificate.{Entry, IsCertificate, IsFeasible, budget, used}
+use Rattle.coflow_units.specs.Certificate.{Entry, IsBelowLoads, IsCertificate, IsFeasible, TakesGreatestPorts, budget, used}
+use Rattle.coflow_units.specs.Load.{load_of_all, loads}
+use Rattle.coflow_units.specs.Trace.{IsCoflowLine, IsTrace}
+use Rattle.coflow_units.specs.declared.fabric.Flow.{Flow}
+use Rattle.coflow_units.specs.declared.fabric.Port.{Port}
+use Rattle.coflow_units.specs.declared.trace.CoflowLine.{CoflowLine}
+use Rattle.coflow_units.specs.declared.trace.Reducer.{Reducer}
 use Rattle.coflow_units.specs.Rows.{equal_weights, equal_weights_places, equal_weights_slots, two_flows}
-use Rattle.coflow_units.specs.SmallCases.{TwoFlowsHold, TwoFlowsRefuse, crossing, cut_in_two, idle_first, longer_first, longer_first_slots, named_twice, one_each, one_too_few, out_of_range, too_dear}
+use Rattle.coflow_units.specs.SmallCases.{TwoFlowsHold, TwoFlowsRefuse, all_sent, at_an_idle_port, crossing, first_ingress, line_of, trace_with, turned, cut_in_two, idle_first, longer_first, longer_first_slots, named_twice, one_each, one_too_few, out_of_range, too_dear}
 use Rattle.coflow_units.proofs.CertificateSteps.{used_outside}
 use Rattle.coflow_units.proofs.GrantsExist.{grants_exist}
-use Rattle.coflow_units.proofs.RowChecks.{named}
+use Rattle.coflow_units.proofs.RowChecks.{equal_instance, named}
 use Rattle.coflow_units.proofs.ServedExists.{served_exists}
 use Rattle.coflow_units.proofs.ServedLaws.{grants_clear, served_valid, served_patient}
 use Rattle.coflow_units.proofs.ServeLaws.{one_served}
@@ -56,6 +63,52 @@ certificate_case = record {
   port = All-from_recursion (λ (e : Entry). e.port.number < 3) equal_weights_places (omega arith, (omega arith, tt));
 }
 
+at_most : (b : Bool) (n : ℕ) → (if b then n else 0) ≤ n
+at_most true n = omega arith
+at_most false n = omega arith
+
+both_at_most : (port : Port) → load_of_all two_flows (0 ∷ 1 ∷ []) port ≤ 4
+both_at_most port =
+    omega (arith, at_most (loads 0 port record { coflow = 0; ingress = 0; egress = 1; units = 3 }) 3, at_most (loads 1 port record { coflow = 1; ingress = 0; egress = 1; units = 1 }) 1)
+
+shorter_at_most : (port : Port) → load_of_all two_flows (1 ∷ []) port ≤ 1
+shorter_at_most port = omega (arith, at_most (loads 1 port record { coflow = 1; ingress = 0; egress = 1; units = 1 }) 1)
+
+greatest_case : TakesGreatestPorts two_flows 3 equal_weights_places
+greatest_case = ((λ port lt. both_at_most port), ((λ port lt. shorter_at_most port), tt))
+
+flows_in_order : (k : ℕ) (d : Flow) → k + 1 < 2 → FlowBefore (slice_index_or two_flows k d) (slice_index_or two_flows (k + 1) d)
+flows_in_order zero d lt = inl (omega arith)
+flows_in_order (suc k) d lt = absurd (omega (arith, lt))
+
+whole_case : IsWhole equal_weights
+whole_case = record {
+  instance = equal_instance;
+  numbered = refl;
+  weights = λ k d lt. omega arith;
+  units = All-from_recursion (λ (x : Flow). 1 ≤ x.units) two_flows (omega arith, (omega arith, tt));
+  sorted = flows_in_order;
+}
+
+line_case : (id : ℕ) → IsCoflowLine 1 (line_of id)
+line_case id = record {
+  has_mapper = omega arith;
+  few_mappers = omega arith;
+  mappers = All-from_recursion (λ m. m ≤ 1) (0 ∷ []) (omega arith, tt);
+  few_reducers = omega arith;
+  reducers = All-from_recursion (λ (r : Reducer). r.location ≤ 1) (line_of id).reducers (omega arith, tt);
+  sizes = All-from_recursion (λ (r : Reducer). r.millionths ≤ 2 ^ 40 * 1000000) (line_of id).reducers (omega arith, tt);
+}
+
+trace_case : IsTrace (trace_with (line_of 7 ∷ line_of 8 ∷ []))
+trace_case = record {
+  has_ports = omega arith;
+  few_ports = omega arith;
+  few_coflows = omega arith;
+  ids = pairs_from_apart (7 ∷ 8 ∷ []) ((λ has. elim (first_or_tail 8 [] 7 has) [ inl e ↦ omega (arith, e) | inr none ↦ nothing_in 7 none ]), ((λ has. nothing_in 8 has), tt));
+  lines = All-from_recursion (λ (x : CoflowLine). IsCoflowLine 1 x) (line_of 7 ∷ line_of 8 ∷ []) (line_case 7, (line_case 8, tt));
+}
+
 pub two_flows_hold : TwoFlowsHold
 two_flows_hold = record {
   first_load = refl;
@@ -71,6 +124,12 @@ two_flows_hold = record {
   certificate = certificate_case;
   length = run_length_is (units_of two_flows) (0 ∷ []) 2;
   apart = grants_clear crossing (0 ∷ 1 ∷ []) (units_of crossing) (0 ∷ 1 ∷ []) (grants_exist crossing (0 ∷ 1 ∷ []) (units_of crossing));
+  greatest = greatest_case;
+  below = ((λ some. omega arith), ((λ some. omega arith), tt));
+  whole = whole_case;
+  line = line_case 7;
+  trace = trace_case;
+  fits = (omega arith, omega arith);
 }
 
 no_ports : IsInstance out_of_range → ⊥
@@ -113,6 +172,27 @@ dear feasible = omega (arith, feasible 0, ltb-true (budget one_each 0) (used two
 twice : IsCertificate equal_weights named_twice → ⊥
 twice certificate = certificate.once 0 1 0 (omega arith) (omega arith) refl
 
+idle_port : TakesGreatestPorts two_flows 3 at_an_idle_port → ⊥
+idle_port greatest = omega (arith, greatest.1.0 first_ingress (omega arith))
+
+as_much_as_the_load : IsBelowLoads two_flows one_each equal_weights_places → ⊥
+as_much_as_the_load below = omega (arith, below.1.0 (omega arith))
+
+not_sorted : IsWhole turned → ⊥
+not_sorted whole = elim (whole.sorted 0 record { coflow = 0; ingress = 0; egress = 0; units = 0 } (omega arith)) [
+  | inl lt ↦ omega (arith, lt)
+  | inr same ↦ omega (arith, same.0)
+]
+
+no_units : IsWhole all_sent → ⊥
+no_units whole = omega (arith, whole.units 0 record { coflow = 0; ingress = 0; egress = 0; units = 0 } (omega arith))
+
+no_location : IsCoflowLine 0 (line_of 7) → ⊥
+no_location line = omega (arith, line.reducers 0 record { location = 0; millionths = 0 } (omega arith))
+
+same_id : IsTrace (trace_with (line_of 7 ∷ line_of 7 ∷ [])) → ⊥
+same_id trace = trace.ids 0 1 0 (omega arith) (omega arith) refl
+
 pub two_flows_refuse : TwoFlowsRefuse
 two_flows_refuse = record {
   instance = no_ports;
@@ -127,4 +207,12 @@ two_flows_refuse = record {
   patient = waits_for_nobody;
   feasible = dear;
   certificate = twice;
+  greatest = idle_port;
+  below = as_much_as_the_load;
+  unsorted = not_sorted;
+  without_units = no_units;
+  line = no_location;
+  trace = same_id;
+  late_slot = λ fits. omega (arith, fits.0);
+  large_flow = λ fits. omega (arith, fits.1);
 }

@@ -1,16 +1,20 @@
--- Small cases on which each definition holds, and ones on which it does not.
+-- Small cases on which definitions hold, and ones on which they do not.
 use Rattle.std.specs.Prelude.{◌≡◌, ℕ, List, [], ◌∷◌}
 use Rattle.coflow_units.specs.declared.fabric.Flow.{Flow}
 use Rattle.coflow_units.specs.declared.fabric.Port.{Port}
-use Rattle.coflow_units.specs.declared.fabric.Side.TheVariants.{Ingress}
-use Rattle.coflow_units.specs.Flows.{Instance, IsInstance, SharesPort, units_of}
+use Rattle.coflow_units.specs.declared.fabric.Side.TheVariants.{Ingress, Egress}
+use Rattle.coflow_units.specs.declared.trace.CoflowLine.{CoflowLine}
+use Rattle.coflow_units.specs.declared.trace.Trace.{Trace}
+use Rattle.coflow_units.specs.Flows.{Instance, IsInstance, IsWhole, SharesPort, units_of}
 use Rattle.coflow_units.specs.Load.{load, load_of_all}
 use Rattle.coflow_units.specs.Grants.{IsGrants, IsRunLength}
 use Rattle.coflow_units.specs.Schedule.{IsClear, IsRuns, IsValid, slots_of}
 use Rattle.coflow_units.specs.Completion.{completion, cost}
 use Rattle.coflow_units.specs.Patient.{IsPatient}
 use Rattle.coflow_units.specs.Served.{IsServed}
-use Rattle.coflow_units.specs.Certificate.{Entry, IsCertificate, IsFeasible}
+use Rattle.coflow_units.specs.Certificate.{Entry, IsBelowLoads, IsCertificate, IsFeasible, TakesGreatestPorts}
+use Rattle.coflow_units.specs.PortWord.{FitsWord}
+use Rattle.coflow_units.specs.Trace.{IsCoflowLine, IsTrace}
 use Rattle.coflow_units.specs.Rows.{equal_weights, equal_weights_places, equal_weights_slots, two_flows}
 
 abbrev pub one_each : ℕ → ℕ
@@ -46,6 +50,10 @@ crossing = record { coflow = 0; ingress = 0; egress = 1; units = 1 } ∷ record 
 abbrev pub too_dear : List Entry
 too_dear = record { coflow = 0; port = first_ingress; y = 366503875926 } ∷ record { coflow = 1; port = first_ingress; y = 733007751851 } ∷ []
 
+-- the ordering certificate of the instance where all is equal, but with the second ingress port at the last place
+abbrev pub at_a_later_port : List Entry
+at_a_later_port = record { coflow = 1; port = record { side = Ingress; number = 1 }; y = 1099511627776 } ∷ record { coflow = 0; port = record { side = Egress; number = 0 }; y = 0 } ∷ []
+
 -- a certificate that names one coflow twice
 abbrev pub named_twice : List Entry
 named_twice = record { coflow = 0; port = first_ingress; y = 0 } ∷ record { coflow = 0; port = first_ingress; y = 0 } ∷ []
@@ -54,7 +62,27 @@ named_twice = record { coflow = 0; port = first_ingress; y = 0 } ∷ record { co
 abbrev pub out_of_range : Instance
 out_of_range = record { coflows = 0 ∷ 1 ∷ []; weight = one_each; ports = 1; flows = two_flows }
 
--- what holds of the two flows
+-- the first place charges a port without load
+abbrev pub at_an_idle_port : List Entry
+at_an_idle_port = record { coflow = 0; port = first_ingress; y = 0 } ∷ record { coflow = 1; port = record { side = Ingress; number = 2 }; y = 0 } ∷ []
+
+-- the flows stand from the last coflow to the first
+abbrev pub turned : Instance
+turned = record { coflows = 0 ∷ 1 ∷ []; weight = one_each; ports = 3; flows = record { coflow = 1; ingress = 0; egress = 1; units = 1 } ∷ record { coflow = 0; ingress = 0; egress = 1; units = 3 } ∷ [] }
+
+-- a flow that has no units left
+abbrev pub all_sent : Instance
+all_sent = record { coflows = 0 ∷ []; weight = one_each; ports = 3; flows = record { coflow = 0; ingress = 0; egress = 1; units = 0 } ∷ [] }
+
+-- a coflow line with a mapper at location 0 and a reducer of 3 megabytes at location 1
+abbrev pub line_of : ℕ → CoflowLine
+line_of id = record { id = id; arrival = 0; mappers = 0 ∷ []; reducers = record { location = 1; millionths = 3000000 } ∷ [] }
+
+-- a trace of one port with these coflow lines; its locations are 0 and 1
+abbrev pub trace_with : List CoflowLine → Trace
+trace_with lines = record { number = 1; coflows = lines }
+
+-- what holds
 pub record TwoFlowsHold : Type 0 where
   pub first_load : load two_flows 0 first_ingress ≡ 3
   pub both_loads : load_of_all two_flows (0 ∷ 1 ∷ []) first_ingress ≡ 4
@@ -69,6 +97,12 @@ pub record TwoFlowsHold : Type 0 where
   pub certificate : IsCertificate equal_weights equal_weights_places
   pub length : IsRunLength (units_of two_flows) (0 ∷ []) 2 2
   pub apart : IsClear crossing (0 ∷ 1 ∷ [])
+  pub greatest : TakesGreatestPorts two_flows 3 equal_weights_places
+  pub below : IsBelowLoads two_flows (λ c. 0) equal_weights_places
+  pub whole : IsWhole equal_weights
+  pub line : IsCoflowLine 1 (line_of 7)
+  pub trace : IsTrace (trace_with (line_of 7 ∷ line_of 8 ∷ []))
+  pub fits : FitsWord 2199023255551 1048575
 
 -- what does not hold
 pub record TwoFlowsRefuse : Type 0 where
@@ -84,3 +118,11 @@ pub record TwoFlowsRefuse : Type 0 where
   pub patient : IsPatient two_flows (0 ∷ 1 ∷ []) idle_first → ⊥
   pub feasible : IsFeasible two_flows one_each too_dear → ⊥
   pub certificate : IsCertificate equal_weights named_twice → ⊥
+  pub greatest : TakesGreatestPorts two_flows 3 at_an_idle_port → ⊥
+  pub below : IsBelowLoads two_flows one_each equal_weights_places → ⊥
+  pub unsorted : IsWhole turned → ⊥
+  pub without_units : IsWhole all_sent → ⊥
+  pub line : IsCoflowLine 0 (line_of 7) → ⊥
+  pub trace : IsTrace (trace_with (line_of 7 ∷ line_of 7 ∷ [])) → ⊥
+  pub late_slot : FitsWord 2199023255552 0 → ⊥
+  pub large_flow : FitsWord 0 1048576 → ⊥
