@@ -1,22 +1,22 @@
 -- The ordering certificate is feasible, its rests are below the loads, and there is one alone.
-use Rattle.std.proofs.Common.{◌≡◌, ℕ, ◌+◌, ◌-◌, ◌*◌, ◌/◌, ◌^◌, ◌≤◌, ◌<◌, ◌⊎◌, inl, inr, List, [], ◌∷◌, length, Contains, refl, sym, ap, subst, ◌∙◌, arith, le_trans, le_of_lt}
-use Rattle.std.specs.Prelude.{◌==◌, All}
-use Rattle.std.proofs.Math.Nat.{mul-le-mul_left, mul-le-mul_right, le_of_mul-le-mul_right}
+use Rattle.std.proofs.Common.{◌≡◌, ℕ, ◌+◌, ◌-◌, ◌*◌, ◌/◌, ◌≤◌, ◌<◌, ◌⊎◌, inl, inr, List, [], ◌∷◌, Contains, refl, sym, ap, subst, ◌∙◌, arith}
+use Rattle.std.specs.Prelude.{◌==◌}
+use Rattle.std.proofs.Math.Nat.{mul-le-mul_right, le_of_mul-le-mul_right}
 use Rattle.std.specs.List.{list_any}
 use Rattle.std.proofs.lemmas.Bool.{cases_Bool, both_ways}
 use Rattle.std.proofs.lemmas.List.Sums.{sum_by-cons}
-use Rattle.std.proofs.lemmas.List.Elements.{All-contains, All-head, All-tail}
+use Rattle.std.proofs.lemmas.List.Elements.{All-contains}
 use Rattle.coflow_units.specs.declared.fabric.Flow.{Flow}
 use Rattle.coflow_units.specs.declared.fabric.Port.{Port}
 use Rattle.coflow_units.specs.declared.fabric.Side.{Side}
 use Rattle.coflow_units.specs.declared.fabric.Side.TheVariants.{Ingress, Egress}
 use Rattle.coflow_units.specs.Flows.{Instance}
 use Rattle.coflow_units.specs.Load.{load, load_of_all}
-use Rattle.coflow_units.specs.Certificate.{scale, budget, IsBelowLoads, Entry, front, front_load, used, rest, over_places, unspent, slack, IsFeasible, TakesGreatestPorts}
+use Rattle.coflow_units.specs.Certificate.{budget, IsBelowLoads, Entry, front, used, rest, IsFeasible, TakesGreatestPorts}
 use Rattle.coflow_units.specs.Ordering.{IsFirstGreatest, port_place, port_place_on, spent, residual, IsPlacedBusy, IsPlaced, IsOrdered, IsOrdering}
-use Rattle.coflow_units.proofs.Sums.{Apart, any_has, any_in, apart_from_pairs, first_or_tail, in_first, in_tail, member_within_sum, nothing_in, same_members}
+use Rattle.coflow_units.proofs.Sums.{Apart, any_has, any_in, apart_from_pairs, first_or_tail, in_first, in_tail, nothing_in, same_members}
 use Rattle.coflow_units.proofs.CertificateSteps.{used_in, used_outside}
-use Rattle.coflow_units.proofs.Numbers.{div_up_least, floor_above, floor_within, zero_or_more}
+use Rattle.coflow_units.proofs.Numbers.{floor_above, floor_within, zero_or_more}
 
 -- each port takes the greatest load of its front
 greatest_of : (flows : List Flow) (ports : ℕ) (coflows : List ℕ) (port : Port) → IsFirstGreatest flows ports coflows port → (other : Port) → other.number < ports → load_of_all flows coflows other ≤ load_of_all flows coflows port

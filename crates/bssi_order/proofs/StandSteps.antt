@@ -1,8 +1,8 @@
 -- A program that chooses places over a table makes the ordering certificate of the instance.
 use Rattle.std.proofs.Common.{◌≡◌, ◌≢◌, ℕ, ◌+◌, ◌-◌, ◌*◌, ◌/◌, ◌^◌, ◌<◌, ◌≤◌, ◌⊎◌, inl, inr, Bool, true, false, cond, List, [], ◌∷◌, ◌++◌, length, drop, take, get_or, Contains, refl, sym, ap, subst, ◌∙◌, arith, zero, suc, length-set, length-take-le, true≢false}
 use Rattle.std.specs.Prelude.{All, count_by, filter, map, reverse, sum_by, slice_index, slice_set}
-use Rattle.std.specs.List.{range_with_len, slice_index_or}
-use Rattle.std.proofs.lemmas.Bool.{both_ways, cases_Bool, cases_eq, cases_lt}
+use Rattle.std.specs.List.{range_with_len}
+use Rattle.std.proofs.lemmas.Bool.{cases_Bool, cases_eq}
 use Rattle.std.proofs.lemmas.List.{drop_all, drop-set, get_or-reverse, get_or-set_same, get_or-set_other, length-reverse, map-append, reverse-append}
 use Rattle.std.proofs.Math.Seq.{take-append_seam}
 use Rattle.std.proofs.lemmas.List.Sums.{sum_by-cons, sum_by-set}
@@ -12,17 +12,16 @@ use Rattle.coflow_units.specs.declared.fabric.Port.{Port}
 use Rattle.coflow_units.specs.declared.plan.Place.{Place}
 use Rattle.coflow_units.specs.Flows.{Instance, IsDistinct}
 use Rattle.coflow_units.specs.Load.{load, load_of_all}
-use Rattle.coflow_units.specs.Certificate.{Entry, budget, entry_of, front, front_load, rest, used}
-use Rattle.coflow_units.specs.Ordering.{IsFirstGreatest, IsOrdering, IsPlaced, IsPlacedBusy, port_place, residual, spent}
-use Rattle.coflow_units.proofs.Sums.{Apart, apart_from_pairs, first_or_tail, in_first, in_tail, members_at_most, pairs_from_apart, same_members, sum_mono, sum_same}
+use Rattle.coflow_units.specs.Certificate.{Entry, budget, entry_of, front, rest, used}
+use Rattle.coflow_units.specs.Ordering.{IsFirstGreatest, IsPlaced, IsPlacedBusy, port_place, residual, spent}
+use Rattle.coflow_units.proofs.Sums.{Apart, apart_from_pairs, in_first, in_tail, members_at_most, pairs_from_apart, same_members, sum_mono, sum_same}
 use Rattle.coflow_units.proofs.Lists.{filter_in, keeps}
 use Rattle.coflow_units.proofs.CertificateSteps.{used_in, used_outside}
 use Rattle.port_load.specs.LoadTable.{DropsCoflow, IsSameSize, LoadTable, is_present, load_at, total_at}
 use Rattle.port_load.proofs.Grid.{below_in, in_below, range_apart}
-use Rattle.bssi_order.specs.Order.{IsOf, IsOrder, TellsFrontLoads, entries_of, present_coflows}
+use Rattle.bssi_order.specs.Order.{IsOf, IsOrder, TellsFrontLoads, present_coflows}
 use Rattle.bssi_order.specs.Step.{IsChosen, IsGreatestPort, IsLeastRatio, IsReady, Pays, Stands}
 use Rattle.bssi_order.proofs.BestOf.{without, without_apart, without_in, without_keeps, without_out}
-use Rattle.bssi_order.proofs.OrderingExists.{Made}
 use Rattle.bssi_order.proofs.OrderingLaws.{spent_more}
 use Rattle.bssi_order.proofs.OrderingSteps.{IsPlacedSoFar, after, made_of, ordering_made, place_more}
 use Rattle.bssi_order.proofs.TableSteps.{present_below}

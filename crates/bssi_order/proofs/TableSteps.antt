@@ -1,22 +1,19 @@
 -- The loops over a table of loads, step by step.
-use Rattle.std.proofs.Common.{◌≡◌, ◌≢◌, ℕ, ◌+◌, ◌-◌, ◌*◌, ◌/◌, ◌^◌, ◌<◌, ◌≤◌, ◌⊎◌, inl, inr, Bool, true, false, cond, List, [], ◌∷◌, length, get_or, Contains, refl, sym, ap, subst, ◌∙◌, arith, zero, suc, length-set, true≢false}
-use Rattle.std.specs.Prelude.{count_by, sum_by, slice_index, slice_set, All}
-use Rattle.std.specs.List.{range_with_len, slice_index_or}
-use Rattle.std.proofs.lemmas.Bool.{both_ways, cases_Bool, cases_eq, cases_lt}
-use Rattle.std.proofs.lemmas.List.{get_or-set_same, get_or-set_other}
+use Rattle.std.proofs.Common.{◌≡◌, ℕ, ◌+◌, ◌-◌, ◌*◌, ◌/◌, ◌^◌, ◌<◌, ◌≤◌, ◌⊎◌, inl, inr, Bool, true, false, cond, List, [], ◌∷◌, length, Contains, refl, sym, ap, subst, ◌∙◌, arith, zero, suc, true≢false}
+use Rattle.std.specs.Prelude.{count_by, sum_by, slice_index}
+use Rattle.std.specs.List.{range_with_len}
+use Rattle.std.proofs.lemmas.Bool.{cases_Bool, cases_eq, cases_lt}
 use Rattle.std.proofs.Math.ListN.{get_or-eq_default}
-use Rattle.std.proofs.Math.Nat.{mul-le-mul, mul-le-mul_left, mul-le-mul_right, le_of_mul-le-mul_right}
+use Rattle.std.proofs.Math.Nat.{mul-le-mul, mul-le-mul_right, le_of_mul-le-mul_right}
 use Rattle.std.proofs.lemmas.List.Sums.{sum_by-cons}
 use Rattle.coflow_units.specs.declared.fabric.Port.{Port}
 use Rattle.coflow_units.specs.declared.fabric.Side.{Side}
-use Rattle.coflow_units.specs.declared.fabric.Side.TheVariants.{Ingress, Egress}
-use Rattle.coflow_units.specs.Ordering.{port_place, port_place_on}
 use Rattle.coflow_units.proofs.Numbers.{floor_within}
-use Rattle.coflow_units.proofs.Sums.{in_first, in_tail, member_within_sum, sum_same, sum_zero}
+use Rattle.coflow_units.proofs.Sums.{in_first, in_tail, member_within_sum}
 use Rattle.bssi_order.proofs.OrderingLaws.{within_ratio}
-use Rattle.port_load.specs.LoadTable.{DropsCoflow, IsSameSize, LoadTable, is_present, load_at, total_at}
+use Rattle.port_load.specs.LoadTable.{IsSameSize, LoadTable, is_present, load_at, total_at}
 use Rattle.port_load.proofs.Grid.{below_in, in_below}
-use Rattle.bssi_order.specs.Step.{IsGreatestOn, IsGreatestPort, IsGreatestWaiting, IsLeastRatio, Pays}
+use Rattle.bssi_order.specs.Step.{IsGreatestWaiting, IsLeastRatio}
 
 -- ---- absent coflows are dropped
 

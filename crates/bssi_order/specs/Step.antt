@@ -1,5 +1,5 @@
 -- One step of the order over a table: from the loads of the coflows that wait for a place, and their residuals.
-use Rattle.std.specs.Prelude.{◌≡◌, ℕ, ◌+◌, ◌-◌, ◌*◌, ◌/◌, ◌^◌, ◌<◌, ◌≤◌, ◌⊎◌, Bool, true, false, List, Contains, length, slice_index, slice_set}
+use Rattle.std.specs.Prelude.{◌≡◌, ℕ, ◌-◌, ◌*◌, ◌/◌, ◌^◌, ◌<◌, ◌≤◌, ◌⊎◌, Bool, true, false, List, Contains, length, slice_index}
 use Rattle.coflow_units.specs.declared.fabric.Port.{Port}
 use Rattle.coflow_units.specs.declared.fabric.Side.{Side}
 use Rattle.coflow_units.specs.declared.plan.Place.{Place}
@@ -7,7 +7,7 @@ use Rattle.coflow_units.specs.Flows.{Instance, IsDistinct}
 use Rattle.coflow_units.specs.Load.{load}
 use Rattle.coflow_units.specs.Certificate.{Entry}
 use Rattle.coflow_units.specs.Ordering.{port_place, residual}
-use Rattle.port_load.specs.LoadTable.{DropsCoflow, LoadTable, is_present, load_at, total_at}
+use Rattle.port_load.specs.LoadTable.{LoadTable, is_present, load_at, total_at}
 
 -- one residual and one mark for each coflow, numbers within their limits, and load only of coflows that wait
 pub record IsReady (t : LoadTable) (residuals : List ℕ) (waiting : List Bool) : Type 0 where

@@ -1,4 +1,4 @@
-use Rattle.std.proofs.Common.{◌≡◌, ◌≤◌, ◌^◌, ◌++◌, [], drop, length, slice_index, subst, sym, ap, ◌∙◌, arith, take}
+use Rattle.std.proofs.Common.{[], drop, subst, sym, arith}
 use Rattle.bssi_order.specs.Order.{IsOrder}
 use Rattle.bssi_order.specs.Step.{IsReady, Stands}
 use Rattle.bssi_order.proofs.StandSteps.{IsBegun, length_part, ready_first, stands_first, take_front}

@@ -1,4 +1,4 @@
-use Rattle.std.proofs.Common.{◌≡◌, ◌*◌, ◌/◌, ◌≤◌, slice_index, subst, sym, ap, arith}
+use Rattle.std.proofs.Common.{◌*◌, ◌/◌, ◌≤◌, slice_index, subst, sym}
 use Rattle.port_load.specs.LoadTable.{load_at}
 use Rattle.bssi_order.proofs.TableSteps.{affordable}
 use Rattle.bssi_order.proofs.step.choose.Goals as goal

@@ -1,5 +1,5 @@
-use Rattle.std.proofs.Common.{◌≡◌, ◌+◌, ◌<◌, ◌≤◌, subst, sym, arith}
-use Rattle.bssi_order.proofs.TableSteps.{FirstSoFar, first_keep, first_none, first_take, port_of}
+use Rattle.std.proofs.Common.{◌+◌, subst, sym, arith}
+use Rattle.bssi_order.proofs.TableSteps.{FirstSoFar, first_keep, first_none, first_take}
 use Rattle.bssi_order.proofs.step.greatest_on.Goals.{then-total, else-total}
 use Rattle.bssi_order.proofs.step.greatest_on.Goals as goal
 

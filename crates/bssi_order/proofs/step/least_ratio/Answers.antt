@@ -1,6 +1,5 @@
-use Rattle.std.proofs.Common.{◌≡◌, ◌+◌, ◌*◌, ◌^◌, ◌<◌, ◌≤◌, length, slice_index, subst, sym, ap, ◌∙◌, arith}
+use Rattle.std.proofs.Common.{◌≡◌, ◌+◌, ◌^◌, ◌<◌, slice_index, subst, sym, arith}
 use Rattle.bssi_order.proofs.TableSteps.{LeastSoFar, least_keep, least_load_fits, least_of, least_take, product_fits, within_total}
-use Rattle.port_load.specs.LoadTable.{load_at}
 use Rattle.bssi_order.proofs.step.least_ratio.Goals.{then-ours-theirs, else-ours-theirs}
 use Rattle.bssi_order.proofs.step.least_ratio.Goals as goal
 

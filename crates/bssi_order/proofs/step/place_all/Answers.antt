@@ -1,4 +1,4 @@
-use Rattle.std.proofs.Common.{◌≡◌, ◌+◌, ◌-◌, ◌<◌, length, subst, sym, ap, ◌∙◌, arith}
+use Rattle.std.proofs.Common.{◌≡◌, ◌+◌, ◌-◌, subst, arith}
 use Rattle.bssi_order.proofs.StandSteps.{PlacesSoFar, order_of_places, places_more, places_none}
 use Rattle.bssi_order.proofs.step.place_all.Goals as goal
 
