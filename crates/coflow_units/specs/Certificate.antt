@@ -27,6 +27,7 @@ pub record Entry : Type 0 where
   pub port : Port
   pub y : ℕ
 
+-- the coflow, the port and the y of a place; its rest and its load are left out
 abbrev pub entry_of : Place → Entry
 entry_of x = record { coflow = x.coflow; port = x.port; y = x.y }
 
@@ -119,12 +120,15 @@ first_coflows k places = map (λ (e : Entry). e.coflow) (take k places)
 abbrev pub by_number : (Entry → List ℕ → ℕ) → List Entry → ℕ
 by_number term places = sum_by (λ k. term (slice_index_or places k record { coflow = 0; port = record { side = Ingress; number = 0 }; y = 0 }) (first_coflows (k + 1) places)) (range_with_len 0 (length places))
 
+-- what the coflow spends: y times its load on the place's port, over the places that come no earlier than its own
 abbrev pub used_by_number : List Flow → List Entry → ℕ → ℕ
 used_by_number flows places coflow = by_number (λ (e : Entry) (up_to : List ℕ). if list_any (λ c. c == coflow) up_to then e.y * load flows coflow e.port else 0) places
 
+-- 2 * scale times the value of the dual solution
 abbrev pub dual_value_by_number : List Flow → List Entry → ℕ
 dual_value_by_number flows places =
     by_number (λ (e : Entry) (up_to : List ℕ). e.y * (load_of_all flows up_to e.port * load_of_all flows up_to e.port + squares_of_loads flows up_to e.port)) places
 
+-- the sum over the places of the number given for the coflow times the load of the coflows up to it
 abbrev pub over_places_by_number : List Flow → (ℕ → ℕ) → List Entry → ℕ
 over_places_by_number flows number places = by_number (λ (e : Entry) (up_to : List ℕ). number e.coflow * load_of_all flows up_to e.port) places

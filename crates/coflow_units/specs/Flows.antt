@@ -11,15 +11,19 @@ use Rattle.coflow_units.specs.declared.fabric.Side.TheVariants.{Ingress, Egress}
 abbrev pub flow_at : List Flow → ℕ → Flow
 flow_at flows f = slice_index_or flows f record { coflow = 0; ingress = 0; egress = 0; units = 0 }
 
+-- the number of the coflow that a flow belongs to
 abbrev pub coflow_of : List Flow → ℕ → ℕ
 coflow_of flows f = (flow_at flows f).coflow
 
+-- the number of the ingress port at which a flow begins
 abbrev pub ingress_of : List Flow → ℕ → ℕ
 ingress_of flows f = (flow_at flows f).ingress
 
+-- the number of the egress port at which a flow ends
 abbrev pub egress_of : List Flow → ℕ → ℕ
 egress_of flows f = (flow_at flows f).egress
 
+-- how many units a flow has
 abbrev pub units_of : List Flow → ℕ → ℕ
 units_of flows f = (flow_at flows f).units
 

@@ -1,4 +1,5 @@
 -- The grants of one slot: the greedy matching of the flows, taken in the order of the line. It is the one set of flows that the rule below describes.
+-- This is the greedy allocation of Sincronia (Agarwal, Rajakrishnan, Narayan, Agarwal, Shmoys and Vahdat, "Sincronia: near-optimal network design for coflows", SIGCOMM 2018), in slots of one unit.
 use Rattle.std.specs.Prelude.{◌≡◌, ℕ, ◌<◌, ◌≤◌, ◌⊎◌, ◌==◌, List, All, Contains, length, position, unwrap_or}
 use Rattle.std.specs.List.Sorted.{IsStrictlyIncreasing}
 use Rattle.coflow_units.specs.declared.fabric.Flow.{Flow}

@@ -14,6 +14,7 @@ abbrev pub port_place_on : Side → ℕ → ℕ → ℕ
 port_place_on Ingress ports number = number
 port_place_on Egress ports number = ports + number
 
+-- the place of a port on a fabric with so many ports on each side
 abbrev pub port_place : ℕ → Port → ℕ
 port_place ports port = port_place_on port.side ports port.number
 

@@ -1,4 +1,5 @@
--- The schedule that serves an order: in each slot the grants.
+-- The schedule that serves an order: in each slot the grants. So Sincronia serves the order of its coflows
+-- (Agarwal, Rajakrishnan, Narayan, Agarwal, Shmoys and Vahdat, "Sincronia: near-optimal network design for coflows", SIGCOMM 2018); here each slot carries one unit of a flow.
 use Rattle.std.specs.Prelude.{◌≡◌, ℕ, ◌<◌, ◌-◌, List, [], length, take}
 use Rattle.std.specs.List.{slice_index_or}
 use Rattle.coflow_units.specs.declared.fabric.Flow.{Flow}
