@@ -36,7 +36,7 @@ impl Model for Bssi {
 }
 
 impl Bssi {
-    /// Takes the room for runs over up to `coflows` coflows. What a run needs does not grow with the number of ports.
+    /// Takes the room for runs over up to `coflows` coflows. What a run needs does not grow with the number of ports. The error is want of memory.
     pub fn with_room(alloc: Global, coflows: u32, _ports: u32) -> Result<Bssi, NoMemory>
         ensures room { IfOk result (λ b. b.room ≡ coflows) }
         ensures none { IfOk result (λ b. b.places ≡ []) }

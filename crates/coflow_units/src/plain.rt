@@ -6,7 +6,7 @@ ghost use Rattle.coflow_units.specs.Load.{load};
 
 use crate::fabric::{Flow, Port, Side};
 
-/// The load of a coflow on a port, in units, by adding up the flows.
+/// The load of a coflow on a port, in units, by adding up the flows. The units of all flows sum to at most 2^62.
 pub fn load_of(flows: &[Flow], coflow: u32, port: Port) -> u64
     requires small { sum_by (λ (x : Flow). x.units) flows.now ≤ 2 ^ 62 }
     ensures { result ≡ load flows.now coflow port }

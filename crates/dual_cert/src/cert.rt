@@ -34,7 +34,7 @@ impl Model for Cert {
 }
 
 impl Cert {
-    /// The certificate of these places, from place 1 on. What a place tells of rest and load is not looked at.
+    /// The certificate of these places, from place 1 on. What a place tells of rest and load is not looked at. The error is want of memory.
     pub fn of(alloc: Global, places: &[Place]) -> Result<Cert, NoMemory>
         ensures entries { IfOk result (λ cert. cert ≡ map entry_of places.now) }
         ensures from_last { IfOk result (λ cert. reverse cert ≡ map entry_of (reverse places.now)) }

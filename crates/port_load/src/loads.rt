@@ -38,7 +38,7 @@ impl Model for Loads {
 }
 
 impl Loads {
-    /// The loads of the flows. Coflows count from 0 to `coflows`, at most 4096 of them, and the ports of a side from 0 to `ports`, from 1 to 1025 of them.
+    /// The loads of the flows. Coflows count from 0 to `coflows`, at most 4096 of them, and the ports of a side from 0 to `ports`, from 1 to 1025 of them. The units of the flows sum to at most 2^62. The error is want of memory.
     pub fn of(alloc: Global, flows: &[Flow], coflows: u32, ports: u32) -> Result<Loads, NoMemory>
         requires coflows_limit { coflows ≤ 4096 }
         requires has_ports { 1 ≤ ports }

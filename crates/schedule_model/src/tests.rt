@@ -135,8 +135,7 @@ fn three_coflows_are_served(rt: HostRuntime) -> Result<(), Fail> {
     let worth = worth(rt.alloc(), &flows, &[1, 1, 1], &[0, 2, 1], &schedule)?;
     assert_eq!(rt; worth, Some((16, true)));
     let Some(ends) = ends(rt.alloc(), &flows, &schedule)? else {
-        assert!(rt; false);
-        return Ok(());
+        panic!(rt; "the schedule has a fault");
     };
     assert_eq!(rt; ends.as_slice(), [1, 8, 7].as_slice());
     for (coflow, want) in [(0, 1), (1, 8), (2, 7)] {
