@@ -6,6 +6,7 @@ pub mod RankSteps
 pub mod LineSteps
 pub mod PlaceSteps
 pub mod OwingSteps
+pub mod SearchSteps
 pub mod CreditSteps
 pub mod RunTells
 pub mod CloseTells

@@ -6,6 +6,7 @@ use Rattle.coflow_units.specs.declared.fabric.Flow.{Flow}
 use Rattle.coflow_units.specs.declared.plan.Place.{Place}
 use Rattle.coflow_units.specs.Flows.{units_of}
 use Rattle.coflow_units.proofs.Sums.{nothing_in}
+use Rattle.greedy_rates.specs.Owed.{IsOwed}
 use Rattle.master_core.specs.declared.opening.Opening.{Opening}
 use Rattle.master_core.specs.declared.standing.Standing.{Standing}
 use Rattle.master_core.specs.Attendance.{marked}
@@ -32,8 +33,9 @@ start_told o x joined present weights version places owes run next = record {
 }
 
 pub start_fits : (o : Opening) (x : Standing) → IsOpening o → length x.roster.present ≡ length o.table.ids → x.weights.items ≡ o.weights → x.orders.coflows ≡ length o.table.ids → x.orders.ports ≡ o.table.ports → length o.table.ids + length o.table.ids ≤ x.line.room →
-    x.ledger.units ≡ map (λ (f : Flow). f.units) o.table.flows → x.ledger.owed ≡ x.ledger.units → x.runs.ports ≡ o.table.ports → x.runs.run ≡ None → x.next ≡ 1 → IsFit o x
-start_fits o x ok present weights coflows ports room units owes sides run next = record {
+    x.ledger.units ≡ map (λ (f : Flow). f.units) o.table.flows → x.ledger.owed ≡ x.ledger.units → IsOwed o.table.flows x.owing → x.owing.left ≡ map (λ (f : Flow). f.units) o.table.flows → length x.owing.of_coflow ≡ length o.table.ids →
+    x.runs.ports ≡ o.table.ports → x.runs.run ≡ None → x.next ≡ 1 → IsFit o x
+start_fits o x ok present weights coflows ports room units owes owed left sums sides run next = record {
   opening = ok;
   present_len = present;
   weights_len = ap (λ (l : List ℕ). length l) weights ∙ ok.each_weight;
@@ -43,6 +45,9 @@ start_fits o x ok present weights coflows ports room units owes sides run next =
   line_room = room;
   units = units;
   owed_len = ap (λ (l : List ℕ). length l) (owes ∙ units) ∙ length-map o.table.flows (λ (f : Flow). f.units);
+  owing = owed;
+  owing_left = left ∙ sym (owes ∙ units);
+  owing_coflows = sums;
   runs_ports = sides;
   run = subst (FitsOpen o.table.flows x.ledger.owed) (sym run) tt;
   next_ends = omega (arith, next);

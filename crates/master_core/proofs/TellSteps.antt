@@ -8,6 +8,7 @@ use Rattle.std.proofs.lemmas.List.{get_or-set_other, get_or-set_same, length-set
 use Rattle.std.proofs.lemmas.List.Elements.{All-set}
 use Rattle.coflow_units.specs.Flows.{Instance}
 use Rattle.grant_ledger.specs.Accounts.{Accounts}
+use Rattle.greedy_rates.specs.Owed.{IsOwed, Owed}
 use Rattle.master_core.specs.declared.command.Command.{Command}
 use Rattle.master_core.specs.declared.command.Command.TheVariants.{Pull}
 use Rattle.master_core.specs.declared.command.Reply.{Reply}
@@ -87,6 +88,9 @@ fits_roster o x roster h len = record {
   line_room = h.line_room;
   units = h.units;
   owed_len = h.owed_len;
+  owing = h.owing;
+  owing_left = h.owing_left;
+  owing_coflows = h.owing_coflows;
   runs_ports = h.runs_ports;
   run = h.run;
   next_ends = h.next_ends;
@@ -117,6 +121,9 @@ fits_weights o x weights c w h is le = record {
   line_room = h.line_room;
   units = h.units;
   owed_len = h.owed_len;
+  owing = h.owing;
+  owing_left = h.owing_left;
+  owing_coflows = h.owing_coflows;
   runs_ports = h.runs_ports;
   run = h.run;
   next_ends = h.next_ends;
@@ -135,6 +142,9 @@ fits_runs o x runs h same fits = record {
   line_room = h.line_room;
   units = h.units;
   owed_len = h.owed_len;
+  owing = h.owing;
+  owing_left = h.owing_left;
+  owing_coflows = h.owing_coflows;
   runs_ports = same ∙ h.runs_ports;
   run = fits;
   next_ends = h.next_ends;
@@ -151,14 +161,17 @@ fits_next o x next h le = record {
   line_room = h.line_room;
   units = h.units;
   owed_len = h.owed_len;
+  owing = h.owing;
+  owing_left = h.owing_left;
+  owing_coflows = h.owing_coflows;
   runs_ports = h.runs_ports;
   run = h.run;
   next_ends = le;
 }
 
-pub fits_closed : (o : Opening) (x : Standing) (ledger : Accounts) (runs : KeptRuns) (next : ℕ) → IsFit o x → ledger.units ≡ x.ledger.units → length ledger.owed ≡ length x.ledger.owed → runs.ports ≡ x.runs.ports → runs.run ≡ None → next ≤ slot_end →
-    IsFit o (record x { ledger = ledger; runs = runs; next = next })
-fits_closed o x ledger runs next h units len ports none le = record {
+pub fits_closed : (o : Opening) (x : Standing) (ledger : Accounts) (owing : Owed) (runs : KeptRuns) (next : ℕ) → IsFit o x → ledger.units ≡ x.ledger.units → IsOwed o.table.flows owing → owing.left ≡ ledger.owed →
+    length owing.of_coflow ≡ length x.owing.of_coflow → runs.ports ≡ x.runs.ports → runs.run ≡ None → next ≤ slot_end → IsFit o (record x { ledger = ledger; owing = owing; runs = runs; next = next })
+fits_closed o x ledger owing runs next h units owed left sums ports none le = record {
   opening = h.opening;
   present_len = h.present_len;
   weights_len = h.weights_len;
@@ -167,7 +180,10 @@ fits_closed o x ledger runs next h units len ports none le = record {
   orders_ports = h.orders_ports;
   line_room = h.line_room;
   units = units ∙ h.units;
-  owed_len = len ∙ h.owed_len;
+  owed_len = ap (λ (l : List ℕ). length l) (sym left) ∙ owed.count;
+  owing = owed;
+  owing_left = left;
+  owing_coflows = sums ∙ h.owing_coflows;
   runs_ports = ports ∙ h.runs_ports;
   run = subst (FitsOpen o.table.flows ledger.owed) (sym none) tt;
   next_ends = le;
@@ -184,6 +200,9 @@ fits_opened o x line runs h room ports fits = record {
   line_room = omega (arith, h.line_room, room);
   units = h.units;
   owed_len = h.owed_len;
+  owing = h.owing;
+  owing_left = h.owing_left;
+  owing_coflows = h.owing_coflows;
   runs_ports = ports ∙ h.runs_ports;
   run = fits;
   next_ends = h.next_ends;
@@ -200,6 +219,9 @@ fits_orders o x orders h coflows ports = record {
   line_room = h.line_room;
   units = h.units;
   owed_len = h.owed_len;
+  owing = h.owing;
+  owing_left = h.owing_left;
+  owing_coflows = h.owing_coflows;
   runs_ports = h.runs_ports;
   run = h.run;
   next_ends = h.next_ends;

@@ -3,6 +3,7 @@ use Rattle.std.specs.Prelude.{◌≡◌, ℕ, ◌+◌, ◌^◌, ◌<◌, ◌≤�
 use Rattle.coflow_units.specs.declared.fabric.Flow.{Flow}
 use Rattle.coflow_units.specs.declared.plan.Place.{Place}
 use Rattle.coflow_units.specs.Flows.{Instance, coflow_of}
+use Rattle.greedy_rates.specs.Owed.{IsOwed}
 use Rattle.greedy_rates.specs.Room.{TellsIngresses}
 use Rattle.bssi_order.specs.Order.{IsOrder}
 use Rattle.master_core.specs.declared.command.Command.{Command}
@@ -65,6 +66,14 @@ is_owing flows present owed f = marked present (coflow_of flows f) && nat_lt 0 (
 abbrev pub IsNoneOwing : List Flow → List Bool → List ℕ → ℕ → Type 0
 IsNoneOwing flows present owed n = (f : ℕ) → f < n → is_owing flows present owed f ≡ false
 
+-- the coflow is marked as present, and its sum of what is owed is some
+abbrev pub is_due : List Bool → List ℕ → ℕ → Bool
+is_due present sums coflow = marked present coflow && nat_lt 0 (slice_index sums coflow)
+
+-- none of the first n coflows is such a one
+abbrev pub IsNoneDue : List Bool → List ℕ → ℕ → Type 0
+IsNoneDue present sums n = (coflow : ℕ) → coflow < n → is_due present sums coflow ≡ false
+
 -- what is kept tells the state
 pub record Tells (o : Opening) (s : State) (x : Standing) : Type 0 where
   pub coflows : TellsCoflows s.joined s.left x.roster
@@ -74,7 +83,7 @@ pub record Tells (o : Opening) (s : State) (x : Standing) : Type 0 where
   pub run : TellsRun o.table.flows o.table.ports s.run x.runs.run
   pub next : x.next ≡ s.next
 
--- what is kept has the sizes of the opening and numbers within their limits
+-- what is kept has the sizes of the opening and numbers within their limits, and the sums of what is owed are those of its flows and of the ledger
 pub record IsFit (o : Opening) (x : Standing) : Type 0 where
   pub opening : IsOpening o
   pub present_len : length x.roster.present ≡ length o.table.ids
@@ -85,6 +94,9 @@ pub record IsFit (o : Opening) (x : Standing) : Type 0 where
   pub line_room : length o.table.ids + length o.table.ids ≤ x.line.room
   pub units : x.ledger.units ≡ map (λ (f : Flow). f.units) o.table.flows
   pub owed_len : length x.ledger.owed ≡ length o.table.flows
+  pub owing : IsOwed o.table.flows x.owing
+  pub owing_left : x.owing.left ≡ x.ledger.owed
+  pub owing_coflows : length x.owing.of_coflow ≡ length o.table.ids
   pub runs_ports : x.runs.ports ≡ o.table.ports
   pub run : FitsOpen o.table.flows x.ledger.owed x.runs.run
   pub next_ends : x.next ≤ slot_end

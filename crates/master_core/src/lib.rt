@@ -9,6 +9,7 @@ mod opening;
 mod orders;
 mod roster;
 mod runs;
+mod search;
 mod standing;
 
 pub use command::{Command, Entry, Reply};

@@ -4,13 +4,14 @@ ghost use Rattle.std.specs.List.Sorted.{IsStrictlyIncreasing};
 ghost use Rattle.coflow_units.specs.declared.fabric.Flow.{Flow};
 ghost use Rattle.coflow_units.specs.Flows.{IsDistinct, coflow_of};
 ghost use Rattle.flow_table.specs.Table.{IsTable};
+ghost use Rattle.greedy_rates.specs.Owed.{IsOwed};
 ghost use Rattle.master_core.specs.State.{slot_end};
 ghost use Rattle.master_core.specs.OpenRun.{FitsOpen, IsBegun, KeptRun, credit_of, flow_kept, kept_credit, kept_note, note_at, number_noted, with_note};
 
 use coflow_units::{Flow, MAX_SLOT, NoMemory};
 use flow_table::Table;
 use grant_ledger::Ledger;
-use greedy_rates::{Scratch, grants};
+use greedy_rates::{Owing, Scratch, grants_owed};
 use std::alloc::Global;
 use std::marker::Model;
 
@@ -93,21 +94,28 @@ impl Runs {
         &mut self,
         table: &Table,
         line: &[u32],
-        left: &[u64],
+        owing: &Owing,
         first: u64,
         most: u64,
     ) -> OpenRun
         requires ports { self.old.ports ≡ table.now.ports }
         requires once { IsDistinct line.now }
         requires coflow { All (λ c. c < length table.now.ids) line.now }
-        requires left_len { length left.now ≡ length table.now.flows }
-        requires some { (f : ℕ) × (f < length table.now.flows) × Contains line.now (coflow_of table.now.flows f) × (0 < slice_index left.now f) }
+        requires owed { IsOwed table.now.flows owing.now }
+        requires sums { length owing.now.of_coflow ≡ length table.now.ids }
+        requires some { (f : ℕ) × (f < length table.now.flows) × Contains line.now (coflow_of table.now.flows f) × (0 < slice_index owing.now.left f) }
         requires in_time { first < slot_end }
         ensures ports { self.new.ports ≡ self.old.ports }
-        ensures begun { (r : KeptRun) × (self.new.run ≡ Some r) × IsBegun table.now.flows self.old.ports line.now (λ f. slice_index left.now f) first most r
+        ensures begun { (r : KeptRun) × (self.new.run ≡ Some r) × IsBegun table.now.flows self.old.ports line.now (λ f. slice_index owing.now.left f) first most r
             × (result.first ≡ r.first) × (result.slots ≡ r.slots) × (result.count ≡ length r.granted) }
     {
-        let granted = grants(&mut self.scratch, table.flows(), table.starts(), line, left);
+        let granted = grants_owed(
+            &mut self.scratch,
+            table.flows(),
+            table.starts(),
+            line,
+            owing,
+        );
         self.noted.fill(None);
         let run = OpenRun {
             first,
@@ -138,30 +146,42 @@ impl Runs {
     }
 
     /// Closes the open run: each granted flow is credited with the number noted at its ingress, or with a unit for each slot. None comes exactly where no run is open.
-    pub fn end(&mut self, flows: &[Flow], ledger: &mut Ledger) -> Option<OpenRun>
+    /// The sums of what is owed stay those of the ledger.
+    pub fn end(&mut self, flows: &[Flow], ledger: &mut Ledger, owing: &mut Owing) -> Option<OpenRun>
         requires fits { FitsOpen flows.now ledger.old.owed self.old.run }
         requires ingress_in_range { All (λ (x : Flow). x.ingress < self.old.ports) flows.now }
         requires units_len { length ledger.old.units ≡ length flows.now }
-        requires owed_len { length ledger.old.owed ≡ length flows.now }
+        requires owed { IsOwed flows.now owing.old }
+        requires left { owing.old.left ≡ ledger.old.owed }
         ensures run { MatchOption result ((self.old.run ≡ None) × (ledger.new ≡ ledger.old)) (λ x. (r : KeptRun) × (self.old.run ≡ Some r) × (x.first ≡ r.first) × (x.slots ≡ r.slots)
             × ((f : ℕ) → slice_index ledger.new.owed f + kept_credit flows.now r f ≡ slice_index ledger.old.owed f)) }
         ensures closed { self.new.run ≡ None }
         ensures ports { self.new.ports ≡ self.old.ports }
         ensures units { ledger.new.units ≡ ledger.old.units }
-        ensures owed_len { length ledger.new.owed ≡ length ledger.old.owed }
+        ensures owed { IsOwed flows.now owing.new }
+        ensures left { owing.new.left ≡ ledger.new.owed }
+        ensures sums { length owing.new.of_coflow ≡ length owing.old.of_coflow }
     {
         let Some(run) = self.current else {
             return None;
         };
-        credit_all(ledger, flows, self.scratch.flows(), &self.noted, run.slots);
+        credit_all(
+            ledger,
+            owing,
+            flows,
+            self.scratch.flows(),
+            &self.noted,
+            run.slots,
+        );
         self.current = None;
         Some(run)
     }
 }
 
-/// Credits each granted flow with the number noted at its ingress, or with a unit for each slot.
+/// Credits each granted flow with the number noted at its ingress, or with a unit for each slot, in the ledger and in the sums of what is owed.
 fn credit_all(
     ledger: &mut Ledger,
+    owing: &mut Owing,
     flows: &[Flow],
     granted: &[u32],
     noted: &[Option<u64>],
@@ -171,16 +191,20 @@ fn credit_all(
     requires flow { All (λ f. f < length flows.now) granted.now }
     requires ingress { All (λ (x : Flow). x.ingress < length noted.now) flows.now }
     requires units_len { length ledger.old.units ≡ length flows.now }
-    requires owed_len { length ledger.old.owed ≡ length flows.now }
+    requires owing { IsOwed flows.now owing.old }
+    requires left { owing.old.left ≡ ledger.old.owed }
     requires owed { All (λ f. slots ≤ slice_index ledger.old.owed f) granted.now }
     requires notes { (ingress : ℕ) → unwrap_or (note_at noted.now ingress) slots ≤ slots }
     ensures units { ledger.new.units ≡ ledger.old.units }
-    ensures owed_len { length ledger.new.owed ≡ length ledger.old.owed }
+    ensures owing { IsOwed flows.now owing.new }
+    ensures left { owing.new.left ≡ ledger.new.owed }
+    ensures sums { length owing.new.of_coflow ≡ length owing.old.of_coflow }
     ensures owed { (f : ℕ) → slice_index ledger.new.owed f + credit_of flows.now granted.now noted.now slots f ≡ slice_index ledger.old.owed f }
 {
     for flow in granted {
         let ingress = flows[*flow as usize].ingress;
         let units = noted[ingress as usize].unwrap_or(slots);
         ledger.credit(*flow, units);
+        owing.take(flows, *flow, units);
     }
 }

@@ -1,9 +1,8 @@
 //! What a master keeps beside its journal, so as not to read it again, and how each command is carried out on it.
-ghost use Rattle.std.specs.Prelude.{◌≡◌, ℕ, ◌+◌, ◌^◌, ◌<◌, ◌≤◌, true, All, IfOk, MatchOption, length};
-ghost use Rattle.coflow_units.specs.declared.fabric.Flow.{Flow};
+ghost use Rattle.std.specs.Prelude.{◌+◌, ◌^◌, ◌<◌, ◌≤◌, IfOk, length};
 ghost use Rattle.master_core.specs.State.{IsOpening};
 ghost use Rattle.master_core.specs.Fold.{start};
-ghost use Rattle.master_core.specs.Standing.{Follows, IsFit, IsInRange, IsNoneOwing, Tells, is_owing};
+ghost use Rattle.master_core.specs.Standing.{Follows, IsFit, IsInRange, Tells};
 ghost use Rattle.master_core.specs.declared.command.Command.TheVariants.{Register, Withdraw, Publish, Pull, Open, Short, Close, Skip, Reweigh};
 
 use crate::command::{Command, Reply};
@@ -12,8 +11,10 @@ use crate::opening::Opening;
 use crate::orders::Orders;
 use crate::roster::Roster;
 use crate::runs::Runs;
-use coflow_units::{Flow, MAX_SLOT, NoMemory};
+use crate::search::first_owing;
+use coflow_units::{MAX_SLOT, NoMemory};
 use grant_ledger::Ledger;
+use greedy_rates::Owing;
 use std::alloc::Global;
 
 /// What a master keeps beside its journal.
@@ -25,6 +26,8 @@ pub struct Standing {
     pub orders: Orders,
     pub line: Line,
     pub ledger: Ledger,
+    /// What the flows owe as in the ledger, with its sums.
+    pub owing: Owing,
     pub runs: Runs,
     /// The slot with which the next run begins, or with which the open run began.
     pub next: u64,
@@ -44,6 +47,7 @@ impl Standing {
         let orders = Orders::new(alloc, coflows, ports)?;
         let line = Line::new(alloc, coflows)?;
         let ledger = Ledger::new(alloc, &opening.table)?;
+        let owing = Owing::of(alloc, opening.table.flows(), coflows, ports)?;
         let runs = Runs::new(alloc, ports)?;
         Ok(Standing {
             roster,
@@ -51,6 +55,7 @@ impl Standing {
             orders,
             line,
             ledger,
+            owing,
             runs,
             next: 1,
         })
@@ -138,7 +143,7 @@ impl Standing {
         if let Some(run) = self.runs.current() {
             return Reply::StillOpen(run.first);
         }
-        if self.first_owing(opening.table.flows()).is_none() {
+        if first_owing(&opening.table, &self.roster, &self.owing).is_none() {
             return Reply::NothingLeft;
         }
         if self.next > MAX_SLOT {
@@ -148,7 +153,7 @@ impl Standing {
         let run = self.runs.begin(
             &opening.table,
             self.line.coflows(),
-            self.ledger.owed_all(),
+            &self.owing,
             self.next,
             most,
         );
@@ -170,7 +175,8 @@ impl Standing {
         requires fit { IsFit opening.now self.old }
         ensures { Follows opening.now Close self.old result self.new }
     {
-        let Some(run) = self.runs.end(opening.table.flows(), &mut self.ledger) else {
+        let flows = opening.table.flows();
+        let Some(run) = self.runs.end(flows, &mut self.ledger, &mut self.owing) else {
             return Reply::NoneOpen;
         };
         self.next = run.first + run.slots;
@@ -184,7 +190,7 @@ impl Standing {
         if let Some(run) = self.runs.current() {
             return Reply::StillOpen(run.first);
         }
-        if let Some(flow) = self.first_owing(opening.table.flows()) {
+        if let Some(flow) = first_owing(&opening.table, &self.roster, &self.owing) {
             return Reply::StillOwed(flow);
         }
         if to > MAX_SLOT {
@@ -206,25 +212,5 @@ impl Standing {
         let old = self.weights[coflow as usize];
         self.weights[coflow as usize] = weight;
         Reply::Weighed(old)
-    }
-
-    /// The first flow of a present coflow that owes units.
-    fn first_owing(&self, flows: &[Flow]) -> Option<u32>
-        requires few { length flows.now < 2 ^ 32 }
-        requires units_len { length self.now.ledger.units ≡ length flows.now }
-        requires coflow { All (λ (x : Flow). x.coflow < length self.now.roster.present) flows.now }
-        ensures { MatchOption result (IsNoneOwing flows.now self.now.roster.present self.now.ledger.owed (length flows.now))
-            (λ f. (f < length flows.now) × (is_owing flows.now self.now.roster.present self.now.ledger.owed f ≡ true) × IsNoneOwing flows.now self.now.roster.present self.now.ledger.owed f) }
-    {
-        for number in 0..flows.len() {
-            let coflow = flows[number].coflow;
-            if !self.roster.is_present(coflow) {
-                continue;
-            }
-            if self.ledger.owed(number as u32) > 0 {
-                return Some(number as u32);
-            }
-        }
-        None
     }
 }

@@ -4,6 +4,7 @@ use Rattle.std.specs.Prelude.{slice_index}
 use Rattle.coflow_units.specs.declared.fabric.Flow.{Flow}
 use Rattle.coflow_units.specs.Flows.{units_of}
 use Rattle.grant_ledger.specs.Accounts.{Accounts}
+use Rattle.greedy_rates.specs.Owed.{IsOwed}
 use Rattle.master_core.specs.declared.command.Command.TheVariants.{Close}
 use Rattle.master_core.specs.declared.command.Reply.TheVariants.{Closed, NoneOpen}
 use Rattle.master_core.specs.State.{Run}
@@ -21,8 +22,8 @@ returns-in_default c =
     let old = c.args.self.now in
     let ends = c.in_default.ensures in
     let (none, same) = ends.run in
-    follows o Close old NoneOpen (record old { ledger = c.end.new.ledger; runs = c.end.new.self })
-    (fits_closed o old c.end.new.ledger c.end.new.self old.next c.requires.fit ends.units ends.owed_len ends.ports ends.closed c.requires.fit.next_ends)
+    follows o Close old NoneOpen (record old { ledger = c.end.new.ledger; owing = c.end.new.owing; runs = c.end.new.self })
+    (fits_closed o old c.end.new.ledger c.end.new.owing c.end.new.self old.next c.requires.fit ends.units (subst (λ (l : List Flow). IsOwed l c.end.new.owing) c.flows-flows.ensures.flows ends.owed) ends.left ends.sums ends.ports ends.closed c.requires.fit.next_ends)
     (λ s t.
     let none' = none_told o.table.flows o.table.ports s.run old.runs.run t.run none in (
       close_none s.run none',
@@ -44,9 +45,9 @@ returns c =
     let x = c.in-Some.run' in
     let (k, is, first, slots, paid) = ends.run in
     let fits = fits_kept o.table.flows old.ledger.owed old.runs.run k c.requires.fit.run is in
-    let new = record old { ledger = c.end.new.ledger; runs = c.end.new.self; next = x.first + x.slots } in
+    let new = record old { ledger = c.end.new.ledger; owing = c.end.new.owing; runs = c.end.new.self; next = x.first + x.slots } in
     follows o Close old (Closed x.first) new
-    (fits_closed o old c.end.new.ledger c.end.new.self (x.first + x.slots) c.requires.fit ends.units ends.owed_len ends.ports ends.closed (omega (arith, fits.ends, first, slots)))
+    (fits_closed o old c.end.new.ledger c.end.new.owing c.end.new.self (x.first + x.slots) c.requires.fit ends.units (subst (λ (l : List Flow). IsOwed l c.end.new.owing) c.flows-flows.ensures.flows ends.owed) ends.left ends.sums ends.ports ends.closed (omega (arith, fits.ends, first, slots)))
     (λ s t.
     let (r, run, told) = open_of o.table.flows o.table.ports s.run old.runs.run k t.run is in (
       close_some s.run r x.first run (sym told.first ∙ sym first),
@@ -57,7 +58,7 @@ returns c =
         owed = λ f.
             still_owed (units_of o.table.flows f) (s.sent f) _ (slice_index c.end.new.ledger.owed f) (slice_index old.ledger.owed f) (t.owed f)
             (ap (λ n. slice_index c.end.new.ledger.owed f + n) (sym (credit_told o.table.flows o.table.ports r k f told (ingress_low o.table f c.requires.fit.opening.table)))
-            ∙ ap (λ (l : List Flow). slice_index c.end.new.ledger.owed f + kept_credit l k f) (sym c.flows.ensures.flows) ∙ paid f);
+            ∙ ap (λ (l : List Flow). slice_index c.end.new.ledger.owed f + kept_credit l k f) (sym c.flows-flows.ensures.flows) ∙ paid f);
         run = subst (TellsRun o.table.flows o.table.ports None) (sym ends.closed) tt;
         next = omega (arith, first, slots, told.first, told.slots);
       }),

@@ -1,14 +1,12 @@
 -- A skip is refused while a run is open or units are owed, and past the last slot.
-use Rattle.std.proofs.Common.{◌≡◌, ◌∙◌, ◌<◌, Bool, List, Option, ap, arith, length, max, refl, subst, sym, true}
+use Rattle.std.proofs.Common.{◌∙◌, Bool, Option, ap, arith, max, refl, sym}
 use Rattle.std.specs.Prelude.{if◌then◌else◌}
 use Rattle.std.proofs.lemmas.Bool.{le-leb, lt-leb}
-use Rattle.coflow_units.specs.declared.fabric.Flow.{Flow}
 use Rattle.master_core.specs.declared.command.Command.TheVariants.{Skip}
 use Rattle.master_core.specs.declared.command.Reply.{Reply}
 use Rattle.master_core.specs.declared.command.Reply.TheVariants.{Late, Skipped, StillOpen, StillOwed}
 use Rattle.master_core.specs.State.{Run, slot_end}
 use Rattle.master_core.specs.Answer.{on_run, skipped}
-use Rattle.master_core.specs.Standing.{IsNoneOwing, is_owing}
 use Rattle.master_core.proofs.OwingTells.{none_told, owing_first, owing_none, run_told, skip_free, skip_owed}
 use Rattle.master_core.proofs.TellSteps.{fits_next, follows}
 use Rattle.master_core.proofs.standing.Standing.skip.Goals as goal
@@ -30,19 +28,16 @@ returns-in-Some-first_owing c =
     let old = c.args.self.now in
     let f = c.in-Some-first_owing.flow in
     let (lt, here, none) = c.in-Some-first_owing.ensures in
-    let lt' = subst (λ (l : List Flow). f < length l) c.flows.ensures.flows lt in
-    let here' = subst (λ (l : List Flow). is_owing l old.roster.present old.ledger.owed f ≡ true) c.flows.ensures.flows here in
-    let none' = subst (λ (l : List Flow). IsNoneOwing l old.roster.present old.ledger.owed f) c.flows.ensures.flows none in
     follows o (Skip c.args.to) old (StillOwed f) old c.requires.fit
     (λ s t.
-    let (rest, e) = owing_first o s old f c.requires.fit t lt' here' none' in
+    let (rest, e) = owing_first o s old f c.requires.fit t lt here none in
     (ap (still (skipped o s c.args.to)) (none_told o.table.flows o.table.ports s.run old.runs.run t.run c.in_default.ensures) ∙ skip_owed o s c.args.to f rest e, t))
 
 pub returns-then-to-gt-MAX_SLOT : goal.returns-then-to-gt-MAX_SLOT
 returns-then-to-gt-MAX_SLOT c =
     let o = c.args.opening.now in
     let old = c.args.self.now in
-    let none = subst (λ (l : List Flow). IsNoneOwing l old.roster.present old.ledger.owed (length l)) c.flows.ensures.flows c.in_default-first_owing.ensures in
+    let none = c.in_default-first_owing.ensures in
     follows o (Skip c.args.to) old (Late c.args.to) old c.requires.fit
     (λ s t. (
       ap (still (skipped o s c.args.to)) (none_told o.table.flows o.table.ports s.run old.runs.run t.run c.in_default.ensures) ∙ skip_free o s c.args.to (owing_none o s old c.requires.fit t none)
@@ -54,7 +49,7 @@ pub returns : goal.returns
 returns c =
     let o = c.args.opening.now in
     let old = c.args.self.now in
-    let none = subst (λ (l : List Flow). IsNoneOwing l old.roster.present old.ledger.owed (length l)) c.flows.ensures.flows c.in_default-first_owing.ensures in
+    let none = c.in_default-first_owing.ensures in
     let n = c.max-self.result in
     follows o (Skip c.args.to) old (Skipped n) (record old { next = n }) (fits_next o old n c.requires.fit (omega (arith, c.max-self.ensures, c.requires.fit.next_ends, c.if-to-gt-MAX_SLOT.false)))
     (λ s t. (
