@@ -160,6 +160,7 @@ pub enum Draw {
 }
 
 /// What the settling of a post came to.
+#[derive(Clone, Copy, Debug, PartialEq, Eq)]
 pub enum Settled {
     /// An agent drew the grant and reported this number.
     Sent(u64),

@@ -32,14 +32,6 @@ fn finish(board: &PortBoard, seat: &mut AgentSeat, draw: Draw) -> Seen
     }
 }
 
-fn settled(answer: Settled) -> (u64, u64) {
-    match answer {
-        Settled::Sent(units) => (0, units),
-        Settled::TakenBack => (1, 0),
-        Settled::Busy(word) => (2, word),
-    }
-}
-
 // The poster's first post: flow 0 at port 0 in slot 1, of length 1.
 fn post_first(board: &PortBoard, poster: &mut Poster)
     requires own { poster.old.at ≡ board.now.id }
@@ -65,10 +57,12 @@ fn one_of_two_agents_draws(rt: HostRuntime) -> Result<(), Fail> {
         poster.posted(0) && !poster.posted(1),
         "port 0 has an unsettled post"
     );
-    assert_eq!(rt; settled(board.settle(&mut poster, 0)), (2, DRAWN));
+    assert_eq!(rt; board.settle(&mut poster, 0), Settled::Busy(DRAWN));
+    assert!(rt; poster.posted(0), "a busy post stays unsettled");
+    assert_eq!(rt; board.settle(&mut poster, 0), Settled::Busy(DRAWN));
     assert_eq!(rt; finish(&board, &mut first, one), Seen::Took(1));
     assert!(rt; poster.posted(0), "the post is still unsettled");
-    assert_eq!(rt; settled(board.settle(&mut poster, 0)), (0, 1));
+    assert_eq!(rt; board.settle(&mut poster, 0), Settled::Sent(1));
     assert!(rt; !poster.posted(0), "the post is settled");
     assert_eq!(rt; poster.agents(), 2);
     Ok(())
@@ -94,7 +88,7 @@ fn drop_unreported(draw: Draw) -> Seen {
 #[test]
 fn an_agent_that_loaded_first_may_miss(rt: HostRuntime) -> Result<(), Fail> {
     let Ok((board, mut poster)) = PortBoard::new(rt.alloc(), 2) else {
-        return Ok(());
+        panic!(&rt; "no memory");
     };
     let mut first = board.agent(&mut poster);
     let second = board.agent(&mut poster);
@@ -117,12 +111,12 @@ fn an_agent_that_loaded_first_may_miss(rt: HostRuntime) -> Result<(), Fail> {
 #[test]
 fn a_grant_that_nobody_draws_is_taken_back(rt: HostRuntime) -> Result<(), Fail> {
     let Ok((board, mut poster)) = PortBoard::new(rt.alloc(), 2) else {
-        return Ok(());
+        panic!(&rt; "no memory");
     };
     let mut seat = board.agent(&mut poster);
     post_first(&board, &mut poster);
     assert!(rt; poster.posted(0), "the post is unsettled");
-    assert_eq!(rt; settled(board.settle(&mut poster, 0)), (1, 0));
+    assert_eq!(rt; board.settle(&mut poster, 0), Settled::TakenBack);
     let late = board.draw(&mut seat, 0);
     assert_eq!(rt; finish(&board, &mut seat, late), Seen::Idle(0));
     Ok(())
