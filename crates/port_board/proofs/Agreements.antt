@@ -6,7 +6,7 @@ use Rattle.std.proofs.lemmas.List.Folds.{list_any_at, Any-from_list_any}
 use Rattle.std.proofs.lemmas.Bool.{cond-true, eqb-true}
 use mathlib.Core.Logic.{dite}
 use mathlib.Core.Option.{some, some-injective}
-use native.Mathlib.Decide.{dec_le}
+use native.Mathlib.Decide.{dec_le, ℕ_discrete}
 use lib.ListN.{get_elem?}
 use Rattle.coflow_units.specs.PortWord.{PortStage, word_of}
 use Rattle.coflow_units.specs.PortWord.PortStage.{unposted, granted, drawn, reported, taken_back}
@@ -16,14 +16,16 @@ use Rattle.port_board.specs.declared.view.Settlement.{Settlement}
 use Rattle.port_board.specs.declared.view.View.{View}
 use Rattle.port_board.specs.declared.view.Came.{Came}
 use Rattle.port_board.specs.declared.view.Kind.TheVariants.{Agent, Poster}
-use Rattle.port_board.specs.Words.{shows_granted, shows_drawn, shows_reported}
-use Rattle.port_board.specs.Views.{report, settlement, is_of, last_at, slot_or_none, is_settled, is_left, is_unsettled}
-use Rattle.port_board.specs.Rule.{grant_at, stage_after, DifferAt, StandOnce, Posted, Back, Gone, Closed, CameOk, Knows, PosterOk, agent, agents, Seated, Kept}
-use Rattle.port_board.specs.Agreement.{SharesNothing, EachPosted, EachMissedPosted, AnswersAgree, SentCameBack, Agrees, NobodyHad}
+use Rattle.port_board.specs.Words.{shows_granted, shows_drawn, shows_reported, slot_of, flow_of}
+use Rattle.port_board.specs.Views.{report, settlement, is_of, last_at, slot_or_none, is_settled, is_left, is_unsettled, ShowsLast}
+use Rattle.port_board.specs.Rule.{grant_at, stage_after, DifferAt, StandOnce, Posted, Back, Gone, Closed, CameOk, Knows, PosterOk, agent, agents, IsNumber, Seated, Kept}
+use Rattle.port_board.specs.Agreement.{SharesNothing, EachPosted, EachMissedPosted, AnswersAgree, SentCameBack, SentByAgent, Agrees, NobodyHad}
 use Rattle.port_board.specs.Tells.{IsPending}
-use Rattle.port_board.proofs.Words.{IsGranted, IsDrawn, IsReported, IsTaken, reporter, units, shows_granted-granted, shows_drawn-drawn, shows_reported-reported, stage_is}
+use Rattle.port_board.proofs.Words.{IsGranted, IsDrawn, IsReported, IsTaken, reporter, units, shows_post, shows_granted-granted, shows_drawn-drawn, shows_reported-reported, stage_is}
 use Rattle.port_board.proofs.Lists.{last_is, is_of-true, is_of-same}
 use Rattle.port_board.proofs.Moves.{St, total_none}
+use Rattle.port_board.proofs.AgentSteps.{not_poster}
+use Rattle.std.proofs.lemmas.List.{get_or_default}
 
 -- the agents out, where one is seen
 module _ (n : ℕ) (s : St) (r : Kept n s) (id : ℕ) (v : View) (at : get_elem? s.views id ≡ some v) (is : v.kind ≡ Poster) where
@@ -95,6 +97,39 @@ module _ (n : ℕ) (s : St) (r : Kept n s) (id : ℕ) (v : View) (at : get_elem?
       d.2 in
       (found.0, found.1, subst (λ (g : Grant). Contains found.0.done (report g m)) (sym closed.1) found.2)
 
+  -- two seats that came back under one number are one
+  one_number : (c d : Came) → Contains v.back c → Contains v.back d → c.number ≡ d.number → c ≡ d
+  one_number c d has_c has_d same = dite (ℕ_discrete has_c.0 has_d.0)
+      (λ e. sym has_c.2 ∙ (ap (λ (i : ℕ). get_or v.back i c) e ∙ get_or_default v.back has_d.0 c d has_d.1 ∙ has_d.2))
+      (λ far. dite (dec_le has_c.0 has_d.0) (λ below. absurd (differ has_c.0 has_d.0 c d (omega arith) has_d.1 has_c.2 has_d.2 same)) (λ above. absurd (differ has_d.0 has_c.0 d c (omega arith) has_c.1 has_d.2 has_c.2 (sym same))))
+    where
+      differ : (i j : ℕ) (x y : Came) → i < j → j < length v.back → get_or v.back i x ≡ x → get_or v.back j y ≡ y → x.number ≡ y.number → ⊥
+      differ i j x y lt within x_is y_is e = its.4 i j x lt within (ap (λ (z : Came). z.number) x_is ∙ (e ∙ ap (λ (z : Came). z.number) (sym y_is ∙ get_or_default v.back j y x within)))
+
+  by_agent : SentByAgent v
+  by_agent y m has said =
+      let closed = All-contains (Closed r.cargo r.stage) v.settled y knows.settled has in
+      let after = subst (λ (o : Option ℕ). stage_after o (r.stage y.grant.port y.grant.slot)) said closed.0 in
+      let a : ℕ = after.0 in
+      let d = r.reported_there y.grant.port y.grant.slot a m after.1 in
+      let u : View = d.0 in
+      let R : Report = report (grant_at r.cargo y.grant.port y.grant.slot) m in
+      let number : (c : Came) → Contains v.back c → (r.who c.number ≡ id) × (0 < c.number) × (c.number ≤ r.made) = λ c h. All-contains (IsNumber r.who r.made id) v.back c its.3 h in
+      let same_view : r.who a ≡ id → u ≡ v = λ place. some-injective u v (sym d.1 ∙ (ap (get_elem? s.views) place ∙ at)) in
+      let all_made = its.1 in
+      let found : (0 < a) × (a ≤ r.made) × ((c : Came) → Contains v.back c → c.number ≡ a → Contains c.done R) = ⊎_elim
+      (λ (t : (u.kind ≡ Agent a) × Contains u.done R).
+      let theirs = subst (Seated r.who r.made r.returned (r.who a) u) t.0 (r.each_sits (r.who a) u d.1) in
+      (theirs.1, theirs.2, λ c h e. absurd (not_poster u a t.0 (ap (λ (z : View). z.kind) (same_view (ap r.who (sym e) ∙ (number c h).0)) ∙ is))))
+      (λ (t : (u.kind ≡ Poster) × ((c : Came) × Contains u.back c × (c.number ≡ a) × Contains c.done R)).
+      let theirs = subst (Seated r.who r.made r.returned (r.who a) u) t.0 (r.each_sits (r.who a) u d.1) in
+      let same : u ≡ v = same_view (sym theirs.0 ∙ its.0) in
+      let there : Contains v.back t.1.0 = subst (λ (z : View). Contains z.back t.1.0) same t.1.1 in
+      let bounds = number t.1.0 there in
+      (subst (λ (z : ℕ). 0 < z) t.1.2 bounds.1, subst (λ (z : ℕ). z ≤ r.made) t.1.2 bounds.2, λ c h e. subst (λ (z : Came). Contains z.done R) (one_number t.1.0 c there h (t.1.2 ∙ sym e)) t.1.3))
+      d.2 in
+      (a, found.0, subst (λ (z : ℕ). a ≤ z) (sym all_made) found.1, λ c h e. subst (λ (g : Grant). Contains c.done (report g m)) (sym closed.1) (found.2 c h e))
+
   pub agreeing : Agrees v
   agreeing = record {
     apart = apart;
@@ -103,6 +138,7 @@ module _ (n : ℕ) (s : St) (r : Kept n s) (id : ℕ) (v : View) (at : get_elem?
     missed = missed;
     answers = answers;
     sent = sent;
+    reporter = by_agent;
   }
 
   -- no seat that came back had a grant that is still granted
@@ -194,6 +230,20 @@ module _ (n : ℕ) (s : St) (r : Kept n s) (id : ℕ) (v : View) (at : get_elem?
       go None e left = absurd (true≢false (sym left))
       go (Some g) e left = stages g (last_post p g e) left (r.stage p (r.slot p)) refl
 
+  -- the word of a port with an unsettled post shows that post
+  shows_last : (p : ℕ) → p < n → is_unsettled p v.posts v.settled ≡ true → ShowsLast p (get_or s.words p 0) v.posts
+  shows_last p inside left g last =
+      let port = r.each_port p inside in
+      let post = last_post p g last in
+      let stays : r.stage p (r.slot p) ≢ taken_back = λ e. ⊎_elim (λ (t : r.stage p (r.slot p) ≡ granted). subst IsGranted (sym t ∙ e) tt)
+      (λ (t : ((j : ℕ) × (r.stage p (r.slot p) ≡ drawn j)) ⊎ ((j m : ℕ) × (r.stage p (r.slot p) ≡ reported j m))).
+      ⊎_elim (λ (t : (j : ℕ) × (r.stage p (r.slot p) ≡ drawn j)). subst IsDrawn (sym t.1 ∙ e) tt) (λ (t : (j m : ℕ) × (r.stage p (r.slot p) ≡ reported j m)). subst IsReported (sym t.2 ∙ e) tt) t)
+      (pending p inside left) in
+      let shown = shows_post (r.stage p (r.slot p)) (r.slot p) (r.cargo p (r.slot p)).0 port.fits post.3 stays in (
+        ap slot_of port.word_is ∙ (shown.0 ∙ sym post.1),
+        ap flow_of port.word_is ∙ (shown.1 ∙ sym (ap (λ (h : Grant). h.flow) post.2)),
+      )
+
   pub is_pending : (p : ℕ) → p < n → IsPending p (get_or s.words p 0) v
   is_pending p inside left =
       let port = r.each_port p inside in
@@ -211,6 +261,7 @@ module _ (n : ℕ) (s : St) (r : Kept n s) (id : ℕ) (v : View) (at : get_elem?
         (λ shows.
             let d = (stage_is (r.stage p (r.slot p)) (r.slot p) (r.cargo p (r.slot p)).0 2 fits (eqb-true _ 2 (subst (λ (y : ℕ). shows_drawn y ≡ true) port.word_is shows))).1 refl in
             let u = r.drawn_there p (r.slot p) d.0 d.1 in one_out (r.who d.0) d.0 u.0 u.1 u.2.0),
+        shows_last p inside left,
       )
     where
       or_left : (a b : Bool) → a ≡ true → (a || b) ≡ true

@@ -1,5 +1,5 @@
 -- Functions on ports and slots, changed at one place.
-use Rattle.std.proofs.Common.{◌≡◌, ◌≢◌, ℕ, refl, sym, subst}
+use Rattle.std.proofs.Common.{◌≡◌, ℕ, refl, sym, subst}
 use native.Mathlib.Decide.{ℕ_discrete}
 use Rattle.coflow_units.proofs.Changes.{put, put_here, put_else}
 use mathlib.Core.Logic.{dite}

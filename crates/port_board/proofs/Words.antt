@@ -1,5 +1,5 @@
 -- Port words: each stands for one stage, slot and flow.
-use Rattle.std.proofs.Common.{◌≡◌, ℕ, ◌/◌, arith, refl, true, eq-eqb}
+use Rattle.std.proofs.Common.{◌≡◌, ◌≢◌, ℕ, ◌/◌, arith, refl, true, eq-eqb}
 use Rattle.coflow_units.specs.PortWord.{PortStage, word_of, FitsWord}
 use Rattle.coflow_units.specs.PortWord.PortStage.{unposted, granted, drawn, reported, taken_back}
 use Rattle.port_board.specs.Words.{shows_granted, shows_drawn, shows_reported, slot_of, flow_of}
@@ -45,6 +45,14 @@ flow_of-granted slot flow f = omega (arith, f.0, f.1)
 
 pub slot_of-reported : (a n slot flow : ℕ) → FitsWord slot flow → slot_of (word_of (reported a n) slot flow) ≡ slot
 slot_of-reported a n slot flow f = omega (arith, f.0, f.1)
+
+-- the word of a post that was not taken back has its slot and its flow
+pub shows_post : (x : PortStage) (slot flow : ℕ) → FitsWord slot flow → x ≢ unposted → x ≢ taken_back → (slot_of (word_of x slot flow) ≡ slot) × (flow_of (word_of x slot flow) ≡ flow)
+shows_post unposted slot flow f posted kept = absurd (posted refl)
+shows_post granted slot flow f posted kept = (omega (arith, f.0, f.1), omega (arith, f.0, f.1))
+shows_post (drawn j) slot flow f posted kept = (omega (arith, f.0, f.1), omega (arith, f.0, f.1))
+shows_post (reported j n) slot flow f posted kept = (omega (arith, f.0, f.1), omega (arith, f.0, f.1))
+shows_post taken_back slot flow f posted kept = absurd (kept refl)
 
 -- only a granted post has a granted word
 pub granted_only : (x : PortStage) (k f at g : ℕ) → FitsWord k f → FitsWord at g → word_of x k f ≡ word_of granted at g → (x ≡ granted) × (k ≡ at) × (f ≡ g)

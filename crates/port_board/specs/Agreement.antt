@@ -1,5 +1,5 @@
 -- What the poster's lists say of one another, at any moment.
-use Rattle.std.specs.Prelude.{◌≡◌, ℕ, All, AllPairs, Contains, length, Some}
+use Rattle.std.specs.Prelude.{◌≡◌, ℕ, ◌≤◌, All, AllPairs, Contains, length, Some}
 use Rattle.port_board.specs.declared.view.Grant.{Grant}
 use Rattle.port_board.specs.declared.view.Report.{Report}
 use Rattle.port_board.specs.declared.view.Settlement.{Settlement}
@@ -32,6 +32,10 @@ AnswersAgree v = (c : Came) (r : Report) (s : Settlement) → Contains v.back c 
 abbrev pub SentCameBack : View → Type 0
 SentCameBack v = length v.back ≡ v.made → (s : Settlement) (n : ℕ) → Contains v.settled s → s.sent ≡ Some n → (c : Came) × Contains v.back c × Contains c.done (report s.grant n)
 
+-- one of the agents made, whose number is k, reported the number by which a grant was settled: where its seat has come back, this stands in its list
+abbrev pub SentByAgent : View → Type 0
+SentByAgent v = (s : Settlement) (n : ℕ) → Contains v.settled s → s.sent ≡ Some n → (k : ℕ) × (1 ≤ k) × (k ≤ v.made) × ((c : Came) → Contains v.back c → c.number ≡ k → Contains c.done (report s.grant n))
+
 pub record Agrees (v : View) : Type 0 where
   pub apart : AllPairs SharesNothing v.back
   pub once : EachOnce v
@@ -39,6 +43,7 @@ pub record Agrees (v : View) : Type 0 where
   pub missed : EachMissedPosted v
   pub answers : AnswersAgree v
   pub sent : SentCameBack v
+  pub reporter : SentByAgent v
 
 -- no seat that came back drew or missed the grant
 abbrev pub NobodyHad : Grant → View → Type 0

@@ -7,7 +7,7 @@ use Rattle.port_board.specs.declared.view.Step.TheVariants.{Rests, Loaded, Won, 
 use Rattle.port_board.specs.declared.view.Kind.TheVariants.{Note}
 use Rattle.port_board.specs.declared.view.View.{View}
 use Rattle.port_board.specs.Words.{shows_granted, shows_drawn, shows_reported, slot_of, flow_of}
-use Rattle.port_board.specs.Views.{grant, missed_after, found_idle, looked, reported_as, posted_too, settled_as, last_at, is_unsettled, blank, sees}
+use Rattle.port_board.specs.Views.{grant, missed_after, found_idle, looked, reported_as, posted_too, settled_as, last_at, is_unsettled, blank, sees, ShowsLast}
 use Rattle.port_board.specs.Rule.{HoldsOnce}
 use Rattle.port_board.specs.Agreement.{Agrees, NobodyHad}
 
@@ -78,9 +78,9 @@ poster_step port word = cond (shows_granted word) (Offered port word) (cond (sho
 abbrev pub seen_by_poster : ℕ → ℕ → View → View
 seen_by_poster port word v = record v { step = poster_step port word; looks = v.looks ++ (port, word) ∷ [] }
 
--- an unsettled post is granted, drawn or reported; with no agent out it is not drawn
+-- an unsettled post is granted, drawn or reported, and the word shows the last post of the port; with no agent out it is not drawn
 abbrev pub IsPending : ℕ → ℕ → View → Type 0
-IsPending port word v = is_unsettled port v.posts v.settled ≡ true → ((shows_granted word || (shows_drawn word || shows_reported word)) ≡ true) × (shows_drawn word ≡ true → length v.back < v.made)
+IsPending port word v = is_unsettled port v.posts v.settled ≡ true → ((shows_granted word || (shows_drawn word || shows_reported word)) ≡ true) × (shows_drawn word ≡ true → length v.back < v.made) × ShowsLast port word v.posts
 
 abbrev pub poster_loads : Of → Sat → ℕ → Sat → Type 0
 poster_loads st m found m' = (m' ≡ (seen_by_poster st.word found m.0, m.1)) × IsPending st.word found m.0 × Agrees m'.0

@@ -10,7 +10,7 @@ use Rattle.port_board.specs.declared.view.Kind.{Kind}
 use Rattle.port_board.specs.declared.view.Kind.TheVariants.{Note, Agent, Poster}
 use Rattle.port_board.specs.declared.view.Step.TheVariants.{Rests}
 use Rattle.port_board.specs.declared.view.View.{View}
-use Rattle.port_board.specs.Words.{shows_granted}
+use Rattle.port_board.specs.Words.{shows_granted, slot_of, flow_of}
 
 -- a board: which table it is, and how many ports it has
 pub record Board : Type 0 where
@@ -56,6 +56,10 @@ slot_or_none (Some g) = g.slot
 -- the slot of the poster's last post at the port, and 0 where there is none
 abbrev pub last_slot : ℕ → List Grant → ℕ
 last_slot port posts = slot_or_none (last_at port posts)
+
+-- the word has the slot and the flow of the last of these posts at the port
+abbrev pub ShowsLast : ℕ → ℕ → List Grant → Type 0
+ShowsLast port word posts = (g : Grant) → last_at port posts ≡ Some g → (slot_of word ≡ g.slot) × (flow_of word ≡ g.flow)
 
 abbrev pub is_settled : Grant → List Settlement → Bool
 is_settled g settled = list_any (λ (s : Settlement). is_of g.port g.slot s.grant) settled

@@ -7,11 +7,11 @@ ghost use Rattle.port_board.specs.declared.view.Kind.TheVariants.{Agent};
 ghost use Rattle.port_board.specs.declared.view.Step.TheVariants.{Rests, Loaded};
 ghost use Rattle.port_board.specs.declared.view.View.{View};
 ghost use Rattle.port_board.specs.Words.{shows_granted, shows_drawn, shows_reported};
-ghost use Rattle.port_board.specs.Views.{grant, IsPoster, number_of, agents_out, is_unsettled, last_slot, last_at, LastIsListed, one_more, newcomer, sees, takes_in, looked, posted_too, settled_as, found_idle, found_other, drew, reported_as, Tried, IsLength};
+ghost use Rattle.port_board.specs.Views.{grant, IsPoster, number_of, agents_out, is_unsettled, last_slot, last_at, LastIsListed, one_more, newcomer, sees, takes_in, looked, posted_too, settled_as, found_idle, found_other, drew, reported_as, Tried, IsLength, ShowsLast};
 ghost use Rattle.port_board.specs.Rule.{first_poster, HoldsOnce};
 ghost use Rattle.port_board.specs.Answers.{is_busy};
 ghost use Rattle.port_board.specs.Tells.{loaded_now, after_miss, drawn_now, poster_step};
-ghost use Rattle.port_board.specs.Agreement.{SharesNothing, EachOnce, EachPosted, EachMissedPosted, AnswersAgree, SentCameBack, NobodyHad, Agrees};
+ghost use Rattle.port_board.specs.Agreement.{SharesNothing, EachOnce, EachPosted, EachMissedPosted, AnswersAgree, SentCameBack, SentByAgent, NobodyHad, Agrees};
 
 use crate::plays::{
     Another, Counts, Draws, Hears, Learns, Loads, Notes, PosterLoads, Posts, ReadsLength,
@@ -242,6 +242,7 @@ impl PortBoard {
         ensures missed { EachMissedPosted poster.new.view }
         ensures answers { AnswersAgree poster.new.view }
         ensures sent { SentCameBack poster.new.view }
+        ensures reporter { SentByAgent poster.new.view }
     {
         let AgentSeat { place, ports: _ } = seat;
         let shared = &self.table.shared;
@@ -374,15 +375,17 @@ impl PortBoard {
         requires port { port < self.now.ports }
         requires unsettled { is_unsettled port poster.old.view.posts poster.old.view.settled ≡ true }
         ensures own { poster.new.at ≡ poster.old.at }
-        ensures sent { (n : ℕ) → result ≡ Settled.Sent n → (word : ℕ) × (before : View) × Tried port poster.old.view before × (shows_reported word ≡ true) × (poster.new.view ≡ looked (self.now.ports + port) n (settled_as port (Some n) (looked port word before))) }
+        ensures sent { (n : ℕ) → result ≡ Settled.Sent n → (word : ℕ) × (before : View) × Tried port poster.old.view before × (shows_reported word ≡ true) × (poster.new.view ≡ looked (self.now.ports + port) n (settled_as port (Some n) (looked port word before))) × ShowsLast port word poster.old.view.posts }
         ensures taken_back { result ≡ Settled.TakenBack → (word : ℕ) × (shows_granted word ≡ true) × (poster.new.view ≡ looked port word (settled_as port None (looked port word poster.old.view))) }
         ensures busy { (word : ℕ) → result ≡ Settled.Busy word → (before : View) × Tried port poster.old.view before × (shows_drawn word ≡ true) × (poster.new.view ≡ looked port word before) }
+        ensures busy_is_posted { (word : ℕ) → result ≡ Settled.Busy word → ShowsLast port word poster.old.view.posts }
         ensures out { (word : ℕ) → result ≡ Settled.Busy word → 0 < agents_out poster.old.view }
         ensures nobody { (g : Grant) → result ≡ Settled.TakenBack → last_at port poster.old.view.posts ≡ Some g → NobodyHad g poster.old.view }
         ensures seats { (poster.new.view.back ≡ poster.old.view.back) × (poster.new.view.made ≡ poster.old.view.made) }
         ensures posts { poster.new.view.posts ≡ poster.old.view.posts }
         ensures answers { AnswersAgree poster.new.view }
         ensures returned { SentCameBack poster.new.view }
+        ensures reporter { SentByAgent poster.new.view }
     {
         let answer = self.try_settle(&mut poster.place, port);
         poster.posted[port as usize] = answer.is_busy();
@@ -397,9 +400,10 @@ impl PortBoard {
         requires unsettled { is_unsettled port place.old.me.0.posts place.old.me.0.settled ≡ true }
         ensures own { (place.new.table_id ≡ place.old.table_id) × (place.new.me.1 ≡ []) }
         ensures range { port + port < place.old.table_id.words }
-        ensures sent { (n : ℕ) → result ≡ Settled.Sent n → (word : ℕ) × (before : View) × Tried port place.old.me.0 before × (shows_reported word ≡ true) × (place.new.me.0 ≡ looked (self.now.ports + port) n (settled_as port (Some n) (looked port word before))) }
+        ensures sent { (n : ℕ) → result ≡ Settled.Sent n → (word : ℕ) × (before : View) × Tried port place.old.me.0 before × (shows_reported word ≡ true) × (place.new.me.0 ≡ looked (self.now.ports + port) n (settled_as port (Some n) (looked port word before))) × ShowsLast port word place.old.me.0.posts }
         ensures taken_back { result ≡ Settled.TakenBack → (word : ℕ) × (shows_granted word ≡ true) × (place.new.me.0 ≡ looked port word (settled_as port None (looked port word place.old.me.0))) }
         ensures busy { (word : ℕ) → result ≡ Settled.Busy word → (before : View) × Tried port place.old.me.0 before × (shows_drawn word ≡ true) × (place.new.me.0 ≡ looked port word before) }
+        ensures busy_is_posted { (word : ℕ) → result ≡ Settled.Busy word → ShowsLast port word place.old.me.0.posts }
         ensures out { (word : ℕ) → result ≡ Settled.Busy word → length place.old.me.0.back < place.old.me.0.made }
         ensures nobody { (g : Grant) → result ≡ Settled.TakenBack → last_at port place.old.me.0.posts ≡ Some g → NobodyHad g place.old.me.0 }
         ensures agrees { Agrees place.new.me.0 }

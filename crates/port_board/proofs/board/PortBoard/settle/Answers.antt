@@ -1,7 +1,7 @@
 use Rattle.std.proofs.Common.{◌≡◌, inl, ℕ, ◌+◌, ◌<◌, ◌∙◌, sym, ap, refl, subst, arith, length, set, Bool, Some, None, true}
 use Rattle.port_board.specs.declared.view.View.{View}
 use Rattle.port_board.specs.declared.board.Settled.{Settled}
-use Rattle.port_board.specs.Views.{last_at, is_unsettled, looked, settled_as, Tried}
+use Rattle.port_board.specs.Views.{last_at, is_unsettled, looked, settled_as, Tried, ShowsLast}
 use Rattle.port_board.specs.declared.board.Settled.TheVariants.{Sent, TakenBack, Busy}
 use Rattle.port_board.specs.Words.{shows_granted, shows_drawn, shows_reported}
 use Rattle.port_board.specs.Answers.{is_busy}
@@ -28,7 +28,7 @@ invariant_of-poster c =
     carry_poster _ _ _ _ k k told.own.0 refl (subst fits (sym c.is_busy.ensures) all)
 
 -- a settling leaves the lists that it has nothing to do with
-same_lists : (port ports : ℕ) (old k : View) (r : Settled) → ((n : ℕ) → r ≡ Sent n → (word : ℕ) × (before : View) × Tried port old before × (shows_reported word ≡ true) × (k ≡ looked (ports + port) n (settled_as port (Some n) (looked port word before))))
+same_lists : (port ports : ℕ) (old k : View) (r : Settled) → ((n : ℕ) → r ≡ Sent n → (word : ℕ) × (before : View) × Tried port old before × (shows_reported word ≡ true) × (k ≡ looked (ports + port) n (settled_as port (Some n) (looked port word before))) × ShowsLast port word old.posts)
     → (r ≡ TakenBack → (word : ℕ) × (shows_granted word ≡ true) × (k ≡ looked port word (settled_as port None (looked port word old))))
     → ((word : ℕ) → r ≡ Busy word → (before : View) × Tried port old before × (shows_drawn word ≡ true) × (k ≡ looked port word before)) → (k.back ≡ old.back) × (k.made ≡ old.made) × (k.posts ≡ old.posts)
 same_lists port ports old k r sent taken busy =
@@ -55,3 +55,8 @@ pub returns-clause-nobody : goal.returns-clause-nobody
 returns-clause-nobody c g is last =
     let view = ap (λ u. u.view) c.poster.view_is in
     subst (λ (v : View). NobodyHad g v) view (c.try_settle-answer.ensures.nobody g is (subst (λ (v : View). last_at c.args.port v.posts ≡ Some g) (sym view) last))
+
+pub returns-clause-busy_is_posted : goal.returns-clause-busy_is_posted
+returns-clause-busy_is_posted c word is =
+    let view = ap (λ u. u.view) c.poster.view_is in
+    subst (λ (v : View). ShowsLast c.args.port word v.posts) view (c.try_settle-answer.ensures.busy_is_posted word is)

@@ -1,9 +1,9 @@
-use Rattle.std.proofs.Common.{rules, ◌≡◌, inl, inr, ◌+◌, ◌∙◌, sym, ap, refl, subst, cond, true, eq-eqb, ne_eqb, Some, None}
+use Rattle.std.proofs.Common.{rules, ◌≡◌, ℕ, inl, inr, ◌+◌, ◌∙◌, sym, ap, refl, subst, cond, true, eq-eqb, ne_eqb, Some, None}
 use Rattle.port_board.specs.declared.view.Grant.{Grant}
 use Rattle.port_board.specs.Words.{shows_drawn}
-use Rattle.port_board.specs.Views.{last_at, looked, settled_as}
+use Rattle.port_board.specs.Views.{last_at, looked, settled_as, ShowsLast}
 use Rattle.port_board.specs.Agreement.{NobodyHad}
-use Rattle.port_board.specs.Tells.{seen_by_poster}
+use Rattle.port_board.specs.Tells.{seen_by_poster, IsPending}
 use Rattle.port_board.proofs.AgentSteps.{M}
 use Rattle.port_board.proofs.PosterSteps.{poster_loading, taking, step_offered, step_rests}
 use Rattle.port_board.proofs.board.PortBoard.try_settle.Goals as goal
@@ -15,7 +15,7 @@ pub returns-then-loaded-ne-GRANTED-clause-sent : goal.returns-then-loaded-ne-GRA
 returns-then-loaded-ne-GRANTED-clause-sent c n is =
     let e = c.load-loaded.ensures.2.0 in
     let t = c.conclude.ensures.sent n is in
-    (c.load-loaded.result, c.args.place.now.me.0, inl refl, t.0, t.1 ∙ ap (λ (m : M). looked (c.args.self.now.ports + c.args.port) n (settled_as c.args.port (Some n) m.0)) e)
+    (c.load-loaded.result, c.args.place.now.me.0, inl refl, t.0, t.1 ∙ ap (λ (m : M). looked (c.args.self.now.ports + c.args.port) n (settled_as c.args.port (Some n) m.0)) e, (c.load-loaded.ensures.2.1 c.requires.unsettled).2)
 
 pub compare_exchange-found-requires : goal.compare_exchange-found-requires
 compare_exchange-found-requires c =
@@ -39,6 +39,7 @@ returns-clause-sent c n is =
       t.0,
       t.1 ∙ (ap (λ (m : M). looked (c.args.self.now.ports + c.args.port) n (settled_as c.args.port (Some n) m.0)) x
           ∙ ap (λ (m : M). looked (c.args.self.now.ports + c.args.port) n (settled_as c.args.port (Some n) (seen_by_poster c.args.port c.compare_exchange-found.result m.0))) e),
+      (subst (λ (m : M). IsPending c.args.port c.compare_exchange-found.result m.0) e c.compare_exchange-found.ensures.2.1 c.requires.unsettled).2,
     )
 
 pub returns-clause-busy : goal.returns-clause-busy
@@ -53,3 +54,9 @@ returns-clause-busy c word is =
       ap (λ (m : M). m.0) (t.2 ∙ (x ∙ ap (λ (m : M). (seen_by_poster c.args.port c.compare_exchange-found.result m.0, m.1)) e))
           ∙ (λ i. record (looked c.args.port (sym t.0 i) (looked c.args.port c.load-loaded.result c.args.place.now.me.0)) { step = (step_rests c.args.port c.compare_exchange-found.result t.1 ∙ sym c.requires.poster.1) i }),
     )
+
+pub returns-clause-busy_is_posted : goal.returns-clause-busy_is_posted
+returns-clause-busy_is_posted c word is =
+    let e = c.load-loaded.ensures.2.0 in
+    let shown = (subst (λ (m : M). IsPending c.args.port c.compare_exchange-found.result m.0) e c.compare_exchange-found.ensures.2.1 c.requires.unsettled).2 in
+    subst (λ (z : ℕ). ShowsLast c.args.port z c.args.place.now.me.0.posts) (sym (c.conclude-2.ensures.busy word is).0) shown
