@@ -4,15 +4,7 @@ use crate::agent::{Agent, Served};
 use outside::{CountWire, MemWire};
 use port_board::{PortBoard, Poster, Settled};
 use std::test::*;
-use std::thread::join_mut;
-
-fn settled(answer: Settled) -> (u64, u64) {
-    match answer {
-        Settled::Sent(units) => (0, units),
-        Settled::TakenBack => (1, 0),
-        Settled::Busy(word) => (2, word),
-    }
-}
+use std::thread::{Threads, join_mut};
 
 // One post of this length at port 0, served on one wire.
 fn serve_once(
@@ -20,7 +12,7 @@ fn serve_once(
     poster: &mut Poster,
     wire: MemWire,
     length: u64,
-) -> (Served, (u64, u64))
+) -> (Served, Settled)
     requires own { poster.old.at ≡ board.now.id }
     requires fresh { (poster.old.view.posts ≡ []) × (poster.old.view.settled ≡ []) × (poster.old.view.made ≡ 0) × (poster.old.view.back ≡ []) }
     requires ports { 1 ≤ board.now.ports }
@@ -33,7 +25,7 @@ fn serve_once(
     let served = agent.serve(board, 0, &mut wires);
     let answer = board.settle(poster, 0);
     board.back(poster, agent.into_seat());
-    (served, settled(answer))
+    (served, answer)
 }
 
 #[test]
@@ -42,14 +34,14 @@ fn what_a_wire_accepts_is_reported(rt: HostRuntime) -> Result<(), Fail> {
     let rows = [(1, 1, (1, 0, 1)), (5, 3, (1, 2, 1)), (5, 9, (1, 5, 0))];
     for (length, fail_at, want) in rows {
         let Ok((board, mut poster)) = PortBoard::new(rt.alloc(), 1) else {
-            return Ok(());
+            panic!(&rt; "no memory");
         };
         let Ok(wire) = MemWire::new(rt.alloc(), 4, Some(fail_at)) else {
-            return Ok(());
+            panic!(&rt; "no memory");
         };
         let (served, answer) = serve_once(&board, &mut poster, wire, length);
         assert_eq!(rt; (served.drawn, served.sent, served.short), want);
-        assert_eq!(rt; answer, (0, served.sent));
+        assert_eq!(rt; answer, Settled::Sent(served.sent));
     }
     Ok(())
 }
@@ -66,42 +58,111 @@ fn post_all(board: &PortBoard, poster: &mut Poster, length: u64)
     }
 }
 
-// What a round on some wires brought, with what these wires count.
-fn totals(served: Served, wires: &[CountWire]) -> (u32, u64, u64) {
+// The first port whose post is not settled by this number of units.
+fn settled_otherwise(board: &PortBoard, poster: &mut Poster, units: u64) -> Option<u32>
+    requires own { poster.old.at ≡ board.now.id }
+{
+    for port in 0..board.ports() {
+        if !poster.posted(port) {
+            return Some(port);
+        }
+        let answer = board.settle(poster, port);
+        if answer != Settled::Sent(units) {
+            return Some(port);
+        }
+    }
+    None
+}
+
+// The first port at which not exactly one of the three agents sent, and so many units.
+fn sent_otherwise(
+    first: &[CountWire; 64],
+    second: &[CountWire; 64],
+    third: &[CountWire; 64],
+    units: u64,
+) -> Option<usize> {
+    for port in 0..64usize {
+        let mut sent = [first[port].sent, second[port].sent, third[port].sent];
+        sent.sort_unstable();
+        if sent != [0, 0, units] {
+            return Some(port);
+        }
+    }
+    None
+}
+
+// Two agents serve all ports, each on a thread: how many grants they drew, and how many units they sent.
+fn serve_both(
+    rt: &impl Threads,
+    board: &PortBoard,
+    one: &mut Agent,
+    two: &mut Agent,
+    one_wires: &mut [CountWire; 64],
+    two_wires: &mut [CountWire; 64],
+) -> (u32, u64)
+    requires own { (one.old.at ≡ board.now.id) × (two.old.at ≡ board.now.id) }
+    requires ports { 64 ≤ board.now.ports }
+    ensures own { (one.new.at ≡ one.old.at) × (two.new.at ≡ two.old.at) }
+    ensures out { (one.new.view.out ≡ one.old.view.out) × (two.new.view.out ≡ two.old.view.out) }
+{
+    let (left, right) = join_mut(
+        rt,
+        &mut || one.serve(board, 0, one_wires),
+        &mut || two.serve(board, 0, two_wires),
+    );
+    (
+        left.drawn.saturating_add(right.drawn),
+        left.sent.saturating_add(right.sent),
+    )
+}
+
+// How many units all these wires have sent.
+fn total(wires: &[CountWire; 64]) -> u64 {
     let mut units = 0u64;
     for wire in wires {
         units = units.saturating_add(wire.sent);
     }
-    (served.drawn, served.sent, units)
+    units
 }
 
 #[test]
 fn agents_on_threads_share_the_grants(rt: HostRuntime) -> Result<(), Fail> {
-    let rtx = &rt;
+    let handle = &rt;
     for round in 1..=50u64 {
         let Ok((board, mut poster)) = PortBoard::new(rt.alloc(), 64) else {
-            return Ok(());
+            panic!(&rt; "no memory");
         };
-        let first = board.agent(&mut poster);
-        let second = board.agent(&mut poster);
+        let mut first = Agent::new(board.agent(&mut poster));
+        let mut second = Agent::new(board.agent(&mut poster));
+        let mut third = Agent::new(board.agent(&mut poster));
         post_all(&board, &mut poster, round);
-        let mut one = Agent::new(first);
-        let mut two = Agent::new(second);
-        let mut wires_one = [CountWire { sent: 0 }; 64];
-        let mut wires_two = [CountWire { sent: 0 }; 64];
+        let mut first_wires = [CountWire { sent: 0 }; 64];
+        let mut second_wires = [CountWire { sent: 0 }; 64];
+        let mut third_wires = [CountWire { sent: 0 }; 64];
         let shared = &board;
-        let (left, right) = join_mut(
-            rtx,
-            &mut || one.serve(shared, 0, &mut wires_one),
-            &mut || two.serve(shared, 0, &mut wires_two),
+        let (served, others) = join_mut(
+            handle,
+            &mut || first.serve(shared, 0, &mut first_wires),
+            &mut || serve_both(
+                handle,
+                shared,
+                &mut second,
+                &mut third,
+                &mut second_wires,
+                &mut third_wires,
+            ),
         );
-        let a = totals(left, &wires_one);
-        let b = totals(right, &wires_two);
-        assert_eq!(rtx; u32::saturating_add(a.0, b.0), 64);
-        assert_eq!(rtx; u64::saturating_add(a.1, b.1), round * 64);
-        assert_eq!(rtx; (a.1, b.1), (a.2, b.2));
-        board.back(&mut poster, one.into_seat());
-        board.back(&mut poster, two.into_seat());
+        board.back(&mut poster, first.into_seat());
+        board.back(&mut poster, second.into_seat());
+        board.back(&mut poster, third.into_seat());
+        assert_eq!(handle;
+            sent_otherwise(&first_wires, &second_wires, &third_wires, round),
+            None
+        );
+        assert_eq!(handle; settled_otherwise(&board, &mut poster, round), None);
+        assert_eq!(handle; served.drawn.saturating_add(others.0), 64);
+        assert_eq!(handle; served.sent.saturating_add(others.1), round * 64);
+        assert_eq!(handle; served.sent, total(&first_wires));
     }
     Ok(())
 }
