@@ -2,6 +2,7 @@
 ghost use Rattle.std.specs.Prelude.{◌≡◌, ◌≢◌, ◌⊎◌, ℕ, ◌+◌, ◌-◌, ◌*◌, ◌/◌, ◌%◌, ◌^◌, ◌<◌, ◌≤◌, [], ◌∷◌, length, true, false, ◌||◌, AllPairs, Contains, Some, None, IfOk, Result};
 ghost use Rattle.coflow_units.specs.PortWord.{word_of, FitsWord};
 ghost use Rattle.coflow_units.specs.PortWord.PortStage.{granted};
+ghost use Rattle.port_board.specs.declared.view.Came.{Came};
 ghost use Rattle.port_board.specs.declared.view.Grant.{Grant};
 ghost use Rattle.port_board.specs.declared.view.Kind.TheVariants.{Agent};
 ghost use Rattle.port_board.specs.declared.view.Step.TheVariants.{Rests, Loaded};
@@ -235,6 +236,7 @@ impl PortBoard {
         requires reported { seat.view.out ≡ [] }
         ensures own { poster.new.at ≡ poster.old.at }
         ensures lists { (word : ℕ) × (poster.new.view ≡ looked 0 word (takes_in poster.old.view seat.view)) }
+        ensures handed { (c : Came) × Contains poster.new.view.back c × (c.done ≡ seat.view.done) × (c.missed ≡ seat.view.missed) }
         ensures fewer { agents_out poster.new.view + 1 ≡ agents_out poster.old.view }
         ensures apart { AllPairs SharesNothing poster.new.view.back }
         ensures once { EachOnce poster.new.view }

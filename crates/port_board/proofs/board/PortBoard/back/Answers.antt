@@ -1,5 +1,9 @@
-use Rattle.std.proofs.Common.{rules, ◌+◌, ◌≤◌, ◌∙◌, ap, subst, length}
-use Rattle.port_board.specs.Views.{looked, agents_out}
+use Rattle.std.proofs.Common.{rules, ◌+◌, ◌≤◌, ◌∙◌, sym, ap, subst, length}
+use Rattle.std.specs.Prelude.{Contains}
+use Rattle.std.proofs.lemmas.List.Elements.{Contains-push}
+use Rattle.port_board.specs.declared.view.View.{View}
+use Rattle.port_board.specs.declared.view.Came.{Came}
+use Rattle.port_board.specs.Views.{looked, came_of, agents_out}
 use Rattle.port_board.proofs.AgentSteps.{M}
 use Rattle.port_board.proofs.PosterSteps.{learning}
 use Rattle.port_board.proofs.Seats.{takes_agent}
@@ -30,3 +34,15 @@ returns-clause-fewer c =
     let out = some_out c.poster.inside.agents c.poster.inside.posted.items _ c.poster.inside.place.me c.seat.inside.place.me.0 c.poster.invariant (subst (λ (m : M). length m.0.back ≤ m.0.made) e c.load.ensures.2.1) in
     ap (λ (m : M). agents_out m.0 + 1) (c.load.ensures.2.0 ∙ ap (λ (m : M). (looked 0 c.load.result m.0, m.1)) e)
     ∙ (one_fewer c.poster.inside.agents c.poster.inside.posted.items _ c.poster.inside.place.me c.seat.inside.place.me.0 c.poster.invariant out ∙ ap agents_out (ap (λ u. u.view) c.poster.view_is))
+
+pub returns-clause-handed : goal.returns-clause-handed
+returns-clause-handed c =
+    let e = c.join_seat.ensures.2 in
+    let went = c.load.ensures.2.0 ∙ ap (λ (m : M). (looked 0 c.load.result m.0, m.1)) e in
+    let view = ap (λ u. u.view) c.seat.view_is in
+    let came : Came = came_of c.seat.inside.place.me.0 in (
+      came,
+      subst (λ (m : M). Contains m.0.back came) (sym went) (Contains-push c.poster.inside.place.me.0.back came),
+      ap (λ (v : View). v.done) view,
+      ap (λ (v : View). v.missed) view,
+    )
