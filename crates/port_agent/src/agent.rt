@@ -63,6 +63,8 @@ impl Agent {
     }
 
     /// Tries once to draw at each port from `first` on, one for each wire. What it draws it sends on the wire of the port, and reports how much the wire accepted.
+    ///
+    /// The seat is of this board, which has at least `first` ports and one more for each wire.
     pub fn serve<W: Wire>(&mut self, board: &PortBoard, first: u32, wires: &mut [W]) -> Served
         requires own { self.old.at ≡ board.now.id }
         requires ports { first + length wires.old ≤ board.now.ports }

@@ -167,7 +167,7 @@ pub enum Settled {
     Sent(u64),
     /// Nobody drew the grant, and nobody can any more.
     TakenBack,
-    /// An agent drew the grant and has not reported: the word that shows it.
+    /// An agent drew the grant and has not reported: the word that shows it. The post stays unsettled.
     Busy(u64),
 }
 
@@ -182,6 +182,8 @@ impl Settled {
 
 impl PortBoard {
     /// A board of idle ports, from 1 to 1025 of them, and its poster.
+    ///
+    /// The error is want of memory.
     pub fn new(alloc: Global, ports: u32) -> Result<(PortBoard, Poster), NoMemory>
         requires ports { (1 ≤ ports) × (ports ≤ 1025) }
         ensures board { IfOk result (λ r. (r.0.ports ≡ ports) × (r.1.at ≡ r.0.id)) }
@@ -230,7 +232,9 @@ impl PortBoard {
         shared.join_seat::<Hears>(&mut seat.place, note);
     }
 
-    /// Takes back the seat of an agent that holds no drawn grant, with its lists.
+    /// Takes back the seat of an agent that holds no drawn grant, with its lists of drawn and of missed grants.
+    ///
+    /// It looks at the word of port 0 alone, whatever stands there, so that the poster learns what its lists say of one another.
     pub fn back(&self, poster: &mut Poster, seat: AgentSeat)
         requires own { (poster.old.at ≡ self.now.id) × (seat.at ≡ self.now.id) }
         requires reported { seat.view.out ≡ [] }
@@ -255,7 +259,7 @@ impl PortBoard {
 
     /// Grants `length` units of a flow at a port, one in each slot from `slot` on.
     ///
-    /// The port has no unsettled post, and the slot is above that of its last post.
+    /// The port has no unsettled post, and the slot is above that of its last post, or above 0 where it has none. It is below 2^41, the flow is below 2^20, and the length is from 1 to 2^41.
     pub fn post(&self, poster: &mut Poster, port: u32, slot: u64, flow: u32, length: u64)
         requires own { poster.old.at ≡ self.now.id }
         requires port { port < self.now.ports }
@@ -276,6 +280,8 @@ impl PortBoard {
     }
 
     /// Tries once to draw the grant of a port.
+    ///
+    /// Where nothing is drawn, the last post of the port that the seat has seen goes on its list of missed grants, unless it stands in one of its lists.
     pub fn draw(&self, seat: &mut AgentSeat, port: u32) -> Draw
         requires own { seat.old.at ≡ self.now.id }
         requires port { port < self.now.ports }

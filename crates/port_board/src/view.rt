@@ -24,6 +24,7 @@ pub struct Settlement {
 
 /// What the seat is about to do.
 pub enum Step {
+    /// Nothing: it may begin any call.
     Rests,
     /// The port and the granted word that an agent loaded there.
     Loaded(u64, u64),
@@ -51,6 +52,7 @@ pub struct Came {
     pub missed: LinkedList<(u64, u64)>,
 }
 
+/// What a seat knows: whose it is, its lists, and what it has looked at.
 pub struct View {
     pub kind: Kind,
     /// How many agents the poster has made.
@@ -84,4 +86,5 @@ impl TableRule<(), View, u64> for Ports {
     ghost first = { λ _. first_poster };
 }
 
+/// A seat at the table of the words. It knows a view.
 pub type Place = Seat<(), View>;
