@@ -1,5 +1,5 @@
 #!/usr/bin/env python3
-"""Refuses each allocation of runs of the built program in turn: that one alone, and that one with all later ones.
+"""Refuses allocations of runs of the built program in turn: one alone, and one with all later ones. Those of `make` are many, so their numbers grow in steps.
 
 Use: checks/refused_memory.py            The last line is 'N passed, M failed'; the exit code is 0 where none failed.
 
