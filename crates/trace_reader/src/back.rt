@@ -12,22 +12,29 @@ use coflow_units::{MAX_MEGABYTES, MAX_REDUCERS, Quantity, Reducer};
 use std::alloc::Global;
 use text_fields::{Decimal, Fields, decimal_of, number_of};
 
-/// The reducers of a line, whose number is field k, and behind which there is no field.
+/// The reducers of a line, whose number is this field, and behind which there is no field.
 pub(crate) fn back_of(
     alloc: Global,
     fields: &mut Fields<'_>,
-    k: u32,
+    field: u32,
     ports: u32,
 ) -> Result<Vec<Reducer>, TraceFault>
-    requires { k ≤ 4100 }
-    ensures { Answers (back_checks ports k fields.old) (λ v. v.items ≡ reducers_of fields.old) result }
+    requires { field ≤ 4100 }
+    ensures { Answers (back_checks ports field fields.old) (λ v. v.items ≡ reducers_of fields.old) result }
 {
     let line = fields.line();
-    let count = match number_in(fields.next(), line, k, Quantity::Reducers, 0, MAX_REDUCERS) {
+    let count = match number_in(
+        fields.next(),
+        line,
+        field,
+        Quantity::Reducers,
+        0,
+        MAX_REDUCERS,
+    ) {
         Ok(count) => count,
         Err(fault) => return Err(fault),
     };
-    let reducers = match reducers_in(alloc, fields, k + 1, ports, count) {
+    let reducers = match reducers_in(alloc, fields, field + 1, ports, count) {
         Ok(reducers) => reducers,
         Err(fault) => return Err(fault),
     };
@@ -36,28 +43,28 @@ pub(crate) fn back_of(
     } else {
         Err(TraceFault::BadLine {
             line,
-            field: k + 1 + count,
+            field: field + 1 + count,
         })
     }
 }
 
-/// So many reducers, the first of which is field k of the line.
+/// So many reducers, the first of which is this field of the line.
 fn reducers_in(
     alloc: Global,
     fields: &mut Fields<'_>,
-    k: u32,
+    field: u32,
     ports: u32,
     count: u32,
 ) -> Result<Vec<Reducer>, TraceFault>
-    requires place { k ≤ 4101 }
+    requires place { field ≤ 4101 }
     requires few { count ≤ 4096 }
-    ensures answer { Answers (each (reducer_checks ports fields.old.number) k fields.old.texts count) (λ v. v.items ≡ values reducer_of fields.old.texts count) result }
+    ensures answer { Answers (each (reducer_checks ports fields.old.number) field fields.old.texts count) (λ v. v.items ≡ values reducer_of fields.old.texts count) result }
     ensures left { OnOk result (fields.new ≡ without count fields.old) }
 {
     let line = fields.line();
     let mut reducers = Vec::new(alloc);
-    for j in 0..count {
-        let reducer = match reducer_in(fields.next(), line, k + j, ports) {
+    for index in 0..count {
+        let reducer = match reducer_in(fields.next(), line, field + index, ports) {
             Ok(reducer) => reducer,
             Err(fault) => return Err(fault),
         };
@@ -66,12 +73,12 @@ fn reducers_in(
     Ok(reducers)
 }
 
-/// A reducer, which is field k of the line.
-fn reducer_in(field: &[u8], line: u32, k: u32, ports: u32) -> Result<Reducer, TraceFault>
-    ensures { Answers (reducer_checks ports line k field.now) (λ v. v ≡ reducer_of field.now) result }
+/// The reducer that the text spells, which is this field of the line.
+fn reducer_in(text: &[u8], line: u32, field: u32, ports: u32) -> Result<Reducer, TraceFault>
+    ensures { Answers (reducer_checks ports line field text.now) (λ v. v ≡ reducer_of text.now) result }
 {
-    let Some((port, size)) = port_and_size(field) else {
-        return Err(TraceFault::BadLine { line, field: k });
+    let Some((port, size)) = port_and_size(text) else {
+        return Err(TraceFault::BadLine { line, field });
     };
     if port > u64::from(ports) {
         return Err(TraceFault::PortRange { line, port });

@@ -53,8 +53,8 @@ fn coflow_of(
         Ok(front) => front,
         Err(fault) => return Err(fault),
     };
-    let k = 4 + front.mappers.len() as u32;
-    let reducers = match back_of(alloc, fields, k, ports) {
+    let field = 4 + front.mappers.len() as u32;
+    let reducers = match back_of(alloc, fields, field, ports) {
         Ok(reducers) => reducers,
         Err(fault) => return Err(fault),
     };

@@ -74,12 +74,12 @@ fn id_in(field: &[u8], line: u32, ids: &mut IndexSet<u32>) -> Result<u32, TraceF
     }
 }
 
-/// The location of a mapper, which is field k of the line.
-fn mapper_in(field: &[u8], line: u32, k: u32, ports: u32) -> Result<u32, TraceFault>
-    ensures { Answers (mapper_checks ports line k field.now) (λ v. v ≡ number field.now) result }
+/// The location of the mapper that the text spells, which is this field of the line.
+fn mapper_in(text: &[u8], line: u32, field: u32, ports: u32) -> Result<u32, TraceFault>
+    ensures { Answers (mapper_checks ports line field text.now) (λ v. v ≡ number text.now) result }
 {
-    let Some(port) = number_of(field) else {
-        return Err(TraceFault::BadLine { line, field: k });
+    let Some(port) = number_of(text) else {
+        return Err(TraceFault::BadLine { line, field });
     };
     if port > u64::from(ports) {
         return Err(TraceFault::PortRange { line, port });
@@ -100,8 +100,8 @@ fn mappers_in(
 {
     let line = fields.line();
     let mut mappers = Vec::new(alloc);
-    for j in 0..count {
-        let mapper = match mapper_in(fields.next(), line, 4 + j, ports) {
+    for index in 0..count {
+        let mapper = match mapper_in(fields.next(), line, 4 + index, ports) {
             Ok(mapper) => mapper,
             Err(fault) => return Err(fault),
         };

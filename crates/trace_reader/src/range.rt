@@ -27,19 +27,19 @@ pub(crate) fn in_range(
     Ok(count as u32)
 }
 
-/// The number that field k of the line spells, where it is from least to most.
+/// The number that the text of this field of the line spells, where it is from least to most.
 pub(crate) fn number_in(
-    field: &[u8],
+    text: &[u8],
     line: u32,
-    k: u32,
+    field: u32,
     which: Quantity,
     least: u32,
     most: u32,
 ) -> Result<u32, TraceFault>
-    ensures { Answers (number_checks line k which least most field.now) (λ v. (v ≡ number field.now) × (least ≤ v) × (v ≤ most)) result }
+    ensures { Answers (number_checks line field which least most text.now) (λ v. (v ≡ number text.now) × (least ≤ v) × (v ≤ most)) result }
 {
-    let Some(count) = number_of(field) else {
-        return Err(TraceFault::BadLine { line, field: k });
+    let Some(count) = number_of(text) else {
+        return Err(TraceFault::BadLine { line, field });
     };
     in_range(count, line, which, least, most)
 }

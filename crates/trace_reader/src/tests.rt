@@ -1,5 +1,5 @@
 //! What no clause says: that the definitions mean what the rules of the format say. Each row was worked out by hand.
-use crate::{TraceFault, laws, read_trace};
+use crate::{TraceFault, read_trace};
 use coflow_units::{CoflowLine, MAX_TEXT, Quantity, Reducer, Trace};
 use std::alloc::Global;
 use std::test::Fail;
@@ -75,6 +75,31 @@ fn texts_of_one_coflow(rt: HostRuntime) -> Result<(), Fail> {
         assert_eq!(rt; coflows.len(), 1);
         for coflow in coflows {
             assert!(rt; is_row(coflow, row));
+        }
+    }
+    Ok(())
+}
+
+/// Megabytes with a thousand digits behind the point.
+#[test]
+fn fractions_of_a_thousand_digits(rt: HostRuntime) -> Result<(), Fail> {
+    let mut nines = String::new(rt.alloc());
+    for _ in 0..1000 {
+        nines.push_str("9")?;
+    }
+    let zeros = format!(in rt.alloc(); "{:01000}", 0)?;
+    let least = format!(in rt.alloc(); "{:01000}", 1)?;
+    for (fraction, millionths) in [
+        (zeros.as_str(), 3_000_000),
+        (least.as_str(), 3_000_001),
+        (nines.as_str(), 4_000_000),
+    ] {
+        let text = format!(in rt.alloc(); "1 1\n1 0 1 0 1 1:3.{fraction}\n")?;
+        let trace = trace_by(rt.alloc(), text.as_bytes())?;
+        let coflows = trace.coflows.as_slice();
+        assert_eq!(rt; coflows.len(), 1);
+        for coflow in coflows {
+            assert!(rt; is_row(coflow, (1, 0, &[0], &[(1, millionths)])));
         }
     }
     Ok(())
@@ -240,6 +265,7 @@ fn large_texts(rt: HostRuntime) -> Result<(), Fail> {
     );
     mappers.push_str(reducers.as_str())?;
     let trace = trace_by(rt.alloc(), mappers.as_bytes())?;
+    assert_eq!(rt; trace.coflows.as_slice().len(), 1);
     for coflow in trace.coflows.as_slice() {
         assert_eq!(rt; coflow.mappers.as_slice().len(), 4096);
         assert_eq!(rt; coflow.reducers.as_slice().len(), 4096);
@@ -279,11 +305,4 @@ fn texts_of_faults(rt: HostRuntime) -> Result<(), Fail> {
         assert_eq!(rt; format!(in rt.alloc(); "{fault}")?.as_str(), text);
     }
     Ok(())
-}
-
-#[test]
-fn has_laws_of_texts() {
-    laws::lines_decide();
-    laws::fields_decide();
-    laws::accepted_is_trace();
 }

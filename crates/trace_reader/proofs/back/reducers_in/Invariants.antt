@@ -3,5 +3,5 @@ use Rattle.trace_reader.proofs.Rows.{SoFar}
 use Rattle.trace_reader.proofs.back.reducers_in.Given as goal
 
 -- The reducers up to here passed.
-abbrev pub invariant-loop-j : goal.invariant-loop-j
-invariant-loop-j l = SoFar (reducer_checks l.ports) reducer_of l.k l.fn.fields l.fields l.reducers.items l.j
+abbrev pub invariant-loop-index : goal.invariant-loop-index
+invariant-loop-index l = SoFar (reducer_checks l.ports) reducer_of l.field l.fn.fields l.fields l.reducers.items l.index

@@ -4,5 +4,5 @@ use Rattle.trace_reader.proofs.Rows.{SoFar}
 use Rattle.trace_reader.proofs.front.mappers_in.Given as goal
 
 -- The mappers up to here passed.
-abbrev pub invariant-loop-j : goal.invariant-loop-j
-invariant-loop-j l = SoFar (mapper_checks l.ports) number 4 l.fn.fields l.fields l.mappers.items l.j
+abbrev pub invariant-loop-index : goal.invariant-loop-index
+invariant-loop-index l = SoFar (mapper_checks l.ports) number 4 l.fn.fields l.fields l.mappers.items l.index
