@@ -9,7 +9,7 @@ ghost use Rattle.cert_check.specs.Reasons.{certificate_kind};
 ghost use Rattle.cert_check.specs.Sound.{AreLoadsOf};
 
 use crate::places::out_of_range;
-use crate::stated::least_wrong_if_any;
+use crate::stated::{Claim, least_wrong_if_any};
 use crate::verdict::Reason;
 use coflow_units::{NoMemory, Place};
 use dual_cert::{Cert, bound, infeasible, slack};
@@ -41,31 +41,34 @@ pub(crate) fn wrong_certificate(
         return Ok(Some(Reason::PortRange { place, number }));
     }
     if let Some(claim) = least_wrong_if_any(coflows, &report.weights, weights) {
-        return Ok(Some(Reason::WeightWrong {
-            coflow: claim.coflow,
-            stated: claim.stated,
-            real: claim.real,
-        }));
+        return Ok(Some(wrong_weight(claim)));
     }
     let cert = cert_of(alloc, coflows, places)?;
     if let Some(coflow) = infeasible(loads, weights, &cert) {
         return Ok(Some(Reason::Infeasible { coflow }));
     }
     let real = bound(loads, &cert);
-    if report.bound > real {
-        return Ok(Some(Reason::BoundTooHigh {
-            stated: report.bound,
-            real,
-        }));
+    let stated = report.bound;
+    if stated > real {
+        return Ok(Some(Reason::BoundTooHigh { stated, real }));
     }
     let real = slack(loads, weights, &cert);
-    if report.slack != real {
-        return Ok(Some(Reason::SlackWrong {
-            stated: report.slack,
-            real,
-        }));
+    let stated = report.slack;
+    if stated != real {
+        return Ok(Some(Reason::SlackWrong { stated, real }));
     }
     Ok(None)
+}
+
+/// The wrong weight, as a reason.
+fn wrong_weight(claim: Claim) -> Reason
+    ensures { result ≡ Reason.WeightWrong claim.coflow claim.stated claim.real }
+{
+    Reason::WeightWrong {
+        coflow: claim.coflow,
+        stated: claim.stated,
+        real: claim.real,
+    }
 }
 
 /// The certificate of the places, which name these coflows.

@@ -10,7 +10,7 @@ ghost use Rattle.cert_check.specs.Parts.{HasSoundSchedule, IsFirstFrom, reason_f
 ghost use Rattle.cert_check.specs.Places.{NamesEach, coflows_in};
 ghost use Rattle.cert_check.specs.Reasons.{schedule_kind};
 
-use crate::stated::{ends_of, least_wrong};
+use crate::stated::{Claim, ends_of, least_wrong};
 use crate::verdict::Reason;
 use coflow_units::{NoMemory, Run};
 use flow_table::Table;
@@ -43,27 +43,29 @@ pub(crate) fn wrong_schedule(
     let ends = completions(alloc, flows, table.coflows(), &schedule)?;
     let stated = ends_of(alloc, report.places.as_slice())?;
     if let Some(claim) = least_wrong(coflows, &stated, &ends) {
-        return Ok(Some(Reason::DoneWrong {
-            coflow: claim.coflow,
-            stated: claim.stated,
-            real: claim.real,
-        }));
+        return Ok(Some(wrong_end(claim)));
     }
     let real = cost_of(weights, &ends);
-    if report.cost != real {
-        return Ok(Some(Reason::CostWrong {
-            stated: report.cost,
-            real,
-        }));
+    let cost = report.cost;
+    if cost != real {
+        return Ok(Some(Reason::CostWrong { stated: cost, real }));
     }
     let most = 4 * report.bound + report.slack;
-    if report.cost > most {
-        return Ok(Some(Reason::RatioBroken {
-            cost: report.cost,
-            most,
-        }));
+    if cost > most {
+        return Ok(Some(Reason::RatioBroken { cost, most }));
     }
     Ok(None)
+}
+
+/// The wrong completion, as a reason.
+fn wrong_end(claim: Claim) -> Reason
+    ensures { result ≡ Reason.DoneWrong claim.coflow claim.stated claim.real }
+{
+    Reason::DoneWrong {
+        coflow: claim.coflow,
+        stated: claim.stated,
+        real: claim.real,
+    }
 }
 
 /// The schedule of the runs.

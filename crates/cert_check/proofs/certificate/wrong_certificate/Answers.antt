@@ -43,14 +43,14 @@ bound-real-requires-clause-feasible c =
     let feasible = c.in_default-infeasible.ensures.none c.args.table.now.flows (λ (k : ℕ). slice_index c.args.weights.now k) s.loads_are (λ k has. refl) refl in
     (c.args.weights.now, c.requires.weight_range, stays_of c.args.table.now.flows (λ (k : ℕ). slice_index c.args.weights.now k) c.args.loads.now c.args.weights.now (reverse c.in_ok-cert.cert) s.loads_are (λ k has. refl) feasible)
 
-pub returns-then-report-real : goal.returns-then-report-real
-returns-then-report-real c =
+pub returns-then-stated-real : goal.returns-then-stated-real
+returns-then-stated-real c =
     let s = settled c.args.table.now c.args.loads.now c.args.weights.now c.args.coflows.now c.as_slice-places.result.now c.args.report.now.places c.ports.result c.in_ok-cert.cert c.requires.loads c.requires.names c.as_slice-places.ensures c.ports.ensures.ports
     c.in_default.ensures c.requires.coflows c.in_ok-cert.ensures in
     let weights = subst (λ l. AreRealIfAny l c.args.report.now.weights (slice_index c.args.weights.now)) c.requires.coflows c.in_default-least_wrong_if_any.ensures in
     let feasible = c.in_default-infeasible.ensures.none c.args.table.now.flows (λ (k : ℕ). slice_index c.args.weights.now k) s.loads_are (λ k has. refl) refl in
     let real = c.bound-real.ensures c.args.table.now.flows s.loads_are ∙ ap (bound c.args.table.now.flows) s.entries_are in
-    first_high_bound _ c.args.table.now.ids c.args.report.now c.bound-real.result s.ports weights (subst (IsFeasible c.args.table.now.flows (λ (k : ℕ). slice_index c.args.weights.now k)) s.entries_are feasible) real c.if-report-real.true
+    first_high_bound _ c.args.table.now.ids c.args.report.now c.bound-real.result s.ports weights (subst (IsFeasible c.args.table.now.flows (λ (k : ℕ). slice_index c.args.weights.now k)) s.entries_are feasible) real c.if-stated-real.true
 
 pub slack-real-requires-clause-totals_fit : goal.slack-real-requires-clause-totals_fit
 slack-real-requires-clause-totals_fit c = totals_fit c.args.table.now c.args.loads.now c.ports.ensures.table c.requires.loads
@@ -68,8 +68,8 @@ slack-real-requires-clause-feasible c =
     let feasible = c.in_default-infeasible.ensures.none c.args.table.now.flows (λ (k : ℕ). slice_index c.args.weights.now k) s.loads_are (λ k has. refl) refl in
     stays_of c.args.table.now.flows (λ (k : ℕ). slice_index c.args.weights.now k) c.args.loads.now c.args.weights.now (reverse c.in_ok-cert.cert) s.loads_are (λ k has. refl) feasible
 
-pub returns-then-report-real-2 : goal.returns-then-report-real-2
-returns-then-report-real-2 c =
+pub returns-then-stated-real-2 : goal.returns-then-stated-real-2
+returns-then-stated-real-2 c =
     let s = settled c.args.table.now c.args.loads.now c.args.weights.now c.args.coflows.now c.as_slice-places.result.now c.args.report.now.places c.ports.result c.in_ok-cert.cert c.requires.loads c.requires.names c.as_slice-places.ensures c.ports.ensures.ports
     c.in_default.ensures c.requires.coflows c.in_ok-cert.ensures in
     let weights = subst (λ l. AreRealIfAny l c.args.report.now.weights (slice_index c.args.weights.now)) c.requires.coflows c.in_default-least_wrong_if_any.ensures in
@@ -77,7 +77,7 @@ returns-then-report-real-2 c =
     let real = c.bound-real.ensures c.args.table.now.flows s.loads_are ∙ ap (bound c.args.table.now.flows) s.entries_are in
     let left = c.slack-real.ensures c.args.table.now.flows (λ (k : ℕ). slice_index c.args.weights.now k) s.loads_are (λ k has. refl) ∙ ap (slack c.args.table.now.flows (λ (k : ℕ). slice_index c.args.weights.now k)) s.entries_are in
     let within = subst (IsFeasible c.args.table.now.flows (λ (k : ℕ). slice_index c.args.weights.now k)) s.entries_are feasible in
-    first_wrong_slack _ c.args.table.now.ids c.args.report.now c.slack-real.result s.ports weights within (omega (arith, c.if-report-real.false, real)) left c.if-report-real-2.true
+    first_wrong_slack _ c.args.table.now.ids c.args.report.now c.slack-real.result s.ports weights within (omega (arith, c.if-stated-real.false, real)) left c.if-stated-real-2.true
 
 pub returns : goal.returns
 returns c =
@@ -92,7 +92,7 @@ returns c =
       port = s.ports;
       weights = weights;
       feasible = within;
-      bound_is_low = omega (arith, c.if-report-real.false, real);
-      slack_is = c.if-report-real-2.false ∙ left;
-      fits = values_fit c.args.table.now c.args.weights.now (certificate_in c.args.table.now.ids c.args.report.now.places) c.args.report.now.bound c.args.report.now.slack c.ports.ensures.table (subst (IsCertificate (instance_of c.args.table.now c.args.weights.now)) s.entries_are s.certificate) c.requires.weight_range within (omega (arith, c.if-report-real.false, real)) (c.if-report-real-2.false ∙ left);
+      bound_is_low = omega (arith, c.if-stated-real.false, real);
+      slack_is = c.if-stated-real-2.false ∙ left;
+      fits = values_fit c.args.table.now c.args.weights.now (certificate_in c.args.table.now.ids c.args.report.now.places) c.args.report.now.bound c.args.report.now.slack c.ports.ensures.table (subst (IsCertificate (instance_of c.args.table.now c.args.weights.now)) s.entries_are s.certificate) c.requires.weight_range within (omega (arith, c.if-stated-real.false, real)) (c.if-stated-real-2.false ∙ left);
     }
