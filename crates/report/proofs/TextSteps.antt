@@ -1,12 +1,13 @@
--- A text that grows by a line.
+-- A text that grows by a line, or by lines.
 use Rattle.std.proofs.Common.{◌≡◌, ℕ, ◌<◌, ◌+◌, List, [], ◌∷◌, ◌++◌, append_assoc, append-nil, length, map, take, get_or, sym, ap, ◌∙◌, zero-add}
+use Rattle.std.specs.Prelude.{codes}
 use Rattle.std.specs.List.{range_with_len}
 use Rattle.std.proofs.lemmas.Grind.{flat_map-append}
 use Rattle.std.proofs.lemmas.List.{map_more}
 use Rattle.std.proofs.lemmas.List.FromFn.{map-range_with_len_more}
 use Rattle.coflow_units.specs.declared.plan.Run.{Run}
 use Rattle.report.specs.declared.value.Report.{Report}
-use Rattle.report.specs.Text.{ended, place_line_at, place_lines, run_line, text_of, total_lines, version_line}
+use Rattle.report.specs.Text.{ended, place_line_at, place_lines, report_text, run_line, text_of, total_lines, version_line}
 
 text_more : (lines : List (List ℕ)) (line : List ℕ) → text_of (lines ++ (line ∷ [])) ≡ text_of lines ++ ended line
 text_more lines line = flat_map-append ended lines (line ∷ []) ∙ ap (λ x. text_of lines ++ x) (append-nil (ended line))
@@ -15,26 +16,30 @@ text_more lines line = flat_map-append ended lines (line ∷ []) ∙ ap (λ x. t
 pub one_more : (text new : List ℕ) (lines more : List (List ℕ)) (line : List ℕ) → text ≡ text_of lines → new ≡ text ++ ended line → more ≡ lines ++ (line ∷ []) → new ≡ text_of more
 one_more text new lines more line old step grown = step ∙ (ap (λ x. x ++ ended line) old ∙ (sym (text_more lines line) ∙ ap text_of (sym grown)))
 
+-- one more line stands at the end of the text, of which some lines are told
+one_more_behind : (front text new : List ℕ) (lines more : List (List ℕ)) (line : List ℕ) → text ≡ front ++ text_of lines → new ≡ text ++ ended line → more ≡ lines ++ (line ∷ []) → new ≡ front ++ text_of more
+one_more_behind front text new lines more line old step grown =
+    step ∙ (ap (λ x. x ++ ended line) old ∙ (append_assoc front (text_of lines) (ended line) ∙ ap (λ x. front ++ x) (sym (text_more lines line) ∙ ap text_of (sym grown))))
+
 -- the lines of one place more
-places_more : (front : List (List ℕ)) (line : ℕ → List ℕ) (k : ℕ) → front ++ map line (range_with_len 0 (k + 1)) ≡ (front ++ map line (range_with_len 0 k)) ++ (line k ∷ [])
-places_more front line k = ap (λ x. front ++ x) (map-range_with_len_more line 0 k k (zero-add k)) ∙ sym (append_assoc front (map line (range_with_len 0 k)) (line k ∷ []))
+pub place_step : (r : Report) (k : ℕ) (front text new : List ℕ) → text ≡ front ++ text_of (map (place_line_at r) (range_with_len 0 k)) → new ≡ text ++ ended (place_line_at r k) → new ≡ front ++ text_of (map (place_line_at r) (range_with_len 0 (k + 1)))
+place_step r k front text new old step =
+    one_more_behind front text new (map (place_line_at r) (range_with_len 0 k)) (map (place_line_at r) (range_with_len 0 (k + 1))) (place_line_at r k) old step (map-range_with_len_more (place_line_at r) 0 k k (zero-add k))
 
--- the lines of one element more
-elements_more : {X : Type 0} (front : List (List ℕ)) (line : X → List ℕ) (xs : List X) (k : ℕ) (x : X) → k < length xs → x ≡ get_or xs k x → front ++ map line (take (k + 1) xs) ≡ (front ++ map line (take k xs)) ++ (line x ∷ [])
-elements_more front line xs k x lt here =
-    ap (λ y. front ++ y) (map_more line xs k x lt ∙ ap (λ y. map line (take k xs) ++ (line y ∷ [])) (sym here)) ∙ sym (append_assoc front (map line (take k xs)) (line x ∷ []))
+-- the lines of one run more
+pub run_step : (runs : List Run) (k : ℕ) (run : Run) (front text new : List ℕ) → k < length runs → run ≡ get_or runs k run → text ≡ front ++ text_of (map run_line (take k runs)) → new ≡ text ++ ended (run_line run) → new ≡ front ++ text_of (map run_line (take (k + 1) runs))
+run_step runs k run front text new lt here old step =
+    one_more_behind front text new (map run_line (take k runs)) (map run_line (take (k + 1) runs)) (run_line run) old step (map_more run_line runs k run lt ∙ ap (λ y. map run_line (take k runs) ++ (run_line y ∷ [])) (sym here))
 
--- the lines down to the place with index k
-abbrev lines_to_place : Report → ℕ → List (List ℕ)
-lines_to_place r k = (version_line r.weights ∷ []) ++ map (place_line_at r) (range_with_len 0 k)
+-- more lines stand at the end of the text
+lines_more : (lines more : List (List ℕ)) (text new : List ℕ) → text ≡ text_of lines → new ≡ text ++ text_of more → new ≡ text_of (lines ++ more)
+lines_more lines more text new old step = step ∙ (ap (λ x. x ++ text_of more) old ∙ sym (flat_map-append ended lines more))
 
-pub place_step : (r : Report) (k : ℕ) (text new : List ℕ) → text ≡ text_of (lines_to_place r k) → new ≡ text ++ ended (place_line_at r k) → new ≡ text_of (lines_to_place r (k + 1))
-place_step r k text new old step = one_more text new (lines_to_place r k) (lines_to_place r (k + 1)) (place_line_at r k) old step (places_more (version_line r.weights ∷ []) (place_line_at r) k)
-
--- the lines down to the first k of the runs
-abbrev lines_to_run : Report → List Run → ℕ → List (List ℕ)
-lines_to_run r runs k = (version_line r.weights ∷ []) ++ place_lines r ++ total_lines r ++ map run_line (take k runs)
-
-pub run_step : (r : Report) (runs : List Run) (k : ℕ) (run : Run) (text new : List ℕ) → k < length runs → run ≡ get_or runs k run → text ≡ text_of (lines_to_run r runs k) → new ≡ text ++ ended (run_line run) → new ≡ text_of (lines_to_run r runs (k + 1))
-run_step r runs k run text new lt here old step =
-    one_more text new (lines_to_run r runs k) (lines_to_run r runs (k + 1)) (run_line run) old step (elements_more ((version_line r.weights ∷ []) ++ place_lines r ++ total_lines r) run_line runs k run lt here)
+-- the parts of a text in turn
+pub whole : (r : Report) (version places totals runs all : List ℕ) → version ≡ ended (version_line r.weights) → places ≡ version ++ text_of (place_lines r) → totals ≡ places ++ text_of (total_lines r) → runs ≡ totals ++ text_of (map run_line r.runs) → all ≡ runs ++ codes "end\n" → all ≡ report_text r
+whole r version places totals runs all v p t u e =
+    let first = version_line r.weights ∷ [] in
+    let to_places = lines_more first (place_lines r) version places (v ∙ sym (append-nil (ended (version_line r.weights)))) p in
+    let to_totals = lines_more (first ++ place_lines r) (total_lines r) places totals to_places t in
+    let to_runs = lines_more (first ++ place_lines r ++ total_lines r) (map run_line r.runs) totals runs to_totals u in
+    lines_more (first ++ place_lines r ++ total_lines r ++ map run_line r.runs) (codes "end" ∷ []) runs all to_runs e

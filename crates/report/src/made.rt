@@ -24,6 +24,8 @@ pub struct Made {
 /// Words are separated by one space, each line ends with one line feed, and numbers are decimal without leading zeros. The lines are `sincronia make SEED`,
 /// `coflows 200 flows FLOWS units UNITS`, `bound B`, `slack X`, `cost C`, `check yes` and `end`. The answer of the check is always yes: a plan that the check
 /// refuses has no summary.
+///
+/// The error is want of memory.
 pub fn write_made(alloc: Global, made: &Made) -> Result<Vec<u8>, NoMemory>
     ensures text { IfOk result (λ bytes. bytes.items ≡ made_text made.now) }
 {

@@ -1,6 +1,6 @@
 //! The text of a report.
-ghost use Rattle.std.specs.Prelude.{◌≡◌, ◌<◌, ◌+◌, ◌++◌, IfOk, OnOk, length};
-ghost use Rattle.report.specs.Text.{charge_words, ended, place_line_at, report_text, run_line, side_word, text_of, total_lines, version_line, weight_at, weight_word};
+ghost use Rattle.std.specs.Prelude.{◌≡◌, ◌<◌, ◌+◌, ◌++◌, IfOk, OnOk, length, map};
+ghost use Rattle.report.specs.Text.{charge_words, ended, place_line_at, place_lines, report_text, run_line, side_word, text_of, total_lines, version_line, weight_at, weight_word};
 ghost use Rattle.report.specs.Report.{HasWeights};
 
 use crate::numbers::{push_named, push_number};
@@ -13,19 +13,17 @@ use std::alloc::Global;
 /// Words are separated by one space, each line ends with one line feed, and numbers are decimal without leading zeros. The lines are `sincronia 2`, for each place
 /// `place K ID SIDE PORT Y DONE WEIGHT` with K counting from 1, `bound B`, `slack X`, `cost C`, for each run `run LENGTH FLOW FLOW ...`, and `end`.
 /// Version 1 has the first line `sincronia 1` and place lines without their last number.
+///
+/// The report has a weight for each place, or no weights at all. The error is want of memory.
 pub fn write_report(alloc: Global, report: &Report) -> Result<Vec<u8>, NoMemory>
     requires weight_each { HasWeights report.now }
     ensures text { IfOk result (λ bytes. bytes.items ≡ report_text report.now) }
 {
     let mut text = Vec::new(alloc);
     push_version(&mut text, report)?;
-    for place in 0..report.places.as_slice().len() {
-        push_place(&mut text, report, place)?;
-    }
+    push_places(&mut text, report)?;
     push_totals(&mut text, report)?;
-    for run in report.runs.as_slice() {
-        push_run(&mut text, run)?;
-    }
+    push_runs(&mut text, report)?;
     text.extend_from_slice(b"end\n")?;
     Ok(text)
 }
@@ -37,6 +35,17 @@ fn push_version(text: &mut Vec<u8>, report: &Report) -> Result<(), NoMemory>
     match report.weights {
         Some(_) => text.extend_from_slice(b"sincronia 2\n")?,
         None => text.extend_from_slice(b"sincronia 1\n")?,
+    }
+    Ok(())
+}
+
+/// The lines of the places.
+fn push_places(text: &mut Vec<u8>, report: &Report) -> Result<(), NoMemory>
+    requires weight_each { HasWeights report.now }
+    ensures { OnOk result (text.new.items ≡ text.old.items ++ text_of (place_lines report.now)) }
+{
+    for place in 0..report.places.as_slice().len() {
+        push_place(text, report, place)?;
     }
     Ok(())
 }
@@ -97,6 +106,16 @@ fn push_totals(text: &mut Vec<u8>, report: &Report) -> Result<(), NoMemory>
     push_named(text, b"bound", report.bound)?;
     push_named(text, b"slack", report.slack)?;
     push_named(text, b"cost", report.cost)
+}
+
+/// The lines of the runs.
+fn push_runs(text: &mut Vec<u8>, report: &Report) -> Result<(), NoMemory>
+    ensures { OnOk result (text.new.items ≡ text.old.items ++ text_of (map run_line report.now.runs)) }
+{
+    for run in report.runs.as_slice() {
+        push_run(text, run)?;
+    }
+    Ok(())
 }
 
 /// The line of a run.

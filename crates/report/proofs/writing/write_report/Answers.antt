@@ -1,10 +1,12 @@
-use Rattle.std.proofs.Common.{arith}
-use Rattle.report.proofs.TextSteps.{place_step, run_step}
+use Rattle.std.proofs.Common.{◌≡◌, ◌++◌, []}
+use Rattle.report.specs.Text.{ended, version_line}
+use Rattle.report.proofs.TextSteps.{whole}
 use Rattle.report.proofs.writing.write_report.Goals as goal
 
-pub loop-place-preserved : goal.loop-place-preserved
-loop-place-preserved c = place_step c.args.report.now c.loop-place.place c.loop-place.text.items c.push_place.new.text.items c.loop-place.invariant c.in_ok-push_place.ensures
-
-pub loop-run-preserved : goal.loop-run-preserved
-loop-run-preserved c =
-    run_step c.args.report.now c.as_slice-run-items.result.now c.loop-run.run-index c.run-item.result c.loop-run.text.items c.push_run.new.text.items (omega arith) c.run-item.is c.loop-run.invariant c.in_ok-push_run.ensures
+pub returns : goal.returns
+returns c =
+    let version : c.push_version.new.text.items ≡ [] ++ ended (version_line c.args.report.now.weights) = rw c.new-text.ensures.items at c.in_ok-push_version.ensures in
+    record {
+      text = whole c.args.report.now c.push_version.new.text.items c.push_places.new.text.items c.push_totals.new.text.items c.push_runs.new.text.items c.extend_from_slice.new.self.items
+          version c.in_ok-push_places.ensures c.in_ok-push_totals.ensures c.in_ok-push_runs.ensures c.in_ok-extend_from_slice.ensures.items;
+    }
