@@ -34,7 +34,9 @@ fn main(rt: HostRuntime) -> io::Result<()> {
     }
 }
 
-fn number_at(words: &[String], place: usize, otherwise: u32) -> u32 {
+fn number_at(words: &[String], place: usize, otherwise: u32) -> u32
+    ensures { length words.now ≤ place → result ≡ otherwise }
+{
     match words.get(place) {
         Some(word) => word.parse::<u32>().unwrap_or(otherwise),
         None => otherwise,
@@ -45,6 +47,7 @@ fn measured(alloc: Global, coflows: u32, ports: u32, rounds: u32) -> Result<Summ
     requires coflows_limit { coflows ≤ 4096 }
     requires has_ports { 1 ≤ ports }
     requires ports_limit { ports ≤ 1025 }
+    ensures { IfOk result (λ x. x.places ≤ coflows) }
 {
     let flows = made_flows(alloc, coflows, ports)?;
     let weights = made_weights(alloc, coflows)?;
