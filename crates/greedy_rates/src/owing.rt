@@ -38,7 +38,8 @@ impl Model for Owing {
 }
 
 impl Owing {
-    /// Every flow owes all its units. Coflows count from 0 to `coflows`, and the ports of a side from 0 to `ports`. The error is want of memory.
+    /// Every flow owes all its units. Numbers of coflows are below `coflows`, and ports of a side below `ports`. The flows are fewer than 2^32 and have at most 2^62 units
+    /// together. The error is want of memory.
     pub fn of(alloc: Global, flows: &[Flow], coflows: u32, ports: u32) -> Result<Owing, NoMemory>
         requires coflow_in_range { All (λ (x : Flow). x.coflow < coflows) flows.now }
         requires ingress_in_range { All (λ (x : Flow). x.ingress < ports) flows.now }

@@ -64,7 +64,7 @@ in_range o Close = true
 in_range o (Skip to) = true
 in_range o (Reweigh c w) = nat_lt c (length o.table.ids) && (nat_lt 0 w && nat_le w (2 ^ 32))
 
--- how many entries the journal may hold for a command to be answered: a run that was opened can be closed after one note for each port
+-- up to how many entries the journal may grow by a command: a run that was opened can be closed after one note for each port
 abbrev pub room : Opening → Command → ℕ
 room o (Short port units) = o.limit + o.table.ports + 1
 room o Close = o.limit + o.table.ports + 1

@@ -7,7 +7,8 @@ pub enum Command {
     Register(u32),
     /// The coflow leaves.
     Withdraw(u32),
-    /// The coflows that are present are ordered anew, by the units that they owe.
+    /// The coflows that are present are ordered anew: by bottleneck, select, scale, iterate over the units that they owe and their weights
+    /// (Sincronia: Agarwal, Rajakrishnan, Narayan, Agarwal, Shmoys and Vahdat, SIGCOMM 2018).
     Publish,
     /// Asks for the place of the coflow in the newest order.
     Pull(u32),
@@ -19,7 +20,7 @@ pub enum Command {
     Close,
     /// Lets slots pass, up to the one before this slot.
     Skip(u64),
-    /// The coflow gets another weight, which the next order takes.
+    /// The coflow gets another weight, from 1 to 2^32, which the next order takes.
     Reweigh { coflow: u32, weight: u64 },
 }
 
@@ -44,7 +45,7 @@ pub enum Reply {
     Unranked(u32),
     /// A refusal: no coflow of the line owes a unit.
     NothingLeft,
-    /// A refusal: this slot comes after the last one.
+    /// A refusal: this slot comes after the last one, which is 2^41 - 1.
     Late(u64),
     /// The first slot of the run, its length in slots, and how many flows are granted.
     Opened(u64, u64, u32),

@@ -207,7 +207,7 @@ fn is_weight(weight: u64) -> bool
     weight > 0 && weight <= MAX_WEIGHT
 }
 
-/// How many entries the journal may have for the command to be answered. An open run can be closed after one note for each port, also where other commands find no room.
+/// Up to how many entries the journal may grow by the command. An open run can be closed after one note for each port, also where other commands find no room.
 fn room_for(opening: &Opening, command: Command) -> usize
     requires few { opening.now.limit ≤ 2 ^ 23 }
     requires few_ports { opening.now.table.ports ≤ 1025 }

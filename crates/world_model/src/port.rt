@@ -20,7 +20,8 @@ pub enum Stage {
     TakenBack,
 }
 
-/// An ingress port: slot and flow of its last post, with slot 0 where there was none, what became of it, its count, and what was settled since a run was opened last.
+/// An ingress port: slot and flow of its last post, with slot 0 where there was none, what became of it, its count, and what was settled since a run was opened last. The count is
+/// the length of the run once the grant is posted, and the units that were sent once they are reported.
 #[derive(Clone, Copy, Debug, PartialEq, Eq)]
 pub struct PortState {
     pub slot: u64,

@@ -143,7 +143,8 @@ impl World {
         self.agents
     }
 
-    /// An ingress port: the stage of its last post, its count, and what is settled for it. The master's table tells the number of ports.
+    /// An ingress port: the stage of its last post, its count, which is the length of the run once the grant is posted and the units sent once they are reported, and what is settled
+    /// for it. The master's table tells the number of ports.
     pub fn port(&self, port: u32) -> PortState
         requires { port < self.now.opening.table.ports }
         ensures port { port_of result ≡ port_at self.now port }
