@@ -37,26 +37,26 @@ fn fault_by(kind: ErrorKind) -> WordsFault
 fn command<'a>(alloc: Global) -> Result<Command<'a>, AllocError>
     ensures { IfOk result (λ c. app_of c ≡ app) }
 {
-    let names = command_with_names(alloc)?;
-    let one = with_arg(names, option_named(alloc, "weights"))?;
-    let two = with_arg(one, option_named(alloc, "unit"))?;
-    let three = with_arg(two, option_named(alloc, "agents"))?;
-    let four = with_arg(three, option_named(alloc, "epoch"))?;
-    let five = with_arg(four, option_named(alloc, "run"))?;
-    let six = with_arg(five, option_named(alloc, "slot-ms"))?;
-    Ok(six)
+    let command = command_with_names(alloc)?;
+    let command = with_arg(command, option_named(alloc, "weights"))?;
+    let command = with_arg(command, option_named(alloc, "unit"))?;
+    let command = with_arg(command, option_named(alloc, "agents"))?;
+    let command = with_arg(command, option_named(alloc, "epoch"))?;
+    let command = with_arg(command, option_named(alloc, "run"))?;
+    let command = with_arg(command, option_named(alloc, "slot-ms"))?;
+    Ok(command)
 }
 
 fn command_with_names<'a>(alloc: Global) -> Result<Command<'a>, AllocError>
     ensures { IfOk result (λ c. app_of c ≡ app_with_names) }
 {
-    let empty = Command::new(alloc, "sincronia")
+    let command = Command::new(alloc, "sincronia")
         .disable_help_flag(true)
         .disable_version_flag(true);
-    let one = with_arg(empty, needed_name(alloc, "COMMAND"))?;
-    let two = with_arg(one, needed_name(alloc, "FIRST"))?;
-    let three = with_arg(two, name_of(alloc, "SECOND"))?;
-    Ok(three)
+    let command = with_arg(command, needed_name(alloc, "COMMAND"))?;
+    let command = with_arg(command, needed_name(alloc, "FIRST"))?;
+    let command = with_arg(command, name_of(alloc, "SECOND"))?;
+    Ok(command)
 }
 
 fn with_arg<'a>(command: Command<'a>, arg: Arg<'a>) -> Result<Command<'a>, AllocError>

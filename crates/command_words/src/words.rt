@@ -12,6 +12,7 @@ use crate::values::{is_file_name, setting_of};
 use clap::ArgMatches;
 use coflow_units::MAX_OPTION_SLOTS;
 use std::alloc::Global;
+use thiserror::Error;
 
 /// What a command line says: the command, the names behind it, and the value of each option or its default.
 #[derive(Clone, Copy, Debug, PartialEq, Eq)]
@@ -25,7 +26,7 @@ pub struct Words<'a> {
     pub weights: Option<&'a str>,
     /// The megabytes of a unit, from 1 to 2^20.
     pub unit: u64,
-    /// From 1 to 64.
+    /// The number of agents, who send the units of the ports, from 1 to 64.
     pub agents: u64,
     /// The slots of an epoch, from 1 to 2^40.
     pub epoch: u64,
@@ -36,11 +37,13 @@ pub struct Words<'a> {
 }
 
 /// Why there are no words.
-#[derive(Clone, Copy, Debug, PartialEq, Eq)]
+#[derive(Clone, Copy, Debug, PartialEq, Eq, Error)]
 pub enum WordsFault {
     /// The words are no command line.
+    #[error("the words are no command line")]
     Usage,
     /// No memory was to be had.
+    #[error("no memory")]
     NoMemory,
 }
 
