@@ -1,31 +1,33 @@
 // Measures the master: all coflows of a trace join, an order is published, and then runs are opened and closed until nothing is left. Prints how many slots the runs had and how many commands
-// were asked.
+// were asked. Its exit code is 0 where it came to that end, and 1 where it did not.
 // Its arguments are the file of the trace and the megabytes of a unit.
 #![tactic(auto)]
 
-ghost use Rattle.std.specs.Prelude.{◌≡◌, ◌^◌, ◌≤◌, IfOk, length};
+ghost use Rattle.std.specs.Prelude.{◌≡◌, ◌^◌, ◌≤◌, [], IfOk, length};
 ghost use Rattle.coflow_units.specs.Trace.{IsTrace};
+ghost use Rattle.master_bench.specs.Answered.{IsLastAnswer};
 
 use coflow_units::{Items, MAX_FLOWS, MAX_SLOT, MAX_TEXT, NoMemory, Trace};
 use flow_table::Table;
 use master_core::{Command, Master, Reply};
 use outside::{DiskShelf, Place4, Shelf, read_all};
 use std::alloc::Global;
-use std::{env, io};
+use std::env;
+use std::process::ExitCode;
 use trace_reader::read_trace;
 
-/// What is printed.
+/// What is printed where nothing is left.
 #[derive(Clone, Copy)]
 struct Summary {
     slots: u64,
     commands: usize,
-    /// What the last opening was answered.
-    end: Reply,
 }
 
 /// Why nothing was measured.
 #[derive(Debug, Drop, thiserror::Error)]
 enum Stop {
+    #[error("usage: master_bench TRACE [UNIT]")]
+    Usage,
     #[error("no file is read")]
     File,
     #[error("no trace is read")]
@@ -34,22 +36,46 @@ enum Stop {
     Table,
     #[error("no memory")]
     NoMemory,
+    #[error("the last opening was answered {0:?}")]
+    Refused(Reply),
 }
 
-fn main(rt: HostRuntime) -> io::Result<()> {
-    let alloc = rt.alloc();
-    let words = env::args(&rt)?.collect::<Vec<String>>(alloc)?;
-    let Some(name) = words.get(1) else {
-        return println!(rt; "usage: master_bench TRACE [UNIT]");
-    };
-    let mut shelf = DiskShelf::new(rt);
-    match measured(alloc, name, unit_of(&words), &mut shelf) {
-        Ok(summary) => println!(rt;
-            "slots {} commands {} end {:?}",
-            summary.slots, summary.commands, summary.end
-        ),
-        Err(stop) => println!(rt; "{stop}"),
+fn main(rt: HostRuntime) -> ExitCode {
+    match run(&rt) {
+        Ok(summary) => printed(&rt, summary),
+        Err(stop) => {
+            // A line that cannot be written changes nothing.
+            let _ = eprintln!(rt; "master_bench: {stop}");
+            ExitCode::from(1)
+        }
     }
+}
+
+/// Prints what was measured.
+fn printed(rt: &HostRuntime, summary: Summary) -> ExitCode {
+    match println!(rt;
+        "slots {} commands {} end NothingLeft",
+        summary.slots, summary.commands
+    ) {
+        Ok(()) => ExitCode::from(0),
+        Err(_) => ExitCode::from(1),
+    }
+}
+
+/// Measures what the words ask for.
+fn run(rt: &HostRuntime) -> Result<Summary, Stop> {
+    let alloc = rt.alloc();
+    let Ok(words) = env::args(rt) else {
+        return Err(Stop::Usage);
+    };
+    let Ok(words) = words.collect::<Vec<String>>(alloc) else {
+        return Err(Stop::NoMemory);
+    };
+    let Some(name) = words.get(1) else {
+        return Err(Stop::Usage);
+    };
+    let mut shelf = DiskShelf::new(*rt);
+    measured(alloc, name, unit_of(&words), &mut shelf)
 }
 
 /// The megabytes of a unit: the second argument, from 1 to 2^20, or 1.
@@ -76,12 +102,13 @@ fn measured<H: Shelf>(alloc: Global, name: &str, unit: u64, shelf: &mut H) -> Re
     };
     register_all(&mut master);
     master.step(0, Command::Publish);
-    let end = serve(&mut master);
-    Ok(Summary {
-        slots: master.next_slot().saturating_sub(1),
-        commands: master.journal().len(),
-        end,
-    })
+    match serve(&mut master) {
+        Reply::NothingLeft => Ok(Summary {
+            slots: master.next_slot().saturating_sub(1),
+            commands: master.journal().len(),
+        }),
+        reply => Err(Stop::Refused(reply)),
+    }
 }
 
 /// Reads the trace of a file.
@@ -101,7 +128,10 @@ fn read_file<H: Shelf>(alloc: Global, name: &str, shelf: &mut H) -> Result<Trace
 }
 
 /// A master of the table's coflows, each of weight 1. Its journal has room for each coflow's joining, a publishing, and the opening and the closing of a run for each flow.
-fn master_of(alloc: Global, table: Table) -> Result<Master, NoMemory> {
+fn master_of(alloc: Global, table: Table) -> Result<Master, NoMemory>
+    ensures table { IfOk result (λ m. m.opening.table ≡ table) }
+    ensures journal { IfOk result (λ m. m.journal ≡ []) }
+{
     let coflows = table.coflows();
     let flows = table.flows().len() as u32;
     let weights = vec![in alloc; 1; coflows as usize]?;
@@ -110,14 +140,19 @@ fn master_of(alloc: Global, table: Table) -> Result<Master, NoMemory> {
 }
 
 /// Each coflow joins.
-fn register_all(master: &mut Master) {
+fn register_all(master: &mut Master)
+    ensures { master.new.opening ≡ master.old.opening }
+{
     for coflow in 0..master.table().coflows() {
         master.step(0, Command::Register(coflow));
     }
 }
 
 /// Opens and closes runs until a run is refused, and tells that answer. A run ends where the first of its flows owes nothing more, so there are no more runs than flows.
-fn serve(master: &mut Master) -> Reply {
+fn serve(master: &mut Master) -> Reply
+    ensures opening { master.new.opening ≡ master.old.opening }
+    ensures last { IsLastAnswer master.new result }
+{
     for _ in 0..MAX_FLOWS {
         let reply = master.step(0, Command::Open(MAX_SLOT));
         let Reply::Opened(_, _, _) = reply else {

@@ -1,0 +1,11 @@
+-- What the last opening of a run was answered.
+use Rattle.std.specs.Prelude.{◌≡◌, ◌-◌, ◌^◌, List}
+use Rattle.master_core.specs.declared.command.Command.TheVariants.{Open}
+use Rattle.master_core.specs.declared.command.Entry.{Entry}
+use Rattle.master_core.specs.declared.command.Reply.{Reply}
+use Rattle.master_core.specs.Answer.{reply_of}
+use Rattle.master_core.specs.Journal.{MasterFacts, journal_after}
+
+-- the last command that the master was asked opens a run of any length, and this is its reply
+abbrev pub IsLastAnswer : MasterFacts → Reply → Type 0
+IsLastAnswer m reply = (before : List Entry) × (m.journal ≡ journal_after m.opening before 0 (Open (2 ^ 41 - 1))) × (reply ≡ reply_of m.opening before (Open (2 ^ 41 - 1)))
