@@ -1,7 +1,7 @@
 ghost use Rattle.std.specs.Prelude.{◌≡◌, IfOk, List, length, ℕ};
 ghost use Rattle.report.specs.Report.{ForEach, HasWeights};
 
-use crate::{Made, PlaceLine, Report, ReportFault, laws, read_report, write_made, write_report};
+use crate::{Made, PlaceLine, Report, ReportFault, read_report, write_made, write_report};
 use coflow_units::{Items, MAX_TEXT, Port, Run, Side};
 use std::alloc::{AllocError, Global};
 use std::process::Abort;
@@ -50,16 +50,12 @@ fn two_coflows(alloc: Global, weights: Option<Items<u64>>) -> Result<Report, All
 #[test]
 fn writes_two_coflows(rt: HostRuntime) -> Result<(), Fail> {
     let weights = Items::from_vec(Vec::from_slice(rt.alloc(), &[1, 1])?);
-    let second =
-        b"sincronia 2\nplace 1 2 in 0 733007751851 1 1\nplace 2 1 in 0 366503875925 4 1\nbound 5\nslack 1\ncost 5\nrun 1 1\nrun 3 0\nend\n";
-    let first =
-        b"sincronia 1\nplace 1 2 in 0 733007751851 1\nplace 2 1 in 0 366503875925 4\nbound 5\nslack 1\ncost 5\nrun 1 1\nrun 3 0\nend\n";
     let report = two_coflows(rt.alloc(), Some(weights))?;
     let text = write_report(rt.alloc(), &report)?;
-    assert!(rt; text.as_slice() == second.as_slice());
+    assert!(rt; text.as_slice() == WITH_WEIGHTS.as_bytes());
     let report = two_coflows(rt.alloc(), None)?;
     let text = write_report(rt.alloc(), &report)?;
-    assert!(rt; text.as_slice() == first.as_slice());
+    assert!(rt; text.as_slice() == TWO_COFLOWS.as_bytes());
     Ok(())
 }
 
@@ -173,6 +169,10 @@ fn writes_made(rt: HostRuntime) -> Result<(), Fail> {
 const TWO_COFLOWS: &str =
     "sincronia 1\nplace 1 2 in 0 733007751851 1\nplace 2 1 in 0 366503875925 4\nbound 5\nslack 1\ncost 5\nrun 1 1\nrun 3 0\nend\n";
 
+/// The same plan with weights.
+const WITH_WEIGHTS: &str =
+    "sincronia 2\nplace 1 2 in 0 733007751851 1 1\nplace 2 1 in 0 366503875925 4 1\nbound 5\nslack 1\ncost 5\nrun 1 1\nrun 3 0\nend\n";
+
 #[test]
 fn reads_two_coflows(rt: HostRuntime) -> Result<(), Fail> {
     assert!(rt; TWO_COFLOWS.len() <= MAX_TEXT);
@@ -232,10 +232,16 @@ fn refused_at(rt: &impl Abort, alloc: Global, text: &[u8]) -> Result<u32, Fail> 
     }
 }
 
-/// The line at which the text of two coflows is refused where `put` stands in place of the line with this number, or 0 where it is read.
-fn refused_with(rt: &impl Abort, alloc: Global, number: u32, put: &str) -> Result<u32, Fail> {
+/// The line at which a text is refused where `put` stands in place of its line with this number, or 0 where it is read.
+fn refused_with(
+    rt: &impl Abort,
+    alloc: Global,
+    whole: &str,
+    number: u32,
+    put: &str,
+) -> Result<u32, Fail> {
     let mut text = String::new(alloc);
-    for (line, this) in TWO_COFLOWS.lines().zip(1..10) {
+    for (line, this) in whole.lines().zip(1..10) {
         if this == number {
             text.push_str(put)?;
         } else {
@@ -260,46 +266,73 @@ fn refuses_lines_left_out_and_doubled(rt: HostRuntime) -> Result<(), Fail> {
         (8, 0, 9),
         (9, 9, 10),
     ];
-    for (line, (number, without, twice)) in TWO_COFLOWS.lines().zip(wanted) {
-        assert!(rt; refused_with(&rt, rt.alloc(), number, "")? == without);
-        let doubled = format!(in rt.alloc(); "{line}\n{line}\n")?;
-        assert!(rt; refused_with(&rt, rt.alloc(), number, doubled.as_str())? == twice);
-    }
-    Ok(())
-}
-
-/// In each line a carriage return or a space before the line feed, and two spaces in place of the first.
-#[test]
-fn refuses_blanks(rt: HostRuntime) -> Result<(), Fail> {
-    for (line, number) in TWO_COFLOWS.lines().zip(1..10) {
-        let returned = format!(in rt.alloc(); "{line}\r\n")?;
-        assert!(rt; refused_with(&rt, rt.alloc(), number, returned.as_str())? == number);
-        let trailing = format!(in rt.alloc(); "{line} \n")?;
-        assert!(rt; refused_with(&rt, rt.alloc(), number, trailing.as_str())? == number);
-        if let Some((word, rest)) = line.split_once(' ') {
-            let spaced = format!(in rt.alloc(); "{word}  {rest}\n")?;
-            assert!(rt; refused_with(&rt, rt.alloc(), number, spaced.as_str())? == number);
+    for text in [TWO_COFLOWS, WITH_WEIGHTS] {
+        for (line, (number, without, twice)) in text.lines().zip(wanted) {
+            assert!(rt; refused_with(&rt, rt.alloc(), text, number, "")? == without);
+            let doubled = format!(in rt.alloc(); "{line}\n{line}\n")?;
+            assert!(rt; refused_with(&rt, rt.alloc(), text, number, doubled.as_str())? == twice);
         }
     }
     Ok(())
 }
 
-/// The text of two coflows cut before each line, before its last byte, and before its line feed.
+/// The line with two spaces in place of the gap of this number, counted from 1.
+fn with_wide_gap(alloc: Global, line: &str, gap: u32) -> Result<String, Fail> {
+    let mut wide = String::new(alloc);
+    for (word, number) in line.split(' ').zip(0..9) {
+        if number > 0 {
+            wide.push_str(" ")?;
+        }
+        if number == gap {
+            wide.push_str(" ")?;
+        }
+        wide.push_str(word)?;
+    }
+    wide.push_str("\n")?;
+    Ok(wide)
+}
+
+/// In each line a carriage return or a space before the line feed, and each gap between two words doubled.
 #[test]
-fn refuses_texts_cut_short(rt: HostRuntime) -> Result<(), Fail> {
-    let mut text = String::new(rt.alloc());
-    for (line, number) in TWO_COFLOWS.lines().zip(1..10) {
-        assert!(rt; refused_at(&rt, rt.alloc(), text.as_bytes())? == number);
+fn refuses_blanks(rt: HostRuntime) -> Result<(), Fail> {
+    for text in [TWO_COFLOWS, WITH_WEIGHTS] {
+        for (line, number) in text.lines().zip(1..10) {
+            let returned = format!(in rt.alloc(); "{line}\r\n")?;
+            assert!(rt; refused_with(&rt, rt.alloc(), text, number, returned.as_str())? == number);
+            let trailing = format!(in rt.alloc(); "{line} \n")?;
+            assert!(rt; refused_with(&rt, rt.alloc(), text, number, trailing.as_str())? == number);
+            for (_word, gap) in line.split(' ').skip(1).zip(1..9) {
+                let wide = with_wide_gap(rt.alloc(), line, gap)?;
+                assert!(rt; refused_with(&rt, rt.alloc(), text, number, wide.as_str())? == number);
+            }
+        }
+    }
+    Ok(())
+}
+
+/// A text is refused where it is cut before a line, before the last byte of a line, or before its line feed.
+fn refuses_cuts_of(rt: &impl Abort, alloc: Global, whole: &str) -> Result<(), Fail> {
+    let mut text = String::new(alloc);
+    for (line, number) in whole.lines().zip(1..10) {
+        assert!(rt; refused_at(rt, alloc, text.as_bytes())? == number);
         text.push_str(line)?;
-        assert!(rt; refused_at(&rt, rt.alloc(), text.as_bytes())? == number);
+        assert!(rt; refused_at(rt, alloc, text.as_bytes())? == number);
         let Some(last) = text.pop() else {
             return Err(Fail::new("an empty line"));
         };
-        assert!(rt; refused_at(&rt, rt.alloc(), text.as_bytes())? == number);
+        assert!(rt; refused_at(rt, alloc, text.as_bytes())? == number);
         text.push(last)?;
         text.push_str("\n")?;
     }
-    assert!(rt; text.as_str() == TWO_COFLOWS);
+    assert!(rt; text.as_str() == whole);
+    Ok(())
+}
+
+#[test]
+fn refuses_texts_cut_short(rt: HostRuntime) -> Result<(), Fail> {
+    for text in [TWO_COFLOWS, WITH_WEIGHTS] {
+        refuses_cuts_of(&rt, rt.alloc(), text)?;
+    }
     Ok(())
 }
 
@@ -307,6 +340,7 @@ fn refuses_texts_cut_short(rt: HostRuntime) -> Result<(), Fail> {
 #[test]
 fn refuses_numbers(rt: HostRuntime) -> Result<(), Fail> {
     for (number, put) in [
+        (1, "sincronia 01\n"),
         (2, "place 01 2 in 0 733007751851 1\n"),
         (2, "place 1 02 in 0 733007751851 1\n"),
         (2, "place 1 2 in 00 733007751851 1\n"),
@@ -329,7 +363,7 @@ fn refuses_numbers(rt: HostRuntime) -> Result<(), Fail> {
         (6, "cost 340282366920938463463374607431768211456\n"),
         (7, "run 1 4294967296\n"),
     ] {
-        assert!(rt; refused_with(&rt, rt.alloc(), number, put)? == number);
+        assert!(rt; refused_with(&rt, rt.alloc(), TWO_COFLOWS, number, put)? == number);
     }
     Ok(())
 }
@@ -388,11 +422,4 @@ fn texts_of_faults(rt: HostRuntime) -> Result<(), Fail> {
         assert_eq!(rt; format!(in rt.alloc(); "{fault}")?.as_str(), text);
     }
     Ok(())
-}
-
-#[test]
-fn has_laws() {
-    laws::texts_are_one();
-    laws::written_is_read();
-    laws::bad_line_is_one();
 }
