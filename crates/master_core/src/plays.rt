@@ -143,13 +143,67 @@ fn master_of(rt: &impl Abort, alloc: Global, table: Table, limit: u32) -> Master
 }
 
 /// The flows of a table with their numbers.
-fn numbered(alloc: Global, table: &Table) -> Result<Vec<Numbered>, NoMemory> {
+pub fn numbered(alloc: Global, table: &Table) -> Result<Vec<Numbered>, NoMemory> {
     let mut flows = Vec::new(alloc);
     for number in 0..table.flows().len() as u32 {
         let flow = table.flow(number);
         flows.push(Numbered { number, flow })?;
     }
     Ok(flows)
+}
+
+/// How many kinds of replies there are.
+const KINDS: usize = 19;
+
+/// The number of a reply's kind, in the order of the kinds.
+fn kind_of(reply: Reply) -> usize {
+    match reply {
+        Reply::Full(_) => 0,
+        Reply::Already => 1,
+        Reply::Joined => 2,
+        Reply::NotHere => 3,
+        Reply::Left => 4,
+        Reply::StillOpen(_) => 5,
+        Reply::Version(_) => 6,
+        Reply::Rank(_, _) => 7,
+        Reply::Unranked(_) => 8,
+        Reply::NothingLeft => 9,
+        Reply::Late(_) => 10,
+        Reply::Opened(_, _, _) => 11,
+        Reply::NotGranted(_) => 12,
+        Reply::Noted(_) => 13,
+        Reply::NoneOpen => 14,
+        Reply::Closed(_) => 15,
+        Reply::StillOwed(_) => 16,
+        Reply::Skipped(_) => 17,
+        Reply::Weighed(_) => 18,
+    }
+}
+
+/// How often each kind of reply was met.
+#[derive(Drop)]
+struct Met {
+    counts: Vec<u32>,
+}
+
+impl Met {
+    fn new(rt: &impl Abort, alloc: Global) -> Met {
+        match vec![in alloc; 0u32; KINDS] {
+            Ok(counts) => Met { counts },
+            Err(_) => panic!(rt; "no memory"),
+        }
+    }
+
+    fn add(&mut self, reply: Reply) {
+        if let Some(count) = self.counts.get_mut(kind_of(reply)) {
+            *count = count.saturating_add(1);
+        }
+    }
+
+    /// Each kind was met.
+    fn each(&self) -> bool {
+        self.counts.len() == KINDS && self.counts.as_slice().iter().all(|count| *count > 0)
+    }
 }
 
 /// Asks a command that is in range.
@@ -159,7 +213,7 @@ fn ask(rt: &impl Abort, master: &mut Master, who: u32, command: Command) -> Repl
     master.step(who, command)
 }
 
-/// Three callers ask so many commands that are drawn from the seed. Each answer and the journal after it are compared with those of the plain master.
+/// Three callers ask so many commands that are drawn from the seed. Each answer and the journal after it are compared with those of the plain master, and its kind is counted.
 fn play(
     rt: &impl Abort,
     alloc: Global,
@@ -167,6 +221,7 @@ fn play(
     limit: u32,
     seed: u64,
     commands: u32,
+    met: &mut Met,
 ) -> Result<(), NoMemory> {
     let coflows = table.coflows();
     let ports = table.ports();
@@ -189,6 +244,7 @@ fn play(
         let command = draws.command(coflows, ports);
         let reply = reply_of(alloc, &setting, &journal, command)?;
         assert_eq!(rt; ask(rt, &mut master, who, command), reply);
+        met.add(reply);
         if !is_full(reply) {
             journal.push(Entry {
                 who,
@@ -208,20 +264,22 @@ fn is_full(reply: Reply) -> bool {
     }
 }
 
-/// Plays with the trace's table, for each of the limits and each of the seeds.
+/// Plays with the trace's table, for each of the limits and each of the seeds. Each kind of reply is met.
 fn play_all(rt: &impl Abort, alloc: Global, trace: &Trace, limits: &[u32], seeds: u64)
     requires { IsTrace trace.now }
 {
+    let mut met = Met::new(rt, alloc);
     for limit in limits {
         for seed in 0..seeds {
             let Ok(table) = Table::build(alloc, trace, 1) else {
                 panic!(rt; "no table");
             };
-            let Ok(()) = play(rt, alloc, table, *limit, seed, 120) else {
+            let Ok(()) = play(rt, alloc, table, *limit, seed, 120, &mut met) else {
                 panic!(rt; "no memory");
             };
         }
     }
+    assert!(rt; met.each());
 }
 
 #[test]

@@ -1,7 +1,9 @@
-//! What no clause says: that a master with ample memory is made and answers as worked out by hand.
+//! What no clause says: that a master with ample memory is made and answers as worked out by hand, and that the plain master of these tests answers so too.
 ghost use Rattle.std.specs.Prelude.{◌≡◌, ◌≤◌, ◌^◌, IfOk};
 ghost use Rattle.coflow_units.specs.Trace.{IsCoflowLine, IsTrace};
 
+use crate::plain::{Setting, reply_of};
+use crate::plays::numbered;
 use crate::*;
 use coflow_units::{CoflowLine, Items, NoMemory, Reducer, Trace};
 use flow_table::Table;
@@ -76,8 +78,41 @@ fn ask(rt: &impl Abort, master: &mut Master, who: u32, command: Command) -> Repl
     master.step(who, command)
 }
 
-/// Asks the commands, one after another, and compares the replies; the first caller is 7.
+/// Asks the plain master the commands, one after another, and compares the replies.
+fn compare_plain(
+    rt: &impl Abort,
+    alloc: Global,
+    limit: u32,
+    row: &[(Command, Reply)],
+) -> Result<(), NoMemory> {
+    let table = table_of_two(rt, alloc);
+    let flows = numbered(alloc, &table)?;
+    let setting = Setting {
+        flows: &flows,
+        weights: &[1, 1],
+        coflows: table.coflows(),
+        ports: table.ports(),
+        limit,
+    };
+    let mut journal = Vec::new(alloc);
+    for (command, expected) in row {
+        let reply = reply_of(alloc, &setting, &journal, *command)?;
+        assert_eq!(rt; reply, *expected);
+        if let Reply::Full(_) = reply {
+            continue;
+        }
+        journal.push(Entry {
+            who: 7,
+            command: *command,
+            reply,
+        })?;
+    }
+    Ok(())
+}
+
+/// Asks the commands, one after another, and compares the replies, also those of the plain master; the first caller is 7.
 fn compare(rt: &impl Abort, alloc: Global, limit: u32, row: &[(Command, Reply)]) -> Master {
+    assert!(rt; compare_plain(rt, alloc, limit, row).is_ok());
     let mut master = master_of_two(rt, alloc, limit);
     let mut who = 7;
     for (command, reply) in row {
