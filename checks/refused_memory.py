@@ -1,5 +1,5 @@
 #!/usr/bin/env python3
-"""Refuses allocations of runs of the built program in turn: one alone, and one with all later ones. Those of `make` are many, so their numbers grow in steps.
+"""Refuses each allocation of runs of the built program in turn: that one alone, and that one with all later ones.
 
 Use: checks/refused_memory.py            The last line is 'N passed, M failed'; the exit code is 0 where none failed.
 
@@ -11,6 +11,7 @@ import os
 import subprocess
 import sys
 import tempfile
+from concurrent.futures import ThreadPoolExecutor
 
 sys.dont_write_bytecode = True
 from program_runs import PROGRAM, TOP, TWO, TWO_TEXT, build
@@ -21,18 +22,20 @@ REFUSING = r"""
 #include <unistd.h>
 void *__libc_malloc(size_t size);
 void *__libc_realloc(void *old, size_t size);
-static long calls, first, last;
+static long calls, first, last, teller;
 __attribute__((constructor)) static void start(void) {
     const char *text = getenv("REFUSE_FIRST");
     first = text ? atol(text) : 0;
     text = getenv("REFUSE_LAST");
     last = text ? atol(text) : 0;
+    text = getenv("REFUSE_TELL");
+    teller = text ? atol(text) : 9;
     calls = 0;
 }
 static int refused(void) {
     calls++;
     if (first == 0 || calls < first || calls > last) return 0;
-    if (write(9, "x", 1) != 1) _exit(99);
+    if (write((int)teller, "x", 1) != 1) _exit(99);
     return 1;
 }
 void *malloc(size_t size) { return refused() ? NULL : __libc_malloc(size); }
@@ -41,12 +44,14 @@ void *realloc(void *old, size_t size) { return refused() ? NULL : __libc_realloc
 
 NO_MEMORY = (11, b"", b"sincronia: no memory\n")
 
-# name, words, and by how much the number of the refused allocation grows
+# name and words
 SERIES = [
-    ("plan", ["plan", "t", "--weights", "w"], lambda number: 1),
-    ("check", ["check", "t", "r"], lambda number: 1),
-    ("make", ["make", "7", "--unit", "64"], lambda number: 1 + number // 20),
+    ("plan", ["plan", "t", "--weights", "w"]),
+    ("check", ["check", "t", "r"]),
+    ("make", ["make", "7", "--unit", "64"]),
 ]
+# how many runs are started before their answers are looked at
+BATCH = 64
 
 
 def make_library(folder):
@@ -58,10 +63,9 @@ def make_library(folder):
 
 def refusing(folder, program, words, first, last):
     """The code, standard output and standard error of a program, and how many allocations were refused."""
-    environment = dict(os.environ, LD_PRELOAD=os.path.join(folder, "refusing.so"), REFUSE_FIRST=str(first), REFUSE_LAST=str(last))
     reader, writer = os.pipe()
-    done = subprocess.Popen([program, *words], cwd=folder, env=environment, stdin=subprocess.DEVNULL, stdout=subprocess.PIPE, stderr=subprocess.PIPE,
-                            preexec_fn=lambda: os.dup2(writer, 9), close_fds=False)
+    environment = dict(os.environ, LD_PRELOAD=os.path.join(folder, "refusing.so"), REFUSE_FIRST=str(first), REFUSE_LAST=str(last), REFUSE_TELL=str(writer))
+    done = subprocess.Popen([program, *words], cwd=folder, env=environment, stdin=subprocess.DEVNULL, stdout=subprocess.PIPE, stderr=subprocess.PIPE, pass_fds=(writer,))
     os.close(writer)
     out, err = done.communicate(timeout=120)
     with os.fdopen(reader, "rb") as pipe:
@@ -69,14 +73,25 @@ def refusing(folder, program, words, first, last):
     return (done.returncode, out, err), refused
 
 
-def series(folder, name, words, step, last_of):
+def refusals(folder, words, last_of):
+    """For each allocation in turn, its number and what the run in which it was refused ended with."""
+    first = 1
+    with ThreadPoolExecutor(os.cpu_count()) as pool:
+        while True:
+            numbers = range(first, first + BATCH)
+            runs = pool.map(lambda number: refusing(folder, PROGRAM, words, number, last_of(number)), numbers)
+            for number, (have, refused) in zip(numbers, runs):
+                if refused == 0:
+                    return
+                yield number, have
+            first += BATCH
+
+
+def series(folder, name, words, last_of):
     """How many runs ended as they should, and how many did not."""
     whole, _ = refusing(folder, PROGRAM, words, 0, 0)
-    passed, failed, over, number = 0, 0, [], 1
-    while True:
-        have, refused = refusing(folder, PROGRAM, words, number, last_of(number))
-        if refused == 0:
-            break
+    passed, failed, over = 0, 0, []
+    for number, have in refusals(folder, words, last_of):
         if have == whole:
             over.append(number)
         if have == NO_MEMORY or (have == whole and whole[0] == 0):
@@ -84,7 +99,6 @@ def series(folder, name, words, step, last_of):
         else:
             failed += 1
             print("FAILED %s, allocation %d: %r" % (name, number, have))
-        number += step(number)
     print("%s: %d runs, got over %s" % (name, passed + failed, over or "none"), flush=True)
     return passed, failed
 
@@ -100,9 +114,9 @@ def main():
             with open(os.path.join(folder, name), "wb") as file:
                 file.write(content)
         make_library(folder)
-        for name, words, step in SERIES:
+        for name, words in SERIES:
             for kind, last_of in (("alone", lambda number: number), ("and later ones", lambda number: 10**9)):
-                good, bad = series(folder, name + " " + kind, words, step, last_of)
+                good, bad = series(folder, name + " " + kind, words, last_of)
                 passed += good
                 failed += bad
     print("%d passed, %d failed" % (passed, failed))
