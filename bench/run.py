@@ -126,9 +126,14 @@ def planned(folder, options):
         subprocess.run([PROGRAM, "plan", "t", *options], cwd=folder, stdout=file, check=False)
 
 
-def put(folder, name, content):
-    with open(os.path.join(folder, name), "wb") as file:
-        file.write(content)
+def put(folder, name, make):
+    """Writes what `make` makes, in a process of its own: the peak memory of a run counts what the process that starts it holds."""
+    pid = os.fork()
+    if pid == 0:
+        with open(os.path.join(folder, name), "wb") as file:
+            file.write(make())
+        os._exit(0)
+    os.waitpid(pid, 0)
 
 
 def part(name, program, words, bound, folder):
@@ -178,8 +183,7 @@ def main():
     other = sys.argv[1] if len(sys.argv) > 1 else None
     with tempfile.TemporaryDirectory() as folder:
         for name, make, options, bound in TRACES:
-            with open(os.path.join(folder, "t"), "wb") as file:
-                file.write(make())
+            put(folder, "t", make)
             words = ["plan", "t", *options]
             seconds, code, size, memory = peak(PROGRAM, words, folder)
             line = "%-55s %8.2f s  %5d MiB  code %d  %d bytes" % (name, seconds, memory, code, size)
@@ -188,14 +192,13 @@ def main():
             if other is not None:
                 line += "  other %.2f s" % timed(other, words, folder)[0]
             print(line, flush=True)
-        put(folder, "t", hour())
+        put(folder, "t", hour)
         for name, program, words, bound in PARTS:
             part(name, program, words, bound, folder)
         planned(folder, ["--unit", "16"])
         part("check, the shape of the public trace, --unit 16", PROGRAM, ["check", "t", "r", "--unit", "16"], 5, folder)
-        trace, report = many_runs()
-        put(folder, "t", trace)
-        put(folder, "r", report)
+        put(folder, "t", lambda: many_runs()[0])
+        put(folder, "r", lambda: many_runs()[1])
         part("check, a report of 2^20 runs", PROGRAM, ["check", "t", "r"], 5, folder)
 
 
