@@ -4,12 +4,13 @@ use Rattle.std.specs.Prelude.{if◌then◌else◌, nat_lt, nat_le, ◌==◌, ◌
 use Rattle.std.specs.List.{list_all, range_with_len}
 use Rattle.std.proofs.lemmas.Bool.{and_from, and_parts, eq-eqb, ne_eqb, le-leb, lt-ltb, ltb-true}
 use Rattle.std.proofs.lemmas.List.{get_or-map, get_or_default, length-map, map-set}
+use Rattle.std.proofs.Math.Seq.{map-set_same}
 use Rattle.std.proofs.lemmas.List.Elements.{All-contains}
 use Rattle.std.proofs.lemmas.List.FromFn.{get_or-range_with_len, length-range_with_len}
 use Rattle.std.proofs.lemmas.List.Folds.{list_all_at}
 use Rattle.std.proofs.lemmas.List.Sums.{list_all-from_AllPass}
 use Rattle.coflow_units.specs.declared.fabric.Flow.{Flow}
-use Rattle.coflow_units.specs.PortWord.{PortStage, is_drawn_by, is_granted}
+use Rattle.coflow_units.specs.PortWord.{is_drawn_by, is_granted}
 use Rattle.coflow_units.specs.PortWord.PortStage.{granted, drawn, reported}
 use Rattle.master_core.specs.declared.command.Entry.{Entry}
 use Rattle.master_core.specs.declared.command.Command.TheVariants.{Short}
@@ -31,11 +32,11 @@ use Rattle.world_model.specs.Sent.{sent_for}
 use Rattle.world_model.specs.World.{WorldFacts, new_world, port_at, run_of, world_facts}
 use Rattle.world_model.specs.Guards.{can, in_run, is_posted, is_short}
 use Rattle.world_model.specs.Steps.{answered, cleared, happened, moved, posted, sent_at, settled_note, with_port, world_after}
-use Rattle.world_model.specs.Kept.{IsPort}
+use Rattle.world_model.specs.Kept.{IsPort, TellsSent}
 use Rattle.world_model.specs.Lawful.{IsWorld}
-use Rattle.world_model.proofs.PortSteps.{mkp, no_way}
-use Rattle.world_model.proofs.SendSteps.{drawn_facts, grant_has, not_open}
-use Rattle.world_model.proofs.Within.{stage_fits}
+use Rattle.world_model.proofs.PortSteps.{no_way}
+use Rattle.world_model.proofs.SendSteps.{grant_has}
+use Rattle.world_model.proofs.Tallies.{tells_read, tells_sent, tells_set, unsettled}
 use Rattle.world_model.proofs.Events.{sound_of}
 
 -- ---- steps that may be taken, and others
@@ -64,6 +65,17 @@ port_read m agents xs sent p x h lt is = ap port_of is ∙ sym (get_or-map port_
 -- two readings of one place are the same
 pub same_read : (xs : List PortState) (p : ℕ) (x y : PortState) → p < length xs → x ≡ get_or xs p x → y ≡ get_or xs p y → x ≡ y
 same_read xs p x y lt ex ey = ex ∙ get_or_default xs p x y lt ∙ sym ey
+
+-- a port keeps its last post and what was sent for it
+pub tells_stays : (m : MasterFacts) (agents : ℕ) (xs : List PortState) (sent : List SentRun) (p : ℕ) (x y : PortState) → IsWorld (world_facts m agents xs sent) → TellsSent xs sent → p < m.opening.table.ports → x ≡ get_or xs p x →
+    y.slot ≡ x.slot → y.sent ≡ x.sent → TellsSent (slice_set xs p y) sent
+tells_stays m agents xs sent p x y h tells low is slot same =
+    let lt : p < length xs = omega (arith, ports_wide m agents xs sent h, low) in
+    tells_set xs sent p y tells lt (same ∙ tells_read xs sent p x tells lt is ∙ ap (sent_for sent p) (sym slot))
+
+-- what is kept beside a port is what was sent for its last post
+pub tells_at : (m : MasterFacts) (agents : ℕ) (xs : List PortState) (sent : List SentRun) (p : ℕ) (x : PortState) → IsWorld (world_facts m agents xs sent) → TellsSent xs sent → p < m.opening.table.ports → x ≡ get_or xs p x → x.sent ≡ sent_for sent p x.slot
+tells_at m agents xs sent p x h tells low is = tells_read xs sent p x tells (omega (arith, ports_wide m agents xs sent h, low)) is
 
 abbrev with_ports : MasterFacts → ℕ → List SentRun → List PortFacts → WorldFacts
 with_ports m agents sent l = record { opening = m.opening; journal = m.journal; agents = agents; ports = l; sent = sent }
@@ -110,36 +122,18 @@ low_report w a p may =
     let (low, more) = and_parts (nat_lt p w.opening.table.ports) (nat_lt a w.agents && is_drawn_by a (port_at w p).stage) may in
     (ltb-true p w.opening.table.ports low, (and_parts (nat_lt a w.agents) (is_drawn_by a (port_at w p).stage) more).1)
 
-mine_small : (flows : List Flow) (credited : ℕ → ℕ) (next : ℕ) (run : Option Run) (sent : List SentRun) (p slot flow : ℕ) (stage : PortStage) (count : ℕ) (settled : Option ℕ) (a : ℕ) → is_drawn_by a stage ≡ true → IsSound flows credited next run →
-    IsPort flows next run sent p (mkp slot flow stage count settled) → sent_for sent p slot < 2 ^ 64
-mine_small flows credited next None sent p slot flow stage count settled a drew sound h = absurd (not_open flows next sent p slot flow stage count settled a drew h)
-mine_small flows credited next (Some r) sent p slot flow stage count settled a drew sound h =
-    let first = (drawn_facts flows next r sent p slot flow stage count settled a drew h).0 in
-    omega (arith, ap (sent_for sent p) first, stage_fits r (grant_in flows r.granted p) (sent_for sent p r.first) (mkp slot flow stage count settled) h.0, sound.open_run.ends)
-
--- what was sent for a drawn post is less than 2 ^ 64
-pub sent_small : (m : MasterFacts) (agents : ℕ) (xs : List PortState) (sent : List SentRun) (a p : ℕ) (x : PortState) → IsWorld (world_facts m agents xs sent) → can (world_facts m agents xs sent) (Report a p) ≡ true →
-    x ≡ get_or xs p x → sent_for sent p x.slot < 2 ^ 64
-sent_small m agents xs sent a p x h may is =
-    let w = world_facts m agents xs sent in
-    let s = state_of m.opening m.journal in
-    let y = port_at w p in
-    let (low, drew) = low_report w a p may in
-    let same : x.slot ≡ y.slot = ap (λ (z : PortFacts). z.slot) (port_read m agents xs sent p x h low is) in
-    subst (λ n. sent_for sent p n < 2 ^ 64) (sym same) (mine_small m.opening.table.flows s.sent s.next s.run sent p y.slot y.flow y.stage y.count y.settled a drew (sound_of w h) (h.kept.port p low))
-
 pub reported_world : (m : MasterFacts) (agents : ℕ) (xs : List PortState) (sent : List SentRun) (a p n : ℕ) (x : PortState) → IsWorld (world_facts m agents xs sent) → p < m.opening.table.ports → x ≡ get_or xs p x → n ≡ sent_for sent p x.slot →
-    world_facts m agents (slice_set xs p (record x { stage = Reported a n; count = n })) sent ≡ moved (world_facts m agents xs sent) (Report a p)
+    world_facts m agents (slice_set xs p (record x { stage = Reported a n; count = n; sent = n })) sent ≡ moved (world_facts m agents xs sent) (Report a p)
 reported_world m agents xs sent a p n x h low is count =
     let w = world_facts m agents xs sent in
     let read = port_read m agents xs sent p x h low is in
     let same : n ≡ sent_at w p = count ∙ ap (λ (z : PortFacts). sent_for sent p z.slot) read in
-    port_changed m agents xs sent p (record x { stage = Reported a n; count = n }) (record (port_at w p) { stage = reported a (sent_at w p); count = sent_at w p })
+    port_changed m agents xs sent p (record x { stage = Reported a n; count = n; sent = n }) (record (port_at w p) { stage = reported a (sent_at w p); count = sent_at w p })
     (ap (λ (y : PortFacts). record y { stage = reported a n; count = n }) read ∙ ap (λ k. record (port_at w p) { stage = reported a k; count = k }) same)
 
 -- ---- a sending
 
-pub may_send : (m : MasterFacts) (agents : ℕ) (xs : List PortState) (sent : List SentRun) (a p u : ℕ) (x : PortState) → IsWorld (world_facts m agents xs sent) → can (world_facts m agents xs sent) (Report a p) ≡ true →
+may_send : (m : MasterFacts) (agents : ℕ) (xs : List PortState) (sent : List SentRun) (a p u : ℕ) (x : PortState) → IsWorld (world_facts m agents xs sent) → can (world_facts m agents xs sent) (Report a p) ≡ true →
     x ≡ get_or xs p x → sent_for sent p x.slot ≡ 0 → 0 < u → u ≤ x.count → can (world_facts m agents xs sent) (Send a p u) ≡ true
 may_send m agents xs sent a p u x h may is none some fits =
     let w = world_facts m agents xs sent in
@@ -155,10 +149,26 @@ may_send m agents xs sent a p u x h may is none some fits =
     and_from (nat_lt p w.opening.table.ports) (nat_lt a w.agents && (is_drawn_by a y.stage && ((sent_for sent p y.slot == 0) && (nat_lt 0 u && nat_le u y.count)))) low
     (and_from (nat_lt a w.agents) (is_drawn_by a y.stage && ((sent_for sent p y.slot == 0) && (nat_lt 0 u && nat_le u y.count))) few drawn_by)
 
-pub sent_world : (m : MasterFacts) (agents : ℕ) (xs : List PortState) (sent new : List SentRun) (a p u : ℕ) (x : PortState) → IsWorld (world_facts m agents xs sent) → p < m.opening.table.ports → x ≡ get_or xs p x →
-    new ≡ sent ++ record { slot = x.slot; flow = x.flow; units = u; port = p } ∷ [] → world_facts m agents xs new ≡ moved (world_facts m agents xs sent) (Send a p u)
+sent_world : (m : MasterFacts) (agents : ℕ) (xs : List PortState) (sent new : List SentRun) (a p u : ℕ) (x : PortState) → IsWorld (world_facts m agents xs sent) → p < m.opening.table.ports → x ≡ get_or xs p x →
+    new ≡ sent ++ record { slot = x.slot; flow = x.flow; units = u; port = p } ∷ [] → world_facts m agents (slice_set xs p (record x { sent = u })) new ≡ moved (world_facts m agents xs sent) (Send a p u)
 sent_world m agents xs sent new a p u x h low is more =
-    ap (world_facts m agents xs) (more ∙ ap (λ (z : PortFacts). sent ++ record { slot = z.slot; flow = z.flow; units = u; port = p } ∷ []) (port_read m agents xs sent p x h low is))
+    ap (with_ports m agents new) (map-set_same port_of xs p (record x { sent = u }) x (ap port_of is)) ∙ ap (world_facts m agents xs) (more ∙ ap (λ (z : PortFacts). sent ++ record { slot = z.slot; flow = z.flow; units = u; port = p } ∷ []) (port_read m agents xs sent p x h low is))
+
+-- the first run is sent for a post, read twice, and the port changes by its units
+pub send_step : (m : MasterFacts) (agents : ℕ) (xs : List PortState) (sent new : List SentRun) (a p u : ℕ) (x y : PortState) → IsWorld (world_facts m agents xs sent) → TellsSent xs sent → can (world_facts m agents xs sent) (Report a p) ≡ true →
+    x ≡ get_or xs p x → y ≡ get_or xs p y → x.sent ≤ 0 → u ≢ 0 → u ≤ x.count → new ≡ sent ++ record { slot = x.slot; flow = x.flow; units = u; port = p } ∷ [] →
+    (can (world_facts m agents xs sent) (Send a p u) ≡ true) × (world_facts m agents (slice_set xs p (record y { sent = u })) new ≡ moved (world_facts m agents xs sent) (Send a p u)) × TellsSent (slice_set xs p (record y { sent = u })) new
+send_step m agents xs sent new a p u x y h tells may is again none some fits more =
+    let low = (low_report (world_facts m agents xs sent) a p may).0 in
+    let lt : p < length xs = omega (arith, ports_wide m agents xs sent h, low) in
+    let same = same_read xs p x y lt is again in
+    let here : sent_for sent p x.slot ≡ 0 = omega (arith, tells_read xs sent p x tells lt is, none) in
+    let empty : y.sent ≡ 0 = omega (arith, ap (λ (z : PortState). z.sent) same, none) in
+    let more' : new ≡ sent ++ record { slot = y.slot; flow = y.flow; units = u; port = p } ∷ [] = more ∙ ap (λ (z : PortState). sent ++ record { slot = z.slot; flow = z.flow; units = u; port = p } ∷ []) same in (
+      may_send m agents xs sent a p u x h may is here (omega (arith, some)) fits,
+      sent_world m agents xs sent new a p u y h low again more',
+      tells_sent xs sent new p u y tells lt again empty more',
+    )
 
 -- ---- a post
 
@@ -191,6 +201,22 @@ posted_before m agents xs sent p next x h low is at same =
     and_no (nat_lt p m.opening.table.ports) (in_run (run_of w) (λ r. is_some (grant_in m.opening.table.flows r.granted p) && not (is_posted r (port_at w p))))
     (post_again m.opening.table.flows s.run p s.next (port_at w p) (first_is_next m.opening.table.flows s.sent s.next s.run (sound_of w h)) (sym read ∙ same ∙ at))
 
+nothing_there : (flows : List Flow) (next : ℕ) (run : Option Run) (sent : List SentRun) (p slots : ℕ) (y : PortFacts) → OnRun run (λ r. r.first ≡ next) → Some slots ≡ slots_of run → y.slot ≢ next → IsPort flows next run sent p y → sent_for sent p next ≡ 0
+nothing_there flows next None sent p slots y first opens other h = no_slots slots opens
+nothing_there flows next (Some r) sent p slots y first opens other (inl x, n) = ap (sent_for sent p) (sym first) ∙ x.3
+nothing_there flows next (Some r) sent p slots y first opens other (inr x, n) = absurd (other (x.0 ∙ first))
+
+-- where the port was not posted in the run, a post tells that nothing was sent for it
+pub tells_posted : (m : MasterFacts) (agents : ℕ) (xs : List PortState) (sent : List SentRun) (p slots flow next : ℕ) (x : PortState) → IsWorld (world_facts m agents xs sent) → TellsSent xs sent → p < m.opening.table.ports → x ≡ get_or xs p x →
+    Some slots ≡ slots_of (state_of m.opening m.journal).run → next ≡ (state_of m.opening m.journal).next → x.slot ≢ next →
+    TellsSent (slice_set xs p (record { slot = next; flow = flow; stage = Granted; count = slots; settled = x.settled; sent = 0 })) sent
+tells_posted m agents xs sent p slots flow next x h tells low is opens at other =
+    let w = world_facts m agents xs sent in
+    let s = state_of m.opening m.journal in
+    let read : x.slot ≡ (port_at w p).slot = ap (λ (z : PortFacts). z.slot) (port_read m agents xs sent p x h low is) in
+    let none = nothing_there m.opening.table.flows s.next s.run sent p slots (port_at w p) (first_is_next m.opening.table.flows s.sent s.next s.run (sound_of w h)) opens (λ e. other (read ∙ e ∙ sym at)) (h.kept.port p low) in
+    tells_set xs sent p (record { slot = next; flow = flow; stage = Granted; count = slots; settled = x.settled; sent = 0 }) tells (omega (arith, ports_wide m agents xs sent h, low)) (sym (ap (sent_for sent p) at ∙ none))
+
 abbrev post_at : WorldFacts → ℕ → PortFacts → ℕ → ℕ → ℕ → WorldFacts
 post_at w p y slot flow count = with_port w p (record y { slot = slot; flow = flow; stage = granted; count = count })
 
@@ -203,12 +229,12 @@ posted_is w p (Some r) next slots flow first opens there =
 
 pub posted_world : (m : MasterFacts) (agents : ℕ) (xs : List PortState) (sent : List SentRun) (p slots flow next : ℕ) (x : PortState) → IsWorld (world_facts m agents xs sent) → p < m.opening.table.ports → x ≡ get_or xs p x →
     Some slots ≡ slots_of (state_of m.opening m.journal).run → Some flow ≡ flow_at m.opening.table.flows (state_of m.opening m.journal).run p → next ≡ (state_of m.opening m.journal).next →
-    world_facts m agents (slice_set xs p (record { slot = next; flow = flow; stage = Granted; count = slots; settled = x.settled })) sent ≡ moved (world_facts m agents xs sent) (Post p)
+    world_facts m agents (slice_set xs p (record { slot = next; flow = flow; stage = Granted; count = slots; settled = x.settled; sent = 0 })) sent ≡ moved (world_facts m agents xs sent) (Post p)
 posted_world m agents xs sent p slots flow next x h low is opens there at =
     let w = world_facts m agents xs sent in
     let s = state_of m.opening m.journal in
     let read = port_read m agents xs sent p x h low is in
-    port_changed m agents xs sent p (record { slot = next; flow = flow; stage = Granted; count = slots; settled = x.settled }) (record (port_at w p) { slot = next; flow = flow; stage = granted; count = slots })
+    port_changed m agents xs sent p (record { slot = next; flow = flow; stage = Granted; count = slots; settled = x.settled; sent = 0 }) (record (port_at w p) { slot = next; flow = flow; stage = granted; count = slots })
     (ap (λ (y : PortFacts). record y { slot = next; flow = flow; stage = granted; count = slots }) read)
     ∙ ap (λ n. post_at w p (port_at w p) n flow slots) at ∙ posted_is w p s.run s.next slots flow (first_is_next m.opening.table.flows s.sent s.next s.run (sound_of w h)) opens there
 
@@ -328,9 +354,6 @@ new_facts m agents n xs sent x empty ports all idle none =
     ∙ ap (λ (l : List PortFacts). with_ports m agents [] l) (same_ports m.opening.table.ports x idle) ∙ ap (new_with m.opening agents) empty
 
 -- ---- nothing settled
-
-abbrev pub unsettled : PortState → PortState
-unsettled x = record x { settled = None }
 
 pub cleared_is : (xs : List PortState) → ports_of (map unsettled xs) ≡ cleared (ports_of xs)
 cleared_is [] = refl

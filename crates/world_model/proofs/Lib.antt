@@ -1,7 +1,7 @@
-pub mod Totals
 pub mod Within
 pub mod PortSteps
 pub mod SendSteps
+pub mod Tallies
 pub mod OpenSteps
 pub mod CloseSteps
 pub mod Legality

@@ -23,7 +23,7 @@ total_more : (sent : List SentRun) (x : SentRun) (f : ℕ) → sent_of (sent ++ 
 total_more [] x f = omega arith
 total_more (y ∷ ys) x f = omega (arith, total_more ys x f)
 
-sent_more : (sent : List SentRun) (x : SentRun) (p slot : ℕ) → sent_for (sent ++ x ∷ []) p slot ≡ sent_for sent p slot + (if (x.port == p) && (x.slot == slot) then x.units else 0)
+pub sent_more : (sent : List SentRun) (x : SentRun) (p slot : ℕ) → sent_for (sent ++ x ∷ []) p slot ≡ sent_for sent p slot + (if (x.port == p) && (x.slot == slot) then x.units else 0)
 sent_more [] x p slot = omega arith
 sent_more (y ∷ ys) x p slot = omega (arith, sent_more ys x p slot)
 

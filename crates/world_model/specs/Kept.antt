@@ -8,6 +8,7 @@ use Rattle.coflow_units.specs.PortWord.PortStage.{unposted, granted, drawn, repo
 use Rattle.master_core.specs.State.{Run, has}
 use Rattle.master_core.specs.Runs.{grant_in, note_in}
 use Rattle.master_core.specs.Fold.{state_of}
+use Rattle.world_model.specs.declared.port.PortState.{PortState}
 use Rattle.world_model.specs.declared.sent.SentRun.{SentRun}
 use Rattle.world_model.specs.Port.{PortFacts, idle_port}
 use Rattle.world_model.specs.Sent.{sent_for, sent_of}
@@ -83,3 +84,7 @@ IsKeptWorld w =
 -- what holds of a port of a world, beside its master and the sent runs
 abbrev pub IsPortOf : WorldFacts → ℕ → PortFacts → Type 0
 IsPortOf w p x = IsPort w.opening.table.flows (state_of w.opening w.journal).next (state_of w.opening w.journal).run w.sent p x
+
+-- each port tells how many units were sent for its last post
+abbrev pub TellsSent : List PortState → List SentRun → Type 0
+TellsSent ports sent = (p : ℕ) (d : PortState) → p < length ports → (slice_index_or ports p d).sent ≡ sent_for sent p (slice_index_or ports p d).slot

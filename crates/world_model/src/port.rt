@@ -20,8 +20,8 @@ pub enum Stage {
     TakenBack,
 }
 
-/// An ingress port: slot and flow of its last post, with slot 0 where there was none, what became of it, its count, and what was settled since a run was opened last. The count is
-/// the length of the run once the grant is posted, and the units that were sent once they are reported.
+/// An ingress port: slot and flow of its last post, with slot 0 where there was none, what became of it, its count, what was settled since a run was opened last, and the units that
+/// were sent for the post. The count is the length of the run once the grant is posted, and the units that were sent once they are reported.
 #[derive(Clone, Copy, Debug, PartialEq, Eq)]
 pub struct PortState {
     pub slot: u64,
@@ -29,6 +29,7 @@ pub struct PortState {
     pub stage: Stage,
     pub count: u64,
     pub settled: Option<u64>,
+    pub sent: u64,
 }
 
 const SLOT: u64 = 1 << 20;
@@ -38,7 +39,8 @@ const STATE: u64 = 1 << 61;
 impl PortState {
     /// A port at which nothing was posted.
     pub(crate) fn idle() -> PortState
-        ensures { port_of result ≡ idle_port }
+        ensures port { port_of result ≡ idle_port }
+        ensures sent { result.sent ≡ 0 }
     {
         PortState {
             slot: 0,
@@ -46,6 +48,7 @@ impl PortState {
             stage: Stage::Unposted,
             count: 0,
             settled: None,
+            sent: 0,
         }
     }
 
@@ -89,6 +92,8 @@ impl PortState {
         requires { FitsWord self.old.slot self.old.flow }
         ensures answer { result ≡ answered_by (port_of self.old) (stage_of self.old.stage) }
         ensures port { port_of self.new ≡ settled_by (port_of self.old) (stage_of self.old.stage) }
+        ensures post { self.new.slot ≡ self.old.slot }
+        ensures sent { self.new.sent ≡ self.old.sent }
     {
         match self.stage {
             Stage::Reported { .. } => {

@@ -241,6 +241,7 @@ fn a_short_run_is_closed_once_it_is_noted(rt: HostRuntime) {
         stage: Stage::Reported { agent: 1, units: 2 },
         count: 2,
         settled: Some(2),
+        sent: 2,
     };
     assert_eq!(rt; world.port(0), port);
 }

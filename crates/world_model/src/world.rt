@@ -1,19 +1,21 @@
 //! The world, and the steps that it takes.
-ghost use Rattle.std.specs.Prelude.{◌≡◌, ◌≢◌, ℕ, ◌<◌, true, false, [], IfOk, Some};
+ghost use Rattle.std.specs.Prelude.{◌≡◌, ◌≢◌, ℕ, ◌<◌, true, false, List, [], IfOk, Some};
 ghost use Rattle.master_core.specs.Answer.{reply_of};
 ghost use Rattle.master_core.specs.Runs.{slots_of};
 ghost use Rattle.master_core.specs.Standing.{IsInRange};
 ghost use Rattle.world_model.specs.declared.event.Event.TheVariants.{Ask, Post, Draw, Send, Report, Settle, Note, Close};
+ghost use Rattle.world_model.specs.declared.sent.SentRun.{SentRun};
 ghost use Rattle.world_model.specs.Port.{port_of, ports_of};
+ghost use Rattle.world_model.specs.Sent.{sent_for};
 ghost use Rattle.world_model.specs.World.{WorldFacts, new_world, port_at, run_of};
-ghost use Rattle.world_model.specs.Kept.{IsPortOf};
+ghost use Rattle.world_model.specs.Kept.{IsPortOf, TellsSent};
 ghost use Rattle.world_model.specs.Guards.{can, in_run, is_done, is_free};
 ghost use Rattle.world_model.specs.Steps.{IsBusy, IsSameButJournal, asks, cleared, happened, is_full_answer, is_opened, is_refused_answer, is_send, world_after, world_of};
 ghost use Rattle.world_model.specs.Lawful.{ClosesAsSent, IsLegalWorld, IsWorld, OpensGrants, OpensPatiently, SendsInTime, SendsOnce, SendsWithin};
 
 use crate::event::{Event, Happened};
 use crate::port::{PortState, Stage};
-use crate::sent::{SentRun, units_sent};
+use crate::sent::SentRun;
 use coflow_units::NoMemory;
 use master_core::{Command, Entry, Master, Reply};
 use std::alloc::Global;
@@ -33,12 +35,13 @@ pub struct World {
 impl Model for World {
     ghost use Rattle.world_model.specs.World.{WorldFacts, world_facts};
     ghost use Rattle.world_model.specs.Lawful.{IsWorld};
+    ghost use Rattle.world_model.specs.Kept.{TellsSent};
 
     ghost Value = { WorldFacts };
 
     ghost view = { λ s. world_facts s.master s.agents s.ports.items s.sent.items };
 
-    ghost invariant = { λ s. IsWorld (world_facts s.master s.agents s.ports.items s.sent.items) };
+    ghost invariant = { λ s. IsWorld (world_facts s.master s.agents s.ports.items s.sent.items) × TellsSent s.ports.items s.sent.items };
 }
 
 impl World {
@@ -143,12 +146,13 @@ impl World {
         self.agents
     }
 
-    /// An ingress port: the stage of its last post, its count, which is the length of the run once the grant is posted and the units sent once they are reported, and what is settled
-    /// for it. The master's table tells the number of ports.
+    /// An ingress port: the stage of its last post, its count, which is the length of the run once the grant is posted and the units sent once they are reported, what is settled
+    /// for it, and the units that were sent for it. The master's table tells the number of ports.
     pub fn port(&self, port: u32) -> PortState
         requires { port < self.now.opening.table.ports }
         ensures port { port_of result ≡ port_at self.now port }
         ensures stage { IsPortOf self.now port (port_of result) }
+        ensures sent { result.sent ≡ sent_for self.now.sent port result.slot }
     {
         self.ports[port as usize]
     }
@@ -202,6 +206,7 @@ impl World {
             stage: Stage::Granted,
             count: slots,
             settled: last.settled,
+            sent: 0,
         };
         Happened::Posted
     }
@@ -232,7 +237,7 @@ impl World {
             return Happened::Blocked;
         }
         let post = self.ports[port as usize];
-        if units_sent(&self.sent, port, post.slot) > 0 {
+        if post.sent > 0 {
             return Happened::Blocked;
         }
         if units == 0 {
@@ -250,6 +255,7 @@ impl World {
         let Ok(()) = self.sent.push(run) else {
             return Happened::NoMemory;
         };
+        self.ports[port as usize].sent = units;
         Happened::Sent
     }
 
@@ -261,13 +267,14 @@ impl World {
             return Happened::Blocked;
         }
         let post = self.ports[port as usize];
-        let units = units_sent(&self.sent, port, post.slot);
+        let units = post.sent;
         self.ports[port as usize] = PortState {
             slot: post.slot,
             flow: post.flow,
             stage: Stage::Reported { agent, units },
             count: units,
             settled: post.settled,
+            sent: units,
         };
         Happened::Reported
     }
@@ -406,9 +413,10 @@ fn opens(reply: Reply) -> bool
     }
 }
 
-/// Nothing is settled at any port from now on.
+/// Nothing is settled at any port from now on. What was sent for their posts stays.
 fn clear_settled(ports: &mut [PortState])
-    ensures { ports_of ports.new ≡ cleared (ports_of ports.old) }
+    ensures ports { ports_of ports.new ≡ cleared (ports_of ports.old) }
+    ensures sent { (sent : List SentRun) → TellsSent ports.old sent → TellsSent ports.new sent }
 {
     for port in ports {
         port.settled = None;

@@ -1,5 +1,5 @@
 use Rattle.std.proofs.Common.{◌≡◌, ◌++◌, take, drop, map}
-use Rattle.world_model.proofs.Fields.{unsettled}
+use Rattle.world_model.proofs.Tallies.{unsettled}
 use Rattle.world_model.proofs.world.clear_settled.Given as goal
 
 abbrev pub invariant-loop-port : goal.invariant-loop-port

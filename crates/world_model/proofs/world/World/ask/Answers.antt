@@ -12,4 +12,4 @@ carry_out-requires-clause-keeps c =
     let i = c.self.inside in
     let w = world_facts i.master i.agents i.ports.items i.sent.items in
     let may : can w (Ask c.args.who c.args.command) ≡ true = search rules in
-    subst (λ (v : WorldFacts). IsWorld (asks v c.args.who c.args.command)) c.self.view_is (ask_keeps w c.args.who c.args.command c.self.invariant may)
+    subst (λ (v : WorldFacts). IsWorld (asks v c.args.who c.args.command)) c.self.view_is (ask_keeps w c.args.who c.args.command c.self.invariant.0 may)

@@ -14,7 +14,7 @@ returns-clause-stage c =
     let p = c.args.port in
     let x = c.index.result.now in
     let low = subst (λ (v : WorldFacts). p < v.opening.table.ports) (sym c.self.view_is) c.requires in
-    let read = port_read m i.agents xs i.sent.items p x c.self.invariant low c.index.ensures in
+    let read = port_read m i.agents xs i.sent.items p x c.self.invariant.0 low c.index.ensures in
     let s = state_of m.opening m.journal in
     subst (λ (v : WorldFacts). IsPort v.opening.table.flows (state_of v.opening v.journal).next (run_of v) v.sent p (port_of x)) c.self.view_is
-    (subst (λ (y : PortFacts). IsPort m.opening.table.flows s.next s.run i.sent.items p y) (sym read) (c.self.invariant.kept.port p low))
+    (subst (λ (y : PortFacts). IsPort m.opening.table.flows s.next s.run i.sent.items p y) (sym read) (c.self.invariant.0.kept.port p low))

@@ -1,4 +1,4 @@
-use Rattle.std.proofs.Common.{◌≡◌, ◌∙◌, ◌<◌, List, ap, subst, sym, true}
+use Rattle.std.proofs.Common.{◌≡◌, ◌∙◌, subst, sym, refl, true}
 use Rattle.std.specs.Prelude.{slice_set}
 use Rattle.world_model.specs.World.{WorldFacts, world_facts}
 use Rattle.world_model.specs.Guards.{can}
@@ -7,23 +7,9 @@ use Rattle.world_model.specs.Lawful.{IsWorld}
 use Rattle.world_model.specs.declared.event.Event.TheVariants.{Report}
 use Rattle.world_model.specs.declared.port.PortState.{PortState}
 use Rattle.world_model.specs.declared.port.Stage.TheVariants.{Reported}
-use Rattle.world_model.specs.declared.sent.SentRun.{SentRun}
-use Rattle.world_model.specs.Sent.{sent_for}
 use Rattle.world_model.proofs.Events.{report_keeps}
-use Rattle.world_model.proofs.Fields.{low_report, reported_world, sent_small, stepped}
+use Rattle.world_model.proofs.Fields.{low_report, reported_world, stepped, tells_at, tells_stays}
 use Rattle.world_model.proofs.world.World.report.Goals as goal
-
-pub units_sent-units-requires : goal.units_sent-units-requires
-units_sent-units-requires c =
-    let i = c.self.inside in
-    let m = i.master in
-    let xs = i.ports.items in
-    let w = world_facts m i.agents xs i.sent.items in
-    let p = c.args.port in
-    let may : can w (Report c.args.agent p) ≡ true = subst (λ (v : WorldFacts). can v (Report c.args.agent p) ≡ true) (sym c.self.view_is) (sym c.is_drawn.ensures ∙ c.if-not-is_drawn.false) in
-    let (low, drew) = low_report w c.args.agent p may in
-    subst (λ (l : List SentRun). sent_for l p c.index-post.result.now.slot < 18446744073709551616) (sym c.deref.ensures.value)
-    (sent_small m i.agents xs i.sent.items c.args.agent p c.index-post.result.now c.self.invariant may c.index-post.ensures)
 
 pub invariant_of-self : goal.invariant_of-self
 invariant_of-self c =
@@ -35,8 +21,10 @@ invariant_of-self c =
     let may : can w (Report c.args.agent p) ≡ true = subst (λ (v : WorldFacts). can v (Report c.args.agent p) ≡ true) (sym c.self.view_is) (sym c.is_drawn.ensures ∙ c.if-not-is_drawn.false) in
     let (low, drew) = low_report w c.args.agent p may in
     let x = c.index-post.result.now in
-    let count = c.units_sent-units.ensures ∙ ap (λ (l : List SentRun). sent_for l p x.slot) c.deref.ensures.value in
-    subst IsWorld (sym (reported_world m i.agents xs i.sent.items c.args.agent p c.units_sent-units.result x c.self.invariant low c.index-post.ensures count)) (report_keeps w c.args.agent p c.self.invariant may)
+    let count = tells_at m i.agents xs i.sent.items p x c.self.invariant.0 c.self.invariant.1 low c.index-post.ensures in (
+      subst IsWorld (sym (reported_world m i.agents xs i.sent.items c.args.agent p x.sent x c.self.invariant.0 low c.index-post.ensures count)) (report_keeps w c.args.agent p c.self.invariant.0 may),
+      tells_stays m i.agents xs i.sent.items p x (record x { stage = Reported c.args.agent x.sent; count = x.sent; sent = x.sent }) c.self.invariant.0 c.self.invariant.1 low c.index-post.ensures refl refl,
+    )
 
 pub returns-clause-world : goal.returns-clause-world
 returns-clause-world c =
@@ -48,9 +36,9 @@ returns-clause-world c =
     let may : can w (Report c.args.agent p) ≡ true = subst (λ (v : WorldFacts). can v (Report c.args.agent p) ≡ true) (sym c.self.view_is) (sym c.is_drawn.ensures ∙ c.if-not-is_drawn.false) in
     let (low, drew) = low_report w c.args.agent p may in
     let x = c.index-post.result.now in
-    let n = c.units_sent-units.result in
-    let count = c.units_sent-units.ensures ∙ ap (λ (l : List SentRun). sent_for l p x.slot) c.deref.ensures.value in
-    let is = reported_world m i.agents xs i.sent.items c.args.agent p n x c.self.invariant low c.index-post.ensures count in
-    let y : PortState = record x { stage = Reported c.args.agent n; count = n } in
+    let n = x.sent in
+    let count = tells_at m i.agents xs i.sent.items p x c.self.invariant.0 c.self.invariant.1 low c.index-post.ensures in
+    let is = reported_world m i.agents xs i.sent.items c.args.agent p n x c.self.invariant.0 low c.index-post.ensures count in
+    let y : PortState = record x { stage = Reported c.args.agent n; count = n; sent = n } in
     subst (λ (v : WorldFacts). world_facts m i.agents (slice_set xs p y) i.sent.items ≡ world_after v (Report c.args.agent p)) c.self.view_is
     (stepped w (world_facts m i.agents (slice_set xs p y) i.sent.items) (Report c.args.agent p) may is)
