@@ -22,8 +22,8 @@ use Rattle.master_core.specs.Chosen.{the_order}
 use Rattle.master_core.specs.State.{has, is_present, owed, present, State, what_is_left}
 use Rattle.master_core.specs.Attendance.{marked}
 use Rattle.master_core.specs.Line.{newest_in}
-use Rattle.master_core.specs.Published.{IsLeft, Published, ranked}
-use Rattle.master_core.specs.Standing.{IsFit, Tells, TellsOrders, TellsPlaces, last_of}
+use Rattle.master_core.specs.Published.{IsLeft, Published, TellsPlaces, last_of, ranked}
+use Rattle.master_core.specs.Standing.{IsFit, Tells, TellsOrders}
 use Rattle.master_core.proofs.Growth.{made_at}
 use Rattle.master_core.proofs.Instances.{left_is_instance, only_ordering}
 use Rattle.master_core.proofs.OpenTells.{filter_same}

@@ -11,11 +11,11 @@ use Rattle.master_core.specs.declared.command.Reply.TheVariants.{Full}
 use Rattle.master_core.specs.declared.opening.Opening.{Opening}
 use Rattle.master_core.specs.declared.standing.Standing.{Standing}
 use Rattle.master_core.specs.Fold.{after, state_of}
-use Rattle.master_core.specs.Answer.{answer, in_range, reply_of, room}
+use Rattle.master_core.specs.Answer.{IsInRange, answer, in_range, reply_of, room}
 use Rattle.master_core.specs.Journal.{IsLegal, entry, is_full, is_version, journal_after, version_of}
 use Rattle.master_core.specs.Master.{IsMaster}
 use Rattle.master_core.specs.Sound.{InRange}
-use Rattle.master_core.specs.Standing.{Follows, IsInRange, Tells}
+use Rattle.master_core.specs.Standing.{Follows, Tells}
 use Rattle.master_core.proofs.Growth.{state_snoc}
 use Rattle.master_core.proofs.Legal.{full_is, legal_snoc}
 

@@ -1,5 +1,5 @@
 -- What the master answers. The causes stand in their order: the first that holds gives the reply.
-use Rattle.std.specs.Prelude.{ℕ, ◌+◌, ◌^◌, ◌==◌, ◌&&◌, min, max, Bool, true, nat_le, nat_lt, if◌then◌else◌, List, length, Option, Some, None}
+use Rattle.std.specs.Prelude.{ℕ, ◌+◌, ◌^◌, ◌<◌, ◌≤◌, ◌==◌, ◌&&◌, min, max, Bool, true, nat_le, nat_lt, if◌then◌else◌, List, length, Option, Some, None}
 use Rattle.std.specs.List.{slice_index_or}
 use Rattle.master_core.specs.declared.command.Command.{Command}
 use Rattle.master_core.specs.declared.command.Command.TheVariants.{Register, Withdraw, Publish, Pull, Open, Short, Close, Skip, Reweigh}
@@ -63,6 +63,16 @@ in_range o (Short port units) = nat_lt port o.table.ports
 in_range o Close = true
 in_range o (Skip to) = true
 in_range o (Reweigh c w) = nat_lt c (length o.table.ids) && (nat_lt 0 w && nat_le w (2 ^ 32))
+
+-- the same as a condition: the command's coflow, its ingress, its number of slots and its weight are in range
+abbrev pub IsInRange : Opening → Command → Type 0
+IsInRange o (Register coflow) = coflow < length o.table.ids
+IsInRange o (Withdraw coflow) = coflow < length o.table.ids
+IsInRange o (Pull coflow) = coflow < length o.table.ids
+IsInRange o (Open most) = 1 ≤ most
+IsInRange o (Short ingress units) = ingress < o.table.ports
+IsInRange o (Reweigh coflow weight) = (coflow < length o.table.ids) × (1 ≤ weight) × (weight ≤ 2 ^ 32)
+IsInRange o k = Unit {0}
 
 -- up to how many entries the journal may grow by a command: a run that was opened can be closed after one note for each port
 abbrev pub room : Opening → Command → ℕ

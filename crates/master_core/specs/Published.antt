@@ -1,11 +1,11 @@
 -- The newest order and its version, and the instance that an order is made for.
-use Rattle.std.specs.Prelude.{◌≡◌, ℕ, ◌<◌, ◌≤◌, Bool, List, All, Contains, length, map, slice_index}
+use Rattle.std.specs.Prelude.{◌≡◌, ℕ, ◌<◌, ◌≤◌, Bool, List, [], ◌∷◌, All, Contains, length, map, slice_index}
 use Rattle.coflow_units.specs.declared.fabric.Flow.{Flow}
 use Rattle.coflow_units.specs.declared.fabric.Port.{Port}
 use Rattle.coflow_units.specs.declared.plan.Place.{Place}
 use Rattle.coflow_units.specs.Flows.{Instance, IsDistinct, with_units}
 use Rattle.coflow_units.specs.Load.{load}
-use Rattle.bssi_order.specs.Order.{present_coflows}
+use Rattle.bssi_order.specs.Order.{IsOrder, present_coflows}
 use Rattle.master_core.specs.Line.{rank_in}
 
 -- the newest version, its places from place 1 on, and for how many coflows and ports there is room
@@ -18,6 +18,16 @@ pub record Published : Type 0 where
 -- the coflows of the places, from place 1 on
 abbrev pub ranked : List Place → List ℕ
 ranked places = map (λ (x : Place). x.coflow) places
+
+-- the last instance of a list that is not empty
+abbrev pub last_of : Instance → List Instance → Instance
+last_of i [] = i
+last_of i (j ∷ js) = last_of j js
+
+-- the places are those of the last publishing; before the first one there are none
+abbrev pub TellsPlaces : List Instance → List Place → Type 0
+TellsPlaces [] places = places ≡ []
+TellsPlaces (i ∷ is) places = IsOrder (last_of i is) places
 
 -- no coflow has two places, the places are of coflows that there is room for, and each coflow has its place in the table of ranks
 pub record IsPublished (places : List Place) (ranks : List ℕ) (coflows ports room load_coflows load_ports : ℕ) : Type 0 where

@@ -1,20 +1,17 @@
 -- What is kept beside a journal, so as not to read it again, and what it tells of the state.
-use Rattle.std.specs.Prelude.{◌≡◌, ℕ, ◌+◌, ◌^◌, ◌<◌, ◌≤◌, ◌&&◌, Bool, true, false, not, nat_lt, List, [], ◌∷◌, All, Contains, length, map, slice_index, Option, Some, None}
+use Rattle.std.specs.Prelude.{◌≡◌, ℕ, ◌+◌, ◌^◌, ◌<◌, ◌≤◌, ◌&&◌, Bool, true, false, not, nat_lt, List, All, Contains, length, map, slice_index, Option, Some, None}
 use Rattle.coflow_units.specs.declared.fabric.Flow.{Flow}
-use Rattle.coflow_units.specs.declared.plan.Place.{Place}
 use Rattle.coflow_units.specs.Flows.{Instance, coflow_of}
 use Rattle.greedy_rates.specs.Owed.{IsOwed}
 use Rattle.greedy_rates.specs.Room.{TellsIngresses}
-use Rattle.bssi_order.specs.Order.{IsOrder}
 use Rattle.master_core.specs.declared.command.Command.{Command}
-use Rattle.master_core.specs.declared.command.Command.TheVariants.{Register, Withdraw, Pull, Open, Short, Reweigh}
 use Rattle.master_core.specs.declared.command.Reply.{Reply}
 use Rattle.master_core.specs.declared.opening.Opening.{Opening}
 use Rattle.master_core.specs.declared.standing.Standing.{Standing}
 use Rattle.master_core.specs.State.{has, IsOpening, owed, Run, slot_end, State}
 use Rattle.master_core.specs.Attendance.{Attendance, marked}
 use Rattle.master_core.specs.Line.{newest_in}
-use Rattle.master_core.specs.Published.{Published, ranked}
+use Rattle.master_core.specs.Published.{Published, TellsPlaces, ranked}
 use Rattle.master_core.specs.OpenRun.{FitsOpen, KeptRun, note_at}
 use Rattle.master_core.specs.Runs.{note_in}
 use Rattle.master_core.specs.Fold.{after}
@@ -25,16 +22,6 @@ pub record TellsCoflows (joined left : List ℕ) (x : Attendance) : Type 0 where
   pub joined_is : x.joined ≡ joined
   pub present_is : (coflow : ℕ) → marked x.present coflow ≡ (has joined coflow && not (has left coflow))
   pub gone : (coflow : ℕ) → has left coflow ≡ true → has joined coflow ≡ true
-
--- the last instance of a list that is not empty
-abbrev pub last_of : Instance → List Instance → Instance
-last_of i [] = i
-last_of i (j ∷ js) = last_of j js
-
--- the places are those of the last publishing; before the first one there are none
-abbrev pub TellsPlaces : List Instance → List Place → Type 0
-TellsPlaces [] places = places ≡ []
-TellsPlaces (i ∷ is) places = IsOrder (last_of i is) places
 
 -- the version and the places are those of the last publishing, and its coflows joined
 pub record TellsOrders (joined : List ℕ) (published : List Instance) (x : Published) : Type 0 where
@@ -100,16 +87,6 @@ pub record IsFit (o : Opening) (x : Standing) : Type 0 where
   pub runs_ports : x.runs.ports ≡ o.table.ports
   pub run : FitsOpen o.table.flows x.ledger.owed x.runs.run
   pub next_ends : x.next ≤ slot_end
-
--- the command is in range: its coflow, its ingress, its number of slots and its weight
-abbrev pub IsInRange : Opening → Command → Type 0
-IsInRange o (Register coflow) = coflow < length o.table.ids
-IsInRange o (Withdraw coflow) = coflow < length o.table.ids
-IsInRange o (Pull coflow) = coflow < length o.table.ids
-IsInRange o (Open most) = 1 ≤ most
-IsInRange o (Short ingress units) = ingress < o.table.ports
-IsInRange o (Reweigh coflow weight) = (coflow < length o.table.ids) × (1 ≤ weight) × (weight ≤ 2 ^ 32)
-IsInRange o k = Unit {0}
 
 -- the reply is that of the state that was told, and the state after it is told
 pub record Follows (o : Opening) (k : Command) (old : Standing) (reply : Reply) (new : Standing) : Type 0 where

@@ -2,13 +2,12 @@
 ghost use Rattle.std.specs.Prelude.{◌≡◌, ℕ, ◌+◌, ◌^◌, ◌<◌, ◌≤◌, ◌&&◌, [], All, IfOk, IsTrue, length, nat_le, nat_lt};
 ghost use Rattle.coflow_units.specs.Flows.{Instance};
 ghost use Rattle.bssi_order.specs.Order.{IsOrder};
-ghost use Rattle.master_core.specs.Answer.{in_range, reply_of, room};
+ghost use Rattle.master_core.specs.Answer.{IsInRange, in_range, reply_of, room};
 ghost use Rattle.master_core.specs.Fold.{state_of};
 ghost use Rattle.master_core.specs.Journal.{IsLegal, journal_after, order_in, rank_of, version_of};
 ghost use Rattle.master_core.specs.Runs.{flow_at, noted_at, slots_of};
 ghost use Rattle.master_core.specs.Sound.{InRange};
-ghost use Rattle.master_core.specs.Standing.{IsInRange, TellsPlaces};
-ghost use Rattle.master_core.specs.Published.{ranked};
+ghost use Rattle.master_core.specs.Published.{TellsPlaces, ranked};
 ghost use Rattle.master_core.specs.State.{IsOpening, owed};
 
 use crate::command::{Command, Entry, Reply};

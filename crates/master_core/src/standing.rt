@@ -2,7 +2,8 @@
 ghost use Rattle.std.specs.Prelude.{◌+◌, ◌^◌, ◌<◌, ◌≤◌, IfOk, length};
 ghost use Rattle.master_core.specs.State.{IsOpening};
 ghost use Rattle.master_core.specs.Fold.{start};
-ghost use Rattle.master_core.specs.Standing.{Follows, IsFit, IsInRange, Tells};
+ghost use Rattle.master_core.specs.Answer.{IsInRange};
+ghost use Rattle.master_core.specs.Standing.{Follows, IsFit, Tells};
 ghost use Rattle.master_core.specs.declared.command.Command.TheVariants.{Register, Withdraw, Publish, Pull, Open, Short, Close, Skip, Reweigh};
 
 use crate::command::{Command, Reply};

@@ -1,9 +1,8 @@
 -- A command is answered, and its entry joins the journal.
 use Rattle.std.proofs.Common.{◌≡◌, ◌<◌, arith, length, subst, sym}
-use Rattle.master_core.specs.Answer.{room}
+use Rattle.master_core.specs.Answer.{IsInRange, room}
 use Rattle.master_core.specs.Fold.{state_of}
 use Rattle.master_core.specs.Journal.{MasterFacts, journal_after}
-use Rattle.master_core.specs.Standing.{IsInRange}
 use Rattle.master_core.proofs.Growth.{version_counted}
 use Rattle.master_core.proofs.Legal.{legal_fits}
 use Rattle.master_core.proofs.StepTells.{journal_is, master_goes_on, versions_few}
