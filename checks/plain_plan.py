@@ -23,7 +23,7 @@ SEARCHED = 9  # up to so many units the best schedule is searched for
 
 Coflow = namedtuple("Coflow", "ident mappers reducers weight")  # a reducer has a location and millionths of a megabyte
 Flow = namedtuple("Flow", "coflow ingress egress units")
-Entry = namedtuple("Entry", "coflow port price")  # a port is its side, 0 for ingress and 1 for egress, and its number
+Entry = namedtuple("Entry", "coflow port price")  # a port is its side, 0 for ingress and 1 for egress, and its number; the price is what each unit of load there is charged
 
 
 def up(dividend, divisor):
@@ -83,8 +83,8 @@ def certificate(flows, weights, ports):
 
 
 def bound_and_slack(flows, weights, entries):
-    """The bound: half the sum over the places of the price times the square of the load before and at the place and the squares of its coflows' loads. The slack: twice the sum of what each
-    coflow does not pay times that load. Both are rounded up to weights of 1."""
+    """Both are sums over the places, rounded up to weights of 1, where the load of a place is that of its coflow and of all before it on the port of the place. The bound: half of the price
+    times the square of that load and the squares of what each of these coflows has in it. The slack: twice what the weight of the coflow leaves unpaid, times that load."""
     bound, slack = 0, 0
     for k, entry in enumerate(entries):
         loads = [load(flows, earlier.coflow, entry.port) for earlier in entries[: k + 1]]
@@ -171,7 +171,7 @@ def plan_of(ports, coflows, unit):
 
 # Drawn traces
 
-Kind = namedtuple("Kind", "ports coflows ends megabytes parts weight unit")  # the greatest of each; a size has so many parts of a megabyte
+Kind = namedtuple("Kind", "ports coflows locations megabytes parts weight unit")  # the greatest of each; a megabyte has so many parts, of which sizes are made
 
 KINDS = [
     Kind(2, 3, 2, 2, 1, 3, 1),  # few units, and many ties
@@ -191,8 +191,8 @@ def drawn(kind, r):
     coflows = [
         Coflow(
             ident,
-            [r.randrange(ports) for _ in range(r.randint(1, kind.ends))],
-            [(r.randrange(ports), size()) for _ in range(r.randint(0, kind.ends))],
+            [r.randrange(ports) for _ in range(r.randint(1, kind.locations))],
+            [(r.randrange(ports), size()) for _ in range(r.randint(0, kind.locations))],
             r.randint(1, kind.weight),
         )
         for ident in idents
