@@ -1,0 +1,117 @@
+#!/usr/bin/env python3
+"""Runs `rt ci` and tells how long each crate's proof, tests and edits took.
+
+Use: checks/gate_clock.py rt ci            The exit code is that of the command.
+
+The command's lines go on as they come. Beside it the script looks twice a second which checks are running: `rt ci` says only when one has ended. Behind the last line
+comes a line for each crate and kind, which checks/gate_times reads:
+
+    clock: CRATE KIND SECONDS PROCESSOR_SECONDS
+    clock: whole SECONDS
+
+KIND is `proof`, `tests` or `edits`. The check of an edit runs in a folder of its own, by which it is known; the edits of a crate are tried one after another.
+"""
+import os
+import subprocess
+import sys
+import threading
+import time
+
+EACH = 0.5
+TICK = os.sysconf("SC_CLK_TCK")
+
+
+def read(path):
+    try:
+        with open(path, "rb") as it:
+            return it.read().decode(errors="replace")
+    except OSError:
+        return ""
+
+
+def stats():
+    """Each process: its parent and the ticks of it and of those that it waited for."""
+    found = {}
+    for name in os.listdir("/proc"):
+        if name.isdigit():
+            said = read(f"/proc/{name}/stat").rpartition(")")[2].split()
+            if len(said) > 14:
+                found[int(name)] = int(said[1]), sum(map(int, said[11:15]))
+    return found
+
+
+def below(root, all_stats):
+    """The processes that the root started, with those that these started."""
+    children = {}
+    for pid, (parent, _) in all_stats.items():
+        children.setdefault(parent, []).append(pid)
+    found, waiting = [], [root]
+    while waiting:
+        for pid in children.get(waiting.pop(), []):
+            found.append(pid)
+            waiting.append(pid)
+    return found
+
+
+def task_of(pid):
+    """The crate and the kind of a check, or None for another process."""
+    words = read(f"/proc/{pid}/cmdline").split("\0")
+    if "--crate-name" not in words or not words[0].endswith("rattle"):
+        return None
+    crate = words[words.index("--crate-name") + 1]
+    try:
+        folder = os.path.basename(os.readlink(f"/proc/{pid}/cwd"))
+    except OSError:
+        return None
+    kind = "edits" if folder.startswith("rt-edit-") else "tests" if "--test" in words else "proof"
+    return crate, kind
+
+
+class Clock:
+    def __init__(self, root):
+        self.root = root
+        self.seen = {}
+
+    def look(self):
+        """Notes for each check that runs now when it was seen first and last, and its ticks."""
+        now, all_stats = time.monotonic(), stats()
+        for pid in below(self.root, all_stats):
+            parent, ticks = all_stats[pid]
+            if pid in self.seen:
+                self.seen[pid][2:] = [now, ticks]
+            elif parent not in self.seen and (task := task_of(pid)):
+                self.seen[pid] = [task, now, now, ticks]
+
+    def watch(self, ended):
+        while not ended.wait(EACH):
+            self.look()
+
+    def totals(self):
+        """The seconds and the processor seconds of each crate and kind."""
+        found = {}
+        for task, first, last, ticks in self.seen.values():
+            seconds, used = found.get(task, (0, 0))
+            found[task] = seconds + last - first + EACH, used + ticks / TICK
+        return found
+
+
+def main(words):
+    begin = time.monotonic()
+    ran = subprocess.Popen(words, stdout=subprocess.PIPE)
+    clock, ended = Clock(ran.pid), threading.Event()
+    watcher = threading.Thread(target=clock.watch, args=[ended], daemon=True)
+    watcher.start()
+    for line in ran.stdout:
+        sys.stdout.buffer.write(line)
+        sys.stdout.buffer.flush()
+    status = ran.wait()
+    ended.set()
+    watcher.join()
+    for (crate, kind), (seconds, used) in sorted(clock.totals().items()):
+        print(f"clock: {crate} {kind} {seconds:.0f} {used:.0f}")
+    print(f"clock: whole {time.monotonic() - begin:.0f}", flush=True)
+    return status if status >= 0 else 128 - status
+
+
+if __name__ == "__main__":
+    sys.exit(main(sys.argv[1:]))
