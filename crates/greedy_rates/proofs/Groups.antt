@@ -70,7 +70,8 @@ group_more flows behind n b lt above within like all =
     }
 
 -- the flow joins the group of the next one
-pub group_joins : (flows : List Flow) (behind : List ℕ) (n b : ℕ) → b ≡ get_or behind (n + 1) b → n + 1 < length flows → coflow_of flows (n + 1) ≡ coflow_of flows n → ingress_of flows (n + 1) ≡ ingress_of flows n →
+pub group_joins : (flows : List Flow) (behind : List ℕ) (n b : ℕ) → b ≡ get_or behind (n + 1) b → n + 1 < length flows → coflow_of flows (n + 1) ≡ coflow_of flows n →
+    ingress_of flows (n + 1) ≡ ingress_of flows n →
     IsGroupsFrom flows behind (n + 1) → IsGroupsFrom flows (set behind n b) n
 group_joins flows behind n b read lt c i all =
     let is : b ≡ get_or behind (n + 1) 0 = omega (arith, read, get_or_default behind (n + 1) 0 b (omega (arith, lt, all.count))) in

@@ -47,7 +47,8 @@ next_coflow flows line starts k at once lt in' = record {
 }
 
 -- before its flows are looked at
-pub coflow_begins : (flows : List Flow) (line : List ℕ) (left : ℕ → ℕ) (k first end : ℕ) (at : List (Option ℕ)) (busy : List Bool) → IsNext flows line k first end → IsGranting flows line left k 0 at busy → IsGranting flows line left k first at busy
+pub coflow_begins : (flows : List Flow) (line : List ℕ) (left : ℕ → ℕ) (k first end : ℕ) (at : List (Option ℕ)) (busy : List Bool) → IsNext flows line k first end →
+    IsGranting flows line left k 0 at busy → IsGranting flows line left k first at busy
 coflow_begins flows line left k first end at busy next so_far = front_moves flows line left k 0 k first at busy
     (λ f lt seen. elim seen [
       | inl low ↦ inl low
@@ -59,7 +60,8 @@ coflow_begins flows line left k first end at busy next so_far = front_moves flow
     ]) so_far
 
 -- once all its flows were looked at
-pub coflow_ends : (flows : List Flow) (line : List ℕ) (left : ℕ → ℕ) (k first end n : ℕ) (at : List (Option ℕ)) (busy : List Bool) → IsNext flows line k first end → end ≤ n → IsGranting flows line left k n at busy → IsGranting flows line left (k + 1) 0 at busy
+pub coflow_ends : (flows : List Flow) (line : List ℕ) (left : ℕ → ℕ) (k first end n : ℕ) (at : List (Option ℕ)) (busy : List Bool) → IsNext flows line k first end → end ≤ n →
+    IsGranting flows line left k n at busy → IsGranting flows line left (k + 1) 0 at busy
 coflow_ends flows line left k first end n at busy next le so_far = front_moves flows line left k n (k + 1) 0 at busy
     (λ f lt seen. elim seen [
       | inl low ↦ inl (omega (arith, low))
@@ -85,17 +87,20 @@ never_before_itself : (flows : List Flow) (line : List ℕ) (f g : ℕ) → f �
 never_before_itself flows line f g e (inl low) = omega (arith, low, ap (λ (x : ℕ). place_in line (coflow_of flows x)) e)
 never_before_itself flows line f g e (inr (_, low)) = omega (arith, low, e)
 
-same_flow : (flows : List Flow) (line : List ℕ) (left : ℕ → ℕ) (k n : ℕ) (at : List (Option ℕ)) (busy : List Bool) (f g : ℕ) → IsGranting flows line left k n at busy → Stands flows at f → Stands flows at g → SharesPort flows g f → f ≡ g
+same_flow : (flows : List Flow) (line : List ℕ) (left : ℕ → ℕ) (k n : ℕ) (at : List (Option ℕ)) (busy : List Bool) (f g : ℕ) → IsGranting flows line left k n at busy →
+    Stands flows at f → Stands flows at g → SharesPort flows g f → f ≡ g
 same_flow flows line left k n at busy f g all sf sg (inl e) = same_some f g (sym sf ∙ ap (flow_at_ingress at) (sym e) ∙ sg)
 same_flow flows line left k n at busy f g all sf sg (inr e) = all.apart f g sf sg (sym e)
 
 -- a flow of the list stands, and one that stands is in the list
-listed_stands : (flows : List Flow) (line : List ℕ) (left : ℕ → ℕ) (k n : ℕ) (at : List (Option ℕ)) (busy : List Bool) (listed : List ℕ) → IsGranting flows line left k n at busy → IsListing at (length at) listed → (f : ℕ) → Contains listed f → Stands flows at f
+listed_stands : (flows : List Flow) (line : List ℕ) (left : ℕ → ℕ) (k n : ℕ) (at : List (Option ℕ)) (busy : List Bool) (listed : List ℕ) → IsGranting flows line left k n at busy →
+    IsListing at (length at) listed → (f : ℕ) → Contains listed f → Stands flows at f
 listed_stands flows line left k n at busy listed all list f has =
     let (p, _, e) = list.from f has in
     ap (flow_at_ingress at) (all.own p f e) ∙ e
 
-pub grants_are : (flows : List Flow) (line : List ℕ) (left : ℕ → ℕ) (at : List (Option ℕ)) (busy : List Bool) (listed : List ℕ) → IsGranting flows line left (length line) 0 at busy → IsListing at (length at) listed → IsStrictlyIncreasing listed → IsGrants flows line left listed
+pub grants_are : (flows : List Flow) (line : List ℕ) (left : ℕ → ℕ) (at : List (Option ℕ)) (busy : List Bool) (listed : List ℕ) →
+    IsGranting flows line left (length line) 0 at busy → IsListing at (length at) listed → IsStrictlyIncreasing listed → IsGrants flows line left listed
 grants_are flows line left at busy listed all list ascends =
     let stands = λ (f : ℕ) (has : Contains listed f). listed_stands flows line left (length line) 0 at busy listed all list f has in
     let there = λ (f : ℕ) (s : Stands flows at f). list.all (ingress_of flows f) f (within at (ingress_of flows f) f s) s in
@@ -107,21 +112,31 @@ grants_are flows line left at busy listed all list ascends =
         | inr (_, low) ↦ absurd (omega (arith, low))
       ]);
       owed = λ f has. all.owed f (stands f has);
-      free = λ f has (g, in', before, shares). never_before_itself flows line f g (same_flow flows line left (length line) 0 at busy f g all (stands f has) (stands g in') shares) before;
+      free = λ f has (g, in', before, shares). never_before_itself flows line f g (same_flow flows line left (length line) 0 at busy f g all (stands f has) (stands g in') shares)
+          before;
       rest = λ f lt in' some. elim (all.rest f lt (inl (place_of_member line (coflow_of flows f) in')) some) [
         | inl s ↦ inl (there f s)
         | inr (g, s, before, shares) ↦ inr (g, there g s, before, shares)
       ];
     }
 
-pub ingresses_are : (flows : List Flow) (line : List ℕ) (left : ℕ → ℕ) (k n : ℕ) (at : List (Option ℕ)) (busy : List Bool) (listed : List ℕ) → IsGranting flows line left k n at busy → IsListing at (length at) listed → TellsIngresses flows listed at
-ingresses_are flows line left k n at busy listed all list = λ p f. ((λ e. (list.all p f (within at p f e) e, all.own p f e)), (λ (has, e). ap (flow_at_ingress at) (sym e) ∙ listed_stands flows line left k n at busy listed all list f has))
+pub ingresses_are : (flows : List Flow) (line : List ℕ) (left : ℕ → ℕ) (k n : ℕ) (at : List (Option ℕ)) (busy : List Bool) (listed : List ℕ) →
+    IsGranting flows line left k n at busy → IsListing at (length at) listed → TellsIngresses flows listed at
+ingresses_are flows line left k n at busy listed all list =
+    λ p f. (
+      (λ e. (list.all p f (within at p f e) e, all.own p f e)),
+      (λ (has, e). ap (flow_at_ingress at) (sym e) ∙ listed_stands flows line left k n at busy listed all list f has),
+    )
 
-pub flows_are : (flows : List Flow) (line : List ℕ) (left : ℕ → ℕ) (k n : ℕ) (at : List (Option ℕ)) (busy : List Bool) (listed : List ℕ) → IsGranting flows line left k n at busy → IsListing at (length at) listed → All (λ f. f < length flows) listed
-flows_are flows line left k n at busy listed all list = all_of_members (λ f. f < length flows) listed (λ f has. all.flow f (listed_stands flows line left k n at busy listed all list f has))
+pub flows_are : (flows : List Flow) (line : List ℕ) (left : ℕ → ℕ) (k n : ℕ) (at : List (Option ℕ)) (busy : List Bool) (listed : List ℕ) → IsGranting flows line left k n at busy →
+    IsListing at (length at) listed → All (λ f. f < length flows) listed
+flows_are flows line left k n at busy listed all list =
+    all_of_members (λ f. f < length flows) listed (λ f has. all.flow f (listed_stands flows line left k n at busy listed all list f has))
 
-pub one_ingress : (flows : List Flow) (line : List ℕ) (left : ℕ → ℕ) (k n : ℕ) (at : List (Option ℕ)) (busy : List Bool) → IsGranting flows line left k n at busy → (p q f : ℕ) → flow_at_ingress at p ≡ Some f → flow_at_ingress at q ≡ Some f → p ≡ q
+pub one_ingress : (flows : List Flow) (line : List ℕ) (left : ℕ → ℕ) (k n : ℕ) (at : List (Option ℕ)) (busy : List Bool) → IsGranting flows line left k n at busy → (p q f : ℕ) →
+    flow_at_ingress at p ≡ Some f → flow_at_ingress at q ≡ Some f → p ≡ q
 one_ingress flows line left k n at busy all p q f a b = sym (all.own p f a) ∙ all.own q f b
 
-pub stands_within : (flows : List Flow) (line : List ℕ) (left : ℕ → ℕ) (k n : ℕ) (at : List (Option ℕ)) (busy : List Bool) (p f : ℕ) → IsGranting flows line left k n at busy → flow_at_ingress at p ≡ Some f → f < length flows
+pub stands_within : (flows : List Flow) (line : List ℕ) (left : ℕ → ℕ) (k n : ℕ) (at : List (Option ℕ)) (busy : List Bool) (p f : ℕ) → IsGranting flows line left k n at busy →
+    flow_at_ingress at p ≡ Some f → f < length flows
 stands_within flows line left k n at busy p f all e = all.flow f (ap (flow_at_ingress at) (all.own p f e) ∙ e)

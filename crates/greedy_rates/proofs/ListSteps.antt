@@ -1,5 +1,6 @@
 -- The flows at the ingress ports, one after another.
-use Rattle.std.proofs.Common.{◌≡◌, ◌≢◌, ℕ, ◌+◌, ◌≤◌, ◌<◌, inl, inr, List, [], ◌∷◌, ◌++◌, Option, Some, None, length, get_or, set, take, drop, min, false, true≢false, Contains, sym, ap, subst, ◌∙◌, arith}
+use Rattle.std.proofs.Common.{◌≡◌, ◌≢◌, ℕ, ◌+◌, ◌≤◌, ◌<◌, inl, inr, List, [], ◌∷◌, ◌++◌, Option, Some, None, length, get_or, set, take, drop, min, false, true≢false, Contains, sym}
+use Rattle.std.proofs.Common.{ap, subst, ◌∙◌, arith}
 use Rattle.std.specs.Prelude.{Any, All, ◌==◌}
 use Rattle.std.proofs.lemmas.Grind.{common_steps}
 use Rattle.std.proofs.lemmas.Bool.{cases_eq, cases_lt, ne_eqb, eq-eqb}
@@ -35,7 +36,8 @@ list_skips at n listed none so_far = record {
   once = so_far.once;
 }
 
-list_grows : (at : List (Option ℕ)) (n f : ℕ) (listed : List ℕ) → ((p q g : ℕ) → flow_at_ingress at p ≡ Some g → flow_at_ingress at q ≡ Some g → p ≡ q) → flow_at_ingress at n ≡ Some f → IsListing at n listed → IsListing at (n + 1) (listed ++ f ∷ [])
+list_grows : (at : List (Option ℕ)) (n f : ℕ) (listed : List ℕ) → ((p q g : ℕ) → flow_at_ingress at p ≡ Some g → flow_at_ingress at q ≡ Some g → p ≡ q) →
+    flow_at_ingress at n ≡ Some f → IsListing at n listed → IsListing at (n + 1) (listed ++ f ∷ [])
 list_grows at n f listed one some so_far = record {
   from = λ g has. elim (Contains-push_cases listed f g has) [
     | inl old ↦ let (p, lt, e) = so_far.from g old in (p, omega (arith, lt), e)
@@ -53,9 +55,11 @@ list_grows at n f listed one some so_far = record {
       absurd (omega (arith, less, one p n f (e ∙ ap (λ (x : ℕ). Some x) same) some)));
 }
 
-pub list_takes : (at : List (Option ℕ)) (n count f : ℕ) (listed : List ℕ) → ((p q g : ℕ) → flow_at_ingress at p ≡ Some g → flow_at_ingress at q ≡ Some g → p ≡ q) → flow_at_ingress at n ≡ Some f → count < length listed → IsListing at n (take count listed) →
+pub list_takes : (at : List (Option ℕ)) (n count f : ℕ) (listed : List ℕ) → ((p q g : ℕ) → flow_at_ingress at p ≡ Some g → flow_at_ingress at q ≡ Some g → p ≡ q) →
+    flow_at_ingress at n ≡ Some f → count < length listed → IsListing at n (take count listed) →
     IsListing at (n + 1) (take (count + 1) (set listed count f))
-list_takes at n count f listed one some lt so_far = subst (λ (xs : List ℕ). IsListing at (n + 1) xs) (sym (take_more_set listed count f lt)) (list_grows at n f (take count listed) one some so_far)
+list_takes at n count f listed one some lt so_far =
+    subst (λ (xs : List ℕ). IsListing at (n + 1) xs) (sym (take_more_set listed count f lt)) (list_grows at n f (take count listed) one some so_far)
 
 -- ---- the same list, sorted
 
@@ -65,11 +69,14 @@ flips x y = elim (cases_eq x y) [
   | inr ne ↦ ne_eqb x y ne ∙ sym (ne_eqb y x (λ e. ne (sym e)))
 ]
 
-pub sorted_rises : (at : List (Option ℕ)) (n : ℕ) (listed sorted : List ℕ) → IsListing at n listed → IsPermutation listed sorted → IsSorted nat_cmp sorted → IsStrictlyIncreasing sorted
+pub sorted_rises : (at : List (Option ℕ)) (n : ℕ) (listed sorted : List ℕ) → IsListing at n listed → IsPermutation listed sorted → IsSorted nat_cmp sorted →
+    IsStrictlyIncreasing sorted
 sorted_rises at n listed sorted list moved ascends =
-    IsStrictlyIncreasing-from_distinct sorted (IsNonDecreasingBy-from_sort (λ (x : ℕ). x) sorted ascends) (IsDistinct-IsPermutation eqb flips listed sorted moved (IsDistinct-from_AllPairs Decides-eqb listed list.once))
+    IsStrictlyIncreasing-from_distinct sorted (IsNonDecreasingBy-from_sort (λ (x : ℕ). x) sorted ascends)
+    (IsDistinct-IsPermutation eqb flips listed sorted moved (IsDistinct-from_AllPairs Decides-eqb listed list.once))
 
-pub sorted_lists : (at : List (Option ℕ)) (n : ℕ) (listed sorted : List ℕ) → IsListing at n listed → IsPermutation listed sorted → IsStrictlyIncreasing sorted → IsListing at n sorted
+pub sorted_lists : (at : List (Option ℕ)) (n : ℕ) (listed sorted : List ℕ) → IsListing at n listed → IsPermutation listed sorted → IsStrictlyIncreasing sorted →
+    IsListing at n sorted
 sorted_lists at n listed sorted list moved rises = record {
   from = λ f has. list.from f (Contains-permutation sorted listed f (IsPermutation-sym listed sorted moved) has);
   all = λ p f lt e. Contains-permutation listed sorted f moved (list.all p f lt e);
@@ -78,12 +85,14 @@ sorted_lists at n listed sorted list moved rises = record {
 
 -- ---- the least so far
 
-pub least_below : (left granted : List ℕ) (i least next : ℕ) → i < length granted → next ≡ min least (get_or left (get_or granted i 0) 0) → All (λ (f : ℕ). least ≤ get_or left f 0) (take i granted) → All (λ (f : ℕ). next ≤ get_or left f 0) (take (i + 1) granted)
+pub least_below : (left granted : List ℕ) (i least next : ℕ) → i < length granted → next ≡ min least (get_or left (get_or granted i 0) 0) →
+    All (λ (f : ℕ). least ≤ get_or left f 0) (take i granted) → All (λ (f : ℕ). next ≤ get_or left f 0) (take (i + 1) granted)
 least_below left granted i least next lt is so_far = subst (λ (xs : List ℕ). All (λ (f : ℕ). next ≤ get_or left f 0) xs) (sym (take_more granted i 0 lt))
     (All-push (λ (f : ℕ). next ≤ get_or left f 0) (take i granted) (get_or granted i 0)
     (All-weaker (λ (f : ℕ). least ≤ get_or left f 0) (λ (f : ℕ). next ≤ get_or left f 0) (λ f le. omega (arith, le, is)) (take i granted) so_far) (omega (arith, is)))
 
-pub least_reached : (left granted : List ℕ) (i least next : ℕ) → i < length granted → next ≡ min least (get_or left (get_or granted i 0) 0) → Any (λ (f : ℕ). get_or left f 0 ≡ least) granted → Any (λ (f : ℕ). get_or left f 0 ≡ next) granted
+pub least_reached : (left granted : List ℕ) (i least next : ℕ) → i < length granted → next ≡ min least (get_or left (get_or granted i 0) 0) →
+    Any (λ (f : ℕ). get_or left f 0 ≡ least) granted → Any (λ (f : ℕ). get_or left f 0 ≡ next) granted
 least_reached left granted i least next lt is (k, x, in', at, e) = elim (cases_lt (get_or left (get_or granted i 0) 0) least) [
   | inl less ↦ (i, get_or granted i 0, lt, get_or_default granted i (get_or granted i 0) 0 lt, omega (arith, less, is))
   | inr more ↦ (k, x, in', at, omega (arith, more, e, is))

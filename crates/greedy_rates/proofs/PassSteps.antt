@@ -21,7 +21,8 @@ not_some (Some x) e = absurd (true≢false e)
 pub same_some : (x y : ℕ) → Some x ≡ Some y → x ≡ y
 same_some x y e = ap (λ (o : Option ℕ). unwrap_or o 0) e
 
-pub nothing_stands : (flows : List Flow) (line : List ℕ) (left : ℕ → ℕ) (at : List (Option ℕ)) (busy : List Bool) → ((p : ℕ) → flow_at_ingress at p ≡ None) → ((p : ℕ) → get_or busy p false ≡ false) →
+pub nothing_stands : (flows : List Flow) (line : List ℕ) (left : ℕ → ℕ) (at : List (Option ℕ)) (busy : List Bool) → ((p : ℕ) → flow_at_ingress at p ≡ None) →
+    ((p : ℕ) → get_or busy p false ≡ false) →
     IsGranting flows line left 0 0 at busy
 nothing_stands flows line left at busy none free = record {
   own = λ p f e. absurd (not_none (flow_at_ingress at p) f (none p) e);
@@ -38,7 +39,8 @@ nothing_stands flows line left at busy none free = record {
 }
 
 -- the same flows were looked at
-pub front_moves : (flows : List Flow) (line : List ℕ) (left : ℕ → ℕ) (k n k' n' : ℕ) (at : List (Option ℕ)) (busy : List Bool) → ((f : ℕ) → f < length flows → IsLookedAt flows line k n f → IsLookedAt flows line k' n' f) →
+pub front_moves : (flows : List Flow) (line : List ℕ) (left : ℕ → ℕ) (k n k' n' : ℕ) (at : List (Option ℕ)) (busy : List Bool) →
+    ((f : ℕ) → f < length flows → IsLookedAt flows line k n f → IsLookedAt flows line k' n' f) →
     ((f : ℕ) → f < length flows → IsLookedAt flows line k' n' f → IsLookedAt flows line k n f) → IsGranting flows line left k n at busy → IsGranting flows line left k' n' at busy
 front_moves flows line left k n k' n' at busy there back so_far = record {
   own = so_far.own;
@@ -82,12 +84,18 @@ skip_flow flows line left k n at busy here blocking so_far = record {
     | inl old ↦ so_far.rest f lt old some
     | inr same ↦
         let (g, s, shares) = blocking (subst (λ (x : ℕ). 0 < left x) same some) in
-        inr (g, s, subst (λ (x : ℕ). ComesBefore flows line g x) (sym same) (in_front flows line k n g here (so_far.looked_at g s)), subst (λ (x : ℕ). SharesPort flows g x) (sym same) shares)
+        inr (
+          g,
+          s,
+          subst (λ (x : ℕ). ComesBefore flows line g x) (sym same) (in_front flows line k n g here (so_far.looked_at g s)),
+          subst (λ (x : ℕ). SharesPort flows g x) (sym same) shares,
+        )
   ];
 }
 
 -- its ingress has a flow
-pub skip_sent : (flows : List Flow) (line : List ℕ) (left : ℕ → ℕ) (k n : ℕ) (at : List (Option ℕ)) (busy : List Bool) → place_in line (coflow_of flows n) ≡ k → is_some (flow_at_ingress at (ingress_of flows n)) ≡ true →
+pub skip_sent : (flows : List Flow) (line : List ℕ) (left : ℕ → ℕ) (k n : ℕ) (at : List (Option ℕ)) (busy : List Bool) → place_in line (coflow_of flows n) ≡ k →
+    is_some (flow_at_ingress at (ingress_of flows n)) ≡ true →
     IsGranting flows line left k n at busy → IsGranting flows line left k (n + 1) at busy
 skip_sent flows line left k n at busy here is so_far = skip_flow flows line left k n at busy here (λ _. stands (flow_at_ingress at (ingress_of flows n)) refl is) so_far where
   stands : (o : Option ℕ) → flow_at_ingress at (ingress_of flows n) ≡ o → is_some o ≡ true → (g : ℕ) × Stands flows at g × SharesPort flows g n
@@ -95,9 +103,11 @@ skip_sent flows line left k n at busy here is so_far = skip_flow flows line left
   stands (Some g) e _ = let same = so_far.own (ingress_of flows n) g e in (g, ap (flow_at_ingress at) same ∙ e, inl same)
 
 -- its egress has a flow
-pub skip_received : (flows : List Flow) (line : List ℕ) (left : ℕ → ℕ) (k n : ℕ) (at : List (Option ℕ)) (busy : List Bool) → place_in line (coflow_of flows n) ≡ k → get_or busy (egress_of flows n) false ≡ true →
+pub skip_received : (flows : List Flow) (line : List ℕ) (left : ℕ → ℕ) (k n : ℕ) (at : List (Option ℕ)) (busy : List Bool) → place_in line (coflow_of flows n) ≡ k →
+    get_or busy (egress_of flows n) false ≡ true →
     IsGranting flows line left k n at busy → IsGranting flows line left k (n + 1) at busy
-skip_received flows line left k n at busy here is so_far = skip_flow flows line left k n at busy here (λ _. let (g, s, same) = so_far.by (egress_of flows n) is in (g, s, inr same)) so_far
+skip_received flows line left k n at busy here is so_far =
+    skip_flow flows line left k n at busy here (λ _. let (g, s, same) = so_far.by (egress_of flows n) is in (g, s, inr same)) so_far
 
 -- what stands at an ingress once a flow was put there
 new_or_old : (at : List (Option ℕ)) (i n p f : ℕ) → i < length at → flow_at_ingress (set at i (Some n)) p ≡ Some f → ((f ≡ n) × (p ≡ i)) ⊎ (flow_at_ingress at p ≡ Some f)
@@ -107,7 +117,8 @@ new_or_old at i n p f lt e = elim (cases_eq p i) [
 ]
 
 -- the next flow owes and finds both of its ports free
-pub grant_flow : (flows : List Flow) (line : List ℕ) (left : ℕ → ℕ) (k n : ℕ) (at : List (Option ℕ)) (busy : List Bool) → n < length flows → place_in line (coflow_of flows n) ≡ k → 0 < left n → ingress_of flows n < length at → egress_of flows n < length busy →
+pub grant_flow : (flows : List Flow) (line : List ℕ) (left : ℕ → ℕ) (k n : ℕ) (at : List (Option ℕ)) (busy : List Bool) → n < length flows → place_in line (coflow_of flows n) ≡ k →
+    0 < left n → ingress_of flows n < length at → egress_of flows n < length busy →
     flow_at_ingress at (ingress_of flows n) ≡ None → get_or busy (egress_of flows n) false ≡ false → IsGranting flows line left k n at busy →
     IsGranting flows line left k (n + 1) (set at (ingress_of flows n) (Some n)) (set busy (egress_of flows n) true)
 grant_flow flows line left k n at busy in' here some in_range out_range in_free out_free so_far =
@@ -117,7 +128,8 @@ grant_flow flows line left k n at busy in' here some in_range out_range in_free 
     let marks = set busy e true in
     let split = λ (f : ℕ) (s : Stands flows after f). new_or_old at i n (ingress_of flows f) f in_range s in
     let new : Stands flows after n = get_or-set_at at i i (Some n) None refl in_range in
-    let keep = λ (f : ℕ) (s : Stands flows at f). get_or-set_other at i (ingress_of flows f) (Some n) None (λ same. not_none (flow_at_ingress at (ingress_of flows f)) f (ap (flow_at_ingress at) same ∙ in_free) s) ∙ s in
+    let keep = λ (f : ℕ) (s : Stands flows at f).
+    get_or-set_other at i (ingress_of flows f) (Some n) None (λ same. not_none (flow_at_ingress at (ingress_of flows f)) f (ap (flow_at_ingress at) same ∙ in_free) s) ∙ s in
     let marked = λ (f : ℕ) (s : Stands flows at f) (same : egress_of flows f ≡ e). true≢false (sym (so_far.used f s) ∙ ap (λ (p : ℕ). get_or busy p false) same ∙ out_free) in
     record {
       own = λ p f h. elim (new_or_old at i n p f in_range h) [

@@ -1,5 +1,6 @@
 -- Sums of the units left, by a key of the flows, when one flow's units change.
-use Rattle.std.proofs.Common.{◌≡◌, ◌≢◌, ℕ, ◌+◌, ◌-◌, ◌^◌, ◌≤◌, ◌<◌, ◌==◌, inl, inr, Bool, true, false, cond, List, length, get_or, set, replicate, refl, sym, ap, subst, ◌∙◌, arith, length-set}
+use Rattle.std.proofs.Common.{◌≡◌, ◌≢◌, ℕ, ◌+◌, ◌-◌, ◌^◌, ◌≤◌, ◌<◌, ◌==◌, inl, inr, Bool, true, false, cond, List, length, get_or, set, replicate, refl, sym, ap, subst, ◌∙◌, arith}
+use Rattle.std.proofs.Common.{length-set}
 use Rattle.std.specs.Prelude.{sum_by, sum, map}
 use Rattle.std.specs.List.{range_with_len}
 use Rattle.std.proofs.lemmas.Bool.{cases_eq, cases_lt, eqb-true, eq-eqb}
@@ -19,12 +20,22 @@ part key left k f = cond (key f == k) (get_or left f 0) 0
 pub left_within : (key : ℕ → ℕ) (left table : List ℕ) (a : ℕ) → IsTally key left table → a < length left → get_or left a 0 ≤ get_or table (key a) 0
 left_within key left table a tally lt =
     let whole : get_or left a 0 ≡ part key left (key a) a = sym (ap {B = ℕ} (λ b. cond b (get_or left a 0) 0) (eq-eqb (key a) (key a) refl)) in
-    omega (arith, whole, member_within_sum (part key left (key a)) (range_with_len 0 (length left)) a (number_in 0 (length left) a (omega arith) (omega (arith, lt))), tally.sums (key a) (tally.within a lt))
+    omega (
+      arith,
+      whole,
+      member_within_sum (part key left (key a)) (range_with_len 0 (length left)) a (number_in 0 (length left) a (omega arith) (omega (arith, lt))),
+      tally.sums (key a) (tally.within a lt),
+    )
 
 -- a key's sum is within the sum of all
 pub within_all : (key : ℕ → ℕ) (left table : List ℕ) (k : ℕ) → IsTally key left table → k < length table → get_or table k 0 ≤ sum left
 within_all key left table k tally lt =
-    omega (arith, tally.sums k lt, sum_mono (part key left k) (λ f. get_or left f 0) (range_with_len 0 (length left)) (λ f _. smaller (key f == k) f), by_number (λ (x : ℕ). x) 0 left) where
+    omega (
+      arith,
+      tally.sums k lt,
+      sum_mono (part key left k) (λ f. get_or left f 0) (range_with_len 0 (length left)) (λ f _. smaller (key f == k) f),
+      by_number (λ (x : ℕ). x) 0 left,
+    ) where
       smaller : (b : Bool) (f : ℕ) → cond b (get_or left f 0) 0 ≤ get_or left f 0
       smaller true f = omega arith
       smaller false f = omega arith
@@ -59,7 +70,8 @@ owed_changes key left after a k same lt others =
       ]
 
 -- the table follows where the place of the flow's key changes as its units do
-pub tally_follows : (key : ℕ → ℕ) (left after table : List ℕ) (a v : ℕ) → IsTally key left table → length after ≡ length left → a < length left → ((f : ℕ) → f ≢ a → get_or after f 0 ≡ get_or left f 0) →
+pub tally_follows : (key : ℕ → ℕ) (left after table : List ℕ) (a v : ℕ) → IsTally key left table → length after ≡ length left → a < length left →
+    ((f : ℕ) → f ≢ a → get_or after f 0 ≡ get_or left f 0) →
     v + get_or left a 0 ≡ get_or table (key a) 0 + get_or after a 0 → IsTally key after (set table (key a) v)
 tally_follows key left after table a v tally same lt others moved = record {
   within = λ f lt'. omega (arith, tally.within f (omega (arith, lt', same)), length-set table (key a) v);
@@ -101,33 +113,47 @@ at_place xs i read lt is = omega (arith, is, get_or_default xs i 0 read lt)
 
 -- what was read is the sum of the flow's key
 key_sum : (key : ℕ → ℕ) (left table : List ℕ) (a p read : ℕ) → IsTally key left table → a < length left → p ≡ key a → read ≡ get_or table p read → read ≡ get_or table (key a) 0
-key_sum key left table a p read tally lt here is = at_place table p read (subst (λ (n : ℕ). n < length table) (sym here) (tally.within a lt)) is ∙ ap (λ (n : ℕ). get_or table n 0) here
+key_sum key left table a p read tally lt here is = at_place table p read (subst (λ (n : ℕ). n < length table) (sym here) (tally.within a lt)) is ∙
+    ap (λ (n : ℕ). get_or table n 0) here
 
 -- the sum of a flow's key has room for more units
-pub room_for : (key : ℕ → ℕ) (left table : List ℕ) (a p units read : ℕ) → IsTally key left table → a < length left → p ≡ key a → read ≡ get_or table p read → sum left + units ≤ 2 ^ 62 → read + units ≤ 2 ^ 62
-room_for key left table a p units read tally lt here is room = omega (arith, key_sum key left table a p read tally lt here is, within_all key left table (key a) tally (tally.within a lt), room)
+pub room_for : (key : ℕ → ℕ) (left table : List ℕ) (a p units read : ℕ) → IsTally key left table → a < length left → p ≡ key a → read ≡ get_or table p read →
+    sum left + units ≤ 2 ^ 62 → read + units ≤ 2 ^ 62
+room_for key left table a p units read tally lt here is room =
+    omega (arith, key_sum key left table a p read tally lt here is, within_all key left table (key a) tally (tally.within a lt), room)
 
 -- the sum of a flow's key has the units that the flow has
-pub enough_in : (key : ℕ → ℕ) (left table : List ℕ) (a p units read : ℕ) → IsTally key left table → a < length left → p ≡ key a → read ≡ get_or table p read → units ≤ get_or left a 0 → units ≤ read
+pub enough_in : (key : ℕ → ℕ) (left table : List ℕ) (a p units read : ℕ) → IsTally key left table → a < length left → p ≡ key a → read ≡ get_or table p read →
+    units ≤ get_or left a 0 → units ≤ read
 enough_in key left table a p units read tally lt here is enough = omega (arith, key_sum key left table a p read tally lt here is, left_within key left table a tally lt, enough)
 
-pub tally_grows : (key : ℕ → ℕ) (left table : List ℕ) (a p units was read : ℕ) → IsTally key left table → a < length left → p ≡ key a → was ≡ get_or left a was → read ≡ get_or table p read →
+pub tally_grows : (key : ℕ → ℕ) (left table : List ℕ) (a p units was read : ℕ) → IsTally key left table → a < length left → p ≡ key a → was ≡ get_or left a was →
+    read ≡ get_or table p read →
     IsTally key (set left a (was + units)) (set table p (read + units))
 tally_grows key left table a p units was read tally lt here left_is table_is =
     subst (λ (n : ℕ). IsTally key (set left a (was + units)) (set table n (read + units))) (sym here)
     (tally_follows key left (set left a (was + units)) table a (read + units) tally (length-set left a (was + units)) lt (λ f ne. get_or-set_other left a f (was + units) 0 ne)
     (omega (arith, at_place left a was lt left_is, key_sum key left table a p read tally lt here table_is, get_or-set_at left a a (was + units) 0 refl lt)))
 
-pub tally_falls : (key : ℕ → ℕ) (left table : List ℕ) (a p units was read : ℕ) → IsTally key left table → a < length left → p ≡ key a → was ≡ get_or left a was → read ≡ get_or table p read → units ≤ get_or left a 0 →
+pub tally_falls : (key : ℕ → ℕ) (left table : List ℕ) (a p units was read : ℕ) → IsTally key left table → a < length left → p ≡ key a → was ≡ get_or left a was →
+    read ≡ get_or table p read → units ≤ get_or left a 0 →
     IsTally key (set left a (was - units)) (set table p (read - units))
 tally_falls key left table a p units was read tally lt here left_is table_is enough =
     subst (λ (n : ℕ). IsTally key (set left a (was - units)) (set table n (read - units))) (sym here)
     (tally_follows key left (set left a (was - units)) table a (read - units) tally (length-set left a (was - units)) lt (λ f ne. get_or-set_other left a f (was - units) 0 ne)
-    (omega (arith, at_place left a was lt left_is, key_sum key left table a p read tally lt here table_is, get_or-set_at left a a (was - units) 0 refl lt, enough, left_within key left table a tally lt)))
+    (omega (
+      arith,
+      at_place left a was lt left_is,
+      key_sum key left table a p read tally lt here table_is,
+      get_or-set_at left a a (was - units) 0 refl lt,
+      enough,
+      left_within key left table a tally lt,
+    )))
 
 -- ---- where nothing is owed, and where flows come one after another
 
-pub tally_of_nothing : (key : ℕ → ℕ) (left table : List ℕ) → ((f : ℕ) → get_or left f 0 ≡ 0) → ((k : ℕ) → get_or table k 0 ≡ 0) → ((f : ℕ) → f < length left → key f < length table) → IsTally key left table
+pub tally_of_nothing : (key : ℕ → ℕ) (left table : List ℕ) → ((f : ℕ) → get_or left f 0 ≡ 0) → ((k : ℕ) → get_or table k 0 ≡ 0) →
+    ((f : ℕ) → f < length left → key f < length table) → IsTally key left table
 tally_of_nothing key left table none empty within = record {
   within = within;
   sums = λ k lt. empty k ∙ sym (sum_same (part key left k) (λ _. 0) (range_with_len 0 (length left)) (λ f _. nothing (key f == k) f) ∙ sum_zero (range_with_len 0 (length left)));
@@ -137,7 +163,8 @@ tally_of_nothing key left table none empty within = record {
   nothing false f = refl
 
 -- the units of the next flow fit beside those of the flows so far
-pub next_fits : (flows : List Flow) (left : List ℕ) (n : ℕ) → length left ≡ length flows → n < length flows → ((f : ℕ) → f < n → get_or left f 0 ≡ units_of flows f) → ((f : ℕ) → n ≤ f → get_or left f 0 ≡ 0) →
+pub next_fits : (flows : List Flow) (left : List ℕ) (n : ℕ) → length left ≡ length flows → n < length flows → ((f : ℕ) → f < n → get_or left f 0 ≡ units_of flows f) →
+    ((f : ℕ) → n ≤ f → get_or left f 0 ≡ 0) →
     sum left + units_of flows n ≤ sum_by (λ (x : Flow). x.units) flows
 next_fits flows left n same lt done rest =
     let ns = range_with_len 0 (length left) in
@@ -163,7 +190,8 @@ next_fits flows left n same lt done rest =
         differ false e ne = e
 
 -- every flow owes its units
-pub all_units : (flows : List Flow) (left : List ℕ) (n : ℕ) → length left ≡ length flows → length flows ≤ n → ((f : ℕ) → f < n → get_or left f 0 ≡ units_of flows f) → left ≡ map (λ (x : Flow). x.units) flows
+pub all_units : (flows : List Flow) (left : List ℕ) (n : ℕ) → length left ≡ length flows → length flows ≤ n → ((f : ℕ) → f < n → get_or left f 0 ≡ units_of flows f) →
+    left ≡ map (λ (x : Flow). x.units) flows
 all_units flows left n same le done = ext_get_or 0 left (map (λ (x : Flow). x.units) flows) (same ∙ sym (length-map flows (λ (x : Flow). x.units))) (λ f lt.
     done f (omega (arith, lt, same, le)) ∙ sym (get_or-map (λ (x : Flow). x.units) flows f record { coflow = 0; ingress = 0; egress = 0; units = 0 } 0 (omega (arith, lt, same))))
 
@@ -176,4 +204,5 @@ zero_at n k = elim (cases_lt k n) [
 pub zeros_tally : (key : ℕ → ℕ) (left table : List ℕ) (n size : ℕ) → left ≡ replicate n 0 → table ≡ replicate size 0 → ((f : ℕ) → f < n → key f < size) → IsTally key left table
 zeros_tally key left table n size e e' within =
     subst (λ (xs : List ℕ). IsTally key xs table) (sym e) (subst (λ (ys : List ℕ). IsTally key (replicate n 0) ys) (sym e')
-    (tally_of_nothing key (replicate n 0) (replicate size 0) (zero_at n) (zero_at size) (λ f lt. omega (arith, within f (omega (arith, lt, length-replicate {A = ℕ} n 0)), length-replicate {A = ℕ} size 0))))
+    (tally_of_nothing key (replicate n 0) (replicate size 0) (zero_at n) (zero_at size)
+    (λ f lt. omega (arith, within f (omega (arith, lt, length-replicate {A = ℕ} n 0)), length-replicate {A = ℕ} size 0))))

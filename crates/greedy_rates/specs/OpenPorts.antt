@@ -1,5 +1,6 @@
 -- Ports at which a pass can still grant: some flow owes there, and none stands.
-use Rattle.std.specs.Prelude.{ℕ, ◌&&◌, Bool, false, not, if◌then◌else◌, List, Option, length, nat_lt, slice_index, sum_by}
+use Rattle.std.specs.Prelude.{ℕ, ◌&&◌, Bool, false, not, if◌then◌else◌, List, Option, length, nat_lt, slice_index}
+use Rattle.std.specs.Prelude.{sum_by}
 use Rattle.std.specs.List.{range_with_len, slice_index_or}
 use Rattle.std.specs.Option.{is_some}
 use Rattle.greedy_rates.specs.Room.{flow_at_ingress}

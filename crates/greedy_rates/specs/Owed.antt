@@ -1,10 +1,12 @@
--- What the flows owe, with its sums by coflow, by port and by group. A group is flows of one coflow that begin at one ingress and stand one behind another.
+-- What the flows owe, with its sums by coflow, by port and by group. A group is flows of one coflow that begin at one
+-- ingress and stand one behind another.
 use Rattle.std.specs.Prelude.{◌≡◌, ℕ, ◌<◌, ◌≤◌, ◌==◌, List, if◌then◌else◌, length, slice_index, sum_by}
 use Rattle.std.specs.List.{range_with_len}
 use Rattle.coflow_units.specs.declared.fabric.Flow.{Flow}
 use Rattle.coflow_units.specs.Flows.{coflow_of, ingress_of, egress_of}
 
--- the units left of each flow, their sums, and for each flow the number behind its group; the sum of a group stands at that number
+-- the units left of each flow, their sums, and for each flow the number behind its group; the sum of a group stands at
+-- that number
 pub record Owed : Type 0 where
   pub left : List ℕ
   pub of_coflow : List ℕ
@@ -22,14 +24,17 @@ pub record IsTally (key : ℕ → ℕ) (left table : List ℕ) : Type 0 where
   pub within : (f : ℕ) → f < length left → key f < length table
   pub sums : (k : ℕ) → k < length table → slice_index table k ≡ owed_by key left k
 
--- the flows from any flow up to the number behind its group are of its coflow, begin at its ingress, and are of its group
+-- the flows from any flow up to the number behind its group are of its coflow, begin at its ingress, and are of its
+-- group
 pub record IsGroups (flows : List Flow) (behind : List ℕ) : Type 0 where
   pub count : length behind ≡ length flows
   pub above : (f : ℕ) → f < length flows → f < slice_index behind f
   pub within : (f : ℕ) → f < length flows → slice_index behind f ≤ length flows
   pub coflow : (f g : ℕ) → f < length flows → f ≤ g → g < slice_index behind f → coflow_of flows g ≡ coflow_of flows f
-  pub ingress : (f g : ℕ) → f < length flows → f ≤ g → g < slice_index behind f → ingress_of flows g ≡ ingress_of flows f
-  pub same : (f g : ℕ) → f < length flows → f ≤ g → g < slice_index behind f → slice_index behind g ≡ slice_index behind f
+  pub ingress : (f g : ℕ) → f < length flows → f ≤ g → g < slice_index behind f →
+      ingress_of flows g ≡ ingress_of flows f
+  pub same : (f g : ℕ) → f < length flows → f ≤ g → g < slice_index behind f →
+      slice_index behind g ≡ slice_index behind f
 
 -- the sums are those of these flows
 pub record IsOwed (flows : List Flow) (o : Owed) : Type 0 where

@@ -8,7 +8,8 @@ use Rattle.greedy_rates.specs.Room.{flow_at_ingress}
 
 -- the flows of the first k coflows of the line, and those of the next coflow with a number below n
 abbrev pub IsLookedAt : List Flow → List ℕ → ℕ → ℕ → ℕ → Type 0
-IsLookedAt flows line k n f = (place_in line (coflow_of flows f) < k) ⊎ ((place_in line (coflow_of flows f) ≡ k) × (f < n))
+IsLookedAt flows line k n f = (place_in line (coflow_of flows f) < k) ⊎
+    ((place_in line (coflow_of flows f) ≡ k) × (f < n))
 
 -- the flow stands at its ingress
 abbrev pub Stands : List Flow → List (Option ℕ) → ℕ → Type 0
@@ -18,17 +19,21 @@ Stands flows at f = flow_at_ingress at (ingress_of flows f) ≡ Some f
 abbrev pub IsCrossed : List Flow → List ℕ → List (Option ℕ) → ℕ → Type 0
 IsCrossed flows line at f = (g : ℕ) × Stands flows at g × ComesBefore flows line g f × SharesPort flows g f
 
--- The flows that stand were looked at and owe, no two of them share a port, and the egress ports marked as busy are theirs.
+-- The flows that stand were looked at and owe, no two of them share a port, and the egress ports marked as busy are
+-- theirs.
 -- A flow that was looked at and owes stands too, or one that stands comes before it and has a port in common.
-pub record IsGranting (flows : List Flow) (line : List ℕ) (left : ℕ → ℕ) (k n : ℕ) (at : List (Option ℕ)) (busy : List Bool) : Type 0 where
+pub record IsGranting (flows : List Flow) (line : List ℕ) (left : ℕ →
+    ℕ) (k n : ℕ) (at : List (Option ℕ)) (busy : List Bool) : Type 0 where
   pub own : (ingress f : ℕ) → flow_at_ingress at ingress ≡ Some f → ingress_of flows f ≡ ingress
   pub flow : (f : ℕ) → Stands flows at f → f < length flows
   pub looked_at : (f : ℕ) → Stands flows at f → IsLookedAt flows line k n f
   pub owed : (f : ℕ) → Stands flows at f → 0 < left f
   pub apart : (f g : ℕ) → Stands flows at f → Stands flows at g → egress_of flows f ≡ egress_of flows g → f ≡ g
   pub used : (f : ℕ) → Stands flows at f → slice_index_or busy (egress_of flows f) false ≡ true
-  pub by : (egress : ℕ) → slice_index_or busy egress false ≡ true → (f : ℕ) × Stands flows at f × (egress_of flows f ≡ egress)
-  pub rest : (f : ℕ) → f < length flows → IsLookedAt flows line k n f → 0 < left f → Stands flows at f ⊎ IsCrossed flows line at f
+  pub by : (egress : ℕ) → slice_index_or busy egress false ≡ true →
+      (f : ℕ) × Stands flows at f × (egress_of flows f ≡ egress)
+  pub rest : (f : ℕ) → f < length flows → IsLookedAt flows line k n f → 0 < left f →
+      Stands flows at f ⊎ IsCrossed flows line at f
 
 -- the flows from the first number up to the end are those of the coflow at place k of the line
 pub record IsNext (flows : List Flow) (line : List ℕ) (k first end : ℕ) : Type 0 where

@@ -1,4 +1,5 @@
--- What is told of the grants of a slot: the granted flows, the one at each ingress, and the least units left among them.
+-- What is told of the grants of a slot: the granted flows, the one at each ingress, and the least units left among
+-- them.
 use Rattle.std.specs.Prelude.{◌≡◌, ◌≢◌, ℕ, ◌<◌, ◌≤◌, ◌^◌, ◌↔◌, List, [], All, Any, Contains, Option, None, Some}
 use Rattle.std.specs.List.{slice_index_or}
 use Rattle.coflow_units.specs.declared.fabric.Flow.{Flow}
@@ -23,7 +24,8 @@ flow_at_ingress at ingress = slice_index_or at ingress None
 
 -- the flow at an ingress is the granted one that begins there
 abbrev pub TellsIngresses : List Flow → List ℕ → List (Option ℕ) → Type 0
-TellsIngresses flows granted at = (ingress f : ℕ) → (flow_at_ingress at ingress ≡ Some f) ↔ (Contains granted f × (ingress_of flows f ≡ ingress))
+TellsIngresses flows granted at = (ingress f : ℕ) →
+    (flow_at_ingress at ingress ≡ Some f) ↔ (Contains granted f × (ingress_of flows f ≡ ingress))
 
 -- the least units left among the granted flows, and 0 where nothing is granted
 pub record IsLeastLeft (left : ℕ → ℕ) (granted : List ℕ) (n : ℕ) : Type 0 where

@@ -37,7 +37,8 @@ pub fn grant_owing_line(
     requires sums { length starts.now ≡ length owing.now.of_coflow + 1 }
     requires ingress_in_range { All (λ (x : Flow). x.ingress < length at.old) flows.now }
     requires egress_in_range { All (λ (x : Flow). x.egress < length busy.old) flows.now }
-    ensures granting { IsGranting flows.now line.now (λ f. slice_index owing.now.left f) (length line.now) 0 at.new busy.new }
+    ensures granting { IsGranting flows.now line.now (λ f. slice_index owing.now.left f) (length line.now) 0 at.new
+        busy.new }
     ensures at_len { length at.new ≡ length at.old }
     ensures busy_len { length busy.new ≡ length busy.old }
 {
@@ -96,7 +97,8 @@ fn grant_owing_coflow(
     ensures busy_len { length busy.new ≡ length busy.old }
     ensures open_ingress { ports.new.ingress ≡ open_ingresses owing.now.at_ingress at.new }
     ensures open_egress { ports.new.egress ≡ open_egresses owing.now.at_egress busy.new }
-    ensures granting { (line : List ℕ) (k : ℕ) → IsNext flows.now line k first end → IsGranting flows.now line (λ f. slice_index owing.now.left f) k 0 at.old busy.old →
+    ensures granting { (line : List ℕ) (k : ℕ) → IsNext flows.now line k first end →
+        IsGranting flows.now line (λ f. slice_index owing.now.left f) k 0 at.old busy.old →
         IsGranting flows.now line (λ f. slice_index owing.now.left f) (k + 1) 0 at.new busy.new }
 {
     let mut number = first;
@@ -136,8 +138,10 @@ fn grant_group(
     ensures busy_len { length busy.new ≡ length busy.old }
     ensures open_ingress { ports.new.ingress ≡ open_ingresses owing.now.at_ingress at.new }
     ensures open_egress { ports.new.egress ≡ open_egresses owing.now.at_egress busy.new }
-    ensures granting { (line : List ℕ) (k : ℕ) → ((f : ℕ) → first ≤ f → f < behind → place_in line (coflow_of flows.now f) ≡ k) →
-        IsGranting flows.now line (λ f. slice_index owing.now.left f) k first at.old busy.old → IsGranting flows.now line (λ f. slice_index owing.now.left f) k behind at.new busy.new }
+    ensures granting { (line : List ℕ) (k : ℕ) →
+        ((f : ℕ) → first ≤ f → f < behind → place_in line (coflow_of flows.now f) ≡ k) →
+        IsGranting flows.now line (λ f. slice_index owing.now.left f) k first at.old busy.old →
+        IsGranting flows.now line (λ f. slice_index owing.now.left f) k behind at.new busy.new }
 {
     let left = owing.left();
     for number in first..behind {

@@ -34,7 +34,14 @@ impl Model for Owing {
 
     ghost Value = { Owed };
 
-    ghost view = { λ s. record { left = s.left.items; of_coflow = s.of_coflow.items; at_ingress = s.at_ingress.items; at_egress = s.at_egress.items; behind = s.behind.items; of_group = s.of_group.items } };
+    ghost view = { λ s. record {
+      left = s.left.items;
+      of_coflow = s.of_coflow.items;
+      at_ingress = s.at_ingress.items;
+      at_egress = s.at_egress.items;
+      behind = s.behind.items;
+      of_group = s.of_group.items;
+    } };
 }
 
 impl Owing {
@@ -94,7 +101,8 @@ impl Owing {
         ensures more { slice_index self.new.left flow ≡ slice_index self.old.left flow + units }
         ensures others { (f : ℕ) → f ≢ flow → slice_index self.new.left f ≡ slice_index self.old.left f }
         ensures coflows_are { length self.new.of_coflow ≡ length self.old.of_coflow }
-        ensures ports_are { (length self.new.at_ingress ≡ length self.old.at_ingress) × (length self.new.at_egress ≡ length self.old.at_egress) }
+        ensures ports_are { (length self.new.at_ingress ≡ length self.old.at_ingress) ×
+            (length self.new.at_egress ≡ length self.old.at_egress) }
     {
         let Flow {
             coflow,
@@ -119,7 +127,8 @@ impl Owing {
         ensures less { slice_index self.new.left flow ≡ slice_index self.old.left flow - units }
         ensures others { (f : ℕ) → f ≢ flow → slice_index self.new.left f ≡ slice_index self.old.left f }
         ensures coflows_are { length self.new.of_coflow ≡ length self.old.of_coflow }
-        ensures ports_are { (length self.new.at_ingress ≡ length self.old.at_ingress) × (length self.new.at_egress ≡ length self.old.at_egress) }
+        ensures ports_are { (length self.new.at_ingress ≡ length self.old.at_ingress) ×
+            (length self.new.at_egress ≡ length self.old.at_egress) }
     {
         let Flow {
             coflow,
@@ -202,7 +211,9 @@ fn groups_of(alloc: Global, flows: &[Flow]) -> Result<Vec<u32>, NoMemory>
 /// The next flow is of the same coflow and begins at the same ingress.
 fn goes_on(flows: &[Flow], number: usize) -> bool
     requires { number < length flows.now }
-    ensures { IsTrue result ↔ ((number + 1 < length flows.now) × (coflow_of flows.now (number + 1) ≡ coflow_of flows.now number) × (ingress_of flows.now (number + 1) ≡ ingress_of flows.now number)) }
+    ensures { IsTrue result ↔ ((number + 1 < length flows.now) ×
+        (coflow_of flows.now (number + 1) ≡ coflow_of flows.now number) ×
+        (ingress_of flows.now (number + 1) ≡ ingress_of flows.now number)) }
 {
     let Some(next) = flows.get(number + 1) else {
         return false;

@@ -70,7 +70,8 @@ fn grant_coflow(
     requires egress_in_range { All (λ (x : Flow). x.egress < length busy.old) flows.now }
     ensures at_len { length at.new ≡ length at.old }
     ensures busy_len { length busy.new ≡ length busy.old }
-    ensures granting { (line : List ℕ) (k : ℕ) → IsNext flows.now line k first end → IsGranting flows.now line (λ f. slice_index left.now f) k 0 at.old busy.old →
+    ensures granting { (line : List ℕ) (k : ℕ) → IsNext flows.now line k first end →
+        IsGranting flows.now line (λ f. slice_index left.now f) k 0 at.old busy.old →
         IsGranting flows.now line (λ f. slice_index left.now f) (k + 1) 0 at.new busy.new }
 {
     for number in first..end {

@@ -34,7 +34,11 @@ impl Model for Scratch {
 
     ghost Value = { Grants };
 
-    ghost view = { λ s. record { ports = length s.ingress.items; flows = take s.count s.listed.items; at = s.ingress.items } };
+    ghost view = { λ s. record {
+      ports = length s.ingress.items;
+      flows = take s.count s.listed.items;
+      at = s.ingress.items;
+    } };
 
     ghost invariant = { λ s. HasRoom (length s.ingress.items) s.count (length s.listed.items) (length s.busy.items) };
 }

@@ -27,7 +27,8 @@ fn flow_of(coflow: u32, ingress: u32, egress: u32, units: u64) -> Flow {
 /// Tests that each flow stands between the starts of its coflow and the next.
 fn stands_between(flows: &[Flow], starts: &[u32]) -> bool
     ensures { IsTrue result → (f : ℕ) → f < length flows.now →
-        (coflow_of flows.now f + 1 < length starts.now) × (slice_index starts.now (coflow_of flows.now f) ≤ f) × (f < slice_index starts.now (coflow_of flows.now f + 1)) }
+        (coflow_of flows.now f + 1 < length starts.now) × (slice_index starts.now (coflow_of flows.now f) ≤ f) ×
+        (f < slice_index starts.now (coflow_of flows.now f + 1)) }
 {
     for number in 0..flows.len() {
         let coflow = flows[number].coflow as usize;

@@ -1,5 +1,6 @@
 -- The value of digits, and decimals rounded up.
-use Rattle.std.proofs.Common.{◌≡◌, ℕ, ◌+◌, ◌*◌, ◌-◌, ◌<◌, ◌≤◌, ◌^◌, List, [], ◌∷◌, ◌++◌, Bool, true, false, length, take, drop, refl, sym, ap, ◌∙◌, arith, zero, suc, pow-suc, mul-le-mul_right}
+use Rattle.std.proofs.Common.{◌≡◌, ℕ, ◌+◌, ◌*◌, ◌-◌, ◌<◌, ◌≤◌, ◌^◌, List, [], ◌∷◌, ◌++◌, Bool, true, false, length, take, drop, refl, sym, ap, ◌∙◌, arith, zero, suc, pow-suc}
+use Rattle.std.proofs.Common.{mul-le-mul_right}
 use Rattle.std.proofs.Common.{le_antisymm, pow-add, take-append-drop, mul-pos, mul-le-mul_left, length-append, ltb}
 use Rattle.std.proofs.lemmas.Grind.{common_steps, div_ceil_times}
 use Rattle.std.proofs.lemmas.Bool.Decides.{nat_tests}
@@ -173,16 +174,20 @@ sizes digits front rest p =
     }
 
 -- the first six digits, and whether any behind them is more than 0
-pub fraction_exact : (digits front rest : Text) → Parts digits front rest → list_all (λ b. b == 48) rest ≡ true → IsFraction digits (number front * slice_index_or powers (length front) 0)
+pub fraction_exact : (digits front rest : Text) → Parts digits front rest → list_all (λ b. b == 48) rest ≡ true →
+    IsFraction digits (number front * slice_index_or powers (length front) 0)
 fraction_exact digits front rest p z =
     let s = sizes digits front rest p in
-    exact (number digits) (number front) (number rest) (10 ^ length digits) (10 ^ length rest) (10 ^ length front) (slice_index_or powers (length front) 0) s.sum_is s.whole (power_is (length front) s.short) (zeros rest z) (omega (arith, pow_some (length rest))) (omega (arith, pow_some (length front)))
+    exact (number digits) (number front) (number rest) (10 ^ length digits) (10 ^ length rest) (10 ^ length front) (slice_index_or powers (length front) 0) s.sum_is s.whole
+    (power_is (length front) s.short) (zeros rest z) (omega (arith, pow_some (length rest))) (omega (arith, pow_some (length front)))
 
-pub fraction_above : (digits front rest : Text) → Parts digits front rest → list_all (λ b. b == 48) rest ≡ false → IsFraction digits (number front * slice_index_or powers (length front) 0 + 1)
+pub fraction_above : (digits front rest : Text) → Parts digits front rest → list_all (λ b. b == 48) rest ≡ false →
+    IsFraction digits (number front * slice_index_or powers (length front) 0 + 1)
 fraction_above digits front rest p z =
     let s = sizes digits front rest p in
     let six : length front ≡ 6 = six_long digits front rest p z in
-    above (number digits) (number front) (number rest) (10 ^ length digits) (10 ^ length rest) (10 ^ length front) (slice_index_or powers (length front) 0) s.sum_is s.whole (rw six refl) (rw six refl) (some_digit rest (rw p.rest_is (all_drop is_digit (min (length digits) 6) digits p.digit)) z) s.rest_less
+    above (number digits) (number front) (number rest) (10 ^ length digits) (10 ^ length rest) (10 ^ length front) (slice_index_or powers (length front) 0) s.sum_is s.whole
+    (rw six refl) (rw six refl) (some_digit rest (rw p.rest_is (all_drop is_digit (min (length digits) 6) digits p.digit)) z) s.rest_less
   where
     six_long : (digits front rest : Text) → Parts digits front rest → list_all (λ b. b == 48) rest ≡ false → length front ≡ 6
     six_long digits front rest p z = go (ltb 6 (length digits)) refl
@@ -223,12 +228,14 @@ at_point field point some = go (ltb (position_or_len is_point field) (length fie
         (p, rw p (grind (arith, nat_tests)))
     go false e = let s : Some point ≡ None = some ∙ rw e refl in cc
 
-pub point_parts : (field : Text) (point : ℕ) → Some point ≡ position is_point field → (take point field ≡ whole_part field) × (take (length field - (point + 1)) (drop (point + 1) field) ≡ fraction_part field)
+pub point_parts : (field : Text) (point : ℕ) → Some point ≡ position is_point field →
+    (take point field ≡ whole_part field) × (take (length field - (point + 1)) (drop (point + 1) field) ≡ fraction_part field)
 point_parts field point some =
     let p = at_point field point some in
     (rw p.0 refl, rw (← p.0) (grind (arith, common_steps)))
 
-pub plain_value : (field : Text) (w k : ℕ) → (whole_part field ≡ field) × (fraction_part field ≡ []) → w ≡ capped (number field) → 1 ≤ k → min (w * k) most ≡ capped (scaled_up k field)
+pub plain_value : (field : Text) (w k : ℕ) → (whole_part field ≡ field) × (fraction_part field ≡ []) → w ≡ capped (number field) → 1 ≤ k →
+    min (w * k) most ≡ capped (scaled_up k field)
 plain_value field w k parts e some =
     let n = number field in
     let q : n * k ≡ scaled_up k field = rw (parts.0, parts.1, append-nil) (ceil_is (n * k) 1 (n * k) (omega arith) (omega arith) (omega arith)) in
@@ -274,7 +281,8 @@ capped_sum w k v some = go (ltb w most) refl
         let b : most * 1 ≤ most * k = mul-le-mul_left most some in
         rw m (omega (arith, a, b))
 
-pub point_value : (field : Text) (w v : ℕ) → is_number (fraction_part field) ≡ true → w ≡ capped (number (whole_part field)) → IsFraction (fraction_part field) v → (min (min (w * 1000000) most + v) most ≡ capped (scaled_up 1000000 field)) × (min (w + min v 1) most ≡ capped (scaled_up 1 field))
+pub point_value : (field : Text) (w v : ℕ) → is_number (fraction_part field) ≡ true → w ≡ capped (number (whole_part field)) → IsFraction (fraction_part field) v →
+    (min (min (w * 1000000) most + v) most ≡ capped (scaled_up 1000000 field)) × (min (w + min v 1) most ≡ capped (scaled_up 1 field))
 point_value field w v digits e f =
     let n = number (whole_part field) in
     let F = number (fraction_part field) in

@@ -1,5 +1,6 @@
 -- Where a field begins and ends.
-use Rattle.std.proofs.Common.{◌≡◌, ℕ, ◌<◌, ◌≤◌, List, [], ◌∷◌, Some, None, Bool, true, false, not, ltb, suc, add-zero, length, get_or, take, drop, position, refl, sym, ap, ◌∙◌, arith}
+use Rattle.std.proofs.Common.{◌≡◌, ℕ, ◌<◌, ◌≤◌, List, [], ◌∷◌, Some, None, Bool, true, false, not, ltb, suc, add-zero, length, get_or, take, drop, position, refl, sym, ap, ◌∙◌}
+use Rattle.std.proofs.Common.{arith}
 use Rattle.std.proofs.lemmas.Grind.{common_steps}
 use Rattle.std.proofs.lemmas.Bool.Decides.{nat_tests}
 use Rattle.std.proofs.lemmas.List.Sums.{prefix_len-le-length, passes_at_first}
@@ -48,7 +49,8 @@ cut (x ∷ xs) = go (is_blank x) refl (cut xs)
     go false e rest = let s : end_of (x ∷ xs) ≡ suc (end_of xs) = rw e (omega arith) in (rest.0, rw (s, e, rest.1) refl, rw s rest.2)
 
 -- The first field of a text that does not begin with a blank, and the fields behind it.
-pub next_of : (text : Text) → (0 < length text → not (is_blank (get_or text 0 0)) ≡ true) → (take (end_of text) text ≡ field_at (fields text) 0) × (fields (drop (end_of text) text) ≡ drop 1 (fields text))
+pub next_of : (text : Text) → (0 < length text → not (is_blank (get_or text 0 0)) ≡ true) →
+    (take (end_of text) text ≡ field_at (fields text) 0) × (fields (drop (end_of text) text) ≡ drop 1 (fields text))
 next_of [] h = (refl, refl)
 next_of (x ∷ xs) h =
     let e : is_blank x ≡ false = grind (arith, common_steps, h (omega arith)) in
@@ -58,10 +60,12 @@ next_of (x ∷ xs) h =
     (rw (s, f) refl, rw (s, f) refl)
 
 -- The first field of a line, and the fields behind it.
-pub next_is : (line text field rest : Text) → text ≡ drop (start_of line) line → field ≡ take (end_of text) text → rest ≡ drop (end_of text) text → (field ≡ field_at (fields line) 0) × (fields rest ≡ drop 1 (fields line))
+pub next_is : (line text field rest : Text) → text ≡ drop (start_of line) line → field ≡ take (end_of text) text → rest ≡ drop (end_of text) text →
+    (field ≡ field_at (fields line) 0) × (fields rest ≡ drop 1 (fields line))
 next_is line text field rest t f r =
     let same : fields text ≡ fields line = ap fields t ∙ skip line in
-    let starts : 0 < length text → not (is_blank (get_or text 0 0)) ≡ true = λ some. rw (t, get_or-drop, add-zero) (passes_at_first (λ b. not (is_blank b)) line 0 (grind (arith, common_steps))) in
+    let starts : 0 < length text →
+    not (is_blank (get_or text 0 0)) ≡ true = λ some. rw (t, get_or-drop, add-zero) (passes_at_first (λ b. not (is_blank b)) line 0 (grind (arith, common_steps))) in
     let n = next_of text starts in
     (f ∙ n.0 ∙ ap (λ l. field_at l 0) same, ap fields r ∙ n.1 ∙ ap (drop 1) same)
 

@@ -10,13 +10,16 @@ abbrev pub feed_of : Text → ℕ
 feed_of = position_or_len is_line_feed
 
 -- The first line, and what the lines behind it are.
-cut_feed : (text : Text) → (parts : List Text) × (slice_split is_line_feed text ≡ take (feed_of text) text ∷ parts) × ((n : ℕ) → filter has_fields (numbered n parts) ≡ lines_from n (drop (feed_of text + 1) text))
+cut_feed : (text : Text) → (parts : List Text) × (slice_split is_line_feed text ≡ take (feed_of text) text ∷ parts) ×
+    ((n : ℕ) → filter has_fields (numbered n parts) ≡ lines_from n (drop (feed_of text + 1) text))
 cut_feed [] = ([], refl, λ n. refl)
 cut_feed (x ∷ xs) = go (is_line_feed x) refl (cut_feed xs)
   where
     go : (b : Bool) → is_line_feed x ≡ b
-        → (parts : List Text) × (slice_split is_line_feed xs ≡ take (feed_of xs) xs ∷ parts) × ((n : ℕ) → filter has_fields (numbered n parts) ≡ lines_from n (drop (feed_of xs + 1) xs))
-        → (parts : List Text) × (slice_split is_line_feed (x ∷ xs) ≡ take (feed_of (x ∷ xs)) (x ∷ xs) ∷ parts) × ((n : ℕ) → filter has_fields (numbered n parts) ≡ lines_from n (drop (feed_of (x ∷ xs) + 1) (x ∷ xs)))
+        → (parts : List Text) × (slice_split is_line_feed xs ≡ take (feed_of xs) xs ∷ parts) ×
+        ((n : ℕ) → filter has_fields (numbered n parts) ≡ lines_from n (drop (feed_of xs + 1) xs))
+        → (parts : List Text) × (slice_split is_line_feed (x ∷ xs) ≡ take (feed_of (x ∷ xs)) (x ∷ xs) ∷ parts) ×
+        ((n : ℕ) → filter has_fields (numbered n parts) ≡ lines_from n (drop (feed_of (x ∷ xs) + 1) (x ∷ xs)))
     go true e rest =
         let s : feed_of (x ∷ xs) ≡ 0 = rw e refl in
         (slice_split is_line_feed xs, rw (s, e) refl, λ n. rw s refl)
@@ -26,14 +29,16 @@ cut_feed (x ∷ xs) = go (is_line_feed x) refl (cut_feed xs)
         (rest.0, rw (s, e, rest.1) refl, λ n. rw (s, t) (rest.2 n))
 
 -- A first line with fields is the first of the lines.
-pub line_full : (n : ℕ) (text line rest : Text) → line ≡ take (feed_of text) text → rest ≡ drop (feed_of text + 1) text → is_full (fields line) ≡ true → lines_from n text ≡ record { number = n; texts = fields line } ∷ lines_from (n + 1) rest
+pub line_full : (n : ℕ) (text line rest : Text) → line ≡ take (feed_of text) text → rest ≡ drop (feed_of text + 1) text → is_full (fields line) ≡ true →
+    lines_from n text ≡ record { number = n; texts = fields line } ∷ lines_from (n + 1) rest
 line_full n text line rest l r full =
     let c = cut_feed text in
     let f : is_full (fields (take (feed_of text) text)) ≡ true = rw (← l) full in
     rw (l, r, ← c.2 (n + 1), c.1, f) refl
 
 -- A first line without fields is skipped.
-pub line_blank : (n : ℕ) (text line rest : Text) → line ≡ take (feed_of text) text → rest ≡ drop (feed_of text + 1) text → is_full (fields line) ≡ false → lines_from n text ≡ lines_from (n + 1) rest
+pub line_blank : (n : ℕ) (text line rest : Text) → line ≡ take (feed_of text) text → rest ≡ drop (feed_of text + 1) text → is_full (fields line) ≡ false →
+    lines_from n text ≡ lines_from (n + 1) rest
 line_blank n text line rest l r full =
     let c = cut_feed text in
     let f : is_full (fields (take (feed_of text) text)) ≡ false = rw (← l) full in

@@ -1,5 +1,6 @@
 -- Decimals of fields.
-use Rattle.std.specs.Prelude.{◌≡◌, ℕ, ◌+◌, ◌*◌, ◌^◌, ◌==◌, ◌&&◌, ◌||◌, Bool, true, false, not, ◌++◌, Option, Some, None, length, is_some, position, ◌≤◌, ◌<◌}
+use Rattle.std.specs.Prelude.{◌≡◌, ℕ, ◌+◌, ◌*◌, ◌^◌, ◌==◌, ◌&&◌, ◌||◌, Bool, true, false, not, ◌++◌, Option, Some, None}
+use Rattle.std.specs.Prelude.{length, is_some, position, ◌≤◌, ◌<◌}
 use Rattle.std.specs.List.{before_first, after_first}
 use Rattle.std.specs.Int.{div_ceil}
 use Rattle.text_fields.specs.Fields.{Text}
@@ -19,7 +20,8 @@ fraction_part field = after_first is_point field
 
 -- A decimal is a number, or a number, a point and one or more digits.
 abbrev pub is_decimal : Text → Bool
-is_decimal field = is_number (whole_part field) && (not (is_some (position is_point field)) || is_number (fraction_part field))
+is_decimal field = is_number (whole_part field) &&
+    (not (is_some (position is_point field)) || is_number (fraction_part field))
 
 -- The decimal times k, rounded up.
 abbrev pub scaled_up : ℕ → Text → ℕ
@@ -33,4 +35,5 @@ IsDecimalOf millionths wholes field (Some v) = (is_decimal field ≡ true)
 
 -- The value is the least number of millionths that is not below the digits behind a point.
 abbrev pub IsFraction : Text → ℕ → Type 0
-IsFraction digits value = (number digits * 1000000 ≤ value * 10 ^ length digits) × (value * 10 ^ length digits < number digits * 1000000 + 10 ^ length digits)
+IsFraction digits value = (number digits * 1000000 ≤ value * 10 ^ length digits) ×
+    (value * 10 ^ length digits < number digits * 1000000 + 10 ^ length digits)

@@ -1,5 +1,6 @@
 -- A text whose checks all hold says a trace within the limits.
-use Rattle.std.proofs.Common.{◌≡◌, ◌≢◌, ℕ, ◌+◌, ◌-◌, ◌*◌, ◌^◌, ◌≤◌, ◌<◌, List, [], ◌∷◌, ◌++◌, ◌==◌, None, Bool, true, false, not, refl, ap, drop, length, map, get_or, append_assoc, append-nil, length-append, arith}
+use Rattle.std.proofs.Common.{◌≡◌, ◌≢◌, ℕ, ◌+◌, ◌-◌, ◌*◌, ◌^◌, ◌≤◌, ◌<◌, List, [], ◌∷◌, ◌++◌, ◌==◌, None, Bool, true, false, not, refl, ap, drop, length, map, get_or, append_assoc}
+use Rattle.std.proofs.Common.{append-nil, length-append, arith}
 use Rattle.std.specs.Prelude.{All, nat_eq, nat_lt}
 use Rattle.std.specs.List.{list_any}
 use Rattle.std.proofs.lemmas.Bool.Decides.{nat_tests}
@@ -18,7 +19,8 @@ use Rattle.text_fields.specs.Lines.{Line}
 use Rattle.text_fields.specs.Numbers.{number}
 use Rattle.text_fields.proofs.CheckLists.{all_hold, passed_parts}
 use Rattle.trace_reader.specs.Checks.{each, number_checks}
-use Rattle.trace_reader.specs.Coflow.{back_checks, behind_mappers, coflow_of, front_checks, id_checks, id_of, line_checks, mapper_checks, mapper_count, reducer_checks, reducer_of, reducer_count}
+use Rattle.trace_reader.specs.Coflow.{back_checks, behind_mappers, coflow_of, front_checks, id_checks, id_of, line_checks, mapper_checks, mapper_count, reducer_checks, reducer_of}
+use Rattle.trace_reader.specs.Coflow.{reducer_count}
 use Rattle.trace_reader.specs.Header.{coflow_count, header_checks, ports_of}
 use Rattle.trace_reader.specs.Trace.{coflow_checks, lines_checks, lines_trace, missing}
 use Rattle.trace_reader.specs.declared.fault.TraceFault.{TraceFault}
@@ -26,7 +28,8 @@ use Rattle.trace_reader.specs.declared.fault.TraceFault.TheVariants as fault
 use Rattle.trace_reader.proofs.Rows.{all_values, length_values, row_passed}
 
 -- A number that passes is in its range.
-in_range : (line k least most : ℕ) (which : Quantity) (field : Text) → first_fault (number_checks line k which least most field) ≡ None → (least ≤ number field) × (number field ≤ most)
+in_range : (line k least most : ℕ) (which : Quantity) (field : Text) → first_fault (number_checks line k which least most field) ≡ None →
+    (least ≤ number field) × (number field ≤ most)
 in_range line k least most which field e = let t = (all_hold (number_checks line k which least most field) e).1.0 in (grind (arith, nat_tests), grind (arith, nat_tests))
 
 -- A mapper that passes is at a port.
@@ -34,7 +37,8 @@ mapper_in : (ports line k : ℕ) (field : Text) → first_fault (mapper_checks p
 mapper_in ports line k field e = let t = (all_hold (mapper_checks ports line k field) e).1.0 in grind (arith, nat_tests)
 
 -- A reducer that passes is at a port, and within the limit.
-reducer_in : (ports line k : ℕ) (field : Text) → first_fault (reducer_checks ports line k field) ≡ None → ((reducer_of field).location ≤ ports) × ((reducer_of field).millionths ≤ 2 ^ 40 * 1000000)
+reducer_in : (ports line k : ℕ) (field : Text) → first_fault (reducer_checks ports line k field) ≡ None →
+    ((reducer_of field).location ≤ ports) × ((reducer_of field).millionths ≤ 2 ^ 40 * 1000000)
 reducer_in ports line k field e =
     let h = all_hold (reducer_checks ports line k field) e in
     let s = h.1.0 in
@@ -64,11 +68,13 @@ line_in ports earlier line e =
     let r_in = in_range line.number (4 + m) 0 4096 quantity.Reducers (field_at left.texts 0) back.0 in
     let m_is = length_values number texts m in
     let r_is = length_values reducer_of (drop 1 left.texts) r in
-    let sends = λ (j : ℕ) (less : j < r). reducer_in ports line.number (4 + m + 1 + j) (field_at (drop 1 left.texts) j) (row_passed (reducer_checks ports line.number) (4 + m + 1) (drop 1 left.texts) r j sent less) in
+    let sends = λ (j : ℕ) (less : j < r). reducer_in ports line.number (4 + m + 1 + j) (field_at (drop 1 left.texts) j)
+    (row_passed (reducer_checks ports line.number) (4 + m + 1) (drop 1 left.texts) r j sent less) in
     record {
       has_mapper = rw m_is m_in.0;
       few_mappers = rw m_is m_in.1;
-      mappers = all_values (λ (x : ℕ). x ≤ ports) number texts m (λ j less. mapper_in ports line.number (4 + j) (field_at texts j) (row_passed (mapper_checks ports line.number) 4 texts m j behind.1 less));
+      mappers = all_values (λ (x : ℕ). x ≤ ports) number texts m
+          (λ j less. mapper_in ports line.number (4 + j) (field_at texts j) (row_passed (mapper_checks ports line.number) 4 texts m j behind.1 less));
       few_reducers = rw r_is r_in.1;
       reducers = all_values (λ (x : Reducer). x.location ≤ ports) reducer_of (drop 1 left.texts) r (λ j less. (sends j less).0);
       sizes = all_values (λ (x : Reducer). x.millionths ≤ 2 ^ 40 * 1000000) reducer_of (drop 1 left.texts) r (λ j less. (sends j less).1);
@@ -78,7 +84,8 @@ line_in ports earlier line e =
 fresh : (ports : ℕ) (earlier : List ℕ) (line : Line) → first_fault (line_checks ports earlier line) ≡ None → list_any (nat_eq (id_of line)) earlier ≡ false
 fresh ports earlier line e =
     let front = (passed_parts (front_checks ports earlier line) (back_checks ports (4 + mapper_count line) (behind_mappers line)) e).0 in
-    let rest : List (Check TraceFault) = number_checks line.number 2 quantity.Arrival 0 (2 ^ 32 - 1) (field_at line.texts 1) ++ (number_checks line.number 3 quantity.Mappers 1 4096 (field_at line.texts 2) ++ each (mapper_checks ports line.number) 4 (drop 3 line.texts) (mapper_count line)) in
+    let rest : List (Check TraceFault) = number_checks line.number 2 quantity.Arrival 0 (2 ^ 32 - 1) (field_at line.texts 1) ++
+    (number_checks line.number 3 quantity.Mappers 1 4096 (field_at line.texts 2) ++ each (mapper_checks ports line.number) 4 (drop 3 line.texts) (mapper_count line)) in
     let named = all_hold (id_checks earlier line.number (field_at line.texts 0)) (passed_parts (id_checks earlier line.number (field_at line.texts 0)) rest front).0 in
     go (list_any (nat_eq (id_of line)) earlier) refl named.1.1.0
   where
@@ -105,7 +112,8 @@ lines_in ports count earlier (line ∷ lines) e few differ =
     let room = (all_hold first parts.0).0 in
     let here = passed_parts (line_checks ports earlier line) others parts.1 in
     let more = length-append earlier (id_of line ∷ []) in
-    let next = lines_in ports count (earlier ++ (id_of line ∷ [])) lines here.1 (rw more (grind (arith, nat_tests))) (distinct_more earlier (id_of line) differ (fresh ports earlier line here.0)) in
+    let next = lines_in ports count (earlier ++ (id_of line ∷ [])) lines here.1 (rw more (grind (arith, nat_tests)))
+    (distinct_more earlier (id_of line) differ (fresh ports earlier line here.0)) in
     (omega (arith, next.0, more), (rw append_assoc at next.1.0, All-cons (IsCoflowLine ports) (coflow_of line) (map coflow_of lines) (line_in ports earlier line here.0) next.1.1))
 
 -- The ids of the coflows are those of the lines.

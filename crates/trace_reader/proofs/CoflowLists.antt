@@ -18,7 +18,8 @@ pub record SoFar (ports count : ℕ) (all left : List Line) (ids : List ℕ) (co
   pub checks : first_fault (coflow_checks ports count ids left) ≡ first_fault (coflow_checks ports count [] all)
   pub ids_count : length ids ≡ length coflows
 
-module _ (ports count : ℕ) (all left lines : List Line) (line : Line) (ids : List ℕ) (coflows : List CoflowLine) (next : left ≡ line ∷ lines) (so_far : SoFar ports count all left ids coflows) where
+module _ (ports count : ℕ) (all left lines : List Line) (line : Line) (ids : List ℕ) (coflows : List CoflowLine) (next : left ≡ line ∷ lines)
+    (so_far : SoFar ports count all left ids coflows) where
   abbrev others : List (Check TraceFault)
   others = coflow_checks ports count (ids ++ (id_of line ∷ [])) lines
 
@@ -30,11 +31,14 @@ module _ (ports count : ℕ) (all left lines : List Line) (line : Line) (ids : L
       sym first ∙ so_far.checks
 
   -- The line fails.
-  pub line_fails : {V W : Type 0} (P : V → Type 0) (Q : W → Type 0) (f : TraceFault) → length coflows < count → Answers (line_checks ports ids line) P (Err f) → Answers (coflow_checks ports count [] all) Q (Err f)
-  line_fails P Q f few told = retold P Q (line_checks ports ids line) (coflow_checks ports count [] all) f (λ e. sym (line_decides few) ∙ fail_first (line_checks ports ids line) others f e) told
+  pub line_fails : {V W : Type 0} (P : V → Type 0) (Q : W → Type 0) (f : TraceFault) → length coflows < count → Answers (line_checks ports ids line) P (Err f) →
+      Answers (coflow_checks ports count [] all) Q (Err f)
+  line_fails P Q f few told = retold P Q (line_checks ports ids line) (coflow_checks ports count [] all) f
+      (λ e. sym (line_decides few) ∙ fail_first (line_checks ports ids line) others f e) told
 
   -- The loop goes on by the line.
-  pub goes_on : (more : List ℕ) (x : CoflowLine) (back : List CoflowLine) → length coflows < count → (first_fault (line_checks ports ids line) ≡ None) × (x ≡ coflow_of line) → more ≡ ids ++ (id_of line ∷ []) → back ≡ coflows ++ (x ∷ []) → SoFar ports count all lines more back
+  pub goes_on : (more : List ℕ) (x : CoflowLine) (back : List CoflowLine) → length coflows < count → (first_fault (line_checks ports ids line) ≡ None) × (x ≡ coflow_of line) →
+      more ≡ ids ++ (id_of line ∷ []) → back ≡ coflows ++ (x ∷ []) → SoFar ports count all lines more back
   goes_on more x back few passed m b = record {
     coflows_are = rw (b, passed.1, append_assoc) (rw next at so_far.coflows_are);
     checks = rw m (sym (pass_first (line_checks ports ids line) others passed.0) ∙ line_decides few);

@@ -54,7 +54,11 @@ module _ (ports : ℕ) (n m : ℕ) (texts : List Text) where
       let fields = drop 1 texts in
       let count = reducer_count (line_of n texts) in
       let end : (l : ℕ) → List (Check TraceFault) = λ l. (length (drop (1 + count) texts) == 0, fault.BadLine l (k + 1 + count)) ∷ [] in
-      rw (map-append (λ (c : Check TraceFault). c.0) (each (reducer_checks ports n) (k + 1) fields count) (end n), map-append (λ (c : Check TraceFault). c.0) (each (reducer_checks ports m) (k + 1) fields count) (end m), reducers_same (k + 1) fields count) refl
+      rw (
+        map-append (λ (c : Check TraceFault). c.0) (each (reducer_checks ports n) (k + 1) fields count) (end n),
+        map-append (λ (c : Check TraceFault). c.0) (each (reducer_checks ports m) (k + 1) fields count) (end m),
+        reducers_same (k + 1) fields count,
+      ) refl
 
 -- What two lists of checks test, one after the other.
 both_same : (xs ys us vs : List (Check TraceFault)) → tests xs ≡ tests us → tests ys ≡ tests vs → tests (xs ++ ys) ≡ tests (us ++ vs)
@@ -66,12 +70,14 @@ both_same xs ys us vs p q =
 line_same : (ports : ℕ) (earlier : List ℕ) (a b : Line) → a.texts ≡ b.texts → tests (line_checks ports earlier a) ≡ tests (line_checks ports earlier b)
 line_same ports earlier a b e =
     let count = mapper_count a in
-    both_same (front_checks ports earlier a) (back_checks ports (4 + count) (behind_mappers a)) (front_checks ports earlier (line_of b.number a.texts)) (back_checks ports (4 + count) (line_of b.number (drop (3 + count) a.texts)))
+    both_same (front_checks ports earlier a) (back_checks ports (4 + count) (behind_mappers a)) (front_checks ports earlier (line_of b.number a.texts))
+    (back_checks ports (4 + count) (line_of b.number (drop (3 + count) a.texts)))
     (front_same ports a.number b.number a.texts earlier) (back_same ports a.number b.number (drop (3 + count) a.texts) (4 + count))
     ∙ ap (λ (t : List Text). tests (line_checks ports earlier (line_of b.number t))) e
 
 -- Lines of the same fields have the same tests.
-coflows_same : (ports count : ℕ) (earlier : List ℕ) (xs ys : List Line) → fields_of_lines xs ≡ fields_of_lines ys → tests (coflow_checks ports count earlier xs) ≡ tests (coflow_checks ports count earlier ys)
+coflows_same : (ports count : ℕ) (earlier : List ℕ) (xs ys : List Line) → fields_of_lines xs ≡ fields_of_lines ys →
+    tests (coflow_checks ports count earlier xs) ≡ tests (coflow_checks ports count earlier ys)
 coflows_same ports count earlier [] [] e = refl
 coflows_same ports count earlier [] (y ∷ ys) e = cc
 coflows_same ports count earlier (x ∷ xs) [] e = cc
@@ -79,9 +85,11 @@ coflows_same ports count earlier (x ∷ xs) (y ∷ ys) e =
     let here : x.texts ≡ y.texts = cc in
     let rest : fields_of_lines xs ≡ fields_of_lines ys = cc in
     let id : id_of x ≡ id_of y = ap (λ (t : List Text). number (field_at t 0)) here in
-    let later : tests (coflow_checks ports count (earlier ++ (id_of x ∷ [])) xs) ≡ tests (coflow_checks ports count (earlier ++ (id_of y ∷ [])) ys) = coflows_same ports count (earlier ++ (id_of x ∷ [])) xs ys rest ∙ ap (λ (i : ℕ). tests (coflow_checks ports count (earlier ++ (i ∷ [])) ys)) id in
+    let later : tests (coflow_checks ports count (earlier ++ (id_of x ∷ [])) xs) ≡ tests (coflow_checks ports count (earlier ++ (id_of y ∷ [])) ys) =
+    coflows_same ports count (earlier ++ (id_of x ∷ [])) xs ys rest ∙ ap (λ (i : ℕ). tests (coflow_checks ports count (earlier ++ (i ∷ [])) ys)) id in
     ap (λ l. nat_lt (length earlier) count ∷ l)
-    (both_same (line_checks ports earlier x) (coflow_checks ports count (earlier ++ (id_of x ∷ [])) xs) (line_checks ports earlier y) (coflow_checks ports count (earlier ++ (id_of y ∷ [])) ys) (line_same ports earlier x y here) later)
+    (both_same (line_checks ports earlier x) (coflow_checks ports count (earlier ++ (id_of x ∷ [])) xs) (line_checks ports earlier y)
+    (coflow_checks ports count (earlier ++ (id_of y ∷ [])) ys) (line_same ports earlier x y here) later)
 
 -- Texts of the same fields have the same tests.
 lines_same : (xs ys : List Line) → fields_of_lines xs ≡ fields_of_lines ys → tests (lines_checks xs) ≡ tests (lines_checks ys)
@@ -95,10 +103,13 @@ lines_same (x ∷ xs) (y ∷ ys) e =
     let header : tests (header_checks x) ≡ tests (header_checks y) = ap (λ (t : List Text). tests (header_checks (line_of 0 t))) here in
     let ports : ports_of x ≡ ports_of y = ap (λ (t : List Text). number (field_at t 0)) here in
     let count : coflow_count x ≡ coflow_count y = ap (λ (t : List Text). number (field_at t 1)) here in
-    let coflows : tests (coflow_checks (ports_of x) (coflow_count x) [] xs) ≡ tests (coflow_checks (ports_of y) (coflow_count y) [] ys) = rw (ports, count) (coflows_same (ports_of y) (coflow_count y) [] xs ys rest) in
+    let coflows : tests (coflow_checks (ports_of x) (coflow_count x) [] xs) ≡ tests (coflow_checks (ports_of y) (coflow_count y) [] ys) =
+    rw (ports, count) (coflows_same (ports_of y) (coflow_count y) [] xs ys rest) in
     let end : tests (missing (length xs) (coflow_count x) ∷ []) ≡ tests (missing (length ys) (coflow_count y) ∷ []) = rw (n, count) refl in
-    both_same (header_checks x) (coflow_checks (ports_of x) (coflow_count x) [] xs ++ (missing (length xs) (coflow_count x) ∷ [])) (header_checks y) (coflow_checks (ports_of y) (coflow_count y) [] ys ++ (missing (length ys) (coflow_count y) ∷ [])) header
-    (both_same (coflow_checks (ports_of x) (coflow_count x) [] xs) (missing (length xs) (coflow_count x) ∷ []) (coflow_checks (ports_of y) (coflow_count y) [] ys) (missing (length ys) (coflow_count y) ∷ []) coflows end)
+    both_same (header_checks x) (coflow_checks (ports_of x) (coflow_count x) [] xs ++ (missing (length xs) (coflow_count x) ∷ [])) (header_checks y)
+    (coflow_checks (ports_of y) (coflow_count y) [] ys ++ (missing (length ys) (coflow_count y) ∷ [])) header
+    (both_same (coflow_checks (ports_of x) (coflow_count x) [] xs) (missing (length xs) (coflow_count x) ∷ []) (coflow_checks (ports_of y) (coflow_count y) [] ys)
+    (missing (length ys) (coflow_count y) ∷ []) coflows end)
 
 -- Of texts of the same fields one is read where the other is.
 pub accepted_alike : (xs ys : List Line) → fields_of_lines xs ≡ fields_of_lines ys → first_fault (lines_checks xs) ≡ None → first_fault (lines_checks ys) ≡ None

@@ -12,14 +12,16 @@ use Rattle.text_fields.specs.Lines.{Line, without_first}
 use Rattle.text_fields.specs.Numbers.{number}
 use Rattle.text_fields.proofs.CheckLists.{pass_first, fail_first}
 use Rattle.trace_reader.specs.Checks.{Answers, each, number_checks, values}
-use Rattle.trace_reader.specs.Coflow.{arrival_of, back_checks, behind_mappers, coflow_of, front_checks, id_checks, id_of, line_checks, mapper_checks, mappers_of, mapper_count, reducer_checks, reducer_of, reducers_of, reducer_count, without}
+use Rattle.trace_reader.specs.Coflow.{arrival_of, back_checks, behind_mappers, coflow_of, front_checks, id_checks, id_of, line_checks, mapper_checks, mappers_of, mapper_count}
+use Rattle.trace_reader.specs.Coflow.{reducer_checks, reducer_of, reducers_of, reducer_count, without}
 use Rattle.trace_reader.specs.declared.fault.TraceFault.{TraceFault}
 use Rattle.trace_reader.specs.declared.fault.TraceFault.TheVariants as fault
 use Rattle.trace_reader.proofs.Faults.{retold}
 
 -- The number of a field was read.
 pub number_passed : (l line k least most v : ℕ) (which : Quantity) (field f : Text) → l ≡ line → field ≡ f
-    → (first_fault (number_checks l k which least most field) ≡ None) × ((v ≡ number field) × (least ≤ v) × (v ≤ most)) → (first_fault (number_checks line k which least most f) ≡ None) × (v ≡ number f)
+    → (first_fault (number_checks l k which least most field) ≡ None) × ((v ≡ number field) × (least ≤ v) × (v ≤ most)) →
+    (first_fault (number_checks line k which least most f) ≡ None) × (v ≡ number f)
 number_passed l line k least most v which field f p q h = rw (← p, ← q) (h.0, h.1.0)
 
 module _ (ports k : ℕ) (line : Line) where
@@ -34,7 +36,8 @@ module _ (ports k : ℕ) (line : Line) where
 
   module _ (left : Line) (count : ℕ) (next : left ≡ without_first line) (passed : (first_fault counted ≡ None) × (count ≡ reducer_count line)) where
     -- A reducer fails.
-    pub rows_fail : {V W : Type 0} (P : V → Type 0) (Q : W → Type 0) (f : TraceFault) → Answers (each (reducer_checks ports left.number) (k + 1) left.texts count) P (Err f) → Answers (back_checks ports k line) Q (Err f)
+    pub rows_fail : {V W : Type 0} (P : V → Type 0) (Q : W → Type 0) (f : TraceFault) → Answers (each (reducer_checks ports left.number) (k + 1) left.texts count) P (Err f) →
+        Answers (back_checks ports k line) Q (Err f)
     rows_fail P Q f a =
         retold P Q (each (reducer_checks ports left.number) (k + 1) left.texts count) (back_checks ports k line) f
         (λ e. pass_first counted (rows ++ ended) passed.0 ∙ fail_first rows ended f (rw (next, passed.1) at e)) a
@@ -55,7 +58,8 @@ module _ (ports k : ℕ) (line : Line) where
     end_passed last e none = let s : (length (drop (1 + reducer_count line) line.texts) == 0) ≡ true = rw (← behind last e) (sym none) in rw s refl
 
     -- A field is left.
-    pub end_fails : (last : Line) (l : ℕ) → l ≡ line.number → last ≡ without count left → false ≡ (length last.texts == 0) → first_fault ended ≡ Some (fault.BadLine l (k + 1 + count))
+    pub end_fails : (last : Line) (l : ℕ) → l ≡ line.number → last ≡ without count left → false ≡ (length last.texts == 0) →
+        first_fault ended ≡ Some (fault.BadLine l (k + 1 + count))
     end_fails last l p e some = let s : (length (drop (1 + reducer_count line) line.texts) == 0) ≡ false = rw (← behind last e) (sym some) in rw (s, p, passed.1) refl
 
 -- The fields behind the third.
@@ -80,12 +84,14 @@ module _ (ports : ℕ) (earlier : List ℕ) (line : Line) where
   id_passed l field p q h = rw (← p, ← q) h
 
   -- A mapper fails.
-  pub mapper_fails : {V W : Type 0} (P : V → Type 0) (Q : W → Type 0) (f : TraceFault) (a b d : Line) (count : ℕ) → a ≡ without_first line → b ≡ without_first a → d ≡ without_first b
+  pub mapper_fails : {V W : Type 0} (P : V → Type 0) (Q : W → Type 0) (f : TraceFault) (a b d : Line) (count : ℕ) → a ≡ without_first line → b ≡ without_first a →
+      d ≡ without_first b
       → first_fault named ≡ None → first_fault arrived ≡ None → (first_fault mapped ≡ None) × (count ≡ mapper_count line)
       → Answers (each (mapper_checks ports d.number) 4 d.texts count) P (Err f) → Answers (front_checks ports earlier line) Q (Err f)
   mapper_fails P Q f a b d count p q r p1 p2 p3 told =
       retold P Q (each (mapper_checks ports d.number) 4 d.texts count) (front_checks ports earlier line) f
-      (λ e. pass_first named (arrived ++ (mapped ++ mappers)) p1 ∙ (pass_first arrived (mapped ++ mappers) p2 ∙ (pass_first mapped mappers p3.0 ∙ (rw (third_left line a b d p q r, p3.1) at e)))) told
+      (λ e. pass_first named (arrived ++ (mapped ++ mappers)) p1 ∙
+      (pass_first arrived (mapped ++ mappers) p2 ∙ (pass_first mapped mappers p3.0 ∙ (rw (third_left line a b d p q r, p3.1) at e)))) told
 
   module _ (left : Line) (k : ℕ) (next : left ≡ behind_mappers line) (place : k ≡ 4 + mapper_count line) where
     -- What is left of the line has the checks behind the mappers.
@@ -97,10 +103,12 @@ module _ (ports : ℕ) (earlier : List ℕ) (line : Line) where
     back_decides passed = pass_first (front_checks ports earlier line) (back_checks ports (4 + mapper_count line) (behind_mappers line)) passed ∙ sym same_back
 
     -- The rest of the line fails.
-    pub back_fails : {V W : Type 0} (P : V → Type 0) (Q : W → Type 0) (f : TraceFault) → first_fault (front_checks ports earlier line) ≡ None → Answers (back_checks ports k left) P (Err f) → Answers (line_checks ports earlier line) Q (Err f)
+    pub back_fails : {V W : Type 0} (P : V → Type 0) (Q : W → Type 0) (f : TraceFault) → first_fault (front_checks ports earlier line) ≡ None →
+        Answers (back_checks ports k left) P (Err f) → Answers (line_checks ports earlier line) Q (Err f)
     back_fails P Q f passed told = retold P Q (back_checks ports k left) (line_checks ports earlier line) f (λ e. back_decides passed ∙ e) told
 
 -- The parts of a line say what the whole line says.
 pub coflow_is : (line left : Line) (id arrival : ℕ) (mappers : List ℕ) (reducers : List Reducer) → left ≡ behind_mappers line
-    → id ≡ id_of line → arrival ≡ arrival_of line → mappers ≡ mappers_of line → reducers ≡ reducers_of left → ◌≡◌ {A = CoflowLine} record { id = id; arrival = arrival; mappers = mappers; reducers = reducers } (coflow_of line)
+    → id ≡ id_of line → arrival ≡ arrival_of line → mappers ≡ mappers_of line → reducers ≡ reducers_of left →
+    ◌≡◌ {A = CoflowLine} record { id = id; arrival = arrival; mappers = mappers; reducers = reducers } (coflow_of line)
 coflow_is line left id arrival mappers reducers next a b d e = let r : reducers ≡ reducers_of (behind_mappers line) = e ∙ ap reducers_of next in rw (a, b, d, r) refl

@@ -44,7 +44,8 @@ module _ (checks : ℕ → Text → List (Check TraceFault)) (k : ℕ) (texts : 
       rw (s, pass_first (each checks k texts j) (at j ++ []) before, append-nil) here
 
   -- Field j is the first that fails.
-  one_failed : (j count : ℕ) (f : TraceFault) → j < count → first_fault (each checks k texts j) ≡ None → first_fault (at j) ≡ Some f → first_fault (each checks k texts count) ≡ Some f
+  one_failed : (j count : ℕ) (f : TraceFault) → j < count → first_fault (each checks k texts j) ≡ None → first_fault (at j) ≡ Some f →
+      first_fault (each checks k texts count) ≡ Some f
   one_failed j count f less before here =
       let m = count - j - 1 in
       let e : count ≡ j + suc m = omega (arith, less) in
@@ -65,7 +66,8 @@ pub length_values : {X : Type 0} (value : Text → X) (texts : List Text) (count
 length_values value texts count = length-map-range_with_len (λ j. value (field_at texts j)) 0 count
 
 -- What holds of the value of each field holds of all values.
-pub all_values : {X : Type 0} (P : X → Type 0) (value : Text → X) (texts : List Text) (count : ℕ) → ((j : ℕ) → j < count → P (value (field_at texts j))) → All P (values value texts count)
+pub all_values : {X : Type 0} (P : X → Type 0) (value : Text → X) (texts : List Text) (count : ℕ) → ((j : ℕ) → j < count → P (value (field_at texts j))) →
+    All P (values value texts count)
 all_values P value texts count h = λ k d lt.
     let less : k < count = omega (arith, length_values value texts count) in
     subst P (sym (get_or-map-range_with_len (λ j. value (field_at texts j)) 0 count k k d less (omega arith))) (h k less)
@@ -84,8 +86,10 @@ left_more start now next j e n =
     n ∙ (ap without_first e ∙ (let s : suc j ≡ j + 1 = omega arith in rw (drop_one j start.texts, s) refl))
 
 -- The loop over the fields goes on by one that passed.
-pub goes_on : {X : Type 0} (checks : ℕ → ℕ → Text → List (Check TraceFault)) (value : Text → X) (k : ℕ) (start now next : Line) (front back : List X) (j line : ℕ) (field : Text) (x : X)
-    → line ≡ start.number → field ≡ field_at now.texts 0 → next ≡ without_first now → (first_fault (checks line (k + j) field) ≡ None) × (x ≡ value field) → back ≡ front ++ (x ∷ [])
+pub goes_on : {X : Type 0} (checks : ℕ → ℕ → Text → List (Check TraceFault)) (value : Text → X) (k : ℕ) (start now next : Line) (front back : List X) (j line : ℕ) (field : Text)
+    (x : X)
+    → line ≡ start.number → field ≡ field_at now.texts 0 → next ≡ without_first now → (first_fault (checks line (k + j) field) ≡ None) × (x ≡ value field) →
+    back ≡ front ++ (x ∷ [])
     → SoFar checks value k start now front j → SoFar checks value k start next back (j + 1)
 goes_on checks value k start now next front back j line field x l f n h b s =
     let here : field ≡ field_at start.texts j = f ∙ field_left start now j s.left in
@@ -97,7 +101,8 @@ goes_on checks value k start now next front back j line field x l f n h b s =
     }
 
 -- The fault of a field is that of all.
-pub fault_here : {X W : Type 0} (checks : ℕ → ℕ → Text → List (Check TraceFault)) (value : Text → X) (k : ℕ) (start now : Line) (items : List X) (j count line : ℕ) (field : Text) (P : X → Type 0) (Q : W → Type 0) (f : TraceFault)
+pub fault_here : {X W : Type 0} (checks : ℕ → ℕ → Text → List (Check TraceFault)) (value : Text → X) (k : ℕ) (start now : Line) (items : List X) (j count line : ℕ) (field : Text)
+    (P : X → Type 0) (Q : W → Type 0) (f : TraceFault)
     → line ≡ start.number → field ≡ field_at now.texts 0 → j < count → SoFar checks value k start now items j
     → Answers (checks line (k + j) field) P (Err f) → Answers (each (checks start.number) k start.texts count) Q (Err f)
 fault_here checks value k start now items j count line field P Q f l e less s a =

@@ -20,14 +20,16 @@ use Rattle.trace_reader.proofs.Accepted.{accepted, counts_in, lines_in, none_dif
 use Rattle.trace_reader.proofs.Faults.{retold}
 
 -- So many lines of coflows pass, behind a header that passes, as the header may say at most.
-pub few_lines : (header : Line) (lines : List Line) (counts : ℕ × ℕ) (items : List CoflowLine) → (first_fault (header_checks header) ≡ None) × ((counts.0 ≡ ports_of header) × (counts.1 ≡ coflow_count header))
+pub few_lines : (header : Line) (lines : List Line) (counts : ℕ × ℕ) (items : List CoflowLine) →
+    (first_fault (header_checks header) ≡ None) × ((counts.0 ≡ ports_of header) × (counts.1 ≡ coflow_count header))
     → (first_fault (coflow_checks counts.0 counts.1 [] lines) ≡ None) × (items ≡ map coflow_of lines) → length items ≤ 4096
 few_lines header lines counts items passed read =
     let n : length items ≡ length lines = ap length read.1 ∙ length-map lines coflow_of in
     let most = (lines_in counts.0 counts.1 [] lines read.0 (omega arith) none_differ).0 in
     omega (arith, most, (counts_in header passed.0).1.1, passed.1.1)
 
-module _ (text : Text) (header : Line) (lines : List Line) (counts : ℕ × ℕ) (cut : lines_of text ≡ header ∷ lines) (passed : (first_fault (header_checks header) ≡ None) × ((counts.0 ≡ ports_of header) × (counts.1 ≡ coflow_count header))) where
+module _ (text : Text) (header : Line) (lines : List Line) (counts : ℕ × ℕ) (cut : lines_of text ≡ header ∷ lines)
+    (passed : (first_fault (header_checks header) ≡ None) × ((counts.0 ≡ ports_of header) × (counts.1 ≡ coflow_count header))) where
   abbrev coflows : List (Check TraceFault)
   coflows = coflow_checks counts.0 counts.1 [] lines
 

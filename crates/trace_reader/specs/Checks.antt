@@ -16,11 +16,13 @@ Answers checks P (Err f) = first_fault checks ≡ Some f
 
 -- The number of a field is from least to most.
 abbrev pub range : ℕ → Quantity → ℕ → ℕ → Text → Check TraceFault
-range line which least most field = (nat_le least (number field) && nat_le (number field) most, fault.Limit line which (capped (number field)))
+range line which least most field =
+    (nat_le least (number field) && nat_le (number field) most, fault.Limit line which (capped (number field)))
 
 -- Field k of a line is a number from least to most.
 abbrev pub number_checks : ℕ → ℕ → Quantity → ℕ → ℕ → Text → List (Check TraceFault)
-number_checks line k which least most field = (is_number field, fault.BadLine line k) ∷ range line which least most field ∷ []
+number_checks line k which least most field =
+    (is_number field, fault.BadLine line k) ∷ range line which least most field ∷ []
 
 -- The checks of so many fields of a line, the first of which is its field k.
 abbrev pub each : (ℕ → Text → List (Check TraceFault)) → ℕ → List Text → ℕ → List (Check TraceFault)

@@ -1,5 +1,6 @@
 -- The line of a coflow.
-use Rattle.std.specs.Prelude.{ℕ, ◌+◌, ◌-◌, ◌*◌, ◌^◌, ◌==◌, ◌&&◌, nat_eq, nat_le, Bool, not, List, [], ◌∷◌, ◌++◌, length, drop}
+use Rattle.std.specs.Prelude.{ℕ, ◌+◌, ◌-◌, ◌*◌, ◌^◌, ◌==◌, ◌&&◌, nat_eq, nat_le, Bool, not, List, [], ◌∷◌, ◌++◌, length}
+use Rattle.std.specs.Prelude.{drop}
 use Rattle.std.specs.List.{list_any, before_first, after_first}
 use Rattle.coflow_units.specs.declared.quantity.Quantity.TheVariants as quantity
 use Rattle.coflow_units.specs.declared.trace.CoflowLine.{CoflowLine}
@@ -43,17 +44,24 @@ megabytes_part field = after_first is_colon field
 abbrev pub is_reducer : Text → Bool
 is_reducer field = is_number (location_part field) && is_decimal (megabytes_part field)
 
--- The checks of a reducer, which is field k of its line: its form, the range of its location, and that of its megabytes.
+-- The checks of a reducer, which is field k of its line: its form, the range of its location, and that of its
+-- megabytes.
 abbrev pub reducer_checks : ℕ → ℕ → ℕ → Text → List (Check TraceFault)
 reducer_checks ports line k field =
     (is_reducer field, fault.BadLine line k)
     ∷ location ports line (location_part field)
-    ∷ (nat_le (scaled_up 1000000 (megabytes_part field)) (2 ^ 40 * 1000000), fault.Limit line quantity.Megabytes (capped (scaled_up 1 (megabytes_part field))))
+    ∷ (
+      nat_le (scaled_up 1000000 (megabytes_part field)) (2 ^ 40 * 1000000),
+      fault.Limit line quantity.Megabytes (capped (scaled_up 1 (megabytes_part field))),
+    )
     ∷ []
 
 -- What the field of a reducer says.
 abbrev pub reducer_of : Text → Reducer
-reducer_of field = record { location = number (location_part field); millionths = scaled_up 1000000 (megabytes_part field) }
+reducer_of field = record {
+  location = number (location_part field);
+  millionths = scaled_up 1000000 (megabytes_part field);
+}
 
 -- The first field of a line is the id.
 abbrev pub id_of : Line → ℕ
@@ -87,16 +95,21 @@ behind_mappers line = without (3 + mapper_count line) line
 abbrev pub reducer_count : Line → ℕ
 reducer_count line = number (field_at line.texts 0)
 
--- The checks of a line behind its last mapper, where the number of reducers is field k of the whole line: this number, each reducer, and then that there is no field.
+-- The checks of a line behind its last mapper, where the number of reducers is field k of the whole line: this number,
+-- each reducer, and then that there is no field.
 abbrev pub back_checks : ℕ → ℕ → Line → List (Check TraceFault)
 back_checks ports k line =
     number_checks line.number k quantity.Reducers 0 4096 (field_at line.texts 0)
     ++ (each (reducer_checks ports line.number) (k + 1) (drop 1 line.texts) (reducer_count line)
-    ++ ((length (drop (1 + reducer_count line) line.texts) == 0, fault.BadLine line.number (k + 1 + reducer_count line)) ∷ []))
+    ++ ((
+      length (drop (1 + reducer_count line) line.texts) == 0,
+      fault.BadLine line.number (k + 1 + reducer_count line),
+    ) ∷ []))
 
 -- The checks of a line, from left to right, where the lines before it have the earlier ids.
 abbrev pub line_checks : ℕ → List ℕ → Line → List (Check TraceFault)
-line_checks ports earlier line = front_checks ports earlier line ++ back_checks ports (4 + mapper_count line) (behind_mappers line)
+line_checks ports earlier line = front_checks ports earlier line ++
+    back_checks ports (4 + mapper_count line) (behind_mappers line)
 
 -- The locations of the mappers of a line.
 abbrev pub mappers_of : Line → List ℕ
@@ -108,4 +121,9 @@ reducers_of line = values reducer_of (drop 1 line.texts) (reducer_count line)
 
 -- What a line says.
 abbrev pub coflow_of : Line → CoflowLine
-coflow_of line = record { id = id_of line; arrival = arrival_of line; mappers = mappers_of line; reducers = reducers_of (behind_mappers line) }
+coflow_of line = record {
+  id = id_of line;
+  arrival = arrival_of line;
+  mappers = mappers_of line;
+  reducers = reducers_of (behind_mappers line);
+}

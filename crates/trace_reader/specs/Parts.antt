@@ -18,7 +18,9 @@ IsInRange line which least most count (Err f) = (least ≤ count → count ≤ m
 abbrev pub CutsReducer : {V : Type 0} → (V → ℕ) → (V → ℕ) → (V → ℕ) → Text → Option V → Type 0
 CutsReducer location millionths wholes field None = is_reducer field ≡ false
 CutsReducer location millionths wholes field (Some v) = (is_reducer field ≡ true)
-    × (location v ≡ capped (number (location_part field))) × (millionths v ≡ capped (scaled_up 1000000 (megabytes_part field))) × (wholes v ≡ capped (scaled_up 1 (megabytes_part field)))
+    × (location v ≡ capped (number (location_part field))) ×
+    (millionths v ≡ capped (scaled_up 1000000 (megabytes_part field))) ×
+    (wholes v ≡ capped (scaled_up 1 (megabytes_part field)))
 
 -- The id, the arrival and the mappers of a line.
 pub record IsFront {V : Type 0} (id arrival : V → ℕ) (mappers : V → List ℕ) (line : Line) (v : V) : Type 0 where

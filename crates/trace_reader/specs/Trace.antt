@@ -9,7 +9,8 @@ use Rattle.trace_reader.specs.Header.{coflow_count, header_checks, ports_of}
 use Rattle.trace_reader.specs.declared.fault.TraceFault.{TraceFault}
 use Rattle.trace_reader.specs.declared.fault.TraceFault.TheVariants as fault
 
--- The checks of the lines of coflows, where the lines before them have the earlier ids, and the header says how many lines there are: a line is none too many, and then its fields are as they should be.
+-- The checks of the lines of coflows, where the lines before them have the earlier ids, and the header says how many
+-- lines there are: a line is none too many, and then its fields are as they should be.
 abbrev pub coflow_checks : ℕ → ℕ → List ℕ → List Line → List (Check TraceFault)
 coflow_checks ports count earlier [] = []
 coflow_checks ports count earlier (line ∷ lines) =

@@ -58,7 +58,8 @@ fn reducers_in(
 ) -> Result<Vec<Reducer>, TraceFault>
     requires place { field ≤ 4101 }
     requires few { count ≤ 4096 }
-    ensures answer { Answers (each (reducer_checks ports fields.old.number) field fields.old.texts count) (λ v. v.items ≡ values reducer_of fields.old.texts count) result }
+    ensures answer { Answers (each (reducer_checks ports fields.old.number) field fields.old.texts count)
+        (λ v. v.items ≡ values reducer_of fields.old.texts count) result }
     ensures left { OnOk result (fields.new ≡ without count fields.old) }
 {
     let line = fields.line();

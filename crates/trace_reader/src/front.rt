@@ -28,7 +28,8 @@ pub(crate) fn front_of(
     ports: u32,
     ids: &mut IndexSet<u32>,
 ) -> Result<Front, TraceFault>
-    ensures answer { Answers (front_checks ports ids.old.keys fields.old) (IsFront (λ v. v.id) (λ v. v.arrival) (λ v. v.mappers.items) fields.old) result }
+    ensures answer { Answers (front_checks ports ids.old.keys fields.old)
+        (IsFront (λ v. v.id) (λ v. v.arrival) (λ v. v.mappers.items) fields.old) result }
     ensures few { IfOk result (λ v. length v.mappers.items ≤ 4096) }
     ensures left { OnOk result (fields.new ≡ behind_mappers fields.old) }
     ensures ids { OnOk result (ids.new.keys ≡ ids.old.keys ++ (id_of fields.old ∷ [])) }
@@ -95,7 +96,8 @@ fn mappers_in(
     count: u32,
 ) -> Result<Vec<u32>, TraceFault>
     requires { count ≤ 4096 }
-    ensures answer { Answers (each (mapper_checks ports fields.old.number) 4 fields.old.texts count) (λ v. v.items ≡ values number fields.old.texts count) result }
+    ensures answer { Answers (each (mapper_checks ports fields.old.number) 4 fields.old.texts count)
+        (λ v. v.items ≡ values number fields.old.texts count) result }
     ensures left { OnOk result (fields.new ≡ without count fields.old) }
 {
     let line = fields.line();

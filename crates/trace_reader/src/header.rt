@@ -11,7 +11,8 @@ use text_fields::{Fields, number_of};
 
 /// The number of ports and the number of coflows that the header names.
 pub(crate) fn header_of(fields: &mut Fields<'_>) -> Result<(u32, u32), TraceFault>
-    ensures { Answers (header_checks fields.old) (λ v. (v.0 ≡ ports_of fields.old) × (v.1 ≡ coflow_count fields.old)) result }
+    ensures { Answers (header_checks fields.old) (λ v. (v.0 ≡ ports_of fields.old) × (v.1 ≡ coflow_count fields.old))
+        result }
 {
     let line = fields.line();
     let Some((ports, coflows)) = two_numbers(fields) else {

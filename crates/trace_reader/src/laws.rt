@@ -16,7 +16,8 @@ pub fn lines_decide()
 /// Of two texts whose lines with fields have the same fields, whatever their numbers, both are read or neither is, and they say the same. So blank lines, wherever they are, change neither that
 /// a text is read nor what it says.
 pub fn fields_decide()
-    ensures read { (a b : Text) → fields_of a ≡ fields_of b → first_fault (trace_checks a) ≡ None → first_fault (trace_checks b) ≡ None }
+    ensures read { (a b : Text) → fields_of a ≡ fields_of b → first_fault (trace_checks a) ≡ None →
+        first_fault (trace_checks b) ≡ None }
     ensures trace { (a b : Text) → fields_of a ≡ fields_of b → trace_of a ≡ trace_of b }
 {}
 

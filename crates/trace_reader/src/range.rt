@@ -36,7 +36,8 @@ pub(crate) fn number_in(
     least: u32,
     most: u32,
 ) -> Result<u32, TraceFault>
-    ensures { Answers (number_checks line field which least most text.now) (λ v. (v ≡ number text.now) × (least ≤ v) × (v ≤ most)) result }
+    ensures { Answers (number_checks line field which least most text.now) (λ v. (v ≡ number text.now) × (least ≤ v) ×
+        (v ≤ most)) result }
 {
     let Some(count) = number_of(text) else {
         return Err(TraceFault::BadLine { line, field });

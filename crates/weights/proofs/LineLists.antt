@@ -23,7 +23,8 @@ pub insert_new : (es : List (ℕ × ℕ)) (k v : ℕ) → list_any (nat_eq k) (k
 insert_new [] k v e = refl
 insert_new (x ∷ es) k v e = go (nat_eq k x.0) refl (insert_new es k v)
   where
-    go : (b : Bool) → nat_eq k x.0 ≡ b → (list_any (nat_eq k) (keys_of es) ≡ false → insert_entry nat_eq es k v ≡ es ++ ((k, v) ∷ [])) → insert_entry nat_eq (x ∷ es) k v ≡ (x ∷ es) ++ ((k, v) ∷ [])
+    go : (b : Bool) → nat_eq k x.0 ≡ b → (list_any (nat_eq k) (keys_of es) ≡ false → insert_entry nat_eq es k v ≡ es ++ ((k, v) ∷ [])) →
+        insert_entry nat_eq (x ∷ es) k v ≡ (x ∷ es) ++ ((k, v) ∷ [])
     go true t rest = let bad : true ≡ false = rw t at e in cc
     go false t rest = rw t (ap (λ l. x ∷ l) (rest (rw t at e)))
 
@@ -37,7 +38,8 @@ pub weight_is : (lines : List Line) (id : ℕ) → unwrap_or (lookup (nat_eq id)
 weight_is [] id = refl
 weight_is (x ∷ lines) id = go (nat_eq id (id_of x)) refl (weight_is lines id)
   where
-    go : (b : Bool) → nat_eq id (id_of x) ≡ b → unwrap_or (lookup (nat_eq id) (pairs lines)) 1 ≡ weight_of lines id → unwrap_or (lookup (nat_eq id) (pairs (x ∷ lines))) 1 ≡ weight_of (x ∷ lines) id
+    go : (b : Bool) → nat_eq id (id_of x) ≡ b → unwrap_or (lookup (nat_eq id) (pairs lines)) 1 ≡ weight_of lines id →
+        unwrap_or (lookup (nat_eq id) (pairs (x ∷ lines))) 1 ≡ weight_of (x ∷ lines) id
     go true t rest = rw t refl
     go false t rest = rw t rest
 
@@ -47,18 +49,21 @@ same_checks xs ys earlier [] h = refl
 same_checks xs ys earlier (line ∷ lines) h = rw (h (id_of line), same_checks xs ys (earlier ++ (id_of line ∷ [])) lines h) refl
 
 -- The weight of each coflow, by the entries.
-pub weights_are : (lines : List Line) (es : List (ℕ × ℕ)) (coflows : List CoflowLine) → es ≡ pairs lines → map (λ (x : CoflowLine). unwrap_or (lookup (nat_eq x.id) es) 1) coflows ≡ map (λ (x : CoflowLine). weight_of lines x.id) coflows
+pub weights_are : (lines : List Line) (es : List (ℕ × ℕ)) (coflows : List CoflowLine) → es ≡ pairs lines →
+    map (λ (x : CoflowLine). unwrap_or (lookup (nat_eq x.id) es) 1) coflows ≡ map (λ (x : CoflowLine). weight_of lines x.id) coflows
 weights_are lines es [] e = refl
 weights_are lines es (x ∷ coflows) e = rw (weights_are lines es coflows e, e, weight_is lines x.id) refl
 
 -- A line that passes has an id that no earlier line has.
 fresh_id : (ids earlier : List ℕ) (line : Line) → first_fault (line_checks ids earlier line) ≡ None → list_any (nat_eq (id_of line)) earlier ≡ false
 fresh_id ids earlier line e =
-    let behind = passed_parts (id_checks ids line.number (field_at line.texts 0)) (fresh_checks earlier line.number (field_at line.texts 0) ++ (weight_checks line.number (field_at line.texts 1) ++ end_checks line)) e in
+    let behind = passed_parts (id_checks ids line.number (field_at line.texts 0))
+    (fresh_checks earlier line.number (field_at line.texts 0) ++ (weight_checks line.number (field_at line.texts 1) ++ end_checks line)) e in
     let fresh = passed_parts (fresh_checks earlier line.number (field_at line.texts 0)) (weight_checks line.number (field_at line.texts 1) ++ end_checks line) behind.1 in
     go (list_any (nat_eq (id_of line)) earlier) refl fresh.0
   where
-    go : (b : Bool) → list_any (nat_eq (id_of line)) earlier ≡ b → first_fault (fresh_checks earlier line.number (field_at line.texts 0)) ≡ None → list_any (nat_eq (id_of line)) earlier ≡ false
+    go : (b : Bool) → list_any (nat_eq (id_of line)) earlier ≡ b → first_fault (fresh_checks earlier line.number (field_at line.texts 0)) ≡ None →
+        list_any (nat_eq (id_of line)) earlier ≡ false
     go false t h = t
     go true t h = let bad : Some (fault.DuplicateId line.number (id_of line)) ≡ None = rw t at h in cc
 

@@ -23,24 +23,29 @@ found_key test (e ∷ es) = go (test e.0) refl (found_key test es)
     go false t rest = rw t rest
 
 -- The id was read from the first field.
-pub id_passed : (ids : List ℕ) (n l : ℕ) (field f : Text) (id : ℕ) → n ≡ l → field ≡ f → Answers (id_checks ids n field) (λ v. v ≡ number field) (Ok id) → (first_fault (id_checks ids l f) ≡ None) × (id ≡ number f)
+pub id_passed : (ids : List ℕ) (n l : ℕ) (field f : Text) (id : ℕ) → n ≡ l → field ≡ f → Answers (id_checks ids n field) (λ v. v ≡ number field) (Ok id) →
+    (first_fault (id_checks ids l f) ≡ None) × (id ≡ number f)
 id_passed ids n l field f id p q h = rw (← p, ← q) h
 
 -- The weight was read from the second field.
-pub weight_passed : (n l : ℕ) (field f : Text) (weight : ℕ) → n ≡ l → field ≡ f → Answers (weight_checks n field) (λ v. v ≡ number field) (Ok weight) → (first_fault (weight_checks l f) ≡ None) × (weight ≡ number f)
+pub weight_passed : (n l : ℕ) (field f : Text) (weight : ℕ) → n ≡ l → field ≡ f → Answers (weight_checks n field) (λ v. v ≡ number field) (Ok weight) →
+    (first_fault (weight_checks l f) ≡ None) × (weight ≡ number f)
 weight_passed n l field f weight p q h = rw (← p, ← q) h
 
 -- The second field was refused.
-pub weight_refused : (n l : ℕ) (field f : Text) (e : WeightsFault) → n ≡ l → field ≡ f → Answers {V = ℕ} (weight_checks n field) (λ v. v ≡ number field) (Err e) → Answers {V = ℕ} (weight_checks l f) (λ v. v ≡ number f) (Err e)
+pub weight_refused : (n l : ℕ) (field f : Text) (e : WeightsFault) → n ≡ l → field ≡ f → Answers {V = ℕ} (weight_checks n field) (λ v. v ≡ number field) (Err e) →
+    Answers {V = ℕ} (weight_checks l f) (λ v. v ≡ number f) (Err e)
 weight_refused n l field f e p q h =
-    subst (λ (x : Text). Answers {V = ℕ} (weight_checks l x) (λ v. v ≡ number x) (Err e)) q (subst (λ (x : ℕ). Answers {V = ℕ} (weight_checks x field) (λ v. v ≡ number field) (Err e)) p h)
+    subst (λ (x : Text). Answers {V = ℕ} (weight_checks l x) (λ v. v ≡ number x) (Err e)) q
+    (subst (λ (x : ℕ). Answers {V = ℕ} (weight_checks x field) (λ v. v ≡ number field) (Err e)) p h)
 
 -- No earlier line has the id.
 pub fresh_passed : (es : List (ℕ × ℕ)) (l : ℕ) (f : Text) (id : ℕ) → id ≡ number f → false ≡ is_some (lookup (nat_eq id) es) → first_fault (fresh_checks (keys_of es) l f) ≡ None
 fresh_passed es l f id p none = let e : list_any (nat_eq (number f)) (keys_of es) ≡ false = rw (← p) (sym (found_key (nat_eq id) es) ∙ sym none) in rw e refl
 
 -- An earlier line has the id.
-pub fresh_fails : (es : List (ℕ × ℕ)) (n l : ℕ) (f : Text) (id : ℕ) → n ≡ l → id ≡ number f → true ≡ is_some (lookup (nat_eq id) es) → first_fault (fresh_checks (keys_of es) l f) ≡ Some (fault.DuplicateId n id)
+pub fresh_fails : (es : List (ℕ × ℕ)) (n l : ℕ) (f : Text) (id : ℕ) → n ≡ l → id ≡ number f → true ≡ is_some (lookup (nat_eq id) es) →
+    first_fault (fresh_checks (keys_of es) l f) ≡ Some (fault.DuplicateId n id)
 fresh_fails es n l f id q p some = let e : list_any (nat_eq (number f)) (keys_of es) ≡ true = rw (← p) (sym (found_key (nat_eq id) es) ∙ sym some) in rw (e, q, p) refl
 
 -- The line has no third field.
@@ -48,7 +53,8 @@ pub end_passed : (line : Line) (left : List Text) → left ≡ drop 2 line.texts
 end_passed line left p none = let e : (length (drop 2 line.texts) == 0) ≡ true = rw (← p) (sym none) in rw e refl
 
 -- The line has a third field.
-pub end_fails : (line : Line) (n : ℕ) (left : List Text) → n ≡ line.number → left ≡ drop 2 line.texts → false ≡ (length left == 0) → first_fault (end_checks line) ≡ Some (fault.BadLine n 3)
+pub end_fails : (line : Line) (n : ℕ) (left : List Text) → n ≡ line.number → left ≡ drop 2 line.texts → false ≡ (length left == 0) →
+    first_fault (end_checks line) ≡ Some (fault.BadLine n 3)
 end_fails line n left q p some = let e : (length (drop 2 line.texts) == 0) ≡ false = rw (← p) (sym some) in rw (e, q) refl
 
 module _ (ids earlier : List ℕ) (line : Line) where
@@ -69,7 +75,8 @@ module _ (ids earlier : List ℕ) (line : Line) where
   second_fails f p1 e = pass_first first (second ++ (third ++ fourth)) p1 ∙ fail_first second (third ++ fourth) f e
 
   -- The line fails at its weight.
-  pub third_fails : {V W : Type 0} (P : V → Type 0) (Q : W → Type 0) (f : WeightsFault) → first_fault first ≡ None → first_fault second ≡ None → Answers third P (Err f) → Answers (line_checks ids earlier line) Q (Err f)
+  pub third_fails : {V W : Type 0} (P : V → Type 0) (Q : W → Type 0) (f : WeightsFault) → first_fault first ≡ None → first_fault second ≡ None → Answers third P (Err f) →
+      Answers (line_checks ids earlier line) Q (Err f)
   third_fails P Q f p1 p2 e = after_passed Q Q first (second ++ (third ++ fourth)) f p1 (after_passed Q Q second (third ++ fourth) f p2 (part_fails P Q third fourth f e))
 
   -- The line fails at its end, or passes.

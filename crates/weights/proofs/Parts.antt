@@ -15,7 +15,8 @@ part_fails P Q xs ys (fault.DuplicateId l f) a = fail_first xs ys _ a
 part_fails P Q xs ys (fault.Limit l w f) a = fail_first xs ys _ a
 
 -- A part fails behind one that passed.
-pub after_passed : {V W : Type 0} (P : V → Type 0) (Q : W → Type 0) (xs ys : List (Check WeightsFault)) (f : WeightsFault) → first_fault xs ≡ None → Answers ys P (Err f) → Answers (xs ++ ys) Q (Err f)
+pub after_passed : {V W : Type 0} (P : V → Type 0) (Q : W → Type 0) (xs ys : List (Check WeightsFault)) (f : WeightsFault) → first_fault xs ≡ None → Answers ys P (Err f) →
+    Answers (xs ++ ys) Q (Err f)
 after_passed P Q xs ys fault.NoMemory p a = tt
 after_passed P Q xs ys (fault.BadLine l f) p a = pass_first xs ys p ∙ a
 after_passed P Q xs ys (fault.UnknownId l f) p a = pass_first xs ys p ∙ a
@@ -35,7 +36,8 @@ same_fault P Q xs ys (fault.DuplicateId l f) e a = ap first_fault (sym e) ∙ a
 same_fault P Q xs ys (fault.Limit l w f) e a = ap first_fault (sym e) ∙ a
 
 -- A first part of the lines fails, where the others before it passed.
-pub first_fails : {V W : Type 0} (P : V → Type 0) (Q : W → Type 0) (xs ys all : List (Check WeightsFault)) (f : WeightsFault) → first_fault (xs ++ ys) ≡ first_fault all → Answers xs P (Err f) → Answers all Q (Err f)
+pub first_fails : {V W : Type 0} (P : V → Type 0) (Q : W → Type 0) (xs ys all : List (Check WeightsFault)) (f : WeightsFault) → first_fault (xs ++ ys) ≡ first_fault all →
+    Answers xs P (Err f) → Answers all Q (Err f)
 first_fails P Q xs ys all fault.NoMemory e a = tt
 first_fails P Q xs ys all (fault.BadLine l f) e a = sym e ∙ fail_first xs ys _ a
 first_fails P Q xs ys all (fault.UnknownId l f) e a = sym e ∙ fail_first xs ys _ a

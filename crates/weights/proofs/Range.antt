@@ -37,11 +37,13 @@ weight_fits line field e =
 
 line_fits : (ids earlier : List ℕ) (line : Line) → first_fault (line_checks ids earlier line) ≡ None → (1 ≤ weight_in line) × (weight_in line ≤ 2 ^ 32)
 line_fits ids earlier line e =
-    let rest = (passed_parts (id_checks ids line.number (field_at line.texts 0)) (fresh_checks earlier line.number (field_at line.texts 0) ++ (weight_checks line.number (field_at line.texts 1) ++ end_checks line)) e).1 in
+    let rest = (passed_parts (id_checks ids line.number (field_at line.texts 0))
+    (fresh_checks earlier line.number (field_at line.texts 0) ++ (weight_checks line.number (field_at line.texts 1) ++ end_checks line)) e).1 in
     let last = (passed_parts (fresh_checks earlier line.number (field_at line.texts 0)) (weight_checks line.number (field_at line.texts 1) ++ end_checks line) rest).1 in
     weight_fits line.number (field_at line.texts 1) (passed_parts (weight_checks line.number (field_at line.texts 1)) (end_checks line) last).0
 
-pub weight_in_range : (ids earlier : List ℕ) (lines : List Line) (id : ℕ) → first_fault (lines_checks ids earlier lines) ≡ None → (1 ≤ weight_of lines id) × (weight_of lines id ≤ 2 ^ 32)
+pub weight_in_range : (ids earlier : List ℕ) (lines : List Line) (id : ℕ) → first_fault (lines_checks ids earlier lines) ≡ None →
+    (1 ≤ weight_of lines id) × (weight_of lines id ≤ 2 ^ 32)
 weight_in_range ids earlier [] id e = (omega arith, omega arith)
 weight_in_range ids earlier (line ∷ lines) id e =
     let parts = passed_parts (line_checks ids earlier line) (lines_checks ids (earlier ++ (id_of line ∷ [])) lines) e in
@@ -53,5 +55,6 @@ weight_in_range ids earlier (line ∷ lines) id e =
 pub weights_in_range : (text : Text) (coflows : List CoflowLine) → first_fault (text_checks text coflows) ≡ None → All (λ w. (1 ≤ w) × (w ≤ 2 ^ 32)) (weights_of text coflows)
 weights_in_range text coflows e k d lt =
     let in' : k < length coflows = omega (arith, lt, length-map coflows (λ (x : CoflowLine). weight_of (lines_of text) x.id)) in
-    subst (λ (n : ℕ). (1 ≤ n) × (n ≤ 2 ^ 32)) (sym (get_or-map (λ (x : CoflowLine). weight_of (lines_of text) x.id) coflows k record { id = 0; arrival = 0; mappers = []; reducers = [] } d in'))
+    subst (λ (n : ℕ). (1 ≤ n) × (n ≤ 2 ^ 32))
+    (sym (get_or-map (λ (x : CoflowLine). weight_of (lines_of text) x.id) coflows k record { id = 0; arrival = 0; mappers = []; reducers = [] } d in'))
     (weight_in_range (ids_of coflows) [] (lines_of text) (get_or coflows k record { id = 0; arrival = 0; mappers = []; reducers = [] }).id e)

@@ -1,5 +1,6 @@
 -- The checks of a weights file, in reading order.
-use Rattle.std.specs.Prelude.{◌≡◌, ℕ, ◌^◌, ◌==◌, ◌<◌, All, ◌&&◌, nat_le, nat_eq, Bool, not, List, [], ◌∷◌, ◌++◌, Some, None, Result, Ok, Err, length, drop}
+use Rattle.std.specs.Prelude.{◌≡◌, ℕ, ◌^◌, ◌==◌, ◌<◌, All, ◌&&◌, nat_le, nat_eq, Bool, not, List, [], ◌∷◌, ◌++◌, Some}
+use Rattle.std.specs.Prelude.{None, Result, Ok, Err, length, drop}
 use Rattle.std.specs.List.{list_any}
 use Rattle.coflow_units.specs.declared.quantity.Quantity.TheVariants as quantity
 use Rattle.text_fields.specs.Checks.{Check, first_fault}
@@ -34,13 +35,17 @@ id_checks ids line field =
 
 -- The check that no earlier line has the id.
 abbrev pub fresh_checks : List ℕ → ℕ → Text → List (Check WeightsFault)
-fresh_checks earlier line field = (not (list_any (nat_eq (number field)) earlier), fault.DuplicateId line (number field)) ∷ []
+fresh_checks earlier line field =
+    (not (list_any (nat_eq (number field)) earlier), fault.DuplicateId line (number field)) ∷ []
 
 -- The checks of a weight: its form, and its range from 1 to 2^32.
 abbrev pub weight_checks : ℕ → Text → List (Check WeightsFault)
 weight_checks line field =
     (is_number field, fault.BadLine line 2)
-    ∷ (nat_le 1 (number field) && nat_le (number field) (2 ^ 32), fault.Limit line quantity.Weight (capped (number field)))
+    ∷ (
+      nat_le 1 (number field) && nat_le (number field) (2 ^ 32),
+      fault.Limit line quantity.Weight (capped (number field)),
+    )
     ∷ []
 
 -- The check that a line has no third field.
@@ -58,7 +63,8 @@ line_checks ids earlier line =
 -- The checks of the first line, and then those of the others, which have its id among the earlier ones.
 abbrev pub lines_checks : List ℕ → List ℕ → List Line → List (Check WeightsFault)
 lines_checks ids earlier [] = []
-lines_checks ids earlier (line ∷ lines) = line_checks ids earlier line ++ lines_checks ids (earlier ++ (id_of line ∷ [])) lines
+lines_checks ids earlier (line ∷ lines) = line_checks ids earlier line ++
+    lines_checks ids (earlier ++ (id_of line ∷ [])) lines
 
 -- All checks hold and the value is as said, or the fault is that of the first check that fails, or memory ran out.
 abbrev pub Answers : {V : Type 0} → List (Check WeightsFault) → (V → Type 0) → Result V WeightsFault → Type 0

@@ -7,5 +7,6 @@ ghost use Rattle.weights.specs.Weights.{text_checks, weights_of};
 
 /// The weights that a text without a fault gives are from 1 to 2^32.
 pub fn weights_are_in_range()
-    ensures { (text : Text) (coflows : List CoflowLine) → first_fault (text_checks text coflows) ≡ None → All (λ w. (1 ≤ w) × (w ≤ 2 ^ 32)) (weights_of text coflows) }
+    ensures { (text : Text) (coflows : List CoflowLine) → first_fault (text_checks text coflows) ≡ None →
+        All (λ w. (1 ≤ w) × (w ≤ 2 ^ 32)) (weights_of text coflows) }
 {}

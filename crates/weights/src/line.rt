@@ -17,7 +17,8 @@ pub(crate) fn line_of(
     given: &IndexMap<u32, u64>,
 ) -> Result<(u32, u64), WeightsFault>
     requires { AreIds known.now.keys }
-    ensures { Answers (line_checks known.now.keys (keys given.now) fields.old) (λ v. (v.0 ≡ id_of fields.old) × (v.1 ≡ weight_in fields.old)) result }
+    ensures { Answers (line_checks known.now.keys (keys given.now) fields.old)
+        (λ v. (v.0 ≡ id_of fields.old) × (v.1 ≡ weight_in fields.old)) result }
 {
     let line = fields.line();
     let id = match known_id(fields.next(), line, known) {

@@ -17,7 +17,8 @@ pub(crate) fn given_weights(
 ) -> Result<IndexMap<u32, u64>, WeightsFault>
     requires short { length bytes.now ≤ 2 ^ 26 }
     requires ids { AreIds known.now.keys }
-    ensures { Answers (lines_checks known.now.keys [] (lines_of bytes.now)) (λ m. m.entries ≡ map (λ (x : Line). (id_of x, weight_in x)) (lines_of bytes.now)) result }
+    ensures { Answers (lines_checks known.now.keys [] (lines_of bytes.now))
+        (λ m. m.entries ≡ map (λ (x : Line). (id_of x, weight_in x)) (lines_of bytes.now)) result }
 {
     let mut lines = Lines::new(bytes);
     let mut given = IndexMap::<u32, u64>::new(alloc);

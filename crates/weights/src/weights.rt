@@ -20,7 +20,8 @@ use std::alloc::Global;
 /// field 2 (`BadLine`), its range (`Limit` of `Weight`), and that there is no third field (`BadLine`). `NoMemory` may come in place of any answer.
 pub fn read_weights(alloc: Global, bytes: &[u8], trace: &Trace) -> Result<Items<u64>, WeightsFault>
     requires { length bytes.now ≤ 2 ^ 26 }
-    ensures { Answers (text_checks bytes.now trace.now.coflows) (λ w. w ≡ weights_of bytes.now trace.now.coflows) result }
+    ensures { Answers (text_checks bytes.now trace.now.coflows)
+        (λ w. w ≡ weights_of bytes.now trace.now.coflows) result }
 {
     let coflows = trace.coflows.as_slice();
     let known = known_ids(alloc, coflows)?;
@@ -59,7 +60,8 @@ fn weights_by_number(
     coflows: &[CoflowLine],
     given: &IndexMap<u32, u64>,
 ) -> Result<Vec<u64>, NoMemory>
-    ensures { IfOk result (λ w. w.items ≡ map (λ (x : CoflowLine). unwrap_or (get nat_eq given.now x.id) 1) coflows.now) }
+    ensures { IfOk result (λ w. w.items ≡
+        map (λ (x : CoflowLine). unwrap_or (get nat_eq given.now x.id) 1) coflows.now) }
 {
     let mut weights = Vec::new(alloc);
     for coflow in coflows {

@@ -17,9 +17,11 @@ loop-number-preserved-then-of_group-eq0 c =
       busy_len = before.busy_len;
       open_ingress = before.open_ingress;
       open_egress = before.open_egress;
-      granting = λ line k next so_far. group_owes_nothing c.args.flows.now line (λ f. get_or c.args.owing.now.left f 0) k n behind c.loop-number.at c.loop-number.busy (omega (arith, above, c.behind-behind.ensures))
+      granting = λ line k next so_far. group_owes_nothing c.args.flows.now line (λ f. get_or c.args.owing.now.left f 0) k n behind c.loop-number.at c.loop-number.busy
+          (omega (arith, above, c.behind-behind.ensures))
           (group_placed c.args.flows.now c.args.owing.now line k c.args.first c.args.end n behind owed next lt c.behind-behind.ensures before.from c.loop-number-test.true)
-          (group_is_empty c.args.flows.now c.args.owing.now n behind owed lt c.behind-behind.ensures (sym c.of_group.ensures ∙ c.if-of_group-eq0.true)) (before.granting line k next so_far);
+          (group_is_empty c.args.flows.now c.args.owing.now n behind owed lt c.behind-behind.ensures (sym c.of_group.ensures ∙ c.if-of_group-eq0.true))
+          (before.granting line k next so_far);
     }
 
 pub loop-number-preserved-then-is_some : goal.loop-number-preserved-then-is_some
@@ -36,9 +38,11 @@ loop-number-preserved-then-is_some c =
       busy_len = before.busy_len;
       open_ingress = before.open_ingress;
       open_egress = before.open_egress;
-      granting = λ line k next so_far. group_is_cut c.args.flows.now line (λ f. get_or c.args.owing.now.left f 0) k n behind c.loop-number.at c.loop-number.busy (omega (arith, above, c.behind-behind.ensures))
+      granting = λ line k next so_far. group_is_cut c.args.flows.now line (λ f. get_or c.args.owing.now.left f 0) k n behind c.loop-number.at c.loop-number.busy
+          (omega (arith, above, c.behind-behind.ensures))
           (group_placed c.args.flows.now c.args.owing.now line k c.args.first c.args.end n behind owed next lt c.behind-behind.ensures before.from c.loop-number-test.true)
-          (λ f from to. owed.groups.ingress n f lt from (omega (arith, to, c.behind-behind.ensures))) (sym c.is_some.ensures ∙ c.if-is_some.true) (before.granting line k next so_far);
+          (λ f from to. owed.groups.ingress n f lt from (omega (arith, to, c.behind-behind.ensures))) (sym c.is_some.ensures ∙ c.if-is_some.true)
+          (before.granting line k next so_far);
     }
 
 pub loop-number-preserved : goal.loop-number-preserved

@@ -11,7 +11,8 @@ invariant-loop-number l = record {
   busy_len : length l.busy ≡ length l.fn.busy;
   open_ingress : l.ports.ingress ≡ open_ingresses l.owing.at_ingress l.at;
   open_egress : l.ports.egress ≡ open_egresses l.owing.at_egress l.busy;
-  granting : (line : List ℕ) (k : ℕ) → IsNext l.flows line k l.first l.end → IsGranting l.flows line (λ f. get_or l.owing.left f 0) k 0 l.fn.at l.fn.busy → IsGranting l.flows line (λ f. get_or l.owing.left f 0) k l.number l.at l.busy;
+  granting : (line : List ℕ) (k : ℕ) → IsNext l.flows line k l.first l.end → IsGranting l.flows line (λ f. get_or l.owing.left f 0) k 0 l.fn.at l.fn.busy →
+      IsGranting l.flows line (λ f. get_or l.owing.left f 0) k l.number l.at l.busy;
 }
 
 abbrev pub decreases-loop-number : goal.decreases-loop-number

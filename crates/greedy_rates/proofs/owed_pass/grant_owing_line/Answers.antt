@@ -19,16 +19,20 @@ pub returns-then-ports-eq0-clause-granting : goal.returns-then-ports-eq0-clause-
 returns-then-ports-eq0-clause-granting c =
     let before = c.loop-coflow.invariant in
     let owed = c.requires.owed in
-    rest_is_cut c.args.flows.now c.args.line.now (λ f. get_or c.args.owing.now.left f 0) c.loop-coflow.coflow-index c.loop-coflow.at c.loop-coflow.busy (omega (arith, c.loop-coflow-test.true))
-    (no_ingress_open c.args.flows.now c.args.line.now c.args.owing.now.left c.loop-coflow.coflow-index 0 c.args.owing.now.at_ingress c.loop-coflow.at c.loop-coflow.busy owed.ingresses owed.count (sym before.open_ingress ∙ c.if-ports-eq0.true) before.granting)
+    rest_is_cut c.args.flows.now c.args.line.now (λ f. get_or c.args.owing.now.left f 0) c.loop-coflow.coflow-index c.loop-coflow.at c.loop-coflow.busy
+    (omega (arith, c.loop-coflow-test.true))
+    (no_ingress_open c.args.flows.now c.args.line.now c.args.owing.now.left c.loop-coflow.coflow-index 0 c.args.owing.now.at_ingress c.loop-coflow.at c.loop-coflow.busy
+    owed.ingresses owed.count (sym before.open_ingress ∙ c.if-ports-eq0.true) before.granting)
     before.granting
 
 pub returns-then-ports-eq0-2-clause-granting : goal.returns-then-ports-eq0-2-clause-granting
 returns-then-ports-eq0-2-clause-granting c =
     let before = c.loop-coflow.invariant in
     let owed = c.requires.owed in
-    rest_is_cut c.args.flows.now c.args.line.now (λ f. get_or c.args.owing.now.left f 0) c.loop-coflow.coflow-index c.loop-coflow.at c.loop-coflow.busy (omega (arith, c.loop-coflow-test.true))
-    (no_egress_open c.args.flows.now c.args.line.now c.args.owing.now.left c.loop-coflow.coflow-index 0 c.args.owing.now.at_egress c.loop-coflow.at c.loop-coflow.busy owed.egresses owed.count (sym before.open_egress ∙ c.if-ports-eq0-2.true) before.granting)
+    rest_is_cut c.args.flows.now c.args.line.now (λ f. get_or c.args.owing.now.left f 0) c.loop-coflow.coflow-index c.loop-coflow.at c.loop-coflow.busy
+    (omega (arith, c.loop-coflow-test.true))
+    (no_egress_open c.args.flows.now c.args.line.now c.args.owing.now.left c.loop-coflow.coflow-index 0 c.args.owing.now.at_egress c.loop-coflow.at c.loop-coflow.busy owed.egresses
+    owed.count (sym before.open_egress ∙ c.if-ports-eq0-2.true) before.granting)
     before.granting
 
 pub loop-coflow-preserved-then-of_coflow-eq0 : goal.loop-coflow-preserved-then-of_coflow-eq0
@@ -37,14 +41,17 @@ loop-coflow-preserved-then-of_coflow-eq0 c =
     let k = c.loop-coflow.coflow-index in
     let flows = c.args.flows.now in
     let coflow = get_or c.args.line.now k 0 in
-    let next = next_coflow flows c.args.line.now c.args.starts.now k c.requires.starts c.requires.distinct c.loop-coflow-test.true (c.requires.coflows k 0 c.loop-coflow-test.true) in
+    let next = next_coflow flows c.args.line.now c.args.starts.now k c.requires.starts c.requires.distinct c.loop-coflow-test.true (c.requires.coflows k 0 c.loop-coflow-test.true)
+    in
     record {
       at_len = before.at_len;
       busy_len = before.busy_len;
       open_ingress = before.open_ingress;
       open_egress = before.open_egress;
-      granting = coflow_owes_nothing flows c.args.line.now (λ f. get_or c.args.owing.now.left f 0) k (get_or c.args.starts.now coflow 0) (get_or c.args.starts.now (coflow + 1) 0) c.loop-coflow.at c.loop-coflow.busy next
-          (λ f from to. coflow_is_empty flows c.args.owing.now coflow f c.requires.owed (number_of_coflow flows c.args.starts.now coflow f c.requires.starts (c.requires.coflows k 0 c.loop-coflow-test.true) from to)
+      granting = coflow_owes_nothing flows c.args.line.now (λ f. get_or c.args.owing.now.left f 0) k (get_or c.args.starts.now coflow 0) (get_or c.args.starts.now (coflow + 1) 0)
+          c.loop-coflow.at c.loop-coflow.busy next
+          (λ f from to. coflow_is_empty flows c.args.owing.now coflow f c.requires.owed
+          (number_of_coflow flows c.args.starts.now coflow f c.requires.starts (c.requires.coflows k 0 c.loop-coflow-test.true) from to)
           (c.requires.starts.own coflow f (c.requires.coflows k 0 c.loop-coflow-test.true) from to) (sym c.of_coflow.ensures ∙ c.if-of_coflow-eq0.true)) before.granting;
     }
 
@@ -58,5 +65,6 @@ loop-coflow-preserved c =
       open_ingress = c.grant_owing_coflow.ensures.open_ingress;
       open_egress = c.grant_owing_coflow.ensures.open_egress;
       granting = c.grant_owing_coflow.ensures.granting c.args.line.now k
-          (next_coflow c.args.flows.now c.args.line.now c.args.starts.now k c.requires.starts c.requires.distinct c.loop-coflow-test.true (c.requires.coflows k 0 c.loop-coflow-test.true)) before.granting;
+          (next_coflow c.args.flows.now c.args.line.now c.args.starts.now k c.requires.starts c.requires.distinct c.loop-coflow-test.true
+          (c.requires.coflows k 0 c.loop-coflow-test.true)) before.granting;
     }

@@ -21,4 +21,5 @@ loop-first-preserved c =
     )
 
 pub returns : goal.returns
-returns c = groups_are c.args.flows.now c.loop-first.behind.items (subst (λ (n : ℕ). IsGroupsFrom c.args.flows.now c.loop-first.behind.items n) (omega (arith, c.loop-first-test.false)) c.loop-first.invariant.1)
+returns c = groups_are c.args.flows.now c.loop-first.behind.items
+    (subst (λ (n : ℕ). IsGroupsFrom c.args.flows.now c.loop-first.behind.items n) (omega (arith, c.loop-first-test.false)) c.loop-first.invariant.1)

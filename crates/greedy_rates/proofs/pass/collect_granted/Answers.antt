@@ -18,5 +18,6 @@ loop-stands-preserved c =
     record {
       length_is = length-set c.loop-stands.listed c.loop-stands.count c.in-Some.flow ∙ before.length_is;
       count_fits = omega (arith, before.count_fits);
-      listing = list_takes c.args.at.now c.loop-stands.stands-index c.loop-stands.count c.in-Some.flow c.loop-stands.listed c.requires.once c.in-Some.is (omega (arith, before.count_fits, before.length_is, c.requires.room, c.loop-stands-test.true)) before.listing;
+      listing = list_takes c.args.at.now c.loop-stands.stands-index c.loop-stands.count c.in-Some.flow c.loop-stands.listed c.requires.once c.in-Some.is
+          (omega (arith, before.count_fits, before.length_is, c.requires.room, c.loop-stands-test.true)) before.listing;
     }

@@ -12,7 +12,8 @@ loop-number-preserved-then-is_some c =
       at_len = before.at_len;
       busy_len = before.busy_len;
       from = omega (arith, before.from);
-      granting = λ line k next so_far. skip_sent c.args.flows.now line (λ f. get_or c.args.left.now f 0) k c.loop-number.number c.loop-number.at c.loop-number.busy (next.placed c.loop-number.number before.from c.loop-number-test.true)
+      granting = λ line k next so_far. skip_sent c.args.flows.now line (λ f. get_or c.args.left.now f 0) k c.loop-number.number c.loop-number.at c.loop-number.busy
+          (next.placed c.loop-number.number before.from c.loop-number-test.true)
           (sym c.is_some.ensures ∙ c.if-is_some.true) (before.granting line k next so_far);
     }
 
@@ -23,7 +24,8 @@ loop-number-preserved-then-busy-flow c =
       at_len = before.at_len;
       busy_len = before.busy_len;
       from = omega (arith, before.from);
-      granting = λ line k next so_far. skip_received c.args.flows.now line (λ f. get_or c.args.left.now f 0) k c.loop-number.number c.loop-number.at c.loop-number.busy (next.placed c.loop-number.number before.from c.loop-number-test.true) c.if-busy-flow.true
+      granting = λ line k next so_far. skip_received c.args.flows.now line (λ f. get_or c.args.left.now f 0) k c.loop-number.number c.loop-number.at c.loop-number.busy
+          (next.placed c.loop-number.number before.from c.loop-number-test.true) c.if-busy-flow.true
           (before.granting line k next so_far);
     }
 
@@ -32,12 +34,16 @@ loop-number-preserved c =
     let before = c.loop-number.invariant in
     let n = c.loop-number.number in
     let lt : n < length c.args.flows.now = omega (arith, c.requires.end, c.loop-number-test.true) in
-    let in_range : ingress_of c.args.flows.now n < length c.loop-number.at = omega (arith, before.at_len, c.requires.ingress_in_range n record { coflow = 0; ingress = 0; egress = 0; units = 0 } lt) in
-    let out_range : egress_of c.args.flows.now n < length c.loop-number.busy = omega (arith, before.busy_len, c.requires.egress_in_range n record { coflow = 0; ingress = 0; egress = 0; units = 0 } lt) in
+    let in_range : ingress_of c.args.flows.now n < length c.loop-number.at =
+    omega (arith, before.at_len, c.requires.ingress_in_range n record { coflow = 0; ingress = 0; egress = 0; units = 0 } lt) in
+    let out_range : egress_of c.args.flows.now n < length c.loop-number.busy =
+    omega (arith, before.busy_len, c.requires.egress_in_range n record { coflow = 0; ingress = 0; egress = 0; units = 0 } lt) in
     record {
       at_len = length-set c.loop-number.at (ingress_of c.args.flows.now n) (Some n) ∙ before.at_len;
       busy_len = length-set c.loop-number.busy (egress_of c.args.flows.now n) true ∙ before.busy_len;
       from = omega (arith, before.from);
-      granting = λ line k next so_far. grant_flow c.args.flows.now line (λ f. get_or c.args.left.now f 0) k n c.loop-number.at c.loop-number.busy lt (next.placed n before.from c.loop-number-test.true) (omega (arith, c.if-left-number-eq0.false)) in_range out_range
-          (not_some (flow_at_ingress c.loop-number.at (ingress_of c.args.flows.now n)) (sym c.is_some.ensures ∙ c.if-is_some.false)) c.if-busy-flow.false (before.granting line k next so_far);
+      granting = λ line k next so_far. grant_flow c.args.flows.now line (λ f. get_or c.args.left.now f 0) k n c.loop-number.at c.loop-number.busy lt
+          (next.placed n before.from c.loop-number-test.true) (omega (arith, c.if-left-number-eq0.false)) in_range out_range
+          (not_some (flow_at_ingress c.loop-number.at (ingress_of c.args.flows.now n)) (sym c.is_some.ensures ∙ c.if-is_some.false)) c.if-busy-flow.false
+          (before.granting line k next so_far);
     }

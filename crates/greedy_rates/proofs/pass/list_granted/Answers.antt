@@ -11,14 +11,20 @@ returns-clause-listing c =
     let n = c.collect_granted-count.result in
     let listed = c.collect_granted-count.new.listed in
     let sorted = c.sort_unstable.new.self in
-    let len : length sorted ≡ n = omega (arith, c.sort_unstable.ensures.len, length-take-le n listed, c.collect_granted-count.ensures.within, c.collect_granted-count.ensures.len) in
-    let rises = sorted_rises c.args.at.now (length c.args.at.now) (take n listed) sorted c.collect_granted-count.ensures.listing c.sort_unstable.ensures.permutation c.sort_unstable.ensures.sorted in
-    subst (λ (xs : List ℕ). IsListing c.args.at.now (length c.args.at.now) xs) (sym (front_again n sorted listed len)) (sorted_lists c.args.at.now (length c.args.at.now) (take n listed) sorted c.collect_granted-count.ensures.listing c.sort_unstable.ensures.permutation rises)
+    let len : length sorted ≡ n = omega (arith, c.sort_unstable.ensures.len, length-take-le n listed, c.collect_granted-count.ensures.within, c.collect_granted-count.ensures.len)
+    in
+    let rises = sorted_rises c.args.at.now (length c.args.at.now) (take n listed) sorted c.collect_granted-count.ensures.listing c.sort_unstable.ensures.permutation
+    c.sort_unstable.ensures.sorted in
+    subst (λ (xs : List ℕ). IsListing c.args.at.now (length c.args.at.now) xs) (sym (front_again n sorted listed len))
+    (sorted_lists c.args.at.now (length c.args.at.now) (take n listed) sorted c.collect_granted-count.ensures.listing c.sort_unstable.ensures.permutation rises)
 
 pub returns-clause-ascending : goal.returns-clause-ascending
 returns-clause-ascending c =
     let n = c.collect_granted-count.result in
     let listed = c.collect_granted-count.new.listed in
     let sorted = c.sort_unstable.new.self in
-    let len : length sorted ≡ n = omega (arith, c.sort_unstable.ensures.len, length-take-le n listed, c.collect_granted-count.ensures.within, c.collect_granted-count.ensures.len) in
-    subst (λ (xs : List ℕ). IsStrictlyIncreasing xs) (sym (front_again n sorted listed len)) (sorted_rises c.args.at.now (length c.args.at.now) (take n listed) sorted c.collect_granted-count.ensures.listing c.sort_unstable.ensures.permutation c.sort_unstable.ensures.sorted)
+    let len : length sorted ≡ n = omega (arith, c.sort_unstable.ensures.len, length-take-le n listed, c.collect_granted-count.ensures.within, c.collect_granted-count.ensures.len)
+    in
+    subst (λ (xs : List ℕ). IsStrictlyIncreasing xs) (sym (front_again n sorted listed len))
+    (sorted_rises c.args.at.now (length c.args.at.now) (take n listed) sorted c.collect_granted-count.ensures.listing c.sort_unstable.ensures.permutation
+    c.sort_unstable.ensures.sorted)

@@ -5,4 +5,5 @@ use Rattle.greedy_rates.proofs.pass.tell_granted.Goals as goal
 
 pub least_left-length-requires : goal.least_left-length-requires
 least_left-length-requires c =
-    all_of_members (λ f. f < length c.args.left.now) (take c.list_granted-count.result c.list_granted-count.new.listed) (λ f has. let (p, lt, e) = c.list_granted-count.ensures.listing.from f has in c.requires.flows p f e)
+    all_of_members (λ f. f < length c.args.left.now) (take c.list_granted-count.result c.list_granted-count.new.listed)
+    (λ f has. let (p, lt, e) = c.list_granted-count.ensures.listing.from f has in c.requires.flows p f e)

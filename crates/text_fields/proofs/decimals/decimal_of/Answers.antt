@@ -6,8 +6,11 @@ pub returns-in_default : goal.returns-in_default
 returns-in_default c =
     let parts = no_point c.args.field.now c.in_default.ensures in
     let n = c.in-Some-number_of.ensures in
-    let one = plain_value c.args.field.now c.in-Some-number_of.whole 1 parts n.1 (omega arith) in
-    (rw (parts.0, ← c.in_default.ensures, n.0) refl, c.saturating_mul.ensures ∙ plain_value c.args.field.now c.in-Some-number_of.whole 1000000 parts n.1 (omega arith), omega (arith, one, n.1))
+    let one = plain_value c.args.field.now c.in-Some-number_of.whole 1 parts n.1 (omega arith) in (
+      rw (parts.0, ← c.in_default.ensures, n.0) refl,
+      c.saturating_mul.ensures ∙ plain_value c.args.field.now c.in-Some-number_of.whole 1000000 parts n.1 (omega arith),
+      omega (arith, one, n.1),
+    )
 
 pub returns-then-not-is_number : goal.returns-then-not-is_number
 returns-then-not-is_number c =

@@ -7,11 +7,13 @@ use Rattle.trace_reader.proofs.back.reducers_in.Goals as goal
 
 pub returns-in-Err-clause-answer : goal.returns-in-Err-clause-answer
 returns-in-Err-clause-answer c =
-    fault_here (reducer_checks c.args.ports) reducer_of c.args.field c.args.fields.now c.loop-index.fields c.loop-index.reducers.items c.loop-index.index c.args.count c.line-line.result c.next.result.now
+    fault_here (reducer_checks c.args.ports) reducer_of c.args.field c.args.fields.now c.loop-index.fields c.loop-index.reducers.items c.loop-index.index c.args.count
+    c.line-line.result c.next.result.now
     (λ (v : Reducer). v ≡ reducer_of c.next.result.now) (λ (v : Vec Reducer Global). v.items ≡ values reducer_of c.args.fields.now.texts c.args.count) c.in-Err.fault
     c.line-line.ensures c.next.ensures.field (omega (arith, c.loop-index-test.true)) c.loop-index.invariant c.in-Err.ensures
 
 pub loop-index-preserved : goal.loop-index-preserved
 loop-index-preserved c =
-    goes_on (reducer_checks c.args.ports) reducer_of c.args.field c.args.fields.now c.loop-index.fields c.next.new.self c.loop-index.reducers.items c.push.new.self.items c.loop-index.index c.line-line.result c.next.result.now c.in-Ok.reducer
+    goes_on (reducer_checks c.args.ports) reducer_of c.args.field c.args.fields.now c.loop-index.fields c.next.new.self c.loop-index.reducers.items c.push.new.self.items
+    c.loop-index.index c.line-line.result c.next.result.now c.in-Ok.reducer
     c.line-line.ensures c.next.ensures.field c.next.ensures.left c.in-Ok.ensures c.in_ok-push.ensures.items c.loop-index.invariant

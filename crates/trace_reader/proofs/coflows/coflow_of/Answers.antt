@@ -27,7 +27,8 @@ returns-in-Err-back_of-clause-answer c =
     let count : c.len.result ≡ length c.in-Ok.front.mappers.items = omega (arith, c.len.ensures, c.in-Ok.front.mappers.ok.0) in
     let place = place_is line (4 + c.len.result) c.len.result c.in-Ok.front.mappers.items c.in-Ok.ensures.answer.1.mappers_are count refl in
     back_fails c.args.ports c.args.ids.now.keys line c.front_of.new.fields (4 + c.len.result) c.in-Ok.ensures.left place
-    (λ (v : Vec Reducer Global). v.items ≡ reducers_of c.front_of.new.fields) (λ (v : CoflowLine). v ≡ coflow_of line) c.in-Err-back_of.fault c.in-Ok.ensures.answer.0 c.in-Err-back_of.ensures
+    (λ (v : Vec Reducer Global). v.items ≡ reducers_of c.front_of.new.fields) (λ (v : CoflowLine). v ≡ coflow_of line) c.in-Err-back_of.fault c.in-Ok.ensures.answer.0
+    c.in-Err-back_of.ensures
 
 pub returns-clause-answer : goal.returns-clause-answer
 returns-clause-answer c =
@@ -38,5 +39,6 @@ returns-clause-answer c =
     let mappers : c.from_vec.result ≡ mappers_of line = c.from_vec.ensures ∙ front.1.mappers_are in
     let reducers : c.from_vec-2.result ≡ reducers_of c.front_of.new.fields = c.from_vec-2.ensures ∙ c.in-Ok-back_of.ensures.1 in (
       back_decides c.args.ports c.args.ids.now.keys line c.front_of.new.fields (4 + c.len.result) c.in-Ok.ensures.left place front.0 ∙ c.in-Ok-back_of.ensures.0,
-      coflow_is line c.front_of.new.fields c.in-Ok.front.id c.in-Ok.front.arrival c.from_vec.result c.from_vec-2.result c.in-Ok.ensures.left front.1.id_is front.1.arrival_is mappers reducers,
+      coflow_is line c.front_of.new.fields c.in-Ok.front.id c.in-Ok.front.arrival c.from_vec.result c.from_vec-2.result c.in-Ok.ensures.left front.1.id_is front.1.arrival_is
+          mappers reducers,
     )

@@ -7,11 +7,13 @@ use Rattle.trace_reader.proofs.coflows.coflows_of.Goals as goal
 pub returns-in-Err : goal.returns-in-Err
 returns-in-Err c =
     let few : length c.loop-fields.coflows.items < c.args.count = omega (arith, c.if-len-count.false, c.len.ensures, c.loop-fields.coflows.ok.0) in
-    line_fails c.args.ports c.args.count c.args.lines.now c.loop-fields.lines c.next.new.self c.in-Some.fields c.loop-fields.ids.keys c.loop-fields.coflows.items c.in-Some.ensures c.loop-fields.invariant
+    line_fails c.args.ports c.args.count c.args.lines.now c.loop-fields.lines c.next.new.self c.in-Some.fields c.loop-fields.ids.keys c.loop-fields.coflows.items c.in-Some.ensures
+    c.loop-fields.invariant
     (λ (v : CoflowLine). v ≡ coflow_of c.in-Some.fields) (λ (v : Vec CoflowLine Global). v.items ≡ map coflow_of c.args.lines.now) c.in-Err.fault few c.in-Err.ensures.answer
 
 pub loop-fields-preserved : goal.loop-fields-preserved
 loop-fields-preserved c =
     let few : length c.loop-fields.coflows.items < c.args.count = omega (arith, c.if-len-count.false, c.len.ensures, c.loop-fields.coflows.ok.0) in
-    goes_on c.args.ports c.args.count c.args.lines.now c.loop-fields.lines c.next.new.self c.in-Some.fields c.loop-fields.ids.keys c.loop-fields.coflows.items c.in-Some.ensures c.loop-fields.invariant
+    goes_on c.args.ports c.args.count c.args.lines.now c.loop-fields.lines c.next.new.self c.in-Some.fields c.loop-fields.ids.keys c.loop-fields.coflows.items c.in-Some.ensures
+    c.loop-fields.invariant
     c.coflow_of.new.ids.keys c.in-Ok.coflow c.push.new.self.items few c.in-Ok.ensures.answer c.in-Ok.ensures.ids c.in_ok-push.ensures.items

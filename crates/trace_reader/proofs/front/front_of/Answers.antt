@@ -16,12 +16,17 @@ returns-in-Err-mappers_in-clause-answer c =
     let second : c.next-2.result.now ≡ field_at line.texts 1 = search rules in
     let third : c.next-3.result.now ≡ field_at line.texts 2 = search rules in
     let named = id_passed c.args.ports c.args.ids.now.keys line c.line-line.result c.next.result.now c.line-line.ensures c.next.ensures.field c.in-Ok.ensures.answer.0 in
-    let arrived = number_passed c.line-line.result line.number 2 0 (2 ^ 32 - 1) c.in-Ok-number_in.arrival quantity.Arrival c.next-2.result.now (field_at line.texts 1) c.line-line.ensures second c.in-Ok-number_in.ensures in
-    let mapped = number_passed c.line-line.result line.number 3 1 4096 c.in-Ok-number_in-2.count quantity.Mappers c.next-3.result.now (field_at line.texts 2) c.line-line.ensures third c.in-Ok-number_in-2.ensures in
-    mapper_fails c.args.ports c.args.ids.now.keys line (λ (v : Vec ℕ Global). v.items ≡ values number c.next-3.new.self.texts c.in-Ok-number_in-2.count) (IsFront (λ (v : Front). v.id) (λ v. v.arrival) (λ v. v.mappers.items) line) c.in-Err-mappers_in.fault
-    c.next.new.self c.next-2.new.self c.next-3.new.self c.in-Ok-number_in-2.count c.next.ensures.left c.next-2.ensures.left c.next-3.ensures.left named arrived.0 mapped c.in-Err-mappers_in.ensures.answer
+    let arrived = number_passed c.line-line.result line.number 2 0 (2 ^ 32 - 1) c.in-Ok-number_in.arrival quantity.Arrival c.next-2.result.now (field_at line.texts 1)
+    c.line-line.ensures second c.in-Ok-number_in.ensures in
+    let mapped = number_passed c.line-line.result line.number 3 1 4096 c.in-Ok-number_in-2.count quantity.Mappers c.next-3.result.now (field_at line.texts 2) c.line-line.ensures
+    third c.in-Ok-number_in-2.ensures in
+    mapper_fails c.args.ports c.args.ids.now.keys line (λ (v : Vec ℕ Global). v.items ≡ values number c.next-3.new.self.texts c.in-Ok-number_in-2.count)
+    (IsFront (λ (v : Front). v.id) (λ v. v.arrival) (λ v. v.mappers.items) line) c.in-Err-mappers_in.fault
+    c.next.new.self c.next-2.new.self c.next-3.new.self c.in-Ok-number_in-2.count c.next.ensures.left c.next-2.ensures.left c.next-3.ensures.left named arrived.0 mapped
+    c.in-Err-mappers_in.ensures.answer
 
 pub returns-clause-few : goal.returns-clause-few
 returns-clause-few c =
-    let count : length c.in-Ok-mappers_in.mappers.items ≡ c.in-Ok-number_in-2.count = ap length c.in-Ok-mappers_in.ensures.answer.1 ∙ length_values number c.next-3.new.self.texts c.in-Ok-number_in-2.count in
+    let count : length c.in-Ok-mappers_in.mappers.items ≡ c.in-Ok-number_in-2.count = ap length c.in-Ok-mappers_in.ensures.answer.1 ∙
+    length_values number c.next-3.new.self.texts c.in-Ok-number_in-2.count in
     omega (arith, count, c.in-Ok-number_in-2.ensures)

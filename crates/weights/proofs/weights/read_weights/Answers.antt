@@ -13,14 +13,21 @@ use Rattle.weights.proofs.weights.read_weights.Goals as goal
 pub returns-in-Err : goal.returns-in-Err
 returns-in-Err c =
     let coflows : List CoflowLine = c.args.trace.now.coflows in
-    let ids : IsSameIds c.in_ok-known.known.keys (ids_of coflows) = subst (λ (x : List CoflowLine). IsSameIds c.in_ok-known.known.keys (ids_of x)) c.as_slice-coflows.ensures c.in_ok-known.ensures.0 in
+    let ids : IsSameIds c.in_ok-known.known.keys (ids_of coflows) =
+    subst (λ (x : List CoflowLine). IsSameIds c.in_ok-known.known.keys (ids_of x)) c.as_slice-coflows.ensures c.in_ok-known.ensures.0 in
     let lines : List Line = lines_of c.args.bytes.now in
-    same_fault {W = List ℕ} (λ (es : List (ℕ × ℕ)). es ≡ pairs lines) (λ w. w ≡ weights_of c.args.bytes.now coflows) (lines_checks c.in_ok-known.known.keys [] lines) (text_checks c.args.bytes.now coflows) c.in-Err.fault (same_checks c.in_ok-known.known.keys (ids_of coflows) [] lines ids) c.in-Err.ensures
+    same_fault {W = List ℕ} (λ (es : List (ℕ × ℕ)). es ≡ pairs lines) (λ w. w ≡ weights_of c.args.bytes.now coflows) (lines_checks c.in_ok-known.known.keys [] lines)
+    (text_checks c.args.bytes.now coflows) c.in-Err.fault (same_checks c.in_ok-known.known.keys (ids_of coflows) [] lines ids) c.in-Err.ensures
 
 pub returns : goal.returns
 returns c =
     let coflows : List CoflowLine = c.args.trace.now.coflows in
-    let ids : IsSameIds c.in_ok-known.known.keys (ids_of coflows) = subst (λ (x : List CoflowLine). IsSameIds c.in_ok-known.known.keys (ids_of x)) c.as_slice-coflows.ensures c.in_ok-known.ensures.0 in
+    let ids : IsSameIds c.in_ok-known.known.keys (ids_of coflows) =
+    subst (λ (x : List CoflowLine). IsSameIds c.in_ok-known.known.keys (ids_of x)) c.as_slice-coflows.ensures c.in_ok-known.ensures.0 in
     let lines : List Line = lines_of c.args.bytes.now in
-    let given : c.in_ok-weights.weights.items ≡ map (λ (x : CoflowLine). unwrap_or (get nat_eq c.in-Ok.given x.id) 1) coflows = c.in_ok-weights.ensures ∙ ap (map (λ (x : CoflowLine). unwrap_or (get nat_eq c.in-Ok.given x.id) 1)) c.as_slice-coflows.ensures in
-    (ap first_fault (sym (same_checks c.in_ok-known.known.keys (ids_of coflows) [] lines ids)) ∙ c.in-Ok.ensures.0, c.from_vec.ensures ∙ (given ∙ weights_are lines c.in-Ok.given.entries coflows c.in-Ok.ensures.1))
+    let given : c.in_ok-weights.weights.items ≡ map (λ (x : CoflowLine). unwrap_or (get nat_eq c.in-Ok.given x.id) 1) coflows =
+    c.in_ok-weights.ensures ∙ ap (map (λ (x : CoflowLine). unwrap_or (get nat_eq c.in-Ok.given x.id) 1)) c.as_slice-coflows.ensures in (
+      ap first_fault (sym (same_checks c.in_ok-known.known.keys (ids_of coflows) [] lines ids)) ∙ c.in-Ok.ensures.0,
+      c.from_vec.ensures ∙
+          (given ∙ weights_are lines c.in-Ok.given.entries coflows c.in-Ok.ensures.1),
+    )

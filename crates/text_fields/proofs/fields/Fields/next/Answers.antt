@@ -12,7 +12,8 @@ parts c =
     let line : Text = c.self.inside.rest.now in
     let text : Text = take (length line - c.field_start.result) (drop c.field_start.result line) in
     let text_is : text ≡ drop (start_of line) line = grind (arith, common_steps, c.field_start.ensures.start) in
-    next_is line text c.split_at.result.0.now c.split_at.result.1.now text_is (rw (← c.field_end.ensures.end) c.split_at.ensures.front) (rw (← c.field_end.ensures.end) c.split_at.ensures.back)
+    next_is line text c.split_at.result.0.now c.split_at.result.1.now text_is (rw (← c.field_end.ensures.end) c.split_at.ensures.front)
+    (rw (← c.field_end.ensures.end) c.split_at.ensures.back)
 
 pub returns-clause-field : goal.returns-clause-field
 returns-clause-field c = rw (← c.self.view_is) (parts c).0
