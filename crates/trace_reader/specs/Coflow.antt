@@ -1,5 +1,6 @@
 -- The line of a coflow.
 use Rattle.std.specs.Prelude.{ℕ, ◌+◌, ◌-◌, ◌*◌, ◌^◌, ◌==◌, ◌&&◌, nat_eq, nat_le, Bool, not, List, [], ◌∷◌, ◌++◌, length}
+use Rattle.coflow_units.specs.declared.limits.TheConstants.{MAX_MAPPERS, MAX_MEGABYTES, MAX_REDUCERS}
 use Rattle.std.specs.Prelude.{drop}
 use Rattle.std.specs.List.{list_any, before_first, after_first}
 use Rattle.coflow_units.specs.declared.quantity.Quantity.TheVariants as quantity
@@ -51,7 +52,7 @@ reducer_checks ports line k field =
     (is_reducer field, fault.BadLine line k)
     ∷ location ports line (location_part field)
     ∷ (
-      nat_le (scaled_up 1000000 (megabytes_part field)) (2 ^ 40 * 1000000),
+      nat_le (scaled_up 1000000 (megabytes_part field)) (MAX_MEGABYTES * 1000000),
       fault.Limit line quantity.Megabytes (capped (scaled_up 1 (megabytes_part field))),
     )
     ∷ []
@@ -80,7 +81,7 @@ abbrev pub front_checks : ℕ → List ℕ → Line → List (Check TraceFault)
 front_checks ports earlier line =
     id_checks earlier line.number (field_at line.texts 0)
     ++ (number_checks line.number 2 quantity.Arrival 0 (2 ^ 32 - 1) (field_at line.texts 1)
-    ++ (number_checks line.number 3 quantity.Mappers 1 4096 (field_at line.texts 2)
+    ++ (number_checks line.number 3 quantity.Mappers 1 MAX_MAPPERS (field_at line.texts 2)
     ++ each (mapper_checks ports line.number) 4 (drop 3 line.texts) (mapper_count line)))
 
 -- The line without its first n fields.
@@ -99,7 +100,7 @@ reducer_count line = number (field_at line.texts 0)
 -- each reducer, and then that there is no field.
 abbrev pub back_checks : ℕ → ℕ → Line → List (Check TraceFault)
 back_checks ports k line =
-    number_checks line.number k quantity.Reducers 0 4096 (field_at line.texts 0)
+    number_checks line.number k quantity.Reducers 0 MAX_REDUCERS (field_at line.texts 0)
     ++ (each (reducer_checks ports line.number) (k + 1) (drop 1 line.texts) (reducer_count line)
     ++ ((
       length (drop (1 + reducer_count line) line.texts) == 0,

@@ -1,5 +1,6 @@
 -- The first line with fields.
 use Rattle.std.specs.Prelude.{◌≡◌, ℕ, ◌==◌, ◌&&◌, Bool, true, false, Option, Some, None, List, [], ◌∷◌, length}
+use Rattle.coflow_units.specs.declared.limits.TheConstants.{MAX_COFLOWS, MAX_PORTS}
 use Rattle.coflow_units.specs.declared.quantity.Quantity.TheVariants as quantity
 use Rattle.text_fields.specs.Checks.{Check}
 use Rattle.text_fields.specs.Fields.{field_at}
@@ -25,8 +26,8 @@ coflow_count line = number (field_at line.texts 1)
 abbrev pub header_checks : Line → List (Check TraceFault)
 header_checks line =
     (is_header line, fault.BadHeader)
-    ∷ range line.number quantity.Ports 1 1024 (field_at line.texts 0)
-    ∷ range line.number quantity.Coflows 0 4096 (field_at line.texts 1)
+    ∷ range line.number quantity.Ports 1 MAX_PORTS (field_at line.texts 0)
+    ∷ range line.number quantity.Coflows 0 MAX_COFLOWS (field_at line.texts 1)
     ∷ []
 
 -- The line has not two numbers, or these are the two, capped.

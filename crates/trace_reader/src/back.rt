@@ -1,5 +1,6 @@
 //! The line of a coflow behind its last mapper.
 ghost use Rattle.std.specs.Prelude.{◌≡◌, ◌≤◌, ◌<◌, ◌^◌, ◌+◌, ◌-◌, ◌*◌, ◌&&◌, ◌==◌, ℕ, List, OnOk, length, take, drop, position};
+ghost use Rattle.coflow_units.specs.declared.limits.TheConstants.{MAX_REDUCERS};
 ghost use Rattle.text_fields.specs.Fields.{field_at};
 ghost use Rattle.text_fields.specs.Numbers.{number};
 ghost use Rattle.trace_reader.specs.Checks.{Answers, each, values};
@@ -57,7 +58,7 @@ fn reducers_in(
     count: u32,
 ) -> Result<Vec<Reducer>, TraceFault>
     requires place { field ≤ 4101 }
-    requires few { count ≤ 4096 }
+    requires few { count ≤ MAX_REDUCERS }
     ensures answer { Answers (each (reducer_checks ports fields.old.number) field fields.old.texts count)
         (λ v. v.items ≡ values reducer_of fields.old.texts count) result }
     ensures left { OnOk result (fields.new ≡ without count fields.old) }

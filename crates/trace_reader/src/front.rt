@@ -1,5 +1,6 @@
 //! The line of a coflow up to its last mapper.
 ghost use Rattle.std.specs.Prelude.{◌≡◌, ◌≤◌, ◌<◌, ◌^◌, ◌+◌, ◌-◌, ◌++◌, [], ◌∷◌, ℕ, List, IfOk, OnOk, length, drop};
+ghost use Rattle.coflow_units.specs.declared.limits.TheConstants.{MAX_MAPPERS};
 ghost use Rattle.text_fields.specs.Fields.{field_at};
 ghost use Rattle.text_fields.specs.Numbers.{number};
 ghost use Rattle.trace_reader.specs.Checks.{Answers, each, values};
@@ -30,7 +31,7 @@ pub(crate) fn front_of(
 ) -> Result<Front, TraceFault>
     ensures answer { Answers (front_checks ports ids.old.keys fields.old)
         (IsFront (λ v. v.id) (λ v. v.arrival) (λ v. v.mappers.items) fields.old) result }
-    ensures few { IfOk result (λ v. length v.mappers.items ≤ 4096) }
+    ensures few { IfOk result (λ v. length v.mappers.items ≤ MAX_MAPPERS) }
     ensures left { OnOk result (fields.new ≡ behind_mappers fields.old) }
     ensures ids { OnOk result (ids.new.keys ≡ ids.old.keys ++ (id_of fields.old ∷ [])) }
 {
@@ -95,7 +96,7 @@ fn mappers_in(
     ports: u32,
     count: u32,
 ) -> Result<Vec<u32>, TraceFault>
-    requires { count ≤ 4096 }
+    requires { count ≤ MAX_MAPPERS }
     ensures answer { Answers (each (mapper_checks ports fields.old.number) 4 fields.old.texts count)
         (λ v. v.items ≡ values number fields.old.texts count) result }
     ensures left { OnOk result (fields.new ≡ without count fields.old) }

@@ -1,5 +1,6 @@
 //! The text of a trace.
 ghost use Rattle.std.specs.Prelude.{◌≡◌, ◌≤◌, ◌<◌, ◌^◌, ◌+◌, ◌-◌, ℕ, List, IfOk, length};
+ghost use Rattle.coflow_units.specs.declared.limits.TheConstants.{MAX_TEXT};
 ghost use Rattle.coflow_units.specs.Trace.{IsTrace};
 ghost use Rattle.trace_reader.specs.Checks.{Answers};
 ghost use Rattle.trace_reader.specs.Trace.{trace_checks, trace_of};
@@ -25,7 +26,7 @@ use text_fields::Lines;
 /// a reducer has its form first, as a whole, then the range of its location, and then that of its megabytes. A field too many is a `BadLine` at
 /// that field. At the end `Missing` comes where there are fewer than K lines. `NoMemory` may come in place of any answer.
 pub fn read_trace(alloc: Global, bytes: &[u8]) -> Result<Trace, TraceFault>
-    requires { length bytes.now ≤ 2 ^ 26 }
+    requires { length bytes.now ≤ MAX_TEXT }
     ensures answer { Answers (trace_checks bytes.now) (λ t. t ≡ trace_of bytes.now) result }
     ensures limits { IfOk result IsTrace }
 {

@@ -1,5 +1,6 @@
 //! All lines of a text of weights.
 ghost use Rattle.std.specs.Prelude.{◌≡◌, ◌≤◌, ◌^◌, ℕ, List, [], ◌∷◌, length, map};
+ghost use Rattle.coflow_units.specs.declared.limits.TheConstants.{MAX_TEXT};
 ghost use Rattle.text_fields.specs.Lines.{Line, lines_of};
 ghost use Rattle.weights.specs.Checks.{Answers, AreIds, id_of, lines_checks, weight_in};
 
@@ -15,7 +16,7 @@ pub(crate) fn given_weights(
     bytes: &[u8],
     known: &IndexSet<u32>,
 ) -> Result<IndexMap<u32, u64>, WeightsFault>
-    requires short { length bytes.now ≤ 2 ^ 26 }
+    requires short { length bytes.now ≤ MAX_TEXT }
     requires ids { AreIds known.now.keys }
     ensures { Answers (lines_checks known.now.keys [] (lines_of bytes.now))
         (λ m. m.entries ≡ map (λ (x : Line). (id_of x, weight_in x)) (lines_of bytes.now)) result }

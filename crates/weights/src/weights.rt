@@ -1,5 +1,6 @@
 //! The weights of the coflows of a trace.
 ghost use Rattle.std.specs.Prelude.{◌≡◌, ◌≤◌, ◌^◌, ℕ, List, IfOk, length, map, nat_eq, unwrap_or};
+ghost use Rattle.coflow_units.specs.declared.limits.TheConstants.{MAX_TEXT};
 ghost use Rattle.coflow_units.specs.declared.trace.CoflowLine.{CoflowLine};
 ghost use Rattle.indexmap.specs.IndexMap.{get};
 ghost use Rattle.weights.specs.Checks.{Answers, AreIds};
@@ -19,7 +20,7 @@ use std::alloc::Global;
 /// turn: the form of field 1 (`BadLine`), that a coflow has this id (`UnknownId`), that no earlier line has it (`DuplicateId`), the form of
 /// field 2 (`BadLine`), its range (`Limit` of `Weight`), and that there is no third field (`BadLine`). `NoMemory` may come in place of any answer.
 pub fn read_weights(alloc: Global, bytes: &[u8], trace: &Trace) -> Result<Items<u64>, WeightsFault>
-    requires { length bytes.now ≤ 2 ^ 26 }
+    requires { length bytes.now ≤ MAX_TEXT }
     ensures { Answers (text_checks bytes.now trace.now.coflows)
         (λ w. w ≡ weights_of bytes.now trace.now.coflows) result }
 {
