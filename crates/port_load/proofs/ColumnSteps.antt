@@ -1,7 +1,7 @@
 -- A column of a table is cleared row by row.
 use Rattle.std.proofs.Common.{◌≡◌, ◌≢◌, ℕ, ◌+◌, ◌-◌, ◌*◌, ◌<◌, ◌≤◌, inl, inr, List, length, refl, ap, subst, ◌∙◌, arith, length-set}
 use Rattle.std.specs.Prelude.{slice_index, slice_set}
-use Rattle.std.proofs.lemmas.Bool.{cases_eq}
+use Rattle.std.proofs.lemmas.Bool.{cases_eq, cases_lt}
 use Rattle.std.proofs.lemmas.List.{get_or-set_same, get_or-set_other}
 use Rattle.port_load.proofs.KeptSteps.{written_other, written_same}
 
@@ -49,6 +49,25 @@ cleared_more before totals_before cells totals n column done so_far len lc lt wi
       ];
       whole = λ row le. get_or-set_other totals done row v 0 (λ e. omega (arith, e, le)) ∙ so_far.whole row (omega arith);
     }
+
+-- rows without a number in the column are passed by
+pub cleared_past : (before totals_before cells totals : List ℕ) (n column done next : ℕ) → ClearedSoFar before totals_before cells totals n column done → done ≤ next → next ≤ length totals_before →
+    ((row : ℕ) → done ≤ row → row < next → slice_index before (row * n + column) ≡ 0) → ClearedSoFar before totals_before cells totals n column next
+cleared_past before totals_before cells totals n column done next so_far after within none = record {
+  cells_len = so_far.cells_len;
+  totals_len = so_far.totals_len;
+  gone = λ row lt. elim (cases_lt row done) [
+    | inl old ↦ so_far.gone row old
+    | inr new ↦ so_far.later row new (omega arith) ∙ none row new lt
+  ];
+  later = λ row le lr. so_far.later row (omega arith) lr;
+  others = so_far.others;
+  taken = λ row lt. elim (cases_lt row done) [
+    | inl old ↦ so_far.taken row old
+    | inr new ↦ omega (arith, so_far.whole row new, none row new lt)
+  ];
+  whole = λ row le. so_far.whole row (omega arith);
+}
 
 -- what is said of a cleared column, over the lists that were lent
 pub record IsColumnCleared (before totals_before cells totals : List ℕ) (n column : ℕ) : Type 0 where

@@ -1,7 +1,7 @@
 -- The totals of a table follow its cells.
-use Rattle.std.proofs.Common.{◌≡◌, ◌≢◌, ℕ, ◌+◌, ◌*◌, ◌<◌, ◌≤◌, inl, inr, Bool, true, false, List, length, refl, sym, ap, subst, ◌∙◌, arith, length-set, true≢false}
+use Rattle.std.proofs.Common.{◌≡◌, ◌≢◌, ℕ, ◌+◌, ◌*◌, ◌<◌, ◌≤◌, inl, inr, List, length, refl, sym, ap, subst, ◌∙◌, arith, length-set}
 use Rattle.std.specs.Prelude.{replicate, slice_index, slice_set}
-use Rattle.std.specs.List.{range_with_len, slice_index_or}
+use Rattle.std.specs.List.{range_with_len}
 use Rattle.std.proofs.lemmas.List.{get_or-replicate, length-replicate, get_or-set_same, get_or-set_other}
 use Rattle.std.proofs.Math.ListN.{get_or-eq_default}
 use Rattle.std.proofs.lemmas.Bool.{cases_eq, cases_lt}
@@ -11,6 +11,7 @@ use Rattle.coflow_units.specs.declared.fabric.Side.{Side}
 use Rattle.coflow_units.specs.declared.fabric.Side.TheVariants.{Ingress, Egress}
 use Rattle.coflow_units.specs.Ordering.{port_place, port_place_on}
 use Rattle.port_load.specs.Kept.{IsKept, row_total}
+use Rattle.port_load.specs.MarkTable.{HasShapeOf, MarkTable, mark_at}
 use Rattle.port_load.specs.LoadTable.{DropsCoflow, LoadTable, load_at, total_at}
 use Rattle.port_load.proofs.Grid.{below_in, in_below, in_table, other_place, sum_grows}
 
@@ -42,37 +43,45 @@ row_stays cells n row column r v lc ne =
     sum_same (λ c. slice_index (slice_set cells (row * n + column) v) (r * n + c)) (λ c. slice_index cells (r * n + c)) (range_with_len 0 n)
     (λ c has. written_other cells n row column r c v lc (in_below n c has) (λ er ec. ne er))
 
-still_marked : (loaded : List Bool) (coflow c : ℕ) → coflow < length loaded → slice_index_or (slice_set loaded coflow true) c true ≡ false → (c ≢ coflow) × (slice_index_or loaded c true ≡ false)
-still_marked loaded coflow c lt is = elim (cases_eq c coflow) [
-  | inl e ↦ absurd (true≢false (sym (get_or-set_same loaded coflow true true lt) ∙ ap (λ k. slice_index_or (slice_set loaded coflow true) k true) (sym e) ∙ is))
-  | inr ne ↦ (ne, sym (get_or-set_other loaded coflow c true true ne) ∙ is)
-]
+-- a column is marked or it is not
+one_mark : (m : MarkTable) (row column r c : ℕ) → r ≡ row → c ≡ column → mark_at m row column ≡ 1 → mark_at m r c ≡ 0 → ⊥
+one_mark m row column r c er ec one none = omega (arith, one, none, ap (λ k. mark_at m k c) er, ap (λ k. mark_at m row k) ec)
+
+-- a mark was set at a row and a column, and none goes
+pub record IsMarkedAt (old new : MarkTable) (row column : ℕ) : Type 0 where
+  pub shape : HasShapeOf old new
+  pub marked : mark_at new row column ≡ 1
+  pub others : (r c : ℕ) → mark_at new r c ≡ 0 → mark_at old r c ≡ 0
 
 -- units are added to a cell and to the total of its row
-pub kept_more : (coflows ports : ℕ) (cells totals : List ℕ) (loaded : List Bool) (row coflow units old total : ℕ) → IsKept coflows ports cells totals loaded → row < ports + ports → coflow < coflows →
-    old ≡ slice_index cells (row * coflows + coflow) → total ≡ slice_index totals row →
-    IsKept coflows ports (slice_set cells (row * coflows + coflow) (old + units)) (slice_set totals row (total + units)) (slice_set loaded coflow true)
-kept_more coflows ports cells totals loaded row coflow units old total kept lr lc is total_is = record {
+pub kept_more : (coflows ports : ℕ) (cells totals : List ℕ) (by_port by_coflow by_port' by_coflow' : MarkTable) (row coflow units old total : ℕ) → IsKept coflows ports cells totals by_port by_coflow → row < ports + ports → coflow < coflows →
+    old ≡ slice_index cells (row * coflows + coflow) → total ≡ slice_index totals row → IsMarkedAt by_port by_port' row coflow → IsMarkedAt by_coflow by_coflow' coflow row →
+    IsKept coflows ports (slice_set cells (row * coflows + coflow) (old + units)) (slice_set totals row (total + units)) by_port' by_coflow'
+kept_more coflows ports cells totals by_port by_coflow by_port' by_coflow' row coflow units old total kept lr lc is total_is at_port of_coflow = record {
   coflows_limit = kept.coflows_limit;
   has_ports = kept.has_ports;
   ports_limit = kept.ports_limit;
   cells_len = length-set cells (row * coflows + coflow) (old + units) ∙ kept.cells_len;
   totals_len = length-set totals row (total + units) ∙ kept.totals_len;
-  loaded_len = length-set loaded coflow true ∙ kept.loaded_len;
+  port_rows = at_port.shape.rows ∙ kept.port_rows;
+  port_columns = at_port.shape.columns ∙ kept.port_columns;
+  coflow_rows = of_coflow.shape.rows ∙ kept.coflow_rows;
+  coflow_columns = of_coflow.shape.columns ∙ kept.coflow_columns;
   total = λ r lt. elim (cases_eq r row) [
     | inl e ↦ ap (λ k. slice_index (slice_set totals row (total + units)) k) e ∙ cell_same totals row (total + units) (omega (arith, kept.totals_len)) ∙ ap (λ k. k + units) (total_is ∙ kept.total row lr)
         ∙ sym (row_grows cells coflows (ports + ports) row coflow old units kept.cells_len lr lc is) ∙ ap (λ k. row_total (slice_set cells (row * coflows + coflow) (old + units)) coflows k) (sym e)
     | inr ne ↦ cell_other totals row r (total + units) ne ∙ kept.total r lt ∙ sym (row_stays cells coflows row coflow r (old + units) lc ne)
   ];
-  empty = λ c r lt mark lt'.
-      let (ne, was) = still_marked loaded coflow c (omega (arith, kept.loaded_len)) mark in
-      written_other cells coflows row coflow r c (old + units) lc lt (λ er ec. ne ec) ∙ kept.empty c r lt was lt';
+  by_port_none = λ c r lt lt' mark.
+      written_other cells coflows row coflow r c (old + units) lc lt (λ er ec. one_mark by_port' row coflow r c er ec at_port.marked mark) ∙ kept.by_port_none c r lt lt' (at_port.others r c mark);
+  by_coflow_none = λ c r lt lt' mark.
+      written_other cells coflows row coflow r c (old + units) lc lt (λ er ec. one_mark by_coflow' coflow row c r ec er of_coflow.marked mark) ∙ kept.by_coflow_none c r lt lt' (of_coflow.others c r mark);
 }
 
 -- a cell is within the total of its row
-pub cell_within : (coflows ports : ℕ) (cells totals : List ℕ) (loaded : List Bool) (row coflow : ℕ) → IsKept coflows ports cells totals loaded → row < ports + ports → coflow < coflows →
+pub cell_within : (coflows ports : ℕ) (cells totals : List ℕ) (by_port by_coflow : MarkTable) (row coflow : ℕ) → IsKept coflows ports cells totals by_port by_coflow → row < ports + ports → coflow < coflows →
     slice_index cells (row * coflows + coflow) ≤ slice_index totals row
-cell_within coflows ports cells totals loaded row coflow kept lr lc =
+cell_within coflows ports cells totals by_port by_coflow row coflow kept lr lc =
     omega (arith, kept.total row lr, member_within_sum (λ c. slice_index cells (row * coflows + c)) (range_with_len 0 coflows) coflow (below_in coflows coflow lc))
 
 -- ---- the same in the words of the table
@@ -80,9 +89,9 @@ cell_within coflows ports cells totals loaded row coflow kept lr lc =
 abbrev pub table_of : ℕ → ℕ → List ℕ → LoadTable
 table_of coflows ports cells = record { coflows = coflows; ports = ports; cells = cells }
 
-pub total_fits : (t : LoadTable) (coflows ports : ℕ) (cells totals : List ℕ) (loaded : List Bool) (port : Port) (row units most : ℕ) → IsKept coflows ports cells totals loaded → table_of coflows ports cells ≡ t →
+pub total_fits : (t : LoadTable) (coflows ports : ℕ) (cells totals : List ℕ) (by_port by_coflow : MarkTable) (port : Port) (row units most : ℕ) → IsKept coflows ports cells totals by_port by_coflow → table_of coflows ports cells ≡ t →
     row ≡ port_place ports port → row < ports + ports → total_at t port + units < most → slice_index totals row + units < most
-total_fits t coflows ports cells totals loaded port row units most kept view is lt fits =
+total_fits t coflows ports cells totals by_port by_coflow port row units most kept view is lt fits =
     let here = subst (λ (x : LoadTable). total_at x port + units < most) (sym view) fits in
     let same = ap (λ r. row_total cells coflows r) is in
     omega (arith, kept.total row lt, same, here)
@@ -108,47 +117,58 @@ nought_at n k = elim (cases_lt k n) [
 noughts_total : (n columns row : ℕ) → row_total (replicate n 0) columns row ≡ 0
 noughts_total n columns row = sum_same (λ c. slice_index (replicate n 0) (row * columns + c)) (λ c. 0) (range_with_len 0 columns) (λ c has. nought_at n (row * columns + c)) ∙ sum_zero (range_with_len 0 columns)
 
-pub kept_nought : (coflows ports m n : ℕ) (cells totals : List ℕ) (loaded : List Bool) → coflows ≤ 4096 → 1 ≤ ports → ports ≤ 1025 → cells ≡ replicate m 0 → m ≡ (ports + ports) * coflows → totals ≡ replicate n 0 → n ≡ ports + ports →
-    length loaded ≡ coflows → IsKept coflows ports cells totals loaded
-kept_nought coflows ports m n cells totals loaded lc some lp cells_are m_is totals_are n_is len = record {
+pub record HasSize (m : MarkTable) (rows columns : ℕ) : Type 0 where
+  pub rows_are : m.rows ≡ rows
+  pub columns_are : m.columns ≡ columns
+
+pub kept_nought : (coflows ports m n : ℕ) (cells totals : List ℕ) (by_port by_coflow : MarkTable) → coflows ≤ 4096 → 1 ≤ ports → ports ≤ 1025 → cells ≡ replicate m 0 → m ≡ (ports + ports) * coflows → totals ≡ replicate n 0 → n ≡ ports + ports →
+    HasSize by_port (ports + ports) coflows → HasSize by_coflow coflows (ports + ports) → IsKept coflows ports cells totals by_port by_coflow
+kept_nought coflows ports m n cells totals by_port by_coflow lc some lp cells_are m_is totals_are n_is at_port of_coflow = record {
   coflows_limit = lc;
   has_ports = some;
   ports_limit = lp;
   cells_len = ap length cells_are ∙ length-replicate m 0 ∙ m_is;
   totals_len = ap length totals_are ∙ length-replicate n 0 ∙ n_is;
-  loaded_len = len;
+  port_rows = at_port.rows_are;
+  port_columns = at_port.columns_are;
+  coflow_rows = of_coflow.rows_are;
+  coflow_columns = of_coflow.columns_are;
   total = λ row lt. ap (λ xs. slice_index xs row) totals_are ∙ nought_at n row ∙ sym (noughts_total m coflows row) ∙ ap (λ xs. row_total xs coflows row) (sym cells_are);
-  empty = λ c row lt mark lr. ap (λ xs. slice_index xs (row * coflows + c)) cells_are ∙ nought_at m (row * coflows + c);
+  by_port_none = λ c row lt lr mark. ap (λ xs. slice_index xs (row * coflows + c)) cells_are ∙ nought_at m (row * coflows + c);
+  by_coflow_none = λ c row lt lr mark. ap (λ xs. slice_index xs (row * coflows + c)) cells_are ∙ nought_at m (row * coflows + c);
 }
 
 -- ---- a coflow less
 
-still_empty : (loaded : List Bool) (coflow c : ℕ) → slice_index_or (slice_set loaded coflow false) c true ≡ false → c ≢ coflow → slice_index_or loaded c true ≡ false
-still_empty loaded coflow c is ne = sym (get_or-set_other loaded coflow c false true ne) ∙ is
-
-pub kept_less : (coflows ports : ℕ) (cells totals cells' totals' : List ℕ) (loaded : List Bool) (coflow : ℕ) → IsKept coflows ports cells totals loaded → coflow < coflows → length cells' ≡ length cells → length totals' ≡ length totals →
+pub kept_less : (coflows ports : ℕ) (cells totals cells' totals' : List ℕ) (by_port by_coflow : MarkTable) (coflow : ℕ) → IsKept coflows ports cells totals by_port by_coflow → coflow < coflows → length cells' ≡ length cells → length totals' ≡ length totals →
     ((row : ℕ) → row < length totals → slice_index cells' (row * coflows + coflow) ≡ 0) →
     ((row other : ℕ) → row < length totals → other < coflows → other ≢ coflow → slice_index cells' (row * coflows + other) ≡ slice_index cells (row * coflows + other)) →
     ((row : ℕ) → row < length totals → slice_index totals' row + slice_index cells (row * coflows + coflow) ≡ slice_index totals row) →
-    IsKept coflows ports cells' totals' (slice_set loaded coflow false)
-kept_less coflows ports cells totals cells' totals' loaded coflow kept lc cells_len totals_len gone others taken = record {
-  coflows_limit = kept.coflows_limit;
-  has_ports = kept.has_ports;
-  ports_limit = kept.ports_limit;
-  cells_len = cells_len ∙ kept.cells_len;
-  totals_len = totals_len ∙ kept.totals_len;
-  loaded_len = length-set loaded coflow false ∙ kept.loaded_len;
-  total = λ row lr.
-      let lt : row < length totals = omega (arith, kept.totals_len) in
-      let grows = sum_grows (λ c. slice_index cells' (row * coflows + c)) (λ c. slice_index cells (row * coflows + c)) coflows coflow (slice_index cells (row * coflows + coflow)) lc (omega (arith, gone row lt)) (λ c l ne. sym (others row c lt l ne)) in
-      omega (arith, grows, kept.total row lr, taken row lt);
-  empty = λ c row l mark lr.
-      let lt : row < length totals = omega (arith, kept.totals_len) in
-      elim (cases_eq c coflow) [
-        | inl e ↦ ap (λ k. slice_index cells' (row * coflows + k)) e ∙ gone row lt
-        | inr ne ↦ others row c lt l ne ∙ kept.empty c row l (still_empty loaded coflow c mark ne) lr
-      ];
-}
+    IsKept coflows ports cells' totals' by_port by_coflow
+kept_less coflows ports cells totals cells' totals' by_port by_coflow coflow kept lc cells_len totals_len gone others taken =
+    let still_none : (c row : ℕ) → c < coflows → row < ports + ports → slice_index cells (row * coflows + c) ≡ 0 → slice_index cells' (row * coflows + c) ≡ 0 = λ c row l lr none.
+    let lt : row < length totals = omega (arith, kept.totals_len) in
+    elim (cases_eq c coflow) [
+      | inl e ↦ ap (λ k. slice_index cells' (row * coflows + k)) e ∙ gone row lt
+      | inr ne ↦ others row c lt l ne ∙ none
+    ] in
+    record {
+      coflows_limit = kept.coflows_limit;
+      has_ports = kept.has_ports;
+      ports_limit = kept.ports_limit;
+      cells_len = cells_len ∙ kept.cells_len;
+      totals_len = totals_len ∙ kept.totals_len;
+      port_rows = kept.port_rows;
+      port_columns = kept.port_columns;
+      coflow_rows = kept.coflow_rows;
+      coflow_columns = kept.coflow_columns;
+      total = λ row lr.
+          let lt : row < length totals = omega (arith, kept.totals_len) in
+          let grows = sum_grows (λ c. slice_index cells' (row * coflows + c)) (λ c. slice_index cells (row * coflows + c)) coflows coflow (slice_index cells (row * coflows + coflow)) lc (omega (arith, gone row lt)) (λ c l ne. sym (others row c lt l ne)) in
+          omega (arith, grows, kept.total row lr, taken row lt);
+      by_port_none = λ c row l lr mark. still_none c row l lr (kept.by_port_none c row l lr mark);
+      by_coflow_none = λ c row l lr mark. still_none c row l lr (kept.by_coflow_none c row l lr mark);
+    }
 
 place_on : (s : Side) (ports number : ℕ) → number < ports → port_place_on s ports number < ports + ports
 place_on Ingress ports number lt = omega arith
@@ -168,12 +188,7 @@ drops_one t coflows ports cells cells' coflow rows view rows_are gone others =
       others = λ other port lo ne lp. others (port_place ports port) other (omega (arith, place_in_rows ports port lp)) lo ne;
     }
 
--- a coflow that has no load is dropped already
-pub drops_nothing : (t : LoadTable) (coflows ports : ℕ) (cells totals : List ℕ) (loaded : List Bool) (coflow : ℕ) → IsKept coflows ports cells totals loaded → table_of coflows ports cells ≡ t → coflow < coflows →
-    slice_index_or loaded coflow true ≡ false → DropsCoflow t t coflow
-drops_nothing t coflows ports cells totals loaded coflow kept view lc none =
-    subst (λ (x : LoadTable). DropsCoflow x x coflow) view record {
-      size = record { coflows = refl; ports = refl };
-      gone = λ port lp. kept.empty coflow (port_place ports port) lc none (place_in_rows ports port lp);
-      others = λ other port lo ne lp. refl;
-    }
+-- a coflow without a mark at a port has no load there
+pub none_at_port : (t : LoadTable) (coflows ports : ℕ) (cells totals : List ℕ) (by_port by_coflow : MarkTable) (port : Port) (row c : ℕ) → IsKept coflows ports cells totals by_port by_coflow → table_of coflows ports cells ≡ t →
+    row ≡ port_place ports port → row < ports + ports → c < coflows → mark_at by_port row c ≡ 0 → load_at t c port ≡ 0
+none_at_port t coflows ports cells totals by_port by_coflow port row c kept view is lr lc none = sym (cell_is t coflows ports cells c row port view is) ∙ kept.by_port_none c row lc lr none

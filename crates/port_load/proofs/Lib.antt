@@ -4,3 +4,4 @@ pub mod LoadSums
 pub mod ColumnSteps
 pub mod FlowSteps
 pub mod TestSteps
+pub mod MarkSteps

@@ -3,6 +3,7 @@
 
 pub mod laws;
 mod loads;
+mod marks;
 
 pub use loads::Loads;
 

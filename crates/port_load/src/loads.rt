@@ -7,7 +7,9 @@ ghost use Rattle.coflow_units.specs.Load.{load, loads};
 ghost use Rattle.coflow_units.specs.Ordering.{port_place};
 ghost use Rattle.port_load.specs.LoadTable.{DropsCoflow, HasLoads, IsSameSize, IsWithin, flows_without, is_present, load_at, total_at};
 ghost use Rattle.port_load.specs.Kept.{row_total};
+ghost use Rattle.port_load.specs.MarkTable.{mark_at};
 
+use crate::marks::Marks;
 use coflow_units::{Flow, NoMemory, Port, Side};
 use std::alloc::Global;
 use std::marker::Model;
@@ -22,8 +24,10 @@ pub struct Loads {
     /// Port by port, ingress ports before egress ports, the loads of the coflows by number.
     cells: Vec<u64>,
     totals: Vec<u64>,
-    /// A coflow that is not marked has no load on any port.
-    loaded: Vec<bool>,
+    /// For each port the coflows that may have load there.
+    by_port: Marks,
+    /// For each coflow the ports, by their rows, on which it may have load.
+    by_coflow: Marks,
 }
 
 impl Model for Loads {
@@ -34,7 +38,7 @@ impl Model for Loads {
 
     ghost view = { λ s. record { coflows = s.coflows; ports = s.ports; cells = s.cells.items } };
 
-    ghost invariant = { λ s. IsKept s.coflows s.ports s.cells.items s.totals.items s.loaded.items };
+    ghost invariant = { λ s. IsKept s.coflows s.ports s.cells.items s.totals.items s.by_port s.by_coflow };
 }
 
 impl Loads {
@@ -119,6 +123,28 @@ impl Loads {
         self.totals[row_of(port, self.ports)]
     }
 
+    /// The first coflow, from a number on, that has load on the port, or the number of coflows where there is none. A walk along a port costs a step for 64
+    /// coflows, and one for each that has load, or had it when it was dropped.
+    pub fn next_loaded(&self, port: Port, from: u32) -> u32
+        requires port_in { port.number < self.now.ports }
+        requires from_in { from ≤ self.now.coflows }
+        ensures after { from ≤ result }
+        ensures within { result ≤ self.now.coflows }
+        ensures loaded { result < self.now.coflows → 0 < load_at self.now result port }
+        ensures none { (coflow : ℕ) → from ≤ coflow → coflow < result → load_at self.now coflow port ≡ 0 }
+    {
+        let row = row_of(port, self.ports);
+        let columns = self.coflows as usize;
+        let mut coflow = self.by_port.next(row, from as usize);
+        'marked: while coflow < columns {
+            if self.cells[row * columns + coflow] > 0 {
+                return coflow as u32;
+            }
+            coflow = self.by_port.next(row, coflow + 1);
+        }
+        self.coflows
+    }
+
     /// Takes the loads of a coflow away. The others stay, and the totals are those of the others.
     pub fn drop_coflow(&mut self, coflow: u32)
         requires { coflow < self.old.coflows }
@@ -126,16 +152,13 @@ impl Loads {
         // where the table had the loads of some flows, it has those of the flows of the other coflows
         ensures anew { (flows : List Flow) → HasLoads flows self.old → HasLoads (flows_without (coflow ∷ []) flows) self.new }
     {
-        if !self.loaded[coflow as usize] {
-            return;
-        }
         clear_column(
             &mut self.cells,
             &mut self.totals,
+            &self.by_coflow,
             self.coflows as usize,
             coflow as usize,
         );
-        self.loaded[coflow as usize] = false;
     }
 
     fn empty(alloc: Global, coflows: u32, ports: u32) -> Result<Loads, NoMemory>
@@ -149,13 +172,15 @@ impl Loads {
         let rows = 2 * ports as usize;
         let cells = vec![in alloc; 0; rows * coflows as usize]?;
         let totals = vec![in alloc; 0; rows]?;
-        let loaded = vec![in alloc; false; coflows as usize]?;
+        let by_port = Marks::none(alloc, rows, coflows as usize)?;
+        let by_coflow = Marks::none(alloc, coflows as usize, rows)?;
         Ok(Loads {
             coflows,
             ports,
             cells,
             totals,
-            loaded,
+            by_port,
+            by_coflow,
         })
     }
 
@@ -165,7 +190,8 @@ impl Loads {
     {
         self.cells.fill(0);
         self.totals.fill(0);
-        self.loaded.fill(false);
+        self.by_port.clear();
+        self.by_coflow.clear();
     }
 
     fn add(&mut self, flow: Flow)
@@ -209,7 +235,8 @@ impl Loads {
         let cell = row * self.coflows as usize + coflow as usize;
         self.cells[cell] += units;
         self.totals[row] += units;
-        self.loaded[coflow as usize] = true;
+        self.by_port.mark(row, coflow as usize);
+        self.by_coflow.mark(coflow as usize, row);
     }
 }
 
@@ -226,18 +253,29 @@ fn row_of(port: Port, ports: u32) -> usize
     }
 }
 
-/// Clears a column of a table with `columns` columns, and takes each cell from the total of its row.
-fn clear_column(cells: &mut [u64], totals: &mut [u64], columns: usize, column: usize)
+/// Clears a column of a table with `columns` columns, and takes each cell from the total of its row. The marks tell in which rows of the column a number may be.
+fn clear_column(
+    cells: &mut [u64],
+    totals: &mut [u64],
+    rows_of: &Marks,
+    columns: usize,
+    column: usize,
+)
     requires column_in { column < columns }
     requires cells_len { length cells.old ≡ length totals.old * columns }
     requires within { (row : ℕ) → row < length totals.old → slice_index cells.old (row * columns + column) ≤ slice_index totals.old row }
+    requires marked_rows { column < rows_of.now.rows }
+    requires marked_columns { rows_of.now.columns ≡ length totals.old }
+    requires marked { (row : ℕ) → row < length totals.old → mark_at rows_of.now column row ≡ 0 → slice_index cells.old (row * columns + column) ≡ 0 }
     ensures gone { (row : ℕ) → row < length totals.old → slice_index cells.new (row * columns + column) ≡ 0 }
     ensures others { (row other : ℕ) → row < length totals.old → other < columns → other ≢ column → slice_index cells.new (row * columns + other) ≡ slice_index cells.old (row * columns + other) }
     ensures totals_are { (row : ℕ) → row < length totals.old → slice_index totals.new row + slice_index cells.old (row * columns + column) ≡ slice_index totals.old row }
 {
-    for row in 0..totals.len() {
+    let mut row = rows_of.next(column, 0);
+    'rows: while row < totals.len() {
         let cell = row * columns + column;
         totals[row] -= cells[cell];
         cells[cell] = 0;
+        row = rows_of.next(column, row + 1);
     }
 }

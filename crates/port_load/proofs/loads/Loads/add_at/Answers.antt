@@ -10,15 +10,15 @@ pub overflow_add-index_mut : goal.overflow_add-index_mut
 overflow_add-index_mut c =
     let s = c.self.inside in
     let lc = coflow_inside c.args.self.now s.coflows s.ports s.cells.items c.args.coflow c.self.view_is c.requires.coflow_in in
-    let total = total_fits c.args.self.now s.coflows s.ports s.cells.items s.totals.items s.loaded.items c.args.port c.row_of-row.result c.args.units (2 ^ 64) c.self.invariant c.self.view_is c.row_of-row.ensures.row c.row_of-row.ensures.within c.requires.units_fit in
-    let cell = cell_within s.coflows s.ports s.cells.items s.totals.items s.loaded.items c.row_of-row.result c.args.coflow c.self.invariant c.row_of-row.ensures.within lc in
+    let total = total_fits c.args.self.now s.coflows s.ports s.cells.items s.totals.items s.by_port s.by_coflow c.args.port c.row_of-row.result c.args.units (2 ^ 64) c.self.invariant c.self.view_is c.row_of-row.ensures.row c.row_of-row.ensures.within c.requires.units_fit in
+    let cell = cell_within s.coflows s.ports s.cells.items s.totals.items s.by_port s.by_coflow c.row_of-row.result c.args.coflow c.self.invariant c.row_of-row.ensures.within lc in
     let read = get_or_default_zero s.cells.items (c.row_of-row.result * s.coflows + c.args.coflow) c.index_mut.result.now (omega (arith, c.self.invariant.cells_len, in_table s.coflows c.row_of-row.result c.args.coflow (s.ports + s.ports) c.row_of-row.ensures.within lc)) in
     omega (arith, read, c.index_mut.ensures.value, cell, total)
 
 pub overflow_add-index_mut-2 : goal.overflow_add-index_mut-2
 overflow_add-index_mut-2 c =
     let s = c.self.inside in
-    let total = total_fits c.args.self.now s.coflows s.ports s.cells.items s.totals.items s.loaded.items c.args.port c.row_of-row.result c.args.units (2 ^ 64) c.self.invariant c.self.view_is c.row_of-row.ensures.row c.row_of-row.ensures.within c.requires.units_fit in
+    let total = total_fits c.args.self.now s.coflows s.ports s.cells.items s.totals.items s.by_port s.by_coflow c.args.port c.row_of-row.result c.args.units (2 ^ 64) c.self.invariant c.self.view_is c.row_of-row.ensures.row c.row_of-row.ensures.within c.requires.units_fit in
     let read = get_or_default_zero s.totals.items c.row_of-row.result c.index_mut-2.result.now (omega (arith, c.self.invariant.totals_len)) in
     omega (arith, read, c.index_mut-2.ensures.value, total)
 
@@ -29,7 +29,8 @@ invariant_of-self c =
     let place : c.row_of-row.result * s.coflows + c.args.coflow < length s.cells.items = omega (arith, c.self.invariant.cells_len, in_table s.coflows c.row_of-row.result c.args.coflow (s.ports + s.ports) c.row_of-row.ensures.within lc) in
     let cell = c.index_mut.ensures.value ∙ get_or_default_zero s.cells.items (c.row_of-row.result * s.coflows + c.args.coflow) c.index_mut.result.now place in
     let total = c.index_mut-2.ensures.value ∙ get_or_default_zero s.totals.items c.row_of-row.result c.index_mut-2.result.now (omega (arith, c.self.invariant.totals_len)) in
-    kept_more s.coflows s.ports s.cells.items s.totals.items s.loaded.items c.row_of-row.result c.args.coflow c.args.units c.index_mut.result.now c.index_mut-2.result.now c.self.invariant c.row_of-row.ensures.within lc cell total
+    kept_more s.coflows s.ports s.cells.items s.totals.items s.by_port s.by_coflow c.mark.new.self c.mark-2.new.self c.row_of-row.result c.args.coflow c.args.units c.index_mut.result.now c.index_mut-2.result.now c.self.invariant c.row_of-row.ensures.within lc cell total
+    record { shape = c.mark.ensures.shape; marked = c.mark.ensures.marked; others = c.mark.ensures.others } record { shape = c.mark-2.ensures.shape; marked = c.mark-2.ensures.marked; others = c.mark-2.ensures.others }
 
 pub returns-clause-added : goal.returns-clause-added
 returns-clause-added c =
