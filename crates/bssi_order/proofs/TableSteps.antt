@@ -1,8 +1,9 @@
 -- The loops over a table of loads, step by step.
-use Rattle.std.proofs.Common.{◌≡◌, ℕ, ◌+◌, ◌-◌, ◌*◌, ◌/◌, ◌^◌, ◌<◌, ◌≤◌, ◌⊎◌, inl, inr, Bool, true, false, cond, List, [], ◌∷◌, length, Contains, refl, sym, ap, subst, ◌∙◌, arith, zero, suc, true≢false}
-use Rattle.std.specs.Prelude.{count_by, sum_by, slice_index}
+use Rattle.std.proofs.Common.{◌≡◌, ℕ, ◌+◌, ◌-◌, ◌*◌, ◌/◌, ◌^◌, ◌<◌, ◌≤◌, ◌⊎◌, inl, inr, Bool, true, false, cond, List, [], ◌∷◌, length, Contains, refl, sym, ap, subst, ◌∙◌, arith, length-set, zero, suc, true≢false}
+use Rattle.std.specs.Prelude.{count_by, sum_by, slice_index, slice_set}
 use Rattle.std.specs.List.{range_with_len}
 use Rattle.std.proofs.lemmas.Bool.{cases_Bool, cases_eq, cases_lt}
+use Rattle.std.proofs.lemmas.List.{get_or-set_same, get_or-set_other}
 use Rattle.std.proofs.Math.ListN.{get_or-eq_default}
 use Rattle.std.proofs.Math.Nat.{mul-le-mul, mul-le-mul_right, le_of_mul-le-mul_right}
 use Rattle.std.proofs.lemmas.List.Sums.{sum_by-cons}
@@ -45,6 +46,36 @@ pub record PaidSoFar (t : LoadTable) (port : Port) (y : ℕ) (old new : List ℕ
   pub len : length new ≡ length old
   pub paid : (c : ℕ) → c < done → slice_index new c ≡ slice_index old c - y * load_at t c port
   pub later : (c : ℕ) → done ≤ c → slice_index new c ≡ slice_index old c
+
+pub paid_none : (t : LoadTable) (port : Port) (y : ℕ) (old : List ℕ) → PaidSoFar t port y old old 0
+paid_none t port y old = record {
+  len = refl;
+  paid = λ c lt. absurd (omega (arith, lt));
+  later = λ c le. refl;
+}
+
+-- coflows without load on the port are passed by
+pub paid_past : (t : LoadTable) (port : Port) (y : ℕ) (old new : List ℕ) (done next : ℕ) → PaidSoFar t port y old new done → done ≤ next →
+    ((c : ℕ) → done ≤ c → c < next → load_at t c port ≡ 0) → PaidSoFar t port y old new next
+paid_past t port y old new done next so_far after none = record {
+  len = so_far.len;
+  paid = λ c lt. elim (cases_lt c done) [
+    | inl before ↦ so_far.paid c before
+    | inr behind ↦ omega (arith, so_far.later c behind, ap (λ n. y * n) (none c behind lt))
+  ];
+  later = λ c le. so_far.later c (omega (arith, le, after));
+}
+
+pub paid_more : (t : LoadTable) (port : Port) (y : ℕ) (old new : List ℕ) (done v : ℕ) → PaidSoFar t port y old new done → done < length old →
+    v ≡ slice_index old done - y * load_at t done port → PaidSoFar t port y old (slice_set new done v) (done + 1)
+paid_more t port y old new done v so_far lt is = record {
+  len = length-set new done v ∙ so_far.len;
+  paid = λ c lc. elim (cases_eq c done) [
+    | inl e ↦ ap (λ k. slice_index (slice_set new done v) k) e ∙ get_or-set_same new done v 0 (omega (arith, lt, so_far.len)) ∙ is ∙ sym (ap (λ k. slice_index old k - y * load_at t k port) e)
+    | inr ne ↦ get_or-set_other new done c v 0 ne ∙ so_far.paid c (omega (arith, lc, ne))
+  ];
+  later = λ c le. get_or-set_other new done c v 0 (λ e. omega (arith, le, e)) ∙ so_far.later c (omega (arith, le));
+}
 
 -- ---- the first greatest port of a side
 
@@ -153,6 +184,32 @@ least_keep t residuals port least least_load k load so_far is less =
         | inl e ↦ inl (omega (arith, less, ap (λ j. slice_index residuals j * least_load) e, ap (λ j. slice_index residuals least * load_at t j port) e, ap (λ n. slice_index residuals least * n) is))
         | inr ne ↦ so_far.ratio c (omega (arith, ne)) h
       ];
+    }
+
+seen_before : (f : ℕ → ℕ) (done next c : ℕ) → ((k : ℕ) → done ≤ k → k < next → f k ≡ 0) → c < next → 0 < f c → c < done
+seen_before f done next c none lt some = elim (cases_lt c done) [
+  | inl old ↦ old
+  | inr new ↦ absurd (omega (arith, some, none c new lt))
+]
+
+pub least_none : (t : LoadTable) (residuals : List ℕ) (port : Port) → LeastSoFar t residuals port 0 0 0
+least_none t residuals port = record {
+  small = omega arith;
+  found = λ h. absurd (omega (arith, h));
+  some = λ c lc h. absurd (omega (arith, lc));
+  ratio = λ c lc h. absurd (omega (arith, lc));
+}
+
+-- coflows without load on the port are passed by
+pub least_past : (t : LoadTable) (residuals : List ℕ) (port : Port) (least least_load done next : ℕ) → LeastSoFar t residuals port least least_load done → done ≤ next →
+    ((c : ℕ) → done ≤ c → c < next → load_at t c port ≡ 0) → LeastSoFar t residuals port least least_load next
+least_past t residuals port least least_load done next so_far after none =
+    let before = λ (c : ℕ) (lc : c < next) (h : 0 < load_at t c port). seen_before (λ k. load_at t k port) done next c none lc h in
+    record {
+      small = omega (arith, so_far.small);
+      found = λ h. let (a, b, c) = so_far.found h in (a, omega (arith, b), c);
+      some = λ c lc h. so_far.some c (before c lc h) h;
+      ratio = λ c lc h. so_far.ratio c (before c lc h) h;
     }
 
 pub least_of : (t : LoadTable) (residuals : List ℕ) (port : Port) (least least_load : ℕ) → LeastSoFar t residuals port least least_load t.coflows → 0 < total_at t port → IsLeastRatio t residuals port least

@@ -122,13 +122,12 @@ fn least_ratio(loads: &Loads, residuals: &[u128], port: Port) -> u32
     requires some { 0 < total_at loads.now port }
     ensures { IsLeastRatio loads.now residuals.now port result }
 {
+    let coflows = loads.coflows();
     let mut least = 0;
     let mut least_load = 0;
-    for coflow in 0..loads.coflows() {
+    let mut coflow = loads.next_loaded(port, 0);
+    'loaded: while coflow < coflows {
         let load = loads.get(coflow, port);
-        if load == 0 {
-            continue;
-        }
         // a load of 0 stands for none so far: then the first product is 0
         let ours = residuals[coflow as usize] * least_load as u128;
         let theirs = residuals[least as usize] * load as u128;
@@ -136,6 +135,7 @@ fn least_ratio(loads: &Loads, residuals: &[u128], port: Port) -> u32
             least = coflow;
             least_load = load;
         }
+        coflow = loads.next_loaded(port, coflow + 1);
     }
     least
 }
@@ -149,7 +149,10 @@ fn pay(residuals: &mut [u128], loads: &Loads, port: Port, y: u128)
     if y == 0 {
         return;
     }
-    for coflow in 0..loads.coflows() {
+    let coflows = loads.coflows();
+    let mut coflow = loads.next_loaded(port, 0);
+    'loaded: while coflow < coflows {
         residuals[coflow as usize] -= y * loads.get(coflow, port) as u128;
+        coflow = loads.next_loaded(port, coflow + 1);
     }
 }
