@@ -3,6 +3,7 @@
 #![tactic(auto)]
 
 ghost use Rattle.std.specs.Prelude.{◌≡◌, ◌+◌, ◌*◌, ◌^◌, ◌<◌, ◌≤◌, All, IfOk, OnOk, length, vec_len};
+ghost use Rattle.coflow_units.specs.declared.limits.TheConstants.{MAX_COFLOWS, MAX_PORTS, MAX_WEIGHT};
 ghost use Rattle.order_bench.specs.Made.{IsMade};
 
 use bssi_order::Bssi;
@@ -44,9 +45,9 @@ fn number_at(words: &[String], place: usize, otherwise: u32) -> u32
 }
 
 fn measured(alloc: Global, coflows: u32, ports: u32, rounds: u32) -> Result<Summary, NoMemory>
-    requires coflows_limit { coflows ≤ 4096 }
+    requires coflows_limit { coflows ≤ MAX_COFLOWS }
     requires has_ports { 1 ≤ ports }
-    requires ports_limit { ports ≤ 1025 }
+    requires ports_limit { ports ≤ MAX_PORTS + 1 }
     ensures { IfOk result (λ x. x.places ≤ coflows) }
 {
     let flows = made_flows(alloc, coflows, ports)?;
@@ -68,8 +69,8 @@ fn measured(alloc: Global, coflows: u32, ports: u32, rounds: u32) -> Result<Summ
 /// Flows by a formula: each coflow has one at each ingress port, and one at each egress port.
 fn made_flows(alloc: Global, coflows: u32, ports: u32) -> Result<Vec<Flow>, AllocError>
     requires has_ports { 1 ≤ ports }
-    requires coflows_limit { coflows ≤ 4096 }
-    requires ports_limit { ports ≤ 1025 }
+    requires coflows_limit { coflows ≤ MAX_COFLOWS }
+    requires ports_limit { ports ≤ MAX_PORTS + 1 }
     ensures { IfOk result (λ flows. IsMade flows.items coflows ports (coflows * ports)) }
 {
     let mut flows = Vec::new(alloc);
@@ -86,8 +87,8 @@ fn add_coflow(
     ports: u32,
 ) -> Result<(), AllocError>
     requires coflow_in { coflow < coflows }
-    requires coflows_limit { coflows ≤ 4096 }
-    requires ports_limit { ports ≤ 1025 }
+    requires coflows_limit { coflows ≤ MAX_COFLOWS }
+    requires ports_limit { ports ≤ MAX_PORTS + 1 }
     requires made { IsMade flows.old.items coflows ports (coflow * ports) }
     ensures { OnOk result (IsMade flows.new.items coflows ports (coflow * ports + ports)) }
 {
@@ -104,7 +105,7 @@ fn add_coflow(
 
 fn made_weights(alloc: Global, coflows: u32) -> Result<Vec<u64>, AllocError>
     ensures len { IfOk result (λ weights. vec_len weights ≡ coflows) }
-    ensures fit { IfOk result (λ weights. All (λ w. w ≤ 2 ^ 32) weights.items) }
+    ensures fit { IfOk result (λ weights. All (λ w. w ≤ MAX_WEIGHT) weights.items) }
 {
     let mut weights = Vec::new(alloc);
     for coflow in 0..coflows {

@@ -1,5 +1,6 @@
 -- The runs of a schedule as the program keeps them.
 use Rattle.std.specs.Prelude.{◌≢◌, ℕ, ◌+◌, ◌≤◌, ◌<◌, List, All, length, map}
+use Rattle.coflow_units.specs.declared.limits.TheConstants.{MAX_SLOT}
 use Rattle.std.specs.List.{slice_index_or}
 use Rattle.std.specs.List.Sorted.{IsStrictlyIncreasing}
 use Rattle.coflow_units.specs.declared.plan.Run.{Run}
@@ -22,4 +23,4 @@ pub record IsKept (runs : List Run) : Type 0 where
   pub some : All (λ (r : Run). 1 ≤ r.length) runs
   pub ascending : All (λ (r : Run). IsStrictlyIncreasing r.flows) runs
   pub maximal : (k : ℕ) (r : Run) → k + 1 < length runs → (slice_index_or runs k r).flows ≢ (slice_index_or runs (k + 1) r).flows
-  pub short : length (slots_in runs) ≤ 2199023255551
+  pub short : length (slots_in runs) ≤ MAX_SLOT

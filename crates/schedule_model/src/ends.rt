@@ -1,5 +1,6 @@
 //! When coflows end, and what a schedule costs.
 ghost use Rattle.std.specs.Prelude.{◌≡◌, ◌<◌, ◌≤◌, ◌+◌, ◌-◌, ◌*◌, ◌^◌, ℕ, All, IfOk, if◌then◌else◌, length, map, slice_index, sum_by};
+ghost use Rattle.coflow_units.specs.declared.limits.TheConstants.{MAX_WEIGHT};
 ghost use Rattle.std.specs.List.{range_with_len};
 ghost use Rattle.coflow_units.specs.Completion.{completion, holds_coflow};
 ghost use Rattle.schedule_model.specs.RunList.{IsKept, NamesFlows, slots_in};
@@ -46,7 +47,7 @@ pub fn completions(
 /// The numbers in the schedule are flows', and each weight is at most 2^32. It takes no memory, and goes over the runs once for each 256 coflows.
 pub fn cost(flows: &[Flow], weights: &[u64], schedule: &Schedule) -> u128
     requires names { NamesFlows (length flows.now) schedule.now }
-    requires small { All (λ w. w ≤ 2 ^ 32) weights.now }
+    requires small { All (λ w. w ≤ MAX_WEIGHT) weights.now }
     requires few { length weights.now ≤ 2 ^ 32 }
     ensures { result ≡ weighted_cost flows.now weights.now schedule.now }
 {
@@ -65,7 +66,7 @@ pub fn cost(flows: &[Flow], weights: &[u64], schedule: &Schedule) -> u128
 fn cost_between(flows: &[Flow], weights: &[u64], runs: &[Run], from: usize, to: usize) -> u128
     requires kept { IsKept runs.now }
     requires names { NamesFlows (length flows.now) (slots_in runs.now) }
-    requires small { All (λ w. w ≤ 2 ^ 32) weights.now }
+    requires small { All (λ w. w ≤ MAX_WEIGHT) weights.now }
     requires few { length weights.now ≤ 2 ^ 32 }
     requires order { from < to }
     requires inside { to ≤ length weights.now }

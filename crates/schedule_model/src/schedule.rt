@@ -1,5 +1,6 @@
 //! A schedule as runs of equal slots.
 ghost use Rattle.std.specs.Prelude.{◌≡◌, ◌≢◌, ◌+◌, ◌≤◌, ◌++◌, ℕ, All, List, [], MatchOption, OnErr, OnOk, length, length as count_of, replicate};
+ghost use Rattle.coflow_units.specs.declared.limits.TheConstants.{MAX_SLOT};
 ghost use Rattle.std.specs.List.{slice_index_or};
 ghost use Rattle.std.specs.List.Sorted.{IsStrictlyIncreasing};
 ghost use Rattle.coflow_units.specs.declared.plan.Run.{Run};
@@ -45,7 +46,7 @@ impl Schedule {
     pub fn push_run(&mut self, length: u64, flows: &[u32]) -> Result<(), NoMemory>
         requires some { 1 ≤ length }
         requires ascending { IsStrictlyIncreasing flows.now }
-        requires short { count_of self.old + length ≤ 2199023255551 }
+        requires short { count_of self.old + length ≤ MAX_SLOT }
         ensures pushed { OnOk result (self.new ≡ self.old ++ replicate length flows.now) }
         ensures refused { OnErr result (self.new ≡ self.old) }
     {
@@ -65,7 +66,7 @@ impl Schedule {
     pub fn runs(&self) -> &[Run]
         ensures runs { IsRuns self.now (pairs_of result.now) }
         ensures ascending { All IsStrictlyIncreasing self.now }
-        ensures short { count_of self.now ≤ 2199023255551 }
+        ensures short { count_of self.now ≤ MAX_SLOT }
     {
         self.kept()
     }

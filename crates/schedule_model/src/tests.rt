@@ -1,5 +1,6 @@
 //! What no clause says: worked schedules, which fault comes first, and the parallel inequality on slots that the program does not make.
 ghost use Rattle.std.specs.Prelude.{◌+◌, ◌*◌, ◌≤◌, ◌^◌, All, [], ◌∷◌, length, sum_by};
+ghost use Rattle.coflow_units.specs.declared.limits.TheConstants.{MAX_WEIGHT};
 ghost use Rattle.std.specs.List.Sorted.{IsStrictlyIncreasing};
 ghost use Rattle.coflow_units.specs.Completion.{completion};
 ghost use Rattle.coflow_units.specs.Load.{load};
@@ -90,7 +91,7 @@ fn worth(
     schedule: &Schedule,
 ) -> Result<Option<(u128, bool)>, NoMemory>
     requires flows { length flows.now ≤ 2 ^ 32 }
-    requires small { All (λ w. w ≤ 2 ^ 32) weights.now }
+    requires small { All (λ w. w ≤ MAX_WEIGHT) weights.now }
     requires few { length weights.now ≤ 2 ^ 32 }
 {
     let None = find_fault(alloc, flows, schedule)? else {
