@@ -1,0 +1,106 @@
+#!/usr/bin/env python3
+"""Looks up each name that the pages cite: calls and clauses of docs/PROVED.md, edits of docs/PLANTED.md, functions of files, and the files that the pages link to.
+
+Use: checks/page_names.py            The last line is 'N passed, M failed'; the exit code is 0 where none failed.
+
+In a section of a crate the first cell of each row names clauses, as `call: clause`, as `call`, or as a clause of the call named before it in the cell. Functions stand behind their file, as
+`crate/src/file.rt`, `function`.
+"""
+import os
+import re
+import sys
+
+TOP = os.path.dirname(os.path.dirname(os.path.abspath(__file__)))
+
+
+def read(*parts):
+    with open(os.path.join(TOP, *parts), encoding="utf-8") as it:
+        return it.read()
+
+
+def clauses_of(crate):
+    """The names of the crate's functions, each with the names of its clauses."""
+    found = {}
+    for folder, _, files in os.walk(os.path.join(TOP, "crates", crate, "src")):
+        for name in sorted(files):
+            if name.endswith(".rt"):
+                call = None
+                for line in read(folder, name).split("\n"):
+                    head = re.match(r"\s*(?:pub(?:\([a-z]+\))? )?fn (\w+)", line)
+                    if head:
+                        call = head.group(1)
+                        found.setdefault(call, set())
+                    clause = re.match(r"\s*ensures (\w*)", line)
+                    if clause and call:
+                        found[call].add(clause.group(1))
+    return found
+
+
+def is_there(name, before, calls):
+    """Whether the name is a call of the crate with that clause, and the call that it names."""
+    call, _, clause = name.partition(": ")
+    call = call.split("::")[-1]
+    if clause:
+        return clause in calls.get(call, ()), call
+    if "::" not in name and call in calls.get(before, ()):
+        return True, before
+    return call in calls, call
+
+
+def proved_names():
+    """Each name of the first cells of docs/PROVED.md, and whether it is there."""
+    crate = None
+    for line in read("docs", "PROVED.md").split("## Only tested")[0].split("\n"):
+        if line.startswith("### "):
+            names = re.findall(r"`(\w+)`", line)
+            crate, calls = names[0], clauses_of(names[0])
+        elif line.startswith("| `") and crate:
+            before = None
+            for name in re.findall(r"`([^`]+)`", line.split(" | ")[0]):
+                well, before = is_there(name, before, calls)
+                yield f"docs/PROVED.md: {crate}: {name}", well
+
+
+def planted_names():
+    """Each edit that docs/PLANTED.md cites, and whether it is there. An edit of another crate is cited with the name of the crate."""
+    crate = None
+    for line in read("docs", "PLANTED.md").split("\n"):
+        if line.startswith("### "):
+            crate = re.findall(r"`(\w+)`", line)[0]
+        for names in re.findall(r"edits? ((?:`\w+`(?:, )?)+)", line) if crate else []:
+            for name in re.findall(r"`(\w+)`", names):
+                yield f"docs/PLANTED.md: {crate}: edit {name}", os.path.isfile(os.path.join(TOP, "crates", crate, "must-fail", f"{name}.edit"))
+
+
+def pages():
+    return ["README.md", *(f"docs/{it}" for it in sorted(os.listdir(os.path.join(TOP, "docs"))) if it.endswith(".md"))]
+
+
+def file_names():
+    """Each function that a page names behind its file, and whether it is there."""
+    for page in pages():
+        for path, names in re.findall(r"`(\w+/src/\w+\.rt)`(?: \||,)((?: `\w+`,?)*)", read(page)):
+            file = os.path.join("crates", path)
+            text = read(file) if os.path.isfile(os.path.join(TOP, file)) else ""
+            for name in re.findall(r"`(\w+)`", names) or [""]:
+                yield f"{page}: {path}: {name}", bool(text) and (not name or re.search(rf"\bfn {name}\b", text) is not None)
+
+
+def linked_files():
+    for page in pages():
+        for link in re.findall(r"\]\(([^)#:]+)\)", read(page)):
+            yield f"{page}: {link}", os.path.exists(os.path.join(TOP, os.path.dirname(page), link))
+
+
+def main():
+    results = [*proved_names(), *planted_names(), *file_names(), *linked_files()]
+    for name, well in results:
+        if not well:
+            print(f"not there: {name}")
+    wrong = sum(not well for _, well in results)
+    print(f"{len(results) - wrong} passed, {wrong} failed")
+    return 1 if wrong else 0
+
+
+if __name__ == "__main__":
+    sys.exit(main())
