@@ -1,5 +1,6 @@
 #!/usr/bin/env python3
-"""Looks up each name that the pages cite: calls and clauses of docs/PROVED.md, edits of docs/PLANTED.md, functions of files, and the files that the pages link to.
+"""Looks up each name that the pages cite: calls and clauses of docs/PROVED.md, edits of docs/PLANTED.md, functions of files, and the files that the pages link to. It also looks whether
+docs/PROVED.md has a section for each crate, and docs/ARCHITECTURE.md a row.
 
 Use: checks/page_names.py            The last line is 'N passed, M failed'; the exit code is 0 where none failed.
 
@@ -92,8 +93,17 @@ def linked_files():
             yield f"{page}: {link}", os.path.exists(os.path.join(TOP, os.path.dirname(page), link))
 
 
+def crates_told():
+    """Each crate, and whether the pages tell of it."""
+    sections = " ".join(it for it in read("docs", "PROVED.md").split("\n") if it.startswith("### "))
+    rows = " ".join(it for it in read("docs", "ARCHITECTURE.md").split("\n") if it.startswith("| "))
+    for crate in re.findall(r"^(\w+)[^#\n]*:", read("crates.txt"), re.M):
+        yield f"docs/PROVED.md: a section of {crate}", f"`{crate}`" in sections
+        yield f"docs/ARCHITECTURE.md: a row of {crate}", f"`{crate}`" in rows
+
+
 def main():
-    results = [*proved_names(), *planted_names(), *file_names(), *linked_files()]
+    results = [*proved_names(), *planted_names(), *file_names(), *linked_files(), *crates_told()]
     for name, well in results:
         if not well:
             print(f"not there: {name}")
