@@ -1,4 +1,4 @@
-// The order of the coflows by bottleneck, select, scale, iterate, in exact arithmetic.
+//! The order of the coflows by bottleneck, select, scale, iterate, in exact arithmetic.
 #![tactic(auto)]
 
 mod bssi;

@@ -1,4 +1,4 @@
-// The ledger of a master: of each flow the units that were sent and those that it owes.
+//! The ledger of a master: of each flow the units that were sent and those that it owes.
 #![tactic(auto)]
 
 mod ledger;
