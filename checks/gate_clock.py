@@ -6,10 +6,11 @@ Use: checks/gate_clock.py rt ci            The exit code is that of the command.
 The command's lines go on as they come. Beside it the script looks twice a second which checks are running: `rt ci` says only when one has ended. Behind the last line
 comes a line for each crate and kind, which checks/gate_times reads:
 
-    clock: CRATE KIND SECONDS PROCESSOR_SECONDS
+    clock: CRATE KIND SECONDS PROCESSOR_SECONDS CHECKS
     clock: whole SECONDS
 
-KIND is `proof`, `tests` or `edits`. The check of an edit runs in a folder of its own, by which it is known; the edits of a crate are tried one after another.
+KIND is `proof`, `tests` or `edits`, and CHECKS says how many checks there were. The check of an edit runs in a folder of its own, by which it is known. The edits of a crate are tried one after
+another; the first of them proves the whole crate again, and a last check has no edit.
 """
 import os
 import subprocess
@@ -87,11 +88,11 @@ class Clock:
             self.look()
 
     def totals(self):
-        """The seconds and the processor seconds of each crate and kind."""
+        """The seconds, the processor seconds and the number of checks of each crate and kind."""
         found = {}
         for task, first, last, ticks in self.seen.values():
-            seconds, used = found.get(task, (0, 0))
-            found[task] = seconds + last - first + EACH, used + ticks / TICK
+            seconds, used, checks = found.get(task, (0, 0, 0))
+            found[task] = seconds + last - first + EACH, used + ticks / TICK, checks + 1
         return found
 
 
@@ -107,8 +108,8 @@ def main(words):
     status = ran.wait()
     ended.set()
     watcher.join()
-    for (crate, kind), (seconds, used) in sorted(clock.totals().items()):
-        print(f"clock: {crate} {kind} {seconds:.0f} {used:.0f}")
+    for (crate, kind), (seconds, used, checks) in sorted(clock.totals().items()):
+        print(f"clock: {crate} {kind} {seconds:.0f} {used:.0f} {checks}")
     print(f"clock: whole {time.monotonic() - begin:.0f}", flush=True)
     return status if status >= 0 else 128 - status
 
