@@ -1,5 +1,5 @@
-// Measures the order of the coflows: fills a table of loads by a formula, with load of every coflow on every port, orders the coflows, and prints how many places there are and the coflows of the first and the last.
-// Its arguments are the number of coflows, the number of ports on each side, and how often the table is filled and ordered.
+//! Measures the order of the coflows: fills a table of loads by a formula, with load of every coflow on every port, orders the coflows, and prints how many places there are and the coflows of the first and the last.
+//! Its arguments are the number of coflows, the number of ports on each side, and how often the table is filled and ordered.
 #![tactic(auto)]
 
 ghost use Rattle.std.specs.Prelude.{◌≡◌, ◌+◌, ◌*◌, ◌^◌, ◌<◌, ◌≤◌, All, IfOk, OnOk, length, vec_len};
