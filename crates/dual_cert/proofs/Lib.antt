@@ -5,6 +5,8 @@ pub mod PlaceNumbers
 pub mod SizeLaws
 pub mod SlackLaw
 pub mod FirstPlaces
+pub mod FrontSums
+pub mod PlaceSteps
 pub mod BudgetSteps
 pub mod ValueSteps
 pub mod OfInstance

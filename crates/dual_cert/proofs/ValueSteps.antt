@@ -17,8 +17,10 @@ use Rattle.coflow_units.proofs.Sums.{apart_from_pairs, members_at_most, sum_mono
 use Rattle.port_load.specs.LoadTable.{LoadTable, load_at, total_at}
 use Rattle.port_load.proofs.Grid.{below_in}
 use Rattle.dual_cert.specs.declared.cert.Charge.{Charge}
+use Rattle.dual_cert.specs.PlaceTable.{is_up_to, load_up_to}
 use Rattle.dual_cert.specs.TableCertificate.{HasLoadsOf, HasWeightsOf, IsCertificateOf, StaysInBudget, all_entries, charge_at, coflow_at, entries_to, port_at}
-use Rattle.dual_cert.proofs.FirstPlaces.{entries_more, first_apart, first_in, first_places, first_value, named_in}
+use Rattle.dual_cert.proofs.FirstPlaces.{entries_more, first_apart, first_in, first_places, first_value, named_in, port_in}
+use Rattle.dual_cert.proofs.FrontSums.{front_squares, front_sum, nought_either, sum_past, sum_to, sum_within}
 use Rattle.dual_cert.proofs.SizeLaws.{square_of_sum, unspent_fits, value_fits}
 
 -- rounding up, in the words of the machine
@@ -38,16 +40,6 @@ table_load t port coflows = sum_by (λ c. load_at t c port) coflows
 
 abbrev pub table_squares : LoadTable → Port → List ℕ → ℕ
 table_squares t port coflows = sum_by (λ c. load_at t c port * load_at t c port) coflows
-
-pub load_more : (t : LoadTable) (port : Port) (charges : List Charge) (k : ℕ) → k < length charges →
-    table_load t port (front (entries_to (k + 1) charges)) ≡ table_load t port (front (entries_to k charges)) + load_at t (coflow_at charges k) port
-load_more t port charges k lt =
-    ap (λ l. table_load t port (front l)) (entries_more k charges lt) ∙ omega (arith, sum_by-cons (λ c. load_at t c port) (coflow_at charges k) (front (entries_to k charges)))
-
-pub squares_more : (t : LoadTable) (port : Port) (charges : List Charge) (k : ℕ) → k < length charges →
-    table_squares t port (front (entries_to (k + 1) charges)) ≡ table_squares t port (front (entries_to k charges)) + load_at t (coflow_at charges k) port * load_at t (coflow_at charges k) port
-squares_more t port charges k lt =
-    ap (λ l. table_squares t port (front l)) (entries_more k charges lt) ∙ omega (arith, sum_by-cons (λ c. load_at t c port * load_at t c port) (coflow_at charges k) (front (entries_to k charges)))
 
 -- it is at most the load of all coflows
 pub load_within : (t : LoadTable) (port : Port) (charges : List Charge) (k : ℕ) → IsCertificateOf t (all_entries charges) → table_load t port (front (entries_to k charges)) ≤ total_at t port
@@ -73,6 +65,59 @@ pub front_load_is : (flows : List Flow) (charges : List Charge) (k : ℕ) → k 
 front_load_is flows charges k lt =
     let e = entries_more k charges lt in
     ap (front_load flows) e ∙ sym (ap (λ l. load_of_all flows (front l) (port_at charges k)) e)
+
+-- ---- the same along all coflows by number
+
+abbrev pub square_up_to : LoadTable → List Charge → ℕ → ℕ → ℕ
+square_up_to t charges k c = load_up_to t charges k c * load_up_to t charges k c
+
+pub front_total : (t : LoadTable) (charges : List Charge) (k : ℕ) → IsCertificateOf t (all_entries charges) →
+    sum_to (load_up_to t charges k) t.coflows ≡ table_load t (port_at charges k) (front (entries_to (k + 1) charges))
+front_total t charges k certificate =
+    front_sum (λ c. load_at t c (port_at charges k)) (front (entries_to (k + 1) charges)) t.coflows (first_apart (k + 1) charges (apart_from_pairs (front (all_entries charges)) certificate.once))
+    (λ c has. named_in t (all_entries charges) certificate c (first_in (k + 1) charges c has))
+
+pub front_squares_total : (t : LoadTable) (charges : List Charge) (k : ℕ) → IsCertificateOf t (all_entries charges) →
+    sum_to (square_up_to t charges k) t.coflows ≡ table_squares t (port_at charges k) (front (entries_to (k + 1) charges))
+front_squares_total t charges k certificate =
+    front_squares (λ c. load_at t c (port_at charges k)) (front (entries_to (k + 1) charges)) t.coflows (first_apart (k + 1) charges (apart_from_pairs (front (all_entries charges)) certificate.once))
+    (λ c has. named_in t (all_entries charges) certificate c (first_in (k + 1) charges c has))
+
+-- coflows without load on the port are passed by
+pub total_past : (t : LoadTable) (charges : List Charge) (k m n : ℕ) → m ≤ n → ((c : ℕ) → m ≤ c → c < n → load_at t c (port_at charges k) ≡ 0) → sum_to (load_up_to t charges k) n ≡ sum_to (load_up_to t charges k) m
+total_past t charges k m n le none = sum_past (load_up_to t charges k) m n le (λ c lc lt. nought_either (is_up_to charges k c) (load_at t c (port_at charges k)) (none c lc lt))
+
+pub squares_past : (t : LoadTable) (charges : List Charge) (k m n : ℕ) → m ≤ n → ((c : ℕ) → m ≤ c → c < n → load_at t c (port_at charges k) ≡ 0) → sum_to (square_up_to t charges k) n ≡ sum_to (square_up_to t charges k) m
+squares_past t charges k m n le none =
+    sum_past (square_up_to t charges k) m n le (λ c lc lt. let e = nought_either (is_up_to charges k c) (load_at t c (port_at charges k)) (none c lc lt) in ap (λ x. x * x) e)
+
+pub square_fits : (n : ℕ) → n ≤ 2 ^ 40 → n * n ≤ 2 ^ 80
+square_fits n le = let h : n * n ≤ 2 ^ 40 * 2 ^ 40 = mul-le-mul le le in h
+
+-- what is added up on the way stays within the limits
+pub total_small : (t : LoadTable) (charges : List Charge) (k n : ℕ) → IsCertificateOf t (all_entries charges) → ((port : Port) → port.number < t.ports → total_at t port ≤ 2 ^ 40) → k < length charges → n ≤ t.coflows →
+    sum_to (load_up_to t charges k) n ≤ 2 ^ 40
+total_small t charges k n certificate totals lt le =
+    omega (
+      arith,
+      sum_within (load_up_to t charges k) n t.coflows le,
+      front_total t charges k certificate,
+      load_within t (port_at charges k) charges (k + 1) certificate,
+      totals (port_at charges k) (port_in t charges k certificate lt),
+    )
+
+pub squares_small : (t : LoadTable) (charges : List Charge) (k n : ℕ) → IsCertificateOf t (all_entries charges) → ((port : Port) → port.number < t.ports → total_at t port ≤ 2 ^ 40) → k < length charges → n ≤ t.coflows →
+    sum_to (square_up_to t charges k) n ≤ 2 ^ 80
+squares_small t charges k n certificate totals lt le =
+    let whole : table_load t (port_at charges k) (front (entries_to (k + 1) charges)) ≤ 2 ^ 40 =
+    omega (arith, load_within t (port_at charges k) charges (k + 1) certificate, totals (port_at charges k) (port_in t charges k certificate lt)) in
+    omega (
+      arith,
+      sum_within (square_up_to t charges k) n t.coflows le,
+      front_squares_total t charges k certificate,
+      squares_within t (port_at charges k) (front (entries_to (k + 1) charges)),
+      square_fits (table_load t (port_at charges k) (front (entries_to (k + 1) charges))) whole,
+    )
 
 -- ---- the sums over places
 
@@ -138,9 +183,6 @@ unspent_small t weights entries certificate few totals all stays =
     let fits = unspent_fits stays.flows stays.weight t.ports (2 ^ 40) entries certificate.port (fronts_within t stays.flows entries (2 ^ 40) certificate stays.has_loads totals) in
     let budgets = budgets_within t stays.weight weights entries (2 ^ 32) certificate stays.has_weights all in
     omega (arith, fits, budgets, few)
-
-pub square_fits : (n : ℕ) → n ≤ 2 ^ 40 → n * n ≤ 2 ^ 80
-square_fits n le = let h : n * n ≤ 2 ^ 40 * 2 ^ 40 = mul-le-mul le le in h
 
 -- ---- one more place
 

@@ -1,3 +1,4 @@
 pub mod TableCertificate
 pub mod OtherCertificate
 pub mod TestInputs
+pub mod PlaceTable

@@ -1,5 +1,5 @@
 -- Certificates beside a table of loads and a list of weights. As in all definitions on certificates, entries stand from the last place to the first.
-use Rattle.std.specs.Prelude.{◌≡◌, ℕ, ◌+◌, ◌<◌, ◌≤◌, List, All, Contains, Option, None, Some, map, min, reverse, slice_index, take}
+use Rattle.std.specs.Prelude.{◌≡◌, ℕ, ◌<◌, ◌≤◌, List, All, Contains, map, reverse, slice_index, take}
 use Rattle.std.specs.List.{slice_index_or}
 use Rattle.coflow_units.specs.declared.fabric.Flow.{Flow}
 use Rattle.coflow_units.specs.declared.fabric.Side.TheVariants.{Ingress}
@@ -36,16 +36,6 @@ pub record StaysInBudget (t : LoadTable) (weights : List ℕ) (entries : List En
 pub record IsLeastInfeasible (flows : List Flow) (weight : ℕ → ℕ) (entries : List Entry) (coflow : ℕ) : Type 0 where
   pub above : budget weight coflow < used flows entries coflow
   pub least : (other : ℕ) → other < coflow → used flows entries other ≤ budget weight other
-
--- what a budget keeps, or none where more is used than it holds
-abbrev pub IsKept : ℕ → ℕ → Option ℕ → Type 0
-IsKept budget used None = budget < used
-IsKept budget used (Some rest) = used + rest ≡ budget
-
--- the lesser of the two numbers, where there is another one
-abbrev pub lesser : Option ℕ → ℕ → ℕ
-lesser None number = number
-lesser (Some other) number = min other number
 
 -- the charge of a place, counted from 0; a number past the end has zeros, and is read only where it is known to be a place's
 abbrev pub charge_at : List Charge → ℕ → Charge

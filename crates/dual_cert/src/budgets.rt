@@ -1,12 +1,12 @@
 //! What the coflows of a certificate pay, against their budgets.
-ghost use Rattle.std.specs.Prelude.{◌≡◌, ℕ, ◌<◌, List, None, IfSome, length, reverse};
-ghost use Rattle.std.specs.List.{slice_index_or};
+ghost use Rattle.std.specs.Prelude.{◌≡◌, ℕ, ◌+◌, ◌-◌, ◌*◌, ◌^◌, ◌<◌, List, None, IfSome, length, min, reverse, slice_index};
 ghost use Rattle.coflow_units.specs.declared.fabric.Flow.{Flow};
-ghost use Rattle.coflow_units.specs.declared.fabric.Side.TheVariants.{Ingress};
-ghost use Rattle.coflow_units.specs.Certificate.{IsFeasible, budget, used};
-ghost use Rattle.dual_cert.specs.TableCertificate.{HasLoadsOf, HasWeightsOf, IsCertificateOf, IsKept, IsLeastInfeasible, all_entries, coflow_at, lesser};
+ghost use Rattle.coflow_units.specs.Certificate.{IsFeasible, used};
+ghost use Rattle.dual_cert.specs.PlaceTable.{HasPlaces, load_up_to};
+ghost use Rattle.dual_cert.specs.TableCertificate.{HasLoadsOf, HasWeightsOf, IsCertificateOf, IsLeastInfeasible, all_entries, charge_at, port_at};
 
 use crate::cert::{Cert, Charge};
+use crate::fronts::{COFLOWS, load_in_front, places_of};
 use coflow_units::SCALE;
 use port_load::Loads;
 
@@ -22,48 +22,46 @@ pub fn infeasible(loads: &Loads, weights: &[u64], cert: &Cert) -> Option<u32>
     ensures within { IfSome result (λ coflow. coflow < loads.now.coflows) }
 {
     let charges = cert.charges();
-    let mut least = None;
-    for place in 0..charges.len() {
-        if kept(loads, weights, charges, place).is_some() {
-            continue;
+    let places = places_of(loads, charges);
+    let paid = payments(loads, charges, &places);
+    for coflow in 0..loads.coflows() {
+        if paid[coflow as usize] > weights[coflow as usize] as u128 * SCALE {
+            return Some(coflow);
         }
-        let coflow = charges[place].coflow;
-        least = Some(lesser(least, coflow));
     }
-    least
+    None
 }
 
-/// The lesser of the two numbers, where there is another one.
-fn lesser(other: Option<u32>, number: u32) -> u32
-    ensures { result ≡ lesser other number }
-{
-    match other {
-        Some(other) => other.min(number),
-        None => number,
-    }
-}
-
-/// What the coflow of a place, counted from 0, keeps of its budget, or none where it pays more. It is in the fronts of its own place and those after it alone.
-/// No number is formed that passes the budget.
-pub(crate) fn kept(loads: &Loads, weights: &[u64], charges: &[Charge], place: usize) -> Option<u128>
-    requires place_in { place < length charges.now }
-    requires weights_len { length weights.now ≡ loads.now.coflows }
+/// What each coflow pays, by number: exact up to the greatest number of 128 bits, which stands for all that is above it.
+pub(crate) fn payments(loads: &Loads, charges: &[Charge], places: &[usize]) -> [u128; COFLOWS]
+    requires places { HasPlaces charges.now places.now }
     requires certificate { IsCertificateOf loads.now (all_entries charges.now) }
-    ensures { (flows : List Flow) (weight : ℕ → ℕ) → HasLoadsOf flows loads.now (all_entries charges.now) → HasWeightsOf weight weights.now (all_entries charges.now) →
-        IsKept (budget weight (coflow_at charges.now place)) (used flows (all_entries charges.now) (coflow_at charges.now place)) result }
+    ensures { (flows : List Flow) (coflow : ℕ) → HasLoadsOf flows loads.now (all_entries charges.now) → coflow < loads.now.coflows →
+        slice_index result coflow ≡ min (used flows (all_entries charges.now) coflow) (2 ^ 128 - 1) }
 {
-    let coflow = charges[place].coflow;
-    let mut rest = weights[coflow as usize] as u128 * SCALE;
-    for later in place..charges.len() {
-        let charge = charges[later];
-        let load = loads.get(coflow, charge.port) as u128;
-        if load == 0 {
-            continue;
-        }
-        if charge.y > rest / load {
-            return None;
-        }
-        rest -= charge.y * load;
+    let mut paid = [0; COFLOWS];
+    for place in 0..charges.len() {
+        pay_at(loads, charges, places, place, &mut paid);
     }
-    Some(rest)
+    paid
+}
+
+/// Each coflow of the front of a place pays for its load on the place's port.
+fn pay_at(loads: &Loads, charges: &[Charge], places: &[usize], place: usize, paid: &mut [u128])
+    requires places { HasPlaces charges.now places.now }
+    requires place_in { place < length charges.now }
+    requires port_in { (port_at charges.now place).number < loads.now.ports }
+    requires paid_len { length paid.old ≡ 4096 }
+    ensures { (coflow used : ℕ) → coflow < loads.now.coflows → slice_index paid.old coflow ≡ min used (2 ^ 128 - 1) →
+        slice_index paid.new coflow ≡ min (used + (charge_at charges.now place).y * load_up_to loads.now charges.now place coflow) (2 ^ 128 - 1) }
+{
+    let charge = charges[place];
+    let coflows = loads.coflows();
+    let mut coflow = loads.next_loaded(charge.port, 0);
+    'loaded: while coflow < coflows {
+        let load = load_in_front(loads, charges, places, place, coflow) as u128;
+        let before = paid[coflow as usize];
+        paid[coflow as usize] = before.saturating_add(charge.y.saturating_mul(load));
+        coflow = loads.next_loaded(charge.port, coflow + 1);
+    }
 }

@@ -3,6 +3,7 @@
 
 mod budgets;
 mod cert;
+mod fronts;
 pub mod laws;
 mod value;
 

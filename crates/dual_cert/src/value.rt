@@ -6,10 +6,12 @@ ghost use Rattle.coflow_units.specs.declared.fabric.Port.{Port};
 ghost use Rattle.coflow_units.specs.Certificate.{bound, front, front_load, slack};
 ghost use Rattle.coflow_units.specs.Load.{squares_of_loads};
 ghost use Rattle.port_load.specs.LoadTable.{total_at};
+ghost use Rattle.dual_cert.specs.PlaceTable.{HasPlaces};
 ghost use Rattle.dual_cert.specs.TableCertificate.{HasLoadsOf, HasWeightsOf, IsCertificateOf, StaysInBudget, all_entries, entries_to, port_at};
 
-use crate::budgets::kept;
+use crate::budgets::payments;
 use crate::cert::{Cert, Charge};
+use crate::fronts::{load_in_front, places_of};
 use coflow_units::{MAX_COFLOWS, SCALE};
 use port_load::Loads;
 
@@ -26,9 +28,10 @@ pub fn bound(loads: &Loads, cert: &Cert) -> u128
     // with at most 4096 coflows the sum is at most 2^125
     prove!(loads.coflows() <= MAX_COFLOWS);
     let charges = cert.charges();
+    let places = places_of(loads, charges);
     let mut value = 0;
     for place in 0..charges.len() {
-        value += charges[place].y * squares(loads, charges, place);
+        value += charges[place].y * squares(loads, charges, &places, place);
     }
     value.div_ceil(2 * SCALE)
 }
@@ -46,18 +49,20 @@ pub fn slack(loads: &Loads, weights: &[u64], cert: &Cert) -> u128
     // with at most 4096 coflows the sum is at most 2^124
     prove!(loads.coflows() <= MAX_COFLOWS);
     let charges = cert.charges();
+    let places = places_of(loads, charges);
+    let paid = payments(loads, charges, &places);
     let mut unspent = 0;
     for place in 0..charges.len() {
-        let Some(rest) = kept(loads, weights, charges, place) else {
-            unreachable!();
-        };
-        unspent += rest * total(loads, charges, place) as u128;
+        let coflow = charges[place].coflow as usize;
+        let rest = weights[coflow] as u128 * SCALE - paid[coflow];
+        unspent += rest * total(loads, charges, &places, place) as u128;
     }
     (2 * unspent).div_ceil(SCALE)
 }
 
 /// The load of a place's port over its front. Places count from 0.
-fn total(loads: &Loads, charges: &[Charge], place: usize) -> u64
+fn total(loads: &Loads, charges: &[Charge], places: &[usize], place: usize) -> u64
+    requires places { HasPlaces charges.now places.now }
     requires totals_fit { (port : Port) → port.number < loads.now.ports → total_at loads.now port ≤ 2 ^ 40 }
     requires place_in { place < length charges.now }
     requires certificate { IsCertificateOf loads.now (all_entries charges.now) }
@@ -65,15 +70,19 @@ fn total(loads: &Loads, charges: &[Charge], place: usize) -> u64
     ensures fits { result ≤ 2 ^ 40 }
 {
     let port = charges[place].port;
+    let coflows = loads.coflows();
     let mut total = 0;
-    for number in 0..place + 1 {
-        total += loads.get(charges[number].coflow, port);
+    let mut coflow = loads.next_loaded(port, 0);
+    'loaded: while coflow < coflows {
+        total += load_in_front(loads, charges, places, place, coflow);
+        coflow = loads.next_loaded(port, coflow + 1);
     }
     total
 }
 
 /// The square of the load of a place's port over its front, and the squares of its coflows' loads there. Places count from 0.
-fn squares(loads: &Loads, charges: &[Charge], place: usize) -> u128
+fn squares(loads: &Loads, charges: &[Charge], places: &[usize], place: usize) -> u128
+    requires places { HasPlaces charges.now places.now }
     requires totals_fit { (port : Port) → port.number < loads.now.ports → total_at loads.now port ≤ 2 ^ 40 }
     requires place_in { place < length charges.now }
     requires certificate { IsCertificateOf loads.now (all_entries charges.now) }
@@ -81,12 +90,15 @@ fn squares(loads: &Loads, charges: &[Charge], place: usize) -> u128
         result ≡ front_load flows (entries_to (place + 1) charges.now) * front_load flows (entries_to (place + 1) charges.now) + squares_of_loads flows (front (entries_to (place + 1) charges.now)) (port_at charges.now place) }
 {
     let port = charges[place].port;
+    let coflows = loads.coflows();
     let mut total = 0;
     let mut squares = 0;
-    for earlier in 0..place + 1 {
-        let load = loads.get(charges[earlier].coflow, port) as u128;
+    let mut coflow = loads.next_loaded(port, 0);
+    'loaded: while coflow < coflows {
+        let load = load_in_front(loads, charges, places, place, coflow) as u128;
         total += load;
         squares += load * load;
+        coflow = loads.next_loaded(port, coflow + 1);
     }
     total * total + squares
 }

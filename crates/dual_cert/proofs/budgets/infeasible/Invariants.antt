@@ -1,5 +1,5 @@
-use Rattle.dual_cert.proofs.BudgetSteps.{LeastSoFar}
+use Rattle.dual_cert.proofs.BudgetSteps.{StayTo}
 use Rattle.dual_cert.proofs.budgets.infeasible.Given as goal
 
-abbrev pub invariant-loop-place : goal.invariant-loop-place
-invariant-loop-place l = LeastSoFar l.loads l.weights l.charges l.place l.least
+abbrev pub invariant-loop-coflow : goal.invariant-loop-coflow
+invariant-loop-coflow l = StayTo l.paid l.weights l.coflow

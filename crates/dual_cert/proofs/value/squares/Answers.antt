@@ -1,70 +1,74 @@
-use Rattle.std.proofs.Common.{◌≡◌, ◌+◌, ◌*◌, sym, ap, ap₂, ◌∙◌, arith}
+use Rattle.std.proofs.Common.{◌≡◌, ◌+◌, ◌*◌, ◌≤◌, sym, ap, ap₂, ◌∙◌, arith}
 use Rattle.coflow_units.specs.Certificate.{front, front_load}
 use Rattle.coflow_units.specs.Load.{squares_of_loads}
+use Rattle.dual_cert.specs.PlaceTable.{load_up_to}
 use Rattle.dual_cert.specs.TableCertificate.{entries_to, port_at}
-use Rattle.dual_cert.proofs.FirstPlaces.{coflow_in, port_in}
-use Rattle.dual_cert.proofs.ValueSteps.{front_load_is, load_is, load_more, load_within, square_fits, squares_are, squares_more, squares_within, table_load, table_squares}
+use Rattle.dual_cert.proofs.FirstPlaces.{port_in}
+use Rattle.dual_cert.proofs.FrontSums.{sum_next, sum_to}
+use Rattle.dual_cert.proofs.ValueSteps.{front_load_is, front_squares_total, front_total, load_is, square_fits, square_up_to, squares_are, squares_past, squares_small, total_past, total_small}
 use Rattle.dual_cert.proofs.value.squares.Goals as goal
 
-pub get-load-requires-clause-coflow_in : goal.get-load-requires-clause-coflow_in
-get-load-requires-clause-coflow_in c = coflow_in c.args.loads.now c.args.charges.now c.loop-earlier.earlier c.requires.certificate (omega (arith, c.requires.place_in))
+pub next_loaded-coflow-requires-clause-port_in : goal.next_loaded-coflow-requires-clause-port_in
+next_loaded-coflow-requires-clause-port_in c = port_in c.args.loads.now c.args.charges.now c.args.place c.requires.certificate c.requires.place_in
 
-pub get-load-requires-clause-port_in : goal.get-load-requires-clause-port_in
-get-load-requires-clause-port_in c = port_in c.args.loads.now c.args.charges.now c.args.place c.requires.certificate c.requires.place_in
+pub load_in_front-load-requires-clause-port_in : goal.load_in_front-load-requires-clause-port_in
+load_in_front-load-requires-clause-port_in c = port_in c.args.loads.now c.args.charges.now c.args.place c.requires.certificate c.requires.place_in
+
+pub loaded-init : goal.loaded-init
+loaded-init c =
+    let e = c.next_loaded-coflow.ensures in
+    record {
+      within = omega (arith, e.within, c.coflows-coflows.ensures.coflows_are);
+      total_is = sym (total_past c.args.loads.now c.args.charges.now c.args.place 0 c.next_loaded-coflow.result e.after e.none);
+      squares_are = sym (squares_past c.args.loads.now c.args.charges.now c.args.place 0 c.next_loaded-coflow.result e.after e.none);
+    }
 
 pub overflow_add-total : goal.overflow_add-total
 overflow_add-total c =
     let t = c.args.loads.now in
     let charges = c.args.charges.now in
-    let port = port_at charges c.args.place in
-    let k = c.loop-earlier.earlier in
-    omega (arith, c.loop-earlier.invariant.total_is, c.get-load.ensures, load_more t port charges k (omega (arith, c.requires.place_in)), load_within t port charges (k + 1) c.requires.certificate, c.requires.totals_fit port (port_in t charges c.args.place c.requires.certificate c.requires.place_in))
+    let k = c.loaded.coflow in
+    let small = total_small t charges c.args.place (k + 1) c.requires.certificate c.requires.totals_fit c.requires.place_in (omega (arith, c.loaded-test.true, c.coflows-coflows.ensures.coflows_are)) in
+    omega (arith, c.loaded.invariant.total_is, c.load_in_front-load.ensures, sum_next (load_up_to t charges c.args.place) k, small)
 
 pub overflow_add-squares : goal.overflow_add-squares
 overflow_add-squares c =
     let t = c.args.loads.now in
     let charges = c.args.charges.now in
-    let port = port_at charges c.args.place in
-    let k = c.loop-earlier.earlier in
-    let own = ap (λ n. n * n) c.get-load.ensures in
-    let more = squares_more t port charges k (omega (arith, c.requires.place_in)) in
-    let within = squares_within t port (front (entries_to (k + 1) charges)) in
-    let load = load_within t port charges (k + 1) c.requires.certificate in
-    let most = c.requires.totals_fit port (port_in t charges c.args.place c.requires.certificate c.requires.place_in) in
-    let fits = square_fits (table_load t port (front (entries_to (k + 1) charges))) (omega (arith, load, most)) in
-    omega (arith, c.loop-earlier.invariant.squares_are, own, more, within, fits)
+    let k = c.loaded.coflow in
+    let small = squares_small t charges c.args.place (k + 1) c.requires.certificate c.requires.totals_fit c.requires.place_in (omega (arith, c.loaded-test.true, c.coflows-coflows.ensures.coflows_are)) in
+    omega (arith, c.loaded.invariant.squares_are, ap (λ n. n * n) c.load_in_front-load.ensures, sum_next (square_up_to t charges c.args.place) k, small)
 
-pub loop-earlier-preserved : goal.loop-earlier-preserved
-loop-earlier-preserved c =
+pub next_loaded-coflow-requires-in-loaded-clause-port_in : goal.next_loaded-coflow-requires-in-loaded-clause-port_in
+next_loaded-coflow-requires-in-loaded-clause-port_in c = port_in c.args.loads.now c.args.charges.now c.args.place c.requires.certificate c.requires.place_in
+
+pub loaded-preserved : goal.loaded-preserved
+loaded-preserved c =
     let t = c.args.loads.now in
     let charges = c.args.charges.now in
-    let port = port_at charges c.args.place in
-    let k = c.loop-earlier.earlier in
-    let own = ap (λ n. n * n) c.get-load.ensures in
+    let k = c.loaded.coflow in
+    let e = c.next_loaded-coflow-in-loaded.ensures in
+    let past = total_past t charges c.args.place (k + 1) c.next_loaded-coflow-in-loaded.result e.after e.none in
+    let past' = squares_past t charges c.args.place (k + 1) c.next_loaded-coflow-in-loaded.result e.after e.none in
     record {
-      total_is = omega (arith, c.loop-earlier.invariant.total_is, c.get-load.ensures, load_more t port charges k (omega (arith, c.requires.place_in)));
-      squares_are = omega (arith, c.loop-earlier.invariant.squares_are, own, squares_more t port charges k (omega (arith, c.requires.place_in)));
+      within = omega (arith, e.within, c.coflows-coflows.ensures.coflows_are);
+      total_is = omega (arith, c.loaded.invariant.total_is, c.load_in_front-load.ensures, sum_next (load_up_to t charges c.args.place) k, past);
+      squares_are = omega (arith, c.loaded.invariant.squares_are, ap (λ n. n * n) c.load_in_front-load.ensures, sum_next (square_up_to t charges c.args.place) k, past');
     }
 
 pub overflow_mul-result : goal.overflow_mul-result
 overflow_mul-result c =
-    let t = c.args.loads.now in
-    let charges = c.args.charges.now in
-    let port = port_at charges c.args.place in
-    let load = load_within t port charges c.loop-earlier.earlier c.requires.certificate in
-    let most = c.requires.totals_fit port (port_in t charges c.args.place c.requires.certificate c.requires.place_in) in
-    omega (arith, square_fits c.loop-earlier.total (omega (arith, c.loop-earlier.invariant.total_is, load, most)))
+    let within = total_small c.args.loads.now c.args.charges.now c.args.place c.loaded.coflow c.requires.certificate c.requires.totals_fit c.requires.place_in (omega (arith, c.loaded.invariant.within, c.coflows-coflows.ensures.coflows_are)) in
+    omega (arith, square_fits c.loaded.total (omega (arith, c.loaded.invariant.total_is, within)))
 
 pub overflow_add-result : goal.overflow_add-result
 overflow_add-result c =
     let t = c.args.loads.now in
     let charges = c.args.charges.now in
-    let port = port_at charges c.args.place in
-    let cs = front (entries_to c.loop-earlier.earlier charges) in
-    let load = load_within t port charges c.loop-earlier.earlier c.requires.certificate in
-    let most = c.requires.totals_fit port (port_in t charges c.args.place c.requires.certificate c.requires.place_in) in
-    let same = ap (λ n. n * n) c.loop-earlier.invariant.total_is in
-    omega (arith, square_fits (table_load t port cs) (omega (arith, load, most)), same, c.loop-earlier.invariant.squares_are, squares_within t port cs)
+    let le : c.loaded.coflow ≤ t.coflows = omega (arith, c.loaded.invariant.within, c.coflows-coflows.ensures.coflows_are) in
+    let within = total_small t charges c.args.place c.loaded.coflow c.requires.certificate c.requires.totals_fit c.requires.place_in le in
+    let within' = squares_small t charges c.args.place c.loaded.coflow c.requires.certificate c.requires.totals_fit c.requires.place_in le in
+    omega (arith, square_fits c.loaded.total (omega (arith, c.loaded.invariant.total_is, within)), c.loaded.invariant.squares_are, within')
 
 pub returns : goal.returns
 returns c = λ flows has.
@@ -73,9 +77,9 @@ returns c = λ flows has.
     let place = c.args.place in
     let port = port_at charges place in
     let in' = port_in t charges place c.requires.certificate c.requires.place_in in
-    let end : c.loop-earlier.earlier ≡ place + 1 = omega arith in
-    let total : c.loop-earlier.total ≡ front_load flows (entries_to (place + 1) charges) =
-    c.loop-earlier.invariant.total_is ∙ ap (λ k. table_load t port (front (entries_to k charges))) end ∙ load_is flows t port charges (place + 1) has in' ∙ sym (front_load_is flows charges place c.requires.place_in) in
-    let squares : c.loop-earlier.squares ≡ squares_of_loads flows (front (entries_to (place + 1) charges)) port =
-    c.loop-earlier.invariant.squares_are ∙ ap (λ k. table_squares t port (front (entries_to k charges))) end ∙ squares_are flows t port charges (place + 1) has in' in
+    let end : c.loaded.coflow ≡ t.coflows = omega (arith, c.loaded-test.false, c.loaded.invariant.within, c.coflows-coflows.ensures.coflows_are) in
+    let total : c.loaded.total ≡ front_load flows (entries_to (place + 1) charges) =
+    c.loaded.invariant.total_is ∙ ap (sum_to (load_up_to t charges place)) end ∙ front_total t charges place c.requires.certificate ∙ load_is flows t port charges (place + 1) has in' ∙ sym (front_load_is flows charges place c.requires.place_in) in
+    let squares : c.loaded.squares ≡ squares_of_loads flows (front (entries_to (place + 1) charges)) port =
+    c.loaded.invariant.squares_are ∙ ap (sum_to (square_up_to t charges place)) end ∙ front_squares_total t charges place c.requires.certificate ∙ squares_are flows t port charges (place + 1) has in' in
     ap₂ (λ a b. a * a + b) total squares

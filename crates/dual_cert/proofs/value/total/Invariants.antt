@@ -1,8 +1,13 @@
-use Rattle.std.proofs.Common.{◌≡◌}
-use Rattle.coflow_units.specs.Certificate.{front}
-use Rattle.dual_cert.specs.TableCertificate.{entries_to}
-use Rattle.dual_cert.proofs.ValueSteps.{table_load}
+use Rattle.std.proofs.Common.{◌≡◌, ◌-◌, ◌≤◌}
+use Rattle.dual_cert.specs.PlaceTable.{load_up_to}
+use Rattle.dual_cert.proofs.FrontSums.{sum_to}
 use Rattle.dual_cert.proofs.value.total.Given as goal
 
-abbrev pub invariant-loop-number : goal.invariant-loop-number
-invariant-loop-number l = l.total ≡ table_load l.loads l.port (front (entries_to l.number l.charges))
+abbrev pub invariant-loaded : goal.invariant-loaded
+invariant-loaded l = record {
+  within : l.coflow ≤ l.coflows;
+  total_is : l.total ≡ sum_to (load_up_to l.loads l.charges l.place) l.coflow;
+}
+
+abbrev pub decreases-loaded : goal.decreases-loaded
+decreases-loaded l = l.coflows - l.coflow
