@@ -1,9 +1,9 @@
--- What is told of the grants of a slot: the granted flows, the one at each ingress, and the least units left among
--- them.
-use Rattle.std.specs.Prelude.{◌≡◌, ◌≢◌, ℕ, ◌<◌, ◌≤◌, ◌^◌, ◌↔◌, List, [], All, Any, Contains, Option, None, Some}
+-- What is told of the grants of a slot: the granted flows, and the one at each ingress.
+use Rattle.std.specs.Prelude.{◌≡◌, ℕ, ◌<◌, ◌≤◌, ◌^◌, ◌↔◌, List, Contains, Option, None, Some}
 use Rattle.std.specs.List.{slice_index_or}
 use Rattle.coflow_units.specs.declared.fabric.Flow.{Flow}
 use Rattle.coflow_units.specs.Flows.{ingress_of}
+pub use Rattle.coflow_units.specs.LeastLeft.{IsLeastLeft}
 
 -- the number of ports on each side, the granted flows, and for each ingress the flow that stands at it
 pub record Grants : Type 0 where
@@ -26,9 +26,3 @@ flow_at_ingress at ingress = slice_index_or at ingress None
 abbrev pub TellsIngresses : List Flow → List ℕ → List (Option ℕ) → Type 0
 TellsIngresses flows granted at = (ingress f : ℕ) →
     (flow_at_ingress at ingress ≡ Some f) ↔ (Contains granted f × (ingress_of flows f ≡ ingress))
-
--- the least units left among the granted flows, and 0 where nothing is granted
-pub record IsLeastLeft (left : ℕ → ℕ) (granted : List ℕ) (n : ℕ) : Type 0 where
-  pub none : granted ≡ [] → n ≡ 0
-  pub below : All (λ f. n ≤ left f) granted
-  pub reached : granted ≢ [] → Any (λ f. left f ≡ n) granted

@@ -1,0 +1,12 @@
+pub mod KeptSteps
+pub mod WaitSteps
+pub mod BoardSteps
+pub mod LookSteps
+pub mod SettleSteps
+pub mod HeadSteps
+pub mod EndSteps
+pub mod RankSteps
+pub mod ListSteps
+pub mod MatchingSteps
+pub mod RoomSteps
+pub mod RunSteps

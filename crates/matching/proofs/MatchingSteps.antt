@@ -1,0 +1,123 @@
+-- The grants that are kept, from the flows of a line to the list of those that are granted.
+use Rattle.std.proofs.Common.{◌≡◌, ◌≢◌, ℕ, ◌+◌, ◌-◌, ◌^◌, ◌≤◌, ◌<◌, inl, inr, List, length, get_or, set, take, Contains, refl, sym, ap, subst, ◌∙◌, arith}
+use Rattle.std.specs.Prelude.{All, if◌then◌else◌}
+use Rattle.std.specs.List.Sorted.{IsStrictlyIncreasing}
+use Rattle.std.proofs.lemmas.Bool.{cases_eq, cases_lt, eq-eqb, ne_eqb}
+use Rattle.std.proofs.lemmas.Grind.{get_or-set_at}
+use Rattle.std.proofs.lemmas.List.{get_or-set_other, get_or-take, length-take, length-take-le}
+use Rattle.coflow_units.specs.declared.fabric.Flow.{Flow}
+use Rattle.coflow_units.specs.Flows.{coflow_of}
+use Rattle.coflow_units.specs.Grants.{place_in, ComesBefore}
+use Rattle.coflow_units.proofs.LinePlaces.{place_of_member, at_place}
+use Rattle.matching.specs.declared.ranks.Ranks.{Ranks}
+use Rattle.matching.specs.declared.tables.Tables.{Tables}
+use Rattle.matching.specs.Kept.{Graph, IsLined, IsTold}
+use Rattle.matching.specs.Board.{no_rank, first_of, graph_of, IsRanks, IsBoard, Stands}
+use Rattle.matching.specs.Listing.{IsFirstSide, IsListing}
+use Rattle.matching.specs.Matching.{IsBegun, IsMatching, IsLess}
+use Rattle.matching.specs.Ranking.{number_of, IsRanking}
+use Rattle.matching.specs.Sound.{IsSound, left_at}
+use Rattle.matching.proofs.BoardSteps.{stands_at}
+use Rattle.matching.proofs.EndSteps.{IsSameOwing, same_heads}
+use Rattle.matching.proofs.RankSteps.{distinct_below, not_itself}
+
+-- ---- the list
+
+pub first_side : (ranks : Ranks) (at : List ℕ) → IsRanks ranks → IsBoard ranks.ports (graph_of ranks) at → IsFirstSide ranks (take ranks.ports at)
+first_side ranks at k b = λ p lt.
+    let low : p < ranks.ports = omega (arith, lt, length-take ranks.ports at) in
+    let e = get_or-take ranks.ports at p 0 low in
+    elim (b.own p (omega (arith, low))) [
+      | inl none ↦ inl (e ∙ none)
+      | inr (known, inl first) ↦ inr (omega (arith, e, known), ap (first_of ranks) e ∙ first)
+      | inr (known, inr second) ↦ absurd (omega (arith, second, low, k.graph.second_from (get_or at p 0) known))
+    ]
+
+pub listed_told : (ranks : Ranks) (at told : List ℕ) → IsRanks ranks → IsBoard ranks.ports (graph_of ranks) at → IsStrictlyIncreasing told →
+    IsListing ranks (take ranks.ports at) (length (take ranks.ports at)) told → IsTold (number_of ranks) (Stands (graph_of ranks) at) told
+listed_told ranks at told k b up l =
+    let size : length (take ranks.ports at) ≡ ranks.ports = length-take-le ranks.ports at (omega (arith, b.size)) in
+    record {
+      ascending = up;
+      from = λ f has.
+          let (p, lt, known, e) = l.from f has in
+          let low : p < ranks.ports = omega (arith, lt, size) in
+          let same = get_or-take ranks.ports at p 0 low in
+          let some : get_or at p 0 ≢ no_rank = λ x. omega (arith, x, same, known, k.graph.few) in
+          (get_or at p 0, (stands_at ranks.ports (graph_of ranks) at p (get_or at p 0) b (omega (arith, low)) some refl).0, ap (number_of ranks) (sym same) ∙ e);
+      all = λ r (lr, at_r).
+          let low = k.graph.first r lr in
+          let same : get_or (take ranks.ports at) (first_of ranks r) 0 ≡ r = get_or-take ranks.ports at (first_of ranks r) 0 low ∙ at_r in
+          subst (λ x. Contains told (number_of ranks x)) same (l.all (first_of ranks r) (omega (arith, low, size)) (omega (arith, same, lr)));
+    }
+
+-- ---- the beginning
+
+pub ranking_fits : (flows : List Flow) (line : List ℕ) (left : ℕ → ℕ) (k n : ℕ) (ranks : Ranks) → IsRanking flows line left k n ranks → ranks.count ≤ length flows
+ranking_fits flows line left k n ranks r =
+    distinct_below (number_of ranks) ranks.count (length flows) r.flow (λ p q less lt same. not_itself flows line (number_of ranks q) (subst (λ x. ComesBefore flows line x (number_of ranks q)) same (r.rises p q less lt)))
+
+pub ranking_made : (flows : List Flow) (line : List ℕ) (left : ℕ → ℕ) (k n : ℕ) (ranks : Ranks) → length flows < 2 ^ 32 → length flows ≤ length ranks.flows.items →
+    All (λ (x : Flow). x.ingress < ranks.ports) flows → All (λ (x : Flow). x.egress < ranks.ports) flows →
+    IsRanking flows line left k n ranks → IsRanks ranks
+ranking_made flows line left k n ranks few room ins outs r = record {
+  fits = omega (arith, ranking_fits flows line left k n ranks r, room);
+  graph = record {
+    few = omega (arith, ranking_fits flows line left k n ranks r, few);
+    first = λ p lt. omega (arith, r.first_is p lt, ins (number_of ranks p) record { coflow = 0; ingress = 0; egress = 0; units = 0 } (r.flow p lt));
+    second_from = λ p lt. omega (arith, r.second_is p lt);
+    second = λ p lt. omega (arith, r.second_is p lt, outs (number_of ranks p) record { coflow = 0; ingress = 0; egress = 0; units = 0 } (r.flow p lt));
+  };
+  apart = λ p q less lt same. not_itself flows line (number_of ranks q) (subst (λ x. ComesBefore flows line x (number_of ranks q)) same (r.rises p q less lt));
+}
+
+place_has : (line : List ℕ) (c : ℕ) → place_in line c < length line → Contains line c
+place_has line c lt = (place_in line c, lt, at_place line c lt)
+
+pub ranking_lined : (flows : List Flow) (line : List ℕ) (left : ℕ → ℕ) (ranks : Ranks) → IsRanking flows line left (length line) 0 ranks →
+    IsLined flows line left ranks.ports (number_of ranks) (graph_of ranks)
+ranking_lined flows line left ranks r = record {
+  flow = r.flow;
+  in_line = λ p lt. elim (r.looked_at p lt) [
+    | inl low ↦ place_has line (coflow_of flows (number_of ranks p)) low
+    | inr (_, low) ↦ absurd (omega (arith, low))
+  ];
+  rises = r.rises;
+  all = λ f lt in' some. r.all f lt (inl (place_of_member line (coflow_of flows f) in')) some;
+  first_is = r.first_is;
+  second_is = r.second_is;
+}
+
+pub begun_sound : (flows : List Flow) (line : List ℕ) (left : ℕ → ℕ) (m : Tables) → IsBegun flows line left m → IsSound m (λ p. Contains m.board.waiting.ports p)
+begun_sound flows line left m b =
+    let g = graph_of m.ranks in
+    let owes : (r : ℕ) → r < m.ranks.count → 0 < left_at m r = λ r lt. omega (arith, b.units r lt, b.ranking.owed r lt) in
+    let same : IsSameOwing g.count (λ r. r + 1) (left_at m) = λ r lt. (λ _. owes r lt, λ _. omega arith) in
+    let first_low = λ (r : ℕ) (lt : r < m.ranks.count). b.ranks.graph.first r lt in
+    record {
+      ranks = b.ranks;
+      lefts = b.lefts;
+      heads = same_heads m.ranks.ports g (λ r. r + 1) (left_at m) m.heads.least.items same b.heads;
+      chain = b.chain;
+      behind = λ r s less ls _ _ _. owes s ls;
+      board = record {
+        size = b.size;
+        own = λ p lt. inl (b.none p lt);
+        across = λ r lt at_r. absurd (omega (arith, lt, b.ranks.graph.few, at_r, b.none (g.first r) (omega (arith, first_low r lt))));
+        back = λ r lt at_r. absurd (omega (arith, lt, b.ranks.graph.few, at_r, b.none (g.second r) (b.ranks.graph.second r lt)));
+      };
+      room = b.room;
+      kept = record {
+        known = λ r has. has.0;
+        owed = λ r has. owes r has.0;
+        apart = λ r s hr hs m'. absurd (omega (arith, hr.0, b.ranks.graph.few, hr.1, b.none (g.first r) (omega (arith, first_low r hr.0))));
+        rest = λ r lt some. inr (inl (b.all (g.first r) (omega (arith, first_low r lt))));
+      };
+      top = λ r s hr ls _ _ _. absurd (omega (arith, hr.0, b.ranks.graph.few, hr.1, b.none (g.first r) (omega (arith, first_low r hr.0))));
+    }
+
+pub begun_matching : (flows : List Flow) (line : List ℕ) (left : ℕ → ℕ) (m : Tables) → IsBegun flows line left m → IsMatching flows line left m
+begun_matching flows line left m b = record {
+  lined = ranking_lined flows line left m.ranks b.ranking;
+  units = b.units;
+}

@@ -1,0 +1,97 @@
+-- The tables keep their lengths.
+use Rattle.std.proofs.Common.{◌≡◌, ℕ, ◌+◌, ◌*◌, ◌^◌, ◌≤◌, ◌<◌, inl, List, length, get_or, replicate, Contains, ap, ◌∙◌, arith}
+use Rattle.std.proofs.lemmas.List.{get_or-replicate, length-replicate}
+use Rattle.std.proofs.lemmas.Nat.{mul-add-lt}
+use Rattle.matching.specs.declared.tables.Tables.{Tables}
+use Rattle.matching.specs.Board.{no_rank}
+use Rattle.matching.specs.Matching.{HasRoom, IsSameRoom, IsWhole}
+use Rattle.matching.specs.Sound.{IsSound}
+
+pub room_again : (old mid new : Tables) → IsSameRoom old mid → IsSameRoom mid new → IsSameRoom old new
+room_again old mid new a b = record {
+  ports = b.ports ∙ a.ports;
+  ranked = b.ranked ∙ a.ranked;
+  lefts = b.lefts ∙ a.lefts;
+  nexts = b.nexts ∙ a.nexts;
+  listed = b.listed ∙ a.listed;
+}
+
+pub room_stays : (old new : Tables) → IsSameRoom old new → HasRoom old → HasRoom new
+room_stays old new s r = record {
+  few_ports = omega (arith, r.few_ports, s.ports);
+  few = omega (arith, r.few, s.lefts);
+  ranked = omega (arith, r.ranked, s.ranked, s.lefts);
+  nexts = omega (arith, r.nexts, s.nexts, s.lefts);
+  listed = omega (arith, r.listed, s.listed, s.ports);
+}
+
+pub whole_again : (old new : Tables) → IsWhole old → IsSameRoom old new → new.granted ≤ length new.listed.items → IsSound new (λ p. Contains new.board.waiting.ports p) →
+    IsWhole new
+whole_again old new w s within sound = record { sound = sound; room = room_stays old new s w.room; within = within }
+
+-- no flow owes
+pub record IsEmpty (m : Tables) (flows : ℕ) : Type 0 where
+  pub none : m.ranks.count ≡ 0
+  pub granted : m.granted ≡ 0
+  pub few_ports : m.ranks.ports + m.ranks.ports < 2 ^ 32
+  pub few : flows < 2 ^ 32
+  pub ranked : length m.ranks.flows.items ≡ flows
+  pub lefts : length m.left.items ≡ flows
+  pub nexts : length m.heads.next.items ≡ flows
+  pub heads : m.heads.least.items ≡ replicate ((m.ranks.ports + m.ranks.ports) * m.ranks.ports) no_rank
+  pub board : m.board.at.items ≡ replicate (m.ranks.ports + m.ranks.ports) no_rank
+  pub waiting : m.board.waiting.room ≡ m.ranks.ports + m.ranks.ports
+  pub listed : length m.listed.items ≡ m.ranks.ports
+
+filled_with : (xs : List ℕ) (n k : ℕ) → xs ≡ replicate n no_rank → k < n → get_or xs k 0 ≡ no_rank
+filled_with xs n k e lt = ap (λ ys. get_or ys k 0) e ∙ get_or-replicate n k no_rank 0 lt
+
+pub empty_whole : (m : Tables) (flows : ℕ) → IsEmpty m flows → IsWhole m
+empty_whole m flows e = record {
+  sound = record {
+    ranks = record {
+      fits = omega (arith, e.none);
+      graph = record {
+        few = omega (arith, e.none);
+        first = λ r lt. absurd (omega (arith, lt, e.none));
+        second_from = λ r lt. absurd (omega (arith, lt, e.none));
+        second = λ r lt. absurd (omega (arith, lt, e.none));
+      };
+      apart = λ r s less lt. absurd (omega (arith, lt, e.none));
+    };
+    lefts = omega (arith, e.none);
+    heads = record {
+      size = ap (λ (xs : List ℕ). length xs) e.heads ∙ length-replicate ((ports + ports) * ports) no_rank;
+      head = λ p k lp lk. record {
+        one = inl (filled_with m.heads.least.items ((ports + ports) * ports) (p * ports + k) e.heads (omega (arith, mul-add-lt p ports k (ports + ports) lp lk)));
+        least = λ r lr. absurd (omega (arith, lr, e.none));
+      };
+    };
+    chain = record { fits = omega (arith, e.none); next_is = λ r from lt. absurd (omega (arith, lt, e.none)) };
+    behind = λ r s less lt. absurd (omega (arith, lt, e.none));
+    board = record {
+      size = ap (λ (xs : List ℕ). length xs) e.board ∙ length-replicate (ports + ports) no_rank;
+      own = λ p lt. inl (filled_with m.board.at.items (ports + ports) p e.board lt);
+      across = λ r lt. absurd (omega (arith, lt, e.none));
+      back = λ r lt. absurd (omega (arith, lt, e.none));
+    };
+    room = e.waiting;
+    kept = record {
+      known = λ r has. has.0;
+      owed = λ r has. absurd (omega (arith, has.0, e.none));
+      apart = λ r s has. absurd (omega (arith, has.0, e.none));
+      rest = λ r lt. absurd (omega (arith, lt, e.none));
+    };
+    top = λ r s has. absurd (omega (arith, has.0, e.none));
+  };
+  room = record {
+    few_ports = e.few_ports;
+    few = omega (arith, e.few, e.lefts);
+    ranked = omega (arith, e.ranked, e.lefts);
+    nexts = omega (arith, e.nexts, e.lefts);
+    listed = omega (arith, e.listed);
+  };
+  within = omega (arith, e.granted);
+} where
+  ports : ℕ
+  ports = m.ranks.ports

@@ -1,0 +1,15 @@
+use Rattle.std.proofs.Common.{length, subst, sym, ap, ◌∙◌, arith}
+use Rattle.matching.specs.Board.{graph_of}
+use Rattle.matching.specs.Heads.{IsChain}
+use Rattle.matching.proofs.HeadSteps.{no_heads, no_chain}
+use Rattle.matching.proofs.heads.Heads.fill.Goals as goal
+
+pub loop-rank-init : goal.loop-rank-init
+loop-rank-init c =
+    let g = graph_of c.args.ranks.now in
+    record {
+      low = omega arith;
+      size = ap (λ x. length x.items) c.clear.ensures.next;
+      heads = no_heads c.args.ranks.now.ports g c.clear.new.self.least.items c.requires.ranks.graph (c.clear.ensures.size ∙ c.requires.size) c.clear.ensures.none;
+      chain = subst (λ x. IsChain g x.items c.args.ranks.now.count) (sym c.clear.ensures.next) (no_chain g c.args.self.now.next.items c.requires.room);
+    }

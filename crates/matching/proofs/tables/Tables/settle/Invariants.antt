@@ -1,0 +1,16 @@
+-- all stays sound, and the budget falls
+use Rattle.std.proofs.Common.{◌≡◌, Contains}
+use Rattle.matching.specs.Sound.{IsSound, budget}
+use Rattle.matching.proofs.tables.Tables.settle.Given as goal
+
+abbrev pub invariant-loop-port : goal.invariant-loop-port
+invariant-loop-port l = record {
+  sound : IsSound l.self (λ p. Contains l.self.board.waiting.ports p);
+  ranks : l.self.ranks ≡ l.fn.self.ranks;
+  left : l.self.left ≡ l.fn.self.left;
+  heads : l.self.heads ≡ l.fn.self.heads;
+  listed : l.self.listed ≡ l.fn.self.listed;
+}
+
+abbrev pub decreases-loop-port : goal.decreases-loop-port
+decreases-loop-port l = budget l.self
