@@ -3,6 +3,7 @@ use Rattle.std.proofs.Common.{◌≡◌, ◌≢◌, ℕ, ◌+◌, ◌-◌, ◌*�
 use Rattle.std.specs.Prelude.{slice_index, slice_set}
 use Rattle.std.proofs.lemmas.Bool.{cases_eq, cases_lt}
 use Rattle.std.proofs.lemmas.List.{get_or-set_same, get_or-set_other}
+use Rattle.port_load.specs.Kept.{IsColumnCleared}
 use Rattle.port_load.proofs.KeptSteps.{written_other, written_same}
 
 pub record ClearedSoFar (before totals_before cells totals : List ℕ) (n column done : ℕ) : Type 0 where
@@ -68,14 +69,6 @@ cleared_past before totals_before cells totals n column done next so_far after w
   ];
   whole = λ row le. so_far.whole row (omega arith);
 }
-
--- what is said of a cleared column, over the lists that were lent
-pub record IsColumnCleared (before totals_before cells totals : List ℕ) (n column : ℕ) : Type 0 where
-  pub cells_len : length cells ≡ length before
-  pub totals_len : length totals ≡ length totals_before
-  pub gone : (row : ℕ) → row < length totals_before → slice_index cells (row * n + column) ≡ 0
-  pub others : (row other : ℕ) → row < length totals_before → other < n → other ≢ column → slice_index cells (row * n + other) ≡ slice_index before (row * n + other)
-  pub taken : (row : ℕ) → row < length totals_before → slice_index totals row + slice_index before (row * n + column) ≡ slice_index totals_before row
 
 pub cleared_along : (before totals_before before' totals_before' cells totals : List ℕ) (n column : ℕ) → before ≡ before' → totals_before ≡ totals_before' →
     IsColumnCleared before totals_before cells totals n column → IsColumnCleared before' totals_before' cells totals n column

@@ -5,3 +5,4 @@ pub mod ColumnSteps
 pub mod FlowSteps
 pub mod TestSteps
 pub mod MarkSteps
+pub mod CellSteps

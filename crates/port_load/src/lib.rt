@@ -1,6 +1,7 @@
 //! The loads of coflows on the ports of the fabric: a table that is filled from flows, and from which coflows are taken away.
 #![tactic(auto)]
 
+mod cells;
 pub mod laws;
 mod loads;
 mod marks;

@@ -6,9 +6,11 @@ ghost use Rattle.coflow_units.specs.Flows.{with_units};
 ghost use Rattle.coflow_units.specs.Load.{load, loads};
 ghost use Rattle.coflow_units.specs.Ordering.{port_place};
 ghost use Rattle.port_load.specs.LoadTable.{DropsCoflow, HasLoads, IsSameSize, IsWithin, flows_without, is_present, load_at, total_at};
-ghost use Rattle.port_load.specs.Kept.{row_total};
+ghost use Rattle.port_load.specs.CellTable.{HasSizeOf, cells_in};
+ghost use Rattle.port_load.specs.Kept.{IsColumnCleared, row_total};
 ghost use Rattle.port_load.specs.MarkTable.{mark_at};
 
+use crate::cells::Cells;
 use crate::marks::Marks;
 use coflow_units::{Flow, NoMemory, Port, Side};
 use std::alloc::Global;
@@ -22,7 +24,7 @@ pub struct Loads {
     coflows: u32,
     ports: u32,
     /// Port by port, ingress ports before egress ports, the loads of the coflows by number.
-    cells: Vec<u64>,
+    cells: Cells,
     totals: Vec<u64>,
     /// For each port the coflows that may have load there.
     by_port: Marks,
@@ -32,13 +34,14 @@ pub struct Loads {
 
 impl Model for Loads {
     ghost use Rattle.port_load.specs.LoadTable.{LoadTable};
-    ghost use Rattle.port_load.specs.Kept.{IsKept};
+    ghost use Rattle.port_load.specs.CellTable.{cells_in};
+    ghost use Rattle.port_load.specs.Kept.{IsKeptIn};
 
     ghost Value = { LoadTable };
 
-    ghost view = { λ s. record { coflows = s.coflows; ports = s.ports; cells = s.cells.items } };
+    ghost view = { λ s. record { coflows = s.coflows; ports = s.ports; cells = cells_in s.cells } };
 
-    ghost invariant = { λ s. IsKept s.coflows s.ports s.cells.items s.totals.items s.by_port s.by_coflow };
+    ghost invariant = { λ s. IsKeptIn s.coflows s.ports s.cells s.totals.items s.by_port s.by_coflow };
 }
 
 impl Loads {
@@ -112,7 +115,7 @@ impl Loads {
         requires port_in { port.number < self.now.ports }
         ensures { result ≡ load_at self.now coflow port }
     {
-        self.cells[row_of(port, self.ports) * self.coflows as usize + coflow as usize]
+        self.cells.get(row_of(port, self.ports), coflow as usize)
     }
 
     /// The load of all coflows on a port, in units. It is kept, and not added up here.
@@ -137,7 +140,7 @@ impl Loads {
         let columns = self.coflows as usize;
         let mut coflow = self.by_port.next(row, from as usize);
         'marked: while coflow < columns {
-            if self.cells[row * columns + coflow] > 0 {
+            if self.cells.get(row, coflow) > 0 {
                 return coflow as u32;
             }
             coflow = self.by_port.next(row, coflow + 1);
@@ -156,7 +159,6 @@ impl Loads {
             &mut self.cells,
             &mut self.totals,
             &self.by_coflow,
-            self.coflows as usize,
             coflow as usize,
         );
     }
@@ -170,7 +172,7 @@ impl Loads {
         ensures none { IfOk result (λ t. (coflow : ℕ) (port : Port) → load_at t coflow port ≡ 0) }
     {
         let rows = 2 * ports as usize;
-        let cells = vec![in alloc; 0; rows * coflows as usize]?;
+        let cells = Cells::zeros(alloc, rows, coflows as usize)?;
         let totals = vec![in alloc; 0; rows]?;
         let by_port = Marks::none(alloc, rows, coflows as usize)?;
         let by_coflow = Marks::none(alloc, coflows as usize, rows)?;
@@ -188,7 +190,7 @@ impl Loads {
         ensures size { IsSameSize self.old self.new }
         ensures none { (coflow : ℕ) (port : Port) → load_at self.new coflow port ≡ 0 }
     {
-        self.cells.fill(0);
+        self.cells.clear();
         self.totals.fill(0);
         self.by_port.clear();
         self.by_coflow.clear();
@@ -232,8 +234,8 @@ impl Loads {
             load_at self.new other at ≡ load_at self.old other at }
     {
         let row = row_of(port, self.ports);
-        let cell = row * self.coflows as usize + coflow as usize;
-        self.cells[cell] += units;
+        let load = self.cells.get(row, coflow as usize) + units;
+        self.cells.set(row, coflow as usize, load);
         self.totals[row] += units;
         self.by_port.mark(row, coflow as usize);
         self.by_coflow.mark(coflow as usize, row);
@@ -253,29 +255,22 @@ fn row_of(port: Port, ports: u32) -> usize
     }
 }
 
-/// Clears a column of a table with `columns` columns, and takes each cell from the total of its row. The marks tell in which rows of the column a number may be.
-fn clear_column(
-    cells: &mut [u64],
-    totals: &mut [u64],
-    rows_of: &Marks,
-    columns: usize,
-    column: usize,
-)
-    requires column_in { column < columns }
-    requires cells_len { length cells.old ≡ length totals.old * columns }
-    requires within { (row : ℕ) → row < length totals.old → slice_index cells.old (row * columns + column) ≤ slice_index totals.old row }
+/// Clears a column, and takes each cell from the total of its row. The marks tell in which rows of the column a number may be.
+fn clear_column(cells: &mut Cells, totals: &mut [u64], rows_of: &Marks, column: usize)
+    requires column_in { column < cells.old.columns }
+    requires rows { cells.old.rows ≡ length totals.old }
+    requires within { (row : ℕ) → row < length totals.old → slice_index (cells_in cells.old) (row * cells.old.columns + column) ≤ slice_index totals.old row }
     requires marked_rows { column < rows_of.now.rows }
     requires marked_columns { rows_of.now.columns ≡ length totals.old }
-    requires marked { (row : ℕ) → row < length totals.old → mark_at rows_of.now column row ≡ 0 → slice_index cells.old (row * columns + column) ≡ 0 }
-    ensures gone { (row : ℕ) → row < length totals.old → slice_index cells.new (row * columns + column) ≡ 0 }
-    ensures others { (row other : ℕ) → row < length totals.old → other < columns → other ≢ column → slice_index cells.new (row * columns + other) ≡ slice_index cells.old (row * columns + other) }
-    ensures totals_are { (row : ℕ) → row < length totals.old → slice_index totals.new row + slice_index cells.old (row * columns + column) ≡ slice_index totals.old row }
+    requires marked { (row : ℕ) → row < length totals.old → mark_at rows_of.now column row ≡ 0 →
+        slice_index (cells_in cells.old) (row * cells.old.columns + column) ≡ 0 }
+    ensures size { HasSizeOf cells.old cells.new }
+    ensures cleared { IsColumnCleared (cells_in cells.old) totals.old (cells_in cells.new) totals.new cells.old.columns column }
 {
     let mut row = rows_of.next(column, 0);
     'rows: while row < totals.len() {
-        let cell = row * columns + column;
-        totals[row] -= cells[cell];
-        cells[cell] = 0;
+        totals[row] -= cells.get(row, column);
+        cells.set(row, column, 0);
         row = rows_of.next(column, row + 1);
     }
 }
