@@ -1,9 +1,9 @@
 -- The list of files under a change of one of them.
 use Rattle.std.proofs.Common.{◌≡◌, ◌≢◌, ℕ, ◌+◌, ◌-◌, ◌^◌, ◌<◌, ◌≤◌, inl, inr, Bool, true, false, List, [], ◌∷◌, ◌++◌, length, take, drop, get_or, refl, sym, ◌∙◌, ap, arith, cond}
 use Rattle.std.proofs.Math.ListN.{set, drop_of_length-le}
-use Rattle.std.specs.Prelude.{nat_eq, string_bytes, min}
+use Rattle.std.specs.Prelude.{◌↔◌, nat_eq, string_bytes, min}
 use Rattle.std.specs.Cmp.Lexicographic.{pointwise, bytes_decides}
-use Rattle.std.proofs.lemmas.List.{get_or-map, get_or-set_other, get_or_append_left, get_or_past, length-append, length-map, length-take-le, map-append, map-set, drop-drop, take-append-le, take-take, take-append-drop, nil_from_length}
+use Rattle.std.proofs.lemmas.List.{get_or-map, get_or-set_other, get_or_append_left, get_or_past, length-append, length-map, length-set, length-take-le, map-append, map-set, drop-drop, take-append-le, take-take, take-append-drop, nil_from_length}
 use Rattle.std.proofs.lemmas.List.Folds.{position_or_len_push}
 use Rattle.std.proofs.lemmas.List.Sums.{passes_at_first, position_or_len_is, prefix_len-le-length}
 use Rattle.std.proofs.lemmas.Bool.{false≢true}
@@ -12,7 +12,7 @@ use Rattle.std.proofs.lemmas.Grind.{common_steps, get_or-set_at}
 use Rattle.std.proofs.Math.Seq.{map-set_same, get_or-append_seam}
 use Rattle.outside.specs.declared.files.File.{File}
 use Rattle.outside.specs.Rose.{Rose}
-use Rattle.outside.specs.Files.{names_of, contents_of, counts_of, number_of, bytes_at, count_at, Puts}
+use Rattle.outside.specs.Files.{names_of, contents_of, counts_of, number_of, bytes_at, count_at, AddsName, HasNoFile, Puts}
 
 pub same_names : (files : List File) (i : ℕ) (f d : File) → string_bytes f.name ≡ string_bytes (get_or files i d).name → names_of (set files i f) ≡ names_of files
 same_names files i f d e = map-set_same (λ (x : File). string_bytes x.name) files i f d e
@@ -34,18 +34,21 @@ set_count files i missing f inside =
 other_count : (files : List File) (i missing k : ℕ) (f : File) → k ≢ i → count_at (counts_of (set files i f)) missing k ≡ count_at (counts_of files) missing k
 other_count files i missing k f other = rw (map-set (λ (x : File). x.faults) files i f) (get_or-set_other (counts_of files) i k f.faults missing other)
 
-pub later_counts : (files : List File) (i missing : ℕ) (f d : File) → i < length files → (get_or files i d).faults ≤ f.faults → (k : ℕ) → count_at (counts_of files) missing k ≤ count_at (counts_of (set files i f)) missing k
+pub later_counts : (files : List File) (i missing : ℕ) (f d : File) → i < length files → (get_or files i d).faults ≤ f.faults → (k : ℕ) →
+    count_at (counts_of files) missing k ≤ count_at (counts_of (set files i f)) missing k
 later_counts files i missing f d inside up k =
     elim (eqb_tells k i) [
       | inl same ↦ rw (same.1, count_of files i missing d inside, set_count files i missing f inside) up
       | inr other ↦ rw (other_count files i missing k f other.1) (omega arith)
     ]
 
-pub risen_count : (files : List File) (i missing : ℕ) (f d : File) → i < length files → f.faults ≡ min ((get_or files i d).faults + 1) (2 ^ 64 - 1) → Rose (count_at (counts_of files) missing i) (count_at (counts_of (set files i f)) missing i)
+pub risen_count : (files : List File) (i missing : ℕ) (f d : File) → i < length files → f.faults ≡ min ((get_or files i d).faults + 1) (2 ^ 64 - 1) →
+    Rose (count_at (counts_of files) missing i) (count_at (counts_of (set files i f)) missing i)
 risen_count files i missing f d inside up = rw (count_of files i missing d inside, set_count files i missing f inside) (omega arith)
 
 -- the first file with a name
-pub number_is : (names : List (List ℕ)) (name : List ℕ) (i : ℕ) → i ≤ length names → ((k : ℕ) → k < i → pointwise nat_eq (get_or names k []) name ≡ false) → (i < length names → pointwise nat_eq (get_or names i []) name ≡ true) → number_of names name ≡ i
+pub number_is : (names : List (List ℕ)) (name : List ℕ) (i : ℕ) → i ≤ length names → ((k : ℕ) → k < i → pointwise nat_eq (get_or names k []) name ≡ false) →
+    (i < length names → pointwise nat_eq (get_or names i []) name ≡ true) → number_of names name ≡ i
 number_is names name i within before here = position_or_len_is (λ x. pointwise nat_eq x name) names i [] within before here
 
 name_there : (names : List (List ℕ)) (name : List ℕ) → number_of names name < length names → get_or names (number_of names name) [] ≡ name
@@ -117,7 +120,8 @@ read_past xs y d i j at same =
     let long : length (xs ++ y ∷ []) ≤ j = rw (length-append xs (y ∷ [])) (omega arith) in
     get_or_past (xs ++ y ∷ []) j d long ∙ sym (get_or_past xs i d (omega arith))
 
-pub push_puts : (files : List File) (missing : ℕ) (f : File) (name bytes : List ℕ) → length files ≤ number_of (names_of files) name → f.bytes.items ≡ bytes → string_bytes f.name ≡ name → f.faults ≡ missing →
+pub push_puts : (files : List File) (missing : ℕ) (f : File) (name bytes : List ℕ) → length files ≤ number_of (names_of files) name → f.bytes.items ≡ bytes →
+    string_bytes f.name ≡ name → f.faults ≡ missing →
     Puts files (files ++ f ∷ []) missing name bytes
 push_puts files missing f name bytes absent b nm ct = record {
   bytes_are = rw (names, contents) (by_name (stands N name name));
@@ -156,14 +160,16 @@ push_puts files missing f name bytes absent b nm ct = record {
     by_other n differ (at_end end same at) = absurd (differ same)
     by_other n differ (nowhere end other at) = read_past (contents_of files) bytes [] _ _ (omega (arith, end, many, many_contents)) (omega (arith, at, many, many_contents))
 
-    by_count : (n : List ℕ) → Stands N name n → count_at (counts_of files ++ missing ∷ []) missing (number_of (N ++ name ∷ []) n) ≡ count_at (counts_of files) missing (number_of N n)
+    by_count : (n : List ℕ) → Stands N name n →
+        count_at (counts_of files ++ missing ∷ []) missing (number_of (N ++ name ∷ []) n) ≡ count_at (counts_of files) missing (number_of N n)
     by_count n (before inside at) = read_before (counts_of files) missing missing _ _ at (omega (arith, inside, many, many_counts))
     by_count n (at_end end same at) =
         read_last (counts_of files) missing missing _ (omega (arith, at, many, many_counts)) ∙ sym (get_or_past (counts_of files) _ missing (omega (arith, end, many, many_counts)))
     by_count n (nowhere end other at) = read_past (counts_of files) missing missing _ _ (omega (arith, end, many, many_counts)) (omega (arith, at, many, many_counts))
 
 -- what a test of a file's name told
-pub name_test : (files : List File) (i : ℕ) (f : File) (text name : List ℕ) (answer told : Bool) → i < length files → f ≡ get_or files i f → text ≡ string_bytes f.name → answer ≡ pointwise nat_eq text name → answer ≡ told →
+pub name_test : (files : List File) (i : ℕ) (f : File) (text name : List ℕ) (answer told : Bool) → i < length files → f ≡ get_or files i f → text ≡ string_bytes f.name →
+    answer ≡ pointwise nat_eq text name → answer ≡ told →
     pointwise nat_eq (get_or (names_of files) i []) name ≡ told
 name_test files i f text name answer told inside read is tested by =
     let there : get_or (names_of files) i [] ≡ string_bytes f.name =
@@ -184,7 +190,8 @@ copy_moves bytes buffer got taken start k piece n at is k_is n_is some room =
     let k_at = rw rest at k_is in
     moved got_is (omega (arith, k_at)) (λ none. omega (arith, k_at))
   where
-    moved : got ≡ take n (drop taken bytes) → n ≤ length (drop taken bytes) → (n ≡ 0 → length (drop taken bytes) ≡ 0) → (take n (got ++ drop n buffer) ++ drop (taken + n) bytes ≡ drop taken bytes) × (n ≡ 0 → drop taken bytes ≡ [])
+    moved : got ≡ take n (drop taken bytes) → n ≤ length (drop taken bytes) → (n ≡ 0 → length (drop taken bytes) ≡ 0) →
+        (take n (got ++ drop n buffer) ++ drop (taken + n) bytes ≡ drop taken bytes) × (n ≡ 0 → drop taken bytes ≡ [])
     moved got_is within none =
         let R = drop taken bytes in
         let long : length got ≡ n = ap length got_is ∙ length-take-le n (drop taken bytes) within in
@@ -193,3 +200,50 @@ copy_moves bytes buffer got taken start k piece n at is k_is n_is some room =
         in
         let back : drop (taken + n) bytes ≡ drop n (drop taken bytes) = sym (drop-drop n taken bytes) in
         (rw (front, back) (take-append-drop n (drop taken bytes)), λ e. nil_from_length (drop taken bytes) (none e))
+
+-- ---- the names of files
+
+missing_as : (old new : List File) → names_of new ≡ names_of old → length new ≡ length old → (name : List ℕ) → HasNoFile new name → HasNoFile old name
+missing_as old new names many name e = ap (λ ns. number_of ns name) (sym names) ∙ e ∙ many
+
+pub same_missing : (old new : List File) → names_of new ≡ names_of old → length new ≡ length old → (name : List ℕ) → HasNoFile new name ↔ HasNoFile old name
+same_missing old new names many name = (missing_as old new names many name, missing_as new old (sym names) (sym many) name)
+
+pub set_adds : (files : List File) (i : ℕ) (f d : File) (name : List ℕ) → i ≡ number_of (names_of files) name → i < length files →
+    string_bytes f.name ≡ string_bytes (get_or files i d).name → AddsName files (set files i f) name
+set_adds files i f d name at inside nm =
+    let names : names_of (set files i f) ≡ names_of files = same_names files i f d nm in
+    let many : length (set files i f) ≡ length files = length-set files i f in
+    record {
+      added = λ e. let old : HasNoFile files name = missing_as files (set files i f) names many name e in omega (arith, at, old, inside);
+      others = λ n differ. same_missing files (set files i f) names many n;
+    }
+
+pub push_adds : (files : List File) (f : File) (name : List ℕ) → length files ≤ number_of (names_of files) name → string_bytes f.name ≡ name → AddsName files (files ++ f ∷ []) name
+push_adds files f name absent nm = record {
+  added = λ e. by_name (sym (ap (λ ns. number_of ns name) names) ∙ e) (stands N name name);
+  others = λ n differ. by_other n differ (stands N name n);
+}
+  where
+    N : List (List ℕ)
+    N = names_of files
+
+    names : names_of (files ++ f ∷ []) ≡ N ++ name ∷ []
+    names = map-append (λ (x : File). string_bytes x.name) files (f ∷ []) ∙ ap (λ v. N ++ v ∷ []) nm
+
+    many : length N ≡ length files
+    many = length-map files (λ (x : File). string_bytes x.name)
+
+    longer : length (files ++ f ∷ []) ≡ length files + 1
+    longer = length-append files (f ∷ [])
+
+    by_name : number_of (N ++ name ∷ []) name ≡ length (files ++ f ∷ []) → Stands N name name → ⊥
+    by_name e (before inside at) = absurd (omega (arith, many, inside, absent))
+    by_name e (at_end end same at) = absurd (omega (arith, at, e, longer, many))
+    by_name e (nowhere end differ at) = absurd (differ refl)
+
+    by_other : (n : List ℕ) → n ≢ name → Stands N name n → HasNoFile (files ++ f ∷ []) n ↔ HasNoFile files n
+    by_other n differ (before inside at) =
+        (λ e. absurd (omega (arith, ap (λ ns. number_of ns n) names, e, at, inside, longer, many)), λ e. absurd (omega (arith, e, inside, many)))
+    by_other n differ (at_end end same at) = absurd (differ same)
+    by_other n differ (nowhere end other at) = (λ e. omega (arith, end, many), λ e. ap (λ ns. number_of ns n) names ∙ omega (arith, at, longer, many))

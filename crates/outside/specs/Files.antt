@@ -1,5 +1,5 @@
 -- Files in memory, by their numbers, and the places at which they are read.
-use Rattle.std.specs.Prelude.{◌≡◌, ◌≢◌, ℕ, Bool, List, [], Option, Some, None, drop, map, string_bytes, is_some, nat_eq}
+use Rattle.std.specs.Prelude.{◌≡◌, ◌≢◌, ◌↔◌, ℕ, Bool, List, [], Option, Some, None, drop, length, map, string_bytes, is_some, nat_eq}
 use Rattle.std.specs.List.{position_or_len, slice_index_or}
 use Rattle.std.specs.Cmp.Lexicographic.{pointwise}
 use Rattle.outside.specs.declared.shelf.Place4.{Place4}
@@ -43,6 +43,15 @@ pub record Puts (old new : List File) (missing : ℕ) (name bytes : List ℕ) : 
   pub bytes_are : bytes_under new name ≡ bytes
   pub others : (n : List ℕ) → n ≢ name → bytes_under new n ≡ bytes_under old n
   pub faults : (n : List ℕ) → faults_under new missing n ≡ faults_under old missing n
+
+-- no file has the name
+abbrev pub HasNoFile : List File → List ℕ → Type 0
+HasNoFile files name = number_of (names_of files) name ≡ length files
+
+-- a file has the name, and every other name is that of a file where it was one before, and nowhere else
+pub record AddsName (old new : List File) (name : List ℕ) : Type 0 where
+  pub added : HasNoFile new name → ⊥
+  pub others : (n : List ℕ) → n ≢ name → HasNoFile new n ↔ HasNoFile old n
 
 -- what is held at a place
 abbrev pub held : {T : Type 0} → Places T → Place4 → Option T

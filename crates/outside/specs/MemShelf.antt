@@ -1,12 +1,13 @@
 -- What a shelf in memory tells.
-use Rattle.std.specs.Prelude.{◌≡◌, ℕ, Bool, List, Contains, length}
+use Rattle.std.specs.Prelude.{◌≡◌, ◌↔◌, ℕ, Bool, List, Contains}
 use Rattle.outside.specs.declared.shelf.Place4.{Place4}
 use Rattle.outside.specs.declared.mem_shelf.MemShelf.{MemShelf}
-use Rattle.outside.specs.Shelf.{Told}
-use Rattle.outside.specs.Files.{count_at, counts_of, is_started, memory_told, names_of, number_of}
+use Rattle.outside.specs.Shelf.{Told, faults_of}
+use Rattle.outside.specs.Files.{AddsName, HasNoFile, count_at, counts_of, is_started, memory_told}
 
 abbrev pub mem_told : MemShelf → Told
-mem_told shelf = memory_told shelf.files.items (count_at (counts_of shelf.files.items) shelf.counts.missing) shelf.places
+mem_told shelf =
+    memory_told shelf.files.items (count_at (counts_of shelf.files.items) shelf.counts.missing) shelf.places
 
 abbrev pub mem_started : MemShelf → Place4 → Bool
 mem_started shelf = is_started shelf.places
@@ -20,7 +21,24 @@ FailsNow shelf = Contains shelf.fails.items shelf.calls
 
 -- the name was not put
 abbrev pub IsMissing : MemShelf → List ℕ → Type 0
-IsMissing shelf name = number_of (names_of shelf.files.items) name ≡ length shelf.files.items
+IsMissing shelf name = HasNoFile shelf.files.items name
+
+-- the name was put, and of every other name it is as before whether it was
+abbrev pub PutsName : MemShelf → MemShelf → List ℕ → Type 0
+PutsName old new name = AddsName old.files.items new.files.items name
+
+-- the same names were put
+abbrev pub HasSameNames : MemShelf → MemShelf → Type 0
+HasSameNames old new = (name : List ℕ) → IsMissing new name ↔ IsMissing old name
+
+-- no count of faults changed, neither that of the shelf nor that of a name
+pub record HasSameCounts (old new : MemShelf) : Type 0 where
+  pub all : mem_faults new ≡ mem_faults old
+  pub each : (name : List ℕ) → faults_of (mem_told new) name ≡ faults_of (mem_told old) name
+
+-- a read gives at most so many bytes
+abbrev pub piece_of : MemShelf → ℕ
+piece_of shelf = shelf.piece.size
 
 -- the calls that fail stay the same, and so many calls were made
 abbrev pub HasMade : MemShelf → MemShelf → ℕ → Type 0

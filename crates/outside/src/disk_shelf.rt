@@ -1,6 +1,7 @@
 //! The files of the system as a shelf.
-ghost use Rattle.std.specs.Prelude.{◌≡◌, ◌≤◌, OnErr, is_ok, is_some, true};
+ghost use Rattle.std.specs.Prelude.{◌≡◌, ◌≤◌, OnErr, Some, is_ok, is_some, true};
 ghost use Rattle.std.specs.Io.{ReadsAtMost};
+ghost use Rattle.std.specs.Io.KnownBytes.{ReadConsumes};
 ghost use Rattle.outside.specs.Rose.{Rose};
 
 use crate::shelf::{Place4, Shelf};
@@ -60,7 +61,8 @@ fn open<R: Files>(
     }
 }
 
-/// Reads from an open file, and counts a failure.
+/// Reads from an open file, and counts a failure. What it answers is what the file answered: the first bytes that are
+/// left, and none only at the end.
 fn read_some<F: Read>(
     opened: &mut Option<F>,
     buffer: &mut [u8],
@@ -71,15 +73,15 @@ fn read_some<F: Read>(
     ensures later { faults.old ≤ faults.new }
     ensures cause { OnErr result (Rose faults.old faults.new) }
     ensures bound { ReadsAtMost result buffer.new }
+    ensures bytes { (before after : F) → opened.old ≡ Some before → opened.new ≡ Some after →
+        ReadConsumes (F.remaining before) (F.remaining after) result buffer.new }
 {
     let Some(file) = opened else { unreachable!() };
-    match file.read(buffer) {
-        Ok(count) => Ok(count),
-        Err(_) => {
-            *faults = faults.saturating_add(1);
-            Err(Failed)
-        }
-    }
+    let Ok(count) = file.read(buffer) else {
+        *faults = faults.saturating_add(1);
+        return Err(Failed);
+    };
+    Ok(count)
 }
 
 impl<R: Files + Drop> Shelf for DiskShelf<R> {

@@ -3,14 +3,15 @@ ghost use Rattle.std.specs.Prelude.{◌≡◌, ℕ, ◌+◌, ◌-◌, ◌^◌, �
 ghost use Rattle.outside.specs.declared.sink.Failed.{Failed};
 ghost use Rattle.outside.specs.Rose.{Rose};
 ghost use Rattle.outside.specs.Shelf.{Moves};
-ghost use Rattle.outside.specs.Files.{bytes_at, contents_of, count_at, counts_of, held, names_of, number_of, with_held, Puts};
+ghost use Rattle.outside.specs.Files.{bytes_at, contents_of, count_at, counts_of, held, names_of, number_of, with_held, AddsName, Puts};
 
 use crate::piece::Piece;
 use crate::shelf::Place4;
 use coflow_units::NoMemory;
 use std::alloc::Global;
 
-/// A file in memory. Files are numbered by their places in a list, and each number past the end stands for the missing file, which holds nothing.
+/// A file in memory. Files are numbered by their places in a list, and each number past the end stands for the missing
+/// file, which holds nothing.
 #[derive(Drop)]
 pub(crate) struct File {
     name: String,
@@ -103,6 +104,7 @@ pub(crate) fn bytes_at(files: &[File], number: usize) -> &[u8]
 pub(crate) fn copy_some(bytes: &[u8], taken: usize, piece: Piece, buffer: &mut [u8]) -> usize
     requires { 0 < length buffer.old }
     ensures bound { result ≤ length buffer.new }
+    ensures piece { result ≤ piece.size }
     ensures fits { taken + result ≤ max taken (length bytes.now) }
     ensures moves { Moves {E = Failed} (drop taken bytes.now) (drop (taken + result) bytes.now) buffer.new (Ok result) }
 {
@@ -129,7 +131,8 @@ pub(crate) fn raise(files: &mut [File], counts: &mut Counts, number: usize)
     ensures grows { counts.old.all ≤ counts.new.all }
     ensures names { names_of files.new ≡ names_of files.old }
     ensures contents { contents_of files.new ≡ contents_of files.old }
-    ensures later { (k : ℕ) → count_at (counts_of files.old) counts.old.missing k ≤ count_at (counts_of files.new) counts.new.missing k }
+    ensures later { (k : ℕ) →
+        count_at (counts_of files.old) counts.old.missing k ≤ count_at (counts_of files.new) counts.new.missing k }
     ensures rose { Rose (count_at (counts_of files.old) counts.old.missing number) (count_at (counts_of files.new) counts.new.missing number) }
 {
     counts.all = counts.all.saturating_add(1);
@@ -150,6 +153,7 @@ pub(crate) fn put(
     bytes: &[u8],
 ) -> Result<(), NoMemory>
     ensures ok { OnOk result (Puts files.old.items files.new.items missing name.now bytes.now) }
+    ensures named { OnOk result (AddsName files.old.items files.new.items name.now) }
     ensures no_memory { OnErr result (files.new.items ≡ files.old.items) }
 {
     let bytes = Vec::from_slice(alloc, bytes)?;

@@ -1,9 +1,9 @@
 //! A shelf in memory, of which some calls fail.
-ghost use Rattle.std.specs.Prelude.{◌≡◌, ◌+◌, ◌-◌, ◌^◌, ◌<◌, ◌≤◌, ◌⊎◌, false, is_ok, length, min, true, IsOkAnd, OnErr, OnOk, Some};
+ghost use Rattle.std.specs.Prelude.{◌≡◌, ℕ, ◌+◌, ◌-◌, ◌^◌, ◌<◌, ◌≤◌, ◌⊎◌, List, false, is_ok, length, min, true, IfOk, IsOkAnd, OnErr, OnOk, Some};
 ghost use Rattle.std.specs.Io.{ReadsAtMost};
 ghost use Rattle.outside.specs.Rose.{Rose};
 ghost use Rattle.outside.specs.Shelf.{IsBare, PutsBytes, Reads, SameElsewhere, Starts};
-ghost use Rattle.outside.specs.MemShelf.{mem_faults, mem_started, mem_told, FailsNow, HasMade, IsMissing};
+ghost use Rattle.outside.specs.MemShelf.{mem_faults, mem_started, mem_told, piece_of, FailsNow, HasMade, HasSameCounts, HasSameNames, IsMissing, PutsName};
 
 use crate::files::{
     Counts, File, Opened, Places, bytes_at, copy_some, next_fails, number_of, put, raise,
@@ -27,7 +27,8 @@ pub struct MemShelf {
 }
 
 impl MemShelf {
-    /// A shelf without files. A read gives at most `piece` bytes. The calls of `start` and `read` whose numbers, counted from 1, stand in `fails` fail.
+    /// A shelf without files. A read gives at most `piece` bytes. The calls of `start` and `read` whose numbers,
+    /// counted from 1, stand in `fails` fail.
     ///
     /// `NoMemory` never comes: an empty shelf takes none.
     pub fn new(alloc: Global, piece: usize, fails: Vec<u32>) -> Result<MemShelf, NoMemory>
@@ -36,6 +37,8 @@ impl MemShelf {
         ensures told { IsOkAnd result (λ s. IsBare (mem_told s)) }
         ensures started { IsOkAnd result (λ s. (p : _) → mem_started s p ≡ false) }
         ensures calls { IsOkAnd result (λ s. (s.fails.items ≡ fails.items) × (s.calls ≡ 0)) }
+        ensures piece { IsOkAnd result (λ s. piece_of s ≡ piece) }
+        ensures names { IsOkAnd result (λ s. (name : List ℕ) → IsMissing s name) }
     {
         Ok(MemShelf {
             alloc,
@@ -56,6 +59,9 @@ impl MemShelf {
         ensures stopped { OnOk result ((p : _) → mem_started self.new p ≡ false) }
         ensures faults { mem_faults self.new ≡ mem_faults self.old }
         ensures calls { HasMade self.old self.new self.old.calls }
+        ensures piece { piece_of self.new ≡ piece_of self.old }
+        ensures named { OnOk result (PutsName self.old self.new name.now) }
+        ensures names { OnErr result (HasSameNames self.old self.new) }
         ensures no_memory { OnErr result (mem_told self.new ≡ mem_told self.old) }
         ensures started { OnErr result (mem_started self.new ≡ mem_started self.old) }
     {
@@ -91,6 +97,9 @@ impl Shelf for MemShelf {
         ensures counted { HasMade self.old self.new (min (self.old.calls + 1) (2 ^ 64 - 1)) }
         ensures fails { OnErr result (FailsNow self.new ⊎ IsMissing self.old name.now) }
         ensures succeeds { OnOk result ((FailsNow self.new → ⊥) × (IsMissing self.old name.now → ⊥)) }
+        ensures still { OnOk result (HasSameCounts self.old self.new) }
+        ensures names { HasSameNames self.old self.new }
+        ensures piece { piece_of self.new ≡ piece_of self.old }
     {
         let file = number_of(&self.files, name);
         let failing = next_fails(&mut self.calls, &self.fails);
@@ -115,6 +124,10 @@ impl Shelf for MemShelf {
         ensures counted { HasMade self.old self.new (min (self.old.calls + 1) (2 ^ 64 - 1)) }
         ensures fails { OnErr result (FailsNow self.new) }
         ensures succeeds { OnOk result (FailsNow self.new → ⊥) }
+        ensures still { OnOk result (HasSameCounts self.old self.new) }
+        ensures names { HasSameNames self.old self.new }
+        ensures piece { piece_of self.new ≡ piece_of self.old }
+        ensures at_most { IfOk result (λ n. n ≤ piece_of self.old) }
     {
         let Some(opened) = self.places.get(place) else {
             unreachable!()

@@ -1,5 +1,5 @@
 //! How many bytes one read gives at most.
-ghost use Rattle.std.specs.Prelude.{◌≤◌};
+ghost use Rattle.std.specs.Prelude.{◌≡◌, ◌≤◌};
 
 /// A number of bytes that is at least 1.
 #[derive(Clone, Copy, Drop)]
@@ -11,12 +11,14 @@ pub(crate) struct Piece {
 impl Piece {
     pub(crate) fn new(size: usize) -> Piece
         requires { 1 ≤ size }
+        ensures { result.size ≡ size }
     {
         Piece { size }
     }
 
     pub(crate) fn size(self) -> usize
-        ensures { 1 ≤ result }
+        ensures some { 1 ≤ result }
+        ensures size { result ≡ self.size }
     {
         self.size
     }

@@ -1,8 +1,9 @@
 //! The standard output as a sink.
-ghost use Rattle.std.specs.Prelude.{◌≡◌, ◌+◌, ◌-◌, ◌^◌, ◌≤◌, ◌<◌, IfOk, OnErr, length, min};
+ghost use Rattle.std.specs.Prelude.{◌≡◌, ◌+◌, ◌-◌, ◌^◌, ◌≤◌, ◌<◌, ◌⊎◌, IfOk, IsErr, IsFalse, Ok, OnErr, OnOk, length, min};
 ghost use Rattle.outside.specs.Rose.{Rose};
 
 use crate::sink::{Failed, Sink};
+use std::io;
 
 /// The standard output of a runtime. It tells no content, and its count rises at each error of the system.
 #[derive(Drop)]
@@ -29,12 +30,26 @@ impl<P: Print + Drop> Sink for StdSink<P> {
 
     /// Writes to the output. An answer of 0 for a piece that is not empty is a fault.
     fn write(&mut self, piece: &[u8]) -> Result<usize, Failed> {
-        if let Ok(count) = self.out.write_some(piece)
-            && (count > 0 || piece.is_empty())
-        {
-            return Ok(count);
+        let written = self.out.write_some(piece);
+        answer_to(written, piece.is_empty(), &mut self.faults)
+    }
+}
+
+/// The answer to a piece, from what the output answered. An error is counted, and so is 0 for a piece that is not
+/// empty.
+fn answer_to(written: io::Result<usize>, is_empty: bool, faults: &mut u64) -> Result<usize, Failed>
+    ensures taken { IfOk result (λ n. written ≡ Ok n) }
+    ensures some { IsFalse is_empty → IfOk result (λ n. 0 < n) }
+    ensures fails { OnErr result (IsErr written ⊎ (IsFalse is_empty × (written ≡ Ok 0))) }
+    ensures later { faults.old ≤ faults.new }
+    ensures cause { OnErr result (Rose faults.old faults.new) }
+    ensures still { OnOk result (faults.new ≡ faults.old) }
+{
+    match written {
+        Ok(count) if count > 0 || is_empty => Ok(count),
+        _ => {
+            *faults = faults.saturating_add(1);
+            Err(Failed)
         }
-        self.faults = self.faults.saturating_add(1);
-        Err(Failed)
     }
 }

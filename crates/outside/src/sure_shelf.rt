@@ -1,8 +1,8 @@
 //! A shelf in memory that never fails.
-ghost use Rattle.std.specs.Prelude.{◌≡◌, ◌<◌, ◌≤◌, false, length, true, IsOk, IsOkAnd, OnErr, OnOk, Some};
+ghost use Rattle.std.specs.Prelude.{◌≡◌, ◌<◌, ◌≤◌, false, length, true, IfOk, IsOk, IsOkAnd, OnErr, OnOk, Some};
 ghost use Rattle.std.specs.Io.{ReadsAtMost};
 ghost use Rattle.outside.specs.Shelf.{IsBare, PutsBytes, Reads, SameElsewhere, Starts};
-ghost use Rattle.outside.specs.SureShelf.{sure_started, sure_told};
+ghost use Rattle.outside.specs.SureShelf.{sure_piece, sure_started, sure_told};
 
 use crate::files::{File, Opened, Places, bytes_at, copy_some, number_of, put};
 use crate::piece::Piece;
@@ -28,6 +28,7 @@ impl SureShelf {
         requires { 1 ≤ piece }
         ensures told { IsOkAnd result (λ s. IsBare (sure_told s)) }
         ensures started { IsOkAnd result (λ s. (p : _) → sure_started s p ≡ false) }
+        ensures piece { IsOkAnd result (λ s. sure_piece s ≡ piece) }
     {
         Ok(SureShelf {
             alloc,
@@ -43,6 +44,7 @@ impl SureShelf {
     pub fn put(&mut self, name: &str, bytes: &[u8]) -> Result<(), NoMemory>
         ensures put { OnOk result (PutsBytes (sure_told self.old) (sure_told self.new) name.now bytes.now) }
         ensures stopped { OnOk result ((p : _) → sure_started self.new p ≡ false) }
+        ensures piece { sure_piece self.new ≡ sure_piece self.old }
         ensures no_memory { OnErr result (sure_told self.new ≡ sure_told self.old) }
         ensures started { OnErr result (sure_started self.new ≡ sure_started self.old) }
     {
@@ -67,6 +69,7 @@ impl Shelf for SureShelf {
         ensures never_fails { IsOk result }
         ensures started { sure_started self.new place ≡ true }
         ensures others { SameElsewhere place (sure_started self.old) (sure_started self.new) }
+        ensures piece { sure_piece self.new ≡ sure_piece self.old }
         ensures told { Starts (Some (sure_told self.old)) (Some (sure_told self.new)) place name.now result }
     {
         let file = number_of(&self.files, name);
@@ -81,6 +84,8 @@ impl Shelf for SureShelf {
         ensures never_fails { IsOk result }
         ensures bound { ReadsAtMost result buffer.new }
         ensures started { sure_started self.new ≡ sure_started self.old }
+        ensures piece { sure_piece self.new ≡ sure_piece self.old }
+        ensures at_most { IfOk result (λ n. n ≤ sure_piece self.old) }
         ensures told { Reads (Some (sure_told self.old)) (Some (sure_told self.new)) place buffer.new result }
     {
         let Some(opened) = self.places.get(place) else {

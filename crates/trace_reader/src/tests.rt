@@ -294,7 +294,7 @@ fn texts_of_faults(rt: HostRuntime) -> Result<(), Fail> {
             TraceFault::DuplicateId { line: 3, id: 1 },
             "line 3 repeats id 1",
         ),
-        (port(2, 2), "line 2 port 2 out of range"),
+        (port(2, 9), "line 2 port 9 out of range"),
         (
             limit(2, Quantity::Mappers, 0),
             "line 2: Mappers of 0 out of range",

@@ -3,7 +3,7 @@ use Rattle.std.specs.Prelude.{string_bytes}
 use Rattle.std.proofs.lemmas.List.{length-map}
 use Rattle.outside.specs.declared.files.File.{File}
 use Rattle.outside.specs.Files.{names_of, number_of}
-use Rattle.outside.proofs.FileSteps.{set_puts, push_puts}
+use Rattle.outside.proofs.FileSteps.{push_adds, push_puts, set_adds, set_puts}
 use Rattle.outside.proofs.files.put.Goals as goal
 
 pub returns-then-number-len-clause-ok : goal.returns-then-number-len-clause-ok
@@ -20,3 +20,16 @@ returns-clause-ok c =
     let absent : length c.args.files.now.items ≤ number_of (names_of c.args.files.now.items) c.args.name.now = omega (arith, at, c.args.files.now.ok.0) in
     let items = c.in_ok-push.ensures.items in
     rw items (push_puts c.args.files.now.items c.args.missing _ c.args.name.now c.args.bytes.now absent c.in_ok-bytes.ensures.items c.in_ok-name.ensures.ok refl)
+
+pub returns-then-number-len-clause-named : goal.returns-then-number-len-clause-named
+returns-then-number-len-clause-named c =
+    let at = rw c.deref.ensures.value at c.number_of-number.ensures in
+    let inside : c.number_of-number.result < length c.args.files.now.items = omega (arith, c.args.files.now.ok.0) in
+    set_adds c.args.files.now.items c.number_of-number.result _ c.index_mut.result.now c.args.name.now at inside (ap (λ (x : File). string_bytes x.name) c.index_mut.ensures.value)
+
+pub returns-clause-named : goal.returns-clause-named
+returns-clause-named c =
+    let at = rw c.deref.ensures.value at c.number_of-number.ensures in
+    let absent : length c.args.files.now.items ≤ number_of (names_of c.args.files.now.items) c.args.name.now =
+    omega (arith, at, c.args.files.now.ok.0, length-map c.args.files.now.items (λ (x : File). string_bytes x.name)) in
+    rw c.in_ok-push.ensures.items (push_adds c.args.files.now.items _ c.args.name.now absent c.in_ok-name.ensures.ok)

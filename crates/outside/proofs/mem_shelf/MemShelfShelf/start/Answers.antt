@@ -1,8 +1,10 @@
-use Rattle.std.proofs.Common.{◌≡◌, length, refl, sym, ap, ◌∙◌}
-use Rattle.std.specs.Prelude.{Some}
+use Rattle.std.proofs.Common.{◌≡◌, List, length, refl, sym, ap, subst, ◌∙◌}
+use Rattle.std.specs.Prelude.{◌↔◌, Some}
 use Rattle.std.proofs.lemmas.List.{with_items_is}
-use Rattle.outside.specs.Files.{count_at, counts_of, memory_told}
+use Rattle.outside.specs.declared.files.File.{File}
+use Rattle.outside.specs.Files.{HasNoFile, count_at, counts_of, memory_told}
 use Rattle.outside.specs.declared.sink.Failed.{Failed}
+use Rattle.outside.proofs.FileSteps.{same_missing}
 use Rattle.outside.proofs.MemorySteps.{start_fails, start_succeeds}
 use Rattle.outside.proofs.mem_shelf.MemShelfShelf.start.Goals as goal
 
@@ -14,7 +16,8 @@ returns-then-failing-clause-told c =
     let before = count_at (counts_of shelf.files.items) shelf.counts.missing in
     let missing = c.raise.new.counts.missing in
     let after = count_at (counts_of c.raise.new.files) missing in
-    let told = start_fails {X = Unit {0}} {E = Failed} shelf.files.items c.raise.new.files before after shelf.places c.args.place c.args.name.now c.number_of-file.result _ file r.names r.contents r.later r.rose in
+    let told = start_fails {X = Unit {0}} {E = Failed} shelf.files.items c.raise.new.files before after shelf.places c.args.place c.args.name.now c.number_of-file.result _ file
+    r.names r.contents r.later r.rose in
     let long = rw c.deref_mut.ensures.value at c.raise.auto.files in
     let many : length c.raise.new.files ≡ shelf.files.len = long ∙ sym shelf.files.ok.0 in
     let same = with_items_is shelf.files c.raise.new.files many in
@@ -27,3 +30,12 @@ returns-clause-told c =
     let count = count_at (counts_of shelf.files.items) shelf.counts.missing in
     let told = start_succeeds {X = Unit {0}} {E = Failed} shelf.files.items count shelf.places c.args.place c.args.name.now c.number_of-file.result tt file in
     (memory_told shelf.files.items count c.set-2.new.self, refl, rw c.set-2.ensures told)
+
+pub returns-then-failing-clause-names : goal.returns-then-failing-clause-names
+returns-then-failing-clause-names c = λ name.
+    let shelf = c.args.self.now in
+    let r = rw c.deref_mut.ensures.value at c.raise.ensures in
+    let long = rw c.deref_mut.ensures.value at c.raise.auto.files in
+    let same = with_items_is shelf.files c.raise.new.files (long ∙ sym shelf.files.ok.0) in
+    subst (λ (items : List File). HasNoFile items name ↔ HasNoFile shelf.files.items name) (sym same)
+    (same_missing shelf.files.items c.raise.new.files r.names long name)
