@@ -5,11 +5,15 @@ pub mod PlanSteps
 pub mod PlanLaw
 pub mod PlanFacts
 pub mod NoPriceFacts
+pub mod ShelfFacts
+pub mod TraceFacts
+pub mod WeightsFacts
 pub mod InputFacts
 pub mod WordFacts
 pub mod OutcomeFacts
 pub mod CheckFacts
 pub mod WrittenFacts
+pub mod CompleteFacts
 pub mod MadeInput
 pub mod PlannedRuns
 pub mod PlannedPlaces

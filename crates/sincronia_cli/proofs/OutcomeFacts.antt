@@ -7,18 +7,19 @@ use Rattle.command_words.specs.Commands.{IsSecond, row_of}
 use Rattle.command_words.specs.Line.{Text}
 use Rattle.command_words.specs.Words.{IsWords, Said}
 use Rattle.command_words.proofs.OneMeaning.{words_one}
-use Rattle.outside.specs.Shelf.{Told, bytes_of}
+use Rattle.outside.specs.Shelf.{Told}
 use Rattle.sincronia_cli.specs.declared.status.Status.{Status}
 use Rattle.sincronia_cli.specs.declared.status.Status.TheVariants as status
-use Rattle.sincronia_cli.specs.Causes.{CauseBy, HasCauseOf, HasFilesCause, HasReportFault, IsGiven}
+use Rattle.sincronia_cli.specs.Causes.{CauseBy, FilesReportFault, HasCauseOf, HasFilesCause, IsGiven}
 use Rattle.sincronia_cli.specs.Command.{IsCommand}
-use Rattle.sincronia_cli.specs.Inputs.{bytes_if}
 use Rattle.sincronia_cli.specs.Outcome.{IsOutcome, OutcomeBy}
 
 -- what is done for the words is what is done for all that they say
-pub outcome_by : (words : List Text) (by said : Said) (command : Command) (told : Option Told) (status : Status) (text : List ℕ) → IsWords words by → IsCommand command words said → IsOutcome told by status text → OutcomeBy command told said status text
+pub outcome_by : (words : List Text) (by said : Said) (command : Command) (told : Option Told) (status : Status) (text : List ℕ) → IsWords words by → IsCommand command words said →
+    IsOutcome told by status text → OutcomeBy command told said status text
 outcome_by words by said command told status text reads is outcome =
-    subst (λ (k : Command). OutcomeBy k told said status text) is.command_is (subst (λ (s : Said). IsOutcome told s status text) (words_one words by said reads is.words_say) outcome)
+    subst (λ (k : Command). OutcomeBy k told said status text) is.command_is
+    (subst (λ (s : Said). IsOutcome told s status text) (words_one words by said reads is.words_say) outcome)
 
 -- ---- the command of a report that is bad
 
@@ -29,13 +30,15 @@ reports_are_checked Plan None fits given = absurd given
 reports_are_checked Make (Some name) fits given = absurd fits
 reports_are_checked Make None fits given = absurd given
 
-of_files : (k : Command) (before now : ℕ) (old new : Option Told) (said : Said) (line : ℕ) → CauseBy k before now old new said (status.BadReport line) → HasFilesCause before now old new said (status.BadReport line)
+of_files : (k : Command) (before now : ℕ) (old new : Option Told) (said : Said) (line : ℕ) → CauseBy k before now old new said (status.BadReport line) →
+    HasFilesCause before now old new said (status.BadReport line)
 of_files Plan before now old new said line h = h
 of_files Check before now old new said line h = h
 of_files Make before now old new said line h = absurd h
 
-pub bad_report_checked : (words : List Text) (said : Said) (before now : ℕ) (old new : Option Told) (line : ℕ) (s : Status) → IsWords words said → HasCauseOf before now old new said s → s ≡ status.BadReport line →
-    IsCommand Check words said × IfSome old (λ t. HasReportFault (bytes_of t said.first) (bytes_if t said.weights) said.unit (bytes_if t said.second) line)
+pub bad_report_checked : (words : List Text) (said : Said) (before now : ℕ) (old new : Option Told) (line : ℕ) (s : Status) → IsWords words said →
+    HasCauseOf before now old new said s → s ≡ status.BadReport line →
+    IsCommand Check words said × IfSome old (FilesReportFault said line)
 bad_report_checked words said before now old new line s reads cause is =
     let (given, fault) = of_files said.command before now old new said line (subst (λ (x : Status). HasCauseOf before now old new said x) is cause) in
     (record { words_say = reads; command_is = reports_are_checked said.command said.second reads.says.second_fits given }, fault)

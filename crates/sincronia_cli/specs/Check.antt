@@ -1,9 +1,10 @@
 -- What `check` reads and writes.
-use Rattle.std.specs.Prelude.{◌≡◌, ℕ, ◌≤◌, ◌^◌, List, Option, Some, None, IfSome, length}
+use Rattle.std.specs.Prelude.{◌≡◌, ℕ, ◌≤◌, List, Option, Some, None, IfSome, length}
 use Rattle.command_words.specs.Words.{Said}
 use Rattle.cert_check.specs.declared.verdict.Verdict.{Verdict}
 use Rattle.cert_check.specs.declared.verdict.Verdict.TheVariants.{No, Yes}
 use Rattle.cert_check.specs.Reasons.{IsVerdict}
+use Rattle.cert_check.specs.Sound.{IsSound}
 use Rattle.flow_table.specs.Table.{TableFacts, instance_of}
 use Rattle.outside.specs.Shelf.{Told, bytes_of}
 use Rattle.report.specs.declared.value.Report.{Report}
@@ -12,6 +13,7 @@ use Rattle.report.specs.Report.{HasSmallNumbers, IsReport}
 use Rattle.sincronia_cli.specs.declared.status.Status.{Status}
 use Rattle.sincronia_cli.specs.declared.status.Status.TheVariants as status
 use Rattle.sincronia_cli.specs.Inputs.{IsInput}
+use Rattle.sincronia_cli.specs.Limits.{most_report}
 use Rattle.sincronia_cli.specs.Plan.{Appends, BoundsEverySchedule}
 use Rattle.sincronia_cli.specs.VerdictLine.{verdict_text}
 
@@ -19,7 +21,7 @@ use Rattle.sincronia_cli.specs.VerdictLine.{verdict_text}
 pub record IsReportOf (told : Option Told) (name : List ℕ) (report : Report) : Type 0 where
   pub fits : IsReport report
   pub small : HasSmallNumbers report
-  pub reads : IfSome told (λ t. (length (bytes_of t name) ≤ 2 ^ 30) × IsTextOf (bytes_of t name) report)
+  pub reads : IfSome told (λ t. (length (bytes_of t name) ≤ most_report) × IsTextOf (bytes_of t name) report)
 
 -- there is a name of a report, and this is the report
 abbrev pub IsReportIfNamed : Option Told → Option (List ℕ) → Report → Type 0
@@ -42,12 +44,17 @@ status_for Yes = status.Ok
 status_for (No reason) = status.No
 
 -- the line of the verdict was written
-pub record WritesVerdict (told : Option Told) (said : Said) (verdict : Verdict) (old new : Option (List ℕ)) : Type 0 where
+pub record WritesVerdict (told : Option Told) (said : Said) (verdict : Verdict) (old new : Option (List ℕ)) :
+    Type 0 where
   pub text : List ℕ
   pub checks : CheckOf told said verdict text
   pub written : Appends old new text
 
--- a yes was written, and the bound of the report is at most the cost of every valid schedule of the instance
-pub record WritesSureBound (told : Option Told) (said : Said) (old new : Option (List ℕ)) : Type 0 where
-  pub writes : WritesVerdict told said Yes old new
-  pub bounds : BoundsEverySchedule (instance_of writes.checks.table writes.checks.weights) writes.checks.report
+-- The line of a yes on the report was written. The report is right, so its cost is at most four times its bound, and
+-- its slack. And its bound is at most the cost of every valid schedule of the instance that the files give.
+pub record WritesYes (told : Option Told) (said : Said) (old new : Option (List ℕ)) : Type 0 where
+  pub text : List ℕ
+  pub checks : CheckOf told said Yes text
+  pub right : IsSound (instance_of checks.table checks.weights) checks.table.ids checks.report
+  pub bounds : BoundsEverySchedule (instance_of checks.table checks.weights) checks.report
+  pub written : Appends old new text

@@ -1,3 +1,5 @@
+pub mod Limits
+pub mod Shelves
 pub mod Inputs
 pub mod PlanReport
 pub mod Command
@@ -6,7 +8,13 @@ pub mod VerdictLine
 pub mod Check
 pub mod Make
 pub mod Outcome
+pub mod FileCauses
+pub mod TraceCauses
+pub mod WeightsCauses
+pub mod InputCauses
+pub mod ReportCauses
 pub mod Causes
+pub mod Complete
 pub mod Code
 pub mod Messages
 pub mod NoPrices

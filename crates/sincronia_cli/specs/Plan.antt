@@ -1,5 +1,5 @@
 -- What `plan` reads and writes.
-use Rattle.std.specs.Prelude.{◌≡◌, ℕ, ◌+◌, ◌*◌, ◌≤◌, ◌++◌, List, Option, Some, None, take}
+use Rattle.std.specs.Prelude.{◌≡◌, ℕ, ◌+◌, ◌*◌, ◌<◌, ◌≤◌, ◌++◌, List, Option, Some, None, length, take}
 use Rattle.command_words.specs.Words.{Said}
 use Rattle.coflow_units.specs.Completion.{cost}
 use Rattle.coflow_units.specs.Flows.{Instance}
@@ -25,31 +25,25 @@ abbrev pub Appends : Option (List ℕ) → Option (List ℕ) → List ℕ → Ty
 Appends None new text = Unit {0}
 Appends (Some old) new text = new ≡ Some (old ++ text)
 
--- the same of a beginning of the text
+-- the same of a beginning of the text, which is shorter than the text
 abbrev pub AppendsBeginning : Option (List ℕ) → Option (List ℕ) → List ℕ → Type 0
 AppendsBeginning None new text = Unit {0}
-AppendsBeginning (Some old) new text = (n : ℕ) × (new ≡ Some (old ++ take n text))
-
--- the text of the plan was written
-pub record WritesPlan (told : Option Told) (said : Said) (old new : Option (List ℕ)) : Type 0 where
-  pub text : List ℕ
-  pub plan : PlanOf told said text
-  pub written : Appends old new text
+AppendsBeginning (Some old) new text = (n : ℕ) × (n < length text) × (new ≡ Some (old ++ take n text))
 
 -- the bound is at most the cost of every valid schedule of the instance, patient or not
 abbrev pub BoundsEverySchedule : Instance → Report → Type 0
-BoundsEverySchedule i report = (slots : List (List ℕ)) → IsValid i.flows slots → report.bound ≤ cost i.flows i.weight i.coflows slots
+BoundsEverySchedule i report =
+    (slots : List (List ℕ)) → IsValid i.flows slots → report.bound ≤ cost i.flows i.weight i.coflows slots
 
 -- the cost is at most four times the bound, and the slack
 abbrev pub IsWithinFour : Report → Type 0
 IsWithinFour report = report.cost ≤ 4 * report.bound + report.slack
 
--- the text of the plan was written, and its bound is a lower bound on the cost of every valid schedule
-pub record WritesBound (told : Option Told) (said : Said) (old new : Option (List ℕ)) : Type 0 where
-  pub writes : WritesPlan told said old new
-  pub bounds : BoundsEverySchedule (instance_of writes.plan.table writes.plan.weights) writes.plan.report
-
--- the text of the plan was written, and its cost is within four times its bound and its slack
-pub record WritesWithinFour (told : Option Told) (said : Said) (old new : Option (List ℕ)) : Type 0 where
-  pub writes : WritesPlan told said old new
-  pub within : IsWithinFour writes.plan.report
+-- The text of the plan was written. The plan's bound is at most the cost of every valid schedule of the instance that
+-- the files give, and its cost is at most four times that bound, and its slack.
+pub record WritesPlan (told : Option Told) (said : Said) (old new : Option (List ℕ)) : Type 0 where
+  pub text : List ℕ
+  pub plan : PlanOf told said text
+  pub bounds : BoundsEverySchedule (instance_of plan.table plan.weights) plan.report
+  pub within : IsWithinFour plan.report
+  pub written : Appends old new text

@@ -1,14 +1,15 @@
 //! The command `check`: the verdict on a report.
-ghost use Rattle.std.specs.Prelude.{◌≡◌, ◌↔◌, ◌≤◌, ◌^◌, All, IfErr, IfOk, Some, length};
+ghost use Rattle.std.specs.Prelude.{◌≡◌, ◌↔◌, ◌≤◌, ◌^◌, All, IfErr, IfOk, OnOk, Some, length};
 ghost use Rattle.cert_check.specs.declared.verdict.Verdict.{Verdict};
 ghost use Rattle.cert_check.specs.Reasons.{IsVerdict, NamesCoflowIfAny};
 ghost use Rattle.cert_check.specs.Sound.{IsSound};
+ghost use Rattle.command_words.specs.declared.command.Command.{Command};
 ghost use Rattle.command_words.specs.Words.{said_by};
 ghost use Rattle.flow_table.specs.Table.{instance_of};
 ghost use Rattle.report.specs.Report.{IsReport};
 ghost use Rattle.sincronia_cli.specs.Causes.{HasFilesCause};
 ghost use Rattle.sincronia_cli.specs.Check.{CheckOf, status_for};
-ghost use Rattle.sincronia_cli.specs.Inputs.{KeepsFiles};
+ghost use Rattle.sincronia_cli.specs.Shelves.{KeepsFiles, OfBoth, ReadsOut};
 ghost use Rattle.sincronia_cli.specs.VerdictLine.{verdict_text};
 
 use crate::inputs::{Input, read_input, read_report_file};
@@ -23,7 +24,8 @@ use outside::Shelf;
 use report::Report;
 use std::alloc::Global;
 
-/// The line of the verdict on the report of that name, for the coflows of the trace that the words name, or the status of why there is none.
+/// The line of the verdict on the report of that name, for the coflows of the trace that the words name, or the status
+/// of why there is none.
 pub(crate) fn check_report<'a, H: Shelf>(
     alloc: Global,
     words: Words<'a>,
@@ -33,9 +35,13 @@ pub(crate) fn check_report<'a, H: Shelf>(
     requires some { 1 ≤ words.unit }
     requires unit_limit { words.unit ≤ 2 ^ 20 }
     requires second { (said_by words).second ≡ Some name.now }
-    ensures outcome { IfOk result (λ o. (verdict : Verdict) × (o.status ≡ status_for verdict) × CheckOf (H.told shelf.old) (said_by words.entry) verdict o.text.items) }
+    ensures outcome { IfOk result (λ o. (verdict : Verdict) × (o.status ≡ status_for verdict) ×
+        CheckOf (H.told shelf.old) (said_by words.entry) verdict o.text.items) }
+    ensures read_out { OnOk result (OfBoth (H.told shelf.old) (H.told shelf.new)
+        (ReadsOut Command.Check (said_by words.entry))) }
     ensures keeps { KeepsFiles (H.told shelf.old) (H.told shelf.new) }
-    ensures cause { IfErr result (λ status. HasFilesCause (H.faults shelf.old) (H.faults shelf.new) (H.told shelf.old) (H.told shelf.new) (said_by words.entry) status) }
+    ensures cause { IfErr result (λ status. HasFilesCause (H.faults shelf.old) (H.faults shelf.new) (H.told shelf.old)
+        (H.told shelf.new) (said_by words.entry) status) }
 {
     let input = read_input(alloc, words.first, words.weights, words.unit, shelf)?;
     let report = read_report_file(alloc, name, shelf)?;
@@ -48,7 +54,8 @@ fn outcome_of(alloc: Global, input: &Input, report: &Report) -> Result<Outcome, 
     requires count { length input.now.weights ≡ length input.now.table.ids }
     requires weights { All (λ w. w ≤ 2 ^ 32) input.now.weights }
     requires report { IsReport report.now }
-    ensures { IfOk result (λ o. (verdict : Verdict) × (o.status ≡ status_for verdict) × IsVerdict (instance_of input.now.table input.now.weights) input.now.table.ids report.now verdict ×
+    ensures { IfOk result (λ o. (verdict : Verdict) × (o.status ≡ status_for verdict) ×
+        IsVerdict (instance_of input.now.table input.now.weights) input.now.table.ids report.now verdict ×
         (o.text.items ≡ verdict_text input.now.table.ids report.now verdict)) }
 {
     let verdict = verdict_of(alloc, input, report)?;
@@ -64,8 +71,10 @@ pub(crate) fn verdict_of(alloc: Global, input: &Input, report: &Report) -> Resul
     requires count { length input.now.weights ≡ length input.now.table.ids }
     requires weights { All (λ w. w ≤ 2 ^ 32) input.now.weights }
     requires report { IsReport report.now }
-    ensures verdict { IfOk result (IsVerdict (instance_of input.now.table input.now.weights) input.now.table.ids report.now) }
-    ensures yes { IfOk result (λ verdict. (verdict ≡ Verdict.Yes) ↔ IsSound (instance_of input.now.table input.now.weights) input.now.table.ids report.now) }
+    ensures verdict { IfOk result
+        (IsVerdict (instance_of input.now.table input.now.weights) input.now.table.ids report.now) }
+    ensures yes { IfOk result (λ verdict. (verdict ≡ Verdict.Yes) ↔
+        IsSound (instance_of input.now.table input.now.weights) input.now.table.ids report.now) }
     ensures coflow { IfOk result (NamesCoflowIfAny (length input.now.table.ids)) }
 {
     let loads = loads_of(alloc, &input.table)?;

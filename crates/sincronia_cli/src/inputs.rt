@@ -1,10 +1,17 @@
 //! The files of a command: the trace, the weights of its coflows, and a report.
-ghost use Rattle.std.specs.Prelude.{◌≡◌, ◌≤◌, ◌^◌, ℕ, IfErr, IfOk, length, option_map, replicate};
+ghost use Rattle.std.specs.Prelude.{◌≡◌, ◌≤◌, ◌^◌, ℕ, IfErr, IfOk, IfSome, OnOk, length, option_map, replicate};
 ghost use Rattle.coflow_units.specs.Trace.{IsTrace};
 ghost use Rattle.flow_table.specs.Table.{IsTable, IsTableOf};
-ghost use Rattle.sincronia_cli.specs.Causes.{HasInputCause, IsFileCause, IsReportCause, IsTraceCause, IsWeightsCause};
+ghost use Rattle.outside.specs.declared.shelf.Place4.{Place4};
+ghost use Rattle.outside.specs.Shelf.{bytes_of};
 ghost use Rattle.sincronia_cli.specs.Check.{IsReportOf};
-ghost use Rattle.sincronia_cli.specs.Inputs.{HasBytes, IsInput, IsTraceOf, IsWeightsOf, KeepsFiles};
+ghost use Rattle.sincronia_cli.specs.FileCauses.{IsFileCause};
+ghost use Rattle.sincronia_cli.specs.InputCauses.{GiveTable, HasInputCause};
+ghost use Rattle.sincronia_cli.specs.Inputs.{IsInput, IsTraceOf, IsWeightsOf, bytes_if};
+ghost use Rattle.sincronia_cli.specs.ReportCauses.{IsReportCause};
+ghost use Rattle.sincronia_cli.specs.Shelves.{AreReadOut, HasBytes, IsReadOut, IsReadOutIf, KeepsFiles, KeepsOthers, OfBoth};
+ghost use Rattle.sincronia_cli.specs.TraceCauses.{IsTraceCause};
+ghost use Rattle.sincronia_cli.specs.WeightsCauses.{IsWeightsCause};
 
 use crate::status::Status;
 use coflow_units::{Items, MAX_REPORT, MAX_TEXT, NoMemory, Quantity, Trace};
@@ -22,7 +29,8 @@ pub struct Input {
     pub weights: Items<u64>,
 }
 
-/// Reads the trace under a name, the weights under another where one is given, and makes the table of flows with `unit` megabytes to a unit, from 1 to 2^20. The error is the status that
+/// Reads the trace under a name, the weights under another where one is given, and makes the table of flows with `unit`
+/// megabytes to a unit, from 1 to 2^20. The error is the status that
 /// says why there is none.
 pub fn read_input<H: Shelf>(
     alloc: Global,
@@ -33,10 +41,17 @@ pub fn read_input<H: Shelf>(
 ) -> Result<Input, Status>
     requires some { 1 ≤ unit }
     requires unit_limit { unit ≤ 2 ^ 20 }
-    ensures input { IfOk result (λ i. IsInput (H.told shelf.old) name.now (option_map (λ s. s.now) weights_name.entry) unit i.table i.weights) }
+    ensures input { IfOk result (λ i.
+        IsInput (H.told shelf.old) name.now (option_map (λ s. s.now) weights_name.entry) unit i.table i.weights) }
+    ensures table { OnOk result (IfSome (H.told shelf.old) (λ t.
+        GiveTable (bytes_of t name.now) (bytes_if t (option_map (λ s. s.now) weights_name.entry)) unit)) }
+    ensures read_out { OnOk result (OfBoth (H.told shelf.old) (H.told shelf.new)
+        (AreReadOut name.now (option_map (λ s. s.now) weights_name.entry))) }
     ensures keeps { KeepsFiles (H.told shelf.old) (H.told shelf.new) }
     ensures later { H.faults shelf.old ≤ H.faults shelf.new }
-    ensures cause { IfErr result (λ status. HasInputCause (H.faults shelf.old) (H.faults shelf.new) (H.told shelf.old) (H.told shelf.new) name.now (option_map (λ s. s.now) weights_name.entry) unit status) }
+    ensures cause { IfErr result
+        (HasInputCause (H.faults shelf.old) (H.faults shelf.new) (H.told shelf.old) (H.told shelf.new) name.now
+        (option_map (λ s. s.now) weights_name.entry) unit) }
 {
     let trace = trace_of_file(alloc, name, shelf)?;
     let weights = weights_of_file(alloc, weights_name, &trace, shelf)?;
@@ -46,10 +61,12 @@ pub fn read_input<H: Shelf>(
 
 /// The trace of a file.
 fn trace_of_file<H: Shelf>(alloc: Global, name: &str, shelf: &mut H) -> Result<Trace, Status>
-    ensures trace { IfOk result (λ trace. IsTraceOf (H.told shelf.old) name.now trace) }
+    ensures trace { IfOk result (IsTraceOf (H.told shelf.old) name.now) }
+    ensures read_out { OnOk result (OfBoth (H.told shelf.old) (H.told shelf.new) (IsReadOut Place4.Trace name.now)) }
     ensures keeps { KeepsFiles (H.told shelf.old) (H.told shelf.new) }
     ensures later { H.faults shelf.old ≤ H.faults shelf.new }
-    ensures cause { IfErr result (λ status. IsTraceCause (H.faults shelf.old) (H.faults shelf.new) (H.told shelf.old) (H.told shelf.new) name.now status) }
+    ensures cause { IfErr result
+        (IsTraceCause (H.faults shelf.old) (H.faults shelf.new) (H.told shelf.old) (H.told shelf.new) name.now) }
 {
     let bytes = read_file(alloc, Place4::Trace, name, MAX_TEXT, shelf)?;
     let trace = read_trace(alloc, &bytes)?;
@@ -63,10 +80,16 @@ fn weights_of_file<H: Shelf>(
     trace: &Trace,
     shelf: &mut H,
 ) -> Result<Items<u64>, Status>
-    ensures weights { IfOk result (λ weights. IsWeightsOf (H.told shelf.old) (option_map (λ s. s.now) name.entry) trace.now.coflows weights) }
+    ensures weights { IfOk result
+        (IsWeightsOf (H.told shelf.old) (option_map (λ s. s.now) name.entry) trace.now.coflows) }
+    ensures read_out { OnOk result (OfBoth (H.told shelf.old) (H.told shelf.new)
+        (IsReadOutIf Place4.Weights (option_map (λ s. s.now) name.entry))) }
+    ensures others { OfBoth (H.told shelf.old) (H.told shelf.new) (KeepsOthers Place4.Weights) }
     ensures keeps { KeepsFiles (H.told shelf.old) (H.told shelf.new) }
     ensures later { H.faults shelf.old ≤ H.faults shelf.new }
-    ensures cause { IfErr result (λ status. IsWeightsCause (H.faults shelf.old) (H.faults shelf.new) (H.told shelf.old) (H.told shelf.new) (option_map (λ s. s.now) name.entry) trace.now.coflows status) }
+    ensures cause { IfErr result
+        (IsWeightsCause (H.faults shelf.old) (H.faults shelf.new) (H.told shelf.old) (H.told shelf.new)
+        (option_map (λ s. s.now) name.entry) trace.now.coflows) }
 {
     let Some(name) = name else {
         let weights = equal_weights(alloc, trace)?;
@@ -92,8 +115,11 @@ pub(crate) fn read_report_file<H: Shelf>(
     shelf: &mut H,
 ) -> Result<Report, Status>
     ensures report { IfOk result (IsReportOf (H.told shelf.old) name.now) }
+    ensures read_out { OnOk result (OfBoth (H.told shelf.old) (H.told shelf.new) (IsReadOut Place4.Report name.now)) }
+    ensures others { OfBoth (H.told shelf.old) (H.told shelf.new) (KeepsOthers Place4.Report) }
     ensures keeps { KeepsFiles (H.told shelf.old) (H.told shelf.new) }
-    ensures cause { IfErr result (λ status. IsReportCause (H.faults shelf.old) (H.faults shelf.new) (H.told shelf.old) (H.told shelf.new) name.now status) }
+    ensures cause { IfErr result
+        (IsReportCause (H.faults shelf.old) (H.faults shelf.new) (H.told shelf.old) (H.told shelf.new) name.now) }
 {
     let bytes = read_file(alloc, Place4::Report, name, MAX_REPORT, shelf)?;
     let report = read_report(alloc, &bytes)?;
@@ -111,9 +137,12 @@ fn read_file<H: Shelf>(
     requires { most ≤ 2 ^ 30 }
     ensures bytes { IfOk result (λ bytes. HasBytes (H.told shelf.old) name.now bytes.items) }
     ensures short { IfOk result (λ bytes. length bytes.items ≤ most) }
+    ensures read_out { OnOk result (OfBoth (H.told shelf.old) (H.told shelf.new) (IsReadOut place name.now)) }
+    ensures others { OfBoth (H.told shelf.old) (H.told shelf.new) (KeepsOthers place) }
     ensures keeps { KeepsFiles (H.told shelf.old) (H.told shelf.new) }
     ensures later { H.faults shelf.old ≤ H.faults shelf.new }
-    ensures cause { IfErr result (λ status. IsFileCause most (H.faults shelf.old) (H.faults shelf.new) (H.told shelf.old) (H.told shelf.new) name.now status) }
+    ensures cause { IfErr result
+        (IsFileCause most (H.faults shelf.old) (H.faults shelf.new) (H.told shelf.old) (H.told shelf.new) name.now) }
 {
     let Ok(()) = shelf.start(place, name) else {
         return Err(Status::ReadFault { count: 1 });

@@ -1,18 +1,19 @@
 //! The command `plan`: the plan of a trace, as a report.
-ghost use Rattle.std.specs.Prelude.{◌≡◌, ◌<◌, ◌≤◌, ◌^◌, ℕ, All, Contains, IfErr, IfOk, length};
+ghost use Rattle.std.specs.Prelude.{◌≡◌, ◌<◌, ◌≤◌, ◌^◌, ℕ, All, Contains, IfErr, IfOk, OnOk, length};
 ghost use Rattle.coflow_units.specs.Certificate.{bound, slack};
 ghost use Rattle.coflow_units.specs.Flows.{IsDistinct};
 ghost use Rattle.coflow_units.specs.Served.{IsServed};
 ghost use Rattle.bssi_order.specs.Order.{IsOrder, entries_of};
 ghost use Rattle.flow_table.specs.Table.{instance_of};
 ghost use Rattle.report.specs.Report.{HasSmallNumbers, HasWeights, IsReport};
+ghost use Rattle.command_words.specs.declared.command.Command.{Command};
 ghost use Rattle.command_words.specs.Words.{said_by};
 ghost use Rattle.report.specs.declared.value.Report.{Report};
 ghost use Rattle.report.specs.Text.{report_text};
 ghost use Rattle.sincronia_cli.specs.Causes.{HasFilesCause};
-ghost use Rattle.sincronia_cli.specs.Inputs.{KeepsFiles};
 ghost use Rattle.sincronia_cli.specs.Plan.{PlanOf};
 ghost use Rattle.sincronia_cli.specs.PlanReport.{IsPlanOf, coflows_of};
+ghost use Rattle.sincronia_cli.specs.Shelves.{KeepsFiles, OfBoth, ReadsOut};
 
 use crate::inputs::{Input, read_input};
 use crate::order::{coflows_in, loads_of, order_of};
@@ -37,9 +38,14 @@ pub(crate) fn plan_trace<'a, H: Shelf>(
 ) -> Result<Outcome, Status>
     requires some { 1 ≤ words.unit }
     requires unit_limit { words.unit ≤ 2 ^ 20 }
-    ensures outcome { IfOk result (λ o. (o.status ≡ Status.Ok) × PlanOf (H.told shelf.old) (said_by words.entry) o.text.items) }
+    ensures outcome { IfOk result (λ o.
+        (o.status ≡ Status.Ok) × PlanOf (H.told shelf.old) (said_by words.entry) o.text.items) }
+    ensures read_out { OnOk result (OfBoth (H.told shelf.old) (H.told shelf.new)
+        (ReadsOut Command.Plan (said_by words.entry))) }
     ensures keeps { KeepsFiles (H.told shelf.old) (H.told shelf.new) }
-    ensures cause { IfErr result (HasFilesCause (H.faults shelf.old) (H.faults shelf.new) (H.told shelf.old) (H.told shelf.new) (said_by words.entry)) }
+    ensures cause { IfErr result
+        (HasFilesCause (H.faults shelf.old) (H.faults shelf.new) (H.told shelf.old) (H.told shelf.new)
+        (said_by words.entry)) }
 {
     let input = read_input(alloc, words.first, words.weights, words.unit, shelf)?;
     let text = report_text(alloc, &input)?;
@@ -54,15 +60,19 @@ fn report_text(alloc: Global, input: &Input) -> Result<Vec<u8>, NoMemory>
     requires count { length input.now.weights ≡ length input.now.table.ids }
     requires least { All (λ w. 1 ≤ w) input.now.weights }
     requires weights { All (λ w. w ≤ 2 ^ 32) input.now.weights }
-    ensures { IfOk result (λ text. (report : Report) × IsPlanOf (instance_of input.now.table input.now.weights) input.now.table.ids report × (text.items ≡ report_text report)) }
+    ensures { IfOk result (λ text. (report : Report) ×
+        IsPlanOf (instance_of input.now.table input.now.weights) input.now.table.ids report ×
+        (text.items ≡ report_text report)) }
 {
     let report = plan(alloc, &input.table, input.weights.as_slice())?;
     let text = write_report(alloc, &report)?;
     Ok(text)
 }
 
-/// The plan of the coflows of a table: the order by bottleneck, select, scale, iterate, the schedule that serves it, the bound and slack of its certificate, and the cost.
-/// A text can have the report, so it may be written and read back. `weights` has the weight of each coflow, from 1 to 2^32. The error is want of memory.
+/// The plan of the coflows of a table: the order by bottleneck, select, scale, iterate, the schedule that serves it,
+/// the bound and slack of its certificate, and the cost.
+/// A text can have the report, so it may be written and read back. `weights` has the weight of each coflow, from 1 to
+/// 2^32. The error is want of memory.
 pub fn plan(alloc: Global, table: &Table, weights: &[u64]) -> Result<Report, NoMemory>
     requires count { length weights.now ≡ length table.now.ids }
     requires least { All (λ w. 1 ≤ w) weights.now }
@@ -119,7 +129,8 @@ fn values_of(
     requires weights { All (λ w. w ≤ 2 ^ 32) weights.now }
     requires order { IsOrder (instance_of table.now weights.now) places.now }
     ensures bound { IfOk result (λ values. values.bound ≡ bound table.now.flows (entries_of places.now)) }
-    ensures slack { IfOk result (λ values. values.slack ≡ slack table.now.flows (instance_of table.now weights.now).weight (entries_of places.now)) }
+    ensures slack { IfOk result (λ values.
+        values.slack ≡ slack table.now.flows (instance_of table.now weights.now).weight (entries_of places.now)) }
 {
     let loads = loads_of(alloc, table)?;
     let cert = Cert::of(alloc, places)?;

@@ -8,7 +8,8 @@ use report::ReportFault;
 use trace_reader::TraceFault;
 use weights::WeightsFault;
 
-/// How the job ended. The `count` of a fault of shelf or sink is the number of calls that failed, which is 1: the first one ends the job.
+/// How the job ended. The `count` of a fault of shelf or sink is the number of calls that failed, which is 1: the first
+/// one ends the job.
 #[derive(Clone, Copy, Debug, PartialEq, Eq)]
 pub enum Status {
     /// The text was written whole. The answer of `check` is yes.
@@ -64,7 +65,7 @@ impl From<NoMemory> for Status {
 }
 
 impl From<TraceFault> for Status {
-    ghost use Rattle.sincronia_cli.specs.Causes.{IsStatusOfTrace};
+    ghost use Rattle.sincronia_cli.specs.TraceCauses.{IsStatusOfTrace};
 
     ghost from_gives = { λ fault status. IsStatusOfTrace fault status };
 
@@ -82,7 +83,7 @@ impl From<TraceFault> for Status {
 }
 
 impl From<WeightsFault> for Status {
-    ghost use Rattle.sincronia_cli.specs.Causes.{IsStatusOfWeights};
+    ghost use Rattle.sincronia_cli.specs.WeightsCauses.{IsStatusOfWeights};
 
     ghost from_gives = { λ fault status. IsStatusOfWeights fault status };
 
@@ -100,7 +101,7 @@ impl From<WeightsFault> for Status {
 }
 
 impl From<TableFault> for Status {
-    ghost use Rattle.sincronia_cli.specs.Causes.{IsStatusOfTable};
+    ghost use Rattle.sincronia_cli.specs.InputCauses.{IsStatusOfTable};
 
     ghost from_gives = { λ fault status. IsStatusOfTable fault status };
 
@@ -113,7 +114,7 @@ impl From<TableFault> for Status {
 }
 
 impl From<ReportFault> for Status {
-    ghost use Rattle.sincronia_cli.specs.Causes.{IsStatusOfReport};
+    ghost use Rattle.sincronia_cli.specs.ReportCauses.{IsStatusOfReport};
 
     ghost from_gives = { λ fault status. IsStatusOfReport fault status };
 

@@ -1,0 +1,134 @@
+-- A command whose files are good ends well, where no count rose and there is memory.
+use Rattle.std.proofs.Common.{◌≡◌, ℕ, inl, inr, List, Option, Some, None, refl, sym, subst, ◌∙◌, arith}
+use Rattle.std.specs.Prelude.{◌⊎◌}
+use Rattle.command_words.specs.declared.command.Command.{Command}
+use Rattle.command_words.specs.declared.command.Command.TheVariants.{Check, Make, Plan}
+use Rattle.command_words.specs.Commands.{IsSecond, row_of}
+use Rattle.command_words.specs.Line.{Text}
+use Rattle.command_words.specs.Words.{IsWords, Said}
+use Rattle.command_words.proofs.OneMeaning.{words_one}
+use Rattle.coflow_units.specs.declared.quantity.Quantity.{Quantity}
+use Rattle.coflow_units.specs.declared.trace.CoflowLine.{CoflowLine}
+use Rattle.cert_check.specs.declared.verdict.Verdict.{Verdict}
+use Rattle.cert_check.specs.declared.verdict.Verdict.TheVariants.{No, Yes}
+use Rattle.outside.specs.Shelf.{Told}
+use Rattle.weights.specs.declared.fault.WeightsFault.{WeightsFault}
+use Rattle.sincronia_cli.specs.declared.status.Status.{Status}
+use Rattle.sincronia_cli.specs.declared.status.Status.TheVariants as status
+use Rattle.sincronia_cli.specs.Causes.{CauseBy, FilesGiveTable, HasCauseOf, HasFilesCause, HasMadeCause}
+use Rattle.sincronia_cli.specs.Check.{status_for}
+use Rattle.sincronia_cli.specs.Complete.{AreGood, EndsWell, IsReportText, IsStill}
+use Rattle.sincronia_cli.specs.InputCauses.{GiveTable, LimitCause}
+use Rattle.sincronia_cli.specs.InputCauses.LimitCause.{in_table, in_trace, in_weights}
+use Rattle.sincronia_cli.specs.Inputs.{GiveWeights, IsTraceText, bytes_if}
+use Rattle.sincronia_cli.specs.Outcome.{IsOutcome, OutcomeBy}
+use Rattle.sincronia_cli.specs.ReportCauses.{IsBadReport, ReportLimit}
+use Rattle.sincronia_cli.specs.TraceCauses.{HasTraceFault, TraceLimit}
+use Rattle.sincronia_cli.specs.WeightsCauses.{IsFaultOf, WeightsLimit}
+use Rattle.trace_reader.specs.declared.fault.TraceFault.{TraceFault}
+
+-- ---- a text that reads has no fault
+
+pub trace_is_good : (text : List ℕ) (fault : TraceFault) → IsTraceText text → HasTraceFault text fault → ⊥
+trace_is_good text fault good bad = let clash : None ≡ Some fault = sym good.passes ∙ bad.first in cc
+
+pub weights_are_good : (text : Option (List ℕ)) (coflows : List CoflowLine) (list : List ℕ) (fault : WeightsFault) → GiveWeights text coflows list → IsFaultOf text coflows fault →
+    ⊥
+weights_are_good None coflows list fault good bad = bad
+weights_are_good (Some text) coflows list fault (short, passes, is) (low, first) = let clash : None ≡ Some fault = sym passes ∙ first in cc
+
+trace_fits : (text : List ℕ) (which : Quantity) (count : ℕ) → IsTraceText text → TraceLimit text which count → ⊥
+trace_fits text which count good (inl (is, told, long)) = absurd (omega (arith, good.short, long))
+trace_fits text which count good (inr (line, bad)) = trace_is_good text _ good bad
+
+weights_fit : (text : Option (List ℕ)) (coflows : List CoflowLine) (list : List ℕ) (which : Quantity) (count : ℕ) → GiveWeights text coflows list →
+    WeightsLimit text coflows which count → ⊥
+weights_fit None coflows list which count good (inl (is, told, long)) = long
+weights_fit (Some text) coflows list which count (short, passes, is) (inl (text_is, told, long)) = absurd (omega (arith, short, long))
+weights_fit None coflows list which count good (inr (line, bad)) = bad
+weights_fit (Some text) coflows list which count good (inr (line, bad)) = weights_are_good (Some text) coflows list _ good bad
+
+pub table_fits : (trace : List ℕ) (weights : Option (List ℕ)) (unit : ℕ) (which : Quantity) (count : ℕ) → GiveTable trace weights unit → LimitCause trace weights unit which count →
+    ⊥
+table_fits trace weights unit which count good (in_trace limit) = trace_fits trace which count good.gives.trace_text limit
+table_fits trace weights unit which count good (in_weights text limit) = weights_fit weights _ good.list which count good.gives.weights_are limit
+table_fits trace weights unit which count good (in_table text ws give cause) = good.fits which count cause
+
+-- the report, where there is one, has no fault
+record HasGoodReport (report : Option (List ℕ)) : Type 0 where
+  line : (n : ℕ) → IsBadReport report n → ⊥
+  fits : (which : Quantity) (count : ℕ) → ReportLimit report which count → ⊥
+
+report_is_good : (report : Option (List ℕ)) → IsReportText report → HasGoodReport report
+report_is_good None good = absurd good
+report_is_good (Some text) (short, report, is) = record {
+  line = λ n (low, bad). bad.no_text report is;
+  fits = λ which count (text_is, told, long). absurd (omega (arith, short, long));
+}
+
+no_report : HasGoodReport None
+no_report = record { line = λ n bad. bad; fits = λ which count (is, told, long). long }
+
+-- ---- so a command does not end early
+
+files_end : (before now : ℕ) (t : Told) (new : Option Told) (said : Said) (s : Status) → HasFilesCause before now (Some t) new said s → FilesGiveTable said t →
+    HasGoodReport (bytes_if t said.second) → IsStill before now → s ≡ status.NoMemory
+files_end before now t new said (status.BadTrace fault) (form, bad) table report still = absurd (trace_is_good _ fault table.gives.trace_text bad)
+files_end before now t new said (status.BadWeights fault) (form, (text, bad)) table report still = absurd (weights_are_good _ _ table.list fault table.gives.weights_are bad)
+files_end before now t new said (status.BadReport line) (given, (gives, bad)) table report still = absurd (report.line line bad)
+files_end before now t new said (status.Limit which count) (inl limit) table report still = absurd (table_fits _ _ said.unit which count table limit)
+files_end before now t new said (status.Limit which count) (inr (gives, limit)) table report still = absurd (report.fits which count limit)
+files_end before now t new said (status.ReadFault count) (one, rose, failed) table report still = absurd (still rose)
+files_end before now t new said status.NoMemory cause table report still = refl
+files_end before now t new said status.Ok cause table report still = absurd cause
+files_end before now t new said status.No cause table report still = absurd cause
+files_end before now t new said status.Usage cause table report still = absurd cause
+files_end before now t new said (status.WriteFault count) cause table report still = absurd cause
+
+made_end : (s : Status) → HasMadeCause s → s ≡ status.NoMemory
+made_end status.NoMemory cause = refl
+made_end status.Ok cause = absurd cause
+made_end status.No cause = absurd cause
+made_end status.Usage cause = absurd cause
+made_end (status.BadTrace fault) cause = absurd cause
+made_end (status.BadWeights fault) cause = absurd cause
+made_end (status.BadReport line) cause = absurd cause
+made_end (status.Limit which count) cause = absurd cause
+made_end (status.ReadFault count) cause = absurd cause
+made_end (status.WriteFault count) cause = absurd cause
+
+by_command : (k : Command) (before now : ℕ) (old new : Option Told) (said : Said) (s : Status) → IsSecond (row_of k).takes_second said.second →
+    CauseBy k before now old new said s → AreGood k said old → IsStill before now → s ≡ status.NoMemory
+by_command Plan before now None new said s fits cause good still = absurd good
+by_command Plan before now (Some t) new said s fits cause good still =
+    files_end before now t new said s cause good (none said.second fits) still where
+      none : (second : Option Text) → IsSecond (row_of Plan).takes_second second → HasGoodReport (bytes_if t second)
+      none None fits = no_report
+      none (Some name) fits = absurd fits
+by_command Check before now None new said s fits cause good still = absurd good
+by_command Check before now (Some t) new said s fits cause (table, report) still =
+    files_end before now t new said s cause table (report_is_good (bytes_if t said.second) report) still
+by_command Make before now old new said s fits cause good still = made_end s cause
+
+pub good_files_end : (words : List Text) (by said : Said) (before now : ℕ) (old new : Option Told) (s : Status) → IsWords words by → IsWords words said →
+    HasCauseOf before now old new by s → AreGood said.command said old → IsStill before now →
+    EndsWell said.command s ⊎ (s ≡ status.NoMemory)
+good_files_end words by said before now old new s reads is cause good still =
+    inr (by_command said.command before now old new said s is.says.second_fits
+    (subst (λ (x : Said). HasCauseOf before now old new x s) (words_one words by said reads is) cause) good still)
+
+-- ---- and where its text was written it ended well
+
+verdict_ends : (verdict : Verdict) (s : Status) → s ≡ status_for verdict → (s ≡ status.Ok) ⊎ (s ≡ status.No)
+verdict_ends Yes s is = inl is
+verdict_ends (No reason) s is = inr is
+
+written_by : (k : Command) (told : Option Told) (said : Said) (s : Status) (text : List ℕ) → OutcomeBy k told said s text → EndsWell k s
+written_by Plan told said s text outcome = outcome.0
+written_by Check told said s text (verdict, is, checks) = verdict_ends verdict s is
+written_by Make told said s text outcome = outcome.0
+
+pub written_ends : (words : List Text) (by said : Said) (told : Option Told) (s : Status) (text : List ℕ) → IsWords words by → IsWords words said → IsOutcome told by s text →
+    EndsWell said.command s ⊎ (s ≡ status.NoMemory)
+written_ends words by said told s text reads is outcome =
+    inl (written_by said.command told said s text (subst (λ (x : Said). IsOutcome told x s text) (words_one words by said reads is) outcome))
