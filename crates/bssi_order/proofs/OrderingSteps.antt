@@ -6,8 +6,8 @@ use Rattle.coflow_units.specs.Flows.{Instance}
 use Rattle.coflow_units.specs.Load.{load}
 use Rattle.coflow_units.specs.Certificate.{Entry, front, budget}
 use Rattle.coflow_units.specs.Ordering.{IsPlaced, IsOrdering, spent, residual}
-use Rattle.bssi_order.proofs.BestOf.{without, without_apart}
-use Rattle.bssi_order.proofs.OrderingExists.{Made, grown, made_none}
+use Rattle.coflow_units.proofs.BestOf.{without, without_apart}
+use Rattle.coflow_units.proofs.OrderingExists.{Made, grown, made_none}
 use Rattle.coflow_units.proofs.Sums.{Apart, all_of_members, pairs_from_apart}
 
 -- the entries are placed one after another, over the coflows and the places that were there before; these coflows are left

@@ -21,8 +21,8 @@ use Rattle.port_load.specs.LoadTable.{DropsCoflow, IsSameSize, LoadTable, is_pre
 use Rattle.port_load.proofs.Grid.{below_in, in_below, range_apart}
 use Rattle.bssi_order.specs.Order.{IsOf, IsOrder, TellsFrontLoads, present_coflows}
 use Rattle.bssi_order.specs.Step.{IsChosen, IsGreatestPort, IsLeastRatio, IsReady, Pays, Stands}
-use Rattle.bssi_order.proofs.BestOf.{without, without_apart, without_in, without_keeps, without_out}
-use Rattle.bssi_order.proofs.OrderingLaws.{spent_more}
+use Rattle.coflow_units.proofs.BestOf.{without, without_apart, without_in, without_keeps, without_out}
+use Rattle.coflow_units.proofs.OrderingLaws.{spent_more}
 use Rattle.bssi_order.proofs.OrderingSteps.{IsPlacedSoFar, after, made_of, ordering_made, place_more}
 use Rattle.bssi_order.proofs.TableSteps.{present_below}
 

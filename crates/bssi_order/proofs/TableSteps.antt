@@ -11,7 +11,7 @@ use Rattle.coflow_units.specs.declared.fabric.Port.{Port}
 use Rattle.coflow_units.specs.declared.fabric.Side.{Side}
 use Rattle.coflow_units.proofs.Numbers.{floor_within}
 use Rattle.coflow_units.proofs.Sums.{in_first, in_tail, member_within_sum}
-use Rattle.bssi_order.proofs.OrderingLaws.{within_ratio}
+use Rattle.coflow_units.proofs.OrderingLaws.{within_ratio}
 use Rattle.port_load.specs.LoadTable.{IsSameSize, LoadTable, is_present, load_at, total_at}
 use Rattle.port_load.proofs.Grid.{below_in, in_below}
 use Rattle.bssi_order.specs.Step.{IsGreatestWaiting, IsLeastRatio}

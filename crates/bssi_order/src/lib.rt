@@ -2,7 +2,6 @@
 #![tactic(auto)]
 
 mod bssi;
-pub mod laws;
 mod step;
 
 pub use bssi::Bssi;

@@ -3,14 +3,16 @@ ghost use Rattle.std.specs.Prelude.{◌≡◌, ◌≢◌, ℕ, ◌+◌, ◌<◌,
 ghost use Rattle.std.specs.List.Sorted.{IsStrictlyIncreasing};
 ghost use Rattle.coflow_units.specs.declared.fabric.Flow.{Flow};
 ghost use Rattle.coflow_units.specs.Flows.{Instance, IsInstance, coflow_of, units_of, with_units};
+ghost use Rattle.coflow_units.specs.Certificate.{Entry, IsBelowLoads, IsFeasible, TakesGreatestPorts, rest};
+ghost use Rattle.coflow_units.specs.Ordering.{IsOrdering};
 ghost use Rattle.coflow_units.specs.Schedule.{IsClear, IsRuns, IsValid};
 ghost use Rattle.coflow_units.specs.Patient.{IsPatient};
 ghost use Rattle.coflow_units.specs.PortWord.{FitsWord, word_of};
 ghost use Rattle.coflow_units.specs.PortWord.PortStage.{drawn, granted, reported, taken_back, unposted};
 ghost use Rattle.coflow_units.specs.Grants.{IsGrants, IsRunLength};
-ghost use Rattle.coflow_units.specs.Rows.{AllTies, EqualWeights, OneEmpty, Realistic, UnequalWeights};
+ghost use Rattle.coflow_units.specs.Rows.{AllTies, EqualWeights, OneEmpty, Realistic, UnequalWeights, all_ties, all_ties_places, equal_weights, equal_weights_places, one_empty, one_empty_places, realistic, realistic_places, unequal_weights, unequal_weights_places};
 ghost use Rattle.coflow_units.specs.Served.{IsServed, IsServedSoFar, left_after};
-ghost use Rattle.coflow_units.specs.SmallCases.{TwoFlowsHold, TwoFlowsRefuse};
+ghost use Rattle.coflow_units.specs.SmallCases.{TwoFlowsHold, TwoFlowsRefuse, at_a_later_port, too_dear};
 
 /// For a line and the units left, at most one set of flows is the grants of a slot.
 pub fn grants_are_one()
@@ -109,4 +111,33 @@ pub fn port_words_tell()
     ensures taken_back { (slot flow : ℕ) → word_of taken_back slot flow ≡ 0 }
     ensures posted { word_of granted 1 0 ≡ 2305843009214742528 }
     ensures taken { (agent : ℕ) → word_of (drawn agent) 1 0 ≡ 4611686018428436480 }
+{}
+
+/// An instance has at most one ordering certificate: the rules leave no tie open.
+pub fn ordering_is_one()
+    ensures { (i : Instance) (a b : List Entry) → IsOrdering i a → IsOrdering i b → a ≡ b }
+{}
+
+/// Each instance has an ordering certificate, also one without coflows or without flows.
+pub fn ordering_exists()
+    ensures { (i : Instance) → IsInstance i → (entries : List Entry) × IsOrdering i entries }
+{}
+
+/// The ordering certificate is feasible; each of its ports has the greatest load of its front; and where that load is not 0, what the placed coflow keeps is below its own load there.
+pub fn ordering_is_feasible()
+    ensures feasible { (i : Instance) (entries : List Entry) → IsOrdering i entries → IsFeasible i.flows i.weight entries }
+    ensures greatest { (i : Instance) (entries : List Entry) → IsOrdering i entries → TakesGreatestPorts i.flows i.ports entries }
+    ensures below { (i : Instance) (entries : List Entry) → IsOrdering i entries → IsBelowLoads i.flows (rest i.flows i.weight entries) entries }
+{}
+
+/// The orders that were worked out by hand are the ordering certificates of their instances. One with another coflow at the last place is none, nor is one with y rounded up, nor one with a later port of as much load.
+pub fn rows_are_ordered()
+    ensures equal_weights { IsOrdering equal_weights equal_weights_places }
+    ensures unequal_weights { IsOrdering unequal_weights unequal_weights_places }
+    ensures one_empty { IsOrdering one_empty one_empty_places }
+    ensures all_ties { IsOrdering all_ties all_ties_places }
+    ensures realistic { IsOrdering realistic realistic_places }
+    ensures other_coflow { IsOrdering equal_weights unequal_weights_places → ⊥ }
+    ensures rounded_up { IsOrdering equal_weights too_dear → ⊥ }
+    ensures later_port { IsOrdering all_ties at_a_later_port → ⊥ }
 {}

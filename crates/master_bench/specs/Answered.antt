@@ -1,10 +1,11 @@
 -- What the last opening of a run was answered.
 use Rattle.std.specs.Prelude.{◌≡◌, ◌-◌, ◌^◌, List}
-use Rattle.master_core.specs.declared.command.Command.TheVariants.{Open}
-use Rattle.master_core.specs.declared.command.Entry.{Entry}
-use Rattle.master_core.specs.declared.command.Reply.{Reply}
-use Rattle.master_core.specs.Answer.{reply_of}
-use Rattle.master_core.specs.Journal.{MasterFacts, journal_after}
+use Rattle.journal.specs.declared.command.Command.TheVariants.{Open}
+use Rattle.journal.specs.declared.command.Entry.{Entry}
+use Rattle.journal.specs.declared.command.Reply.{Reply}
+use Rattle.journal.specs.Answer.{reply_of}
+use Rattle.journal.specs.Journal.{journal_after}
+use Rattle.master_core.specs.Master.{MasterFacts}
 
 -- the last command that the master was asked opens a run of any length, and this is its reply
 abbrev pub IsLastAnswer : MasterFacts → Reply → Type 0

@@ -12,7 +12,7 @@ use Rattle.std.proofs.lemmas.Map.Steps.{length-le_from_distinct_below}
 use Rattle.coflow_units.specs.Flows.{IsDistinct}
 use Rattle.coflow_units.proofs.Lists.{any_where}
 use Rattle.coflow_units.proofs.Sums.{any_in}
-use Rattle.master_core.specs.State.{has}
+use Rattle.journal.specs.State.{has}
 use Rattle.master_core.specs.Attendance.{IsAttendance}
 use Rattle.master_core.proofs.Bools.{or_false}
 

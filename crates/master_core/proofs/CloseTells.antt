@@ -6,10 +6,10 @@ use Rattle.std.proofs.Math.ListN.{get_or-eq_default}
 use Rattle.coflow_units.specs.declared.fabric.Flow.{Flow}
 use Rattle.coflow_units.specs.Flows.{ingress_of}
 use Rattle.flow_table.specs.Table.{IsTable, TableFacts}
-use Rattle.master_core.specs.declared.command.Reply.TheVariants.{Closed, NoneOpen}
-use Rattle.master_core.specs.State.{has, Run}
-use Rattle.master_core.specs.Runs.{credit, note_in}
-use Rattle.master_core.specs.Answer.{on_run}
+use Rattle.journal.specs.declared.command.Reply.TheVariants.{Closed, NoneOpen}
+use Rattle.journal.specs.State.{has, Run}
+use Rattle.journal.specs.Runs.{credit, note_in}
+use Rattle.journal.specs.Answer.{on_run}
 use Rattle.master_core.specs.OpenRun.{FitsOpen, FitsRun, KeptRun, kept_credit, note_at}
 use Rattle.master_core.specs.Standing.{TellsOpen, TellsRun}
 

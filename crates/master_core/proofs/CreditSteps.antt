@@ -9,7 +9,7 @@ use Rattle.std.proofs.lemmas.List.Kept.{AllPairs-from_increasing}
 use Rattle.coflow_units.specs.declared.fabric.Flow.{Flow}
 use Rattle.coflow_units.specs.Flows.{ingress_of}
 use Rattle.coflow_units.proofs.Sums.{any_not}
-use Rattle.master_core.specs.State.{has}
+use Rattle.journal.specs.State.{has}
 use Rattle.master_core.specs.OpenRun.{credit_of, note_at}
 use Rattle.master_core.proofs.Bools.{or_false}
 

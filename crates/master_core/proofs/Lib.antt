@@ -1,4 +1,3 @@
-pub mod Instances
 pub mod Bools
 pub mod Members
 pub mod AttendanceSteps
@@ -16,13 +15,4 @@ pub mod OpenTells
 pub mod PublishTells
 pub mod OwingTells
 pub mod TellSteps
-pub mod Growth
-pub mod Legal
-pub mod Versions
-pub mod Sound
-pub mod Present
-pub mod Replies
-pub mod Opened
 pub mod RunSteps
-pub mod RowChecks
-pub mod LastWeight

@@ -3,7 +3,7 @@ use Rattle.std.proofs.Common.{◌≡◌, ◌≢◌, ℕ, true, List, [], ◌∷�
 use Rattle.std.specs.Prelude.{◌==◌, ◌||◌}
 use Rattle.std.proofs.lemmas.Bool.{eq-eqb, ne_eqb}
 use Rattle.std.proofs.lemmas.List.Folds.{list_any-append}
-use Rattle.master_core.specs.State.{has}
+use Rattle.journal.specs.State.{has}
 use Rattle.master_core.proofs.Bools.{or_false, or_true}
 
 pub has_push : (xs : List ℕ) (c x : ℕ) → has (xs ++ c ∷ []) x ≡ (has xs x || (c == x))

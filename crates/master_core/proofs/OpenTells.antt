@@ -6,20 +6,20 @@ use Rattle.coflow_units.specs.declared.fabric.Flow.{Flow}
 use Rattle.coflow_units.specs.Grants.{IsGrants}
 use Rattle.coflow_units.proofs.Sums.{all_of_members, any_in, in_first, in_tail}
 use Rattle.greedy_rates.specs.Room.{TellsIngresses}
-use Rattle.master_core.specs.declared.opening.Opening.{Opening}
+use Rattle.journal.specs.declared.opening.Opening.{Opening}
 use Rattle.master_core.specs.declared.standing.Standing.{Standing}
-use Rattle.master_core.specs.State.{has, owed, slot_end, State}
+use Rattle.journal.specs.State.{has, owed, slot_end, State}
 use Rattle.master_core.specs.Attendance.{marked}
-use Rattle.master_core.specs.Line.{line, newest}
+use Rattle.journal.specs.Line.{line, newest}
 use Rattle.master_core.specs.Published.{ranked}
 use Rattle.master_core.specs.Waiting.{waits}
-use Rattle.master_core.specs.Runs.{granted, least_of, slots_for}
+use Rattle.journal.specs.Runs.{granted, least_of, slots_for}
 use Rattle.master_core.specs.OpenRun.{FitsRun, IsBegun, KeptRun}
 use Rattle.master_core.specs.Standing.{IsNoneOwing, TellsCoflows, TellsOpen, TellsOrders, is_owing}
 use Rattle.master_core.proofs.Bools.{both}
-use Rattle.master_core.proofs.Instances.{only_grants}
+use Rattle.journal.proofs.Instances.{only_grants}
 use Rattle.master_core.proofs.LineSteps.{rank_zero}
-use Rattle.master_core.proofs.Sound.{least_below, least_each}
+use Rattle.journal.proofs.Sound.{least_below, least_each}
 
 -- ---- the first flow that owes
 

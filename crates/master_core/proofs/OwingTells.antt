@@ -4,19 +4,19 @@ use Rattle.std.specs.Prelude.{◌==◌, ◌&&◌, if◌then◌else◌, nat_le, n
 use Rattle.std.proofs.lemmas.Bool.{lt-ltb, ne_eqb}
 use Rattle.coflow_units.specs.declared.fabric.Flow.{Flow}
 use Rattle.coflow_units.specs.Flows.{coflow_of}
-use Rattle.master_core.specs.declared.command.Reply.{Reply}
-use Rattle.master_core.specs.declared.command.Reply.TheVariants.{Late, NothingLeft, Opened, Skipped, StillOpen, StillOwed}
-use Rattle.master_core.specs.declared.opening.Opening.{Opening}
+use Rattle.journal.specs.declared.command.Reply.{Reply}
+use Rattle.journal.specs.declared.command.Reply.TheVariants.{Late, NothingLeft, Opened, Skipped, StillOpen, StillOwed}
+use Rattle.journal.specs.declared.opening.Opening.{Opening}
 use Rattle.master_core.specs.declared.standing.Standing.{Standing}
-use Rattle.master_core.specs.State.{has, owed, Run, slot_end, State}
+use Rattle.journal.specs.State.{has, owed, Run, slot_end, State}
 use Rattle.master_core.specs.Attendance.{marked}
-use Rattle.master_core.specs.Line.{line, owing}
-use Rattle.master_core.specs.Runs.{granted, slots_for}
-use Rattle.master_core.specs.Answer.{on_run, opened, skipped}
+use Rattle.journal.specs.Line.{line, owing}
+use Rattle.journal.specs.Runs.{granted, slots_for}
+use Rattle.journal.specs.Answer.{on_run, opened, skipped}
 use Rattle.master_core.specs.OpenRun.{KeptRun}
 use Rattle.master_core.specs.Standing.{IsFit, IsNoneOwing, Tells, TellsRun, is_owing}
 use Rattle.master_core.proofs.OwingSteps.{filter_first, filter_none}
-use Rattle.master_core.proofs.Present.{line_members}
+use Rattle.journal.proofs.Present.{line_members}
 
 -- ---- the open run
 

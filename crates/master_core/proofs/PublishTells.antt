@@ -16,16 +16,16 @@ use Rattle.coflow_units.proofs.Sums.{any_in}
 use Rattle.flow_table.specs.Table.{IsTable, TableFacts}
 use Rattle.grant_ledger.specs.Accounts.{IsBalanced}
 use Rattle.bssi_order.specs.Order.{IsOrder, entries_of}
-use Rattle.master_core.specs.declared.opening.Opening.{Opening}
+use Rattle.journal.specs.declared.opening.Opening.{Opening}
 use Rattle.master_core.specs.declared.standing.Standing.{Standing}
-use Rattle.master_core.specs.Chosen.{the_order}
-use Rattle.master_core.specs.State.{has, is_present, owed, present, State, what_is_left}
+use Rattle.journal.specs.Chosen.{the_order}
+use Rattle.journal.specs.State.{has, is_present, owed, present, State, what_is_left}
 use Rattle.master_core.specs.Attendance.{marked}
-use Rattle.master_core.specs.Line.{newest_in}
+use Rattle.journal.specs.Line.{newest_in}
 use Rattle.master_core.specs.Published.{IsLeft, Published, TellsPlaces, last_of, ranked}
 use Rattle.master_core.specs.Standing.{IsFit, Tells, TellsOrders}
-use Rattle.master_core.proofs.Growth.{made_at}
-use Rattle.master_core.proofs.Instances.{left_is_instance, only_ordering}
+use Rattle.journal.proofs.Growth.{made_at}
+use Rattle.journal.proofs.Instances.{left_is_instance, only_ordering}
 use Rattle.master_core.proofs.OpenTells.{filter_same}
 use Rattle.master_core.proofs.PlaceSteps.{order_of_places, place_is_of}
 

@@ -8,8 +8,8 @@ use Rattle.coflow_units.specs.Flows.{IsDistinct}
 use Rattle.coflow_units.specs.Grants.{place_in}
 use Rattle.coflow_units.proofs.LinePlaces.{at_place, place_of_member}
 use Rattle.coflow_units.proofs.Sums.{any_has, any_in}
-use Rattle.master_core.specs.State.{has}
-use Rattle.master_core.specs.Line.{rank_in}
+use Rattle.journal.specs.State.{has}
+use Rattle.journal.specs.Line.{rank_in}
 use Rattle.master_core.specs.Published.{ranked}
 
 -- the first n coflows have their numbers, and all others 0

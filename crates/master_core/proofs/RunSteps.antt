@@ -6,10 +6,10 @@ use Rattle.coflow_units.specs.Grants.{IsRunLength}
 use Rattle.coflow_units.proofs.RunLengths.{one_run_length}
 use Rattle.coflow_units.proofs.Sums.{nothing_in}
 use Rattle.greedy_rates.specs.Room.{IsLeastLeft}
-use Rattle.master_core.specs.Runs.{least_of}
+use Rattle.journal.specs.Runs.{least_of}
 use Rattle.master_core.specs.OpenRun.{note_at}
-use Rattle.master_core.proofs.Opened.{least_longest}
-use Rattle.master_core.proofs.Sound.{least_below, least_each}
+use Rattle.journal.proofs.Opened.{least_longest}
+use Rattle.journal.proofs.Sound.{least_below, least_each}
 
 longest_is : (left : ℕ → ℕ) (granted : List ℕ) (most : ℕ) → IsRunLength left granted most (least_of left granted most)
 longest_is left granted most = record { asked = least_below left granted most; owed = λ f in'. least_each left granted most f in'; longest = least_longest left granted most }

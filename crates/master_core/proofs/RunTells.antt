@@ -8,12 +8,12 @@ use Rattle.coflow_units.specs.declared.fabric.Flow.{Flow}
 use Rattle.coflow_units.specs.Flows.{ingress_of}
 use Rattle.coflow_units.proofs.Sums.{first_or_tail, in_first, in_tail, nothing_in}
 use Rattle.greedy_rates.specs.Room.{TellsIngresses, flow_at_ingress}
-use Rattle.master_core.specs.declared.command.Reply.{Reply}
-use Rattle.master_core.specs.declared.command.Reply.TheVariants.{NotGranted, Noted}
-use Rattle.master_core.specs.State.{Run}
-use Rattle.master_core.specs.Runs.{flow_at, grant_in, note_in, noted_at}
-use Rattle.master_core.specs.Fold.{noted_in}
-use Rattle.master_core.specs.Answer.{noted, on_run}
+use Rattle.journal.specs.declared.command.Reply.{Reply}
+use Rattle.journal.specs.declared.command.Reply.TheVariants.{NotGranted, Noted}
+use Rattle.journal.specs.State.{Run}
+use Rattle.journal.specs.Runs.{flow_at, grant_in, note_in, noted_at}
+use Rattle.journal.specs.Fold.{noted_in}
+use Rattle.journal.specs.Answer.{noted, on_run}
 use Rattle.master_core.specs.OpenRun.{FitsOpen, KeptRun, flow_kept, kept_note, note_at, note_of, number_noted, with_note}
 use Rattle.master_core.specs.Standing.{TellsOpen, TellsRun}
 

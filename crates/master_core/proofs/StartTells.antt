@@ -7,12 +7,12 @@ use Rattle.coflow_units.specs.declared.plan.Place.{Place}
 use Rattle.coflow_units.specs.Flows.{units_of}
 use Rattle.coflow_units.proofs.Sums.{nothing_in}
 use Rattle.greedy_rates.specs.Owed.{IsOwed}
-use Rattle.master_core.specs.declared.opening.Opening.{Opening}
+use Rattle.journal.specs.declared.opening.Opening.{Opening}
 use Rattle.master_core.specs.declared.standing.Standing.{Standing}
 use Rattle.master_core.specs.Attendance.{marked}
 use Rattle.master_core.specs.Published.{ranked}
-use Rattle.master_core.specs.Fold.{start}
-use Rattle.master_core.specs.State.{IsOpening}
+use Rattle.journal.specs.Fold.{start}
+use Rattle.journal.specs.State.{IsOpening}
 use Rattle.master_core.specs.OpenRun.{FitsOpen}
 use Rattle.master_core.specs.Standing.{IsFit, Tells, TellsRun}
 

@@ -3,21 +3,21 @@ use Rattle.std.proofs.Common.{◌≡◌, ℕ, ◌<◌, ◌≤◌, Bool, true, fa
 use Rattle.std.specs.Prelude.{◌&&◌, ◌^◌, if◌then◌else◌, nat_le, nat_lt}
 use Rattle.std.proofs.lemmas.Bool.{and_from, le-leb, lt-leb, lt-ltb}
 use Rattle.std.proofs.lemmas.List.Elements.{All-push}
-use Rattle.master_core.specs.declared.command.Command.{Command}
-use Rattle.master_core.specs.declared.command.Command.TheVariants.{Register, Withdraw, Publish, Pull, Open, Short, Close, Skip, Reweigh}
-use Rattle.master_core.specs.declared.command.Entry.{Entry}
-use Rattle.master_core.specs.declared.command.Reply.{Reply}
-use Rattle.master_core.specs.declared.command.Reply.TheVariants.{Full}
-use Rattle.master_core.specs.declared.opening.Opening.{Opening}
+use Rattle.journal.specs.declared.command.Command.{Command}
+use Rattle.journal.specs.declared.command.Command.TheVariants.{Register, Withdraw, Publish, Pull, Open, Short, Close, Skip, Reweigh}
+use Rattle.journal.specs.declared.command.Entry.{Entry}
+use Rattle.journal.specs.declared.command.Reply.{Reply}
+use Rattle.journal.specs.declared.command.Reply.TheVariants.{Full}
+use Rattle.journal.specs.declared.opening.Opening.{Opening}
 use Rattle.master_core.specs.declared.standing.Standing.{Standing}
-use Rattle.master_core.specs.Fold.{after, state_of}
-use Rattle.master_core.specs.Answer.{IsInRange, answer, in_range, reply_of, room}
-use Rattle.master_core.specs.Journal.{IsLegal, entry, is_full, is_version, journal_after, version_of}
+use Rattle.journal.specs.Fold.{after, state_of}
+use Rattle.journal.specs.Answer.{IsInRange, answer, in_range, reply_of, room}
+use Rattle.journal.specs.Journal.{IsLegal, entry, is_full, is_version, journal_after, version_of}
 use Rattle.master_core.specs.Master.{IsMaster}
-use Rattle.master_core.specs.Sound.{InRange}
+use Rattle.journal.specs.Sound.{InRange}
 use Rattle.master_core.specs.Standing.{Follows, Tells}
-use Rattle.master_core.proofs.Growth.{state_snoc}
-use Rattle.master_core.proofs.Legal.{full_is, legal_snoc}
+use Rattle.journal.proofs.Growth.{state_snoc}
+use Rattle.journal.proofs.Legal.{full_is, legal_snoc}
 
 pub range_told : (o : Opening) (k : Command) → IsInRange o k → in_range o k ≡ true
 range_told o (Register c) h = lt-ltb c (length o.table.ids) h

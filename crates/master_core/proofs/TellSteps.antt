@@ -9,19 +9,19 @@ use Rattle.std.proofs.lemmas.List.Elements.{All-set}
 use Rattle.coflow_units.specs.Flows.{Instance}
 use Rattle.grant_ledger.specs.Accounts.{Accounts}
 use Rattle.greedy_rates.specs.Owed.{IsOwed, Owed}
-use Rattle.master_core.specs.declared.command.Command.{Command}
-use Rattle.master_core.specs.declared.command.Command.TheVariants.{Pull}
-use Rattle.master_core.specs.declared.command.Reply.{Reply}
-use Rattle.master_core.specs.declared.opening.Opening.{Opening}
+use Rattle.journal.specs.declared.command.Command.{Command}
+use Rattle.journal.specs.declared.command.Command.TheVariants.{Pull}
+use Rattle.journal.specs.declared.command.Reply.{Reply}
+use Rattle.journal.specs.declared.opening.Opening.{Opening}
 use Rattle.master_core.specs.declared.standing.Standing.{Standing}
-use Rattle.master_core.specs.State.{has, slot_end, State}
+use Rattle.journal.specs.State.{has, slot_end, State}
 use Rattle.master_core.specs.Attendance.{Attendance, marked}
-use Rattle.master_core.specs.Line.{newest_in, rank_in}
+use Rattle.journal.specs.Line.{newest_in, rank_in}
 use Rattle.master_core.specs.Published.{Published, ranked}
 use Rattle.master_core.specs.Waiting.{Waiting}
 use Rattle.master_core.specs.OpenRun.{FitsOpen, KeptRuns}
-use Rattle.master_core.specs.Fold.{after}
-use Rattle.master_core.specs.Answer.{answer, pulled}
+use Rattle.journal.specs.Fold.{after}
+use Rattle.journal.specs.Answer.{answer, pulled}
 use Rattle.master_core.specs.Standing.{Follows, IsFit, Tells, TellsCoflows, TellsOrders}
 use Rattle.master_core.proofs.Bools.{and_false}
 use Rattle.master_core.proofs.Members.{has_last, has_more, has_other}

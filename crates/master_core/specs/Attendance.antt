@@ -2,7 +2,7 @@
 use Rattle.std.specs.Prelude.{◌≡◌, ℕ, ◌<◌, ◌≤◌, Bool, true, false, List, All, length}
 use Rattle.std.specs.List.{slice_index_or}
 use Rattle.coflow_units.specs.Flows.{IsDistinct}
-use Rattle.master_core.specs.State.{has}
+use Rattle.journal.specs.State.{has}
 
 -- the coflows that joined, in joining order, and a mark for each coflow that is present
 pub record Attendance : Type 0 where

@@ -1,16 +1,7 @@
-pub mod Chosen
-pub mod State
 pub mod Attendance
-pub mod Line
 pub mod Published
 pub mod Waiting
 pub mod OpenRun
 pub mod KeptRuns
 pub mod Standing
-pub mod Runs
-pub mod Fold
-pub mod Answer
-pub mod Journal
-pub mod Sound
 pub mod Master
-pub mod Rows

@@ -1,12 +1,17 @@
--- What a master keeps, with its journal.
+-- What contracts see of a master, and what it keeps beside its journal.
 use Rattle.std.specs.Prelude.{ℕ, ◌+◌, ◌≤◌, List}
-use Rattle.master_core.specs.declared.command.Entry.{Entry}
-use Rattle.master_core.specs.declared.opening.Opening.{Opening}
+use Rattle.journal.specs.declared.command.Entry.{Entry}
+use Rattle.journal.specs.declared.opening.Opening.{Opening}
 use Rattle.master_core.specs.declared.standing.Standing.{Standing}
-use Rattle.master_core.specs.Fold.{state_of}
-use Rattle.master_core.specs.Journal.{IsLegal}
-use Rattle.master_core.specs.Sound.{InRange}
+use Rattle.journal.specs.Fold.{state_of}
+use Rattle.journal.specs.Journal.{IsLegal}
+use Rattle.journal.specs.Sound.{InRange}
 use Rattle.master_core.specs.Standing.{IsFit, Tells}
+
+-- what contracts see of a master
+pub record MasterFacts : Type 0 where
+  pub opening : Opening
+  pub journal : List Entry
 
 -- The journal is legal, its commands are in range, and there is room for the entries that it may get. What is kept tells the state after it.
 pub record IsMaster (o : Opening) (journal : List Entry) (capacity : ℕ) (x : Standing) : Type 0 where

@@ -6,8 +6,8 @@ use Rattle.coflow_units.specs.declared.fabric.Flow.{Flow}
 use Rattle.coflow_units.specs.Flows.{ingress_of}
 use Rattle.coflow_units.specs.Grants.{IsGrants}
 use Rattle.greedy_rates.specs.Room.{TellsIngresses, flow_at_ingress}
-use Rattle.master_core.specs.State.{has, slot_end}
-use Rattle.master_core.specs.Runs.{least_of}
+use Rattle.journal.specs.State.{has, slot_end}
+use Rattle.journal.specs.Runs.{least_of}
 
 -- the first slot, how many slots there are, the granted flows, and for each ingress the granted flow there and what was noted last
 pub record KeptRun : Type 0 where

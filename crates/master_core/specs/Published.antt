@@ -6,7 +6,7 @@ use Rattle.coflow_units.specs.declared.plan.Place.{Place}
 use Rattle.coflow_units.specs.Flows.{Instance, IsDistinct, with_units}
 use Rattle.coflow_units.specs.Load.{load}
 use Rattle.bssi_order.specs.Order.{IsOrder, present_coflows}
-use Rattle.master_core.specs.Line.{rank_in}
+use Rattle.journal.specs.Line.{rank_in}
 
 -- the newest version, its places from place 1 on, and for how many coflows and ports there is room
 pub record Published : Type 0 where

@@ -4,18 +4,18 @@ use Rattle.coflow_units.specs.declared.fabric.Flow.{Flow}
 use Rattle.coflow_units.specs.Flows.{Instance, coflow_of}
 use Rattle.greedy_rates.specs.Owed.{IsOwed}
 use Rattle.greedy_rates.specs.Room.{TellsIngresses}
-use Rattle.master_core.specs.declared.command.Command.{Command}
-use Rattle.master_core.specs.declared.command.Reply.{Reply}
-use Rattle.master_core.specs.declared.opening.Opening.{Opening}
+use Rattle.journal.specs.declared.command.Command.{Command}
+use Rattle.journal.specs.declared.command.Reply.{Reply}
+use Rattle.journal.specs.declared.opening.Opening.{Opening}
 use Rattle.master_core.specs.declared.standing.Standing.{Standing}
-use Rattle.master_core.specs.State.{has, IsOpening, owed, Run, slot_end, State}
+use Rattle.journal.specs.State.{has, IsOpening, owed, Run, slot_end, State}
 use Rattle.master_core.specs.Attendance.{Attendance, marked}
-use Rattle.master_core.specs.Line.{newest_in}
+use Rattle.journal.specs.Line.{newest_in}
 use Rattle.master_core.specs.Published.{Published, TellsPlaces, ranked}
 use Rattle.master_core.specs.OpenRun.{FitsOpen, KeptRun, note_at}
-use Rattle.master_core.specs.Runs.{note_in}
-use Rattle.master_core.specs.Fold.{after}
-use Rattle.master_core.specs.Answer.{answer}
+use Rattle.journal.specs.Runs.{note_in}
+use Rattle.journal.specs.Fold.{after}
+use Rattle.journal.specs.Answer.{answer}
 
 -- the roster has the coflows that joined, and marks those of them that have not left
 pub record TellsCoflows (joined left : List ℕ) (x : Attendance) : Type 0 where

@@ -1,7 +1,7 @@
 -- A line with its room.
 use Rattle.std.specs.Prelude.{ℕ, ◌==◌, ◌&&◌, Bool, List}
 use Rattle.master_core.specs.Attendance.{marked}
-use Rattle.master_core.specs.Line.{rank_in}
+use Rattle.journal.specs.Line.{rank_in}
 
 -- how many coflows there is room for, and those of the line, the first first
 pub record Waiting : Type 0 where

@@ -3,7 +3,7 @@ ghost use Rattle.std.specs.Prelude.{◌≡◌, ℕ, ◌+◌, ◌<◌, ◌≤◌,
 ghost use Rattle.std.specs.List.{filter};
 ghost use Rattle.coflow_units.specs.declared.plan.Place.{Place};
 ghost use Rattle.coflow_units.specs.Flows.{IsDistinct};
-ghost use Rattle.master_core.specs.State.{has};
+ghost use Rattle.journal.specs.State.{has};
 ghost use Rattle.master_core.specs.Attendance.{marked};
 ghost use Rattle.master_core.specs.Published.{ranked};
 ghost use Rattle.master_core.specs.Waiting.{waits};

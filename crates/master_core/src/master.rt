@@ -2,19 +2,18 @@
 ghost use Rattle.std.specs.Prelude.{◌≡◌, ℕ, ◌+◌, ◌^◌, ◌<◌, ◌≤◌, ◌&&◌, [], All, IfOk, IsTrue, length, nat_le, nat_lt};
 ghost use Rattle.coflow_units.specs.Flows.{Instance};
 ghost use Rattle.bssi_order.specs.Order.{IsOrder};
-ghost use Rattle.master_core.specs.Answer.{IsInRange, in_range, reply_of, room};
-ghost use Rattle.master_core.specs.Fold.{state_of};
-ghost use Rattle.master_core.specs.Journal.{IsLegal, journal_after, order_in, rank_of, version_of};
-ghost use Rattle.master_core.specs.Runs.{flow_at, noted_at, slots_of};
-ghost use Rattle.master_core.specs.Sound.{InRange};
+ghost use Rattle.journal.specs.Answer.{IsInRange, in_range, reply_of, room};
+ghost use Rattle.journal.specs.Fold.{state_of};
+ghost use Rattle.journal.specs.Journal.{IsLegal, journal_after, order_in, rank_of, version_of};
+ghost use Rattle.journal.specs.Runs.{flow_at, noted_at, slots_of};
+ghost use Rattle.journal.specs.Sound.{InRange};
 ghost use Rattle.master_core.specs.Published.{TellsPlaces, ranked};
-ghost use Rattle.master_core.specs.State.{IsOpening, owed};
+ghost use Rattle.journal.specs.State.{IsOpening, owed};
 
-use crate::command::{Command, Entry, Reply};
-use crate::opening::Opening;
 use crate::standing::Standing;
 use coflow_units::{Items, MAX_WEIGHT, NoMemory, Place};
 use flow_table::Table;
+use journal::{Command, Entry, Opening, Reply};
 use std::alloc::Global;
 use std::marker::Model;
 
@@ -31,7 +30,7 @@ pub struct Master {
 
 impl Model for Master {
     ghost use Rattle.std.specs.Prelude.{vec_capacity};
-    ghost use Rattle.master_core.specs.Journal.{MasterFacts};
+    ghost use Rattle.master_core.specs.Master.{MasterFacts};
     ghost use Rattle.master_core.specs.Master.{IsMaster};
 
     ghost Value = { MasterFacts };

@@ -4,7 +4,7 @@ ghost use Rattle.coflow_units.specs.declared.plan.Place.{Place};
 ghost use Rattle.coflow_units.specs.Flows.{Instance, IsDistinct};
 ghost use Rattle.port_load.specs.LoadTable.{IsWithin};
 ghost use Rattle.bssi_order.specs.Order.{IsOrder};
-ghost use Rattle.master_core.specs.Line.{rank_in};
+ghost use Rattle.journal.specs.Line.{rank_in};
 ghost use Rattle.master_core.specs.Published.{IsLeft, ranked};
 
 use bssi_order::Bssi;

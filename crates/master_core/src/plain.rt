@@ -1,6 +1,6 @@
 //! A plain master for tests. It keeps nothing: for each command it reads the journal from its beginning, and answers by what stands there.
-use crate::command::{Command, Entry, Reply};
 use coflow_units::{Flow, MAX_SLOT, NoMemory, Port, SCALE, Side};
+use journal::{Command, Entry, Reply};
 use std::alloc::Global;
 
 /// A flow with its number.

@@ -1,7 +1,7 @@
 //! Which coflows joined, and which of them are present.
 ghost use Rattle.std.specs.Prelude.{◌≡◌, ℕ, ◌<◌, ◌≤◌, ◌++◌, true, false, [], ◌∷◌, All, IfOk, length, slice_set};
 ghost use Rattle.coflow_units.specs.Flows.{IsDistinct};
-ghost use Rattle.master_core.specs.State.{has};
+ghost use Rattle.journal.specs.State.{has};
 ghost use Rattle.master_core.specs.Attendance.{marked};
 
 use coflow_units::NoMemory;

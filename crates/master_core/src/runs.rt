@@ -5,7 +5,7 @@ ghost use Rattle.coflow_units.specs.declared.fabric.Flow.{Flow};
 ghost use Rattle.coflow_units.specs.Flows.{IsDistinct, coflow_of};
 ghost use Rattle.flow_table.specs.Table.{IsTable};
 ghost use Rattle.greedy_rates.specs.Owed.{IsOwed};
-ghost use Rattle.master_core.specs.State.{slot_end};
+ghost use Rattle.journal.specs.State.{slot_end};
 ghost use Rattle.master_core.specs.OpenRun.{FitsOpen, IsBegun, KeptRun, credit_of, flow_kept, kept_credit, kept_note, note_at, number_noted, with_note};
 
 use coflow_units::{Flow, MAX_SLOT, NoMemory};

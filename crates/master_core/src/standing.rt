@@ -1,14 +1,12 @@
 //! What a master keeps beside its journal, so as not to read it again, and how each command is carried out on it.
 ghost use Rattle.std.specs.Prelude.{◌+◌, ◌^◌, ◌<◌, ◌≤◌, IfOk, length};
-ghost use Rattle.master_core.specs.State.{IsOpening};
-ghost use Rattle.master_core.specs.Fold.{start};
-ghost use Rattle.master_core.specs.Answer.{IsInRange};
+ghost use Rattle.journal.specs.State.{IsOpening};
+ghost use Rattle.journal.specs.Fold.{start};
+ghost use Rattle.journal.specs.Answer.{IsInRange};
 ghost use Rattle.master_core.specs.Standing.{Follows, IsFit, Tells};
-ghost use Rattle.master_core.specs.declared.command.Command.TheVariants.{Register, Withdraw, Publish, Pull, Open, Short, Close, Skip, Reweigh};
+ghost use Rattle.journal.specs.declared.command.Command.TheVariants.{Register, Withdraw, Publish, Pull, Open, Short, Close, Skip, Reweigh};
 
-use crate::command::{Command, Reply};
 use crate::line::Line;
-use crate::opening::Opening;
 use crate::orders::Orders;
 use crate::roster::Roster;
 use crate::runs::Runs;
@@ -16,6 +14,7 @@ use crate::search::first_owing;
 use coflow_units::{MAX_SLOT, NoMemory};
 use grant_ledger::Ledger;
 use greedy_rates::Owing;
+use journal::{Command, Opening, Reply};
 use std::alloc::Global;
 
 /// What a master keeps beside its journal.

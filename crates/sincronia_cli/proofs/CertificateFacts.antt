@@ -11,7 +11,7 @@ use Rattle.coflow_units.proofs.Lists.{number_below, number_in, reverse-cons, in_
 use Rattle.coflow_units.proofs.Sums.{Apart, all_of_members, apart_from_pairs, first_or_tail, in_first, in_tail, nothing_in, pairs_from_apart}
 use Rattle.port_load.specs.LoadTable.{HasLoads, LoadTable}
 use Rattle.bssi_order.specs.Order.{IsOrder, entries_of}
-use Rattle.bssi_order.proofs.OrderingLaws.{ordering_feasible}
+use Rattle.coflow_units.proofs.OrderingLaws.{ordering_feasible}
 use Rattle.dual_cert.specs.TableCertificate.{HasLoadsOf, IsCertificateOf, StaysInBudget}
 use Rattle.flow_table.specs.Table.{TableFacts, instance_of}
 use Rattle.sincronia_cli.specs.PlanReport.{coflows_of}

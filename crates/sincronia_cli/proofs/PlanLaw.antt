@@ -8,7 +8,7 @@ use Rattle.coflow_units.specs.Certificate.{Entry, bound, slack, order_of}
 use Rattle.coflow_units.specs.Ordering.{IsOrdering}
 use Rattle.dual_cert.proofs.DualLaw.{bound_law}
 use Rattle.dual_cert.proofs.FourLaw.{four_bound_law}
-use Rattle.bssi_order.proofs.OrderingLaws.{ordering_feasible, takes_greatest}
+use Rattle.coflow_units.proofs.OrderingLaws.{ordering_feasible, takes_greatest}
 use Rattle.coflow_units.proofs.ServedLaws.{served_valid, served_patient}
 
 pub plan_bound : (i : Instance) (entries : List Entry) (slots : List (List ℕ)) → IsOrdering i entries → IsValid i.flows slots → bound i.flows entries ≤ cost i.flows i.weight i.coflows slots

@@ -17,7 +17,7 @@ use Rattle.coflow_units.proofs.Numbers.{floor_within, zero_or_more}
 use Rattle.coflow_units.proofs.ServedLaws.{served_valid}
 use Rattle.coflow_units.proofs.Sums.{apart_from_pairs}
 use Rattle.bssi_order.specs.Order.{entries_of}
-use Rattle.bssi_order.proofs.OrderingLaws.{ordering_feasible}
+use Rattle.coflow_units.proofs.OrderingLaws.{ordering_feasible}
 use Rattle.flow_table.specs.Table.{IsTable, TableFacts, instance_of}
 use Rattle.flow_table.proofs.Whole.{whole}
 use Rattle.report.specs.declared.value.PlaceLine.{PlaceLine}

@@ -10,7 +10,7 @@ use Rattle.coflow_units.specs.Schedule.{IsValid}
 use Rattle.coflow_units.specs.Trace.{IsTrace}
 use Rattle.coflow_units.proofs.ServedLaws.{served_valid}
 use Rattle.bssi_order.specs.Order.{entries_of}
-use Rattle.bssi_order.proofs.OrderingLaws.{ordering_feasible}
+use Rattle.coflow_units.proofs.OrderingLaws.{ordering_feasible}
 use Rattle.flow_table.specs.Table.{IsTable, IsTableOf, TableFacts, instance_of}
 use Rattle.flow_table.proofs.Whole.{whole}
 use Rattle.report.specs.declared.value.Report.{Report}

@@ -6,10 +6,10 @@ use Rattle.coflow_units.specs.Flows.{ingress_of}
 use Rattle.coflow_units.specs.PortWord.{PortStage}
 use Rattle.coflow_units.specs.PortWord.PortStage.{unposted, granted, drawn, reported, taken_back}
 use Rattle.coflow_units.proofs.Sums.{any_has}
-use Rattle.master_core.specs.declared.opening.Opening.{Opening}
-use Rattle.master_core.specs.State.{Run, has}
-use Rattle.master_core.specs.Runs.{credit, grant_in, note_in}
-use Rattle.master_core.specs.Sound.{IsSound}
+use Rattle.journal.specs.declared.opening.Opening.{Opening}
+use Rattle.journal.specs.State.{Run, has}
+use Rattle.journal.specs.Runs.{credit, grant_in, note_in}
+use Rattle.journal.specs.Sound.{IsSound}
 use Rattle.world_model.specs.declared.sent.SentRun.{SentRun}
 use Rattle.world_model.specs.Port.{PortFacts, idle_port}
 use Rattle.world_model.specs.Sent.{sent_for}

@@ -6,15 +6,15 @@ use Rattle.coflow_units.specs.declared.fabric.Flow.{Flow}
 use Rattle.coflow_units.specs.Flows.{ingress_of}
 use Rattle.coflow_units.specs.Schedule.{IsClear}
 use Rattle.coflow_units.proofs.Sums.{any_has, any_in}
-use Rattle.master_core.specs.declared.command.Command.{Command}
-use Rattle.master_core.specs.declared.command.Entry.{Entry}
-use Rattle.master_core.specs.declared.command.Reply.{Reply}
-use Rattle.master_core.specs.declared.command.Reply.TheVariants.{Closed}
-use Rattle.master_core.specs.declared.opening.Opening.{Opening}
-use Rattle.master_core.specs.State.{Run, State, has}
-use Rattle.master_core.specs.Fold.{after, start, state_from, state_of}
-use Rattle.master_core.specs.Journal.{entry, is_full, journal_after}
-use Rattle.master_core.specs.Answer.{reply_of}
+use Rattle.journal.specs.declared.command.Command.{Command}
+use Rattle.journal.specs.declared.command.Entry.{Entry}
+use Rattle.journal.specs.declared.command.Reply.{Reply}
+use Rattle.journal.specs.declared.command.Reply.TheVariants.{Closed}
+use Rattle.journal.specs.declared.opening.Opening.{Opening}
+use Rattle.journal.specs.State.{Run, State, has}
+use Rattle.journal.specs.Fold.{after, start, state_from, state_of}
+use Rattle.journal.specs.Journal.{entry, is_full, journal_after}
+use Rattle.journal.specs.Answer.{reply_of}
 use Rattle.world_model.specs.declared.sent.SentRun.{SentRun}
 use Rattle.world_model.specs.Sent.{sends, sent_for, sent_in, slots_within, times_sent}
 use Rattle.world_model.specs.Kept.{IsApart, IsSentRun, sent_now}

@@ -9,22 +9,22 @@ use Rattle.coflow_units.specs.declared.fabric.Flow.{Flow}
 use Rattle.coflow_units.specs.Flows.{Instance, ingress_of}
 use Rattle.coflow_units.specs.PortWord.{PortStage, is_drawn_by, is_granted}
 use Rattle.coflow_units.specs.PortWord.PortStage.{drawn, reported}
-use Rattle.master_core.specs.declared.command.Command.{Command}
-use Rattle.master_core.specs.declared.command.Command.TheVariants.{Register, Withdraw, Publish, Pull, Open, Short, Skip, Reweigh}
-use Rattle.master_core.specs.declared.command.Command.TheVariants.{Close as CloseRun}
-use Rattle.master_core.specs.declared.command.Reply.{Reply}
-use Rattle.master_core.specs.declared.command.Reply.TheVariants.{Full, Already, Joined, NotHere, Left, NothingLeft, Late, Opened, StillOwed, Skipped, Weighed, Rank, Unranked}
-use Rattle.master_core.specs.declared.command.Entry.{Entry}
-use Rattle.master_core.specs.declared.opening.Opening.{Opening}
-use Rattle.master_core.specs.State.{has, is_present, IsOpening, Run, slot_end, State}
-use Rattle.master_core.specs.Line.{owing, rank, version}
-use Rattle.master_core.specs.Runs.{grant_in, granted, slots_for}
-use Rattle.master_core.specs.Fold.{after, noted_in, state_of}
-use Rattle.master_core.specs.Answer.{answer, in_range, noted, reply_of, room}
-use Rattle.master_core.specs.Journal.{journal_after}
-use Rattle.master_core.specs.Sound.{IsSound, SoundState}
-use Rattle.master_core.proofs.Growth.{state_after}
-use Rattle.master_core.proofs.Sound.{branch, legal_sound}
+use Rattle.journal.specs.declared.command.Command.{Command}
+use Rattle.journal.specs.declared.command.Command.TheVariants.{Register, Withdraw, Publish, Pull, Open, Short, Skip, Reweigh}
+use Rattle.journal.specs.declared.command.Command.TheVariants.{Close as CloseRun}
+use Rattle.journal.specs.declared.command.Reply.{Reply}
+use Rattle.journal.specs.declared.command.Reply.TheVariants.{Full, Already, Joined, NotHere, Left, NothingLeft, Late, Opened, StillOwed, Skipped, Weighed, Rank, Unranked}
+use Rattle.journal.specs.declared.command.Entry.{Entry}
+use Rattle.journal.specs.declared.opening.Opening.{Opening}
+use Rattle.journal.specs.State.{has, is_present, IsOpening, Run, slot_end, State}
+use Rattle.journal.specs.Line.{owing, rank, version}
+use Rattle.journal.specs.Runs.{grant_in, granted, slots_for}
+use Rattle.journal.specs.Fold.{after, noted_in, state_of}
+use Rattle.journal.specs.Answer.{answer, in_range, noted, reply_of, room}
+use Rattle.journal.specs.Journal.{journal_after}
+use Rattle.journal.specs.Sound.{IsSound, SoundState}
+use Rattle.journal.proofs.Growth.{state_after}
+use Rattle.journal.proofs.Sound.{branch, legal_sound}
 use Rattle.world_model.specs.declared.event.Event.{Event}
 use Rattle.world_model.specs.declared.event.Event.TheVariants.{Ask, Post, Draw, Send, Report, Settle, Note, Close}
 use Rattle.world_model.specs.declared.sent.SentRun.{SentRun}

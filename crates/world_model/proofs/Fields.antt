@@ -12,14 +12,14 @@ use Rattle.std.proofs.lemmas.List.Sums.{list_all-from_AllPass}
 use Rattle.coflow_units.specs.declared.fabric.Flow.{Flow}
 use Rattle.coflow_units.specs.PortWord.{is_drawn_by, is_granted}
 use Rattle.coflow_units.specs.PortWord.PortStage.{granted, drawn, reported}
-use Rattle.master_core.specs.declared.command.Entry.{Entry}
-use Rattle.master_core.specs.declared.command.Command.TheVariants.{Short}
-use Rattle.master_core.specs.declared.opening.Opening.{Opening}
-use Rattle.master_core.specs.State.{Run}
-use Rattle.master_core.specs.Runs.{flow_at, grant_in, slots_of}
-use Rattle.master_core.specs.Fold.{state_of}
-use Rattle.master_core.specs.Journal.{MasterFacts}
-use Rattle.master_core.specs.Sound.{IsSound, OnRun}
+use Rattle.journal.specs.declared.command.Entry.{Entry}
+use Rattle.journal.specs.declared.command.Command.TheVariants.{Short}
+use Rattle.journal.specs.declared.opening.Opening.{Opening}
+use Rattle.journal.specs.State.{Run}
+use Rattle.journal.specs.Runs.{flow_at, grant_in, slots_of}
+use Rattle.journal.specs.Fold.{state_of}
+use Rattle.master_core.specs.Master.{MasterFacts}
+use Rattle.journal.specs.Sound.{IsSound, OnRun}
 use Rattle.world_model.specs.declared.event.Event.{Event}
 use Rattle.world_model.specs.declared.event.Event.TheVariants.{Post, Draw, Send, Report, Settle, Note}
 use Rattle.world_model.specs.declared.event.Happened.{Happened}

@@ -4,16 +4,16 @@ use Rattle.std.proofs.lemmas.List.{take_more}
 use Rattle.coflow_units.specs.declared.fabric.Flow.{Flow}
 use Rattle.coflow_units.specs.Grants.{IsBlocked, IsGrants, IsRunLength}
 use Rattle.coflow_units.specs.Patient.{IsServedOrWaits}
-use Rattle.master_core.specs.declared.command.Entry.{Entry}
-use Rattle.master_core.specs.declared.command.Reply.{Reply}
-use Rattle.master_core.specs.declared.command.Reply.TheVariants.{Closed}
-use Rattle.master_core.specs.declared.opening.Opening.{Opening}
-use Rattle.master_core.specs.State.{IsOpening, Run, State, owed, slot_end}
-use Rattle.master_core.specs.Runs.{granted}
-use Rattle.master_core.specs.Fold.{after, start, state_of}
-use Rattle.master_core.specs.Journal.{IsLegal, line_of}
-use Rattle.master_core.proofs.Growth.{state_snoc}
-use Rattle.master_core.proofs.Opened.{opened_grants, run_length_is}
+use Rattle.journal.specs.declared.command.Entry.{Entry}
+use Rattle.journal.specs.declared.command.Reply.{Reply}
+use Rattle.journal.specs.declared.command.Reply.TheVariants.{Closed}
+use Rattle.journal.specs.declared.opening.Opening.{Opening}
+use Rattle.journal.specs.State.{IsOpening, Run, State, owed, slot_end}
+use Rattle.journal.specs.Runs.{granted}
+use Rattle.journal.specs.Fold.{after, start, state_of}
+use Rattle.journal.specs.Journal.{IsLegal, line_of}
+use Rattle.journal.proofs.Growth.{state_snoc}
+use Rattle.journal.proofs.Opened.{opened_grants, run_length_is}
 use Rattle.world_model.specs.declared.event.Event.{Event}
 use Rattle.world_model.specs.declared.sent.SentRun.{SentRun}
 use Rattle.world_model.specs.Sent.{sent_in}
@@ -49,7 +49,7 @@ closing_credits : (o : Opening) (sent : List SentRun) (next slot : ℕ) (s : Sta
     (after o s e.command e.reply).sent f ≡ s.sent f + sent_in sent r f
 closing_credits o sent next slot s e r reply run h f =
     let closes = subst (CreditsSent o sent next (Closed slot)) run (subst (λ (x : Reply). CreditsSent o sent next x s.run) reply h) in
-    ap (λ (x : Reply). (after o s e.command x).sent f) reply ∙ ap (λ (x : Option Run). (Rattle.master_core.specs.Fold.closed o s x).sent f) run ∙ ap (λ n. s.sent f + n) (closes.1 f)
+    ap (λ (x : Reply). (after o s e.command x).sent f) reply ∙ ap (λ (x : Option Run). (Rattle.journal.specs.Fold.closed o s x).sent f) run ∙ ap (λ n. s.sent f + n) (closes.1 f)
 
 pub closes_as_sent : (w : WorldFacts) → IsWorld w → ClosesAsSent w
 closes_as_sent w h = λ before more e slot is reply.

@@ -3,16 +3,16 @@ use Rattle.std.proofs.Common.{◌≡◌, ℕ, Bool, true, false, List, [], ◌�
 use Rattle.std.specs.Prelude.{if◌then◌else◌, nat_lt}
 use Rattle.std.proofs.lemmas.Bool.{and_parts}
 use Rattle.std.proofs.lemmas.List.Elements.{All-push}
-use Rattle.master_core.specs.declared.command.Command.{Command}
-use Rattle.master_core.specs.declared.command.Command.TheVariants.{Close as CloseRun}
-use Rattle.master_core.specs.declared.command.Entry.{Entry}
-use Rattle.master_core.specs.declared.opening.Opening.{Opening}
-use Rattle.master_core.specs.declared.command.Reply.{Reply}
-use Rattle.master_core.specs.State.{Run}
-use Rattle.master_core.specs.Answer.{in_range, reply_of}
-use Rattle.master_core.specs.Journal.{entry, is_full}
-use Rattle.master_core.specs.Sound.{InRange}
-use Rattle.master_core.proofs.Legal.{legal_after}
+use Rattle.journal.specs.declared.command.Command.{Command}
+use Rattle.journal.specs.declared.command.Command.TheVariants.{Close as CloseRun}
+use Rattle.journal.specs.declared.command.Entry.{Entry}
+use Rattle.journal.specs.declared.opening.Opening.{Opening}
+use Rattle.journal.specs.declared.command.Reply.{Reply}
+use Rattle.journal.specs.State.{Run}
+use Rattle.journal.specs.Answer.{in_range, reply_of}
+use Rattle.journal.specs.Journal.{entry, is_full}
+use Rattle.journal.specs.Sound.{InRange}
+use Rattle.journal.proofs.Legal.{legal_after}
 use Rattle.world_model.specs.declared.event.Event.{Event}
 use Rattle.world_model.specs.declared.event.Event.TheVariants.{Ask, Post, Draw, Send, Report, Settle, Note, Close}
 use Rattle.world_model.specs.World.{WorldFacts, port_at, run_of}

@@ -5,8 +5,8 @@ use Rattle.std.proofs.lemmas.Bool.{cases_eq, eqb-true, eq-eqb}
 use Rattle.coflow_units.specs.declared.fabric.Flow.{Flow}
 use Rattle.coflow_units.specs.PortWord.{PortStage, is_drawn_by, is_granted}
 use Rattle.coflow_units.specs.PortWord.PortStage.{unposted, granted, drawn, reported, taken_back}
-use Rattle.master_core.specs.State.{Run}
-use Rattle.master_core.specs.Runs.{grant_in, note_in}
+use Rattle.journal.specs.State.{Run}
+use Rattle.journal.specs.Runs.{grant_in, note_in}
 use Rattle.world_model.specs.declared.sent.SentRun.{SentRun}
 use Rattle.world_model.specs.Port.{PortFacts, idle_port, settled_by}
 use Rattle.world_model.specs.Sent.{sent_for}

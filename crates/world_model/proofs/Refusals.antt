@@ -3,13 +3,13 @@ use Rattle.std.proofs.Common.{◌≡◌, ℕ, Bool, true, false, List, refl, sym
 use Rattle.std.specs.Prelude.{if◌then◌else◌}
 use Rattle.coflow_units.specs.PortWord.{PortStage}
 use Rattle.coflow_units.specs.PortWord.PortStage.{drawn, reported}
-use Rattle.master_core.specs.declared.command.Command.{Command}
-use Rattle.master_core.specs.declared.command.Command.TheVariants.{Close as CloseRun}
-use Rattle.master_core.specs.declared.command.Reply.{Reply}
-use Rattle.master_core.specs.declared.command.Reply.TheVariants.{Opened}
-use Rattle.master_core.specs.Answer.{reply_of}
-use Rattle.master_core.specs.Journal.{is_refusal}
-use Rattle.master_core.proofs.Growth.{state_stays}
+use Rattle.journal.specs.declared.command.Command.{Command}
+use Rattle.journal.specs.declared.command.Command.TheVariants.{Close as CloseRun}
+use Rattle.journal.specs.declared.command.Reply.{Reply}
+use Rattle.journal.specs.declared.command.Reply.TheVariants.{Opened}
+use Rattle.journal.specs.Answer.{reply_of}
+use Rattle.journal.specs.Journal.{is_refusal}
+use Rattle.journal.proofs.Growth.{state_stays}
 use Rattle.world_model.specs.declared.event.Event.{Event}
 use Rattle.world_model.specs.declared.event.Event.TheVariants.{Ask, Settle, Note, Close}
 use Rattle.world_model.specs.declared.event.Happened.{Happened}

@@ -1,6 +1,6 @@
 -- The rows, computed.
 use Rattle.std.proofs.Common.{refl}
-use Rattle.master_core.specs.Chosen.{the_grants, the_ordering}
+use Rattle.journal.specs.Chosen.{the_grants, the_ordering}
 use Rattle.world_model.specs.Rows.{Shorts, Turns}
 
 pub turns : Turns

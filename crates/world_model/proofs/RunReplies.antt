@@ -1,20 +1,20 @@
 -- What a reply that opens or closes a run tells of its command and of the state that it answers in.
 use Rattle.std.proofs.Common.{◌≡◌, ℕ, ◌+◌, List, ◌∷◌, ◌++◌, length, max, refl, sym, subst, Option, Some, None}
 use Rattle.std.specs.Prelude.{if◌then◌else◌, nat_lt, nat_le, slice_index_or, ◌==◌}
-use Rattle.master_core.specs.declared.command.Command.{Command}
-use Rattle.master_core.specs.declared.command.Command.TheVariants.{Register, Withdraw, Publish, Pull, Open, Short, Close, Skip, Reweigh}
-use Rattle.master_core.specs.declared.command.Entry.{Entry}
-use Rattle.master_core.specs.declared.command.Reply.{Reply}
-use Rattle.master_core.specs.declared.command.Reply.TheVariants.{Full, Already, Joined, NotHere, Left, StillOpen, Version, Rank, Unranked, NothingLeft, Late, Opened, NotGranted, NoneOpen, Closed, StillOwed, Skipped, Weighed}
-use Rattle.master_core.specs.declared.opening.Opening.{Opening}
-use Rattle.master_core.specs.State.{has, is_present, Run, slot_end, State}
-use Rattle.master_core.specs.Line.{owing, rank, version}
-use Rattle.master_core.specs.Runs.{grant_in, granted, slots_for}
-use Rattle.master_core.specs.Fold.{state_of}
-use Rattle.master_core.specs.Answer.{answer, noted, on_run, opened, reply_of, room, skipped}
-use Rattle.master_core.specs.Journal.{IsLegal}
-use Rattle.master_core.proofs.Sound.{branch}
-use Rattle.master_core.proofs.Versions.{legal_there}
+use Rattle.journal.specs.declared.command.Command.{Command}
+use Rattle.journal.specs.declared.command.Command.TheVariants.{Register, Withdraw, Publish, Pull, Open, Short, Close, Skip, Reweigh}
+use Rattle.journal.specs.declared.command.Entry.{Entry}
+use Rattle.journal.specs.declared.command.Reply.{Reply}
+use Rattle.journal.specs.declared.command.Reply.TheVariants.{Full, Already, Joined, NotHere, Left, StillOpen, Version, Rank, Unranked, NothingLeft, Late, Opened, NotGranted, NoneOpen, Closed, StillOwed, Skipped, Weighed}
+use Rattle.journal.specs.declared.opening.Opening.{Opening}
+use Rattle.journal.specs.State.{has, is_present, Run, slot_end, State}
+use Rattle.journal.specs.Line.{owing, rank, version}
+use Rattle.journal.specs.Runs.{grant_in, granted, slots_for}
+use Rattle.journal.specs.Fold.{state_of}
+use Rattle.journal.specs.Answer.{answer, noted, on_run, opened, reply_of, room, skipped}
+use Rattle.journal.specs.Journal.{IsLegal}
+use Rattle.journal.proofs.Sound.{branch}
+use Rattle.journal.proofs.Versions.{legal_there}
 
 -- a reply that opens a run answers an opening, and one that closes a run tells the first slot of the open one
 abbrev pub TellsRun : Opening → State → Command → Reply → Type 0

@@ -10,9 +10,9 @@ use Rattle.coflow_units.specs.PortWord.{PortStage, is_drawn_by}
 use Rattle.coflow_units.specs.PortWord.PortStage.{drawn}
 use Rattle.coflow_units.specs.Schedule.{IsClear}
 use Rattle.coflow_units.proofs.Sums.{any_has, any_in, in_first, in_tail, first_or_tail, nothing_in}
-use Rattle.master_core.specs.State.{Run, has}
-use Rattle.master_core.specs.Runs.{grant_in}
-use Rattle.master_core.specs.Sound.{IsSound}
+use Rattle.journal.specs.State.{Run, has}
+use Rattle.journal.specs.Runs.{grant_in}
+use Rattle.journal.specs.Sound.{IsSound}
 use Rattle.world_model.specs.declared.sent.SentRun.{SentRun}
 use Rattle.world_model.specs.Port.{PortFacts, idle_port}
 use Rattle.world_model.specs.Sent.{sent_for, sent_of}

@@ -1,13 +1,13 @@
 -- What closings credit, along a journal.
 use Rattle.std.specs.Prelude.{◌≡◌, ℕ, ◌+◌, ◌≤◌, List, [], ◌∷◌, Option}
-use Rattle.master_core.specs.declared.command.Entry.{Entry}
-use Rattle.master_core.specs.declared.command.Reply.{Reply}
-use Rattle.master_core.specs.declared.command.Reply.TheVariants.{Closed}
-use Rattle.master_core.specs.declared.opening.Opening.{Opening}
-use Rattle.master_core.specs.State.{Run, State}
-use Rattle.master_core.specs.Runs.{credit}
-use Rattle.master_core.specs.Fold.{after, start}
-use Rattle.master_core.specs.Sound.{OnRun}
+use Rattle.journal.specs.declared.command.Entry.{Entry}
+use Rattle.journal.specs.declared.command.Reply.{Reply}
+use Rattle.journal.specs.declared.command.Reply.TheVariants.{Closed}
+use Rattle.journal.specs.declared.opening.Opening.{Opening}
+use Rattle.journal.specs.State.{Run, State}
+use Rattle.journal.specs.Runs.{credit}
+use Rattle.journal.specs.Fold.{after, start}
+use Rattle.journal.specs.Sound.{OnRun}
 use Rattle.world_model.specs.declared.sent.SentRun.{SentRun}
 use Rattle.world_model.specs.Sent.{sent_in}
 

@@ -2,13 +2,13 @@
 use Rattle.std.specs.Prelude.{ℕ, ◌==◌, ◌&&◌, Bool, true, false, not, nat_le, nat_lt, if◌then◌else◌, Option, Some, None, is_none, is_some, unwrap_or}
 use Rattle.std.specs.List.{list_all, range_with_len}
 use Rattle.coflow_units.specs.PortWord.{is_drawn_by, is_granted}
-use Rattle.master_core.specs.declared.command.Command.{Command}
-use Rattle.master_core.specs.declared.command.Command.TheVariants.{Short}
-use Rattle.master_core.specs.declared.command.Command.TheVariants.{Close as CloseRun}
-use Rattle.master_core.specs.declared.opening.Opening.{Opening}
-use Rattle.master_core.specs.State.{Run}
-use Rattle.master_core.specs.Runs.{grant_in, note_in}
-use Rattle.master_core.specs.Answer.{in_range}
+use Rattle.journal.specs.declared.command.Command.{Command}
+use Rattle.journal.specs.declared.command.Command.TheVariants.{Short}
+use Rattle.journal.specs.declared.command.Command.TheVariants.{Close as CloseRun}
+use Rattle.journal.specs.declared.opening.Opening.{Opening}
+use Rattle.journal.specs.State.{Run}
+use Rattle.journal.specs.Runs.{grant_in, note_in}
+use Rattle.journal.specs.Answer.{in_range}
 use Rattle.world_model.specs.declared.event.Event.{Event}
 use Rattle.world_model.specs.declared.event.Event.TheVariants.{Ask, Post, Draw, Send, Report, Settle, Note, Close}
 use Rattle.world_model.specs.Port.{PortFacts}

@@ -5,9 +5,9 @@ use Rattle.coflow_units.specs.declared.fabric.Flow.{Flow}
 use Rattle.coflow_units.specs.Flows.{ingress_of}
 use Rattle.coflow_units.specs.PortWord.{PortStage}
 use Rattle.coflow_units.specs.PortWord.PortStage.{unposted, granted, drawn, reported, taken_back}
-use Rattle.master_core.specs.State.{Run, has}
-use Rattle.master_core.specs.Runs.{grant_in, note_in}
-use Rattle.master_core.specs.Fold.{state_of}
+use Rattle.journal.specs.State.{Run, has}
+use Rattle.journal.specs.Runs.{grant_in, note_in}
+use Rattle.journal.specs.Fold.{state_of}
 use Rattle.world_model.specs.declared.port.PortState.{PortState}
 use Rattle.world_model.specs.declared.sent.SentRun.{SentRun}
 use Rattle.world_model.specs.Port.{PortFacts, idle_port}

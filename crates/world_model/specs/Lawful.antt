@@ -3,14 +3,14 @@ use Rattle.std.specs.Prelude.{◌≡◌, ℕ, ◌+◌, ◌-◌, ◌<◌, ◌≤�
 use Rattle.coflow_units.specs.Flows.{coflow_of, units_of}
 use Rattle.coflow_units.specs.Grants.{IsGrants, IsRunLength}
 use Rattle.coflow_units.specs.Patient.{IsServedOrWaits}
-use Rattle.master_core.specs.declared.command.Command.TheVariants.{Open}
-use Rattle.master_core.specs.declared.command.Entry.{Entry}
-use Rattle.master_core.specs.declared.command.Reply.TheVariants.{Closed, Opened}
-use Rattle.master_core.specs.declared.opening.Opening.{Opening}
-use Rattle.master_core.specs.State.{IsOpening, Run, owed, slot_end}
-use Rattle.master_core.specs.Fold.{state_of}
-use Rattle.master_core.specs.Journal.{IsLegal, line_of}
-use Rattle.master_core.specs.Sound.{InRange}
+use Rattle.journal.specs.declared.command.Command.TheVariants.{Open}
+use Rattle.journal.specs.declared.command.Entry.{Entry}
+use Rattle.journal.specs.declared.command.Reply.TheVariants.{Closed, Opened}
+use Rattle.journal.specs.declared.opening.Opening.{Opening}
+use Rattle.journal.specs.State.{IsOpening, Run, owed, slot_end}
+use Rattle.journal.specs.Fold.{state_of}
+use Rattle.journal.specs.Journal.{IsLegal, line_of}
+use Rattle.journal.specs.Sound.{InRange}
 use Rattle.world_model.specs.declared.sent.SentRun.{SentRun}
 use Rattle.world_model.specs.Sent.{sent_in, sent_of, times_sent}
 use Rattle.world_model.specs.World.{WorldFacts, run_of}

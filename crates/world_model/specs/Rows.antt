@@ -1,8 +1,8 @@
 -- Steps that were worked out by hand.
 use Rattle.std.specs.Prelude.{◌≡◌, List, [], ◌∷◌}
-use Rattle.master_core.specs.declared.command.Command.TheVariants.{Register, Open, Pull}
-use Rattle.master_core.specs.declared.command.Reply.TheVariants.{Full, Joined, Opened, Noted, Closed}
-use Rattle.master_core.specs.Rows.{two}
+use Rattle.journal.specs.declared.command.Command.TheVariants.{Register, Open, Pull}
+use Rattle.journal.specs.declared.command.Reply.TheVariants.{Full, Joined, Opened, Noted, Closed}
+use Rattle.journal.specs.Rows.{two}
 use Rattle.world_model.specs.declared.event.Event.{Event}
 use Rattle.world_model.specs.declared.event.Event.TheVariants.{Ask, Post, Draw, Send, Report, Settle, Note, Close}
 use Rattle.world_model.specs.declared.event.Happened.{Happened}

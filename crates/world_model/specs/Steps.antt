@@ -2,16 +2,16 @@
 use Rattle.std.specs.Prelude.{◌≡◌, ℕ, ◌==◌, Bool, not, true, false, if◌then◌else◌, List, [], ◌∷◌, ◌++◌, map, Option, Some, None, slice_set, unwrap_or}
 use Rattle.coflow_units.specs.PortWord.{word_of}
 use Rattle.coflow_units.specs.PortWord.PortStage.{granted, drawn, reported}
-use Rattle.master_core.specs.declared.command.Command.{Command}
-use Rattle.master_core.specs.declared.command.Command.TheVariants.{Short}
-use Rattle.master_core.specs.declared.command.Command.TheVariants.{Close as CloseRun}
-use Rattle.master_core.specs.declared.command.Reply.{Reply}
-use Rattle.master_core.specs.declared.command.Reply.TheVariants.{Opened}
-use Rattle.master_core.specs.State.{Run}
-use Rattle.master_core.specs.Runs.{grant_in}
-use Rattle.master_core.specs.Answer.{reply_of}
-use Rattle.master_core.specs.Fold.{state_of}
-use Rattle.master_core.specs.Journal.{is_full, is_refusal, journal_after}
+use Rattle.journal.specs.declared.command.Command.{Command}
+use Rattle.journal.specs.declared.command.Command.TheVariants.{Short}
+use Rattle.journal.specs.declared.command.Command.TheVariants.{Close as CloseRun}
+use Rattle.journal.specs.declared.command.Reply.{Reply}
+use Rattle.journal.specs.declared.command.Reply.TheVariants.{Opened}
+use Rattle.journal.specs.State.{Run}
+use Rattle.journal.specs.Runs.{grant_in}
+use Rattle.journal.specs.Answer.{reply_of}
+use Rattle.journal.specs.Fold.{state_of}
+use Rattle.journal.specs.Journal.{is_full, is_refusal, journal_after}
 use Rattle.world_model.specs.declared.event.Event.{Event}
 use Rattle.world_model.specs.declared.event.Event.TheVariants.{Ask, Post, Draw, Send, Report, Settle, Note, Close}
 use Rattle.world_model.specs.declared.event.Happened.{Happened}

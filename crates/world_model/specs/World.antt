@@ -1,11 +1,11 @@
 -- The world of interleavings: a master, agents, a word and a count for each ingress port, and the runs that were sent.
 use Rattle.std.specs.Prelude.{ℕ, List, [], replicate, Option}
 use Rattle.std.specs.List.{slice_index_or}
-use Rattle.master_core.specs.declared.command.Entry.{Entry}
-use Rattle.master_core.specs.declared.opening.Opening.{Opening}
-use Rattle.master_core.specs.State.{Run}
-use Rattle.master_core.specs.Fold.{state_of}
-use Rattle.master_core.specs.Journal.{MasterFacts}
+use Rattle.journal.specs.declared.command.Entry.{Entry}
+use Rattle.journal.specs.declared.opening.Opening.{Opening}
+use Rattle.journal.specs.State.{Run}
+use Rattle.journal.specs.Fold.{state_of}
+use Rattle.master_core.specs.Master.{MasterFacts}
 use Rattle.world_model.specs.declared.port.PortState.{PortState}
 use Rattle.world_model.specs.declared.sent.SentRun.{SentRun}
 use Rattle.world_model.specs.Port.{PortFacts, idle_port, ports_of}

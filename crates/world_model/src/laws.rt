@@ -1,8 +1,8 @@
 //! Laws of the world: what each step keeps, and what holds after every list of steps.
 ghost use Rattle.std.specs.Prelude.{◌≡◌, ℕ, true, false, List};
-ghost use Rattle.master_core.specs.declared.command.Command.{Command};
-ghost use Rattle.master_core.specs.declared.opening.Opening.{Opening};
-ghost use Rattle.master_core.specs.State.{IsOpening};
+ghost use Rattle.journal.specs.declared.command.Command.{Command};
+ghost use Rattle.journal.specs.declared.opening.Opening.{Opening};
+ghost use Rattle.journal.specs.State.{IsOpening};
 ghost use Rattle.world_model.specs.declared.event.Event.{Event};
 ghost use Rattle.world_model.specs.declared.event.Event.TheVariants.{Ask, Post, Draw, Send, Report, Settle, Note, Close};
 ghost use Rattle.world_model.specs.declared.event.Happened.TheVariants.{Blocked, Busy};

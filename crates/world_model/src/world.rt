@@ -1,7 +1,7 @@
 //! The world, and the steps that it takes.
 ghost use Rattle.std.specs.Prelude.{◌≡◌, ◌≢◌, ℕ, ◌<◌, true, false, List, [], IfOk, Some};
-ghost use Rattle.master_core.specs.Answer.{IsInRange, reply_of};
-ghost use Rattle.master_core.specs.Runs.{slots_of};
+ghost use Rattle.journal.specs.Answer.{IsInRange, reply_of};
+ghost use Rattle.journal.specs.Runs.{slots_of};
 ghost use Rattle.world_model.specs.declared.event.Event.TheVariants.{Ask, Post, Draw, Send, Report, Settle, Note, Close};
 ghost use Rattle.world_model.specs.declared.sent.SentRun.{SentRun};
 ghost use Rattle.world_model.specs.Port.{port_of, ports_of};

@@ -2,7 +2,7 @@ use Rattle.std.proofs.Common.{length, subst, sym, ap, arith, take}
 use Rattle.std.specs.Vec.{with_items}
 use Rattle.std.proofs.lemmas.List.{with_items_is}
 use Rattle.bssi_order.specs.Order.{IsOrder, entries_of}
-use Rattle.bssi_order.proofs.OrderingLaws.{ordering_feasible, ordering_rests}
+use Rattle.coflow_units.proofs.OrderingLaws.{ordering_feasible, ordering_rests}
 use Rattle.bssi_order.proofs.bssi.Bssi.run.Goals as goal
 
 pub returns-clause-order : goal.returns-clause-order

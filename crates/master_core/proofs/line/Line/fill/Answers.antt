@@ -3,7 +3,7 @@ use Rattle.std.proofs.Common.{◌<◌, ◌∙◌, ap, length, subst, sym}
 use Rattle.std.specs.Prelude.{All}
 use Rattle.coflow_units.specs.declared.plan.Place.{Place}
 use Rattle.coflow_units.specs.Flows.{IsDistinct}
-use Rattle.master_core.specs.State.{has}
+use Rattle.journal.specs.State.{has}
 use Rattle.master_core.specs.Attendance.{marked}
 use Rattle.master_core.specs.Published.{ranked}
 use Rattle.master_core.specs.Waiting.{waits}

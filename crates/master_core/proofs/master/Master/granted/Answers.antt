@@ -1,7 +1,7 @@
 use Rattle.std.proofs.Common.{◌≡◌, ◌∙◌, subst}
-use Rattle.master_core.specs.Fold.{state_of}
-use Rattle.master_core.specs.Journal.{MasterFacts}
-use Rattle.master_core.specs.Runs.{flow_at}
+use Rattle.journal.specs.Fold.{state_of}
+use Rattle.master_core.specs.Master.{MasterFacts}
+use Rattle.journal.specs.Runs.{flow_at}
 use Rattle.master_core.proofs.RunTells.{flow_told}
 use Rattle.master_core.proofs.master.Master.granted.Goals as goal
 

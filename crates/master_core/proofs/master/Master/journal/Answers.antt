@@ -1,6 +1,6 @@
 use Rattle.std.proofs.Common.{◌+◌, ◌≤◌, length, subst}
-use Rattle.master_core.specs.Journal.{MasterFacts}
-use Rattle.master_core.proofs.Legal.{legal_fits}
+use Rattle.master_core.specs.Master.{MasterFacts}
+use Rattle.journal.proofs.Legal.{legal_fits}
 use Rattle.master_core.proofs.master.Master.journal.Goals as goal
 
 pub returns-clause-fits : goal.returns-clause-fits

@@ -1,10 +1,11 @@
 use Rattle.std.proofs.Common.{◌≡◌, ◌∙◌, List, ap, subst}
 use Rattle.coflow_units.specs.declared.plan.Place.{Place}
-use Rattle.master_core.specs.Fold.{state_of}
-use Rattle.master_core.specs.Journal.{MasterFacts, order_in, version_of}
-use Rattle.master_core.specs.Line.{order}
+use Rattle.journal.specs.Fold.{state_of}
+use Rattle.journal.specs.Journal.{order_in, version_of}
+use Rattle.master_core.specs.Master.{MasterFacts}
+use Rattle.journal.specs.Line.{order}
 use Rattle.master_core.specs.Published.{ranked}
-use Rattle.master_core.proofs.Growth.{version_counted}
+use Rattle.journal.proofs.Growth.{version_counted}
 use Rattle.master_core.proofs.master.Master.places.Goals as goal
 
 pub returns-clause-order : goal.returns-clause-order

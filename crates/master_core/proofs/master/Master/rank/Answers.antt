@@ -1,8 +1,9 @@
 use Rattle.std.proofs.Common.{◌≡◌, ◌∙◌, ap, subst}
-use Rattle.master_core.specs.Fold.{state_of}
-use Rattle.master_core.specs.Journal.{MasterFacts, rank_of, version_of}
-use Rattle.master_core.specs.Line.{order, rank_in}
-use Rattle.master_core.proofs.Growth.{version_counted}
+use Rattle.journal.specs.Fold.{state_of}
+use Rattle.journal.specs.Journal.{rank_of, version_of}
+use Rattle.master_core.specs.Master.{MasterFacts}
+use Rattle.journal.specs.Line.{order, rank_in}
+use Rattle.journal.proofs.Growth.{version_counted}
 use Rattle.master_core.proofs.master.Master.rank.Goals as goal
 
 pub returns : goal.returns

@@ -1,10 +1,11 @@
 -- A command is answered, and its entry joins the journal.
 use Rattle.std.proofs.Common.{◌≡◌, ◌<◌, arith, length, subst, sym}
-use Rattle.master_core.specs.Answer.{IsInRange, room}
-use Rattle.master_core.specs.Fold.{state_of}
-use Rattle.master_core.specs.Journal.{MasterFacts, journal_after}
-use Rattle.master_core.proofs.Growth.{version_counted}
-use Rattle.master_core.proofs.Legal.{legal_fits}
+use Rattle.journal.specs.Answer.{IsInRange, room}
+use Rattle.journal.specs.Fold.{state_of}
+use Rattle.journal.specs.Journal.{journal_after}
+use Rattle.master_core.specs.Master.{MasterFacts}
+use Rattle.journal.proofs.Growth.{version_counted}
+use Rattle.journal.proofs.Legal.{legal_fits}
 use Rattle.master_core.proofs.StepTells.{journal_is, master_goes_on, versions_few}
 use Rattle.master_core.proofs.master.Master.step.Goals as goal
 

@@ -1,6 +1,7 @@
 use Rattle.std.proofs.Common.{◌≡◌, ◌∙◌, subst}
-use Rattle.master_core.specs.Journal.{MasterFacts, version_of}
-use Rattle.master_core.proofs.Growth.{version_counted}
+use Rattle.journal.specs.Journal.{version_of}
+use Rattle.master_core.specs.Master.{MasterFacts}
+use Rattle.journal.proofs.Growth.{version_counted}
 use Rattle.master_core.proofs.master.Master.version.Goals as goal
 
 pub returns : goal.returns

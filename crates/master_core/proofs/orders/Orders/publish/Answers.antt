@@ -4,7 +4,7 @@ use Rattle.std.specs.Prelude.{All}
 use Rattle.coflow_units.specs.declared.plan.Place.{Place}
 use Rattle.coflow_units.specs.Flows.{IsDistinct}
 use Rattle.greedy_rates.proofs.ListSteps.{written_back}
-use Rattle.master_core.specs.Line.{rank_in}
+use Rattle.journal.specs.Line.{rank_in}
 use Rattle.master_core.specs.Published.{IsLeft, IsPublished, Published, ranked}
 use Rattle.master_core.proofs.PlaceSteps.{each_within, filled_is_left, left_of, order_is_made, places_few, places_once}
 use Rattle.master_core.proofs.orders.Orders.publish.Goals as goal

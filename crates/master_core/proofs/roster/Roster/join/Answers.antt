@@ -1,6 +1,6 @@
 use Rattle.std.proofs.Common.{◌≡◌, false, subst, sym}
 use Rattle.master_core.specs.Attendance.{Attendance}
-use Rattle.master_core.specs.State.{has}
+use Rattle.journal.specs.State.{has}
 use Rattle.std.specs.Prelude.{◌<◌, length}
 use Rattle.std.proofs.Common.{arith}
 use Rattle.master_core.proofs.AttendanceSteps.{attends, joins_in}

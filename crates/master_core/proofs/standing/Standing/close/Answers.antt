@@ -5,10 +5,10 @@ use Rattle.coflow_units.specs.declared.fabric.Flow.{Flow}
 use Rattle.coflow_units.specs.Flows.{units_of}
 use Rattle.grant_ledger.specs.Accounts.{Accounts}
 use Rattle.greedy_rates.specs.Owed.{IsOwed}
-use Rattle.master_core.specs.declared.command.Command.TheVariants.{Close}
-use Rattle.master_core.specs.declared.command.Reply.TheVariants.{Closed, NoneOpen}
-use Rattle.master_core.specs.State.{Run}
-use Rattle.master_core.specs.Fold.{closed}
+use Rattle.journal.specs.declared.command.Command.TheVariants.{Close}
+use Rattle.journal.specs.declared.command.Reply.TheVariants.{Closed, NoneOpen}
+use Rattle.journal.specs.State.{Run}
+use Rattle.journal.specs.Fold.{closed}
 use Rattle.master_core.specs.OpenRun.{KeptRun, kept_credit}
 use Rattle.master_core.specs.Standing.{Tells, TellsRun}
 use Rattle.master_core.proofs.CloseTells.{close_none, close_some, credit_told, fits_kept, ingress_low, open_of, still_owed}

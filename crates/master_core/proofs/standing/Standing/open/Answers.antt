@@ -4,13 +4,13 @@ use Rattle.std.specs.Prelude.{if◌then◌else◌, slice_index}
 use Rattle.std.proofs.lemmas.Bool.{and_parts, eq-eqb, ltb-true, ne_eqb}
 use Rattle.coflow_units.specs.Flows.{coflow_of}
 use Rattle.coflow_units.proofs.Sums.{any_has}
-use Rattle.master_core.specs.declared.command.Command.TheVariants.{Open}
-use Rattle.master_core.specs.declared.command.Reply.{Reply}
-use Rattle.master_core.specs.declared.command.Reply.TheVariants.{Late, NothingLeft, Opened, StillOpen}
-use Rattle.master_core.specs.State.{has, Run, slot_end}
+use Rattle.journal.specs.declared.command.Command.TheVariants.{Open}
+use Rattle.journal.specs.declared.command.Reply.{Reply}
+use Rattle.journal.specs.declared.command.Reply.TheVariants.{Late, NothingLeft, Opened, StillOpen}
+use Rattle.journal.specs.State.{has, Run, slot_end}
 use Rattle.master_core.specs.Attendance.{marked}
-use Rattle.master_core.specs.Runs.{granted, slots_for}
-use Rattle.master_core.specs.Answer.{on_run, opened}
+use Rattle.journal.specs.Runs.{granted, slots_for}
+use Rattle.journal.specs.Answer.{on_run, opened}
 use Rattle.master_core.specs.OpenRun.{FitsOpen, IsBegun, KeptRun}
 use Rattle.master_core.specs.Standing.{TellsRun}
 use Rattle.master_core.proofs.OpenTells.{begun_fits, begun_told, line_told, none_owing, open_kept, some_owing}

@@ -2,12 +2,12 @@
 use Rattle.std.proofs.Common.{◌∙◌, ◌≤◌, ◌+◌, ℕ, Bool, List, Option, ap, subst, sym}
 use Rattle.std.specs.Prelude.{◌^◌, sum}
 use Rattle.coflow_units.specs.declared.fabric.Flow.{Flow}
-use Rattle.master_core.specs.declared.command.Command.TheVariants.{Publish}
-use Rattle.master_core.specs.declared.command.Reply.{Reply}
-use Rattle.master_core.specs.declared.command.Reply.TheVariants.{StillOpen, Version}
-use Rattle.master_core.specs.State.{Run, what_is_left}
-use Rattle.master_core.specs.Line.{version}
-use Rattle.master_core.specs.Answer.{on_run}
+use Rattle.journal.specs.declared.command.Command.TheVariants.{Publish}
+use Rattle.journal.specs.declared.command.Reply.{Reply}
+use Rattle.journal.specs.declared.command.Reply.TheVariants.{StillOpen, Version}
+use Rattle.journal.specs.State.{Run, what_is_left}
+use Rattle.journal.specs.Line.{version}
+use Rattle.journal.specs.Answer.{on_run}
 use Rattle.master_core.specs.Published.{IsLeft}
 use Rattle.master_core.proofs.OwingTells.{none_told, run_told}
 use Rattle.master_core.proofs.PublishTells.{left_told, owed_within, published_told}

@@ -1,8 +1,8 @@
 use Rattle.std.proofs.Common.{◌∙◌, Bool, ap}
 use Rattle.std.specs.Prelude.{if◌then◌else◌}
 use Rattle.std.proofs.lemmas.Bool.{eq-eqb, ne_eqb}
-use Rattle.master_core.specs.declared.command.Command.TheVariants.{Pull}
-use Rattle.master_core.specs.declared.command.Reply.TheVariants.{Rank, Unranked}
+use Rattle.journal.specs.declared.command.Command.TheVariants.{Pull}
+use Rattle.journal.specs.declared.command.Reply.TheVariants.{Rank, Unranked}
 use Rattle.master_core.proofs.TellSteps.{follows, pull_told}
 use Rattle.master_core.proofs.standing.Standing.pull.Goals as goal
 

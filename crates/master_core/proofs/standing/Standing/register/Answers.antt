@@ -1,10 +1,10 @@
 use Rattle.std.proofs.Common.{◌∙◌, Bool, List, ap, length, sym, true}
 use Rattle.std.specs.Prelude.{if◌then◌else◌}
 use Rattle.std.proofs.lemmas.List.{length-set}
-use Rattle.master_core.specs.declared.command.Command.TheVariants.{Register}
-use Rattle.master_core.specs.declared.command.Reply.{Reply}
-use Rattle.master_core.specs.declared.command.Reply.TheVariants.{Already, Joined}
-use Rattle.master_core.specs.State.{has}
+use Rattle.journal.specs.declared.command.Command.TheVariants.{Register}
+use Rattle.journal.specs.declared.command.Reply.{Reply}
+use Rattle.journal.specs.declared.command.Reply.TheVariants.{Already, Joined}
+use Rattle.journal.specs.State.{has}
 use Rattle.master_core.proofs.TellSteps.{coflow_joins, fits_roster, follows, more_joined}
 use Rattle.master_core.proofs.standing.Standing.register.Goals as goal
 

@@ -2,8 +2,8 @@ use Rattle.std.proofs.Common.{◌∙◌, ◌<◌, Bool, ap, arith, length, refl,
 use Rattle.std.specs.Prelude.{if◌then◌else◌}
 use Rattle.std.specs.Vec.{with_item}
 use Rattle.std.proofs.lemmas.List.{get_or_default}
-use Rattle.master_core.specs.declared.command.Command.TheVariants.{Reweigh}
-use Rattle.master_core.specs.declared.command.Reply.TheVariants.{NotHere, Weighed}
+use Rattle.journal.specs.declared.command.Command.TheVariants.{Reweigh}
+use Rattle.journal.specs.declared.command.Reply.TheVariants.{NotHere, Weighed}
 use Rattle.master_core.proofs.TellSteps.{fits_weights, follows, weighed}
 use Rattle.master_core.proofs.standing.Standing.reweigh.Goals as goal
 

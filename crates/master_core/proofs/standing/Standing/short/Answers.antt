@@ -1,9 +1,9 @@
 use Rattle.std.proofs.Common.{◌∙◌, ℕ, Option, ap, subst, sym}
-use Rattle.master_core.specs.declared.command.Command.TheVariants.{Short}
-use Rattle.master_core.specs.declared.command.Reply.TheVariants.{NotGranted, Noted}
+use Rattle.journal.specs.declared.command.Command.TheVariants.{Short}
+use Rattle.journal.specs.declared.command.Reply.TheVariants.{NotGranted, Noted}
 use Rattle.master_core.specs.OpenRun.{FitsOpen, KeptRun, with_note}
 use Rattle.master_core.specs.Standing.{TellsRun}
-use Rattle.master_core.specs.Fold.{noted_in}
+use Rattle.journal.specs.Fold.{noted_in}
 use Rattle.master_core.proofs.RunTells.{answer_noted, answer_not_granted, fits_noted, run_noted, with_none}
 use Rattle.master_core.proofs.TellSteps.{fits_runs, follows}
 use Rattle.master_core.proofs.standing.Standing.short.Goals as goal

@@ -2,11 +2,11 @@
 use Rattle.std.proofs.Common.{◌∙◌, Bool, Option, ap, arith, max, refl, sym}
 use Rattle.std.specs.Prelude.{if◌then◌else◌}
 use Rattle.std.proofs.lemmas.Bool.{le-leb, lt-leb}
-use Rattle.master_core.specs.declared.command.Command.TheVariants.{Skip}
-use Rattle.master_core.specs.declared.command.Reply.{Reply}
-use Rattle.master_core.specs.declared.command.Reply.TheVariants.{Late, Skipped, StillOpen, StillOwed}
-use Rattle.master_core.specs.State.{Run, slot_end}
-use Rattle.master_core.specs.Answer.{on_run, skipped}
+use Rattle.journal.specs.declared.command.Command.TheVariants.{Skip}
+use Rattle.journal.specs.declared.command.Reply.{Reply}
+use Rattle.journal.specs.declared.command.Reply.TheVariants.{Late, Skipped, StillOpen, StillOwed}
+use Rattle.journal.specs.State.{Run, slot_end}
+use Rattle.journal.specs.Answer.{on_run, skipped}
 use Rattle.master_core.proofs.OwingTells.{none_told, owing_first, owing_none, run_told, skip_free, skip_owed}
 use Rattle.master_core.proofs.TellSteps.{fits_next, follows}
 use Rattle.master_core.proofs.standing.Standing.skip.Goals as goal

@@ -2,10 +2,10 @@ use Rattle.std.proofs.Common.{◌∙◌, Bool, List, ap, false, length, sym}
 use Rattle.std.specs.Prelude.{if◌then◌else◌, not}
 use Rattle.std.proofs.lemmas.Bool.{and_parts}
 use Rattle.std.proofs.lemmas.List.{length-set}
-use Rattle.master_core.specs.declared.command.Command.TheVariants.{Withdraw}
-use Rattle.master_core.specs.declared.command.Reply.{Reply}
-use Rattle.master_core.specs.declared.command.Reply.TheVariants.{Left, NotHere}
-use Rattle.master_core.specs.State.{has}
+use Rattle.journal.specs.declared.command.Command.TheVariants.{Withdraw}
+use Rattle.journal.specs.declared.command.Reply.{Reply}
+use Rattle.journal.specs.declared.command.Reply.TheVariants.{Left, NotHere}
+use Rattle.journal.specs.State.{has}
 use Rattle.master_core.proofs.TellSteps.{coflow_leaves, fits_roster, follows}
 use Rattle.master_core.proofs.standing.Standing.withdraw.Goals as goal
 

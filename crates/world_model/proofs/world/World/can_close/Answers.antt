@@ -1,7 +1,7 @@
 use Rattle.std.proofs.Common.{rules, ◌≡◌, ◌∙◌, ◌<◌, ◌≤◌, arith, subst, sym, true, inl, inr}
 use Rattle.std.specs.Prelude.{Some}
 use Rattle.std.proofs.lemmas.Bool.{cases_lt}
-use Rattle.master_core.specs.Runs.{slots_of}
+use Rattle.journal.specs.Runs.{slots_of}
 use Rattle.world_model.specs.World.{port_at, run_of}
 use Rattle.world_model.specs.Guards.{in_run, is_done}
 use Rattle.world_model.proofs.Fields.{all_done_true, one_not_done}

@@ -4,10 +4,10 @@ use Rattle.world_model.specs.World.{WorldFacts, world_facts}
 use Rattle.world_model.specs.Steps.{asks, world_after}
 use Rattle.world_model.specs.Lawful.{IsWorld}
 use Rattle.world_model.specs.declared.event.Event.TheVariants.{Note}
-use Rattle.master_core.specs.Fold.{state_of}
-use Rattle.master_core.specs.Runs.{slots_of}
-use Rattle.master_core.specs.declared.command.Command.{Command}
-use Rattle.master_core.specs.declared.command.Command.TheVariants.{Short}
+use Rattle.journal.specs.Fold.{state_of}
+use Rattle.journal.specs.Runs.{slots_of}
+use Rattle.journal.specs.declared.command.Command.{Command}
+use Rattle.journal.specs.declared.command.Command.TheVariants.{Short}
 use Rattle.world_model.proofs.Events.{note_keeps}
 use Rattle.world_model.proofs.Fields.{may_note, noted_units, stepped}
 use Rattle.world_model.proofs.world.World.note.Goals as goal

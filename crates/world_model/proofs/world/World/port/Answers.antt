@@ -1,5 +1,5 @@
 use Rattle.std.proofs.Common.{◌<◌, subst, sym}
-use Rattle.master_core.specs.Fold.{state_of}
+use Rattle.journal.specs.Fold.{state_of}
 use Rattle.world_model.specs.Port.{PortFacts, port_of}
 use Rattle.world_model.specs.World.{WorldFacts, run_of}
 use Rattle.world_model.specs.Kept.{IsPort}

@@ -6,8 +6,8 @@ use Rattle.world_model.specs.Lawful.{IsWorld}
 use Rattle.world_model.specs.declared.event.Event.TheVariants.{Post}
 use Rattle.world_model.specs.declared.event.Happened.TheVariants.{Blocked, Posted}
 use Rattle.world_model.specs.declared.port.PortState.{PortState}
-use Rattle.master_core.specs.Fold.{state_of}
-use Rattle.master_core.specs.Runs.{flow_at, slots_of}
+use Rattle.journal.specs.Fold.{state_of}
+use Rattle.journal.specs.Runs.{flow_at, slots_of}
 use Rattle.world_model.specs.declared.port.Stage.TheVariants.{Granted}
 use Rattle.world_model.proofs.Events.{post_keeps}
 use Rattle.world_model.proofs.Fields.{blocked, may_post, posted_before, posted_world, stays, stepped, tells_posted, told}

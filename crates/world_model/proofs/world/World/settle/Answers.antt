@@ -6,8 +6,8 @@ use Rattle.world_model.specs.Lawful.{IsWorld}
 use Rattle.world_model.specs.declared.event.Event.TheVariants.{Settle}
 use Rattle.world_model.specs.declared.event.Happened.TheVariants.{Blocked}
 use Rattle.world_model.specs.declared.port.PortState.{PortState}
-use Rattle.master_core.specs.Fold.{state_of}
-use Rattle.master_core.specs.Runs.{slots_of}
+use Rattle.journal.specs.Fold.{state_of}
+use Rattle.journal.specs.Runs.{slots_of}
 use Rattle.world_model.proofs.Events.{settle_keeps}
 use Rattle.world_model.proofs.Fields.{blocked, may_settle, ports_wide, same_read, settle_fits, settle_not_posted, settled_answer, settled_world, stays, stepped, tells_stays, told}
 use Rattle.world_model.proofs.world.World.settle.Goals as goal

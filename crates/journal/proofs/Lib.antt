@@ -1,0 +1,10 @@
+pub mod Growth
+pub mod Instances
+pub mod LastWeight
+pub mod Legal
+pub mod Versions
+pub mod Sound
+pub mod Opened
+pub mod Present
+pub mod Replies
+pub mod RowChecks

@@ -1,0 +1,9 @@
+pub mod Chosen
+pub mod State
+pub mod Line
+pub mod Runs
+pub mod Fold
+pub mod Answer
+pub mod Journal
+pub mod Sound
+pub mod Rows

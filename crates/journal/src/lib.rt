@@ -1,0 +1,9 @@
+// Journals of the one-thread master: commands, replies and entries, the state that a journal gives, the answers that it asks for, and the laws that hold of every legal journal.
+#![tactic(auto)]
+
+mod command;
+pub mod laws;
+mod opening;
+
+pub use command::{Command, Entry, Reply};
+pub use opening::Opening;

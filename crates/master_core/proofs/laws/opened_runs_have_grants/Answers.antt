@@ -1,8 +1,0 @@
-use Rattle.master_core.proofs.Opened.{opened_grants, run_length_is}
-use Rattle.master_core.proofs.laws.opened_runs_have_grants.Goals as goal
-
-pub returns-clause-run : goal.returns-clause-run
-returns-clause-run c = opened_grants
-
-pub returns-clause-length : goal.returns-clause-length
-returns-clause-length c = run_length_is

@@ -1,8 +1,0 @@
-use Rattle.master_core.proofs.LastWeight.{last_given, never_given}
-use Rattle.master_core.proofs.laws.weight_is_the_last.Goals as goal
-
-pub returns-clause-given : goal.returns-clause-given
-returns-clause-given c = last_given
-
-pub returns-clause-opening : goal.returns-clause-opening
-returns-clause-opening c = never_given
