@@ -1,5 +1,5 @@
 -- What a pull and an open that finds nothing left tell.
-use Rattle.std.proofs.Common.{◌≡◌, ℕ, ◌<◌, inl, inr, Bool, true, false, List, length, refl, sym, ap, ◌∙◌, arith, Option, Some, None, true≢false}
+use Rattle.std.proofs.Common.{◌≡◌, ℕ, ◌<◌, inl, inr, Bool, true, false, List, length, refl, sym, ap, subst, ◌∙◌, arith, Option, Some, None, true≢false}
 use Rattle.std.specs.Prelude.{if◌then◌else◌, nat_le, nat_lt, ◌==◌, ◌&&◌}
 use Rattle.std.specs.List.{range_with_len}
 use Rattle.std.proofs.lemmas.Bool.{and_from, cases_lt, eqb-true, lt-ltb}
@@ -14,9 +14,11 @@ use Rattle.journal.specs.declared.opening.Opening.{Opening}
 use Rattle.journal.specs.State.{has, is_present, IsOpening, owed, Run, slot_end}
 use Rattle.journal.specs.Line.{line, owing, rank, version}
 use Rattle.journal.specs.Runs.{granted, slots_for}
-use Rattle.journal.specs.Fold.{state_of}
+use Rattle.journal.specs.Fold.{coflow_named, state_of}
 use Rattle.journal.specs.Answer.{answer, on_run, opened, reply_of, room}
+use Rattle.journal.specs.Entries.{TellsEntry}
 use Rattle.journal.specs.Journal.{rank_of, version_of}
+use Rattle.journal.proofs.EntryTells.{reply_tells}
 use Rattle.journal.proofs.Growth.{version_counted}
 use Rattle.journal.proofs.Present.{line_present}
 use Rattle.journal.proofs.Sound.{branch}
@@ -81,3 +83,9 @@ nothing_is_left o journal most f ok e low there =
           absurd (omega (arith, lt, empty))
       | inr none ↦ omega (arith, none)
     ]
+
+-- a pull of a coflow that has no place tells the newest version too
+pub unranked_told : (o : Opening) (journal : List Entry) (c v : ℕ) → reply_of o journal (Pull c) ≡ Unranked v → (v ≡ version_of journal) × (rank_of o journal v c ≡ 0)
+unranked_told o journal c v is =
+    let (d, asks, at, none) = subst (TellsEntry o (state_of o journal) (Pull c)) is (reply_tells o journal (Pull c)) in
+    (at ∙ version_counted o journal, subst (λ x. rank_of o journal v x ≡ 0) (sym (ap coflow_named asks)) none)

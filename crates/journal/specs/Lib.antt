@@ -7,3 +7,10 @@ pub mod Answer
 pub mod Journal
 pub mod Sound
 pub mod Rows
+pub mod Versions
+pub mod Entries
+pub mod Closed
+pub mod Moves
+pub mod Counts
+pub mod Driven
+pub mod RunRows

@@ -54,3 +54,40 @@ abbrev pub Weights : Type 0
 Weights = Gives (two 100) []
     ((Reweigh 0 5, NotHere) ∷ (Register 0, Joined) ∷ (Register 1, Joined) ∷ (Publish, Version 1) ∷ (Pull 0, Rank 1 2) ∷ (Reweigh 0 5, Weighed 1) ∷ (Pull 0, Rank 1 2)
     ∷ (Publish, Version 2) ∷ (Pull 0, Rank 2 1) ∷ (Reweigh 0 7, Weighed 5) ∷ (Withdraw 0, Left) ∷ (Reweigh 0 1, NotHere) ∷ [])
+
+-- who never joined can't leave, and who joined joins no more
+abbrev pub Doors : Type 0
+Doors = Gives (two 100) []
+    ((Withdraw 0, NotHere) ∷ (Register 0, Joined) ∷ (Register 0, Already) ∷ (Withdraw 1, NotHere) ∷ (Withdraw 0, Left) ∷ [])
+
+-- a skip to a slot that is past leaves the next slot, which the next run begins with
+abbrev pub SkipsBack : Type 0
+SkipsBack = Gives (two 100) [] ((Skip 5, Skipped 5) ∷ (Skip 3, Skipped 5) ∷ (Register 0, Joined) ∷ (Open 9, Opened 5 3 1) ∷ [])
+
+-- who has a place in the newest order is served before those who joined since, also where they have lesser numbers
+abbrev pub LateJoiner : Type 0
+LateJoiner = Gives (two 100) []
+    ((Register 1, Joined) ∷ (Publish, Version 1) ∷ (Register 0, Joined) ∷ (Open 9, Opened 1 1 1) ∷ (Close, Closed 1)
+    ∷ (Open 9, Opened 2 3 1) ∷ [])
+
+-- who has no place is served by joining, and not by number
+abbrev pub ByJoining : Type 0
+ByJoining = Gives (two 100) [] ((Register 1, Joined) ∷ (Register 0, Joined) ∷ (Open 9, Opened 1 1 1) ∷ [])
+
+-- who has a place is served by the order, and not by joining; a skip names the least flow that owes, and not the first in the line
+abbrev pub ByOrder : Type 0
+ByOrder = Gives (two 100) []
+    ((Register 0, Joined) ∷ (Register 1, Joined) ∷ (Publish, Version 1) ∷ (Skip 2, StillOwed 0) ∷ (Open 9, Opened 1 1 1) ∷ [])
+
+-- the newest note of a port counts: neither the oldest, nor the greatest, nor the least, nor their sum
+abbrev pub NewestNote : Type 0
+NewestNote = Gives (two 100) []
+    ((Register 0, Joined) ∷ (Open 3, Opened 1 3 1) ∷ (Short 0 2, Noted 2) ∷ (Short 0 1, Noted 1) ∷ (Close, Closed 1)
+    ∷ (Open 9, Opened 4 2 1) ∷ (Short 0 0, Noted 0) ∷ (Short 0 1, Noted 1) ∷ (Close, Closed 4) ∷ (Open 9, Opened 6 1 1) ∷ [])
+
+-- an order takes the units that are owed, and leaves out who left: where both owe one unit, number 1 is last
+abbrev pub LeftWork : Type 0
+LeftWork = Gives (two 100) []
+    ((Register 0, Joined) ∷ (Open 2, Opened 1 2 1) ∷ (Close, Closed 1) ∷ (Register 1, Joined) ∷ (Publish, Version 1)
+    ∷ (Pull 0, Rank 1 1) ∷ (Pull 1, Rank 1 2) ∷ (Withdraw 1, Left) ∷ (Publish, Version 2) ∷ (Pull 1, Unranked 2)
+    ∷ (Pull 0, Rank 2 1) ∷ [])

@@ -39,6 +39,11 @@ abbrev pub flow_at : List Flow → Option Run → ℕ → Option ℕ
 flow_at flows None port = None
 flow_at flows (Some r) port = grant_in flows r.granted port
 
+-- the flows that the open run grants; none where no run is open
+abbrev pub flows_granted : Option Run → List ℕ
+flows_granted None = []
+flows_granted (Some r) = r.granted
+
 -- how many slots the open run has, where one is open
 abbrev pub slots_of : Option Run → Option ℕ
 slots_of None = None

@@ -1,26 +1,29 @@
 //! Laws of the definitions. Each says something of every opening and every journal.
-ghost use Rattle.std.specs.Prelude.{◌≡◌, ℕ, ◌+◌, ◌-◌, min, ◌<◌, ◌≤◌, nat_le, true, false, Some, All, AllPairs, List, [], ◌∷◌, ◌++◌, length, map};
-ghost use Rattle.std.specs.List.{slice_index_or};
+ghost use Rattle.std.specs.Prelude.{◌≡◌, ℕ, ◌+◌, ◌-◌, min, ◌<◌, ◌≤◌, nat_le, true, false, Some, All, AllPairs, List, [], ◌∷◌, ◌++◌, length, map, not, slice_index};
+ghost use Rattle.std.specs.List.{slice_index_or, filter};
 ghost use Rattle.coflow_units.specs.declared.fabric.Flow.{Flow};
 ghost use Rattle.coflow_units.specs.Flows.{Instance, IsInstance, coflow_of, units_of};
-ghost use Rattle.coflow_units.specs.Certificate.{order_of};
-ghost use Rattle.coflow_units.specs.Certificate.{Entry as PlaceEntry};
+ghost use Rattle.coflow_units.specs.Certificate.{order_of, Entry as PlaceEntry};
 ghost use Rattle.coflow_units.specs.Ordering.{IsOrdering};
 ghost use Rattle.coflow_units.specs.Grants.{IsGrants, IsRunLength};
 ghost use Rattle.journal.specs.declared.command.Command.{Command};
 ghost use Rattle.journal.specs.declared.command.Entry.{Entry};
 ghost use Rattle.journal.specs.declared.opening.Opening.{Opening};
-ghost use Rattle.journal.specs.declared.command.Reply.TheVariants.{NothingLeft, Opened, Rank, Version, Weighed};
+ghost use Rattle.journal.specs.declared.command.Reply.TheVariants.{NothingLeft, Opened, Rank, Unranked, Version, Weighed};
 ghost use Rattle.journal.specs.declared.command.Command.TheVariants.{Open, Pull, Reweigh};
 ghost use Rattle.journal.specs.Chosen.{the_grants, the_ordering};
 ghost use Rattle.journal.specs.State.{has, is_present, IsOpening, owed, Run, slot_end, State, what_is_left};
-ghost use Rattle.journal.specs.Line.{version};
+ghost use Rattle.journal.specs.Line.{version, newest, line};
 ghost use Rattle.journal.specs.Runs.{credit, granted, slots_for};
 ghost use Rattle.journal.specs.Fold.{after, state_of};
 ghost use Rattle.journal.specs.Answer.{reply_of, room};
-ghost use Rattle.journal.specs.Journal.{IsLegal, asked, gives_weight, is_full, is_refusal, journal_after, left_at, line_of, order_in, rank_of, version_of};
+ghost use Rattle.journal.specs.Journal.{IsLegal, asked, gives_weight, is_full, is_refusal, journal_after, left_at, line_of, order_in, rank_of, version_of, entry};
 ghost use Rattle.journal.specs.Sound.{InRange, SoundState};
-ghost use Rattle.journal.specs.Rows.{ClosesInFull, Fills, LastSlot, Ranks, Runs, Weights};
+ghost use Rattle.journal.specs.Rows.{Doors, SkipsBack, LateJoiner, ByJoining, ByOrder, NewestNote, LeftWork, ClosesInFull, Fills, LastSlot, Ranks, Runs, Weights};
+ghost use Rattle.journal.specs.Entries.{TellsEntry};
+ghost use Rattle.journal.specs.Counts.{endings};
+ghost use Rattle.journal.specs.Versions.{IsMade, times_made};
+ghost use Rattle.flow_table.specs.Table.{instance_of};
 
 /// The ordering certificate and the grants that the master takes are those of their definitions, and no others.
 pub fn choices_are_the_ones()
@@ -95,9 +98,12 @@ pub fn weight_is_the_last()
     ensures opening { (o : Opening) (journal : List Entry) (coflow : ℕ) → All (λ x. gives_weight x coflow ≡ false) journal → (state_of o journal).weight coflow ≡ slice_index_or o.weights coflow 0 }
 {}
 
-/// A pull tells the newest version and the place in it, and an open finds nothing left only where no present coflow owes a unit.
+/// A pull tells the newest version, and the place in it or that there is none; and an open finds nothing left only where
+/// no present coflow owes a unit.
 pub fn replies_tell()
     ensures pull { (o : Opening) (journal : List Entry) (c v r : ℕ) → reply_of o journal (Pull c) ≡ Rank v r → (v ≡ version_of journal) × (r ≡ rank_of o journal v c) }
+    ensures unranked { (o : Opening) (journal : List Entry) (c v : ℕ) → reply_of o journal (Pull c) ≡ Unranked v →
+        (v ≡ version_of journal) × (rank_of o journal v c ≡ 0) }
     ensures nothing_left { (o : Opening) (journal : List Entry) (most f : ℕ) → IsOpening o → reply_of o journal (Open most) ≡ NothingLeft → f < length o.table.flows → is_present (state_of o journal) (coflow_of o.table.flows f) ≡ true →
         owed o (state_of o journal) f ≡ 0 }
 {}
@@ -110,6 +116,45 @@ pub fn opened_runs_have_grants()
     ensures length { (o : Opening) (s : State) (most : ℕ) → IsRunLength (owed o s) (granted o s) (min most (slot_end - s.next)) (slots_for o s most) }
 {}
 
+/// What each entry of a legal journal tells of the state that it answered in.
+pub fn entries_tell()
+    ensures { (o : Opening) (before more : List Entry) (e : Entry) → IsLegal o (before ++ e ∷ more) →
+        TellsEntry o (state_of o before) e.command e.reply }
+{}
+
+/// Only Short and Close make a journal longer than its limit: a journal that goes on from at most its limit is longer
+/// than the limit by at most as many entries as ask these.
+pub fn journals_have_further_room()
+    ensures { (o : Opening) (before more : List Entry) → IsLegal o (before ++ more) → length before ≤ o.limit →
+        length (before ++ more) ≤ o.limit + endings more }
+{}
+
+/// Each version from 1 to the newest of a journal has its entry, which was answered with it after the versions below,
+/// and no other entry was answered with it. There are at most as many versions as entries.
+pub fn versions_have_their_entries()
+    ensures made { (o : Opening) (journal : List Entry) (v : ℕ) → IsLegal o journal → 1 ≤ v → v ≤ version_of journal →
+        IsMade journal v }
+    ensures once { (o : Opening) (journal : List Entry) (v : ℕ) → IsLegal o journal → 1 ≤ v → v ≤ version_of journal →
+        times_made journal v ≡ 1 }
+    ensures later { (o : Opening) (journal : List Entry) (v : ℕ) → IsLegal o journal → version_of journal < v →
+        times_made journal v ≡ 0 }
+    ensures few { (journal : List Entry) → version_of journal ≤ length journal }
+{}
+
+/// Where each coflow that joined and has not left has a place in the newest order, the line is that order without those
+/// who left. Where all coflows are present with their opening weights and nothing was sent, what is
+/// left is the instance of the table.
+pub fn whole_work_is_left()
+    ensures order { (s : State) → ((c : ℕ) → has s.joined c ≡ true → has s.left c ≡ false → has (newest s) c ≡ true) →
+        line s ≡ filter (λ c. not (has s.left c)) (newest s) }
+    ensures newest { (s : State) → ((c : ℕ) → has s.joined c ≡ true → has (newest s) c ≡ true) →
+        ((c : ℕ) → has s.left c ≡ false) → line s ≡ newest s }
+    ensures instance { (o : Opening) (s : State) → IsOpening o →
+        ((c : ℕ) → c < length o.table.ids → is_present s c ≡ true) → ((f : ℕ) → s.sent f ≡ 0) →
+        ((c : ℕ) → s.weight c ≡ slice_index o.weights c) →
+        what_is_left o s ≡ instance_of o.table o.weights }
+{}
+
 /// The definitions give what was worked out by hand.
 pub fn rows_hold()
     ensures ranks { Ranks }
@@ -118,4 +163,11 @@ pub fn rows_hold()
     ensures runs { Runs }
     ensures last_slot { LastSlot }
     ensures weights { Weights }
+    ensures doors { Doors }
+    ensures skips_back { SkipsBack }
+    ensures late_joiner { LateJoiner }
+    ensures by_joining { ByJoining }
+    ensures by_order { ByOrder }
+    ensures newest_note { NewestNote }
+    ensures left_work { LeftWork }
 {}

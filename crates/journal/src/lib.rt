@@ -2,8 +2,10 @@
 #![tactic(auto)]
 
 mod command;
+pub mod drive_laws;
 pub mod laws;
 mod opening;
+pub mod run_laws;
 
 pub use command::{Command, Entry, Reply};
 pub use opening::Opening;

@@ -1,0 +1,81 @@
+-- The rows, computed.
+use Rattle.std.proofs.Common.{◌≡◌, ℕ, ◌⊎◌, true, inl, inr, List, [], ◌∷◌, Contains, refl, subst, arith}
+use Rattle.std.specs.Prelude.{All}
+use Rattle.std.proofs.lemmas.List.Elements.{All-cons, All-nil}
+use Rattle.coflow_units.specs.Flows.{ingress_of}
+use Rattle.coflow_units.specs.Rows.{two_flows}
+use Rattle.coflow_units.proofs.Sums.{first_or_tail, in_first, nothing_in}
+use Rattle.journal.specs.Chosen.{the_ordering, the_grants}
+use Rattle.journal.specs.declared.command.Command.TheVariants.{Register, Withdraw, Publish, Pull, Short, Reweigh}
+use Rattle.journal.specs.declared.command.Reply.TheVariants.{Joined, Left, StillOpen, Unranked, Noted, Weighed}
+use Rattle.journal.specs.declared.command.Entry.{Entry}
+use Rattle.journal.specs.Journal.{entry}
+use Rattle.journal.specs.Driven.{is_other, IsShortOf, times_noted}
+use Rattle.journal.specs.RunRows.{NotedRun, one_run, OneRun, OpenRun, ServedOrder, SkippedSlots, TwiceOnAWire, TwoPorts, WithdrawalBetween}
+
+pub served_order_is : ServedOrder
+unfolding the_ordering the_grants
+served_order_is = ((refl, refl, (refl, refl, (refl, refl, (refl, refl, (refl, refl, (refl, refl, (refl, refl, (refl, refl, tt)))))))), refl, refl, refl)
+
+pub noted_run_is : NotedRun
+unfolding the_ordering the_grants
+noted_run_is = ((refl, refl, (refl, refl, (refl, refl, (refl, refl, (refl, refl, (refl, refl, tt)))))), refl, refl, refl)
+
+pub skipped_slots_are : SkippedSlots
+unfolding the_ordering the_grants
+skipped_slots_are = ((refl, refl, (refl, refl, (refl, refl, (refl, refl, tt)))), refl, refl, refl)
+
+pub withdrawal_between_is : WithdrawalBetween
+unfolding the_ordering the_grants
+withdrawal_between_is = ((refl, refl, (refl, refl, (refl, refl, (refl, refl, (refl, refl, (refl, refl, (refl, refl, (refl, refl, tt)))))))), refl, refl, refl)
+
+pub two_ports_are : TwoPorts
+unfolding the_ordering the_grants
+two_ports_are = ((refl, refl, (refl, refl, (refl, refl, (refl, refl, (refl, refl, (refl, refl, (refl, refl, (refl, refl, (refl, refl, (refl, refl, tt)))))))))), refl, refl, refl)
+
+pub twice_is : TwiceOnAWire
+twice_is = (refl, refl, refl, refl, refl, refl, refl)
+
+pub open_run_is : OpenRun
+unfolding the_ordering the_grants
+open_run_is = ((refl, refl, (refl, refl, (refl, refl, tt))), refl, refl, refl)
+
+only_one : (f : ℕ) → Contains (0 ∷ []) f → 0 ≡ f
+only_one f in' = elim (first_or_tail 0 [] f in') [
+  | inl e ↦ e
+  | inr h ↦ absurd (nothing_in f h)
+]
+
+abbrev Between : List ℕ → Entry → Type 0
+Between granted e = (is_other e ≡ true) ⊎ IsShortOf two_flows granted one_run e
+
+between_is : (granted : List ℕ) → Contains granted 0 → All (Between granted) one_run.between
+between_is granted in' =
+    let weighed = entry 4 (Reweigh 0 2) (Weighed 1) in
+    let left = entry 4 (Withdraw 1) Left in
+    let noted = entry 0 (Short 0 1) (Noted 1) in
+    let kept = entry 4 Publish (StillOpen 1) in
+    let P = Between granted in
+    let last = All-cons P weighed (left ∷ []) (inl refl) (All-cons P left [] (inl refl) (All-nil P)) in
+    All-cons P (entry 3 (Pull 0) (Unranked 0)) (kept ∷ noted ∷ weighed ∷ left ∷ []) (inl refl)
+    (All-cons P kept (noted ∷ weighed ∷ left ∷ []) (inl refl) (All-cons P noted (weighed ∷ left ∷ []) (inr (0, in', refl, refl, omega arith)) last))
+
+earlier_is : All (λ e. is_other e ≡ true) one_run.earlier
+earlier_is = All-cons (λ e. is_other e ≡ true) (entry 3 (Register 1) Joined) [] refl (All-nil (λ e. is_other e ≡ true))
+
+noted_is : (f : ℕ) → 0 ≡ f → times_noted one_run.between (ingress_of two_flows f) ≡ 1
+noted_is f e = subst (λ g. times_noted one_run.between (ingress_of two_flows g) ≡ 1) e refl
+
+pub one_run_is : OneRun
+unfolding the_ordering the_grants
+one_run_is = (
+  (refl, refl, (refl, refl, (refl, refl, (refl, refl, (refl, refl, (refl, refl, (refl, refl, (refl, refl, (refl, refl, tt))))))))),
+  record {
+    goes_on = refl;
+    under_way = record { goes_on = refl; earlier = earlier_is; between = between_is (0 ∷ []) (in_first 0 []) };
+    within = λ f in'. omega arith;
+    noted = λ f in'. noted_is f (only_one f in');
+  },
+  refl,
+  refl,
+)

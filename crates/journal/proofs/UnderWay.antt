@@ -1,0 +1,203 @@
+-- A run that is under way: what holds then, how it goes on, what is answered, and that there is room to end it.
+use Rattle.std.proofs.Common.{◌≡◌, ℕ, ◌+◌, ◌≤◌, ◌<◌, ◌⊎◌, inl, inr, true, false, true≢false, List, [], ◌∷◌, ◌++◌, Contains, length, min, refl, sym, ap, subst, ◌∙◌, arith, suc, cond, append_assoc, append-nil, Some}
+use Rattle.std.specs.Prelude.{All, not, nat_lt, if◌then◌else◌}
+use Rattle.std.proofs.lemmas.Bool.{and_parts, leb-false, lt-leb}
+use Rattle.std.proofs.lemmas.List.{length-append}
+use Rattle.std.proofs.lemmas.List.Elements.{All-append, All-push}
+use Rattle.std.proofs.lemmas.List.Sums.{sum_by-append, sum_by-cons}
+use Rattle.coflow_units.specs.Flows.{ingress_of}
+use Rattle.coflow_units.proofs.ServedLaws.{grants_clear}
+use Rattle.journal.specs.declared.command.Command.{Command}
+use Rattle.journal.specs.declared.command.Command.TheVariants.{Short, Close}
+use Rattle.journal.specs.declared.command.Entry.{Entry}
+use Rattle.journal.specs.declared.command.Reply.{Reply}
+use Rattle.journal.specs.declared.command.Reply.TheVariants.{NoneOpen, NotGranted, Noted, Closed}
+use Rattle.journal.specs.declared.opening.Opening.{Opening}
+use Rattle.journal.specs.State.{owed}
+use Rattle.journal.specs.Runs.{grant_in}
+use Rattle.journal.specs.Fold.{state_of}
+use Rattle.journal.specs.Answer.{noted, on_run, reply_of, room}
+use Rattle.journal.specs.Journal.{entry, is_full, IsLegal, line_of}
+use Rattle.journal.proofs.Legal.{full_is, legal_front}
+use Rattle.journal.proofs.Versions.{legal_there}
+use Rattle.journal.specs.Driven.{closed_in, Drive, driven, is_other, IsDriven, IsRunning, IsShortOf, IsUnderWay, notes_port, opened_in, opening, times_noted}
+use Rattle.journal.specs.Entries.{is_driving}
+use Rattle.journal.specs.Counts.{endings, is_ending}
+use Rattle.journal.proofs.Between.{answered, mkr, not_driving, not_noting}
+use Rattle.journal.proofs.Driving.{at, IsAt, legal_open}
+use Rattle.journal.proofs.Ingresses.{grant_at}
+use Rattle.journal.proofs.Along.{all_front}
+use Rattle.journal.proofs.FurtherRoom.{further_room, room_is}
+
+-- ---- what holds
+
+legal_now : (o : Opening) (before now : List Entry) (d : Drive) → IsLegal o now → IsUnderWay o before now d → IsLegal o (closed_in before d ++ [])
+legal_now o before now d legal h = subst (IsLegal o) (h.goes_on ∙ sym (append-nil (closed_in before d))) legal
+
+on_its_own : (o : Opening) (before now : List Entry) (d : Drive) → IsUnderWay o before now d → IsUnderWay o before (closed_in before d) d
+on_its_own o before now d h = record { goes_on = refl; earlier = h.earlier; between = h.between }
+
+runs_in : (o : Opening) (before : List Entry) (d : Drive) → IsAt o before d → IsRunning o before (closed_in before d) d
+runs_in o before d x =
+    let now = closed_in before d in
+    record {
+      grants = x.grants;
+      count = x.count;
+      run_before = x.none;
+      first = x.at_next;
+      run = (mkr d.first d.slots (driven o before d) x.mid.notes, x.mid.run, refl, refl, refl);
+      leaves = x.leaves;
+    }
+
+pub running : (o : Opening) (before now : List Entry) (d : Drive) → IsLegal o now → IsUnderWay o before now d → IsRunning o before now d
+running o before now d legal h =
+    subst (λ l. IsRunning o before l d) (sym h.goes_on) (runs_in o before d (at o before [] d (legal_now o before now d legal h) (on_its_own o before now d h)))
+
+-- ---- how it goes on
+
+pub opens : (o : Opening) (before : List Entry) (d : Drive) → d.between ≡ [] → All (λ e. is_other e ≡ true) d.earlier → IsUnderWay o before (opened_in before d ++ opening d ∷ []) d
+opens o before d none earlier = record {
+  goes_on = sym (append-nil (opened_in before d ++ opening d ∷ [])) ∙ ap (λ l. (opened_in before d ++ opening d ∷ []) ++ l) (sym none);
+  earlier = earlier;
+  between = subst (All (λ e. (is_other e ≡ true) ⊎ IsShortOf o.table.flows (driven o before d) d e)) (sym none) (λ k e lt. absurd (omega arith));
+}
+
+more : (o : Opening) (before now es : List Entry) (d : Drive) → IsUnderWay o before now d → All (λ e. (is_other e ≡ true) ⊎ IsShortOf o.table.flows (driven o before d) d e) es →
+    IsUnderWay o before (now ++ es) (record d { between = d.between ++ es })
+more o before now es d h all = record {
+  goes_on = ap (λ (l : List Entry). l ++ es) h.goes_on ∙ append_assoc (opened_in before d ++ opening d ∷ []) d.between es;
+  earlier = h.earlier;
+  between = All-append (λ e. (is_other e ≡ true) ⊎ IsShortOf o.table.flows (driven o before d) d e) d.between es h.between all;
+}
+
+pub others_more : (o : Opening) (before now es : List Entry) (d : Drive) → IsUnderWay o before now d → All (λ e. is_other e ≡ true) es →
+    IsUnderWay o before (now ++ es) (record d { between = d.between ++ es })
+others_more o before now es d h all = more o before now es d h (λ k e lt. inl (all k e lt))
+
+pub note_more : (o : Opening) (before now : List Entry) (d : Drive) (f : ℕ) (reply : Reply) → IsUnderWay o before now d → Contains (driven o before d) f →
+    d.sent (ingress_of o.table.flows f) < d.slots →
+    IsUnderWay o before (now ++ entry 0 (Short (ingress_of o.table.flows f) (d.sent (ingress_of o.table.flows f))) reply ∷ [])
+    (record d { between = d.between ++ entry 0 (Short (ingress_of o.table.flows f) (d.sent (ingress_of o.table.flows f))) reply ∷ [] })
+note_more o before now d f reply h in' lt =
+    let e = entry 0 (Short (ingress_of o.table.flows f) (d.sent (ingress_of o.table.flows f))) reply in
+    more o before now (e ∷ []) d h (All-push (λ e. (is_other e ≡ true) ⊎ IsShortOf o.table.flows (driven o before d) d e) [] e (λ k x low. absurd (omega arith)) (inr (f, in', refl, refl, lt)))
+
+-- what was sent may be told as late as before the first note
+pub sent_told : (o : Opening) (before now : List Entry) (d : Drive) (sent : ℕ → ℕ) → IsUnderWay o before now d → All (λ e. is_other e ≡ true) d.between →
+    IsUnderWay o before now (record d { sent = sent })
+sent_told o before now d sent h all = record { goes_on = h.goes_on; earlier = h.earlier; between = λ k e lt. inl (all k e lt) }
+
+pub closes : (o : Opening) (before now : List Entry) (d : Drive) (reply : Reply) → IsUnderWay o before now d →
+    ((f : ℕ) → Contains (driven o before d) f → d.sent (ingress_of o.table.flows f) ≤ d.slots) →
+    ((f : ℕ) → Contains (driven o before d) f → times_noted d.between (ingress_of o.table.flows f) ≡ (if nat_lt (d.sent (ingress_of o.table.flows f)) d.slots then 1 else 0)) →
+    IsDriven o before (now ++ entry 0 Close reply ∷ []) (record d { answer = reply })
+closes o before now d reply h within noted = record {
+  goes_on = ap (λ (l : List Entry). l ++ entry 0 Close reply ∷ []) h.goes_on;
+  under_way = record { goes_on = refl; earlier = h.earlier; between = h.between };
+  within = within;
+  noted = noted;
+}
+
+-- ---- how often a port is noted
+
+pub noted_both : (xs ys : List Entry) (port : ℕ) → times_noted (xs ++ ys) port ≡ times_noted xs port + times_noted ys port
+noted_both xs ys port = sum_by-append (λ (e : Entry). cond {A = ℕ} (notes_port port e.command) 1 0) xs ys
+
+pub endings_both : (xs ys : List Entry) → endings (xs ++ ys) ≡ endings xs + endings ys
+endings_both xs ys = sum_by-append (λ (e : Entry). cond {A = ℕ} (is_ending e.command) 1 0) xs ys
+
+free : (e : Entry) → is_other e ≡ true → is_driving e.command ≡ false
+free e h = not_driving (is_driving e.command) (and_parts (nat_lt 0 e.who) (not (is_driving e.command)) h).1
+
+not_ending : (k : Command) → is_driving k ≡ false → is_ending k ≡ false
+not_ending (Short port units) e = absurd (true≢false e)
+not_ending Close e = absurd (true≢false e)
+not_ending k e = refl
+
+pub others_note_none : (es : List Entry) (port : ℕ) → All (λ e. is_other e ≡ true) es → times_noted es port ≡ 0
+others_note_none [] port all = refl
+others_note_none (e ∷ es) port all =
+    omega (
+      arith,
+      sum_by-cons (λ (e : Entry). cond {A = ℕ} (notes_port port e.command) 1 0) e es,
+      ap {B = ℕ} (λ b. cond b 1 0) (not_noting port e.command (free e (all 0 e (omega arith)))),
+      others_note_none es port (λ k d lt. all (suc k) d (omega arith)),
+    )
+
+pub others_end_none : (es : List Entry) → All (λ e. is_other e ≡ true) es → endings es ≡ 0
+others_end_none [] all = refl
+others_end_none (e ∷ es) all =
+    omega (
+      arith,
+      sum_by-cons (λ (e : Entry). cond {A = ℕ} (is_ending e.command) 1 0) e es,
+      ap {B = ℕ} (λ b. cond b 1 0) (not_ending e.command (free e (all 0 e (omega arith)))),
+      others_end_none es (λ k d lt. all (suc k) d (omega arith)),
+    )
+
+-- ---- what is answered
+
+pub close_reply : (o : Opening) (before now : List Entry) (d : Drive) (who : ℕ) (reply : Reply) → IsLegal o (now ++ entry who Close reply ∷ []) → IsUnderWay o before now d →
+    reply ≡ Closed d.first
+close_reply o before now d who reply legal h =
+    let x = running o before now d (legal_front o [] now (entry who Close reply ∷ []) legal) h in
+    let (r, is, first, slots, granted) = x.run in
+    answered o now [] (entry who Close reply) legal ∙ ap (λ y. on_run y (λ r. Closed r.first) NoneOpen) is ∙ ap (λ (n : ℕ). Closed n) first
+
+pub note_reply : (o : Opening) (before now : List Entry) (d : Drive) (who f units : ℕ) (reply : Reply) →
+    IsLegal o (now ++ entry who (Short (ingress_of o.table.flows f) units) reply ∷ []) → IsUnderWay o before now d → Contains (driven o before d) f →
+    reply ≡ Noted (min units d.slots)
+note_reply o before now d who f units reply legal h in' =
+    let flows = o.table.flows in
+    let p = ingress_of flows f in
+    let gs = driven o before d in
+    let e = entry who (Short p units) reply in
+    let x = running o before now d (legal_front o [] now (e ∷ []) legal) h in
+    let (r, is, first, slots, granted) = x.run in
+    let clear = grants_clear flows (line_of o (opened_in before d)) (owed o (state_of o (opened_in before d))) gs x.grants in
+    let grant : grant_in flows r.granted p ≡ Some f = ap (λ l. grant_in flows l p) granted ∙ (grant_at flows gs p f clear).1 (in', refl) in
+    answered o now [] e legal ∙ ap (λ y. on_run y (λ r. noted r p units (grant_in flows r.granted p)) (NotGranted p)) is ∙ ap (noted r p units) grant ∙ ap (λ n. Noted (min units n)) slots
+
+least : (m n : ℕ) → m < n → min m n ≡ m
+least m n lt = omega (arith, lt)
+
+-- each note of the driver was taken, with the units that were sent
+pub note_taken : (o : Opening) (before now front rest : List Entry) (d : Drive) (e : Entry) → IsLegal o now → IsUnderWay o before now d → d.between ≡ front ++ (e ∷ rest) →
+    (x : IsShortOf o.table.flows (driven o before d) d e) →
+    e.reply ≡ Noted (d.sent (ingress_of o.table.flows x.0))
+note_taken o before now front rest d e legal h is x =
+    let start = opened_in before d ++ opening d ∷ [] in
+    let p = ingress_of o.table.flows x.0 in
+    let pieces : now ≡ (start ++ front) ++ (e ∷ rest) = h.goes_on ∙ ap (λ (l : List Entry). start ++ l) is ∙ sym (append_assoc start front (e ∷ rest)) in
+    let whole : IsLegal o (((start ++ front) ++ e ∷ []) ++ rest) = subst (IsLegal o) (pieces ∙ sym (append_assoc (start ++ front) (e ∷ []) rest)) legal in
+    let here : IsLegal o ((start ++ front) ++ entry e.who (Short p (d.sent p)) e.reply ∷ []) =
+    subst (λ k. IsLegal o ((start ++ front) ++ entry e.who k e.reply ∷ [])) x.3 (legal_front o [] ((start ++ front) ++ e ∷ []) rest whole) in
+    let part : Drive = record d { between = front } in
+    let so_far : IsUnderWay o before (start ++ front) part =
+    record {
+      goes_on = refl;
+      earlier = h.earlier;
+      between = all_front (λ e. (is_other e ≡ true) ⊎ IsShortOf o.table.flows (driven o before d) d e) front (e ∷ rest) (subst (All (λ e. (is_other e ≡ true) ⊎ IsShortOf o.table.flows (driven o before d) d e)) is h.between);
+    } in
+    note_reply o before (start ++ front) part e.who x.0 (d.sent p) e.reply here so_far x.1 ∙ ap (λ (n : ℕ). Noted n) (least (d.sent p) d.slots x.4)
+
+-- ---- room
+
+-- an entry that asks neither Short nor Close stands within the limit
+pub within_limit : (o : Opening) (before more : List Entry) (e : Entry) → IsLegal o (before ++ (e ∷ more)) → is_ending e.command ≡ false → length (before ++ e ∷ []) ≤ o.limit
+within_limit o before more e legal not' =
+    let there = legal_there o before more e legal in
+    let had = leb-false (room o e.command) (length before) (sym (full_is o before e.command) ∙ ap is_full (sym there.0) ∙ there.1) in
+    omega (arith, had, room_is o e.command not', length-append before (e ∷ []))
+
+ending_room : (o : Opening) (k : Command) → is_ending k ≡ true → room o k ≡ o.limit + o.table.ports + 1
+ending_room o (Short port units) e = refl
+ending_room o Close e = refl
+ending_room o k e = absurd (true≢false (sym e))
+
+pub room_to_end : (o : Opening) (before now : List Entry) (d : Drive) (k : Command) → IsLegal o now → IsUnderWay o before now d → endings d.between ≤ o.table.ports →
+    is_ending k ≡ true → is_full (reply_of o now k) ≡ false
+room_to_end o before now d k legal h few ends =
+    let whole = legal_now o before now d legal h in
+    let low = within_limit o (opened_in before d) (d.between ++ []) (opening d) (legal_open o before [] d whole) refl in
+    let high = further_room o (opened_in before d ++ opening d ∷ []) d.between (subst (IsLegal o) h.goes_on legal) low in
+    full_is o now k ∙ lt-leb (room o k) (length now) (omega (arith, ending_room o k ends, high, ap (λ (l : List Entry). length l) h.goes_on, few))

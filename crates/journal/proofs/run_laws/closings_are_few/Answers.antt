@@ -1,0 +1,11 @@
+use Rattle.journal.proofs.Counting.{closings_are, few_closings, units_within}
+use Rattle.journal.proofs.run_laws.closings_are_few.Goals as goal
+
+pub returns-clause-runs : goal.returns-clause-runs
+returns-clause-runs c = closings_are
+
+pub returns-clause-units : goal.returns-clause-units
+returns-clause-units c = few_closings
+
+pub returns-clause-within : goal.returns-clause-within
+returns-clause-within c = units_within

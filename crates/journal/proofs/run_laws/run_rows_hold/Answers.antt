@@ -1,0 +1,26 @@
+use Rattle.journal.proofs.RunRowChecks.{noted_run_is, one_run_is, open_run_is, served_order_is, skipped_slots_are, twice_is, two_ports_are, withdrawal_between_is}
+use Rattle.journal.proofs.run_laws.run_rows_hold.Goals as goal
+
+pub returns-clause-served_order : goal.returns-clause-served_order
+returns-clause-served_order c = served_order_is
+
+pub returns-clause-noted_run : goal.returns-clause-noted_run
+returns-clause-noted_run c = noted_run_is
+
+pub returns-clause-skipped_slots : goal.returns-clause-skipped_slots
+returns-clause-skipped_slots c = skipped_slots_are
+
+pub returns-clause-withdrawal_between : goal.returns-clause-withdrawal_between
+returns-clause-withdrawal_between c = withdrawal_between_is
+
+pub returns-clause-open_run : goal.returns-clause-open_run
+returns-clause-open_run c = open_run_is
+
+pub returns-clause-one_run : goal.returns-clause-one_run
+returns-clause-one_run c = one_run_is
+
+pub returns-clause-two_ports : goal.returns-clause-two_ports
+returns-clause-two_ports c = two_ports_are
+
+pub returns-clause-twice_on_a_wire : goal.returns-clause-twice_on_a_wire
+returns-clause-twice_on_a_wire c = twice_is

@@ -1,0 +1,123 @@
+-- What the runs of two small flows make, worked out by hand.
+use Rattle.std.specs.Prelude.{◌≡◌, ℕ, List, [], ◌∷◌, ◌++◌, map}
+use Rattle.coflow_units.specs.Rows.{all_ties}
+use Rattle.journal.specs.declared.command.Command.{Command}
+use Rattle.journal.specs.declared.command.Command.TheVariants.{Register, Withdraw, Publish, Pull, Open, Short, Close, Skip, Reweigh}
+use Rattle.journal.specs.declared.command.Reply.{Reply}
+use Rattle.journal.specs.declared.command.Reply.TheVariants.{Joined, Left, StillOpen, Version, Unranked, NothingLeft, Opened, Noted, Closed, Skipped, Weighed}
+use Rattle.journal.specs.declared.command.Entry.{Entry}
+use Rattle.journal.specs.declared.opening.Opening.{Opening}
+use Rattle.journal.specs.Journal.{entry, IsLegal}
+use Rattle.journal.specs.Rows.{two}
+use Rattle.journal.specs.Closed.{schedule_of, times_on, wire_of}
+use Rattle.journal.specs.Driven.{closed_in, closing, Drive, IsDriven}
+
+-- entries of caller 0
+abbrev pub entries : List (Command × Reply) → List Entry
+entries steps = map (λ (x : Command × Reply). entry 0 x.0 x.1) steps
+
+-- the journal is legal, and these are its schedule and the wire of ingress 0; the wire of ingress 1 is empty
+abbrev pub Makes : List Entry → List (List ℕ) → List (ℕ × ℕ × ℕ) → Type 0
+Makes journal slots wire =
+    IsLegal (two 100) journal × (schedule_of (two 100) journal ≡ slots) × (wire_of (two 100) journal 0 ≡ wire)
+    × (wire_of (two 100) journal 1 ≡ [])
+
+-- both coflows are served in the order that was published: the flow of one unit, and then that of three
+abbrev pub served_order : List Entry
+served_order =
+    entry 1 (Register 0) Joined ∷ entry 1 (Register 1) Joined ∷ entry 1 Publish (Version 1)
+    ∷ entries ((Open 4, Opened 1 1 1) ∷ (Close, Closed 1) ∷ (Open 4, Opened 2 3 1) ∷ (Close, Closed 2) ∷ (Open 4, NothingLeft) ∷ [])
+
+abbrev pub ServedOrder : Type 0
+ServedOrder = Makes served_order ((1 ∷ []) ∷ (0 ∷ []) ∷ (0 ∷ []) ∷ (0 ∷ []) ∷ []) ((1, 1, 1) ∷ (2, 0, 3) ∷ [])
+
+-- a run of two slots of which one unit was sent, and then a whole run: the flow stands in slot 1, and again in slots 3 and 4
+abbrev pub noted_run : List Entry
+noted_run =
+    entries ((Register 0, Joined) ∷ (Open 2, Opened 1 2 1) ∷ (Short 0 1, Noted 1) ∷ (Close, Closed 1)
+    ∷ (Open 9, Opened 3 2 1) ∷ (Close, Closed 3) ∷ [])
+
+abbrev pub NotedRun : Type 0
+NotedRun = Makes noted_run ((0 ∷ []) ∷ [] ∷ (0 ∷ []) ∷ (0 ∷ []) ∷ []) ((1, 0, 1) ∷ (3, 0, 2) ∷ [])
+
+-- three slots pass before the first run
+abbrev pub skipped_slots : List Entry
+skipped_slots = entries ((Skip 4, Skipped 4) ∷ (Register 0, Joined) ∷ (Open 9, Opened 4 3 1) ∷ (Close, Closed 4) ∷ [])
+
+abbrev pub SkippedSlots : Type 0
+SkippedSlots = Makes skipped_slots ([] ∷ [] ∷ [] ∷ (0 ∷ []) ∷ (0 ∷ []) ∷ (0 ∷ []) ∷ []) ((4, 0, 3) ∷ [])
+
+-- the coflow that is served leaves between two runs, and the other one is served
+abbrev pub withdrawal_between : List Entry
+withdrawal_between =
+    entries ((Register 0, Joined) ∷ (Register 1, Joined) ∷ (Open 2, Opened 1 2 1) ∷ (Close, Closed 1) ∷ (Withdraw 0, Left)
+    ∷ (Open 9, Opened 3 1 1) ∷ (Close, Closed 3) ∷ (Open 1, NothingLeft) ∷ [])
+
+abbrev pub WithdrawalBetween : Type 0
+WithdrawalBetween = Makes withdrawal_between ((0 ∷ []) ∷ (0 ∷ []) ∷ (1 ∷ []) ∷ []) ((1, 0, 2) ∷ (3, 1, 1) ∷ [])
+
+-- two flows of each of two ports: grants of both ports, and one of them is noted with nothing sent
+abbrev pub two_ports : Opening
+two_ports = record {
+  table = record { flows = all_ties.flows; starts = 0 ∷ 2 ∷ 4 ∷ []; ports = 2; ids = 1 ∷ 2 ∷ []; arrivals = 0 ∷ 0 ∷ [] };
+  weights = 1 ∷ 1 ∷ [];
+  limit = 100;
+}
+
+abbrev pub ports_apart : List Entry
+ports_apart =
+    entries ((Register 0, Joined) ∷ (Register 1, Joined) ∷ (Open 9, Opened 1 1 2) ∷ (Short 1 0, Noted 0) ∷ (Close, Closed 1)
+    ∷ (Open 9, Opened 2 1 2) ∷ (Close, Closed 2) ∷ (Open 9, Opened 3 1 1) ∷ (Close, Closed 3) ∷ (Open 9, NothingLeft) ∷ [])
+
+abbrev pub TwoPorts : Type 0
+TwoPorts =
+    IsLegal two_ports ports_apart × (schedule_of two_ports ports_apart ≡ (0 ∷ []) ∷ (1 ∷ 2 ∷ []) ∷ (3 ∷ []) ∷ [])
+    × (wire_of two_ports ports_apart 0 ≡ (1, 0, 1) ∷ (2, 2, 1) ∷ [])
+    × (wire_of two_ports ports_apart 1 ≡ (2, 1, 1) ∷ (3, 3, 1) ∷ [])
+
+-- a list of sent runs that has one of them twice
+abbrev pub twice : List (ℕ × ℕ × ℕ)
+twice = (1, 0, 2) ∷ (1, 1, 1) ∷ (1, 0, 2) ∷ (2, 0, 2) ∷ []
+
+abbrev pub TwiceOnAWire : Type 0
+TwiceOnAWire =
+    (times_on twice 0 0 ≡ 0) × (times_on twice 1 0 ≡ 2) × (times_on twice 2 0 ≡ 3) × (times_on twice 3 0 ≡ 1)
+    × (times_on twice 4 0 ≡ 0) × (times_on twice 1 1 ≡ 1) × (times_on twice 2 1 ≡ 0)
+
+-- a run that is still open stands in no slot, and on no wire
+abbrev pub open_run : List Entry
+open_run = entries ((Register 0, Joined) ∷ (Open 2, Opened 1 2 1) ∷ (Short 0 1, Noted 1) ∷ [])
+
+abbrev pub OpenRun : Type 0
+OpenRun = Makes open_run [] []
+
+-- one caller registers a coflow, and then the driver opens a run of three slots; another caller pulls, a third
+-- one can't publish, the driver notes that one unit was sent from ingress 0, the third caller weighs and withdraws
+-- coflows, and the driver closes the run
+abbrev pub one_run : Drive
+one_run = record {
+  earlier = entry 3 (Register 1) Joined ∷ [];
+  most = 5;
+  first = 1;
+  slots = 3;
+  count = 1;
+  between =
+      entry 3 (Pull 0) (Unranked 0) ∷ entry 4 Publish (StillOpen 1) ∷ entry 0 (Short 0 1) (Noted 1)
+      ∷ entry 4 (Reweigh 0 2) (Weighed 1) ∷ entry 4 (Withdraw 1) Left ∷ [];
+  answer = Closed 1;
+  sent = λ port. 1;
+}
+
+-- the journal before it, and the one after it
+abbrev pub registered : List Entry
+registered = entry 0 (Register 0) Joined ∷ []
+
+abbrev pub after_one_run : List Entry
+after_one_run = closed_in registered one_run ++ closing one_run ∷ []
+
+-- it is a driven run of a legal journal: the flow stands in slot 1 alone, and its unit was sent there
+abbrev pub OneRun : Type 0
+OneRun =
+    IsLegal (two 100) after_one_run × IsDriven (two 100) registered after_one_run one_run
+    × (schedule_of (two 100) after_one_run ≡ (0 ∷ []) ∷ [] ∷ [] ∷ [])
+    × (wire_of (two 100) after_one_run 0 ≡ (1, 0, 1) ∷ [])
