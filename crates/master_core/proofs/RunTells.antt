@@ -14,30 +14,11 @@ use Rattle.journal.specs.State.{Run}
 use Rattle.journal.specs.Runs.{flow_at, grant_in, note_in, noted_at}
 use Rattle.journal.specs.Fold.{noted_in}
 use Rattle.journal.specs.Answer.{noted, on_run}
+use Rattle.journal.proofs.Ingresses.{grant_is, grant_none}
 use Rattle.master_core.specs.OpenRun.{FitsOpen, KeptRun, flow_kept, kept_note, note_at, note_of, number_noted, with_note}
 use Rattle.master_core.specs.Standing.{TellsOpen, TellsRun}
 
 -- ---- the grant at an ingress
-
-grant_is : (flows : List Flow) (granted : List ℕ) (p f : ℕ) → grant_in flows granted p ≡ Some f → Contains granted f × (ingress_of flows f ≡ p)
-grant_is flows [] p f e = absurd (cc)
-grant_is flows (g ∷ gs) p f e = elim (cases_Bool (ingress_of flows g == p)) [
-  | inl t ↦
-      let same : Some g ≡ Some f = sym (ap (λ (b : Bool). if b then Some g else grant_in flows gs p) t) ∙ e in
-      let is : g ≡ f = cc in
-      (subst (λ x. Contains (g ∷ gs) x) is (in_first g gs), ap (ingress_of flows) (sym is) ∙ eqb-true (ingress_of flows g) p t)
-  | inr t ↦ let (in', at) = grant_is flows gs p f (sym (ap (λ (b : Bool). if b then Some g else grant_in flows gs p) t) ∙ e) in (in_tail g gs f in', at)
-]
-
-grant_none : (flows : List Flow) (granted : List ℕ) (p f : ℕ) → grant_in flows granted p ≡ None → Contains granted f → ingress_of flows f ≡ p → ⊥
-grant_none flows [] p f e in' at = nothing_in f in'
-grant_none flows (g ∷ gs) p f e in' at = elim (cases_Bool (ingress_of flows g == p)) [
-  | inl t ↦ let wrong : Some g ≡ None = sym (ap (λ (b : Bool). if b then Some g else grant_in flows gs p) t) ∙ e in absurd (cc)
-  | inr t ↦ elim (first_or_tail g gs f in') [
-    | inl same ↦ true≢false (sym (eq-eqb (ingress_of flows g) p (ap (ingress_of flows) same ∙ at)) ∙ t)
-    | inr later ↦ grant_none flows gs p f (sym (ap (λ (b : Bool). if b then Some g else grant_in flows gs p) t) ∙ e) later at
-  ]
-]
 
 same_option : (a b : Option ℕ) → ((f : ℕ) → a ≡ Some f → b ≡ Some f) → (a ≡ None → (f : ℕ) → b ≡ Some f → ⊥) → a ≡ b
 same_option None None f g = refl

@@ -1,5 +1,5 @@
 -- The open run as it is kept: with a table of the granted flow and of the note of each ingress.
-use Rattle.std.specs.Prelude.{◌≡◌, ℕ, ◌+◌, ◌-◌, ◌<◌, ◌≤◌, min, if◌then◌else◌, List, All, length, slice_index, slice_set, Option, Some, None, unwrap_or}
+use Rattle.std.specs.Prelude.{◌≡◌, ℕ, ◌+◌, ◌-◌, ◌<◌, ◌≤◌, min, if◌then◌else◌, List, [], All, length, slice_index, slice_set, Option, Some, None, unwrap_or}
 use Rattle.std.specs.List.{slice_index_or}
 use Rattle.std.specs.List.Sorted.{IsStrictlyIncreasing}
 use Rattle.coflow_units.specs.declared.fabric.Flow.{Flow}
@@ -39,6 +39,11 @@ pub record IsBegun (flows : List Flow) (ports : ℕ) (line : List ℕ) (left : �
 abbrev pub flow_kept : Option KeptRun → ℕ → Option ℕ
 flow_kept None ingress = None
 flow_kept (Some r) ingress = flow_at_ingress r.at ingress
+
+-- the granted flows, where a run is open
+abbrev pub flows_kept : Option KeptRun → List ℕ
+flows_kept None = []
+flows_kept (Some r) = r.granted
 
 -- what was noted last at an ingress, where a run is open
 abbrev pub kept_note : Option KeptRun → ℕ → Option ℕ

@@ -1,11 +1,12 @@
 //! The master.
-ghost use Rattle.std.specs.Prelude.{◌≡◌, ℕ, ◌+◌, ◌^◌, ◌<◌, ◌≤◌, ◌&&◌, [], All, IfOk, IsTrue, length, nat_le, nat_lt};
-ghost use Rattle.coflow_units.specs.Flows.{Instance};
+ghost use Rattle.std.specs.Prelude.{◌≡◌, ℕ, ◌+◌, ◌^◌, ◌<◌, ◌≤◌, ◌&&◌, [], All, IfOk, IsTrue, length, nat_le, nat_lt, slice_index};
+ghost use Rattle.coflow_units.specs.declared.plan.Place.{Place};
+ghost use Rattle.coflow_units.specs.Flows.{Instance, IsDistinct};
 ghost use Rattle.bssi_order.specs.Order.{IsOrder};
 ghost use Rattle.journal.specs.Answer.{IsInRange, in_range, reply_of, room};
 ghost use Rattle.journal.specs.Fold.{state_of};
 ghost use Rattle.journal.specs.Journal.{IsLegal, journal_after, order_in, rank_of, version_of};
-ghost use Rattle.journal.specs.Runs.{flow_at, noted_at, slots_of};
+ghost use Rattle.journal.specs.Runs.{flow_at, flows_granted, noted_at, slots_of};
 ghost use Rattle.journal.specs.Sound.{InRange};
 ghost use Rattle.master_core.specs.Published.{TellsPlaces, ranked};
 ghost use Rattle.journal.specs.State.{IsOpening, owed};
@@ -127,6 +128,13 @@ impl Master {
         self.standing.runs.at(ingress)
     }
 
+    /// The flows that are granted in the open run, by number. There are none where no run is open. It takes no memory.
+    pub fn granted_flows(&self) -> &[u32]
+        ensures { result.now ≡ flows_granted (state_of self.now.opening self.now.journal).run }
+    {
+        self.standing.runs.flows()
+    }
+
     /// How many slots the open run has; its first is the next slot. None comes exactly where no run is open.
     pub fn open_slots(&self) -> Option<u64>
         ensures { result ≡ slots_of (state_of self.now.opening self.now.journal).run }
@@ -145,10 +153,13 @@ impl Master {
         self.standing.runs.noted(ingress)
     }
 
-    /// The places of the newest version, from place 1 on; none before the first publishing.
+    /// The places of the newest version, from place 1 on; none before the first publishing. No coflow has two.
     pub fn places(&self) -> &[Place]
         ensures places { TellsPlaces (state_of self.now.opening self.now.journal).published result.now }
         ensures order { ranked result.now ≡ order_in self.now.opening self.now.journal (version_of self.now.journal) }
+        ensures few { length result.now ≤ length self.now.opening.table.ids }
+        ensures once { IsDistinct (ranked result.now) }
+        ensures coflow { All (λ (x : Place). x.coflow < length self.now.opening.table.ids) result.now }
     {
         self.standing.orders.places()
     }
@@ -159,6 +170,15 @@ impl Master {
         ensures { result ≡ rank_of self.now.opening self.now.journal (version_of self.now.journal) coflow }
     {
         self.standing.orders.rank(coflow)
+    }
+
+    /// For each coflow its place in the newest version, counted from 1, or 0 where it has none. It takes no memory.
+    pub fn ranks(&self) -> &[u32]
+        ensures len { length result.now ≡ length self.now.opening.table.ids }
+        ensures rank { (coflow : ℕ) → coflow < length self.now.opening.table.ids →
+            slice_index result.now coflow ≡ rank_of self.now.opening self.now.journal (version_of self.now.journal) coflow }
+    {
+        self.standing.orders.ranks()
     }
 
     /// The newest version; 0 before the first publishing.

@@ -101,6 +101,15 @@ impl Orders {
     {
         self.ranks[coflow as usize]
     }
+
+    /// For each coflow its place in the newest version, counted from 1, or 0 where it has none.
+    pub fn ranks(&self) -> &[u32]
+        ensures len { length result.now ≡ self.now.coflows }
+        ensures rank { (coflow : ℕ) → coflow < self.now.coflows →
+            slice_index result.now coflow ≡ rank_in (ranked self.now.places) coflow }
+    {
+        &self.ranks
+    }
 }
 
 /// Gives each coflow its place, counted from 1, and 0 to those without one.

@@ -6,7 +6,7 @@ ghost use Rattle.coflow_units.specs.Flows.{IsDistinct, coflow_of};
 ghost use Rattle.flow_table.specs.Table.{IsTable};
 ghost use Rattle.greedy_rates.specs.Owed.{IsOwed};
 ghost use Rattle.journal.specs.State.{slot_end};
-ghost use Rattle.master_core.specs.OpenRun.{FitsOpen, IsBegun, KeptRun, credit_of, flow_kept, kept_credit, kept_note, note_at, number_noted, with_note};
+ghost use Rattle.master_core.specs.OpenRun.{FitsOpen, IsBegun, KeptRun, credit_of, flow_kept, flows_kept, kept_credit, kept_note, note_at, number_noted, with_note};
 
 use coflow_units::{Flow, MAX_SLOT, NoMemory};
 use flow_table::Table;
@@ -75,6 +75,16 @@ impl Runs {
         match self.current {
             Some(_) => self.scratch.at(ingress),
             None => None,
+        }
+    }
+
+    /// The flows that are granted in the open run, by number. There are none where no run is open.
+    pub fn flows(&self) -> &[u32]
+        ensures { result.now ≡ flows_kept self.now.run }
+    {
+        match self.current {
+            Some(_) => self.scratch.flows(),
+            None => &[],
         }
     }
 
