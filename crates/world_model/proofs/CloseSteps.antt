@@ -16,7 +16,7 @@ use Rattle.world_model.specs.Sent.{sent_for}
 use Rattle.world_model.specs.Guards.{is_done, is_short}
 use Rattle.world_model.specs.Kept.{IsAtStage, IsKept, IsNote, Rests, sent_now}
 use Rattle.world_model.proofs.PortSteps.{mkp, no_way}
-use Rattle.world_model.proofs.SendSteps.{grant_there}
+use Rattle.journal.proofs.Ingresses.{grant_there}
 
 -- where the port of a grant is done, the number that was sent for it is credited
 done_credit : (r : Run) (sent_here : ℕ) (note settled : Option ℕ) (b : Bool) → settled ≡ Some sent_here → sent_here ≤ r.slots → nat_lt sent_here r.slots ≡ b → IsNote r note settled →

@@ -19,7 +19,8 @@ use Rattle.world_model.specs.declared.sent.SentRun.{SentRun}
 use Rattle.world_model.specs.Sent.{sends, sent_for, sent_in, slots_within, times_sent}
 use Rattle.world_model.specs.Kept.{IsApart, IsSentRun, sent_now}
 use Rattle.world_model.specs.Credited.{CreditedFrom, CreditsSent, IsCredited}
-use Rattle.world_model.proofs.SendSteps.{both_true, grant_has}
+use Rattle.journal.proofs.Ingresses.{grant_is}
+use Rattle.world_model.proofs.SendSteps.{both_true}
 
 -- ---- a later next slot
 
@@ -92,7 +93,7 @@ other_flow flows next r x f false e other h clear = refl
 other_flow flows next r x f true e other h clear = elim h.in_time [
   | inl old ↦ not_now true (x.port == ingress_of flows f) (x.slot == r.first) x.units (ne_eqb x.slot r.first (λ same. omega (arith, same, old, h.units_some)))
   | inr now ↦ elim (cases_eq x.port (ingress_of flows f)) [
-    | inl there ↦ absurd (other (clear.apart x.flow f (grant_has flows r.granted x.port x.flow now.2).0 (any_has r.granted f e) (inl (sym h.at_ingress ∙ there))))
+    | inl there ↦ absurd (other (clear.apart x.flow f (grant_is flows r.granted x.port x.flow now.2).0 (any_has r.granted f e) (inl (sym h.at_ingress ∙ there))))
     | inr apart ↦ not_there true (x.port == ingress_of flows f) (x.slot == r.first) x.units (ne_eqb x.port (ingress_of flows f) apart)
   ]
 ]
@@ -106,7 +107,7 @@ sent_one flows next r x f h clear = elim (cases_eq x.flow f) [
         none ∙ sym (not_now (has r.granted f) (x.port == ingress_of flows f) (x.slot == r.first) x.units (ne_eqb x.slot r.first (λ e. omega (arith, e, old, h.units_some))))
     | inr now ↦
         let all : slots_within x r.first (r.first + r.slots) ≡ x.units = omega (arith, now.0, now.1) in
-        let in' = subst (λ n. Contains r.granted n) same (grant_has flows r.granted x.port x.flow now.2).0 in
+        let in' = subst (λ n. Contains r.granted n) same (grant_is flows r.granted x.port x.flow now.2).0 in
         all ∙ sym (all_now (has r.granted f) ((x.port == ingress_of flows f) && (x.slot == r.first)) x.units (any_in r.granted f in')
         (both_true x.port (ingress_of flows f) x.slot r.first (h.at_ingress ∙ ap (ingress_of flows) same) now.0))
   ]

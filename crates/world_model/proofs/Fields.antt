@@ -35,7 +35,7 @@ use Rattle.world_model.specs.Steps.{answered, cleared, happened, moved, posted, 
 use Rattle.world_model.specs.Kept.{IsPort, TellsSent}
 use Rattle.world_model.specs.Lawful.{IsWorld}
 use Rattle.world_model.proofs.PortSteps.{no_way}
-use Rattle.world_model.proofs.SendSteps.{grant_has}
+use Rattle.journal.proofs.Ingresses.{grant_is}
 use Rattle.world_model.proofs.Tallies.{tells_read, tells_sent, tells_set, unsettled}
 use Rattle.world_model.proofs.Events.{sound_of}
 
@@ -280,7 +280,7 @@ post_fits o credited next None sent p y few sound h opens same = no_way (sym ope
 post_fits o credited next (Some r) sent p y few sound (inl x, n) opens same = absurd (omega (arith, x.1, same, sound.open_run.first))
 post_fits o credited next (Some r) sent p y few sound (inr x, n) opens same =
     let low = sound.open_run.clear.flow in
-    let in' = (grant_has o.table.flows r.granted p y.flow x.1).0 in
+    let in' = (grant_is o.table.flows r.granted p y.flow x.1).0 in
     (omega (arith, x.0, sound.open_run.ends, sound.open_run.some), omega (arith, few, All-contains (λ f. f < length o.table.flows) r.granted y.flow low in'))
 
 -- the word of a post of the open run has room for its slot and its flow

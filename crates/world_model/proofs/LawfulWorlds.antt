@@ -11,6 +11,7 @@ use Rattle.journal.specs.declared.opening.Opening.{Opening}
 use Rattle.journal.specs.State.{IsOpening, Run, State, owed, slot_end}
 use Rattle.journal.specs.Runs.{granted}
 use Rattle.journal.specs.Fold.{after, start, state_of}
+use Rattle.journal.specs.Entries.{TellsEntry}
 use Rattle.journal.specs.Journal.{IsLegal, line_of}
 use Rattle.journal.proofs.Growth.{state_snoc}
 use Rattle.journal.proofs.Opened.{opened_grants, run_length_is}
@@ -24,7 +25,7 @@ use Rattle.world_model.specs.Credited.{CreditsSent, IsCredited}
 use Rattle.world_model.specs.Lawful.{ClosesAsSent, IsWorld, OpensGrants, OpensPatiently, SendsInTime, SendsOnce, SendsWithin, end_of}
 use Rattle.world_model.proofs.Within.{kept_within}
 use Rattle.world_model.proofs.Credits.{credited_at, pair_once}
-use Rattle.world_model.proofs.RunReplies.{TellsRun, entry_tells}
+use Rattle.journal.proofs.EntryTells.{entry_tells}
 use Rattle.world_model.proofs.Events.{low_of, new_is_world, sound_of, steps_keep}
 
 pub sends_once : (w : WorldFacts) → IsWorld w → SendsOnce w
@@ -56,15 +57,15 @@ closes_as_sent w h = λ before more e slot is reply.
     let o = w.opening in
     let next = (state_of o w.journal).next in
     let there = credited_at o w.sent next (start o) before more e (subst (IsCredited o w.sent next) is h.credited) in
-    let (r, run, first) = subst (TellsRun o (state_of o before) e.command) reply (entry_tells o before more e (subst (IsLegal o) is h.legal.0)) in
-    (r, run, first, λ f. ap (λ (s : State). s.sent f) (state_snoc o before e) ∙ closing_credits o w.sent next slot (state_of o before) e r reply run there f)
+    let (r, command, run, first) = subst (TellsEntry o (state_of o before) e.command) reply (entry_tells o before more e (subst (IsLegal o) is h.legal.0)) in
+    (r, run, sym first, λ f. ap (λ (s : State). s.sent f) (state_snoc o before e) ∙ closing_credits o w.sent next slot (state_of o before) e r reply run there f)
 
 pub opens_grants : (w : WorldFacts) → IsWorld w → OpensGrants w
 opens_grants w h = λ before more e slot slots count is reply.
     let o = w.opening in
     let s = state_of o before in
     let (run, grants) = opened_grants o before e slot slots count reply in
-    let (most, command, next, len, counted) = subst (TellsRun o s e.command) reply (entry_tells o before more e (subst (IsLegal o) is h.legal.0)) in
+    let (most, command, none, owes, next, len, counted) = subst (TellsEntry o s e.command) reply (entry_tells o before more e (subst (IsLegal o) is h.legal.0)) in
     let long = subst (IsRunLength (owed o s) (granted o s) (min most (slot_end - s.next))) (sym len) (run_length_is o s most) in (
       most,
       record { first = slot; slots = slots; granted = granted o s; notes = [] },

@@ -12,4 +12,8 @@ pub mod Refusals
 pub mod Fields
 pub mod LawfulWorlds
 pub mod RowChecks
-pub mod RunReplies
+pub mod Turns
+pub mod GrantTurns
+pub mod EntrySteps
+pub mod PlayedRuns
+pub mod Drawers

@@ -28,12 +28,12 @@ if_not false b n e = refl
 abbrev cleared : PortFacts → PortFacts
 cleared x = record x { settled = None }
 
-get_or-map-same : (xs : List PortFacts) (q : ℕ) → q < length xs → get_or (map cleared xs) q idle_port ≡ cleared (get_or xs q idle_port)
-get_or-map-same [] q lt = refl
-get_or-map-same (x ∷ xs) zero lt = refl
-get_or-map-same (x ∷ xs) (suc q) lt = get_or-map-same xs q (omega arith)
+pub cleared_at : (xs : List PortFacts) (q : ℕ) → q < length xs → get_or (map cleared xs) q idle_port ≡ cleared (get_or xs q idle_port)
+cleared_at [] q lt = refl
+cleared_at (x ∷ xs) zero lt = refl
+cleared_at (x ∷ xs) (suc q) lt = cleared_at xs q (omega arith)
 
-none_at : (flows : List Flow) (next : ℕ) (sent : List SentRun) (p : ℕ) → All (IsSentRun flows next None) sent → sent_for sent p next ≡ 0
+pub none_at : (flows : List Flow) (next : ℕ) (sent : List SentRun) (p : ℕ) → All (IsSentRun flows next None) sent → sent_for sent p next ≡ 0
 none_at flows next [] p all = refl
 none_at flows next (x ∷ xs) p all =
     let first = all 0 x (omega arith) in
@@ -55,7 +55,7 @@ kept_open flows ports credited next slots gs xs sent h =
       accounted = λ f. omega (arith, h.accounted f, now_none (has gs f) (sent_for sent (ingress_of flows f) next) (none (ingress_of flows f)));
       port = λ q low.
           subst (λ (y : PortFacts). IsPort flows next (Some (record { first = next; slots = slots; granted = gs; notes = [] })) sent q y)
-          (sym (get_or-map-same xs q (omega (arith, low, h.wide))))
+          (sym (cleared_at xs q (omega (arith, low, h.wide))))
           (inl ((h.port q low).0, (h.port q low).1, refl, none q), tt);
     }
 

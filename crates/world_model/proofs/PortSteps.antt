@@ -12,7 +12,7 @@ use Rattle.world_model.specs.Port.{PortFacts, idle_port, settled_by}
 use Rattle.world_model.specs.Sent.{sent_for}
 use Rattle.world_model.specs.Kept.{IsKept, IsNote, IsPort}
 
-port_set : (P : PortFacts → Type 0) (xs : List PortFacts) (p : ℕ) (x : PortFacts) (q : ℕ) → p < length xs → (p ≡ q → P x) → P (get_or xs q idle_port) → P (get_or (slice_set xs p x) q idle_port)
+pub port_set : (P : PortFacts → Type 0) (xs : List PortFacts) (p : ℕ) (x : PortFacts) (q : ℕ) → p < length xs → (p ≡ q → P x) → P (get_or xs q idle_port) → P (get_or (slice_set xs p x) q idle_port)
 port_set P xs p x q lt new old = elim (cases_eq q p) [
   | inl e ↦ subst P (ap (λ n. get_or (slice_set xs p x) n idle_port) (sym e) ∙ refl) (subst P (sym (get_or-set_same xs p x idle_port lt)) (new (sym e)))
   | inr ne ↦ subst P (sym (get_or-set_other xs p q x idle_port ne)) old

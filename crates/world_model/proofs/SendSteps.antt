@@ -13,6 +13,7 @@ use Rattle.coflow_units.proofs.Sums.{any_has, any_in, in_first, in_tail, first_o
 use Rattle.journal.specs.State.{Run, has}
 use Rattle.journal.specs.Runs.{grant_in}
 use Rattle.journal.specs.Sound.{IsSound}
+use Rattle.journal.proofs.Ingresses.{grant_is}
 use Rattle.world_model.specs.declared.sent.SentRun.{SentRun}
 use Rattle.world_model.specs.Port.{PortFacts, idle_port}
 use Rattle.world_model.specs.Sent.{sent_for, sent_of}
@@ -26,29 +27,6 @@ total_more (y ∷ ys) x f = omega (arith, total_more ys x f)
 pub sent_more : (sent : List SentRun) (x : SentRun) (p slot : ℕ) → sent_for (sent ++ x ∷ []) p slot ≡ sent_for sent p slot + (if (x.port == p) && (x.slot == slot) then x.units else 0)
 sent_more [] x p slot = omega arith
 sent_more (y ∷ ys) x p slot = omega (arith, sent_more ys x p slot)
-
-grant_step : (flows : List Flow) (g : ℕ) (gs : List ℕ) (p f : ℕ) (b : Bool) → (ingress_of flows g == p) ≡ b → (if b then Some g else grant_in flows gs p) ≡ Some f →
-    (grant_in flows gs p ≡ Some f → Contains gs f × (ingress_of flows f ≡ p)) → Contains (g ∷ gs) f × (ingress_of flows f ≡ p)
-grant_step flows g gs p f true t e later =
-    let same : g ≡ f = ap (λ (o : Option ℕ). unwrap_or o 0) e in
-    (subst (λ x. Contains (g ∷ gs) x) same (in_first g gs), ap (ingress_of flows) (sym same) ∙ eqb-true (ingress_of flows g) p t)
-grant_step flows g gs p f false t e later = let (in', at) = later e in (in_tail g gs f in', at)
-
-pub grant_has : (flows : List Flow) (gs : List ℕ) (p f : ℕ) → grant_in flows gs p ≡ Some f → Contains gs f × (ingress_of flows f ≡ p)
-grant_has flows [] p f e = absurd (true≢false (sym (ap is_some e)))
-grant_has flows (g ∷ gs) p f e = grant_step flows g gs p f (ingress_of flows g == p) refl e (grant_has flows gs p f)
-
-there_step : (flows : List Flow) (g : ℕ) (gs : List ℕ) (f : ℕ) (b : Bool) → (ingress_of flows g == ingress_of flows f) ≡ b → Contains (g ∷ gs) f → (Contains gs f → is_none (grant_in flows gs (ingress_of flows f)) ≡ false) →
-    is_none (if b then Some g else grant_in flows gs (ingress_of flows f)) ≡ false
-there_step flows g gs f true t has' later = refl
-there_step flows g gs f false t has' later = elim (first_or_tail g gs f has') [
-  | inl e ↦ absurd (eqb-false (ingress_of flows g) (ingress_of flows f) t (ap (ingress_of flows) e))
-  | inr h ↦ later h
-]
-
-pub grant_there : (flows : List Flow) (gs : List ℕ) (f : ℕ) → Contains gs f → is_none (grant_in flows gs (ingress_of flows f)) ≡ false
-grant_there flows [] f has' = absurd (nothing_in f has')
-grant_there flows (g ∷ gs) f has' = there_step flows g gs f (ingress_of flows g == ingress_of flows f) refl has' (grant_there flows gs f)
 
 pub both_true : (a b : ℕ) (c d : ℕ) → a ≡ b → c ≡ d → ((a == b) && (c == d)) ≡ true
 both_true a b c d e f = and_from (a == b) (c == d) (eq-eqb a b e) (eq-eqb c d f)
@@ -117,7 +95,7 @@ pub kept_send : (flows : List Flow) (ports : ℕ) (credited : ℕ → ℕ) (next
 kept_send flows ports credited next r xs sent p a u lt drew none some fits sound h =
     let y = get_or xs p idle_port in
     let (slot, grant, count) = drawn_facts flows next r sent p y.slot y.flow y.stage y.count y.settled a drew (h.port p lt) in
-    let (in', at) = grant_has flows r.granted p y.flow grant in
+    let (in', at) = grant_is flows r.granted p y.flow grant in
     let x : SentRun = record { slot = y.slot; flow = y.flow; units = u; port = p } in
     let sent_here : sent_for sent p r.first ≡ 0 = ap (sent_for sent p) (sym slot) ∙ none in
     record {

@@ -3,6 +3,8 @@ use Rattle.std.specs.Prelude.{◌≡◌, ℕ, ◌+◌, ◌-◌, ◌<◌, ◌≤�
 use Rattle.coflow_units.specs.Flows.{coflow_of, units_of}
 use Rattle.coflow_units.specs.Grants.{IsGrants, IsRunLength}
 use Rattle.coflow_units.specs.Patient.{IsServedOrWaits}
+use Rattle.coflow_units.specs.PortWord.{PortStage}
+use Rattle.coflow_units.specs.PortWord.PortStage.{drawn, reported}
 use Rattle.journal.specs.declared.command.Command.TheVariants.{Open}
 use Rattle.journal.specs.declared.command.Entry.{Entry}
 use Rattle.journal.specs.declared.command.Reply.TheVariants.{Closed, Opened}
@@ -13,7 +15,7 @@ use Rattle.journal.specs.Journal.{IsLegal, line_of}
 use Rattle.journal.specs.Sound.{InRange}
 use Rattle.world_model.specs.declared.sent.SentRun.{SentRun}
 use Rattle.world_model.specs.Sent.{sent_in, sent_of, times_sent}
-use Rattle.world_model.specs.World.{WorldFacts, run_of}
+use Rattle.world_model.specs.World.{WorldFacts, run_of, port_at}
 use Rattle.world_model.specs.Kept.{IsKeptWorld}
 use Rattle.world_model.specs.Credited.{IsCredited}
 
@@ -71,3 +73,13 @@ pub record IsWorld (w : WorldFacts) : Type 0 where
   pub legal : IsLegalWorld w
   pub kept : IsKeptWorld w
   pub credited : IsCredited w.opening w.sent (state_of w.opening w.journal).next w.journal
+
+-- where an agent drew or reported a post, its number is below the number of agents
+abbrev pub IsOfAgent : ℕ → PortStage → Type 0
+IsOfAgent agents (drawn agent) = agent < agents
+IsOfAgent agents (reported agent units) = agent < agents
+IsOfAgent agents stage = Unit {0}
+
+-- so it is at each port
+abbrev pub AreDrawnByAgents : WorldFacts → Type 0
+AreDrawnByAgents w = (port : ℕ) → IsOfAgent w.agents (port_at w port).stage

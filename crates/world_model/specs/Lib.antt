@@ -6,4 +6,5 @@ pub mod Steps
 pub mod Kept
 pub mod Credited
 pub mod Lawful
+pub mod Played
 pub mod Rows

@@ -1,5 +1,5 @@
 -- Steps that were worked out by hand.
-use Rattle.std.specs.Prelude.{◌≡◌, List, [], ◌∷◌}
+use Rattle.std.specs.Prelude.{◌≡◌, ℕ, List, [], ◌∷◌}
 use Rattle.journal.specs.declared.command.Command.TheVariants.{Register, Open, Pull}
 use Rattle.journal.specs.declared.command.Reply.TheVariants.{Full, Joined, Opened, Noted, Closed}
 use Rattle.journal.specs.Rows.{two}
@@ -8,6 +8,8 @@ use Rattle.world_model.specs.declared.event.Event.TheVariants.{Ask, Post, Draw, 
 use Rattle.world_model.specs.declared.event.Happened.{Happened}
 use Rattle.world_model.specs.declared.event.Happened.TheVariants.{Replied, Posted, Drawn, Sent, Reported, Settled, Busy, Blocked}
 use Rattle.world_model.specs.declared.event.Happened.TheVariants.{Noted as NotedIt}
+use Rattle.world_model.specs.declared.sent.SentRun.{SentRun}
+use Rattle.world_model.specs.Sent.{times_sent}
 use Rattle.world_model.specs.World.{WorldFacts, new_world}
 use Rattle.world_model.specs.Steps.{happened, world_after}
 
@@ -29,3 +31,35 @@ Shorts = Happens (new_world (two 2) 2)
     ((Ask 1 (Register 0), Replied Joined) ∷ (Ask 0 (Open 5), Replied (Opened 1 3 1)) ∷ (Ask 1 (Pull 0), Replied (Full 2)) ∷ (Draw 0 0, Blocked) ∷ (Post 0, Posted) ∷ (Post 1, Blocked) ∷ (Draw 1 0, Drawn)
     ∷ (Draw 0 0, Blocked) ∷ (Send 0 0 1, Blocked) ∷ (Send 1 0 4, Blocked) ∷ (Send 1 0 2, Sent) ∷ (Send 1 0 1, Blocked) ∷ (Report 1 0, Reported) ∷ (Close, Blocked) ∷ (Settle 0, Settled 2)
     ∷ (Settle 0, Blocked) ∷ (Close, Blocked) ∷ (Note 0, NotedIt (Noted 2)) ∷ (Close, Replied (Closed 1)) ∷ (Close, Blocked) ∷ [])
+
+-- an agent that the world does not have draws nothing
+abbrev pub Strangers : Type 0
+Strangers = Happens (new_world (two 100) 1)
+    ((Ask 1 (Register 0), Replied Joined) ∷ (Ask 0 (Open 2), Replied (Opened 1 2 1)) ∷ (Post 0, Posted)
+    ∷ (Draw 1 0, Blocked) ∷ (Draw 2 0, Blocked) ∷ (Draw 0 0, Drawn) ∷ [])
+
+-- only who drew a post reports it; one of which nothing was sent is settled with nothing
+abbrev pub SendsNothing : Type 0
+SendsNothing = Happens (new_world (two 100) 2)
+    ((Ask 1 (Register 0), Replied Joined) ∷ (Ask 0 (Open 2), Replied (Opened 1 2 1)) ∷ (Post 0, Posted) ∷ (Draw 1 0, Drawn)
+    ∷ (Report 0 0, Blocked) ∷ (Report 1 0, Reported) ∷ (Settle 0, Settled 0) ∷ (Note 0, NotedIt (Noted 0))
+    ∷ (Close, Replied (Closed 1)) ∷ [])
+
+-- a run that was sent twice, with another one between and one that overlaps at another port
+abbrev pub run_twice : SentRun
+run_twice = record { slot = 1; flow = 0; units = 2; port = 0 }
+
+abbrev pub run_between : SentRun
+run_between = record { slot = 1; flow = 1; units = 1; port = 2 }
+
+abbrev pub run_beside : SentRun
+run_beside = record { slot = 2; flow = 0; units = 2; port = 1 }
+
+abbrev pub doubled_runs : List SentRun
+doubled_runs = run_twice ∷ run_between ∷ run_twice ∷ run_beside ∷ []
+
+abbrev pub Doubled : Type 0
+Doubled =
+    (times_sent doubled_runs 0 0 ≡ 0) × (times_sent doubled_runs 1 0 ≡ 2) × (times_sent doubled_runs 2 0 ≡ 3)
+    × (times_sent doubled_runs 3 0 ≡ 1) × (times_sent doubled_runs 4 0 ≡ 0) × (times_sent doubled_runs 1 1 ≡ 1)
+    × (times_sent doubled_runs 2 1 ≡ 0)

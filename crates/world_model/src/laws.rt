@@ -1,16 +1,21 @@
 //! Laws of the world: what each step keeps, and what holds after every list of steps.
-ghost use Rattle.std.specs.Prelude.{◌≡◌, ℕ, true, false, List};
+ghost use Rattle.std.specs.Prelude.{◌≡◌, ℕ, ◌<◌, true, false, List};
 ghost use Rattle.journal.specs.declared.command.Command.{Command};
 ghost use Rattle.journal.specs.declared.opening.Opening.{Opening};
+ghost use Rattle.journal.specs.declared.command.Entry.{Entry};
 ghost use Rattle.journal.specs.State.{IsOpening};
+ghost use Rattle.journal.specs.Journal.{IsLegal};
+ghost use Rattle.journal.specs.Sound.{InRange};
+ghost use Rattle.journal.specs.Driven.{Drive, IsDriven};
 ghost use Rattle.world_model.specs.declared.event.Event.{Event};
 ghost use Rattle.world_model.specs.declared.event.Event.TheVariants.{Ask, Post, Draw, Send, Report, Settle, Note, Close};
 ghost use Rattle.world_model.specs.declared.event.Happened.TheVariants.{Blocked, Busy};
 ghost use Rattle.world_model.specs.World.{WorldFacts, new_world, port_at};
 ghost use Rattle.world_model.specs.Guards.{can};
 ghost use Rattle.world_model.specs.Steps.{IsBusy, IsSameButJournal, happened, is_full_answer, is_refused_answer, leaves, moved, world_after, world_of};
-ghost use Rattle.world_model.specs.Lawful.{ClosesAsSent, IsLegalWorld, IsWorld, OpensGrants, OpensPatiently, SendsInTime, SendsOnce, SendsWithin};
-ghost use Rattle.world_model.specs.Rows.{Shorts, Turns};
+ghost use Rattle.world_model.specs.Lawful.{AreDrawnByAgents, ClosesAsSent, IsLegalWorld, IsWorld, OpensGrants, OpensPatiently, SendsInTime, SendsOnce, SendsWithin};
+ghost use Rattle.world_model.specs.Played.{IsPlayed};
+ghost use Rattle.world_model.specs.Rows.{Doubled, SendsNothing, Shorts, Strangers, Turns};
 
 /// After every list of steps from a new world, whatever callers, agents and the driver did and in whatever order: the journal is legal; no pair of a slot and a flow was sent twice; no
 /// flow was sent more units than it has; nothing was sent past the open run; each closing credited to each flow what was sent for it in the run; and each opening granted the grants of its
@@ -49,6 +54,22 @@ pub fn kept_worlds_are_lawful()
     ensures patient { (w : WorldFacts) → OpensPatiently w }
 {}
 
+/// A run of the driver among entries of others is a list of steps, from a world that has an agent: the opening, then a
+/// post, a draw, a sending, a report and a settling for each grant, then the notes and the closing, with the commands of
+/// others between. It makes the journal of that run, and sends what the run says.
+pub fn runs_are_played()
+    ensures { (w : WorldFacts) (after : List Entry) (d : Drive) → IsWorld w → 0 < w.agents → IsLegal w.opening after →
+        InRange w.opening after → IsDriven w.opening w.journal after d →
+        (events : List Event) × IsPlayed w (world_of w events) after d }
+{}
+
+/// Who drew or reported a post is one of the agents, after every list of steps from a new world, and no step changes that.
+pub fn drawers_are_agents()
+    ensures all { (o : Opening) (agents : ℕ) (events : List Event) → IsOpening o →
+        AreDrawnByAgents (world_of (new_world o agents) events) }
+    ensures step { (w : WorldFacts) (e : Event) → IsWorld w → AreDrawnByAgents w → AreDrawnByAgents (world_after w e) }
+{}
+
 /// What steps leave as it was: no step changes the opening, a step that is blocked, or answered Full or Busy, changes nothing, one that the master refuses changes nothing but the journal,
 /// and a step at one port leaves the others. Busy comes exactly where a post is to be settled that an agent has drawn and not reported.
 pub fn steps_leave_the_rest()
@@ -65,4 +86,7 @@ pub fn steps_leave_the_rest()
 pub fn rows_hold()
     ensures turns { Turns }
     ensures shorts { Shorts }
+    ensures strangers { Strangers }
+    ensures sends_nothing { SendsNothing }
+    ensures doubled { Doubled }
 {}
