@@ -94,12 +94,13 @@ no_later : (flows : List Flow) (line : List ℕ) (g f : ℕ) → ComesBefore flo
 no_later flows line g f (inl less) = omega arith
 no_later flows line g f (inr same) = omega (arith, same.0)
 
-waits : (flows : List Flow) (line : List ℕ) (left : ℕ → ℕ) (slot : List ℕ) (f : ℕ) → IsGrants flows line left slot → f < length flows → 0 < left f → Contains line (coflow_of flows f) → IsServedOrWaits flows line slot f
-waits flows line left slot f g lt some has = elim (g.rest f lt has some) [
+-- in their slot the grants are what the order asks
+pub grants_patient : (flows : List Flow) (line : List ℕ) (left : ℕ → ℕ) (slot : List ℕ) (f : ℕ) → IsGrants flows line left slot → f < length flows → Contains line (coflow_of flows f) → 0 < left f → IsServedOrWaits flows line slot f
+grants_patient flows line left slot f g lt has some = elim (g.rest f lt has some) [
   | inl in' ↦ inl in'
   | inr (h, in', before, shares) ↦ inr (h, in', shares, no_later flows line h f before)
 ]
 
 pub served_patient : (flows : List Flow) (line : List ℕ) (slots : List (List ℕ)) → IsServed flows line slots → IsPatient flows line slots
 served_patient flows line slots served t f lt in' left =
-    waits flows line (left_after flows (take t slots)) (slice_index_or slots t []) f (served.so_far.grants t lt) in' (omega arith) (in_line flows line slots f served in' (omega (arith, left)))
+    grants_patient flows line (left_after flows (take t slots)) (slice_index_or slots t []) f (served.so_far.grants t lt) in' (in_line flows line slots f served in' (omega (arith, left))) (omega arith)

@@ -17,7 +17,7 @@ use Rattle.coflow_units.specs.declared.fabric.Port.{Port}
 use Rattle.coflow_units.specs.declared.trace.CoflowLine.{CoflowLine}
 use Rattle.coflow_units.specs.declared.trace.Reducer.{Reducer}
 use Rattle.coflow_units.specs.Rows.{equal_weights, equal_weights_places, equal_weights_slots, two_flows}
-use Rattle.coflow_units.specs.SmallCases.{TwoFlowsHold, TwoFlowsRefuse, all_sent, at_an_idle_port, crossing, first_ingress, line_of, trace_with, turned, cut_in_two, idle_first, longer_first, longer_first_slots, named_twice, one_each, one_too_few, out_of_range, too_dear}
+use Rattle.coflow_units.specs.SmallCases.{TwoFlowsHold, TwoFlowsRefuse, all_sent, at_an_idle_port, crossing, first_ingress, from_port_one, line_of, one_left_out, past_the_ports, trace_with, turned, cut_in_two, idle_first, longer_first, longer_first_slots, named_twice, one_each, one_too_few, out_of_range, too_dear}
 use Rattle.coflow_units.proofs.CertificateSteps.{used_outside}
 use Rattle.coflow_units.proofs.GrantsExist.{grants_exist}
 use Rattle.coflow_units.proofs.RowChecks.{equal_instance, named}
@@ -122,6 +122,7 @@ two_flows_hold = record {
   patient = served_patient two_flows (0 ∷ 1 ∷ []) longer_first_slots served_case;
   feasible = feasible_case;
   certificate = certificate_case;
+  all_kept = refl;
   length = run_length_is (units_of two_flows) (0 ∷ []) 2;
   apart = grants_clear crossing (0 ∷ 1 ∷ []) (units_of crossing) (0 ∷ 1 ∷ []) (grants_exist crossing (0 ∷ 1 ∷ []) (units_of crossing));
   greatest = greatest_case;
@@ -172,6 +173,18 @@ dear feasible = omega (arith, feasible 0, ltb-true (budget one_each 0) (used two
 twice : IsCertificate equal_weights named_twice → ⊥
 twice certificate = certificate.once 0 1 0 (omega arith) (omega arith) refl
 
+not_the_other : Contains {X = ℕ} (0 ∷ []) 1 → ⊥
+not_the_other has = elim (first_or_tail 0 [] 1 has) [ inl e ↦ omega (arith, e) | inr none ↦ nothing_in 1 none ]
+
+lacks_one : IsCertificate equal_weights one_left_out → ⊥
+lacks_one certificate = not_the_other (certificate.all 1 0 (omega arith))
+
+port_three : IsCertificate equal_weights past_the_ports → ⊥
+port_three certificate = omega (arith, certificate.port 1 record { coflow = 0; port = first_ingress; y = 0 } (omega arith))
+
+no_ingress : IsInstance from_port_one → ⊥
+no_ingress i = omega (arith, i.ingress 0 record { coflow = 0; ingress = 0; egress = 0; units = 0 } (omega arith))
+
 idle_port : TakesGreatestPorts two_flows 3 at_an_idle_port → ⊥
 idle_port greatest = omega (arith, greatest.1.0 first_ingress (omega arith))
 
@@ -207,6 +220,9 @@ two_flows_refuse = record {
   patient = waits_for_nobody;
   feasible = dear;
   certificate = twice;
+  left_out = lacks_one;
+  port_in_range = port_three;
+  ingress_in_range = no_ingress;
   greatest = idle_port;
   below = as_much_as_the_load;
   unsorted = not_sorted;

@@ -12,7 +12,7 @@ use Rattle.coflow_units.specs.Schedule.{IsClear, IsRuns, IsValid, slots_of}
 use Rattle.coflow_units.specs.Completion.{completion, cost}
 use Rattle.coflow_units.specs.Patient.{IsPatient}
 use Rattle.coflow_units.specs.Served.{IsServed}
-use Rattle.coflow_units.specs.Certificate.{Entry, IsBelowLoads, IsCertificate, IsFeasible, TakesGreatestPorts}
+use Rattle.coflow_units.specs.Certificate.{Entry, IsBelowLoads, IsCertificate, IsFeasible, TakesGreatestPorts, slack}
 use Rattle.coflow_units.specs.PortWord.{FitsWord}
 use Rattle.coflow_units.specs.Trace.{IsCoflowLine, IsTrace}
 use Rattle.coflow_units.specs.Rows.{equal_weights, equal_weights_places, equal_weights_slots, two_flows}
@@ -58,9 +58,25 @@ at_a_later_port = record { coflow = 1; port = record { side = Ingress; number = 
 abbrev pub named_twice : List Entry
 named_twice = record { coflow = 0; port = first_ingress; y = 0 } ∷ record { coflow = 0; port = first_ingress; y = 0 } ∷ []
 
+-- two places that charge nothing, so that all budgets are kept
+abbrev pub free_places : List Entry
+free_places = record { coflow = 0; port = first_ingress; y = 0 } ∷ record { coflow = 1; port = first_ingress; y = 0 } ∷ []
+
+-- a certificate without coflow 1
+abbrev pub one_left_out : List Entry
+one_left_out = record { coflow = 0; port = first_ingress; y = 0 } ∷ []
+
+-- a certificate that charges port 3, where ports count from 0 to 2
+abbrev pub past_the_ports : List Entry
+past_the_ports = record { coflow = 0; port = first_ingress; y = 0 } ∷ record { coflow = 1; port = record { side = Ingress; number = 3 }; y = 0 } ∷ []
+
 -- the fabric has one port a side, and a flow goes to port 1
 abbrev pub out_of_range : Instance
 out_of_range = record { coflows = 0 ∷ 1 ∷ []; weight = one_each; ports = 1; flows = two_flows }
+
+-- the same fabric, and a flow comes from port 1
+abbrev pub from_port_one : Instance
+from_port_one = record { coflows = 0 ∷ []; weight = one_each; ports = 1; flows = record { coflow = 0; ingress = 1; egress = 0; units = 1 } ∷ [] }
 
 -- the first place charges a port without load
 abbrev pub at_an_idle_port : List Entry
@@ -95,6 +111,7 @@ pub record TwoFlowsHold : Type 0 where
   pub patient : IsPatient two_flows (0 ∷ 1 ∷ []) longer_first_slots
   pub feasible : IsFeasible two_flows one_each equal_weights_places
   pub certificate : IsCertificate equal_weights equal_weights_places
+  pub all_kept : slack two_flows one_each free_places ≡ 10
   pub length : IsRunLength (units_of two_flows) (0 ∷ []) 2 2
   pub apart : IsClear crossing (0 ∷ 1 ∷ [])
   pub greatest : TakesGreatestPorts two_flows 3 equal_weights_places
@@ -118,6 +135,9 @@ pub record TwoFlowsRefuse : Type 0 where
   pub patient : IsPatient two_flows (0 ∷ 1 ∷ []) idle_first → ⊥
   pub feasible : IsFeasible two_flows one_each too_dear → ⊥
   pub certificate : IsCertificate equal_weights named_twice → ⊥
+  pub left_out : IsCertificate equal_weights one_left_out → ⊥
+  pub port_in_range : IsCertificate equal_weights past_the_ports → ⊥
+  pub ingress_in_range : IsInstance from_port_one → ⊥
   pub greatest : TakesGreatestPorts two_flows 3 at_an_idle_port → ⊥
   pub below : IsBelowLoads two_flows one_each equal_weights_places → ⊥
   pub unsorted : IsWhole turned → ⊥

@@ -6,7 +6,7 @@ ghost use Rattle.coflow_units.specs.Flows.{Instance, IsInstance, coflow_of, unit
 ghost use Rattle.coflow_units.specs.Certificate.{Entry, IsBelowLoads, IsFeasible, TakesGreatestPorts, rest};
 ghost use Rattle.coflow_units.specs.Ordering.{IsOrdering};
 ghost use Rattle.coflow_units.specs.Schedule.{IsClear, IsRuns, IsValid};
-ghost use Rattle.coflow_units.specs.Patient.{IsPatient};
+ghost use Rattle.coflow_units.specs.Patient.{IsPatient, IsServedOrWaits};
 ghost use Rattle.coflow_units.specs.PortWord.{FitsWord, word_of};
 ghost use Rattle.coflow_units.specs.PortWord.PortStage.{drawn, granted, reported, taken_back, unposted};
 ghost use Rattle.coflow_units.specs.Grants.{IsGrants, IsRunLength};
@@ -27,6 +27,12 @@ pub fn grants_exist()
 /// No two granted flows share a port, so one slot serves them all.
 pub fn grants_are_clear()
     ensures { (flows : List Flow) (line : List ℕ) (left : ℕ → ℕ) (granted : List ℕ) → IsGrants flows line left granted → IsClear flows granted }
+{}
+
+/// In its slot, the grants of a line are what the order asks: a flow of the line that has units left is granted, or it shares a port with a granted flow of a coflow no later in the line.
+pub fn grants_are_patient()
+    ensures { (flows : List Flow) (line : List ℕ) (left : ℕ → ℕ) (granted : List ℕ) (f : ℕ) → IsGrants flows line left granted → f < length flows → Contains line (coflow_of flows f) → 0 < left f →
+        IsServedOrWaits flows line granted f }
 {}
 
 /// The grants depend on which flows have units left, and not on how many.
