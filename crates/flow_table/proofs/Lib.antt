@@ -16,3 +16,6 @@ pub mod StartSteps
 pub mod TableSteps
 pub mod FlowsExist
 pub mod TestSteps
+pub mod TablesOne
+pub mod LimitSteps
+pub mod RowFlows

@@ -1,5 +1,6 @@
 -- Why a trace has no table.
-use Rattle.std.specs.Prelude.{◌≡◌, ℕ, ◌-◌, ◌<◌, ◌≤◌, ◌⊎◌, ◌^◌, min}
+use Rattle.std.specs.Prelude.{◌≡◌, ℕ, ◌-◌, ◌<◌, ◌≤◌, ◌⊎◌, ◌^◌, Result, Ok, Err, min}
+use Rattle.coflow_units.specs.declared.quantity.Quantity.{Quantity}
 use Rattle.coflow_units.specs.declared.quantity.Quantity.TheVariants.{Units, Flows}
 use Rattle.coflow_units.specs.declared.trace.Trace.{Trace}
 use Rattle.flow_table.specs.declared.fault.TableFault.{TableFault}
@@ -7,6 +8,7 @@ use Rattle.flow_table.specs.declared.fault.TableFault.TheVariants.{Limit, NoMemo
 use Rattle.flow_table.specs.Units.{units_in_all}
 use Rattle.flow_table.specs.FlowsOf.{IsTooMany}
 use Rattle.flow_table.specs.Sent.{sent}
+use Rattle.flow_table.specs.Table.{TableFacts}
 
 -- there are more than 2^40 units; their count is told as 2^64 - 1 where it is greater
 abbrev pub HasTooManyUnits : Trace → ℕ → ℕ → Type 0
@@ -16,7 +18,17 @@ HasTooManyUnits t unit count = (2 ^ 40 < units_in_all t unit) × (count ≡ min 
 abbrev pub HasTooManyFlows : Trace → ℕ → ℕ → Type 0
 HasTooManyFlows t unit count = (units_in_all t unit ≤ 2 ^ 40) × (count ≡ 1048577) × IsTooMany (sent t unit)
 
+-- there is more of this quantity than a table may have, and its count is told so
+abbrev pub ExceedsLimit : Trace → ℕ → Quantity → ℕ → Type 0
+ExceedsLimit t unit which count = ((which ≡ Units) × HasTooManyUnits t unit count) ⊎ ((which ≡ Flows) × HasTooManyFlows t unit count)
+
 -- each fault has its cause in the trace and the unit; want of memory is free
 abbrev pub HasCause : Trace → ℕ → TableFault → Type 0
-HasCause t unit (Limit which count) = ((which ≡ Units) × HasTooManyUnits t unit count) ⊎ ((which ≡ Flows) × HasTooManyFlows t unit count)
+HasCause t unit (Limit which count) = ExceedsLimit t unit which count
 HasCause t unit NoMemory = Unit {0}
+
+-- Limit comes exactly where the trace has more of a quantity than a table may have; want of memory may come in place of any answer
+abbrev pub IsLimitExactly : Trace → ℕ → Result TableFacts TableFault → Type 0
+IsLimitExactly t unit (Ok table) = (which : Quantity) (count : ℕ) → ExceedsLimit t unit which count → ⊥
+IsLimitExactly t unit (Err (Limit which count)) = ExceedsLimit t unit which count
+IsLimitExactly t unit (Err NoMemory) = Unit {0}

@@ -3,6 +3,7 @@ pub mod Sent
 pub mod FlowsOf
 pub mod Table
 pub mod Causes
+pub mod Rows
 pub mod Spots
 pub mod Targets
 pub mod Stops

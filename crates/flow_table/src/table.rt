@@ -4,7 +4,7 @@ ghost use Rattle.coflow_units.specs.declared.fabric.Flow.{Flow};
 ghost use Rattle.coflow_units.specs.declared.trace.CoflowLine.{CoflowLine};
 ghost use Rattle.coflow_units.specs.Flows.{flow_at};
 ghost use Rattle.coflow_units.specs.Trace.{IsTrace, ids_of};
-ghost use Rattle.flow_table.specs.Causes.{HasCause};
+ghost use Rattle.flow_table.specs.Causes.{HasCause, IsLimitExactly};
 ghost use Rattle.flow_table.specs.Table.{IsTable, IsTableOf};
 ghost use Rattle.flow_table.specs.Units.{units_in_all};
 
@@ -13,7 +13,7 @@ use crate::flows::flows_of;
 use crate::starts::starts_of;
 use crate::stop::Stop;
 use crate::units::units_in_all;
-use coflow_units::{CoflowLine, Flow, MAX_FLOWS, MAX_UNITS, Quantity, Trace};
+use coflow_units::{CoflowLine, Flow, MAX_FLOWS, MAX_UNITS, NoMemory, Quantity, Trace};
 use std::alloc::{AllocError, Global};
 use std::marker::Model;
 
@@ -59,6 +59,7 @@ impl Table {
         ensures within_limits { IfOk result IsTable }
         ensures units { OnOk result (units_in_all trace.now unit ≤ 2 ^ 40) }
         ensures cause { IfErr result (HasCause trace.now unit) }
+        ensures limit { IsLimitExactly trace.now unit result }
     {
         let units = units_in_all(trace, unit);
         if units > MAX_UNITS {
@@ -87,6 +88,19 @@ impl Table {
             ports: trace.number + 1,
             ids,
             arrivals,
+        })
+    }
+
+    /// An equal table. `NoMemory` is want of memory.
+    pub fn copy(&self, alloc: Global) -> Result<Table, NoMemory>
+        ensures { IfOk result (λ copy. copy ≡ self.now) }
+    {
+        Ok(Table {
+            flows: Vec::from_slice(alloc, &self.flows)?,
+            starts: Vec::from_slice(alloc, &self.starts)?,
+            ports: self.ports,
+            ids: Vec::from_slice(alloc, &self.ids)?,
+            arrivals: Vec::from_slice(alloc, &self.arrivals)?,
         })
     }
 

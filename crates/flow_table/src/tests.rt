@@ -266,6 +266,11 @@ fn three_coflows_by_hand(rt: HostRuntime) {
     assert_eq!(rt; table.id(2), 3);
     assert_eq!(rt; table.arrival(1), 120);
     assert_eq!(rt; table.of_coflow(1), &want[1..3]);
+    let Ok(copy) = table.copy(rt.alloc()) else {
+        panic!(rt; "no copy");
+    };
+    assert_eq!(rt; copy.flows(), want.as_slice());
+    assert_eq!(rt; copy.arrival(1), 120);
 }
 
 #[test]
