@@ -2,9 +2,9 @@
 use Rattle.std.proofs.Common.{◌≡◌, ◌≢◌, ℕ, ◌+◌, ◌≤◌, List, [], ◌∷◌, ◌++◌, length, sym, refl, ap, ◌∙◌, subst, arith, length-append}
 use Rattle.std.proofs.lemmas.List.{append-nil, append_assoc}
 use Rattle.std.proofs.lemmas.List.Elements.{All-nil, All-append, All-tail, All-head, All-cons}
-use Rattle.std.specs.Prelude.{nat_lt}
+use Rattle.std.specs.Prelude.{All, nat_lt}
 use Rattle.std.proofs.lemmas.Bool.{cond_both, ltb-true, ltb-false}
-use Rattle.turnstile.specs.Histories.{NoneBy, GoesOn, Begins, longer}
+use Rattle.turnstile.specs.Histories.{NoneBy, NoneAbove, GoesOn, Begins, longer}
 
 module _ {E : Type 0} where
   abbrev tail_of : List E → List E
@@ -61,9 +61,9 @@ module _ {E : Type 0} (by : E → ℕ) where
   pub whole : (log : List E) (k : ℕ) → GoesOn by log k log
   whole log k = ([], sym (append-nil log), All-nil (λ e. by e ≢ k))
 
-  none_front : (us vs : List E) (k : ℕ) → NoneBy by k (us ++ vs) → NoneBy by k us
-  none_front [] vs k h = All-nil (λ e. by e ≢ k)
-  none_front (u ∷ us) vs k h = All-cons (λ e. by e ≢ k) u us (All-head (λ e. by e ≢ k) u (us ++ vs) h) (none_front us vs k (All-tail (λ e. by e ≢ k) u (us ++ vs) h))
+  all_front : (P : E → Type 0) (us vs : List E) → All P (us ++ vs) → All P us
+  all_front P [] vs h = All-nil P
+  all_front P (u ∷ us) vs h = All-cons P u us (All-head P u (us ++ vs) h) (all_front P us vs (All-tail P u (us ++ vs) h))
 
   none_back : (us vs : List E) (k : ℕ) → NoneBy by k (us ++ vs) → NoneBy by k vs
   none_back [] vs k h = h
@@ -80,4 +80,8 @@ module _ {E : Type 0} (by : E → ℕ) where
 
   -- and between the two the caller has no entry
   pub goes_between : (log xs ys : List E) (k : ℕ) → GoesOn by log k xs → Begins log ys → length xs ≤ length ys → GoesOn by ys k xs
-  goes_between log xs ys k a b l = let t = begins_with log xs ys (a.0, a.1) b l in (t.0, t.1, none_front t.0 b.0 k (none_between log xs ys t.0 k t.1 a b))
+  goes_between log xs ys k a b l = let t = begins_with log xs ys (a.0, a.1) b l in (t.0, t.1, all_front (λ e. by e ≢ k) t.0 b.0 (none_between log xs ys t.0 k t.1 a b))
+
+  -- where a list has no entry of a number above, its beginnings have none
+  pub above_beginning : (most : ℕ) (log seen : List E) → Begins log seen → NoneAbove by most log → NoneAbove by most seen
+  above_beginning most log seen b h = all_front (λ e. by e ≤ most) seen b.0 (subst (All (λ e. by e ≤ most)) b.1 h)

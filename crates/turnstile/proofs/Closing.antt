@@ -50,9 +50,9 @@ module _ {T E C : Type 0} (by : E → ℕ) (entries : T → List E) (setting : T
       at_most_one (Waiting t) = omega arith
       at_most_one (InTurn t) = omega arith
 
-  -- What is known of a value and its list: the setting, that the list goes on after what the root and each seat that came back have seen, and that nobody else has an entry
+  -- What is known of a value and its list: the setting, which is that of the rule, that the list goes on after what the root and each seat that came back have seen, and that nobody else has an entry
   abbrev pub Ended : Option C → List E → List (Returned E) → ℕ → T → Type 0
-  Ended said seen back made x = (said ≡ Some (setting x)) × GoesOn by (entries x) 0 seen × GoesOnForEach by (entries x) back × EachCameBack made back × NoneAbove by made (entries x)
+  Ended said seen back made x = ((setting x ≡ c) × (said ≡ Some (setting x))) × GoesOn by (entries x) 0 seen × GoesOnForEach by (entries x) back × EachCameBack made back × NoneAbove by made (entries x)
 
   -- what the value is, once all seats came back
   pub closes : (s : St) (id : ℕ) (v : V) → Rule s → get_elem? s.views id ≡ some v → v.role ≡ Root → v.stage ≡ Idle → v.made ≡ length v.back
@@ -72,7 +72,7 @@ module _ {T E C : Type 0} (by : E → ℕ) (entries : T → List E) (setting : T
         h.0,
         h.1,
         (
-          r.each_setting id v at (subst IsNumbered (sym is) tt) ∙ ap Some (sym h.3),
+          (h.3, (r.each_setting id v at).0 (subst IsNumbered (sym is) tt) ∙ ap Some (sym h.3)),
           subst (λ l. GoesOn by l 0 v.seen) (sym h.2) mine.0,
           All-weaker (λ (p : Returned E). GoesOn by r.log p.number p.seen × (r.seat_of p.number ≡ id) × (0 < p.number) × (p.number ≤ r.made)) (λ (p : Returned E). GoesOn by (entries h.0) p.number p.seen)
               (λ p g. subst (λ l. GoesOn by l p.number p.seen) (sym h.2) g.0) v.back mine.4,

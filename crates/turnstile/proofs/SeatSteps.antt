@@ -15,11 +15,11 @@ use Rattle.turnstile.specs.declared.view.View.{View}
 use Rattle.turnstile.specs.declared.view.Returned.{Returned}
 use Rattle.turnstile.specs.Histories.{NoneBy, GoesOn, Begins}
 use Rattle.turnstile.specs.Models.{handed_back}
-use Rattle.turnstile.specs.Tickets.{Numbers, queues, has_turn, counts_if, numbered, queued, turning, number_of, IsNumbered, Saw, Queues, Kept, root_of}
+use Rattle.turnstile.specs.Tickets.{Numbers, queues, has_turn, counts_if, numbered, queued, turning, number_of, IsNumbered, HasSetting, Saw, Queues, Kept, root_of}
 use Rattle.turnstile.specs.Tells.{one_more, newcomer, takes_in, spent}
 use Rattle.turnstile.proofs.Totals.{total_set, total_push}
 use Rattle.coflow_units.proofs.Changes.{put, put_here, put_else}
-use Rattle.turnstile.proofs.Views.{seats_stay, splits_stay, numbers_stay, inside}
+use Rattle.turnstile.proofs.Views.{no_setting, some_same, seats_stay, splits_stay, numbers_stay, inside}
 
 module _ {T E C : Type 0} (by : E → ℕ) (entries : T → List E) (setting : T → C) (c : C) where
   abbrev V : Type 0
@@ -59,7 +59,7 @@ module _ {T E C : Type 0} (by : E → ℕ) (entries : T → List E) (setting : T
     seated = refl;
     above = All-nil (λ e. by e ≤ 0);
     home = λ _. (x, refl, empty, is);
-    each_setting = only (λ j d. IsNumbered d.role → d.setting ≡ Some c) (root_of c) (λ _. refl);
+    each_setting = only (λ j d. HasSetting c d) (root_of c) ((λ _. refl), (λ x e. some_same (sym e)), no_setting c);
     each_list = only (λ j d. Saw by [] (λ _. 0) 0 0 j d.seen d.made d.back d.role) (root_of c) (([], refl, All-nil (λ e. by e ≢ 0)), refl, refl, refl, All-nil (λ (p : Returned E). GoesOn by [] p.number p.seen × (0 ≡ 0) × (0 < p.number) × (p.number ≤ 0)));
     each_told = only (λ j d. Begins [] d.told) (root_of c) ([], refl);
     each_stage = only (λ j d. Queues [] j 0 0 0 (λ _. 0) d.seen d.stage) (root_of c) tt;
@@ -150,7 +150,7 @@ module _ {T E C : Type 0} (by : E → ℕ) (entries : T → List E) (setting : T
         seated = omega arith;
         above = All-weaker (λ e. by e ≤ r.made) (λ e. by e ≤ r.made + 1) (λ e l. omega arith) r.log r.above;
         home = r.home;
-        each_setting = splits_stay (λ j d. IsNumbered d.role → d.setting ≡ Some c) s.views id left right (r.each_setting id v at) (λ j d _. r.each_setting j d) (λ _. r.each_setting id v at (subst IsNumbered (sym is) tt));
+        each_setting = splits_stay (λ j d. HasSetting c d) s.views id left right (r.each_setting id v at) (λ j d _. r.each_setting j d) ((λ _. (r.each_setting id v at).0 (subst IsNumbered (sym is) tt)), (r.each_setting id v at).1, no_setting c);
         each_list = splits_stay (λ j d. Saw by r.log seats' (r.made + 1) r.returned j d.seen d.made d.back d.role) s.views id left right
             (subst (Saw by r.log seats' (r.made + 1) r.returned id v.seen (v.made + 1) v.back) (sym is) (root_makes r.log r.seat_of r.made r.returned n id v.seen v.made v.back mine))
             (λ j d other e. saw_newcomer r.log r.seat_of r.made r.returned n j d.seen d.made d.back d.role
@@ -245,8 +245,8 @@ module _ {T E C : Type 0} (by : E → ℕ) (entries : T → List E) (setting : T
             (λ e. let u : d.0 ≡ w = some-injective d.0 w (sym d.1 ∙ (ap (get_elem? s.views) e ∙ at_w)) in
             let same : k ≡ n = subst (λ (z : Role). Numbers z w.back n) seat (subst (λ (z : V). Numbers z.role z.back n) u d.2) in absurd (differs (sym same)))
             (λ not_it. (d.0, ap (get_elem? (set vs other spent)) place ∙ (set_else vs other (r.seat_of n) spent not_it ∙ (set_else s.views id (r.seat_of n) w' not_me ∙ d.1)), d.2))));
-        each_setting = seats_stay (λ j d. IsNumbered d.role → d.setting ≡ Some c) vs other spent (λ n. absurd n)
-            (λ j d _. seats_stay (λ j d. IsNumbered d.role → d.setting ≡ Some c) s.views id w' (r.each_setting id v at) (λ i x _. r.each_setting i x) j d);
+        each_setting = seats_stay (λ j d. HasSetting c d) vs other spent ((λ n. absurd n), no_setting c, no_setting c)
+            (λ j d _. seats_stay (λ j d. HasSetting c d) s.views id w' ((r.each_setting id v at).0, (r.each_setting id v at).1, (r.each_setting other w at_w).1) (λ i x _. r.each_setting i x) j d);
         each_list = seats_stay (λ j d. Saw by r.log seats' r.made (r.returned + 1) j d.seen d.made d.back d.role) vs other spent (r.log, refl)
             (λ j d not_it e. ⊎_elim
             (λ (t : (j ≡ id) × (w' ≡ d)). subst (λ (x : ℕ × V). Saw by r.log seats' r.made (r.returned + 1) x.0 x.1.seen x.1.made x.1.back x.1.role) (λ i. (sym t.0 i, t.1 i))

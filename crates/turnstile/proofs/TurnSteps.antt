@@ -15,12 +15,12 @@ use Rattle.turnstile.specs.declared.view.Stage.{Stage}
 use Rattle.turnstile.specs.declared.view.Stage.TheVariants.{Idle, Waiting, InTurn}
 use Rattle.turnstile.specs.declared.view.View.{View}
 use Rattle.turnstile.specs.Histories.{NoneBy, GoesOn, Begins, NoneAbove}
-use Rattle.turnstile.specs.Tickets.{queues, has_turn, counts_if, numbered, queued, turning, number_of, IsNumbered, IsRoot, Saw, Queues, Kept}
+use Rattle.turnstile.specs.Tickets.{queues, has_turn, counts_if, numbered, queued, turning, number_of, IsNumbered, IsRoot, HasSetting, Saw, Queues, Kept}
 use Rattle.turnstile.specs.Tells.{takes_ticket, looks, MayLeave, leaves}
 use Rattle.turnstile.proofs.Beginnings.{begins_on, goes_on}
 use Rattle.turnstile.proofs.Totals.{total_set}
 use Rattle.coflow_units.proofs.Changes.{put, put_here}
-use Rattle.turnstile.proofs.Views.{ticket, counts_one, seats_stay, few_queued, few_turning, others_wait, others_next, others_queue, others_saw, saw_all, own_seat, numbers_stay}
+use Rattle.turnstile.proofs.Views.{some_same, ticket, counts_one, seats_stay, few_queued, few_turning, others_wait, others_next, others_queue, others_saw, saw_all, own_seat, numbers_stay}
 
 module _ {T E C : Type 0} (by : E → ℕ) (entries : T → List E) (setting : T → C) (c : C) where
   abbrev V : Type 0
@@ -37,9 +37,6 @@ module _ {T E C : Type 0} (by : E → ℕ) (entries : T → List E) (setting : T
 
   pub idle_queue : (log : List E) (j next serving taken : ℕ) (holder : ℕ → ℕ) (seen : List E) (st : Stage) → st ≡ Idle → Queues log j next serving taken holder seen st
   idle_queue log j next serving taken holder seen st is = subst (Queues log j next serving taken holder seen) (sym is) tt
-
-  pub some_same : {x y : C} → ◌≡◌ {A = Option C} (Some x) (Some y) → x ≡ y
-  some_same {x} {y} e = ap (λ (o : Option C). elim o [ None ↦ x | Some z ↦ z ]) e
 
   pub takes_one : (slots id : ℕ) (me : M) → IsNumbered me.0.role → me.0.stage ≡ Idle
       → Allows Rule slots id me 0 (λ n. (n + 1) % 18446744073709551616) (takes_ticket (step slots 0 1 0 none) me)
@@ -82,7 +79,7 @@ module _ {T E C : Type 0} (by : E → ℕ) (entries : T → List E) (setting : T
           seated = omega arith;
           above = r.above;
           home = r.home;
-          each_setting = seats_stay (λ j d. IsNumbered d.role → d.setting ≡ Some c) s.views id w (r.each_setting id v at) (λ j d _. r.each_setting j d);
+          each_setting = seats_stay (λ j d. HasSetting c d) s.views id w (r.each_setting id v at) (λ j d _. r.each_setting j d);
           each_list = seats_stay (λ j d. Saw by r.log r.seat_of r.made r.returned j d.seen d.made d.back d.role) s.views id w (r.each_list id v at) (λ j d _. r.each_list j d);
           each_told = seats_stay (λ j d. Begins r.log d.told) s.views id w (r.each_told id v at) (λ j d _. r.each_told j d);
           each_stage = seats_stay (λ j d. Queues r.log j (r.next + 1) r.serving r.taken (put r.holder r.next id) d.seen d.stage) s.views id w
@@ -146,7 +143,7 @@ module _ {T E C : Type 0} (by : E → ℕ) (entries : T → List E) (setting : T
           seated = omega arith;
           above = r.above;
           home = λ e. absurd (omega arith);
-          each_setting = seats_stay (λ j d. IsNumbered d.role → d.setting ≡ Some c) s.views id w (r.each_setting id v at) (λ j d _. r.each_setting j d);
+          each_setting = seats_stay (λ j d. HasSetting c d) s.views id w (r.each_setting id v at) (λ j d _. r.each_setting j d);
           each_list = seats_stay (λ j d. Saw by r.log r.seat_of r.made r.returned j d.seen d.made d.back d.role) s.views id w
               (subst (λ l. Saw by r.log r.seat_of r.made r.returned id l v.made v.back v.role) (sym h.2) (saw_all by r.log r.log r.seat_of r.made r.returned id v.seen v.made v.back v.role (λ k xs _ _ h. h) (r.each_list id v at))) (λ j d _. r.each_list j d);
           each_told = seats_stay (λ j d. Begins r.log d.told) s.views id w (r.each_told id v at) (λ j d _. r.each_told j d);
@@ -155,7 +152,7 @@ module _ {T E C : Type 0} (by : E → ℕ) (entries : T → List E) (setting : T
               (λ j d other e. others_wait r.log j r.next r.serving r.taken id r.holder d.seen d.stage other mine home_now (r.each_stage j d e));
         },
         λ u is. let same = same_ticket u is in let above_all : IsRoot v.role → NoneAbove by v.made (entries x) = (λ root. subst (NoneAbove by v.made) (sym h.2) (subst (λ m. NoneAbove by m r.log) (sym (subst (Saw by r.log r.seat_of r.made r.returned id v.seen v.made v.back) root (r.each_list id v at)).2) r.above)) in (
-          (λ _. (x, ((λ i. (record v { stage = InTurn (same i); seen = entries x }, (0, Some x) ∷ me.1)), r.each_setting id v at has ∙ ap Some (sym h.3), subst (λ l. GoesOn by l (number_of v.role) v.seen) (sym h.2) own.1, above_all))),
+          (λ _. (x, ((λ i. (record v { stage = InTurn (same i); seen = entries x }, (0, Some x) ∷ me.1)), (r.each_setting id v at).0 has ∙ ap Some (sym h.3), subst (λ l. GoesOn by l (number_of v.role) v.seen) (sym h.2) own.1, above_all))),
           (λ no. absurd (no (hit ∙ ap (λ z. z % 18446744073709551616) same))),
         ),
       ))
@@ -236,8 +233,8 @@ module _ {T E C : Type 0} (by : E → ℕ) (entries : T → List E) (setting : T
           in_turn = omega arith;
           seated = omega arith;
           above = subst (All (λ e. by e ≤ r.made)) (sym added.1) (All-append (λ e. by e ≤ r.made) r.log more r.above (added.3 r.made own.2));
-          home = λ _. (x, ap (λ (h : List (maybe.Option (Option T))). get_elem? h 0) back ∙ set_here s.homes 0 (some (Some x)) (omega arith), refl, some_same (sym may.0 ∙ r.each_setting id v at has));
-          each_setting = seats_stay (λ j d. IsNumbered d.role → d.setting ≡ Some c) s.views id w (r.each_setting id v at) (λ j d _. r.each_setting j d);
+          home = λ _. (x, ap (λ (h : List (maybe.Option (Option T))). get_elem? h 0) back ∙ set_here s.homes 0 (some (Some x)) (omega arith), refl, some_same (sym may.0 ∙ (r.each_setting id v at).0 has));
+          each_setting = seats_stay (λ j d. HasSetting c d) s.views id w (r.each_setting id v at) (λ j d _. r.each_setting j d);
           each_list = seats_stay (λ j d. Saw by log' r.seat_of r.made r.returned j d.seen d.made d.back d.role) s.views id w
               (saw_all by r.log log' r.seat_of r.made r.returned id v.seen v.made v.back v.role
               (λ k xs root pos h. subst (λ l. GoesOn by l k xs) (sym added.1) (goes_on by r.log more k xs (added.4 k (λ e. let z : number_of v.role ≡ 0 = ap number_of root in omega arith)) h)) (r.each_list id v at))

@@ -1,5 +1,5 @@
 -- What holds of each view after a step of another.
-use Rattle.std.proofs.Common.{◌≡◌, ◌≢◌, ◌⊎◌, inl, inr, ℕ, zero, suc, ◌+◌, ◌<◌, ◌≤◌, List, [], ◌∷◌, ◌++◌, length, set, sym, refl, ap, ◌∙◌, subst, ⊎_elim, arith, length-set}
+use Rattle.std.proofs.Common.{◌≡◌, ◌≢◌, ◌⊎◌, inl, inr, ℕ, zero, suc, ◌+◌, ◌<◌, ◌≤◌, List, [], ◌∷◌, ◌++◌, length, set, sym, refl, ap, ◌∙◌, subst, ⊎_elim, arith, Option, Some, None, length-set}
 use Rattle.std.proofs.lemmas.List.{append-nil}
 use Rattle.std.proofs.lemmas.List.Elements.{All-weaker}
 use mathlib.Core.Logic.{dite}
@@ -14,7 +14,7 @@ use Rattle.turnstile.specs.declared.view.Role.TheVariants.{Note, Seat, Root}
 use Rattle.turnstile.specs.declared.view.View.{View}
 use Rattle.turnstile.specs.declared.view.Returned.{Returned}
 use Rattle.turnstile.specs.Histories.{NoneBy, GoesOn, Begins}
-use Rattle.turnstile.specs.Tickets.{total, Numbers, queues, has_turn, counts_if, numbered, queued, turning, number_of, IsNumbered, Saw, Queues}
+use Rattle.turnstile.specs.Tickets.{total, Numbers, queues, has_turn, counts_if, numbered, queued, turning, number_of, IsNumbered, NoOther, Saw, Queues}
 use Rattle.turnstile.proofs.Beginnings.{begins_on, whole_beginning, goes_on, whole, goes_longer}
 use Rattle.turnstile.proofs.Totals.{total_le}
 use Rattle.coflow_units.proofs.Changes.{put, put_else}
@@ -23,6 +23,14 @@ abbrev pub ticket : Stage → ℕ
 ticket Idle = 0
 ticket (Waiting t) = t
 ticket (InTurn t) = t
+
+module _ {C : Type 0} where
+  pub some_same : {x y : C} → ◌≡◌ {A = Option C} (Some x) (Some y) → x ≡ y
+  some_same {x} {y} e = ap (λ (o : Option C). elim o [ None ↦ x | Some z ↦ z ]) e
+
+  -- where there is no setting, there is no other one
+  pub no_setting : (c : C) → NoOther c None
+  no_setting c x e = absurd cc
 
 pub counts_one : (k : Role) (n : ℕ) → IsNumbered k → counts_if k n ≡ n
 counts_one Note n h = absurd h

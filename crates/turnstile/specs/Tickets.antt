@@ -1,5 +1,5 @@
 -- The rule that the turnstile's table keeps between any two steps: how the two words, the slot and all views fit one list of entries.
-use Rattle.std.specs.Prelude.{◌≡◌, ℕ, ◌+◌, ◌%◌, ◌<◌, ◌≤◌, List, [], ◌∷◌, All, Contains, length, slice_index, Option, Some}
+use Rattle.std.specs.Prelude.{◌≡◌, ℕ, ◌+◌, ◌%◌, ◌<◌, ◌≤◌, List, [], ◌∷◌, All, Contains, length, slice_index, Option, Some, None}
 use mathlib.Core.Option.{some}
 use lib.ListN.{get_elem?}
 use Rattle.atomic_table.specs.Table.{State}
@@ -48,7 +48,7 @@ module _ {E C : Type 0} where
 module _ {E C : Type 0} where
   -- the first view
   abbrev pub root_of : C → View E C
-  root_of c = record { role = Root; stage = Idle; seen = []; told = []; made = 0; back = []; setting = Some c }
+  root_of c = record { role = Root; stage = Idle; seen = []; told = []; made = 0; back = []; setting = Some c; told_setting = None }
 
 -- the root's number is 0
 abbrev pub number_of : Role → ℕ
@@ -69,6 +69,15 @@ abbrev pub Numbers : {E : Type 0} → Role → List (Returned E) → ℕ → Typ
 Numbers Note back k = ⊥
 Numbers (Seat number) back k = number ≡ k
 Numbers {E} Root back k = (p : Returned E) × Contains back p × (p.number ≡ k)
+
+-- where there is a setting, it is this one
+abbrev pub NoOther : {C : Type 0} → C → Option C → Type 0
+NoOther {C} c said = (x : C) → said ≡ Some x → x ≡ c
+
+module _ {E C : Type 0} where
+  -- a view with a number has this setting; no view has another one, or was told another one
+  abbrev pub HasSetting : C → View E C → Type 0
+  HasSetting c v = (IsNumbered v.role → v.setting ≡ Some c) × NoOther c v.setting × NoOther c v.told_setting
 
 module _ {E : Type 0} (by : E → ℕ) where
   module _ (log : List E) (seat_of : ℕ → ℕ) (made returned : ℕ) (seat : ℕ) where
@@ -115,7 +124,7 @@ module _ {T E C : Type 0} (by : E → ℕ) (entries : T → List E) (setting : T
     pub each_number : (k : ℕ) → 0 < k → k ≤ made → (d : View E C) × (get_elem? s.views (seat_of k) ≡ some d) × Numbers d.role d.back k
     pub above : NoneAbove by made log
     pub home : taken ≡ 0 → IsHome s log
-    pub each_setting : (j : ℕ) (v : View E C) → get_elem? s.views j ≡ some v → IsNumbered v.role → v.setting ≡ Some c
+    pub each_setting : (j : ℕ) (v : View E C) → get_elem? s.views j ≡ some v → HasSetting c v
     pub each_list : (j : ℕ) (v : View E C) → get_elem? s.views j ≡ some v → Saw by log seat_of made returned j v.seen v.made v.back v.role
     pub each_told : (j : ℕ) (v : View E C) → get_elem? s.views j ≡ some v → Begins log v.told
     pub each_stage : (j : ℕ) (v : View E C) → get_elem? s.views j ≡ some v → Queues log j next serving taken holder v.seen v.stage

@@ -149,12 +149,16 @@ impl<T: Chronicle> Turnstile<T> {
     }
 
     /// Takes a seat back, also while the root has the turn. The root has then seen all that the seat had seen, and keeps the seat's number with that list.
+    /// Each entry was made by the root or by a seat that it has made, no more seats came back than it has made, and the seat had the root's setting.
     pub fn rejoin(&self, root: &mut Root<T>, seat: TurnSeat<T>)
         requires own { (root.old.table ≡ self.now.table) × (seat.table ≡ self.now.table) }
         requires free { seat.in_turn ≡ false }
         ensures root { root.new ≡ takes_back root.old seat }
         ensures own_entries { GoesOn T.by root.new.seen 0 root.old.seen }
         ensures seen { Begins root.new.seen seat.seen }
+        ensures numbers { NoneAbove T.by root.new.made root.new.seen }
+        ensures few { length root.new.back ≤ root.new.made }
+        ensures setting { seat.setting ≡ root.new.setting }
     {
         let TurnSeat {
             place: other,
@@ -167,6 +171,7 @@ impl<T: Chronicle> Turnstile<T> {
     }
 
     /// The root and the seat tell each other what they have seen. Both have then seen one list, and each keeps its number and its own entries.
+    /// Each entry of that list was made by the root or by a seat that it has made, and the two have one setting.
     pub fn meet(&self, root: &mut Root<T>, seat: &mut TurnSeat<T>)
         requires own { (root.old.table ≡ self.now.table) × (seat.old.table ≡ self.now.table) }
         requires free { (root.old.in_turn ≡ false) × (seat.old.in_turn ≡ false) }
@@ -175,6 +180,8 @@ impl<T: Chronicle> Turnstile<T> {
         ensures same { seat.new.seen ≡ root.new.seen }
         ensures root_list { GoesOn T.by root.new.seen 0 root.old.seen }
         ensures seat_list { GoesOn T.by seat.new.seen seat.old.number seat.old.seen }
+        ensures numbers { NoneAbove T.by root.new.made root.new.seen }
+        ensures setting { seat.new.setting ≡ root.new.setting }
     {
         let steps = &self.table.shared;
         tell(steps, &mut seat.place, &mut root.place);
@@ -188,7 +195,7 @@ impl<T: Chronicle> Turnstile<T> {
         requires free { root.in_turn ≡ false }
         requires all { root.made ≡ length root.back }
         ensures ok { IsOk result }
-        ensures setting { IfOk result (λ value. root.setting ≡ Some (T.setting value)) }
+        ensures setting { IfOk result (λ value. (T.setting value ≡ self.setting) × (root.setting ≡ Some (T.setting value))) }
         ensures root { IfOk result (λ value. GoesOn T.by (T.entries value) 0 root.seen) }
         ensures seats { IfOk result (λ value. GoesOnForEach T.by (T.entries value) root.back) }
         ensures numbers { EachCameBack root.made root.back }
@@ -267,6 +274,8 @@ fn tell<T: Chronicle>(steps: &Steps<T>, from: &mut Place<T>, to: &mut Place<T>)
     ensures to { to.new.me ≡ (learned (hears to.old.me.0 from.old.me.0), to.old.me.1) }
     ensures kept { GoesOn T.by (longer to.old.me.0.seen from.old.me.0.seen) (number_of to.old.me.0.role) to.old.me.0.seen }
     ensures heard { Begins (longer to.old.me.0.seen from.old.me.0.seen) from.old.me.0.seen }
+    ensures numbers { IsRoot to.old.me.0.role → NoneAbove T.by to.old.me.0.made (longer to.old.me.0.seen from.old.me.0.seen) }
+    ensures setting { (x : T.Setting) → from.old.me.0.setting ≡ Some x → to.old.me.0.setting ≡ Some x }
 {
     let note = steps.split_seat::<Writes>(from);
     steps.join_seat::<Reads>(to, note);

@@ -1,5 +1,5 @@
 //! The root, the seats that it makes, and the turn that one of them has.
-ghost use Rattle.std.specs.Prelude.{◌≡◌, length};
+ghost use Rattle.std.specs.Prelude.{◌≡◌, ◌≤◌, length};
 
 use crate::chronicle::Chronicle;
 use crate::view::View;
@@ -21,6 +21,7 @@ pub struct TurnSeat<T: Chronicle> {
 
 impl<T: Chronicle> Model for TurnSeat<T> {
     ghost use Rattle.std.specs.Prelude.{◌≡◌};
+    ghost use Rattle.std.specs.Option.{IsSome};
     ghost use Rattle.turnstile.specs.declared.view.Role.TheVariants.{Seat};
     ghost use Rattle.turnstile.specs.Models.{SeatModel, is_in_turn};
     ghost use Rattle.turnstile.specs.Tells.{Holds};
@@ -29,7 +30,7 @@ impl<T: Chronicle> Model for TurnSeat<T> {
 
     ghost view = { λ s. record { table = s.place.table_id; number = s.number; in_turn = is_in_turn s.place.me.0.stage; seen = s.place.me.0.seen; setting = s.place.me.0.setting } };
 
-    ghost invariant = { λ s. (s.place.me.0.role ≡ Seat s.number) × Holds s.place.me.0.stage s.place.me.1 };
+    ghost invariant = { λ s. (s.place.me.0.role ≡ Seat s.number) × Holds s.place.me.0.stage s.place.me.1 × IsSome s.place.me.0.setting };
 }
 
 /// The turnstile's first seat, with the number 0. It makes the other seats and takes them back.
@@ -41,7 +42,8 @@ pub struct Root<T: Chronicle> {
 }
 
 impl<T: Chronicle> Model for Root<T> {
-    ghost use Rattle.std.specs.Prelude.{◌≡◌, length};
+    ghost use Rattle.std.specs.Prelude.{◌≡◌, ◌≤◌, length};
+    ghost use Rattle.std.specs.Option.{IsSome};
     ghost use Rattle.turnstile.specs.declared.view.Role.TheVariants.{Root};
     ghost use Rattle.turnstile.specs.Models.{RootModel, is_in_turn};
     ghost use Rattle.turnstile.specs.Tells.{Holds};
@@ -50,7 +52,7 @@ impl<T: Chronicle> Model for Root<T> {
 
     ghost view = { λ s. record { table = s.place.table_id; in_turn = is_in_turn s.place.me.0.stage; seen = s.place.me.0.seen; made = s.place.me.0.made; back = s.place.me.0.back; setting = s.place.me.0.setting } };
 
-    ghost invariant = { λ s. (s.place.me.0.role ≡ Root) × (s.place.me.0.made ≡ s.made) × (length s.place.me.0.back ≡ s.back) × Holds s.place.me.0.stage s.place.me.1 };
+    ghost invariant = { λ s. (s.place.me.0.role ≡ Root) × (s.place.me.0.made ≡ s.made) × (length s.place.me.0.back ≡ s.back) × Holds s.place.me.0.stage s.place.me.1 × (s.back ≤ s.made) × IsSome s.place.me.0.setting };
 }
 
 impl<T: Chronicle> Root<T> {
@@ -61,9 +63,10 @@ impl<T: Chronicle> Root<T> {
         self.made
     }
 
-    /// How many seats came back to the root.
+    /// How many seats came back to the root, at most as many as it has made.
     pub fn back(&self) -> u32
         ensures back { result ≡ length self.now.back }
+        ensures few { result ≤ self.now.made }
     {
         self.back
     }

@@ -36,6 +36,8 @@ pub struct View<E, C> {
     pub made: u64,
     pub back: LinkedList<Returned<E>>,
     pub setting: Option<C>,
+    /// The setting of the place that told it.
+    pub told_setting: Option<C>,
 }
 
 pub struct Tickets;

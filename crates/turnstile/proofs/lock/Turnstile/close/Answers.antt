@@ -9,7 +9,9 @@ pub unwrap-requires : goal.unwrap-requires
 unwrap-requires g c = has_value _ _ _ _ _ _ _ _ _ _ _ c.root.view_is c.root.invariant.0 c.root.invariant.3 c.requires.free c.requires.all c.close_with-closed.ensures.values.2 c.take-value.ensures.value
 
 pub returns-clause-setting : goal.returns-clause-setting
-returns-clause-setting g c = (value_is _ _ _ _ _ _ _ _ _ _ _ _ c.root.view_is c.root.invariant.0 c.root.invariant.3 c.requires.free c.requires.all c.close_with-closed.ensures.values.2 c.take-value.ensures.value c.unwrap.ensures).0
+returns-clause-setting g c =
+    let known = (value_is _ _ _ _ _ _ _ _ _ _ _ _ c.root.view_is c.root.invariant.0 c.root.invariant.3 c.requires.free c.requires.all c.close_with-closed.ensures.values.2 c.take-value.ensures.value c.unwrap.ensures).0 in
+    (known.0 ∙ ap (λ t. t.setting) c.self.view_is, known.1)
 
 pub returns-clause-root : goal.returns-clause-root
 returns-clause-root g c = (value_is _ _ _ _ _ _ _ _ _ _ _ _ c.root.view_is c.root.invariant.0 c.root.invariant.3 c.requires.free c.requires.all c.close_with-closed.ensures.values.2 c.take-value.ensures.value c.unwrap.ensures).1
