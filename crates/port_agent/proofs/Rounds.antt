@@ -7,7 +7,7 @@ use mathlib.Core.Logic.{dite}
 use native.Mathlib.Decide.{ℕ_discrete}
 use Rattle.port_board.specs.declared.view.Report.{Report}
 use Rattle.port_board.specs.declared.view.View.{View}
-use Rattle.port_board.specs.Views.{last_at, LastIsListed}
+use Rattle.port_board.specs.Views.{last_at, IsNewest, LastIsListed}
 use Rattle.port_agent.specs.declared.agent.Served.{Served}
 use Rattle.port_agent.specs.Served.{GoesOn, SentOn, Attends, ServesPort, Attended, taken, units_of, shorts_of, adds}
 
@@ -69,7 +69,7 @@ module _ {W : Type 0} (faults : W → ℕ) (runs : W → Option (List (ℕ × �
   -- what was attended stays so where the lists grow
   attends_on : (v w : View) (more : List Report) (port : ℕ) (x y : W) (o : Option Report) → GoesOn v w more → Attends faults runs v port x y o → Attends faults runs w port x y o
   attends_on v w more port x y None goes h = (h.0, still_listed v w more port goes h.1)
-  attends_on v w more port x y (Some r) goes h = h
+  attends_on v w more port x y (Some r) goes h = (h.0, h.1, subst (IsNewest r.grant) (sym goes.shown) h.2)
 
   module _ (first i : ℕ) (v w u : View) (old now : List W) (y : W) (inside : i < length old) where
     -- one more port
@@ -132,7 +132,7 @@ module _ {W : Type 0} (faults : W → ℕ) (runs : W → Option (List (ℕ × �
           took = so.took ++ Some r ∷ [];
           as_many = omega arith;
           wires = length-set now i y ∙ so.wires;
-          each = each_more so.took (r ∷ []) (Some r) so.as_many so.wires so.each goes (λ d. (h.1, subst (λ (z : W). SentOn faults runs z y r) (at d ∙ so.rest i d (omega arith)) on));
+          each = each_more so.took (r ∷ []) (Some r) so.as_many so.wires so.each goes (λ d. (h.1, subst (λ (z : W). SentOn faults runs z y r) (at d ∙ so.rest i d (omega arith)) on, subst (IsNewest r.grant) (sym goes.shown) h.7));
           rest = rest_more so.rest;
           out = goes.out ∙ so.out;
           shown = goes.shown ∙ so.shown;

@@ -22,7 +22,7 @@ use Rattle.port_board.specs.declared.view.Came.{Came}
 use Rattle.port_board.specs.declared.view.Kind.{Kind}
 use Rattle.port_board.specs.declared.view.Kind.TheVariants.{Agent, Poster}
 use Rattle.port_board.specs.Words.{shows_granted, slot_of, flow_of}
-use Rattle.port_board.specs.Views.{grant, report, number_of, is_of, missed_after, reported_as}
+use Rattle.port_board.specs.Views.{grant, IsNewest, report, number_of, is_of, missed_after, reported_as}
 use Rattle.port_board.specs.Rule.{Cargo, PortOk, grant_at, count_after, DifferAt, ReportsDiffer, HoldsOnce, Posted, Out, Back, Gone, Closed, CameOk, StepOk, Counts, Knows, HasOut, HasDone, Seated, Kept}
 use Rattle.port_board.specs.Tells.{loads, after_win, after_miss, draws, won_count, after_length, reads_length, counts, counted, reports}
 use Rattle.port_board.proofs.Words.{IsGranted, IsDrawn, IsReported, drawer, reporter, units, slot_of-granted, flow_of-granted, slot_of-reported, granted_only, shows_granted-granted, stage_is}
@@ -269,6 +269,12 @@ module _ (n : ℕ) where
       let flow_is : flow_of x ≡ (r.cargo p (r.slot p)).0 = ap flow_of (hit ∙ saw.1) ∙ (flow_of-granted saw.0 (r.cargo p saw.0).0 saw.3 ∙ sym g.2) in
       let it : Grant = grant p (slot_of x) (flow_of x) count in
       let it_is : it ≡ grant_at r.cargo p (r.slot p) = λ i. record { port = p; slot = slot_is i; flow = flow_is i; length = count } in
+      let at_last = g.1 in
+      let newest : IsNewest it v.shown = record {
+        latest = All-weaker (λ (q : Grant). q.port ≡ p → q.slot ≤ saw.0) (λ (q : Grant). q.port ≡ p → q.slot ≤ slot_of x) (λ q h e. let le = h e in omega arith) v.shown saw.5;
+        same = All-weaker (Posted r.cargo r.stage) (λ (q : Grant). q.port ≡ p → q.slot ≡ slot_of x → q ≡ it)
+            (λ q h pe se. h.1 ∙ ((λ i. grant_at r.cargo (pe i) ((se ∙ slot_is) i)) ∙ sym it_is)) v.shown k.shown;
+      } in
       let mine : Knows r.cargo stage' n words' r.slot w = record {
         shown = stays.shown;
         out = All-push (Out r.cargo stage' (number_of v.kind)) v.out it stays.out
@@ -292,7 +298,7 @@ module _ (n : ℕ) where
         subst (λ (b : Bool). Kept n (stepped s p (either b new x) id me.1 w keeps)) (sym (eq-eqb x old hit))
             (moved s r id a p new v w c inside at agent_is (goes_same v w refl refl refl) f b (λ e. subst IsDrawn e tt) (omega arith) mine (λ u e. absurd (not_drawn u e))
             (λ u e. (sym (ap drawer e), subst (Contains w.out) it_is (Contains-push v.out it))) (λ u m e. absurd (subst IsDrawn e tt)) (λ q h _. Contains-append_left v.out (it ∷ []) q h) (λ y h. h)),
-        (count, ap (λ (b : Bool). (cond b (after_win p x count v) (after_miss p x v), me.1)) (sym (eq-eqb x old hit)), holds_once s r.cargo stage' words' r.slot w mine),
+        (count, ap (λ (b : Bool). (cond b (after_win p x count v) (after_miss p x v), me.1)) (sym (eq-eqb x old hit)), holds_once s r.cargo stage' words' r.slot w mine, (λ _. newest)),
       ))
       (λ miss.
       let w : View = after_miss p x v in
@@ -309,7 +315,7 @@ module _ (n : ℕ) where
         tt,
         subst (λ (b : Bool). Kept n (stepped s p (either b new x) id me.1 w keeps)) (sym (ne_eqb x old miss))
             (unmoved n s r id v w at (goes_same v w refl refl refl) p (λ g h. h) (λ r h. h) mine (λ e. absurd (not_poster v a agent_is e))),
-        (count, ap (λ (b : Bool). (cond b (after_win p x count v) (after_miss p x v), me.1)) (sym (ne_eqb x old miss)), holds_once s r.cargo r.stage s.words r.slot w mine),
+        (count, ap (λ (b : Bool). (cond b (after_win p x count v) (after_miss p x v), me.1)) (sym (ne_eqb x old miss)), holds_once s r.cargo r.stage s.words r.slot w mine, (λ hit. absurd (miss hit))),
       ))
 
   -- the read of the length, by the agent that drew the grant

@@ -7,7 +7,7 @@ use Rattle.port_board.specs.declared.view.Step.TheVariants.{Rests, Loaded, Won, 
 use Rattle.port_board.specs.declared.view.Kind.TheVariants.{Note}
 use Rattle.port_board.specs.declared.view.View.{View}
 use Rattle.port_board.specs.Words.{shows_granted, shows_drawn, shows_reported, slot_of, flow_of}
-use Rattle.port_board.specs.Views.{grant, missed_after, found_idle, looked, reported_as, posted_too, settled_as, last_at, is_unsettled, blank, sees, ShowsLast}
+use Rattle.port_board.specs.Views.{grant, missed_after, found_idle, looked, reported_as, posted_too, settled_as, last_at, is_unsettled, blank, sees, IsNewest, ShowsLast}
 use Rattle.port_board.specs.Rule.{HoldsOnce}
 use Rattle.port_board.specs.Agreement.{Agrees, NobodyHad}
 
@@ -37,8 +37,10 @@ after_miss port word v = record v { step = Rests; looks = v.looks ++ (port, word
 abbrev pub after_draw : ℕ → ℕ → ℕ → ℕ → View → View
 after_draw port old count found v = cond (found == old) (after_win port found count v) (after_miss port found v)
 
+-- where the exchange wins, the grant is the newest of the posts that the agent has seen at the port, or newer
 abbrev pub draws : Of → Sat → ℕ → Sat → Type 0
 draws st m found m' = (count : ℕ) × (m' ≡ (after_draw st.word st.first count found m.0, m.1)) × HoldsOnce m'.0
+    × (found ≡ st.first → IsNewest (grant st.word (slot_of found) (flow_of found) count) m.0.shown)
 
 abbrev pub won_count : Step → ℕ
 won_count (Won port count) = count

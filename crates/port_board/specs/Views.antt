@@ -1,5 +1,5 @@
 -- What contracts see of a board and of its seats, and what each call makes of the view of a seat.
-use Rattle.std.specs.Prelude.{◌≡◌, ℕ, ◌+◌, ◌-◌, ◌≤◌, List, [], ◌∷◌, ◌++◌, length, filter, Bool, true, false, not, ◌==◌, ◌&&◌, ◌||◌, ◌⊎◌, cond, Option, Some, None}
+use Rattle.std.specs.Prelude.{◌≡◌, ℕ, ◌+◌, ◌-◌, ◌≤◌, List, [], ◌∷◌, ◌++◌, All, length, filter, Bool, true, false, not, ◌==◌, ◌&&◌, ◌||◌, ◌⊎◌, cond, Option, Some, None}
 use Rattle.std.specs.List.{list_any}
 use Rattle.atomic_table.specs.Seated.{TableId}
 use Rattle.port_board.specs.declared.view.Grant.{Grant}
@@ -94,6 +94,11 @@ missed_after v port = missed_if v port (last_at port v.shown)
 -- the last post of the port that the seat has seen, where there is one, stands in its lists as drawn or missed
 abbrev pub LastIsListed : ℕ → View → Type 0
 LastIsListed port v = (g : Grant) → last_at port v.shown ≡ Some g → is_listed v port g.slot ≡ true
+
+-- no post of these at the grant's port has a later slot, and one with the grant's slot is this grant, with its flow and its length
+pub record IsNewest (g : Grant) (posts : List Grant) : Type 0 where
+  pub latest : All (λ (h : Grant). h.port ≡ g.port → h.slot ≤ g.slot) posts
+  pub same : All (λ (h : Grant). h.port ≡ g.port → h.slot ≡ g.slot → h ≡ g) posts
 
 -- one more look at the word of a place
 abbrev pub looked : ℕ → ℕ → View → View

@@ -8,7 +8,7 @@ ghost use Rattle.port_board.specs.declared.view.Kind.TheVariants.{Agent};
 ghost use Rattle.port_board.specs.declared.view.Step.TheVariants.{Rests, Loaded};
 ghost use Rattle.port_board.specs.declared.view.View.{View};
 ghost use Rattle.port_board.specs.Words.{shows_granted, shows_drawn, shows_reported};
-ghost use Rattle.port_board.specs.Views.{grant, IsPoster, number_of, agents_out, is_unsettled, last_slot, last_at, LastIsListed, one_more, newcomer, sees, takes_in, looked, posted_too, settled_as, found_idle, found_other, drew, reported_as, Tried, IsLength, ShowsLast};
+ghost use Rattle.port_board.specs.Views.{grant, IsPoster, number_of, agents_out, is_unsettled, last_slot, last_at, LastIsListed, one_more, newcomer, sees, takes_in, looked, posted_too, settled_as, found_idle, found_other, drew, reported_as, Tried, IsLength, IsNewest, ShowsLast};
 ghost use Rattle.port_board.specs.Rule.{first_poster, HoldsOnce};
 ghost use Rattle.port_board.specs.Answers.{is_busy};
 ghost use Rattle.port_board.specs.Tells.{loaded_now, after_miss, drawn_now, poster_step};
@@ -281,6 +281,9 @@ impl PortBoard {
 
     /// Tries once to draw the grant of a port.
     ///
+    /// A drawn grant is no earlier than each post of the port that the seat has seen. Where the seat has seen a post of the same slot, that post is the grant, with its flow and its length;
+    /// the grant may also be newer than all that the seat was shown, and then only the poster's list has it, as `back` tells.
+    ///
     /// Where nothing is drawn, the last post of the port that the seat has seen goes on its list of missed grants, unless it stands in one of its lists.
     pub fn draw(&self, seat: &mut AgentSeat, port: u32) -> Draw
         requires own { seat.old.at ≡ self.now.id }
@@ -289,6 +292,7 @@ impl PortBoard {
         ensures drawn { (g : Grant) → result ≡ Draw.Drawn g → (g.port ≡ port) × (seat.new.view ≡ drew self.now.ports (word_of granted g.slot g.flow) g seat.old.view) }
         ensures held { (g : Grant) → result ≡ Draw.Drawn g → Contains seat.new.view.out g }
         ensures length { (g : Grant) → result ≡ Draw.Drawn g → IsLength g.length }
+        ensures newest { (g : Grant) → result ≡ Draw.Drawn g → IsNewest g seat.old.view.shown }
         ensures idle { (word : ℕ) → result ≡ Draw.Idle word → (shows_granted word ≡ false) × (seat.new.view ≡ found_idle port word seat.old.view) }
         ensures missed { (loaded found : ℕ) → result ≡ Draw.Missed loaded found → (shows_granted loaded ≡ true) × (found ≢ loaded) × (seat.new.view ≡ found_other port loaded found seat.old.view) }
         ensures once { HoldsOnce seat.new.view }
@@ -336,6 +340,7 @@ impl PortBoard {
         ensures own { place.new.table_id ≡ place.old.table_id }
         ensures drawn { (g : Grant) → result ≡ Draw.Drawn g → (g.port ≡ port) × FitsWord g.slot g.flow × (loaded ≡ word_of granted g.slot g.flow) × (place.new.me ≡ (drawn_now self.now.ports g loaded place.old.me.0, place.old.me.1)) }
         ensures length { (g : Grant) → result ≡ Draw.Drawn g → IsLength g.length }
+        ensures newest { (g : Grant) → result ≡ Draw.Drawn g → IsNewest g place.old.me.0.shown }
         ensures missed { (before found : ℕ) → result ≡ Draw.Missed before found → (before ≡ loaded) × (found ≢ loaded) × (place.new.me ≡ (after_miss port found place.old.me.0, place.old.me.1)) }
         ensures range { (g : Grant) → result ≡ Draw.Drawn g → g.port + g.port < place.old.table_id.words }
         ensures once { HoldsOnce place.new.me.0 }

@@ -5,7 +5,7 @@ use Rattle.outside.specs.Wire.{Accepts}
 use Rattle.port_board.specs.declared.view.Grant.{Grant}
 use Rattle.port_board.specs.declared.view.Step.TheVariants.{Rests}
 use Rattle.port_board.specs.declared.view.View.{View}
-use Rattle.port_board.specs.Views.{report, IsLength}
+use Rattle.port_board.specs.Views.{report, IsLength, IsNewest}
 use Rattle.port_agent.specs.Served.{GoesOn}
 use Rattle.port_agent.proofs.Tries.{goes_missed, goes_drawn}
 use Rattle.port_agent.proofs.agent.Agent.serve_port.Goals as goal
@@ -34,6 +34,7 @@ returns-in-Drawn-clause-port g c =
         later = t.later;
       },
       subst (λ (v : View). GoesOn v c.report.new.seat.view (report it sent ∷ [])) view goes,
+      subst (λ (v : View). IsNewest it v.shown) view (c.in-Drawn.ensures.newest _ refl),
     )
 
 pub returns-in-Idle-clause-port : goal.returns-in-Idle-clause-port

@@ -4,7 +4,7 @@ use Rattle.std.proofs.lemmas.List.Elements.{Contains-push}
 use Rattle.port_board.specs.declared.view.Kind.TheVariants.{Agent}
 use Rattle.atomic_table.specs.Seated.{TableId}
 use Rattle.port_board.specs.Words.{shows_granted}
-use Rattle.port_board.specs.Views.{number_of, LastIsListed}
+use Rattle.port_board.specs.Views.{number_of, IsNewest, LastIsListed}
 use Rattle.port_board.specs.Tells.{loaded_now, drawn_now, after_miss}
 use Rattle.port_board.proofs.AgentSteps.{M}
 use Rattle.port_board.specs.declared.view.Step.TheVariants.{Rests}
@@ -58,3 +58,9 @@ returns-in-Err-clause-idle_listed c word is = subst (λ (m : M). LastIsListed c.
 
 pub returns-in-Ok-clause-held : goal.returns-in-Ok-clause-held
 returns-in-Ok-clause-held c g is = let d = c.exchange.ensures.drawn g is in subst (λ (m : M). Contains m.0.out g) (sym d.3) (Contains-push c.look.new.place.me.0.out g)
+
+pub returns-in-Ok-clause-newest : goal.returns-in-Ok-clause-newest
+returns-in-Ok-clause-newest c g is =
+    let e = (c.in-Ok.ensures.granted _ refl).1 in
+    let view = ap (λ u. u.view) c.seat.view_is in
+    subst (IsNewest g) (ap (λ (m : M). m.0.shown) e ∙ ap (λ v. v.shown) view) (c.exchange.ensures.newest g is)
