@@ -13,3 +13,4 @@ pub mod OneLine
 pub mod LastLine
 pub mod ReadingSteps
 pub mod TextLaws
+pub mod MadeOne

@@ -18,7 +18,7 @@ use Rattle.report.proofs.NumberText.{digits_of_decimal}
 use Rattle.report.proofs.DraftText.{all_runs}
 use Rattle.report.proofs.ReadingText.{AreLines, more_lines}
 
-both : (a b : List ℕ) → IsOneLine a → IsOneLine b → IsOneLine (a ++ b)
+pub both : (a b : List ℕ) → IsOneLine a → IsOneLine b → IsOneLine (a ++ b)
 both [] b ha hb = hb
 both (x ∷ xs) b ha hb = (ha.0, both xs b ha.1 hb)
 
@@ -66,7 +66,8 @@ flows_one (f ∷ fs) h = both (spaced f) (flat_map spaced fs) (spaced_one f (ome
 run_one : (run : Run) → IsRun run → IsOneLine (run_line run)
 run_one run h = both (codes "run" ++ spaced run.length) (flat_map spaced run.flows) (both (codes "run") (spaced run.length) (front_is_line (codes "run")) (spaced_one run.length (omega (arith, h.1)))) (flows_one run.flows h.2.1)
 
-total_one : (word : List ℕ) (n : ℕ) → IsOneLine word → n < 2 ^ 128 → IsOneLine (word ++ spaced n)
+-- a word and a number behind a space
+pub total_one : (word : List ℕ) (n : ℕ) → IsOneLine word → n < 2 ^ 128 → IsOneLine (word ++ spaced n)
 total_one word n h small = both word (spaced n) h (spaced_one n small)
 
 both_lines : (xs ys : List (List ℕ)) → AreLines xs → AreLines ys → AreLines (xs ++ ys)

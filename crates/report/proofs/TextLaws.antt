@@ -37,7 +37,8 @@ weights_one n None None na nb ra rb v e = refl
 weights_one n (Some xs) None na nb ra rb v e = absurd (let bad : 50 ≡ 49 = ap (λ l. get_or l 10 0) v in omega (arith, bad))
 weights_one n None (Some ys) na nb ra rb v e = absurd (let bad : 49 ≡ 50 = ap (λ l. get_or l 10 0) v in omega (arith, bad))
 
-lines_one : (xs ys : List (List ℕ)) → AreLines xs → AreLines ys → text_of xs ≡ text_of ys → xs ≡ ys
+-- a text is that of one list of lines at most
+pub lines_one : (xs ys : List (List ℕ)) → AreLines xs → AreLines ys → text_of xs ≡ text_of ys → xs ≡ ys
 lines_one xs ys hx hy e =
     let more = text_goes_on xs ys [] hx hy (append-nil (text_of xs) ∙ e) in
     go more.0 more.1 more.2

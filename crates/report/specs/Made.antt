@@ -1,7 +1,16 @@
 -- The text of the summary of a made workload, line by line.
-use Rattle.std.specs.Prelude.{ℕ, ◌++◌, List, [], ◌∷◌, codes}
+use Rattle.std.specs.Prelude.{ℕ, ◌<◌, ◌^◌, ◌++◌, List, [], ◌∷◌, codes}
 use Rattle.report.specs.Text.{spaced, bound_line, slack_line, cost_line, text_of}
 use Rattle.report.specs.declared.made.Made.{Made}
+
+-- each number of the summary is below 2^128, as each number of its type is
+pub record IsSmallMade (m : Made) : Type 0 where
+  pub seed : m.seed < 2 ^ 128
+  pub flows : m.flows < 2 ^ 128
+  pub units : m.units < 2 ^ 128
+  pub bound : m.bound < 2 ^ 128
+  pub slack : m.slack < 2 ^ 128
+  pub cost : m.cost < 2 ^ 128
 
 -- the first line has the seed
 abbrev pub seed_line : ℕ → List ℕ

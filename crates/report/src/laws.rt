@@ -2,6 +2,8 @@
 ghost use Rattle.std.specs.Prelude.{◌≡◌, Err, List, Ok, ℕ};
 ghost use Rattle.report.specs.declared.value.Report.{Report};
 ghost use Rattle.report.specs.declared.fault.ReportFault.TheVariants.{BadText};
+ghost use Rattle.report.specs.declared.made.Made.{Made};
+ghost use Rattle.report.specs.Made.{IsSmallMade, made_text};
 ghost use Rattle.report.specs.Reading.{GivesReport, IsBadAt};
 ghost use Rattle.report.specs.Report.{HasSmallNumbers, IsReport};
 ghost use Rattle.report.specs.Text.{report_text};
@@ -9,6 +11,11 @@ ghost use Rattle.report.specs.Text.{report_text};
 /// A text is that of one report at most.
 pub fn texts_are_one()
     ensures { (a b : Report) → IsReport a → HasSmallNumbers a → IsReport b → HasSmallNumbers b → report_text a ≡ report_text b → a ≡ b }
+{}
+
+/// A text is the summary of one made workload at most.
+pub fn summaries_are_one()
+    ensures { (a b : Made) → IsSmallMade a → IsSmallMade b → made_text a ≡ made_text b → a ≡ b }
 {}
 
 /// A reader gives back the report that was written, where there is memory.
