@@ -3,6 +3,7 @@ pub mod OrderSteps
 pub mod CertificateFacts
 pub mod PlanSteps
 pub mod PlanLaw
+pub mod PlanSlack
 pub mod PlanFacts
 pub mod NoPriceFacts
 pub mod ShelfFacts

@@ -1,8 +1,10 @@
 //! Laws of plans, joined from those of schedules, certificates and orders.
 ghost use Rattle.std.specs.Prelude.{◌≡◌, ℕ, ◌+◌, ◌*◌, ◌<◌, ◌≤◌, ◌^◌, All, Err, List, [], ◌∷◌, Ok, length, sum_by};
+ghost use Rattle.std.specs.List.{range_with_len};
 ghost use Rattle.coflow_units.specs.declared.fabric.Flow.{Flow};
+ghost use Rattle.coflow_units.specs.declared.fabric.Port.{Port};
 ghost use Rattle.coflow_units.specs.declared.trace.Trace.{Trace};
-ghost use Rattle.coflow_units.specs.Certificate.{Entry, bound, order_of, slack};
+ghost use Rattle.coflow_units.specs.Certificate.{Entry, bound, front_loads, order_of, slack};
 ghost use Rattle.coflow_units.specs.Completion.{cost, end_of};
 ghost use Rattle.coflow_units.specs.Flows.{Instance, IsDistinct, IsInstance, units_of};
 ghost use Rattle.coflow_units.specs.Load.{load_of_all};
@@ -32,6 +34,21 @@ pub fn plan_is_within_four()
     ensures bound { (i : Instance) (entries : List Entry) (slots : List (List ℕ)) → IsOrdering i entries → IsValid i.flows slots → bound i.flows entries ≤ cost i.flows i.weight i.coflows slots }
     ensures served { (i : Instance) (entries : List Entry) (slots : List (List ℕ)) → IsInstance i → IsOrdering i entries → IsServed i.flows (order_of entries) slots →
         cost i.flows i.weight i.coflows slots ≤ 4 * bound i.flows entries + slack i.flows i.weight entries }
+{}
+
+/// The slack of a plan is what rounding down leaves: at most 2 for each coflow where no port has more than 2^20 units,
+/// and never more than twice the sum of the loads of the fronts, since a table has at most 2^40 units.
+pub fn plan_slack_is_small()
+    ensures two_each { (i : Instance) (entries : List Entry) → IsOrdering i entries →
+        ((port : Port) → port.number < i.ports → load_of_all i.flows i.coflows port ≤ 2 ^ 20) →
+        slack i.flows i.weight entries ≤ 2 * length i.coflows }
+    ensures by_fronts { (i : Instance) (entries : List Entry) → IsOrdering i entries →
+        sum_by (λ (x : Flow). x.units) i.flows ≤ 2 ^ 40 → slack i.flows i.weight entries ≤ 2 * front_loads i.flows entries }
+    ensures plan { (t : TableFacts) (weights : List ℕ) (r : Report) → IsWeighed t weights →
+        IsPlanOf (instance_of t weights) t.ids r → (entries : List Entry) × IsOrdering (instance_of t weights) entries
+        × (r.slack ≤ 2 * front_loads t.flows entries)
+        × (((port : Port) → port.number < t.ports → load_of_all t.flows (range_with_len 0 (length t.ids)) port ≤ 2 ^ 20) →
+        r.slack ≤ 2 * length t.ids) }
 {}
 
 /// The laws hold of certificates and orders that no plan has: two flows served in the order of their numbers, with a certificate that charges nothing.
