@@ -60,7 +60,9 @@ named_twice = record { coflow = 0; port = first_ingress; y = 0 } ∷ record { co
 
 -- two places that charge nothing, so that all budgets are kept
 abbrev pub free_places : List Entry
-free_places = record { coflow = 0; port = first_ingress; y = 0 } ∷ record { coflow = 1; port = first_ingress; y = 0 } ∷ []
+free_places =
+    record { coflow = 0; port = first_ingress; y = 0 }
+    ∷ record { coflow = 1; port = first_ingress; y = 0 } ∷ []
 
 -- a certificate without coflow 1
 abbrev pub one_left_out : List Entry
@@ -68,7 +70,9 @@ one_left_out = record { coflow = 0; port = first_ingress; y = 0 } ∷ []
 
 -- a certificate that charges port 3, where ports count from 0 to 2
 abbrev pub past_the_ports : List Entry
-past_the_ports = record { coflow = 0; port = first_ingress; y = 0 } ∷ record { coflow = 1; port = record { side = Ingress; number = 3 }; y = 0 } ∷ []
+past_the_ports =
+    record { coflow = 0; port = first_ingress; y = 0 }
+    ∷ record { coflow = 1; port = record { side = Ingress; number = 3 }; y = 0 } ∷ []
 
 -- the fabric has one port a side, and a flow goes to port 1
 abbrev pub out_of_range : Instance
@@ -76,7 +80,12 @@ out_of_range = record { coflows = 0 ∷ 1 ∷ []; weight = one_each; ports = 1; 
 
 -- the same fabric, and a flow comes from port 1
 abbrev pub from_port_one : Instance
-from_port_one = record { coflows = 0 ∷ []; weight = one_each; ports = 1; flows = record { coflow = 0; ingress = 1; egress = 0; units = 1 } ∷ [] }
+from_port_one = record {
+  coflows = 0 ∷ [];
+  weight = one_each;
+  ports = 1;
+  flows = record { coflow = 0; ingress = 1; egress = 0; units = 1 } ∷ [];
+}
 
 -- the first place charges a port without load
 abbrev pub at_an_idle_port : List Entry

@@ -29,9 +29,11 @@ pub fn grants_are_clear()
     ensures { (flows : List Flow) (line : List ℕ) (left : ℕ → ℕ) (granted : List ℕ) → IsGrants flows line left granted → IsClear flows granted }
 {}
 
-/// In its slot, the grants of a line are what the order asks: a flow of the line that has units left is granted, or it shares a port with a granted flow of a coflow no later in the line.
+/// In its slot, the grants of a line are what the order asks: a flow of the line that has units left is granted,
+/// or it shares a port with a granted flow of a coflow no later in the line.
 pub fn grants_are_patient()
-    ensures { (flows : List Flow) (line : List ℕ) (left : ℕ → ℕ) (granted : List ℕ) (f : ℕ) → IsGrants flows line left granted → f < length flows → Contains line (coflow_of flows f) → 0 < left f →
+    ensures { (flows : List Flow) (line : List ℕ) (left : ℕ → ℕ) (granted : List ℕ) (f : ℕ) →
+        IsGrants flows line left granted → f < length flows → Contains line (coflow_of flows f) → 0 < left f →
         IsServedOrWaits flows line granted f }
 {}
 

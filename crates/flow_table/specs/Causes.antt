@@ -20,14 +20,16 @@ HasTooManyFlows t unit count = (units_in_all t unit ≤ 2 ^ 40) × (count ≡ 10
 
 -- there is more of this quantity than a table may have, and its count is told so
 abbrev pub ExceedsLimit : Trace → ℕ → Quantity → ℕ → Type 0
-ExceedsLimit t unit which count = ((which ≡ Units) × HasTooManyUnits t unit count) ⊎ ((which ≡ Flows) × HasTooManyFlows t unit count)
+ExceedsLimit t unit which count =
+    ((which ≡ Units) × HasTooManyUnits t unit count)
+    ⊎ ((which ≡ Flows) × HasTooManyFlows t unit count)
 
 -- each fault has its cause in the trace and the unit; want of memory is free
 abbrev pub HasCause : Trace → ℕ → TableFault → Type 0
 HasCause t unit (Limit which count) = ExceedsLimit t unit which count
 HasCause t unit NoMemory = Unit {0}
 
--- Limit comes exactly where the trace has more of a quantity than a table may have; want of memory may come in place of any answer
+-- Limit comes exactly where the trace has more of a quantity than a table may have; want of memory is free
 abbrev pub IsLimitExactly : Trace → ℕ → Result TableFacts TableFault → Type 0
 IsLimitExactly t unit (Ok table) = (which : Quantity) (count : ℕ) → ExceedsLimit t unit which count → ⊥
 IsLimitExactly t unit (Err (Limit which count)) = ExceedsLimit t unit which count

@@ -26,18 +26,23 @@ pub fn units_are_kept()
     ensures { (t : Trace) (unit : ℕ) (flows : List Flow) → IsTrace t → IsFlowsOf t unit flows → sum_by (λ (x : Flow). x.units) flows ≡ units_in_all t unit }
 {}
 
-/// The starts of a table follow from its flows and its number of coflows. So a trace has one table at most where a unit has so many megabytes.
+/// The starts of a table follow from its flows and its number of coflows.
+/// So a trace has one table at most where a unit has so many megabytes.
 pub fn tables_are_one()
-    ensures starts { (a b : TableFacts) → IsTable a → IsTable b → a.flows ≡ b.flows → length a.ids ≡ length b.ids → a.starts ≡ b.starts }
-    ensures table { (trace : Trace) (unit : ℕ) (a b : TableFacts) → IsTable a → IsTable b → IsTableOf trace unit a → IsTableOf trace unit b → a ≡ b }
+    ensures starts { (a b : TableFacts) → IsTable a → IsTable b →
+        a.flows ≡ b.flows → length a.ids ≡ length b.ids → a.starts ≡ b.starts }
+    ensures table { (trace : Trace) (unit : ℕ) (a b : TableFacts) → IsTable a → IsTable b →
+        IsTableOf trace unit a → IsTableOf trace unit b → a ≡ b }
 {}
 
 /// A trace exceeds one limit at most, with one count.
 pub fn limit_is_one()
-    ensures { (trace : Trace) (unit : ℕ) (which other : Quantity) (count more : ℕ) → ExceedsLimit trace unit which count → ExceedsLimit trace unit other more → (which ≡ other) × (count ≡ more) }
+    ensures { (trace : Trace) (unit : ℕ) (which other : Quantity) (count more : ℕ) →
+        ExceedsLimit trace unit which count → ExceedsLimit trace unit other more → (which ≡ other) × (count ≡ more) }
 {}
 
-/// The definitions give what was worked out by hand: units are rounded up, the first mapper sends what is left over, and flows go from mappers to reducers.
+/// The definitions give what was worked out by hand: units are rounded up, the first mapper sends what is left over,
+/// and flows go from mappers to reducers.
 pub fn rows_hold()
     ensures two_mappers { TwoMappers }
 {}

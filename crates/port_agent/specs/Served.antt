@@ -22,7 +22,8 @@ module _ {W : Type 0} (faults : W → ℕ) (runs : W → Option (List (ℕ × �
     pub cause : r.sent < r.grant.length → Rose (faults before) (faults after)
     pub later : faults before ≤ faults after
 
-  -- one port and its wire: nothing was drawn, and the wire is untouched and the last post that the seat had seen is listed; or this grant was drawn, sent and reported, and the seat had seen no later one
+  -- one port and its wire: nothing was drawn, and the wire is untouched and the last post that the seat had seen is
+  -- listed; or this grant was drawn, sent and reported, and the seat had seen no later one
   abbrev pub Attends : View → ℕ → W → W → Option Report → Type 0
   Attends view port before after None = (after ≡ before) × LastIsListed port view
   Attends view port before after (Some r) = (r.grant.port ≡ port) × SentOn before after r × IsNewest r.grant view.shown
@@ -30,7 +31,9 @@ module _ {W : Type 0} (faults : W → ℕ) (runs : W → Option (List (ℕ × �
   -- one try at a port: no grant was drawn, or one of this length, of which so many units were sent
   abbrev pub ServesPort : ℕ → View → View → W → W → Option (ℕ × ℕ) → Type 0
   ServesPort port v w before after None = (after ≡ before) × LastIsListed port w × GoesOn v w []
-  ServesPort port v w before after (Some x) = (r : Report) × (r.grant.port ≡ port) × (r.grant.length ≡ x.0) × (r.sent ≡ x.1) × IsLength x.0 × SentOn before after r × GoesOn v w (r ∷ []) × IsNewest r.grant v.shown
+  ServesPort port v w before after (Some x) =
+      (r : Report) × (r.grant.port ≡ port) × (r.grant.length ≡ x.0) × (r.sent ≡ x.1) × IsLength x.0
+      × SentOn before after r × GoesOn v w (r ∷ []) × IsNewest r.grant v.shown
 
   -- the ports from `first` on, one for each wire
   pub record Attended (view : View) (first : ℕ) (before after : List W) (took : List (Option Report)) : Type 0 where

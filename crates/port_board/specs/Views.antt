@@ -95,7 +95,7 @@ missed_after v port = missed_if v port (last_at port v.shown)
 abbrev pub LastIsListed : ℕ → View → Type 0
 LastIsListed port v = (g : Grant) → last_at port v.shown ≡ Some g → is_listed v port g.slot ≡ true
 
--- no post of these at the grant's port has a later slot, and one with the grant's slot is this grant, with its flow and its length
+-- no post of these at the grant's port has a later slot, and one of its slot is this grant, with its flow and its length
 pub record IsNewest (g : Grant) (posts : List Grant) : Type 0 where
   pub latest : All (λ (h : Grant). h.port ≡ g.port → h.slot ≤ g.slot) posts
   pub same : All (λ (h : Grant). h.port ≡ g.port → h.slot ≡ g.slot → h ≡ g) posts

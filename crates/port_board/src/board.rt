@@ -281,8 +281,9 @@ impl PortBoard {
 
     /// Tries once to draw the grant of a port.
     ///
-    /// A drawn grant is no earlier than each post of the port that the seat has seen. Where the seat has seen a post of the same slot, that post is the grant, with its flow and its length;
-    /// the grant may also be newer than all that the seat was shown, and then only the poster's list has it, as `back` tells.
+    /// A drawn grant is no earlier than each post of the port that the seat has seen. A seen post of its slot is the
+    /// grant, with its flow and its length. The grant may also be newer than all posts that the seat was shown: that it
+    /// was posted so is then known to the poster alone, and `back` tells it.
     ///
     /// Where nothing is drawn, the last post of the port that the seat has seen goes on its list of missed grants, unless it stands in one of its lists.
     pub fn draw(&self, seat: &mut AgentSeat, port: u32) -> Draw

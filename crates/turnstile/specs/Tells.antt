@@ -51,7 +51,8 @@ module _ {E C : Type 0} where
   learned v = record v { seen = longer v.seen v.told; told = []; told_setting = None }
 
 module _ {T E C : Type 0} (by : E → ℕ) where
-  -- A look by which a seat sees what it was told. No more seats came back to the root than it made, and it made each caller that has an entry there. Who told the seat has the seat's setting.
+  -- A look by which a seat sees what it was told. No more seats came back to the root than it made, and it made each
+  -- caller that has an entry there. Who told the seat has the seat's setting.
   abbrev pub learns : Step (Option T) → Me (Option T) (View E C) → ℕ → Me (Option T) (View E C) → Type 0
   learns st m found m' = (m' ≡ (learned m.0, m.1)) × GoesOn by (longer m.0.seen m.0.told) (number_of m.0.role) m.0.seen × Begins (longer m.0.seen m.0.told) m.0.told
       × (IsRoot m.0.role → length m.0.back ≤ m.0.made) × (IsRoot m.0.role → NoneAbove by m.0.made (longer m.0.seen m.0.told)) × ((x : C) → m.0.told_setting ≡ Some x → m.0.setting ≡ Some x)

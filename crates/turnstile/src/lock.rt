@@ -149,7 +149,8 @@ impl<T: Chronicle> Turnstile<T> {
     }
 
     /// Takes a seat back, also while the root has the turn. The root has then seen all that the seat had seen, and keeps the seat's number with that list.
-    /// Each entry was made by the root or by a seat that it has made, no more seats came back than it has made, and the seat had the root's setting.
+    /// Each entry was made by the root or by a seat that it has made, no more seats came back than it has made,
+    /// and the seat had the root's setting.
     pub fn rejoin(&self, root: &mut Root<T>, seat: TurnSeat<T>)
         requires own { (root.old.table ≡ self.now.table) × (seat.table ≡ self.now.table) }
         requires free { seat.in_turn ≡ false }
@@ -195,7 +196,8 @@ impl<T: Chronicle> Turnstile<T> {
         requires free { root.in_turn ≡ false }
         requires all { root.made ≡ length root.back }
         ensures ok { IsOk result }
-        ensures setting { IfOk result (λ value. (T.setting value ≡ self.setting) × (root.setting ≡ Some (T.setting value))) }
+        ensures setting { IfOk result (λ value. (T.setting value ≡ self.setting)
+            × (root.setting ≡ Some (T.setting value))) }
         ensures root { IfOk result (λ value. GoesOn T.by (T.entries value) 0 root.seen) }
         ensures seats { IfOk result (λ value. GoesOnForEach T.by (T.entries value) root.back) }
         ensures numbers { EachCameBack root.made root.back }
@@ -274,7 +276,8 @@ fn tell<T: Chronicle>(steps: &Steps<T>, from: &mut Place<T>, to: &mut Place<T>)
     ensures to { to.new.me ≡ (learned (hears to.old.me.0 from.old.me.0), to.old.me.1) }
     ensures kept { GoesOn T.by (longer to.old.me.0.seen from.old.me.0.seen) (number_of to.old.me.0.role) to.old.me.0.seen }
     ensures heard { Begins (longer to.old.me.0.seen from.old.me.0.seen) from.old.me.0.seen }
-    ensures numbers { IsRoot to.old.me.0.role → NoneAbove T.by to.old.me.0.made (longer to.old.me.0.seen from.old.me.0.seen) }
+    ensures numbers { IsRoot to.old.me.0.role →
+        NoneAbove T.by to.old.me.0.made (longer to.old.me.0.seen from.old.me.0.seen) }
     ensures setting { (x : T.Setting) → from.old.me.0.setting ≡ Some x → to.old.me.0.setting ≡ Some x }
 {
     let note = steps.split_seat::<Writes>(from);

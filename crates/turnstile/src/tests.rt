@@ -202,6 +202,8 @@ fn a_seat_meets_the_root_and_enters(rt: HostRuntime) -> Result<(), Fail> {
     Ok(())
 }
 
+// No clause says that a thread that sleeps is woken. Where the end of a turn wakes at another word, or a wait parks on
+// another number than the one it has loaded, some thread sleeps for ever here and in the next test.
 #[test]
 fn two_threads_take_many_turns(rt: HostRuntime) -> Result<(), Fail> {
     let (gate, mut root) = Turnstile::new(rt.alloc(), empty(&rt))?;
