@@ -1,0 +1,3 @@
+mod NextStops
+mod OneAction
+mod ScanLoops

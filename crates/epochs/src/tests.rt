@@ -1,0 +1,75 @@
+//! What no clause says: runs that were worked out by hand, and that an `Epochs` is made where memory is there.
+ghost use Rattle.std.specs.Prelude.{◌≡◌, ◌≤◌, ◌^◌, length};
+
+use crate::*;
+use std::alloc::Global;
+use std::process::Abort;
+
+/// A run over two coflows that arrive at time 0 and at the time `second`.
+fn two_coflows(rt: &impl Abort, alloc: Global, second: u64, every: u64) -> Epochs
+    requires second_fits { second ≤ 2 ^ 32 }
+    requires epoch_some { 1 ≤ every }
+    requires epoch_fits { every ≤ 2 ^ 40 }
+    ensures { length result.arrivals ≡ 2 }
+{
+    let Ok(arrivals) = Vec::from_array(alloc, [0, second]) else {
+        panic!(rt; "no memory");
+    };
+    let Ok(epochs) = Epochs::new(alloc, arrivals, every) else {
+        panic!(rt; "no memory");
+    };
+    epochs
+}
+
+/// At the time, where the coflows owe so many units, this is done.
+fn step(rt: &impl Abort, epochs: &mut Epochs, time: u64, owed: [u64; 2], action: Action)
+    requires coflows { length epochs.old.arrivals ≡ 2 }
+    requires time_fits { time ≤ 2 ^ 41 }
+    ensures { length epochs.new.arrivals ≡ 2 }
+{
+    assert_eq!(rt; epochs.next(time, &owed), action);
+}
+
+/// The first coflow has 6 units, the second 1 unit, at the same ports. The second arrives at time 2, and goes first from
+/// the epoch at 4 on.
+#[test]
+fn late_coflow_is_ordered_at_the_next_epoch(rt: HostRuntime) {
+    let mut epochs = two_coflows(&rt, rt.alloc(), 2, 4);
+    step(&rt, &mut epochs, 0, [6, 1], Action::Register(0));
+    step(&rt, &mut epochs, 0, [6, 1], Action::Publish);
+    step(&rt, &mut epochs, 0, [6, 1], Action::Run(2));
+    step(&rt, &mut epochs, 2, [4, 1], Action::Register(1));
+    step(&rt, &mut epochs, 2, [4, 1], Action::Run(2));
+    step(&rt, &mut epochs, 4, [2, 1], Action::Publish);
+    step(&rt, &mut epochs, 4, [2, 1], Action::Run(4));
+    step(&rt, &mut epochs, 5, [2, 0], Action::Run(3));
+    step(&rt, &mut epochs, 7, [0, 0], Action::End);
+}
+
+/// The first coflow is served at time 1, and leaves before the epoch at 2 is published. At time 4 nobody owes anything, so
+/// nobody leaves.
+#[test]
+fn served_coflow_leaves_before_a_publishing(rt: HostRuntime) {
+    let mut epochs = two_coflows(&rt, rt.alloc(), 0, 2);
+    step(&rt, &mut epochs, 0, [1, 3], Action::Register(0));
+    step(&rt, &mut epochs, 0, [1, 3], Action::Register(1));
+    step(&rt, &mut epochs, 0, [1, 3], Action::Publish);
+    step(&rt, &mut epochs, 1, [0, 3], Action::Run(1));
+    step(&rt, &mut epochs, 2, [0, 2], Action::Withdraw(0));
+    step(&rt, &mut epochs, 2, [0, 2], Action::Publish);
+    step(&rt, &mut epochs, 2, [0, 2], Action::Run(2));
+    step(&rt, &mut epochs, 4, [0, 0], Action::End);
+}
+
+/// The first coflow is served at time 1, and the second arrives at time 9: the next slot is 10.
+#[test]
+fn idle_time_is_skipped(rt: HostRuntime) {
+    let mut epochs = two_coflows(&rt, rt.alloc(), 9, 4);
+    step(&rt, &mut epochs, 0, [1, 2], Action::Register(0));
+    step(&rt, &mut epochs, 0, [1, 2], Action::Publish);
+    step(&rt, &mut epochs, 0, [1, 2], Action::Run(4));
+    step(&rt, &mut epochs, 1, [0, 2], Action::Skip(10));
+    step(&rt, &mut epochs, 9, [0, 2], Action::Register(1));
+    step(&rt, &mut epochs, 9, [0, 2], Action::Run(3));
+    step(&rt, &mut epochs, 11, [0, 0], Action::End);
+}
