@@ -80,6 +80,7 @@ ROWS = [
     ("a word that is not UTF-8", TWO, None, ["plan", b"t\xff"], 2, b"", USAGE),
     ("no such file", None, None, ["plan", "t"], 8, b"", READ_FAULT),
     ("no such weights", TWO, None, WEIGHTED, 8, b"", READ_FAULT),
+    ("a bad trace and no such weights", b"", None, WEIGHTED, 3, b"", b"sincronia: trace: bad header\n"),
     ("a folder as file", None, None, ["plan", "."], 8, b"", READ_FAULT),
 ]
 
@@ -109,6 +110,14 @@ CHECK_ROWS = [
     ("a second name too many", TWO_TEXT, ["plan", "t", "r"], 2, b"", USAGE),
     ("a seed that is no number", None, ["make", "x"], 2, b"", USAGE),
     ("a seed of 2^64", None, ["make", "18446744073709551616"], 2, b"", USAGE),
+]
+
+TOO_MANY = b"1 1\n1 0 1 0 2 1:1099511627776 1:1\n"
+
+# name, bytes of the trace `t` and of the report `r`, words, code, standard output, standard error
+TABLE_ROWS = [
+    ("a bad report of too many units", TOO_MANY, b"", CHECK, 7, b"", b"sincronia: limit: units 1099511627777\n"),
+    ("no report of too many units", TOO_MANY, None, CHECK, 7, b"", b"sincronia: limit: units 1099511627777\n"),
 ]
 
 
@@ -149,18 +158,18 @@ def run(row, stdout=None, before=None):
         return same(name, started(folder, {"t": trace, "w": weights}, words, stdout, before), tuple(want))
 
 
-def run_check(row):
+def run_check(row, trace=TWO):
     name, report, words, *want = row
     with tempfile.TemporaryDirectory() as folder:
-        return same(name, started(folder, {"t": TWO, "r": report}, words), tuple(want))
+        return same(name, started(folder, {"t": trace, "r": report}, words), tuple(want))
 
 
-def run_long_report():
-    """A report of 2^30 + 1 bytes."""
+def run_long_report(name, trace, limit):
+    """A report of 2^30 + 1 bytes, which takes no room on the disk."""
     with tempfile.TemporaryDirectory() as folder:
         with open(os.path.join(folder, "r"), "wb") as file:
             file.truncate(2**30 + 1)
-        return same("a long report", started(folder, {"t": TWO}, CHECK), (7, b"", b"sincronia: limit: text 1073741825\n"))
+        return same(name, started(folder, {"t": trace}, CHECK), (7, b"", b"sincronia: limit: %s\n" % limit))
 
 
 def run_shuffle():
@@ -198,7 +207,10 @@ def main():
         print("0 passed, 1 failed")
         return 1
     results = [run(row) for row in ROWS] + [run_check(row) for row in CHECK_ROWS]
-    results += [run_long_report(), run_shuffle(), run_made()]
+    results += [run_check((name, *rest), trace) for name, trace, *rest in TABLE_ROWS]
+    results += [run_long_report("a long report", TWO, b"text 1073741825"),
+                run_long_report("a long report of too many units", TOO_MANY, b"units 1099511627777")]
+    results += [run_shuffle(), run_made()]
     with open("/dev/full", "wb") as full:
         results.append(run(("a full device", TWO, None, ["plan", "t"], 9, b"", WRITE_FAULT), full))
     results.append(run(("no memory for the text", b"\n" * 2**26, None, ["plan", "t"], 11, b"", b"sincronia: no memory\n"), before=little_memory))
