@@ -23,7 +23,7 @@ pub record IsLooked (ports : ℕ) (heads at : List ℕ) (port least : ℕ) : Typ
       least ≤ head_at ports heads port k
   pub found : (least ≡ no_rank)
       ⊎ ((k : ℕ) × (k < ports) × (head_at ports heads port k ≡ least) ×
-        (least < slice_index at (opposite ports port k)))
+      (least < slice_index at (opposite ports port k)))
 
 -- the least rank between two ports that owes, if there is one
 pub record IsHead (g : Graph) (left : ℕ → ℕ) (p q head : ℕ) : Type 0 where
