@@ -1,0 +1,4 @@
+mod LateLaw
+mod LateSlots
+mod ReleasedLaw
+mod SizeLaw

@@ -1,0 +1,54 @@
+//! Laws of released certificates. Each says something of every set of flows, arrivals, certificate and schedule.
+ghost use Rattle.std.specs.Prelude.{◌≡◌, ℕ, ◌+◌, ◌*◌, ◌<◌, ◌≤◌, List, Contains, sum_by};
+ghost use Rattle.coflow_units.specs.declared.fabric.Flow.{Flow};
+ghost use Rattle.coflow_units.specs.declared.fabric.Port.{Port};
+ghost use Rattle.coflow_units.specs.Flows.{Instance, IsDistinct};
+ghost use Rattle.coflow_units.specs.Load.{load, load_of_all};
+ghost use Rattle.coflow_units.specs.Completion.{completion, cost};
+ghost use Rattle.coflow_units.specs.Certificate.{budget, front, scale};
+ghost use Rattle.release_bound.specs.Release.{IsReleased, IsReleasedCertificate, IsReleasedFeasible, Release, earliest_end};
+ghost use Rattle.release_bound.specs.Release.{entries_of, front_value, released_total, released_value};
+ghost use Rattle.release_bound.specs.Rows.{long_after_short, long_and_short, short_is_late};
+
+/// The parallel inequality with arrivals: where nobody is served before its arrival, twice the sum of load times completion
+/// is at least the square of the set's load, the squares of the coflows' loads, and twice the set's load times the first
+/// arrival of those that have load there.
+pub fn late_parallel()
+    ensures { (flows : List Flow) (arrival : ℕ → ℕ) (slots : List (List ℕ)) (port : Port) (coflows : List ℕ) →
+        IsReleased flows arrival slots → IsDistinct coflows →
+        front_value flows arrival coflows port ≤ 2 * sum_by (λ c. load flows c port * completion flows slots c) coflows }
+{}
+
+/// Where nobody is served before its arrival, no coflow ends before its arrival and its greatest load on a port.
+pub fn late_completion()
+    ensures { (flows : List Flow) (arrival : ℕ → ℕ) (slots : List (List ℕ)) (ports c : ℕ) →
+        IsReleased flows arrival slots → earliest_end flows arrival ports c ≤ completion flows slots c }
+{}
+
+/// Weak duality with arrivals: no schedule that serves nobody before its arrival costs less than the total of a feasible
+/// released certificate.
+pub fn released_is_bound()
+    ensures value { (i : Instance) (arrival : ℕ → ℕ) (places : List Release) (slots : List (List ℕ)) →
+        IsReleasedCertificate i places → IsReleasedFeasible i.flows i.weight places → IsReleased i.flows arrival slots →
+        released_value i.flows arrival i.ports places ≤ 2 * scale * cost i.flows i.weight i.coflows slots }
+    ensures total { (i : Instance) (arrival : ℕ → ℕ) (places : List Release) (slots : List (List ℕ)) →
+        IsReleasedCertificate i places → IsReleasedFeasible i.flows i.weight places → IsReleased i.flows arrival slots →
+        released_total i.flows arrival i.ports places ≤ cost i.flows i.weight i.coflows slots }
+{}
+
+/// Where no port has more load than k and no coflow arrives later than m, the value of a feasible released certificate is at
+/// most 2 * (k + m) times the sum of the budgets. With loads up to 2^40, arrivals up to 2^32 and 4096 weights up to 2^32, that is below 2^126.
+pub fn released_values_fit()
+    ensures { (i : Instance) (arrival : ℕ → ℕ) (places : List Release) (k m : ℕ) → IsReleasedCertificate i places →
+        IsReleasedFeasible i.flows i.weight places →
+        ((port : Port) → port.number < i.ports → load_of_all i.flows (front (entries_of places)) port ≤ k) →
+        ((c : ℕ) → Contains (front (entries_of places)) c → arrival c ≤ m) →
+        released_value i.flows arrival i.ports places ≤ 2 * ((k + m) * sum_by (budget i.weight) (front (entries_of places))) }
+{}
+
+/// Of a coflow of 6 units and one of 1 unit that arrives at time 2, each schedule costs at least 10.
+/// Were the arrival not known, the same certificate would show 8.
+pub fn late_row_has_total()
+    ensures known { released_total long_and_short short_is_late 3 long_after_short ≡ 10 }
+    ensures unknown { released_total long_and_short (λ c. 0) 3 long_after_short ≡ 8 }
+{}
