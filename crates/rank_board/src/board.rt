@@ -13,6 +13,9 @@ use coflow_units::NoMemory;
 use std::alloc::Global;
 use std::marker::Model;
 
+#[cfg(test)]
+mod tests;
+
 // The place of the front.
 const FRONT: usize = 0;
 
@@ -171,7 +174,8 @@ impl RankBoard {
 
     /// Reads the rank of a coflow, by a load of the front and, once something is published, a load of the coflow's word in that version.
     ///
-    /// `Rank` and `Unranked` have the version of the front, and the seat keeps the pull with its mark. `Unranked` comes exactly where the front is 0 or the word has its version and rank 0.
+    /// `Rank` and `Unranked` have the version of the front, and the seat keeps the pull with its mark.
+    /// `Unranked` comes exactly where the front is 0 or the word has its version and rank 0.
     /// `Moved` comes only where the word has a later version, whose front was raised or will be next; the seat keeps no pull.
     pub fn pull(&self, seat: &mut RankSeat, coflow: u32, mark: u32) -> Pulled
         requires own { seat.old.table ≡ self.now.table }
@@ -192,7 +196,9 @@ impl RankBoard {
 
     /// The publisher and a seat meet. The seat has then seen the publisher's version, by one look at the front.
     ///
-    /// The publisher's version is at least each that the seat had seen. All that the seat loaded was published, a later version that a pull found among it, and each rank that it pulled is the one that was published with its version.
+    /// The publisher's version is at least each that the seat had seen.
+    /// All that the seat loaded was published, a later version that a pull found among it.
+    /// Each rank that it pulled is the one that was published with its version.
     pub fn meet(&self, publisher: &mut Publisher, seat: &mut RankSeat)
         requires own { (publisher.old.table ≡ self.now.table) × (seat.old.table ≡ self.now.table) }
         ensures publisher { publisher.new ≡ publisher.old }

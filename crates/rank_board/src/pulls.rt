@@ -40,3 +40,6 @@ impl Pulls {
         Pulls {}
     }
 }
+
+// Nothing of it belongs to a thread: it owns nothing.
+unsafe impl Send for Pulls {}
