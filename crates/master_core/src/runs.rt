@@ -36,14 +36,14 @@ pub struct Runs {
 
 impl Model for Runs {
     ghost use Rattle.std.specs.Prelude.{◌≡◌, length};
-    ghost use Rattle.master_core.specs.KeptRuns.{kept_run};
+    ghost use Rattle.master_core.specs.KeptRuns.{KeepsCount, kept_run};
     ghost use Rattle.master_core.specs.OpenRun.{KeptRuns};
 
     ghost Value = { KeptRuns };
 
     ghost view = { λ s. record { ports = s.scratch.ports; run = kept_run s.scratch s.noted.items s.current } };
 
-    ghost invariant = { λ s. length s.noted.items ≡ s.scratch.ports };
+    ghost invariant = { λ s. (length s.noted.items ≡ s.scratch.ports) × KeepsCount s.scratch s.current };
 }
 
 impl Runs {
@@ -63,7 +63,8 @@ impl Runs {
 
     /// The open run; none where no run is open.
     pub fn current(&self) -> Option<OpenRun>
-        ensures { MatchOption result (self.now.run ≡ None) (λ x. (r : KeptRun) × (self.now.run ≡ Some r) × (x.first ≡ r.first) × (x.slots ≡ r.slots)) }
+        ensures { MatchOption result (self.now.run ≡ None) (λ x. (r : KeptRun) × (self.now.run ≡ Some r)
+            × (x.first ≡ r.first) × (x.slots ≡ r.slots) × (x.count ≡ length r.granted)) }
     {
         self.current
     }

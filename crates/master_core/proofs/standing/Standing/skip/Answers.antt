@@ -18,7 +18,7 @@ pub returns-in-Some : goal.returns-in-Some
 returns-in-Some c =
     let o = c.args.opening.now in
     let old = c.args.self.now in
-    let (k, is, first, slots) = c.in-Some.ensures in
+    let (k, is, first, slots, count) = c.in-Some.ensures in
     follows o (Skip c.args.to) old (StillOpen c.in-Some.run'.first) old c.requires.fit
     (λ s t. (run_told o.table.flows o.table.ports s.run old.runs.run k (skipped o s c.args.to) t.run is ∙ ap StillOpen (sym first), t))
 
