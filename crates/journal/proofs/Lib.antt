@@ -33,3 +33,4 @@ pub mod ServingRuns
 pub mod WholeWork
 pub mod RunRowChecks
 pub mod WereOpened
+pub mod WireUnits

@@ -102,6 +102,10 @@ has_unit slot f x = (x.1 == f) && (nat_le x.0 slot && nat_lt slot (x.0 + x.2))
 abbrev pub times_on : List (ℕ × ℕ × ℕ) → ℕ → ℕ → ℕ
 times_on wire slot f = count_by (has_unit slot f) wire
 
+-- how many units of the flow the wire has
+abbrev pub units_on : List (ℕ × ℕ × ℕ) → ℕ → ℕ
+units_on wire f = sum_by (λ (x : ℕ × ℕ × ℕ). if x.1 == f then x.2 else 0) wire
+
 -- the second journal has the next slot, the units sent, the closed runs, the schedule and the wires of the first
 pub record LeavesSlots (o : Opening) (before after : List Entry) : Type 0 where
   pub next : (state_of o after).next ≡ (state_of o before).next

@@ -14,7 +14,7 @@ ghost use Rattle.journal.specs.Runs.{grant_in, granted};
 ghost use Rattle.journal.specs.Fold.{state_of};
 ghost use Rattle.journal.specs.Journal.{entry, IsLegal};
 ghost use Rattle.journal.specs.Sound.{InRange};
-ghost use Rattle.journal.specs.Closed.{AreClosed, closed_by, closed_runs, IsOpenedIn, LeavesRuns, schedule_of, sent_at, slots_added, slots_in, times_on, wire_of};
+ghost use Rattle.journal.specs.Closed.{AreClosed, closed_by, closed_runs, IsOpenedIn, LeavesRuns, schedule_of, sent_at, slots_added, slots_in, times_on, units_on, wire_of};
 ghost use Rattle.journal.specs.Driven.{driven, opening};
 ghost use Rattle.journal.specs.Entries.{is_driving, is_moving};
 ghost use Rattle.journal.specs.Moves.{ClosesRun, NotesRun, OpensRun, SkipsSlots};
@@ -103,13 +103,17 @@ pub fn schedule_tells_sent()
 {}
 
 /// A pair of a slot and a flow stands in the wire of the flow's ingress, once, exactly where it stands in the schedule,
-/// and in no other wire. Slots count from 1.
+/// and in no other wire. Slots count from 1. That wire has as
+/// many units of the flow as were sent of it.
 pub fn wires_tell_schedule()
     ensures pair { (o : Opening) (journal : List Entry) (port k f : ℕ) → IsLegal o journal → InRange o journal →
         times_on (wire_of o journal port) (k + 1) f
         ≡ (if (ingress_of o.table.flows f == port) && holds (slice_index_or (schedule_of o journal) k []) f then 1 else 0) }
     ensures zero { (o : Opening) (journal : List Entry) (port f : ℕ) → IsLegal o journal → InRange o journal →
         times_on (wire_of o journal port) 0 f ≡ 0 }
+    ensures units { (o : Opening) (journal : List Entry) (port f : ℕ) → IsLegal o journal → InRange o journal →
+        units_on (wire_of o journal port) f
+        ≡ (if ingress_of o.table.flows f == port then (state_of o journal).sent f else 0) }
 {}
 
 /// A run without notes is so many equal slots of the granted flows. So where nothing was noted and no slot was skipped

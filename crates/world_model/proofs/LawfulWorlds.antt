@@ -2,8 +2,8 @@
 use Rattle.std.proofs.Common.{◌≡◌, ℕ, ◌+◌, ◌-◌, ◌≤◌, ◌<◌, ◌⊎◌, min, inl, inr, List, [], ◌∷◌, ◌++◌, Contains, length, get_or, take, refl, sym, ap, subst, ◌∙◌, arith, Option, Some, None}
 use Rattle.std.proofs.lemmas.List.{take_more}
 use Rattle.coflow_units.specs.declared.fabric.Flow.{Flow}
-use Rattle.coflow_units.specs.Grants.{IsBlocked, IsGrants, IsRunLength}
-use Rattle.coflow_units.specs.Patient.{IsServedOrWaits}
+use Rattle.coflow_units.specs.Grants.{IsGrants, IsRunLength}
+use Rattle.coflow_units.proofs.ServedLaws.{grants_patient}
 use Rattle.journal.specs.declared.command.Entry.{Entry}
 use Rattle.journal.specs.declared.command.Reply.{Reply}
 use Rattle.journal.specs.declared.command.Reply.TheVariants.{Closed}
@@ -81,18 +81,6 @@ opens_grants w h = λ before more e slot slots count is reply.
       },
     )
 
-waits : (flows : List Flow) (line granted : List ℕ) (f : ℕ) → Contains granted f ⊎ IsBlocked flows line granted f → IsServedOrWaits flows line granted f
-waits flows line granted f (inl h) = inl h
-waits flows line granted f (inr (g, in', before, shares)) = inr (
-  g,
-  in',
-  shares,
-  elim before [
-    | inl lt ↦ omega (arith, lt)
-    | inr same ↦ omega (arith, same.0)
-  ],
-)
-
 pub opens_patiently : (w : WorldFacts) → OpensPatiently w
 opens_patiently w = λ before more e slot slots count r is reply run f lt in' owes.
     let o = w.opening in
@@ -101,7 +89,7 @@ opens_patiently w = λ before more e slot slots count r is reply run f lt in' ow
     let same : Some r' ≡ Some r = sym made ∙ run in
     let same' : r' ≡ r = cc in
     let grants' = subst (λ (x : Run). IsGrants o.table.flows (line_of o before) (owed o (state_of o before)) x.granted) same' grants in
-    waits o.table.flows (line_of o before) r.granted f (grants'.rest f lt in' owes)
+    grants_patient o.table.flows (line_of o before) (owed o (state_of o before)) r.granted f grants' lt in' owes
 
 -- a list of steps from a new world
 pub played : (o : Opening) (agents : ℕ) (events : List Event) → IsOpening o → IsWorld (world_of (new_world o agents) events)
