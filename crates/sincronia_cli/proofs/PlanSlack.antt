@@ -14,7 +14,7 @@ use Rattle.coflow_units.specs.Ordering.{IsOrdering}
 use Rattle.coflow_units.proofs.Sums.{apart_from_pairs, members_at_most}
 use Rattle.port_load.proofs.LoadSums.{within_units}
 use Rattle.bssi_order.specs.Order.{entries_of}
-use Rattle.bssi_order.proofs.OrderingLaws.{ordering_rests}
+use Rattle.coflow_units.proofs.OrderingLaws.{ordering_rests}
 use Rattle.dual_cert.proofs.SlackLaw.{slack_by_fronts, slack_two_each}
 use Rattle.flow_table.specs.Table.{TableFacts, instance_of}
 use Rattle.flow_table.proofs.Shares.{sum_ones}
