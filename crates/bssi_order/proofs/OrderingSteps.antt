@@ -22,11 +22,13 @@ after [] later = later
 after (e ∷ l) later = after l (e ∷ later)
 
 -- one place more
-pub place_more : (flows : List Flow) (weight : ℕ → ℕ) (ports : ℕ) (later : List Entry) (coflows : List ℕ) (l : List Entry) (left : List ℕ) (e : Entry) → IsPlacedSoFar flows weight ports later coflows l left →
+pub place_more : (flows : List Flow) (weight : ℕ → ℕ) (ports : ℕ) (later : List Entry) (coflows : List ℕ) (l : List Entry) (left : List ℕ) (e : Entry) →
+    IsPlacedSoFar flows weight ports later coflows l left →
     Contains left e.coflow → IsPlaced flows weight ports (after l later) left e → IsPlacedSoFar flows weight ports later coflows (l ++ e ∷ []) (without e.coflow left)
 place_more flows weight ports later coflows [] left e same has placed =
     subst (λ cs. Contains cs e.coflow × IsPlaced flows weight ports later cs e × (without e.coflow cs ≡ without e.coflow left)) (sym same) (has, placed, refl)
-place_more flows weight ports later coflows (x ∷ l) left e so_far has placed = (so_far.0, so_far.1, place_more flows weight ports (x ∷ later) (without x.coflow coflows) l left e so_far.2 has placed)
+place_more flows weight ports later coflows (x ∷ l) left e so_far has placed =
+    (so_far.0, so_far.1, place_more flows weight ports (x ∷ later) (without x.coflow coflows) l left e so_far.2 has placed)
 
 -- what is spent there does not depend on the order of the places
 pub spent_after : (flows : List Flow) (l later : List Entry) (c : ℕ) → spent flows (after l later) c ≡ spent flows l c + spent flows later c
@@ -38,10 +40,12 @@ pub residual_after : (flows : List Flow) (weight : ℕ → ℕ) (l : List Entry)
 residual_after flows weight l c = ap (λ n. budget weight c - n) (spent_after flows l [] c ∙ omega arith)
 
 -- none is left
-pub made_of : (flows : List Flow) (weight : ℕ → ℕ) (ports : ℕ) (later : List Entry) (coflows : List ℕ) (l : List Entry) → Apart coflows → IsPlacedSoFar flows weight ports later coflows l [] → Made flows weight ports later coflows l
+pub made_of : (flows : List Flow) (weight : ℕ → ℕ) (ports : ℕ) (later : List Entry) (coflows : List ℕ) (l : List Entry) → Apart coflows →
+    IsPlacedSoFar flows weight ports later coflows l [] → Made flows weight ports later coflows l
 made_of flows weight ports later coflows [] apart none = made_none flows weight ports later coflows none
 made_of flows weight ports later coflows (e ∷ l) apart so_far =
-    grown flows weight ports later coflows e l apart so_far.0 so_far.1 (made_of flows weight ports (e ∷ later) (without e.coflow coflows) l (without_apart e.coflow coflows apart) so_far.2)
+    grown flows weight ports later coflows e l apart so_far.0 so_far.1
+    (made_of flows weight ports (e ∷ later) (without e.coflow coflows) l (without_apart e.coflow coflows apart) so_far.2)
 
 pub ordering_made : (i : Instance) (l : List Entry) → Apart i.coflows → IsPlacedSoFar i.flows i.weight i.ports [] i.coflows l [] → IsOrdering i l
 ordering_made i l apart so_far =

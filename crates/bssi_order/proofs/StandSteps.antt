@@ -1,5 +1,6 @@
 -- A program that chooses places over a table makes the ordering certificate of the instance.
-use Rattle.std.proofs.Common.{◌≡◌, ◌≢◌, ℕ, ◌+◌, ◌-◌, ◌*◌, ◌/◌, ◌^◌, ◌<◌, ◌≤◌, ◌⊎◌, inl, inr, Bool, true, false, cond, List, [], ◌∷◌, ◌++◌, length, drop, take, get_or, Contains, refl, sym, ap, subst, ◌∙◌, arith, zero, suc, length-set, length-take-le, true≢false}
+use Rattle.std.proofs.Common.{◌≡◌, ◌≢◌, ℕ, ◌+◌, ◌-◌, ◌*◌, ◌/◌, ◌^◌, ◌<◌, ◌≤◌, ◌⊎◌, inl, inr, Bool, true, false, cond, List, [], ◌∷◌, ◌++◌, length, drop, take, get_or, Contains}
+use Rattle.std.proofs.Common.{refl, sym, ap, subst, ◌∙◌, arith, zero, suc, length-set, length-take-le, true≢false}
 use Rattle.std.specs.Prelude.{All, count_by, filter, map, reverse, sum_by, slice_index, slice_set}
 use Rattle.std.specs.List.{range_with_len}
 use Rattle.std.proofs.lemmas.Bool.{cases_Bool, cases_eq}
@@ -29,13 +30,15 @@ use Rattle.bssi_order.proofs.TableSteps.{present_below}
 -- ---- one place
 
 -- the total of a port is the load of the coflows that wait
-waits_where : (t : LoadTable) (residuals : List ℕ) (waiting : List Bool) → IsReady t residuals waiting → (c : ℕ) (port : Port) → c < t.coflows → port.number < t.ports → 0 < load_at t c port → is_present waiting c ≡ true
+waits_where : (t : LoadTable) (residuals : List ℕ) (waiting : List Bool) → IsReady t residuals waiting → (c : ℕ) (port : Port) → c < t.coflows → port.number < t.ports →
+    0 < load_at t c port → is_present waiting c ≡ true
 waits_where t residuals waiting ready c port lc lp some = elim (cases_Bool (is_present waiting c)) [
   | inl here ↦ here
   | inr out ↦ absurd (omega (arith, some, ready.loads_wait c port lc lp out))
 ]
 
-pub left_total : (i : Instance) (later : List Entry) (left : List ℕ) (t : LoadTable) (residuals : List ℕ) (waiting : List Bool) → IsReady t residuals waiting → Stands i later left t residuals waiting →
+pub left_total : (i : Instance) (later : List Entry) (left : List ℕ) (t : LoadTable) (residuals : List ℕ) (waiting : List Bool) → IsReady t residuals waiting →
+    Stands i later left t residuals waiting →
     (port : Port) → port.number < t.ports → total_at t port ≡ load_of_all i.flows left port
 left_total i later left t residuals waiting ready stands port lp =
     let w = λ (c : ℕ). load_at t c port in
@@ -45,7 +48,8 @@ left_total i later left t residuals waiting ready stands port lp =
     let same = sum_same w (λ c. load i.flows c port) left (λ c has. stands.load c port has lp) in
     omega (arith, up, down, same)
 
-first_greatest : (i : Instance) (left : List ℕ) (t : LoadTable) (port : Port) → i.ports ≡ t.ports → ((p : Port) → p.number < t.ports → total_at t p ≡ load_of_all i.flows left p) → IsGreatestPort t port → IsFirstGreatest i.flows i.ports left port
+first_greatest : (i : Instance) (left : List ℕ) (t : LoadTable) (port : Port) → i.ports ≡ t.ports → ((p : Port) → p.number < t.ports → total_at t p ≡ load_of_all i.flows left p) →
+    IsGreatestPort t port → IsFirstGreatest i.flows i.ports left port
 first_greatest i left t port ports totals first = record {
   in_range = subst (λ n. port.number < n) (sym ports) first.in_range;
   greatest = λ other lt.
@@ -56,18 +60,21 @@ first_greatest i left t port ports totals first = record {
       ];
 }
 
-ratio_along : (rc rc' ld ld' rd rd' lc lc' d c : ℕ) → rc ≡ rc' → ld ≡ ld' → rd ≡ rd' → lc ≡ lc' → (rc * ld < rd * lc) ⊎ ((rc * ld ≡ rd * lc) × (d ≤ c)) → (rc' * ld' < rd' * lc') ⊎ ((rc' * ld' ≡ rd' * lc') × (d ≤ c))
+ratio_along : (rc rc' ld ld' rd rd' lc lc' d c : ℕ) → rc ≡ rc' → ld ≡ ld' → rd ≡ rd' → lc ≡ lc' → (rc * ld < rd * lc) ⊎ ((rc * ld ≡ rd * lc) × (d ≤ c)) →
+    (rc' * ld' < rd' * lc') ⊎ ((rc' * ld' ≡ rd' * lc') × (d ≤ c))
 ratio_along rc rc' ld ld' rd rd' lc lc' d c e f g h ratio =
     subst (λ n. (n * ld' < rd' * lc') ⊎ ((n * ld' ≡ rd' * lc') × (d ≤ c))) e
     (subst (λ n. (rc * n < rd' * lc') ⊎ ((rc * n ≡ rd' * lc') × (d ≤ c))) f
     (subst (λ n. (rc * ld < n * lc') ⊎ ((rc * ld ≡ n * lc') × (d ≤ c))) g
     (subst (λ n. (rc * ld < rd * n) ⊎ ((rc * ld ≡ rd * n) × (d ≤ c))) h ratio)))
 
-pub chosen_in : (i : Instance) (later : List Entry) (left : List ℕ) (t : LoadTable) (residuals : List ℕ) (waiting : List Bool) (x : Place) → IsReady t residuals waiting → Stands i later left t residuals waiting →
+pub chosen_in : (i : Instance) (later : List Entry) (left : List ℕ) (t : LoadTable) (residuals : List ℕ) (waiting : List Bool) (x : Place) → IsReady t residuals waiting →
+    Stands i later left t residuals waiting →
     IsChosen t residuals waiting x → Contains left x.coflow
 chosen_in i later left t residuals waiting x ready stands chosen = stands.all x.coflow (omega (arith, present_below waiting x.coflow chosen.waits, ready.waiting_len)) chosen.waits
 
-placed_busy : (i : Instance) (later : List Entry) (left : List ℕ) (t : LoadTable) (residuals : List ℕ) (waiting : List Bool) (x : Place) → Stands i later left t residuals waiting → Contains left x.coflow → x.port.number < t.ports →
+placed_busy : (i : Instance) (later : List Entry) (left : List ℕ) (t : LoadTable) (residuals : List ℕ) (waiting : List Bool) (x : Place) → Stands i later left t residuals waiting →
+    Contains left x.coflow → x.port.number < t.ports →
     IsLeastRatio t residuals x.port x.coflow → x.y ≡ slice_index residuals x.coflow / load_at t x.coflow x.port → IsPlacedBusy i.flows i.weight later left (entry_of x)
 placed_busy i later left t residuals waiting x stands has lp least y_is =
     let own = stands.load x.coflow x.port has lp in
@@ -76,13 +83,15 @@ placed_busy i later left t residuals waiting x stands has lp least y_is =
       has_load = subst (λ n. 0 < n) own least.has_load;
       least = λ d in' some.
           let theirs = stands.load d x.port in' lp in
-          ratio_along (slice_index residuals x.coflow) (residual i.flows i.weight later x.coflow) (load_at t d x.port) (load i.flows d x.port) (slice_index residuals d) (residual i.flows i.weight later d)
+          ratio_along (slice_index residuals x.coflow) (residual i.flows i.weight later x.coflow) (load_at t d x.port) (load i.flows d x.port) (slice_index residuals d)
+          (residual i.flows i.weight later d)
           (load_at t x.coflow x.port) (load i.flows x.coflow x.port) d x.coflow kept theirs (stands.residual d in') own
           (least.least d (stands.members d in').0 (subst (λ n. 0 < n) (sym theirs) some));
       y_is = y_is ∙ ap (λ n. n / load_at t x.coflow x.port) kept ∙ ap (λ n. residual i.flows i.weight later x.coflow / n) own;
     }
 
-pub is_placed : (i : Instance) (later : List Entry) (left : List ℕ) (t : LoadTable) (residuals : List ℕ) (waiting : List Bool) (x : Place) → IsReady t residuals waiting → Stands i later left t residuals waiting →
+pub is_placed : (i : Instance) (later : List Entry) (left : List ℕ) (t : LoadTable) (residuals : List ℕ) (waiting : List Bool) (x : Place) → IsReady t residuals waiting →
+    Stands i later left t residuals waiting →
     IsChosen t residuals waiting x → IsPlaced i.flows i.weight i.ports later left (entry_of x)
 is_placed i later left t residuals waiting x ready stands chosen =
     let has = chosen_in i later left t residuals waiting x ready stands chosen in
@@ -109,8 +118,10 @@ marked_then waiting a c lt mark = elim (cases_eq c a) [
 left_pays : (r r' b s s' y l l' : ℕ) → r' ≡ r - y * l → r ≡ b - s → l ≡ l' → s' ≡ y * l' + s → r' ≡ b - s'
 left_pays r r' b s s' y l l' a c d e = omega (arith, a, c, e, ap (λ n. y * n) d)
 
-pub stands_more : (i : Instance) (later : List Entry) (left : List ℕ) (t t' : LoadTable) (residuals residuals' : List ℕ) (waiting : List Bool) (x : Place) → IsReady t residuals waiting → Stands i later left t residuals waiting →
-    IsChosen t residuals waiting x → Pays t x.port x.y residuals residuals' → DropsCoflow t t' x.coflow → Stands i (entry_of x ∷ later) (without x.coflow left) t' residuals' (slice_set waiting x.coflow false)
+pub stands_more : (i : Instance) (later : List Entry) (left : List ℕ) (t t' : LoadTable) (residuals residuals' : List ℕ) (waiting : List Bool) (x : Place) →
+    IsReady t residuals waiting → Stands i later left t residuals waiting →
+    IsChosen t residuals waiting x → Pays t x.port x.y residuals residuals' → DropsCoflow t t' x.coflow →
+    Stands i (entry_of x ∷ later) (without x.coflow left) t' residuals' (slice_set waiting x.coflow false)
 stands_more i later left t t' residuals residuals' waiting x ready stands chosen pays drops =
     let apart = apart_from_pairs left stands.distinct in
     let lt = present_below waiting x.coflow chosen.waits in
@@ -119,7 +130,11 @@ stands_more i later left t t' residuals residuals' waiting x ready stands chosen
     record {
       ports = stands.ports ∙ sym drops.size.ports;
       distinct = pairs_from_apart (without x.coflow left) (without_apart x.coflow left apart);
-      members = λ c has. (subst (λ n. c < n) (sym drops.size.coflows) (stands.members c (was c has)).0, get_or-set_other waiting x.coflow c false false (other c has) ∙ (stands.members c (was c has)).1);
+      members = λ c has. (
+        subst (λ n. c < n) (sym drops.size.coflows) (stands.members c (was c has)).0,
+        get_or-set_other waiting x.coflow c false false (other c has) ∙
+            (stands.members c (was c has)).1,
+      );
       all = λ c lc mark.
           let (ne, here) = marked_then waiting x.coflow c lt mark in
           without_keeps x.coflow left c (λ e. ne (sym e)) (stands.all c (subst (λ n. c < n) drops.size.coflows lc) here);
@@ -127,8 +142,10 @@ stands_more i later left t t' residuals residuals' waiting x ready stands chosen
           let lp' = subst (λ n. port.number < n) drops.size.ports lp in
           drops.others c port (stands.members c (was c has)).0 (other c has) lp' ∙ stands.load c port (was c has) lp';
       residual = λ c has.
-          left_pays (slice_index residuals c) (slice_index residuals' c) (budget i.weight c) (spent i.flows later c) (spent i.flows (entry_of x ∷ later) c) x.y (load_at t c x.port) (load i.flows c x.port)
-          (pays c (stands.members c (was c has)).0) (stands.residual c (was c has)) (stands.load c x.port (was c has) chosen.port.in_range) (spent_more i.flows (entry_of x) later c);
+          left_pays (slice_index residuals c) (slice_index residuals' c) (budget i.weight c) (spent i.flows later c) (spent i.flows (entry_of x ∷ later) c) x.y (load_at t c x.port)
+          (load i.flows c x.port)
+          (pays c (stands.members c (was c has)).0) (stands.residual c (was c has)) (stands.load c x.port (was c has) chosen.port.in_range)
+          (spent_more i.flows (entry_of x) later c);
     }
 
 less_load : (t t' : LoadTable) (coflow : ℕ) → DropsCoflow t t' coflow → (c : ℕ) (port : Port) → c < t.coflows → port.number < t.ports → load_at t' c port ≤ load_at t c port
@@ -139,9 +156,14 @@ less_load t t' coflow drops c port lc lp = elim (cases_eq c coflow) [
 
 less_total : (t t' : LoadTable) (coflow : ℕ) → DropsCoflow t t' coflow → (port : Port) → port.number < t.ports → total_at t' port ≤ total_at t port
 less_total t t' coflow drops port lp =
-    omega (arith, ap (λ n. sum_by (λ c. load_at t' c port) (range_with_len 0 n)) drops.size.coflows, sum_mono (λ c. load_at t' c port) (λ c. load_at t c port) (range_with_len 0 t.coflows) (λ c has. less_load t t' coflow drops c port (in_below t.coflows c has) lp))
+    omega (
+      arith,
+      ap (λ n. sum_by (λ c. load_at t' c port) (range_with_len 0 n)) drops.size.coflows,
+      sum_mono (λ c. load_at t' c port) (λ c. load_at t c port) (range_with_len 0 t.coflows) (λ c has. less_load t t' coflow drops c port (in_below t.coflows c has) lp),
+    )
 
-pub ready_more : (t t' : LoadTable) (residuals residuals' : List ℕ) (waiting : List Bool) (x : Place) → IsReady t residuals waiting → IsChosen t residuals waiting x → Pays t x.port x.y residuals residuals' → length residuals' ≡ length residuals →
+pub ready_more : (t t' : LoadTable) (residuals residuals' : List ℕ) (waiting : List Bool) (x : Place) → IsReady t residuals waiting → IsChosen t residuals waiting x →
+    Pays t x.port x.y residuals residuals' → length residuals' ≡ length residuals →
     DropsCoflow t t' x.coflow → IsReady t' residuals' (slice_set waiting x.coflow false)
 ready_more t t' residuals residuals' waiting x ready chosen pays len drops = record {
   coflows_limit = omega (arith, ready.coflows_limit, drops.size.coflows);
@@ -172,10 +194,13 @@ one_less waiting c n here count =
 abbrev pub IsToldSoFar : List Flow → (ℕ → ℕ) → List Entry → List ℕ → List Place → Type 0
 IsToldSoFar flows weight later coflows [] = Unit {0}
 IsToldSoFar flows weight later coflows (x ∷ l) =
-    (x.rest ≡ residual flows weight later x.coflow - x.y * load flows x.coflow x.port) × (x.load ≡ load_of_all flows coflows x.port) × IsToldSoFar flows weight (entry_of x ∷ later) (without x.coflow coflows) l
+    (x.rest ≡ residual flows weight later x.coflow - x.y * load flows x.coflow x.port) × (x.load ≡ load_of_all flows coflows x.port) ×
+    IsToldSoFar flows weight (entry_of x ∷ later) (without x.coflow coflows) l
 
-told_more : (flows : List Flow) (weight : ℕ → ℕ) (ports : ℕ) (later : List Entry) (coflows : List ℕ) (l : List Place) (left : List ℕ) (x : Place) → IsPlacedSoFar flows weight ports later coflows (map entry_of l) left → IsToldSoFar flows weight later coflows l →
-    x.rest ≡ residual flows weight (after (map entry_of l) later) x.coflow - x.y * load flows x.coflow x.port → x.load ≡ load_of_all flows left x.port → IsToldSoFar flows weight later coflows (l ++ x ∷ [])
+told_more : (flows : List Flow) (weight : ℕ → ℕ) (ports : ℕ) (later : List Entry) (coflows : List ℕ) (l : List Place) (left : List ℕ) (x : Place) →
+    IsPlacedSoFar flows weight ports later coflows (map entry_of l) left → IsToldSoFar flows weight later coflows l →
+    x.rest ≡ residual flows weight (after (map entry_of l) later) x.coflow - x.y * load flows x.coflow x.port → x.load ≡ load_of_all flows left x.port →
+    IsToldSoFar flows weight later coflows (l ++ x ∷ [])
 told_more flows weight ports later coflows [] left x placed told rest_is load_is = (rest_is, load_is ∙ ap (λ cs. load_of_all flows cs x.port) (sym placed), tt)
 told_more flows weight ports later coflows (y ∷ l) left x placed told rest_is load_is =
     (told.0, told.1, told_more flows weight ports (entry_of y ∷ later) (without y.coflow coflows) l left x placed.2 told.2 rest_is load_is)
@@ -190,21 +215,25 @@ pub record RunSoFar (i : Instance) (l : List Place) (t : LoadTable) (residuals :
   pub told : IsToldSoFar i.flows i.weight [] i.coflows l
   pub stands : Stands i (after (map entry_of l) []) left t residuals waiting
 
-pub run_more : (i : Instance) (l : List Place) (t t' : LoadTable) (residuals residuals' : List ℕ) (waiting : List Bool) (x : Place) → IsReady t residuals waiting → RunSoFar i l t residuals waiting →
+pub run_more : (i : Instance) (l : List Place) (t t' : LoadTable) (residuals residuals' : List ℕ) (waiting : List Bool) (x : Place) → IsReady t residuals waiting →
+    RunSoFar i l t residuals waiting →
     IsChosen t residuals waiting x → Pays t x.port x.y residuals residuals' → DropsCoflow t t' x.coflow → RunSoFar i (l ++ x ∷ []) t' residuals' (slice_set waiting x.coflow false)
 run_more i l t t' residuals residuals' waiting x ready so_far chosen pays drops =
     let later = after (map entry_of l) [] in
     let has = chosen_in i later so_far.left t residuals waiting x ready so_far.stands chosen in
-    let placed = place_more i.flows i.weight i.ports [] i.coflows (map entry_of l) so_far.left (entry_of x) so_far.placed has (is_placed i later so_far.left t residuals waiting x ready so_far.stands chosen) in
+    let placed = place_more i.flows i.weight i.ports [] i.coflows (map entry_of l) so_far.left (entry_of x) so_far.placed has
+    (is_placed i later so_far.left t residuals waiting x ready so_far.stands chosen) in
     let names = map-append entry_of l (x ∷ []) in
     let stands = stands_more i later so_far.left t t' residuals residuals' waiting x ready so_far.stands chosen pays drops in
-    let rest_is = chosen.rest ∙ ap (λ n. n - x.y * load_at t x.coflow x.port) (so_far.stands.residual x.coflow has) ∙ ap (λ n. residual i.flows i.weight later x.coflow - x.y * n) (so_far.stands.load x.coflow x.port has chosen.port.in_range) in
+    let rest_is = chosen.rest ∙ ap (λ n. n - x.y * load_at t x.coflow x.port) (so_far.stands.residual x.coflow has) ∙
+    ap (λ n. residual i.flows i.weight later x.coflow - x.y * n) (so_far.stands.load x.coflow x.port has chosen.port.in_range) in
     let load_is = chosen.load ∙ left_total i later so_far.left t residuals waiting ready so_far.stands x.port chosen.port.in_range in
     record {
       left = without x.coflow so_far.left;
       placed = subst (λ es. IsPlacedSoFar i.flows i.weight i.ports [] i.coflows es (without x.coflow so_far.left)) (sym names) placed;
       told = told_more i.flows i.weight i.ports [] i.coflows l so_far.left x so_far.placed so_far.told rest_is load_is;
-      stands = subst (λ es. Stands i es (without x.coflow so_far.left) t' residuals' (slice_set waiting x.coflow false)) (sym (ap (λ es. after es []) names ∙ after_more (map entry_of l) (entry_of x) [])) stands;
+      stands = subst (λ es. Stands i es (without x.coflow so_far.left) t' residuals' (slice_set waiting x.coflow false))
+          (sym (ap (λ es. after es []) names ∙ after_more (map entry_of l) (entry_of x) [])) stands;
     }
 
 -- ---- when none is left
@@ -221,8 +250,10 @@ none_left (x ∷ xs) waiting marked none = absurd (omega (arith, none, marked_co
 own_rest : (whole s own before b y l keeps : ℕ) → whole ≡ s + own → own ≡ y * l + before → before ≡ 0 → keeps ≡ b - s - y * l → keeps ≡ b - whole
 own_rest whole s own before b y l keeps e f g h = omega (arith, e, f, g, h)
 
-rests_told : (flows : List Flow) (weight : ℕ → ℕ) (whole later : List Entry) (coflows : List ℕ) (l : List Place) → IsToldSoFar flows weight later coflows l → Apart (front (map entry_of l)) →
-    ((c : ℕ) → Contains (front (map entry_of l)) c → used flows whole c ≡ spent flows later c + used flows (map entry_of l) c) → All (λ (x : Place). x.rest ≡ rest flows weight whole x.coflow) l
+rests_told : (flows : List Flow) (weight : ℕ → ℕ) (whole later : List Entry) (coflows : List ℕ) (l : List Place) → IsToldSoFar flows weight later coflows l →
+    Apart (front (map entry_of l)) →
+    ((c : ℕ) → Contains (front (map entry_of l)) c → used flows whole c ≡ spent flows later c + used flows (map entry_of l) c) →
+    All (λ (x : Place). x.rest ≡ rest flows weight whole x.coflow) l
 rests_told flows weight whole later coflows [] told apart pays = All-nil (λ (x : Place). x.rest ≡ rest flows weight whole x.coflow)
 rests_told flows weight whole later coflows (x ∷ l) told apart pays =
     let before = map entry_of l in
@@ -233,7 +264,8 @@ rests_told flows weight whole later coflows (x ∷ l) told apart pays =
     (rests_told flows weight whole (entry_of x ∷ later) (without c coflows) l told.2 apart.1
     (λ k has. omega (arith, pays k (in_tail c (front before) k has), used_in flows (entry_of x) before k (in_tail c (front before) k has), spent_more flows (entry_of x) later k)))
 
-loads_told : (flows : List Flow) (weight : ℕ → ℕ) (ports : ℕ) (later : List Entry) (coflows : List ℕ) (l : List Place) → IsPlacedSoFar flows weight ports later coflows (map entry_of l) [] → Apart coflows → IsToldSoFar flows weight later coflows l →
+loads_told : (flows : List Flow) (weight : ℕ → ℕ) (ports : ℕ) (later : List Entry) (coflows : List ℕ) (l : List Place) →
+    IsPlacedSoFar flows weight ports later coflows (map entry_of l) [] → Apart coflows → IsToldSoFar flows weight later coflows l →
     TellsFrontLoads flows l
 loads_told flows weight ports later coflows [] placed apart told = tt
 loads_told flows weight ports later coflows (x ∷ l) placed apart told =
@@ -249,7 +281,8 @@ all_along P xs all k d lt =
     let back : length xs - 1 - j ≡ k = omega arith in
     subst P (get_or-reverse xs j d (omega arith) ∙ ap (λ n. get_or xs n d) back) (all j d in')
 
-pub order_of_run : (i : Instance) (places : List Place) (t : LoadTable) (residuals : List ℕ) (waiting : List Bool) → IsDistinct i.coflows → RunSoFar i (reverse places) t residuals waiting → count_by (λ w. w) waiting ≡ 0 → IsOrder i places
+pub order_of_run : (i : Instance) (places : List Place) (t : LoadTable) (residuals : List ℕ) (waiting : List Bool) → IsDistinct i.coflows →
+    RunSoFar i (reverse places) t residuals waiting → count_by (λ w. w) waiting ≡ 0 → IsOrder i places
 order_of_run i places t residuals waiting distinct run none =
     let apart = apart_from_pairs i.coflows distinct in
     let l = reverse places in
@@ -258,7 +291,8 @@ order_of_run i places t residuals waiting distinct run none =
     let made = made_of i.flows i.weight i.ports [] i.coflows (map entry_of l) apart placed in
     record {
       ordering = ordering_made i (map entry_of l) apart placed;
-      rest = all_along (λ (x : Place). x.rest ≡ rest i.flows i.weight (map entry_of l) x.coflow) places (rests_told i.flows i.weight (map entry_of l) [] i.coflows l run.told made.apart (λ c has. omega arith));
+      rest = all_along (λ (x : Place). x.rest ≡ rest i.flows i.weight (map entry_of l) x.coflow) places
+          (rests_told i.flows i.weight (map entry_of l) [] i.coflows l run.told made.apart (λ c has. omega arith));
       load = loads_told i.flows i.weight i.ports [] i.coflows l placed apart run.told;
     }
 
@@ -270,16 +304,23 @@ pub record PlacesSoFar (t₀ t : LoadTable) (residuals₀ residuals : List ℕ) 
   pub waits : count_by (λ w. w) waiting ≡ number
   pub run : (i : Instance) → Stands i [] i.coflows t₀ residuals₀ waiting₀ → RunSoFar i (reverse (drop number places)) t residuals waiting
 
-pub places_none : (t : LoadTable) (residuals : List ℕ) (waiting : List Bool) (places : List Place) → IsReady t residuals waiting → length places ≡ count_by (λ w. w) waiting → PlacesSoFar t t residuals residuals waiting waiting places (length places)
+pub places_none : (t : LoadTable) (residuals : List ℕ) (waiting : List Bool) (places : List Place) → IsReady t residuals waiting → length places ≡ count_by (λ w. w) waiting →
+    PlacesSoFar t t residuals residuals waiting waiting places (length places)
 places_none t residuals waiting places ready count = record {
   size = record { coflows = refl; ports = refl };
   ready = ready;
   waits = sym count;
-  run = λ i stands. subst (λ ps. RunSoFar i (reverse ps) t residuals waiting) (sym (drop_all (length places) places (omega arith))) record { left = i.coflows; placed = refl; told = tt; stands = stands };
+  run = λ i stands. subst (λ ps. RunSoFar i (reverse ps) t residuals waiting) (sym (drop_all (length places) places (omega arith))) record {
+    left = i.coflows;
+    placed = refl;
+    told = tt;
+    stands = stands;
+  };
 }
 
 pub places_more : (t₀ t t' : LoadTable) (residuals₀ residuals residuals' : List ℕ) (waiting₀ waiting waiting' : List Bool) (places : List Place) (number : ℕ) (x : Place) →
-    PlacesSoFar t₀ t residuals₀ residuals waiting₀ waiting places (number + 1) → number < length places → IsChosen t residuals waiting x → Pays t x.port x.y residuals residuals' → length residuals' ≡ length residuals →
+    PlacesSoFar t₀ t residuals₀ residuals waiting₀ waiting places (number + 1) → number < length places → IsChosen t residuals waiting x → Pays t x.port x.y residuals residuals' →
+    length residuals' ≡ length residuals →
     waiting' ≡ slice_set waiting x.coflow false → DropsCoflow t t' x.coflow → PlacesSoFar t₀ t' residuals₀ residuals' waiting₀ waiting' (slice_set places number x) number
 places_more t₀ t t' residuals₀ residuals residuals' waiting₀ waiting waiting' places number x so_far lt chosen pays len marks drops =
     subst (λ w. PlacesSoFar t₀ t' residuals₀ residuals' waiting₀ w (slice_set places number x) number) (sym marks) record {
@@ -288,11 +329,13 @@ places_more t₀ t t' residuals₀ residuals residuals' waiting₀ waiting waiti
       waits = one_less waiting x.coflow number chosen.waits so_far.waits;
       run = λ i stands.
           let more = run_more i (reverse (drop (number + 1) places)) t t' residuals residuals' waiting x so_far.ready (so_far.run i stands) chosen pays drops in
-          let turned : reverse (drop number (slice_set places number x)) ≡ reverse (drop (number + 1) places) ++ x ∷ [] = ap reverse (drop-set places number x lt) ∙ reverse-append (x ∷ []) (drop (number + 1) places) in
+          let turned : reverse (drop number (slice_set places number x)) ≡ reverse (drop (number + 1) places) ++ x ∷ [] = ap reverse (drop-set places number x lt) ∙
+          reverse-append (x ∷ []) (drop (number + 1) places) in
           subst (λ l. RunSoFar i l t' residuals' (slice_set waiting x.coflow false)) (sym turned) more;
     }
 
-pub order_of_places : (i : Instance) (t₀ t : LoadTable) (residuals₀ residuals : List ℕ) (waiting₀ waiting : List Bool) (places : List Place) → PlacesSoFar t₀ t residuals₀ residuals waiting₀ waiting places 0 → Stands i [] i.coflows t₀ residuals₀ waiting₀ → IsOrder i places
+pub order_of_places : (i : Instance) (t₀ t : LoadTable) (residuals₀ residuals : List ℕ) (waiting₀ waiting : List Bool) (places : List Place) →
+    PlacesSoFar t₀ t residuals₀ residuals waiting₀ waiting places 0 → Stands i [] i.coflows t₀ residuals₀ waiting₀ → IsOrder i places
 order_of_places i t₀ t residuals₀ residuals waiting₀ waiting places so_far stands = order_of_run i places t residuals waiting stands.distinct (so_far.run i stands) so_far.waits
 
 -- ---- before the first place
@@ -319,15 +362,22 @@ pub record IsBegun (t₀ t : LoadTable) (weights residuals : List ℕ) (present 
 budget_fits : (w : ℕ) → w ≤ 2 ^ 32 → w * 2 ^ 40 ≤ 2 ^ 72
 budget_fits w le = omega arith
 
-begun_load : (t₀ t : LoadTable) (weights residuals : List ℕ) (present : List Bool) → IsBegun t₀ t weights residuals present → (c : ℕ) (port : Port) → c < t₀.coflows → port.number < t₀.ports → load_at t c port ≤ load_at t₀ c port
+begun_load : (t₀ t : LoadTable) (weights residuals : List ℕ) (present : List Bool) → IsBegun t₀ t weights residuals present → (c : ℕ) (port : Port) → c < t₀.coflows →
+    port.number < t₀.ports → load_at t c port ≤ load_at t₀ c port
 begun_load t₀ t weights residuals present begun c port lc lp = elim (cases_Bool (is_present present c)) [
   | inl here ↦ omega (arith, begun.stay c port lc lp here)
   | inr out ↦ omega (arith, begun.gone c port lc lp out)
 ]
 
-begun_total : (t₀ t : LoadTable) (weights residuals : List ℕ) (present : List Bool) → IsBegun t₀ t weights residuals present → (port : Port) → port.number < t₀.ports → total_at t port ≤ total_at t₀ port
+begun_total : (t₀ t : LoadTable) (weights residuals : List ℕ) (present : List Bool) → IsBegun t₀ t weights residuals present → (port : Port) → port.number < t₀.ports →
+    total_at t port ≤ total_at t₀ port
 begun_total t₀ t weights residuals present begun port lp =
-    omega (arith, ap (λ n. sum_by (λ c. load_at t c port) (range_with_len 0 n)) begun.size.coflows, sum_mono (λ c. load_at t c port) (λ c. load_at t₀ c port) (range_with_len 0 t₀.coflows) (λ c has. begun_load t₀ t weights residuals present begun c port (in_below t₀.coflows c has) lp))
+    omega (
+      arith,
+      ap (λ n. sum_by (λ c. load_at t c port) (range_with_len 0 n)) begun.size.coflows,
+      sum_mono (λ c. load_at t c port) (λ c. load_at t₀ c port) (range_with_len 0 t₀.coflows)
+          (λ c has. begun_load t₀ t weights residuals present begun c port (in_below t₀.coflows c has) lp),
+    )
 
 pub ready_first : (t₀ t : LoadTable) (weights residuals : List ℕ) (present : List Bool) → IsBegun t₀ t weights residuals present → IsReady t residuals present
 ready_first t₀ t weights residuals present begun = record {
@@ -343,19 +393,23 @@ ready_first t₀ t weights residuals present begun = record {
   loads_wait = λ c port lc lp out. begun.gone c port (subst (λ n. c < n) begun.size.coflows lc) (subst (λ n. port.number < n) begun.size.ports lp) out;
 }
 
-marked_in : (present : List Bool) (coflows : List ℕ) (n : ℕ) → coflows ≡ present_coflows present → length present ≡ n → (c : ℕ) → Contains coflows c → (c < n) × (is_present present c ≡ true)
+marked_in : (present : List Bool) (coflows : List ℕ) (n : ℕ) → coflows ≡ present_coflows present → length present ≡ n → (c : ℕ) → Contains coflows c →
+    (c < n) × (is_present present c ≡ true)
 marked_in present coflows n is len c has =
     let (within, mark) = filter_in (is_present present) (range_with_len 0 (length present)) c (subst (λ cs. Contains cs c) is has) in
     (omega (arith, in_below (length present) c within, len), mark)
 
-pub stands_first : (i : Instance) (t₀ t : LoadTable) (weights residuals : List ℕ) (present : List Bool) → IsOf i t₀ weights present → IsBegun t₀ t weights residuals present → Stands i [] i.coflows t residuals present
+pub stands_first : (i : Instance) (t₀ t : LoadTable) (weights residuals : List ℕ) (present : List Bool) → IsOf i t₀ weights present → IsBegun t₀ t weights residuals present →
+    Stands i [] i.coflows t residuals present
 stands_first i t₀ t weights residuals present of begun =
     let marked = marked_in present i.coflows t₀.coflows of.coflows begun.present_len in
     record {
       ports = of.ports ∙ sym begun.size.ports;
-      distinct = subst IsDistinct (sym of.coflows) (pairs_from_apart (present_coflows present) (filter_apart (is_present present) (range_with_len 0 (length present)) (range_apart (length present))));
+      distinct = subst IsDistinct (sym of.coflows)
+          (pairs_from_apart (present_coflows present) (filter_apart (is_present present) (range_with_len 0 (length present)) (range_apart (length present))));
       members = λ c has. (subst (λ n. c < n) (sym begun.size.coflows) (marked c has).0, (marked c has).1);
-      all = λ c lc mark. subst (λ cs. Contains cs c) (sym of.coflows) (keeps (is_present present) (range_with_len 0 (length present)) c (below_in (length present) c (omega (arith, lc, begun.size.coflows, begun.present_len))) mark);
+      all = λ c lc mark. subst (λ cs. Contains cs c) (sym of.coflows)
+          (keeps (is_present present) (range_with_len 0 (length present)) c (below_in (length present) c (omega (arith, lc, begun.size.coflows, begun.present_len))) mark);
       load = λ c port has lp.
           let lp' = subst (λ n. port.number < n) begun.size.ports lp in
           begun.stay c port (marked c has).0 lp' (marked c has).1 ∙ of.load c port has (subst (λ n. port.number < n) (sym of.ports) lp');

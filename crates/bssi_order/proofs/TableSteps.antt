@@ -1,5 +1,6 @@
 -- The loops over a table of loads, step by step.
-use Rattle.std.proofs.Common.{◌≡◌, ℕ, ◌+◌, ◌-◌, ◌*◌, ◌/◌, ◌^◌, ◌<◌, ◌≤◌, ◌⊎◌, inl, inr, Bool, true, false, cond, List, [], ◌∷◌, length, Contains, refl, sym, ap, subst, ◌∙◌, arith, length-set, zero, suc, true≢false}
+use Rattle.std.proofs.Common.{◌≡◌, ℕ, ◌+◌, ◌-◌, ◌*◌, ◌/◌, ◌^◌, ◌<◌, ◌≤◌, ◌⊎◌, inl, inr, Bool, true, false, cond, List, [], ◌∷◌, length, Contains, refl, sym, ap, subst, ◌∙◌, arith}
+use Rattle.std.proofs.Common.{length-set, zero, suc, true≢false}
 use Rattle.std.specs.Prelude.{count_by, sum_by, slice_index, slice_set}
 use Rattle.std.specs.List.{range_with_len}
 use Rattle.std.proofs.lemmas.Bool.{cases_Bool, cases_eq, cases_lt}
@@ -71,7 +72,8 @@ pub paid_more : (t : LoadTable) (port : Port) (y : ℕ) (old new : List ℕ) (do
 paid_more t port y old new done v so_far lt is = record {
   len = length-set new done v ∙ so_far.len;
   paid = λ c lc. elim (cases_eq c done) [
-    | inl e ↦ ap (λ k. slice_index (slice_set new done v) k) e ∙ get_or-set_same new done v 0 (omega (arith, lt, so_far.len)) ∙ is ∙ sym (ap (λ k. slice_index old k - y * load_at t k port) e)
+    | inl e ↦ ap (λ k. slice_index (slice_set new done v) k) e ∙ get_or-set_same new done v 0 (omega (arith, lt, so_far.len)) ∙ is ∙
+        sym (ap (λ k. slice_index old k - y * load_at t k port) e)
     | inr ne ↦ get_or-set_other new done c v 0 ne ∙ so_far.paid c (omega (arith, lc, ne))
   ];
   later = λ c le. get_or-set_other new done c v 0 (λ e. omega (arith, le, e)) ∙ so_far.later c (omega (arith, le));
@@ -83,7 +85,8 @@ pub record FirstSoFar (t : LoadTable) (side : Side) (port : Port) (done : ℕ) :
   pub on_side : port.side ≡ side
   pub in_range : port.number < t.ports
   pub below : port.number < done
-  pub greatest : (other : Port) → other.side ≡ side → other.number < done → (total_at t other < total_at t port) ⊎ ((total_at t other ≡ total_at t port) × (port.number ≤ other.number))
+  pub greatest : (other : Port) → other.side ≡ side → other.number < done →
+      (total_at t other < total_at t port) ⊎ ((total_at t other ≡ total_at t port) × (port.number ≤ other.number))
 
 -- ---- marks
 
@@ -136,7 +139,8 @@ product_fits a b la lb = let h : a * b ≤ 2 ^ 72 * 2 ^ 40 = mul-le-mul la lb in
 ratio_le : (rk lk rl ll rc lc : ℕ) → 0 < ll → rk * ll ≤ rl * lk → rl * lc ≤ rc * ll → rk * lc ≤ rc * lk
 ratio_le rk lk rl ll rc lc some first second = le_of_mul-le-mul_right {k = ll} (omega (arith, mul-le-mul_right lc first, mul-le-mul_right lk second)) some
 
-pub least_load_fits : (t : LoadTable) (residuals : List ℕ) (port : Port) (least least_load done most : ℕ) → LeastSoFar t residuals port least least_load done → total_at t port ≤ most → least_load ≤ most
+pub least_load_fits : (t : LoadTable) (residuals : List ℕ) (port : Port) (least least_load done most : ℕ) → LeastSoFar t residuals port least least_load done →
+    total_at t port ≤ most → least_load ≤ most
 least_load_fits t residuals port least least_load done most so_far fits = elim (cases_lt 0 least_load) [
   | inl some ↦ let (lt, ld, is) = so_far.found some in omega (arith, is, within_total t least port lt)
   | inr none ↦ omega arith
@@ -152,19 +156,23 @@ at_most_of : (a b c k : ℕ) → (a < b) ⊎ ((a ≡ b) × (c ≤ k)) → a ≤ 
 at_most_of a b c k (inl less) = omega arith
 at_most_of a b c k (inr same) = omega (arith, same.0)
 
-pub least_take : (t : LoadTable) (residuals : List ℕ) (port : Port) (least least_load k load : ℕ) → LeastSoFar t residuals port least least_load k → k < t.coflows → load ≡ load_at t k port → 0 < load →
+pub least_take : (t : LoadTable) (residuals : List ℕ) (port : Port) (least least_load k load : ℕ) → LeastSoFar t residuals port least least_load k → k < t.coflows →
+    load ≡ load_at t k port → 0 < load →
     slice_index residuals k * least_load ≤ slice_index residuals least * load → LeastSoFar t residuals port k load (k + 1)
 least_take t residuals port least least_load k load so_far lt is some le = record {
   small = omega arith;
   found = λ h. (lt, omega arith, is);
   some = λ c lc h. some;
   ratio = λ c lc h. elim (cases_eq c k) [
-    | inl e ↦ either_way (slice_index residuals k * load_at t c port) (slice_index residuals c * load) c k (omega (arith, ap (λ j. slice_index residuals j * load) e, ap (λ j. slice_index residuals k * load_at t j port) e, ap (λ n. slice_index residuals k * n) is)) (omega (arith, e))
+    | inl e ↦ either_way (slice_index residuals k * load_at t c port) (slice_index residuals c * load) c k
+        (omega (arith, ap (λ j. slice_index residuals j * load) e, ap (λ j. slice_index residuals k * load_at t j port) e, ap (λ n. slice_index residuals k * n) is))
+        (omega (arith, e))
     | inr ne ↦
         let before : c < k = omega (arith, ne) in
         let old = at_most_of (slice_index residuals least * load_at t c port) (slice_index residuals c * least_load) c least (so_far.ratio c before h) in
         either_way (slice_index residuals k * load_at t c port) (slice_index residuals c * load) c k
-        (ratio_le (slice_index residuals k) load (slice_index residuals least) least_load (slice_index residuals c) (load_at t c port) (so_far.some c before h) le old) (omega arith)
+        (ratio_le (slice_index residuals k) load (slice_index residuals least) least_load (slice_index residuals c) (load_at t c port) (so_far.some c before h) le old)
+        (omega arith)
   ];
 }
 
@@ -181,7 +189,13 @@ least_keep t residuals port least least_load k load so_far is less =
       found = λ h. let (a, b, c) = so_far.found h in (a, omega arith, c);
       some = λ c lc h. some;
       ratio = λ c lc h. elim (cases_eq c k) [
-        | inl e ↦ inl (omega (arith, less, ap (λ j. slice_index residuals j * least_load) e, ap (λ j. slice_index residuals least * load_at t j port) e, ap (λ n. slice_index residuals least * n) is))
+        | inl e ↦ inl (omega (
+          arith,
+          less,
+          ap (λ j. slice_index residuals j * least_load) e,
+          ap (λ j. slice_index residuals least * load_at t j port) e,
+          ap (λ n. slice_index residuals least * n) is,
+        ))
         | inr ne ↦ so_far.ratio c (omega (arith, ne)) h
       ];
     }
@@ -212,20 +226,25 @@ least_past t residuals port least least_load done next so_far after none =
       ratio = λ c lc h. so_far.ratio c (before c lc h) h;
     }
 
-pub least_of : (t : LoadTable) (residuals : List ℕ) (port : Port) (least least_load : ℕ) → LeastSoFar t residuals port least least_load t.coflows → 0 < total_at t port → IsLeastRatio t residuals port least
+pub least_of : (t : LoadTable) (residuals : List ℕ) (port : Port) (least least_load : ℕ) → LeastSoFar t residuals port least least_load t.coflows → 0 < total_at t port →
+    IsLeastRatio t residuals port least
 least_of t residuals port least least_load so_far some =
     let (c, lt, has) = some_load t port some in
     let (ll, ld, is) = so_far.found (so_far.some c lt has) in
     record {
       coflow_in = ll;
       has_load = subst (λ n. 0 < n) is (so_far.some c lt has);
-      least = λ other lo h. subst (λ n. (slice_index residuals least * load_at t other port < slice_index residuals other * n) ⊎ ((slice_index residuals least * load_at t other port ≡ slice_index residuals other * n) × (other ≤ least))) is (so_far.ratio other lo h);
+      least = λ other lo h. subst (λ n. (slice_index residuals least * load_at t other port < slice_index residuals other * n) ⊎
+          ((slice_index residuals least * load_at t other port ≡ slice_index residuals other * n) × (other ≤ least))) is (so_far.ratio other lo h);
     }
 
-pub affordable : (t : LoadTable) (residuals : List ℕ) (port : Port) (least : ℕ) → IsLeastRatio t residuals port least → (c : ℕ) → c < t.coflows → (slice_index residuals least / load_at t least port) * load_at t c port ≤ slice_index residuals c
+pub affordable : (t : LoadTable) (residuals : List ℕ) (port : Port) (least : ℕ) → IsLeastRatio t residuals port least → (c : ℕ) → c < t.coflows →
+    (slice_index residuals least / load_at t least port) * load_at t c port ≤ slice_index residuals c
 affordable t residuals port least is c lt = elim (cases_lt 0 (load_at t c port)) [
-  | inl some ↦ within_ratio (slice_index residuals least / load_at t least port) (slice_index residuals least) (load_at t least port) (slice_index residuals c) (load_at t c port) is.has_load
-      (floor_within (slice_index residuals least) (load_at t least port)) (at_most_of (slice_index residuals least * load_at t c port) (slice_index residuals c * load_at t least port) c least (is.least c lt some))
+  | inl some ↦ within_ratio (slice_index residuals least / load_at t least port) (slice_index residuals least) (load_at t least port) (slice_index residuals c) (load_at t c port)
+      is.has_load
+      (floor_within (slice_index residuals least) (load_at t least port))
+      (at_most_of (slice_index residuals least * load_at t c port) (slice_index residuals c * load_at t least port) c least (is.least c lt some))
   | inr none ↦
       let nought : load_at t c port ≡ 0 = omega arith in
       omega (arith, ap (λ n. (slice_index residuals least / load_at t least port) * n) nought)
@@ -247,7 +266,8 @@ first_none t s some = record {
   greatest = λ other es lt. inr (same_total t s 0 other es (omega arith), omega arith);
 }
 
-pub first_take : (t : LoadTable) (s : Side) (port : Port) (k : ℕ) → FirstSoFar t s port k → k < t.ports → total_at t port < total_at t (port_of s k) → FirstSoFar t s (port_of s k) (k + 1)
+pub first_take : (t : LoadTable) (s : Side) (port : Port) (k : ℕ) → FirstSoFar t s port k → k < t.ports → total_at t port < total_at t (port_of s k) →
+    FirstSoFar t s (port_of s k) (k + 1)
 first_take t s port k so_far lt more = record {
   on_side = refl;
   in_range = lt;

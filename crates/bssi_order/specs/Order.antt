@@ -1,5 +1,6 @@
 -- Orders as lists of places from place 1 on, and the ordering certificate that they tell.
-use Rattle.std.specs.Prelude.{◌≡◌, ℕ, ◌<◌, ◌≤◌, Bool, List, [], ◌∷◌, All, Contains, filter, length, map, reverse, slice_index}
+use Rattle.std.specs.Prelude.{◌≡◌, ℕ, ◌<◌, ◌≤◌, Bool, List, [], ◌∷◌, All, Contains, filter, length, map, reverse}
+use Rattle.std.specs.Prelude.{slice_index}
 use Rattle.std.specs.List.{range_with_len}
 use Rattle.coflow_units.specs.declared.fabric.Flow.{Flow}
 use Rattle.coflow_units.specs.declared.fabric.Port.{Port}
@@ -14,12 +15,14 @@ use Rattle.port_load.specs.LoadTable.{LoadTable, is_present, load_at}
 abbrev pub present_coflows : List Bool → List ℕ
 present_coflows present = filter (is_present present) (range_with_len 0 (length present))
 
--- the instance has the coflows that are marked, the table's number of ports, and for these coflows the loads of the table and the weights of the list
+-- the instance has the coflows that are marked, the table's number of ports, and for these coflows the loads of the
+-- table and the weights of the list
 pub record IsOf (i : Instance) (t : LoadTable) (weights : List ℕ) (present : List Bool) : Type 0 where
   pub coflows : i.coflows ≡ present_coflows present
   pub ports : i.ports ≡ t.ports
   pub weight : (coflow : ℕ) → Contains i.coflows coflow → i.weight coflow ≡ slice_index weights coflow
-  pub load : (coflow : ℕ) (port : Port) → Contains i.coflows coflow → port.number < i.ports → load_at t coflow port ≡ load i.flows coflow port
+  pub load : (coflow : ℕ) (port : Port) → Contains i.coflows coflow → port.number < i.ports →
+      load_at t coflow port ≡ load i.flows coflow port
 
 -- the entries that places from place 1 on tell, from the last place to the first
 abbrev pub entries_of : List Place → List Entry
@@ -28,9 +31,11 @@ entries_of places = map entry_of (reverse places)
 -- places, from the last to the first, tell the loads of their ports over their fronts
 abbrev pub TellsFrontLoads : List Flow → List Place → Type 0
 TellsFrontLoads flows [] = Unit {0}
-TellsFrontLoads flows (x ∷ before) = (x.load ≡ front_load flows (map entry_of (x ∷ before))) × TellsFrontLoads flows before
+TellsFrontLoads flows (x ∷ before) = (x.load ≡ front_load flows (map entry_of (x ∷ before))) ×
+    TellsFrontLoads flows before
 
--- the places tell the ordering certificate of the instance; each tells what its coflow keeps of its budget, and the load of its port over its front
+-- the places tell the ordering certificate of the instance; each tells what its coflow keeps of its budget, and the
+-- load of its port over its front
 pub record IsOrder (i : Instance) (places : List Place) : Type 0 where
   pub ordering : IsOrdering i (entries_of places)
   pub rest : All (λ (x : Place). x.rest ≡ rest i.flows i.weight (entries_of places) x.coflow) places

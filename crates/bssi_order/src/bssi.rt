@@ -1,5 +1,6 @@
 //! The order of the coflows that are present.
 ghost use Rattle.std.specs.Prelude.{◌≡◌, ◌≢◌, ℕ, ◌*◌, ◌^◌, ◌<◌, ◌≤◌, true, false, List, [], All, IfOk, Contains, count_by, length, reverse, slice_index, take};
+ghost use Rattle.coflow_units.specs.declared.limits.TheConstants.{MAX_UNITS, MAX_WEIGHT, SCALE};
 ghost use Rattle.coflow_units.specs.declared.fabric.Port.{Port};
 ghost use Rattle.coflow_units.specs.Flows.{Instance};
 ghost use Rattle.coflow_units.specs.Certificate.{IsBelowLoads, IsFeasible, rest};
@@ -67,11 +68,13 @@ impl Bssi {
         requires room { loads.old.coflows ≤ self.old.room }
         requires weights_len { length weights.now ≡ loads.old.coflows }
         requires present_len { length present.now ≡ loads.old.coflows }
-        requires weights_fit { All (λ w. w ≤ 2 ^ 32) weights.now }
-        requires totals_fit { (port : Port) → port.number < loads.old.ports → total_at loads.old port ≤ 2 ^ 40 }
+        requires weights_fit { All (λ w. w ≤ MAX_WEIGHT) weights.now }
+        requires totals_fit { (port : Port) → port.number < loads.old.ports → total_at loads.old port ≤ MAX_UNITS }
         ensures order { (i : Instance) → IsOf i loads.old weights.now present.now → IsOrder i self.new.places }
-        ensures feasible { (i : Instance) → IsOf i loads.old weights.now present.now → IsFeasible i.flows i.weight (entries_of self.new.places) }
-        ensures below { (i : Instance) → IsOf i loads.old weights.now present.now → IsBelowLoads i.flows (rest i.flows i.weight (entries_of self.new.places)) (entries_of self.new.places) }
+        ensures feasible { (i : Instance) → IsOf i loads.old weights.now present.now →
+            IsFeasible i.flows i.weight (entries_of self.new.places) }
+        ensures below { (i : Instance) → IsOf i loads.old weights.now present.now →
+            IsBelowLoads i.flows (rest i.flows i.weight (entries_of self.new.places)) (entries_of self.new.places) }
         ensures count { length self.new.places ≡ count_by (λ here. here) present.now }
         ensures size { IsSameSize loads.old loads.new }
         ensures room { self.new.room ≡ self.old.room }
@@ -108,8 +111,8 @@ fn order(
     requires waiting_len { loads.old.coflows ≤ length waiting.old }
     requires weights_len { length weights.now ≡ loads.old.coflows }
     requires present_len { length present.now ≡ loads.old.coflows }
-    requires weights_fit { All (λ w. w ≤ 2 ^ 32) weights.now }
-    requires totals_fit { (port : Port) → port.number < loads.old.ports → total_at loads.old port ≤ 2 ^ 40 }
+    requires weights_fit { All (λ w. w ≤ MAX_WEIGHT) weights.now }
+    requires totals_fit { (port : Port) → port.number < loads.old.ports → total_at loads.old port ≤ MAX_UNITS }
     ensures order { (i : Instance) → IsOf i loads.old weights.now present.now → IsOrder i (take result places.new) }
     ensures count { result ≡ count_by (λ here. here) present.now }
     ensures within { result ≤ length places.old }
@@ -142,8 +145,10 @@ fn count_present(present: &[bool]) -> usize
 fn drop_absent(loads: &mut Loads, present: &[bool])
     requires { length present.now ≡ loads.old.coflows }
     ensures size { IsSameSize loads.old loads.new }
-    ensures present_stay { (coflow : ℕ) (port : Port) → coflow < loads.old.coflows → port.number < loads.old.ports → is_present present.now coflow ≡ true → load_at loads.new coflow port ≡ load_at loads.old coflow port }
-    ensures absent_go { (coflow : ℕ) (port : Port) → coflow < loads.old.coflows → port.number < loads.old.ports → is_present present.now coflow ≡ false → load_at loads.new coflow port ≡ 0 }
+    ensures present_stay { (coflow : ℕ) (port : Port) → coflow < loads.old.coflows → port.number < loads.old.ports →
+        is_present present.now coflow ≡ true → load_at loads.new coflow port ≡ load_at loads.old coflow port }
+    ensures absent_go { (coflow : ℕ) (port : Port) → coflow < loads.old.coflows → port.number < loads.old.ports →
+        is_present present.now coflow ≡ false → load_at loads.new coflow port ≡ 0 }
 {
     for coflow in 0..loads.coflows() {
         if !present[coflow as usize] {
@@ -154,8 +159,9 @@ fn drop_absent(loads: &mut Loads, present: &[bool])
 
 fn give_budgets(residuals: &mut [u128], weights: &[u64])
     requires len { length residuals.old ≡ length weights.now }
-    requires weights_fit { All (λ w. w ≤ 2 ^ 32) weights.now }
-    ensures { (coflow : ℕ) → coflow < length weights.now → slice_index residuals.new coflow ≡ slice_index weights.now coflow * 2 ^ 40 }
+    requires weights_fit { All (λ w. w ≤ MAX_WEIGHT) weights.now }
+    ensures { (coflow : ℕ) → coflow < length weights.now →
+        slice_index residuals.new coflow ≡ slice_index weights.now coflow * SCALE }
 {
     for coflow in 0..weights.len() {
         residuals[coflow] = weights[coflow] as u128 * SCALE;

@@ -1,5 +1,6 @@
 //! The steps of the order: the port with the greatest load, the coflow whose budget is used up first there, and what each coflow pays.
 ghost use Rattle.std.specs.Prelude.{◌≡◌, ◌≢◌, ℕ, ◌+◌, ◌-◌, ◌*◌, ◌/◌, ◌^◌, ◌<◌, ◌≤◌, ◌⊎◌, true, false, List, [], Contains, count_by, length, slice_index, slice_set};
+ghost use Rattle.coflow_units.specs.declared.limits.TheConstants.{MAX_COFLOWS, MAX_UNITS};
 ghost use Rattle.coflow_units.specs.declared.fabric.Port.{Port};
 ghost use Rattle.coflow_units.specs.Flows.{Instance};
 ghost use Rattle.port_load.specs.LoadTable.{DropsCoflow, IsSameSize, is_present, load_at, total_at};
@@ -47,7 +48,8 @@ fn choose(loads: &Loads, residuals: &[u128], waiting: &[bool]) -> Place
     requires some { 0 < count_by (λ waits. waits) waiting.now }
     ensures chosen { IsChosen loads.now residuals.now waiting.now result }
     ensures within { result.coflow < loads.now.coflows }
-    ensures affordable { (coflow : ℕ) → coflow < loads.now.coflows → result.y * load_at loads.now coflow result.port ≤ slice_index residuals.now coflow }
+    ensures affordable { (coflow : ℕ) → coflow < loads.now.coflows →
+        result.y * load_at loads.now coflow result.port ≤ slice_index residuals.now coflow }
 {
     let port = greatest_port(loads);
     let load = loads.total(port);
@@ -101,7 +103,7 @@ fn greatest_on(loads: &Loads, side: Side) -> Port
 
 fn greatest_waiting(waiting: &[bool]) -> u32
     requires some { 0 < count_by (λ waits. waits) waiting.now }
-    requires limit { length waiting.now ≤ 4096 }
+    requires limit { length waiting.now ≤ MAX_COFLOWS }
     ensures { IsGreatestWaiting waiting.now result }
 {
     let mut greatest = 0;
@@ -118,7 +120,7 @@ fn least_ratio(loads: &Loads, residuals: &[u128], port: Port) -> u32
     requires residuals_len { length residuals.now ≡ loads.now.coflows }
     requires residuals_fit { (coflow : ℕ) → coflow < loads.now.coflows → slice_index residuals.now coflow ≤ 2 ^ 72 }
     requires port_in { port.number < loads.now.ports }
-    requires total_fits { total_at loads.now port ≤ 2 ^ 40 }
+    requires total_fits { total_at loads.now port ≤ MAX_UNITS }
     requires some { 0 < total_at loads.now port }
     ensures { IsLeastRatio loads.now residuals.now port result }
 {
@@ -143,7 +145,8 @@ fn least_ratio(loads: &Loads, residuals: &[u128], port: Port) -> u32
 fn pay(residuals: &mut [u128], loads: &Loads, port: Port, y: u128)
     requires residuals_len { length residuals.old ≡ loads.now.coflows }
     requires port_in { port.number < loads.now.ports }
-    requires affordable { (coflow : ℕ) → coflow < loads.now.coflows → y * load_at loads.now coflow port ≤ slice_index residuals.old coflow }
+    requires affordable { (coflow : ℕ) → coflow < loads.now.coflows →
+        y * load_at loads.now coflow port ≤ slice_index residuals.old coflow }
     ensures { Pays loads.now port y residuals.old residuals.new }
 {
     if y == 0 {

@@ -1,5 +1,6 @@
 //! What no clause says: that the definitions give the orders that were worked out by hand, that a run agrees with a plain program of the definition, and that the limits can be met.
 ghost use Rattle.std.specs.Prelude.{◌≡◌, ◌<◌, ◌≤◌, ◌^◌, All, IsTrue, length, sum_by};
+ghost use Rattle.coflow_units.specs.declared.limits.TheConstants.{MAX_COFLOWS, MAX_PORTS, MAX_WEIGHT};
 ghost use Rattle.coflow_units.specs.declared.fabric.Flow.{Flow};
 ghost use Rattle.bssi_order.specs.TestInputs.{FitsRun};
 
@@ -43,7 +44,7 @@ fn flows_fit(flows: &[Flow], coflows: u32, ports: u32) -> bool
 
 /// Tests what a run requires of the weights.
 fn weights_fit(weights: &[u64]) -> bool
-    ensures { IsTrue result → All (λ w. w ≤ 2 ^ 32) weights.now }
+    ensures { IsTrue result → All (λ w. w ≤ MAX_WEIGHT) weights.now }
 {
     for weight in weights {
         if *weight > 1 << 32 {
@@ -62,9 +63,9 @@ fn ordered(
     present: &[bool],
     ports: u32,
 ) -> Bssi
-    requires coflows_limit { length weights.now ≤ 4096 }
+    requires coflows_limit { length weights.now ≤ MAX_COFLOWS }
     requires has_ports { 1 ≤ ports }
-    requires ports_limit { ports ≤ 1025 }
+    requires ports_limit { ports ≤ MAX_PORTS + 1 }
     requires present_len { length present.now ≡ length weights.now }
 {
     let coflows = weights.len() as u32;
@@ -289,7 +290,7 @@ fn plain_places(
     ports: u32,
 ) -> Result<Vec<Place>, AllocError>
     requires units { sum_by (λ (x : Flow). x.units) flows.now ≤ 2 ^ 62 }
-    requires small { length present.now ≤ 4096 }
+    requires small { length present.now ≤ MAX_COFLOWS }
 {
     let mut waiting = Vec::new(alloc);
     for coflow in 0..present.len() {
@@ -319,9 +320,9 @@ fn agree(
     present: &[bool],
     ports: u32,
 )
-    requires coflows_limit { length weights.now ≤ 4096 }
+    requires coflows_limit { length weights.now ≤ MAX_COFLOWS }
     requires has_ports { 1 ≤ ports }
-    requires ports_limit { ports ≤ 1025 }
+    requires ports_limit { ports ≤ MAX_PORTS + 1 }
     requires present_len { length present.now ≡ length weights.now }
 {
     let fit = flows_fit(flows, weights.len() as u32, ports);

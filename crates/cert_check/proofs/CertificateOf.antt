@@ -22,7 +22,8 @@ entries_more (c ∷ cs) (p ∷ ps) zero lc lp = refl
 entries_more (c ∷ cs) (p ∷ ps) (suc k) lc lp = ap (λ l. entry_with c p ∷ l) (entries_more cs ps k (omega arith) (omega arith))
 
 -- one place more
-pub places_more : (coflows : List ℕ) (lines : List PlaceLine) (k : ℕ) (places : List Place) (place : Place) → map entry_of places ≡ entries_with (take k coflows) (take k lines) → k < length coflows → k < length lines →
+pub places_more : (coflows : List ℕ) (lines : List PlaceLine) (k : ℕ) (places : List Place) (place : Place) → map entry_of places ≡ entries_with (take k coflows) (take k lines) →
+    k < length coflows → k < length lines →
     entry_of place ≡ entry_with (slice_index coflows k) (place_at lines k) → map entry_of (places ++ place ∷ []) ≡ entries_with (take (k + 1) coflows) (take (k + 1) lines)
 places_more coflows lines k places place is lc lp here =
     let next : suc k ≡ k + 1 = omega arith in
@@ -34,6 +35,8 @@ entries_named ids [] = refl
 entries_named ids (p ∷ ps) = ap (λ l. entry_for ids p ∷ l) (entries_named ids ps)
 
 -- all places
-pub all_entries_named : (ids : List ℕ) (coflows : List ℕ) (lines : List PlaceLine) (k : ℕ) → length lines ≡ k → length coflows ≡ k → coflows ≡ coflows_in ids lines → entries_with (take k coflows) (take k lines) ≡ map (entry_for ids) lines
+pub all_entries_named : (ids : List ℕ) (coflows : List ℕ) (lines : List PlaceLine) (k : ℕ) → length lines ≡ k → length coflows ≡ k → coflows ≡ coflows_in ids lines →
+    entries_with (take k coflows) (take k lines) ≡ map (entry_for ids) lines
 all_entries_named ids coflows lines k n m is =
-    ap (λ l. entries_with l (take k lines)) (take_all k coflows (omega arith)) ∙ ap (λ l. entries_with coflows l) (take_all k lines (omega arith)) ∙ ap (λ l. entries_with l lines) is ∙ entries_named ids lines
+    ap (λ l. entries_with l (take k lines)) (take_all k coflows (omega arith)) ∙ ap (λ l. entries_with coflows l) (take_all k lines (omega arith)) ∙
+    ap (λ l. entries_with l lines) is ∙ entries_named ids lines

@@ -29,7 +29,8 @@ number_at xs f n c e lt =
 pub real_along : (coflows stated xs : List ℕ) (f : ℕ → ℕ) (n : ℕ) → AreOf xs f n → All (λ c. c < n) coflows → AreReal coflows stated (slice_index xs) → AreReal coflows stated f
 real_along coflows stated xs f n e within real k lt = real k lt ∙ number_at xs f n (slice_index coflows k) e (within k 0 lt)
 
-pub least_along : (coflows stated xs : List ℕ) (f : ℕ → ℕ) (n coflow said is : ℕ) → AreOf xs f n → All (λ c. c < n) coflows → IsLeastWrong coflows stated (slice_index xs) coflow said is → IsLeastWrong coflows stated f coflow said is
+pub least_along : (coflows stated xs : List ℕ) (f : ℕ → ℕ) (n coflow said is : ℕ) → AreOf xs f n → All (λ c. c < n) coflows →
+    IsLeastWrong coflows stated (slice_index xs) coflow said is → IsLeastWrong coflows stated f coflow said is
 least_along coflows stated xs f n coflow said is e within wrong = record {
   place = wrong.place;
   inside = wrong.inside;
@@ -44,18 +45,23 @@ pub cost_along : (weights xs : List ℕ) (f : ℕ → ℕ) (n : ℕ) → AreOf x
     sum_by (λ c. slice_index weights c * slice_index xs c) (range_with_len 0 (length weights)) ≡ sum_by (λ c. slice_index weights c * f c) (range_with_len 0 n)
 cost_along weights xs f n e count =
     ap (λ m. sum_by (λ c. slice_index weights c * slice_index xs c) (range_with_len 0 m)) count
-    ∙ sum_same (λ c. slice_index weights c * slice_index xs c) (λ c. slice_index weights c * f c) (range_with_len 0 n) (λ c has. ap (λ x. slice_index weights c * x) (number_at xs f n c e (omega (arith, number_below 0 n c has))))
+    ∙ sum_same (λ c. slice_index weights c * slice_index xs c) (λ c. slice_index weights c * f c) (range_with_len 0 n)
+    (λ c has. ap (λ x. slice_index weights c * x) (number_at xs f n c e (omega (arith, number_below 0 n c has))))
 
 -- completions as they were computed
-pub ends_are : (flows lent : List Flow) (slots made : List (List ℕ)) (ends given : List ℕ) (n count : ℕ) → lent ≡ flows → made ≡ slots → count ≡ n → given ≡ ends → ends ≡ map (λ c. completion lent made c) (range_with_len 0 count) →
+pub ends_are : (flows lent : List Flow) (slots made : List (List ℕ)) (ends given : List ℕ) (n count : ℕ) → lent ≡ flows → made ≡ slots → count ≡ n → given ≡ ends →
+    ends ≡ map (λ c. completion lent made c) (range_with_len 0 count) →
     AreOf given (completion flows slots) n
 ends_are flows lent slots made ends given n count f s m g e =
-    g ∙ e ∙ ap (λ (l : List Flow). map (λ c. completion l made c) (range_with_len 0 count)) f ∙ ap (λ (l : List (List ℕ)). map (λ c. completion flows l c) (range_with_len 0 count)) s
+    g ∙ e ∙ ap (λ (l : List Flow). map (λ c. completion l made c) (range_with_len 0 count)) f ∙
+    ap (λ (l : List (List ℕ)). map (λ c. completion flows l c) (range_with_len 0 count)) s
     ∙ ap (λ k. map (λ c. completion flows slots c) (range_with_len 0 k)) m
 
 pub valid_along : (flows lent : List Flow) (slots made : List (List ℕ)) → lent ≡ flows → made ≡ slots → IsValid lent made → IsValid flows slots
 valid_along flows lent slots made f s valid = subst (λ (l : List (List ℕ)). IsValid flows l) s (subst (λ (l : List Flow). IsValid l made) f valid)
 
-pub fault_along : (flows lent : List Flow) (slots made : List (List ℕ)) (a b : Option ScheduleFault) → lent ≡ flows → made ≡ slots → a ≡ b → IsFirstFault lent made a → IsFirstFault flows slots b
+pub fault_along : (flows lent : List Flow) (slots made : List (List ℕ)) (a b : Option ScheduleFault) → lent ≡ flows → made ≡ slots → a ≡ b → IsFirstFault lent made a →
+    IsFirstFault flows slots b
 fault_along flows lent slots made a b f s e first =
-    subst (λ (o : Option ScheduleFault). IsFirstFault flows slots o) e (subst (λ (l : List (List ℕ)). IsFirstFault flows l a) s (subst (λ (l : List Flow). IsFirstFault l made a) f first))
+    subst (λ (o : Option ScheduleFault). IsFirstFault flows slots o) e
+    (subst (λ (l : List (List ℕ)). IsFirstFault flows l a) s (subst (λ (l : List Flow). IsFirstFault l made a) f first))

@@ -14,7 +14,8 @@ use Rattle.schedule_model.specs.Fault.{IsFirstClash, IsFirstFault, IsFirstMiscou
 use Rattle.schedule_model.specs.RunList.{slots_in}
 use Rattle.dual_cert.specs.TableCertificate.{IsLeastInfeasible}
 use Rattle.cert_check.specs.declared.verdict.Reason.{Reason}
-use Rattle.cert_check.specs.declared.verdict.Reason.TheVariants.{BoundTooHigh, ClashIn, CostWrong, DoneWrong, Infeasible, NoFlow, NotPermutation, PortRange, RatioBroken, SlackWrong, UnitsOf, WeightWrong}
+use Rattle.cert_check.specs.declared.verdict.Reason.TheVariants.{BoundTooHigh, ClashIn, CostWrong, DoneWrong, Infeasible, NoFlow, NotPermutation, PortRange, RatioBroken}
+use Rattle.cert_check.specs.declared.verdict.Reason.TheVariants.{SlackWrong, UnitsOf, WeightWrong}
 use Rattle.cert_check.specs.Parts.{HasSoundCertificate, IsFirstFrom, reason_for}
 use Rattle.cert_check.specs.Places.{IsFirstWrong, NamesEach, certificate_in, coflows_in, ends_in, ids_in}
 use Rattle.cert_check.specs.Reasons.{HasReason, IsFirstReason, certificate_kind, kind, schedule_kind}
@@ -42,27 +43,32 @@ module _ (i : Instance) (ids : List ℕ) (r : Report) where
   before_budgets ports weights (WeightWrong coflow stated real) low high has = no_wrong_weight (coflows_in ids r.places) r.weights i.weight coflow stated real weights has
   before_budgets ports weights _ low high has = absurd (omega arith)
 
-  pub first_infeasible : (coflow : ℕ) → PortsAre → WeightsAre → IsLeastInfeasible i.flows i.weight (certificate_in ids r.places) coflow → IsFirstFrom i ids r certificate_kind (Infeasible coflow)
+  pub first_infeasible : (coflow : ℕ) → PortsAre → WeightsAre → IsLeastInfeasible i.flows i.weight (certificate_in ids r.places) coflow →
+      IsFirstFrom i ids r certificate_kind (Infeasible coflow)
   first_infeasible coflow ports weights least = record { holds = least; first = before_budgets ports weights }
 
-  before_bounds : PortsAre → WeightsAre → IsFeasible i.flows i.weight (certificate_in ids r.places) → (other : Reason) → 1 ≤ kind other → kind other < 4 → HasReason i ids r other → ⊥
+  before_bounds : PortsAre → WeightsAre → IsFeasible i.flows i.weight (certificate_in ids r.places) → (other : Reason) → 1 ≤ kind other → kind other < 4 → HasReason i ids r other →
+      ⊥
   before_bounds ports weights feasible (Infeasible coflow) low high has = no_infeasible i.flows i.weight (certificate_in ids r.places) coflow feasible has
   before_bounds ports weights feasible other low high has = elim (cases_lt (kind other) 3) [
     | inl less ↦ before_budgets ports weights other low less has
     | inr le ↦ absurd (omega arith)
   ]
 
-  pub first_high_bound : (real : ℕ) → PortsAre → WeightsAre → IsFeasible i.flows i.weight (certificate_in ids r.places) → real ≡ bound i.flows (certificate_in ids r.places) → real < r.bound → IsFirstFrom i ids r certificate_kind (BoundTooHigh r.bound real)
+  pub first_high_bound : (real : ℕ) → PortsAre → WeightsAre → IsFeasible i.flows i.weight (certificate_in ids r.places) → real ≡ bound i.flows (certificate_in ids r.places) →
+      real < r.bound → IsFirstFrom i ids r certificate_kind (BoundTooHigh r.bound real)
   first_high_bound real ports weights feasible is high = record { holds = (refl, is, high); first = before_bounds ports weights feasible }
 
-  before_slack : PortsAre → WeightsAre → IsFeasible i.flows i.weight (certificate_in ids r.places) → r.bound ≤ bound i.flows (certificate_in ids r.places) → (other : Reason) → 1 ≤ kind other → kind other < 5 → HasReason i ids r other → ⊥
+  before_slack : PortsAre → WeightsAre → IsFeasible i.flows i.weight (certificate_in ids r.places) → r.bound ≤ bound i.flows (certificate_in ids r.places) → (other : Reason) →
+      1 ≤ kind other → kind other < 5 → HasReason i ids r other → ⊥
   before_slack ports weights feasible within (BoundTooHigh stated real) low high has = omega (arith, has)
   before_slack ports weights feasible within other low high has = elim (cases_lt (kind other) 4) [
     | inl less ↦ before_bounds ports weights feasible other low less has
     | inr le ↦ absurd (omega arith)
   ]
 
-  pub first_wrong_slack : (real : ℕ) → PortsAre → WeightsAre → IsFeasible i.flows i.weight (certificate_in ids r.places) → r.bound ≤ bound i.flows (certificate_in ids r.places) → real ≡ slack i.flows i.weight (certificate_in ids r.places) → r.slack ≢ real →
+  pub first_wrong_slack : (real : ℕ) → PortsAre → WeightsAre → IsFeasible i.flows i.weight (certificate_in ids r.places) → r.bound ≤ bound i.flows (certificate_in ids r.places) →
+      real ≡ slack i.flows i.weight (certificate_in ids r.places) → r.slack ≢ real →
       IsFirstFrom i ids r certificate_kind (SlackWrong r.slack real)
   first_wrong_slack real ports weights feasible within is differ = record { holds = (refl, is, differ); first = before_slack ports weights feasible within }
 
@@ -88,27 +94,32 @@ module _ (i : Instance) (ids : List ℕ) (r : Report) where
   before_ends valid (UnitsOf flow have want) low high has = no_miscount i.flows (slots_in r.runs) flow have want valid has
   before_ends valid _ low high has = absurd (omega arith)
 
-  pub first_wrong_end : (coflow said is : ℕ) → IsValid i.flows (slots_in r.runs) → IsLeastWrong (coflows_in ids r.places) (ends_in r.places) (completion i.flows (slots_in r.runs)) coflow said is → IsFirstFrom i ids r schedule_kind (DoneWrong coflow said is)
+  pub first_wrong_end : (coflow said is : ℕ) → IsValid i.flows (slots_in r.runs) →
+      IsLeastWrong (coflows_in ids r.places) (ends_in r.places) (completion i.flows (slots_in r.runs)) coflow said is → IsFirstFrom i ids r schedule_kind (DoneWrong coflow said is)
   first_wrong_end coflow said is valid least = record { holds = least; first = before_ends valid }
 
   before_cost : IsValid i.flows (slots_in r.runs) → EndsAre → (other : Reason) → 6 ≤ kind other → kind other < 10 → HasReason i ids r other → ⊥
-  before_cost valid ends (DoneWrong coflow stated real) low high has = no_wrong_number (coflows_in ids r.places) (ends_in r.places) (completion i.flows (slots_in r.runs)) coflow stated real ends has
+  before_cost valid ends (DoneWrong coflow stated real) low high has =
+      no_wrong_number (coflows_in ids r.places) (ends_in r.places) (completion i.flows (slots_in r.runs)) coflow stated real ends has
   before_cost valid ends other low high has = elim (cases_lt (kind other) 9) [
     | inl less ↦ before_ends valid other low less has
     | inr le ↦ absurd (omega arith)
   ]
 
-  pub first_wrong_cost : (real : ℕ) → IsValid i.flows (slots_in r.runs) → EndsAre → real ≡ cost i.flows i.weight i.coflows (slots_in r.runs) → r.cost ≢ real → IsFirstFrom i ids r schedule_kind (CostWrong r.cost real)
+  pub first_wrong_cost : (real : ℕ) → IsValid i.flows (slots_in r.runs) → EndsAre → real ≡ cost i.flows i.weight i.coflows (slots_in r.runs) → r.cost ≢ real →
+      IsFirstFrom i ids r schedule_kind (CostWrong r.cost real)
   first_wrong_cost real valid ends is differ = record { holds = (refl, is, differ); first = before_cost valid ends }
 
-  before_ratio : IsValid i.flows (slots_in r.runs) → EndsAre → r.cost ≡ cost i.flows i.weight i.coflows (slots_in r.runs) → (other : Reason) → 6 ≤ kind other → kind other < 11 → HasReason i ids r other → ⊥
+  before_ratio : IsValid i.flows (slots_in r.runs) → EndsAre → r.cost ≡ cost i.flows i.weight i.coflows (slots_in r.runs) → (other : Reason) → 6 ≤ kind other → kind other < 11 →
+      HasReason i ids r other → ⊥
   before_ratio valid ends is (CostWrong stated real) low high has = has.2 (has.0 ∙ is ∙ sym has.1)
   before_ratio valid ends is other low high has = elim (cases_lt (kind other) 10) [
     | inl less ↦ before_cost valid ends other low less has
     | inr le ↦ absurd (omega arith)
   ]
 
-  pub first_broken_ratio : IsValid i.flows (slots_in r.runs) → EndsAre → r.cost ≡ cost i.flows i.weight i.coflows (slots_in r.runs) → 4 * r.bound + r.slack < r.cost → IsFirstFrom i ids r schedule_kind (RatioBroken r.cost (4 * r.bound + r.slack))
+  pub first_broken_ratio : IsValid i.flows (slots_in r.runs) → EndsAre → r.cost ≡ cost i.flows i.weight i.coflows (slots_in r.runs) → 4 * r.bound + r.slack < r.cost →
+      IsFirstFrom i ids r schedule_kind (RatioBroken r.cost (4 * r.bound + r.slack))
   first_broken_ratio valid ends is above = record { holds = (refl, refl, above); first = before_ratio valid ends is }
 
   -- ---- the whole certificate
@@ -136,7 +147,8 @@ module _ (i : Instance) (ids : List ℕ) (r : Report) where
   }
 
   -- a reason of the schedule is the first of all where the certificate is right
-  pub first_of_schedule : (reason : Reason) → NamesEach (length ids) (coflows_in ids r.places) → HasSoundCertificate i ids r → IsFirstFrom i ids r schedule_kind reason → IsFirstReason i ids r reason
+  pub first_of_schedule : (reason : Reason) → NamesEach (length ids) (coflows_in ids r.places) → HasSoundCertificate i ids r → IsFirstFrom i ids r schedule_kind reason →
+      IsFirstReason i ids r reason
   first_of_schedule reason names certificate from_slots = record {
     holds = from_slots.holds;
     first = λ other high has. elim (cases_lt (kind other) 6) [

@@ -1,5 +1,6 @@
 -- Ids that name coflows, one after another.
-use Rattle.std.proofs.Common.{◌≡◌, ℕ, ◌+◌, ◌-◌, ◌≤◌, ◌<◌, inl, inr, Bool, true, false, cond, List, [], ◌∷◌, ◌++◌, length, get_or, take, nat_eq, refl, sym, ap, subst, ◌∙◌, arith, Contains}
+use Rattle.std.proofs.Common.{◌≡◌, ℕ, ◌+◌, ◌-◌, ◌≤◌, ◌<◌, inl, inr, Bool, true, false, cond, List, [], ◌∷◌, ◌++◌, length, get_or, take, nat_eq, refl, sym, ap, subst, ◌∙◌, arith}
+use Rattle.std.proofs.Common.{Contains}
 use Rattle.std.specs.Prelude.{◌==◌, ◌||◌, All, None, Option, Some, map, slice_index, sum_by, unwrap_or}
 use Rattle.std.specs.List.{list_any, position_or_len, range_with_len}
 use Rattle.std.proofs.lemmas.Bool.{cases_Bool, cases_lt, false≢true}
@@ -77,18 +78,21 @@ pub named_count : (ids stated : List ℕ) (k : ℕ) (left : ℕ → Option ℕ) 
 named_count ids stated k left coflows so_far = ap (λ l. length l) so_far.coflows_are ∙ length-map (take k stated) (coflow_with ids) ∙ length-take-le k stated so_far.inside
 
 -- the next id is new where it is left
-pub is_new : (ids stated : List ℕ) (k : ℕ) (o : Option ℕ) (coflow : ℕ) (b : Bool) → list_any (λ x. x == slice_index stated k) (take k stated) ≡ b → o ≡ cond b None (found ids (slice_index stated k)) → o ≡ Some coflow →
+pub is_new : (ids stated : List ℕ) (k : ℕ) (o : Option ℕ) (coflow : ℕ) (b : Bool) → list_any (λ x. x == slice_index stated k) (take k stated) ≡ b →
+    o ≡ cond b None (found ids (slice_index stated k)) → o ≡ Some coflow →
     IsNew ids stated k × (coflow_with ids (slice_index stated k) ≡ coflow)
 is_new ids stated k o coflow true e is some = let no : None ≡ Some coflow = sym is ∙ some in cc
 is_new ids stated k o coflow false e is some =
     let (known, at) = found_known ids (slice_index stated k) coflow (sym is ∙ some) in
     (record { known = known; once = λ has. false≢true (sym e ∙ any_in (take k stated) (slice_index stated k) has) }, at)
 
-pub is_not_new : (ids stated : List ℕ) (k : ℕ) (o : Option ℕ) (b : Bool) → list_any (λ x. x == slice_index stated k) (take k stated) ≡ b → o ≡ cond b None (found ids (slice_index stated k)) → o ≡ None → IsNotNew ids stated k
+pub is_not_new : (ids stated : List ℕ) (k : ℕ) (o : Option ℕ) (b : Bool) → list_any (λ x. x == slice_index stated k) (take k stated) ≡ b →
+    o ≡ cond b None (found ids (slice_index stated k)) → o ≡ None → IsNotNew ids stated k
 is_not_new ids stated k o true e is none = inr (any_has (take k stated) (slice_index stated k) e)
 is_not_new ids stated k o false e is none = inl (not_found ids (slice_index stated k) (sym is ∙ none))
 
-left_more : (ids stated : List ℕ) (k id : ℕ) (a b : Bool) (o : Option ℕ) → list_any (λ x. x == id) (take k stated) ≡ a → slice_index stated k == id ≡ b → k < length stated → o ≡ cond b None (cond a None (found ids id)) →
+left_more : (ids stated : List ℕ) (k id : ℕ) (a b : Bool) (o : Option ℕ) → list_any (λ x. x == id) (take k stated) ≡ a → slice_index stated k == id ≡ b → k < length stated →
+    o ≡ cond b None (cond a None (found ids id)) →
     o ≡ cond (list_any (λ x. x == id) (take (k + 1) stated)) None (found ids id)
 left_more ids stated k id a b o before here lt is =
     is ∙ both a b ∙ ap {B = Option ℕ} (λ t. cond t None (found ids id)) (sym any)
@@ -110,10 +114,12 @@ left_more ids stated k id a b o before here lt is =
     both false false = refl
 
 -- one place more
-pub named_more : (ids stated : List ℕ) (k : ℕ) (left after : ℕ → Option ℕ) (coflows : List ℕ) (id coflow : ℕ) → NamedSoFar ids stated k left coflows → k < length stated → id ≡ slice_index stated k → left id ≡ Some coflow →
+pub named_more : (ids stated : List ℕ) (k : ℕ) (left after : ℕ → Option ℕ) (coflows : List ℕ) (id coflow : ℕ) → NamedSoFar ids stated k left coflows → k < length stated →
+    id ≡ slice_index stated k → left id ≡ Some coflow →
     ((q : ℕ) → after q ≡ cond (nat_eq id q) None (left q)) → NamedSoFar ids stated (k + 1) after (coflows ++ coflow ∷ [])
 named_more ids stated k left after coflows id coflow so_far lt at some updates =
-    let (here, named) = is_new ids stated k (left (slice_index stated k)) coflow (list_any (λ x. x == slice_index stated k) (take k stated)) refl (so_far.left_are (slice_index stated k)) (sym (ap left at) ∙ some) in
+    let (here, named) = is_new ids stated k (left (slice_index stated k)) coflow (list_any (λ x. x == slice_index stated k) (take k stated)) refl
+    (so_far.left_are (slice_index stated k)) (sym (ap left at) ∙ some) in
     record {
       inside = omega arith;
       coflows_are =
@@ -129,11 +135,13 @@ named_more ids stated k left after coflows id coflow so_far lt at some updates =
     }
 
 -- a place that names no new coflow
-pub named_wrong : (ids stated : List ℕ) (k : ℕ) (left : ℕ → Option ℕ) (coflows : List ℕ) (id place : ℕ) → NamedSoFar ids stated k left coflows → k < length stated → id ≡ slice_index stated k → left id ≡ None → place ≡ length coflows + 1 →
+pub named_wrong : (ids stated : List ℕ) (k : ℕ) (left : ℕ → Option ℕ) (coflows : List ℕ) (id place : ℕ) → NamedSoFar ids stated k left coflows → k < length stated →
+    id ≡ slice_index stated k → left id ≡ None → place ≡ length coflows + 1 →
     IsFirstWrong ids stated place
 named_wrong ids stated k left coflows id place so_far lt at none count =
     let next : place ≡ k + 1 = omega (arith, count, named_count ids stated k left coflows so_far) in
-    let not_new = is_not_new ids stated k (left (slice_index stated k)) (list_any (λ x. x == slice_index stated k) (take k stated)) refl (so_far.left_are (slice_index stated k)) (sym (ap left at) ∙ none) in
+    let not_new = is_not_new ids stated k (left (slice_index stated k)) (list_any (λ x. x == slice_index stated k) (take k stated)) refl (so_far.left_are (slice_index stated k))
+    (sym (ap left at) ∙ none) in
     let here : k ≡ place - 1 = omega arith in
     record {
       counted = omega arith;
@@ -142,7 +150,8 @@ named_wrong ids stated k left coflows id place so_far lt at none count =
     }
 
 -- the places end, and some coflow has none
-pub named_short : (ids stated : List ℕ) (k : ℕ) (left : ℕ → Option ℕ) (coflows : List ℕ) (place : ℕ) → NamedSoFar ids stated k left coflows → length stated ≤ k → length coflows < length ids → place ≡ length coflows + 1 → IsFirstWrong ids stated place
+pub named_short : (ids stated : List ℕ) (k : ℕ) (left : ℕ → Option ℕ) (coflows : List ℕ) (place : ℕ) → NamedSoFar ids stated k left coflows → length stated ≤ k →
+    length coflows < length ids → place ≡ length coflows + 1 → IsFirstWrong ids stated place
 named_short ids stated k left coflows place so_far all less count =
     let n = named_count ids stated k left coflows so_far in
     let next : place ≡ k + 1 = omega (arith, count, n) in
@@ -159,16 +168,25 @@ new_apart : (ids stated : List ℕ) (k : ℕ) → k ≤ length stated → ((j : 
 new_apart ids stated k inside new i j d lt in' =
     let count = length-take-le k stated inside in
     let below : j < k = omega (arith, in', length-map (take k stated) (coflow_with ids)) in
-    let at_i : get_or (map (coflow_with ids) (take k stated)) i d ≡ coflow_with ids (slice_index stated i) = get_or-map (coflow_with ids) (take k stated) i 0 d (omega arith) ∙ ap (coflow_with ids) (get_or-take k stated i 0 (omega arith)) in
-    let at_j : get_or (map (coflow_with ids) (take k stated)) j d ≡ coflow_with ids (slice_index stated j) = get_or-map (coflow_with ids) (take k stated) j 0 d (omega arith) ∙ ap (coflow_with ids) (get_or-take k stated j 0 below) in
+    let at_i : get_or (map (coflow_with ids) (take k stated)) i d ≡ coflow_with ids (slice_index stated i) = get_or-map (coflow_with ids) (take k stated) i 0 d (omega arith) ∙
+    ap (coflow_with ids) (get_or-take k stated i 0 (omega arith)) in
+    let at_j : get_or (map (coflow_with ids) (take k stated)) j d ≡ coflow_with ids (slice_index stated j) = get_or-map (coflow_with ids) (take k stated) j 0 d (omega arith) ∙
+    ap (coflow_with ids) (get_or-take k stated j 0 below) in
     λ e.
-    let id : slice_index stated i ≡ slice_index stated j = same_id ids (slice_index stated i) (slice_index stated j) (known_within ids (slice_index stated i) (new i (omega arith)).known) (sym at_i ∙ e ∙ at_j) in
-    (new j below).once (i, omega (arith, length-take-le j stated (omega arith)), get_or-take j stated i (slice_index stated j) lt ∙ get_or_default stated i (slice_index stated j) 0 (omega arith) ∙ id)
+    let id : slice_index stated i ≡ slice_index stated j =
+    same_id ids (slice_index stated i) (slice_index stated j) (known_within ids (slice_index stated i) (new i (omega arith)).known) (sym at_i ∙ e ∙ at_j) in
+    (new j below).once (
+      i,
+      omega (arith, length-take-le j stated (omega arith)),
+      get_or-take j stated i (slice_index stated j) lt ∙
+          get_or_default stated i (slice_index stated j) 0 (omega arith) ∙ id,
+    )
 
 new_within : (ids stated : List ℕ) (k : ℕ) → k ≤ length stated → ((j : ℕ) → j < k → IsNew ids stated j) → All (λ c. c < length ids) (map (coflow_with ids) (take k stated))
 new_within ids stated k inside new j d lt =
     let below : j < k = omega (arith, lt, length-map (take k stated) (coflow_with ids), length-take-le k stated inside) in
-    let at : get_or (map (coflow_with ids) (take k stated)) j d ≡ coflow_with ids (slice_index stated j) = get_or-map (coflow_with ids) (take k stated) j 0 d (omega (arith, length-take-le k stated inside)) ∙ ap (coflow_with ids) (get_or-take k stated j 0 below) in
+    let at : get_or (map (coflow_with ids) (take k stated)) j d ≡ coflow_with ids (slice_index stated j) =
+    get_or-map (coflow_with ids) (take k stated) j 0 d (omega (arith, length-take-le k stated inside)) ∙ ap (coflow_with ids) (get_or-take k stated j 0 below) in
     omega (arith, at, known_within ids (slice_index stated j) (new j below).known)
 
 pub sum_ones : (xs : List ℕ) → sum_by (λ (x : ℕ). 1) xs ≡ length xs
@@ -178,7 +196,13 @@ sum_ones (x ∷ xs) = omega (arith, sum_ones xs, sum_by-cons (λ (y : ℕ). 1) x
 -- different numbers below n are at most n
 pub at_most : (xs : List ℕ) (n : ℕ) → Apart xs → ((x : ℕ) → Contains xs x → x < n) → length xs ≤ n
 at_most xs n apart below =
-    omega (arith, members_at_most (λ (x : ℕ). 1) xs (range_with_len 0 n) apart (λ x has some. number_in 0 n x (omega arith) (omega (arith, below x has))), sum_ones xs, sum_ones (range_with_len 0 n), length-range_with_len 0 n)
+    omega (
+      arith,
+      members_at_most (λ (x : ℕ). 1) xs (range_with_len 0 n) apart (λ x has some. number_in 0 n x (omega arith) (omega (arith, below x has))),
+      sum_ones xs,
+      sum_ones (range_with_len 0 n),
+      length-range_with_len 0 n,
+    )
 
 -- and n of them are all
 pub all_of_them : (xs : List ℕ) (n c : ℕ) → Apart xs → ((x : ℕ) → Contains xs x → x < n) → n ≤ length xs → c < n → Contains xs c
@@ -198,11 +222,13 @@ named_few ids stated k left coflows so_far =
     omega (
       arith,
       ap (λ l. length l) so_far.coflows_are,
-      at_most named (length ids) (apart_from_pairs named (new_apart ids stated k so_far.inside so_far.new)) (λ x has. All-contains (λ c. c < length ids) named x (new_within ids stated k so_far.inside so_far.new) has),
+      at_most named (length ids) (apart_from_pairs named (new_apart ids stated k so_far.inside so_far.new))
+          (λ x has. All-contains (λ c. c < length ids) named x (new_within ids stated k so_far.inside so_far.new) has),
     )
 
 -- all places name coflows, and all coflows have places
-pub named_all : (ids stated : List ℕ) (k : ℕ) (left : ℕ → Option ℕ) (coflows : List ℕ) → NamedSoFar ids stated k left coflows → length stated ≤ k → length ids ≤ length coflows → (coflows ≡ map (coflow_with ids) stated) × NamesEach (length ids) (map (coflow_with ids) stated)
+pub named_all : (ids stated : List ℕ) (k : ℕ) (left : ℕ → Option ℕ) (coflows : List ℕ) → NamedSoFar ids stated k left coflows → length stated ≤ k → length ids ≤ length coflows →
+    (coflows ≡ map (coflow_with ids) stated) × NamesEach (length ids) (map (coflow_with ids) stated)
 named_all ids stated k left coflows so_far whole many =
     let all : take k stated ≡ stated = take_all k stated whole in
     let once = subst (λ l. IsDistinct (map (coflow_with ids) l)) all (new_apart ids stated k so_far.inside so_far.new) in
@@ -213,6 +239,7 @@ named_all ids stated k left coflows so_far whole many =
       record {
         once = once;
         coflow = within;
-        all = λ c lt. all_of_them named (length ids) c (apart_from_pairs named once) (λ x has. All-contains (λ c. c < length ids) named x within has) (omega (arith, ap (λ l. length l) is)) lt;
+        all = λ c lt. all_of_them named (length ids) c (apart_from_pairs named once) (λ x has. All-contains (λ c. c < length ids) named x within has)
+            (omega (arith, ap (λ l. length l) is)) lt;
       },
     )

@@ -17,7 +17,8 @@ use Rattle.report.specs.Text.{place_at}
 use Rattle.schedule_model.specs.Fault.{IsFirstClash, IsFirstMiscount, IsFirstNoFlow, IsNoLater, number_no_later}
 use Rattle.schedule_model.specs.RunList.{slots_in}
 use Rattle.cert_check.specs.declared.verdict.Reason.{Reason}
-use Rattle.cert_check.specs.declared.verdict.Reason.TheVariants.{BoundTooHigh, ClashIn, CostWrong, DoneWrong, Infeasible, NoFlow, NotPermutation, PortRange, RatioBroken, SlackWrong, UnitsOf, WeightWrong}
+use Rattle.cert_check.specs.declared.verdict.Reason.TheVariants.{BoundTooHigh, ClashIn, CostWrong, DoneWrong, Infeasible, NoFlow, NotPermutation, PortRange, RatioBroken}
+use Rattle.cert_check.specs.declared.verdict.Reason.TheVariants.{SlackWrong, UnitsOf, WeightWrong}
 use Rattle.cert_check.specs.declared.verdict.Verdict.{Verdict}
 use Rattle.cert_check.specs.declared.verdict.Verdict.TheVariants.{No, Yes}
 use Rattle.cert_check.specs.Places.{IsFirstOutOfRange, IsFirstWrong, IsNew, IsNotNew, IsWrong, NamesEach, coflow_with, coflows_in, ends_in, ids_in}
@@ -50,7 +51,8 @@ wrong_or_new ids stated (suc k) le = elim (wrong_or_new ids stated k (omega arit
     ])
     | inr not_new ↦
         let at : k ≡ k + 1 - 1 = omega arith in
-        let wrong : IsFirstWrong ids stated (k + 1) = record { counted = omega arith; wrong = subst (λ n. IsWrong ids stated n) at (inl (omega arith, not_new)); before = λ j lt. new j (omega arith) } in
+        let wrong : IsFirstWrong ids stated (k + 1) =
+        record { counted = omega arith; wrong = subst (λ n. IsWrong ids stated n) at (inl (omega arith, not_new)); before = λ j lt. new j (omega arith) } in
         inl (k + 1, wrong)
   ]
 ]
@@ -61,7 +63,8 @@ wrong_or_named ids stated = elim (wrong_or_new ids stated (length stated) (omega
   | inr new ↦
       let k = length stated in
       let coflows = map (coflow_with ids) (take k stated) in
-      let so_far : NamedSoFar ids stated k (λ id. cond (list_any (λ x. x == id) (take k stated)) None (found ids id)) coflows = record { inside = omega arith; coflows_are = refl; left_are = λ id. refl; new = new } in
+      let so_far : NamedSoFar ids stated k (λ id. cond (list_any (λ x. x == id) (take k stated)) None (found ids id)) coflows =
+      record { inside = omega arith; coflows_are = refl; left_are = λ id. refl; new = new } in
       elim (cases_lt (length coflows) (length ids)) [
         | inl less ↦ inl (length coflows + 1, named_short ids stated k _ coflows (length coflows + 1) so_far (omega arith) less refl)
         | inr many ↦ inr (named_all ids stated k _ coflows so_far (omega arith) many).1
@@ -104,13 +107,15 @@ no_lesser_wrong coflows stated real a b s s' x x' wa wb lt =
 same_place : (coflows : List ℕ) (j k : ℕ) → IsDistinct coflows → j < length coflows → k < length coflows → slice_index coflows j ≡ slice_index coflows k → j ≡ k
 same_place coflows j k once lj lk e = between j k (λ lt. once j k 0 lt lk e) (λ lt. once k j 0 lt lj (sym e))
 
-one_wrong : (coflows stated : List ℕ) (real : ℕ → ℕ) (a b s s' x x' : ℕ) → IsDistinct coflows → IsLeastWrong coflows stated real a s x → IsLeastWrong coflows stated real b s' x' → (a ≡ b) × (s ≡ s') × (x ≡ x')
+one_wrong : (coflows stated : List ℕ) (real : ℕ → ℕ) (a b s s' x x' : ℕ) → IsDistinct coflows → IsLeastWrong coflows stated real a s x → IsLeastWrong coflows stated real b s' x' →
+    (a ≡ b) × (s ≡ s') × (x ≡ x')
 one_wrong coflows stated real a b s s' x x' once wa wb =
     let e : a ≡ b = between a b (no_lesser_wrong coflows stated real a b s s' x x' wa wb) (no_lesser_wrong coflows stated real b a s' s x' x wb wa) in
     let place = same_place coflows wa.place wb.place once wa.inside wb.inside (wa.of_coflow ∙ e ∙ sym wb.of_coflow) in
     (e, sym wa.says ∙ ap (slice_index stated) place ∙ wb.says, sym wa.should ∙ ap real e ∙ wb.should)
 
-one_wrong_of_any : (coflows : List ℕ) (stated : Option (List ℕ)) (real : ℕ → ℕ) (a b s s' x x' : ℕ) → IsDistinct coflows → IsLeastWrongOfAny coflows stated real a s x → IsLeastWrongOfAny coflows stated real b s' x' → (a ≡ b) × (s ≡ s') × (x ≡ x')
+one_wrong_of_any : (coflows : List ℕ) (stated : Option (List ℕ)) (real : ℕ → ℕ) (a b s s' x x' : ℕ) → IsDistinct coflows → IsLeastWrongOfAny coflows stated real a s x →
+    IsLeastWrongOfAny coflows stated real b s' x' → (a ≡ b) × (s ≡ s') × (x ≡ x')
 one_wrong_of_any coflows None real a b s s' x x' once wa wb = absurd wa
 one_wrong_of_any coflows (Some stated) real a b s s' x x' once wa wb = one_wrong coflows stated real a b s s' x x' once wa wb
 
@@ -131,13 +136,15 @@ one_flow flows slots slot f slot' f' a b =
     let both = first_of_both slot slot' (f ≤ f') (f' ≤ f) (a.first slot' f' b.stands b.no_flow) (b.first slot f a.stands a.no_flow) in
     (both.0, omega (arith, both.1, both.2))
 
-one_clash : (flows : List Flow) (slots : List (List ℕ)) (slot slot' : ℕ) (port port' : Port) → IsFirstClash flows slots slot port → IsFirstClash flows slots slot' port' → (slot ≡ slot') × (port.side ≡ port'.side) × (port.number ≡ port'.number)
+one_clash : (flows : List Flow) (slots : List (List ℕ)) (slot slot' : ℕ) (port port' : Port) → IsFirstClash flows slots slot port → IsFirstClash flows slots slot' port' →
+    (slot ≡ slot') × (port.side ≡ port'.side) × (port.number ≡ port'.number)
 one_clash flows slots slot slot' port port' a b =
     let both = first_of_both slot slot' (IsNoLater port port') (IsNoLater port' port) (a.first slot' port' b.clashes) (b.first slot port a.clashes) in
     let ports = one_port port.side port'.side port.number port'.number both.1 both.2 in
     (both.0, ports.0, ports.1)
 
-one_miscount : (flows : List Flow) (slots : List (List ℕ)) (f h w f' h' w' : ℕ) → IsFirstMiscount flows slots f h w → IsFirstMiscount flows slots f' h' w' → (f ≡ f') × (h ≡ h') × (w ≡ w')
+one_miscount : (flows : List Flow) (slots : List (List ℕ)) (f h w f' h' w' : ℕ) → IsFirstMiscount flows slots f h w → IsFirstMiscount flows slots f' h' w' →
+    (f ≡ f') × (h ≡ h') × (w ≡ w')
 one_miscount flows slots f h w f' h' w' a b =
     let less = λ (lt : f < f'). a.differ (sym a.stands_in ∙ b.first f lt ∙ a.wants) in
     let more = λ (lt : f' < f). b.differ (sym b.stands_in ∙ a.first f' lt ∙ b.wants) in
@@ -153,7 +160,8 @@ module _ (i : Instance) (ids : List ℕ) (r : Report) where
   ]
 
   same_reason : (a b : Reason) → kind a ≡ kind b → IsFirstReason i ids r a → IsFirstReason i ids r b → a ≡ b
-  same_reason (NotPermutation p) (NotPermutation q) e fa fb = ap NotPermutation (between p q (no_earlier_wrong ids (ids_in r.places) p q fa.holds fb.holds) (no_earlier_wrong ids (ids_in r.places) q p fb.holds fa.holds))
+  same_reason (NotPermutation p) (NotPermutation q) e fa fb =
+      ap NotPermutation (between p q (no_earlier_wrong ids (ids_in r.places) p q fa.holds fb.holds) (no_earlier_wrong ids (ids_in r.places) q p fb.holds fa.holds))
   same_reason (PortRange p m) (PortRange q n) e fa fb =
       let place : p ≡ q = between p q (no_earlier_port i.ports r.places p q m n fa.holds fb.holds) (no_earlier_port i.ports r.places q p n m fb.holds fa.holds) in
       let number : m ≡ n = sym fa.holds.has ∙ ap (λ k. (place_at r.places (k - 1)).port.number) place ∙ fb.holds.has in
@@ -161,7 +169,8 @@ module _ (i : Instance) (ids : List ℕ) (r : Report) where
   same_reason (WeightWrong c s x) (WeightWrong d t y) e fa fb =
       let both = one_wrong_of_any (coflows_in ids r.places) r.weights i.weight c d s t x y (apart_where_named (WeightWrong c s x) (omega arith) fa) fa.holds fb.holds in
       ap (λ n. WeightWrong n s x) both.0 ∙ ap (λ n. WeightWrong d n x) both.1 ∙ ap (WeightWrong d t) both.2
-  same_reason (Infeasible c) (Infeasible d) e fa fb = ap Infeasible (between c d (λ lt. omega (arith, fa.holds.above, fb.holds.least c lt)) (λ lt. omega (arith, fb.holds.above, fa.holds.least d lt)))
+  same_reason (Infeasible c) (Infeasible d) e fa fb =
+      ap Infeasible (between c d (λ lt. omega (arith, fa.holds.above, fb.holds.least c lt)) (λ lt. omega (arith, fb.holds.above, fa.holds.least d lt)))
   same_reason (BoundTooHigh s x) (BoundTooHigh t y) e fa fb = ap (λ n. BoundTooHigh n x) (fa.holds.0 ∙ sym fb.holds.0) ∙ ap (BoundTooHigh t) (fa.holds.1 ∙ sym fb.holds.1)
   same_reason (SlackWrong s x) (SlackWrong t y) e fa fb = ap (λ n. SlackWrong n x) (fa.holds.0 ∙ sym fb.holds.0) ∙ ap (SlackWrong t) (fa.holds.1 ∙ sym fb.holds.1)
   same_reason (NoFlow s f) (NoFlow t g) e fa fb =
@@ -176,7 +185,8 @@ module _ (i : Instance) (ids : List ℕ) (r : Report) where
       let both = one_miscount i.flows (slots_in r.runs) f h w g k v fa.holds fb.holds in
       ap (λ n. UnitsOf n h w) both.0 ∙ ap (λ n. UnitsOf g n w) both.1 ∙ ap (UnitsOf g k) both.2
   same_reason (DoneWrong c s x) (DoneWrong d t y) e fa fb =
-      let both = one_wrong (coflows_in ids r.places) (ends_in r.places) (completion i.flows (slots_in r.runs)) c d s t x y (apart_where_named (DoneWrong c s x) (omega arith) fa) fa.holds fb.holds in
+      let both = one_wrong (coflows_in ids r.places) (ends_in r.places) (completion i.flows (slots_in r.runs)) c d s t x y (apart_where_named (DoneWrong c s x) (omega arith) fa)
+      fa.holds fb.holds in
       ap (λ n. DoneWrong n s x) both.0 ∙ ap (λ n. DoneWrong d n x) both.1 ∙ ap (DoneWrong d t) both.2
   same_reason (CostWrong s x) (CostWrong t y) e fa fb = ap (λ n. CostWrong n x) (fa.holds.0 ∙ sym fb.holds.0) ∙ ap (CostWrong t) (fa.holds.1 ∙ sym fb.holds.1)
   same_reason (RatioBroken c m) (RatioBroken d n) e fa fb = ap (λ k. RatioBroken k m) (fa.holds.0 ∙ sym fb.holds.0) ∙ ap (RatioBroken d) (fa.holds.1 ∙ sym fb.holds.1)
@@ -187,7 +197,8 @@ module _ (i : Instance) (ids : List ℕ) (r : Report) where
       let e : kind a ≡ kind b = between (kind a) (kind b) (λ lt. fb.first a lt fa.holds) (λ lt. fa.first b lt fb.holds) in
       same_reason a b e fa fb
 
-pub one_verdict : (t : TableFacts) (weights : List ℕ) (r : Report) (a b : Verdict) → IsVerdict (instance_of t weights) t.ids r a → IsVerdict (instance_of t weights) t.ids r b → a ≡ b
+pub one_verdict : (t : TableFacts) (weights : List ℕ) (r : Report) (a b : Verdict) → IsVerdict (instance_of t weights) t.ids r a → IsVerdict (instance_of t weights) t.ids r b →
+    a ≡ b
 one_verdict t weights r Yes Yes va vb = refl
 one_verdict t weights r Yes (No reason) va vb = absurd (refuses t weights r va reason vb.holds)
 one_verdict t weights r (No reason) Yes va vb = absurd (refuses t weights r vb reason va.holds)

@@ -24,7 +24,13 @@ use Rattle.cert_check.proofs.NameSteps.{sum_ones, within_known}
 -- a list with each number below n has at least n elements
 at_least : (xs : List ℕ) (n : ℕ) → ((c : ℕ) → c < n → Contains xs c) → n ≤ length xs
 at_least xs n all =
-    omega (arith, members_at_most (λ (x : ℕ). 1) (range_with_len 0 n) xs (numbers_apart 0 n) (λ c has some. all c (omega (arith, number_below 0 n c has))), sum_ones xs, sum_ones (range_with_len 0 n), length-range_with_len 0 n)
+    omega (
+      arith,
+      members_at_most (λ (x : ℕ). 1) (range_with_len 0 n) xs (numbers_apart 0 n) (λ c has some. all c (omega (arith, number_below 0 n c has))),
+      sum_ones xs,
+      sum_ones (range_with_len 0 n),
+      length-range_with_len 0 n,
+    )
 
 coflow_at : (ids stated : List ℕ) (k : ℕ) → k < length stated → get_or (map (coflow_with ids) stated) k 0 ≡ coflow_with ids (slice_index stated k)
 coflow_at ids stated k lt = get_or-map (coflow_with ids) stated k 0 0 lt
@@ -54,7 +60,8 @@ no_bad_port ports places place number all bad = omega (arith, bad.has, bad.beyon
 pub no_wrong_number : (coflows stated : List ℕ) (real : ℕ → ℕ) (coflow said is : ℕ) → AreReal coflows stated real → IsLeastWrong coflows stated real coflow said is → ⊥
 no_wrong_number coflows stated real coflow said is all wrong = wrong.differ (sym wrong.says ∙ all wrong.place wrong.inside ∙ ap real wrong.of_coflow ∙ wrong.should)
 
-pub no_wrong_weight : (coflows : List ℕ) (stated : Option (List ℕ)) (real : ℕ → ℕ) (coflow said is : ℕ) → AreRealIfAny coflows stated real → IsLeastWrongOfAny coflows stated real coflow said is → ⊥
+pub no_wrong_weight : (coflows : List ℕ) (stated : Option (List ℕ)) (real : ℕ → ℕ) (coflow said is : ℕ) → AreRealIfAny coflows stated real →
+    IsLeastWrongOfAny coflows stated real coflow said is → ⊥
 no_wrong_weight coflows None real coflow said is all wrong = wrong
 no_wrong_weight coflows (Some stated) real coflow said is all wrong = no_wrong_number coflows stated real coflow said is all wrong
 
@@ -63,7 +70,12 @@ no_infeasible flows weight entries coflow feasible bad = omega (arith, bad.above
 
 pub no_stranger : (flows : List Flow) (slots : List (List ℕ)) (slot f : ℕ) → NamesFlows (length flows) slots → IsFirstNoFlow flows slots slot f → ⊥
 no_stranger flows slots slot f names bad =
-    omega (arith, bad.no_flow, All-contains (λ x. x < length flows) (get_or slots (slot - 1) []) f (names (slot - 1) [] (omega (arith, bad.stands.inside, bad.stands.counted))) bad.stands.has)
+    omega (
+      arith,
+      bad.no_flow,
+      All-contains (λ x. x < length flows) (get_or slots (slot - 1) []) f (names (slot - 1) [] (omega (arith, bad.stands.inside, bad.stands.counted)))
+          bad.stands.has,
+    )
 
 pub no_clash : (flows : List Flow) (slots : List (List ℕ)) (slot : ℕ) (port : Port) → All (IsClear flows) slots → IsFirstClash flows slots slot port → ⊥
 no_clash flows slots slot port clear bad =

@@ -25,7 +25,8 @@ trace_none = record {
   lines = λ k d lt. absurd (omega arith);
 }
 
-trace_more : (coflows : List CoflowLine) (next : ℕ) (x : CoflowLine) → TraceSoFar coflows next → next ≤ x.id → x.id < 100 → IsCoflowLine 2 x → TraceSoFar (coflows ++ x ∷ []) (x.id + 1)
+trace_more : (coflows : List CoflowLine) (next : ℕ) (x : CoflowLine) → TraceSoFar coflows next → next ≤ x.id → x.id < 100 → IsCoflowLine 2 x →
+    TraceSoFar (coflows ++ x ∷ []) (x.id + 1)
 trace_more coflows next x so_far low high line =
     let id = λ (y : CoflowLine). y.id in
     let ids = All-map (λ n. n < next) id coflows so_far.below in
@@ -34,12 +35,15 @@ trace_more coflows next x so_far low high line =
       small = omega arith;
       below = All-push (λ (y : CoflowLine). y.id < x.id + 1) coflows x (λ k d lt. omega (arith, so_far.below k d lt)) (omega arith);
       distinct = subst IsDistinct (sym (map_push id coflows x))
-          (pairs_from_apart (ids_of coflows ++ x.id ∷ []) (apart_push (ids_of coflows) x.id (apart_from_pairs (ids_of coflows) so_far.distinct) (λ has. omega (arith, All-contains (λ n. n < next) (ids_of coflows) x.id ids has))));
+          (pairs_from_apart (ids_of coflows ++ x.id ∷ [])
+          (apart_push (ids_of coflows) x.id (apart_from_pairs (ids_of coflows) so_far.distinct)
+          (λ has. omega (arith, All-contains (λ n. n < next) (ids_of coflows) x.id ids has))));
       lines = All-push (λ (y : CoflowLine). IsCoflowLine 2 y) coflows x so_far.lines line;
     }
 
 -- the same of a list that was read back
-pub trace_pushed : (coflows after : List CoflowLine) (next id : ℕ) (x : CoflowLine) → TraceSoFar coflows next → after ≡ coflows ++ x ∷ [] → x.id ≡ id → next ≤ id → id < 100 → IsCoflowLine 2 x → TraceSoFar after (id + 1)
+pub trace_pushed : (coflows after : List CoflowLine) (next id : ℕ) (x : CoflowLine) → TraceSoFar coflows next → after ≡ coflows ++ x ∷ [] → x.id ≡ id → next ≤ id → id < 100 →
+    IsCoflowLine 2 x → TraceSoFar after (id + 1)
 trace_pushed coflows after next id x so_far is same low high line =
     let more : TraceSoFar (coflows ++ x ∷ []) (x.id + 1) = trace_more coflows next x so_far (omega arith) (omega arith) line in
     subst (λ n. TraceSoFar after (n + 1)) same (subst (λ (l : List CoflowLine). TraceSoFar l (x.id + 1)) (sym is) more)

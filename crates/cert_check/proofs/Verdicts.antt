@@ -14,7 +14,8 @@ use Rattle.report.specs.declared.value.PlaceLine.{PlaceLine}
 use Rattle.report.specs.declared.value.Report.{Report}
 use Rattle.schedule_model.specs.RunList.{slots_in}
 use Rattle.cert_check.specs.declared.verdict.Reason.{Reason}
-use Rattle.cert_check.specs.declared.verdict.Reason.TheVariants.{BoundTooHigh, ClashIn, CostWrong, DoneWrong, Infeasible, NoFlow, NotPermutation, PortRange, RatioBroken, SlackWrong, UnitsOf, WeightWrong}
+use Rattle.cert_check.specs.declared.verdict.Reason.TheVariants.{BoundTooHigh, ClashIn, CostWrong, DoneWrong, Infeasible, NoFlow, NotPermutation, PortRange, RatioBroken}
+use Rattle.cert_check.specs.declared.verdict.Reason.TheVariants.{SlackWrong, UnitsOf, WeightWrong}
 use Rattle.cert_check.specs.declared.verdict.Verdict.{Verdict}
 use Rattle.cert_check.specs.declared.verdict.Verdict.TheVariants.{No, Yes}
 use Rattle.cert_check.specs.Parts.{HasSoundCertificate, HasSoundSchedule}
@@ -25,7 +26,8 @@ use Rattle.cert_check.proofs.InstanceFacts.{all_reverse, apart_reverse, front_is
 use Rattle.cert_check.proofs.Refusals.{clear_names, no_bad_port, no_clash, no_infeasible, no_miscount, no_stranger, no_wrong_number, no_wrong_place, no_wrong_weight}
 
 -- the places of a certificate name each coflow once
-pub names_each : (t : TableFacts) (weights : List ℕ) (lines : List PlaceLine) → IsCertificate (instance_of t weights) (certificate_in t.ids lines) → NamesEach (length t.ids) (coflows_in t.ids lines)
+pub names_each : (t : TableFacts) (weights : List ℕ) (lines : List PlaceLine) → IsCertificate (instance_of t weights) (certificate_in t.ids lines) →
+    NamesEach (length t.ids) (coflows_in t.ids lines)
 names_each t weights lines certificate =
     let coflows = coflows_in t.ids lines in
     let n = length t.ids in
@@ -33,17 +35,22 @@ names_each t weights lines certificate =
     let within = subst (All (Contains (range_with_len 0 n))) (front_is t.ids lines) certificate.coflow in
     record {
       once = pairs_from_apart coflows (subst Apart (reverse-reverse coflows) (apart_reverse (reverse coflows) turned));
-      coflow = all_of_members (λ c. c < n) coflows (λ c has. omega (arith, number_below 0 n c (All-contains (Contains (range_with_len 0 n)) (reverse coflows) c within (into_reverse coflows c has))));
+      coflow = all_of_members (λ c. c < n) coflows
+          (λ c has. omega (arith, number_below 0 n c (All-contains (Contains (range_with_len 0 n)) (reverse coflows) c within (into_reverse coflows c has))));
       all = λ c lt.
-          in_reverse coflows c (subst (λ l. Contains l c) (front_is t.ids lines) (All-contains (Contains (front (certificate_in t.ids lines))) (range_with_len 0 n) c certificate.all (number_in 0 n c (omega arith) (omega arith))));
+          in_reverse coflows c (subst (λ l. Contains l c) (front_is t.ids lines)
+          (All-contains (Contains (front (certificate_in t.ids lines))) (range_with_len 0 n) c certificate.all (number_in 0 n c (omega arith) (omega arith))));
     }
 
 -- and their ports are in range
-pub ports_in_range : (t : TableFacts) (weights : List ℕ) (lines : List PlaceLine) → IsCertificate (instance_of t weights) (certificate_in t.ids lines) → All (λ (p : PlaceLine). p.port.number < t.ports) lines
+pub ports_in_range : (t : TableFacts) (weights : List ℕ) (lines : List PlaceLine) → IsCertificate (instance_of t weights) (certificate_in t.ids lines) →
+    All (λ (p : PlaceLine). p.port.number < t.ports) lines
 ports_in_range t weights lines certificate k d lt =
     let entries = map (entry_for t.ids) lines in
-    let all = subst (All (λ (e : Entry). e.port.number < t.ports)) (reverse-reverse entries) (all_reverse (λ (e : Entry). e.port.number < t.ports) (reverse entries) certificate.port) in
-    subst (λ (e : Entry). e.port.number < t.ports) (get_or-map (entry_for t.ids) lines k d (entry_for t.ids d) lt) (all k (entry_for t.ids d) (omega (arith, length-map lines (entry_for t.ids))))
+    let all = subst (All (λ (e : Entry). e.port.number < t.ports)) (reverse-reverse entries)
+    (all_reverse (λ (e : Entry). e.port.number < t.ports) (reverse entries) certificate.port) in
+    subst (λ (e : Entry). e.port.number < t.ports) (get_or-map (entry_for t.ids) lines k d (entry_for t.ids d) lt)
+    (all k (entry_for t.ids d) (omega (arith, length-map lines (entry_for t.ids))))
 
 module _ (t : TableFacts) (weights : List ℕ) (r : Report) where
   abbrev i : Instance
@@ -60,7 +67,8 @@ module _ (t : TableFacts) (weights : List ℕ) (r : Report) where
   refuses sound (NoFlow slot flow) has = no_stranger i.flows (slots_in r.runs) slot flow (clear_names i.flows (slots_in r.runs) sound.valid.clear) has
   refuses sound (ClashIn slot port) has = no_clash i.flows (slots_in r.runs) slot port sound.valid.clear has
   refuses sound (UnitsOf flow have want) has = no_miscount i.flows (slots_in r.runs) flow have want sound.valid has
-  refuses sound (DoneWrong coflow stated real) has = no_wrong_number (coflows_in t.ids r.places) (ends_in r.places) (completion i.flows (slots_in r.runs)) coflow stated real sound.ends has
+  refuses sound (DoneWrong coflow stated real) has =
+      no_wrong_number (coflows_in t.ids r.places) (ends_in r.places) (completion i.flows (slots_in r.runs)) coflow stated real sound.ends has
   refuses sound (CostWrong stated real) has = has.2 (has.0 ∙ sound.cost_is ∙ sym has.1)
   refuses sound (RatioBroken cost most) has = omega (arith, has, sound.within_four)
 

@@ -19,7 +19,8 @@ use Rattle.cert_check.specs.Stated.{AreReal, AreRealIfAny}
 
 -- the coflows of the places are those of the table, each once, or a place is the first wrong one
 abbrev pub IsNamed : List ℕ → List PlaceLine → Named → Type 0
-IsNamed ids places (Coflows coflows) = (coflows.items ≡ coflows_in ids places) × NamesEach (length ids) (coflows_in ids places)
+IsNamed ids places (Coflows coflows) = (coflows.items ≡ coflows_in ids places) ×
+    NamesEach (length ids) (coflows_in ids places)
 IsNamed ids places (Wrong place) = IsFirstWrong ids (ids_in places) place
 
 -- the reason holds, and none of an earlier kind does, from a kind on

@@ -1,5 +1,7 @@
--- The places of a report. They name coflows by their ids, and stand from place 1 on, while a certificate stands from its last place to its first.
-use Rattle.std.specs.Prelude.{◌≡◌, ℕ, ◌+◌, ◌-◌, ◌<◌, ◌≤◌, ◌⊎◌, ◌==◌, List, All, Contains, length, map, position, reverse, slice_index, take, unwrap_or}
+-- The places of a report. They name coflows by their ids, and stand from place 1 on, while a certificate stands from
+-- its last place to its first.
+use Rattle.std.specs.Prelude.{◌≡◌, ℕ, ◌+◌, ◌-◌, ◌<◌, ◌≤◌, ◌⊎◌, ◌==◌, List, All, Contains, length, map, position}
+use Rattle.std.specs.Prelude.{reverse, slice_index, take, unwrap_or}
 use Rattle.coflow_units.specs.Certificate.{Entry}
 use Rattle.coflow_units.specs.Flows.{IsDistinct}
 use Rattle.report.specs.declared.value.PlaceLine.{PlaceLine}
@@ -42,7 +44,8 @@ pub record IsNew (ids stated : List ℕ) (k : ℕ) : Type 0 where
 abbrev pub IsNotNew : List ℕ → List ℕ → ℕ → Type 0
 IsNotNew ids stated k = (Contains ids (slice_index stated k) → ⊥) ⊎ Contains (take k stated) (slice_index stated k)
 
--- a place, counted from 0, has no new id, or it is missing: the places end right before it, and are fewer than the coflows
+-- a place, counted from 0, has no new id, or it is missing: the places end right before it, and are fewer than the
+-- coflows
 abbrev pub IsWrong : List ℕ → List ℕ → ℕ → Type 0
 IsWrong ids stated k = ((k < length stated) × IsNotNew ids stated k) ⊎ ((k ≡ length stated) × (k < length ids))
 

@@ -8,7 +8,9 @@ use Rattle.report.specs.declared.value.Report.{Report}
 use Rattle.schedule_model.specs.Fault.{IsFirstClash, IsFirstMiscount, IsFirstNoFlow}
 use Rattle.schedule_model.specs.RunList.{slots_in}
 use Rattle.cert_check.specs.declared.verdict.Reason.{Reason}
-use Rattle.cert_check.specs.declared.verdict.Reason.TheVariants.{BoundTooHigh, ClashIn, CostWrong, DoneWrong, Infeasible, NoFlow, NotPermutation, PortRange, RatioBroken, SlackWrong, UnitsOf, WeightWrong}
+use Rattle.cert_check.specs.declared.verdict.Reason.TheVariants.{BoundTooHigh, ClashIn, CostWrong, DoneWrong}
+use Rattle.cert_check.specs.declared.verdict.Reason.TheVariants.{Infeasible, NoFlow, NotPermutation, PortRange}
+use Rattle.cert_check.specs.declared.verdict.Reason.TheVariants.{RatioBroken, SlackWrong, UnitsOf, WeightWrong}
 use Rattle.cert_check.specs.declared.verdict.Verdict.{Verdict}
 use Rattle.cert_check.specs.declared.verdict.Verdict.TheVariants.{No, Yes}
 use Rattle.cert_check.specs.Places.{IsFirstOutOfRange, IsFirstWrong, certificate_in, coflows_in, ends_in, ids_in}
@@ -19,15 +21,20 @@ use Rattle.cert_check.specs.Stated.{IsLeastWrong, IsLeastWrongOfAny}
 abbrev pub HasReason : Instance → List ℕ → Report → Reason → Type 0
 HasReason i ids r (NotPermutation place) = IsFirstWrong ids (ids_in r.places) place
 HasReason i ids r (PortRange place number) = IsFirstOutOfRange i.ports r.places place number
-HasReason i ids r (WeightWrong coflow stated real) = IsLeastWrongOfAny (coflows_in ids r.places) r.weights i.weight coflow stated real
+HasReason i ids r (WeightWrong coflow stated real) =
+    IsLeastWrongOfAny (coflows_in ids r.places) r.weights i.weight coflow stated real
 HasReason i ids r (Infeasible coflow) = IsLeastInfeasible i.flows i.weight (certificate_in ids r.places) coflow
-HasReason i ids r (BoundTooHigh stated real) = (stated ≡ r.bound) × (real ≡ bound i.flows (certificate_in ids r.places)) × (real < stated)
-HasReason i ids r (SlackWrong stated real) = (stated ≡ r.slack) × (real ≡ slack i.flows i.weight (certificate_in ids r.places)) × (stated ≢ real)
+HasReason i ids r (BoundTooHigh stated real) = (stated ≡ r.bound) ×
+    (real ≡ bound i.flows (certificate_in ids r.places)) × (real < stated)
+HasReason i ids r (SlackWrong stated real) = (stated ≡ r.slack) ×
+    (real ≡ slack i.flows i.weight (certificate_in ids r.places)) × (stated ≢ real)
 HasReason i ids r (NoFlow slot flow) = IsFirstNoFlow i.flows (slots_in r.runs) slot flow
 HasReason i ids r (ClashIn slot port) = IsFirstClash i.flows (slots_in r.runs) slot port
 HasReason i ids r (UnitsOf flow have want) = IsFirstMiscount i.flows (slots_in r.runs) flow have want
-HasReason i ids r (DoneWrong coflow stated real) = IsLeastWrong (coflows_in ids r.places) (ends_in r.places) (completion i.flows (slots_in r.runs)) coflow stated real
-HasReason i ids r (CostWrong stated real) = (stated ≡ r.cost) × (real ≡ cost i.flows i.weight i.coflows (slots_in r.runs)) × (stated ≢ real)
+HasReason i ids r (DoneWrong coflow stated real) =
+    IsLeastWrong (coflows_in ids r.places) (ends_in r.places) (completion i.flows (slots_in r.runs)) coflow stated real
+HasReason i ids r (CostWrong stated real) = (stated ≡ r.cost) ×
+    (real ≡ cost i.flows i.weight i.coflows (slots_in r.runs)) × (stated ≢ real)
 HasReason i ids r (RatioBroken cost most) = (cost ≡ r.cost) × (most ≡ 4 * r.bound + r.slack) × (most < cost)
 
 -- the place of the reason's kind in the order of kinds

@@ -11,8 +11,10 @@ use Rattle.schedule_model.specs.RunList.{slots_in}
 use Rattle.cert_check.specs.Places.{certificate_in, coflows_in, ends_in}
 use Rattle.cert_check.specs.Stated.{AreReal, AreRealIfAny}
 
--- The report is right for the instance, whose coflows have these ids by number. Its places are a feasible certificate. Weights, where it states them, are the
--- instance's. Its bound is at most the certificate's, and its slack is the certificate's. Its runs are a valid schedule, whose completions and cost it states.
+-- The report is right for the instance, whose coflows have these ids by number. Its places are a feasible certificate.
+-- Weights, where it states them, are the
+-- instance's. Its bound is at most the certificate's, and its slack is the certificate's. Its runs are a valid
+-- schedule, whose completions and cost it states.
 -- And that cost is at most four times the stated bound and the stated slack.
 pub record IsSound (i : Instance) (ids : List ℕ) (r : Report) : Type 0 where
   pub certificate : IsCertificate i (certificate_in ids r.places)

@@ -5,7 +5,8 @@ use Rattle.std.specs.Prelude.{◌≡◌, ◌≢◌, ℕ, ◌<◌, List, Option, 
 abbrev pub AreReal : List ℕ → List ℕ → (ℕ → ℕ) → Type 0
 AreReal coflows stated real = (k : ℕ) → k < length coflows → slice_index stated k ≡ real (slice_index coflows k)
 
--- a number that is stated at some place of the coflow is not the real one, and those of all coflows with lesser numbers are
+-- a number that is stated at some place of the coflow is not the real one, and those of all coflows with lesser numbers
+-- are
 pub record IsLeastWrong (coflows stated : List ℕ) (real : ℕ → ℕ) (coflow said is : ℕ) : Type 0 where
   pub place : ℕ
   pub inside : place < length coflows
@@ -13,7 +14,8 @@ pub record IsLeastWrong (coflows stated : List ℕ) (real : ℕ → ℕ) (coflow
   pub says : slice_index stated place ≡ said
   pub should : real coflow ≡ is
   pub differ : said ≢ is
-  pub least : (k : ℕ) → k < length coflows → slice_index coflows k < coflow → slice_index stated k ≡ real (slice_index coflows k)
+  pub least : (k : ℕ) → k < length coflows → slice_index coflows k < coflow →
+      slice_index stated k ≡ real (slice_index coflows k)
 
 -- each number is the real one, where any are stated
 abbrev pub AreRealIfAny : List ℕ → Option (List ℕ) → (ℕ → ℕ) → Type 0

@@ -1,5 +1,6 @@
 //! What a report says of its certificate.
 ghost use Rattle.std.specs.Prelude.{◌≡◌, ◌≤◌, ◌^◌, ℕ, All, IfOk, List, MatchOption, length, map};
+ghost use Rattle.coflow_units.specs.declared.limits.TheConstants.{MAX_WEIGHT};
 ghost use Rattle.coflow_units.specs.Certificate.{entry_of};
 ghost use Rattle.flow_table.specs.Table.{instance_of};
 ghost use Rattle.report.specs.Report.{HasWeights};
@@ -29,11 +30,12 @@ pub(crate) fn wrong_certificate(
 ) -> Result<Option<Reason>, NoMemory>
     requires loads { AreLoadsOf table.now loads.now }
     requires weight_each { length weights.now ≡ length table.now.ids }
-    requires weight_range { All (λ w. w ≤ 2 ^ 32) weights.now }
+    requires weight_range { All (λ w. w ≤ MAX_WEIGHT) weights.now }
     requires stated_each { HasWeights report.now }
     requires coflows { coflows.now ≡ coflows_in table.now.ids report.now.places }
     requires names { NamesEach (length table.now.ids) (coflows_in table.now.ids report.now.places) }
-    ensures { IfOk result (λ found. MatchOption found (HasSoundCertificate (instance_of table.now weights.now) table.now.ids report.now)
+    ensures { IfOk result (λ found.
+        MatchOption found (HasSoundCertificate (instance_of table.now weights.now) table.now.ids report.now)
         (IsFirstFrom (instance_of table.now weights.now) table.now.ids report.now certificate_kind)) }
 {
     let places = report.places.as_slice();
@@ -74,7 +76,8 @@ fn wrong_weight(claim: Claim) -> Reason
 /// The certificate of the places, which name these coflows.
 fn cert_of(alloc: Global, coflows: &[u32], lines: &[PlaceLine]) -> Result<Cert, NoMemory>
     requires { length coflows.now ≡ length lines.now }
-    ensures { IfOk result (λ cert. (ids : List ℕ) → coflows.now ≡ coflows_in ids lines.now → cert ≡ map (entry_for ids) lines.now) }
+    ensures { IfOk result (λ cert. (ids : List ℕ) → coflows.now ≡ coflows_in ids lines.now →
+        cert ≡ map (entry_for ids) lines.now) }
 {
     let mut places = Vec::new(alloc);
     for index in 0..lines.len() {

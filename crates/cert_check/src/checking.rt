@@ -1,5 +1,6 @@
 //! The check of a report.
 ghost use Rattle.std.specs.Prelude.{◌≡◌, ◌≤◌, ◌^◌, ◌↔◌, All, IfOk, length};
+ghost use Rattle.coflow_units.specs.declared.limits.TheConstants.{MAX_WEIGHT};
 ghost use Rattle.flow_table.specs.Table.{instance_of};
 ghost use Rattle.report.specs.Report.{IsReport};
 ghost use Rattle.cert_check.specs.Reasons.{IsVerdict, NamesCoflowIfAny};
@@ -42,10 +43,11 @@ pub fn check(
 ) -> Result<Verdict, NoMemory>
     requires loads { AreLoadsOf table.now loads.now }
     requires weight_each { length weights.now ≡ length table.now.ids }
-    requires weight_range { All (λ w. w ≤ 2 ^ 32) weights.now }
+    requires weight_range { All (λ w. w ≤ MAX_WEIGHT) weights.now }
     requires report { IsReport report.now }
     ensures verdict { IfOk result (IsVerdict (instance_of table.now weights.now) table.now.ids report.now) }
-    ensures yes { IfOk result (λ verdict. (verdict ≡ Verdict.Yes) ↔ IsSound (instance_of table.now weights.now) table.now.ids report.now) }
+    ensures yes { IfOk result (λ verdict. (verdict ≡ Verdict.Yes) ↔ IsSound (instance_of table.now weights.now)
+        table.now.ids report.now) }
     ensures coflow { IfOk result (NamesCoflowIfAny (length table.now.ids)) }
 {
     let coflows = match coflows_of(alloc, table, report.places.as_slice())? {

@@ -2,6 +2,7 @@
 ghost use Rattle.std.specs.Prelude.{◌≡◌, ◌<◌, ◌≤◌, ◌==◌, ℕ, All, IfOk, MatchOption, None, length, position};
 ghost use Rattle.indexmap.specs.IndexMap.{get};
 ghost use Rattle.std.specs.Prelude.{nat_eq};
+ghost use Rattle.coflow_units.specs.declared.limits.TheConstants.{MAX_COFLOWS};
 ghost use Rattle.report.specs.declared.value.PlaceLine.{PlaceLine};
 ghost use Rattle.cert_check.specs.Parts.{IsNamed};
 ghost use Rattle.cert_check.specs.Places.{IsFirstOutOfRange};
@@ -56,8 +57,9 @@ fn coflows_by_id(alloc: Global, table: &Table) -> Result<IndexMap<u32, u32>, NoM
 
 /// The first place, counted from 1, whose port has a number that is not below the number of ports, with that number.
 pub(crate) fn out_of_range(ports: u32, places: &[PlaceLine]) -> Option<(u32, u32)>
-    requires { length places.now ≤ 4096 }
-    ensures { MatchOption result (All (λ (p : PlaceLine). p.port.number < ports) places.now) (λ w. IsFirstOutOfRange ports places.now w.0 w.1) }
+    requires { length places.now ≤ MAX_COFLOWS }
+    ensures { MatchOption result (All (λ (p : PlaceLine). p.port.number < ports) places.now)
+        (λ w. IsFirstOutOfRange ports places.now w.0 w.1) }
 {
     for index in 0..places.len() {
         let number = places[index].port.number;

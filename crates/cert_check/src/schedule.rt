@@ -1,5 +1,6 @@
 //! What a report says of its schedule.
 ghost use Rattle.std.specs.Prelude.{◌≡◌, ◌<◌, ◌≤◌, ◌+◌, ◌-◌, ◌*◌, ◌^◌, All, IfOk, MatchOption, length, slice_index, sum_by};
+ghost use Rattle.coflow_units.specs.declared.limits.TheConstants.{MAX_COFLOWS, MAX_SLOT, MAX_WEIGHT};
 ghost use Rattle.std.specs.List.{range_with_len};
 ghost use Rattle.std.specs.List.Sorted.{IsStrictlyIncreasing};
 ghost use Rattle.coflow_units.specs.declared.plan.Run.{Run};
@@ -27,12 +28,13 @@ pub(crate) fn wrong_schedule(
     report: &Report,
 ) -> Result<Option<Reason>, NoMemory>
     requires weight_each { length weights.now ≡ length table.now.ids }
-    requires weight_range { All (λ w. w ≤ 2 ^ 32) weights.now }
+    requires weight_range { All (λ w. w ≤ MAX_WEIGHT) weights.now }
     requires report { IsReport report.now }
     requires fits { 4 * report.now.bound + report.now.slack < 2 ^ 128 }
     requires coflows { coflows.now ≡ coflows_in table.now.ids report.now.places }
     requires names { NamesEach (length table.now.ids) (coflows_in table.now.ids report.now.places) }
-    ensures { IfOk result (λ found. MatchOption found (HasSoundSchedule (instance_of table.now weights.now) table.now.ids report.now)
+    ensures { IfOk result (λ found.
+        MatchOption found (HasSoundSchedule (instance_of table.now weights.now) table.now.ids report.now)
         (IsFirstFrom (instance_of table.now weights.now) table.now.ids report.now schedule_kind)) }
 {
     let flows = table.flows();
@@ -71,7 +73,7 @@ fn wrong_end(claim: Claim) -> Reason
 /// The schedule of the runs.
 fn schedule_of(alloc: Global, runs: &[Run]) -> Result<Schedule, NoMemory>
     requires lengths { All (λ (run : Run). 1 ≤ run.length) runs.now }
-    requires few_slots { sum_by (λ (run : Run). run.length) runs.now ≤ 2 ^ 41 - 1 }
+    requires few_slots { sum_by (λ (run : Run). run.length) runs.now ≤ MAX_SLOT }
     requires ascending { All (λ (run : Run). IsStrictlyIncreasing run.flows) runs.now }
     ensures { IfOk result (λ schedule. schedule ≡ slots_in runs.now) }
 {
@@ -96,9 +98,10 @@ fn reason_of(fault: ScheduleFault) -> Reason
 /// The sum of weight times completion over the coflows, which both lists have by number.
 fn cost_of(weights: &[u64], ends: &[u64]) -> u128
     requires each { length ends.now ≡ length weights.now }
-    requires few { length weights.now ≤ 4096 }
-    requires small { All (λ w. w ≤ 2 ^ 32) weights.now }
-    ensures { result ≡ sum_by (λ c. slice_index weights.now c * slice_index ends.now c) (range_with_len 0 (length weights.now)) }
+    requires few { length weights.now ≤ MAX_COFLOWS }
+    requires small { All (λ w. w ≤ MAX_WEIGHT) weights.now }
+    ensures { result ≡ sum_by (λ c. slice_index weights.now c * slice_index ends.now c)
+        (range_with_len 0 (length weights.now)) }
 {
     let mut cost = 0;
     for coflow in 0..weights.len() {

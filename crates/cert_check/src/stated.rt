@@ -42,7 +42,8 @@ pub(crate) fn least_wrong(coflows: &[u32], stated: &[u64], real: &[u64]) -> Opti
 /// The claim of the lesser coflow, where there is another one.
 fn of_lesser_coflow(other: Option<Claim>, claim: Claim) -> Claim
     ensures within { result.coflow ≤ claim.coflow }
-    ensures cases { MatchOption other (result ≡ claim) (λ before. (result.coflow ≤ before.coflow) × ((result ≡ before) ⊎ (result ≡ claim))) }
+    ensures cases { MatchOption other (result ≡ claim) (λ before. (result.coflow ≤ before.coflow) ×
+        ((result ≡ before) ⊎ (result ≡ claim))) }
 {
     match other {
         Some(other) if other.coflow <= claim.coflow => other,

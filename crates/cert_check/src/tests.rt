@@ -1,5 +1,6 @@
 //! What no clause says: that the definitions give the verdicts that were worked out by hand. Reports are told by their texts.
 ghost use Rattle.std.specs.Prelude.{◌≡◌, ◌≤◌, ◌^◌, All, IfOk, IsTrue};
+ghost use Rattle.coflow_units.specs.declared.limits.TheConstants.{MAX_WEIGHT};
 ghost use Rattle.coflow_units.specs.Trace.{IsCoflowLine, IsTrace};
 
 use crate::*;
@@ -61,7 +62,7 @@ fn trace_of(rt: &impl Abort, alloc: Global, lines: &[Line]) -> Result<Trace, NoM
 
 /// Tests what the check requires of the weights.
 fn weights_fit(weights: &[u64]) -> bool
-    ensures { IsTrue result → All (λ w. w ≤ 2 ^ 32) weights.now }
+    ensures { IsTrue result → All (λ w. w ≤ MAX_WEIGHT) weights.now }
 {
     for weight in weights {
         if *weight > MAX_WEIGHT {

@@ -11,7 +11,8 @@ use Rattle.coflow_units.specs.Certificate.{budget, Entry, front, front_load, use
 use Rattle.coflow_units.proofs.Sums.{in_first, in_tail, any_in, any_not}
 
 -- a placed coflow pays y times its load there, and what it pays at the places before
-pub used_in : (flows : List Flow) (e : Entry) (before : List Entry) (c : ℕ) → Contains (front (e ∷ before)) c → used flows (e ∷ before) c ≡ e.y * load flows c e.port + used flows before c
+pub used_in : (flows : List Flow) (e : Entry) (before : List Entry) (c : ℕ) → Contains (front (e ∷ before)) c →
+    used flows (e ∷ before) c ≡ e.y * load flows c e.port + used flows before c
 used_in flows e before c has = ap {B = ℕ} (λ b. cond b (e.y * load flows c e.port) 0 + used flows before c) (any_in (front (e ∷ before)) c has)
 
 pub used_outside : (flows : List Flow) (entries : List Entry) (c : ℕ) → (Contains (front entries) c → ⊥) → used flows entries c ≡ 0
@@ -21,10 +22,15 @@ used_outside flows (e ∷ before) c out =
     omega (arith, none, used_outside flows before c (λ has. out (in_tail e.coflow (front before) c has)))
 
 -- sums over places
-pub places_same : (flows : List Flow) (a b : ℕ → ℕ) (entries : List Entry) → ((c : ℕ) → Contains (front entries) c → a c ≡ b c) → over_places flows a entries ≡ over_places flows b entries
+pub places_same : (flows : List Flow) (a b : ℕ → ℕ) (entries : List Entry) → ((c : ℕ) → Contains (front entries) c → a c ≡ b c) →
+    over_places flows a entries ≡ over_places flows b entries
 places_same flows a b [] same = refl
 places_same flows a b (e ∷ before) same =
-    omega (arith, ap (λ n. n * front_load flows (e ∷ before)) (same e.coflow (in_first e.coflow (front before))), places_same flows a b before (λ c has. same c (in_tail e.coflow (front before) c has)))
+    omega (
+      arith,
+      ap (λ n. n * front_load flows (e ∷ before)) (same e.coflow (in_first e.coflow (front before))),
+      places_same flows a b before (λ c has. same c (in_tail e.coflow (front before) c has)),
+    )
 
 pub places_add : (flows : List Flow) (a b : ℕ → ℕ) (entries : List Entry) → over_places flows (λ c. a c + b c) entries ≡ over_places flows a entries + over_places flows b entries
 places_add flows a b [] = refl
@@ -39,5 +45,6 @@ places_cap flows ports k a (e ∷ before) inside cap =
     (λ port lt. le_trans (omega (arith, sum_by-cons (λ c. load flows c port) e.coflow (front before))) (cap port lt)) in
     omega (arith, mul-le-mul_left (a e.coflow) here, later, ap (λ n. k * n) (sum_by-cons a e.coflow (front before)))
 
-pub rest_exact : (flows : List Flow) (weight : ℕ → ℕ) (entries : List Entry) → IsFeasible flows weight entries → (c : ℕ) → used flows entries c + rest flows weight entries c ≡ budget weight c
+pub rest_exact : (flows : List Flow) (weight : ℕ → ℕ) (entries : List Entry) → IsFeasible flows weight entries → (c : ℕ) →
+    used flows entries c + rest flows weight entries c ≡ budget weight c
 rest_exact flows weight entries feasible c = omega (arith, feasible c)

@@ -39,7 +39,8 @@ same_tail x y xs ys e up to f has =
 nothing : (f : ℕ) → Contains [] f → ⊥
 nothing f (k, lt, at) = omega arith
 
-pub same_rising : (xs ys : List ℕ) → IsStrictlyIncreasing xs → IsStrictlyIncreasing ys → ((f : ℕ) → Contains xs f → Contains ys f) → ((f : ℕ) → Contains ys f → Contains xs f) → xs ≡ ys
+pub same_rising : (xs ys : List ℕ) → IsStrictlyIncreasing xs → IsStrictlyIncreasing ys → ((f : ℕ) → Contains xs f → Contains ys f) → ((f : ℕ) → Contains ys f → Contains xs f) →
+    xs ≡ ys
 same_rising [] [] up also to from = refl
 same_rising [] (y ∷ ys) up also to from = absurd (nothing y (from y (in_first y ys)))
 same_rising (x ∷ xs) [] up also to from = absurd (nothing x (to x (in_first x xs)))
@@ -60,14 +61,21 @@ rank_falls p q g f n inside (inr (e, lt)) = omega (arith, ap (λ x. x * n) e)
 lower : (flows : List Flow) (line : List ℕ) (f g r : ℕ) → g < length flows → ComesBefore flows line g f → rank flows line f < suc r → rank flows line g < r
 lower flows line f g r inside before low = omega (arith, rank_falls (place_in line (coflow_of flows g)) (place_in line (coflow_of flows f)) g f (length flows) inside before)
 
-agree : (r : ℕ) (flows : List Flow) (line : List ℕ) (left : ℕ → ℕ) (a b : List ℕ) → IsGrants flows line left a → IsGrants flows line left b → (f : ℕ) → rank flows line f < r → Contains a f → Contains b f
+agree : (r : ℕ) (flows : List Flow) (line : List ℕ) (left : ℕ → ℕ) (a b : List ℕ) → IsGrants flows line left a → IsGrants flows line left b → (f : ℕ) → rank flows line f < r →
+    Contains a f → Contains b f
 agree zero flows line left a b ga gb f low has = absurd (omega arith)
 agree (suc r) flows line left a b ga gb f low has =
     let inside = All-contains (λ x. x < length flows) a f ga.flow has in
     let here = All-contains (λ x. Contains line (coflow_of flows x)) a f ga.in_line has in
     elim (gb.rest f inside here (ga.owed f has)) [
       | inl h ↦ h
-      | inr (g, has_g, before, shares) ↦ absurd (ga.free f has (g, agree r flows line left b a gb ga g (lower flows line f g r (All-contains (λ x. x < length flows) b g gb.flow has_g) before low) has_g, before, shares))
+      | inr (g, has_g, before, shares) ↦
+          absurd (ga.free f has (
+            g,
+            agree r flows line left b a gb ga g (lower flows line f g r (All-contains (λ x. x < length flows) b g gb.flow has_g) before low) has_g,
+            before,
+            shares,
+          ))
     ]
 
 pub one_grants : (flows : List Flow) (line : List ℕ) (left : ℕ → ℕ) (a b : List ℕ) → IsGrants flows line left a → IsGrants flows line left b → a ≡ b

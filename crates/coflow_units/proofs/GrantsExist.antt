@@ -28,7 +28,8 @@ abbrev pub Rises : (ℕ → ℕ) → List ℕ → Type 0
 Rises key [] = Unit {0}
 Rises key (x ∷ xs) = ((y : ℕ) → Contains xs y → key x < key y) × Rises key xs
 
-insert_in_step : (key : ℕ → ℕ) (x y : ℕ) (ys : List ℕ) (z : ℕ) → (Contains (insert_by key x ys) z → (x ≡ z) ⊎ Contains ys z) → (b : Bool) → Contains (if b then x ∷ y ∷ ys else y ∷ insert_by key x ys) z → (x ≡ z) ⊎ Contains (y ∷ ys) z
+insert_in_step : (key : ℕ → ℕ) (x y : ℕ) (ys : List ℕ) (z : ℕ) → (Contains (insert_by key x ys) z → (x ≡ z) ⊎ Contains ys z) → (b : Bool) →
+    Contains (if b then x ∷ y ∷ ys else y ∷ insert_by key x ys) z → (x ≡ z) ⊎ Contains (y ∷ ys) z
 insert_in_step key x y ys z before true has = first_or_tail x (y ∷ ys) z has
 insert_in_step key x y ys z before false has = elim (first_or_tail y (insert_by key x ys) z has) [
   | inl e ↦ inr (subst (λ n. Contains (y ∷ ys) n) e (in_first y ys))
@@ -66,7 +67,8 @@ insert_old key x (y ∷ ys) z has =
 above : (y x z : ℕ) → y ≤ x → (x ≡ y → ⊥) → x ≡ z → y < z
 above y x z le ne e = omega arith
 
-insert_rises_step : (key : ℕ → ℕ) (x y : ℕ) (ys : List ℕ) → (key x ≡ key y → ⊥) → Rises key (y ∷ ys) → Rises key (insert_by key x ys) → (b : Bool) → nat_lt (key x) (key y) ≡ b → Rises key (if b then x ∷ y ∷ ys else y ∷ insert_by key x ys)
+insert_rises_step : (key : ℕ → ℕ) (x y : ℕ) (ys : List ℕ) → (key x ≡ key y → ⊥) → Rises key (y ∷ ys) → Rises key (insert_by key x ys) → (b : Bool) → nat_lt (key x) (key y) ≡ b →
+    Rises key (if b then x ∷ y ∷ ys else y ∷ insert_by key x ys)
 insert_rises_step key x y ys ne up later true e = (
   (λ z has. elim (first_or_tail y ys z has) [
     | inl same ↦ omega (arith, ltb-true (key x) (key y) e, ap key same)
@@ -105,7 +107,8 @@ sorted_has key (x ∷ xs) z has = elim (first_or_tail x xs z has) [
 pub sorted_rises : (key : ℕ → ℕ) (xs : List ℕ) → Apart xs → ((a b : ℕ) → Contains xs a → Contains xs b → key a ≡ key b → a ≡ b) → Rises key (sorted_by key xs)
 sorted_rises key [] apart one = tt
 sorted_rises key (x ∷ xs) apart one =
-    insert_rises key x (sorted_by key xs) (λ y has e. apart.0 (subst (λ n. Contains xs n) (sym (one x y (in_first x xs) (in_tail x xs y (sorted_in key xs y has)) e)) (sorted_in key xs y has)))
+    insert_rises key x (sorted_by key xs)
+    (λ y has e. apart.0 (subst (λ n. Contains xs n) (sym (one x y (in_first x xs) (in_tail x xs y (sorted_in key xs y has)) e)) (sorted_in key xs y has)))
     (sorted_rises key xs apart.1 (λ a b ha hb. one a b (in_tail x xs a ha) (in_tail x xs b hb)))
 
 -- ---- one pass over the flows in their order
@@ -132,7 +135,8 @@ pub record IsPass (flows : List Flow) (key : ℕ → ℕ) (wants : ℕ → Bool)
   pub wanted : (f : ℕ) → Contains got f → wants f ≡ true
   pub clear : (f b : ℕ) → Contains got f → Contains busy b → SharesPort flows b f → ⊥
   pub free : (f g : ℕ) → Contains got f → Contains got g → key g < key f → SharesPort flows g f → ⊥
-  pub rest : (f : ℕ) → Contains fs f → wants f ≡ true → Contains got f ⊎ (((b : ℕ) × Contains busy b × SharesPort flows b f) ⊎ ((g : ℕ) × Contains got g × (key g < key f) × SharesPort flows g f))
+  pub rest : (f : ℕ) → Contains fs f → wants f ≡ true →
+      Contains got f ⊎ (((b : ℕ) × Contains busy b × SharesPort flows b f) ⊎ ((g : ℕ) × Contains got g × (key g < key f) × SharesPort flows g f))
 
 taken_rest : (flows : List Flow) (key : ℕ → ℕ) (busy got : List ℕ) (f x : ℕ) → key f < key x →
     (Contains got x ⊎ (((b : ℕ) × Contains (f ∷ busy) b × SharesPort flows b x) ⊎ ((g : ℕ) × Contains got g × (key g < key x) × SharesPort flows g x))) →
@@ -153,7 +157,8 @@ not_is : (b : Bool) → not b ≡ true → b ≡ false
 not_is true e = absurd (true≢false (sym e))
 not_is false e = refl
 
-taken : (flows : List Flow) (key : ℕ → ℕ) (wants : ℕ → Bool) (busy fs got : List ℕ) (f : ℕ) → ((y : ℕ) → Contains fs y → key f < key y) → wants f ≡ true → list_any (shares flows f) busy ≡ false →
+taken : (flows : List Flow) (key : ℕ → ℕ) (wants : ℕ → Bool) (busy fs got : List ℕ) (f : ℕ) → ((y : ℕ) → Contains fs y → key f < key y) → wants f ≡ true →
+    list_any (shares flows f) busy ≡ false →
     IsPass flows key wants (f ∷ busy) fs got → IsPass flows key wants busy (f ∷ fs) (f ∷ got)
 taken flows key wants busy fs got f up want out p = record {
   inside = λ x has. elim (first_or_tail f got x has) [
@@ -184,7 +189,8 @@ taken flows key wants busy fs got f up want out p = record {
   ];
 }
 
-passed : (flows : List Flow) (key : ℕ → ℕ) (wants : ℕ → Bool) (busy fs got : List ℕ) (f : ℕ) → (wants f && not (list_any (shares flows f) busy)) ≡ false → IsPass flows key wants busy fs got → IsPass flows key wants busy (f ∷ fs) got
+passed : (flows : List Flow) (key : ℕ → ℕ) (wants : ℕ → Bool) (busy fs got : List ℕ) (f : ℕ) → (wants f && not (list_any (shares flows f) busy)) ≡ false →
+    IsPass flows key wants busy fs got → IsPass flows key wants busy (f ∷ fs) got
 passed flows key wants busy fs got f out p = record {
   inside = λ x has. in_tail f fs x (p.inside x has);
   wanted = p.wanted;
@@ -200,7 +206,8 @@ passed flows key wants busy fs got f out p = record {
 }
 
 pass_step : (flows : List Flow) (key : ℕ → ℕ) (wants : ℕ → Bool) (busy fs : List ℕ) (f : ℕ) → ((y : ℕ) → Contains fs y → key f < key y) →
-    IsPass flows key wants (f ∷ busy) fs (pass flows wants (f ∷ busy) fs) → IsPass flows key wants busy fs (pass flows wants busy fs) → (b : Bool) → (wants f && not (list_any (shares flows f) busy)) ≡ b →
+    IsPass flows key wants (f ∷ busy) fs (pass flows wants (f ∷ busy) fs) → IsPass flows key wants busy fs (pass flows wants busy fs) → (b : Bool) →
+    (wants f && not (list_any (shares flows f) busy)) ≡ b →
     IsPass flows key wants busy (f ∷ fs) (if b then f ∷ pass flows wants (f ∷ busy) fs else pass flows wants busy fs)
 pass_step flows key wants busy fs f up yes' no' true e =
     let (w, n) = and_parts (wants f) (not (list_any (shares flows f) busy)) e in
@@ -216,7 +223,8 @@ pass_is flows key wants busy [] up = record {
   rest = λ f has _. absurd (nothing_in f has);
 }
 pass_is flows key wants busy (f ∷ fs) up =
-    pass_step flows key wants busy fs f up.0 (pass_is flows key wants (f ∷ busy) fs up.1) (pass_is flows key wants busy fs up.1) (wants f && not (list_any (shares flows f) busy)) refl
+    pass_step flows key wants busy fs f up.0 (pass_is flows key wants (f ∷ busy) fs up.1) (pass_is flows key wants busy fs up.1) (wants f && not (list_any (shares flows f) busy))
+    refl
 
 -- ---- the set
 
@@ -237,7 +245,8 @@ range_pair n i j d less lt = omega (arith, get_or-range_with_len 0 n i d (omega 
 
 range_rises : (p : ℕ → Bool) (n : ℕ) → IsStrictlyIncreasing (filter p (range_with_len 0 n))
 range_rises p n k lt =
-    AllPairs-filter (λ (x : ℕ) (y : ℕ). x < y) p (range_with_len 0 n) (λ i j d less in'. range_pair n i j d less (omega (arith, in', length-range_with_len 0 n))) k (k + 1) 0 (omega arith) lt
+    AllPairs-filter (λ (x : ℕ) (y : ℕ). x < y) p (range_with_len 0 n) (λ i j d less in'. range_pair n i j d less (omega (arith, in', length-range_with_len 0 n))) k (k + 1) 0
+    (omega arith) lt
 
 rank_before : (flows : List Flow) (line : List ℕ) (g f : ℕ) → g < length flows → ComesBefore flows line g f → rank flows line g < rank flows line f
 rank_before flows line g f lt before = rank_falls (place_in line (coflow_of flows g)) (place_in line (coflow_of flows f)) g f (length flows) lt before
@@ -281,9 +290,12 @@ grants_exist flows line left =
     record {
       ascending = range_rises test (length flows);
       flow = all_of_members (λ f. f < length flows) (grants_of flows line left) (λ f has. omega (arith, low f has));
-      in_line = all_of_members (λ f. Contains line (coflow_of flows f)) (grants_of flows line left) (λ f has. any_has line (coflow_of flows f) (and_parts (nat_lt 0 (left f)) (list_any (λ c. c == coflow_of flows f) line) (p.wanted f (to f has))).1);
+      in_line = all_of_members (λ f. Contains line (coflow_of flows f)) (grants_of flows line left)
+          (λ f has. any_has line (coflow_of flows f) (and_parts (nat_lt 0 (left f)) (list_any (λ c. c == coflow_of flows f) line) (p.wanted f (to f has))).1);
       owed = λ f has. ltb-true 0 (left f) (and_parts (nat_lt 0 (left f)) (list_any (λ c. c == coflow_of flows f) line) (p.wanted f (to f has))).0;
-      free = λ f has blocked. p.free f blocked.0 (to f has) (to blocked.0 blocked.1) (rank_before flows line blocked.0 f (omega (arith, low blocked.0 blocked.1)) blocked.2) blocked.3;
+      free = λ f has blocked. p.free f blocked.0 (to f has) (to blocked.0 blocked.1) (rank_before flows line blocked.0 f (omega (arith, low blocked.0 blocked.1)) blocked.2)
+          blocked.3;
       rest = λ f lt in' some. rest_of flows line left f lt (grants_of flows line left) got from
-          (p.rest f (sorted_has key numbers f (number_in 0 (length flows) f (omega arith) (omega arith))) (and_from (nat_lt 0 (left f)) (list_any (λ c. c == coflow_of flows f) line) (lt-ltb 0 (left f) some) (any_in line (coflow_of flows f) in')));
+          (p.rest f (sorted_has key numbers f (number_in 0 (length flows) f (omega arith) (omega arith)))
+          (and_from (nat_lt 0 (left f)) (list_any (λ c. c == coflow_of flows f) line) (lt-ltb 0 (left f) some) (any_in line (coflow_of flows f) in')));
     }

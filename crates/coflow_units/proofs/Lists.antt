@@ -1,5 +1,6 @@
 -- Members of lists, and the lists of the numbers from one on.
-use Rattle.std.proofs.Common.{Bool, Contains, List, [], ap, arith, false, inl, inr, length, refl, reverse, subst, suc, sym, take, true, true≢false, zero, ℕ, ◌++◌, ◌+◌, ◌-◌, ◌<◌, ◌∙◌, ◌∷◌, ◌≡◌, ◌≤◌}
+use Rattle.std.proofs.Common.{Bool, Contains, List, [], ap, arith, false, inl, inr, length, refl, reverse, subst, suc, sym, take, true, true≢false, zero, ℕ, ◌++◌, ◌+◌, ◌-◌, ◌<◌}
+use Rattle.std.proofs.Common.{◌∙◌, ◌∷◌, ◌≡◌, ◌≤◌}
 use Rattle.std.proofs.lemmas.Bool.{both_ways, cases_Bool, or_cases}
 use Rattle.std.proofs.lemmas.List.{reverse-append, take_all}
 use Rattle.std.proofs.lemmas.List.Elements.{Contains-append_left, Contains-push, Contains-push_cases}
@@ -27,7 +28,8 @@ any_from w (y ∷ ys) x has e = elim (cases_Bool (w y)) [
   ]
 ]
 
-filter_step : (p : ℕ → Bool) (y : ℕ) (ys : List ℕ) (x : ℕ) → (Contains (filter p ys) x → Contains ys x × (p x ≡ true)) → (b : Bool) → p y ≡ b → Contains (if b then y ∷ filter p ys else filter p ys) x → Contains (y ∷ ys) x × (p x ≡ true)
+filter_step : (p : ℕ → Bool) (y : ℕ) (ys : List ℕ) (x : ℕ) → (Contains (filter p ys) x → Contains ys x × (p x ≡ true)) → (b : Bool) → p y ≡ b →
+    Contains (if b then y ∷ filter p ys else filter p ys) x → Contains (y ∷ ys) x × (p x ≡ true)
 filter_step p y ys x before true e has = elim (first_or_tail y (filter p ys) x has) [
   | inl same ↦ (subst (λ z. Contains (y ∷ ys) z) same (in_first y ys), sym (ap p same) ∙ e)
   | inr h ↦ (in_tail y ys x (before h).0, (before h).1)
@@ -80,7 +82,14 @@ by_number_upto w d xs zero le = refl
 by_number_upto w d xs (suc n) le =
     let next : suc n ≡ n + 1 = omega arith in
     let place : 0 + n ≡ n = omega arith in
-    omega (arith, ap (λ k. sum_by w (take k xs)) next, sum_by_more w xs n d (omega arith), by_number_upto w d xs n (omega arith), range_more (λ f. w (slice_index_or xs f d)) 0 n, ap (λ k. w (slice_index_or xs k d)) place)
+    omega (
+      arith,
+      ap (λ k. sum_by w (take k xs)) next,
+      sum_by_more w xs n d (omega arith),
+      by_number_upto w d xs n (omega arith),
+      range_more (λ f. w (slice_index_or xs f d)) 0 n,
+      ap (λ k. w (slice_index_or xs k d)) place,
+    )
 
 pub by_number : {X : Type 0} (w : X → ℕ) (d : X) (xs : List X) → sum_by w xs ≡ sum_by (λ f. w (slice_index_or xs f d)) (range_with_len 0 (length xs))
 by_number w d xs = sym (ap (sum_by w) (take_all (length xs) xs (omega arith))) ∙ by_number_upto w d xs (length xs) (omega arith)

@@ -1,5 +1,6 @@
 -- The ordering certificate, computed.
-use Rattle.std.proofs.Common.{◌≡◌, ℕ, ◌+◌, ◌*◌, ◌/◌, ◌≤◌, ◌<◌, ◌⊎◌, inl, inr, Bool, true, false, List, [], ◌∷◌, ◌++◌, length, Contains, refl, sym, ap, subst, ◌∙◌, arith, zero, suc, le_trans, le_refl, le_of_lt, subst₂, true≢false}
+use Rattle.std.proofs.Common.{◌≡◌, ℕ, ◌+◌, ◌*◌, ◌/◌, ◌≤◌, ◌<◌, ◌⊎◌, inl, inr, Bool, true, false, List, [], ◌∷◌, ◌++◌, length, Contains, refl, sym, ap, subst, ◌∙◌, arith, zero, suc}
+use Rattle.std.proofs.Common.{le_trans, le_refl, le_of_lt, subst₂, true≢false}
 use Rattle.std.specs.Prelude.{sum_by, ◌==◌, ◌||◌, ◌&&◌, All, if◌then◌else◌, nat_lt}
 use Rattle.std.specs.List.{filter}
 use Rattle.std.proofs.Math.Nat.{mul-le-mul_right, le_of_mul-le-mul_right, lt_of_mul-lt-mul_right}
@@ -65,7 +66,8 @@ placed flows weight ports later coflows =
 abbrev pub order_from : List Flow → (ℕ → ℕ) → ℕ → ℕ → List Entry → List ℕ → List Entry
 order_from flows weight ports zero later coflows = []
 order_from flows weight ports (suc n) later coflows =
-    placed flows weight ports later coflows ∷ order_from flows weight ports n (placed flows weight ports later coflows ∷ later) (without (placed flows weight ports later coflows).coflow coflows)
+    placed flows weight ports later coflows ∷ order_from flows weight ports n (placed flows weight ports later coflows ∷ later)
+    (without (placed flows weight ports later coflows).coflow coflows)
 
 abbrev pub ordering_of : Instance → List Entry
 ordering_of i = order_from i.flows i.weight i.ports (length i.coflows) [] i.coflows
@@ -114,9 +116,17 @@ leads_false a i b j e = elim (cases_order a b) [
 abbrev pub LeadsPort : List Flow → ℕ → List ℕ → Port → Port → Type 0
 LeadsPort flows ports coflows p q = Leads (load_of_all flows coflows p) (port_place ports p) (load_of_all flows coflows q) (port_place ports q)
 
-picks_port : (flows : List Flow) (ports : ℕ) (coflows : List ℕ) (q p : Port) (b : Bool) → better_port flows ports coflows q p ≡ b → LeadsPort flows ports coflows (if b then q else p) q × LeadsPort flows ports coflows (if b then q else p) p
-picks_port flows ports coflows q p true e = (leads_self (load_of_all flows coflows q) (port_place ports q), leads_true (load_of_all flows coflows q) (port_place ports q) (load_of_all flows coflows p) (port_place ports p) e)
-picks_port flows ports coflows q p false e = (leads_false (load_of_all flows coflows q) (port_place ports q) (load_of_all flows coflows p) (port_place ports p) e, leads_self (load_of_all flows coflows p) (port_place ports p))
+picks_port : (flows : List Flow) (ports : ℕ) (coflows : List ℕ) (q p : Port) (b : Bool) → better_port flows ports coflows q p ≡ b →
+    LeadsPort flows ports coflows (if b then q else p) q × LeadsPort flows ports coflows (if b then q else p) p
+picks_port flows ports coflows q p true e = (
+  leads_self (load_of_all flows coflows q) (port_place ports q),
+  leads_true (load_of_all flows coflows q) (port_place ports q) (load_of_all flows coflows p) (port_place ports p)
+      e,
+)
+picks_port flows ports coflows q p false e = (
+  leads_false (load_of_all flows coflows q) (port_place ports q) (load_of_all flows coflows p) (port_place ports p) e,
+  leads_self (load_of_all flows coflows p) (port_place ports p),
+)
 
 in_ports : (s : Side) (a n k : ℕ) → a ≤ k → k < a + n → Contains (ports_from s a n) (on_side s k)
 in_ports s a zero k low high = absurd (omega arith)
@@ -133,8 +143,10 @@ ports_below s a (suc n) p has = elim (first_or_tail (on_side s a) (ports_from s 
 ]
 
 is_port : (ports : ℕ) (s : Side) (k : ℕ) → k < ports → Contains (all_ports ports) (on_side s k)
-is_port ports Ingress k lt = Contains-append_left (ports_from Ingress 0 ports) (ports_from Egress 0 ports) (on_side Ingress k) (in_ports Ingress 0 ports k (omega arith) (omega arith))
-is_port ports Egress k lt = Contains-append_right (ports_from Ingress 0 ports) (ports_from Egress 0 ports) (on_side Egress k) (in_ports Egress 0 ports k (omega arith) (omega arith))
+is_port ports Ingress k lt = Contains-append_left (ports_from Ingress 0 ports) (ports_from Egress 0 ports) (on_side Ingress k)
+    (in_ports Ingress 0 ports k (omega arith) (omega arith))
+is_port ports Egress k lt = Contains-append_right (ports_from Ingress 0 ports) (ports_from Egress 0 ports) (on_side Egress k)
+    (in_ports Egress 0 ports k (omega arith) (omega arith))
 
 port_below : (ports : ℕ) (p : Port) → 1 ≤ ports → Contains (on_side Ingress 0 ∷ all_ports ports) p → p.number < ports
 port_below ports p some has = elim (first_or_tail (on_side Ingress 0) (all_ports ports) p has) [
@@ -151,7 +163,8 @@ port_is_first flows ports coflows some = record {
   greatest = λ other lt. best_is_best {X = Port} (λ p. Unit {0}) (LeadsPort flows ports coflows) (better_port flows ports coflows)
       (λ q p _ _. picks_port flows ports coflows q p (better_port flows ports coflows q p) refl)
       (λ p _. leads_self (load_of_all flows coflows p) (port_place ports p))
-      (λ x y z _ _ _ xy yz. leads_chain (load_of_all flows coflows x) (port_place ports x) (load_of_all flows coflows y) (port_place ports y) (load_of_all flows coflows z) (port_place ports z) xy yz)
+      (λ x y z _ _ _ xy yz. leads_chain (load_of_all flows coflows x) (port_place ports x) (load_of_all flows coflows y) (port_place ports y) (load_of_all flows coflows z)
+      (port_place ports z) xy yz)
       (on_side Ingress 0) (all_ports ports) (λ y h. tt) other (in_tail (on_side Ingress 0) (all_ports ports) other (is_port ports other.side other.number lt));
 }
 
@@ -205,9 +218,12 @@ ratio_lt : (rc lc rd ld re le : ℕ) → rc * ld * le < re * ld * lc → rc * le
 ratio_lt rc lc rd ld re le less = lt_of_mul-lt-mul_right ld (omega (arith, less))
 
 beats_chain : (r l : ℕ → ℕ) (c d e : ℕ) → 0 < l c → 0 < l d → 0 < l e → Beats r l c d → Beats r l d e → Beats r l c e
-beats_chain r l c d e pc pd pe (inl x) (inl y) = inl (ratio_lt (r c) (l c) (r d) (l d) (r e) (l e) (omega (arith, strict (r c * l d) (r d * l c) (l e) x pe, mul-le-mul_right (l c) (le_of_lt y))))
-beats_chain r l c d e pc pd pe (inl x) (inr y) = inl (ratio_lt (r c) (l c) (r d) (l d) (r e) (l e) (omega (arith, strict (r c * l d) (r d * l c) (l e) x pe, ap (λ n. n * l c) y.0)))
-beats_chain r l c d e pc pd pe (inr x) (inl y) = inl (ratio_lt (r c) (l c) (r d) (l d) (r e) (l e) (omega (arith, ap (λ n. n * l e) x.0, strict (r d * l e) (r e * l d) (l c) y pc)))
+beats_chain r l c d e pc pd pe (inl x) (inl y) =
+    inl (ratio_lt (r c) (l c) (r d) (l d) (r e) (l e) (omega (arith, strict (r c * l d) (r d * l c) (l e) x pe, mul-le-mul_right (l c) (le_of_lt y))))
+beats_chain r l c d e pc pd pe (inl x) (inr y) =
+    inl (ratio_lt (r c) (l c) (r d) (l d) (r e) (l e) (omega (arith, strict (r c * l d) (r d * l c) (l e) x pe, ap (λ n. n * l c) y.0)))
+beats_chain r l c d e pc pd pe (inr x) (inl y) =
+    inl (ratio_lt (r c) (l c) (r d) (l d) (r e) (l e) (omega (arith, ap (λ n. n * l e) x.0, strict (r d * l e) (r e * l d) (l c) y pc)))
 beats_chain r l c d e pc pd pe (inr x) (inr y) =
     let up = ratio_le (r c) (l c) (r d) (l d) (r e) (l e) pd (omega (arith, x.0)) (omega (arith, y.0)) in
     let down = ratio_le (r e) (l e) (r d) (l d) (r c) (l c) pd (omega (arith, y.0)) (omega (arith, x.0)) in
@@ -236,7 +252,9 @@ some_load w (x ∷ xs) lt = elim (zero_or_more (w x)) [
 busy_step : (flows : List Flow) (weight : ℕ → ℕ) (later : List Entry) (coflows : List ℕ) (port : Port) → 0 < load_of_all flows coflows port →
     Contains coflows (best_busy (residual flows weight later) (λ c. load flows c port) (filter (λ c. nat_lt 0 (load flows c port)) coflows))
     × (0 < load flows (best_busy (residual flows weight later) (λ c. load flows c port) (filter (λ c. nat_lt 0 (load flows c port)) coflows)) port)
-    × ((d : ℕ) → Contains coflows d → 0 < load flows d port → Beats (residual flows weight later) (λ c. load flows c port) (best_busy (residual flows weight later) (λ c. load flows c port) (filter (λ c. nat_lt 0 (load flows c port)) coflows)) d)
+    × ((d : ℕ) → Contains coflows d → 0 < load flows d port →
+    Beats (residual flows weight later) (λ c. load flows c port)
+    (best_busy (residual flows weight later) (λ c. load flows c port) (filter (λ c. nat_lt 0 (load flows c port)) coflows)) d)
 busy_step flows weight later coflows port some =
     let r = residual flows weight later in
     let l = λ (c : ℕ). load flows c port in
@@ -249,7 +267,8 @@ busy_step flows weight later coflows port some =
     )
 
 -- the step over any list with the same members
-same_step : (flows : List Flow) (weight : ℕ → ℕ) (ports : ℕ) (later : List Entry) (xs ys : List ℕ) (e : Entry) → ((port : Port) → load_of_all flows xs port ≡ load_of_all flows ys port) →
+same_step : (flows : List Flow) (weight : ℕ → ℕ) (ports : ℕ) (later : List Entry) (xs ys : List ℕ) (e : Entry) →
+    ((port : Port) → load_of_all flows xs port ≡ load_of_all flows ys port) →
     ((c : ℕ) → Contains ys c → Contains xs c) → IsPlaced flows weight ports later xs e → IsPlaced flows weight ports later ys e
 same_step flows weight ports later xs ys e same from step = record {
   port = record {
@@ -266,24 +285,35 @@ at_zero n x y e = ap (λ b. if b then x else y) (eq-eqb n 0 e)
 at_more : {X : Type 0} (n : ℕ) (x y : X) → 0 < n → (if n == 0 then x else y) ≡ y
 at_more n x y lt = ap (λ b. if b then x else y) (ne_eqb n 0 (λ e. omega arith))
 
-chosen_in : (flows : List Flow) (weight : ℕ → ℕ) (later : List Entry) (coflows : List ℕ) (port : Port) (c : ℕ) → Contains coflows c → Contains coflows (coflow_at flows weight later coflows port)
+chosen_in : (flows : List Flow) (weight : ℕ → ℕ) (later : List Entry) (coflows : List ℕ) (port : Port) (c : ℕ) → Contains coflows c →
+    Contains coflows (coflow_at flows weight later coflows port)
 chosen_in flows weight later coflows port c has = elim (zero_or_more (load_of_all flows coflows port)) [
-  | inl none ↦ subst (λ x. Contains coflows x) (sym (at_zero (load_of_all flows coflows port) (best_idle coflows) (best_busy (residual flows weight later) (λ c. load flows c port) (filter (λ c. nat_lt 0 (load flows c port)) coflows)) none)) (idle_member coflows c has)
-  | inr some ↦ subst (λ x. Contains coflows x) (sym (at_more (load_of_all flows coflows port) (best_idle coflows) (best_busy (residual flows weight later) (λ c. load flows c port) (filter (λ c. nat_lt 0 (load flows c port)) coflows)) some)) (busy_step flows weight later coflows port some).0
+  | inl none ↦ subst (λ x. Contains coflows x)
+      (sym (at_zero (load_of_all flows coflows port) (best_idle coflows)
+      (best_busy (residual flows weight later) (λ c. load flows c port) (filter (λ c. nat_lt 0 (load flows c port)) coflows)) none)) (idle_member coflows c has)
+  | inr some ↦ subst (λ x. Contains coflows x)
+      (sym (at_more (load_of_all flows coflows port) (best_idle coflows)
+      (best_busy (residual flows weight later) (λ c. load flows c port) (filter (λ c. nat_lt 0 (load flows c port)) coflows)) some))
+      (busy_step flows weight later coflows port some).0
 ]
 
-step_idle : (flows : List Flow) (weight : ℕ → ℕ) (later : List Entry) (coflows : List ℕ) (port : Port) → load_of_all flows coflows port ≡ 0 → IsPlacedIdle coflows (place_at flows weight later coflows port (coflow_at flows weight later coflows port))
+step_idle : (flows : List Flow) (weight : ℕ → ℕ) (later : List Entry) (coflows : List ℕ) (port : Port) → load_of_all flows coflows port ≡ 0 →
+    IsPlacedIdle coflows (place_at flows weight later coflows port (coflow_at flows weight later coflows port))
 step_idle flows weight later coflows port none =
     let c = coflow_at flows weight later coflows port in
     record {
-      greatest = λ d has. subst (λ x. d ≤ x) (sym (at_zero (load_of_all flows coflows port) (best_idle coflows) (best_busy (residual flows weight later) (λ c. load flows c port) (filter (λ c. nat_lt 0 (load flows c port)) coflows)) none)) (idle_greatest coflows d has);
+      greatest = λ d has. subst (λ x. d ≤ x)
+          (sym (at_zero (load_of_all flows coflows port) (best_idle coflows)
+          (best_busy (residual flows weight later) (λ c. load flows c port) (filter (λ c. nat_lt 0 (load flows c port)) coflows)) none)) (idle_greatest coflows d has);
       y_is = at_zero (load_of_all flows coflows port) 0 (residual flows weight later c / load flows c port) none;
     }
 
-step_busy : (flows : List Flow) (weight : ℕ → ℕ) (later : List Entry) (coflows : List ℕ) (port : Port) → 0 < load_of_all flows coflows port → IsPlacedBusy flows weight later coflows (place_at flows weight later coflows port (coflow_at flows weight later coflows port))
+step_busy : (flows : List Flow) (weight : ℕ → ℕ) (later : List Entry) (coflows : List ℕ) (port : Port) → 0 < load_of_all flows coflows port →
+    IsPlacedBusy flows weight later coflows (place_at flows weight later coflows port (coflow_at flows weight later coflows port))
 step_busy flows weight later coflows port some =
     let c = coflow_at flows weight later coflows port in
-    let is = at_more (load_of_all flows coflows port) (best_idle coflows) (best_busy (residual flows weight later) (λ c. load flows c port) (filter (λ c. nat_lt 0 (load flows c port)) coflows)) some in
+    let is = at_more (load_of_all flows coflows port) (best_idle coflows)
+    (best_busy (residual flows weight later) (λ c. load flows c port) (filter (λ c. nat_lt 0 (load flows c port)) coflows)) some in
     let step = busy_step flows weight later coflows port some in
     record {
       has_load = subst (λ x. 0 < load flows x port) (sym is) step.1;
@@ -291,7 +321,8 @@ step_busy flows weight later coflows port some =
       y_is = at_more (load_of_all flows coflows port) 0 (residual flows weight later c / load flows c port) some;
     }
 
-step_placed : (flows : List Flow) (weight : ℕ → ℕ) (ports : ℕ) (later : List Entry) (coflows : List ℕ) → 1 ≤ ports → IsPlaced flows weight ports later coflows (placed flows weight ports later coflows)
+step_placed : (flows : List Flow) (weight : ℕ → ℕ) (ports : ℕ) (later : List Entry) (coflows : List ℕ) → 1 ≤ ports →
+    IsPlaced flows weight ports later coflows (placed flows weight ports later coflows)
 step_placed flows weight ports later coflows some = record {
   port = port_is_first flows ports coflows some;
   idle = step_idle flows weight later coflows (chosen_port flows ports coflows);
@@ -337,14 +368,18 @@ grown flows weight ports later coflows e l apart has step made =
       | inr ne ↦ in_tail e.coflow (front l) c (made.from c (without_keeps e.coflow coflows c ne h))
     ] in
     record {
-      ordered = (same_step flows weight ports later coflows (front (e ∷ l)) e (λ port. same_members (λ c. load flows c port) coflows (front (e ∷ l)) apart all from to) to step, made.ordered);
+      ordered = (
+        same_step flows weight ports later coflows (front (e ∷ l)) e (λ port. same_members (λ c. load flows c port) coflows (front (e ∷ l)) apart all from to) to step,
+        made.ordered,
+      );
       to = to;
       from = from;
       apart = all;
       inside = All-cons (λ (x : Entry). x.port.number < ports) e l step.port.in_range made.inside;
     }
 
-order_made : (flows : List Flow) (weight : ℕ → ℕ) (ports : ℕ) → 1 ≤ ports → (n : ℕ) (later : List Entry) (coflows : List ℕ) → length coflows ≡ n → Apart coflows → Made flows weight ports later coflows (order_from flows weight ports n later coflows)
+order_made : (flows : List Flow) (weight : ℕ → ℕ) (ports : ℕ) → 1 ≤ ports → (n : ℕ) (later : List Entry) (coflows : List ℕ) → length coflows ≡ n → Apart coflows →
+    Made flows weight ports later coflows (order_from flows weight ports n later coflows)
 order_made flows weight ports some zero later coflows len apart = record {
   ordered = tt;
   to = λ c h. absurd (nothing_in c h);

@@ -19,13 +19,15 @@ use Rattle.coflow_units.proofs.CertificateSteps.{used_in, used_outside}
 use Rattle.coflow_units.proofs.Numbers.{floor_above, floor_within, zero_or_more}
 
 -- each port takes the greatest load of its front
-greatest_of : (flows : List Flow) (ports : ℕ) (coflows : List ℕ) (port : Port) → IsFirstGreatest flows ports coflows port → (other : Port) → other.number < ports → load_of_all flows coflows other ≤ load_of_all flows coflows port
+greatest_of : (flows : List Flow) (ports : ℕ) (coflows : List ℕ) (port : Port) → IsFirstGreatest flows ports coflows port → (other : Port) → other.number < ports →
+    load_of_all flows coflows other ≤ load_of_all flows coflows port
 greatest_of flows ports coflows port first other lt = elim (first.greatest other lt) [
   | inl less ↦ omega arith
   | inr same ↦ omega (arith, same.0)
 ]
 
-pub takes_greatest : (flows : List Flow) (weight : ℕ → ℕ) (ports : ℕ) (later entries : List Entry) → IsOrdered flows weight ports later entries → TakesGreatestPorts flows ports entries
+pub takes_greatest : (flows : List Flow) (weight : ℕ → ℕ) (ports : ℕ) (later entries : List Entry) → IsOrdered flows weight ports later entries →
+    TakesGreatestPorts flows ports entries
 takes_greatest flows weight ports later [] ordered = tt
 takes_greatest flows weight ports later (e ∷ before) ordered =
     (greatest_of flows ports (front (e ∷ before)) e.port ordered.0.port, takes_greatest flows weight ports (e ∷ later) before ordered.1)
@@ -71,19 +73,25 @@ used_within flows weight ports later (e ∷ before) ordered apart fits c has =
           let none : used flows before c ≡ 0 = used_outside flows before c (λ h. apart.0 (subst (λ n. Contains (front before) n) (sym same) h)) in
           omega (arith, own, none, pays c has, fits c has)
       | inr in' ↦
-          let fits' = λ (d : ℕ) (h : Contains (front before) d). after_one (spent flows (e ∷ later) d) (e.y * load flows d e.port) (spent flows later d) (budget weight d) (spent_more flows e later d) (pays d (in_tail e.coflow (front before) d h)) (fits d (in_tail e.coflow (front before) d h)) in
+          let fits' = λ (d : ℕ) (h : Contains (front before) d). after_one (spent flows (e ∷ later) d) (e.y * load flows d e.port) (spent flows later d) (budget weight d)
+          (spent_more flows e later d) (pays d (in_tail e.coflow (front before) d h)) (fits d (in_tail e.coflow (front before) d h)) in
           omega (arith, own, spent_more flows e later c, used_within flows weight ports (e ∷ later) before ordered.1 apart.1 fits' c in')
     ]
 
 pub ordering_feasible : (i : Instance) (entries : List Entry) → IsOrdering i entries → IsFeasible i.flows i.weight entries
 ordering_feasible i entries ordering c = elim (cases_Bool (list_any (λ x. x == c) (front entries))) [
-  | inl t ↦ omega (arith, used_within i.flows i.weight i.ports [] entries ordering.ordered (apart_from_pairs (front entries) ordering.certificate.once) (λ d h. omega arith) c (any_has (front entries) c t))
+  | inl t ↦ omega (
+    arith,
+    used_within i.flows i.weight i.ports [] entries ordering.ordered (apart_from_pairs (front entries) ordering.certificate.once) (λ d h. omega arith) c
+        (any_has (front entries) c t),
+  )
   | inr t ↦ omega (arith, used_outside i.flows entries c (λ has. both_ways (list_any (λ x. x == c) (front entries)) t (any_in (front entries) c has)))
 ]
 
 -- ---- the rests
 
-rest_here : (flows : List Flow) (weight : ℕ → ℕ) (ports : ℕ) (later : List Entry) (coflows : List ℕ) (e : Entry) → IsPlaced flows weight ports later coflows e → 0 < load_of_all flows coflows e.port →
+rest_here : (flows : List Flow) (weight : ℕ → ℕ) (ports : ℕ) (later : List Entry) (coflows : List ℕ) (e : Entry) → IsPlaced flows weight ports later coflows e →
+    0 < load_of_all flows coflows e.port →
     residual flows weight later e.coflow < e.y * load flows e.coflow e.port + load flows e.coflow e.port
 rest_here flows weight ports later coflows e placed some =
     let busy = placed.busy some in
@@ -99,7 +107,8 @@ rests_below flows weight ports whole later (e ∷ before) ordered apart pays =
     let c = e.coflow in
     let own = used_in flows e before c (in_first c (front before)) in
     let none = used_outside flows before c apart.0 in
-    let here = λ (some : 0 < load_of_all flows (front (e ∷ before)) e.port). rest_from (budget weight c) (used flows whole c) (spent flows later c) (used flows (e ∷ before) c) (e.y * load flows c e.port) (used flows before c) (load flows c e.port)
+    let here = λ (some : 0 < load_of_all flows (front (e ∷ before)) e.port). rest_from (budget weight c) (used flows whole c) (spent flows later c) (used flows (e ∷ before) c)
+    (e.y * load flows c e.port) (used flows before c) (load flows c e.port)
     (pays c (in_first c (front before))) own none (ordered.0.busy some).has_load (rest_here flows weight ports later (front (e ∷ before)) e ordered.0 some) in (
       here,
       rests_below flows weight ports whole (e ∷ later) before ordered.1 apart.1
@@ -107,7 +116,8 @@ rests_below flows weight ports whole later (e ∷ before) ordered apart pays =
     )
 
 pub ordering_rests : (i : Instance) (entries : List Entry) → IsOrdering i entries → IsBelowLoads i.flows (rest i.flows i.weight entries) entries
-ordering_rests i entries ordering = rests_below i.flows i.weight i.ports entries [] entries ordering.ordered (apart_from_pairs (front entries) ordering.certificate.once) (λ c has. omega arith)
+ordering_rests i entries ordering =
+    rests_below i.flows i.weight i.ports entries [] entries ordering.ordered (apart_from_pairs (front entries) ordering.certificate.once) (λ c has. omega arith)
 
 -- ---- one alone
 
@@ -117,7 +127,8 @@ same_port ports Ingress Egress m n lm ln e = absurd (omega arith)
 same_port ports Egress Ingress m n lm ln e = absurd (omega arith)
 same_port ports Egress Egress m n lm ln e = (refl, omega arith)
 
-one_port : (flows : List Flow) (ports : ℕ) (xs ys : List ℕ) (p q : Port) → ((port : Port) → load_of_all flows xs port ≡ load_of_all flows ys port) → IsFirstGreatest flows ports xs p → IsFirstGreatest flows ports ys q → port_place ports p ≡ port_place ports q
+one_port : (flows : List Flow) (ports : ℕ) (xs ys : List ℕ) (p q : Port) → ((port : Port) → load_of_all flows xs port ≡ load_of_all flows ys port) →
+    IsFirstGreatest flows ports xs p → IsFirstGreatest flows ports ys q → port_place ports p ≡ port_place ports q
 one_port flows ports xs ys p q same fp fq =
     let a = fp.greatest q fq.in_range in
     let b = fq.greatest p fp.in_range in
@@ -155,7 +166,8 @@ entry_from e f ec ep ey = ap (λ c. make_entry c e.port e.y) ec ∙ ap (λ p. ma
 -- the same step over lists with the same members
 same_y : (flows : List Flow) (weight : ℕ → ℕ) (later : List Entry) (e f : Entry) → e.coflow ≡ f.coflow → e.port ≡ f.port →
     e.y ≡ residual flows weight later e.coflow / load flows e.coflow e.port → f.y ≡ residual flows weight later f.coflow / load flows f.coflow f.port → e.y ≡ f.y
-same_y flows weight later e f ec ep ye yf = ye ∙ ap (λ c. residual flows weight later c / load flows c e.port) ec ∙ ap (λ p. residual flows weight later f.coflow / load flows f.coflow p) ep ∙ sym yf
+same_y flows weight later e f ec ep ye yf = ye ∙ ap (λ c. residual flows weight later c / load flows c e.port) ec ∙
+    ap (λ p. residual flows weight later f.coflow / load flows f.coflow p) ep ∙ sym yf
 
 one_busy : (flows : List Flow) (weight : ℕ → ℕ) (later : List Entry) (xs ys : List ℕ) (e f : Entry) → Contains xs f.coflow → Contains ys e.coflow → e.port ≡ f.port →
     IsPlacedBusy flows weight later xs e → IsPlacedBusy flows weight later ys f → e.coflow ≡ f.coflow
@@ -167,10 +179,13 @@ one_busy flows weight later xs ys e f inx iny ep be bf =
     (ap (λ p. residual flows weight later e.coflow * load flows f.coflow p) ep) (ap (λ p. residual flows weight later f.coflow * load flows e.coflow p) ep)
     (be.least f.coflow inx lf) (bf.least e.coflow iny le')
 
-one_step : (flows : List Flow) (weight : ℕ → ℕ) (ports : ℕ) (later : List Entry) (xs ys : List ℕ) (e f : Entry) → ((port : Port) → load_of_all flows xs port ≡ load_of_all flows ys port) →
-    Contains xs e.coflow → Contains xs f.coflow → Contains ys e.coflow → Contains ys f.coflow → IsPlaced flows weight ports later xs e → IsPlaced flows weight ports later ys f → e ≡ f
+one_step : (flows : List Flow) (weight : ℕ → ℕ) (ports : ℕ) (later : List Entry) (xs ys : List ℕ) (e f : Entry) →
+    ((port : Port) → load_of_all flows xs port ≡ load_of_all flows ys port) →
+    Contains xs e.coflow → Contains xs f.coflow → Contains ys e.coflow → Contains ys f.coflow → IsPlaced flows weight ports later xs e → IsPlaced flows weight ports later ys f →
+    e ≡ f
 one_step flows weight ports later xs ys e f same ex fx ey fy pe pf =
-    let ep : e.port ≡ f.port = port_of e.port f.port (same_port ports e.port.side f.port.side e.port.number f.port.number pe.port.in_range pf.port.in_range (one_port flows ports xs ys e.port f.port same pe.port pf.port)) in
+    let ep : e.port ≡ f.port = port_of e.port f.port
+    (same_port ports e.port.side f.port.side e.port.number f.port.number pe.port.in_range pf.port.in_range (one_port flows ports xs ys e.port f.port same pe.port pf.port)) in
     let total : load_of_all flows xs e.port ≡ load_of_all flows ys f.port = same e.port ∙ ap (λ p. load_of_all flows ys p) ep in
     elim (zero_or_more (load_of_all flows xs e.port)) [
       | inl none ↦
@@ -185,13 +200,15 @@ one_step flows weight ports later xs ys e f same ex fx ey fy pe pf =
           entry_from e f ec ep (same_y flows weight later e f ec ep be.y_is bf.y_is)
     ]
 
-tail_to : (e f : Entry) (l m : List Entry) → e.coflow ≡ f.coflow → Apart (front (e ∷ l)) → ((c : ℕ) → Contains (front (e ∷ l)) c → Contains (front (f ∷ m)) c) → (c : ℕ) → Contains (front l) c → Contains (front m) c
+tail_to : (e f : Entry) (l m : List Entry) → e.coflow ≡ f.coflow → Apart (front (e ∷ l)) → ((c : ℕ) → Contains (front (e ∷ l)) c → Contains (front (f ∷ m)) c) → (c : ℕ) →
+    Contains (front l) c → Contains (front m) c
 tail_to e f l m ec apart to c has = elim (first_or_tail f.coflow (front m) c (to c (in_tail e.coflow (front l) c has))) [
   | inl same ↦ absurd (apart.0 (subst (λ n. Contains (front l) n) (sym (ec ∙ same)) has))
   | inr h ↦ h
 ]
 
-pub one_ordered : (flows : List Flow) (weight : ℕ → ℕ) (ports : ℕ) (later l m : List Entry) → IsOrdered flows weight ports later l → IsOrdered flows weight ports later m → Apart (front l) → Apart (front m) →
+pub one_ordered : (flows : List Flow) (weight : ℕ → ℕ) (ports : ℕ) (later l m : List Entry) → IsOrdered flows weight ports later l → IsOrdered flows weight ports later m →
+    Apart (front l) → Apart (front m) →
     ((c : ℕ) → Contains (front l) c → Contains (front m) c) → ((c : ℕ) → Contains (front m) c → Contains (front l) c) → l ≡ m
 one_ordered flows weight ports later [] [] ol om al am to from = refl
 one_ordered flows weight ports later [] (f ∷ m) ol om al am to from = absurd (nothing_in f.coflow (from f.coflow (in_first f.coflow (front m))))
@@ -202,7 +219,8 @@ one_ordered flows weight ports later (e ∷ l) (f ∷ m) ol om al am to from =
     let same = λ (port : Port). same_members (λ c. load flows c port) (front (e ∷ l)) (front (f ∷ m)) al am to from in
     let here : e ≡ f = one_step flows weight ports later (front (e ∷ l)) (front (f ∷ m)) e f same ein (from f.coflow fin) (to e.coflow ein) fin ol.0 om.0 in
     let ec : e.coflow ≡ f.coflow = ap (λ (x : Entry). x.coflow) here in
-    let tails = one_ordered flows weight ports (e ∷ later) l m ol.1 (subst (λ x. IsOrdered flows weight ports (x ∷ later) m) (sym here) om.1) al.1 am.1 (tail_to e f l m ec al to) (tail_to f e m l (sym ec) am from) in
+    let tails = one_ordered flows weight ports (e ∷ later) l m ol.1 (subst (λ x. IsOrdered flows weight ports (x ∷ later) m) (sym here) om.1) al.1 am.1 (tail_to e f l m ec al to)
+    (tail_to f e m l (sym ec) am from) in
     ap (λ x. x ∷ l) here ∙ ap (λ t. f ∷ t) tails
 
 pub one_ordering : (i : Instance) (a b : List Entry) → IsOrdering i a → IsOrdering i b → a ≡ b

@@ -10,5 +10,7 @@ part : (b : Bool) (n : ℕ) → (if b then n else 0) ≤ n
 part true n = omega arith
 part false n = omega arith
 
-pub next_load_fits : (flows : List Flow) (coflow : ℕ) (port : Port) (k : ℕ) (d : Flow) → k < length flows → load (take k flows) coflow port + (get_or flows k d).units ≤ sum_by (λ (x : Flow). x.units) flows
-next_load_fits flows coflow port k d lt = sum_by_more_le_part (λ (x : Flow). if loads coflow port x then x.units else 0) (λ (x : Flow). x.units) flows k d lt (λ x. part (loads coflow port x) x.units)
+pub next_load_fits : (flows : List Flow) (coflow : ℕ) (port : Port) (k : ℕ) (d : Flow) → k < length flows →
+    load (take k flows) coflow port + (get_or flows k d).units ≤ sum_by (λ (x : Flow). x.units) flows
+next_load_fits flows coflow port k d lt =
+    sum_by_more_le_part (λ (x : Flow). if loads coflow port x then x.units else 0) (λ (x : Flow). x.units) flows k d lt (λ x. part (loads coflow port x) x.units)

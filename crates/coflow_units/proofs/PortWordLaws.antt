@@ -3,22 +3,27 @@ use Rattle.std.proofs.Common.{◌≡◌, ◌≢◌, ℕ, arith}
 use Rattle.coflow_units.specs.PortWord.{FitsWord, word_of}
 use Rattle.coflow_units.specs.PortWord.PortStage.{granted, drawn, reported}
 
-pub same_granted : (slot flow slot' flow' : ℕ) → FitsWord slot flow → FitsWord slot' flow' → word_of granted slot flow ≡ word_of granted slot' flow' → (slot ≡ slot') × (flow ≡ flow')
+pub same_granted : (slot flow slot' flow' : ℕ) → FitsWord slot flow → FitsWord slot' flow' → word_of granted slot flow ≡ word_of granted slot' flow' →
+    (slot ≡ slot') × (flow ≡ flow')
 same_granted slot flow slot' flow' fits fits' e = (omega (arith, fits.1, fits'.1, e), omega (arith, fits.1, fits'.1, e))
 
 pub granted_not_drawn : (agent slot flow slot' flow' : ℕ) → FitsWord slot flow → FitsWord slot' flow' → word_of granted slot flow ≢ word_of (drawn agent) slot' flow'
 granted_not_drawn agent slot flow slot' flow' fits fits' e = omega (arith, fits.0, fits.1, e)
 
-pub drawn_not_reported : (agent other units slot flow slot' flow' : ℕ) → FitsWord slot flow → FitsWord slot' flow' → word_of (drawn agent) slot flow ≢ word_of (reported other units) slot' flow'
+pub drawn_not_reported : (agent other units slot flow slot' flow' : ℕ) → FitsWord slot flow → FitsWord slot' flow' →
+    word_of (drawn agent) slot flow ≢ word_of (reported other units) slot' flow'
 drawn_not_reported agent other units slot flow slot' flow' fits fits' e = omega (arith, fits.0, fits.1, e)
 
-pub granted_not_reported : (agent units slot flow slot' flow' : ℕ) → FitsWord slot flow → FitsWord slot' flow' → word_of granted slot flow ≢ word_of (reported agent units) slot' flow'
+pub granted_not_reported : (agent units slot flow slot' flow' : ℕ) → FitsWord slot flow → FitsWord slot' flow' →
+    word_of granted slot flow ≢ word_of (reported agent units) slot' flow'
 granted_not_reported agent units slot flow slot' flow' fits fits' e = omega (arith, fits.0, fits.1, e)
 
-pub same_drawn : (agent other slot flow slot' flow' : ℕ) → FitsWord slot flow → FitsWord slot' flow' → word_of (drawn agent) slot flow ≡ word_of (drawn other) slot' flow' → (slot ≡ slot') × (flow ≡ flow')
+pub same_drawn : (agent other slot flow slot' flow' : ℕ) → FitsWord slot flow → FitsWord slot' flow' → word_of (drawn agent) slot flow ≡ word_of (drawn other) slot' flow' →
+    (slot ≡ slot') × (flow ≡ flow')
 same_drawn agent other slot flow slot' flow' fits fits' e = (omega (arith, fits.1, fits'.1, e), omega (arith, fits.1, fits'.1, e))
 
-pub same_reported : (agent units other more slot flow slot' flow' : ℕ) → FitsWord slot flow → FitsWord slot' flow' → word_of (reported agent units) slot flow ≡ word_of (reported other more) slot' flow' → (slot ≡ slot') × (flow ≡ flow')
+pub same_reported : (agent units other more slot flow slot' flow' : ℕ) → FitsWord slot flow → FitsWord slot' flow' →
+    word_of (reported agent units) slot flow ≡ word_of (reported other more) slot' flow' → (slot ≡ slot') × (flow ≡ flow')
 same_reported agent units other more slot flow slot' flow' fits fits' e = (omega (arith, fits.1, fits'.1, e), omega (arith, fits.1, fits'.1, e))
 
 pub granted_not_zero : (slot flow : ℕ) → word_of granted slot flow ≢ 0

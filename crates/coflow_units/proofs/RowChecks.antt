@@ -9,7 +9,8 @@ use Rattle.coflow_units.specs.declared.fabric.Flow.{Flow}
 use Rattle.coflow_units.specs.Flows.{Instance, IsInstance, coflow_of, units_of}
 use Rattle.coflow_units.specs.Completion.{cost}
 use Rattle.coflow_units.specs.Certificate.{Entry, bound, order_of, slack}
-use Rattle.coflow_units.specs.Rows.{IsRow, equal_weights, equal_weights_places, EqualWeights, unequal_weights, unequal_weights_places, UnequalWeights, one_empty, one_empty_places, OneEmpty, all_ties, all_ties_places, AllTies, realistic, realistic_places, Realistic}
+use Rattle.coflow_units.specs.Rows.{IsRow, equal_weights, equal_weights_places, EqualWeights, unequal_weights, unequal_weights_places, UnequalWeights, one_empty, one_empty_places}
+use Rattle.coflow_units.specs.Rows.{OneEmpty, all_ties, all_ties_places, AllTies, realistic, realistic_places, Realistic}
 use Rattle.coflow_units.proofs.ServedExists.{serve, served_exists}
 use Rattle.coflow_units.proofs.Sums.{any_has}
 
@@ -35,8 +36,10 @@ all_fit coflows ports flows e = AllPass-from_list_all (fits coflows ports) flows
 
 is_instance : (i : Instance) → Rising i.coflows → 1 ≤ i.ports → list_all (fits i.coflows i.ports) i.flows ≡ true → IsInstance i
 is_instance i up some e =
-    let each = λ (k : ℕ) (d : Flow) (lt : k < length i.flows). and_parts (list_any (λ c. c == (get_or i.flows k d).coflow) i.coflows) (nat_lt (get_or i.flows k d).ingress i.ports && nat_lt (get_or i.flows k d).egress i.ports) (all_fit i.coflows i.ports i.flows e k d lt) in
-    let ports = λ (k : ℕ) (d : Flow) (lt : k < length i.flows). and_parts (nat_lt (get_or i.flows k d).ingress i.ports) (nat_lt (get_or i.flows k d).egress i.ports) (each k d lt).1 in
+    let each = λ (k : ℕ) (d : Flow) (lt : k < length i.flows). and_parts (list_any (λ c. c == (get_or i.flows k d).coflow) i.coflows)
+    (nat_lt (get_or i.flows k d).ingress i.ports && nat_lt (get_or i.flows k d).egress i.ports) (all_fit i.coflows i.ports i.flows e k d lt) in
+    let ports = λ (k : ℕ) (d : Flow) (lt : k < length i.flows). and_parts (nat_lt (get_or i.flows k d).ingress i.ports) (nat_lt (get_or i.flows k d).egress i.ports) (each k d lt).1
+    in
     record {
       ascending = rising i.coflows up;
       has_ports = some;
@@ -46,12 +49,15 @@ is_instance i up some e =
     }
 
 -- a line names the coflow of each flow
-pub named : (flows : List Flow) (line : List ℕ) → list_all (λ (x : Flow). list_any (λ c. c == x.coflow) line) flows ≡ true → (f : ℕ) → f < length flows → 0 < units_of flows f → Contains line (coflow_of flows f)
+pub named : (flows : List Flow) (line : List ℕ) → list_all (λ (x : Flow). list_any (λ c. c == x.coflow) line) flows ≡ true → (f : ℕ) → f < length flows → 0 < units_of flows f →
+    Contains line (coflow_of flows f)
 named flows line e f lt some =
-    any_has line (coflow_of flows f) (AllPass-from_list_all (λ (x : Flow). list_any (λ c. c == x.coflow) line) flows e f record { coflow = 0; ingress = 0; egress = 0; units = 0 } lt)
+    any_has line (coflow_of flows f)
+    (AllPass-from_list_all (λ (x : Flow). list_any (λ c. c == x.coflow) line) flows e f record { coflow = 0; ingress = 0; egress = 0; units = 0 } lt)
 
 -- the row of an instance and entries, from what is computed for them
-row : (i : Instance) (entries : List Entry) (low lack total : ℕ) → IsInstance i → list_all (λ (x : Flow). list_any (λ c. c == x.coflow) (order_of entries)) i.flows ≡ true → bound i.flows entries ≡ low → slack i.flows i.weight entries ≡ lack →
+row : (i : Instance) (entries : List Entry) (low lack total : ℕ) → IsInstance i → list_all (λ (x : Flow). list_any (λ c. c == x.coflow) (order_of entries)) i.flows ≡ true →
+    bound i.flows entries ≡ low → slack i.flows i.weight entries ≡ lack →
     cost i.flows i.weight i.coflows (serve i.flows (order_of entries)) ≡ total → IsRow i entries (serve i.flows (order_of entries)) low lack total
 row i entries low lack total inst all b s c = record {
   instance = inst;

@@ -4,7 +4,8 @@ use Rattle.std.specs.List.{slice_index_or}
 use Rattle.coflow_units.specs.Certificate.{Entry}
 use Rattle.coflow_units.specs.Ordering.{IsOrdering}
 use Rattle.coflow_units.specs.SmallCases.{at_a_later_port, first_ingress, too_dear}
-use Rattle.coflow_units.specs.Rows.{equal_weights, equal_weights_places, unequal_weights, unequal_weights_places, one_empty, one_empty_places, all_ties, all_ties_places, realistic, realistic_places}
+use Rattle.coflow_units.specs.Rows.{equal_weights, equal_weights_places, unequal_weights, unequal_weights_places, one_empty, one_empty_places, all_ties, all_ties_places, realistic}
+use Rattle.coflow_units.specs.Rows.{realistic_places}
 use Rattle.coflow_units.proofs.RowChecks.{equal_instance, unequal_instance, empty_instance, ties_instance, realistic_instance}
 use Rattle.coflow_units.proofs.OrderingExists.{ordering_exists}
 use Rattle.coflow_units.proofs.OrderingLaws.{one_ordering}

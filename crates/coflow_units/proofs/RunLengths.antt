@@ -47,7 +47,8 @@ run_length_is left (f ∷ fs) most =
     }
 
 -- where a flow of the line has units left, something is granted
-pub some_grant : (flows : List Flow) (line : List ℕ) (left : ℕ → ℕ) (granted : List ℕ) (f : ℕ) → IsGrants flows line left granted → f < length flows → Contains line (coflow_of flows f) → 0 < left f → (g : ℕ) × Contains granted g
+pub some_grant : (flows : List Flow) (line : List ℕ) (left : ℕ → ℕ) (granted : List ℕ) (f : ℕ) → IsGrants flows line left granted → f < length flows →
+    Contains line (coflow_of flows f) → 0 < left f → (g : ℕ) × Contains granted g
 some_grant flows line left granted f grants lt has owed = elim (grants.rest f lt has owed) [
   | inl here ↦ (f, here)
   | inr blocked ↦ (blocked.0, blocked.1)

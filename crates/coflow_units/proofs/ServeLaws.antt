@@ -7,13 +7,17 @@ use Rattle.coflow_units.specs.Grants.{IsGrants}
 use Rattle.coflow_units.specs.Served.{IsServed, IsServedSoFar, left_after}
 use Rattle.coflow_units.proofs.GrantLaws.{one_grants}
 
-same_front : (flows : List Flow) (line : List ℕ) (a b : List (List ℕ)) → IsServedSoFar flows line a → IsServedSoFar flows line b → (t : ℕ) → t ≤ length a → t ≤ length b → take t a ≡ take t b
+same_front : (flows : List Flow) (line : List ℕ) (a b : List (List ℕ)) → IsServedSoFar flows line a → IsServedSoFar flows line b → (t : ℕ) → t ≤ length a → t ≤ length b →
+    take t a ≡ take t b
 same_front flows line a b sa sb zero la lb = refl
 same_front flows line a b sa sb (suc t) la lb =
     let before = same_front flows line a b sa sb t (omega arith) (omega arith) in
-    let one : slice_index_or a t [] ≡ slice_index_or b t [] = one_grants flows line (left_after flows (take t b)) _ _ (subst (λ x. IsGrants flows line (left_after flows x) (slice_index_or a t [])) before (sa.grants t (omega arith))) (sb.grants t (omega arith)) in
+    let one : slice_index_or a t [] ≡ slice_index_or b t [] =
+    one_grants flows line (left_after flows (take t b)) _ _ (subst (λ x. IsGrants flows line (left_after flows x) (slice_index_or a t [])) before (sa.grants t (omega arith)))
+    (sb.grants t (omega arith)) in
     let next : suc t ≡ t + 1 = omega arith in
-    ap (λ n. take n a) next ∙ take_more a t [] (omega arith) ∙ ap (λ x. x ++ slice_index_or a t [] ∷ []) before ∙ ap (λ x. take t b ++ x ∷ []) one ∙ sym (ap (λ n. take n b) next ∙ take_more b t [] (omega arith))
+    ap (λ n. take n a) next ∙ take_more a t [] (omega arith) ∙ ap (λ x. x ++ slice_index_or a t [] ∷ []) before ∙ ap (λ x. take t b ++ x ∷ []) one ∙
+    sym (ap (λ n. take n b) next ∙ take_more b t [] (omega arith))
 
 -- a schedule that has ended is not the front of a longer one
 not_longer : (flows : List Flow) (line : List ℕ) (a b : List (List ℕ)) → IsServed flows line a → IsServed flows line b → length a < length b → ⊥

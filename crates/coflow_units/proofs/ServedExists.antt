@@ -1,5 +1,6 @@
 -- The served schedule, computed.
-use Rattle.std.proofs.Common.{◌≡◌, ℕ, ◌+◌, ◌≤◌, ◌<◌, ◌⊎◌, inl, inr, Bool, true, false, cond, List, [], ◌∷◌, ◌++◌, length, get_or, take, Contains, refl, sym, ap, subst, ◌∙◌, arith, zero, suc, length-append}
+use Rattle.std.proofs.Common.{◌≡◌, ℕ, ◌+◌, ◌≤◌, ◌<◌, ◌⊎◌, inl, inr, Bool, true, false, cond, List, [], ◌∷◌, ◌++◌, length, get_or, take, Contains, refl, sym, ap, subst, ◌∙◌, arith}
+use Rattle.std.proofs.Common.{zero, suc, length-append}
 use Rattle.std.specs.Prelude.{sum_by, if◌then◌else◌, nat_lt}
 use Rattle.std.specs.List.{list_any}
 use Rattle.std.proofs.Math.Seq.{take-append_seam}
@@ -56,11 +57,14 @@ at_or_before : (s : List (List ℕ)) (g : List ℕ) (t : ℕ) → t < length (s 
 at_or_before s g t lt = split t (length s) (omega (arith, length-append s (g ∷ [])))
 
 -- the served schedule goes on by one slot
-pub goes_on : (flows : List Flow) (line : List ℕ) (s : List (List ℕ)) (g : List ℕ) → IsServedSoFar flows line s → IsGrants flows line (left_after flows s) g → (f : ℕ) × (f < length flows) × (0 < left_after flows s f) → IsServedSoFar flows line (s ++ g ∷ [])
+pub goes_on : (flows : List Flow) (line : List ℕ) (s : List (List ℕ)) (g : List ℕ) → IsServedSoFar flows line s → IsGrants flows line (left_after flows s) g →
+    (f : ℕ) × (f < length flows) × (0 < left_after flows s f) → IsServedSoFar flows line (s ++ g ∷ [])
 goes_on flows line s g so_far grants owed = record {
   grants = λ t lt. elim (at_or_before s g t lt) [
-    | inl before ↦ subst (λ x. IsGrants flows line (left_after flows (take t (s ++ g ∷ []))) x) (sym (get_before s g t before)) (subst (λ l. IsGrants flows line (left_after flows l) (get_or s t [])) (sym (take_before s g t (omega arith))) (so_far.grants t before))
-    | inr at ↦ subst (λ x. IsGrants flows line (left_after flows (take t (s ++ g ∷ []))) x) (sym (get_at s g t at)) (subst (λ l. IsGrants flows line (left_after flows l) g) (sym (take_at s g t at)) grants)
+    | inl before ↦ subst (λ x. IsGrants flows line (left_after flows (take t (s ++ g ∷ []))) x) (sym (get_before s g t before))
+        (subst (λ l. IsGrants flows line (left_after flows l) (get_or s t [])) (sym (take_before s g t (omega arith))) (so_far.grants t before))
+    | inr at ↦ subst (λ x. IsGrants flows line (left_after flows (take t (s ++ g ∷ []))) x) (sym (get_at s g t at))
+        (subst (λ l. IsGrants flows line (left_after flows l) g) (sym (take_at s g t at)) grants)
   ];
   owed = λ t lt. elim (at_or_before s g t lt) [
     | inl before ↦ let (f, in', some) = so_far.owed t before in (f, in', subst (λ l. 0 < left_after flows l f) (sym (take_before s g t (omega arith))) some)
@@ -79,13 +83,15 @@ sum_less a b (x ∷ xs) h le has lt = elim (first_or_tail x xs h has) [
 pub times_push : (s : List (List ℕ)) (g : List ℕ) (f : ℕ) → times (s ++ g ∷ []) f ≡ times s f + cond (holds g f) 1 0
 times_push s g f = sum_by_push (λ h. cond (holds h f) 1 0) s g
 
-some_grant : (flows : List Flow) (line : List ℕ) (left : ℕ → ℕ) (g : List ℕ) (f : ℕ) → IsGrants flows line left g → f < length flows → Contains line (coflow_of flows f) → 0 < left f → (h : ℕ) × Contains g h
+some_grant : (flows : List Flow) (line : List ℕ) (left : ℕ → ℕ) (g : List ℕ) (f : ℕ) → IsGrants flows line left g → f < length flows → Contains line (coflow_of flows f) →
+    0 < left f → (h : ℕ) × Contains g h
 some_grant flows line left g f grants lt in' some = elim (grants.rest f lt in' some) [
   | inl has ↦ (f, has)
   | inr (h, has, before, shares) ↦ (h, has)
 ]
 
-falls_by_one : (flows : List Flow) (line : List ℕ) (s : List (List ℕ)) (g : List ℕ) (h : ℕ) → IsGrants flows line (left_after flows s) g → Contains g h → left_sum flows (s ++ g ∷ []) < left_sum flows s
+falls_by_one : (flows : List Flow) (line : List ℕ) (s : List (List ℕ)) (g : List ℕ) (h : ℕ) → IsGrants flows line (left_after flows s) g → Contains g h →
+    left_sum flows (s ++ g ∷ []) < left_sum flows s
 falls_by_one flows line s g h grants has =
     let here = ap {B = ℕ} (λ b. cond b 1 0) (any_in g h has) in
     sum_less (left_after flows (s ++ g ∷ [])) (left_after flows s) (numbers_of flows) h
@@ -96,14 +102,16 @@ falls_by_one flows line s g h grants has =
 nothing_owed : (flows : List Flow) (s : List (List ℕ)) → owes flows s ≡ false → (f : ℕ) → f < length flows → left_after flows s f ≡ 0
 nothing_owed flows s e f lt = elim (zero_or_more (left_after flows s f)) [
   | inl none ↦ none
-  | inr some ↦ absurd (both_ways (owes flows s) e (any_from (λ x. nat_lt 0 (left_after flows s x)) (numbers_of flows) f (number_in 0 (length flows) f (omega arith) (omega arith)) (lt-ltb 0 (left_after flows s f) some)))
+  | inr some ↦ absurd (both_ways (owes flows s) e
+      (any_from (λ x. nat_lt 0 (left_after flows s x)) (numbers_of flows) f (number_in 0 (length flows) f (omega arith) (omega arith)) (lt-ltb 0 (left_after flows s f) some)))
 ]
 
 record IsOnWay (flows : List Flow) (line : List ℕ) (n : ℕ) (s : List (List ℕ)) : Type 0 where
   pub so_far : IsServedSoFar flows line s
   pub near : ((f : ℕ) → f < length flows → left_after flows s f ≡ 0) ⊎ (left_sum flows s + n ≤ left_sum flows [])
 
-way_step : (flows : List Flow) (line : List ℕ) (n : ℕ) (s : List (List ℕ)) → ((f : ℕ) → f < length flows → 0 < units_of flows f → Contains line (coflow_of flows f)) → IsOnWay flows line n s → (b : Bool) → owes flows s ≡ b →
+way_step : (flows : List Flow) (line : List ℕ) (n : ℕ) (s : List (List ℕ)) → ((f : ℕ) → f < length flows → 0 < units_of flows f → Contains line (coflow_of flows f)) →
+    IsOnWay flows line n s → (b : Bool) → owes flows s ≡ b →
     IsOnWay flows line (suc n) (if b then s ++ grants_of flows line (left_after flows s) ∷ [] else s)
 way_step flows line n s all way true e =
     let g = grants_of flows line (left_after flows s) in
@@ -121,11 +129,13 @@ way_step flows line n s all way true e =
     }
 way_step flows line n s all way false e = record { so_far = way.so_far; near = inl (nothing_owed flows s e) }
 
-way : (flows : List Flow) (line : List ℕ) (n : ℕ) → ((f : ℕ) → f < length flows → 0 < units_of flows f → Contains line (coflow_of flows f)) → IsOnWay flows line n (served_after flows line n)
+way : (flows : List Flow) (line : List ℕ) (n : ℕ) → ((f : ℕ) → f < length flows → 0 < units_of flows f → Contains line (coflow_of flows f)) →
+    IsOnWay flows line n (served_after flows line n)
 way flows line zero all = record { so_far = record { grants = λ t lt. absurd (omega arith); owed = λ t lt. absurd (omega arith) }; near = inr (omega arith) }
 way flows line (suc n) all = way_step flows line n (served_after flows line n) all (way flows line n all) (owes flows (served_after flows line n)) refl
 
-pub served_exists : (flows : List Flow) (line : List ℕ) → ((f : ℕ) → f < length flows → 0 < units_of flows f → Contains line (coflow_of flows f)) → IsServed flows line (serve flows line)
+pub served_exists : (flows : List Flow) (line : List ℕ) → ((f : ℕ) → f < length flows → 0 < units_of flows f → Contains line (coflow_of flows f)) →
+    IsServed flows line (serve flows line)
 served_exists flows line all =
     let w = way flows line (left_sum flows []) all in
     record {

@@ -47,7 +47,8 @@ grants_clear flows line left granted g = record {
   ];
 }
 
-grants_at : (flows : List Flow) (line : List ℕ) (slots : List (List ℕ)) (k : ℕ) (d : List ℕ) → IsServedSoFar flows line slots → k < length slots → IsGrants flows line (left_after flows (take k slots)) (get_or slots k d)
+grants_at : (flows : List Flow) (line : List ℕ) (slots : List (List ℕ)) (k : ℕ) (d : List ℕ) → IsServedSoFar flows line slots → k < length slots →
+    IsGrants flows line (left_after flows (take k slots)) (get_or slots k d)
 grants_at flows line slots k d so_far lt = subst (λ h. IsGrants flows line (left_after flows (take k slots)) h) (get_or_default slots k [] d lt) (so_far.grants k lt)
 
 -- no flow stands in more slots than it has units
@@ -66,10 +67,16 @@ times_within flows line slots f (suc t) so_far le =
 pub served_valid : (flows : List Flow) (line : List ℕ) (slots : List (List ℕ)) → IsServed flows line slots → IsValid flows slots
 served_valid flows line slots served = record {
   clear = λ k d lt. grants_clear flows line (left_after flows (take k slots)) (get_or slots k d) (grants_at flows line slots k d served.so_far lt);
-  served = λ f lt. omega (arith, served.ended f lt, times_within flows line slots f (length slots) served.so_far (le_refl (length slots)), ap (λ l. times l f) (take_all (length slots) slots (le_refl (length slots))));
+  served = λ f lt. omega (
+    arith,
+    served.ended f lt,
+    times_within flows line slots f (length slots) served.so_far (le_refl (length slots)),
+    ap (λ l. times l f) (take_all (length slots) slots (le_refl (length slots))),
+  );
 }
 
-never : (flows : List Flow) (line : List ℕ) (slots : List (List ℕ)) (f : ℕ) (h : List ℕ) → IsServedSoFar flows line slots → (Contains line (coflow_of flows f) → ⊥) → Contains slots h → holds h f ≡ false
+never : (flows : List Flow) (line : List ℕ) (slots : List (List ℕ)) (f : ℕ) (h : List ℕ) → IsServedSoFar flows line slots → (Contains line (coflow_of flows f) → ⊥) →
+    Contains slots h → holds h f ≡ false
 never flows line slots f h so_far out (k, lt, at) =
     let g = subst (λ x. IsGrants flows line (left_after flows (take k slots)) x) at (grants_at flows line slots k h so_far lt) in
     elim (cases_Bool (holds h f)) [
@@ -82,7 +89,8 @@ not_in_line flows line slots f so_far out =
     sum_same (λ h. cond (holds h f) 1 0) (λ h. 0) slots (λ h has. ap {B = ℕ} (λ b. cond b 1 0) (never flows line slots f h so_far out has)) ∙ sum_zero slots
 
 -- a flow with units is of a coflow of the line
-in_line : (flows : List Flow) (line : List ℕ) (slots : List (List ℕ)) (f : ℕ) → IsServed flows line slots → f < length flows → 0 < units_of flows f → Contains line (coflow_of flows f)
+in_line : (flows : List Flow) (line : List ℕ) (slots : List (List ℕ)) (f : ℕ) → IsServed flows line slots → f < length flows → 0 < units_of flows f →
+    Contains line (coflow_of flows f)
 in_line flows line slots f served lt some = elim (cases_Bool (list_any (λ x. x == coflow_of flows f) line)) [
   | inl t ↦ any_has line (coflow_of flows f) t
   | inr t ↦
@@ -95,7 +103,8 @@ no_later flows line g f (inl less) = omega arith
 no_later flows line g f (inr same) = omega (arith, same.0)
 
 -- in their slot the grants are what the order asks
-pub grants_patient : (flows : List Flow) (line : List ℕ) (left : ℕ → ℕ) (slot : List ℕ) (f : ℕ) → IsGrants flows line left slot → f < length flows → Contains line (coflow_of flows f) → 0 < left f → IsServedOrWaits flows line slot f
+pub grants_patient : (flows : List Flow) (line : List ℕ) (left : ℕ → ℕ) (slot : List ℕ) (f : ℕ) → IsGrants flows line left slot → f < length flows →
+    Contains line (coflow_of flows f) → 0 < left f → IsServedOrWaits flows line slot f
 grants_patient flows line left slot f g lt has some = elim (g.rest f lt has some) [
   | inl in' ↦ inl in'
   | inr (h, in', before, shares) ↦ inr (h, in', shares, no_later flows line h f before)
@@ -103,4 +112,5 @@ grants_patient flows line left slot f g lt has some = elim (g.rest f lt has some
 
 pub served_patient : (flows : List Flow) (line : List ℕ) (slots : List (List ℕ)) → IsServed flows line slots → IsPatient flows line slots
 served_patient flows line slots served t f lt in' left =
-    grants_patient flows line (left_after flows (take t slots)) (slice_index_or slots t []) f (served.so_far.grants t lt) in' (in_line flows line slots f served in' (omega (arith, left))) (omega arith)
+    grants_patient flows line (left_after flows (take t slots)) (slice_index_or slots t []) f (served.so_far.grants t lt) in'
+    (in_line flows line slots f served in' (omega (arith, left))) (omega arith)

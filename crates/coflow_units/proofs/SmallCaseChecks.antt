@@ -17,7 +17,8 @@ use Rattle.coflow_units.specs.declared.fabric.Port.{Port}
 use Rattle.coflow_units.specs.declared.trace.CoflowLine.{CoflowLine}
 use Rattle.coflow_units.specs.declared.trace.Reducer.{Reducer}
 use Rattle.coflow_units.specs.Rows.{equal_weights, equal_weights_places, equal_weights_slots, two_flows}
-use Rattle.coflow_units.specs.SmallCases.{TwoFlowsHold, TwoFlowsRefuse, all_sent, at_an_idle_port, crossing, first_ingress, from_port_one, line_of, one_left_out, past_the_ports, trace_with, turned, cut_in_two, idle_first, longer_first, longer_first_slots, named_twice, one_each, one_too_few, out_of_range, too_dear}
+use Rattle.coflow_units.specs.SmallCases.{TwoFlowsHold, TwoFlowsRefuse, all_sent, at_an_idle_port, crossing, first_ingress, from_port_one, line_of, one_left_out, past_the_ports}
+use Rattle.coflow_units.specs.SmallCases.{trace_with, turned, cut_in_two, idle_first, longer_first, longer_first_slots, named_twice, one_each, one_too_few, out_of_range, too_dear}
 use Rattle.coflow_units.proofs.CertificateSteps.{used_outside}
 use Rattle.coflow_units.proofs.GrantsExist.{grants_exist}
 use Rattle.coflow_units.proofs.RowChecks.{equal_instance, named}
@@ -69,7 +70,11 @@ at_most false n = omega arith
 
 both_at_most : (port : Port) → load_of_all two_flows (0 ∷ 1 ∷ []) port ≤ 4
 both_at_most port =
-    omega (arith, at_most (loads 0 port record { coflow = 0; ingress = 0; egress = 1; units = 3 }) 3, at_most (loads 1 port record { coflow = 1; ingress = 0; egress = 1; units = 1 }) 1)
+    omega (
+      arith,
+      at_most (loads 0 port record { coflow = 0; ingress = 0; egress = 1; units = 3 }) 3,
+      at_most (loads 1 port record { coflow = 1; ingress = 0; egress = 1; units = 1 }) 1,
+    )
 
 shorter_at_most : (port : Port) → load_of_all two_flows (1 ∷ []) port ≤ 1
 shorter_at_most port = omega (arith, at_most (loads 1 port record { coflow = 1; ingress = 0; egress = 1; units = 1 }) 1)

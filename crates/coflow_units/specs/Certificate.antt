@@ -1,6 +1,11 @@
--- Certificates: solutions of the dual of the linear program of the parallel inequalities, in fixed point. A feasible one bounds the cost of every schedule from below (Mastrolilli, Queyranne, Schulz, Svensson and Uhan, "Minimizing the sum of weighted completion times in a concurrent open shop", Operations Research Letters 2010).
--- A list of entries is taken from the last place to the first. So the head of the list is its last place, the tail holds the places before it, and the front of the head's place is all coflows of the list. A report that begins with place 1 is turned by `reverse`.
-use Rattle.std.specs.Prelude.{ℕ, ◌<◌, ◌≤◌, ◌+◌, ◌-◌, ◌*◌, ◌/◌, ◌^◌, ◌==◌, if◌then◌else◌, List, [], ◌∷◌, All, Contains, length, map, reverse, sum_by, take}
+-- Certificates: solutions of the dual of the linear program of the parallel inequalities, in fixed point. A feasible
+-- one bounds the cost of every schedule from below (Mastrolilli, Queyranne, Schulz, Svensson and Uhan, "Minimizing the
+-- sum of weighted completion times in a concurrent open shop", Operations Research Letters 2010).
+-- A list of entries is taken from the last place to the first. So the head of the list is its last place, the tail
+-- holds the places before it, and the front of the head's place is all coflows of the list. A report that begins with
+-- place 1 is turned by `reverse`.
+use Rattle.std.specs.Prelude.{ℕ, ◌<◌, ◌≤◌, ◌+◌, ◌-◌, ◌*◌, ◌/◌, ◌^◌, ◌==◌, if◌then◌else◌, List, [], ◌∷◌, All, Contains}
+use Rattle.std.specs.Prelude.{length, map, reverse, sum_by, take}
 use Rattle.std.specs.List.{list_any, range_with_len, slice_index_or}
 use Rattle.coflow_units.specs.declared.fabric.Flow.{Flow}
 use Rattle.coflow_units.specs.declared.plan.Place.{Place}
@@ -44,13 +49,16 @@ front_load flows (e ∷ before) = load_of_all flows (front (e ∷ before)) e.por
 abbrev pub used : List Flow → List Entry → ℕ → ℕ
 used flows [] coflow = 0
 used flows (e ∷ before) coflow =
-    (if list_any (λ c. c == coflow) (front (e ∷ before)) then e.y * load flows coflow e.port else 0) + used flows before coflow
+    (if list_any (λ c. c == coflow) (front (e ∷ before)) then e.y * load flows coflow e.port else 0) +
+    used flows before coflow
 
--- 2 * scale times the value of the dual solution: the sum over the places of y times (the square of the front's load and the squares of its coflows' loads)
+-- 2 * scale times the value of the dual solution: the sum over the places of y times (the square of the front's load
+-- and the squares of its coflows' loads)
 abbrev pub dual_value : List Flow → List Entry → ℕ
 dual_value flows [] = 0
 dual_value flows (e ∷ before) =
-    e.y * (front_load flows (e ∷ before) * front_load flows (e ∷ before) + squares_of_loads flows (front (e ∷ before)) e.port) + dual_value flows before
+    e.y * (front_load flows (e ∷ before) * front_load flows (e ∷ before) +
+    squares_of_loads flows (front (e ∷ before)) e.port) + dual_value flows before
 
 -- the lower bound that a feasible certificate proves
 abbrev pub bound : List Flow → List Entry → ℕ
@@ -67,7 +75,8 @@ rest flows weight entries coflow = budget weight coflow - used flows entries cof
 -- the sum over the places of the number given for the coflow times the load of the front
 abbrev pub over_places : List Flow → (ℕ → ℕ) → List Entry → ℕ
 over_places flows number [] = 0
-over_places flows number (e ∷ before) = number e.coflow * front_load flows (e ∷ before) + over_places flows number before
+over_places flows number (e ∷ before) = number e.coflow * front_load flows (e ∷ before) +
+    over_places flows number before
 
 -- the sum over the places of rest times the load of the front
 abbrev pub unspent : List Flow → (ℕ → ℕ) → List Entry → ℕ
@@ -98,13 +107,15 @@ pub record IsCertificate (i : Instance) (entries : List Entry) : Type 0 where
 abbrev pub TakesGreatestPorts : List Flow → ℕ → List Entry → Type 0
 TakesGreatestPorts flows ports [] = Unit {0}
 TakesGreatestPorts flows ports (e ∷ before) =
-    ((port : Port) → port.number < ports → load_of_all flows (front (e ∷ before)) port ≤ front_load flows (e ∷ before)) × TakesGreatestPorts flows ports before
+    ((port : Port) → port.number < ports → load_of_all flows (front (e ∷ before)) port ≤ front_load flows (e ∷ before))
+    × TakesGreatestPorts flows ports before
 
 -- where a place's front has load on its port, the number given for its coflow is below the coflow's load there
 abbrev pub IsBelowLoads : List Flow → (ℕ → ℕ) → List Entry → Type 0
 IsBelowLoads flows number [] = Unit {0}
 IsBelowLoads flows number (e ∷ before) =
-    (0 < front_load flows (e ∷ before) → number e.coflow < load flows e.coflow e.port) × IsBelowLoads flows number before
+    (0 < front_load flows (e ∷ before) → number e.coflow < load flows e.coflow e.port) ×
+    IsBelowLoads flows number before
 
 -- the order that the certificate gives: the coflow of place 1 first
 abbrev pub order_of : List Entry → List ℕ
@@ -118,17 +129,24 @@ first_coflows k places = map (λ (e : Entry). e.coflow) (take k places)
 
 -- the sum over the places of what the term gives for the place and the coflows up to it
 abbrev pub by_number : (Entry → List ℕ → ℕ) → List Entry → ℕ
-by_number term places = sum_by (λ k. term (slice_index_or places k record { coflow = 0; port = record { side = Ingress; number = 0 }; y = 0 }) (first_coflows (k + 1) places)) (range_with_len 0 (length places))
+by_number term places = sum_by
+    (λ k. term (slice_index_or places k record { coflow = 0; port = record { side = Ingress; number = 0 }; y = 0 })
+    (first_coflows (k + 1) places)) (range_with_len 0 (length places))
 
 -- what the coflow spends: y times its load on the place's port, over the places that come no earlier than its own
 abbrev pub used_by_number : List Flow → List Entry → ℕ → ℕ
-used_by_number flows places coflow = by_number (λ (e : Entry) (up_to : List ℕ). if list_any (λ c. c == coflow) up_to then e.y * load flows coflow e.port else 0) places
+used_by_number flows places coflow =
+    by_number (λ (e : Entry) (up_to : List ℕ). if list_any (λ c. c == coflow) up_to then e.y * load flows coflow e.port
+    else 0) places
 
 -- 2 * scale times the value of the dual solution
 abbrev pub dual_value_by_number : List Flow → List Entry → ℕ
 dual_value_by_number flows places =
-    by_number (λ (e : Entry) (up_to : List ℕ). e.y * (load_of_all flows up_to e.port * load_of_all flows up_to e.port + squares_of_loads flows up_to e.port)) places
+    by_number (λ (e : Entry) (up_to : List ℕ).
+    e.y * (load_of_all flows up_to e.port * load_of_all flows up_to e.port + squares_of_loads flows up_to e.port))
+    places
 
 -- the sum over the places of the number given for the coflow times the load of the coflows up to it
 abbrev pub over_places_by_number : List Flow → (ℕ → ℕ) → List Entry → ℕ
-over_places_by_number flows number places = by_number (λ (e : Entry) (up_to : List ℕ). number e.coflow * load_of_all flows up_to e.port) places
+over_places_by_number flows number places =
+    by_number (λ (e : Entry) (up_to : List ℕ). number e.coflow * load_of_all flows up_to e.port) places

@@ -1,5 +1,6 @@
 -- Flows, and the instances of which the laws speak. Flows have numbers: their places in the list of flows.
-use Rattle.std.specs.Prelude.{◌≡◌, ◌≢◌, ℕ, ◌+◌, ◌<◌, ◌≤◌, ◌⊎◌, ◌==◌, Bool, List, [], ◌∷◌, All, AllPairs, Contains, length}
+use Rattle.std.specs.Prelude.{◌≡◌, ◌≢◌, ℕ, ◌+◌, ◌<◌, ◌≤◌, ◌⊎◌, ◌==◌, Bool, List, [], ◌∷◌, All, AllPairs, Contains}
+use Rattle.std.specs.Prelude.{length}
 use Rattle.std.specs.List.{range_with_len, slice_index_or}
 use Rattle.std.specs.List.Sorted.{IsStrictlyIncreasing}
 use Rattle.coflow_units.specs.declared.fabric.Flow.{Flow}
@@ -52,7 +53,8 @@ pub record Instance : Type 0 where
   pub flows : List Flow
 
 -- The coflows stand in ascending order, a flow with units is of one of them, and the ports of flows are in range.
--- Coflows may have any numbers, and a flow may have no units: so what is left of an instance, with the coflows that are present, is an instance over the same flow numbers.
+-- Coflows may have any numbers, and a flow may have no units: so what is left of an instance, with the coflows that are
+-- present, is an instance over the same flow numbers.
 pub record IsInstance (i : Instance) : Type 0 where
   pub ascending : IsStrictlyIncreasing i.coflows
   pub has_ports : 1 ≤ i.ports
@@ -66,18 +68,22 @@ FlowBefore x y =
     (x.coflow < y.coflow)
     ⊎ ((x.coflow ≡ y.coflow) × ((x.ingress < y.ingress) ⊎ ((x.ingress ≡ y.ingress) × (x.egress < y.egress))))
 
--- an instance as a trace gives it: coflows count from 0, weights and units are at least 1, and no two flows agree in coflow, ingress and egress
+-- an instance as a trace gives it: coflows count from 0, weights and units are at least 1, and no two flows agree in
+-- coflow, ingress and egress
 pub record IsWhole (i : Instance) : Type 0 where
   pub instance : IsInstance i
   pub numbered : i.coflows ≡ range_with_len 0 (length i.coflows)
   pub weights : All (λ c. 1 ≤ i.weight c) i.coflows
   pub units : All (λ (x : Flow). 1 ≤ x.units) i.flows
-  pub sorted : (k : ℕ) (d : Flow) → k + 1 < length i.flows → FlowBefore (slice_index_or i.flows k d) (slice_index_or i.flows (k + 1) d)
+  pub sorted : (k : ℕ) (d : Flow) → k + 1 < length i.flows →
+      FlowBefore (slice_index_or i.flows k d) (slice_index_or i.flows (k + 1) d)
 
 -- the flows from a number on, each with the units given for its number
 abbrev pub with_units_from : ℕ → (ℕ → ℕ) → List Flow → List Flow
 with_units_from k units [] = []
-with_units_from k units (x ∷ xs) = record { coflow = x.coflow; ingress = x.ingress; egress = x.egress; units = units k } ∷ with_units_from (k + 1) units xs
+with_units_from k units (x ∷ xs) =
+    record { coflow = x.coflow; ingress = x.ingress; egress = x.egress; units = units k } ∷ with_units_from (k + 1)
+    units xs
 
 -- the same flows, each with the units given for its number, as those that it has left
 abbrev pub with_units : (ℕ → ℕ) → List Flow → List Flow

@@ -1,5 +1,7 @@
--- The grants of one slot: the greedy matching of the flows, taken in the order of the line. It is the one set of flows that the rule below describes.
--- This is the greedy allocation of Sincronia (Agarwal, Rajakrishnan, Narayan, Agarwal, Shmoys and Vahdat, "Sincronia: near-optimal network design for coflows", SIGCOMM 2018), in slots of one unit.
+-- The grants of one slot: the greedy matching of the flows, taken in the order of the line. It is the one set of flows
+-- that the rule below describes.
+-- This is the greedy allocation of Sincronia (Agarwal, Rajakrishnan, Narayan, Agarwal, Shmoys and Vahdat, "Sincronia:
+-- near-optimal network design for coflows", SIGCOMM 2018), in slots of one unit.
 use Rattle.std.specs.Prelude.{◌≡◌, ℕ, ◌<◌, ◌≤◌, ◌⊎◌, ◌==◌, List, All, Contains, length, position, unwrap_or}
 use Rattle.std.specs.List.Sorted.{IsStrictlyIncreasing}
 use Rattle.coflow_units.specs.declared.fabric.Flow.{Flow}
@@ -26,9 +28,11 @@ pub record IsGrants (flows : List Flow) (line : List ℕ) (left : ℕ → ℕ) (
   pub in_line : All (λ f. Contains line (coflow_of flows f)) granted
   pub owed : (f : ℕ) → Contains granted f → 0 < left f
   pub free : (f : ℕ) → Contains granted f → IsBlocked flows line granted f → ⊥
-  pub rest : (f : ℕ) → f < length flows → Contains line (coflow_of flows f) → 0 < left f → Contains granted f ⊎ IsBlocked flows line granted f
+  pub rest : (f : ℕ) → f < length flows → Contains line (coflow_of flows f) → 0 < left f →
+      Contains granted f ⊎ IsBlocked flows line granted f
 
--- how many slots the grants may be served as they are: at most the number asked for, and as long as each granted flow has units left
+-- how many slots the grants may be served as they are: at most the number asked for, and as long as each granted flow
+-- has units left
 pub record IsRunLength (left : ℕ → ℕ) (granted : List ℕ) (most n : ℕ) : Type 0 where
   pub asked : n ≤ most
   pub owed : (f : ℕ) → Contains granted f → n ≤ left f

@@ -1,5 +1,7 @@
--- The ordering certificate: from the last place to the first, take the port with the greatest load, place the coflow there whose budget is used up first, and let each coflow pay for its load on the port.
--- This is bottleneck, select, scale, iterate of Sincronia (Agarwal and others, SIGCOMM 2018), in exact arithmetic over budgets in parts of 2^40; the rules for ties are this project's.
+-- The ordering certificate: from the last place to the first, take the port with the greatest load, place the coflow
+-- there whose budget is used up first, and let each coflow pay for its load on the port.
+-- This is bottleneck, select, scale, iterate of Sincronia (Agarwal and others, SIGCOMM 2018), in exact arithmetic over
+-- budgets in parts of 2^40; the rules for ties are this project's.
 use Rattle.std.specs.Prelude.{◌≡◌, ℕ, ◌<◌, ◌≤◌, ◌+◌, ◌-◌, ◌*◌, ◌/◌, ◌⊎◌, List, [], ◌∷◌, Contains, sum_by}
 use Rattle.coflow_units.specs.declared.fabric.Flow.{Flow}
 use Rattle.coflow_units.specs.declared.fabric.Port.{Port}
@@ -23,7 +25,8 @@ pub record IsFirstGreatest (flows : List Flow) (ports : ℕ) (coflows : List ℕ
   pub in_range : port.number < ports
   pub greatest : (other : Port) → other.number < ports →
       (load_of_all flows coflows other < load_of_all flows coflows port)
-      ⊎ ((load_of_all flows coflows other ≡ load_of_all flows coflows port) × (port_place ports port ≤ port_place ports other))
+      ⊎ ((load_of_all flows coflows other ≡ load_of_all flows coflows port) ×
+      (port_place ports port ≤ port_place ports other))
 
 -- what the coflow pays at the places that are there already
 abbrev pub spent : List Flow → List Entry → ℕ → ℕ
@@ -38,16 +41,22 @@ pub record IsPlacedIdle (coflows : List ℕ) (e : Entry) : Type 0 where
   pub greatest : (d : ℕ) → Contains coflows d → d ≤ e.coflow
   pub y_is : e.y ≡ 0
 
--- where the front has load: the coflow with the least ratio of residual to load takes the place, among equal ones the greatest number, and y is its ratio rounded down
-pub record IsPlacedBusy (flows : List Flow) (weight : ℕ → ℕ) (later : List Entry) (coflows : List ℕ) (e : Entry) : Type 0 where
+-- where the front has load: the coflow with the least ratio of residual to load takes the place, among equal ones the
+-- greatest number, and y is its ratio rounded down
+pub record IsPlacedBusy (flows : List Flow) (weight : ℕ → ℕ) (later : List Entry) (coflows : List ℕ) (e : Entry) : Type
+    0 where
   pub has_load : 0 < load flows e.coflow e.port
   pub least : (d : ℕ) → Contains coflows d → 0 < load flows d e.port →
-      (residual flows weight later e.coflow * load flows d e.port < residual flows weight later d * load flows e.coflow e.port)
-      ⊎ ((residual flows weight later e.coflow * load flows d e.port ≡ residual flows weight later d * load flows e.coflow e.port) × (d ≤ e.coflow))
+      (residual flows weight later e.coflow * load flows d e.port < residual flows weight later d * load flows e.coflow
+      e.port)
+      ⊎ ((residual flows weight later e.coflow * load flows d e.port ≡
+      residual flows weight later d * load flows e.coflow e.port) × (d ≤ e.coflow))
   pub y_is : e.y ≡ residual flows weight later e.coflow / load flows e.coflow e.port
 
--- one step: the coflows are those not placed yet, the placed one among them, and `later` the places that are there already
-pub record IsPlaced (flows : List Flow) (weight : ℕ → ℕ) (ports : ℕ) (later : List Entry) (coflows : List ℕ) (e : Entry) : Type 0 where
+-- one step: the coflows are those not placed yet, the placed one among them, and `later` the places that are there
+-- already
+pub record IsPlaced (flows : List Flow) (weight : ℕ → ℕ) (ports : ℕ) (later : List Entry) (coflows : List ℕ)
+    (e : Entry) : Type 0 where
   pub port : IsFirstGreatest flows ports coflows e.port
   pub idle : load_of_all flows coflows e.port ≡ 0 → IsPlacedIdle coflows e
   pub busy : 0 < load_of_all flows coflows e.port → IsPlacedBusy flows weight later coflows e

@@ -1,4 +1,5 @@
--- Schedules that keep an order and leave no port idle that could serve. Sincronia (Agarwal and others, SIGCOMM 2018) calls them order-preserving and work-conserving.
+-- Schedules that keep an order and leave no port idle that could serve. Sincronia (Agarwal and others, SIGCOMM 2018)
+-- calls them order-preserving and work-conserving.
 use Rattle.std.specs.Prelude.{ℕ, ◌+◌, ◌<◌, ◌≤◌, ◌⊎◌, List, [], Contains, length, take}
 use Rattle.std.specs.List.{slice_index_or}
 use Rattle.coflow_units.specs.declared.fabric.Flow.{Flow}
@@ -12,12 +13,15 @@ use Rattle.coflow_units.specs.Schedule.{times}
 abbrev pub IsServedOrWaits : List Flow → List ℕ → List ℕ → ℕ → Type 0
 IsServedOrWaits flows order slot f =
     Contains slot f
-    ⊎ ((g : ℕ) × Contains slot g × SharesPort flows g f × (place_in order (coflow_of flows g) ≤ place_in order (coflow_of flows f)))
+    ⊎ ((g : ℕ) × Contains slot g × SharesPort flows g f ×
+    (place_in order (coflow_of flows g) ≤ place_in order (coflow_of flows f)))
 
--- in each slot, each flow that stood in fewer slots than it has units is served, or waits for a coflow no later in the order
+-- in each slot, each flow that stood in fewer slots than it has units is served, or waits for a coflow no later in the
+-- order
 abbrev pub IsPatient : List Flow → List ℕ → List (List ℕ) → Type 0
 IsPatient flows order slots =
-    (t f : ℕ) → t < length slots → f < length flows → times (take t slots) f < units_of flows f → IsServedOrWaits flows order (slice_index_or slots t []) f
+    (t f : ℕ) → t < length slots → f < length flows → times (take t slots) f < units_of flows f →
+    IsServedOrWaits flows order (slice_index_or slots t []) f
 
 -- the coflows of the order up to this one
 abbrev pub up_to : List ℕ → ℕ → List ℕ

@@ -1,7 +1,8 @@
 -- The word that an ingress port shows to all threads: what became of the last grant that was posted there.
 use Rattle.std.specs.Prelude.{ℕ, ◌+◌, ◌*◌, ◌<◌, ◌==◌, Bool, true, false}
 
--- no grant was posted; it is posted and nobody drew it; the agent of this number drew it; that agent reported so many units; it was taken back, drawn by nobody
+-- no grant was posted; it is posted and nobody drew it; the agent of this number drew it; that agent reported so many
+-- units; it was taken back, drawn by nobody
 pub data PortStage : Type 0 where
   unposted : PortStage
   granted : PortStage

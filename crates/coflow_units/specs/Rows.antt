@@ -17,7 +17,8 @@ at_ingress coflow number y = record { coflow = coflow; port = record { side = In
 abbrev at_egress : ℕ → ℕ → ℕ → Entry
 at_egress coflow number y = record { coflow = coflow; port = record { side = Egress; number = number }; y = y }
 
--- the schedule that serves the order of the entries, their bound and slack, and the schedule's cost; the entries stand from the last place to the first
+-- the schedule that serves the order of the entries, their bound and slack, and the schedule's cost; the entries stand
+-- from the last place to the first
 pub record IsRow (i : Instance) (entries : List Entry) (slots : List (List ℕ)) (low lack total : ℕ) : Type 0 where
   pub instance : IsInstance i
   pub served : IsServed i.flows (order_of entries) slots
@@ -69,7 +70,12 @@ OneEmpty = IsRow one_empty one_empty_places one_empty_slots 2 0 2
 
 -- equal loads and equal ratios: the first port, and the greatest number at the later place
 abbrev pub all_ties : Instance
-all_ties = record { coflows = 0 ∷ 1 ∷ []; weight = λ c. 1; ports = 2; flows = flow 0 0 0 1 ∷ flow 0 1 0 1 ∷ flow 1 0 1 1 ∷ flow 1 1 1 1 ∷ [] }
+all_ties = record {
+  coflows = 0 ∷ 1 ∷ [];
+  weight = λ c. 1;
+  ports = 2;
+  flows = flow 0 0 0 1 ∷ flow 0 1 0 1 ∷ flow 1 0 1 1 ∷ flow 1 1 1 1 ∷ [];
+}
 
 abbrev pub all_ties_places : List Entry
 all_ties_places = at_ingress 1 0 1099511627776 ∷ at_egress 0 0 0 ∷ []
@@ -86,14 +92,16 @@ realistic = record {
   coflows = 0 ∷ 1 ∷ 2 ∷ [];
   weight = λ c. 1;
   ports = 151;
-  flows = flow 0 20 93 1 ∷ flow 1 7 7 2 ∷ flow 1 7 93 5 ∷ flow 2 20 38 3 ∷ flow 2 20 93 1 ∷ flow 2 64 38 2 ∷ flow 2 110 38 2 ∷ [];
+  flows = flow 0 20 93 1 ∷ flow 1 7 7 2 ∷ flow 1 7 93 5 ∷ flow 2 20 38 3 ∷ flow 2 20 93 1 ∷ flow 2 64 38 2 ∷ flow 2 110
+      38 2 ∷ [];
 }
 
 abbrev pub realistic_places : List Entry
 realistic_places = at_ingress 1 7 157073089682 ∷ at_egress 2 38 157073089682 ∷ at_ingress 0 20 1099511627776 ∷ []
 
 abbrev pub realistic_slots : List (List ℕ)
-realistic_slots = slots_of ((1, 0 ∷ 1 ∷ 5 ∷ []) ∷ (1, 1 ∷ 3 ∷ []) ∷ (2, 2 ∷ 3 ∷ []) ∷ (1, 4 ∷ 5 ∷ []) ∷ (2, 2 ∷ 6 ∷ []) ∷ (1, 2 ∷ []) ∷ [])
+realistic_slots = slots_of ((1, 0 ∷ 1 ∷ 5 ∷ []) ∷ (1, 1 ∷ 3 ∷ []) ∷ (2, 2 ∷ 3 ∷ []) ∷ (1, 4 ∷ 5 ∷ []) ∷
+    (2, 2 ∷ 6 ∷ []) ∷ (1, 2 ∷ []) ∷ [])
 
 abbrev pub Realistic : Type 0
 Realistic = IsRow realistic realistic_places realistic_slots 15 1 16

@@ -32,4 +32,5 @@ slots_of runs = flat_map (λ r. replicate r.0 r.1) runs
 pub record IsRuns (slots : List (List ℕ)) (runs : List (ℕ × List ℕ)) : Type 0 where
   pub same : slots_of runs ≡ slots
   pub lengths : All (λ r. 1 ≤ r.0) runs
-  pub maximal : (k : ℕ) (r : ℕ × List ℕ) → k + 1 < length runs → (slice_index_or runs k r).1 ≢ (slice_index_or runs (k + 1) r).1
+  pub maximal : (k : ℕ) (r : ℕ × List ℕ) → k + 1 < length runs →
+      (slice_index_or runs k r).1 ≢ (slice_index_or runs (k + 1) r).1

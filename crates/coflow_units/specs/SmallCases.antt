@@ -44,19 +44,33 @@ idle_first = [] ∷ longer_first_slots
 
 -- flows that cross: one from port 0 to port 1, the other from port 1 to port 0
 abbrev pub crossing : List Flow
-crossing = record { coflow = 0; ingress = 0; egress = 1; units = 1 } ∷ record { coflow = 1; ingress = 1; egress = 0; units = 1 } ∷ []
+crossing = record { coflow = 0; ingress = 0; egress = 1; units = 1 } ∷ record {
+  coflow = 1;
+  ingress = 1;
+  egress = 0;
+  units = 1;
+} ∷ []
 
 -- one more than the ordering certificate's y at its last place
 abbrev pub too_dear : List Entry
-too_dear = record { coflow = 0; port = first_ingress; y = 366503875926 } ∷ record { coflow = 1; port = first_ingress; y = 733007751851 } ∷ []
+too_dear = record { coflow = 0; port = first_ingress; y = 366503875926 } ∷ record {
+  coflow = 1;
+  port = first_ingress;
+  y = 733007751851;
+} ∷ []
 
 -- the ordering certificate of the instance where all is equal, but with the second ingress port at the last place
 abbrev pub at_a_later_port : List Entry
-at_a_later_port = record { coflow = 1; port = record { side = Ingress; number = 1 }; y = 1099511627776 } ∷ record { coflow = 0; port = record { side = Egress; number = 0 }; y = 0 } ∷ []
+at_a_later_port = record { coflow = 1; port = record { side = Ingress; number = 1 }; y = 1099511627776 } ∷
+    record { coflow = 0; port = record { side = Egress; number = 0 }; y = 0 } ∷ []
 
 -- a certificate that names one coflow twice
 abbrev pub named_twice : List Entry
-named_twice = record { coflow = 0; port = first_ingress; y = 0 } ∷ record { coflow = 0; port = first_ingress; y = 0 } ∷ []
+named_twice = record { coflow = 0; port = first_ingress; y = 0 } ∷ record {
+  coflow = 0;
+  port = first_ingress;
+  y = 0;
+} ∷ []
 
 -- two places that charge nothing, so that all budgets are kept
 abbrev pub free_places : List Entry
@@ -89,19 +103,43 @@ from_port_one = record {
 
 -- the first place charges a port without load
 abbrev pub at_an_idle_port : List Entry
-at_an_idle_port = record { coflow = 0; port = first_ingress; y = 0 } ∷ record { coflow = 1; port = record { side = Ingress; number = 2 }; y = 0 } ∷ []
+at_an_idle_port = record { coflow = 0; port = first_ingress; y = 0 } ∷ record {
+  coflow = 1;
+  port = record { side = Ingress; number = 2 };
+  y = 0;
+} ∷ []
 
 -- the flows stand from the last coflow to the first
 abbrev pub turned : Instance
-turned = record { coflows = 0 ∷ 1 ∷ []; weight = one_each; ports = 3; flows = record { coflow = 1; ingress = 0; egress = 1; units = 1 } ∷ record { coflow = 0; ingress = 0; egress = 1; units = 3 } ∷ [] }
+turned = record {
+  coflows = 0 ∷ 1 ∷ [];
+  weight = one_each;
+  ports = 3;
+  flows = record { coflow = 1; ingress = 0; egress = 1; units = 1 } ∷ record {
+    coflow = 0;
+    ingress = 0;
+    egress = 1;
+    units = 3;
+  } ∷ [];
+}
 
 -- a flow that has no units left
 abbrev pub all_sent : Instance
-all_sent = record { coflows = 0 ∷ []; weight = one_each; ports = 3; flows = record { coflow = 0; ingress = 0; egress = 1; units = 0 } ∷ [] }
+all_sent = record {
+  coflows = 0 ∷ [];
+  weight = one_each;
+  ports = 3;
+  flows = record { coflow = 0; ingress = 0; egress = 1; units = 0 } ∷ [];
+}
 
 -- a coflow line with a mapper at location 0 and a reducer of 3 megabytes at location 1
 abbrev pub line_of : ℕ → CoflowLine
-line_of id = record { id = id; arrival = 0; mappers = 0 ∷ []; reducers = record { location = 1; millionths = 3000000 } ∷ [] }
+line_of id = record {
+  id = id;
+  arrival = 0;
+  mappers = 0 ∷ [];
+  reducers = record { location = 1; millionths = 3000000 } ∷ [];
+}
 
 -- a trace of one port with these coflow lines; its locations are 0 and 1
 abbrev pub trace_with : List CoflowLine → Trace

@@ -16,17 +16,20 @@ ghost use Rattle.coflow_units.specs.SmallCases.{TwoFlowsHold, TwoFlowsRefuse, at
 
 /// For a line and the units left, at most one set of flows is the grants of a slot.
 pub fn grants_are_one()
-    ensures { (flows : List Flow) (line : List ℕ) (left : ℕ → ℕ) (a b : List ℕ) → IsGrants flows line left a → IsGrants flows line left b → a ≡ b }
+    ensures { (flows : List Flow) (line : List ℕ) (left : ℕ → ℕ) (a b : List ℕ) → IsGrants flows line left a →
+        IsGrants flows line left b → a ≡ b }
 {}
 
 /// For every line and all units left, some set of flows is the grants of a slot.
 pub fn grants_exist()
-    ensures { (flows : List Flow) (line : List ℕ) (left : ℕ → ℕ) → (granted : List ℕ) × IsGrants flows line left granted }
+    ensures { (flows : List Flow) (line : List ℕ) (left : ℕ → ℕ) →
+        (granted : List ℕ) × IsGrants flows line left granted }
 {}
 
 /// No two granted flows share a port, so one slot serves them all.
 pub fn grants_are_clear()
-    ensures { (flows : List Flow) (line : List ℕ) (left : ℕ → ℕ) (granted : List ℕ) → IsGrants flows line left granted → IsClear flows granted }
+    ensures { (flows : List Flow) (line : List ℕ) (left : ℕ → ℕ) (granted : List ℕ) → IsGrants flows line left granted →
+        IsClear flows granted }
 {}
 
 /// In its slot, the grants of a line are what the order asks: a flow of the line that has units left is granted,
@@ -39,41 +42,53 @@ pub fn grants_are_patient()
 
 /// The grants depend on which flows have units left, and not on how many.
 pub fn grants_look_at_owing()
-    ensures { (flows : List Flow) (line : List ℕ) (left after : ℕ → ℕ) (granted : List ℕ) → ((f : ℕ) → f < length flows → 0 < left f → 0 < after f) → ((f : ℕ) → f < length flows → 0 < after f → 0 < left f) →
+    ensures { (flows : List Flow) (line : List ℕ) (left after : ℕ → ℕ) (granted : List ℕ) →
+        ((f : ℕ) → f < length flows → 0 < left f → 0 < after f) →
+        ((f : ℕ) → f < length flows → 0 < after f → 0 < left f) →
         IsGrants flows line left granted → IsGrants flows line after granted }
 {}
 
 /// Where a flow of the line has units left, something is granted.
 pub fn grants_are_not_idle()
-    ensures { (flows : List Flow) (line : List ℕ) (left : ℕ → ℕ) (granted : List ℕ) (f : ℕ) → IsGrants flows line left granted → f < length flows → Contains line (coflow_of flows f) → 0 < left f → (g : ℕ) × Contains granted g }
+    ensures { (flows : List Flow) (line : List ℕ) (left : ℕ → ℕ) (granted : List ℕ) (f : ℕ) →
+        IsGrants flows line left granted → f < length flows → Contains line (coflow_of flows f) → 0 < left f →
+        (g : ℕ) × Contains granted g }
 {}
 
 /// The grants of a slot may be served as they are for one number of slots, the greatest that is asked for and that each granted flow has units for.
 pub fn run_length_is_one()
     ensures exists { (left : ℕ → ℕ) (granted : List ℕ) (most : ℕ) → (n : ℕ) × IsRunLength left granted most n }
-    ensures one { (left : ℕ → ℕ) (granted : List ℕ) (most a b : ℕ) → IsRunLength left granted most a → IsRunLength left granted most b → a ≡ b }
+    ensures one { (left : ℕ → ℕ) (granted : List ℕ) (most a b : ℕ) → IsRunLength left granted most a →
+        IsRunLength left granted most b → a ≡ b }
 {}
 
 /// An order has at most one served schedule.
 pub fn served_is_one()
-    ensures { (flows : List Flow) (line : List ℕ) (a b : List (List ℕ)) → IsServed flows line a → IsServed flows line b → a ≡ b }
+    ensures { (flows : List Flow) (line : List ℕ) (a b : List (List ℕ)) → IsServed flows line a →
+        IsServed flows line b → a ≡ b }
 {}
 
 /// An order that names the coflow of each flow with units has a served schedule.
 pub fn served_exists()
-    ensures { (flows : List Flow) (line : List ℕ) → ((f : ℕ) → f < length flows → 0 < units_of flows f → Contains line (coflow_of flows f)) → (slots : List (List ℕ)) × IsServed flows line slots }
+    ensures { (flows : List Flow) (line : List ℕ) →
+        ((f : ℕ) → f < length flows → 0 < units_of flows f → Contains line (coflow_of flows f)) →
+        (slots : List (List ℕ)) × IsServed flows line slots }
 {}
 
 /// The served schedule of an order is valid and patient for that order: it serves each unit once, and a flow waits only where a port serves a coflow no later in the order.
 pub fn served_is_patient()
-    ensures valid { (flows : List Flow) (line : List ℕ) (slots : List (List ℕ)) → IsServed flows line slots → IsValid flows slots }
-    ensures patient { (flows : List Flow) (line : List ℕ) (slots : List (List ℕ)) → IsServed flows line slots → IsPatient flows line slots }
+    ensures valid { (flows : List Flow) (line : List ℕ) (slots : List (List ℕ)) → IsServed flows line slots →
+        IsValid flows slots }
+    ensures patient { (flows : List Flow) (line : List ℕ) (slots : List (List ℕ)) → IsServed flows line slots →
+        IsPatient flows line slots }
 {}
 
 /// Where something is granted, the same grants may be served for n slots at once, as long as each granted flow has n units left. So runs and single slots make the same schedule.
 pub fn served_by_runs()
-    ensures { (flows : List Flow) (line : List ℕ) (slots : List (List ℕ)) (granted : List ℕ) (n f : ℕ) → IsServedSoFar flows line slots → IsGrants flows line (left_after flows slots) granted → Contains granted f →
-        ((g : ℕ) → Contains granted g → n ≤ left_after flows slots g) → IsServedSoFar flows line (slots ++ replicate n granted) }
+    ensures { (flows : List Flow) (line : List ℕ) (slots : List (List ℕ)) (granted : List ℕ) (n f : ℕ) →
+        IsServedSoFar flows line slots → IsGrants flows line (left_after flows slots) granted → Contains granted f →
+        ((g : ℕ) → Contains granted g → n ≤ left_after flows slots g) →
+        IsServedSoFar flows line (slots ++ replicate n granted) }
 {}
 
 /// A schedule is cut into longest runs of equal slots in one way alone.
@@ -83,10 +98,13 @@ pub fn runs_are_one()
 
 /// What is left of an instance, with the coflows that are present, is an instance over the same flow numbers.
 pub fn what_is_left()
-    ensures instance { (i : Instance) (present : List ℕ) (units : ℕ → ℕ) → IsInstance i → IsStrictlyIncreasing present → ((f : ℕ) → f < length i.flows → 0 < units f → Contains present (coflow_of i.flows f)) →
+    ensures instance { (i : Instance) (present : List ℕ) (units : ℕ → ℕ) → IsInstance i → IsStrictlyIncreasing present →
+        ((f : ℕ) → f < length i.flows → 0 < units f → Contains present (coflow_of i.flows f)) →
         IsInstance (record { coflows = present; weight = i.weight; ports = i.ports; flows = with_units units i.flows }) }
-    ensures units { (units : ℕ → ℕ) (flows : List Flow) (f : ℕ) → f < length flows → units_of (with_units units flows) f ≡ units f }
-    ensures coflow { (units : ℕ → ℕ) (flows : List Flow) (f : ℕ) → f < length flows → coflow_of (with_units units flows) f ≡ coflow_of flows f }
+    ensures units { (units : ℕ → ℕ) (flows : List Flow) (f : ℕ) → f < length flows →
+        units_of (with_units units flows) f ≡ units f }
+    ensures coflow { (units : ℕ → ℕ) (flows : List Flow) (f : ℕ) → f < length flows →
+        coflow_of (with_units units flows) f ≡ coflow_of flows f }
 {}
 
 /// The definitions give what was worked out by hand.
@@ -106,12 +124,19 @@ pub fn small_cases_hold()
 
 /// The word of a port tells whether its last post waits for an agent, was drawn, or was reported, and its slot and its flow. It tells neither the agent nor the units of a report. A port without a post and one whose post was taken back have the word 0, and no other has.
 pub fn port_words_tell()
-    ensures same { (slot flow slot' flow' : ℕ) → FitsWord slot flow → FitsWord slot' flow' → word_of granted slot flow ≡ word_of granted slot' flow' → (slot ≡ slot') × (flow ≡ flow') }
-    ensures granted { (agent slot flow slot' flow' : ℕ) → FitsWord slot flow → FitsWord slot' flow' → word_of granted slot flow ≢ word_of (drawn agent) slot' flow' }
-    ensures granted_reported { (agent units slot flow slot' flow' : ℕ) → FitsWord slot flow → FitsWord slot' flow' → word_of granted slot flow ≢ word_of (reported agent units) slot' flow' }
-    ensures drawn { (agent other units slot flow slot' flow' : ℕ) → FitsWord slot flow → FitsWord slot' flow' → word_of (drawn agent) slot flow ≢ word_of (reported other units) slot' flow' }
-    ensures same_drawn { (agent other slot flow slot' flow' : ℕ) → FitsWord slot flow → FitsWord slot' flow' → word_of (drawn agent) slot flow ≡ word_of (drawn other) slot' flow' → (slot ≡ slot') × (flow ≡ flow') }
-    ensures same_reported { (agent units other more slot flow slot' flow' : ℕ) → FitsWord slot flow → FitsWord slot' flow' → word_of (reported agent units) slot flow ≡ word_of (reported other more) slot' flow' → (slot ≡ slot') × (flow ≡ flow') }
+    ensures same { (slot flow slot' flow' : ℕ) → FitsWord slot flow → FitsWord slot' flow' →
+        word_of granted slot flow ≡ word_of granted slot' flow' → (slot ≡ slot') × (flow ≡ flow') }
+    ensures granted { (agent slot flow slot' flow' : ℕ) → FitsWord slot flow → FitsWord slot' flow' →
+        word_of granted slot flow ≢ word_of (drawn agent) slot' flow' }
+    ensures granted_reported { (agent units slot flow slot' flow' : ℕ) → FitsWord slot flow → FitsWord slot' flow' →
+        word_of granted slot flow ≢ word_of (reported agent units) slot' flow' }
+    ensures drawn { (agent other units slot flow slot' flow' : ℕ) → FitsWord slot flow → FitsWord slot' flow' →
+        word_of (drawn agent) slot flow ≢ word_of (reported other units) slot' flow' }
+    ensures same_drawn { (agent other slot flow slot' flow' : ℕ) → FitsWord slot flow → FitsWord slot' flow' →
+        word_of (drawn agent) slot flow ≡ word_of (drawn other) slot' flow' → (slot ≡ slot') × (flow ≡ flow') }
+    ensures same_reported { (agent units other more slot flow slot' flow' : ℕ) → FitsWord slot flow →
+        FitsWord slot' flow' → word_of (reported agent units) slot flow ≡ word_of (reported other more) slot' flow' →
+        (slot ≡ slot') × (flow ≡ flow') }
     ensures granted_not_zero { (slot flow : ℕ) → word_of granted slot flow ≢ 0 }
     ensures drawn_not_zero { (agent slot flow : ℕ) → word_of (drawn agent) slot flow ≢ 0 }
     ensures reported_not_zero { (agent units slot flow : ℕ) → word_of (reported agent units) slot flow ≢ 0 }
@@ -133,9 +158,12 @@ pub fn ordering_exists()
 
 /// The ordering certificate is feasible; each of its ports has the greatest load of its front; and where that load is not 0, what the placed coflow keeps is below its own load there.
 pub fn ordering_is_feasible()
-    ensures feasible { (i : Instance) (entries : List Entry) → IsOrdering i entries → IsFeasible i.flows i.weight entries }
-    ensures greatest { (i : Instance) (entries : List Entry) → IsOrdering i entries → TakesGreatestPorts i.flows i.ports entries }
-    ensures below { (i : Instance) (entries : List Entry) → IsOrdering i entries → IsBelowLoads i.flows (rest i.flows i.weight entries) entries }
+    ensures feasible { (i : Instance) (entries : List Entry) → IsOrdering i entries →
+        IsFeasible i.flows i.weight entries }
+    ensures greatest { (i : Instance) (entries : List Entry) → IsOrdering i entries →
+        TakesGreatestPorts i.flows i.ports entries }
+    ensures below { (i : Instance) (entries : List Entry) → IsOrdering i entries →
+        IsBelowLoads i.flows (rest i.flows i.weight entries) entries }
 {}
 
 /// The orders that were worked out by hand are the ordering certificates of their instances. One with another coflow at the last place is none, nor is one with y rounded up, nor one with a later port of as much load.

@@ -5,7 +5,8 @@ use Rattle.clap.specs.Words.{Kinds, Row, fault_of, matches_of}
 use Rattle.clap.specs.Kinds.{or_else}
 use Rattle.clap.specs.Walk.{Walk, finished, settled, walked}
 use Rattle.clap.specs.Faults.{check_fault, defaults_fault, settle_fault, turn_fault, walk_fault}
-use Rattle.command_words.specs.Line.{Form, Text, Use, plain as is_plain, ends as is_end, apart as is_apart, joined as is_joined, wrong as is_wrong, form_of, name_at, named, uses, uses_by, value_by, with_use}
+use Rattle.command_words.specs.Line.{Form, Text, Use, plain as is_plain, ends as is_end, apart as is_apart, joined as is_joined, wrong as is_wrong, form_of, name_at, named, uses}
+use Rattle.command_words.specs.Line.{uses_by, value_by, with_use}
 use Rattle.command_words.specs.Parser.{app}
 use Rattle.command_words.proofs.Forms.{Sees, sees}
 use Rattle.command_words.proofs.ParserArguments.{IsArgument, IsOption, clash, name_of, option_of, put, puts, settles}
@@ -37,7 +38,8 @@ unfolding walk_fault
 one_turn w x xs = or_else_assoc (turn_fault shape [] w x) _ _
 
 -- One word and what follows it.
-step : (w next : Walk) (x : Text) (xs : List Text) (fault : Kinds) (rows more : List Row) (us all : List Use) → turn_fault shape [] w x ≡ fault → walked rules [] w x ≡ next → Takes next xs more us
+step : (w next : Walk) (x : Text) (xs : List Text) (fault : Kinds) (rows more : List Row) (us all : List Use) → turn_fault shape [] w x ≡ fault → walked rules [] w x ≡ next →
+    Takes next xs more us
     → or_else fault (outcome more us) ≡ outcome rows all → after more us ≡ after rows all → Takes w (x ∷ xs) rows all
 step w next x xs fault rows more us all t n rest same_fault same_rows = record {
   fault = one_turn w x xs ∙ ap₂ (λ a b. or_else a (rest_fault b xs)) t n ∙ ap (or_else fault) rest.fault ∙ same_fault;
@@ -60,7 +62,8 @@ IsPending (Some u) = IsArgument u.0
 abbrev settled_rows : List Row → Option Use → List Row
 settled_rows rows p = (settled rules (held rows (pending p))).rows
 
-settle_fault_is : (rows : List Row) (p : Option Use) (us : List Use) → IsPending p → or_else (settle_fault rules false (held rows (pending p))) (outcome (settled_rows rows p) us) ≡ outcome rows (front p us)
+settle_fault_is : (rows : List Row) (p : Option Use) (us : List Use) → IsPending p →
+    or_else (settle_fault rules false (held rows (pending p))) (outcome (settled_rows rows p) us) ≡ outcome rows (front p us)
 settle_fault_is rows None us h = refl
 settle_fault_is rows (Some u) us h = rw (settles u.0 h rows u.1, puts u.0 h rows u.1) refl
 
@@ -91,7 +94,8 @@ parts_of None v r us e = cc
 parts_of (Some id) v None us e = cc
 parts_of (Some id) v (Some rest) us e = record { id = id; rest = rest; id_is = refl; rest_is = refl; all = cc }
 
-take_named : (ws : List Text) (rows : List Row) (p : Option Use) (k : ℕ) (us : List Use) → IsPending p → named k ws ≡ Some us → Takes (trails rows (pending p) k) ws rows (front p us)
+take_named : (ws : List Text) (rows : List Row) (p : Option Use) (k : ℕ) (us : List Use) → IsPending p → named k ws ≡ Some us →
+    Takes (trails rows (pending p) k) ws rows (front p us)
 take_named [] rows p k us h e =
     let none : [] ≡ us = cc in
     subst (λ l. Takes (trails rows (pending p) k) [] rows (front p l)) none (ended_trail rows p k h)
@@ -99,7 +103,9 @@ take_named (w ∷ ws) rows p k us h e =
     let parts = parts_of (name_at k) w (named (suc k) ws) us e in
     let name = name_of k parts.id parts.id_is in
     let rest = take_named ws (settled_rows rows p) (Some (parts.id, w)) (suc k) parts.rest name.argument parts.rest_is in
-    let taken = step (trails rows (pending p) k) _ w ws _ rows (settled_rows rows p) ((parts.id, w) ∷ parts.rest) (front p ((parts.id, w) ∷ parts.rest)) (trail_turn k parts.id name rows (pending p) w) (trail_walk k parts.id name rows (pending p) w) rest (settle_fault_is rows p ((parts.id, w) ∷ parts.rest) h) (settle_rows_are rows p ((parts.id, w) ∷ parts.rest) h) in
+    let taken = step (trails rows (pending p) k) _ w ws _ rows (settled_rows rows p) ((parts.id, w) ∷ parts.rest) (front p ((parts.id, w) ∷ parts.rest))
+    (trail_turn k parts.id name rows (pending p) w) (trail_walk k parts.id name rows (pending p) w) rest (settle_fault_is rows p ((parts.id, w) ∷ parts.rest) h)
+    (settle_rows_are rows p ((parts.id, w) ∷ parts.rest) h) in
     subst (λ l. Takes (trails rows (pending p) k) (w ∷ ws) rows (front p l)) (sym parts.all) taken
 
 abbrev Ready : List Text → Type 0
@@ -109,7 +115,8 @@ abbrev Waits : List Text → Type 0
 Waits ws = (rows : List Row) (o : Text) (k : ℕ) (us : List Use) → IsOption o → uses (Some o) k ws ≡ Some us → Takes (waits rows o k) ws rows us
 
 -- The pending use is settled at a word, and then come these uses.
-settling : (w next : Walk) (x : Text) (xs : List Text) (rows : List Row) (p : Option Use) (us : List Use) → IsPending p → turn_fault shape [] w x ≡ settle_fault rules false (held rows (pending p)) → walked rules [] w x ≡ next
+settling : (w next : Walk) (x : Text) (xs : List Text) (rows : List Row) (p : Option Use) (us : List Use) → IsPending p →
+    turn_fault shape [] w x ≡ settle_fault rules false (held rows (pending p)) → walked rules [] w x ≡ next
     → Takes next xs (settled_rows rows p) us → Takes w (x ∷ xs) rows (front p us)
 settling w next x xs rows p us h t n rest = step w next x xs _ rows (settled_rows rows p) us (front p us) t n rest (settle_fault_is rows p us h) (settle_rows_are rows p us h)
 
@@ -119,14 +126,17 @@ ready_by is_plain w ws i more waiting rows p k us h e =
     let parts = parts_of (name_at k) w (uses None (suc k) ws) us e in
     let name = name_of k parts.id parts.id_is in
     let rest = more (settled_rows rows p) (Some (parts.id, w)) (suc k) parts.rest name.argument parts.rest_is in
-    let taken = settling (ready rows (pending p) k) _ w ws rows p ((parts.id, w) ∷ parts.rest) h (name_turn k parts.id name rows (pending p) w i) (name_walk k parts.id name rows (pending p) w i) rest in
+    let taken = settling (ready rows (pending p) k) _ w ws rows p ((parts.id, w) ∷ parts.rest) h (name_turn k parts.id name rows (pending p) w i)
+    (name_walk k parts.id name rows (pending p) w i) rest in
     subst (λ l. Takes (ready rows (pending p) k) (w ∷ ws) rows (front p l)) (sym parts.all) taken
 ready_by is_end w ws i more waiting rows p k us h e =
-    let taken = step (ready rows (pending p) k) _ (45 ∷ 45 ∷ []) ws [] rows rows (front p us) (front p us) (ends_turn rows (pending p) k) (ends_walk rows (pending p) k) (take_named ws rows p k us h e) refl refl in
+    let taken = step (ready rows (pending p) k) _ (45 ∷ 45 ∷ []) ws [] rows rows (front p us) (front p us) (ends_turn rows (pending p) k) (ends_walk rows (pending p) k)
+    (take_named ws rows p k us h e) refl refl in
     subst (λ x. Takes (ready rows (pending p) k) (x ∷ ws) rows (front p us)) (sym i) taken
 ready_by (is_apart o) w ws i more waiting rows p k us h e =
     let option = option_of o i.1 in
-    settling (ready rows (pending p) k) _ w ws rows p us h (apart_turn o option rows (pending p) k w i.0) (apart_walk o option rows (pending p) k w i.0) (waiting (settled_rows rows p) o k us option e)
+    settling (ready rows (pending p) k) _ w ws rows p us h (apart_turn o option rows (pending p) k w i.0) (apart_walk o option rows (pending p) k w i.0)
+    (waiting (settled_rows rows p) o k us option e)
 ready_by (is_joined o v) w ws i more waiting rows p k us h e =
     let option = option_of o i.1 in
     let parts = parts_of (Some o) v (uses None k ws) us e in
@@ -134,8 +144,10 @@ ready_by (is_joined o v) w ws i more waiting rows p k us h e =
     let all : (o, v) ∷ parts.rest ≡ us = sym (parts.all ∙ ap (λ x. (x, v) ∷ parts.rest) same) in
     let now = settled_rows rows p in
     let rest = more (put (o, v) now) None k parts.rest tt parts.rest_is in
-    let taken = step (ready rows (pending p) k) _ w ws _ rows (put (o, v) now) parts.rest (front p ((o, v) ∷ parts.rest)) (joined_turn o option rows (pending p) k w v i.0) (joined_walk o option rows (pending p) k w v i.0) rest
-    (or_else_assoc (settle_fault rules false (held rows (pending p))) (clash o now) (outcome (put (o, v) now) parts.rest) ∙ settle_fault_is rows p ((o, v) ∷ parts.rest) h) (settle_rows_are rows p ((o, v) ∷ parts.rest) h) in
+    let taken = step (ready rows (pending p) k) _ w ws _ rows (put (o, v) now) parts.rest (front p ((o, v) ∷ parts.rest)) (joined_turn o option rows (pending p) k w v i.0)
+    (joined_walk o option rows (pending p) k w v i.0) rest
+    (or_else_assoc (settle_fault rules false (held rows (pending p))) (clash o now) (outcome (put (o, v) now) parts.rest) ∙ settle_fault_is rows p ((o, v) ∷ parts.rest) h)
+    (settle_rows_are rows p ((o, v) ∷ parts.rest) h) in
     subst (λ l. Takes (ready rows (pending p) k) (w ∷ ws) rows (front p l)) all taken
 ready_by is_wrong w ws i more waiting rows p k us h e = cc
 
@@ -146,7 +158,8 @@ waits_by is_plain w ws i more rows o k us option e =
     let same : parts.id ≡ o = cc in
     let all : (o, w) ∷ parts.rest ≡ us = sym (parts.all ∙ ap (λ x. (x, w) ∷ parts.rest) same) in
     let rest = more rows (Some (o, w)) k parts.rest option.argument parts.rest_is in
-    let taken = step (waits rows o k) _ w ws [] rows rows ((o, w) ∷ parts.rest) ((o, w) ∷ parts.rest) (value_turn o rows k w i) (value_walk o option.argument rows k w i) rest refl refl in
+    let taken = step (waits rows o k) _ w ws [] rows rows ((o, w) ∷ parts.rest) ((o, w) ∷ parts.rest) (value_turn o rows k w i) (value_walk o option.argument rows k w i) rest refl
+    refl in
     subst (λ l. Takes (waits rows o k) (w ∷ ws) rows l) all taken
 waits_by is_end w ws i more rows o k us option e = cc
 waits_by (is_apart x) w ws i more rows o k us option e = cc
@@ -160,8 +173,10 @@ take [] u = (λ rows p k us h e. by rows p k us h cc, λ rows o k us option e. c
     by : (rows : List Row) (p : Option Use) (k : ℕ) (us : List Use) → IsPending p → [] ≡ us → Takes (ready rows (pending p) k) [] rows (front p us)
     by rows p k us h none = subst (λ l. Takes (ready rows (pending p) k) [] rows (front p l)) none (ended rows p k h)
 take (w ∷ ws) u =
-    let more = take ws u.1 in
-    (λ rows p k us h e. ready_by (form_of w) w ws (sees w u.0) more.0 more.1 rows p k us h e, λ rows o k us option e. waits_by (form_of w) w ws (sees w u.0) more.0 rows o k us option e)
+    let more = take ws u.1 in (
+      λ rows p k us h e. ready_by (form_of w) w ws (sees w u.0) more.0 more.1 rows p k us h e,
+      λ rows o k us option e. waits_by (form_of w) w ws (sees w u.0) more.0 rows o k us option e,
+    )
 
 -- Where the words have uses, the parser takes these in turn.
 pub fault_is : (words : List Text) (us : List Use) → AllUtf8 (drop 1 words) → uses None 1 (drop 1 words) ≡ Some us → fault_of app words ≡ outcome [] us

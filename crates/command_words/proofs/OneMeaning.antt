@@ -40,7 +40,17 @@ one_said v a b p q =
     let epoch = one_setting _ _ _ _ _ p.epoch q.epoch in
     let run = one_setting _ _ _ _ _ p.run q.run in
     let slot_ms = one_setting _ _ _ _ _ p.slot_ms q.slot_ms in
-    λ i. record { command = command i; first = first i; second = second i; weights = weights i; unit = unit i; agents = agents i; epoch = epoch i; run = run i; slot_ms = slot_ms i }
+    λ i. record {
+      command = command i;
+      first = first i;
+      second = second i;
+      weights = weights i;
+      unit = unit i;
+      agents = agents i;
+      epoch = epoch i;
+      run = run i;
+      slot_ms = slot_ms i;
+    }
 
 pub words_one : (words : List Text) (a b : Said) → IsWords words a → IsWords words b → a ≡ b
 words_one words a b p q =

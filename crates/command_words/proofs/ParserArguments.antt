@@ -71,9 +71,11 @@ same_name P name o h e = subst P ((bytes_eq-Decides name o).0 e) h
 
 -- The six tests of a name, and what they come to.
 pub option_of : (o : Text) → is_option o ≡ true → IsOption o
-option_of o h = by (bytes_eq (codes "weights") o) (bytes_eq (codes "unit") o) (bytes_eq (codes "agents") o) (bytes_eq (codes "epoch") o) (bytes_eq (codes "run") o) (bytes_eq (codes "slot-ms") o) refl refl refl refl refl refl h
+option_of o h = by (bytes_eq (codes "weights") o) (bytes_eq (codes "unit") o) (bytes_eq (codes "agents") o) (bytes_eq (codes "epoch") o) (bytes_eq (codes "run") o)
+    (bytes_eq (codes "slot-ms") o) refl refl refl refl refl refl h
   where
-    by : (a b c d e f : Bool) → bytes_eq (codes "weights") o ≡ a → bytes_eq (codes "unit") o ≡ b → bytes_eq (codes "agents") o ≡ c → bytes_eq (codes "epoch") o ≡ d → bytes_eq (codes "run") o ≡ e → bytes_eq (codes "slot-ms") o ≡ f → is_option o ≡ true → IsOption o
+    by : (a b c d e f : Bool) → bytes_eq (codes "weights") o ≡ a → bytes_eq (codes "unit") o ≡ b → bytes_eq (codes "agents") o ≡ c → bytes_eq (codes "epoch") o ≡ d →
+        bytes_eq (codes "run") o ≡ e → bytes_eq (codes "slot-ms") o ≡ f → is_option o ≡ true → IsOption o
     by true b c d e f p q r s t u h = same_name IsOption (codes "weights") o is_weights p
     by false true c d e f p q r s t u h = same_name IsOption (codes "unit") o is_unit q
     by false false true d e f p q r s t u h = same_name IsOption (codes "agents") o is_agents r
@@ -83,9 +85,11 @@ option_of o h = by (bytes_eq (codes "weights") o) (bytes_eq (codes "unit") o) (b
     by false false false false false false p q r s t u h = let bad : false ≡ true = rw (p, q, r, s, t, u) at h in cc
 
 pub not_option : (o : Text) → is_option o ≡ false → arg_by_long rules o ≡ None
-not_option o h = by (bytes_eq (codes "weights") o) (bytes_eq (codes "unit") o) (bytes_eq (codes "agents") o) (bytes_eq (codes "epoch") o) (bytes_eq (codes "run") o) (bytes_eq (codes "slot-ms") o) refl refl refl refl refl refl h
+not_option o h = by (bytes_eq (codes "weights") o) (bytes_eq (codes "unit") o) (bytes_eq (codes "agents") o) (bytes_eq (codes "epoch") o) (bytes_eq (codes "run") o)
+    (bytes_eq (codes "slot-ms") o) refl refl refl refl refl refl h
   where
-    by : (a b c d e f : Bool) → bytes_eq (codes "weights") o ≡ a → bytes_eq (codes "unit") o ≡ b → bytes_eq (codes "agents") o ≡ c → bytes_eq (codes "epoch") o ≡ d → bytes_eq (codes "run") o ≡ e → bytes_eq (codes "slot-ms") o ≡ f → is_option o ≡ false → arg_by_long rules o ≡ None
+    by : (a b c d e f : Bool) → bytes_eq (codes "weights") o ≡ a → bytes_eq (codes "unit") o ≡ b → bytes_eq (codes "agents") o ≡ c → bytes_eq (codes "epoch") o ≡ d →
+        bytes_eq (codes "run") o ≡ e → bytes_eq (codes "slot-ms") o ≡ f → is_option o ≡ false → arg_by_long rules o ≡ None
     by true b c d e f p q r s t u h = let bad : true ≡ false = rw p at h in cc
     by false true c d e f p q r s t u h = let bad : true ≡ false = rw (p, q) at h in cc
     by false false true d e f p q r s t u h = let bad : true ≡ false = rw (p, q, r) at h in cc

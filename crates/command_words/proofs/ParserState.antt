@@ -37,7 +37,8 @@ rest_rows w words = finished rules (fold (walked rules []) w words).held
 abbrev pub rest_fault : Walk → List Text → Kinds
 rest_fault w words =
     let end = (fold (walked rules []) w words).held in
-    or_else (walk_fault shape [] w words) (or_else [] (or_else (settle_fault rules false end) (or_else (defaults_fault (settled rules end).rows rules) (check_fault shape (finished rules end) false))))
+    or_else (walk_fault shape [] w words)
+    (or_else [] (or_else (settle_fault rules false end) (or_else (defaults_fault (settled rules end).rows rules) (check_fault shape (finished rules end) false))))
 
 no_command_below : (stop : Option (Text × List Text)) → (is_some (entered (built app) stop) ≡ false) × (entered_fault (built app) stop ≡ [])
 no_command_below None = (refl, refl)

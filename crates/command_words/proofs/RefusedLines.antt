@@ -5,13 +5,15 @@ use Rattle.clap.specs.Words.{Kinds, Row, fault_of}
 use Rattle.clap.specs.Kinds.{or_else}
 use Rattle.clap.specs.Walk.{Walk, settled, walked}
 use Rattle.clap.specs.Faults.{turn_fault, walk_fault}
-use Rattle.command_words.specs.Line.{Form, Text, Use, plain as is_plain, ends as is_end, apart as is_apart, joined as is_joined, wrong as is_wrong, form_of, name_at, named, uses, uses_by, value_by, with_use}
+use Rattle.command_words.specs.Line.{Form, Text, Use, plain as is_plain, ends as is_end, apart as is_apart, joined as is_joined, wrong as is_wrong, form_of, name_at, named, uses}
+use Rattle.command_words.specs.Line.{uses_by, value_by, with_use}
 use Rattle.command_words.specs.Parser.{app}
 use Rattle.command_words.proofs.AcceptedLines.{one_turn}
 use Rattle.command_words.proofs.Forms.{IsWrong, Sees, sees}
 use Rattle.command_words.proofs.ParserArguments.{IsOption, name_of, not_option, option_of, put, settles_none}
 use Rattle.command_words.proofs.ParserState.{held, ready, rest_fault, rules, shape, trails, waits, whole_fault}
-use Rattle.command_words.proofs.Turns.{Fails, apart_late, apart_walk, ends_walk, joined_late, joined_walk, late, late_4, late_name, late_walk, name_4, name_walk, short_late, short_ready, trail_4, trail_walk, unknown_late, unknown_ready, value_walk}
+use Rattle.command_words.proofs.Turns.{Fails, apart_late, apart_walk, ends_walk, joined_late, joined_walk, late, late_4, late_name, late_walk, name_4, name_walk, short_late}
+use Rattle.command_words.proofs.Turns.{short_ready, trail_4, trail_walk, unknown_late, unknown_ready, value_walk}
 use Rattle.command_words.proofs.Utf8.{AllUtf8}
 
 -- The parser fails from here on.
@@ -30,7 +32,8 @@ rest_is_empty (k ∷ ks) b e = cc
 
 -- A fault behind the first word is one of all.
 later : (w next : Walk) (x : Text) (xs : List Text) → walked rules [] w x ≡ next → Refuses next xs → Refuses w (x ∷ xs)
-later w next x xs e more none = more (ap (λ n. rest_fault n xs) (sym e) ∙ rest_is_empty (turn_fault shape [] w x) (rest_fault (walked rules [] w x) xs) (sym (one_turn w x xs) ∙ none))
+later w next x xs e more none =
+    more (ap (λ n. rest_fault n xs) (sym e) ∙ rest_is_empty (turn_fault shape [] w x) (rest_fault (walked rules [] w x) xs) (sym (one_turn w x xs) ∙ none))
 
 abbrev IsPlace : ℕ → Type 0
 IsPlace k = (0 < k) × (k ≤ 4)
@@ -56,7 +59,8 @@ refuse_named (w ∷ ws) rows p k i n = by (place k i) (λ r q j m. refuse_named 
         → ((r : List Row) (q : Option (Text × List Text)) → IsPlace (suc k) → named (suc k) ws ≡ None → Refuses (trails r q (suc k)) ws) → Refuses (trails rows p k) (w ∷ ws)
     by (inl a) more =
         let name = name_of k a.0 a.1 in
-        later (trails rows p k) _ w ws (trail_walk k a.0 name rows p w) (more (settled rules (held rows p)).rows (Some (a.0, w ∷ [])) a.2 (none_behind (name_at k) a.0 w (named (suc k) ws) a.1 n))
+        later (trails rows p k) _ w ws (trail_walk k a.0 name rows p w)
+        (more (settled rules (held rows p)).rows (Some (a.0, w ∷ [])) a.2 (none_behind (name_at k) a.0 w (named (suc k) ws) a.1 n))
     by (inr e) more = at_once (trails rows p k) w ws (subst (λ j. Fails (trails rows p j) w) (sym e) (_, _, trail_4 rows p w))
 
 -- An option that waits gets no value behind `--`.
@@ -90,7 +94,8 @@ ready_by is_plain w ws i more waiting rows p k j n = by (place k j)
     by : ((id : Text) × (name_at k ≡ Some id) × IsPlace (suc k)) ⊎ (k ≡ 4) → Refuses (ready rows p k) (w ∷ ws)
     by (inl a) =
         let name = name_of k a.0 a.1 in
-        later (ready rows p k) _ w ws (name_walk k a.0 name rows p w i) (more (settled rules (held rows p)).rows (Some (a.0, w ∷ [])) (suc k) a.2 (none_behind (name_at k) a.0 w (uses None (suc k) ws) a.1 n))
+        later (ready rows p k) _ w ws (name_walk k a.0 name rows p w i)
+        (more (settled rules (held rows p)).rows (Some (a.0, w ∷ [])) (suc k) a.2 (none_behind (name_at k) a.0 w (uses None (suc k) ws) a.1 n))
     by (inr e) = at_once (ready rows p k) w ws (subst (λ x. Fails (ready rows p x) w) (sym e) (_, _, name_4 rows p w i))
 ready_by is_end w ws i more waiting rows p k j n =
     subst (λ x. Refuses (ready rows p k) (x ∷ ws)) (sym i) (later (ready rows p k) (trails rows p k) (45 ∷ 45 ∷ []) ws (ends_walk rows p k) (refuse_named ws rows p k j n))
@@ -99,7 +104,8 @@ ready_by (is_apart o) w ws i more waiting rows p k j n =
     later (ready rows p k) _ w ws (apart_walk o option rows p k w i.0) (waiting (settled rules (held rows p)).rows o k j option n)
 ready_by (is_joined o v) w ws i more waiting rows p k j n =
     let option = option_of o i.1 in
-    later (ready rows p k) _ w ws (joined_walk o option rows p k w v i.0) (more (put (o, v) (settled rules (held rows p)).rows) None k j (none_behind (Some o) o v (uses None k ws) refl n))
+    later (ready rows p k) _ w ws (joined_walk o option rows p k w v i.0)
+    (more (put (o, v) (settled rules (held rows p)).rows) None k j (none_behind (Some o) o v (uses None k ws) refl n))
 ready_by is_wrong w ws i more waiting rows p k j n = at_once (ready rows p k) w ws (wrong_ready rows p k w i)
 
 waits_by : (f : Form) (w : Text) (ws : List Text) → Sees w f → Ready ws → (rows : List Row) (o : Text) (k : ℕ) → IsPlace k → IsOption o
@@ -120,8 +126,10 @@ refuse : (ws : List Text) → AllUtf8 ws → Ready ws × Waits ws
 unfolding uses
 refuse [] u = (λ rows p k i n none. let bad : Some [] ≡ None = n in cc, λ rows o k i option n none. without_value rows o k option none)
 refuse (w ∷ ws) u =
-    let more = refuse ws u.1 in
-    (λ rows p k i n none. ready_by (form_of w) w ws (sees w u.0) more.0 more.1 rows p k i n none, λ rows o k i option n none. waits_by (form_of w) w ws (sees w u.0) more.0 rows o k i option n none)
+    let more = refuse ws u.1 in (
+      λ rows p k i n none. ready_by (form_of w) w ws (sees w u.0) more.0 more.1 rows p k i n none,
+      λ rows o k i option n none. waits_by (form_of w) w ws (sees w u.0) more.0 rows o k i option n none,
+    )
 
 -- Where the parser does not fail, the words have uses.
 pub not_none : (words : List Text) → AllUtf8 (drop 1 words) → uses None 1 (drop 1 words) ≡ None → fault_of app words ≡ [] → ⊥

@@ -28,23 +28,27 @@ or_else_none (k ∷ ks) = refl
 
 -- ---- names
 
-pub name_turn : (k : ℕ) (id : Text) → IsName k id → (rows : List Row) (p : Option (Text × List Text)) (w : Text) → IsPlain w → turn_fault shape [] (ready rows p k) w ≡ settle_fault rules false (held rows p)
+pub name_turn : (k : ℕ) (id : Text) → IsName k id → (rows : List Row) (p : Option (Text × List Text)) (w : Text) → IsPlain w →
+    turn_fault shape [] (ready rows p k) w ≡ settle_fault rules false (held rows p)
 unfolding clap_on_literals
 name_turn k id n rows None w i = rw (i.ends, i.long, i.short, n.by_index) refl
 name_turn k id n rows (Some p) w i = rw (i.ends, i.long, i.short, n.by_index, and_false (bytes_eq p.0 id)) refl
 
-pub name_walk : (k : ℕ) (id : Text) → IsName k id → (rows : List Row) (p : Option (Text × List Text)) (w : Text) → IsPlain w → walked rules [] (ready rows p k) w ≡ ready (settled rules (held rows p)).rows (Some (id, w ∷ [])) (suc k)
+pub name_walk : (k : ℕ) (id : Text) → IsName k id → (rows : List Row) (p : Option (Text × List Text)) (w : Text) → IsPlain w →
+    walked rules [] (ready rows p k) w ≡ ready (settled rules (held rows p)).rows (Some (id, w ∷ [])) (suc k)
 unfolding clap_on_literals
 name_walk k id n rows None w i = rw (i.ends, i.long, i.short, n.by_index, n.next) refl
 name_walk k id n rows (Some p) w i = rw (i.ends, i.long, i.short, n.by_index, and_false (bytes_eq p.0 id), n.next) refl
 
 -- Behind `--` each word is a name.
-pub trail_turn : (k : ℕ) (id : Text) → IsName k id → (rows : List Row) (p : Option (Text × List Text)) (w : Text) → turn_fault shape [] (trails rows p k) w ≡ settle_fault rules false (held rows p)
+pub trail_turn : (k : ℕ) (id : Text) → IsName k id → (rows : List Row) (p : Option (Text × List Text)) (w : Text) →
+    turn_fault shape [] (trails rows p k) w ≡ settle_fault rules false (held rows p)
 unfolding clap_on_literals
 trail_turn k id n rows None w = rw n.by_index refl
 trail_turn k id n rows (Some p) w = rw (n.by_index, and_false (bytes_eq p.0 id)) refl
 
-pub trail_walk : (k : ℕ) (id : Text) → IsName k id → (rows : List Row) (p : Option (Text × List Text)) (w : Text) → walked rules [] (trails rows p k) w ≡ trails (settled rules (held rows p)).rows (Some (id, w ∷ [])) (suc k)
+pub trail_walk : (k : ℕ) (id : Text) → IsName k id → (rows : List Row) (p : Option (Text × List Text)) (w : Text) →
+    walked rules [] (trails rows p k) w ≡ trails (settled rules (held rows p)).rows (Some (id, w ∷ [])) (suc k)
 unfolding clap_on_literals
 trail_walk k id n rows None w = rw (n.by_index, n.next) refl
 trail_walk k id n rows (Some p) w = rw (n.by_index, and_false (bytes_eq p.0 id), n.next) refl
@@ -78,7 +82,8 @@ pub joined_turn : (o : Text) → IsOption o → (rows : List Row) (p : Option (T
 unfolding clap_on_literals
 joined_turn o i rows p k w v n = by (has_row o (settled rules (held rows p)).rows) refl
   where
-    by : (b : Bool) → has_row o (settled rules (held rows p)).rows ≡ b → turn_fault shape [] (ready rows p k) w ≡ or_else (settle_fault rules false (held rows p)) (clash o (settled rules (held rows p)).rows)
+    by : (b : Bool) → has_row o (settled rules (held rows p)).rows ≡ b →
+        turn_fault shape [] (ready rows p k) w ≡ or_else (settle_fault rules false (held rows p)) (clash o (settled rules (held rows p)).rows)
     by true e = rw (n.ends, n.long, i.by_long, e) (or_else_none _)
     by false e = rw (n.ends, n.long, i.by_long, e) (or_else_none _)
 
@@ -138,7 +143,8 @@ late_4 rows o w = (kind.UnknownArgument, [], refl)
 
 -- ---- words that are refused
 
-pub unknown_ready : (o : Text) → arg_by_long rules o ≡ None → (v : Option Text) (rows : List Row) (p : Option (Text × List Text)) (k : ℕ) (w : Text) → Names w o v → Fails (ready rows p k) w
+pub unknown_ready : (o : Text) → arg_by_long rules o ≡ None → (v : Option Text) (rows : List Row) (p : Option (Text × List Text)) (k : ℕ) (w : Text) → Names w o v →
+    Fails (ready rows p k) w
 unfolding clap_on_literals
 unknown_ready o none v rows p k w n = (kind.UnknownArgument, [], rw (n.ends, n.long, none) refl)
 
@@ -160,7 +166,8 @@ pub short_ready : (rows : List Row) (p : Option (Text × List Text)) (k : ℕ) (
 unfolding clap_on_literals
 short_ready rows p k w s = (kind.UnknownArgument, [], by s.flags s.character s.some s.short s.first)
   where
-    by : (flags : Text) (x : ℕ) → 0 < length flags → short_of w ≡ Some flags → slice_get (chars flags) 0 ≡ Some x → turn_fault shape [] (ready rows p k) w ≡ kind.UnknownArgument ∷ []
+    by : (flags : Text) (x : ℕ) → 0 < length flags → short_of w ≡ Some flags → slice_get (chars flags) 0 ≡ Some x →
+        turn_fault shape [] (ready rows p k) w ≡ kind.UnknownArgument ∷ []
     by [] x some e c = absurd (omega arith)
     by (b ∷ flags) x some e c = rw (s.ends, s.long, e, c) refl
 
@@ -168,6 +175,7 @@ pub short_late : (rows : List Row) (y : Text) (k : ℕ) (w : Text) → IsShort w
 unfolding clap_on_literals
 short_late rows y k w s = (kind.UnknownArgument, [], by s.flags s.character s.some s.short s.first)
   where
-    by : (flags : Text) (x : ℕ) → 0 < length flags → short_of w ≡ Some flags → slice_get (chars flags) 0 ≡ Some x → turn_fault shape [] (waits rows y k) w ≡ kind.UnknownArgument ∷ []
+    by : (flags : Text) (x : ℕ) → 0 < length flags → short_of w ≡ Some flags → slice_get (chars flags) 0 ≡ Some x →
+        turn_fault shape [] (waits rows y k) w ≡ kind.UnknownArgument ∷ []
     by [] x some e c = absurd (omega arith)
     by (b ∷ flags) x some e c = rw (s.ends, s.long, e, c) refl

@@ -145,7 +145,8 @@ unfolding defaults_fault
 no_default [] rows e = (refl, refl)
 no_default (a ∷ c) rows e = by a.defaults (has_row a.id rows) refl refl (no_default c rows)
   where
-    by : (ds : List Text) (b : Bool) → a.defaults ≡ ds → has_row a.id rows ≡ b → (list_all (λ r. is_empty r.defaults) c ≡ true → (fold with_default rows c ≡ rows) × (defaults_fault rows c ≡ []))
+    by : (ds : List Text) (b : Bool) → a.defaults ≡ ds → has_row a.id rows ≡ b →
+        (list_all (λ r. is_empty r.defaults) c ≡ true → (fold with_default rows c ≡ rows) × (defaults_fault rows c ≡ []))
         → (fold with_default rows (a ∷ c) ≡ rows) × (defaults_fault rows (a ∷ c) ≡ [])
     by [] true d t more = let all : list_all (λ (r : Rule). is_empty r.defaults) c ≡ true = rw d at e in rw t (more all)
     by [] false d t more = let all : list_all (λ (r : Rule). is_empty r.defaults) c ≡ true = rw d at e in rw (t, d) (more all)
@@ -162,7 +163,8 @@ missing _ _ = kind.MissingRequiredArgument ∷ []
 check_is : (rows : List Row) → check_fault shape rows false ≡ missing (is_given (codes "COMMAND") rows) (is_given (codes "FIRST") rows)
 check_is rows = by (is_given (codes "COMMAND") rows) (is_given (codes "FIRST") rows) refl refl
   where
-    by : (p q : Bool) → is_given (codes "COMMAND") rows ≡ p → is_given (codes "FIRST") rows ≡ q → check_fault shape rows false ≡ missing (is_given (codes "COMMAND") rows) (is_given (codes "FIRST") rows)
+    by : (p q : Bool) → is_given (codes "COMMAND") rows ≡ p → is_given (codes "FIRST") rows ≡ q →
+        check_fault shape rows false ≡ missing (is_given (codes "COMMAND") rows) (is_given (codes "FIRST") rows)
     by true true s t = rw (s, t) refl
     by true false s t = rw (s, t) refl
     by false q s t = rw s refl

@@ -1,5 +1,6 @@
 -- A command line, by what each word names.
-use Rattle.std.specs.Prelude.{◌≡◌, ℕ, ◌==◌, Bool, List, [], ◌∷◌, Option, Some, None, codes, find, if◌then◌else◌, map, option_map, suc, zero}
+use Rattle.std.specs.Prelude.{◌≡◌, ℕ, ◌==◌, Bool, List, [], ◌∷◌, Option, Some, None, codes, find, if◌then◌else◌, map}
+use Rattle.std.specs.Prelude.{option_map, suc, zero}
 use Rattle.std.specs.List.{after_first, before_first, list_any}
 use Rattle.std.specs.Str.{bytes_eq}
 use Rattle.std.specs.String.{string_bytes}
@@ -49,7 +50,8 @@ is_equals b = b == 61
 -- What stands behind the two dashes. A first equals sign ends the name, and its value follows.
 abbrev pub option_form : Text → Form
 option_form rest = if is_option (before_first is_equals rest)
-    then (if list_any is_equals rest then joined (before_first is_equals rest) (after_first is_equals rest) else apart (before_first is_equals rest))
+    then (if list_any is_equals rest then joined (before_first is_equals rest) (after_first is_equals rest) else apart
+    (before_first is_equals rest))
     else wrong
 
 -- The form of a word by what stands behind its two dashes.
@@ -94,7 +96,8 @@ abbrev pub value_by : Form → Text → ℕ → Text → (Option Text → ℕ �
 value_by plain o k word rest = with_use (Some o) word (rest None k)
 value_by _ o k word rest = None
 
--- The arguments that the words use, in order, or none where a word is refused. An option may wait for its value, and the next name stands at place k.
+-- The arguments that the words use, in order, or none where a word is refused. An option may wait for its value, and
+-- the next name stands at place k.
 unfoldable pub uses : Option Text → ℕ → List Text → Option (List Use)
 uses None k [] = Some []
 uses (Some o) k [] = None

@@ -20,17 +20,21 @@ option_rule id = record (new_rule id) { action = Some Set; long = Some id }
 
 -- The command before it has arguments. No word asks for help or for the version.
 abbrev pub empty_app : App
-empty_app = on_top (λ s. record s { disable_help_flag = true; disable_version_flag = true }) (new_app (codes "sincronia"))
+empty_app = on_top (λ s. record s { disable_help_flag = true; disable_version_flag = true })
+    (new_app (codes "sincronia"))
 
 abbrev pub app_with_names : App
-app_with_names = with_rule (with_rule (with_rule empty_app (needed_rule (codes "COMMAND"))) (needed_rule (codes "FIRST"))) (name_rule (codes "SECOND"))
+app_with_names = with_rule (with_rule (with_rule empty_app (needed_rule (codes "COMMAND")))
+    (needed_rule (codes "FIRST"))) (name_rule (codes "SECOND"))
 
 abbrev pub with_option : App → Text → App
 with_option a name = with_rule a (option_rule name)
 
 -- The command.
 abbrev pub app : App
-app = with_option (with_option (with_option (with_option (with_option (with_option app_with_names (codes "weights")) (codes "unit")) (codes "agents")) (codes "epoch")) (codes "run")) (codes "slot-ms")
+app = with_option (with_option
+    (with_option (with_option (with_option (with_option app_with_names (codes "weights")) (codes "unit"))
+    (codes "agents")) (codes "epoch")) (codes "run")) (codes "slot-ms")
 
 -- No argument is used twice, and COMMAND and FIRST are used.
 abbrev pub IsAccepted : List Use → Type 0

@@ -35,7 +35,8 @@ said_by w = record {
 -- n is the number that an option is given, from 1 to `most`, or the option's default where it is not used.
 abbrev pub IsSetting : ℕ → ℕ → Option Text → ℕ → Type 0
 IsSetting most default None n = n ≡ default
-IsSetting most default (Some text) n = (is_number text ≡ true) × (1 ≤ number text) × (number text ≤ most) × (n ≡ number text)
+IsSetting most default (Some text) n = (is_number text ≡ true) × (1 ≤ number text) × (number text ≤ most) ×
+    (n ≡ number text)
 
 -- What is said is what the arguments have as their values, and each value fits.
 pub record IsSaid (value : Text → Option Text) (said : Said) : Type 0 where

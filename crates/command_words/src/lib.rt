@@ -1,4 +1,4 @@
-// Reads the words of a command line: the command, the names behind it and the options.
+//! Reads the words of a command line: the command, the names behind it and the options.
 #![tactic(auto)]
 
 mod command;

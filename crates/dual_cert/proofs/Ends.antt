@@ -42,17 +42,31 @@ in_middle : (xs ys : List ℕ) (c : ℕ) → Contains (xs ++ c ∷ ys) c
 in_middle [] ys c = in_first c ys
 in_middle (x ∷ xs) ys c = in_tail x (xs ++ c ∷ ys) c (in_middle xs ys c)
 
-flow_within : (i : Instance) (order : List ℕ) (slots : List (List ℕ)) (e : Entry) (before : List Entry) (tail : List ℕ) (f : ℕ) → IsInstance i → IsValid i.flows slots → IsPatient i.flows order slots →
+flow_within : (i : Instance) (order : List ℕ) (slots : List (List ℕ)) (e : Entry) (before : List Entry) (tail : List ℕ) (f : ℕ) → IsInstance i → IsValid i.flows slots →
+    IsPatient i.flows order slots →
     order ≡ reverse (front before) ++ e.coflow ∷ tail → (Contains (front before) e.coflow → ⊥) →
     ((port : Port) → port.number < i.ports → load_of_all i.flows (front (e ∷ before)) port ≤ front_load i.flows (e ∷ before)) →
-    f < length i.flows → coflow_of i.flows f ≡ e.coflow → completion i.flows slots e.coflow ≡ end_of slots f → completion i.flows slots e.coflow ≤ 2 * front_load i.flows (e ∷ before)
+    f < length i.flows → coflow_of i.flows f ≡ e.coflow → completion i.flows slots e.coflow ≡ end_of slots f →
+    completion i.flows slots e.coflow ≤ 2 * front_load i.flows (e ∷ before)
 flow_within i order slots e before tail f inst valid patient split out best lt of end =
-    let has : Contains order (coflow_of i.flows f) = subst (λ l. Contains l (coflow_of i.flows f)) (sym split) (subst (λ n. Contains (reverse (front before) ++ e.coflow ∷ tail) n) (sym of) (in_middle (reverse (front before)) tail e.coflow)) in
+    let has : Contains order (coflow_of i.flows f) =
+    subst (λ l. Contains l (coflow_of i.flows f)) (sym split)
+    (subst (λ n. Contains (reverse (front before) ++ e.coflow ∷ tail) n) (sym of) (in_middle (reverse (front before)) tail e.coflow)) in
     let short = short_law i.flows order slots f valid patient lt has in
-    let same = λ (port : Port). ap (λ n. load_of_all i.flows (up_to order n) port) of ∙ ap (λ l. load_of_all i.flows (up_to l e.coflow) port) split ∙ load_up_to i.flows port (front before) tail e.coflow out in
-    omega (arith, end, short, same (ingress_port i.flows f), same (egress_port i.flows f), best (ingress_port i.flows f) (inst.ingress f record { coflow = 0; ingress = 0; egress = 0; units = 0 } lt), best (egress_port i.flows f) (inst.egress f record { coflow = 0; ingress = 0; egress = 0; units = 0 } lt))
+    let same = λ (port : Port). ap (λ n. load_of_all i.flows (up_to order n) port) of ∙ ap (λ l. load_of_all i.flows (up_to l e.coflow) port) split ∙
+    load_up_to i.flows port (front before) tail e.coflow out in
+    omega (
+      arith,
+      end,
+      short,
+      same (ingress_port i.flows f),
+      same (egress_port i.flows f),
+      best (ingress_port i.flows f) (inst.ingress f record { coflow = 0; ingress = 0; egress = 0; units = 0 } lt),
+      best (egress_port i.flows f) (inst.egress f record { coflow = 0; ingress = 0; egress = 0; units = 0 } lt),
+    )
 
-pub ends_within : (i : Instance) (order : List ℕ) (slots : List (List ℕ)) (entries : List Entry) (tail : List ℕ) → IsInstance i → IsValid i.flows slots → IsPatient i.flows order slots →
+pub ends_within : (i : Instance) (order : List ℕ) (slots : List (List ℕ)) (entries : List Entry) (tail : List ℕ) → IsInstance i → IsValid i.flows slots →
+    IsPatient i.flows order slots →
     order ≡ reverse (front entries) ++ tail → Apart (front entries) → TakesGreatestPorts i.flows i.ports entries → EndsWithin i.flows (λ c. completion i.flows slots c) entries
 ends_within i order slots [] tail inst valid patient e apart best = tt
 ends_within i order slots (e ∷ before) tail inst valid patient is apart best =
@@ -61,6 +75,7 @@ ends_within i order slots (e ∷ before) tail inst valid patient is apart best =
     let later = ends_within i order slots before (c ∷ tail) inst valid patient split apart.1 best.1 in
     let here : completion i.flows slots c ≤ 2 * front_load i.flows (e ∷ before) = elim (some_flow i.flows slots c) [
       | inl none ↦ omega (arith, none)
-      | inr w ↦ flow_within i order slots e before tail w.flow inst valid patient split apart.0 best.0 (All-contains (λ x. x < length i.flows) w.slot w.flow (All-contains (IsClear i.flows) slots w.slot valid.clear w.inside).flow w.has) w.of w.end
+      | inr w ↦ flow_within i order slots e before tail w.flow inst valid patient split apart.0 best.0
+          (All-contains (λ x. x < length i.flows) w.slot w.flow (All-contains (IsClear i.flows) slots w.slot valid.clear w.inside).flow w.has) w.of w.end
     ] in
     (here, later)

@@ -78,20 +78,26 @@ pub first_in : (k : ℕ) (charges : List Charge) (c : ℕ) → Contains (front (
 first_in k charges c has = subst (λ l. Contains (front l) c) (sym (entries_split k charges)) (end_in (entries_from k charges) (entries_to k charges) c has)
 
 pub first_used : (flows : List Flow) (k : ℕ) (charges : List Charge) (c : ℕ) → used flows (entries_to k charges) c ≤ used flows (all_entries charges) c
-first_used flows k charges c = subst (λ l. used flows (entries_to k charges) c ≤ used flows l c) (sym (entries_split k charges)) (end_used flows (entries_from k charges) (entries_to k charges) c)
+first_used flows k charges c =
+    subst (λ l. used flows (entries_to k charges) c ≤ used flows l c) (sym (entries_split k charges)) (end_used flows (entries_from k charges) (entries_to k charges) c)
 
 pub first_value : (flows : List Flow) (k : ℕ) (charges : List Charge) → dual_value flows (entries_to k charges) ≤ dual_value flows (all_entries charges)
-first_value flows k charges = subst (λ l. dual_value flows (entries_to k charges) ≤ dual_value flows l) (sym (entries_split k charges)) (end_value flows (entries_from k charges) (entries_to k charges))
+first_value flows k charges = subst (λ l. dual_value flows (entries_to k charges) ≤ dual_value flows l) (sym (entries_split k charges))
+    (end_value flows (entries_from k charges) (entries_to k charges))
 
-pub first_places : (flows : List Flow) (number : ℕ → ℕ) (k : ℕ) (charges : List Charge) → over_places flows number (entries_to k charges) ≤ over_places flows number (all_entries charges)
-first_places flows number k charges = subst (λ l. over_places flows number (entries_to k charges) ≤ over_places flows number l) (sym (entries_split k charges)) (end_places flows number (entries_from k charges) (entries_to k charges))
+pub first_places : (flows : List Flow) (number : ℕ → ℕ) (k : ℕ) (charges : List Charge) →
+    over_places flows number (entries_to k charges) ≤ over_places flows number (all_entries charges)
+first_places flows number k charges =
+    subst (λ l. over_places flows number (entries_to k charges) ≤ over_places flows number l) (sym (entries_split k charges))
+    (end_places flows number (entries_from k charges) (entries_to k charges))
 
 -- ---- members
 
 pub entry_in : (k : ℕ) (charges : List Charge) → k < length charges → Contains (all_entries charges) (entry_at (charge_at charges k))
 entry_in k charges lt =
     let here = subst (λ l. Contains l (entry_at (charge_at charges k))) (sym (entries_more k charges lt)) (in_first (entry_at (charge_at charges k)) (entries_to k charges)) in
-    subst (λ l. Contains l (entry_at (charge_at charges k))) (sym (entries_split (k + 1) charges)) (end_has (entries_from (k + 1) charges) (entries_to (k + 1) charges) (entry_at (charge_at charges k)) here)
+    subst (λ l. Contains l (entry_at (charge_at charges k))) (sym (entries_split (k + 1) charges))
+    (end_has (entries_from (k + 1) charges) (entries_to (k + 1) charges) (entry_at (charge_at charges k)) here)
 
 -- a coflow is in the front of its own place and of those after it
 pub in_front : (k : ℕ) (charges : List Charge) (place : ℕ) → place < k → k ≤ length charges → Contains (front (entries_to k charges)) (coflow_at charges place)
@@ -102,14 +108,17 @@ in_front (suc k) charges place lt le = subst (λ l. Contains (front l) (coflow_a
 ])
 
 -- and in no earlier one
-pub not_before : (place : ℕ) (charges : List Charge) → place < length charges → Apart (front (all_entries charges)) → Contains (front (entries_to place charges)) (coflow_at charges place) → ⊥
+pub not_before : (place : ℕ) (charges : List Charge) → place < length charges → Apart (front (all_entries charges)) →
+    Contains (front (entries_to place charges)) (coflow_at charges place) → ⊥
 not_before place charges lt apart has = (subst (λ l. Apart (front l)) (entries_more place charges lt) (first_apart (place + 1) charges apart)).0 has
 
 pub coflow_in : (t : LoadTable) (charges : List Charge) (place : ℕ) → IsCertificateOf t (all_entries charges) → place < length charges → coflow_at charges place < t.coflows
-coflow_in t charges place certificate lt = All-contains (λ (e : Entry). e.coflow < t.coflows) (all_entries charges) (entry_at (charge_at charges place)) certificate.coflow (entry_in place charges lt)
+coflow_in t charges place certificate lt =
+    All-contains (λ (e : Entry). e.coflow < t.coflows) (all_entries charges) (entry_at (charge_at charges place)) certificate.coflow (entry_in place charges lt)
 
 pub port_in : (t : LoadTable) (charges : List Charge) (place : ℕ) → IsCertificateOf t (all_entries charges) → place < length charges → (port_at charges place).number < t.ports
-port_in t charges place certificate lt = All-contains (λ (e : Entry). e.port.number < t.ports) (all_entries charges) (entry_at (charge_at charges place)) certificate.port (entry_in place charges lt)
+port_in t charges place certificate lt =
+    All-contains (λ (e : Entry). e.port.number < t.ports) (all_entries charges) (entry_at (charge_at charges place)) certificate.port (entry_in place charges lt)
 
 front_below : (n : ℕ) (entries : List Entry) → All (λ (e : Entry). e.coflow < n) entries → (c : ℕ) → Contains (front entries) c → c < n
 front_below n [] all c has = absurd (nothing_in c has)
@@ -124,12 +133,14 @@ named_in t entries certificate c has = front_below t.coflows entries certificate
 pub all_from_front : (n : ℕ) (entries : List Entry) → ((c : ℕ) → Contains (front entries) c → c < n) → All (λ (e : Entry). e.coflow < n) entries
 all_from_front n [] below = All-nil (λ (e : Entry). e.coflow < n)
 all_from_front n (e ∷ before) below =
-    All-cons (λ (x : Entry). x.coflow < n) e before (below e.coflow (in_first e.coflow (front before))) (all_from_front n before (λ c has. below c (in_tail e.coflow (front before) c has)))
+    All-cons (λ (x : Entry). x.coflow < n) e before (below e.coflow (in_first e.coflow (front before)))
+    (all_from_front n before (λ c has. below c (in_tail e.coflow (front before) c has)))
 
 -- a coflow of the first places is that of one of them
 pub place_of : (k : ℕ) (charges : List Charge) (c : ℕ) → k ≤ length charges → Contains (front (entries_to k charges)) c → (place : ℕ) × (place < k) × (coflow_at charges place ≡ c)
 place_of zero charges c le has = absurd (nothing_in c has)
-place_of (suc k) charges c le has = elim (first_or_tail (coflow_at charges k) (front (entries_to k charges)) c (subst (λ l. Contains (front l) c) (entries_suc k charges (omega arith)) has)) [
-  | inl e ↦ (k, omega arith, e)
-  | inr later ↦ let (place, lt, e) = place_of k charges c (omega arith) later in (place, omega arith, e)
-]
+place_of (suc k) charges c le has =
+    elim (first_or_tail (coflow_at charges k) (front (entries_to k charges)) c (subst (λ l. Contains (front l) c) (entries_suc k charges (omega arith)) has)) [
+      | inl e ↦ (k, omega arith, e)
+      | inr later ↦ let (place, lt, e) = place_of k charges c (omega arith) later in (place, omega arith, e)
+    ]

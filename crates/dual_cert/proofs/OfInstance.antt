@@ -11,7 +11,8 @@ use Rattle.port_load.specs.LoadTable.{HasLoads, LoadTable, load_at}
 use Rattle.dual_cert.specs.TableCertificate.{HasLoadsOf, HasWeightsOf, IsCertificateOf, StaysInBudget}
 use Rattle.dual_cert.proofs.FirstPlaces.{all_from_front, named_in}
 
-pub certificate_of : (i : Instance) (t : LoadTable) (entries : List Entry) → IsCertificate i entries → i.ports ≡ t.ports → ((c : ℕ) → Contains i.coflows c → c < t.coflows) → IsCertificateOf t entries
+pub certificate_of : (i : Instance) (t : LoadTable) (entries : List Entry) → IsCertificate i entries → i.ports ≡ t.ports → ((c : ℕ) → Contains i.coflows c → c < t.coflows) →
+    IsCertificateOf t entries
 certificate_of i t entries certificate ports below = record {
   once = certificate.once;
   coflow = all_from_front t.coflows entries (λ c has. below c (All-contains (Contains i.coflows) (front entries) c certificate.coflow has));
@@ -23,12 +24,15 @@ loads_of flows t entries certificate has = λ c port in' lt. has c port (named_i
 
 pub loads_of_coflows : (i : Instance) (t : LoadTable) (entries : List Entry) → IsCertificate i entries → i.ports ≡ t.ports →
     ((c : ℕ) (port : Port) → Contains i.coflows c → port.number < i.ports → load_at t c port ≡ load i.flows c port) → HasLoadsOf i.flows t entries
-loads_of_coflows i t entries certificate ports has = λ c port in' lt. has c port (All-contains (Contains i.coflows) (front entries) c certificate.coflow in') (subst (λ n. port.number < n) (sym ports) lt)
+loads_of_coflows i t entries certificate ports has =
+    λ c port in' lt. has c port (All-contains (Contains i.coflows) (front entries) c certificate.coflow in') (subst (λ n. port.number < n) (sym ports) lt)
 
-pub weights_of_coflows : (i : Instance) (weights : List ℕ) (entries : List Entry) → IsCertificate i entries → ((c : ℕ) → Contains i.coflows c → i.weight c ≡ slice_index weights c) → HasWeightsOf i.weight weights entries
+pub weights_of_coflows : (i : Instance) (weights : List ℕ) (entries : List Entry) → IsCertificate i entries →
+    ((c : ℕ) → Contains i.coflows c → i.weight c ≡ slice_index weights c) → HasWeightsOf i.weight weights entries
 weights_of_coflows i weights entries certificate has = λ c in'. has c (All-contains (Contains i.coflows) (front entries) c certificate.coflow in')
 
-pub stays_of : (flows : List Flow) (weight : ℕ → ℕ) (t : LoadTable) (weights : List ℕ) (entries : List Entry) → HasLoadsOf flows t entries → HasWeightsOf weight weights entries → IsFeasible flows weight entries → StaysInBudget t weights entries
+pub stays_of : (flows : List Flow) (weight : ℕ → ℕ) (t : LoadTable) (weights : List ℕ) (entries : List Entry) → HasLoadsOf flows t entries → HasWeightsOf weight weights entries →
+    IsFeasible flows weight entries → StaysInBudget t weights entries
 stays_of flows weight t weights entries has hasw feasible = record {
   flows = flows;
   weight = weight;

@@ -19,7 +19,8 @@ map_push (x ∷ xs) e = ap (λ l. x.coflow ∷ l) (map_push xs e)
 
 front_reverse : (l : List Entry) → map (λ (x : Entry). x.coflow) (reverse l) ≡ reverse (front l)
 front_reverse [] = refl
-front_reverse (e ∷ l) = ap (map (λ (x : Entry). x.coflow)) (reverse-append (e ∷ []) l) ∙ map_push (reverse l) e ∙ ap (λ xs. xs ++ e.coflow ∷ []) (front_reverse l) ∙ sym (reverse-cons e.coflow (front l))
+front_reverse (e ∷ l) = ap (map (λ (x : Entry). x.coflow)) (reverse-append (e ∷ []) l) ∙ map_push (reverse l) e ∙ ap (λ xs. xs ++ e.coflow ∷ []) (front_reverse l) ∙
+    sym (reverse-cons e.coflow (front l))
 
 get_front : (xs : List Entry) (e : Entry) (k : ℕ) → k < length xs → get_or (xs ++ e ∷ []) k blank ≡ get_or xs k blank
 get_front [] e k lt = absurd (omega arith)
@@ -63,7 +64,14 @@ over_tails : (term : Entry → List ℕ → ℕ) (sum_of : List Entry → ℕ) �
 over_tails term sum_of is [] = is.none
 over_tails term sum_of is (e ∷ l) =
     ap (λ n. n) (is.more e l)
-    ∙ omega (arith, over_tails term sum_of is l, number_push term (reverse l) e, ap (term e) (whole_front l e), is.turned e (front (e ∷ l)), ap (by_number term) (reverse-append (e ∷ []) l))
+    ∙ omega (
+      arith,
+      over_tails term sum_of is l,
+      number_push term (reverse l) e,
+      ap (term e) (whole_front l e),
+      is.turned e (front (e ∷ l)),
+      ap (by_number term) (reverse-append (e ∷ []) l),
+    )
 
 or_turn : (a b c : Bool) → (a || (b || c)) ≡ (b || (a || c))
 or_turn true true c = refl
@@ -88,7 +96,12 @@ used_numbered flows places c =
 pub dual_value_numbered : (flows : List Flow) (places : List Entry) → dual_value flows (reverse places) ≡ dual_value_by_number flows places
 dual_value_numbered flows places =
     over_tails (λ (e : Entry) (up_to : List ℕ). e.y * (load_of_all flows up_to e.port * load_of_all flows up_to e.port + squares_of_loads flows up_to e.port)) (dual_value flows)
-    (record { none = refl; more = λ e l. refl; turned = λ e xs. ap₂ (λ a b. e.y * (a * a + b)) (sum_reverse (λ c. load flows c e.port) xs) (sum_reverse (λ c. load flows c e.port * load flows c e.port) xs) }) (reverse places)
+    (record {
+      none = refl;
+      more = λ e l. refl;
+      turned = λ e xs. ap₂ (λ a b. e.y * (a * a + b)) (sum_reverse (λ c. load flows c e.port) xs) (sum_reverse (λ c. load flows c e.port * load flows c e.port) xs);
+    })
+    (reverse places)
     ∙ ap (dual_value_by_number flows) (reverse-reverse places)
 
 pub over_places_numbered : (flows : List Flow) (number : ℕ → ℕ) (places : List Entry) → over_places flows number (reverse places) ≡ over_places_by_number flows number places

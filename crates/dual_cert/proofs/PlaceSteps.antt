@@ -23,14 +23,16 @@ placed_none charges most le = record {
   other = λ c lt. inl (omega (arith, le, get_or-replicate 4096 c most 0 lt));
 }
 
-pub placed_more : (t : LoadTable) (charges : List Charge) (places : List ℕ) (k : ℕ) → IsCertificateOf t (all_entries charges) → t.coflows ≤ 4096 → PlacedSoFar charges places k → k < length charges →
+pub placed_more : (t : LoadTable) (charges : List Charge) (places : List ℕ) (k : ℕ) → IsCertificateOf t (all_entries charges) → t.coflows ≤ 4096 → PlacedSoFar charges places k →
+    k < length charges →
     PlacedSoFar charges (slice_set places (coflow_at charges k) k) (k + 1)
 placed_more t charges places k certificate few so_far lt =
     let here = coflow_at charges k in
     let inside : here < length places = omega (arith, so_far.len, few, coflow_in t charges k certificate lt) in
     let same = get_or-set_same places here k 0 inside in
     let not_here : (p : ℕ) → p < k → coflow_at charges p ≢ here = λ p lp e.
-    not_before k charges lt (apart_from_pairs (front (all_entries charges)) certificate.once) (subst (λ c. Contains (front (entries_to k charges)) c) e (in_front k charges p lp (omega (arith, lt)))) in
+    not_before k charges lt (apart_from_pairs (front (all_entries charges)) certificate.once)
+    (subst (λ c. Contains (front (entries_to k charges)) c) e (in_front k charges p lp (omega (arith, lt)))) in
     record {
       len = length-set places here k ∙ so_far.len;
       own = λ p lp. elim (cases_eq p k) [
@@ -55,7 +57,8 @@ placed_all charges places k so_far end = record {
   len = so_far.len;
   early = λ c place lc lp le. elim (so_far.other c lc) [
     | inl none ↦ absurd (omega (arith, none, lp, le))
-    | inr (below, at) ↦ subst (λ x. Contains (front (entries_to (place + 1) charges)) x) at (in_front (place + 1) charges (slice_index places c) (omega (arith, le)) (omega (arith, lp)))
+    | inr (below, at) ↦ subst (λ x. Contains (front (entries_to (place + 1) charges)) x) at
+        (in_front (place + 1) charges (slice_index places c) (omega (arith, le)) (omega (arith, lp)))
   ];
   late = λ c place lc lp lt has.
       let (p, before, at) = place_of (place + 1) charges c (omega (arith, lp)) has in

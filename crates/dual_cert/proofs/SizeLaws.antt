@@ -26,7 +26,15 @@ paid_is_used flows [] apart = refl
 paid_is_used flows (e ∷ before) apart =
     let cs = front (e ∷ before) in
     let split = sum_same (used flows (e ∷ before)) (λ c. e.y * load flows c e.port + used flows before c) cs (λ c has. used_in flows e before c has) in
-    omega (arith, split, sum_add (λ c. e.y * load flows c e.port) (used flows before) cs, sum_scale e.y (λ c. load flows c e.port) cs, sum_by-cons (used flows before) e.coflow (front before), used_outside flows before e.coflow apart.0, paid_is_used flows before apart.1)
+    omega (
+      arith,
+      split,
+      sum_add (λ c. e.y * load flows c e.port) (used flows before) cs,
+      sum_scale e.y (λ c. load flows c e.port) cs,
+      sum_by-cons (used flows before) e.coflow (front before),
+      used_outside flows before e.coflow apart.0,
+      paid_is_used flows before apart.1,
+    )
 
 term_fits : (y b q k : ℕ) → q ≤ b * b → b ≤ k → y * (b * b + q) ≤ 2 * (k * (y * b))
 term_fits y b q k sq cap =
@@ -41,10 +49,12 @@ value_within_paid flows ports k (e ∷ before) inside cap =
     let here = cap e.port (All-head (λ (x : Entry). x.port.number < ports) e before inside) in
     let later = value_within_paid flows ports k before (All-tail (λ (x : Entry). x.port.number < ports) e before inside)
     (λ port lt. le_trans (omega (arith, sum_by-cons (λ c. load flows c port) e.coflow (front before))) (cap port lt)) in
-    let term = term_fits e.y (front_load flows (e ∷ before)) (squares_of_loads flows (front (e ∷ before)) e.port) k (square_of_sum (λ c. load flows c e.port) (front (e ∷ before))) here in
+    let term = term_fits e.y (front_load flows (e ∷ before)) (squares_of_loads flows (front (e ∷ before)) e.port) k (square_of_sum (λ c. load flows c e.port) (front (e ∷ before)))
+    here in
     omega (arith, term, later)
 
-pub value_fits : (flows : List Flow) (weight : ℕ → ℕ) (ports k : ℕ) (entries : List Entry) → Apart (front entries) → All (λ (e : Entry). e.port.number < ports) entries → IsFeasible flows weight entries →
+pub value_fits : (flows : List Flow) (weight : ℕ → ℕ) (ports k : ℕ) (entries : List Entry) → Apart (front entries) → All (λ (e : Entry). e.port.number < ports) entries →
+    IsFeasible flows weight entries →
     ((port : Port) → port.number < ports → load_of_all flows (front entries) port ≤ k) → dual_value flows entries ≤ 2 * (k * sum_by (budget weight) (front entries))
 value_fits flows weight ports k entries apart inside feasible cap =
     let within = sum_mono (used flows entries) (budget weight) (front entries) (λ c has. feasible c) in

@@ -21,7 +21,8 @@ own_within : (flows : List Flow) (e : Entry) (before : List Entry) → load flow
 own_within flows e before = member_within_sum (λ c. load flows c e.port) (front (e ∷ before)) e.coflow (in_first e.coflow (front before))
 
 -- the loads of a port over the places before are no greater
-tail_cap : (flows : List Flow) (ports k : ℕ) (e : Entry) (before : List Entry) → ((port : Port) → port.number < ports → load_of_all flows (front (e ∷ before)) port ≤ k) → (port : Port) → port.number < ports → load_of_all flows (front before) port ≤ k
+tail_cap : (flows : List Flow) (ports k : ℕ) (e : Entry) (before : List Entry) → ((port : Port) → port.number < ports → load_of_all flows (front (e ∷ before)) port ≤ k) →
+    (port : Port) → port.number < ports → load_of_all flows (front before) port ≤ k
 tail_cap flows ports k e before cap port lt = le_trans (omega (arith, sum_by-cons (λ c. load flows c port) e.coflow (front before))) (cap port lt)
 
 term_own : (r l b : ℕ) → (0 < b → r < l) → r * b ≤ l * b
@@ -56,8 +57,10 @@ fronts_cap flows ports k (e ∷ before) inside cap =
     let here = cap e.port (All-head (λ (x : Entry). x.port.number < ports) e before inside) in
     omega (arith, here, fronts_cap flows ports k before (All-tail (λ (x : Entry). x.port.number < ports) e before inside) (tail_cap flows ports k e before cap))
 
-pub slack_by_loads : (i : Instance) (entries : List Entry) → IsBelowLoads i.flows (rest i.flows i.weight entries) entries → scale * slack i.flows i.weight entries < 2 * own_loads i.flows entries + scale
-slack_by_loads i entries below = omega (arith, div_up_within (2 * unspent i.flows i.weight entries) scale (omega arith), rests_own i.flows (rest i.flows i.weight entries) entries below)
+pub slack_by_loads : (i : Instance) (entries : List Entry) → IsBelowLoads i.flows (rest i.flows i.weight entries) entries →
+    scale * slack i.flows i.weight entries < 2 * own_loads i.flows entries + scale
+slack_by_loads i entries below =
+    omega (arith, div_up_within (2 * unspent i.flows i.weight entries) scale (omega arith), rests_own i.flows (rest i.flows i.weight entries) entries below)
 
 pub slack_by_fronts : (i : Instance) (entries : List Entry) → IsCertificate i entries → IsBelowLoads i.flows (rest i.flows i.weight entries) entries →
     ((port : Port) → port.number < i.ports → load_of_all i.flows (front entries) port ≤ scale) → slack i.flows i.weight entries ≤ 2 * front_loads i.flows entries
@@ -69,4 +72,8 @@ pub slack_two_each : (i : Instance) (entries : List Entry) → IsCertificate i e
     ((port : Port) → port.number < i.ports → load_of_all i.flows (front entries) port ≤ 2 ^ 20) → slack i.flows i.weight entries ≤ 2 * length entries
 slack_two_each i entries certificate below cap =
     div_up_least (2 * unspent i.flows i.weight entries) scale (2 * length entries) (omega arith)
-    (omega (arith, rests_cap i.flows i.ports (2 ^ 20) (rest i.flows i.weight entries) entries certificate.port below cap, fronts_cap i.flows i.ports (2 ^ 20) entries certificate.port cap))
+    (omega (
+      arith,
+      rests_cap i.flows i.ports (2 ^ 20) (rest i.flows i.weight entries) entries certificate.port below cap,
+      fronts_cap i.flows i.ports (2 ^ 20) entries certificate.port cap,
+    ))

@@ -19,7 +19,8 @@ no_places t = record {
   port = All-nil (λ (e : Entry). e.port.number < t.ports);
 }
 
-pub certificate_more : (t : LoadTable) (charges : List Charge) (k : ℕ) → IsCertificateOf t (entries_to k charges) → k < length charges → (Contains (front (entries_to k charges)) (coflow_at charges k) → ⊥) →
+pub certificate_more : (t : LoadTable) (charges : List Charge) (k : ℕ) → IsCertificateOf t (entries_to k charges) → k < length charges →
+    (Contains (front (entries_to k charges)) (coflow_at charges k) → ⊥) →
     coflow_at charges k < t.coflows → (port_at charges k).number < t.ports → IsCertificateOf t (entries_to (k + 1) charges)
 certificate_more t charges k so_far lt new lc lp =
     let before = entries_to k charges in
@@ -30,10 +31,12 @@ certificate_more t charges k so_far lt new lc lp =
       port = All-cons (λ (x : Entry). x.port.number < t.ports) e before lp so_far.port;
     })
 
-pub not_found : (charges : List Charge) (k : ℕ) → k ≤ length charges → ((j : ℕ) → j < k → coflow_at charges j ≢ coflow_at charges k) → Contains (front (entries_to k charges)) (coflow_at charges k) → ⊥
+pub not_found : (charges : List Charge) (k : ℕ) → k ≤ length charges → ((j : ℕ) → j < k → coflow_at charges j ≢ coflow_at charges k) →
+    Contains (front (entries_to k charges)) (coflow_at charges k) → ⊥
 not_found charges k le differ has = let (j, lt, e) = place_of k charges (coflow_at charges k) le has in differ j lt e
 
-pub stays_in : (flows : List Flow) (t : LoadTable) (weights : List ℕ) (entries : List Entry) → IsCertificateOf t entries → HasLoads flows t → IsFeasible flows (slice_index weights) entries → StaysInBudget t weights entries
+pub stays_in : (flows : List Flow) (t : LoadTable) (weights : List ℕ) (entries : List Entry) → IsCertificateOf t entries → HasLoads flows t →
+    IsFeasible flows (slice_index weights) entries → StaysInBudget t weights entries
 stays_in flows t weights entries certificate has feasible = record {
   flows = flows;
   weight = slice_index weights;

@@ -1,4 +1,5 @@
--- Certificates beside a table of loads and a list of weights. As in all definitions on certificates, entries stand from the last place to the first.
+-- Certificates beside a table of loads and a list of weights. As in all definitions on certificates, entries stand from
+-- the last place to the first.
 use Rattle.std.specs.Prelude.{◌≡◌, ℕ, ◌<◌, ◌≤◌, List, All, Contains, map, reverse, slice_index, take}
 use Rattle.std.specs.List.{slice_index_or}
 use Rattle.coflow_units.specs.declared.fabric.Flow.{Flow}
@@ -18,11 +19,13 @@ pub record IsCertificateOf (t : LoadTable) (entries : List Entry) : Type 0 where
 
 -- the flows have the loads of the table, for each coflow of the entries and each port
 abbrev pub HasLoadsOf : List Flow → LoadTable → List Entry → Type 0
-HasLoadsOf flows t entries = (coflow : ℕ) (port : Port) → Contains (front entries) coflow → port.number < t.ports → load_at t coflow port ≡ load flows coflow port
+HasLoadsOf flows t entries = (coflow : ℕ) (port : Port) → Contains (front entries) coflow → port.number < t.ports →
+    load_at t coflow port ≡ load flows coflow port
 
 -- the weights are those of the list, for each coflow of the entries
 abbrev pub HasWeightsOf : (ℕ → ℕ) → List ℕ → List Entry → Type 0
-HasWeightsOf weight weights entries = (coflow : ℕ) → Contains (front entries) coflow → weight coflow ≡ slice_index weights coflow
+HasWeightsOf weight weights entries = (coflow : ℕ) → Contains (front entries) coflow →
+    weight coflow ≡ slice_index weights coflow
 
 -- the entries are feasible for some flows with the loads of the table and the weights of the list
 pub record StaysInBudget (t : LoadTable) (weights : List ℕ) (entries : List Entry) : Type 0 where
@@ -37,9 +40,14 @@ pub record IsLeastInfeasible (flows : List Flow) (weight : ℕ → ℕ) (entries
   pub above : budget weight coflow < used flows entries coflow
   pub least : (other : ℕ) → other < coflow → used flows entries other ≤ budget weight other
 
--- the charge of a place, counted from 0; a number past the end has zeros, and is read only where it is known to be a place's
+-- the charge of a place, counted from 0; a number past the end has zeros, and is read only where it is known to be a
+-- place's
 abbrev pub charge_at : List Charge → ℕ → Charge
-charge_at charges place = slice_index_or charges place record { coflow = 0; port = record { side = Ingress; number = 0 }; y = 0 }
+charge_at charges place = slice_index_or charges place record {
+  coflow = 0;
+  port = record { side = Ingress; number = 0 };
+  y = 0;
+}
 
 abbrev pub coflow_at : List Charge → ℕ → ℕ
 coflow_at charges place = (charge_at charges place).coflow

@@ -15,9 +15,11 @@ use port_load::Loads;
 pub fn infeasible(loads: &Loads, weights: &[u64], cert: &Cert) -> Option<u32>
     requires weights_len { length weights.now ≡ loads.now.coflows }
     requires certificate { IsCertificateOf loads.now (reverse cert.now) }
-    ensures none { (flows : List Flow) (weight : ℕ → ℕ) → HasLoadsOf flows loads.now (reverse cert.now) → HasWeightsOf weight weights.now (reverse cert.now) →
+    ensures none { (flows : List Flow) (weight : ℕ → ℕ) → HasLoadsOf flows loads.now (reverse cert.now) →
+        HasWeightsOf weight weights.now (reverse cert.now) →
         result ≡ None → IsFeasible flows weight (reverse cert.now) }
-    ensures least { (flows : List Flow) (weight : ℕ → ℕ) → HasLoadsOf flows loads.now (reverse cert.now) → HasWeightsOf weight weights.now (reverse cert.now) →
+    ensures least { (flows : List Flow) (weight : ℕ → ℕ) → HasLoadsOf flows loads.now (reverse cert.now) →
+        HasWeightsOf weight weights.now (reverse cert.now) →
         IfSome result (λ coflow. IsLeastInfeasible flows weight (reverse cert.now) coflow) }
     ensures within { IfSome result (λ coflow. coflow < loads.now.coflows) }
 {
@@ -36,7 +38,8 @@ pub fn infeasible(loads: &Loads, weights: &[u64], cert: &Cert) -> Option<u32>
 pub(crate) fn payments(loads: &Loads, charges: &[Charge], places: &[usize]) -> [u128; COFLOWS]
     requires places { HasPlaces charges.now places.now }
     requires certificate { IsCertificateOf loads.now (all_entries charges.now) }
-    ensures { (flows : List Flow) (coflow : ℕ) → HasLoadsOf flows loads.now (all_entries charges.now) → coflow < loads.now.coflows →
+    ensures { (flows : List Flow) (coflow : ℕ) → HasLoadsOf flows loads.now (all_entries charges.now) →
+        coflow < loads.now.coflows →
         slice_index result coflow ≡ min (used flows (all_entries charges.now) coflow) (2 ^ 128 - 1) }
 {
     let mut paid = [0; COFLOWS];
@@ -53,7 +56,8 @@ fn pay_at(loads: &Loads, charges: &[Charge], places: &[usize], place: usize, pai
     requires port_in { (port_at charges.now place).number < loads.now.ports }
     requires paid_len { length paid.old ≡ 4096 }
     ensures { (coflow used : ℕ) → coflow < loads.now.coflows → slice_index paid.old coflow ≡ min used (2 ^ 128 - 1) →
-        slice_index paid.new coflow ≡ min (used + (charge_at charges.now place).y * load_up_to loads.now charges.now place coflow) (2 ^ 128 - 1) }
+        slice_index paid.new coflow ≡
+        min (used + (charge_at charges.now place).y * load_up_to loads.now charges.now place coflow) (2 ^ 128 - 1) }
 {
     let charge = charges[place];
     let coflows = loads.coflows();

@@ -1,4 +1,4 @@
-// Certificates: lower bounds on the cost of every schedule, and how far a patient schedule can be from them.
+//! Certificates: lower bounds on the cost of every schedule, and how far a patient schedule can be from them.
 #![tactic(auto)]
 
 mod budgets;

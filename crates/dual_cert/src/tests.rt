@@ -1,5 +1,6 @@
 //! What no clause says: that the definitions give the values that were worked out by hand, that a call answers want of memory only where there is none, and that the limits can be met.
 ghost use Rattle.std.specs.Prelude.{◌≡◌, ◌≢◌, ℕ, ◌<◌, ◌≤◌, ◌^◌, All, Contains, IsTrue, false, length, reverse};
+ghost use Rattle.coflow_units.specs.declared.limits.TheConstants.{MAX_COFLOWS, MAX_PORTS, MAX_UNITS, MAX_WEIGHT};
 ghost use Rattle.std.specs.List.{slice_index_or};
 ghost use Rattle.coflow_units.specs.declared.fabric.Port.{Port};
 ghost use Rattle.coflow_units.specs.Certificate.{front};
@@ -66,7 +67,7 @@ fn flows_fit(flows: &[Flow], coflows: u32, ports: u32) -> bool
 
 /// Tests what the calls require of the weights.
 fn weights_fit(weights: &[u64]) -> bool
-    ensures { IsTrue result → All (λ w. w ≤ 2 ^ 32) weights.now }
+    ensures { IsTrue result → All (λ w. w ≤ MAX_WEIGHT) weights.now }
 {
     for weight in weights {
         if *weight > 1 << 32 {
@@ -110,9 +111,9 @@ fn stands_before(charges: &[Charge], place: usize) -> bool
 /// The bound and the slack, or the least infeasible coflow.
 fn values(loads: &Loads, flows: &[Flow], weights: &[u64], cert: &Cert) -> Result<(u128, u128), u32>
     requires loads { HasLoads flows.now loads.now }
-    requires totals { (port : Port) → port.number < loads.now.ports → total_at loads.now port ≤ 2 ^ 40 }
+    requires totals { (port : Port) → port.number < loads.now.ports → total_at loads.now port ≤ MAX_UNITS }
     requires weights_len { length weights.now ≡ loads.now.coflows }
-    requires weights_fit { All (λ w. w ≤ 2 ^ 32) weights.now }
+    requires weights_fit { All (λ w. w ≤ MAX_WEIGHT) weights.now }
     requires certificate { IsCertificateOf loads.now (reverse cert.now) }
 {
     match infeasible(loads, weights, cert) {
@@ -129,9 +130,9 @@ fn measured(
     ports: u32,
     places: &[Place],
 ) -> Result<(u128, u128), u32>
-    requires coflows_limit { length weights.now ≤ 4096 }
+    requires coflows_limit { length weights.now ≤ MAX_COFLOWS }
     requires has_ports { 1 ≤ ports }
-    requires ports_limit { ports ≤ 1025 }
+    requires ports_limit { ports ≤ MAX_PORTS + 1 }
 {
     let coflows = weights.len() as u32;
     let fit = flows_fit(flows, coflows, ports);

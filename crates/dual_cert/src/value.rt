@@ -1,5 +1,6 @@
 //! The bound that a certificate proves, and its slack.
 ghost use Rattle.std.specs.Prelude.{◌≡◌, ℕ, ◌+◌, ◌*◌, ◌^◌, ◌<◌, ◌≤◌, All, List, length, reverse};
+ghost use Rattle.coflow_units.specs.declared.limits.TheConstants.{MAX_UNITS, MAX_WEIGHT};
 ghost use Rattle.std.specs.List.{slice_index_or};
 ghost use Rattle.coflow_units.specs.declared.fabric.Flow.{Flow};
 ghost use Rattle.coflow_units.specs.declared.fabric.Port.{Port};
@@ -20,10 +21,12 @@ use port_load::Loads;
 ///
 /// Source: Mastrolilli, Queyranne, Schulz, Svensson and Uhan, "Minimizing the sum of weighted completion times in a concurrent open shop", Operations Research Letters 2010.
 pub fn bound(loads: &Loads, cert: &Cert) -> u128
-    requires totals_fit { (port : Port) → port.number < loads.now.ports → total_at loads.now port ≤ 2 ^ 40 }
+    requires totals_fit { (port : Port) → port.number < loads.now.ports → total_at loads.now port ≤ MAX_UNITS }
     requires certificate { IsCertificateOf loads.now (reverse cert.now) }
-    requires feasible { (weights : List ℕ) × All (λ w. w ≤ 2 ^ 32) weights × StaysInBudget loads.now weights (reverse cert.now) }
-    ensures { (flows : List Flow) → HasLoadsOf flows loads.now (reverse cert.now) → result ≡ bound flows (reverse cert.now) }
+    requires feasible { (weights : List ℕ) × All (λ w. w ≤ MAX_WEIGHT) weights ×
+        StaysInBudget loads.now weights (reverse cert.now) }
+    ensures { (flows : List Flow) → HasLoadsOf flows loads.now (reverse cert.now) →
+        result ≡ bound flows (reverse cert.now) }
 {
     // with at most 4096 coflows the sum is at most 2^125
     prove!(loads.coflows() <= MAX_COFLOWS);
@@ -39,11 +42,12 @@ pub fn bound(loads: &Loads, cert: &Cert) -> u128
 /// What the factor of four lacks at most: twice the sum over the places of what the coflow keeps of its budget times the load of the front on the port, in parts of 2^40 and rounded up.
 pub fn slack(loads: &Loads, weights: &[u64], cert: &Cert) -> u128
     requires weights_len { length weights.now ≡ loads.now.coflows }
-    requires weights_fit { All (λ w. w ≤ 2 ^ 32) weights.now }
-    requires totals_fit { (port : Port) → port.number < loads.now.ports → total_at loads.now port ≤ 2 ^ 40 }
+    requires weights_fit { All (λ w. w ≤ MAX_WEIGHT) weights.now }
+    requires totals_fit { (port : Port) → port.number < loads.now.ports → total_at loads.now port ≤ MAX_UNITS }
     requires certificate { IsCertificateOf loads.now (reverse cert.now) }
     requires feasible { StaysInBudget loads.now weights.now (reverse cert.now) }
-    ensures { (flows : List Flow) (weight : ℕ → ℕ) → HasLoadsOf flows loads.now (reverse cert.now) → HasWeightsOf weight weights.now (reverse cert.now) →
+    ensures { (flows : List Flow) (weight : ℕ → ℕ) → HasLoadsOf flows loads.now (reverse cert.now) →
+        HasWeightsOf weight weights.now (reverse cert.now) →
         result ≡ slack flows weight (reverse cert.now) }
 {
     // with at most 4096 coflows the sum is at most 2^124
@@ -63,11 +67,12 @@ pub fn slack(loads: &Loads, weights: &[u64], cert: &Cert) -> u128
 /// The load of a place's port over its front. Places count from 0.
 fn total(loads: &Loads, charges: &[Charge], places: &[usize], place: usize) -> u64
     requires places { HasPlaces charges.now places.now }
-    requires totals_fit { (port : Port) → port.number < loads.now.ports → total_at loads.now port ≤ 2 ^ 40 }
+    requires totals_fit { (port : Port) → port.number < loads.now.ports → total_at loads.now port ≤ MAX_UNITS }
     requires place_in { place < length charges.now }
     requires certificate { IsCertificateOf loads.now (all_entries charges.now) }
-    ensures load { (flows : List Flow) → HasLoadsOf flows loads.now (all_entries charges.now) → result ≡ front_load flows (entries_to (place + 1) charges.now) }
-    ensures fits { result ≤ 2 ^ 40 }
+    ensures load { (flows : List Flow) → HasLoadsOf flows loads.now (all_entries charges.now) →
+        result ≡ front_load flows (entries_to (place + 1) charges.now) }
+    ensures fits { result ≤ MAX_UNITS }
 {
     let port = charges[place].port;
     let coflows = loads.coflows();
@@ -83,11 +88,13 @@ fn total(loads: &Loads, charges: &[Charge], places: &[usize], place: usize) -> u
 /// The square of the load of a place's port over its front, and the squares of its coflows' loads there. Places count from 0.
 fn squares(loads: &Loads, charges: &[Charge], places: &[usize], place: usize) -> u128
     requires places { HasPlaces charges.now places.now }
-    requires totals_fit { (port : Port) → port.number < loads.now.ports → total_at loads.now port ≤ 2 ^ 40 }
+    requires totals_fit { (port : Port) → port.number < loads.now.ports → total_at loads.now port ≤ MAX_UNITS }
     requires place_in { place < length charges.now }
     requires certificate { IsCertificateOf loads.now (all_entries charges.now) }
     ensures { (flows : List Flow) → HasLoadsOf flows loads.now (all_entries charges.now) →
-        result ≡ front_load flows (entries_to (place + 1) charges.now) * front_load flows (entries_to (place + 1) charges.now) + squares_of_loads flows (front (entries_to (place + 1) charges.now)) (port_at charges.now place) }
+        result ≡ front_load flows (entries_to (place + 1) charges.now) * front_load flows
+        (entries_to (place + 1) charges.now) +
+        squares_of_loads flows (front (entries_to (place + 1) charges.now)) (port_at charges.now place) }
 {
     let port = charges[place].port;
     let coflows = loads.coflows();

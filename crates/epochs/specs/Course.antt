@@ -1,6 +1,7 @@
 -- The course of an online run: which coflows joined and left, and when an order was published last.
 use Rattle.std.specs.Prelude.{◌≡◌, ◌≢◌, ℕ, ◌+◌, ◌%◌, ◌^◌, ◌<◌, ◌≤◌, ◌⊎◌, Bool, true, false, List, All, Option, None}
 use Rattle.std.specs.Prelude.{Some, length, replicate, slice_index, slice_set}
+use Rattle.coflow_units.specs.declared.limits.TheConstants.{MAX_COFLOWS, MAX_OPTION_SLOTS}
 use Rattle.std.specs.List.{slice_index_or}
 use Rattle.epochs.specs.declared.action.Action.{Action}
 use Rattle.epochs.specs.declared.action.Action.TheVariants.{Register, Withdraw, Publish, Run, Skip, End, TooMany}
@@ -158,10 +159,10 @@ pub record IsNextStop (s : Course) (now time : ℕ) : Type 0 where
 
 -- numbers within their limits, a mark of each kind for each coflow, and the coflow that joins next
 pub record IsSound (s : Course) (upcoming : Option ℕ) : Type 0 where
-  pub coflows_limit : length s.arrivals ≤ 4096
+  pub coflows_limit : length s.arrivals ≤ MAX_COFLOWS
   pub arrivals_fit : All (λ a. a ≤ 2 ^ 32) s.arrivals
   pub epoch_some : 1 ≤ s.every
-  pub epoch_fits : s.every ≤ 2 ^ 40
+  pub epoch_fits : s.every ≤ MAX_OPTION_SLOTS
   pub registered_len : length s.registered ≡ length s.arrivals
   pub withdrawn_len : length s.withdrawn ≡ length s.arrivals
   pub published_limit : s.published ≤ 8192

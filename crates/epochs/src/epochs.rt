@@ -1,5 +1,6 @@
 //! What an online run keeps, and what it decides from it.
 ghost use Rattle.std.specs.Prelude.{◌≡◌, ℕ, ◌^◌, ◌<◌, ◌≤◌, ◌↔◌, All, IfOk, IsTrue, length};
+ghost use Rattle.coflow_units.specs.declared.limits.TheConstants.{MAX_COFLOWS, MAX_OPTION_SLOTS};
 ghost use Rattle.epochs.specs.Course.{Course, HaveJoined, IsArrived, IsEpochStart, IsNextStop, after, at_first};
 ghost use Rattle.epochs.specs.Choice.{IsFirstAction, IsIdleAction, IsOrderAction};
 
@@ -54,10 +55,10 @@ impl Epochs {
     /// A run over coflows that arrive at these times, in slots. An epoch starts at every multiple of `every` slots.
     /// No coflow joined, and no order was published. The error is want of memory.
     pub fn new(alloc: Global, arrivals: Vec<u64>, every: u64) -> Result<Epochs, NoMemory>
-        requires coflows { length arrivals.items ≤ 4096 }
+        requires coflows { length arrivals.items ≤ MAX_COFLOWS }
         requires arrivals_fit { All (λ a. a ≤ 2 ^ 32) arrivals.items }
         requires epoch_some { 1 ≤ every }
-        requires epoch_fits { every ≤ 2 ^ 40 }
+        requires epoch_fits { every ≤ MAX_OPTION_SLOTS }
         ensures { IfOk result (λ e. e ≡ at_first arrivals.items every) }
     {
         let registered = vec![in alloc; false; arrivals.len()]?;

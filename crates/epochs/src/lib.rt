@@ -1,4 +1,4 @@
-// What an online run does next: who joins or leaves, when an order is published, and for how long the master may serve.
+//! What an online run does next: who joins or leaves, when an order is published, and for how long the master may serve.
 #![tactic(auto)]
 
 mod action;

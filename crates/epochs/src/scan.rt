@@ -1,11 +1,12 @@
 //! What is found by looking at all coflows once.
 ghost use Rattle.std.specs.Prelude.{◌≡◌, ◌≤◌, ◌↔◌, IsTrue, length};
+ghost use Rattle.coflow_units.specs.declared.limits.TheConstants.{MAX_COFLOWS};
 ghost use Rattle.epochs.specs.Course.{IsFirstServed, IsFirstWaiting, IsLaterArrival, SomeOwes};
 
 /// The coflow that joins next: of those that have not joined the first by arrival and then by number.
 pub fn first_waiting(arrivals: &[u64], registered: &[bool]) -> Option<u32>
     requires len { length registered.now ≡ length arrivals.now }
-    requires limit { length arrivals.now ≤ 4096 }
+    requires limit { length arrivals.now ≤ MAX_COFLOWS }
     ensures { IsFirstWaiting arrivals.now registered.now result }
 {
     let mut first: Option<u32> = None;
@@ -47,7 +48,7 @@ pub fn some_owes(registered: &[bool], withdrawn: &[bool], owed: &[u64]) -> bool
 pub fn first_served(registered: &[bool], withdrawn: &[bool], owed: &[u64]) -> Option<u32>
     requires withdrawn_len { length withdrawn.now ≡ length registered.now }
     requires owed_len { length owed.now ≡ length registered.now }
-    requires limit { length registered.now ≤ 4096 }
+    requires limit { length registered.now ≤ MAX_COFLOWS }
     ensures { IsFirstServed registered.now withdrawn.now owed.now result }
 {
     for coflow in 0..registered.len() {

@@ -1,5 +1,6 @@
 //! What no clause says: runs that were worked out by hand, and that an `Epochs` is made where memory is there.
 ghost use Rattle.std.specs.Prelude.{◌≡◌, ◌≤◌, ◌^◌, length};
+ghost use Rattle.coflow_units.specs.declared.limits.TheConstants.{MAX_OPTION_SLOTS};
 
 use crate::*;
 use std::alloc::Global;
@@ -9,7 +10,7 @@ use std::process::Abort;
 fn two_coflows(rt: &impl Abort, alloc: Global, second: u64, every: u64) -> Epochs
     requires second_fits { second ≤ 2 ^ 32 }
     requires epoch_some { 1 ≤ every }
-    requires epoch_fits { every ≤ 2 ^ 40 }
+    requires epoch_fits { every ≤ MAX_OPTION_SLOTS }
     ensures { length result.arrivals ≡ 2 }
 {
     let Ok(arrivals) = Vec::from_array(alloc, [0, second]) else {

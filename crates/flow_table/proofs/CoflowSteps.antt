@@ -18,11 +18,13 @@ use Rattle.flow_table.proofs.SpotSteps.{none_pass}
 
 module _ (unit : ℕ) (x : CoflowLine) (at_mappers rests : List Spot)
     (mappers : (f : ℕ → ℕ) (location : ℕ) → sum_at f at_mappers location ≡ sum_by (λ place. if slice_index x.mappers place == location then f place else 0) (places x))
-    (reducers : (f : ℕ → ℕ) (location : ℕ) → sum_at f rests location ≡ sum_by (λ (r : Reducer). if r.location == location then f (units_of_reducer unit r % length x.mappers) else 0) x.reducers) where
+    (reducers : (f : ℕ → ℕ) (location : ℕ) →
+    sum_at f rests location ≡ sum_by (λ (r : Reducer). if r.location == location then f (units_of_reducer unit r % length x.mappers) else 0) x.reducers) where
   count_is : (i : ℕ) → mappers_at x i ≡ length (spots_at at_mappers i)
   count_is i = sym (mappers (λ place. 1) i) ∙ sum_ones (spots_at at_mappers i)
 
-  pairs_are : (i e : ℕ) → sum_by (λ (r : Reducer). if r.location == e then mappers_below x i (units_of_reducer unit r % length x.mappers) else 0) x.reducers ≡ pairs (spots_at at_mappers i) (spots_at rests e)
+  pairs_are : (i e : ℕ) → sum_by (λ (r : Reducer). if r.location == e then mappers_below x i (units_of_reducer unit r % length x.mappers) else 0) x.reducers ≡
+      pairs (spots_at at_mappers i) (spots_at rests e)
   pairs_are i e =
       sym (reducers (mappers_below x i) e)
       ∙ sum_same (λ (s : Spot). mappers_below x i s.number) (λ s. sum_at (λ place. if nat_lt place s.number then 1 else 0) at_mappers i) (spots_at rests e)
@@ -30,7 +32,9 @@ module _ (unit : ℕ) (x : CoflowLine) (at_mappers rests : List Spot)
 
   -- what a coflow sends, by its spots
   pub sent_is : (i e : ℕ) → sent_by unit x i e ≡ whole_to unit x e * length (spots_at at_mappers i) + pairs (spots_at at_mappers i) (spots_at rests e)
-  sent_is i e = sent_by_is unit x i e ∙ ap (λ n. whole_to unit x e * n + sum_by (λ (r : Reducer). if r.location == e then mappers_below x i (units_of_reducer unit r % length x.mappers) else 0) x.reducers) (count_is i)
+  sent_is i e = sent_by_is unit x i e ∙
+      ap (λ n. whole_to unit x e * n + sum_by (λ (r : Reducer). if r.location == e then mappers_below x i (units_of_reducer unit r % length x.mappers) else 0) x.reducers)
+      (count_is i)
       ∙ ap (λ n. whole_to unit x e * length (spots_at at_mappers i) + n) (pairs_are i e)
 
   -- no reducer is where no rest is
@@ -40,7 +44,8 @@ module _ (unit : ℕ) (x : CoflowLine) (at_mappers rests : List Spot)
       let no_reducer : sum_by (λ (r : Reducer). picked (r.location == e) 1) x.reducers ≡ 0 = sym (reducers (λ n. 1) e) ∙ ap (sum_by (λ (s : Spot). 1)) none in
       none_picked (λ (r : Reducer). r.location == e) (λ r. _) x.reducers no_reducer
 
-  pub sends_to : (targets : List Target) → All (λ (t : Target). t.whole ≡ whole_to unit x t.egress) targets → ((e : ℕ) → All (λ (t : Target). t.egress ≢ e) targets → All (λ (s : Spot). s.location ≢ e) rests)
+  pub sends_to : (targets : List Target) → All (λ (t : Target). t.whole ≡ whole_to unit x t.egress) targets →
+      ((e : ℕ) → All (λ (t : Target). t.egress ≢ e) targets → All (λ (s : Spot). s.location ≢ e) rests)
       → (i : ℕ) (row : ℕ → ℕ) → ((e : ℕ) → row e ≡ sent_by unit x i e) → SendsTo row (spots_at at_mappers i) targets rests
   sends_to targets wholes all i row is = record {
     to = λ k d lt.
@@ -52,15 +57,19 @@ module _ (unit : ℕ) (x : CoflowLine) (at_mappers rests : List Spot)
 -- the same, of the lists as they are lent
 pub lent_sends_to : (unit : ℕ) (x : CoflowLine) (at_mappers rests searched ps rs : List Spot) (targets ts : List Target)
     → ((f : ℕ → ℕ) (location : ℕ) → sum_at f at_mappers location ≡ sum_by (λ place. if slice_index x.mappers place == location then f place else 0) (places x))
-    → ((f : ℕ → ℕ) (location : ℕ) → sum_at f rests location ≡ sum_by (λ (r : Reducer). if r.location == location then f (units_of_reducer unit r % length x.mappers) else 0) x.reducers)
+    → ((f : ℕ → ℕ) (location : ℕ) →
+    sum_at f rests location ≡ sum_by (λ (r : Reducer). if r.location == location then f (units_of_reducer unit r % length x.mappers) else 0) x.reducers)
     → All (λ (t : Target). t.whole ≡ whole_to unit x t.egress) targets → ((e : ℕ) → All (λ (t : Target). t.egress ≢ e) targets → All (λ (s : Spot). s.location ≢ e) searched)
     → searched ≡ rests → ps ≡ at_mappers → rs ≡ rests → ts ≡ targets → (i : ℕ) (row : ℕ → ℕ) → ((e : ℕ) → row e ≡ sent_by unit x i e) → SendsTo row (spots_at ps i) ts rs
 lent_sends_to unit x at_mappers rests searched ps rs targets ts mappers reducers wholes all same same_places same_rests same_targets i row is =
-    subst (λ l. SendsTo row (spots_at l i) ts rs) (sym same_places) (subst (λ l. SendsTo row (spots_at at_mappers i) ts l) (sym same_rests) (subst (λ l. SendsTo row (spots_at at_mappers i) l rests) (sym same_targets)
+    subst (λ l. SendsTo row (spots_at l i) ts rs) (sym same_places)
+    (subst (λ l. SendsTo row (spots_at at_mappers i) ts l) (sym same_rests) (subst (λ l. SendsTo row (spots_at at_mappers i) l rests) (sym same_targets)
     (sends_to unit x at_mappers rests mappers reducers targets wholes (λ e out. subst (All (λ (s : Spot). s.location ≢ e)) same (all e out)) i row is)))
 
 -- what the line of a coflow sends, its coflow sends
-pub line_sends : (t : Trace) (unit k : ℕ) (items : List CoflowLine) (x : CoflowLine) → items ≡ t.coflows → k < length items → x ≡ get_or items k x → (i e : ℕ) → sent t unit k i e ≡ sent_by unit x i e
+pub line_sends : (t : Trace) (unit k : ℕ) (items : List CoflowLine) (x : CoflowLine) → items ≡ t.coflows → k < length items → x ≡ get_or items k x → (i e : ℕ) →
+    sent t unit k i e ≡ sent_by unit x i e
 line_sends t unit k items x same lt is i e =
-    let here : x ≡ line_of t k = get_or_read items k x lt is record { id = 0; arrival = 0; mappers = []; reducers = [] } ∙ ap (λ l. get_or l k record { id = 0; arrival = 0; mappers = []; reducers = [] }) same in
+    let here : x ≡ line_of t k = get_or_read items k x lt is record { id = 0; arrival = 0; mappers = []; reducers = [] } ∙
+    ap (λ l. get_or l k record { id = 0; arrival = 0; mappers = []; reducers = [] }) same in
     ap (λ y. sent_by unit y i e) (sym here)

@@ -74,7 +74,12 @@ no_term c i e x h = ap (λ b. if b then x.units else 0) h
 pub nothing_there : (flows : List Flow) (c i e : ℕ) → All (λ (x : Flow). key_is c i e x ≡ false) flows → units_between flows c i e ≡ 0
 nothing_there [] c i e h = refl
 nothing_there (x ∷ xs) c i e h =
-    omega (arith, sum_by-cons (term c i e) x xs, no_term c i e x (All-head (λ (y : Flow). key_is c i e y ≡ false) x xs h), nothing_there xs c i e (All-tail (λ (y : Flow). key_is c i e y ≡ false) x xs h))
+    omega (
+      arith,
+      sum_by-cons (term c i e) x xs,
+      no_term c i e x (All-head (λ (y : Flow). key_is c i e y ≡ false) x xs h),
+      nothing_there xs c i e (All-tail (λ (y : Flow). key_is c i e y ≡ false) x xs h),
+    )
 
 pub nothing_past : (flows : List Flow) (c i e : ℕ) → All (λ (x : Flow). IsEarlier x.coflow x.ingress x.egress c i e) flows → units_between flows c i e ≡ 0
 nothing_past flows c i e h = nothing_there flows c i e (λ k d lt. other_key c i e (get_or flows k d) (earlier_differs _ _ _ c i e (h k d lt)))

@@ -39,10 +39,12 @@ module _ (sends : ℕ → ℕ → ℕ → ℕ) (c i e : ℕ) (flows : List Flow)
   none_from : (c' i' e' : ℕ) → IsEarlier c i e c' i' e' ⊎ IsSame c' i' e' c i e → units_between flows c' i' e' ≡ 0
   none_from c' i' e' (inl later) = nothing_past flows c' i' e' (All-weaker _ _ (λ (x : Flow) lt. earlier_trans x.coflow x.ingress x.egress c i e c' i' e' lt later) flows h.before)
   none_from c' i' e' (inr (p, q, r)) = nothing_past flows c' i' e' (subst (λ n. All (λ (x : Flow). IsEarlier x.coflow x.ingress x.egress n i' e') flows) (sym p)
-      (subst (λ n. All (λ (x : Flow). IsEarlier x.coflow x.ingress x.egress c n e') flows) (sym q) (subst (λ n. All (λ (x : Flow). IsEarlier x.coflow x.ingress x.egress c i n) flows) (sym r) h.before)))
+      (subst (λ n. All (λ (x : Flow). IsEarlier x.coflow x.ingress x.egress c n e') flows) (sym q)
+      (subst (λ n. All (λ (x : Flow). IsEarlier x.coflow x.ingress x.egress c i n) flows) (sym r) h.before)))
 
   -- go on to a later place where nothing is sent up to it
-  pub skip : (c' i' e' : ℕ) → ((x y z : ℕ) → IsEarlier x y z c i e → IsEarlier x y z c' i' e') → ((x y z : ℕ) → IsEarlier x y z c' i' e' → IsEarlier c i e x y z ⊎ IsSame x y z c i e → sends x y z ≡ 0)
+  pub skip : (c' i' e' : ℕ) → ((x y z : ℕ) → IsEarlier x y z c i e → IsEarlier x y z c' i' e') →
+      ((x y z : ℕ) → IsEarlier x y z c' i' e' → IsEarlier c i e x y z ⊎ IsSame x y z c i e → sends x y z ≡ 0)
       → HaveUnitsBefore sends c' i' e' flows
   skip c' i' e' up none = record {
     sorted = h.sorted;
@@ -66,16 +68,23 @@ module _ (sends : ℕ → ℕ → ℕ → ℕ) (c i e : ℕ) (flows : List Flow)
 
   units_at : (units : ℕ) → sends c i e ≡ units → (x y z : ℕ) → IsSame x y z c i e → units_between (flows ++ flow_here units ∷ []) x y z ≡ sends x y z
   units_at units is x y z (p, q, r) = subst (λ n. units_between (flows ++ flow_here units ∷ []) n y z ≡ sends n y z) (sym p)
-      (subst (λ n. units_between (flows ++ flow_here units ∷ []) c n z ≡ sends c n z) (sym q) (subst (λ n. units_between (flows ++ flow_here units ∷ []) c i n ≡ sends c i n) (sym r) (units_here units is)))
+      (subst (λ n. units_between (flows ++ flow_here units ∷ []) c n z ≡ sends c n z) (sym q)
+      (subst (λ n. units_between (flows ++ flow_here units ∷ []) c i n ≡ sends c i n) (sym r) (units_here units is)))
 
   -- a flow at the place
   pub push : (units : ℕ) → 1 ≤ units → sends c i e ≡ units → HaveUnitsBefore sends c i (e + 1) (flows ++ record { coflow = c; ingress = i; egress = e; units = units } ∷ [])
   push units some is = record {
     sorted = order_push flows (flow_here units) h.sorted h.before;
     units = All-push (λ (y : Flow). 1 ≤ y.units) flows (flow_here units) h.units some;
-    before = All-push (λ (y : Flow). IsEarlier y.coflow y.ingress y.egress c i (e + 1)) flows (flow_here units) (All-weaker _ _ (λ (y : Flow) lt. still_in_row y.coflow y.ingress y.egress c i e (e + 1) (omega arith) lt) flows h.before) (inr (refl, inr (refl, omega arith)));
+    before = All-push (λ (y : Flow). IsEarlier y.coflow y.ingress y.egress c i (e + 1)) flows (flow_here units)
+        (All-weaker _ _ (λ (y : Flow) lt. still_in_row y.coflow y.ingress y.egress c i e (e + 1) (omega arith) lt) flows h.before) (inr (refl, inr (refl, omega arith)));
     sent = λ x y z lt. elim (compared x y z c i e) [
-      | inl now ↦ omega (arith, sum_by_push (term x y z) flows (flow_here units), no_term x y z (flow_here units) (other_key x y z (flow_here units) (later_differs c i e x y z now)), h.sent x y z now)
+      | inl now ↦ omega (
+        arith,
+        sum_by_push (term x y z) flows (flow_here units),
+        no_term x y z (flow_here units) (other_key x y z (flow_here units) (later_differs c i e x y z now)),
+        h.sent x y z now,
+      )
       | inr (inl later) ↦ absurd (no_room x y z lt later)
       | inr (inr same) ↦ units_at units is x y z same
     ];
@@ -92,7 +101,8 @@ module _ (sends : ℕ → ℕ → ℕ → ℕ) (c i e : ℕ) (flows : List Flow)
       (λ x y z lt from. let (p, q, low) = in_rest_of_row x y z c i e lt from in ap (λ n. sends n y z) p ∙ ap (λ n. sends c n z) q ∙ none z low)
 
 -- to the next coflow, where nothing more is sent by this one
-pub next_coflow : (sends : ℕ → ℕ → ℕ → ℕ) (c i : ℕ) (flows : List Flow) → HaveUnitsBefore sends c i 0 flows → ((y z : ℕ) → i ≤ y → sends c y z ≡ 0) → HaveUnitsBefore sends (c + 1) 0 0 flows
+pub next_coflow : (sends : ℕ → ℕ → ℕ → ℕ) (c i : ℕ) (flows : List Flow) → HaveUnitsBefore sends c i 0 flows → ((y z : ℕ) → i ≤ y → sends c y z ≡ 0) →
+    HaveUnitsBefore sends (c + 1) 0 0 flows
 next_coflow sends c i flows h none = skip sends c i 0 flows h (c + 1) 0 0 (λ x y z lt. grind arith)
     (λ x y z lt from. let (p, low) = in_rest_of_coflow x y z c i lt from in ap (λ n. sends n y z) p ∙ none y z low)
 

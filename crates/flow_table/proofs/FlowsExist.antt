@@ -25,7 +25,8 @@ module _ (sends : ℕ → ℕ → ℕ → ℕ) where
       at_end : (c i n z : ℕ) → z ≡ n → sends c i n ≡ 0 → sends c i z ≡ 0
       at_end c i n z e none = subst (λ k. sends c i k ≡ 0) (sym e) none
 
-  upto_ingress : (c ports n : ℕ) (flows : List Flow) → ((i e : ℕ) → ports ≤ e → sends c i e ≡ 0) → HaveUnitsBefore sends c 0 0 flows → (more : List Flow) × HaveUnitsBefore sends c n 0 more
+  upto_ingress : (c ports n : ℕ) (flows : List Flow) → ((i e : ℕ) → ports ≤ e → sends c i e ≡ 0) → HaveUnitsBefore sends c 0 0 flows →
+      (more : List Flow) × HaveUnitsBefore sends c n 0 more
   upto_ingress c ports zero flows past h = (flows, h)
   upto_ingress c ports (suc n) flows past h =
       let (more, so_far) = upto_ingress c ports n flows past h in
@@ -33,7 +34,8 @@ module _ (sends : ℕ → ℕ → ℕ → ℕ) where
       let next : n + 1 ≡ suc n = omega arith in
       (row, subst (λ k. HaveUnitsBefore sends c k 0 row) next (next_ingress sends c n ports row in_row (λ z low. past n z low)))
 
-  upto_coflow : (coflows ports n : ℕ) → n ≤ coflows → ((c i e : ℕ) → c < coflows → ports ≤ e → sends c i e ≡ 0) → ((c i e : ℕ) → c < coflows → ports ≤ i → sends c i e ≡ 0) → (flows : List Flow) × HaveUnitsBefore sends n 0 0 flows
+  upto_coflow : (coflows ports n : ℕ) → n ≤ coflows → ((c i e : ℕ) → c < coflows → ports ≤ e → sends c i e ≡ 0) → ((c i e : ℕ) → c < coflows → ports ≤ i → sends c i e ≡ 0) →
+      (flows : List Flow) × HaveUnitsBefore sends n 0 0 flows
   upto_coflow coflows ports zero le past_egress past_ingress = (
     [],
     record {
@@ -52,5 +54,6 @@ module _ (sends : ℕ → ℕ → ℕ → ℕ) where
 pub flows_are_there : (t : Trace) (unit : ℕ) → IsTrace t → (flows : List Flow) × IsFlowsOf t unit flows
 flows_are_there t unit trace =
     let n = length t.coflows in
-    let (flows, all) = upto_coflow (sent t unit) n (t.number + 1) n (omega arith) (λ c i e lt past. no_egress unit t.number (line_of t c) i e (trace.lines c _ lt) (omega arith)) (λ c i e lt past. no_ingress unit t.number (line_of t c) i e (trace.lines c _ lt) (omega arith)) in
+    let (flows, all) = upto_coflow (sent t unit) n (t.number + 1) n (omega arith) (λ c i e lt past. no_egress unit t.number (line_of t c) i e (trace.lines c _ lt) (omega arith))
+    (λ c i e lt past. no_ingress unit t.number (line_of t c) i e (trace.lines c _ lt) (omega arith)) in
     (flows, have_all (sent t unit) n flows all (λ c i e past. no_coflow t unit c i e past))

@@ -44,7 +44,8 @@ module _ (x : Flow) (coflows ports : ℕ) (lc : x.coflow < coflows) (li : x.ingr
   pub over_keys : sum_by (λ c. sum_by (λ i. sum_by (λ e. term c i e x) (below ports)) (below ports)) (below coflows) ≡ x.units
   over_keys =
       sum_same (λ c. sum_by (λ i. sum_by (λ e. term c i e x) (below ports)) (below ports)) (λ c. picked (x.coflow == c) x.units) (below coflows)
-      (λ c has. sum_same (λ i. sum_by (λ e. term c i e x) (below ports)) (λ i. picked (x.coflow == c) (picked (x.ingress == i) x.units)) (below ports) (λ i has. over_egress c i) ∙ over_ingress c)
+      (λ c has. sum_same (λ i. sum_by (λ e. term c i e x) (below ports)) (λ i. picked (x.coflow == c) (picked (x.ingress == i) x.units)) (below ports) (λ i has. over_egress c i) ∙
+      over_ingress c)
       ∙ pick coflows x.coflow x.units lc
 
 -- the units of all flows, key by key
@@ -52,31 +53,38 @@ module _ (flows : List Flow) (coflows ports : ℕ) where
   pub by_keys : All (λ (x : Flow). x.coflow < coflows) flows → All (λ (x : Flow). x.ingress < ports) flows → All (λ (x : Flow). x.egress < ports) flows
       → sum_by (λ c. sum_by (λ i. sum_by (λ e. units_between flows c i e) (below ports)) (below ports)) (below coflows) ≡ sum_by (λ (x : Flow). x.units) flows
   by_keys lc li le =
-      sum_same (λ c. sum_by (λ i. sum_by (λ e. units_between flows c i e) (below ports)) (below ports)) (λ c. sum_by (λ x. sum_by (λ i. sum_by (λ e. term c i e x) (below ports)) (below ports)) flows) (below coflows)
+      sum_same (λ c. sum_by (λ i. sum_by (λ e. units_between flows c i e) (below ports)) (below ports))
+      (λ c. sum_by (λ x. sum_by (λ i. sum_by (λ e. term c i e x) (below ports)) (below ports)) flows) (below coflows)
       (λ c has. sum_same (λ i. sum_by (λ e. units_between flows c i e) (below ports)) (λ i. sum_by (λ x. sum_by (λ e. term c i e x) (below ports)) flows) (below ports)
       (λ i has. sum_swap (λ e x. term c i e x) (below ports) flows)
       ∙ sum_swap (λ i x. sum_by (λ e. term c i e x) (below ports)) (below ports) flows)
       ∙ sum_swap (λ c x. sum_by (λ i. sum_by (λ e. term c i e x) (below ports)) (below ports)) (below coflows) flows
       ∙ sum_same (λ x. sum_by (λ c. sum_by (λ i. sum_by (λ e. term c i e x) (below ports)) (below ports)) (below coflows)) (λ x. x.units) flows
-      (λ x has. over_keys x coflows ports (All-contains (λ (y : Flow). y.coflow < coflows) flows x lc has) (All-contains (λ (y : Flow). y.ingress < ports) flows x li has) (All-contains (λ (y : Flow). y.egress < ports) flows x le has))
+      (λ x has. over_keys x coflows ports (All-contains (λ (y : Flow). y.coflow < coflows) flows x lc has) (All-contains (λ (y : Flow). y.ingress < ports) flows x li has)
+      (All-contains (λ (y : Flow). y.egress < ports) flows x le has))
 
 -- a coflow sends all units of its reducers
 module _ (unit number : ℕ) (x : CoflowLine) (line : IsCoflowLine number x) where
   of_reducer : (units : ℕ) → sum_by (λ i. sent_of x units i) (below (number + 1)) ≡ units
   of_reducer units =
       sum_swap (λ i place. picked (slice_index x.mappers place == i) (share (length x.mappers) units place)) (below (number + 1)) (places x)
-      ∙ sum_same (λ place. sum_by (λ i. picked (slice_index x.mappers place == i) (share (length x.mappers) units place)) (below (number + 1))) (λ place. share (length x.mappers) units place) (places x)
-      (λ place has. pick (number + 1) (slice_index x.mappers place) (share (length x.mappers) units place) (omega (arith, line.mappers place 0 (in_range (length x.mappers) place has))))
+      ∙ sum_same (λ place. sum_by (λ i. picked (slice_index x.mappers place == i) (share (length x.mappers) units place)) (below (number + 1)))
+      (λ place. share (length x.mappers) units place) (places x)
+      (λ place has. pick (number + 1) (slice_index x.mappers place) (share (length x.mappers) units place)
+      (omega (arith, line.mappers place 0 (in_range (length x.mappers) place has))))
       ∙ shares_are_all (length x.mappers) units line.has_mapper
 
   pub of_line : sum_by (λ i. sum_by (λ e. sent_by unit x i e) (below (number + 1))) (below (number + 1)) ≡ units_of_line unit x
   of_line =
       sum_same (λ i. sum_by (λ e. sent_by unit x i e) (below (number + 1))) (λ i. sum_by (λ (r : Reducer). sent_of x (units_of_reducer unit r) i) x.reducers) (below (number + 1))
       (λ i has. sum_swap (λ e (r : Reducer). picked (r.location == e) (sent_of x (units_of_reducer unit r) i)) (below (number + 1)) x.reducers
-      ∙ sum_same (λ (r : Reducer). sum_by (λ e. picked (r.location == e) (sent_of x (units_of_reducer unit r) i)) (below (number + 1))) (λ r. sent_of x (units_of_reducer unit r) i) x.reducers
-      (λ r has. pick (number + 1) r.location (sent_of x (units_of_reducer unit r) i) (omega (arith, All-contains (λ (y : Reducer). y.location ≤ number) x.reducers r line.reducers has))))
+      ∙ sum_same (λ (r : Reducer). sum_by (λ e. picked (r.location == e) (sent_of x (units_of_reducer unit r) i)) (below (number + 1))) (λ r. sent_of x (units_of_reducer unit r) i)
+      x.reducers
+      (λ r has. pick (number + 1) r.location (sent_of x (units_of_reducer unit r) i)
+      (omega (arith, All-contains (λ (y : Reducer). y.location ≤ number) x.reducers r line.reducers has))))
       ∙ sum_swap (λ i (r : Reducer). sent_of x (units_of_reducer unit r) i) (below (number + 1)) x.reducers
-      ∙ sum_same (λ (r : Reducer). sum_by (λ i. sent_of x (units_of_reducer unit r) i) (below (number + 1))) (λ r. units_of_reducer unit r) x.reducers (λ r has. of_reducer (units_of_reducer unit r))
+      ∙ sum_same (λ (r : Reducer). sum_by (λ i. sent_of x (units_of_reducer unit r) i) (below (number + 1))) (λ r. units_of_reducer unit r) x.reducers
+      (λ r has. of_reducer (units_of_reducer unit r))
 
 pub all_kept : (t : Trace) (unit : ℕ) (flows : List Flow) → IsTrace t → IsFlowsOf t unit flows → sum_by (λ (x : Flow). x.units) flows ≡ units_in_all t unit
 all_kept t unit flows trace h =

@@ -17,7 +17,8 @@ place_of mappers place = record { location = slice_index mappers place; number =
 abbrev pub rest_of : ℕ → ℕ → Reducer → Spot
 rest_of unit mappers r = record { location = r.location; number = units_of_reducer unit r % mappers }
 
-pub places_more : (mappers items : List ℕ) (spots : List Spot) (k : ℕ) → items ≡ mappers → spots ≡ map (place_of mappers) (range_with_len 0 k) → spots ++ record { location = get_or items k 0; number = k } ∷ [] ≡ map (place_of mappers) (range_with_len 0 (k + 1))
+pub places_more : (mappers items : List ℕ) (spots : List Spot) (k : ℕ) → items ≡ mappers → spots ≡ map (place_of mappers) (range_with_len 0 k) →
+    spots ++ record { location = get_or items k 0; number = k } ∷ [] ≡ map (place_of mappers) (range_with_len 0 (k + 1))
 places_more mappers items spots k same so_far =
     ap (λ (l : List Spot). l ++ record { location = get_or items k 0; number = k } ∷ []) so_far ∙ ap (λ l. map (place_of mappers) (range_with_len 0 k) ++ place_of l k ∷ []) same
     ∙ sym (map-range_with_len_more (place_of mappers) 0 k k (omega arith))

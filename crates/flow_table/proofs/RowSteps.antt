@@ -35,7 +35,8 @@ module _ (sends : ℕ → ℕ → ℕ → ℕ) (c i : ℕ) (places rests : List 
   at_default t d lt = ap (λ (y : Target). y.egress) (get_or_default targets t d none lt)
 
   -- what was computed for a target is what is sent to it
-  pub units_are : (k units : ℕ) → k < length targets → units ≡ (target_at targets k).whole * length places + pairs places (own_rests rests (target_at targets k)) → sends c i (egress_at targets k) ≡ units
+  pub units_are : (k units : ℕ) → k < length targets → units ≡ (target_at targets k).whole * length places + pairs places (own_rests rests (target_at targets k)) →
+      sends c i (egress_at targets k) ≡ units
   units_are k units lt e = to.to k none lt ∙ ap (λ l. (target_at targets k).whole * length places + pairs places l) (sym (are.own k none lt)) ∙ sym e
 
   rise : (t n : ℕ) → t + n < length targets → egress_at targets t ≤ egress_at targets (t + n)
@@ -63,7 +64,8 @@ module _ (sends : ℕ → ℕ → ℕ → ℕ) (c i : ℕ) (places rests : List 
 
     module _ (lt : k < length targets) where
       at_target : HaveUnitsBefore sends c i (egress_at targets k) flows
-      at_target = next_egress sends c i h.upto flows h.before (egress_at targets k) (h.left k (omega arith) lt) (λ z low high. between z low (λ t from t<. omega (arith, rise_to k t from t<)))
+      at_target = next_egress sends c i h.upto flows h.before (egress_at targets k) (h.left k (omega arith) lt)
+          (λ z low high. between z low (λ t from t<. omega (arith, rise_to k t from t<)))
 
       done_next : (t : ℕ) → t < k + 1 → t < length targets → egress_at targets t < egress_at targets k + 1
       done_next t less t< = omega (arith, rise_to t k (omega arith) lt)
@@ -75,13 +77,15 @@ module _ (sends : ℕ → ℕ → ℕ → ℕ) (c i : ℕ) (places rests : List 
       pub row_skip : sends c i (egress_at targets k) ≡ 0 → RowSoFar sends c i targets (k + 1) flows
       row_skip nought = record {
         upto = egress_at targets k + 1;
-        before = next_egress sends c i (egress_at targets k) flows at_target (egress_at targets k + 1) (omega arith) (λ z low high. let e : z ≡ egress_at targets k = omega arith in ap (sends c i) e ∙ nought);
+        before = next_egress sends c i (egress_at targets k) flows at_target (egress_at targets k + 1) (omega arith) (λ z low high. let e : z ≡ egress_at targets k = omega arith in
+            ap (sends c i) e ∙ nought);
         done = done_next;
         left = left_next;
       }
 
       -- the next target gets a flow
-      pub row_push : (units : ℕ) → 1 ≤ units → sends c i (egress_at targets k) ≡ units → RowSoFar sends c i targets (k + 1) (flows ++ record { coflow = c; ingress = i; egress = egress_at targets k; units = units } ∷ [])
+      pub row_push : (units : ℕ) → 1 ≤ units → sends c i (egress_at targets k) ≡ units →
+          RowSoFar sends c i targets (k + 1) (flows ++ record { coflow = c; ingress = i; egress = egress_at targets k; units = units } ∷ [])
       row_push units some is = record {
         upto = egress_at targets k + 1;
         before = push sends c i (egress_at targets k) flows at_target units some is;
@@ -93,7 +97,11 @@ module _ (sends : ℕ → ℕ → ℕ → ℕ) (c i : ℕ) (places rests : List 
       pub row_full : (units : ℕ) → 1 ≤ units → sends c i (egress_at targets k) ≡ units → length flows ≡ 2 ^ 20 → IsTooMany sends
       row_full units some is full = λ all has.
           let flow : Flow = record { coflow = c; ingress = i; egress = egress_at targets k; units = units } in
-          omega (arith, front_is_short sends c i (egress_at targets k + 1) (flows ++ flow ∷ []) all (push sends c i (egress_at targets k) flows at_target units some is) has, length_push flows flow)
+          omega (
+            arith,
+            front_is_short sends c i (egress_at targets k + 1) (flows ++ flow ∷ []) all (push sends c i (egress_at targets k) flows at_target units some is) has,
+            length_push flows flow,
+          )
 
 -- an egress is a target's or not
 is_target : (targets : List Target) (e : ℕ) → ((t : ℕ) × (t < length targets) × ((d : Target) → (get_or targets t d).egress ≡ e)) ⊎ All (λ (t : Target). t.egress ≢ e) targets

@@ -70,7 +70,8 @@ abbrev pub mappers_below : CoflowLine → ℕ → ℕ → ℕ
 mappers_below x ingress rest = sum_by (λ place. if slice_index x.mappers place == ingress then (if nat_lt place rest then 1 else 0) else 0) (places x)
 
 -- what a reducer gets from an ingress: its whole from each mapper there, and one unit from each that comes below its rest
-pub sent_of_is : (x : CoflowLine) (units ingress : ℕ) → sent_of x units ingress ≡ units / length x.mappers * mappers_at x ingress + mappers_below x ingress (units % length x.mappers)
+pub sent_of_is : (x : CoflowLine) (units ingress : ℕ) →
+    sent_of x units ingress ≡ units / length x.mappers * mappers_at x ingress + mappers_below x ingress (units % length x.mappers)
 sent_of_is x units ingress =
     let at = λ (place : ℕ). slice_index x.mappers place == ingress in
     let whole = units / length x.mappers in
@@ -82,15 +83,18 @@ sent_of_is x units ingress =
 
 -- the same for all reducers at an egress
 pub sent_by_is : (unit : ℕ) (x : CoflowLine) (ingress egress : ℕ)
-    → sent_by unit x ingress egress ≡ whole_to unit x egress * mappers_at x ingress + sum_by (λ (r : Reducer). if r.location == egress then mappers_below x ingress (units_of_reducer unit r % length x.mappers) else 0) x.reducers
+    → sent_by unit x ingress egress ≡ whole_to unit x egress * mappers_at x ingress +
+    sum_by (λ (r : Reducer). if r.location == egress then mappers_below x ingress (units_of_reducer unit r % length x.mappers) else 0) x.reducers
 sent_by_is unit x ingress egress =
     let at = λ (r : Reducer). r.location == egress in
     let whole = λ (r : Reducer). units_of_reducer unit r / length x.mappers in
     let below = λ (r : Reducer). mappers_below x ingress (units_of_reducer unit r % length x.mappers) in
     sum_same (λ r. picked (at r) (sent_of x (units_of_reducer unit r) ingress)) (λ r. mappers_at x ingress * picked (at r) (whole r) + picked (at r) (below r)) x.reducers
-    (λ r has. ap (λ n. picked (at r) n) (sent_of_is x (units_of_reducer unit r) ingress) ∙ picked_add (at r) (whole r * mappers_at x ingress) (below r) ∙ ap (λ n. n + picked (at r) (below r)) (picked_scaled (at r) (whole r) (mappers_at x ingress)))
+    (λ r has. ap (λ n. picked (at r) n) (sent_of_is x (units_of_reducer unit r) ingress) ∙ picked_add (at r) (whole r * mappers_at x ingress) (below r) ∙
+    ap (λ n. n + picked (at r) (below r)) (picked_scaled (at r) (whole r) (mappers_at x ingress)))
     ∙ sum_add (λ r. mappers_at x ingress * picked (at r) (whole r)) (λ r. picked (at r) (below r)) x.reducers
-    ∙ ap (λ n. n + sum_by (λ r. picked (at r) (below r)) x.reducers) (sum_scale (mappers_at x ingress) (λ r. picked (at r) (whole r)) x.reducers ∙ turned (mappers_at x ingress) (whole_to unit x egress))
+    ∙ ap (λ n. n + sum_by (λ r. picked (at r) (below r)) x.reducers) (sum_scale (mappers_at x ingress) (λ r. picked (at r) (whole r)) x.reducers ∙
+    turned (mappers_at x ingress) (whole_to unit x egress))
   where
     turned : (m n : ℕ) → m * n ≡ n * m
     turned m n = omega arith

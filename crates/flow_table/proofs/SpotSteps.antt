@@ -1,5 +1,6 @@
 -- Spots by location: sums over those of one location, and where they stand.
-use Rattle.std.proofs.Common.{◌≡◌, ℕ, ◌+◌, ◌-◌, ◌<◌, ◌≤◌, inl, inr, Bool, true, false, cond, List, [], ◌∷◌, ◌++◌, drop, get_or, length, map, take, refl, sym, ap, subst, ◌∙◌, arith, zero, suc}
+use Rattle.std.proofs.Common.{◌≡◌, ℕ, ◌+◌, ◌-◌, ◌<◌, ◌≤◌, inl, inr, Bool, true, false, cond, List, [], ◌∷◌, ◌++◌, drop, get_or, length, map, take, refl, sym, ap, subst, ◌∙◌, arith}
+use Rattle.std.proofs.Common.{zero, suc}
 use Rattle.std.specs.Prelude.{AllPairs, filter, sum_by, ◌==◌}
 use Rattle.std.specs.List.Sorted.{IsNonDecreasingBy, IsPermutation}
 use Rattle.std.proofs.lemmas.Bool.{cases_order, eq-eqb, eqb-true, ne_eqb}
@@ -26,7 +27,8 @@ sum_of_map f g [] = refl
 sum_of_map f g (x ∷ xs) = omega (arith, sum_by-cons f (g x) (map g xs), sum_by-cons (λ y. f (g y)) x xs, sum_of_map f g xs)
 
 -- the sum at a location, where the spots are made of other things and then sorted
-pub sum_made : {X : Type 0} (f : ℕ → ℕ) (make : X → Spot) (xs : List X) (spots : List Spot) (location : ℕ) → IsPermutation (map make xs) spots → sum_at f spots location ≡ sum_by (λ x. picked ((make x).location == location) (f (make x).number)) xs
+pub sum_made : {X : Type 0} (f : ℕ → ℕ) (make : X → Spot) (xs : List X) (spots : List Spot) (location : ℕ) → IsPermutation (map make xs) spots →
+    sum_at f spots location ≡ sum_by (λ x. picked ((make x).location == location) (f (make x).number)) xs
 sum_made f make xs spots location moved =
     sum_of_filter (λ (s : Spot). f s.number) (λ (s : Spot). s.location == location) spots
     ∙ sum_by-IsPermutation (λ (s : Spot). picked (s.location == location) (f s.number)) (map make xs) spots moved
@@ -40,7 +42,8 @@ tied spots up ties i zero d lt same = let e : i + 0 ≡ i = omega arith in omega
 tied spots up ties i (suc n) d lt same =
     let e : i + suc n ≡ i + n + 1 = omega arith in
     let at = λ (k : ℕ). (get_or spots k d).location in
-    let mid : (get_or spots i d).location ≡ (get_or spots (i + n) d).location = omega (arith, up i (i + n) d (omega arith) (omega arith), up (i + n) (i + suc n) d (omega arith) lt, same) in
+    let mid : (get_or spots i d).location ≡ (get_or spots (i + n) d).location =
+    omega (arith, up i (i + n) d (omega arith) (omega arith), up (i + n) (i + suc n) d (omega arith) lt, same) in
     let next : (get_or spots (i + n) d).location ≡ (get_or spots (i + n + 1) d).location = sym mid ∙ same ∙ ap at e in
     omega (arith, tied spots up ties i n d (omega arith) mid, ties (i + n) d (omega arith) next, ap (λ k. (get_or spots k d).number) e)
 
@@ -73,7 +76,8 @@ pub record StandsAt (spots : List Spot) (location first : ℕ) : Type 0 where
   pub later : (s : ℕ) (d : Spot) → first ≤ s → s < length spots → location ≤ (get_or spots s d).location
 
 -- past the spots of a location
-pub stands_next : (spots : List Spot) (location first end : ℕ) → IsNonDecreasingBy (λ (s : Spot). s.location) spots → StandsAt spots location first → EndsAt spots location first end → StandsAt spots (location + 1) end
+pub stands_next : (spots : List Spot) (location first end : ℕ) → IsNonDecreasingBy (λ (s : Spot). s.location) spots → StandsAt spots location first →
+    EndsAt spots location first end → StandsAt spots (location + 1) end
 stands_next spots location first end up at ends = record {
   within = ends.bound.1;
   earlier = λ s d lt. before s d lt;
@@ -103,7 +107,8 @@ none_pass p (x ∷ xs) h = ap (λ b. cond b (x ∷ filter p xs) (filter p xs)) (
 
 -- a part of a list with all that passes
 pub part_is_filter : {X : Type 0} (p : X → Bool) (xs : List X) (first end : ℕ) → first ≤ end → end ≤ length xs → ((k : ℕ) (d : X) → k < first → p (get_or xs k d) ≡ false)
-    → ((k : ℕ) (d : X) → first ≤ k → k < end → p (get_or xs k d) ≡ true) → ((k : ℕ) (d : X) → end ≤ k → k < length xs → p (get_or xs k d) ≡ false) → take (end - first) (drop first xs) ≡ filter p xs
+    → ((k : ℕ) (d : X) → first ≤ k → k < end → p (get_or xs k d) ≡ true) → ((k : ℕ) (d : X) → end ≤ k → k < length xs → p (get_or xs k d) ≡ false) →
+    take (end - first) (drop first xs) ≡ filter p xs
 part_is_filter {X} p xs first end le within low mid high =
     let parts : take first xs ++ drop first xs ≡ xs = take-append-drop first xs in
     let parts' : take (end - first) (drop first xs) ++ drop (end - first) (drop first xs) ≡ drop first xs = take-append-drop (end - first) (drop first xs) in
@@ -124,11 +129,14 @@ part_is_filter {X} p xs first end le within low mid high =
         ∙ ap (λ l. l ++ filter p bc) (sym fa) ∙ sym (filter-append p a bc) ∙ ap (filter p) e'
 
 -- the part between a place and the end has the spots of the location
-pub part_at : (spots : List Spot) (location first end : ℕ) → IsNonDecreasingBy (λ (s : Spot). s.location) spots → StandsAt spots location first → EndsAt spots location first end → take (end - first) (drop first spots) ≡ spots_at spots location
+pub part_at : (spots : List Spot) (location first end : ℕ) → IsNonDecreasingBy (λ (s : Spot). s.location) spots → StandsAt spots location first → EndsAt spots location first end →
+    take (end - first) (drop first spots) ≡ spots_at spots location
 part_at spots location first end up at ends =
     let next = stands_next spots location first end up at ends in
-    part_is_filter (λ (s : Spot). s.location == location) spots first end ends.bound.0 ends.bound.1 (λ k d lt. ne_eqb (get_or spots k d).location location (less (at.earlier k d lt)))
-    (λ k d low high. eq-eqb (get_or spots k d).location location (ends.own k d low high)) (λ k d low high. ne_eqb (get_or spots k d).location location (more (next.later k d low high)))
+    part_is_filter (λ (s : Spot). s.location == location) spots first end ends.bound.0 ends.bound.1
+    (λ k d lt. ne_eqb (get_or spots k d).location location (less (at.earlier k d lt)))
+    (λ k d low high. eq-eqb (get_or spots k d).location location (ends.own k d low high))
+    (λ k d low high. ne_eqb (get_or spots k d).location location (more (next.later k d low high)))
   where
     less : {m n : ℕ} → m < n → m ≡ n → ⊥
     less lt e = omega arith

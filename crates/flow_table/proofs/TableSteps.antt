@@ -27,7 +27,8 @@ coflows_ascend flows h = IsNonDecreasingBy-from_all_adjacent (λ (x : Flow). x.c
     not_past x y (inl lt) = omega arith
     not_past x y (inr (e, later)) = omega arith
 
-pub table_is : (t : Trace) (unit : ℕ) (flows : List Flow) (starts ids arrivals : List ℕ) → IsTrace t → units_in_all t unit ≤ 2 ^ 40 → IsFlowsOf t unit flows → length flows ≤ 2 ^ 20 → length starts ≡ length t.coflows + 1 → IsStarts flows starts
+pub table_is : (t : Trace) (unit : ℕ) (flows : List Flow) (starts ids arrivals : List ℕ) → IsTrace t → units_in_all t unit ≤ 2 ^ 40 → IsFlowsOf t unit flows →
+    length flows ≤ 2 ^ 20 → length starts ≡ length t.coflows + 1 → IsStarts flows starts
     → ((c : ℕ) → c < length t.coflows → slice_index starts c ≤ slice_index starts (c + 1)) → ids ≡ ids_of t.coflows → arrivals ≡ map (λ (x : CoflowLine). x.arrival) t.coflows
     → IsTable record { flows = flows; starts = starts; ports = t.number + 1; ids = ids; arrivals = arrivals }
 table_is t unit flows starts ids arrivals trace few_units of_trace few starts_len starts_are rise ids_are arrivals_are =
@@ -68,5 +69,6 @@ module _ (t : TableFacts) (c : ℕ) (h : IsTable t) (lt : c < length t.ids) wher
       let end_in = h.starts.within (c + 1) 0 long in
       part_is_filter (λ (x : Flow). x.coflow == c) t.flows (slice_index t.starts c) (slice_index t.starts (c + 1)) (h.starts_rise c lt) end_in
       (λ k d k<. ne_eqb (get_or t.flows k d).coflow c (λ same. omega (arith, (stands k d (omega (arith, h.starts_rise c lt)) same).0)))
-      (λ k d low high. eq-eqb (get_or t.flows k d).coflow c (ap (λ (x : Flow). x.coflow) (get_or_default t.flows k d record { coflow = 0; ingress = 0; egress = 0; units = 0 } (omega arith)) ∙ h.starts.own c k long low high))
+      (λ k d low high. eq-eqb (get_or t.flows k d).coflow c
+      (ap (λ (x : Flow). x.coflow) (get_or_default t.flows k d record { coflow = 0; ingress = 0; egress = 0; units = 0 } (omega arith)) ∙ h.starts.own c k long low high))
       (λ k d low k<. ne_eqb (get_or t.flows k d).coflow c (λ same. omega (arith, (stands k d k< same).1)))

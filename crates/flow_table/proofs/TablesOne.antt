@@ -18,13 +18,15 @@ rises t h (suc k) c d e le =
     omega (arith, rises t h k c (c + k) refl (omega arith), h.starts_rise (c + k) (omega arith), ap (λ n. slice_index t.starts n) same)
 
 -- no start of a table is below that of another one
-not_below : (a b : TableFacts) → IsTable a → IsTable b → a.flows ≡ b.flows → length a.ids ≡ length b.ids → (c : ℕ) → c < length a.starts → slice_index a.starts c < slice_index b.starts c → ⊥
+not_below : (a b : TableFacts) → IsTable a → IsTable b → a.flows ≡ b.flows → length a.ids ≡ length b.ids → (c : ℕ) → c < length a.starts →
+    slice_index a.starts c < slice_index b.starts c → ⊥
 not_below a b ha hb flows ids c lt less =
     let f = slice_index a.starts c in
     let inside : slice_index b.starts c ≤ length b.flows = hb.starts.within c 0 (omega (arith, ha.starts_len, hb.starts_len)) in
     let own = ha.starts.all f (omega (arith, ap length flows)) in
     let d = coflow_of a.flows f in
-    let other = subst (λ (xs : _). (coflow_of xs f + 1 < length b.starts) × (slice_index b.starts (coflow_of xs f) ≤ f) × (f < slice_index b.starts (coflow_of xs f + 1))) (sym flows) (hb.starts.all f (omega arith)) in
+    let other = subst (λ (xs : _). (coflow_of xs f + 1 < length b.starts) × (slice_index b.starts (coflow_of xs f) ≤ f) × (f < slice_index b.starts (coflow_of xs f + 1)))
+    (sym flows) (hb.starts.all f (omega arith)) in
     elim (cases_lt d c) [
       | inl before ↦ omega (arith, rises a ha (c - (d + 1)) (d + 1) c (omega arith) (omega (arith, ha.starts_len)), own.2)
       | inr past ↦ omega (arith, rises b hb (d - c) c d (omega arith) (omega (arith, hb.starts_len, other.0)), other.1)

@@ -43,7 +43,8 @@ module _ (unit : ℕ) (x : CoflowLine) where
       omega (arith, more, div-le_self (units_of_reducer unit (get_or x.reducers k d)) (length x.mappers))
 
   -- a whole is added to those before it
-  pub whole_fits : (k : ℕ) (d r : Reducer) (ports here units mappers : ℕ) (old : List ℕ) → k < length x.reducers → r ≡ get_or x.reducers k d → r.location < ports → here ≡ slice_index old r.location → units ≡ units_of_reducer unit r → mappers ≡ length x.mappers
+  pub whole_fits : (k : ℕ) (d r : Reducer) (ports here units mappers : ℕ) (old : List ℕ) → k < length x.reducers → r ≡ get_or x.reducers k d → r.location < ports →
+      here ≡ slice_index old r.location → units ≡ units_of_reducer unit r → mappers ≡ length x.mappers
       → ((e : ℕ) → e < ports → slice_index old e ≡ wholes_upto k e) → here + units / mappers ≤ units_of_line unit x
   whole_fits k d r ports here units mappers old lt is in' at are count so_far =
       let term : units / mappers ≡ whole (get_or x.reducers k d) = ap (λ n. n / mappers) are ∙ ap (λ n. units_of_reducer unit r / n) count ∙ ap whole is in
@@ -60,34 +61,52 @@ pub record TargetsSoFar (rests : List Spot) (wholes : ℕ → ℕ) (egress first
   pub wholes_are : All (λ (t : Target). t.whole ≡ wholes t.egress) targets
   pub all : (e : ℕ) → e < egress → All (λ (t : Target). t.egress ≢ e) targets → All (λ (s : Spot). s.location ≢ e) rests
 
-module _ (rests : List Spot) (wholes : ℕ → ℕ) (egress first end : ℕ) (targets : List Target) (up : IsNonDecreasingBy (λ (s : Spot). s.location) rests) (h : TargetsSoFar rests wholes egress first targets) (ends : EndsAt rests egress first end) where
+module _ (rests : List Spot) (wholes : ℕ → ℕ) (egress first end : ℕ) (targets : List Target) (up : IsNonDecreasingBy (λ (s : Spot). s.location) rests)
+    (h : TargetsSoFar rests wholes egress first targets) (ends : EndsAt rests egress first end) where
   abbrev new : ℕ → Target
   new units = record { egress = egress; whole = units; first = first; end = end }
 
-  ascending_push : (units t : ℕ) (d : Target) → t + 1 < length (targets ++ new units ∷ []) → (get_or (targets ++ new units ∷ []) t d).egress < (get_or (targets ++ new units ∷ []) (t + 1) d).egress
+  ascending_push : (units t : ℕ) (d : Target) → t + 1 < length (targets ++ new units ∷ []) →
+      (get_or (targets ++ new units ∷ []) t d).egress < (get_or (targets ++ new units ∷ []) (t + 1) d).egress
   ascending_push units t d lt = elim (cases_lt (t + 1) (length targets)) [
-    | inl in' ↦ omega (arith, ap (λ (y : Target). y.egress) (get_or_append_left targets (new units ∷ []) d t (omega arith)), ap (λ (y : Target). y.egress) (get_or_append_left targets (new units ∷ []) d (t + 1) in'), h.ascending t d in')
-    | inr past ↦ omega (arith, length_push targets (new units), ap (λ (y : Target). y.egress) (get_or_append_left targets (new units ∷ []) d t (omega (arith, length_push targets (new units)))), ap (λ (y : Target). y.egress) (get_or_push targets (new units) d (t + 1) (omega (arith, length_push targets (new units)))), h.below t d (omega (arith, length_push targets (new units))))
+    | inl in' ↦ omega (
+      arith,
+      ap (λ (y : Target). y.egress) (get_or_append_left targets (new units ∷ []) d t (omega arith)),
+      ap (λ (y : Target). y.egress) (get_or_append_left targets (new units ∷ []) d (t + 1) in'),
+      h.ascending t d in',
+    )
+    | inr past ↦ omega (
+      arith,
+      length_push targets (new units),
+      ap (λ (y : Target). y.egress) (get_or_append_left targets (new units ∷ []) d t (omega (arith, length_push targets (new units)))),
+      ap (λ (y : Target). y.egress) (get_or_push targets (new units) d (t + 1) (omega (arith, length_push targets (new units)))),
+      h.below t d (omega (arith, length_push targets (new units))),
+    )
   ]
 
   -- a target of the reducers at the egress
-  pub targets_push : (units : ℕ) → units ≡ wholes egress → TargetsSoFar rests wholes (egress + 1) end (targets ++ record { egress = egress; whole = units; first = first; end = end } ∷ [])
+  pub targets_push : (units : ℕ) → units ≡ wholes egress →
+      TargetsSoFar rests wholes (egress + 1) end (targets ++ record { egress = egress; whole = units; first = first; end = end } ∷ [])
   targets_push units is = record {
     at = stands_next rests egress first end up h.at ends;
     ascending = ascending_push units;
-    below = All-push (λ (t : Target). t.egress < egress + 1) targets (new units) (All-weaker (λ (t : Target). t.egress < egress) (λ (t : Target). t.egress < egress + 1) (λ t lt. omega arith) targets h.below) (omega arith);
+    below = All-push (λ (t : Target). t.egress < egress + 1) targets (new units)
+        (All-weaker (λ (t : Target). t.egress < egress) (λ (t : Target). t.egress < egress + 1) (λ t lt. omega arith) targets h.below) (omega arith);
     ranges = All-push (λ (t : Target). (t.first ≤ t.end) × (t.end ≤ length rests)) targets (new units) h.ranges ends.bound;
     own = All-push (λ (t : Target). own_rests rests t ≡ spots_at rests t.egress) targets (new units) h.own (part_at rests egress first end up h.at ends);
     wholes_are = All-push (λ (t : Target). t.whole ≡ wholes t.egress) targets (new units) h.wholes_are is;
     all = λ e lt out. elim (cases_order e egress) [
-      | inl same ↦ absurd (out (length targets) (new units) (omega (arith, length_push targets (new units))) (ap (λ (y : Target). y.egress) (get_or_push targets (new units) (new units) (length targets) refl) ∙ sym same))
-      | inr (inl less) ↦ h.all e less (λ t d t<. subst (λ (y : Target). y.egress ≢ e) (get_or_append_left targets (new units ∷ []) d t t<) (out t d (omega (arith, length_push targets (new units)))))
+      | inl same ↦ absurd (out (length targets) (new units) (omega (arith, length_push targets (new units)))
+          (ap (λ (y : Target). y.egress) (get_or_push targets (new units) (new units) (length targets) refl) ∙ sym same))
+      | inr (inl less) ↦ h.all e less
+          (λ t d t<. subst (λ (y : Target). y.egress ≢ e) (get_or_append_left targets (new units ∷ []) d t t<) (out t d (omega (arith, length_push targets (new units)))))
       | inr (inr more) ↦ absurd (omega arith)
     ];
   }
 
 -- all egress ports were looked at
-pub targets_all : (rests : List Spot) (wholes : ℕ → ℕ) (ports first : ℕ) (targets : List Target) → IsByLocation rests → ((e : ℕ) → wholes e ≤ 2 ^ 40) → TargetsSoFar rests wholes ports first targets → AreTargets rests targets
+pub targets_all : (rests : List Spot) (wholes : ℕ → ℕ) (ports first : ℕ) (targets : List Target) → IsByLocation rests → ((e : ℕ) → wholes e ≤ 2 ^ 40) →
+    TargetsSoFar rests wholes ports first targets → AreTargets rests targets
 targets_all rests wholes ports first targets sorted bound h = record {
   ascending = h.ascending;
   ranges = h.ranges;

@@ -9,7 +9,8 @@ use Rattle.coflow_units.proofs.Lists.{number_in}
 use Rattle.flow_table.specs.Table.{IsTable, TableFacts, instance_of}
 
 numbers_rise : (n : ℕ) → IsStrictlyIncreasing (range_with_len 0 n)
-numbers_rise n = λ k lt. omega (arith, get_or-range_with_len 0 n k 0 (omega (arith, length-range_with_len 0 n)), get_or-range_with_len 0 n (k + 1) 0 (omega (arith, length-range_with_len 0 n)))
+numbers_rise n = λ k lt. omega
+    (arith, get_or-range_with_len 0 n k 0 (omega (arith, length-range_with_len 0 n)), get_or-range_with_len 0 n (k + 1) 0 (omega (arith, length-range_with_len 0 n)))
 
 pub whole : (t : TableFacts) (weights : List ℕ) → IsTable t → length weights ≡ length t.ids → All (λ w. 1 ≤ w) weights → IsWhole (instance_of t weights)
 whole t weights h count some = record {

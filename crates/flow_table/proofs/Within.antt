@@ -29,7 +29,8 @@ no_coflow t unit c i e past = ap (λ (x : CoflowLine). sent_by unit x i e) (get_
 pub no_mapper_at : (number : ℕ) (x : CoflowLine) (units i : ℕ) → IsCoflowLine number x → number < i → sent_of x units i ≡ 0
 no_mapper_at number x units i line past =
     sum_same (λ place. if slice_index x.mappers place == i then share (length x.mappers) units place else 0) (λ place. 0) (places x)
-    (λ place has. ap (λ b. picked b (share (length x.mappers) units place)) (ne_eqb (slice_index x.mappers place) i (λ same. omega (arith, same, line.mappers place 0 (in_range (length x.mappers) place has)))))
+    (λ place has. ap (λ b. picked b (share (length x.mappers) units place))
+    (ne_eqb (slice_index x.mappers place) i (λ same. omega (arith, same, line.mappers place 0 (in_range (length x.mappers) place has)))))
     ∙ sum_zero (places x)
 
 pub no_ingress : (unit number : ℕ) (x : CoflowLine) (i e : ℕ) → IsCoflowLine number x → number < i → sent_by unit x i e ≡ 0
@@ -45,11 +46,13 @@ no_ingress unit number x i e line past =
 pub no_egress : (unit number : ℕ) (x : CoflowLine) (i e : ℕ) → IsCoflowLine number x → number < e → sent_by unit x i e ≡ 0
 no_egress unit number x i e line past =
     sum_same (λ (r : Reducer). if r.location == e then sent_of x (units_of_reducer unit r) i else 0) (λ r. 0) x.reducers
-    (λ r has. ap (λ b. picked b (sent_of x (units_of_reducer unit r) i)) (ne_eqb r.location e (λ same. omega (arith, same, All-contains (λ (y : Reducer). y.location ≤ number) x.reducers r line.reducers has))))
+    (λ r has. ap (λ b. picked b (sent_of x (units_of_reducer unit r) i))
+    (ne_eqb r.location e (λ same. omega (arith, same, All-contains (λ (y : Reducer). y.location ≤ number) x.reducers r line.reducers has))))
     ∙ sum_zero x.reducers
 
 -- a flow is sent
-pub flow_is_sent : (sends : ℕ → ℕ → ℕ → ℕ) (flows : List Flow) → HaveUnits sends flows → (k : ℕ) (d : Flow) → k < length flows → 1 ≤ sends (get_or flows k d).coflow (get_or flows k d).ingress (get_or flows k d).egress
+pub flow_is_sent : (sends : ℕ → ℕ → ℕ → ℕ) (flows : List Flow) → HaveUnits sends flows → (k : ℕ) (d : Flow) → k < length flows →
+    1 ≤ sends (get_or flows k d).coflow (get_or flows k d).ingress (get_or flows k d).egress
 flow_is_sent sends flows h k d lt =
     let x = get_or flows k d in
     let part = get_or-le-sum_by (term x.coflow x.ingress x.egress) flows k d lt in
@@ -64,11 +67,20 @@ pub flows_within : (t : Trace) (unit : ℕ) (flows : List Flow) → IsTrace t �
 flows_within t unit flows trace h = record {
   coflow = in_coflows;
   ingress = λ k d lt. elim (cases_lt t.number (get_or flows k d).ingress) [
-    | inl past ↦ absurd (omega (arith, flow_is_sent (sent t unit) flows h k d lt, no_ingress unit t.number (line_of t (get_or flows k d).coflow) (get_or flows k d).ingress (get_or flows k d).egress (trace.lines _ _ (in_coflows k d lt)) past))
+    | inl past ↦ absurd (omega (
+      arith,
+      flow_is_sent (sent t unit) flows h k d lt,
+      no_ingress unit t.number (line_of t (get_or flows k d).coflow) (get_or flows k d).ingress
+          (get_or flows k d).egress (trace.lines _ _ (in_coflows k d lt)) past,
+    ))
     | inr in' ↦ omega arith
   ];
   egress = λ k d lt. elim (cases_lt t.number (get_or flows k d).egress) [
-    | inl past ↦ absurd (omega (arith, flow_is_sent (sent t unit) flows h k d lt, no_egress unit t.number (line_of t (get_or flows k d).coflow) (get_or flows k d).ingress (get_or flows k d).egress (trace.lines _ _ (in_coflows k d lt)) past))
+    | inl past ↦ absurd (omega (
+      arith,
+      flow_is_sent (sent t unit) flows h k d lt,
+      no_egress unit t.number (line_of t (get_or flows k d).coflow) (get_or flows k d).ingress (get_or flows k d).egress (trace.lines _ _ (in_coflows k d lt)) past,
+    ))
     | inr in' ↦ omega arith
   ];
 }
@@ -76,5 +88,10 @@ flows_within t unit flows trace h = record {
     in_coflows : All (λ (x : Flow). x.coflow < length t.coflows) flows
     in_coflows k d lt = elim (cases_lt (get_or flows k d).coflow (length t.coflows)) [
       | inl in' ↦ in'
-      | inr past ↦ absurd (omega (arith, flow_is_sent (sent t unit) flows h k d lt, no_coflow t unit (get_or flows k d).coflow (get_or flows k d).ingress (get_or flows k d).egress past))
+      | inr past ↦ absurd (omega (
+        arith,
+        flow_is_sent (sent t unit) flows h k d lt,
+        no_coflow t unit (get_or flows k d).coflow (get_or flows k d).ingress (get_or flows k d).egress
+            past,
+      ))
     ]

@@ -1,5 +1,6 @@
 -- Why a trace has no table.
 use Rattle.std.specs.Prelude.{◌≡◌, ℕ, ◌-◌, ◌<◌, ◌≤◌, ◌⊎◌, ◌^◌, Result, Ok, Err, min}
+use Rattle.coflow_units.specs.declared.limits.TheConstants.{MAX_UNITS}
 use Rattle.coflow_units.specs.declared.quantity.Quantity.{Quantity}
 use Rattle.coflow_units.specs.declared.quantity.Quantity.TheVariants.{Units, Flows}
 use Rattle.coflow_units.specs.declared.trace.Trace.{Trace}
@@ -12,11 +13,11 @@ use Rattle.flow_table.specs.Table.{TableFacts}
 
 -- there are more than 2^40 units; their count is told as 2^64 - 1 where it is greater
 abbrev pub HasTooManyUnits : Trace → ℕ → ℕ → Type 0
-HasTooManyUnits t unit count = (2 ^ 40 < units_in_all t unit) × (count ≡ min (units_in_all t unit) (2 ^ 64 - 1))
+HasTooManyUnits t unit count = (MAX_UNITS < units_in_all t unit) × (count ≡ min (units_in_all t unit) (2 ^ 64 - 1))
 
 -- there are no more than 2^40 units, and more than 2^20 flows; their count is told as one more than 2^20
 abbrev pub HasTooManyFlows : Trace → ℕ → ℕ → Type 0
-HasTooManyFlows t unit count = (units_in_all t unit ≤ 2 ^ 40) × (count ≡ 1048577) × IsTooMany (sent t unit)
+HasTooManyFlows t unit count = (units_in_all t unit ≤ MAX_UNITS) × (count ≡ 1048577) × IsTooMany (sent t unit)
 
 -- there is more of this quantity than a table may have, and its count is told so
 abbrev pub ExceedsLimit : Trace → ℕ → Quantity → ℕ → Type 0

@@ -12,11 +12,13 @@ places x = range_with_len 0 (length x.mappers)
 
 -- what the mappers at the ingress send of so many units; a location that the line names again sends for each time
 abbrev pub sent_of : CoflowLine → ℕ → ℕ → ℕ
-sent_of x units ingress = sum_by (λ place. if slice_index x.mappers place == ingress then share (length x.mappers) units place else 0) (places x)
+sent_of x units ingress = sum_by
+    (λ place. if slice_index x.mappers place == ingress then share (length x.mappers) units place else 0) (places x)
 
 -- what a coflow sends from the ingress to the egress: its mappers there send their shares of all reducers there
 abbrev pub sent_by : ℕ → CoflowLine → ℕ → ℕ → ℕ
-sent_by unit x ingress egress = sum_by (λ (r : Reducer). if r.location == egress then sent_of x (units_of_reducer unit r) ingress else 0) x.reducers
+sent_by unit x ingress egress =
+    sum_by (λ (r : Reducer). if r.location == egress then sent_of x (units_of_reducer unit r) ingress else 0) x.reducers
 
 -- the line of a coflow, by number; past the last one there is nothing to send
 abbrev pub line_of : Trace → ℕ → CoflowLine

@@ -9,7 +9,8 @@ use Rattle.coflow_units.specs.declared.trace.Trace.{Trace}
 abbrev pub units_of_reducer : ℕ → Reducer → ℕ
 units_of_reducer unit r = div_ceil r.millionths (unit * 1000000)
 
--- what the mapper at a place sends of so many units: all mappers send the same, and the first ones send one more where that leaves a rest
+-- what the mapper at a place sends of so many units: all mappers send the same, and the first ones send one more where
+-- that leaves a rest
 abbrev pub share : ℕ → ℕ → ℕ → ℕ
 share mappers units place = units / mappers + (if nat_lt place (units % mappers) then 1 else 0)
 

@@ -1,13 +1,14 @@
 //! How many numbers stand below others.
 ghost use Rattle.std.specs.Prelude.{◌≡◌, ◌≤◌, IsTrue, length};
+ghost use Rattle.coflow_units.specs.declared.limits.TheConstants.{MAX_MAPPERS};
 ghost use Rattle.flow_table.specs.Spots.{IsAscending, pairs};
 
 use crate::spots::Spot;
 
 /// For each of the rests, how many of the places come below it, in all. Both ascend. It takes as many searches as the shorter list has elements.
 pub(crate) fn pairs_below(places: &[Spot], rests: &[Spot]) -> u64
-    requires few_places { length places.now ≤ 4096 }
-    requires few_rests { length rests.now ≤ 4096 }
+    requires few_places { length places.now ≤ MAX_MAPPERS }
+    requires few_rests { length rests.now ≤ MAX_MAPPERS }
     requires places_ascend { IsAscending places.now }
     requires rests_ascend { IsAscending rests.now }
     ensures { result ≡ pairs places.now rests.now }
@@ -39,8 +40,8 @@ fn is_none_below(places: &[Spot], rests: &[Spot]) -> bool
 
 /// The pairs, by one search for each of the places.
 fn sum_by_places(places: &[Spot], rests: &[Spot]) -> u64
-    requires few_places { length places.now ≤ 4096 }
-    requires few_rests { length rests.now ≤ 4096 }
+    requires few_places { length places.now ≤ MAX_MAPPERS }
+    requires few_rests { length rests.now ≤ MAX_MAPPERS }
     requires rests_ascend { IsAscending rests.now }
     ensures { result ≡ pairs places.now rests.now }
 {
@@ -54,8 +55,8 @@ fn sum_by_places(places: &[Spot], rests: &[Spot]) -> u64
 
 /// The pairs, by one search for each of the rests.
 fn sum_by_rests(places: &[Spot], rests: &[Spot]) -> u64
-    requires few_places { length places.now ≤ 4096 }
-    requires few_rests { length rests.now ≤ 4096 }
+    requires few_places { length places.now ≤ MAX_MAPPERS }
+    requires few_rests { length rests.now ≤ MAX_MAPPERS }
     requires places_ascend { IsAscending places.now }
     ensures { result ≡ pairs places.now rests.now }
 {

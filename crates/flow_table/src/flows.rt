@@ -1,5 +1,6 @@
 //! The flows of a trace.
 ghost use Rattle.std.specs.Prelude.{◌≡◌, ℕ, ◌+◌, ◌*◌, ◌^◌, ◌<◌, ◌≤◌, All, IfErr, IfOk, OnOk, length};
+ghost use Rattle.coflow_units.specs.declared.limits.TheConstants.{MAX_FLOWS, MAX_MAPPERS, MAX_MEGABYTES, MAX_UNITS};
 ghost use Rattle.coflow_units.specs.Trace.{IsCoflowLine, IsTrace};
 ghost use Rattle.flow_table.specs.declared.spots.Spot.{Spot};
 ghost use Rattle.flow_table.specs.FlowsOf.{HaveUnitsBefore, IsFlowsOf, IsTooMany};
@@ -21,9 +22,9 @@ pub(crate) fn flows_of(alloc: Global, trace: &Trace, unit: u64) -> Result<Vec<Fl
     requires trace { IsTrace trace.now }
     requires some { 1 ≤ unit }
     requires unit_limit { unit ≤ 2 ^ 20 }
-    requires units { units_in_all trace.now unit ≤ 2 ^ 40 }
+    requires units { units_in_all trace.now unit ≤ MAX_UNITS }
     ensures flows { IfOk result (λ flows. IsFlowsOf trace.now unit flows.items) }
-    ensures few { IfOk result (λ flows. length flows.items ≤ 2 ^ 20) }
+    ensures few { IfOk result (λ flows. length flows.items ≤ MAX_FLOWS) }
     ensures full { IfErr result (StopsFor (IsTooMany (sent trace.now unit))) }
 {
     let ports = trace.number + 1;
@@ -46,12 +47,13 @@ fn push_coflow(
     requires some { 1 ≤ unit }
     requires unit_limit { unit ≤ 2 ^ 20 }
     requires line { (number : ℕ) × (ports ≡ number + 1) × IsCoflowLine number line.now }
-    requires units { units_of_line unit line.now ≤ 2 ^ 40 }
-    requires few { length flows.old.items ≤ 2 ^ 20 }
-    ensures few_still { OnOk result (length flows.new.items ≤ 2 ^ 20) }
+    requires units { units_of_line unit line.now ≤ MAX_UNITS }
+    requires few { length flows.old.items ≤ MAX_FLOWS }
+    ensures few_still { OnOk result (length flows.new.items ≤ MAX_FLOWS) }
     ensures pushed { OnOk result ((sends : ℕ → ℕ → ℕ → ℕ) → ((i e : ℕ) → sends coflow i e ≡ sent_by unit line.now i e) →
         HaveUnitsBefore sends coflow 0 0 flows.old.items → HaveUnitsBefore sends (coflow + 1) 0 0 flows.new.items) }
-    ensures full { IfErr result (StopsFor ((sends : ℕ → ℕ → ℕ → ℕ) → ((i e : ℕ) → sends coflow i e ≡ sent_by unit line.now i e) →
+    ensures full { IfErr result (StopsFor ((sends : ℕ → ℕ → ℕ → ℕ) →
+        ((i e : ℕ) → sends coflow i e ≡ sent_by unit line.now i e) →
         HaveUnitsBefore sends coflow 0 0 flows.old.items → IsTooMany sends)) }
 {
     let places = mapper_places(alloc, line)?;
@@ -70,16 +72,18 @@ fn push_sources(
     targets: &[Target],
     rests: &[Spot],
 ) -> Result<(), Stop>
-    requires few { length flows.old.items ≤ 2 ^ 20 }
-    requires few_places { length places.now ≤ 4096 }
-    requires few_rests { length rests.now ≤ 4096 }
+    requires few { length flows.old.items ≤ MAX_FLOWS }
+    requires few_places { length places.now ≤ MAX_MAPPERS }
+    requires few_rests { length rests.now ≤ MAX_MAPPERS }
     requires sorted { IsByLocation places.now }
     requires within { All (λ (s : Spot). s.location < ports) places.now }
     requires targets { AreTargets rests.now targets.now }
-    ensures few_still { OnOk result (length flows.new.items ≤ 2 ^ 20) }
-    ensures pushed { OnOk result ((sends : ℕ → ℕ → ℕ → ℕ) → ((i : ℕ) → SendsTo (sends coflow i) (spots_at places.now i) targets.now rests.now) →
+    ensures few_still { OnOk result (length flows.new.items ≤ MAX_FLOWS) }
+    ensures pushed { OnOk result ((sends : ℕ → ℕ → ℕ → ℕ) →
+        ((i : ℕ) → SendsTo (sends coflow i) (spots_at places.now i) targets.now rests.now) →
         HaveUnitsBefore sends coflow 0 0 flows.old.items → HaveUnitsBefore sends (coflow + 1) 0 0 flows.new.items) }
-    ensures full { IfErr result (StopsFor ((sends : ℕ → ℕ → ℕ → ℕ) → ((i : ℕ) → SendsTo (sends coflow i) (spots_at places.now i) targets.now rests.now) →
+    ensures full { IfErr result (StopsFor ((sends : ℕ → ℕ → ℕ → ℕ) →
+        ((i : ℕ) → SendsTo (sends coflow i) (spots_at places.now i) targets.now rests.now) →
         HaveUnitsBefore sends coflow 0 0 flows.old.items → IsTooMany sends)) }
 {
     let mut first = 0;
@@ -103,15 +107,18 @@ fn push_source(
     targets: &[Target],
     rests: &[Spot],
 ) -> Result<(), Stop>
-    requires few { length flows.old.items ≤ 2 ^ 20 }
-    requires few_places { length places.now ≤ 4096 }
-    requires few_rests { length rests.now ≤ 4096 }
+    requires few { length flows.old.items ≤ MAX_FLOWS }
+    requires few_places { length places.now ≤ MAX_MAPPERS }
+    requires few_rests { length rests.now ≤ MAX_MAPPERS }
     requires ascending { IsAscending places.now }
     requires targets { AreTargets rests.now targets.now }
-    ensures few_still { OnOk result (length flows.new.items ≤ 2 ^ 20) }
-    ensures pushed { OnOk result ((sends : ℕ → ℕ → ℕ → ℕ) → SendsTo (sends coflow ingress) places.now targets.now rests.now →
-        HaveUnitsBefore sends coflow ingress 0 flows.old.items → HaveUnitsBefore sends coflow (ingress + 1) 0 flows.new.items) }
-    ensures full { IfErr result (StopsFor ((sends : ℕ → ℕ → ℕ → ℕ) → SendsTo (sends coflow ingress) places.now targets.now rests.now →
+    ensures few_still { OnOk result (length flows.new.items ≤ MAX_FLOWS) }
+    ensures pushed { OnOk result ((sends : ℕ → ℕ → ℕ → ℕ) →
+        SendsTo (sends coflow ingress) places.now targets.now rests.now →
+        HaveUnitsBefore sends coflow ingress 0 flows.old.items →
+        HaveUnitsBefore sends coflow (ingress + 1) 0 flows.new.items) }
+    ensures full { IfErr result (StopsFor ((sends : ℕ → ℕ → ℕ → ℕ) →
+        SendsTo (sends coflow ingress) places.now targets.now rests.now →
         HaveUnitsBefore sends coflow ingress 0 flows.old.items → IsTooMany sends)) }
 {
     for target in targets {
@@ -134,12 +141,12 @@ fn push_source(
 
 /// What the mappers at these places send to the target.
 fn units_to(places: &[Spot], target: &Target, rests: &[Spot]) -> u64
-    requires few_places { length places.now ≤ 4096 }
-    requires few_rests { length rests.now ≤ 4096 }
+    requires few_places { length places.now ≤ MAX_MAPPERS }
+    requires few_rests { length rests.now ≤ MAX_MAPPERS }
     requires ascending { IsAscending places.now }
     requires range { (target.now.first ≤ target.now.end) × (target.now.end ≤ length rests.now) }
     requires own_ascend { IsAscending (own_rests rests.now target.now) }
-    requires whole { target.now.whole ≤ 2 ^ 40 }
+    requires whole { target.now.whole ≤ MAX_MEGABYTES }
     ensures { result ≡ target.now.whole * length places.now + pairs places.now (own_rests rests.now target.now) }
 {
     let own = &rests[target.first..target.end];

@@ -23,7 +23,8 @@ pub fn flows_exist()
 
 /// The flows of a trace have the units of its reducers, no more and no fewer.
 pub fn units_are_kept()
-    ensures { (t : Trace) (unit : ℕ) (flows : List Flow) → IsTrace t → IsFlowsOf t unit flows → sum_by (λ (x : Flow). x.units) flows ≡ units_in_all t unit }
+    ensures { (t : Trace) (unit : ℕ) (flows : List Flow) → IsTrace t → IsFlowsOf t unit flows →
+        sum_by (λ (x : Flow). x.units) flows ≡ units_in_all t unit }
 {}
 
 /// The starts of a table follow from its flows and its number of coflows.
@@ -49,5 +50,6 @@ pub fn rows_hold()
 
 /// The instance of a table with a weight of at least 1 for each coflow is one as a trace gives it.
 pub fn instance_is_whole()
-    ensures { (t : TableFacts) (weights : List ℕ) → IsTable t → length weights ≡ length t.ids → All (λ w. 1 ≤ w) weights → IsWhole (instance_of t weights) }
+    ensures { (t : TableFacts) (weights : List ℕ) → IsTable t → length weights ≡ length t.ids →
+        All (λ w. 1 ≤ w) weights → IsWhole (instance_of t weights) }
 {}

@@ -1,4 +1,4 @@
-// The table of flows that a trace gives, where a unit has so many megabytes.
+//! The table of flows that a trace gives, where a unit has so many megabytes.
 #![tactic(auto)]
 
 mod below;

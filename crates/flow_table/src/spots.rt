@@ -1,5 +1,6 @@
 //! Numbers that stand at locations, sorted so that those of one location stand together.
 ghost use Rattle.std.specs.Prelude.{◌≡◌, ℕ, ◌%◌, ◌^◌, ◌<◌, ◌≤◌, ◌==◌, All, IfOk, OnOk, if◌then◌else◌, length, slice_index, sum_by};
+ghost use Rattle.coflow_units.specs.declared.limits.TheConstants.{MAX_MAPPERS};
 ghost use Rattle.std.specs.List.Sorted.{IsPermutation};
 ghost use Rattle.coflow_units.specs.declared.trace.Reducer.{Reducer};
 ghost use Rattle.flow_table.specs.declared.spots.Spot.{Spot};
@@ -20,12 +21,14 @@ pub(crate) struct Spot {
 
 /// The mappers of a coflow: at each location their places in the line, ascending.
 pub(crate) fn mapper_places(alloc: Global, line: &CoflowLine) -> Result<Vec<Spot>, AllocError>
-    requires few { length line.now.mappers ≤ 4096 }
+    requires few { length line.now.mappers ≤ MAX_MAPPERS }
     ensures sorted { IfOk result (λ spots. IsByLocation spots.items) }
     ensures count { IfOk result (λ spots. length spots.items ≡ length line.now.mappers) }
-    ensures within { IfOk result (λ spots. (ports : ℕ) → All (λ m. m < ports) line.now.mappers → All (λ (s : Spot). s.location < ports) spots.items) }
+    ensures within { IfOk result (λ spots. (ports : ℕ) → All (λ m. m < ports) line.now.mappers →
+        All (λ (s : Spot). s.location < ports) spots.items) }
     ensures sums { IfOk result (λ spots. (f : ℕ → ℕ) (location : ℕ) →
-        sum_at f spots.items location ≡ sum_by (λ place. if slice_index line.now.mappers place == location then f place else 0) (places line.now)) }
+        sum_at f spots.items location ≡
+        sum_by (λ place. if slice_index line.now.mappers place == location then f place else 0) (places line.now)) }
 {
     let mut spots = Vec::new(alloc);
     for (place, location) in line.mappers.as_slice().iter().enumerate() {
@@ -47,12 +50,16 @@ pub(crate) fn reducer_rests(
     requires some { 1 ≤ unit }
     requires unit_limit { unit ≤ 2 ^ 20 }
     requires has_mapper { 1 ≤ length line.now.mappers }
-    requires few { length line.now.mappers ≤ 4096 }
+    requires few { length line.now.mappers ≤ MAX_MAPPERS }
     ensures sorted { IfOk result (λ spots. IsByLocation spots.items) }
     ensures count { IfOk result (λ spots. length spots.items ≡ length line.now.reducers) }
-    ensures within { IfOk result (λ spots. (ports : ℕ) → All (λ (r : Reducer). r.location < ports) line.now.reducers → All (λ (s : Spot). s.location < ports) spots.items) }
+    ensures within { IfOk result (λ spots. (ports : ℕ) → All (λ (r : Reducer). r.location < ports) line.now.reducers →
+        All (λ (s : Spot). s.location < ports) spots.items) }
     ensures sums { IfOk result (λ spots. (f : ℕ → ℕ) (location : ℕ) →
-        sum_at f spots.items location ≡ sum_by (λ (r : Reducer). if r.location == location then f (units_of_reducer unit r % length line.now.mappers) else 0) line.now.reducers) }
+        sum_at f spots.items location ≡
+        sum_by (λ (r : Reducer).
+        if r.location == location then f (units_of_reducer unit r % length line.now.mappers) else 0)
+        line.now.reducers) }
 {
     let mappers = line.mappers.as_slice().len() as u64;
     let mut spots = Vec::new(alloc);

@@ -1,5 +1,6 @@
 //! Where the flows of each coflow begin.
 ghost use Rattle.std.specs.Prelude.{◌≡◌, ◌≢◌, ℕ, ◌+◌, ◌^◌, ◌<◌, ◌≤◌, All, IfOk, length, slice_index};
+ghost use Rattle.coflow_units.specs.declared.limits.TheConstants.{MAX_FLOWS};
 ghost use Rattle.std.specs.List.Sorted.{IsNonDecreasingBy};
 ghost use Rattle.coflow_units.specs.declared.fabric.Flow.{Flow};
 ghost use Rattle.coflow_units.specs.Flows.{coflow_of};
@@ -10,12 +11,13 @@ use std::alloc::{AllocError, Global};
 
 /// The first flow of each coflow, and at the end the number of flows. The flows stand by coflow.
 pub(crate) fn starts_of(alloc: Global, flows: &[Flow], coflows: u32) -> Result<Vec<u32>, AllocError>
-    requires few { length flows.now ≤ 2 ^ 20 }
+    requires few { length flows.now ≤ MAX_FLOWS }
     requires ascending { IsNonDecreasingBy (λ (x : Flow). x.coflow) flows.now }
     requires within { All (λ (x : Flow). x.coflow < coflows) flows.now }
     ensures count { IfOk result (λ starts. length starts.items ≡ coflows + 1) }
     ensures starts { IfOk result (λ starts. IsStarts flows.now starts.items) }
-    ensures rise { IfOk result (λ starts. (c : ℕ) → c < coflows → slice_index starts.items c ≤ slice_index starts.items (c + 1)) }
+    ensures rise { IfOk result (λ starts. (c : ℕ) → c < coflows →
+        slice_index starts.items c ≤ slice_index starts.items (c + 1)) }
 {
     let mut starts = Vec::new(alloc);
     let mut first = 0;

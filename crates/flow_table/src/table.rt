@@ -1,5 +1,6 @@
 //! The table of flows.
 ghost use Rattle.std.specs.Prelude.{◌≡◌, ◌-◌, ◌^◌, ◌<◌, ◌≤◌, ◌==◌, IfErr, IfOk, OnOk, drop, filter, length, map, slice_index, take};
+ghost use Rattle.coflow_units.specs.declared.limits.TheConstants.{MAX_UNITS};
 ghost use Rattle.coflow_units.specs.declared.fabric.Flow.{Flow};
 ghost use Rattle.coflow_units.specs.declared.trace.CoflowLine.{CoflowLine};
 ghost use Rattle.coflow_units.specs.Flows.{flow_at};
@@ -35,9 +36,21 @@ impl Model for Table {
 
     ghost Value = { TableFacts };
 
-    ghost view = { λ s. record { flows = s.flows.items; starts = s.starts.items; ports = s.ports; ids = s.ids.items; arrivals = s.arrivals.items } };
+    ghost view = { λ s. record {
+      flows = s.flows.items;
+      starts = s.starts.items;
+      ports = s.ports;
+      ids = s.ids.items;
+      arrivals = s.arrivals.items;
+    } };
 
-    ghost invariant = { λ s. IsTable record { flows = s.flows.items; starts = s.starts.items; ports = s.ports; ids = s.ids.items; arrivals = s.arrivals.items } };
+    ghost invariant = { λ s. IsTable record {
+      flows = s.flows.items;
+      starts = s.starts.items;
+      ports = s.ports;
+      ids = s.ids.items;
+      arrivals = s.arrivals.items;
+    } };
 }
 
 impl Table {
@@ -57,7 +70,7 @@ impl Table {
         requires unit_limit { unit ≤ 2 ^ 20 }
         ensures table { IfOk result (λ table. IsTableOf trace.now unit table) }
         ensures within_limits { IfOk result IsTable }
-        ensures units { OnOk result (units_in_all trace.now unit ≤ 2 ^ 40) }
+        ensures units { OnOk result (units_in_all trace.now unit ≤ MAX_UNITS) }
         ensures cause { IfErr result (HasCause trace.now unit) }
         ensures limit { IsLimitExactly trace.now unit result }
     {

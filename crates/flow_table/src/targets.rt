@@ -1,5 +1,6 @@
 //! The egress ports to which a coflow sends.
 ghost use Rattle.std.specs.Prelude.{◌≡◌, ◌≢◌, ℕ, ◌+◌, ◌^◌, ◌<◌, ◌≤◌, All, IfOk, length, slice_index};
+ghost use Rattle.coflow_units.specs.declared.limits.TheConstants.{MAX_UNITS};
 ghost use Rattle.coflow_units.specs.Trace.{IsCoflowLine};
 ghost use Rattle.flow_table.specs.declared.targets.Target.{Target};
 ghost use Rattle.flow_table.specs.declared.spots.Spot.{Spot};
@@ -34,12 +35,14 @@ pub(crate) fn targets_of(
     requires some { 1 ≤ unit }
     requires unit_limit { unit ≤ 2 ^ 20 }
     requires line { (number : ℕ) × (ports ≡ number + 1) × IsCoflowLine number line.now }
-    requires units { units_of_line unit line.now ≤ 2 ^ 40 }
+    requires units { units_of_line unit line.now ≤ MAX_UNITS }
     requires sorted { IsByLocation rests.now }
     requires within { All (λ (s : Spot). s.location < ports) rests.now }
     ensures targets { IfOk result (λ targets. AreTargets rests.now targets.items) }
-    ensures wholes { IfOk result (λ targets. All (λ (t : Target). t.whole ≡ whole_to unit line.now t.egress) targets.items) }
-    ensures all { IfOk result (λ targets. (egress : ℕ) → All (λ (t : Target). t.egress ≢ egress) targets.items → All (λ (s : Spot). s.location ≢ egress) rests.now) }
+    ensures wholes { IfOk result (λ targets. All (λ (t : Target). t.whole ≡ whole_to unit line.now t.egress)
+        targets.items) }
+    ensures all { IfOk result (λ targets. (egress : ℕ) → All (λ (t : Target). t.egress ≢ egress) targets.items →
+        All (λ (s : Spot). s.location ≢ egress) rests.now) }
 {
     let wholes = wholes_of(alloc, line, unit, ports)?;
     let mut targets = Vec::new(alloc);
@@ -70,9 +73,10 @@ fn wholes_of(
     requires some { 1 ≤ unit }
     requires unit_limit { unit ≤ 2 ^ 20 }
     requires line { (number : ℕ) × (ports ≡ number + 1) × IsCoflowLine number line.now }
-    requires units { units_of_line unit line.now ≤ 2 ^ 40 }
+    requires units { units_of_line unit line.now ≤ MAX_UNITS }
     ensures count { IfOk result (λ wholes. length wholes.items ≡ ports) }
-    ensures wholes { IfOk result (λ wholes. (egress : ℕ) → egress < ports → slice_index wholes.items egress ≡ whole_to unit line.now egress) }
+    ensures wholes { IfOk result (λ wholes. (egress : ℕ) → egress < ports →
+        slice_index wholes.items egress ≡ whole_to unit line.now egress) }
 {
     let mappers = line.mappers.as_slice().len() as u64;
     let mut wholes = vec![in alloc; 0; ports as usize]?;

@@ -1,5 +1,6 @@
 //! What no clause says: that the definitions give the flows that were worked out by hand, that a call answers want of memory only where there is none, and that the limits can be met.
 ghost use Rattle.std.specs.Prelude.{◌*◌, ◌≤◌, ◌^◌, All, IsTrue};
+ghost use Rattle.coflow_units.specs.declared.limits.TheConstants.{MAX_MEGABYTES};
 ghost use Rattle.coflow_units.specs.declared.trace.Reducer.{Reducer};
 ghost use Rattle.coflow_units.specs.Trace.{IsCoflowLine, IsTrace};
 
@@ -60,7 +61,8 @@ fn are_mappers(mappers: &[u32], number: u32) -> bool
 }
 
 fn are_reducers(reducers: &[Reducer], number: u32) -> bool
-    ensures { IsTrue result → All (λ (r : Reducer). (r.location ≤ number) × (r.millionths ≤ 2 ^ 40 * 1000000)) reducers.now }
+    ensures { IsTrue result → All (λ (r : Reducer). (r.location ≤ number) × (r.millionths ≤ MAX_MEGABYTES * 1000000))
+        reducers.now }
 {
     for reducer in reducers {
         if reducer.location > number {

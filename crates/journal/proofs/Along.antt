@@ -1,5 +1,6 @@
 -- How a law is proved along a legal journal.
-use Rattle.std.proofs.Common.{◌≡◌, ℕ, ◌+◌, true, false, true≢false, List, [], ◌∷◌, ◌++◌, length, max, refl, sym, ap, subst, ◌∙◌, arith, append_assoc, append-nil, Option, Some, None}
+use Rattle.std.proofs.Common.{◌≡◌, ℕ, ◌+◌, true, false, true≢false, List, [], ◌∷◌, ◌++◌, length, max, refl, sym, ap, subst, ◌∙◌, arith, append_assoc, append-nil, Option, Some}
+use Rattle.std.proofs.Common.{None}
 use Rattle.std.specs.Prelude.{All, if◌then◌else◌, nat_lt, nat_le, slice_index_or, ◌==◌}
 use Rattle.std.proofs.lemmas.Bool.{eqb-false, eqb-true}
 use Rattle.std.proofs.lemmas.List.{get_or_append_left, length-append}
@@ -7,7 +8,8 @@ use Rattle.journal.specs.declared.command.Command.{Command}
 use Rattle.journal.specs.declared.command.Command.TheVariants.{Register, Withdraw, Publish, Pull, Open, Short, Close, Skip, Reweigh}
 use Rattle.journal.specs.declared.command.Entry.{Entry}
 use Rattle.journal.specs.declared.command.Reply.{Reply}
-use Rattle.journal.specs.declared.command.Reply.TheVariants.{Full, Already, Joined, NotHere, Left, StillOpen, Version, Rank, Unranked, NothingLeft, Late, Opened, NotGranted, Noted, NoneOpen, Closed, StillOwed, Skipped, Weighed}
+use Rattle.journal.specs.declared.command.Reply.TheVariants.{Full, Already, Joined, NotHere, Left, StillOpen, Version, Rank, Unranked, NothingLeft, Late, Opened, NotGranted, Noted}
+use Rattle.journal.specs.declared.command.Reply.TheVariants.{NoneOpen, Closed, StillOwed, Skipped, Weighed}
 use Rattle.journal.specs.declared.opening.Opening.{Opening}
 use Rattle.journal.specs.State.{has, is_present, Run, slot_end, State}
 use Rattle.journal.specs.Line.{owing, rank, version}
@@ -29,7 +31,8 @@ pub record IsNext (o : Opening) (before : List Entry) (e : Entry) : Type 0 where
   pub tells : TellsEntry o (state_of o before) e.command e.reply
 
 pub next_of : (o : Opening) (before more : List Entry) (e : Entry) → IsLegal o (before ++ (e ∷ more)) → IsNext o before e
-next_of o before more e legal = record { legal = legal_front o [] before (e ∷ more) legal; reply = (legal_there o before more e legal).0; tells = entry_tells o before more e legal }
+next_of o before more e legal =
+    record { legal = legal_front o [] before (e ∷ more) legal; reply = (legal_there o before more e legal).0; tells = entry_tells o before more e legal }
 
 from : (o : Opening) (P : List Entry → Type 0) → ((before : List Entry) (e : Entry) → IsNext o before e → P before → P (before ++ e ∷ [])) → (before es : List Entry) →
     IsLegal o before → LegalFrom o before es → P before → P (before ++ es)

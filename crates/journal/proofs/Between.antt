@@ -1,5 +1,6 @@
 -- An open run, from its opening to its closing: what notes and entries of others make of it.
-use Rattle.std.proofs.Common.{◌≡◌, ℕ, ◌<◌, ◌⊎◌, inl, inr, Bool, true, false, true≢false, List, [], ◌∷◌, ◌++◌, length, min, refl, sym, ap, subst, ◌∙◌, arith, suc, append_assoc, append-nil, Option, Some, None}
+use Rattle.std.proofs.Common.{◌≡◌, ℕ, ◌<◌, ◌⊎◌, inl, inr, Bool, true, false, true≢false, List, [], ◌∷◌, ◌++◌, length, min, refl, sym, ap, subst, ◌∙◌, arith, suc, append_assoc}
+use Rattle.std.proofs.Common.{append-nil, Option, Some, None}
 use Rattle.std.specs.Prelude.{All, ◌==◌, ◌||◌, not, nat_le, nat_lt, if◌then◌else◌}
 use Rattle.std.specs.List.{list_any}
 use Rattle.std.proofs.lemmas.Bool.{and_parts, cases_Bool, eqb-true, or_cases}
@@ -190,6 +191,7 @@ between o d first granted j (e ∷ es) more old legal is all =
       | inr short ↦ by_note o d first granted j (es ++ more) e old legal short is
     ] in
     let rest =
-    between o d first granted (j ++ e ∷ []) es more one.notes (subst (IsLegal o) (sym (append_assoc j (e ∷ []) (es ++ more))) legal) one.run (λ k d lt. all (suc k) d (omega arith)) in
+    between o d first granted (j ++ e ∷ []) es more one.notes (subst (IsLegal o) (sym (append_assoc j (e ∷ []) (es ++ more))) legal) one.run (λ k d lt. all (suc k) d (omega arith))
+    in
     subst (λ l. IsBetween o d first granted j l (λ p. list_any (λ (e : Entry). notes_port p e.command) (e ∷ es)) old) (append_assoc j (e ∷ []) es)
     (chain o d first granted j (j ++ e ∷ []) ((j ++ e ∷ []) ++ es) (λ p. notes_port p e.command) (λ p. list_any (λ (e : Entry). notes_port p e.command) es) old one rest)

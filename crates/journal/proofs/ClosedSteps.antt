@@ -16,7 +16,8 @@ closed_append : (o : Opening) (s : State) (xs ys : List Entry) → closed_from o
 closed_append o s [] ys = refl
 closed_append o s (e ∷ es) ys =
     let next = after o s e.command e.reply in
-    ap (λ l. closed_by e.reply s.run ++ l) (closed_append o next es ys) ∙ sym (append_assoc (closed_by e.reply s.run) (closed_from o next es) (closed_from o (state_from o next es) ys))
+    ap (λ l. closed_by e.reply s.run ++ l) (closed_append o next es ys) ∙
+    sym (append_assoc (closed_by e.reply s.run) (closed_from o next es) (closed_from o (state_from o next es) ys))
 
 -- an entry adds the run that it closes, where it closes one
 pub closed_push : (o : Opening) (journal : List Entry) (e : Entry) → closed_runs o (journal ++ e ∷ []) ≡ closed_runs o journal ++ closed_by e.reply (state_of o journal).run
@@ -25,7 +26,8 @@ closed_push o journal e = closed_append o (start o) journal (e ∷ []) ∙ ap (�
 pub wire_push : (o : Opening) (journal : List Entry) (e : Entry) (port : ℕ) →
     wire_of o (journal ++ e ∷ []) port ≡ wire_of o journal port ++ flat_map (sent_at o.table.flows port) (closed_by e.reply (state_of o journal).run)
 wire_push o journal e port =
-    ap (λ l. flat_map (sent_at o.table.flows port) l) (closed_push o journal e) ∙ flat_map-append (sent_at o.table.flows port) (closed_runs o journal) (closed_by e.reply (state_of o journal).run)
+    ap (λ l. flat_map (sent_at o.table.flows port) l) (closed_push o journal e) ∙
+    flat_map-append (sent_at o.table.flows port) (closed_runs o journal) (closed_by e.reply (state_of o journal).run)
 
 -- a reply that does not move leaves the open run
 pub record IsSame (s t : State) : Type 0 where

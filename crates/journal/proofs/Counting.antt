@@ -41,7 +41,8 @@ opened_grant o s some =
     let f = get_or (owing o s) 0 0 in
     let (in', pass) = filter_in test (range_with_len 0 (length o.table.flows)) f (Contains-get_or (owing o s) 0 0 some) in
     let parts = and_parts (has (line s) (coflow_of o.table.flows f)) (nat_lt 0 (owed o s f)) pass in
-    some_grant o.table.flows (line s) (owed o s) (granted o s) f (are_the_grants o.table.flows (line s) (owed o s)) (omega (arith, number_below 0 (length o.table.flows) f in')) (any_has (line s) (coflow_of o.table.flows f) parts.0) (ltb-true 0 (owed o s f) parts.1)
+    some_grant o.table.flows (line s) (owed o s) (granted o s) f (are_the_grants o.table.flows (line s) (owed o s)) (omega (arith, number_below 0 (length o.table.flows) f in'))
+    (any_has (line s) (coflow_of o.table.flows f) parts.0) (ltb-true 0 (owed o s f) parts.1)
 
 closed_none : (o : Opening) (s : State) (run : Option Run) → s.run ≡ run → OnRun (closed o s run).run IsWhole
 closed_none o s None e = subst (λ x. OnRun x IsWhole) (sym e) tt
@@ -86,7 +87,8 @@ unnoted o journal legal none =
       run =
           subst (λ (t : State). OnRun t.run IsWhole) (sym (state_snoc o before e))
           (run_whole o s e.command e.reply (All-contains (λ (e : Entry). is_noting e.command ≡ false) (before ++ e ∷ []) e none (Contains-push before e)) next.tells old.run);
-      closed = subst (All IsWhole) (sym (closed_push o before e)) (All-append IsWhole (closed_runs o before) (closed_by e.reply s.run) old.closed (closed_whole e.reply s.run old.run));
+      closed = subst (All IsWhole) (sym (closed_push o before e))
+          (All-append IsWhole (closed_runs o before) (closed_by e.reply s.run) old.closed (closed_whole e.reply s.run old.run));
     }) (λ none. record { run = tt; closed = none_at_all IsWhole }) journal legal none
 
 -- each Closed entry closes a run
@@ -113,7 +115,12 @@ some_unit : (flows : List Flow) (next : ℕ) (r : Run) → IsClosedRun flows nex
 some_unit flows next r h whole =
     let (f, in') = whole.0 in
     let lt = All-contains (λ f. f < length flows) r.granted f h.clear.flow in' in
-    omega (arith, h.some, full_credit flows r f whole.1 in', member_within_sum (λ f. credit flows r f) (range_with_len 0 (length flows)) f (number_in 0 (length flows) f (omega arith) (omega (arith, lt))))
+    omega (
+      arith,
+      h.some,
+      full_credit flows r f whole.1 in',
+      member_within_sum (λ f. credit flows r f) (range_with_len 0 (length flows)) f (number_in 0 (length flows) f (omega arith) (omega (arith, lt))),
+    )
 
 -- without notes no more runs are closed than units are sent
 pub few_closings : (o : Opening) (journal : List Entry) → IsLegal o journal → InRange o journal → NoNotes journal → closings journal ≤ units_sent o journal
@@ -123,7 +130,8 @@ few_closings o journal legal ok none =
     let range = range_with_len 0 (length flows) in
     let h = closed_sound o journal legal ok in
     let whole = (unnoted o journal legal none).closed in
-    let many = at_least_one (λ r. sum_by (λ f. credit flows r f) range) runs (λ k d lt. some_unit flows (state_of o journal).next (get_or runs k d) (h.each k d lt) (whole k d lt)) in
+    let many = at_least_one (λ r. sum_by (λ f. credit flows r f) range) runs (λ k d lt. some_unit flows (state_of o journal).next (get_or runs k d) (h.each k d lt) (whole k d lt))
+    in
     let sums = sum_swap (λ (r : Run) (f : ℕ). credit flows r f) runs range in
     let sent = sum_same (λ f. (state_of o journal).sent f) (λ f. sum_by (λ r. credit flows r f) runs) range (λ f in'. h.sent_is f) in
     omega (arith, closings_are o journal legal, many, sums, sent)

@@ -1,5 +1,6 @@
 -- What a driven run makes of a journal.
-use Rattle.std.proofs.Common.{◌≡◌, ℕ, ◌+◌, ◌≤◌, ◌<◌, inl, inr, Bool, true, false, List, [], ◌∷◌, ◌++◌, Contains, get_or, length, map, replicate, refl, sym, ap, subst, ◌∙◌, arith, cond, append_assoc, append-nil, Option, Some, None, unwrap_or}
+use Rattle.std.proofs.Common.{◌≡◌, ℕ, ◌+◌, ◌≤◌, ◌<◌, inl, inr, Bool, true, false, List, [], ◌∷◌, ◌++◌, Contains, get_or, length, map, replicate, refl, sym, ap, subst, ◌∙◌, arith}
+use Rattle.std.proofs.Common.{cond, append_assoc, append-nil, Option, Some, None, unwrap_or}
 use Rattle.std.specs.Prelude.{◌||◌, count_by, not, nat_lt, if◌then◌else◌}
 use Rattle.std.specs.List.{filter, flat_map, list_any, range_with_len}
 use Rattle.std.proofs.lemmas.Bool.{and_parts, cases_Bool, cases_lt, lt-ltb}
@@ -23,7 +24,8 @@ use Rattle.journal.proofs.Growth.{state_snoc}
 use Rattle.journal.proofs.Legal.{legal_front}
 use Rattle.journal.proofs.Opened.{opened_grants}
 use Rattle.journal.specs.Closed.{LeavesSlots, closed_by, closed_runs, schedule_of, sent_at, sent_by, sent_run, slots_added, slots_in, wire_of}
-use Rattle.journal.specs.Driven.{closed_in, closing, CreditsAsSent, Drive, driven, driven_run, driven_slots, GoesOnByRun, is_other, IsDriven, IsUnderWay, notes_port, opened_in, opening}
+use Rattle.journal.specs.Driven.{closed_in, closing, CreditsAsSent, Drive, driven, driven_run, driven_slots, GoesOnByRun, is_other, IsDriven, IsUnderWay, notes_port, opened_in}
+use Rattle.journal.specs.Driven.{opening}
 use Rattle.journal.specs.Entries.{is_driving}
 use Rattle.journal.proofs.Between.{answered, between, IsBetween, IsNoteOf, mkr, not_driving}
 use Rattle.journal.proofs.Leaving.{others_leave, slots_both, slots_push}
@@ -96,15 +98,20 @@ ends o before d r legal ok h =
       next = ap (λ (t : State). t.next) state ∙ omega (arith, h.first, h.at_next, h.slots);
       sent = λ f.
           ap (λ (t : State). t.sent f) state ∙ ap (λ n. n + credit flows r f) (h.leaves.sent f)
-          ∙ ap (λ n. (state_of o before).sent f + n) (if_has (has r.granted f) (unwrap_or (note_in r.notes (ingress_of flows f)) r.slots) (d.sent (ingress_of flows f)) (λ t. sym (ap {B = ℕ} (λ b. if b then unwrap_or (note_in r.notes (ingress_of flows f)) r.slots else 0) t) ∙ h.credits f (any_has r.granted f t)) ∙ ap (λ gs. if has gs f then d.sent (ingress_of flows f) else 0) h.granted);
+          ∙ ap (λ n. (state_of o before).sent f + n)
+          (if_has (has r.granted f) (unwrap_or (note_in r.notes (ingress_of flows f)) r.slots) (d.sent (ingress_of flows f))
+          (λ t. sym (ap {B = ℕ} (λ b. if b then unwrap_or (note_in r.notes (ingress_of flows f)) r.slots else 0) t) ∙ h.credits f (any_has r.granted f t)) ∙
+          ap (λ gs. if has gs f then d.sent (ingress_of flows f) else 0) h.granted);
       closed = (r, h.run, closed_push o j (closing d) ∙ ap (λ l. closed_runs o j ++ l) added ∙ ap (λ l. l ++ r ∷ []) h.leaves.closed, h.first, h.slots, h.granted, h.credits);
       schedule =
-          schedule_push o j (closing d) legal low ∙ ap (λ x. schedule_of o j ++ slots_added flows s.next s.run x) reply ∙ ap (λ x. schedule_of o j ++ slots_added flows s.next x (Closed r.first)) h.run
+          schedule_push o j (closing d) legal low ∙ ap (λ x. schedule_of o j ++ slots_added flows s.next s.run x) reply ∙
+          ap (λ x. schedule_of o j ++ slots_added flows s.next x (Closed r.first)) h.run
           ∙ ap (λ l. schedule_of o j ++ l) (append-nil (slots_in flows r) ∙ own flows d r h.slots h.credits ∙ ap (λ gs. driven_slots flows gs d) h.granted)
           ∙ ap (λ l. l ++ driven_slots flows (driven o before d) d) h.leaves.schedule;
       wire = λ port.
           wire_push o j (closing d) port ∙ ap (λ l. wire_of o j port ++ flat_map (sent_at flows port) l) added
-          ∙ ap (λ l. wire_of o j port ++ l) (append-nil (sent_at flows port r) ∙ on_wire flows d r port (grant_in flows r.granted port) h.first refl h.credits ∙ ap (λ gs. driven_run d port (grant_in flows gs port)) h.granted)
+          ∙ ap (λ l. wire_of o j port ++ l) (append-nil (sent_at flows port r) ∙ on_wire flows d r port (grant_in flows r.granted port) h.first refl h.credits ∙
+          ap (λ gs. driven_run d port (grant_in flows gs port)) h.granted)
           ∙ ap (λ l. l ++ driven_run d port (grant_in flows (driven o before d) port)) (h.leaves.wire port);
     }
 
@@ -130,7 +137,8 @@ pub record IsAt (o : Opening) (before : List Entry) (d : Drive) : Type 0 where
   pub grants : IsGrants o.table.flows (line_of o (opened_in before d)) (owed o (state_of o (opened_in before d))) (driven o before d)
   pub count : d.count ≡ length (driven o before d)
   pub leaves : LeavesSlots o before (closed_in before d)
-  pub mid : IsBetween o d d.first (driven o before d) (opened_in before d ++ opening d ∷ []) (closed_in before d) (λ p. list_any (λ (e : Entry). notes_port p e.command) d.between) []
+  pub mid : IsBetween o d d.first (driven o before d) (opened_in before d ++ opening d ∷ []) (closed_in before d) (λ p. list_any (λ (e : Entry). notes_port p e.command) d.between)
+      []
 
 pub at : (o : Opening) (before more : List Entry) (d : Drive) → IsLegal o (closed_in before d ++ more) → IsUnderWay o before (closed_in before d) d → IsAt o before d
 at o before more d legal h =
@@ -178,7 +186,8 @@ goes o before d legal ok h =
       credits = λ f in'.
           let p = ingress_of flows f in
           let grant = (grant_at flows gs p f clear).1 (in', refl) in
-          let hit = λ (lt : d.sent p < d.slots). any_counted (λ (e : Entry). notes_port p e.command) d.between (omega (arith, h.noted f in', ap {B = ℕ} (λ b. if b then 1 else 0) (lt-ltb (d.sent p) d.slots lt))) in
+          let hit = λ (lt : d.sent p < d.slots). any_counted (λ (e : Entry). notes_port p e.command) d.between
+          (omega (arith, h.noted f in', ap {B = ℕ} (λ b. if b then 1 else 0) (lt-ltb (d.sent p) d.slots lt))) in
           ap {B = ℕ} (λ b. if b then unwrap_or (note_in x.mid.notes p) d.slots else 0) (any_in gs f in')
           ∙ from_note d p (note_in x.mid.notes p) (h.within f in') (x.mid.only p (inl refl)) (λ lt. x.mid.told p f grant (inr (hit lt)));
     })

@@ -1,5 +1,6 @@
 -- What the entries of a legal journal tell.
-use Rattle.std.proofs.Common.{◌≡◌, ℕ, ◌+◌, inl, inr, true, false, true≢false, List, [], ◌∷◌, ◌++◌, length, max, refl, sym, ap, subst, ◌∙◌, arith, append_assoc, append-nil, Option, Some, None}
+use Rattle.std.proofs.Common.{◌≡◌, ℕ, ◌+◌, inl, inr, true, false, true≢false, List, [], ◌∷◌, ◌++◌, length, max, refl, sym, ap, subst, ◌∙◌, arith, append_assoc, append-nil, Option}
+use Rattle.std.proofs.Common.{Some, None}
 use Rattle.std.specs.Prelude.{All, if◌then◌else◌, nat_lt, nat_le, slice_index_or, ◌==◌}
 use Rattle.std.proofs.lemmas.Bool.{eqb-false, eqb-true, leb-true, ltb-true}
 use Rattle.std.proofs.lemmas.List.{get_or_append_left, length-append}
@@ -7,7 +8,8 @@ use Rattle.journal.specs.declared.command.Command.{Command}
 use Rattle.journal.specs.declared.command.Command.TheVariants.{Register, Withdraw, Publish, Pull, Open, Short, Close, Skip, Reweigh}
 use Rattle.journal.specs.declared.command.Entry.{Entry}
 use Rattle.journal.specs.declared.command.Reply.{Reply}
-use Rattle.journal.specs.declared.command.Reply.TheVariants.{Full, Already, Joined, NotHere, Left, StillOpen, Version, Rank, Unranked, NothingLeft, Late, Opened, NotGranted, Noted, NoneOpen, Closed, StillOwed, Skipped, Weighed}
+use Rattle.journal.specs.declared.command.Reply.TheVariants.{Full, Already, Joined, NotHere, Left, StillOpen, Version, Rank, Unranked, NothingLeft, Late, Opened, NotGranted, Noted}
+use Rattle.journal.specs.declared.command.Reply.TheVariants.{NoneOpen, Closed, StillOwed, Skipped, Weighed}
 use Rattle.journal.specs.declared.opening.Opening.{Opening}
 use Rattle.journal.specs.State.{has, is_present, Run, slot_end, State}
 use Rattle.journal.specs.Line.{owing, rank, version}
@@ -26,7 +28,8 @@ by_run : (P : Reply → Type 0) (run : Option Run) (given : Run → Reply) (othe
 by_run P None given other one none = none refl
 by_run P (Some r) given other one none = one r refl
 
-noted_tells : (o : Opening) (s : State) (r : Run) (port units : ℕ) (g : Option ℕ) → s.run ≡ Some r → grant_in o.table.flows r.granted port ≡ g → TellsEntry o s (Short port units) (noted r port units g)
+noted_tells : (o : Opening) (s : State) (r : Run) (port units : ℕ) (g : Option ℕ) → s.run ≡ Some r → grant_in o.table.flows r.granted port ≡ g →
+    TellsEntry o s (Short port units) (noted r port units g)
 noted_tells o s r port units None open' e = (units, refl, ap (λ x. flow_at o.table.flows x port) open' ∙ e)
 noted_tells o s r port units (Some f) open' e = (port, units, f, r, refl, open', e, refl)
 
@@ -50,7 +53,8 @@ answer_tells o s (Register c) = branch (TellsEntry o s (Register c)) (has s.join
 answer_tells o s (Withdraw c) = branch (TellsEntry o s (Withdraw c)) (is_present s c) Left NotHere (λ e. (c, refl, e)) (λ e. (c, e, inl refl))
 answer_tells o s Publish = by_run (TellsEntry o s Publish) s.run (λ r. StillOpen r.first) (Version (version s + 1)) (λ r e. (r, e, refl, inl refl)) (λ none. (refl, none, refl))
 answer_tells o s (Pull c) =
-    branch (TellsEntry o s (Pull c)) (rank s (version s) c == 0) (Unranked (version s)) (Rank (version s) (rank s (version s) c)) (λ e. (c, refl, refl, eqb-true (rank s (version s) c) 0 e))
+    branch (TellsEntry o s (Pull c)) (rank s (version s) c == 0) (Unranked (version s)) (Rank (version s) (rank s (version s) c))
+    (λ e. (c, refl, refl, eqb-true (rank s (version s) c) 0 e))
     (λ e. (c, refl, refl, refl, omega (arith, eqb-false (rank s (version s) c) 0 e)))
 answer_tells o s (Open most) =
     by_run (TellsEntry o s (Open most)) s.run (λ r. StillOpen r.first) (opened o s most) (λ r e. (r, e, refl, inr (inl (most, refl)))) (opened_tells o s most)
@@ -65,7 +69,8 @@ answer_tells o s (Reweigh c w) = branch (TellsEntry o s (Reweigh c w)) (is_prese
 
 pub reply_tells : (o : Opening) (journal : List Entry) (k : Command) → TellsEntry o (state_of o journal) k (reply_of o journal k)
 reply_tells o journal k =
-    branch (TellsEntry o (state_of o journal) k) (nat_le (room o k) (length journal)) (Full (length journal)) (answer o (state_of o journal) k) (λ e. tt) (λ e. answer_tells o (state_of o journal) k)
+    branch (TellsEntry o (state_of o journal) k) (nat_le (room o k) (length journal)) (Full (length journal)) (answer o (state_of o journal) k) (λ e. tt)
+    (λ e. answer_tells o (state_of o journal) k)
 
 -- so it is with each entry of a legal journal
 pub entry_tells : (o : Opening) (before more : List Entry) (e : Entry) → IsLegal o (before ++ (e ∷ more)) → TellsEntry o (state_of o before) e.command e.reply

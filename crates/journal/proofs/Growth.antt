@@ -1,5 +1,6 @@
 -- What further entries leave as it was.
-use Rattle.std.proofs.Common.{◌≡◌, ℕ, ◌+◌, ◌≤◌, Bool, true, false, true≢false, List, [], ◌∷◌, ◌++◌, length, map, get_or, refl, sym, ap, ◌∙◌, arith, suc, append_assoc, append-nil, Option, Some, None}
+use Rattle.std.proofs.Common.{◌≡◌, ℕ, ◌+◌, ◌≤◌, Bool, true, false, true≢false, List, [], ◌∷◌, ◌++◌, length, map, get_or, refl, sym, ap, ◌∙◌, arith, suc, append_assoc, append-nil}
+use Rattle.std.proofs.Common.{Option, Some, None}
 use Rattle.std.specs.Prelude.{if◌then◌else◌}
 use Rattle.std.proofs.lemmas.List.{map-append, length-append, get_or_append_left, length-map}
 use Rattle.std.proofs.Math.Seq.{get_or-append_seam}
@@ -66,7 +67,8 @@ order_stays old new n v (more, e, m) le =
 pub order_kept : (o : Opening) (journal more : List Entry) (v : ℕ) → v ≤ version_of journal → order_in o (journal ++ more) v ≡ order_in o journal v
 order_kept o journal more v le =
     ap (λ (s : State). order s v) (state_append o (start o) journal more)
-    ∙ order_stays (state_of o journal).published (state_from o (state_of o journal) more).published (version_of more) v (published_grows o (state_of o journal) more) (omega (arith, version_counted o journal))
+    ∙ order_stays (state_of o journal).published (state_from o (state_of o journal) more).published (version_of more) v (published_grows o (state_of o journal) more)
+    (omega (arith, version_counted o journal))
 
 pub rank_kept : (o : Opening) (journal more : List Entry) (v coflow : ℕ) → v ≤ version_of journal → rank_of o (journal ++ more) v coflow ≡ rank_of o journal v coflow
 rank_kept o journal more v coflow le = ap (λ xs. rank_in xs coflow) (order_kept o journal more v le)
@@ -80,7 +82,8 @@ made_at old w rest n e =
     ∙ get_or-append_seam (map the_order old) (the_order w) (map the_order rest) []
 
 -- the order of the version that a publishing makes is that of what was left there
-pub order_made : (o : Opening) (journal more : List Entry) (e : Entry) (v : ℕ) → e.reply ≡ Version v → order_in o (journal ++ (e ∷ more)) (version_of journal + 1) ≡ the_order (what_is_left o (state_of o journal))
+pub order_made : (o : Opening) (journal more : List Entry) (e : Entry) (v : ℕ) → e.reply ≡ Version v →
+    order_in o (journal ++ (e ∷ more)) (version_of journal + 1) ≡ the_order (what_is_left o (state_of o journal))
 order_made o journal more e v tells =
     let s = state_of o journal in
     let (rest, grown, n) = published_grows o (after o s e.command (Version v)) more in
@@ -95,7 +98,8 @@ full_keeps : (o : Opening) (s : State) (k : Command) (r : Reply) → is_full r �
 full_keeps o s k (Full n) e = refl
 full_keeps o s k r e = absurd (true≢false (sym e))
 
-after_is : (o : Opening) (journal : List Entry) (who : ℕ) (k : Command) (r : Reply) (b : Bool) → is_full r ≡ b → state_of o (journal ++ (if b then [] else entry who k r ∷ [])) ≡ after o (state_of o journal) k r
+after_is : (o : Opening) (journal : List Entry) (who : ℕ) (k : Command) (r : Reply) (b : Bool) → is_full r ≡ b →
+    state_of o (journal ++ (if b then [] else entry who k r ∷ [])) ≡ after o (state_of o journal) k r
 after_is o journal who k r true e = ap (state_of o) (append-nil journal) ∙ sym (full_keeps o (state_of o journal) k r e)
 after_is o journal who k r false e = state_snoc o journal (entry who k r)
 
@@ -114,7 +118,8 @@ refusal_keeps o s k NoneOpen e = refl
 refusal_keeps o s k (StillOwed flow) e = refl
 refusal_keeps o s k r e = absurd (true≢false (sym e))
 
-pub state_stays : (o : Opening) (journal : List Entry) (who : ℕ) (k : Command) → is_refusal (reply_of o journal k) ≡ true → state_of o (journal_after o journal who k) ≡ state_of o journal
+pub state_stays : (o : Opening) (journal : List Entry) (who : ℕ) (k : Command) → is_refusal (reply_of o journal k) ≡ true →
+    state_of o (journal_after o journal who k) ≡ state_of o journal
 state_stays o journal who k e = state_after o journal who k ∙ refusal_keeps o (state_of o journal) k (reply_of o journal k) e
 
 pub journal_stays : (o : Opening) (journal : List Entry) (who : ℕ) (k : Command) → is_full (reply_of o journal k) ≡ true → journal_after o journal who k ≡ journal

@@ -39,7 +39,8 @@ range_pair n i j d less lt = omega (arith, get_or-range_with_len 0 n i d (omega 
 
 pub range_rises : (p : ℕ → Bool) (n : ℕ) → IsStrictlyIncreasing (filter p (range_with_len 0 n))
 range_rises p n k lt =
-    AllPairs-filter (λ (x : ℕ) (y : ℕ). x < y) p (range_with_len 0 n) (λ i j d less in'. range_pair n i j d less (omega (arith, in', length-range_with_len 0 n))) k (k + 1) 0 (omega arith) lt
+    AllPairs-filter (λ (x : ℕ) (y : ℕ). x < y) p (range_with_len 0 n) (λ i j d less in'. range_pair n i j d less (omega (arith, in', length-range_with_len 0 n))) k (k + 1) 0
+    (omega arith) lt
 
 abbrev given : (ℕ → ℕ) → ℕ → Flow → Flow
 given units k x = record { coflow = x.coflow; ingress = x.ingress; egress = x.egress; units = units k }
@@ -67,7 +68,8 @@ left_is_instance o s ok =
       coflow = λ i d lt. subst (λ (x : Flow). 0 < x.units → Contains (present o s) x.coflow) (sym (at i d lt)) (λ some.
           let in' : i < length o.table.flows = omega (arith, lt, units_length 0 units o.table.flows) in
           let k : 0 + i ≡ i = omega arith in
-          subst (λ c. Contains (present o s) c) (ap (coflow_of o.table.flows) k ∙ ap (λ (x : Flow). x.coflow) (get_or_default o.table.flows i record { coflow = 0; ingress = 0; egress = 0; units = 0 } d in'))
+          subst (λ c. Contains (present o s) c)
+          (ap (coflow_of o.table.flows) k ∙ ap (λ (x : Flow). x.coflow) (get_or_default o.table.flows i record { coflow = 0; ingress = 0; egress = 0; units = 0 } d in'))
           (counted_in (present o s) (coflow_of o.table.flows (0 + i)) (owed o s (0 + i)) (has (present o s) (coflow_of o.table.flows (0 + i))) refl some));
       ingress = λ i d lt. subst (λ (x : Flow). x.ingress < o.table.ports) (sym (at i d lt)) (ok.table.ingress i d (omega (arith, lt, units_length 0 units o.table.flows)));
       egress = λ i d lt. subst (λ (x : Flow). x.egress < o.table.ports) (sym (at i d lt)) (ok.table.egress i d (omega (arith, lt, units_length 0 units o.table.flows)));

@@ -6,7 +6,8 @@ use Rattle.std.specs.List.{slice_index_or}
 use Rattle.journal.specs.declared.command.Command.{Command}
 use Rattle.journal.specs.declared.command.Command.TheVariants.{Reweigh}
 use Rattle.journal.specs.declared.command.Reply.{Reply}
-use Rattle.journal.specs.declared.command.Reply.TheVariants.{Full, Already, Joined, NotHere, Left, StillOpen, Version, Rank, Unranked, NothingLeft, Late, Opened, NotGranted, Noted, NoneOpen, Closed, StillOwed, Skipped, Weighed}
+use Rattle.journal.specs.declared.command.Reply.TheVariants.{Full, Already, Joined, NotHere, Left, StillOpen, Version, Rank, Unranked, NothingLeft, Late, Opened, NotGranted, Noted}
+use Rattle.journal.specs.declared.command.Reply.TheVariants.{NoneOpen, Closed, StillOwed, Skipped, Weighed}
 use Rattle.journal.specs.declared.command.Entry.{Entry}
 use Rattle.journal.specs.declared.opening.Opening.{Opening}
 use Rattle.journal.specs.State.{Run, State}
@@ -53,7 +54,8 @@ here o s k r c w old ek er = rw (ek, er) (rw (both_ways c) refl)
     both_ways n = grind arith
 
 -- the last entry that gives the coflow a weight decides
-pub last_given : (o : Opening) (before more : List Entry) (e : Entry) (c w old : ℕ) → e.command ≡ Reweigh c w → e.reply ≡ Weighed old → All (λ x. gives_weight x c ≡ false) more → (state_of o (before ++ e ∷ more)).weight c ≡ w
+pub last_given : (o : Opening) (before more : List Entry) (e : Entry) (c w old : ℕ) → e.command ≡ Reweigh c w → e.reply ≡ Weighed old → All (λ x. gives_weight x c ≡ false) more →
+    (state_of o (before ++ e ∷ more)).weight c ≡ w
 last_given o before more e c w old ek er h =
     ap (λ (s : State). s.weight c) (state_append o (start o) before (e ∷ more))
     ∙ (from_keeps o (after o (state_of o before) e.command e.reply) more c h ∙ here o (state_of o before) e.command e.reply c w old ek er)

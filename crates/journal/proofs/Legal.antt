@@ -1,12 +1,14 @@
 -- Legal journals: beginnings, what a command adds, how long they are, and that their replies are determined.
-use Rattle.std.proofs.Common.{◌≡◌, ℕ, ◌+◌, ◌≤◌, Bool, true, false, List, [], ◌∷◌, ◌++◌, length, map, drop, refl, sym, ap, subst, ◌∙◌, arith, append_assoc, append-nil, Option, Some, None}
+use Rattle.std.proofs.Common.{◌≡◌, ℕ, ◌+◌, ◌≤◌, Bool, true, false, List, [], ◌∷◌, ◌++◌, length, map, drop, refl, sym, ap, subst, ◌∙◌, arith, append_assoc, append-nil, Option, Some}
+use Rattle.std.proofs.Common.{None}
 use Rattle.std.specs.Prelude.{if◌then◌else◌, nat_le, nat_lt, max, slice_index_or, ◌==◌}
 use Rattle.std.proofs.lemmas.List.{length-append}
 use Rattle.std.proofs.lemmas.Bool.{leb-false}
 use Rattle.journal.specs.declared.command.Command.{Command}
 use Rattle.journal.specs.declared.command.Command.TheVariants.{Register, Withdraw, Publish, Pull, Open, Short, Close, Skip, Reweigh}
 use Rattle.journal.specs.declared.command.Reply.{Reply}
-use Rattle.journal.specs.declared.command.Reply.TheVariants.{Full, Already, Joined, NotHere, Left, StillOpen, Version, NothingLeft, Late, Opened, NotGranted, NoneOpen, Closed, StillOwed, Skipped, Weighed, Rank, Unranked}
+use Rattle.journal.specs.declared.command.Reply.TheVariants.{Full, Already, Joined, NotHere, Left, StillOpen, Version, NothingLeft, Late, Opened, NotGranted, NoneOpen, Closed}
+use Rattle.journal.specs.declared.command.Reply.TheVariants.{StillOwed, Skipped, Weighed, Rank, Unranked}
 use Rattle.journal.specs.declared.command.Entry.{Entry}
 use Rattle.journal.specs.declared.opening.Opening.{Opening}
 use Rattle.journal.specs.State.{has, is_present, Run, slot_end, State}
@@ -31,12 +33,14 @@ legal_join o before [] more legal rest = subst (λ l. LegalFrom o l more) (appen
 legal_join o before (e ∷ es) more legal rest =
     (legal.0, legal.1, legal_join o (before ++ e ∷ []) es more legal.2 (subst (λ l. LegalFrom o l more) (sym (append_assoc before (e ∷ []) es)) rest))
 
-pub legal_snoc : (o : Opening) (journal : List Entry) (e : Entry) → IsLegal o journal → e.reply ≡ reply_of o journal e.command → is_full e.reply ≡ false → IsLegal o (journal ++ e ∷ [])
+pub legal_snoc : (o : Opening) (journal : List Entry) (e : Entry) → IsLegal o journal → e.reply ≡ reply_of o journal e.command → is_full e.reply ≡ false →
+    IsLegal o (journal ++ e ∷ [])
 legal_snoc o journal e legal same room = legal_join o [] journal (e ∷ []) legal (same, room, tt)
 
 -- ---- what a command adds
 
-after_step : (o : Opening) (journal : List Entry) (who : ℕ) (k : Command) → IsLegal o journal → (b : Bool) → is_full (reply_of o journal k) ≡ b → IsLegal o (journal ++ (if b then [] else entry who k (reply_of o journal k) ∷ []))
+after_step : (o : Opening) (journal : List Entry) (who : ℕ) (k : Command) → IsLegal o journal → (b : Bool) → is_full (reply_of o journal k) ≡ b →
+    IsLegal o (journal ++ (if b then [] else entry who k (reply_of o journal k) ∷ []))
 after_step o journal who k legal true e = subst (IsLegal o) (sym (append-nil journal)) legal
 after_step o journal who k legal false e = legal_snoc o journal (entry who k (reply_of o journal k)) legal refl e
 
@@ -74,7 +78,8 @@ answer_not o s (Withdraw c) = neither (is_present s c) Left NotHere refl refl
 answer_not o s Publish = on_run_not s.run (λ r. StillOpen r.first) (Version (version s + 1)) (λ r. refl) refl
 answer_not o s (Pull c) = neither (rank s (version s) c == 0) (Unranked (version s)) (Rank (version s) (rank s (version s) c)) refl refl
 answer_not o s (Open most) = on_run_not s.run (λ r. StillOpen r.first) (opened o s most) (λ r. refl) (opened_not o s most)
-answer_not o s (Short port units) = on_run_not s.run (λ r. noted r port units (grant_in o.table.flows r.granted port)) (NotGranted port) (λ r. noted_not r port units (grant_in o.table.flows r.granted port)) refl
+answer_not o s (Short port units) =
+    on_run_not s.run (λ r. noted r port units (grant_in o.table.flows r.granted port)) (NotGranted port) (λ r. noted_not r port units (grant_in o.table.flows r.granted port)) refl
 answer_not o s Close = on_run_not s.run (λ r. Closed r.first) NoneOpen (λ r. refl) refl
 answer_not o s (Skip to) = on_run_not s.run (λ r. StillOpen r.first) (skipped o s to) (λ r. refl) (skipped_not o s to)
 answer_not o s (Reweigh c w) = neither (is_present s c) (Weighed (s.weight c)) NotHere refl refl

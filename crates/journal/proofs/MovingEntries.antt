@@ -28,7 +28,14 @@ pub by_opening : (o : Opening) (before : List Entry) (e : Entry) (first slots co
     OpensRun o before (before ++ e ∷ []) (record { first = first; slots = slots; granted = granted o (state_of o before); notes = [] })
 by_opening o before e first slots count legal is =
     let tells = tells_of o before e (Opened first slots count) legal is in
-    record { run_before = tells.2; run_after = (opened_grants o before e first slots count is).0; first = tells.4; grants = refl; no_notes = refl; leaves = slots_push o before e (ap is_passing is) }
+    record {
+      run_before = tells.2;
+      run_after = (opened_grants o before e first slots count is).0;
+      first = tells.4;
+      grants = refl;
+      no_notes = refl;
+      leaves = slots_push o before e (ap is_passing is);
+    }
 
 pub by_note : (o : Opening) (before : List Entry) (e : Entry) (n : ℕ) → IsLegal o (before ++ e ∷ []) → e.reply ≡ Noted n →
     (r : Run) × (port : ℕ) × NotesRun o before (before ++ e ∷ []) r port n
@@ -39,7 +46,8 @@ by_note o before e n legal is =
       port,
       record {
         run_before = open';
-        run_after = ap (λ (t : State). t.run) (state_snoc o before e) ∙ ap (λ x. (after o s e.command x).run) is ∙ ap (λ k. noted_in s.run (port_named k) n) asks ∙ ap (λ x. noted_in x port n) open';
+        run_after = ap (λ (t : State). t.run) (state_snoc o before e) ∙ ap (λ x. (after o s e.command x).run) is ∙ ap (λ k. noted_in s.run (port_named k) n) asks ∙
+            ap (λ x. noted_in x port n) open';
         leaves = slots_push o before e (ap is_passing is);
       },
     )
@@ -68,7 +76,8 @@ by_closing o before e slot legal ok is =
         closed = closed_push o before e ∙ ap (λ l. closed_runs o before ++ l) added;
         schedule = schedule_push o before e legal ok ∙ ap (λ x. schedule_of o before ++ slots_added flows s.next s.run x) is
             ∙ ap (λ x. schedule_of o before ++ slots_added flows s.next x (Closed slot)) open' ∙ ap (λ l. schedule_of o before ++ l) (append-nil (slots_in flows r));
-        wire = λ port. wire_push o before e port ∙ ap (λ l. wire_of o before port ++ flat_map (sent_at flows port) l) added ∙ ap (λ l. wire_of o before port ++ l) (append-nil (sent_at flows port r));
+        wire = λ port. wire_push o before e port ∙ ap (λ l. wire_of o before port ++ flat_map (sent_at flows port) l) added ∙
+            ap (λ l. wire_of o before port ++ l) (append-nil (sent_at flows port r));
       },
     )
 

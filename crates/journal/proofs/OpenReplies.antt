@@ -45,7 +45,8 @@ opened_is o s most =
     branch P (s.next == slot_end) (Late s.next) made (λ e. inr (inl (ap Late (eqb-true s.next slot_end e), eqb-true s.next slot_end e, owes))) (λ e. inr (inr (refl, owes))))
 
 -- where no run is open, an Open finds nothing left, comes too late, or opens a run
-pub open_reply : (o : Opening) (before more : List Entry) (who most : ℕ) (reply : Reply) → IsLegal o (before ++ (entry who (Open most) reply ∷ more)) → (state_of o before).run ≡ None →
+pub open_reply : (o : Opening) (before more : List Entry) (who most : ℕ) (reply : Reply) → IsLegal o (before ++ (entry who (Open most) reply ∷ more)) →
+    (state_of o before).run ≡ None →
     IsOpenReply o (state_of o before) most reply
 open_reply o before more who most reply legal none =
     let s = state_of o before in

@@ -16,9 +16,12 @@ use Rattle.journal.proofs.Instances.{are_the_grants}
 use Rattle.journal.proofs.Sound.{least_below, least_each}
 
 pub opened_grants : (o : Opening) (journal : List Entry) (e : Entry) (slot slots count : ℕ) → e.reply ≡ Opened slot slots count →
-    ((state_of o (journal ++ e ∷ [])).run ≡ Some (record { first = slot; slots = slots; granted = granted o (state_of o journal); notes = [] })) × IsGrants o.table.flows (line_of o journal) (owed o (state_of o journal)) (granted o (state_of o journal))
-opened_grants o journal e slot slots count tells =
-    (ap (λ (s : State). s.run) (state_snoc o journal e) ∙ ap (λ (r : Reply). (after o (state_of o journal) e.command r).run) tells, are_the_grants o.table.flows (line_of o journal) (owed o (state_of o journal)))
+    ((state_of o (journal ++ e ∷ [])).run ≡ Some (record { first = slot; slots = slots; granted = granted o (state_of o journal); notes = [] })) ×
+    IsGrants o.table.flows (line_of o journal) (owed o (state_of o journal)) (granted o (state_of o journal))
+opened_grants o journal e slot slots count tells = (
+  ap (λ (s : State). s.run) (state_snoc o journal e) ∙ ap (λ (r : Reply). (after o (state_of o journal) e.command r).run) tells,
+  are_the_grants o.table.flows (line_of o journal) (owed o (state_of o journal)),
+)
 
 pub least_longest : (number : ℕ → ℕ) (fs : List ℕ) (n : ℕ) → (least_of number fs n ≡ n) ⊎ ((f : ℕ) × Contains fs f × (number f ≡ least_of number fs n))
 least_longest number [] n = inl refl

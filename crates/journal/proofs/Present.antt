@@ -1,5 +1,6 @@
 -- The coflows of the line are the present ones.
-use Rattle.std.proofs.Common.{◌≡◌, ℕ, inl, inr, Bool, true, false, List, [], ◌∷◌, ◌++◌, length, map, get_or, Contains, refl, sym, ap, subst, zero, suc, Option, Some, None, true≢false}
+use Rattle.std.proofs.Common.{◌≡◌, ℕ, inl, inr, Bool, true, false, List, [], ◌∷◌, ◌++◌, length, map, get_or, Contains, refl, sym, ap, subst, zero, suc, Option, Some, None}
+use Rattle.std.proofs.Common.{true≢false}
 use Rattle.std.specs.Prelude.{◌&&◌, not}
 use Rattle.std.specs.List.{filter, range_with_len}
 use Rattle.std.proofs.lemmas.Bool.{cases_Bool, and_parts, and_from}
@@ -56,7 +57,8 @@ step_named o s k (Version v) ok h = named_published o s ok h
 step_named o s k (Closed slot) ok h = closed_named o s s.run h
 step_named o s k reply ok h = h
 
-pub all_named : (o : Opening) (s : State) (journal : List Entry) → IsOpening o → Named s.joined s.published → Named (state_from o s journal).joined (state_from o s journal).published
+pub all_named : (o : Opening) (s : State) (journal : List Entry) → IsOpening o → Named s.joined s.published →
+    Named (state_from o s journal).joined (state_from o s journal).published
 all_named o s [] ok h = h
 all_named o s (e ∷ es) ok h = all_named o (after o s e.command e.reply) es ok (step_named o s e.command e.reply ok h)
 

@@ -22,7 +22,8 @@ range_append a (suc m) n =
 
 pub range_same : {X : Type 0} (f g : ℕ → X) (a n : ℕ) → ((t : ℕ) → a ≤ t → t < a + n → f t ≡ g t) → map f (range_with_len a n) ≡ map g (range_with_len a n)
 range_same f g a zero same = refl
-range_same f g a (suc n) same = ap (λ x. x ∷ map f (range_with_len (a + 1) n)) (same a (omega arith) (omega arith)) ∙ ap (λ l. g a ∷ l) (range_same f g (a + 1) n (λ t low high. same t (omega arith) (omega arith)))
+range_same f g a (suc n) same = ap (λ x. x ∷ map f (range_with_len (a + 1) n)) (same a (omega arith) (omega arith)) ∙
+    ap (λ l. g a ∷ l) (range_same f g (a + 1) n (λ t low high. same t (omega arith) (omega arith)))
 
 pub range_shift : {X : Type 0} (f : ℕ → X) (a b n : ℕ) → map f (range_with_len (a + b) n) ≡ map (λ i. f (a + i)) (range_with_len b n)
 range_shift f a b zero = refl

@@ -65,7 +65,8 @@ empty_run : (n : ℕ) (run : Option Run) (x : Reply) → Empty n x → Empty n (
 empty_run n None x h = h
 empty_run n (Some r) x h = no_way
 
-pub nothing_is_left : (o : Opening) (journal : List Entry) (most f : ℕ) → IsOpening o → reply_of o journal (Open most) ≡ NothingLeft → f < length o.table.flows → is_present (state_of o journal) (coflow_of o.table.flows f) ≡ true →
+pub nothing_is_left : (o : Opening) (journal : List Entry) (most f : ℕ) → IsOpening o → reply_of o journal (Open most) ≡ NothingLeft → f < length o.table.flows →
+    is_present (state_of o journal) (coflow_of o.table.flows f) ≡ true →
     owed o (state_of o journal) f ≡ 0
 nothing_is_left o journal most f ok e low there =
     let s = state_of o journal in
@@ -79,7 +80,8 @@ nothing_is_left o journal most f ok e low there =
       | inl some ↦
           let test = λ (g : ℕ). has (line s) (coflow_of o.table.flows g) && nat_lt 0 (owed o s g) in
           let (k, lt, at) = keeps test (range_with_len 0 (length o.table.flows)) f (number_in 0 (length o.table.flows) f (omega arith) (omega (arith, low)))
-          (and_from (has (line s) (coflow_of o.table.flows f)) (nat_lt 0 (owed o s f)) (line_present o journal ok (coflow_of o.table.flows f) ∙ there) (lt-ltb 0 (owed o s f) some)) in
+          (and_from (has (line s) (coflow_of o.table.flows f)) (nat_lt 0 (owed o s f)) (line_present o journal ok (coflow_of o.table.flows f) ∙ there) (lt-ltb 0 (owed o s f) some))
+          in
           absurd (omega (arith, lt, empty))
       | inr none ↦ omega (arith, none)
     ]

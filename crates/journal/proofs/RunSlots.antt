@@ -16,11 +16,13 @@ use Rattle.journal.proofs.Ranges.{range_append, range_none, range_same, range_sh
 
 -- before its first slot a run has nothing, and from its end on neither
 pub run_before : (flows : List Flow) (slot : ℕ) (r : Run) → slot < r.first → run_in flows slot r ≡ []
-run_before flows slot r lt = filter_out (reaches flows r slot) r.granted (λ f in'. and_left (nat_le r.first slot) (nat_lt slot (r.first + credit flows r f)) (lt-leb r.first slot lt))
+run_before flows slot r lt = filter_out (reaches flows r slot) r.granted
+    (λ f in'. and_left (nat_le r.first slot) (nat_lt slot (r.first + credit flows r f)) (lt-leb r.first slot lt))
 
 pub run_past : (flows : List Flow) (next slot : ℕ) (r : Run) → IsClosedRun flows next r → next ≤ slot → run_in flows slot r ≡ []
 run_past flows next slot r h le =
-    filter_out (reaches flows r slot) r.granted (λ f in'. and_right (nat_le r.first slot) (nat_lt slot (r.first + credit flows r f)) (le-ltb slot (r.first + credit flows r f) (omega (arith, h.ends, h.credits f))))
+    filter_out (reaches flows r slot) r.granted
+    (λ f in'. and_right (nat_le r.first slot) (nat_lt slot (r.first + credit flows r f)) (le-ltb slot (r.first + credit flows r f) (omega (arith, h.ends, h.credits f))))
 
 pub none_past : (flows : List Flow) (next slot : ℕ) (runs : List Run) → All (IsClosedRun flows next) runs → next ≤ slot → flows_in flows runs slot ≡ []
 none_past flows next slot [] all le = refl
@@ -73,8 +75,10 @@ pub slots_run : (flows : List Flow) (runs : List Run) (r : Run) (next : ℕ) →
 slots_run flows runs r next some at all =
     let old : slots_before flows (runs ++ r ∷ []) next ≡ slots_before flows runs next =
     range_same (flows_in flows (runs ++ r ∷ [])) (flows_in flows runs) 1 (next - 1)
-    (λ t low high. flows_push flows runs r t ∙ ap (λ l. flows_in flows runs t ++ l) (run_before flows t r (omega (arith, at, low, high, some))) ∙ append-nil (flows_in flows runs t)) in
+    (λ t low high. flows_push flows runs r t ∙ ap (λ l. flows_in flows runs t ++ l) (run_before flows t r (omega (arith, at, low, high, some))) ∙
+    append-nil (flows_in flows runs t)) in
     let new : map (flows_in flows (runs ++ r ∷ [])) (range_with_len next r.slots) ≡ map (λ t. run_in flows t r) (range_with_len next r.slots) =
-    range_same (flows_in flows (runs ++ r ∷ [])) (λ t. run_in flows t r) next r.slots (λ t low high. flows_push flows runs r t ∙ ap (λ l. l ++ run_in flows t r) (none_past flows next t runs all low)) in
+    range_same (flows_in flows (runs ++ r ∷ [])) (λ t. run_in flows t r) next r.slots
+    (λ t low high. flows_push flows runs r t ∙ ap (λ l. l ++ run_in flows t r) (none_past flows next t runs all low)) in
     split_at flows (runs ++ r ∷ []) next r.slots some ∙ ap (λ l. l ++ map (flows_in flows (runs ++ r ∷ [])) (range_with_len next r.slots)) old
     ∙ ap (λ l. slots_before flows runs next ++ l) (new ∙ ap (λ a. map (λ t. run_in flows t r) (range_with_len a r.slots)) (sym at) ∙ own_slots flows r)

@@ -37,12 +37,14 @@ all_later flows next more sent runs le h = record { each = λ k d lt. later flow
 
 -- an open run that is closed
 pub closed_run : (flows : List Flow) (sent : ℕ → ℕ) (next : ℕ) (r : Run) → 1 ≤ next → IsOpenRun flows sent next r → IsClosedRun flows (r.first + r.slots) r
-closed_run flows sent next r some h = record { first = omega (arith, h.first); some = h.some; ends = omega arith; clear = h.clear; credits = λ f. credit_fits flows r f (h.notes (ingress_of flows f)) }
+closed_run flows sent next r some h =
+    record { first = omega (arith, h.first); some = h.some; ends = omega arith; clear = h.clear; credits = λ f. credit_fits flows r f (h.notes (ingress_of flows f)) }
 
 one_more : (flows : List Flow) (sent : ℕ → ℕ) (next : ℕ) (r : Run) (runs : List Run) → 1 ≤ next → IsOpenRun flows sent next r → AreClosed flows next sent runs →
     AreClosed flows (r.first + r.slots) (λ f. sent f + credit flows r f) (runs ++ r ∷ [])
 one_more flows sent next r runs some open' h = record {
-  each = All-push (IsClosedRun flows (r.first + r.slots)) runs r (λ k d lt. later flows next (r.first + r.slots) (get_or runs k d) (omega (arith, open'.first)) (h.each k d lt)) (closed_run flows sent next r some open');
+  each = All-push (IsClosedRun flows (r.first + r.slots)) runs r (λ k d lt. later flows next (r.first + r.slots) (get_or runs k d) (omega (arith, open'.first)) (h.each k d lt))
+      (closed_run flows sent next r some open');
   apart = all_pairs_push IsEarlier runs r h.apart (λ k d lt. omega (arith, (h.each k d lt).ends, open'.first));
   sent_is = λ f. omega (arith, h.sent_is f, sum_by_push (λ r. credit flows r f) runs r);
 }
@@ -70,7 +72,8 @@ pub closed_next : (o : Opening) (before : List Entry) (e : Entry) → IsNext o b
 closed_next o before e next sound h =
     let s = state_of o before in
     subst (λ (t : State). AreClosed o.table.flows t.next t.sent (closed_runs o (before ++ e ∷ []))) (sym (state_snoc o before e))
-    (subst (AreClosed o.table.flows (after o s e.command e.reply).next (after o s e.command e.reply).sent) (sym (closed_push o before e)) (step o s e.command e.reply (closed_runs o before) sound next.tells h))
+    (subst (AreClosed o.table.flows (after o s e.command e.reply).next (after o s e.command e.reply).sent) (sym (closed_push o before e))
+    (step o s e.command e.reply (closed_runs o before) sound next.tells h))
 
 pub none_closed : (o : Opening) → ClosedSound o []
 none_closed o = record { each = λ k d lt. absurd (omega arith); apart = λ i j d less lt. absurd (omega arith); sent_is = λ f. refl }

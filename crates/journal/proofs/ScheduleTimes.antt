@@ -1,5 +1,6 @@
 -- How often a flow stands in the slots of closed runs, and that its slots are clear.
-use Rattle.std.proofs.Common.{◌≡◌, ℕ, ◌+◌, ◌-◌, ◌≤◌, ◌<◌, inl, inr, Bool, true, false, List, [], ◌∷◌, ◌++◌, length, get_or, map, min, replicate, unwrap_or, refl, sym, ap, subst, ◌∙◌, arith, append-nil, zero, suc, cond, Contains, Option, Some, None}
+use Rattle.std.proofs.Common.{◌≡◌, ℕ, ◌+◌, ◌-◌, ◌≤◌, ◌<◌, inl, inr, Bool, true, false, List, [], ◌∷◌, ◌++◌, length, get_or, map, min, replicate, unwrap_or, refl, sym, ap, subst}
+use Rattle.std.proofs.Common.{◌∙◌, arith, append-nil, zero, suc, cond, Contains, Option, Some, None}
 use Rattle.std.specs.Prelude.{All, nat_lt, ◌&&◌, ◌||◌, ◌==◌, if◌then◌else◌, option_to_list, sum_by}
 use Rattle.std.specs.List.{filter, flat_map, range_with_len}
 use Rattle.std.proofs.lemmas.Bool.{and_right, cases_lt, eqb-true, le-ltb, lt-ltb}
@@ -105,7 +106,8 @@ none_clear flows = record { ascending = λ k lt. absurd (omega arith); flow = λ
 
 pub run_clear : (flows : List Flow) (r : Run) → IsClear flows r.granted → All (IsClear flows) (slots_in flows r)
 run_clear flows r h =
-    All-map (IsClear flows) (λ i. filter (λ f. nat_lt i (credit flows r f)) r.granted) (range_with_len 0 r.slots) (λ k d lt. filter_clear flows (λ f. nat_lt (get_or (range_with_len 0 r.slots) k d) (credit flows r f)) r.granted h)
+    All-map (IsClear flows) (λ i. filter (λ f. nat_lt i (credit flows r f)) r.granted) (range_with_len 0 r.slots)
+    (λ k d lt. filter_clear flows (λ f. nat_lt (get_or (range_with_len 0 r.slots) k d) (credit flows r f)) r.granted h)
 
 clear_close : (o : Opening) (s : State) (run : Option Run) → OnRun run (IsOpenRun o.table.flows s.sent s.next) →
     All (IsClear o.table.flows) (flat_map (slots_in o.table.flows) (option_to_list run))
@@ -121,19 +123,22 @@ clear_step o s reply sound = λ k d lt. absurd (omega arith)
 pub slots_clear : (o : Opening) (journal : List Entry) → IsLegal o journal → InRange o journal → All (IsClear o.table.flows) (schedule_of o journal)
 slots_clear o journal legal ok =
     along_schedule o (λ slots s. All (IsClear o.table.flows) slots)
-    (λ s k reply slots sound tells h. All-append (IsClear o.table.flows) slots (slots_added o.table.flows s.next s.run reply) h (clear_step o s reply sound)) (λ k d lt. absurd (omega arith)) journal legal ok
+    (λ s k reply slots sound tells h. All-append (IsClear o.table.flows) slots (slots_added o.table.flows s.next s.run reply) h (clear_step o s reply sound))
+    (λ k d lt. absurd (omega arith)) journal legal ok
 
 -- ---- a run without notes
 
 -- where each granted flow is credited all slots, the slots are equal
 pub even_slots : (flows : List Flow) (r : Run) → ((f : ℕ) → Contains r.granted f → credit flows r f ≡ r.slots) → slots_in flows r ≡ replicate r.slots r.granted
 even_slots flows r full =
-    range_same (λ i. filter (λ f. nat_lt i (credit flows r f)) r.granted) (λ i. r.granted) 0 r.slots (λ i low high. filter_all (λ f. nat_lt i (credit flows r f)) r.granted (λ f has. lt-ltb i (credit flows r f) (omega (arith, full f has))))
+    range_same (λ i. filter (λ f. nat_lt i (credit flows r f)) r.granted) (λ i. r.granted) 0 r.slots
+    (λ i low high. filter_all (λ f. nat_lt i (credit flows r f)) r.granted (λ f has. lt-ltb i (credit flows r f) (omega (arith, full f has))))
     ∙ range_none r.granted 0 r.slots
 
 pub full_credit : (flows : List Flow) (r : Run) (f : ℕ) → r.notes ≡ [] → Contains r.granted f → credit flows r f ≡ r.slots
 full_credit flows r f none has =
-    ap {B = ℕ} (λ b. if b then unwrap_or (note_in r.notes (ingress_of flows f)) r.slots else 0) (any_in r.granted f has) ∙ ap (λ l. unwrap_or (note_in l (ingress_of flows f)) r.slots) none
+    ap {B = ℕ} (λ b. if b then unwrap_or (note_in r.notes (ingress_of flows f)) r.slots else 0) (any_in r.granted f has) ∙
+    ap (λ l. unwrap_or (note_in l (ingress_of flows f)) r.slots) none
 
 pub unnoted_slots : (flows : List Flow) (r : Run) → r.notes ≡ [] → slots_in flows r ≡ replicate r.slots r.granted
 unnoted_slots flows r none = even_slots flows r (λ f has. full_credit flows r f none has)

@@ -42,7 +42,8 @@ step : (o : Opening) (s : State) (k : Command) (reply : Reply) (runs : List Run)
 step o s k (Closed slot) runs sound tells all = closing o s s.run runs sound.next_some sound.open_run all
 step o s k (Skipped slot) runs sound tells all =
     let e : slot ≡ s.next + (slot - s.next) = omega (arith, tells.3) in
-    ap (λ l. slots_before o.table.flows l slot) (append-nil runs) ∙ ap (slots_before o.table.flows runs) e ∙ slots_pass o.table.flows runs s.next (slot - s.next) sound.next_some all
+    ap (λ l. slots_before o.table.flows l slot) (append-nil runs) ∙ ap (slots_before o.table.flows runs) e ∙
+    slots_pass o.table.flows runs s.next (slot - s.next) sound.next_some all
 step o s k reply runs sound tells all = unchanged o.table.flows runs s.next
 
 next_push : (o : Opening) (before : List Entry) (e : Entry) → IsNext o before e → SoundState o (state_of o before) → ClosedSound o before →
@@ -60,7 +61,8 @@ schedule_push o before e legal ok =
 
 -- what holds of no slots, and goes on by the slots that each entry adds, holds of the schedule
 pub along_schedule : (o : Opening) (P : List (List ℕ) → State → Type 0) →
-    ((s : State) (k : Command) (reply : Reply) (slots : List (List ℕ)) → SoundState o s → TellsEntry o s k reply → P slots s → P (slots ++ slots_added o.table.flows s.next s.run reply) (after o s k reply)) →
+    ((s : State) (k : Command) (reply : Reply) (slots : List (List ℕ)) → SoundState o s → TellsEntry o s k reply → P slots s →
+    P (slots ++ slots_added o.table.flows s.next s.run reply) (after o s k reply)) →
     P [] (state_of o []) → (journal : List Entry) → IsLegal o journal → InRange o journal → P (schedule_of o journal) (state_of o journal)
 along_schedule o P step none journal legal ok = (along_sound o (λ j. ClosedSound o j × P (schedule_of o j) (state_of o j))
     (λ before e next sound h.
@@ -94,4 +96,5 @@ next_never_falls o before more legal ok =
     along_more o (λ j. InRange o j → (state_of o before).next ≤ (state_of o j).next)
     (λ j e next h ok.
     let front = all_front (λ (e : Entry). in_range o e.command ≡ true) j (e ∷ []) ok in
-    omega (arith, h front, next_rises o (state_of o j) e.command e.reply (legal_sound o j next.legal front) next.tells, ap (λ (t : State). t.next) (state_snoc o j e))) before more legal (λ ok. omega arith) ok
+    omega (arith, h front, next_rises o (state_of o j) e.command e.reply (legal_sound o j next.legal front) next.tells, ap (λ (t : State). t.next) (state_snoc o j e))) before more
+    legal (λ ok. omega arith) ok

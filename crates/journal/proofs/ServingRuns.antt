@@ -46,7 +46,8 @@ opening_tells o before after d legal h = legal_open o before (closing d ∷ []) 
 sent_there : (o : Opening) (before after : List Entry) (d : Drive) → IsLegal o after → IsDriven o before after d → (f : ℕ) →
     (state_of o (opened_in before d)).sent f ≡ (state_of o before).sent f
 sent_there o before after d legal h f =
-    (others_leave o before d.earlier (legal_front o [] (opened_in before d) (opening d ∷ (d.between ++ closing d ∷ [])) (opening_tells o before after d legal h)) (λ k e lt. free (get_or d.earlier k e) (h.under_way.earlier k e lt))).slots.sent f
+    (others_leave o before d.earlier (legal_front o [] (opened_in before d) (opening d ∷ (d.between ++ closing d ∷ [])) (opening_tells o before after d legal h))
+    (λ k e lt. free (get_or d.earlier k e) (h.under_way.earlier k e lt))).slots.sent f
 
 -- a granted flow gets a unit in each slot
 sent_whole : (o : Opening) (before after : List Entry) (d : Drive) (f : ℕ) → GoesOnByRun o before after d → IsSentWhole o before d → Contains (driven o before d) f →
@@ -91,13 +92,16 @@ serves_on o before after d legal ok h whole served =
     let gs = driven o before d in
     let x = driven_goes_on o before after d legal ok h in
     let legal1 = opening_tells o before after d legal h in
-    let front = legal_front o [] before (d.earlier ++ (opening d ∷ (d.between ++ closing d ∷ []))) (subst (IsLegal o) (append_assoc before d.earlier (opening d ∷ (d.between ++ closing d ∷ []))) legal1) in
+    let front = legal_front o [] before (d.earlier ++ (opening d ∷ (d.between ++ closing d ∷ [])))
+    (subst (IsLegal o) (append_assoc before d.earlier (opening d ∷ (d.between ++ closing d ∷ []))) legal1) in
     let ok1 : InRange o before = all_front (λ (e : Entry). in_range o e.command ≡ true) before (d.earlier ++ (opening d ∷ (d.between ++ closing d ∷ [])))
-    (subst (InRange o) (h.goes_on ∙ append_assoc (j1 ++ opening d ∷ []) d.between (closing d ∷ []) ∙ append_assoc j1 (opening d ∷ []) (d.between ++ closing d ∷ []) ∙ append_assoc before d.earlier (opening d ∷ (d.between ++ closing d ∷ []))) ok) in
+    (subst (InRange o) (h.goes_on ∙ append_assoc (j1 ++ opening d ∷ []) d.between (closing d ∷ []) ∙ append_assoc j1 (opening d ∷ []) (d.between ++ closing d ∷ []) ∙
+    append_assoc before d.earlier (opening d ∷ (d.between ++ closing d ∷ []))) ok) in
     let left = λ (f : ℕ). left_after flows (schedule_of o before) f in
     let same : (f : ℕ) → left f ≡ owed o (state_of o j1) f = λ f. omega (arith, times_is_sent o before f front ok1, sent_there o before after d legal h f) in
     let grants : IsGrants flows (line_of o j1) (left_after flows (schedule_of o before)) gs =
-    same_grants flows (line_of o j1) (owed o (state_of o j1)) (left_after flows (schedule_of o before)) gs (λ f lt some. omega (arith, some, same f)) (λ f lt some. omega (arith, some, same f)) x.grants in
+    same_grants flows (line_of o j1) (owed o (state_of o j1)) (left_after flows (schedule_of o before)) gs (λ f lt some. omega (arith, some, same f))
+    (λ f lt some. omega (arith, some, same f)) x.grants in
     let tells = entry_tells o j1 (d.between ++ closing d ∷ []) (opening d) legal1 in
     let (f, in') = opened_grant o (state_of o j1) tells.3 in
     let length' = as_long o before after d legal h in

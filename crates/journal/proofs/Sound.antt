@@ -1,5 +1,6 @@
 -- The state of a legal journal is sound.
-use Rattle.std.proofs.Common.{◌≡◌, ℕ, ◌+◌, ◌-◌, ◌≤◌, ◌<◌, inl, inr, Bool, true, false, List, [], ◌∷◌, ◌++◌, length, min, max, Contains, refl, sym, ap, subst, arith, suc, Option, Some, None, append-nil, append_assoc, unwrap_or}
+use Rattle.std.proofs.Common.{◌≡◌, ℕ, ◌+◌, ◌-◌, ◌≤◌, ◌<◌, inl, inr, Bool, true, false, List, [], ◌∷◌, ◌++◌, length, min, max, Contains, refl, sym, ap, subst, arith, suc, Option}
+use Rattle.std.proofs.Common.{Some, None, append-nil, append_assoc, unwrap_or}
 use Rattle.std.specs.Prelude.{if◌then◌else◌, nat_le, nat_lt, slice_index_or, ◌==◌}
 use Rattle.std.proofs.lemmas.Bool.{eqb-false, leb-false, ltb-true}
 use Rattle.coflow_units.specs.declared.fabric.Flow.{Flow}
@@ -45,7 +46,8 @@ least_some number (f ∷ fs) n some each = least_some number fs (min n (number f
 
 -- ---- credits
 
-note_fits : (notes : List (ℕ × ℕ)) (slots port n : ℕ) (b : Bool) → n ≤ slots → (q : ℕ) → unwrap_or (note_in notes q) slots ≤ slots → unwrap_or (if b then Some n else note_in notes q) slots ≤ slots
+note_fits : (notes : List (ℕ × ℕ)) (slots port n : ℕ) (b : Bool) → n ≤ slots → (q : ℕ) → unwrap_or (note_in notes q) slots ≤ slots →
+    unwrap_or (if b then Some n else note_in notes q) slots ≤ slots
 note_fits notes slots port n true le q old = le
 note_fits notes slots port n false le q old = old
 
@@ -78,7 +80,8 @@ opens o s most some h early =
       };
     }
 
-notes_it : (o : Opening) (s : State) (r : Run) (port units : ℕ) (g : Option ℕ) → IsSound o.table.flows s.sent s.next s.run → s.run ≡ Some r → IsOpenRun o.table.flows s.sent s.next r → SoundState o (after o s (Short port units) (noted r port units g))
+notes_it : (o : Opening) (s : State) (r : Run) (port units : ℕ) (g : Option ℕ) → IsSound o.table.flows s.sent s.next s.run → s.run ≡ Some r →
+    IsOpenRun o.table.flows s.sent s.next r → SoundState o (after o s (Short port units) (noted r port units g))
 notes_it o s r port units None h is run = h
 notes_it o s r port units (Some f) h is run = record {
   within = h.within;
@@ -94,9 +97,11 @@ notes_it o s r port units (Some f) h is run = record {
   });
 }
 
-closes : (o : Opening) (sent : ℕ → ℕ) (next : ℕ) (r : Run) → IsSound o.table.flows sent next (Some r) → IsSound o.table.flows (λ f. sent f + credit o.table.flows r f) (r.first + r.slots) None
+closes : (o : Opening) (sent : ℕ → ℕ) (next : ℕ) (r : Run) → IsSound o.table.flows sent next (Some r) →
+    IsSound o.table.flows (λ f. sent f + credit o.table.flows r f) (r.first + r.slots) None
 closes o sent next r h = record {
-  within = λ f. credit_step o.table.flows r f (sent f) (units_of o.table.flows f) (has r.granted f) refl (h.within f) (h.open_run.owed f) (h.open_run.notes (ingress_of o.table.flows f));
+  within = λ f. credit_step o.table.flows r f (sent f) (units_of o.table.flows f) (has r.granted f) refl (h.within f) (h.open_run.owed f)
+      (h.open_run.notes (ingress_of o.table.flows f));
   next_some = omega (arith, h.open_run.some);
   next_ends = h.open_run.ends;
   open_run = tt;
@@ -110,7 +115,8 @@ skips o sent next to h early = record {
   open_run = tt;
 }
 
-pub step_sound : (o : Opening) (j l : List ℕ) (w : ℕ → ℕ) (p : List Instance) (sent : ℕ → ℕ) (run : Option Run) (next : ℕ) (k : Command) → in_range o k ≡ true → IsSound o.table.flows sent next run →
+pub step_sound : (o : Opening) (j l : List ℕ) (w : ℕ → ℕ) (p : List Instance) (sent : ℕ → ℕ) (run : Option Run) (next : ℕ) (k : Command) → in_range o k ≡ true →
+    IsSound o.table.flows sent next run →
     SoundState o (after o (mk j l w p sent run next) k (answer o (mk j l w p sent run next) k))
 step_sound o j l w p sent run next (Register c) ok h =
     let s = mk j l w p sent run next in
@@ -127,7 +133,8 @@ step_sound o j l w p sent None next (Open most) ok h =
     let s = mk j l w p sent None next in
     let last = if s.next == slot_end then Late s.next else Opened s.next (slots_for o s most) (length (granted o s)) in
     branch (λ r. SoundState o (after o s (Open most) r)) (length (owing o s) == 0) NothingLeft last (λ e. h)
-    (λ e. branch (λ r. SoundState o (after o s (Open most) r)) (s.next == slot_end) (Late s.next) (Opened s.next (slots_for o s most) (length (granted o s))) (λ e. h) (λ e. opens o s most (ltb-true 0 most ok) h e))
+    (λ e. branch (λ r. SoundState o (after o s (Open most) r)) (s.next == slot_end) (Late s.next) (Opened s.next (slots_for o s most) (length (granted o s))) (λ e. h)
+    (λ e. opens o s most (ltb-true 0 most ok) h e))
 step_sound o j l w p sent (Some r) next (Open most) ok h = h
 step_sound o j l w p sent None next (Short port units) ok h = h
 step_sound o j l w p sent (Some r) next (Short port units) ok h =
@@ -144,10 +151,12 @@ step_sound o j l w p sent run next (Reweigh c x) ok h =
     let s = mk j l w p sent run next in
     branch (λ r. SoundState o (after o s (Reweigh c x) r)) (is_present s c) (Weighed (s.weight c)) NotHere (λ e. h) (λ e. h)
 
-pub reply_sound : (o : Opening) (journal : List Entry) (k : Command) → in_range o k ≡ true → SoundState o (state_of o journal) → SoundState o (after o (state_of o journal) k (reply_of o journal k))
+pub reply_sound : (o : Opening) (journal : List Entry) (k : Command) → in_range o k ≡ true → SoundState o (state_of o journal) →
+    SoundState o (after o (state_of o journal) k (reply_of o journal k))
 reply_sound o journal k ok h =
     let s = state_of o journal in
-    branch (λ r. SoundState o (after o s k r)) (nat_le (room o k) (length journal)) (Full (length journal)) (answer o s k) (λ e. h) (λ e. step_sound o s.joined s.left s.weight s.published s.sent s.run s.next k ok h)
+    branch (λ r. SoundState o (after o s k r)) (nat_le (room o k) (length journal)) (Full (length journal)) (answer o s k) (λ e. h)
+    (λ e. step_sound o s.joined s.left s.weight s.published s.sent s.run s.next k ok h)
 
 sound_from : (o : Opening) (before es : List Entry) → LegalFrom o before es → InRange o es → SoundState o (state_of o before) → SoundState o (state_of o (before ++ es))
 sound_from o before [] legal ok h = subst (λ l. SoundState o (state_of o l)) (sym (append-nil before)) h

@@ -1,5 +1,6 @@
 -- A run that is under way: what holds then, how it goes on, what is answered, and that there is room to end it.
-use Rattle.std.proofs.Common.{◌≡◌, ℕ, ◌+◌, ◌≤◌, ◌<◌, ◌⊎◌, inl, inr, true, false, true≢false, List, [], ◌∷◌, ◌++◌, Contains, length, min, refl, sym, ap, subst, ◌∙◌, arith, suc, cond, append_assoc, append-nil, Some}
+use Rattle.std.proofs.Common.{◌≡◌, ℕ, ◌+◌, ◌≤◌, ◌<◌, ◌⊎◌, inl, inr, true, false, true≢false, List, [], ◌∷◌, ◌++◌, Contains, length, min, refl, sym, ap, subst, ◌∙◌, arith, suc}
+use Rattle.std.proofs.Common.{cond, append_assoc, append-nil, Some}
 use Rattle.std.specs.Prelude.{All, not, nat_lt, if◌then◌else◌}
 use Rattle.std.proofs.lemmas.Bool.{and_parts, leb-false, lt-leb}
 use Rattle.std.proofs.lemmas.List.{length-append}
@@ -80,7 +81,8 @@ pub note_more : (o : Opening) (before now : List Entry) (d : Drive) (f : ℕ) (r
     (record d { between = d.between ++ entry 0 (Short (ingress_of o.table.flows f) (d.sent (ingress_of o.table.flows f))) reply ∷ [] })
 note_more o before now d f reply h in' lt =
     let e = entry 0 (Short (ingress_of o.table.flows f) (d.sent (ingress_of o.table.flows f))) reply in
-    more o before now (e ∷ []) d h (All-push (λ e. (is_other e ≡ true) ⊎ IsShortOf o.table.flows (driven o before d) d e) [] e (λ k x low. absurd (omega arith)) (inr (f, in', refl, refl, lt)))
+    more o before now (e ∷ []) d h
+    (All-push (λ e. (is_other e ≡ true) ⊎ IsShortOf o.table.flows (driven o before d) d e) [] e (λ k x low. absurd (omega arith)) (inr (f, in', refl, refl, lt)))
 
 -- what was sent may be told as late as before the first note
 pub sent_told : (o : Opening) (before now : List Entry) (d : Drive) (sent : ℕ → ℕ) → IsUnderWay o before now d → All (λ e. is_other e ≡ true) d.between →
@@ -155,7 +157,8 @@ note_reply o before now d who f units reply legal h in' =
     let (r, is, first, slots, granted) = x.run in
     let clear = grants_clear flows (line_of o (opened_in before d)) (owed o (state_of o (opened_in before d))) gs x.grants in
     let grant : grant_in flows r.granted p ≡ Some f = ap (λ l. grant_in flows l p) granted ∙ (grant_at flows gs p f clear).1 (in', refl) in
-    answered o now [] e legal ∙ ap (λ y. on_run y (λ r. noted r p units (grant_in flows r.granted p)) (NotGranted p)) is ∙ ap (noted r p units) grant ∙ ap (λ n. Noted (min units n)) slots
+    answered o now [] e legal ∙ ap (λ y. on_run y (λ r. noted r p units (grant_in flows r.granted p)) (NotGranted p)) is ∙ ap (noted r p units) grant ∙
+    ap (λ n. Noted (min units n)) slots
 
 least : (m n : ℕ) → m < n → min m n ≡ m
 least m n lt = omega (arith, lt)
@@ -176,7 +179,8 @@ note_taken o before now front rest d e legal h is x =
     record {
       goes_on = refl;
       earlier = h.earlier;
-      between = all_front (λ e. (is_other e ≡ true) ⊎ IsShortOf o.table.flows (driven o before d) d e) front (e ∷ rest) (subst (All (λ e. (is_other e ≡ true) ⊎ IsShortOf o.table.flows (driven o before d) d e)) is h.between);
+      between = all_front (λ e. (is_other e ≡ true) ⊎ IsShortOf o.table.flows (driven o before d) d e) front (e ∷ rest)
+          (subst (All (λ e. (is_other e ≡ true) ⊎ IsShortOf o.table.flows (driven o before d) d e)) is h.between);
     } in
     note_reply o before (start ++ front) part e.who x.0 (d.sent p) e.reply here so_far x.1 ∙ ap (λ (n : ℕ). Noted n) (least (d.sent p) d.slots x.4)
 

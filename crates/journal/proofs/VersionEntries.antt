@@ -30,12 +30,21 @@ count_step : (o : Opening) (s : State) (k : Command) (reply : Reply) (v newest t
 count_step o s k (Version w) v newest times at tells h = elim (cases_eq w v) [
   | inl same ↦
       let e = ap {B = ℕ} (λ b. cond b 1 0) (eq-eqb w v same) in
-      record { once = λ some le. omega (arith, e, h.above (omega (arith, tells.2, at, same))); zero = λ none. absurd (omega (arith, tells.2, none, same)); above = λ lt. absurd (omega (arith, tells.2, at, same, lt)) }
+      record {
+        once = λ some le. omega (arith, e, h.above (omega (arith, tells.2, at, same)));
+        zero = λ none. absurd (omega (arith, tells.2, none, same));
+        above = λ lt. absurd (omega (arith, tells.2, at, same, lt));
+      }
   | inr other ↦
       let e = ap {B = ℕ} (λ b. cond b 1 0) (ne_eqb w v other) in
-      record { once = λ some le. omega (arith, e, h.once some (omega (arith, other, tells.2, at, le))); zero = λ none. omega (arith, e, h.zero none); above = λ lt. omega (arith, e, h.above (omega (arith, lt))) }
+      record {
+        once = λ some le. omega (arith, e, h.once some (omega (arith, other, tells.2, at, le)));
+        zero = λ none. omega (arith, e, h.zero none);
+        above = λ lt. omega (arith, e, h.above (omega (arith, lt)));
+      }
 ]
-count_step o s k reply v newest times at tells h = record { once = λ some le. omega (arith, h.once some (omega (arith, le))); zero = λ none. omega (arith, h.zero none); above = λ lt. omega (arith, h.above (omega (arith, lt))) }
+count_step o s k reply v newest times at tells h =
+    record { once = λ some le. omega (arith, h.once some (omega (arith, le))); zero = λ none. omega (arith, h.zero none); above = λ lt. omega (arith, h.above (omega (arith, lt))) }
 
 pub counted : (o : Opening) (journal : List Entry) (v : ℕ) → IsLegal o journal → IsCount v (version_of journal) (times_made journal v)
 counted o journal v legal =

@@ -7,7 +7,8 @@ use Rattle.coflow_units.specs.Ordering.{IsOrdering}
 use Rattle.journal.specs.declared.command.Command.{Command}
 use Rattle.journal.specs.declared.command.Command.TheVariants.{Register, Withdraw, Publish, Pull, Open, Short, Close, Skip, Reweigh}
 use Rattle.journal.specs.declared.command.Reply.{Reply}
-use Rattle.journal.specs.declared.command.Reply.TheVariants.{Full, Already, Joined, NotHere, Left, StillOpen, Version, NothingLeft, Late, Opened, NotGranted, NoneOpen, Closed, StillOwed, Skipped, Weighed, Rank, Unranked}
+use Rattle.journal.specs.declared.command.Reply.TheVariants.{Full, Already, Joined, NotHere, Left, StillOpen, Version, NothingLeft, Late, Opened, NotGranted, NoneOpen, Closed}
+use Rattle.journal.specs.declared.command.Reply.TheVariants.{StillOwed, Skipped, Weighed, Rank, Unranked}
 use Rattle.journal.specs.declared.command.Entry.{Entry}
 use Rattle.journal.specs.declared.opening.Opening.{Opening}
 use Rattle.journal.specs.Chosen.{the_ordering}
@@ -53,7 +54,9 @@ answer_next o s (Withdraw c) = pick (version s) (is_present s c) Left NotHere (i
 answer_next o s Publish = by_run (version s) s.run (λ r. StillOpen r.first) (Version (version s + 1)) (λ r. inl refl) (inr refl)
 answer_next o s (Pull c) = pick (version s) (rank s (version s) c == 0) (Unranked (version s)) (Rank (version s) (rank s (version s) c)) (inl refl) (inl refl)
 answer_next o s (Open most) = by_run (version s) s.run (λ r. StillOpen r.first) (opened o s most) (λ r. inl refl) (opened_none (version s) o s most)
-answer_next o s (Short port units) = by_run (version s) s.run (λ r. noted r port units (grant_in o.table.flows r.granted port)) (NotGranted port) (λ r. noted_none (version s) r port units (grant_in o.table.flows r.granted port)) (inl refl)
+answer_next o s (Short port units) =
+    by_run (version s) s.run (λ r. noted r port units (grant_in o.table.flows r.granted port)) (NotGranted port)
+    (λ r. noted_none (version s) r port units (grant_in o.table.flows r.granted port)) (inl refl)
 answer_next o s Close = by_run (version s) s.run (λ r. Closed r.first) NoneOpen (λ r. inl refl) (inl refl)
 answer_next o s (Skip to) = by_run (version s) s.run (λ r. StillOpen r.first) (skipped o s to) (λ r. inl refl) (skipped_none (version s) o s to)
 answer_next o s (Reweigh c w) = pick (version s) (is_present s c) (Weighed (s.weight c)) NotHere (inl refl) (inl refl)
@@ -72,17 +75,20 @@ version_is_next o journal k v e =
       arith,
       version_counted o journal,
       next_told (version (state_of o journal)) v (reply_of o journal k)
-          (pick (version (state_of o journal)) (nat_le (room o k) (length journal)) (Full (length journal)) (answer o (state_of o journal) k) (inl refl) (answer_next o (state_of o journal) k)) e,
+          (pick (version (state_of o journal)) (nat_le (room o k) (length journal)) (Full (length journal)) (answer o (state_of o journal) k) (inl refl)
+          (answer_next o (state_of o journal) k)) e,
     )
 
 pub legal_there : (o : Opening) (journal more : List Entry) (e : Entry) → IsLegal o (journal ++ (e ∷ more)) → (e.reply ≡ reply_of o journal e.command) × (is_full e.reply ≡ false)
 legal_there o journal more e legal = let rest = legal_rest o [] journal (e ∷ more) legal in (rest.0, rest.1)
 
-pub order_is : (o : Opening) (journal more : List Entry) (e : Entry) (v : ℕ) → IsLegal o (journal ++ (e ∷ more)) → e.reply ≡ Version v → order_in o (journal ++ (e ∷ more)) v ≡ order_of (the_ordering (left_at o journal))
+pub order_is : (o : Opening) (journal more : List Entry) (e : Entry) (v : ℕ) → IsLegal o (journal ++ (e ∷ more)) → e.reply ≡ Version v →
+    order_in o (journal ++ (e ∷ more)) v ≡ order_of (the_ordering (left_at o journal))
 order_is o journal more e v legal tells =
     ap (order_in o (journal ++ (e ∷ more))) (version_is_next o journal e.command v (sym (legal_there o journal more e legal).0 ∙ tells)) ∙ order_made o journal more e v tells
 
-pub order_by_certificate : (o : Opening) (journal more : List Entry) (e : Entry) (v : ℕ) (entries : List PlaceEntry) → IsOpening o → IsLegal o (journal ++ (e ∷ more)) → e.reply ≡ Version v →
+pub order_by_certificate : (o : Opening) (journal more : List Entry) (e : Entry) (v : ℕ) (entries : List PlaceEntry) → IsOpening o → IsLegal o (journal ++ (e ∷ more)) →
+    e.reply ≡ Version v →
     IsOrdering (left_at o journal) entries → order_in o (journal ++ (e ∷ more)) v ≡ order_of entries
 order_by_certificate o journal more e v entries ok legal tells ordering =
     order_is o journal more e v legal tells ∙ sym (ap order_of (only_ordering (left_at o journal) entries (left_is_instance o (state_of o journal) ok) ordering))

@@ -52,7 +52,8 @@ other_notes o j r notes h = record {
 }
 
 -- the run that an entry opens
-opened_here : (o : Opening) (j : List Entry) (e : Entry) (slot slots count : ℕ) → e.reply ≡ Opened slot slots count → TellsEntry o (state_of o j) e.command (Opened slot slots count) →
+opened_here : (o : Opening) (j : List Entry) (e : Entry) (slot slots count : ℕ) → e.reply ≡ Opened slot slots count →
+    TellsEntry o (state_of o j) e.command (Opened slot slots count) →
     IsOpenedIn o (j ++ e ∷ []) (record { first = slot; slots = slots; granted = granted o (state_of o j); notes = [] })
 opened_here o j e slot slots count reply (most, asks, none, owes, at, len, counted) =
     let s = state_of o j in
@@ -66,7 +67,8 @@ opened_here o j e slot slots count reply (most, asks, none, owes, at, len, count
       reply = reply ∙ ap (Opened slot slots) counted;
       first = at;
       grants = are_the_grants o.table.flows (Rattle.journal.specs.Line.line s) (owed o s);
-      longest = subst (λ n. IsRunLength (owed o s) (granted o s) (min most (slot_end - n)) slots) (sym at) (subst (IsRunLength (owed o s) (granted o s) (min most (slot_end - s.next))) (sym len) (run_length_is o s most));
+      longest = subst (λ n. IsRunLength (owed o s) (granted o s) (min most (slot_end - n)) slots) (sym at)
+          (subst (IsRunLength (owed o s) (granted o s) (min most (slot_end - s.next))) (sym len) (run_length_is o s most));
     }
 
 run_later : (o : Opening) (j : List Entry) (e : Entry) (run : Option Run) → OnRun run (IsOpenedIn o j) → OnRun run (IsOpenedIn o (j ++ e ∷ []))
@@ -97,7 +99,8 @@ of_reply P (Closed slot) run h = of_run P run h
 of_reply P reply run h = λ k d lt. absurd (omega arith)
 
 -- the open run and the closed runs were opened
-pub were_opened : (o : Opening) (journal : List Entry) → IsLegal o journal → OnRun (state_of o journal).run (IsOpenedIn o journal) × All (IsOpenedIn o journal) (closed_runs o journal)
+pub were_opened : (o : Opening) (journal : List Entry) → IsLegal o journal →
+    OnRun (state_of o journal).run (IsOpenedIn o journal) × All (IsOpenedIn o journal) (closed_runs o journal)
 were_opened o journal legal =
     along o (λ j. OnRun (state_of o j).run (IsOpenedIn o j) × All (IsOpenedIn o j) (closed_runs o j))
     (λ j e next h.

@@ -54,7 +54,8 @@ schedule_by_runs o journal legal ok plain =
     let here : IsPlain e = All-contains IsPlain (before ++ e ∷ []) e plain (Contains-push before e) in
     schedule_push o before e legal front ∙ ap (λ l. l ++ slots_added o.table.flows s.next s.run e.reply) (h next.legal front old)
     ∙ ap (λ l. slots_of (map run_line (closed_runs o before)) ++ l) (step o s e.command e.reply here.1 next.tells (unnoted o before next.legal (λ k d lt. (old k d lt).0)).run)
-    ∙ sym (ap (λ l. slots_of (map run_line l)) (closed_push o before e) ∙ lines_push (closed_runs o before) (closed_by e.reply s.run))) (λ legal ok plain. refl) journal legal legal ok plain
+    ∙ sym (ap (λ l. slots_of (map run_line l)) (closed_push o before e) ∙ lines_push (closed_runs o before) (closed_by e.reply s.run))) (λ legal ok plain. refl) journal legal legal
+    ok plain
 
 -- the closed runs of a journal without notes
 pub unnoted_runs : (o : Opening) (journal : List Entry) → IsLegal o journal → All (λ (e : Entry). is_noting e.command ≡ false) journal → All IsWhole (closed_runs o journal)

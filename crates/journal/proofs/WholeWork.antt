@@ -22,7 +22,8 @@ ranked_or_left a false h = ap (λ c. not c && true) (h refl)
 -- where each coflow that joined and has not left has a place in the newest order, the line is that order without those who left
 pub line_is_order : (s : State) → ((c : ℕ) → has s.joined c ≡ true → has s.left c ≡ false → has (newest s) c ≡ true) → line s ≡ filter (λ c. not (has s.left c)) (newest s)
 line_is_order s ranked =
-    ap (λ l. filter (λ c. not (has s.left c)) (newest s) ++ l) (filter_out (λ c. not (has (newest s) c) && not (has s.left c)) s.joined (λ c in'. ranked_or_left (has (newest s) c) (has s.left c) (ranked c (any_in s.joined c in'))))
+    ap (λ l. filter (λ c. not (has s.left c)) (newest s) ++ l)
+    (filter_out (λ c. not (has (newest s) c) && not (has s.left c)) s.joined (λ c in'. ranked_or_left (has (newest s) c) (has s.left c) (ranked c (any_in s.joined c in'))))
     ∙ append-nil (filter (λ c. not (has s.left c)) (newest s))
 
 -- and the order itself where nobody left
@@ -63,6 +64,9 @@ whole_is_left o s ok joined none weights =
     let zero' : Flow = record { coflow = 0; ingress = 0; egress = 0; units = 0 } in
     let e : 0 + f ≡ f = omega arith in
     let low : coflow_of o.table.flows f < length o.table.ids = ok.table.coflow f zero' lt in
-    let here : has (present o s) (coflow_of o.table.flows f) ≡ true = ap (λ l. has l (coflow_of o.table.flows f)) is ∙ any_in all (coflow_of o.table.flows f) (number_in 0 (length o.table.ids) (coflow_of o.table.flows f) (omega arith) (omega (arith, low))) in
-    ap units e ∙ there (has (present o s) (coflow_of o.table.flows f)) (owed o s f) here ∙ omega (arith, none f) ∙ ap (λ (x : Flow). x.units) (get_or_default o.table.flows f zero' d lt)) in
-    ap (λ l. mki l s.weight o.table.ports (with_units units o.table.flows)) is ∙ ap (λ w. mki all w o.table.ports (with_units units o.table.flows)) (fun_ext weights) ∙ ap (mki all (λ c. slice_index o.weights c) o.table.ports) flows
+    let here : has (present o s) (coflow_of o.table.flows f) ≡ true = ap (λ l. has l (coflow_of o.table.flows f)) is ∙
+    any_in all (coflow_of o.table.flows f) (number_in 0 (length o.table.ids) (coflow_of o.table.flows f) (omega arith) (omega (arith, low))) in
+    ap units e ∙ there (has (present o s) (coflow_of o.table.flows f)) (owed o s f) here ∙ omega (arith, none f) ∙
+    ap (λ (x : Flow). x.units) (get_or_default o.table.flows f zero' d lt)) in
+    ap (λ l. mki l s.weight o.table.ports (with_units units o.table.flows)) is ∙ ap (λ w. mki all w o.table.ports (with_units units o.table.flows)) (fun_ext weights) ∙
+    ap (mki all (λ c. slice_index o.weights c) o.table.ports) flows

@@ -1,10 +1,15 @@
 -- What the master answers. The causes stand in their order: the first that holds gives the reply.
-use Rattle.std.specs.Prelude.{ℕ, ◌+◌, ◌^◌, ◌<◌, ◌≤◌, ◌==◌, ◌&&◌, min, max, Bool, true, nat_le, nat_lt, if◌then◌else◌, List, length, Option, Some, None}
+use Rattle.std.specs.Prelude.{ℕ, ◌+◌, ◌^◌, ◌<◌, ◌≤◌, ◌==◌, ◌&&◌, min, max, Bool, true, nat_le, nat_lt, if◌then◌else◌}
+use Rattle.std.specs.Prelude.{List, length, Option, Some, None}
+use Rattle.coflow_units.specs.declared.limits.TheConstants.{MAX_WEIGHT}
 use Rattle.std.specs.List.{slice_index_or}
 use Rattle.journal.specs.declared.command.Command.{Command}
-use Rattle.journal.specs.declared.command.Command.TheVariants.{Register, Withdraw, Publish, Pull, Open, Short, Close, Skip, Reweigh}
+use Rattle.journal.specs.declared.command.Command.TheVariants.{Register, Withdraw, Publish, Pull, Open, Short, Close}
+use Rattle.journal.specs.declared.command.Command.TheVariants.{Skip, Reweigh}
 use Rattle.journal.specs.declared.command.Reply.{Reply}
-use Rattle.journal.specs.declared.command.Reply.TheVariants.{Full, Already, Joined, NotHere, Left, StillOpen, Version, Rank, Unranked, NothingLeft, Late, Opened, NotGranted, Noted, NoneOpen, Closed, StillOwed, Skipped, Weighed}
+use Rattle.journal.specs.declared.command.Reply.TheVariants.{Full, Already, Joined, NotHere, Left, StillOpen, Version}
+use Rattle.journal.specs.declared.command.Reply.TheVariants.{Rank, Unranked, NothingLeft, Late, Opened, NotGranted}
+use Rattle.journal.specs.declared.command.Reply.TheVariants.{Noted, NoneOpen, Closed, StillOwed, Skipped, Weighed}
 use Rattle.journal.specs.declared.command.Entry.{Entry}
 use Rattle.journal.specs.declared.opening.Opening.{Opening}
 use Rattle.journal.specs.State.{has, is_present, Run, slot_end, State}
@@ -47,7 +52,8 @@ answer o s (Withdraw c) = if is_present s c then Left else NotHere
 answer o s Publish = on_run s.run (λ r. StillOpen r.first) (Version (version s + 1))
 answer o s (Pull c) = pulled (version s) (rank s (version s) c)
 answer o s (Open most) = on_run s.run (λ r. StillOpen r.first) (opened o s most)
-answer o s (Short port units) = on_run s.run (λ r. noted r port units (grant_in o.table.flows r.granted port)) (NotGranted port)
+answer o s (Short port units) =
+    on_run s.run (λ r. noted r port units (grant_in o.table.flows r.granted port)) (NotGranted port)
 answer o s Close = on_run s.run (λ r. Closed r.first) NoneOpen
 answer o s (Skip to) = on_run s.run (λ r. StillOpen r.first) (skipped o s to)
 answer o s (Reweigh c w) = if is_present s c then Weighed (s.weight c) else NotHere
@@ -71,10 +77,11 @@ IsInRange o (Withdraw coflow) = coflow < length o.table.ids
 IsInRange o (Pull coflow) = coflow < length o.table.ids
 IsInRange o (Open most) = 1 ≤ most
 IsInRange o (Short ingress units) = ingress < o.table.ports
-IsInRange o (Reweigh coflow weight) = (coflow < length o.table.ids) × (1 ≤ weight) × (weight ≤ 2 ^ 32)
+IsInRange o (Reweigh coflow weight) = (coflow < length o.table.ids) × (1 ≤ weight) × (weight ≤ MAX_WEIGHT)
 IsInRange o k = Unit {0}
 
--- up to how many entries the journal may grow by a command: a run that was opened can be closed after one note for each port
+-- up to how many entries the journal may grow by a command: a run that was opened can be closed after one note for each
+-- port
 abbrev pub room : Opening → Command → ℕ
 room o (Short port units) = o.limit + o.table.ports + 1
 room o Close = o.limit + o.table.ports + 1
@@ -82,4 +89,5 @@ room o k = o.limit
 
 -- the reply to a command after a journal
 abbrev pub reply_of : Opening → List Entry → Command → Reply
-reply_of o journal k = if nat_le (room o k) (length journal) then Full (length journal) else answer o (state_of o journal) k
+reply_of o journal k = if nat_le (room o k) (length journal) then Full (length journal) else answer o
+    (state_of o journal) k

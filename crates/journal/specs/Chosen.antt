@@ -1,4 +1,5 @@
--- The ordering certificate of an instance and the grants of a slot, as functions. Their bodies are open to no proof that does not ask for them: what is known of them is that they are the ones that the definitions describe.
+-- The ordering certificate of an instance and the grants of a slot, as functions. Their bodies are open to no proof
+-- that does not ask for them: what is known of them is that they are the ones that the definitions describe.
 use Rattle.std.specs.Prelude.{ℕ, List}
 use Rattle.coflow_units.specs.declared.fabric.Flow.{Flow}
 use Rattle.coflow_units.specs.Flows.{Instance}

@@ -1,5 +1,7 @@
 -- The runs that a journal closed, and what they make: the schedule, and what each wire was sent.
-use Rattle.std.specs.Prelude.{◌≡◌, ℕ, ◌+◌, ◌-◌, ◌≤◌, ◌==◌, ◌&&◌, Bool, nat_le, nat_lt, if◌then◌else◌, List, [], ◌∷◌, ◌++◌, All, AllPairs, map, replicate, count_by, length, min, sum_by, Option, Some, None, option_to_list}
+use Rattle.std.specs.Prelude.{◌≡◌, ℕ, ◌+◌, ◌-◌, ◌≤◌, ◌==◌, ◌&&◌, Bool, nat_le, nat_lt, if◌then◌else◌, List, [], ◌∷◌}
+use Rattle.std.specs.Prelude.{◌++◌, All, AllPairs, map, replicate, count_by, length, min, sum_by, Option, Some, None}
+use Rattle.std.specs.Prelude.{option_to_list}
 use Rattle.std.specs.List.{filter, flat_map, range_with_len}
 use Rattle.coflow_units.specs.declared.fabric.Flow.{Flow}
 use Rattle.coflow_units.specs.Grants.{IsGrants, IsRunLength}

@@ -2,9 +2,12 @@
 use Rattle.std.specs.Prelude.{◌≡◌, ℕ, ◌+◌, ◌<◌, ◌≤◌, ◌⊎◌, min, max, Bool, true, false, length, Some, None}
 use Rattle.std.specs.List.{slice_index_or}
 use Rattle.journal.specs.declared.command.Command.{Command}
-use Rattle.journal.specs.declared.command.Command.TheVariants.{Register, Withdraw, Publish, Pull, Open, Short, Close, Skip, Reweigh}
+use Rattle.journal.specs.declared.command.Command.TheVariants.{Register, Withdraw, Publish, Pull, Open, Short, Close}
+use Rattle.journal.specs.declared.command.Command.TheVariants.{Skip, Reweigh}
 use Rattle.journal.specs.declared.command.Reply.{Reply}
-use Rattle.journal.specs.declared.command.Reply.TheVariants.{Full, Already, Joined, NotHere, Left, StillOpen, Version, Rank, Unranked, NothingLeft, Late, Opened, NotGranted, Noted, NoneOpen, Closed, StillOwed, Skipped, Weighed}
+use Rattle.journal.specs.declared.command.Reply.TheVariants.{Full, Already, Joined, NotHere, Left, StillOpen, Version}
+use Rattle.journal.specs.declared.command.Reply.TheVariants.{Rank, Unranked, NothingLeft, Late, Opened, NotGranted}
+use Rattle.journal.specs.declared.command.Reply.TheVariants.{Noted, NoneOpen, Closed, StillOwed, Skipped, Weighed}
 use Rattle.journal.specs.declared.opening.Opening.{Opening}
 use Rattle.journal.specs.State.{has, is_present, Run, slot_end, State}
 use Rattle.journal.specs.Line.{owing, rank, version}
@@ -32,9 +35,11 @@ is_passing (Closed slot) = true
 is_passing (Skipped slot) = true
 is_passing reply = false
 
--- What a reply tells of its command and of the state that it answers in: a new version is the next one; a pull tells the
+-- What a reply tells of its command and of the state that it answers in: a new version is the next one; a pull tells
+-- the
 -- newest version, and the place in it where there is one; a run is opened where none is open and a flow owes, with the
--- next slot; a note is of a grant of the open run; a closing is of the open run; slots are skipped where no run is open;
+-- next slot; a note is of a grant of the open run; a closing is of the open run; slots are skipped where no run is
+-- open;
 -- and each refusal has its cause.
 abbrev pub TellsEntry : Opening → State → Command → Reply → Type 0
 TellsEntry o s k (Version v) = (k ≡ Publish) × (s.run ≡ None) × (v ≡ version s + 1)
@@ -66,7 +71,8 @@ TellsEntry o s k (StillOwed f) =
     (to : ℕ) × (k ≡ Skip to) × (s.run ≡ None) × (0 < length (owing o s)) × (f ≡ slice_index_or (owing o s) 0 0)
 TellsEntry o s k (Full n) = Unit {0}
 
--- what an Open is answered where no run is open: that nothing is left, where no flow of the line owes; that it comes too
+-- what an Open is answered where no run is open: that nothing is left, where no flow of the line owes; that it comes
+-- too
 -- late, where no slot is left; or the run that it opens
 abbrev pub IsOpenReply : Opening → State → ℕ → Reply → Type 0
 IsOpenReply o s most reply =

@@ -4,7 +4,8 @@ use Rattle.std.specs.List.{slice_index_or}
 use Rattle.journal.specs.declared.command.Command.{Command}
 use Rattle.journal.specs.declared.command.Command.TheVariants.{Register, Withdraw, Pull, Short, Reweigh}
 use Rattle.journal.specs.declared.command.Reply.{Reply}
-use Rattle.journal.specs.declared.command.Reply.TheVariants.{Joined, Left, Version, Opened, Noted, Closed, Skipped, Weighed}
+use Rattle.journal.specs.declared.command.Reply.TheVariants.{Joined, Left, Version, Opened, Noted, Closed, Skipped}
+use Rattle.journal.specs.declared.command.Reply.TheVariants.{Weighed}
 use Rattle.journal.specs.declared.command.Entry.{Entry}
 use Rattle.journal.specs.declared.opening.Opening.{Opening}
 use Rattle.journal.specs.State.{Run, State, what_is_left}
@@ -43,7 +44,8 @@ abbrev pub after : Opening → State → Command → Reply → State
 after o s k Joined = record s { joined = s.joined ++ coflow_named k ∷ [] }
 after o s k Left = record s { left = s.left ++ coflow_named k ∷ [] }
 after o s k (Version v) = record s { published = s.published ++ what_is_left o s ∷ [] }
-after o s k (Opened slot slots count) = record s { run = Some (record { first = slot; slots = slots; granted = granted o s; notes = [] }) }
+after o s k (Opened slot slots count) =
+    record s { run = Some (record { first = slot; slots = slots; granted = granted o s; notes = [] }) }
 after o s k (Noted n) = record s { run = noted_in s.run (port_named k) n }
 after o s k (Closed slot) = closed o s s.run
 after o s k (Skipped slot) = record s { next = slot }
@@ -52,7 +54,15 @@ after o s k reply = s
 
 -- the state before the first entry
 abbrev pub start : Opening → State
-start o = record { joined = []; left = []; weight = λ c. slice_index_or o.weights c 0; published = []; sent = λ f. 0; run = None; next = 1 }
+start o = record {
+  joined = [];
+  left = [];
+  weight = λ c. slice_index_or o.weights c 0;
+  published = [];
+  sent = λ f. 0;
+  run = None;
+  next = 1;
+}
 
 -- the state after further entries
 abbrev pub state_from : Opening → State → List Entry → State

@@ -3,7 +3,8 @@ use Rattle.std.specs.Prelude.{◌≡◌, ℕ, ◌+◌, ◌==◌, ◌&&◌, Bool,
 use Rattle.coflow_units.specs.Flows.{Instance}
 use Rattle.journal.specs.declared.command.Command.{Command}
 use Rattle.journal.specs.declared.command.Reply.{Reply}
-use Rattle.journal.specs.declared.command.Reply.TheVariants.{Full, Already, NotHere, StillOpen, Version, NothingLeft, Late, NotGranted, NoneOpen, StillOwed, Weighed}
+use Rattle.journal.specs.declared.command.Reply.TheVariants.{Full, Already, NotHere, StillOpen, Version, NothingLeft}
+use Rattle.journal.specs.declared.command.Reply.TheVariants.{Late, NotGranted, NoneOpen, StillOwed, Weighed}
 use Rattle.journal.specs.declared.command.Entry.{Entry}
 use Rattle.journal.specs.declared.opening.Opening.{Opening}
 use Rattle.journal.specs.State.{what_is_left}
@@ -47,7 +48,8 @@ journal_after o journal who k = journal ++ adds who k (reply_of o journal k)
 -- after the entries before, each entry has the reply to its command there, and none is full
 abbrev pub LegalFrom : Opening → List Entry → List Entry → Type 0
 LegalFrom o before [] = Unit {0}
-LegalFrom o before (e ∷ es) = (e.reply ≡ reply_of o before e.command) × (is_full e.reply ≡ false) × LegalFrom o (before ++ e ∷ []) es
+LegalFrom o before (e ∷ es) = (e.reply ≡ reply_of o before e.command) × (is_full e.reply ≡ false) ×
+    LegalFrom o (before ++ e ∷ []) es
 
 abbrev pub IsLegal : Opening → List Entry → Type 0
 IsLegal o journal = LegalFrom o [] journal

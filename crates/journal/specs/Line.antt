@@ -31,8 +31,10 @@ rank s v coflow = rank_in (order s v) coflow
 
 -- the newest order without those who left, then the unranked coflows that have not left, by joining
 abbrev pub line : State → List ℕ
-line s = filter (λ c. not (has s.left c)) (newest s) ++ filter (λ c. not (has (newest s) c) && not (has s.left c)) s.joined
+line s = filter (λ c. not (has s.left c)) (newest s) ++
+    filter (λ c. not (has (newest s) c) && not (has s.left c)) s.joined
 
 -- the flows of the line that owe units, by number
 abbrev pub owing : Opening → State → List ℕ
-owing o s = filter (λ f. has (line s) (coflow_of o.table.flows f) && nat_lt 0 (owed o s f)) (range_with_len 0 (length o.table.flows))
+owing o s = filter (λ f. has (line s) (coflow_of o.table.flows f) && nat_lt 0 (owed o s f))
+    (range_with_len 0 (length o.table.flows))

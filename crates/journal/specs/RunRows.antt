@@ -2,9 +2,11 @@
 use Rattle.std.specs.Prelude.{◌≡◌, ℕ, List, [], ◌∷◌, ◌++◌, map}
 use Rattle.coflow_units.specs.Rows.{all_ties}
 use Rattle.journal.specs.declared.command.Command.{Command}
-use Rattle.journal.specs.declared.command.Command.TheVariants.{Register, Withdraw, Publish, Pull, Open, Short, Close, Skip, Reweigh}
+use Rattle.journal.specs.declared.command.Command.TheVariants.{Register, Withdraw, Publish, Pull, Open, Short, Close}
+use Rattle.journal.specs.declared.command.Command.TheVariants.{Skip, Reweigh}
 use Rattle.journal.specs.declared.command.Reply.{Reply}
-use Rattle.journal.specs.declared.command.Reply.TheVariants.{Joined, Left, StillOpen, Version, Unranked, NothingLeft, Opened, Noted, Closed, Skipped, Weighed}
+use Rattle.journal.specs.declared.command.Reply.TheVariants.{Joined, Left, StillOpen, Version, Unranked, NothingLeft}
+use Rattle.journal.specs.declared.command.Reply.TheVariants.{Opened, Noted, Closed, Skipped, Weighed}
 use Rattle.journal.specs.declared.command.Entry.{Entry}
 use Rattle.journal.specs.declared.opening.Opening.{Opening}
 use Rattle.journal.specs.Journal.{entry, IsLegal}
@@ -26,12 +28,14 @@ Makes journal slots wire =
 abbrev pub served_order : List Entry
 served_order =
     entry 1 (Register 0) Joined ∷ entry 1 (Register 1) Joined ∷ entry 1 Publish (Version 1)
-    ∷ entries ((Open 4, Opened 1 1 1) ∷ (Close, Closed 1) ∷ (Open 4, Opened 2 3 1) ∷ (Close, Closed 2) ∷ (Open 4, NothingLeft) ∷ [])
+    ∷ entries ((Open 4, Opened 1 1 1) ∷ (Close, Closed 1) ∷ (Open 4, Opened 2 3 1) ∷ (Close, Closed 2) ∷
+    (Open 4, NothingLeft) ∷ [])
 
 abbrev pub ServedOrder : Type 0
 ServedOrder = Makes served_order ((1 ∷ []) ∷ (0 ∷ []) ∷ (0 ∷ []) ∷ (0 ∷ []) ∷ []) ((1, 1, 1) ∷ (2, 0, 3) ∷ [])
 
--- a run of two slots of which one unit was sent, and then a whole run: the flow stands in slot 1, and again in slots 3 and 4
+-- a run of two slots of which one unit was sent, and then a whole run: the flow stands in slot 1, and again in slots 3
+-- and 4
 abbrev pub noted_run : List Entry
 noted_run =
     entries ((Register 0, Joined) ∷ (Open 2, Opened 1 2 1) ∷ (Short 0 1, Noted 1) ∷ (Close, Closed 1)
@@ -50,7 +54,8 @@ SkippedSlots = Makes skipped_slots ([] ∷ [] ∷ [] ∷ (0 ∷ []) ∷ (0 ∷ [
 -- the coflow that is served leaves between two runs, and the other one is served
 abbrev pub withdrawal_between : List Entry
 withdrawal_between =
-    entries ((Register 0, Joined) ∷ (Register 1, Joined) ∷ (Open 2, Opened 1 2 1) ∷ (Close, Closed 1) ∷ (Withdraw 0, Left)
+    entries ((Register 0, Joined) ∷ (Register 1, Joined) ∷ (Open 2, Opened 1 2 1) ∷ (Close, Closed 1) ∷
+    (Withdraw 0, Left)
     ∷ (Open 9, Opened 3 1 1) ∷ (Close, Closed 3) ∷ (Open 1, NothingLeft) ∷ [])
 
 abbrev pub WithdrawalBetween : Type 0
@@ -59,15 +64,23 @@ WithdrawalBetween = Makes withdrawal_between ((0 ∷ []) ∷ (0 ∷ []) ∷ (1 �
 -- two flows of each of two ports: grants of both ports, and one of them is noted with nothing sent
 abbrev pub two_ports : Opening
 two_ports = record {
-  table = record { flows = all_ties.flows; starts = 0 ∷ 2 ∷ 4 ∷ []; ports = 2; ids = 1 ∷ 2 ∷ []; arrivals = 0 ∷ 0 ∷ [] };
+  table = record {
+    flows = all_ties.flows;
+    starts = 0 ∷ 2 ∷ 4 ∷ [];
+    ports = 2;
+    ids = 1 ∷ 2 ∷ [];
+    arrivals = 0 ∷ 0 ∷ [];
+  };
   weights = 1 ∷ 1 ∷ [];
   limit = 100;
 }
 
 abbrev pub ports_apart : List Entry
 ports_apart =
-    entries ((Register 0, Joined) ∷ (Register 1, Joined) ∷ (Open 9, Opened 1 1 2) ∷ (Short 1 0, Noted 0) ∷ (Close, Closed 1)
-    ∷ (Open 9, Opened 2 1 2) ∷ (Close, Closed 2) ∷ (Open 9, Opened 3 1 1) ∷ (Close, Closed 3) ∷ (Open 9, NothingLeft) ∷ [])
+    entries ((Register 0, Joined) ∷ (Register 1, Joined) ∷ (Open 9, Opened 1 1 2) ∷ (Short 1 0, Noted 0) ∷
+    (Close, Closed 1)
+    ∷ (Open 9, Opened 2 1 2) ∷ (Close, Closed 2) ∷ (Open 9, Opened 3 1 1) ∷ (Close, Closed 3) ∷ (Open 9, NothingLeft) ∷
+    [])
 
 abbrev pub TwoPorts : Type 0
 TwoPorts =

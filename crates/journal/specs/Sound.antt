@@ -9,7 +9,8 @@ use Rattle.journal.specs.State.{Run, slot_end, State}
 use Rattle.journal.specs.Runs.{note_in}
 use Rattle.journal.specs.Answer.{in_range}
 
--- An open run begins with the next slot, has a slot and ends in time; its flows can be served together, and each owes a unit for each slot; no note is above its length.
+-- An open run begins with the next slot, has a slot and ends in time; its flows can be served together, and each owes a
+-- unit for each slot; no note is above its length.
 pub record IsOpenRun (flows : List Flow) (sent : ℕ → ℕ) (next : ℕ) (r : Run) : Type 0 where
   pub first : r.first ≡ next
   pub some : 1 ≤ r.slots

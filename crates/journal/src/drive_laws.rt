@@ -98,7 +98,8 @@ pub fn whole_runs_serve()
     ensures ends { (o : Opening) (before after : List Entry) (d : Drive) → IsLegal o after → InRange o after →
         IsDriven o before after d → IsSentWhole o before d →
         (d.slots ≡ min d.most (slot_end - d.first))
-        ⊎ ((f : ℕ) × Contains (driven o before d) f × (0 < owed o (state_of o before) f) × (owed o (state_of o after) f ≡ 0)) }
+        ⊎ ((f : ℕ) × Contains (driven o before d) f × (0 < owed o (state_of o before) f) ×
+        (owed o (state_of o after) f ≡ 0)) }
     ensures serves { (o : Opening) (before after : List Entry) (d : Drive) → IsLegal o after → InRange o after →
         IsDriven o before after d → IsSentWhole o before d →
         IsServedSoFar o.table.flows (line_of o (opened_in before d)) (schedule_of o before) →

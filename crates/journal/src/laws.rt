@@ -28,9 +28,12 @@ ghost use Rattle.flow_table.specs.Table.{instance_of};
 /// The ordering certificate and the grants that the master takes are those of their definitions, and no others.
 pub fn choices_are_the_ones()
     ensures ordering { (i : Instance) → IsInstance i → IsOrdering i (the_ordering i) }
-    ensures only_ordering { (i : Instance) (entries : List PlaceEntry) → IsInstance i → IsOrdering i entries → entries ≡ the_ordering i }
-    ensures grants { (flows : List Flow) (line : List ℕ) (left : ℕ → ℕ) → IsGrants flows line left (the_grants flows line left) }
-    ensures only_grants { (flows : List Flow) (line : List ℕ) (left : ℕ → ℕ) (granted : List ℕ) → IsGrants flows line left granted → granted ≡ the_grants flows line left }
+    ensures only_ordering { (i : Instance) (entries : List PlaceEntry) → IsInstance i → IsOrdering i entries →
+        entries ≡ the_ordering i }
+    ensures grants { (flows : List Flow) (line : List ℕ) (left : ℕ → ℕ) →
+        IsGrants flows line left (the_grants flows line left) }
+    ensures only_grants { (flows : List Flow) (line : List ℕ) (left : ℕ → ℕ) (granted : List ℕ) →
+        IsGrants flows line left granted → granted ≡ the_grants flows line left }
 {}
 
 /// What is left is an instance at every point.
@@ -40,40 +43,54 @@ pub fn left_is_instance()
 
 /// The state after one more entry, or after a command, is the state before it, changed by the reply.
 pub fn state_goes_on()
-    ensures entry { (o : Opening) (journal : List Entry) (e : Entry) → state_of o (journal ++ e ∷ []) ≡ after o (state_of o journal) e.command e.reply }
-    ensures command { (o : Opening) (journal : List Entry) (who : ℕ) (k : Command) → state_of o (journal_after o journal who k) ≡ after o (state_of o journal) k (reply_of o journal k) }
+    ensures entry { (o : Opening) (journal : List Entry) (e : Entry) →
+        state_of o (journal ++ e ∷ []) ≡ after o (state_of o journal) e.command e.reply }
+    ensures command { (o : Opening) (journal : List Entry) (who : ℕ) (k : Command) →
+        state_of o (journal_after o journal who k) ≡ after o (state_of o journal) k (reply_of o journal k) }
 {}
 
 /// A refused command changes nothing but the journal, and where the journal is full not even that.
 pub fn refusals_change_nothing()
-    ensures refused { (o : Opening) (journal : List Entry) (who : ℕ) (k : Command) → is_refusal (reply_of o journal k) ≡ true → state_of o (journal_after o journal who k) ≡ state_of o journal }
-    ensures full { (o : Opening) (journal : List Entry) (who : ℕ) (k : Command) → is_full (reply_of o journal k) ≡ true → journal_after o journal who k ≡ journal }
+    ensures refused { (o : Opening) (journal : List Entry) (who : ℕ) (k : Command) →
+        is_refusal (reply_of o journal k) ≡ true → state_of o (journal_after o journal who k) ≡ state_of o journal }
+    ensures full { (o : Opening) (journal : List Entry) (who : ℕ) (k : Command) →
+        is_full (reply_of o journal k) ≡ true → journal_after o journal who k ≡ journal }
 {}
 
 /// Further entries leave the order and the ranks of each version as they were.
 pub fn versions_stay()
     ensures count { (before more : List Entry) → version_of (before ++ more) ≡ version_of before + version_of more }
     ensures newest { (o : Opening) (journal : List Entry) → version (state_of o journal) ≡ version_of journal }
-    ensures order { (o : Opening) (journal more : List Entry) (v : ℕ) → v ≤ version_of journal → order_in o (journal ++ more) v ≡ order_in o journal v }
-    ensures rank { (o : Opening) (journal more : List Entry) (v coflow : ℕ) → v ≤ version_of journal → rank_of o (journal ++ more) v coflow ≡ rank_of o journal v coflow }
+    ensures order { (o : Opening) (journal more : List Entry) (v : ℕ) → v ≤ version_of journal →
+        order_in o (journal ++ more) v ≡ order_in o journal v }
+    ensures rank { (o : Opening) (journal more : List Entry) (v coflow : ℕ) → v ≤ version_of journal →
+        rank_of o (journal ++ more) v coflow ≡ rank_of o journal v coflow }
 {}
 
 /// The version that a publishing makes is the next one, and its order is that of the ordering certificate of what was left there.
 pub fn publishing_makes_order()
-    ensures number { (o : Opening) (journal : List Entry) (k : Command) (v : ℕ) → reply_of o journal k ≡ Version v → v ≡ version_of journal + 1 }
-    ensures order { (o : Opening) (journal more : List Entry) (e : Entry) (v : ℕ) → IsLegal o (journal ++ e ∷ more) → e.reply ≡ Version v → order_in o (journal ++ e ∷ more) v ≡ order_of (the_ordering (left_at o journal)) }
-    ensures certificate { (o : Opening) (journal more : List Entry) (e : Entry) (v : ℕ) (entries : List PlaceEntry) → IsOpening o → IsLegal o (journal ++ e ∷ more) → e.reply ≡ Version v →
+    ensures number { (o : Opening) (journal : List Entry) (k : Command) (v : ℕ) → reply_of o journal k ≡ Version v →
+        v ≡ version_of journal + 1 }
+    ensures order { (o : Opening) (journal more : List Entry) (e : Entry) (v : ℕ) → IsLegal o (journal ++ e ∷ more) →
+        e.reply ≡ Version v → order_in o (journal ++ e ∷ more) v ≡ order_of (the_ordering (left_at o journal)) }
+    ensures certificate { (o : Opening) (journal more : List Entry) (e : Entry) (v : ℕ) (entries : List PlaceEntry) →
+        IsOpening o → IsLegal o (journal ++ e ∷ more) → e.reply ≡ Version v →
         IsOrdering (left_at o journal) entries → order_in o (journal ++ e ∷ more) v ≡ order_of entries }
 {}
 
 /// Legal journals: their beginnings, how they go on, and how long they are.
 pub fn legal_journals()
     ensures beginning { (o : Opening) (journal more : List Entry) → IsLegal o (journal ++ more) → IsLegal o journal }
-    ensures entry { (o : Opening) (journal : List Entry) (e : Entry) → IsLegal o journal → e.reply ≡ reply_of o journal e.command → is_full e.reply ≡ false → IsLegal o (journal ++ e ∷ []) }
-    ensures command { (o : Opening) (journal : List Entry) (who : ℕ) (k : Command) → IsLegal o journal → IsLegal o (journal_after o journal who k) }
-    ensures there { (o : Opening) (journal more : List Entry) (e : Entry) → IsLegal o (journal ++ e ∷ more) → (e.reply ≡ reply_of o journal e.command) × (is_full e.reply ≡ false) }
-    ensures full { (o : Opening) (journal : List Entry) (k : Command) → is_full (reply_of o journal k) ≡ nat_le (room o k) (length journal) }
-    ensures fits { (o : Opening) (journal : List Entry) → IsLegal o journal → length journal ≤ o.limit + o.table.ports + 1 }
+    ensures entry { (o : Opening) (journal : List Entry) (e : Entry) → IsLegal o journal →
+        e.reply ≡ reply_of o journal e.command → is_full e.reply ≡ false → IsLegal o (journal ++ e ∷ []) }
+    ensures command { (o : Opening) (journal : List Entry) (who : ℕ) (k : Command) → IsLegal o journal →
+        IsLegal o (journal_after o journal who k) }
+    ensures there { (o : Opening) (journal more : List Entry) (e : Entry) → IsLegal o (journal ++ e ∷ more) →
+        (e.reply ≡ reply_of o journal e.command) × (is_full e.reply ≡ false) }
+    ensures full { (o : Opening) (journal : List Entry) (k : Command) →
+        is_full (reply_of o journal k) ≡ nat_le (room o k) (length journal) }
+    ensures fits { (o : Opening) (journal : List Entry) → IsLegal o journal →
+        length journal ≤ o.limit + o.table.ports + 1 }
 {}
 
 /// The callers and their commands determine the replies.
@@ -83,37 +100,48 @@ pub fn replies_are_determined()
 
 /// In a legal journal whose commands are in range no flow is sent more units than it has, and an open run is in time and within what its flows owe.
 pub fn legal_is_sound()
-    ensures { (o : Opening) (journal : List Entry) → IsLegal o journal → InRange o journal → SoundState o (state_of o journal) }
+    ensures { (o : Opening) (journal : List Entry) → IsLegal o journal → InRange o journal →
+        SoundState o (state_of o journal) }
 {}
 
 /// The coflows of the line are those that are present.
 pub fn line_is_present()
-    ensures { (o : Opening) (journal : List Entry) → IsOpening o → (c : ℕ) → has (line_of o journal) c ≡ is_present (state_of o journal) c }
+    ensures { (o : Opening) (journal : List Entry) → IsOpening o → (c : ℕ) →
+        has (line_of o journal) c ≡ is_present (state_of o journal) c }
 {}
 
 /// The weight of a coflow is the last one that a `Reweigh` gave it, and before the first it is the opening's.
 pub fn weight_is_the_last()
-    ensures given { (o : Opening) (before more : List Entry) (e : Entry) (coflow weight old : ℕ) → e.command ≡ Reweigh coflow weight → e.reply ≡ Weighed old → All (λ x. gives_weight x coflow ≡ false) more →
+    ensures given { (o : Opening) (before more : List Entry) (e : Entry) (coflow weight old : ℕ) →
+        e.command ≡ Reweigh coflow weight → e.reply ≡ Weighed old → All (λ x. gives_weight x coflow ≡ false) more →
         (state_of o (before ++ e ∷ more)).weight coflow ≡ weight }
-    ensures opening { (o : Opening) (journal : List Entry) (coflow : ℕ) → All (λ x. gives_weight x coflow ≡ false) journal → (state_of o journal).weight coflow ≡ slice_index_or o.weights coflow 0 }
+    ensures opening { (o : Opening) (journal : List Entry) (coflow : ℕ) →
+        All (λ x. gives_weight x coflow ≡ false) journal →
+        (state_of o journal).weight coflow ≡ slice_index_or o.weights coflow 0 }
 {}
 
 /// A pull tells the newest version, and the place in it or that there is none; and an open finds nothing left only where
 /// no present coflow owes a unit.
 pub fn replies_tell()
-    ensures pull { (o : Opening) (journal : List Entry) (c v r : ℕ) → reply_of o journal (Pull c) ≡ Rank v r → (v ≡ version_of journal) × (r ≡ rank_of o journal v c) }
+    ensures pull { (o : Opening) (journal : List Entry) (c v r : ℕ) → reply_of o journal (Pull c) ≡ Rank v r →
+        (v ≡ version_of journal) × (r ≡ rank_of o journal v c) }
     ensures unranked { (o : Opening) (journal : List Entry) (c v : ℕ) → reply_of o journal (Pull c) ≡ Unranked v →
         (v ≡ version_of journal) × (rank_of o journal v c ≡ 0) }
-    ensures nothing_left { (o : Opening) (journal : List Entry) (most f : ℕ) → IsOpening o → reply_of o journal (Open most) ≡ NothingLeft → f < length o.table.flows → is_present (state_of o journal) (coflow_of o.table.flows f) ≡ true →
+    ensures nothing_left { (o : Opening) (journal : List Entry) (most f : ℕ) → IsOpening o →
+        reply_of o journal (Open most) ≡ NothingLeft → f < length o.table.flows →
+        is_present (state_of o journal) (coflow_of o.table.flows f) ≡ true →
         owed o (state_of o journal) f ≡ 0 }
 {}
 
 /// The grants of a run that is opened are those of the line and of what is owed at its entry, and its length is the longest that they and the last slot allow.
 pub fn opened_runs_have_grants()
-    ensures run { (o : Opening) (journal : List Entry) (e : Entry) (slot slots count : ℕ) → e.reply ≡ Opened slot slots count →
-        ((state_of o (journal ++ e ∷ [])).run ≡ Some (record { first = slot; slots = slots; granted = granted o (state_of o journal); notes = [] }))
+    ensures run { (o : Opening) (journal : List Entry) (e : Entry) (slot slots count : ℕ) →
+        e.reply ≡ Opened slot slots count →
+        ((state_of o (journal ++ e ∷ [])).run ≡
+        Some (record { first = slot; slots = slots; granted = granted o (state_of o journal); notes = [] }))
         × IsGrants o.table.flows (line_of o journal) (owed o (state_of o journal)) (granted o (state_of o journal)) }
-    ensures length { (o : Opening) (s : State) (most : ℕ) → IsRunLength (owed o s) (granted o s) (min most (slot_end - s.next)) (slots_for o s most) }
+    ensures length { (o : Opening) (s : State) (most : ℕ) →
+        IsRunLength (owed o s) (granted o s) (min most (slot_end - s.next)) (slots_for o s most) }
 {}
 
 /// What each entry of a legal journal tells of the state that it answered in.

@@ -108,7 +108,8 @@ pub fn schedule_tells_sent()
 pub fn wires_tell_schedule()
     ensures pair { (o : Opening) (journal : List Entry) (port k f : ℕ) → IsLegal o journal → InRange o journal →
         times_on (wire_of o journal port) (k + 1) f
-        ≡ (if (ingress_of o.table.flows f == port) && holds (slice_index_or (schedule_of o journal) k []) f then 1 else 0) }
+        ≡ (if (ingress_of o.table.flows f == port) && holds (slice_index_or (schedule_of o journal) k []) f then 1
+        else 0) }
     ensures zero { (o : Opening) (journal : List Entry) (port f : ℕ) → IsLegal o journal → InRange o journal →
         times_on (wire_of o journal port) 0 f ≡ 0 }
     ensures units { (o : Opening) (journal : List Entry) (port f : ℕ) → IsLegal o journal → InRange o journal →

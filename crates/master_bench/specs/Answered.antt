@@ -9,4 +9,5 @@ use Rattle.master_core.specs.Master.{MasterFacts}
 
 -- the last command that the master was asked opens a run of any length, and this is its reply
 abbrev pub IsLastAnswer : MasterFacts → Reply → Type 0
-IsLastAnswer m reply = (before : List Entry) × (m.journal ≡ journal_after m.opening before 0 (Open (2 ^ 41 - 1))) × (reply ≡ reply_of m.opening before (Open (2 ^ 41 - 1)))
+IsLastAnswer m reply = (before : List Entry) × (m.journal ≡ journal_after m.opening before 0 (Open (2 ^ 41 - 1))) ×
+    (reply ≡ reply_of m.opening before (Open (2 ^ 41 - 1)))

@@ -1,6 +1,6 @@
-// Measures the master: all coflows of a trace join, an order is published, and then runs are opened and closed until nothing is left. Prints how many slots the runs had and how many commands
-// were asked. Its exit code is 0 where it came to that end, and 1 where it did not.
-// Its arguments are the file of the trace and the megabytes of a unit.
+//! Measures the master: all coflows of a trace join, an order is published, and then runs are opened and closed until nothing is left. Prints how many slots the runs had and how many commands
+//! were asked. Its exit code is 0 where it came to that end, and 1 where it did not.
+//! Its arguments are the file of the trace and the megabytes of a unit.
 #![tactic(auto)]
 
 ghost use Rattle.std.specs.Prelude.{◌≡◌, ◌^◌, ◌≤◌, [], IfOk, length};

@@ -32,28 +32,33 @@ joins_in xs n c once below away lt =
     let most = joined_few (xs ++ c ∷ []) n (distinct_more xs c once away) (All-push (λ (x : ℕ). x < n) xs c below lt) in
     omega (arith, most, length-append xs (c ∷ []))
 
-seen_more : (xs : List ℕ) (marks : List Bool) (c x : ℕ) → c < length marks → slice_index_or marks x false ≡ has xs x → slice_index_or (slice_set marks c true) x false ≡ has (xs ++ c ∷ []) x
+seen_more : (xs : List ℕ) (marks : List Bool) (c x : ℕ) → c < length marks → slice_index_or marks x false ≡ has xs x →
+    slice_index_or (slice_set marks c true) x false ≡ has (xs ++ c ∷ []) x
 seen_more xs marks c x lt old =
     let more = list_any-append (λ (y : ℕ). y == x) xs (c ∷ []) in
     elim (cases_eq x c) [
-      | inl e ↦ subst (λ z. slice_index_or (slice_set marks c true) z false ≡ has (xs ++ c ∷ []) z) (sym e) (get_or-set_same marks c true false lt ∙ sym (any_in (xs ++ c ∷ []) c (Contains-push xs c)))
+      | inl e ↦ subst (λ z. slice_index_or (slice_set marks c true) z false ≡ has (xs ++ c ∷ []) z) (sym e)
+          (get_or-set_same marks c true false lt ∙ sym (any_in (xs ++ c ∷ []) c (Contains-push xs c)))
       | inr ne ↦ get_or-set_other marks c x true false ne ∙ old ∙ sym (more ∙ ap (λ b. has xs x || (b || false)) (ne_eqb c x (λ e. ne (sym e))) ∙ or_false (has xs x))
     ]
 
-there_more : (xs : List ℕ) (marks : List Bool) (c x : ℕ) → c < length marks → ((y : ℕ) → slice_index_or marks y false ≡ true → has xs y ≡ true) → slice_index_or (slice_set marks c true) x false ≡ true → has (xs ++ c ∷ []) x ≡ true
+there_more : (xs : List ℕ) (marks : List Bool) (c x : ℕ) → c < length marks → ((y : ℕ) → slice_index_or marks y false ≡ true → has xs y ≡ true) →
+    slice_index_or (slice_set marks c true) x false ≡ true → has (xs ++ c ∷ []) x ≡ true
 there_more xs marks c x lt there e = elim (cases_eq x c) [
   | inl same ↦ ap (has (xs ++ c ∷ [])) same ∙ any_in (xs ++ c ∷ []) c (Contains-push xs c)
   | inr ne ↦ list_any-append (λ (y : ℕ). y == x) xs (c ∷ []) ∙ ap (λ b. b || ((c == x) || false)) (there x (sym (get_or-set_other marks c x true false ne) ∙ e))
 ]
 
 -- a coflow that leaves is present no more
-pub there_less : (xs : List ℕ) (marks : List Bool) (c x : ℕ) → c < length marks → ((y : ℕ) → slice_index_or marks y false ≡ true → has xs y ≡ true) → slice_index_or (slice_set marks c false) x false ≡ true → has xs x ≡ true
+pub there_less : (xs : List ℕ) (marks : List Bool) (c x : ℕ) → c < length marks → ((y : ℕ) → slice_index_or marks y false ≡ true → has xs y ≡ true) →
+    slice_index_or (slice_set marks c false) x false ≡ true → has xs x ≡ true
 there_less xs marks c x lt there e = elim (cases_eq x c) [
   | inl same ↦ absurd (true≢false (sym e ∙ ap (λ y. slice_index_or (slice_set marks c false) y false) same ∙ get_or-set_same marks c false false lt))
   | inr ne ↦ there x (sym (get_or-set_other marks c x false false ne) ∙ e)
 ]
 
-pub leaves : (joined : List ℕ) (seen present : List Bool) (room c : ℕ) → IsAttendance joined seen present room → c < length present → IsAttendance joined seen (slice_set present c false) room
+pub leaves : (joined : List ℕ) (seen present : List Bool) (room c : ℕ) → IsAttendance joined seen present room → c < length present →
+    IsAttendance joined seen (slice_set present c false) room
 leaves joined seen present room c h lt =
     let len = length-set present c false in
     record {
@@ -66,7 +71,8 @@ leaves joined seen present room c h lt =
     }
 
 -- a coflow joins
-pub attends : (joined joined' : List ℕ) (seen present : List Bool) (room room' c : ℕ) → IsAttendance joined seen present room → joined' ≡ joined ++ c ∷ [] → room' ≡ room → has joined c ≡ false → c < length present →
+pub attends : (joined joined' : List ℕ) (seen present : List Bool) (room room' c : ℕ) → IsAttendance joined seen present room → joined' ≡ joined ++ c ∷ [] → room' ≡ room →
+    has joined c ≡ false → c < length present →
     IsAttendance joined' (slice_set seen c true) (slice_set present c true) room'
 attends joined joined' seen present room room' c h is same away lt =
     let len = length-set present c true in

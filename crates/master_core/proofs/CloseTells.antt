@@ -20,13 +20,15 @@ ingress_low t f ok = elim (cases_lt f (length t.flows)) [
 ]
 
 -- the open run of the state, where one is kept
-pub open_of : (flows : List Flow) (ports : ℕ) (r : Option Run) (x : Option KeptRun) (k : KeptRun) → TellsRun flows ports r x → x ≡ Some k → (z : Run) × (r ≡ Some z) × TellsOpen flows ports z k
+pub open_of : (flows : List Flow) (ports : ℕ) (r : Option Run) (x : Option KeptRun) (k : KeptRun) → TellsRun flows ports r x → x ≡ Some k →
+    (z : Run) × (r ≡ Some z) × TellsOpen flows ports z k
 open_of flows ports None None k t e = absurd (cc)
 open_of flows ports None (Some x) k t e = absurd t
 open_of flows ports (Some r) None k t e = absurd t
 open_of flows ports (Some r) (Some x) k t e = let is : x ≡ k = cc in (r, refl, subst (TellsOpen flows ports r) is t)
 
-pub credit_told : (flows : List Flow) (ports : ℕ) (r : Run) (k : KeptRun) (f : ℕ) → TellsOpen flows ports r k → ingress_of flows f < ports → kept_credit flows k f ≡ credit flows r f
+pub credit_told : (flows : List Flow) (ports : ℕ) (r : Run) (k : KeptRun) (f : ℕ) → TellsOpen flows ports r k → ingress_of flows f < ports →
+    kept_credit flows k f ≡ credit flows r f
 credit_told flows ports r k f t low =
     ap (λ l. if has l f then unwrap_or (note_at k.noted (ingress_of flows f)) k.slots else 0) t.granted
     ∙ ap (λ n. if has r.granted f then unwrap_or n k.slots else 0) (t.noted (ingress_of flows f) low)

@@ -24,16 +24,22 @@ has_more granted k g f lt is =
     ap (λ l. has l f) (take_more granted k 0 lt) ∙ list_any-append (λ (y : ℕ). y == f) (take k granted) (get_or granted k 0 ∷ [])
     ∙ ap (λ b. has (take k granted) f || b) (or_false (get_or granted k 0 == f) ∙ ap (λ y. y == f) is)
 
-not_credited : (flows : List Flow) (granted : List ℕ) (noted : List (Option ℕ)) (slots k g : ℕ) → IsStrictlyIncreasing granted → k < length granted → get_or granted k 0 ≡ g → credit_of flows (take k granted) noted slots g ≡ 0
+not_credited : (flows : List Flow) (granted : List ℕ) (noted : List (Option ℕ)) (slots k g : ℕ) → IsStrictlyIncreasing granted → k < length granted → get_or granted k 0 ≡ g →
+    credit_of flows (take k granted) noted slots g ≡ 0
 not_credited flows granted noted slots k g up lt is = ap (λ (b : Bool). if b then unwrap_or (note_at noted (ingress_of flows g)) slots else 0) (not_yet granted k g up lt is)
 
 -- the number that is credited is at most what the flow still owes
-pub credit_fits : (flows : List Flow) (before owed granted : List ℕ) (noted : List (Option ℕ)) (slots k g n : ℕ) → IsStrictlyIncreasing granted → k < length granted → get_or granted k 0 ≡ g → n ≡ unwrap_or (note_at noted (ingress_of flows g)) slots →
-    unwrap_or (note_at noted (ingress_of flows g)) slots ≤ slots → slots ≤ get_or before g 0 → ((f : ℕ) → get_or owed f 0 + credit_of flows (take k granted) noted slots f ≡ get_or before f 0) → n ≤ get_or owed g 0
-credit_fits flows before owed granted noted slots k g n up lt is note low enough so_far = omega (arith, note, low, enough, so_far g, not_credited flows granted noted slots k g up lt is)
+pub credit_fits : (flows : List Flow) (before owed granted : List ℕ) (noted : List (Option ℕ)) (slots k g n : ℕ) → IsStrictlyIncreasing granted → k < length granted →
+    get_or granted k 0 ≡ g → n ≡ unwrap_or (note_at noted (ingress_of flows g)) slots →
+    unwrap_or (note_at noted (ingress_of flows g)) slots ≤ slots → slots ≤ get_or before g 0 →
+    ((f : ℕ) → get_or owed f 0 + credit_of flows (take k granted) noted slots f ≡ get_or before f 0) → n ≤ get_or owed g 0
+credit_fits flows before owed granted noted slots k g n up lt is note low enough so_far =
+    omega (arith, note, low, enough, so_far g, not_credited flows granted noted slots k g up lt is)
 
-pub credited_more : (flows : List Flow) (before owed granted : List ℕ) (noted : List (Option ℕ)) (slots k g n : ℕ) → IsStrictlyIncreasing granted → k < length granted → get_or granted k 0 ≡ g → g < length owed →
-    n ≡ unwrap_or (note_at noted (ingress_of flows g)) slots → n ≤ get_or owed g 0 → ((f : ℕ) → get_or owed f 0 + credit_of flows (take k granted) noted slots f ≡ get_or before f 0) →
+pub credited_more : (flows : List Flow) (before owed granted : List ℕ) (noted : List (Option ℕ)) (slots k g n : ℕ) → IsStrictlyIncreasing granted → k < length granted →
+    get_or granted k 0 ≡ g → g < length owed →
+    n ≡ unwrap_or (note_at noted (ingress_of flows g)) slots → n ≤ get_or owed g 0 →
+    ((f : ℕ) → get_or owed f 0 + credit_of flows (take k granted) noted slots f ≡ get_or before f 0) →
     (f : ℕ) → get_or (slice_set owed g (get_or owed g 0 - n)) f 0 + credit_of flows (take (k + 1) granted) noted slots f ≡ get_or before f 0
 credited_more flows before owed granted noted slots k g n up lt is in' note fits so_far f =
     let pay = λ (b : Bool) (x : ℕ). if b then unwrap_or (note_at noted (ingress_of flows x)) slots else 0 in
@@ -41,8 +47,10 @@ credited_more flows before owed granted noted slots k g n up lt is in' note fits
     elim (cases_eq f g) [
       | inl e ↦
           let paid : credit_of flows (take (k + 1) granted) noted slots f ≡ n =
-          ap (λ b. pay b f) (more ∙ ap (λ b. has (take k granted) f || b) (eq-eqb g f (sym e)) ∙ ap (λ x. has (take k granted) x || true) e ∙ ap (λ b. b || true) (not_yet granted k g up lt is)) ∙ ap (pay true) e ∙ sym note in
-          let left : get_or (slice_set owed g (get_or owed g 0 - n)) f 0 ≡ get_or owed g 0 - n = ap (λ x. get_or (slice_set owed g (get_or owed g 0 - n)) x 0) e ∙ get_or-set_same owed g (get_or owed g 0 - n) 0 in' in
+          ap (λ b. pay b f) (more ∙ ap (λ b. has (take k granted) f || b) (eq-eqb g f (sym e)) ∙ ap (λ x. has (take k granted) x || true) e ∙
+          ap (λ b. b || true) (not_yet granted k g up lt is)) ∙ ap (pay true) e ∙ sym note in
+          let left : get_or (slice_set owed g (get_or owed g 0 - n)) f 0 ≡ get_or owed g 0 - n = ap (λ x. get_or (slice_set owed g (get_or owed g 0 - n)) x 0) e ∙
+          get_or-set_same owed g (get_or owed g 0 - n) 0 in' in
           let old : get_or owed g 0 ≡ get_or before f 0 = omega (arith, so_far g, not_credited flows granted noted slots k g up lt is, ap (λ x. get_or before x 0) e) in
           omega (arith, paid, left, old, fits)
       | inr ne ↦
@@ -52,10 +60,12 @@ credited_more flows before owed granted noted slots k g n up lt is in' note fits
     ]
 
 -- the units left are taken from as the ledger is credited
-pub in_step : (left after owed : List ℕ) (g n : ℕ) → length after ≡ length left → left ≡ owed → g < length left → get_or after g 0 ≡ get_or left g 0 - n → ((f : ℕ) → f ≢ g → get_or after f 0 ≡ get_or left f 0) →
+pub in_step : (left after owed : List ℕ) (g n : ℕ) → length after ≡ length left → left ≡ owed → g < length left → get_or after g 0 ≡ get_or left g 0 - n →
+    ((f : ℕ) → f ≢ g → get_or after f 0 ≡ get_or left f 0) →
     after ≡ slice_set owed g (get_or owed g 0 - n)
 in_step left after owed g n same is lt less others =
-    subst (λ l. after ≡ slice_set l g (get_or l g 0 - n)) is (ext_get_or 0 after (slice_set left g (get_or left g 0 - n)) (same ∙ sym (length-set left g (get_or left g 0 - n))) (λ f _. elim (cases_eq f g) [
+    subst (λ l. after ≡ slice_set l g (get_or l g 0 - n)) is
+    (ext_get_or 0 after (slice_set left g (get_or left g 0 - n)) (same ∙ sym (length-set left g (get_or left g 0 - n))) (λ f _. elim (cases_eq f g) [
       | inl e ↦ ap (λ x. get_or after x 0) e ∙ less ∙ sym (ap (λ x. get_or (slice_set left g (get_or left g 0 - n)) x 0) e ∙ get_or-set_same left g (get_or left g 0 - n) 0 lt)
       | inr ne ↦ others f ne ∙ sym (get_or-set_other left g f (get_or left g 0 - n) 0 ne)
     ]))

@@ -1,5 +1,6 @@
 -- The line: what its coflows have in common, and one more coflow of it.
-use Rattle.std.proofs.Common.{◌≡◌, ℕ, ◌+◌, ◌<◌, ◌≤◌, Bool, true, false, List, [], ◌∷◌, ◌++◌, length, take, cond, get_or, Contains, inl, inr, sym, ap, ◌∙◌, arith, append_assoc, append-nil}
+use Rattle.std.proofs.Common.{◌≡◌, ℕ, ◌+◌, ◌<◌, ◌≤◌, Bool, true, false, List, [], ◌∷◌, ◌++◌, length, take, cond, get_or, Contains, inl, inr, sym, ap, ◌∙◌, arith, append_assoc}
+use Rattle.std.proofs.Common.{append-nil}
 use Rattle.std.specs.Prelude.{All, ◌==◌, ◌&&◌, not, if◌then◌else◌}
 use Rattle.std.specs.List.{filter}
 use Rattle.std.proofs.lemmas.Bool.{and_parts, cases_Bool, eqb-true, ne_eqb}
@@ -40,10 +41,12 @@ unranked_apart xs c e in' =
 pub line_once : (p : ℕ → Bool) (order joined : List ℕ) → IsDistinct order → IsDistinct joined → IsDistinct (filter p order ++ filter (λ c. (rank_in order c == 0) && p c) joined)
 line_once p order joined once_order once_joined =
     let q = λ (c : ℕ). (rank_in order c == 0) && p c in
-    pairs_from_apart (filter p order ++ filter q joined) (join_apart (filter p order) (filter q joined) (filter_apart p order (apart_from_pairs order once_order)) (filter_apart q joined (apart_from_pairs joined once_joined))
+    pairs_from_apart (filter p order ++ filter q joined)
+    (join_apart (filter p order) (filter q joined) (filter_apart p order (apart_from_pairs order once_order)) (filter_apart q joined (apart_from_pairs joined once_joined))
     (λ x a b. unranked_apart order x (and_parts (rank_in order x == 0) (p x) (filter_in q joined x b).1).0 (filter_in p order x a).0))
 
-pub line_within : (p : ℕ → Bool) (order joined : List ℕ) (n : ℕ) → All (λ c. c < n) order → All (λ c. c < n) joined → All (λ c. c < n) (filter p order ++ filter (λ c. (rank_in order c == 0) && p c) joined)
+pub line_within : (p : ℕ → Bool) (order joined : List ℕ) (n : ℕ) → All (λ c. c < n) order → All (λ c. c < n) joined →
+    All (λ c. c < n) (filter p order ++ filter (λ c. (rank_in order c == 0) && p c) joined)
 line_within p order joined n low_order low_joined =
     let q = λ (c : ℕ). (rank_in order c == 0) && p c in
     all_of_members (λ c. c < n) (filter p order ++ filter q joined) (λ x in'. elim (Contains-append_cases (filter p order) (filter q joined) x in') [
@@ -55,19 +58,23 @@ pub places_within : (places : List Place) (n : ℕ) → All (λ (x : Place). x.c
 places_within places n low = All-map (λ (c : ℕ). c < n) (λ (x : Place). x.coflow) places low
 
 -- one more coflow is looked at, and joins where it passes
-pub joins : (p : ℕ → Bool) (old xs items items' : List ℕ) (i x : ℕ) → items ≡ old ++ filter p (take i xs) → i < length xs → get_or xs i 0 ≡ x → p x ≡ true → items' ≡ items ++ x ∷ [] → items' ≡ old ++ filter p (take (i + 1) xs)
+pub joins : (p : ℕ → Bool) (old xs items items' : List ℕ) (i x : ℕ) → items ≡ old ++ filter p (take i xs) → i < length xs → get_or xs i 0 ≡ x → p x ≡ true →
+    items' ≡ items ++ x ∷ [] → items' ≡ old ++ filter p (take (i + 1) xs)
 joins p old xs items items' i x so_far lt is passes more =
     more ∙ ap (λ l. l ++ x ∷ []) so_far ∙ append_assoc old (filter p (take i xs)) (x ∷ [])
     ∙ ap (λ l. old ++ l) (sym (filter_more p xs i 0 lt ∙ ap (λ y. filter p (take i xs) ++ cond (p y) (y ∷ []) []) is ∙ ap (λ b. filter p (take i xs) ++ cond b (x ∷ []) []) passes))
 
-pub passes_by : (p : ℕ → Bool) (old xs items : List ℕ) (i x : ℕ) → items ≡ old ++ filter p (take i xs) → i < length xs → get_or xs i 0 ≡ x → p x ≡ false → items ≡ old ++ filter p (take (i + 1) xs)
+pub passes_by : (p : ℕ → Bool) (old xs items : List ℕ) (i x : ℕ) → items ≡ old ++ filter p (take i xs) → i < length xs → get_or xs i 0 ≡ x → p x ≡ false →
+    items ≡ old ++ filter p (take (i + 1) xs)
 passes_by p old xs items i x so_far lt is fails =
-    so_far ∙ ap (λ l. old ++ l) (sym (filter_more p xs i 0 lt ∙ ap (λ y. filter p (take i xs) ++ cond (p y) (y ∷ []) []) is ∙ ap (λ b. filter p (take i xs) ++ cond b (x ∷ []) []) fails ∙ append-nil (filter p (take i xs))))
+    so_far ∙ ap (λ l. old ++ l) (sym (filter_more p xs i 0 lt ∙ ap (λ y. filter p (take i xs) ++ cond (p y) (y ∷ []) []) is ∙
+    ap (λ b. filter p (take i xs) ++ cond b (x ∷ []) []) fails ∙ append-nil (filter p (take i xs))))
 
 pub all_looked_at : (p : ℕ → Bool) (old xs items : List ℕ) (i : ℕ) → items ≡ old ++ filter p (take i xs) → length xs ≤ i → items ≡ old ++ filter p xs
 all_looked_at p old xs items i so_far le = so_far ∙ ap (λ l. old ++ filter p l) (take_all i xs le)
 
-pub line_made : (p q : ℕ → Bool) (places places' : List Place) (joined joined' first all : List ℕ) → places ≡ places' → joined ≡ joined' → first ≡ filter p (ranked places) → all ≡ first ++ filter q joined → all ≡ filter p (ranked places') ++ filter q joined'
+pub line_made : (p q : ℕ → Bool) (places places' : List Place) (joined joined' first all : List ℕ) → places ≡ places' → joined ≡ joined' → first ≡ filter p (ranked places) →
+    all ≡ first ++ filter q joined → all ≡ filter p (ranked places') ++ filter q joined'
 line_made p q places places' joined joined' first all e f a b =
     b ∙ ap (λ l. l ++ filter q joined) a ∙ ap (λ (l : List Place). filter p (ranked l) ++ filter q joined) e ∙ ap (λ l. filter p (ranked places') ++ filter q l) f
 
@@ -78,7 +85,8 @@ rank_zero order c = elim (cases_Bool (has order c)) [
 ]
 
 -- who is present is in the line
-pub line_all : (present : List Bool) (order joined : List ℕ) (c : ℕ) → marked present c ≡ true → has joined c ≡ true → has (filter (marked present) order ++ filter (waits order present) joined) c ≡ true
+pub line_all : (present : List Bool) (order joined : List ℕ) (c : ℕ) → marked present c ≡ true → has joined c ≡ true →
+    has (filter (marked present) order ++ filter (waits order present) joined) c ≡ true
 line_all present order joined c here there = any_in (filter (marked present) order ++ filter (waits order present) joined) c (elim (cases_Bool (has order c)) [
   | inl t ↦ Contains-append_left (filter (marked present) order) (filter (waits order present) joined) c (keeps (marked present) order c (any_has order c t) here)
   | inr f ↦ Contains-append_right (filter (marked present) order) (filter (waits order present) joined) c

@@ -1,5 +1,6 @@
 -- The run that is opened is that of the state.
-use Rattle.std.proofs.Common.{◌≡◌, ℕ, ◌-◌, ◌<◌, ◌≤◌, Bool, true, false, List, [], ◌∷◌, ◌++◌, length, min, Contains, Option, Some, None, refl, sym, ap, subst, ◌∙◌, arith, true≢false, unwrap_or}
+use Rattle.std.proofs.Common.{◌≡◌, ℕ, ◌-◌, ◌<◌, ◌≤◌, Bool, true, false, List, [], ◌∷◌, ◌++◌, length, min, Contains, Option, Some, None, refl, sym, ap, subst, ◌∙◌, arith}
+use Rattle.std.proofs.Common.{true≢false, unwrap_or}
 use Rattle.std.specs.Prelude.{◌&&◌, not, if◌then◌else◌, slice_index, is_some, MatchOption}
 use Rattle.std.specs.List.{filter}
 use Rattle.coflow_units.specs.declared.fabric.Flow.{Flow}
@@ -24,13 +25,15 @@ use Rattle.journal.proofs.Sound.{least_below, least_each}
 -- ---- the first flow that owes
 
 pub some_owing : (flows : List Flow) (present : List Bool) (owes : List ℕ) (r : Option ℕ) →
-    MatchOption r (IsNoneOwing flows present owes (length flows)) (λ f. (f < length flows) × (is_owing flows present owes f ≡ true) × IsNoneOwing flows present owes f) → is_some r ≡ true →
+    MatchOption r (IsNoneOwing flows present owes (length flows)) (λ f. (f < length flows) × (is_owing flows present owes f ≡ true) × IsNoneOwing flows present owes f) →
+    is_some r ≡ true →
     (f : ℕ) × (f < length flows) × (is_owing flows present owes f ≡ true) × IsNoneOwing flows present owes f
 some_owing flows present owes None m e = absurd (true≢false (sym e))
 some_owing flows present owes (Some f) m e = (f, m.0, m.1, m.2)
 
 pub none_owing : (flows : List Flow) (present : List Bool) (owes : List ℕ) (r : Option ℕ) →
-    MatchOption r (IsNoneOwing flows present owes (length flows)) (λ f. (f < length flows) × (is_owing flows present owes f ≡ true) × IsNoneOwing flows present owes f) → is_some r ≡ false →
+    MatchOption r (IsNoneOwing flows present owes (length flows)) (λ f. (f < length flows) × (is_owing flows present owes f ≡ true) × IsNoneOwing flows present owes f) →
+    is_some r ≡ false →
     IsNoneOwing flows present owes (length flows)
 none_owing flows present owes None m e = m
 none_owing flows present owes (Some f) m e = absurd (true≢false e)
@@ -53,8 +56,10 @@ line_told s x here orders =
     filter_same marks stays (newest s) (λ c in'. here.present_is c ∙ ap (λ b. b && not (has s.left c)) (orders.named c in')) in
     let second : filter (waits (newest s) x.roster.present) s.joined ≡ filter others s.joined =
     filter_same (waits (newest s) x.roster.present) others s.joined
-    (λ c in'. both _ (marks c) (not (has (newest s) c)) (not (has s.left c)) (rank_zero (newest s) c) (here.present_is c ∙ ap (λ b. b && not (has s.left c)) (any_in s.joined c in'))) in
-    ap (λ l. filter marks l ++ filter (waits l x.roster.present) x.roster.joined) orders.order_is ∙ ap (λ l. filter marks (newest s) ++ filter (waits (newest s) x.roster.present) l) here.joined_is
+    (λ c in'. both _ (marks c) (not (has (newest s) c)) (not (has s.left c)) (rank_zero (newest s) c)
+    (here.present_is c ∙ ap (λ b. b && not (has s.left c)) (any_in s.joined c in'))) in
+    ap (λ l. filter marks l ++ filter (waits l x.roster.present) x.roster.joined) orders.order_is ∙
+    ap (λ l. filter marks (newest s) ++ filter (waits (newest s) x.roster.present) l) here.joined_is
     ∙ ap (λ l. l ++ filter (waits (newest s) x.roster.present) s.joined) first ∙ ap (λ l. filter stays (newest s) ++ l) second
 
 -- ---- the run
@@ -78,18 +83,22 @@ pub record Opens (o : Opening) (s : State) (most : ℕ) (k : KeptRun) : Type 0 w
   pub granted_are : k.granted ≡ granted o s
   pub slots_are : k.slots ≡ slots_for o s most
 
-pub begun_told : (o : Opening) (s : State) (line' left : List ℕ) (ports first most : ℕ) (k : KeptRun) → line' ≡ line s → ((f : ℕ) → slice_index left f ≡ owed o s f) → first ≡ s.next →
+pub begun_told : (o : Opening) (s : State) (line' left : List ℕ) (ports first most : ℕ) (k : KeptRun) → line' ≡ line s → ((f : ℕ) → slice_index left f ≡ owed o s f) →
+    first ≡ s.next →
     IsBegun o.table.flows ports line' (λ f. slice_index left f) first most k → Opens o s most k
 begun_told o s line' left ports first most k same_line same_left same_next h =
-    let grants = subst (λ l. IsGrants o.table.flows l (owed o s) k.granted) same_line (grants_along o.table.flows line' (λ f. slice_index left f) (owed o s) k.granted same_left h.grants) in
+    let grants = subst (λ l. IsGrants o.table.flows l (owed o s) k.granted) same_line
+    (grants_along o.table.flows line' (λ f. slice_index left f) (owed o s) k.granted same_left h.grants) in
     let is = only_grants o.table.flows (line s) (owed o s) k.granted grants in
     record {
       granted_are = is;
-      slots_are = h.slots_is ∙ least_same (λ f. slice_index left f) (owed o s) k.granted (min most (slot_end - first)) same_left ∙ ap (λ l. least_of (owed o s) l (min most (slot_end - first))) is
+      slots_are = h.slots_is ∙ least_same (λ f. slice_index left f) (owed o s) k.granted (min most (slot_end - first)) same_left ∙
+          ap (λ l. least_of (owed o s) l (min most (slot_end - first))) is
           ∙ ap (λ n. least_of (owed o s) (granted o s) (min most (slot_end - n))) same_next;
     }
 
-pub open_kept : (flows : List Flow) (ports : ℕ) (line' : List ℕ) (left : ℕ → ℕ) (first most slot slots : ℕ) (got : List ℕ) (k : KeptRun) → IsBegun flows ports line' left first most k → k.first ≡ slot → k.slots ≡ slots → k.granted ≡ got →
+pub open_kept : (flows : List Flow) (ports : ℕ) (line' : List ℕ) (left : ℕ → ℕ) (first most slot slots : ℕ) (got : List ℕ) (k : KeptRun) →
+    IsBegun flows ports line' left first most k → k.first ≡ slot → k.slots ≡ slots → k.granted ≡ got →
     TellsOpen flows ports (record { first = slot; slots = slots; granted = got; notes = [] }) k
 open_kept flows ports line' left first most slot slots got k h e f g = record {
   first = e;
@@ -100,7 +109,8 @@ open_kept flows ports line' left first most slot slots got k h e f g = record {
   noted = λ ingress lt. h.noted ingress;
 }
 
-pub begun_fits : (flows : List Flow) (ports : ℕ) (line' left : List ℕ) (first most : ℕ) (k : KeptRun) → first ≤ slot_end → IsBegun flows ports line' (λ f. slice_index left f) first most k → FitsRun flows left k
+pub begun_fits : (flows : List Flow) (ports : ℕ) (line' left : List ℕ) (first most : ℕ) (k : KeptRun) → first ≤ slot_end →
+    IsBegun flows ports line' (λ f. slice_index left f) first most k → FitsRun flows left k
 begun_fits flows ports line' left first most k low h =
     let m = min most (slot_end - first) in
     record {

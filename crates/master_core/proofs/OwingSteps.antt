@@ -19,8 +19,11 @@ first_from p a zero f le lt here none = absurd (omega arith)
 first_from p a (suc n) f le lt here none = elim (cases_lt a f) [
   | inl before ↦ rw (none a (omega arith) before) (first_from p (a + 1) n f (omega arith) (omega arith) here (λ g le' lt'. none g (omega arith) lt'))
   | inr upto ↦
-      let e : a ≡ f = omega (arith, le, upto) in
-      (filter p (range_with_len (a + 1) n), ap (λ b. if b then a ∷ filter p (range_with_len (a + 1) n) else filter p (range_with_len (a + 1) n)) (ap p e ∙ here) ∙ ap (λ x. x ∷ filter p (range_with_len (a + 1) n)) e)
+      let e : a ≡ f = omega (arith, le, upto) in (
+        filter p (range_with_len (a + 1) n),
+        ap (λ b. if b then a ∷ filter p (range_with_len (a + 1) n) else filter p (range_with_len (a + 1) n)) (ap p e ∙ here) ∙
+            ap (λ x. x ∷ filter p (range_with_len (a + 1) n)) e,
+      )
 ]
 
 pub filter_none : (p : ℕ → Bool) (n : ℕ) → ((f : ℕ) → f < n → p f ≡ false) → filter p (range_with_len 0 n) ≡ []

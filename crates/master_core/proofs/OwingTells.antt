@@ -20,7 +20,8 @@ use Rattle.journal.proofs.Present.{line_members}
 
 -- ---- the open run
 
-pub run_told : (flows : List Flow) (ports : ℕ) (r : Option Run) (x : Option KeptRun) (k : KeptRun) (other : Reply) → TellsRun flows ports r x → x ≡ Some k → on_run r (λ r. StillOpen r.first) other ≡ StillOpen k.first
+pub run_told : (flows : List Flow) (ports : ℕ) (r : Option Run) (x : Option KeptRun) (k : KeptRun) (other : Reply) → TellsRun flows ports r x → x ≡ Some k →
+    on_run r (λ r. StillOpen r.first) other ≡ StillOpen k.first
 run_told flows ports None None k other t e = absurd (cc)
 run_told flows ports None (Some x) k other t e = absurd t
 run_told flows ports (Some r) None k other t e = absurd t
@@ -37,12 +38,16 @@ same_test : (o : Opening) (s : State) (x : Standing) (f : ℕ) → IsFit o x →
     (has (line s) (coflow_of o.table.flows f) && nat_lt 0 (owed o s f)) ≡ is_owing o.table.flows x.roster.present x.owing.left f
 same_test o s x f fit t lt =
     let c = coflow_of o.table.flows f in
-    ap (λ b. b && nat_lt 0 (owed o s f)) (line_members s t.orders.named c ∙ sym (t.coflows.present_is c)) ∙ ap (λ n. marked x.roster.present c && nat_lt 0 n) (sym (ap (λ (l : List ℕ). slice_index l f) fit.owing_left ∙ t.owed f))
+    ap (λ b. b && nat_lt 0 (owed o s f)) (line_members s t.orders.named c ∙ sym (t.coflows.present_is c)) ∙
+    ap (λ n. marked x.roster.present c && nat_lt 0 n) (sym (ap (λ (l : List ℕ). slice_index l f) fit.owing_left ∙ t.owed f))
 
-pub owing_none : (o : Opening) (s : State) (x : Standing) → IsFit o x → Tells o s x → IsNoneOwing o.table.flows x.roster.present x.owing.left (length o.table.flows) → owing o s ≡ []
-owing_none o s x fit t none = filter_none (λ f. has (line s) (coflow_of o.table.flows f) && nat_lt 0 (owed o s f)) (length o.table.flows) (λ f lt. same_test o s x f fit t lt ∙ none f lt)
+pub owing_none : (o : Opening) (s : State) (x : Standing) → IsFit o x → Tells o s x → IsNoneOwing o.table.flows x.roster.present x.owing.left (length o.table.flows) →
+    owing o s ≡ []
+owing_none o s x fit t none = filter_none (λ f. has (line s) (coflow_of o.table.flows f) && nat_lt 0 (owed o s f)) (length o.table.flows)
+    (λ f lt. same_test o s x f fit t lt ∙ none f lt)
 
-pub owing_first : (o : Opening) (s : State) (x : Standing) (f : ℕ) → IsFit o x → Tells o s x → f < length o.table.flows → is_owing o.table.flows x.roster.present x.owing.left f ≡ true → IsNoneOwing o.table.flows x.roster.present x.owing.left f →
+pub owing_first : (o : Opening) (s : State) (x : Standing) (f : ℕ) → IsFit o x → Tells o s x → f < length o.table.flows →
+    is_owing o.table.flows x.roster.present x.owing.left f ≡ true → IsNoneOwing o.table.flows x.roster.present x.owing.left f →
     (rest : List ℕ) × (owing o s ≡ f ∷ rest)
 owing_first o s x f fit t lt here none =
     filter_first (λ f. has (line s) (coflow_of o.table.flows f) && nat_lt 0 (owed o s f)) (length o.table.flows) f lt (same_test o s x f fit t lt ∙ here)
@@ -53,7 +58,8 @@ owing_first o s x f fit t lt here none =
 pub skip_owed : (o : Opening) (s : State) (to f : ℕ) (rest : List ℕ) → owing o s ≡ f ∷ rest → skipped o s to ≡ StillOwed f
 skip_owed o s to f rest e =
     let last = if nat_le slot_end to then Late to else Skipped (max s.next to) in
-    ap (λ l. if nat_lt 0 (length l) then StillOwed (slice_index_or l 0 0) else last) e ∙ ap (λ (b : Bool). if b then StillOwed f else last) (lt-ltb 0 (length (f ∷ rest)) (omega arith))
+    ap (λ l. if nat_lt 0 (length l) then StillOwed (slice_index_or l 0 0) else last) e ∙
+    ap (λ (b : Bool). if b then StillOwed f else last) (lt-ltb 0 (length (f ∷ rest)) (omega arith))
 
 pub skip_free : (o : Opening) (s : State) (to : ℕ) → owing o s ≡ [] → skipped o s to ≡ (if nat_le slot_end to then Late to else Skipped (max s.next to))
 skip_free o s to e =
@@ -65,7 +71,8 @@ open_free o s most e =
     let last = if s.next == slot_end then Late s.next else Opened s.next (slots_for o s most) (length (granted o s)) in
     ap (λ (l : List ℕ). if length l == 0 then NothingLeft else last) e
 
-pub open_owed : (o : Opening) (s : State) (most f : ℕ) (rest : List ℕ) → owing o s ≡ f ∷ rest → opened o s most ≡ (if s.next == slot_end then Late s.next else Opened s.next (slots_for o s most) (length (granted o s)))
+pub open_owed : (o : Opening) (s : State) (most f : ℕ) (rest : List ℕ) → owing o s ≡ f ∷ rest →
+    opened o s most ≡ (if s.next == slot_end then Late s.next else Opened s.next (slots_for o s most) (length (granted o s)))
 open_owed o s most f rest e =
     let last = if s.next == slot_end then Late s.next else Opened s.next (slots_for o s most) (length (granted o s)) in
     ap (λ (l : List ℕ). if length l == 0 then NothingLeft else last) e ∙ ap (λ (b : Bool). if b then NothingLeft else last) (ne_eqb (length (f ∷ rest)) 0 (λ z. omega (arith, z)))

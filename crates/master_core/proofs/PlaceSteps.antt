@@ -26,7 +26,8 @@ map_snoc f (y ∷ ys) x = ap (λ t. f y ∷ t) (map_snoc f ys x)
 front_of_places : (places : List Place) → front (entries_of places) ≡ reverse (ranked places)
 front_of_places [] = refl
 front_of_places (x ∷ xs) =
-    ap (λ (l : List Place). front (map entry_of l)) (reverse-append (x ∷ []) xs) ∙ ap front (map_snoc entry_of (reverse xs) x) ∙ map_snoc (λ (e : Entry). e.coflow) (entries_of xs) (entry_of x)
+    ap (λ (l : List Place). front (map entry_of l)) (reverse-append (x ∷ []) xs) ∙ ap front (map_snoc entry_of (reverse xs) x) ∙
+    map_snoc (λ (e : Entry). e.coflow) (entries_of xs) (entry_of x)
     ∙ ap (λ l. l ++ x.coflow ∷ []) (front_of_places xs) ∙ sym (reverse-cons x.coflow (ranked xs))
 
 -- the order of the entries is that of the places
@@ -52,11 +53,13 @@ apart_reverse (x ∷ xs) apart =
 
 pub places_once : (i : Instance) (places : List Place) → IsOrder i places → IsDistinct (ranked places)
 places_once i places order =
-    pairs_from_apart (ranked places) (apart_reverse (ranked places) (subst Apart (front_of_places places) (apart_from_pairs (front (entries_of places)) order.ordering.certificate.once)))
+    pairs_from_apart (ranked places)
+    (apart_reverse (ranked places) (subst Apart (front_of_places places) (apart_from_pairs (front (entries_of places)) order.ordering.certificate.once)))
 
 pub place_is_of : (i : Instance) (places : List Place) → IsOrder i places → (c : ℕ) → Contains (ranked places) c → Contains i.coflows c
 place_is_of i places order c has =
-    All-contains (Contains i.coflows) (front (entries_of places)) c order.ordering.certificate.coflow (subst (λ l. Contains l c) (sym (front_of_places places)) (into_reverse (ranked places) c has))
+    All-contains (Contains i.coflows) (front (entries_of places)) c order.ordering.certificate.coflow
+    (subst (λ l. Contains l c) (sym (front_of_places places)) (into_reverse (ranked places) c has))
 
 coflow_in : (places : List Place) (k : ℕ) (d : Place) → k < length places → Contains (ranked places) (get_or places k d).coflow
 coflow_in [] k d lt = absurd (omega arith)
@@ -67,24 +70,33 @@ pub present_is_marked : (present : List Bool) (c : ℕ) → Contains (present_co
 present_is_marked present c has =
     let (in', marked) = filter_in (is_present present) (range_with_len 0 (length present)) c has in (omega (arith, number_below 0 (length present) c in'), marked)
 
-pub each_within : (i : Instance) (places : List Place) (present : List Bool) → IsOrder i places → i.coflows ≡ present_coflows present → All (λ (x : Place). x.coflow < length present) places
+pub each_within : (i : Instance) (places : List Place) (present : List Bool) → IsOrder i places → i.coflows ≡ present_coflows present →
+    All (λ (x : Place). x.coflow < length present) places
 each_within i places present order is k d lt =
-    (present_is_marked present (get_or places k d).coflow (subst (λ l. Contains l (get_or places k d).coflow) is (place_is_of i places order (get_or places k d).coflow (coflow_in places k d lt)))).0
+    (present_is_marked present (get_or places k d).coflow
+    (subst (λ l. Contains l (get_or places k d).coflow) is (place_is_of i places order (get_or places k d).coflow (coflow_in places k d lt)))).0
 
 pub places_few : (i : Instance) (places : List Place) (present : List Bool) → IsOrder i places → i.coflows ≡ present_coflows present → length places ≤ length present
 places_few i places present order is =
-    omega (arith, ranked_len places, joined_few (ranked places) (length present) (places_once i places order) (places_within places (length present) (each_within i places present order is)))
+    omega (
+      arith,
+      ranked_len places,
+      joined_few (ranked places) (length present) (places_once i places order) (places_within places (length present) (each_within i places present order is)),
+    )
 
 -- what is left of the marked coflows
 abbrev pub left_of : List Flow → List ℕ → List ℕ → List Bool → ℕ → Instance
-left_of flows left weights present ports = record { coflows = present_coflows present; weight = λ c. slice_index weights c; ports = ports; flows = with_units (λ f. slice_index left f) flows }
+left_of flows left weights present ports =
+    record { coflows = present_coflows present; weight = λ c. slice_index weights c; ports = ports; flows = with_units (λ f. slice_index left f) flows }
 
 pub left_itself : (flows : List Flow) (left weights : List ℕ) (present : List Bool) (ports : ℕ) → IsLeft (left_of flows left weights present ports) flows left weights present ports
 left_itself flows left weights present ports = record { coflows_are = refl; ports_are = refl; weight = λ c has. refl; load = λ c port has. refl }
 
 -- the table that was filled with what is left is that of the instance
-pub filled_is_left : (i : Instance) (flows : List Flow) (left weights : List ℕ) (present : List Bool) (old new : LoadTable) → IsLeft i flows left weights present old.ports → IsSameSize old new → length present ≡ old.coflows →
-    ((c : ℕ) (port : Port) → c < old.coflows → port.number < old.ports → is_present present c ≡ true → load_at new c port ≡ load (with_units (λ f. slice_index left f) flows) c port) → IsOf i new weights present
+pub filled_is_left : (i : Instance) (flows : List Flow) (left weights : List ℕ) (present : List Bool) (old new : LoadTable) → IsLeft i flows left weights present old.ports →
+    IsSameSize old new → length present ≡ old.coflows →
+    ((c : ℕ) (port : Port) → c < old.coflows → port.number < old.ports → is_present present c ≡ true →
+    load_at new c port ≡ load (with_units (λ f. slice_index left f) flows) c port) → IsOf i new weights present
 filled_is_left i flows left weights present old new h size len filled = record {
   coflows = h.coflows_are;
   ports = h.ports_are ∙ sym size.ports;
@@ -95,8 +107,11 @@ filled_is_left i flows left weights present old new h size len filled = record {
 }
 
 -- the order that is made from the filled table, for one of the instances that it is made for
-pub order_is_made : (flows : List Flow) (left weights : List ℕ) (present : List Bool) (old new : LoadTable) (places : List Place) → ((i : Instance) → IsOf i new weights present → IsOrder i places) → IsSameSize old new → length present ≡ old.coflows →
-    ((c : ℕ) (port : Port) → c < old.coflows → port.number < old.ports → is_present present c ≡ true → load_at new c port ≡ load (with_units (λ f. slice_index left f) flows) c port) →
+pub order_is_made : (flows : List Flow) (left weights : List ℕ) (present : List Bool) (old new : LoadTable) (places : List Place) →
+    ((i : Instance) → IsOf i new weights present → IsOrder i places) → IsSameSize old new → length present ≡ old.coflows →
+    ((c : ℕ) (port : Port) → c < old.coflows → port.number < old.ports → is_present present c ≡ true →
+    load_at new c port ≡ load (with_units (λ f. slice_index left f) flows) c port) →
     IsOrder (left_of flows left weights present old.ports) places
 order_is_made flows left weights present old new places run size len filled =
-    run (left_of flows left weights present old.ports) (filled_is_left (left_of flows left weights present old.ports) flows left weights present old new (left_itself flows left weights present old.ports) size len filled)
+    run (left_of flows left weights present old.ports)
+    (filled_is_left (left_of flows left weights present old.ports) flows left weights present old new (left_itself flows left weights present old.ports) size len filled)

@@ -17,13 +17,15 @@ pub record RanksSoFar (xs ranks : List ℕ) (n : ℕ) : Type 0 where
   pub there : (k : ℕ) → k < n → get_or ranks (get_or xs k 0) 0 ≡ k + 1
   pub none : (c : ℕ) → c < length ranks → ((k : ℕ) → k < n → get_or xs k 0 ≡ c → ⊥) → get_or ranks c 0 ≡ 0
 
-pub ranks_more : (xs ranks : List ℕ) (n x : ℕ) → RanksSoFar xs ranks n → IsDistinct xs → n < length xs → get_or xs n 0 ≡ x → x < length ranks → RanksSoFar xs (slice_set ranks x (n + 1)) (n + 1)
+pub ranks_more : (xs ranks : List ℕ) (n x : ℕ) → RanksSoFar xs ranks n → IsDistinct xs → n < length xs → get_or xs n 0 ≡ x → x < length ranks →
+    RanksSoFar xs (slice_set ranks x (n + 1)) (n + 1)
 ranks_more xs ranks n x h once lt is in' = record {
   there = λ k below. elim (cases_lt k n) [
     | inl before ↦ get_or-set_other ranks x (get_or xs k 0) (n + 1) 0 (λ e. once k n 0 before lt (e ∙ sym is)) ∙ h.there k before
     | inr upto ↦
         let same : k ≡ n = omega (arith, below, upto) in
-        ap (λ i. get_or (slice_set ranks x (n + 1)) (get_or xs i 0) 0) same ∙ ap (λ y. get_or (slice_set ranks x (n + 1)) y 0) is ∙ get_or-set_same ranks x (n + 1) 0 in' ∙ ap (λ i. i + 1) (sym same)
+        ap (λ i. get_or (slice_set ranks x (n + 1)) (get_or xs i 0) 0) same ∙ ap (λ y. get_or (slice_set ranks x (n + 1)) y 0) is ∙ get_or-set_same ranks x (n + 1) 0 in' ∙
+        ap (λ i. i + 1) (sym same)
   ];
   none = λ c low apart.
       get_or-set_other ranks x c (n + 1) 0 (λ e. apart n (omega arith) (is ∙ sym e))

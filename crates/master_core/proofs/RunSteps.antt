@@ -18,7 +18,8 @@ some_not_none : (granted : List ℕ) (g : ℕ) → Contains granted g → grante
 some_not_none granted g in' e = nothing_in g (subst (λ l. Contains l g) e in')
 
 -- the least units left, what was asked and the slots that remain give the length of the run
-pub least_is : (left : ℕ → ℕ) (granted : List ℕ) (n most room g : ℕ) → IsLeastLeft left granted n → Contains granted g → min (min n most) room ≡ least_of left granted (min most room)
+pub least_is : (left : ℕ → ℕ) (granted : List ℕ) (n most room g : ℕ) → IsLeastLeft left granted n → Contains granted g →
+    min (min n most) room ≡ least_of left granted (min most room)
 least_is left granted n most room g least in' =
     let m = min most room in
     let short : IsRunLength left granted m (min (min n most) room) = record {

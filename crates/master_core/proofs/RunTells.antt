@@ -58,9 +58,11 @@ short_told flows ports None None p units t = refl
 short_told flows ports None (Some x) p units t = absurd t
 short_told flows ports (Some r) None p units t = absurd t
 short_told flows ports (Some r) (Some x) p units t =
-    noted_by r p units (grant_in flows r.granted p) ∙ ap (λ g. reply_for p (note_of r.slots units g)) (grant_told flows r.granted x.at p t.at) ∙ ap (λ n. reply_for p (note_of n units (flow_at_ingress x.at p))) (sym t.slots)
+    noted_by r p units (grant_in flows r.granted p) ∙ ap (λ g. reply_for p (note_of r.slots units g)) (grant_told flows r.granted x.at p t.at) ∙
+    ap (λ n. reply_for p (note_of n units (flow_at_ingress x.at p))) (sym t.slots)
 
-note_kept : (flows : List Flow) (ports : ℕ) (r : Run) (x : KeptRun) (p n : ℕ) → p < ports → TellsOpen flows ports r x → TellsOpen flows ports (record r { notes = (p, n) ∷ r.notes }) (record x { noted = slice_set x.noted p (Some n) })
+note_kept : (flows : List Flow) (ports : ℕ) (r : Run) (x : KeptRun) (p n : ℕ) → p < ports → TellsOpen flows ports r x →
+    TellsOpen flows ports (record r { notes = (p, n) ∷ r.notes }) (record x { noted = slice_set x.noted p (Some n) })
 note_kept flows ports r x p n lt t = record {
   first = t.first;
   slots = t.slots;
@@ -75,7 +77,8 @@ note_kept flows ports r x p n lt t = record {
   ];
 }
 
-pub run_noted : (flows : List Flow) (ports : ℕ) (r : Option Run) (x : Option KeptRun) (p n : ℕ) → p < ports → TellsRun flows ports r x → TellsRun flows ports (noted_in r p n) (with_note x p (Some n))
+pub run_noted : (flows : List Flow) (ports : ℕ) (r : Option Run) (x : Option KeptRun) (p n : ℕ) → p < ports → TellsRun flows ports r x →
+    TellsRun flows ports (noted_in r p n) (with_note x p (Some n))
 run_noted flows ports None None p n lt t = t
 run_noted flows ports None (Some x) p n lt t = absurd t
 run_noted flows ports (Some r) None p n lt t = absurd t
@@ -103,12 +106,14 @@ set_within : (noted : List (Option ℕ)) (slots p n q : ℕ) → n ≤ slots →
 set_within noted slots p n q le old = elim (cases_eq q p) [
   | inl e ↦ elim (cases_lt p (length noted)) [
     | inl lt ↦ subst (λ o. unwrap_or o slots ≤ slots) (sym (ap (note_at (slice_set noted p (Some n))) e ∙ get_or-set_same noted p (Some n) None lt)) le
-    | inr ge ↦ subst (λ o. unwrap_or o slots ≤ slots) (sym (get_or-eq_default (slice_set noted p (Some n)) None {n = q} (omega (arith, length-set noted p (Some n), e, ge)))) (omega arith)
+    | inr ge ↦ subst (λ o. unwrap_or o slots ≤ slots) (sym (get_or-eq_default (slice_set noted p (Some n)) None {n = q} (omega (arith, length-set noted p (Some n), e, ge))))
+        (omega arith)
   ]
   | inr ne ↦ subst (λ o. unwrap_or o slots ≤ slots) (sym (get_or-set_other noted p q (Some n) None ne)) old
 ]
 
-pub fits_noted : (flows : List Flow) (owed : List ℕ) (x : Option KeptRun) (p units n : ℕ) → FitsOpen flows owed x → number_noted x p units ≡ Some n → FitsOpen flows owed (with_note x p (Some n))
+pub fits_noted : (flows : List Flow) (owed : List ℕ) (x : Option KeptRun) (p units n : ℕ) → FitsOpen flows owed x → number_noted x p units ≡ Some n →
+    FitsOpen flows owed (with_note x p (Some n))
 fits_noted flows owed None p units n h e = h
 fits_noted flows owed (Some x) p units n h e = record {
   ends = h.ends;

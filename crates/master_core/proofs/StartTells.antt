@@ -21,7 +21,8 @@ units_listed [] f = refl
 units_listed (x ∷ xs) zero = refl
 units_listed (x ∷ xs) (suc f) = units_listed xs f
 
-pub start_told : (o : Opening) (x : Standing) → x.roster.joined ≡ [] → ((c : ℕ) → marked x.roster.present c ≡ false) → x.weights.items ≡ o.weights → x.orders.version ≡ 0 → x.orders.places ≡ [] → x.ledger.owed ≡ map (λ (f : Flow). f.units) o.table.flows →
+pub start_told : (o : Opening) (x : Standing) → x.roster.joined ≡ [] → ((c : ℕ) → marked x.roster.present c ≡ false) → x.weights.items ≡ o.weights → x.orders.version ≡ 0 →
+    x.orders.places ≡ [] → x.ledger.owed ≡ map (λ (f : Flow). f.units) o.table.flows →
     x.runs.run ≡ None → x.next ≡ 1 → Tells o (start o) x
 start_told o x joined present weights version places owes run next = record {
   coflows = record { joined_is = joined; present_is = present; gone = λ c e. absurd (true≢false (sym e)) };
@@ -32,8 +33,10 @@ start_told o x joined present weights version places owes run next = record {
   next = next;
 }
 
-pub start_fits : (o : Opening) (x : Standing) → IsOpening o → length x.roster.present ≡ length o.table.ids → x.weights.items ≡ o.weights → x.orders.coflows ≡ length o.table.ids → x.orders.ports ≡ o.table.ports → length o.table.ids + length o.table.ids ≤ x.line.room →
-    x.ledger.units ≡ map (λ (f : Flow). f.units) o.table.flows → x.ledger.owed ≡ x.ledger.units → IsOwed o.table.flows x.owing → x.owing.left ≡ map (λ (f : Flow). f.units) o.table.flows → length x.owing.of_coflow ≡ length o.table.ids →
+pub start_fits : (o : Opening) (x : Standing) → IsOpening o → length x.roster.present ≡ length o.table.ids → x.weights.items ≡ o.weights → x.orders.coflows ≡ length o.table.ids →
+    x.orders.ports ≡ o.table.ports → length o.table.ids + length o.table.ids ≤ x.line.room →
+    x.ledger.units ≡ map (λ (f : Flow). f.units) o.table.flows → x.ledger.owed ≡ x.ledger.units → IsOwed o.table.flows x.owing →
+    x.owing.left ≡ map (λ (f : Flow). f.units) o.table.flows → length x.owing.of_coflow ≡ length o.table.ids →
     x.runs.ports ≡ o.table.ports → x.runs.run ≡ None → x.next ≡ 1 → IsFit o x
 start_fits o x ok present weights coflows ports room units owes owed left sums sides run next = record {
   opening = ok;

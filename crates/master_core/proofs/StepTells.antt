@@ -29,7 +29,8 @@ range_told o (Short port units) h = lt-ltb port o.table.ports h
 range_told o Close h = refl
 range_told o (Skip to) h = refl
 range_told o (Reweigh c w) h =
-    and_from (nat_lt c (length o.table.ids)) (nat_lt 0 w && nat_le w (2 ^ 32)) (lt-ltb c (length o.table.ids) h.0) (and_from (nat_lt 0 w) (nat_le w (2 ^ 32)) (lt-ltb 0 w h.1) (le-leb w (2 ^ 32) h.2))
+    and_from (nat_lt c (length o.table.ids)) (nat_lt 0 w && nat_le w (2 ^ 32)) (lt-ltb c (length o.table.ids) h.0)
+    (and_from (nat_lt 0 w) (nat_le w (2 ^ 32)) (lt-ltb 0 w h.1) (le-leb w (2 ^ 32) h.2))
 
 one_most : (b : Bool) → (if b then 1 else 0) ≤ 1
 one_most true = omega arith
@@ -46,12 +47,14 @@ answered o journal k lt = ap (λ (b : Bool). if b then Full (length journal) els
 pub not_full : (o : Opening) (journal : List Entry) (k : Command) → length journal < room o k → is_full (reply_of o journal k) ≡ false
 not_full o journal k lt = full_is o journal k ∙ lt-leb (room o k) (length journal) lt
 
-pub journal_is : (o : Opening) (journal new : List Entry) (who : ℕ) (k : Command) (r : Reply) → length journal < room o k → r ≡ answer o (state_of o journal) k → new ≡ journal ++ entry who k r ∷ [] → new ≡ journal_after o journal who k
+pub journal_is : (o : Opening) (journal new : List Entry) (who : ℕ) (k : Command) (r : Reply) → length journal < room o k → r ≡ answer o (state_of o journal) k →
+    new ≡ journal ++ entry who k r ∷ [] → new ≡ journal_after o journal who k
 journal_is o journal new who k r lt is more =
     more ∙ ap (λ (x : Reply). journal ++ entry who k x ∷ []) (is ∙ sym (answered o journal k lt))
     ∙ ap (λ l. journal ++ l) (sym (ap (λ (b : Bool). if b then [] else entry who k (reply_of o journal k) ∷ []) (not_full o journal k lt)))
 
-pub master_goes_on : (o : Opening) (journal new : List Entry) (capacity capacity' : ℕ) (x y : Standing) (who : ℕ) (k : Command) (r : Reply) → IsMaster o journal capacity x → IsInRange o k → length journal < room o k → Follows o k x r y → new ≡ journal ++ entry who k r ∷ [] →
+pub master_goes_on : (o : Opening) (journal new : List Entry) (capacity capacity' : ℕ) (x y : Standing) (who : ℕ) (k : Command) (r : Reply) → IsMaster o journal capacity x →
+    IsInRange o k → length journal < room o k → Follows o k x r y → new ≡ journal ++ entry who k r ∷ [] →
     capacity' ≡ capacity → IsMaster o new capacity' y
 master_goes_on o journal new capacity capacity' x y who k r h range lt f more same =
     let s = state_of o journal in

@@ -27,7 +27,8 @@ use Rattle.master_core.proofs.Bools.{and_false}
 use Rattle.master_core.proofs.Members.{has_last, has_more, has_other}
 
 -- the reply is the answer, and what is kept tells the state after it
-pub follows : (o : Opening) (k : Command) (old : Standing) (r : Reply) (new : Standing) → IsFit o new → ((s : State) → Tells o s old → (answer o s k ≡ r) × Tells o (after o s k r) new) → Follows o k old r new
+pub follows : (o : Opening) (k : Command) (old : Standing) (r : Reply) (new : Standing) → IsFit o new →
+    ((s : State) → Tells o s old → (answer o s k ≡ r) × Tells o (after o s k r) new) → Follows o k old r new
 follows o k old r new fit f = record {
   reply_is = λ s t. sym (f s t).0;
   state_is = λ s t. subst (λ (x : Reply). Tells o (after o s k x) new) (sym (f s t).0) (f s t).1;
@@ -43,7 +44,8 @@ not_gone joined left c gone away = elim (cases_Bool (has left c)) [
   | inr f ↦ f
 ]
 
-pub coflow_joins : (n : ℕ) (joined left : List ℕ) (old new : Attendance) (c : ℕ) → TellsCoflows joined left old → length old.present ≡ n → c < n → has joined c ≡ false → new.joined ≡ old.joined ++ c ∷ [] → new.present ≡ slice_set old.present c true →
+pub coflow_joins : (n : ℕ) (joined left : List ℕ) (old new : Attendance) (c : ℕ) → TellsCoflows joined left old → length old.present ≡ n → c < n → has joined c ≡ false →
+    new.joined ≡ old.joined ++ c ∷ [] → new.present ≡ slice_set old.present c true →
     TellsCoflows (joined ++ c ∷ []) left new
 coflow_joins n joined left old new c h len lt away j p = record {
   joined_is = j ∙ ap (λ l. l ++ c ∷ []) h.joined_is;
@@ -56,7 +58,8 @@ coflow_joins n joined left old new c h len lt away j p = record {
   gone = λ x e. has_more joined c x (h.gone x e);
 }
 
-pub coflow_leaves : (n : ℕ) (joined left : List ℕ) (old new : Attendance) (c : ℕ) → TellsCoflows joined left old → length old.present ≡ n → c < n → has joined c ≡ true → new.joined ≡ old.joined → new.present ≡ slice_set old.present c false →
+pub coflow_leaves : (n : ℕ) (joined left : List ℕ) (old new : Attendance) (c : ℕ) → TellsCoflows joined left old → length old.present ≡ n → c < n → has joined c ≡ true →
+    new.joined ≡ old.joined → new.present ≡ slice_set old.present c false →
     TellsCoflows joined (left ++ c ∷ []) new
 coflow_leaves n joined left old new c h len lt there j p = record {
   joined_is = j ∙ h.joined_is;
@@ -98,19 +101,22 @@ fits_roster o x roster h len = record {
 
 -- ---- answers
 
-pub pull_told : (o : Opening) (s : State) (x : Standing) (c v r : ℕ) → Tells o s x → v ≡ x.orders.version → r ≡ rank_in (ranked x.orders.places) c → answer o s (Pull c) ≡ pulled v r
+pub pull_told : (o : Opening) (s : State) (x : Standing) (c v r : ℕ) → Tells o s x → v ≡ x.orders.version → r ≡ rank_in (ranked x.orders.places) c →
+    answer o s (Pull c) ≡ pulled v r
 pull_told o s x c v r t ev er =
     ap (λ n. pulled n (rank_in (newest_in s.published) c)) (sym t.orders.version_is ∙ sym ev) ∙ ap (λ l. pulled v (rank_in l c)) (sym t.orders.order_is) ∙ ap (pulled v) (sym er)
 
 -- ---- weights
 
-pub weighed : (n : ℕ) (weight : ℕ → ℕ) (weights : List ℕ) (c w : ℕ) → c < length weights → ((x : ℕ) → x < n → get_or weights x 0 ≡ weight x) → (x : ℕ) → x < n → get_or (slice_set weights c w) x 0 ≡ (if x == c then w else weight x)
+pub weighed : (n : ℕ) (weight : ℕ → ℕ) (weights : List ℕ) (c w : ℕ) → c < length weights → ((x : ℕ) → x < n → get_or weights x 0 ≡ weight x) → (x : ℕ) → x < n →
+    get_or (slice_set weights c w) x 0 ≡ (if x == c then w else weight x)
 weighed n weight weights c w lt h x low = elim (cases_eq x c) [
   | inl e ↦ ap (λ y. get_or (slice_set weights c w) y 0) e ∙ get_or-set_same weights c w 0 lt ∙ sym (ap (λ (b : Bool). if b then w else weight x) (eq-eqb x c e))
   | inr ne ↦ get_or-set_other weights c x w 0 ne ∙ h x low ∙ sym (ap (λ (b : Bool). if b then w else weight x) (ne_eqb x c ne))
 ]
 
-pub fits_weights : (o : Opening) (x : Standing) (weights : Vec ℕ Global) (c w : ℕ) → IsFit o x → weights.items ≡ slice_set x.weights.items c w → w ≤ 2 ^ 32 → IsFit o (record x { weights = weights })
+pub fits_weights : (o : Opening) (x : Standing) (weights : Vec ℕ Global) (c w : ℕ) → IsFit o x → weights.items ≡ slice_set x.weights.items c w → w ≤ 2 ^ 32 →
+    IsFit o (record x { weights = weights })
 fits_weights o x weights c w h is le = record {
   opening = h.opening;
   present_len = h.present_len;
@@ -131,7 +137,8 @@ fits_weights o x weights c w h is le = record {
 
 -- ---- runs
 
-pub fits_runs : (o : Opening) (x : Standing) (runs : KeptRuns) → IsFit o x → runs.ports ≡ x.runs.ports → FitsOpen o.table.flows x.ledger.owed runs.run → IsFit o (record x { runs = runs })
+pub fits_runs : (o : Opening) (x : Standing) (runs : KeptRuns) → IsFit o x → runs.ports ≡ x.runs.ports → FitsOpen o.table.flows x.ledger.owed runs.run →
+    IsFit o (record x { runs = runs })
 fits_runs o x runs h same fits = record {
   opening = h.opening;
   present_len = h.present_len;
@@ -169,8 +176,10 @@ fits_next o x next h le = record {
   next_ends = le;
 }
 
-pub fits_closed : (o : Opening) (x : Standing) (ledger : Accounts) (owing : Owed) (runs : KeptRuns) (next : ℕ) → IsFit o x → ledger.units ≡ x.ledger.units → IsOwed o.table.flows owing → owing.left ≡ ledger.owed →
-    length owing.of_coflow ≡ length x.owing.of_coflow → runs.ports ≡ x.runs.ports → runs.run ≡ None → next ≤ slot_end → IsFit o (record x { ledger = ledger; owing = owing; runs = runs; next = next })
+pub fits_closed : (o : Opening) (x : Standing) (ledger : Accounts) (owing : Owed) (runs : KeptRuns) (next : ℕ) → IsFit o x → ledger.units ≡ x.ledger.units →
+    IsOwed o.table.flows owing → owing.left ≡ ledger.owed →
+    length owing.of_coflow ≡ length x.owing.of_coflow → runs.ports ≡ x.runs.ports → runs.run ≡ None → next ≤ slot_end →
+    IsFit o (record x { ledger = ledger; owing = owing; runs = runs; next = next })
 fits_closed o x ledger owing runs next h units owed left sums ports none le = record {
   opening = h.opening;
   present_len = h.present_len;
@@ -189,7 +198,8 @@ fits_closed o x ledger owing runs next h units owed left sums ports none le = re
   next_ends = le;
 }
 
-pub fits_opened : (o : Opening) (x : Standing) (line : Waiting) (runs : KeptRuns) → IsFit o x → line.room ≡ x.line.room → runs.ports ≡ x.runs.ports → FitsOpen o.table.flows x.ledger.owed runs.run → IsFit o (record x { line = line; runs = runs })
+pub fits_opened : (o : Opening) (x : Standing) (line : Waiting) (runs : KeptRuns) → IsFit o x → line.room ≡ x.line.room → runs.ports ≡ x.runs.ports →
+    FitsOpen o.table.flows x.ledger.owed runs.run → IsFit o (record x { line = line; runs = runs })
 fits_opened o x line runs h room ports fits = record {
   opening = h.opening;
   present_len = h.present_len;
@@ -208,7 +218,8 @@ fits_opened o x line runs h room ports fits = record {
   next_ends = h.next_ends;
 }
 
-pub fits_orders : (o : Opening) (x : Standing) (orders : Published) → IsFit o x → orders.coflows ≡ x.orders.coflows → orders.ports ≡ x.orders.ports → IsFit o (record x { orders = orders })
+pub fits_orders : (o : Opening) (x : Standing) (orders : Published) → IsFit o x → orders.coflows ≡ x.orders.coflows → orders.ports ≡ x.orders.ports →
+    IsFit o (record x { orders = orders })
 fits_orders o x orders h coflows ports = record {
   opening = h.opening;
   present_len = h.present_len;

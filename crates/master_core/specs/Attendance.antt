@@ -13,7 +13,8 @@ pub record Attendance : Type 0 where
 abbrev pub marked : List Bool → ℕ → Bool
 marked marks number = slice_index_or marks number false
 
--- each coflow that joined stands once and is marked as seen, there is room for all coflows, and only such ones are present
+-- each coflow that joined stands once and is marked as seen, there is room for all coflows, and only such ones are
+-- present
 pub record IsAttendance (joined : List ℕ) (seen present : List Bool) (room : ℕ) : Type 0 where
   pub has_room : length present ≤ room
   pub seen_len : length seen ≡ length present

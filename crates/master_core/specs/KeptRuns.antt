@@ -12,4 +12,5 @@ KeepsCount scratch (Some x) = x.count ≡ length scratch.flows
 -- where a run is open, its grants are those that were made last
 abbrev pub kept_run : Grants → List (Option ℕ) → Option OpenRun → Option KeptRun
 kept_run scratch noted None = None
-kept_run scratch noted (Some x) = Some (record { first = x.first; slots = x.slots; granted = scratch.flows; at = scratch.at; noted = noted })
+kept_run scratch noted (Some x) =
+    Some (record { first = x.first; slots = x.slots; granted = scratch.flows; at = scratch.at; noted = noted })

@@ -13,7 +13,8 @@ pub record MasterFacts : Type 0 where
   pub opening : Opening
   pub journal : List Entry
 
--- The journal is legal, its commands are in range, and there is room for the entries that it may get. What is kept tells the state after it.
+-- The journal is legal, its commands are in range, and there is room for the entries that it may get. What is kept
+-- tells the state after it.
 pub record IsMaster (o : Opening) (journal : List Entry) (capacity : ℕ) (x : Standing) : Type 0 where
   pub legal : IsLegal o journal
   pub in_range : InRange o journal

@@ -1,5 +1,6 @@
 -- The open run as it is kept: with a table of the granted flow and of the note of each ingress.
-use Rattle.std.specs.Prelude.{◌≡◌, ℕ, ◌+◌, ◌-◌, ◌<◌, ◌≤◌, min, if◌then◌else◌, List, [], All, length, slice_index, slice_set, Option, Some, None, unwrap_or}
+use Rattle.std.specs.Prelude.{◌≡◌, ℕ, ◌+◌, ◌-◌, ◌<◌, ◌≤◌, min, if◌then◌else◌, List, [], All, length, slice_index}
+use Rattle.std.specs.Prelude.{slice_set, Option, Some, None, unwrap_or}
 use Rattle.std.specs.List.{slice_index_or}
 use Rattle.std.specs.List.Sorted.{IsStrictlyIncreasing}
 use Rattle.coflow_units.specs.declared.fabric.Flow.{Flow}
@@ -9,7 +10,8 @@ use Rattle.greedy_rates.specs.Room.{TellsIngresses, flow_at_ingress}
 use Rattle.journal.specs.State.{has, slot_end}
 use Rattle.journal.specs.Runs.{least_of}
 
--- the first slot, how many slots there are, the granted flows, and for each ingress the granted flow there and what was noted last
+-- the first slot, how many slots there are, the granted flows, and for each ingress the granted flow there and what was
+-- noted last
 pub record KeptRun : Type 0 where
   pub first : ℕ
   pub slots : ℕ
@@ -26,8 +28,10 @@ pub record KeptRuns : Type 0 where
 abbrev pub note_at : List (Option ℕ) → ℕ → Option ℕ
 note_at noted ingress = slice_index_or noted ingress None
 
--- the run grants the flows of the slot for as long as they can stay so, at most for so many slots and up to the last one, and nothing is noted
-pub record IsBegun (flows : List Flow) (ports : ℕ) (line : List ℕ) (left : ℕ → ℕ) (first most : ℕ) (r : KeptRun) : Type 0 where
+-- the run grants the flows of the slot for as long as they can stay so, at most for so many slots and up to the last
+-- one, and nothing is noted
+pub record IsBegun (flows : List Flow) (ports : ℕ) (line : List ℕ) (left : ℕ → ℕ) (first most : ℕ) (r : KeptRun) : Type
+    0 where
   pub first_is : r.first ≡ first
   pub slots_is : r.slots ≡ least_of left r.granted (min most (slot_end - first))
   pub grants : IsGrants flows line left r.granted
@@ -68,12 +72,14 @@ with_note (Some r) ingress (Some n) = Some (record r { noted = slice_set r.noted
 
 -- the units that are credited to a flow: where it is granted, the number noted at its ingress, or one for each slot
 abbrev pub credit_of : List Flow → List ℕ → List (Option ℕ) → ℕ → ℕ → ℕ
-credit_of flows granted noted slots f = if has granted f then unwrap_or (note_at noted (ingress_of flows f)) slots else 0
+credit_of flows granted noted slots f =
+    if has granted f then unwrap_or (note_at noted (ingress_of flows f)) slots else 0
 
 abbrev pub kept_credit : List Flow → KeptRun → ℕ → ℕ
 kept_credit flows r f = credit_of flows r.granted r.noted r.slots f
 
--- The flows of the open run are the table's, each once, and each owes a unit for each slot; no note is above its length.
+-- The flows of the open run are the table's, each once, and each owes a unit for each slot; no note is above its
+-- length.
 pub record FitsRun (flows : List Flow) (owed : List ℕ) (r : KeptRun) : Type 0 where
   pub ends : r.first + r.slots ≤ slot_end
   pub ascending : IsStrictlyIncreasing r.granted

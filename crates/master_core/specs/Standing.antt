@@ -1,5 +1,7 @@
 -- What is kept beside a journal, so as not to read it again, and what it tells of the state.
-use Rattle.std.specs.Prelude.{◌≡◌, ℕ, ◌+◌, ◌^◌, ◌<◌, ◌≤◌, ◌&&◌, Bool, true, false, not, nat_lt, List, All, Contains, length, map, slice_index, Option, Some, None}
+use Rattle.std.specs.Prelude.{◌≡◌, ℕ, ◌+◌, ◌^◌, ◌<◌, ◌≤◌, ◌&&◌, Bool, true, false, not, nat_lt, List, All, Contains}
+use Rattle.std.specs.Prelude.{length, map, slice_index, Option, Some, None}
+use Rattle.coflow_units.specs.declared.limits.TheConstants.{MAX_WEIGHT}
 use Rattle.coflow_units.specs.declared.fabric.Flow.{Flow}
 use Rattle.coflow_units.specs.Flows.{Instance, coflow_of}
 use Rattle.greedy_rates.specs.Owed.{IsOwed}
@@ -70,12 +72,13 @@ pub record Tells (o : Opening) (s : State) (x : Standing) : Type 0 where
   pub run : TellsRun o.table.flows o.table.ports s.run x.runs.run
   pub next : x.next ≡ s.next
 
--- what is kept has the sizes of the opening and numbers within their limits, and the sums of what is owed are those of its flows and of the ledger
+-- what is kept has the sizes of the opening and numbers within their limits, and the sums of what is owed are those of
+-- its flows and of the ledger
 pub record IsFit (o : Opening) (x : Standing) : Type 0 where
   pub opening : IsOpening o
   pub present_len : length x.roster.present ≡ length o.table.ids
   pub weights_len : length x.weights.items ≡ length o.table.ids
-  pub weights_fit : All (λ w. w ≤ 2 ^ 32) x.weights.items
+  pub weights_fit : All (λ w. w ≤ MAX_WEIGHT) x.weights.items
   pub orders_coflows : x.orders.coflows ≡ length o.table.ids
   pub orders_ports : x.orders.ports ≡ o.table.ports
   pub line_room : length o.table.ids + length o.table.ids ≤ x.line.room

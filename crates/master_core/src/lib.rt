@@ -1,4 +1,4 @@
-// The master of one thread: it answers commands one by one, and what it answers is told by its journal alone.
+//! The master of one thread: it answers commands one by one, and what it answers is told by its journal alone.
 #![tactic(auto)]
 
 mod line;

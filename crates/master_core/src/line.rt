@@ -80,7 +80,8 @@ impl Line {
         requires coflows { length roster.now.present ≡ orders.now.coflows }
         requires coflow { All (λ c. c < length roster.now.present) joined.now }
         requires room { length self.old.coflows + length joined.now ≤ self.old.room }
-        ensures line { self.new.coflows ≡ self.old.coflows ++ filter (waits (ranked orders.now.places) roster.now.present) joined.now }
+        ensures line { self.new.coflows ≡ self.old.coflows ++
+            filter (waits (ranked orders.now.places) roster.now.present) joined.now }
         ensures room { self.new.room ≡ self.old.room }
     {
         for coflow in joined {

@@ -1,5 +1,6 @@
 //! The master.
 ghost use Rattle.std.specs.Prelude.{◌≡◌, ℕ, ◌+◌, ◌^◌, ◌<◌, ◌≤◌, ◌&&◌, [], All, IfOk, IsTrue, length, nat_le, nat_lt, slice_index};
+ghost use Rattle.coflow_units.specs.declared.limits.TheConstants.{MAX_PORTS, MAX_WEIGHT};
 ghost use Rattle.coflow_units.specs.declared.plan.Place.{Place};
 ghost use Rattle.coflow_units.specs.Flows.{Instance, IsDistinct};
 ghost use Rattle.bssi_order.specs.Order.{IsOrder};
@@ -51,10 +52,11 @@ impl Master {
         journal_limit: u32,
     ) -> Result<Master, NoMemory>
         requires weights_len { length weights ≡ length table.ids }
-        requires weights_fit { All (λ w. (1 ≤ w) × (w ≤ 2 ^ 32)) weights }
+        requires weights_fit { All (λ w. (1 ≤ w) × (w ≤ MAX_WEIGHT)) weights }
         requires some { 1 ≤ journal_limit }
         requires few { journal_limit ≤ 2 ^ 23 }
-        ensures opening { IfOk result (λ m. m.opening ≡ record { table = table; weights = weights; limit = journal_limit }) }
+        ensures opening { IfOk result
+            (λ m. m.opening ≡ record { table = table; weights = weights; limit = journal_limit }) }
         ensures journal { IfOk result (λ m. m.journal ≡ []) }
     {
         let room = journal_limit as usize + table.ports() as usize + 1;
@@ -176,7 +178,8 @@ impl Master {
     pub fn ranks(&self) -> &[u32]
         ensures len { length result.now ≡ length self.now.opening.table.ids }
         ensures rank { (coflow : ℕ) → coflow < length self.now.opening.table.ids →
-            slice_index result.now coflow ≡ rank_of self.now.opening self.now.journal (version_of self.now.journal) coflow }
+            slice_index result.now coflow ≡ rank_of self.now.opening self.now.journal (version_of self.now.journal)
+            coflow }
     {
         self.standing.orders.ranks()
     }
@@ -228,7 +231,7 @@ fn is_weight(weight: u64) -> bool
 /// Up to how many entries the journal may grow by the command. An open run can be closed after one note for each port, also where other commands find no room.
 fn room_for(opening: &Opening, command: Command) -> usize
     requires few { opening.now.limit ≤ 2 ^ 23 }
-    requires few_ports { opening.now.table.ports ≤ 1025 }
+    requires few_ports { opening.now.table.ports ≤ MAX_PORTS + 1 }
     ensures { result ≡ room opening.now command }
 {
     match command {

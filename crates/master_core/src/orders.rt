@@ -1,5 +1,6 @@
 //! The newest order, and the places that it gives.
 ghost use Rattle.std.specs.Prelude.{◌≡◌, ℕ, ◌+◌, ◌^◌, ◌<◌, ◌≤◌, List, [], All, IfOk, length, slice_index, sum};
+ghost use Rattle.coflow_units.specs.declared.limits.TheConstants.{MAX_COFLOWS, MAX_PORTS, MAX_UNITS, MAX_WEIGHT};
 ghost use Rattle.coflow_units.specs.declared.plan.Place.{Place};
 ghost use Rattle.coflow_units.specs.Flows.{Instance, IsDistinct};
 ghost use Rattle.port_load.specs.LoadTable.{IsWithin};
@@ -30,17 +31,23 @@ impl Model for Orders {
 
     ghost Value = { Published };
 
-    ghost view = { λ s. record { version = s.version; places = s.bssi.places; coflows = s.loads.coflows; ports = s.loads.ports } };
+    ghost view = { λ s. record {
+      version = s.version;
+      places = s.bssi.places;
+      coflows = s.loads.coflows;
+      ports = s.loads.ports;
+    } };
 
-    ghost invariant = { λ s. IsPublished s.bssi.places s.ranks.items s.loads.coflows s.loads.ports s.bssi.room s.loads.coflows s.loads.ports };
+    ghost invariant = { λ s. IsPublished s.bssi.places s.ranks.items s.loads.coflows s.loads.ports s.bssi.room
+        s.loads.coflows s.loads.ports };
 }
 
 impl Orders {
     /// Takes the room for orders of so many coflows, whose flows use so many ports on each side. Nothing is published: the version is 0, and its order is empty.
     pub fn new(alloc: Global, coflows: u32, ports: u32) -> Result<Orders, NoMemory>
-        requires coflows_limit { coflows ≤ 4096 }
+        requires coflows_limit { coflows ≤ MAX_COFLOWS }
         requires has_ports { 1 ≤ ports }
-        requires ports_limit { ports ≤ 1025 }
+        requires ports_limit { ports ≤ MAX_PORTS + 1 }
         ensures version { IfOk result (λ r. r.version ≡ 0) }
         ensures places { IfOk result (λ r. r.places ≡ []) }
         ensures coflows_are { IfOk result (λ r. r.coflows ≡ coflows) }
@@ -64,10 +71,11 @@ impl Orders {
         requires left_len { length left.now ≡ length flows.now }
         requires weights_len { length weights.now ≡ self.old.coflows }
         requires present_len { length present.now ≡ self.old.coflows }
-        requires weights_fit { All (λ w. w ≤ 2 ^ 32) weights.now }
-        requires units { sum left.now ≤ 2 ^ 40 }
+        requires weights_fit { All (λ w. w ≤ MAX_WEIGHT) weights.now }
+        requires units { sum left.now ≤ MAX_UNITS }
         ensures version { self.new.version ≡ self.old.version + 1 }
-        ensures order { (i : Instance) → IsLeft i flows.now left.now weights.now present.now self.old.ports → IsOrder i self.new.places }
+        ensures order { (i : Instance) → IsLeft i flows.now left.now weights.now present.now self.old.ports →
+            IsOrder i self.new.places }
         ensures coflows_are { self.new.coflows ≡ self.old.coflows }
         ensures ports_are { self.new.ports ≡ self.old.ports }
     {
@@ -114,10 +122,11 @@ impl Orders {
 
 /// Gives each coflow its place, counted from 1, and 0 to those without one.
 fn rank_places(ranks: &mut [u32], places: &[Place])
-    requires few { length places.now ≤ 4096 }
+    requires few { length places.now ≤ MAX_COFLOWS }
     requires once { IsDistinct (ranked places.now) }
     requires coflow { All (λ (x : Place). x.coflow < length ranks.old) places.now }
-    ensures { (coflow : ℕ) → coflow < length ranks.old → slice_index ranks.new coflow ≡ rank_in (ranked places.now) coflow }
+    ensures { (coflow : ℕ) → coflow < length ranks.old →
+        slice_index ranks.new coflow ≡ rank_in (ranked places.now) coflow }
 {
     ranks.fill(0);
     for number in 0..places.len() {

@@ -114,10 +114,12 @@ impl Runs {
         requires coflow { All (λ c. c < length table.now.ids) line.now }
         requires owed { IsOwed table.now.flows owing.now }
         requires sums { length owing.now.of_coflow ≡ length table.now.ids }
-        requires some { (f : ℕ) × (f < length table.now.flows) × Contains line.now (coflow_of table.now.flows f) × (0 < slice_index owing.now.left f) }
+        requires some { (f : ℕ) × (f < length table.now.flows) × Contains line.now (coflow_of table.now.flows f) ×
+            (0 < slice_index owing.now.left f) }
         requires in_time { first < slot_end }
         ensures ports { self.new.ports ≡ self.old.ports }
-        ensures begun { (r : KeptRun) × (self.new.run ≡ Some r) × IsBegun table.now.flows self.old.ports line.now (λ f. slice_index owing.now.left f) first most r
+        ensures begun { (r : KeptRun) × (self.new.run ≡ Some r) ×
+            IsBegun table.now.flows self.old.ports line.now (λ f. slice_index owing.now.left f) first most r
             × (result.first ≡ r.first) × (result.slots ≡ r.slots) × (result.count ≡ length r.granted) }
     {
         let granted = grants_owed(
@@ -164,7 +166,8 @@ impl Runs {
         requires units_len { length ledger.old.units ≡ length flows.now }
         requires owed { IsOwed flows.now owing.old }
         requires left { owing.old.left ≡ ledger.old.owed }
-        ensures run { MatchOption result ((self.old.run ≡ None) × (ledger.new ≡ ledger.old)) (λ x. (r : KeptRun) × (self.old.run ≡ Some r) × (x.first ≡ r.first) × (x.slots ≡ r.slots)
+        ensures run { MatchOption result ((self.old.run ≡ None) × (ledger.new ≡ ledger.old))
+            (λ x. (r : KeptRun) × (self.old.run ≡ Some r) × (x.first ≡ r.first) × (x.slots ≡ r.slots)
             × ((f : ℕ) → slice_index ledger.new.owed f + kept_credit flows.now r f ≡ slice_index ledger.old.owed f)) }
         ensures closed { self.new.run ≡ None }
         ensures ports { self.new.ports ≡ self.old.ports }
@@ -210,7 +213,8 @@ fn credit_all(
     ensures owing { IsOwed flows.now owing.new }
     ensures left { owing.new.left ≡ ledger.new.owed }
     ensures sums { length owing.new.of_coflow ≡ length owing.old.of_coflow }
-    ensures owed { (f : ℕ) → slice_index ledger.new.owed f + credit_of flows.now granted.now noted.now slots f ≡ slice_index ledger.old.owed f }
+    ensures owed { (f : ℕ) → slice_index ledger.new.owed f + credit_of flows.now granted.now noted.now slots f ≡
+        slice_index ledger.old.owed f }
 {
     for flow in granted {
         let ingress = flows[*flow as usize].ingress;

@@ -14,8 +14,10 @@ pub fn first_owing(table: &Table, roster: &Roster, owing: &Owing) -> Option<u32>
     requires present_len { length roster.now.present ≡ length table.now.ids }
     requires owed { IsOwed table.now.flows owing.now }
     requires sums { length owing.now.of_coflow ≡ length table.now.ids }
-    ensures { MatchOption result (IsNoneOwing table.now.flows roster.now.present owing.now.left (length table.now.flows))
-        (λ f. (f < length table.now.flows) × (is_owing table.now.flows roster.now.present owing.now.left f ≡ true) × IsNoneOwing table.now.flows roster.now.present owing.now.left f) }
+    ensures { MatchOption result (IsNoneOwing table.now.flows roster.now.present owing.now.left
+        (length table.now.flows))
+        (λ f. (f < length table.now.flows) × (is_owing table.now.flows roster.now.present owing.now.left f ≡ true) ×
+        IsNoneOwing table.now.flows roster.now.present owing.now.left f) }
 {
     let Some(coflow) = first_due(table.coflows(), roster, owing) else {
         return None;
@@ -29,7 +31,8 @@ fn first_due(coflows: u32, roster: &Roster, owing: &Owing) -> Option<u32>
     requires present_len { length roster.now.present ≡ coflows }
     requires sums { length owing.now.of_coflow ≡ coflows }
     ensures { MatchOption result (IsNoneDue roster.now.present owing.now.of_coflow coflows)
-        (λ c. (c < coflows) × (is_due roster.now.present owing.now.of_coflow c ≡ true) × IsNoneDue roster.now.present owing.now.of_coflow c) }
+        (λ c. (c < coflows) × (is_due roster.now.present owing.now.of_coflow c ≡ true) ×
+        IsNoneDue roster.now.present owing.now.of_coflow c) }
 {
     for coflow in 0..coflows {
         if !roster.is_present(coflow) {

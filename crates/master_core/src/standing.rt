@@ -1,5 +1,6 @@
 //! What a master keeps beside its journal, so as not to read it again, and how each command is carried out on it.
 ghost use Rattle.std.specs.Prelude.{◌+◌, ◌^◌, ◌<◌, ◌≤◌, IfOk, length};
+ghost use Rattle.coflow_units.specs.declared.limits.TheConstants.{MAX_WEIGHT};
 ghost use Rattle.journal.specs.State.{IsOpening};
 ghost use Rattle.journal.specs.Fold.{start};
 ghost use Rattle.journal.specs.Answer.{IsInRange};
@@ -203,7 +204,7 @@ impl Standing {
     fn reweigh(&mut self, opening: &Opening, coflow: u32, weight: u64) -> Reply
         requires fit { IsFit opening.now self.old }
         requires coflow_in { coflow < length opening.now.table.ids }
-        requires weight_fits { weight ≤ 2 ^ 32 }
+        requires weight_fits { weight ≤ MAX_WEIGHT }
         ensures { Follows opening.now (Reweigh coflow weight) self.old result self.new }
     {
         if !self.roster.is_present(coflow) {

@@ -146,8 +146,10 @@ freed ports g at waits more port r k b low some e pushed =
         one,
       );
       stays = pushed.keeps;
-      first = λ q lq is. let same : q ≡ r = sym is ∙ e in subst (λ x. (g.first x ≡ port) ⊎ Contains more (g.first x)) (sym same) (other_waits_first g more port r touches pushed.has);
-      second = λ q lq is. let same : q ≡ r = sym is ∙ e in subst (λ x. (g.second x ≡ port) ⊎ Contains more (g.second x)) (sym same) (other_waits_second g more port r touches pushed.has);
+      first = λ q lq is. let same : q ≡ r = sym is ∙ e in
+          subst (λ x. (g.first x ≡ port) ⊎ Contains more (g.first x)) (sym same) (other_waits_first g more port r touches pushed.has);
+      second = λ q lq is. let same : q ≡ r = sym is ∙ e in
+          subst (λ x. (g.second x ≡ port) ⊎ Contains more (g.second x)) (sym same) (other_waits_second g more port r touches pushed.has);
       one_more = pushed.one_more;
     }
 
@@ -294,8 +296,10 @@ placed ports g old mid new waits some more h c =
             inr ((lr, in_old), λ m. elim m [ inl x ↦ nf x | inr x ↦ other (sym (ap (λ p. get_or mid p 0) (sym x) ∙ c.between.across r lr in_mid)) ])
       ];
       keeps = λ r (lr, at_r) out.
-          let in_mid = remains ports g old mid waits some (g.first h) (g.first r) r c.first (low r lr) at_r (λ e. out (inl (meets_first ports g old h r k c.board c.known lr (sym e)))) in
-          let in_new = remains ports g mid new some more (g.second h) (g.first r) r c.second (low r lr) in_mid (λ e. out (inr (meets_second ports g mid h r k c.between c.known lr (sym e)))) in (
+          let in_mid = remains ports g old mid waits some (g.first h) (g.first r) r c.first (low r lr) at_r
+          (λ e. out (inl (meets_first ports g old h r k c.board c.known lr (sym e)))) in
+          let in_new = remains ports g mid new some more (g.second h) (g.first r) r c.second (low r lr) in_mid
+          (λ e. out (inr (meets_second ports g mid h r k c.between c.known lr (sym e)))) in (
             lr,
             elim (cells new (g.first h) (g.second h) h (g.first r) lf ls) [
               | inl (inl x, _) ↦ absurd (out (inl x))

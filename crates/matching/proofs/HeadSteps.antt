@@ -156,7 +156,12 @@ ended_heads ports g left lower rank next old new e size re h = record {
       record {
         one = elim e.next_is.one [
           | inl none ↦ inl none
-          | inr (lt, less, a, c) ↦ inr (lt, omega (arith, e.others next (omega (arith, less)), e.behind rank next less lt a c e.owes), touches_as g p rank next a c t.0, touches_as g (opposite ports p k) rank next a c t.1)
+          | inr (lt, less, a, c) ↦ inr (
+            lt,
+            omega (arith, e.others next (omega (arith, less)), e.behind rank next less lt a c e.owes),
+            touches_as g p rank next a c t.0,
+            touches_as g (opposite ports p k) rank next a c t.1,
+          )
         ];
         least = λ r lr some tp tq.
             let (ne, owed) = owed_before ports g left lower rank next r e some in
@@ -170,7 +175,8 @@ ended_heads ports g left lower rank next old new e size re h = record {
     one = elim hd.one [
       | inl none ↦ inl none
       | inr (lt, owed, tp, tq) ↦
-          let ne : head_at ports old p k ≢ rank = λ same. out (subst (λ x. IsBetween ports (g.first x) (g.second x) p k) same (touches_between ports g p k (head_at ports old p k) e.graph lt lk tp tq)) in
+          let ne : head_at ports old p k ≢ rank =
+          λ same. out (subst (λ x. IsBetween ports (g.first x) (g.second x) p k) same (touches_between ports g p k (head_at ports old p k) e.graph lt lk tp tq)) in
           inr (lt, omega (arith, e.others (head_at ports old p k) ne, owed), tp, tq)
     ];
     least = λ r lr some tp tq. hd.least r lr (owed_before ports g left lower rank next r e some).1 tp tq;

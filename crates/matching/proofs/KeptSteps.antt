@@ -138,12 +138,14 @@ pub kept_is_granted : (flows : List Flow) (line : List ℕ) (left : ℕ → ℕ)
 kept_is_granted flows line left ports number g granted waits told l t none k = record {
   ascending = t.ascending;
   flow = all_of_members (λ f. f < length flows) told (λ f has. let (r, is, e) = t.from f has in subst (λ n. n < length flows) e (l.flow r (k.known r is)));
-  in_line = all_of_members (λ f. Contains line (coflow_of flows f)) told (λ f has. let (r, is, e) = t.from f has in subst (λ n. Contains line (coflow_of flows n)) e (l.in_line r (k.known r is)));
+  in_line = all_of_members (λ f. Contains line (coflow_of flows f)) told (λ f has. let (r, is, e) = t.from f has in
+      subst (λ n. Contains line (coflow_of flows n)) e (l.in_line r (k.known r is)));
   owed = λ f has. let (r, is, e) = t.from f has in subst (λ n. 0 < left n) e (k.owed r is);
   free = λ f has (f', has', before, shares).
       let (r, is, e) = t.from f has in
       let (s, is', e') = t.from f' has' in
-      let meets = shares_meets flows line left ports number g s r l (k.known s is') (k.known r is) (subst (λ n. SharesPort flows n (number r)) (sym e') (subst (λ n. SharesPort flows f' n) (sym e) shares)) in
+      let meets = shares_meets flows line left ports number g s r l (k.known s is') (k.known r is)
+      (subst (λ n. SharesPort flows n (number r)) (sym e') (subst (λ n. SharesPort flows f' n) (sym e) shares)) in
       let same : f' ≡ f = sym e' ∙ ap number (k.apart s r is' is meets) ∙ e in
       not_itself flows line f (subst (λ n. ComesBefore flows line n f) same before);
   rest = λ f lt in' some.

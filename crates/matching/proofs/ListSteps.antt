@@ -76,7 +76,8 @@ pub list_takes : (ranks : Ranks) (at : List ℕ) (n count : ℕ) (listed : List 
     get_or at n 0 < ranks.count → count < length listed → IsListing ranks at n (take count listed) →
     IsListing ranks at (n + 1) (take (count + 1) (set listed count (number_of ranks (get_or at n 0))))
 list_takes ranks at n count listed apart side lt few stands room so_far =
-    subst (λ (xs : List ℕ). IsListing ranks at (n + 1) xs) (sym (take_more_set listed count (number_of ranks (get_or at n 0)) room)) (list_grows ranks at n (take count listed) apart side lt few stands so_far)
+    subst (λ (xs : List ℕ). IsListing ranks at (n + 1) xs) (sym (take_more_set listed count (number_of ranks (get_or at n 0)) room))
+    (list_grows ranks at n (take count listed) apart side lt few stands so_far)
 
 -- ---- the same list, sorted
 
@@ -88,7 +89,8 @@ flips x y = elim (cases_eq x y) [
 
 pub sorted_rises : (listed sorted : List ℕ) → IsDistinct listed → IsPermutation listed sorted → IsSorted nat_cmp sorted → IsStrictlyIncreasing sorted
 sorted_rises listed sorted once moved ascends =
-    IsStrictlyIncreasing-from_distinct sorted (IsNonDecreasingBy-from_sort (λ (x : ℕ). x) sorted ascends) (IsDistinct-IsPermutation eqb flips listed sorted moved (IsDistinct-from_AllPairs Decides-eqb listed once))
+    IsStrictlyIncreasing-from_distinct sorted (IsNonDecreasingBy-from_sort (λ (x : ℕ). x) sorted ascends)
+    (IsDistinct-IsPermutation eqb flips listed sorted moved (IsDistinct-from_AllPairs Decides-eqb listed once))
 
 pub written_back : {X : Type 0} (n : ℕ) (new old : List X) → length new ≡ n → take n (new ++ drop (length new) old) ≡ new
 written_back n new old e = grind (arith, common_steps, e)

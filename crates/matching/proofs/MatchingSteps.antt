@@ -55,7 +55,8 @@ listed_told ranks at told k b up l =
 
 pub ranking_fits : (flows : List Flow) (line : List ℕ) (left : ℕ → ℕ) (k n : ℕ) (ranks : Ranks) → IsRanking flows line left k n ranks → ranks.count ≤ length flows
 ranking_fits flows line left k n ranks r =
-    distinct_below (number_of ranks) ranks.count (length flows) r.flow (λ p q less lt same. not_itself flows line (number_of ranks q) (subst (λ x. ComesBefore flows line x (number_of ranks q)) same (r.rises p q less lt)))
+    distinct_below (number_of ranks) ranks.count (length flows) r.flow
+    (λ p q less lt same. not_itself flows line (number_of ranks q) (subst (λ x. ComesBefore flows line x (number_of ranks q)) same (r.rises p q less lt)))
 
 pub ranking_made : (flows : List Flow) (line : List ℕ) (left : ℕ → ℕ) (k n : ℕ) (ranks : Ranks) → length flows < 2 ^ 32 → length flows ≤ length ranks.flows.items →
     All (λ (x : Flow). x.ingress < ranks.ports) flows → All (λ (x : Flow). x.egress < ranks.ports) flows →

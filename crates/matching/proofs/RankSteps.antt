@@ -28,13 +28,16 @@ pub distinct_below : (number : ℕ → ℕ) (count bound : ℕ) → ((r : ℕ) �
 distinct_below number count bound low apart =
     let xs = map number (range_with_len 0 count) in
     let size = length-map-range_with_len number 0 count in
-    let at : (k d : ℕ) → k < count → get_or xs k d ≡ number k = λ k d lt. get_or-map number (range_with_len 0 count) k 0 d (omega (arith, lt, length-range_with_len 0 count)) ∙ ap number (get_or-range_with_len 0 count k 0 lt ∙ omega arith) in
-    let once : IsDistinct xs = λ i j d less lt same. apart i j less (omega (arith, lt, size)) (sym (at i d (omega (arith, less, lt, size))) ∙ same ∙ at j d (omega (arith, lt, size))) in
+    let at : (k d : ℕ) → k < count → get_or xs k d ≡ number k = λ k d lt. get_or-map number (range_with_len 0 count) k 0 d (omega (arith, lt, length-range_with_len 0 count)) ∙
+    ap number (get_or-range_with_len 0 count k 0 lt ∙ omega arith) in
+    let once : IsDistinct xs = λ i j d less lt same.
+    apart i j less (omega (arith, lt, size)) (sym (at i d (omega (arith, less, lt, size))) ∙ same ∙ at j d (omega (arith, lt, size))) in
     let all : All (λ x. x < bound) xs = λ k d lt. let here : k < count = omega (arith, lt, size) in omega (arith, at k d here, low k here) in
     omega (
       arith,
       size,
-      length-le_from_distinct_below xs bound (IsDistinct-from_AllPairs Decides-eqb xs once) (λ q e. let (x, has, same) = any_where (eqb q) xs e in subst (λ n. n < bound) (sym (eqb-true q x same)) (All-contains (λ n. n < bound) xs x all has)),
+      length-le_from_distinct_below xs bound (IsDistinct-from_AllPairs Decides-eqb xs once) (λ q e. let (x, has, same) = any_where (eqb q) xs e in
+          subst (λ n. n < bound) (sym (eqb-true q x same)) (All-contains (λ n. n < bound) xs x all has)),
     )
 
 -- ---- which flows were looked at
@@ -65,7 +68,8 @@ pub has_room : (flows : List Flow) (line : List ℕ) (left : ℕ → ℕ) (k n :
 has_room flows line left k n ranks lt here so_far =
     let numbers = λ (r : ℕ). get_or (set (map (number_of ranks) (range_with_len 0 (ranks.count + 1))) ranks.count n) r 0 in
     let size = length-map-range_with_len (number_of ranks) 0 (ranks.count + 1) in
-    let last : numbers ranks.count ≡ n = get_or-set_at (map (number_of ranks) (range_with_len 0 (ranks.count + 1))) ranks.count ranks.count n 0 (omega arith) (omega (arith, size)) in
+    let last : numbers ranks.count ≡ n =
+    get_or-set_at (map (number_of ranks) (range_with_len 0 (ranks.count + 1))) ranks.count ranks.count n 0 (omega arith) (omega (arith, size)) in
     let old : (r : ℕ) → r < ranks.count → numbers r ≡ number_of ranks r = λ r low.
     get_or-set_other (map (number_of ranks) (range_with_len 0 (ranks.count + 1))) ranks.count r n 0 (omega (arith, low))
     ∙ get_or-map (number_of ranks) (range_with_len 0 (ranks.count + 1)) r 0 0 (omega (arith, low, length-range_with_len 0 (ranks.count + 1)))
@@ -81,7 +85,8 @@ has_room flows line left k n ranks lt here so_far =
       | inr more ↦
           let e : s ≡ ranks.count = omega (arith, low, more) in
           let small : r < ranks.count = omega (arith, less, e) in
-          not_itself flows line n (subst (λ x. ComesBefore flows line x n) (sym (old r small) ∙ same ∙ ap numbers e ∙ last) (in_front flows line k n (number_of ranks r) here (so_far.looked_at r small)))
+          not_itself flows line n (subst (λ x. ComesBefore flows line x n) (sym (old r small) ∙ same ∙ ap numbers e ∙ last)
+          (in_front flows line k n (number_of ranks r) here (so_far.looked_at r small)))
     ]) in
     omega (arith, most)
 
@@ -119,7 +124,8 @@ ranks_next flows line left k n old new x p lt here some so_far = record {
   ];
   looked_at = λ r lr. elim (split r lr) [
     | inl (low, e) ↦ subst (λ (y : Ranked). IsLookedAt flows line k (n + 1) y.number) (sym e) (one_more flows line k n (number_of old r) (so_far.looked_at r low))
-    | inr (_, e) ↦ subst (λ (y : Ranked). IsLookedAt flows line k (n + 1) y.number) (sym e) (subst (λ m. IsLookedAt flows line k (n + 1) m) (sym p.number_is) (inr (here, omega arith)))
+    | inr (_, e) ↦ subst (λ (y : Ranked). IsLookedAt flows line k (n + 1) y.number) (sym e)
+        (subst (λ m. IsLookedAt flows line k (n + 1) m) (sym p.number_is) (inr (here, omega arith)))
   ];
   owed = λ r lr. elim (split r lr) [
     | inl (low, e) ↦ subst (λ (y : Ranked). 0 < left y.number) (sym e) (so_far.owed r low)
@@ -147,7 +153,8 @@ ranks_next flows line left k n old new x p lt here some so_far = record {
   ];
 } where
   last : ranked_at new.flows.items old.count ≡ x
-  last = ap (λ (xs : List Ranked). ranked_at xs old.count) p.items ∙ get_or-set_at old.flows.items old.count old.count x record { first = 0; second = 0; number = 0 } (omega arith) p.room
+  last = ap (λ (xs : List Ranked). ranked_at xs old.count) p.items ∙ get_or-set_at old.flows.items old.count old.count x record { first = 0; second = 0; number = 0 } (omega arith)
+      p.room
 
   kept : (r : ℕ) → r < old.count → ranked_at new.flows.items r ≡ ranked_at old.flows.items r
   kept r low = ap (λ (xs : List Ranked). ranked_at xs r) p.items ∙ get_or-set_other old.flows.items old.count r x record { first = 0; second = 0; number = 0 } (omega (arith, low))

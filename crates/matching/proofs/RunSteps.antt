@@ -255,7 +255,8 @@ run_takes first old new n units k b same low some t s = record {
         omega (arith, not_taken old new rank units r t other, s.taken r st (omega (arith, le, ne)))
   ];
   others = λ r out.
-      let other : r ≢ rank = λ one. out (subst (λ x. Stands (graph_of first.ranks) first.board.at.items x) (sym one) stands) (omega (arith, ap (first_of first.ranks) one, begins_there)) in
+      let other : r ≢ rank = λ one. out (subst (λ x. Stands (graph_of first.ranks) first.board.at.items x) (sym one) stands)
+      (omega (arith, ap (first_of first.ranks) one, begins_there)) in
       not_taken old new rank units r t other ∙ s.others r (λ st le. out st (omega (arith, le)));
 } where
   rank : ℕ

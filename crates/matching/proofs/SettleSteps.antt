@@ -123,7 +123,11 @@ found_rank ports g left heads at port least s low = elim s.looked.found [
           here = here;
           first = lower.0;
           second = lower.1;
-          top = λ r lr some a b. omega (arith, is, (s.table.head port k s.low lk).least r lr some (touches_as g port least r a b here) (touches_as g (opposite ports port k) least r a b there));
+          top = λ r lr some a b. omega (
+            arith,
+            is,
+            (s.table.head port k s.low lk).least r lr some (touches_as g port least r a b here) (touches_as g (opposite ports port k) least r a b there),
+          );
         }
   ]
 ]

@@ -1,5 +1,6 @@
 -- The stack of ports that wait, one port more or less.
-use Rattle.std.proofs.Common.{◌≡◌, ◌≢◌, ℕ, ◌+◌, ◌-◌, ◌≤◌, ◌<◌, inl, inr, Bool, true, false, List, [], ◌∷◌, ◌++◌, length, get_or, set, take, Contains, sym, ap, subst, ◌∙◌, arith, length-set, length-append, Option}
+use Rattle.std.proofs.Common.{◌≡◌, ◌≢◌, ℕ, ◌+◌, ◌-◌, ◌≤◌, ◌<◌, inl, inr, Bool, true, false, List, [], ◌∷◌, ◌++◌, length, get_or, set, take, Contains, sym, ap, subst, ◌∙◌, arith}
+use Rattle.std.proofs.Common.{length-set, length-append, Option}
 use Rattle.std.specs.Prelude.{All}
 use Rattle.std.proofs.Math.Dec.{eqb}
 use Rattle.std.proofs.Math.ListN.{get_or-append}
@@ -8,7 +9,8 @@ use Rattle.std.proofs.lemmas.Bool.{both_ways, cases_eq, eqb-true}
 use Rattle.std.proofs.lemmas.Bool.Decides.{Decides-eqb}
 use Rattle.std.proofs.lemmas.Grind.{get_or-set_at}
 use Rattle.std.proofs.lemmas.List.{get_or-set_other, get_or_default, length_push, length-take, take_more, take_more_set}
-use Rattle.std.proofs.lemmas.List.Elements.{All-contains, All-push, Contains-push, Contains-push_cases, Contains-append_left, Contains-append_right, Contains-append_cases, Contains-get_or}
+use Rattle.std.proofs.lemmas.List.Elements.{All-contains, All-push, Contains-push, Contains-push_cases, Contains-append_left, Contains-append_right, Contains-append_cases}
+use Rattle.std.proofs.lemmas.List.Elements.{Contains-get_or}
 use Rattle.std.proofs.lemmas.List.Quantifiers.{all_pairs_push}
 use Rattle.std.proofs.lemmas.Map.Made.{IsDistinct-from_AllPairs}
 use Rattle.std.proofs.lemmas.Map.Steps.{length-le_from_distinct_below}
@@ -26,7 +28,8 @@ not_yet count ports marks p m free has = both_ways (get_or marks p false) free (
 
 once_more : (count : ℕ) (ports : List ℕ) (marks : List Bool) (p : ℕ) → IsMarked count ports marks → get_or marks p false ≡ false → IsDistinct (take count ports ++ p ∷ [])
 once_more count ports marks p m free =
-    all_pairs_push (λ (x : ℕ) (y : ℕ). x ≢ y) (take count ports) p m.once (λ k d lt same. not_yet count ports marks p m free (subst (λ n. Contains (take count ports) n) same (Contains-get_or (take count ports) k d lt)))
+    all_pairs_push (λ (x : ℕ) (y : ℕ). x ≢ y) (take count ports) p m.once
+    (λ k d lt same. not_yet count ports marks p m free (subst (λ n. Contains (take count ports) n) same (Contains-get_or (take count ports) k d lt)))
 
 -- a port that is not marked has a place
 pub has_place : (count : ℕ) (ports : List ℕ) (marks : List Bool) (p : ℕ) → IsMarked count ports marks → p < length marks → get_or marks p false ≡ false → count < length ports
@@ -48,7 +51,8 @@ pushed_marks count ports marks p m lt free =
       fits = omega (arith, place, length-set ports count p);
       room = omega (arith, same, m.room, length-set ports count p);
       once = subst IsDistinct (sym e) (once_more count ports marks p m free);
-      within = subst (λ xs. All (λ q. q < length (set marks p true)) xs) (sym e) (subst (λ n. All (λ q. q < n) (take count ports ++ p ∷ [])) (sym same) (All-push (λ q. q < length marks) (take count ports) p m.within lt));
+      within = subst (λ xs. All (λ q. q < length (set marks p true)) xs) (sym e)
+          (subst (λ n. All (λ q. q < n) (take count ports ++ p ∷ [])) (sym same) (All-push (λ q. q < length marks) (take count ports) p m.within lt));
       marked = λ q has. elim (cases_eq q p) [
         | inl here ↦ get_or-set_at marks p q true false here lt
         | inr ne ↦ get_or-set_other marks p q true false ne ∙ (elim (Contains-push_cases (take count ports) p q (subst (λ xs. Contains xs q) e has)) [
@@ -107,7 +111,8 @@ popped_marks n ports marks x some read m =
       fits = omega (arith, m.fits);
       room = omega (arith, length-set marks x false, m.room);
       once = front_once xs x once;
-      within = all_of_members (λ q. q < length (set marks x false)) xs (λ q has. omega (arith, length-set marks x false, All-contains (λ k. k < length marks) (take n ports) q m.within (old q has)));
+      within = all_of_members (λ q. q < length (set marks x false)) xs
+          (λ q has. omega (arith, length-set marks x false, All-contains (λ k. k < length marks) (take n ports) q m.within (old q has)));
       marked = λ q has. get_or-set_other marks x q false false (λ same. last_apart xs x once (subst (λ k. Contains xs k) same has)) ∙ m.marked q (old q has);
       stands = λ q is. elim (cases_eq q x) [
         | inl here ↦ absurd (both_ways (get_or (set marks x false) q false) (get_or-set_at marks x q false false here known) is)

@@ -1,5 +1,6 @@
 -- The ranks that are granted, as the ports see them.
-use Rattle.std.specs.Prelude.{◌≡◌, ◌≢◌, ℕ, ◌+◌, ◌-◌, ◌*◌, ◌^◌, ◌<◌, ◌≤◌, ◌⊎◌, List, Contains, length, slice_index, sum_by}
+use Rattle.std.specs.Prelude.{◌≡◌, ◌≢◌, ℕ, ◌+◌, ◌-◌, ◌*◌, ◌^◌, ◌<◌, ◌≤◌, ◌⊎◌, List, Contains, length, slice_index}
+use Rattle.std.specs.Prelude.{sum_by}
 use Rattle.std.specs.List.{slice_index_or}
 use Rattle.matching.specs.declared.ranks.Ranked.{Ranked}
 use Rattle.matching.specs.declared.ranks.Ranks.{Ranks}

@@ -1,5 +1,6 @@
 -- Grants that are kept while flows lose units: the granted ranks, and the ports at which something may be to be had.
--- A rank is the place of a flow in the order in which flows are granted. An ingress port has its own number as a port, and an egress port comes after all of these.
+-- A rank is the place of a flow in the order in which flows are granted. An ingress port has its own number as a port,
+-- and an egress port comes after all of these.
 use Rattle.std.specs.Prelude.{◌≡◌, ◌≢◌, ℕ, ◌+◌, ◌<◌, ◌≤◌, ◌⊎◌, List, Contains, length}
 use Rattle.std.specs.List.Sorted.{IsStrictlyIncreasing}
 use Rattle.coflow_units.specs.declared.fabric.Flow.{Flow}
@@ -36,7 +37,8 @@ abbrev pub IsClear : Graph → (ℕ → ℕ) → (ℕ → Type 0) → ℕ → �
 IsClear g left granted port bound = (r : ℕ) → r < bound → r < g.count → 0 < left r → Touches g port r →
     IsCovered g granted r
 
--- A rank goes in at a port that waits: it is the least that is to be had there, and comes before what is granted at its ports.
+-- A rank goes in at a port that waits: it is the least that is to be had there, and comes before what is granted at its
+-- ports.
 -- What was granted there goes out, and its other port waits then. The port at which the rank went in may leave.
 pub record IsPutIn (g : Graph) (left : ℕ → ℕ) (granted after waits more : ℕ → Type 0) (port rank : ℕ) : Type 0 where
   pub sides : (r s : ℕ) → r < g.count → s < g.count → g.first r ≢ g.second s

@@ -1,5 +1,6 @@
 -- The grants that are kept, as they are for the flows of a line and the units that they have left.
-use Rattle.std.specs.Prelude.{◌≡◌, ℕ, ◌+◌, ◌-◌, ◌^◌, ◌<◌, ◌≤◌, ◌==◌, ◌≢◌, ◌↔◌, if◌then◌else◌, List, Contains, length, take}
+use Rattle.std.specs.Prelude.{◌≡◌, ℕ, ◌+◌, ◌-◌, ◌^◌, ◌<◌, ◌≤◌, ◌==◌, ◌≢◌, ◌↔◌, if◌then◌else◌, List, Contains, length}
+use Rattle.std.specs.Prelude.{take}
 use Rattle.coflow_units.specs.declared.fabric.Flow.{Flow}
 use Rattle.coflow_units.specs.Flows.{ingress_of}
 use Rattle.coflow_units.specs.Grants.{IsGrants}

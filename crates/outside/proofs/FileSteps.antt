@@ -3,7 +3,8 @@ use Rattle.std.proofs.Common.{◌≡◌, ◌≢◌, ℕ, ◌+◌, ◌-◌, ◌^�
 use Rattle.std.proofs.Math.ListN.{set, drop_of_length-le}
 use Rattle.std.specs.Prelude.{◌↔◌, nat_eq, string_bytes, min}
 use Rattle.std.specs.Cmp.Lexicographic.{pointwise, bytes_decides}
-use Rattle.std.proofs.lemmas.List.{get_or-map, get_or-set_other, get_or_append_left, get_or_past, length-append, length-map, length-set, length-take-le, map-append, map-set, drop-drop, take-append-le, take-take, take-append-drop, nil_from_length}
+use Rattle.std.proofs.lemmas.List.{get_or-map, get_or-set_other, get_or_append_left, get_or_past, length-append, length-map, length-set, length-take-le, map-append, map-set}
+use Rattle.std.proofs.lemmas.List.{drop-drop, take-append-le, take-take, take-append-drop, nil_from_length}
 use Rattle.std.proofs.lemmas.List.Folds.{position_or_len_push}
 use Rattle.std.proofs.lemmas.List.Sums.{passes_at_first, position_or_len_is, prefix_len-le-length}
 use Rattle.std.proofs.lemmas.Bool.{false≢true}

@@ -22,7 +22,8 @@ held_here places Report v = refl
 held_here places Script v = refl
 
 -- a fact of what is held that the new value shares with the old one
-held_all : {X : Type 0} (f : Option Opened → X) (places : Places Opened) (place : Place4) (v : Option Opened) → f v ≡ f (held places place) → (p : Place4) → f (held (with_held places place v) p) ≡ f (held places p)
+held_all : {X : Type 0} (f : Option Opened → X) (places : Places Opened) (place : Place4) (v : Option Opened) → f v ≡ f (held places place) → (p : Place4) →
+    f (held (with_held places place v) p) ≡ f (held places p)
 held_all f places Trace v same Trace = same
 held_all f places Trace v same Weights = refl
 held_all f places Trace v same Report = refl
@@ -58,10 +59,12 @@ held_other places Script v Weights other = refl
 held_other places Script v Report other = refl
 held_other places Script v Script other = absurd (other refl)
 
-keeps_by : (old new : List File) (f g : ℕ → ℕ) (places after : Places Opened) → names_of new ≡ names_of old → contents_of new ≡ contents_of old → ((k : ℕ) → f k ≤ g k) → Keeps (memory_told old f places) (memory_told new g after)
+keeps_by : (old new : List File) (f g : ℕ → ℕ) (places after : Places Opened) → names_of new ≡ names_of old → contents_of new ≡ contents_of old → ((k : ℕ) → f k ≤ g k) →
+    Keeps (memory_told old f places) (memory_told new g after)
 keeps_by old new f g places after names contents later = record { file = ap number_of names; bytes = ap bytes_at contents; later = later }
 
-pub start_succeeds : {X E : Type 0} (files : List File) (f : ℕ → ℕ) (places : Places Opened) (place : Place4) (name : List ℕ) (file : ℕ) (x : X) → file ≡ number_of (names_of files) name →
+pub start_succeeds : {X E : Type 0} (files : List File) (f : ℕ → ℕ) (places : Places Opened) (place : Place4) (name : List ℕ) (file : ℕ) (x : X) →
+    file ≡ number_of (names_of files) name →
     StartsAt {X = X} {E = E} (memory_told files f places) (memory_told files f (with_held places place (Some (record { file = file; taken = 0 })))) place name (Ok x)
 start_succeeds files f places place name file x at = record {
   keeps = keeps_by files files f f places _ refl refl (λ k. omega arith);
@@ -72,8 +75,10 @@ start_succeeds files f places place name file x at = record {
   cause = tt;
 }
 
-pub start_fails : {X E : Type 0} (old new : List File) (f g : ℕ → ℕ) (places : Places Opened) (place : Place4) (name : List ℕ) (file : ℕ) (e : E) → file ≡ number_of (names_of old) name →
-    names_of new ≡ names_of old → contents_of new ≡ contents_of old → ((k : ℕ) → f k ≤ g k) → Rose (f file) (g file) → StartsAt {X = X} {E = E} (memory_told old f places) (memory_told new g (with_held places place None)) place name (Err e)
+pub start_fails : {X E : Type 0} (old new : List File) (f g : ℕ → ℕ) (places : Places Opened) (place : Place4) (name : List ℕ) (file : ℕ) (e : E) →
+    file ≡ number_of (names_of old) name →
+    names_of new ≡ names_of old → contents_of new ≡ contents_of old → ((k : ℕ) → f k ≤ g k) → Rose (f file) (g file) →
+    StartsAt {X = X} {E = E} (memory_told old f places) (memory_told new g (with_held places place None)) place name (Err e)
 start_fails old new f g places place name file e at names contents later rose = record {
   keeps = keeps_by old new f g places _ names contents later;
   file_at = tt;
@@ -83,7 +88,8 @@ start_fails old new f g places place name file e at names contents later rose = 
   cause = rw names (rw (← at) rose);
 }
 
-pub read_fails : {E : Type 0} (old new : List File) (f g : ℕ → ℕ) (places : Places Opened) (place : Place4) (buffer : List ℕ) (o : Opened) (e : E) → held places place ≡ Some o → names_of new ≡ names_of old →
+pub read_fails : {E : Type 0} (old new : List File) (f g : ℕ → ℕ) (places : Places Opened) (place : Place4) (buffer : List ℕ) (o : Opened) (e : E) → held places place ≡ Some o →
+    names_of new ≡ names_of old →
     contents_of new ≡ contents_of old → ((k : ℕ) → f k ≤ g k) → Rose (f o.file) (g o.file) → ReadsAt (memory_told old f places) (memory_told new g places) place buffer (Err e)
 read_fails old new f g places place buffer o e at names contents later rose = record {
   keeps = keeps_by old new f g places places names contents later;

@@ -13,7 +13,8 @@ use Rattle.outside.proofs.SoFar.{ReadsSoFar, ToldSoFar}
 pub keeps_on : (a b c : Told) → Keeps a b → Keeps b c → Keeps a c
 keeps_on a b c x y = record { file = y.file ∙ x.file; bytes = y.bytes ∙ x.bytes; later = λ k. omega (arith, x.later k, y.later k) }
 
-step_at : {E : Type 0} (old mid new : Told) (place : Place4) (bytes buffer : List ℕ) (n : ℕ) → ReadsSoFar old mid place bytes → ReadsAt {E = E} mid new place buffer (Ok n) → ReadsSoFar old new place (bytes ++ take n buffer)
+step_at : {E : Type 0} (old mid new : Told) (place : Place4) (bytes buffer : List ℕ) (n : ℕ) → ReadsSoFar old mid place bytes → ReadsAt {E = E} mid new place buffer (Ok n) →
+    ReadsSoFar old new place (bytes ++ take n buffer)
 step_at old mid new place bytes buffer n s r = record {
   keeps = keeps_on old mid new s.keeps r.keeps;
   file_at = r.file_at ∙ s.file_at;
@@ -22,11 +23,13 @@ step_at old mid new place bytes buffer n s r = record {
 }
 
 -- what a read did, where the shelf is known to tell
-reads_at : {E : Type 0} (m new : Option Told) (t : Told) (place : Place4) (buffer : List ℕ) (r : Result ℕ E) → m ≡ Some t → Reads m new place buffer r → Reads (Some t) new place buffer r
+reads_at : {E : Type 0} (m new : Option Told) (t : Told) (place : Place4) (buffer : List ℕ) (r : Result ℕ E) → m ≡ Some t → Reads m new place buffer r →
+    Reads (Some t) new place buffer r
 reads_at m new t place buffer r e h = subst (λ v. Reads v new place buffer r) e h
 
 -- a read goes on from the bytes that came so far
-pub read_step : (E : Type 0) (old m new : Option Told) (place : Place4) (bytes buffer : List ℕ) (n : ℕ) → ToldSoFar old m place bytes → Reads {E = E} m new place buffer (Ok n) → ToldSoFar old new place (bytes ++ take n buffer)
+pub read_step : (E : Type 0) (old m new : Option Told) (place : Place4) (bytes buffer : List ℕ) (n : ℕ) → ToldSoFar old m place bytes → Reads {E = E} m new place buffer (Ok n) →
+    ToldSoFar old new place (bytes ++ take n buffer)
 read_step E None m new place bytes buffer n s r = subst (λ v. Reads {E = E} v new place buffer (Ok n)) s r
 read_step E (Some x) m new place bytes buffer n s r =
     let h = reads_at {E = E} m new s.0 place buffer (Ok n) s.1 r in
@@ -35,7 +38,8 @@ read_step E (Some x) m new place bytes buffer n s r =
 left_is : (bytes now before : List ℕ) → bytes ++ now ≡ before → now ≡ drop (length bytes) before
 left_is bytes now before e = sym (drop-append_seam bytes now) ∙ ap (drop (length bytes)) e
 
-fault_at : {E : Type 0} (old mid new : Told) (place : Place4) (bytes buffer : List ℕ) (most : ℕ) (e : E) → length bytes ≤ most → ReadsSoFar old mid place bytes → ReadsAt mid new place buffer (Err e) → ReadsWholeAt old new place most (Err Fault)
+fault_at : {E : Type 0} (old mid new : Told) (place : Place4) (bytes buffer : List ℕ) (most : ℕ) (e : E) → length bytes ≤ most → ReadsSoFar old mid place bytes →
+    ReadsAt mid new place buffer (Err e) → ReadsWholeAt old new place most (Err Fault)
 fault_at old mid new place bytes buffer most e short s r = record {
   keeps = keeps_on old mid new s.keeps r.keeps;
   file_at = r.file_at ∙ s.file_at;
@@ -52,7 +56,8 @@ fault_at old mid new place bytes buffer most e short s r = record {
         omega (arith, risen, s.keeps.later (old.file_at place))
 
 -- the shelf failed
-pub read_fault : (E : Type 0) (old m new : Option Told) (place : Place4) (bytes buffer : List ℕ) (most : ℕ) (e : E) → length bytes ≤ most → ToldSoFar old m place bytes → Reads {E = E} m new place buffer (Err e) →
+pub read_fault : (E : Type 0) (old m new : Option Told) (place : Place4) (bytes buffer : List ℕ) (most : ℕ) (e : E) → length bytes ≤ most → ToldSoFar old m place bytes →
+    Reads {E = E} m new place buffer (Err e) →
     ReadsWhole old new place most (Err Fault)
 read_fault E None m new place bytes buffer most e short s r = subst (λ v. Reads {E = E} v new place buffer (Err e)) s r
 read_fault E (Some x) m new place bytes buffer most e short s r =
@@ -60,7 +65,8 @@ read_fault E (Some x) m new place bytes buffer most e short s r =
     (h.0, h.1, fault_at {E = E} x s.0 h.0 place bytes buffer most e short s.2 h.2)
 
 -- one byte more than asked for was taken
-pub read_too_long : (old new : Option Told) (place : Place4) (bytes : List ℕ) (most : ℕ) → length bytes ≡ most + 1 → ToldSoFar old new place bytes → ReadsWhole old new place most (Err TooLong)
+pub read_too_long : (old new : Option Told) (place : Place4) (bytes : List ℕ) (most : ℕ) → length bytes ≡ most + 1 → ToldSoFar old new place bytes →
+    ReadsWhole old new place most (Err TooLong)
 read_too_long None new place bytes most long s = s
 read_too_long (Some x) new place bytes most long s =
     let t = s.0 in
@@ -69,11 +75,20 @@ read_too_long (Some x) new place bytes most long s =
     (t, s.1, record { keeps = s.2.keeps; file_at = s.2.file_at; takes = (omega (arith, whole, long), rw long at left); others_left = s.2.others_left })
 
 -- there was no memory for the bytes that came
-pub read_no_memory : (old new : Option Told) (place : Place4) (bytes : List ℕ) (most : ℕ) → length bytes ≤ most → ToldSoFar old new place bytes → ReadsWhole old new place most (Err NoMemory)
+pub read_no_memory : (old new : Option Told) (place : Place4) (bytes : List ℕ) (most : ℕ) → length bytes ≤ most → ToldSoFar old new place bytes →
+    ReadsWhole old new place most (Err NoMemory)
 read_no_memory None new place bytes most short s = s
 read_no_memory (Some x) new place bytes most short s =
-    let t = s.0 in
-    (t, s.1, record { keeps = s.2.keeps; file_at = s.2.file_at; takes = (length bytes, short, left_is bytes (t.left place) (x.left place) s.2.left); others_left = s.2.others_left })
+    let t = s.0 in (
+      t,
+      s.1,
+      record {
+        keeps = s.2.keeps;
+        file_at = s.2.file_at;
+        takes = (length bytes, short, left_is bytes (t.left place) (x.left place) s.2.left);
+        others_left = s.2.others_left;
+      },
+    )
 
 -- a result whose error is known
 pub err_is : {T E : Type 0} (r : Result T E) (e : E) → IsErrAnd r (λ x. x ≡ e) → r ≡ Err e

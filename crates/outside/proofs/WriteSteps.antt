@@ -10,7 +10,8 @@ takes_at E (Some y) new x piece n e h = let same : y ≡ x = cc in rw (← same)
 takes_at E None new x piece n e h = cc
 
 -- a write goes on from the beginning that was taken
-pub write_step : (E : Type 0) (old m new : Option (List ℕ)) (text piece : List ℕ) (w n : ℕ) → piece ≡ drop w text → TakenSoFar old m (take w text) → Takes {E = E} m new piece (Ok n) →
+pub write_step : (E : Type 0) (old m new : Option (List ℕ)) (text piece : List ℕ) (w n : ℕ) → piece ≡ drop w text → TakenSoFar old m (take w text) →
+    Takes {E = E} m new piece (Ok n) →
     TakenSoFar old new (take (w + n) text)
 write_step E None None new text piece w n p so_far step = step
 write_step E None (Some y) new text piece w n p so_far step = cc

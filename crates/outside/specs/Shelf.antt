@@ -1,5 +1,6 @@
 -- What a shelf tells, and what its calls do to it.
-use Rattle.std.specs.Prelude.{◌≡◌, ◌≢◌, ℕ, ◌+◌, ◌≤◌, ◌++◌, List, [], Option, Some, None, Result, Ok, Err, OnOk, OnErr, length, take, drop}
+use Rattle.std.specs.Prelude.{◌≡◌, ◌≢◌, ℕ, ◌+◌, ◌≤◌, ◌++◌, List, [], Option, Some, None, Result, Ok, Err, OnOk, OnErr}
+use Rattle.std.specs.Prelude.{length, take, drop}
 use Rattle.std.specs.declared.vec.Vec.{Vec}
 use Rattle.std.specs.declared.alloc.Global.{Global}
 use Rattle.outside.specs.declared.shelf.Place4.{Place4}
@@ -7,7 +8,8 @@ use Rattle.outside.specs.declared.reading.ReadStop.{ReadStop}
 use Rattle.outside.specs.declared.reading.ReadStop.TheVariants.{Fault, TooLong, NoMemory}
 use Rattle.outside.specs.Rose.{Rose}
 
--- What a shelf tells. Files have numbers. Names may stand for one file, and then share its bytes and its count of faults.
+-- What a shelf tells. Files have numbers. Names may stand for one file, and then share its bytes and its count of
+-- faults.
 pub record Told : Type 0 where
   -- the file for which a name stands
   pub file : List ℕ → ℕ
@@ -42,14 +44,16 @@ pub record Keeps (old new : Told) : Type 0 where
   pub bytes : new.bytes ≡ old.bytes
   pub later : (file : ℕ) → old.faults file ≤ new.faults file
 
--- a start that succeeds sets the file of the name at the place, and leaves all its bytes there; at a fault the count of the name rose
-pub record StartsAt {X E : Type 0} (old new : Told) (place : Place4) (name : List ℕ) (result : Result X E) : Type 0 where
-  pub keeps : Keeps old new
-  pub file_at : OnOk result (new.file_at place ≡ old.file name)
-  pub left : OnOk result (new.left place ≡ bytes_of old name)
-  pub others_file_at : SameElsewhere place old.file_at new.file_at
-  pub others_left : SameElsewhere place old.left new.left
-  pub cause : OnErr result (Rose (faults_of old name) (faults_of new name))
+-- a start that succeeds sets the file of the name at the place, and leaves all its bytes there; at a fault the count of
+-- the name rose
+pub record StartsAt {X E : Type 0} (old new : Told) (place : Place4) (name : List ℕ) (result : Result X E) : Type 0
+  where
+    pub keeps : Keeps old new
+    pub file_at : OnOk result (new.file_at place ≡ old.file name)
+    pub left : OnOk result (new.left place ≡ bytes_of old name)
+    pub others_file_at : SameElsewhere place old.file_at new.file_at
+    pub others_left : SameElsewhere place old.left new.left
+    pub cause : OnErr result (Rose (faults_of old name) (faults_of new name))
 
 -- the first bytes that were left came into the buffer, none only where none was left; at a fault all are left
 abbrev pub Moves : {E : Type 0} → List ℕ → List ℕ → List ℕ → Result ℕ E → Type 0
@@ -64,7 +68,8 @@ pub record ReadsAt {E : Type 0} (old new : Told) (place : Place4) (buffer : List
   pub others_left : SameElsewhere place old.left new.left
   pub cause : OnErr result (Rose (faults_at old place) (faults_at new place))
 
--- All bytes that were left at the place are the answer. Too long: `most + 1` bytes were taken. Otherwise at most `most` bytes were taken, and at a fault the count of the file there rose.
+-- All bytes that were left at the place are the answer. Too long: `most + 1` bytes were taken. Otherwise at most `most`
+-- bytes were taken, and at a fault the count of the file there rose.
 abbrev pub TakesWhole : Told → Told → Place4 → ℕ → Result (Vec ℕ Global) ReadStop → Type 0
 TakesWhole old new place most (Ok bytes) = (bytes.items ≡ old.left place) × (new.left place ≡ [])
 TakesWhole old new place most (Err TooLong) =
@@ -74,11 +79,12 @@ TakesWhole old new place most (Err Fault) =
 TakesWhole old new place most (Err NoMemory) = (n : ℕ) × (n ≤ most) × (new.left place ≡ drop n (old.left place))
 
 -- reading to the end
-pub record ReadsWholeAt (old new : Told) (place : Place4) (most : ℕ) (result : Result (Vec ℕ Global) ReadStop) : Type 0 where
-  pub keeps : Keeps old new
-  pub file_at : new.file_at ≡ old.file_at
-  pub takes : TakesWhole old new place most result
-  pub others_left : SameElsewhere place old.left new.left
+pub record ReadsWholeAt (old new : Told) (place : Place4) (most : ℕ) (result : Result (Vec ℕ Global) ReadStop) : Type 0
+  where
+    pub keeps : Keeps old new
+    pub file_at : new.file_at ≡ old.file_at
+    pub takes : TakesWhole old new place most result
+    pub others_left : SameElsewhere place old.left new.left
 
 -- a start, where the shelf tells; a shelf tells after every call or after none
 abbrev pub Starts : {X E : Type 0} → Option Told → Option Told → Place4 → List ℕ → Result X E → Type 0

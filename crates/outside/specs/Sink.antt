@@ -7,7 +7,8 @@ Takes None new piece result = new ≡ None
 Takes (Some old) new piece (Ok n) = new ≡ Some (old ++ take n piece)
 Takes (Some old) new piece (Err e) = new ≡ Some old
 
--- a whole text, where the sink tells what it took: the text was appended, and at a fault a beginning of it that is shorter
+-- a whole text, where the sink tells what it took: the text was appended, and at a fault a beginning of it that is
+-- shorter
 abbrev pub TakesText : {X E : Type 0} → Option (List ℕ) → Option (List ℕ) → List ℕ → Result X E → Type 0
 TakesText None new text result = new ≡ None
 TakesText (Some old) new text (Ok x) = new ≡ Some (old ++ text)

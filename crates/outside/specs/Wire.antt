@@ -1,4 +1,5 @@
--- What a wire accepts. A run (slot, flow, n) stands for n units of the flow: one in the slot, one in the slot after it, and so on.
+-- What a wire accepts. A run (slot, flow, n) stands for n units of the flow: one in the slot, one in the slot after it,
+-- and so on.
 use Rattle.std.specs.Prelude.{◌≡◌, ℕ, ◌==◌, if◌then◌else◌, List, [], ◌∷◌, ◌++◌, Option, Some, None}
 
 -- the run of the first n units that were sent, where there are any

@@ -133,7 +133,8 @@ pub(crate) fn raise(files: &mut [File], counts: &mut Counts, number: usize)
     ensures contents { contents_of files.new ≡ contents_of files.old }
     ensures later { (k : ℕ) →
         count_at (counts_of files.old) counts.old.missing k ≤ count_at (counts_of files.new) counts.new.missing k }
-    ensures rose { Rose (count_at (counts_of files.old) counts.old.missing number) (count_at (counts_of files.new) counts.new.missing number) }
+    ensures rose { Rose (count_at (counts_of files.old) counts.old.missing number)
+        (count_at (counts_of files.new) counts.new.missing number) }
 {
     counts.all = counts.all.saturating_add(1);
     if number < files.len() {

@@ -80,10 +80,14 @@ impl Wire for MemWire {
         ensures later { self.old.faults ≤ self.new.faults }
         ensures bound { result ≤ length }
         ensures cause { result < length → Rose self.old.faults self.new.faults }
-        ensures count { self.new.faults ≡ (if nat_lt result length then min (self.old.faults + 1) (2 ^ 64 - 1) else self.old.faults) }
+        ensures count { self.new.faults ≡
+            (if nat_lt result length then min (self.old.faults + 1) (2 ^ 64 - 1) else self.old.faults) }
         ensures runs { Accepts (Some self.old.runs.items) (Some self.new.runs.items) slot flow result }
-        ensures accepts { result ≡ (if nat_lt (vec_len self.old.runs) self.old.room then front_before self.old.before length else 0) }
-        ensures before { self.new.before ≡ (if nat_lt (vec_len self.old.runs) self.old.room then still_before self.old.before length else self.old.before) }
+        ensures accepts { result ≡ (if nat_lt (vec_len self.old.runs) self.old.room then front_before self.old.before
+            length else 0) }
+        ensures before { self.new.before ≡
+            (if nat_lt (vec_len self.old.runs) self.old.room then still_before self.old.before length
+            else self.old.before) }
         ensures room { self.new.room ≡ self.old.room }
     {
         if self.runs.len() >= self.room {

@@ -1,5 +1,6 @@
 -- The round over the ports, so far.
-use Rattle.std.proofs.Common.{◌≡◌, ℕ, ◌+◌, ◌*◌, ◌<◌, ◌≤◌, List, [], ◌∷◌, ◌++◌, length, get_or, set, sym, refl, ap, ◌∙◌, subst, arith, Option, Some, None, Bool, true, false, length-set, length-append, get_or-set_other, get_or-set_same}
+use Rattle.std.proofs.Common.{◌≡◌, ℕ, ◌+◌, ◌*◌, ◌<◌, ◌≤◌, List, [], ◌∷◌, ◌++◌, length, get_or, set, sym, refl, ap, ◌∙◌, subst, arith, Option, Some, None, Bool, true, false}
+use Rattle.std.proofs.Common.{length-set, length-append, get_or-set_other, get_or-set_same}
 use Rattle.std.specs.Prelude.{nat_lt, if◌then◌else◌}
 use Rattle.std.proofs.lemmas.List.{append-nil, append_assoc, get_or_append_left, get_or_push}
 use Rattle.std.proofs.lemmas.List.Sums.{sum_by_push}
@@ -56,7 +57,8 @@ module _ {W : Type 0} (faults : W → ℕ) (runs : W → Option (List (ℕ × �
   }
 
   pub ends : (first i : ℕ) (v w : View) (old now : List W) (s : Served) → i ≡ length old → SoFar first i v w old now s
-      → (took : List (Option Report)) × Attended faults runs w first old now took × (w.done ≡ v.done ++ taken took) × (s.drawn ≡ length (taken took)) × (s.sent ≡ units_of (taken took)) × (s.short ≡ shorts_of (taken took))
+      → (took : List (Option Report)) × Attended faults runs w first old now took × (w.done ≡ v.done ++ taken took) × (s.drawn ≡ length (taken took)) ×
+      (s.sent ≡ units_of (taken took)) × (s.short ≡ shorts_of (taken took))
   ends first i v w old now s all so = (
     so.took,
     record { as_many = so.as_many ∙ all; wires = so.wires; each = λ j d e lt. so.each j d e (omega arith) },
@@ -73,20 +75,24 @@ module _ {W : Type 0} (faults : W → ℕ) (runs : W → Option (List (ℕ × �
 
   module _ (first i : ℕ) (v w u : View) (old now : List W) (y : W) (inside : i < length old) where
     -- one more port
-    each_more : (took : List (Option Report)) (more : List Report) (o : Option Report) → length took ≡ i → length now ≡ length old → ((j : ℕ) (d e : W) → j < i → Attends faults runs w (first + j) (get_or old j d) (get_or now j e) (get_or took j None))
+    each_more : (took : List (Option Report)) (more : List Report) (o : Option Report) → length took ≡ i → length now ≡ length old →
+        ((j : ℕ) (d e : W) → j < i → Attends faults runs w (first + j) (get_or old j d) (get_or now j e) (get_or took j None))
         → GoesOn w u more → ((d : W) → Attends faults runs u (first + i) (get_or old i d) y o)
         → (j : ℕ) (d e : W) → j < i + 1 → Attends faults runs u (first + j) (get_or old j d) (get_or (set now i y) j e) (get_or (took ++ o ∷ []) j None)
     each_more took more o long many each goes new j d e lt = dite (ℕ_discrete j i)
         (λ is. subst (λ (z : ℕ). Attends faults runs u (first + z) (get_or old z d) (get_or (set now i y) z e) (get_or (took ++ o ∷ []) z None)) (sym is)
-        (subst (λ (z : W × Option Report). Attends faults runs u (first + i) (get_or old i d) z.0 z.1) (λ t. (sym (get_or-set_same now i y e (omega arith)) t, sym (get_or_push took o None i long) t)) (new d)))
-        (λ far. subst (λ (z : W × Option Report). Attends faults runs u (first + j) (get_or old j d) z.0 z.1) (λ t. (sym (get_or-set_other now i j y e far) t, sym (get_or_append_left took (o ∷ []) None j (omega arith)) t))
+        (subst (λ (z : W × Option Report). Attends faults runs u (first + i) (get_or old i d) z.0 z.1)
+        (λ t. (sym (get_or-set_same now i y e (omega arith)) t, sym (get_or_push took o None i long) t)) (new d)))
+        (λ far. subst (λ (z : W × Option Report). Attends faults runs u (first + j) (get_or old j d) z.0 z.1)
+        (λ t. (sym (get_or-set_other now i j y e far) t, sym (get_or_append_left took (o ∷ []) None j (omega arith)) t))
         (attends_on w u more (first + j) (get_or old j d) (get_or now j e) (get_or took j None) goes (each j d e (omega arith))))
 
     rest_more : ((j : ℕ) (d : W) → i ≤ j → get_or now j d ≡ get_or old j d) → (j : ℕ) (d : W) → i + 1 ≤ j → get_or (set now i y) j d ≡ get_or old j d
     rest_more rest j d le = get_or-set_other now i j y d (λ e. absurd (omega arith)) ∙ rest j d (omega arith)
 
     -- nothing was drawn at the port
-    pub goes_idle : (s : Served) (x : W) → SoFar first i v w old now s → ((d : W) → x ≡ get_or now i d) → ServesPort faults runs (first + i) w u x y None → SoFar first (i + 1) v u old (set now i y) s
+    pub goes_idle : (s : Served) (x : W) → SoFar first i v w old now s → ((d : W) → x ≡ get_or now i d) → ServesPort faults runs (first + i) w u x y None →
+        SoFar first (i + 1) v u old (set now i y) s
     goes_idle s x so at h =
         let long = length-append so.took (None ∷ []) in
         let many = so.as_many in
@@ -111,7 +117,8 @@ module _ {W : Type 0} (faults : W → ℕ) (runs : W → Option (List (ℕ × �
         }
 
     -- a grant was drawn at the port
-    pub goes_took : (s s' : Served) (x : W) (length_is sent_is : ℕ) → SoFar first i v w old now s → ((d : W) → x ≡ get_or now i d) → ServesPort faults runs (first + i) w u x y (Some (length_is, sent_is)) → adds length_is sent_is s s'
+    pub goes_took : (s s' : Served) (x : W) (length_is sent_is : ℕ) → SoFar first i v w old now s → ((d : W) → x ≡ get_or now i d) →
+        ServesPort faults runs (first + i) w u x y (Some (length_is, sent_is)) → adds length_is sent_is s s'
         → SoFar first (i + 1) v u old (set now i y) s'
     goes_took s s' x length_is sent_is so at h add =
         let r : Report = h.0 in
@@ -132,14 +139,16 @@ module _ {W : Type 0} (faults : W → ℕ) (runs : W → Option (List (ℕ × �
           took = so.took ++ Some r ∷ [];
           as_many = omega arith;
           wires = length-set now i y ∙ so.wires;
-          each = each_more so.took (r ∷ []) (Some r) so.as_many so.wires so.each goes (λ d. (h.1, subst (λ (z : W). SentOn faults runs z y r) (at d ∙ so.rest i d (omega arith)) on, subst (IsNewest r.grant) (sym goes.shown) h.7));
+          each = each_more so.took (r ∷ []) (Some r) so.as_many so.wires so.each goes
+              (λ d. (h.1, subst (λ (z : W). SentOn faults runs z y r) (at d ∙ so.rest i d (omega arith)) on, subst (IsNewest r.grant) (sym goes.shown) h.7));
           rest = rest_more so.rest;
           out = goes.out ∙ so.out;
           shown = goes.shown ∙ so.shown;
           done = goes.done ∙ (ap (λ l. l ++ r ∷ []) so.done ∙ (append_assoc v.done (taken so.took) (r ∷ []) ∙ ap (λ l. v.done ++ l) (sym list)));
           drawn = add.0 ∙ (ap (λ z. z + 1) so.drawn ∙ (sym one_more ∙ ap (λ (l : List Report). length l) (sym list)));
           sent = add.1 ∙ ((λ t. so.sent t + sym h.3 t) ∙ (sym (sum_by_push (λ (q : Report). q.sent) (taken so.took) r) ∙ ap units_of (sym list)));
-          short = add.2 ∙ ((λ t. so.short t + (if nat_lt (sym h.3 t) (sym h.2 t) then 1 else 0)) ∙ (sym (sum_by_push (λ (q : Report). if nat_lt q.sent q.grant.length then 1 else 0) (taken so.took) r) ∙ ap shorts_of (sym list)));
+          short = add.2 ∙ ((λ t. so.short t + (if nat_lt (sym h.3 t) (sym h.2 t) then 1 else 0)) ∙
+              (sym (sum_by_push (λ (q : Report). if nat_lt q.sent q.grant.length then 1 else 0) (taken so.took) r) ∙ ap shorts_of (sym list)));
           few = omega arith;
           few_short = omega arith;
           small = omega arith;

@@ -25,12 +25,14 @@ any_more : {X : Type 0} (p : X → Bool) (xs ys : List X) → list_any p xs ≡ 
 any_more p xs ys e = list_any-append p xs ys ∙ ap (λ z. z || list_any p ys) e
 
 -- what is listed stays listed where the lists grow
-more_listed : (v w : View) (done : List Report) (missed : List (ℕ × ℕ)) → w.out ≡ v.out → w.done ≡ v.done ++ done → w.missed ≡ v.missed ++ missed → (port slot : ℕ) → is_listed v port slot ≡ true → is_listed w port slot ≡ true
+more_listed : (v w : View) (done : List Report) (missed : List (ℕ × ℕ)) → w.out ≡ v.out → w.done ≡ v.done ++ done → w.missed ≡ v.missed ++ missed → (port slot : ℕ) →
+    is_listed v port slot ≡ true → is_listed w port slot ≡ true
 more_listed v w done missed o d m port slot h =
     let D : Report → Bool = λ r. is_of port slot r.grant in
     let M : ℕ × ℕ → Bool = λ m. (eqb m.0 port) && (eqb m.1 slot) in
     subst (λ (z : List Grant × List Report × List (ℕ × ℕ)). (list_any (is_of port slot) z.0 || (list_any D z.1 || list_any M z.2)) ≡ true) (λ i. (sym o i, sym d i, sym m i))
-    (or_more (list_any (is_of port slot) v.out) (list_any D v.done) (list_any M v.missed) (list_any D (v.done ++ done)) (list_any M (v.missed ++ missed)) (any_more D v.done done) (any_more M v.missed missed) h)
+    (or_more (list_any (is_of port slot) v.out) (list_any D v.done) (list_any M v.missed) (list_any D (v.done ++ done)) (list_any M (v.missed ++ missed)) (any_more D v.done done)
+    (any_more M v.missed missed) h)
 
 -- the missed grants only grow
 missed_more : (v : View) (port : ℕ) → (more : List (ℕ × ℕ)) × (missed_after v port ≡ v.missed ++ more)
@@ -38,7 +40,8 @@ missed_more v port = go (last_at port v.shown)
   where
     go : (o : Option Grant) → (more : List (ℕ × ℕ)) × (missed_if v port o ≡ v.missed ++ more)
     go None = ([], sym (append-nil v.missed))
-    go (Some g) = cond_both (is_listed v port g.slot) v.missed (v.missed ++ (port, g.slot) ∷ []) (λ l. (more : List (ℕ × ℕ)) × (l ≡ v.missed ++ more)) (λ _. ([], sym (append-nil v.missed))) (λ _. ((port, g.slot) ∷ [], refl))
+    go (Some g) = cond_both (is_listed v port g.slot) v.missed (v.missed ++ (port, g.slot) ∷ []) (λ l. (more : List (ℕ × ℕ)) × (l ≡ v.missed ++ more))
+        (λ _. ([], sym (append-nil v.missed))) (λ _. ((port, g.slot) ∷ [], refl))
 
 pub goes_missed : (v : View) (st : Step) (looks : List (ℕ × ℕ)) (port : ℕ) → GoesOn v (record v { step = st; looks = looks; missed = missed_after v port }) []
 goes_missed v st looks port = let more = missed_more v port in record {
@@ -58,9 +61,13 @@ taken_out gs g apart =
     let test : Grant → Bool = λ h. not (is_of g.port g.slot h) in
     let all : All (λ h. test h ≡ true) gs = λ i d lt.
     let long = length_push gs g in
-    let differ : DifferAt (get_or gs i d) g = subst (λ (z : Grant × Grant). DifferAt z.0 z.1) (λ t. (get_or_append_left gs (g ∷ []) d i lt t, get_or_push gs g d (length gs) refl t)) (apart i (length gs) d lt (omega arith)) in
+    let differ : DifferAt (get_or gs i d) g =
+    subst (λ (z : Grant × Grant). DifferAt z.0 z.1) (λ t. (get_or_append_left gs (g ∷ []) d i lt t, get_or_push gs g d (length gs) refl t))
+    (apart i (length gs) d lt (omega arith)) in
     ap not (is_of-false g.port g.slot (get_or gs i d) differ) in
-    filter-append test gs (g ∷ []) ∙ (ap (λ l. l ++ filter test (g ∷ [])) (keep_all test gs all) ∙ (ap (λ l. gs ++ l) (cond-false (test g) (g ∷ []) [] (ap not (is_of-same g.port g.slot g refl refl))) ∙ append-nil gs))
+    filter-append test gs (g ∷ []) ∙
+    (ap (λ l. l ++ filter test (g ∷ [])) (keep_all test gs all) ∙
+    (ap (λ l. gs ++ l) (cond-false (test g) (g ∷ []) [] (ap not (is_of-same g.port g.slot g refl refl))) ∙ append-nil gs))
 
 pub goes_drawn : (v v1 w : View) (ports word sent : ℕ) (g : Grant) → v1 ≡ drew ports word g v → HoldsOnce v1 → w ≡ reported_as g sent v1 → GoesOn v w (report g sent ∷ [])
 goes_drawn v v1 w ports word sent g e once r =

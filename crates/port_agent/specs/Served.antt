@@ -1,5 +1,6 @@
 -- What an agent did at the ports of some wires.
-use Rattle.std.specs.Prelude.{◌≡◌, ℕ, ◌+◌, ◌<◌, ◌≤◌, List, [], ◌∷◌, ◌++◌, length, slice_index_or, sum_by, nat_lt, if◌then◌else◌, true, Option, Some, None}
+use Rattle.std.specs.Prelude.{◌≡◌, ℕ, ◌+◌, ◌<◌, ◌≤◌, List, [], ◌∷◌, ◌++◌, length, slice_index_or, sum_by, nat_lt}
+use Rattle.std.specs.Prelude.{if◌then◌else◌, true, Option, Some, None}
 use Rattle.outside.specs.Rose.{Rose}
 use Rattle.outside.specs.Wire.{Accepts}
 use Rattle.port_board.specs.declared.view.Report.{Report}
@@ -15,7 +16,8 @@ pub record GoesOn (v w : View) (more : List Report) : Type 0 where
   pub listed : (port slot : ℕ) → is_listed v port slot ≡ true → is_listed w port slot ≡ true
 
 module _ {W : Type 0} (faults : W → ℕ) (runs : W → Option (List (ℕ × ℕ × ℕ))) where
-  -- the wire was sent the run of this grant and accepted as much as was reported; less than the length only where its count of faults rose
+  -- the wire was sent the run of this grant and accepted as much as was reported; less than the length only where its
+  -- count of faults rose
   pub record SentOn (before after : W) (r : Report) : Type 0 where
     pub bound : r.sent ≤ r.grant.length
     pub run : Accepts (runs before) (runs after) r.grant.slot r.grant.flow r.sent
@@ -39,7 +41,8 @@ module _ {W : Type 0} (faults : W → ℕ) (runs : W → Option (List (ℕ × �
   pub record Attended (view : View) (first : ℕ) (before after : List W) (took : List (Option Report)) : Type 0 where
     pub as_many : length took ≡ length before
     pub wires : length after ≡ length before
-    pub each : (i : ℕ) (d e : W) → i < length before → Attends view (first + i) (slice_index_or before i d) (slice_index_or after i e) (slice_index_or took i None)
+    pub each : (i : ℕ) (d e : W) → i < length before →
+        Attends view (first + i) (slice_index_or before i d) (slice_index_or after i e) (slice_index_or took i None)
 
 -- the reports, in the order of the ports
 abbrev pub taken : List (Option Report) → List Report
@@ -56,4 +59,5 @@ shorts_of reports = sum_by (λ (r : Report). if nat_lt r.sent r.grant.length the
 
 -- the sums after one more grant of this length, of which so many units were sent
 abbrev pub adds : ℕ → ℕ → Served → Served → Type 0
-adds length sent old new = (new.drawn ≡ old.drawn + 1) × (new.sent ≡ old.sent + sent) × (new.short ≡ old.short + (if nat_lt sent length then 1 else 0))
+adds length sent old new = (new.drawn ≡ old.drawn + 1) × (new.sent ≡ old.sent + sent) ×
+    (new.short ≡ old.short + (if nat_lt sent length then 1 else 0))

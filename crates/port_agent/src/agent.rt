@@ -71,7 +71,10 @@ impl Agent {
         ensures own { self.new.at ≡ self.old.at }
         ensures out { self.new.view.out ≡ self.old.view.out }
         ensures shown { self.new.view.shown ≡ self.old.view.shown }
-        ensures ports { (took : List (Option Report)) × Attended W.faults W.runs self.new.view first wires.old wires.new took × (self.new.view.done ≡ self.old.view.done ++ taken took) × (result.drawn ≡ length (taken took)) × (result.sent ≡ units_of (taken took)) × (result.short ≡ shorts_of (taken took)) }
+        ensures ports { (took : List (Option Report)) ×
+            Attended W.faults W.runs self.new.view first wires.old wires.new took ×
+            (self.new.view.done ≡ self.old.view.done ++ taken took) × (result.drawn ≡ length (taken took)) ×
+            (result.sent ≡ units_of (taken took)) × (result.short ≡ shorts_of (taken took)) }
     {
         let _few = board.ports();
         let mut served = Served {

@@ -1,4 +1,4 @@
-// An agent of the ports: it draws grants, sends them on the wires of their ports, and reports what the wires accepted.
+//! An agent of the ports: it draws grants, sends them on the wires of their ports, and reports what the wires accepted.
 #![tactic(auto)]
 
 mod agent;

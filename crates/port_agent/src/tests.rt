@@ -14,7 +14,8 @@ fn serve_once(
     length: u64,
 ) -> (Served, Settled)
     requires own { poster.old.at ≡ board.now.id }
-    requires fresh { (poster.old.view.posts ≡ []) × (poster.old.view.settled ≡ []) × (poster.old.view.made ≡ 0) × (poster.old.view.back ≡ []) }
+    requires fresh { (poster.old.view.posts ≡ []) × (poster.old.view.settled ≡ []) × (poster.old.view.made ≡ 0) ×
+        (poster.old.view.back ≡ []) }
     requires ports { 1 ≤ board.now.ports }
     requires length { (1 ≤ length) × (length ≤ 2 ^ 41) }
 {

@@ -1,5 +1,6 @@
 -- Each step of an agent keeps the rule.
-use Rattle.std.proofs.Common.{◌≡◌, ◌≢◌, ◌⊎◌, inl, inr, ℕ, ◌+◌, ◌<◌, ◌≤◌, eqb, List, [], ◌∷◌, ◌++◌, length, get_or, set, sym, refl, ap, ◌∙◌, subst, ⊎_elim, arith, Bool, true, false, cond, filter, not, true≢false, length-set, get_or-set_other, get_or-set_same, eq-eqb, ne_eqb}
+use Rattle.std.proofs.Common.{◌≡◌, ◌≢◌, ◌⊎◌, inl, inr, ℕ, ◌+◌, ◌<◌, ◌≤◌, eqb, List, [], ◌∷◌, ◌++◌, length, get_or, set, sym, refl, ap, ◌∙◌, subst, ⊎_elim, arith, Bool, true, false}
+use Rattle.std.proofs.Common.{cond, filter, not, true≢false, length-set, get_or-set_other, get_or-set_same, eq-eqb, ne_eqb}
 use Rattle.std.specs.Prelude.{All, Contains, slice_index}
 use Rattle.std.proofs.lemmas.List.Elements.{All-push, All-weaker, All-filter, filter_passes, All-contains, All-contains_itself, Contains-push, Contains-append_left}
 use Rattle.std.proofs.lemmas.List.Quantifiers.{all_pairs_push}
@@ -23,13 +24,16 @@ use Rattle.port_board.specs.declared.view.Kind.{Kind}
 use Rattle.port_board.specs.declared.view.Kind.TheVariants.{Agent, Poster}
 use Rattle.port_board.specs.Words.{shows_granted, slot_of, flow_of}
 use Rattle.port_board.specs.Views.{grant, IsNewest, report, number_of, is_of, missed_after, reported_as}
-use Rattle.port_board.specs.Rule.{Cargo, PortOk, grant_at, count_after, DifferAt, ReportsDiffer, HoldsOnce, Posted, Out, Back, Gone, Closed, CameOk, StepOk, Counts, Knows, HasOut, HasDone, Seated, Kept}
+use Rattle.port_board.specs.Rule.{Cargo, PortOk, grant_at, count_after, DifferAt, ReportsDiffer, HoldsOnce, Posted, Out, Back, Gone, Closed, CameOk, StepOk, Counts, Knows, HasOut}
+use Rattle.port_board.specs.Rule.{HasDone, Seated, Kept}
 use Rattle.port_board.specs.Tells.{loads, after_win, after_miss, draws, won_count, after_length, reads_length, counts, counted, reports}
-use Rattle.port_board.proofs.Words.{IsGranted, IsDrawn, IsReported, drawer, reporter, units, slot_of-granted, flow_of-granted, slot_of-reported, granted_only, shows_granted-granted, stage_is}
+use Rattle.port_board.proofs.Words.{IsGranted, IsDrawn, IsReported, drawer, reporter, units, slot_of-granted, flow_of-granted, slot_of-reported, granted_only}
+use Rattle.port_board.proofs.Words.{shows_granted-granted, stage_is}
 use Rattle.coflow_units.proofs.Changes.{put, put_else}
 use Rattle.port_board.proofs.Puts.{put2, put2_here, put2_keeps, put2_other, put2_cases}
 use Rattle.port_board.proofs.Lists.{is_of-same, is_of-false, filter_keeps, misses, misses_once}
-use Rattle.port_board.proofs.Stays.{Follows, posted_stays, back_stays, gone_stays, closed_stays, came_stays, knows_stays, knows_stays_counted, ByAgent, poster_stays, poster_stays_counted}
+use Rattle.port_board.proofs.Stays.{Follows, posted_stays, back_stays, gone_stays, closed_stays, came_stays, knows_stays, knows_stays_counted, ByAgent, poster_stays}
+use Rattle.port_board.proofs.Stays.{poster_stays_counted}
 use Rattle.port_board.proofs.Moves.{St, Goes, rebuilt, unmoved, same_seat, agent_seated}
 
 abbrev pub M : Type 0
@@ -56,7 +60,8 @@ member : (gs : List Grant) (i : ℕ) (d : Grant) → i < length gs → Contains 
 member gs i d lt = All-contains_itself gs i d lt
 
 -- a port whose last post changes its stage, once it was posted
-pub port_goes : (word word' count : ℕ) (slot : ℕ → ℕ) (cargo : ℕ → ℕ → Cargo) (stage : ℕ → ℕ → PortStage) (p : ℕ) (c : PortStage) → PortOk word count (slot p) (cargo p) (stage p) → stage p (slot p) ≢ unposted → c ≢ granted
+pub port_goes : (word word' count : ℕ) (slot : ℕ → ℕ) (cargo : ℕ → ℕ → Cargo) (stage : ℕ → ℕ → PortStage) (p : ℕ) (c : PortStage) → PortOk word count (slot p) (cargo p) (stage p) →
+    stage p (slot p) ≢ unposted → c ≢ granted
     → word' ≡ word_of c (slot p) (cargo p (slot p)).0 → PortOk word' count (slot p) (cargo p) (put2 stage p (slot p) c p)
 port_goes word word' count slot cargo stage p c h had not_granted word_is = let here = put2_here stage p (slot p) c in record {
   word_is = subst (λ (x : PortStage). word' ≡ word_of x (slot p) (cargo p (slot p)).0) (sym here) word_is;
@@ -102,11 +107,13 @@ module _ (n : ℕ) where
         granted_last = h.granted_last;
         drawn_last = h.drawn_last;
         count_is = λ e.
-            let other : n + q ≢ n + p = λ same. not_granted (subst (λ (z : ℕ). stage z (slot z) ≡ granted) (omega arith) e) in get_or-set_other words (n + p) (n + q) m 0 other ∙ h.count_is e;
+            let other : n + q ≢ n + p = λ same. not_granted (subst (λ (z : ℕ). stage z (slot z) ≡ granted) (omega arith) e) in
+            get_or-set_other words (n + p) (n + q) m 0 other ∙ h.count_is e;
       }
 
   -- an agent draws or reports the last post of a port
-  moved : (s : St) (r : Kept n s) (id a p x : ℕ) (v w : View) (c : PortStage) → p < n → get_elem? s.views id ≡ some v → v.kind ≡ Agent a → Goes v w → Follows (r.stage p (r.slot p)) c
+  moved : (s : St) (r : Kept n s) (id a p x : ℕ) (v w : View) (c : PortStage) → p < n → get_elem? s.views id ≡ some v → v.kind ≡ Agent a → Goes v w →
+      Follows (r.stage p (r.slot p)) c
       → ByAgent r.slot r.cargo r.stage p c n s.words (set s.words p x) → c ≢ granted → x ≡ word_of c (r.slot p) (r.cargo p (r.slot p)).0
       → Knows r.cargo (put2 r.stage p (r.slot p) c) n (set s.words p x) r.slot w
       → ((b : ℕ) → r.stage p (r.slot p) ≡ drawn b → b ≡ a)
@@ -129,12 +136,14 @@ module _ (n : ℕ) where
       (λ e. absurd (not_poster w a w_kind e))
       (λ j d _ e is. poster_stays r.slot r.cargo r.stage p c n s.words (set s.words p x) b d (r.posting j d e is))
       (λ q m u. put2_cases r.stage p k c q m
-      (λ y. y ≡ drawn u → ((r.stage q m ≡ drawn u) × (grant_at r.cargo q m ≡ grant_at r.cargo q m) × (HasOut u (grant_at r.cargo q m) v → HasOut u (grant_at r.cargo q m) w)) ⊎ ((r.who u ≡ id) × HasOut u (grant_at r.cargo q m) w))
+      (λ y. y ≡ drawn u → ((r.stage q m ≡ drawn u) × (grant_at r.cargo q m ≡ grant_at r.cargo q m) × (HasOut u (grant_at r.cargo q m) v → HasOut u (grant_at r.cargo q m) w)) ⊎
+      ((r.who u ≡ id) × HasOut u (grant_at r.cargo q m) w))
       (λ far e. inl (e, refl, (λ h. (go.kind ∙ h.0, keep_out (grant_at r.cargo q m) h.1 far))))
       (λ qe me e. let t = new_out u e in
       inr (ap r.who t.0 ∙ sits.0, (w_kind ∙ ap Agent (sym t.0), subst (λ (z : ℕ × ℕ). Contains w.out (grant_at r.cargo z.0 z.1)) (λ i. (sym qe i, sym me i)) t.1))))
       (λ q m u h. put2_cases r.stage p k c q m
-      (λ y. y ≡ reported u h → ((r.stage q m ≡ reported u h) × (grant_at r.cargo q m ≡ grant_at r.cargo q m) × (HasDone u (report (grant_at r.cargo q m) h) v → HasDone u (report (grant_at r.cargo q m) h) w))
+      (λ y. y ≡ reported u h → ((r.stage q m ≡ reported u h) × (grant_at r.cargo q m ≡ grant_at r.cargo q m) ×
+      (HasDone u (report (grant_at r.cargo q m) h) v → HasDone u (report (grant_at r.cargo q m) h) w))
       ⊎ ((r.who u ≡ id) × HasDone u (report (grant_at r.cargo q m) h) w))
       (λ far e. inl (e, refl, has_done u (report (grant_at r.cargo q m) h)))
       (λ qe me e. let t = new_done u h e in
@@ -153,7 +162,8 @@ module _ (n : ℕ) where
   )
 
   -- what an agent knows once a look has shown that the last post which it has seen is gone
-  missing : (s : St) (r : Kept n s) (p : ℕ) (looks : List (ℕ × ℕ)) (v : View) (P : Grant → Type 0) → All P v.shown → ((g : Grant) → P g → g.port ≡ p → Gone r.cargo r.stage (p, g.slot)) → Knows r.cargo r.stage n s.words r.slot v
+  missing : (s : St) (r : Kept n s) (p : ℕ) (looks : List (ℕ × ℕ)) (v : View) (P : Grant → Type 0) → All P v.shown →
+      ((g : Grant) → P g → g.port ≡ p → Gone r.cargo r.stage (p, g.slot)) → Knows r.cargo r.stage n s.words r.slot v
       → All (Counts r.cargo r.stage n s.words Rests) v.out → Knows r.cargo r.stage n s.words r.slot (record v { step = Rests; looks = looks; missed = missed_after v p })
   missing s r p looks v P shown gone k rests = record {
     shown = k.shown;
@@ -181,7 +191,8 @@ module _ (n : ℕ) where
       let no_view : View = record v { step = Rests; looks = v.looks ++ (p, x) ∷ []; missed = missed_after v p } in
       ⊎_elim
       (λ (is : shows_granted x ≡ true).
-      let g : r.stage p (r.slot p) ≡ granted = (stage_is (r.stage p (r.slot p)) (r.slot p) (r.cargo p (r.slot p)).0 1 fits (eqb-true _ 1 (subst (λ (y : ℕ). shows_granted y ≡ true) port.word_is is))).0 refl in
+      let g : r.stage p (r.slot p) ≡ granted =
+      (stage_is (r.stage p (r.slot p)) (r.slot p) (r.cargo p (r.slot p)).0 1 fits (eqb-true _ 1 (subst (λ (y : ℕ). shows_granted y ≡ true) port.word_is is))).0 refl in
       let posted : r.stage p (r.slot p) ≢ unposted = λ e. subst IsGranted (sym g ∙ e) tt in
       let yes_knows : Knows r.cargo r.stage n s.words r.slot yes_view = record {
         shown = k.shown;
@@ -198,7 +209,8 @@ module _ (n : ℕ) where
           fits,
           posted,
           All-weaker (Posted r.cargo r.stage) (λ (q : Grant). q.port ≡ p → q.slot ≤ r.slot p)
-              (λ q h e. dite (dec_le q.slot (r.slot p)) (λ l. l) (λ over. absurd (h.0 (subst (λ (z : ℕ). r.stage z q.slot ≡ unposted) (sym e) (port.later q.slot (omega arith)))))) v.shown k.shown,
+              (λ q h e. dite (dec_le q.slot (r.slot p)) (λ l. l) (λ over. absurd (h.0 (subst (λ (z : ℕ). r.stage z q.slot ≡ unposted) (sym e) (port.later q.slot (omega arith))))))
+              v.shown k.shown,
         );
         came = k.came;
         posts = k.posts;
@@ -215,7 +227,8 @@ module _ (n : ℕ) where
       (λ q h e. (
         subst (λ (z : ℕ). r.stage z q.slot ≢ unposted) e h.0,
         (λ g. let last = port.granted_last q.slot g in let g' = subst (λ (z : ℕ). r.stage p z ≡ granted) last g in
-            true≢false (sym (shows_granted-granted _ _ fits) ∙ (ap shows_granted (sym (port.word_is ∙ ap (λ (z : PortStage). word_of z (r.slot p) (r.cargo p (r.slot p)).0) g')) ∙ not_so))),
+            true≢false (sym (shows_granted-granted _ _ fits) ∙
+            (ap shows_granted (sym (port.word_is ∙ ap (λ (z : PortStage). word_of z (r.slot p) (r.cargo p (r.slot p)).0) g')) ∙ not_so))),
       )) k resting) in (
         no_view,
         keeps,
@@ -264,7 +277,8 @@ module _ (n : ℕ) where
       } in
       let w : View = after_win p x count v in
       let number_is : number_of v.kind ≡ a = ap number_of agent_is in
-      let stays = knows_stays r.slot r.slot r.cargo r.cargo r.stage p (r.slot p) c f (λ _ _ _. refl) (λ q. omega arith) n s.words words' counts' v (not_drawn (number_of v.kind)) k in
+      let stays = knows_stays r.slot r.slot r.cargo r.cargo r.stage p (r.slot p) c f (λ _ _ _. refl) (λ q. omega arith) n s.words words' counts' v (not_drawn (number_of v.kind)) k
+      in
       let slot_is : slot_of x ≡ r.slot p = ap slot_of (hit ∙ saw.1) ∙ (slot_of-granted saw.0 (r.cargo p saw.0).0 saw.3 ∙ sym g.1) in
       let flow_is : flow_of x ≡ (r.cargo p (r.slot p)).0 = ap flow_of (hit ∙ saw.1) ∙ (flow_of-granted saw.0 (r.cargo p saw.0).0 saw.3 ∙ sym g.2) in
       let it : Grant = grant p (slot_of x) (flow_of x) count in
@@ -279,7 +293,8 @@ module _ (n : ℕ) where
         shown = stays.shown;
         out = All-push (Out r.cargo stage' (number_of v.kind)) v.out it stays.out
             (subst (Out r.cargo stage' (number_of v.kind)) (sym it_is) (put2_here r.stage p (r.slot p) c ∙ ap drawn (sym number_is), refl));
-        counts = All-push (Counts r.cargo stage' n words' (Won p count)) v.out it (subst (λ (st : Step). All (Counts r.cargo stage' n words' st) v.out) was stays.counts) (counts' p ∙ port.count_is g.0);
+        counts = All-push (Counts r.cargo stage' n words' (Won p count)) v.out it (subst (λ (st : Step). All (Counts r.cargo stage' n words' st) v.out) was stays.counts)
+            (counts' p ∙ port.count_is g.0);
         done = stays.done;
         missed = stays.missed;
         drawn_once = all_pairs_push DifferAt v.out it k.drawn_once
@@ -291,14 +306,21 @@ module _ (n : ℕ) where
         settled = stays.settled;
       } in
       let word_is = port.word_is in
-      let word_was : word_of (r.stage p (r.slot p)) (r.slot p) (r.cargo p (r.slot p)).0 ≡ word_of granted (r.slot p) (r.cargo p (r.slot p)).0 = ap (λ (z : PortStage). word_of z (r.slot p) (r.cargo p (r.slot p)).0) g.0 in (
+      let word_was : word_of (r.stage p (r.slot p)) (r.slot p) (r.cargo p (r.slot p)).0 ≡ word_of granted (r.slot p) (r.cargo p (r.slot p)).0 =
+      ap (λ (z : PortStage). word_of z (r.slot p) (r.cargo p (r.slot p)).0) g.0 in (
         w,
         keeps,
         tt,
         subst (λ (b : Bool). Kept n (stepped s p (either b new x) id me.1 w keeps)) (sym (eq-eqb x old hit))
             (moved s r id a p new v w c inside at agent_is (goes_same v w refl refl refl) f b (λ e. subst IsDrawn e tt) (omega arith) mine (λ u e. absurd (not_drawn u e))
-            (λ u e. (sym (ap drawer e), subst (Contains w.out) it_is (Contains-push v.out it))) (λ u m e. absurd (subst IsDrawn e tt)) (λ q h _. Contains-append_left v.out (it ∷ []) q h) (λ y h. h)),
-        (count, ap (λ (b : Bool). (cond b (after_win p x count v) (after_miss p x v), me.1)) (sym (eq-eqb x old hit)), holds_once s r.cargo stage' words' r.slot w mine, (λ _. newest)),
+            (λ u e. (sym (ap drawer e), subst (Contains w.out) it_is (Contains-push v.out it))) (λ u m e. absurd (subst IsDrawn e tt))
+            (λ q h _. Contains-append_left v.out (it ∷ []) q h) (λ y h. h)),
+        (
+          count,
+          ap (λ (b : Bool). (cond b (after_win p x count v) (after_miss p x v), me.1)) (sym (eq-eqb x old hit)),
+          holds_once s r.cargo stage' words' r.slot w mine,
+          (λ _. newest),
+        ),
       ))
       (λ miss.
       let w : View = after_miss p x v in
@@ -309,17 +331,24 @@ module _ (n : ℕ) where
             let g' : r.stage p (r.slot p) ≡ granted = subst (λ z. r.stage p z ≡ granted) last g in
             miss (port.word_is ∙ (ap (λ (z : PortStage). word_of z (r.slot p) (r.cargo p (r.slot p)).0) g' ∙ (ap (λ z. word_of granted z (r.cargo p z).0) same ∙ sym saw.1)))),
       ) in
-      let mine = missing s r p (v.looks ++ (p, x) ∷ []) v (λ (q : Grant). Posted r.cargo r.stage q × (q.port ≡ p → q.slot ≤ saw.0)) (λ i d l. (k.shown i d l, saw.5 i d l)) gone k resting in (
+      let mine = missing s r p (v.looks ++ (p, x) ∷ []) v (λ (q : Grant). Posted r.cargo r.stage q × (q.port ≡ p → q.slot ≤ saw.0)) (λ i d l. (k.shown i d l, saw.5 i d l)) gone k
+      resting in (
         w,
         keeps,
         tt,
         subst (λ (b : Bool). Kept n (stepped s p (either b new x) id me.1 w keeps)) (sym (ne_eqb x old miss))
             (unmoved n s r id v w at (goes_same v w refl refl refl) p (λ g h. h) (λ r h. h) mine (λ e. absurd (not_poster v a agent_is e))),
-        (count, ap (λ (b : Bool). (cond b (after_win p x count v) (after_miss p x v), me.1)) (sym (ne_eqb x old miss)), holds_once s r.cargo r.stage s.words r.slot w mine, (λ hit. absurd (miss hit))),
+        (
+          count,
+          ap (λ (b : Bool). (cond b (after_win p x count v) (after_miss p x v), me.1)) (sym (ne_eqb x old miss)),
+          holds_once s r.cargo r.stage s.words r.slot w mine,
+          (λ hit. absurd (miss hit)),
+        ),
       ))
 
   -- the read of the length, by the agent that drew the grant
-  pub reading_length : (slots id : ℕ) (me : M) (i p count a : ℕ) → me.0.kind ≡ Agent a → me.0.step ≡ Won p count → p < n → i ≡ n + p → Allows (Kept n) slots id me i (λ x. x) (reads_length (step slots i 0 0 none) me)
+  pub reading_length : (slots id : ℕ) (me : M) (i p count a : ℕ) → me.0.kind ≡ Agent a → me.0.step ≡ Won p count → p < n → i ≡ n + p →
+      Allows (Kept n) slots id me i (λ x. x) (reads_length (step slots i 0 0 none) me)
   reading_length slots id me i p count a agent_is won inside at_count s r _ at _ =
       let x : ℕ = get_or s.words i 0 in
       let v : View = me.0 in
@@ -329,7 +358,8 @@ module _ (n : ℕ) where
       let g : Grant = has.0 in
       let resting : All (Counts r.cargo r.stage n s.words Rests) v.out = subst (λ (st : Step). All (Counts r.cargo r.stage n s.words st) v.out) won k.counts in
       let is_out = All-contains (Out r.cargo r.stage (number_of v.kind)) v.out g k.out has.1 in
-      let found : x ≡ count = ap (λ (z : ℕ). get_or s.words z 0) (at_count ∙ ap (λ (z : ℕ). n + z) (sym has.2)) ∙ (All-contains (Counts r.cargo r.stage n s.words Rests) v.out g resting has.1 ∙ has.3) in
+      let found : x ≡ count = ap (λ (z : ℕ). get_or s.words z 0) (at_count ∙ ap (λ (z : ℕ). n + z) (sym has.2)) ∙
+      (All-contains (Counts r.cargo r.stage n s.words Rests) v.out g resting has.1 ∙ has.3) in
       let posted : r.stage p g.slot ≢ unposted = λ e. subst IsDrawn (sym is_out.0 ∙ subst (λ (z : ℕ). r.stage z g.slot ≡ unposted) (sym has.2) e) tt in
       let long = port.lengths g.slot posted in
       let length_is : (r.cargo p g.slot).1 ≡ x = ap (λ (z : ℕ). (r.cargo z g.slot).1) (sym has.2) ∙ (ap (λ (z : Grant). z.length) (sym is_out.1) ∙ (has.3 ∙ sym found)) in
@@ -350,11 +380,18 @@ module _ (n : ℕ) where
           posts = k.posts;
           settled = k.settled;
         } (λ e. absurd (not_poster v a agent_is e)),
-        (refl, found ∙ ap won_count (sym won), subst (λ (z : ℕ). 1 ≤ z) length_is long.0, subst (λ (z : ℕ). z ≤ 2199023255552) length_is long.1, holds_once s r.cargo r.stage s.words r.slot v k),
+        (
+          refl,
+          found ∙ ap won_count (sym won),
+          subst (λ (z : ℕ). 1 ≤ z) length_is long.0,
+          subst (λ (z : ℕ). z ≤ 2199023255552) length_is long.1,
+          holds_once s r.cargo r.stage s.words r.slot v k,
+        ),
       )
 
   -- the count written by the agent that has the grant out
-  pub counting : (slots id : ℕ) (me : M) (i p m a : ℕ) (g : Grant) → me.0.kind ≡ Agent a → me.0.step ≡ Rests → Contains me.0.out g → g.port ≡ p → p < n → i ≡ n + p → Allows (Kept n) slots id me i (λ _. m) (λ _. counts (step slots i m 0 none) me m)
+  pub counting : (slots id : ℕ) (me : M) (i p m a : ℕ) (g : Grant) → me.0.kind ≡ Agent a → me.0.step ≡ Rests → Contains me.0.out g → g.port ≡ p → p < n → i ≡ n + p →
+      Allows (Kept n) slots id me i (λ _. m) (λ _. counts (step slots i m 0 none) me m)
   counting slots id me i p m a g agent_is rests has at_port inside at_count s r _ at _ =
       let v : View = me.0 in
       let k = r.each_seat id v at in
@@ -372,7 +409,8 @@ module _ (n : ℕ) where
       let counted_now : (h : Grant) → Counts r.cargo r.stage n s.words Rests h → Counts r.cargo r.stage n words' (Counted i m) h = λ h was. dite (ℕ_discrete h.port p)
       (λ e.
       let here : n + h.port ≡ n + p = ap (λ (z : ℕ). n + z) e in
-      ap (λ (z : ℕ). get_or words' z 0) here ∙ (get_or-set_same s.words (n + p) m 0 (omega arith) ∙ sym (cond-true (eqb (n + h.port) i) m h.length (eq-eqb (n + h.port) i (here ∙ sym at_count)))))
+      ap (λ (z : ℕ). get_or words' z 0) here ∙
+      (get_or-set_same s.words (n + p) m 0 (omega arith) ∙ sym (cond-true (eqb (n + h.port) i) m h.length (eq-eqb (n + h.port) i (here ∙ sym at_count)))))
       (λ other.
       let away : n + h.port ≢ n + p = λ e. other (omega arith) in
       get_or-set_other s.words (n + p) (n + h.port) m 0 away ∙ (was ∙ sym (cond-false (eqb (n + h.port) i) m h.length (ne_eqb (n + h.port) i (λ e. away (e ∙ at_count)))))) in (
@@ -398,7 +436,9 @@ module _ (n : ℕ) where
             (λ j d other e. knows_stays_counted r.cargo r.stage n s.words r.slot p m d
             (λ h o here. other
             (same_seat r.who r.made r.returned id j a d d d.kind sits.0 sits.1
-            (ap drawer (sym (subst (λ (z : ℕ × ℕ). r.stage z.0 z.1 ≡ drawn (number_of d.kind)) (λ t. (here t, port.drawn_last h.slot (number_of d.kind) (subst (λ (z : ℕ). r.stage z h.slot ≡ drawn (number_of d.kind)) here o.0) t)) o.0) ∙ drawn_is)) (r.each_sits j d e)))
+            (ap drawer (sym (subst (λ (z : ℕ × ℕ). r.stage z.0 z.1 ≡ drawn (number_of d.kind))
+            (λ t. (here t, port.drawn_last h.slot (number_of d.kind) (subst (λ (z : ℕ). r.stage z h.slot ≡ drawn (number_of d.kind)) here o.0) t)) o.0) ∙ drawn_is))
+            (r.each_sits j d e)))
             (r.each_seat j d e))
             (λ e. absurd (not_poster v a agent_is e)) (λ j d _ e is. poster_stays_counted r.slot r.cargo r.stage p a m n s.words drawn_is d (r.posting j d e is))
             (λ q u b e. inl (e, refl, (λ h. h))) (λ q u b h e. inl (e, refl, (λ t. t)))),
@@ -406,7 +446,8 @@ module _ (n : ℕ) where
       )
 
   -- the report by the agent that has the grant out and has written its count
-  pub reporting : (slots id : ℕ) (me : M) (p x sent a : ℕ) (g : Grant) → me.0.kind ≡ Agent a → me.0.step ≡ Counted (n + p) sent → Contains me.0.out g → g.port ≡ p → p < n → x ≡ word_of (reported a sent) g.slot g.flow
+  pub reporting : (slots id : ℕ) (me : M) (p x sent a : ℕ) (g : Grant) → me.0.kind ≡ Agent a → me.0.step ≡ Counted (n + p) sent → Contains me.0.out g → g.port ≡ p → p < n →
+      x ≡ word_of (reported a sent) g.slot g.flow
       → Allows (Kept n) slots id me p (λ _. x) (λ _. reports (step slots p x 0 none) me x)
   reporting slots id me p x sent a g agent_is was has at_port inside word_is s r _ at _ =
       let v : View = me.0 in
@@ -433,7 +474,9 @@ module _ (n : ℕ) where
       } in
       let counts' : (q : ℕ) → slice_index words' (n + q) ≡ slice_index s.words (n + q) = λ q. get_or-set_other s.words p (n + q) x 0 (λ e. absurd (omega arith)) in
       let counting_is : All (Counts r.cargo r.stage n s.words (Counted (n + p) sent)) v.out = subst (λ (st : Step). All (Counts r.cargo r.stage n s.words st) v.out) was k.counts in
-      let count_is : slice_index s.words (n + p) ≡ sent = subst (λ (z : ℕ). slice_index s.words (n + z) ≡ count_after n (Counted (n + p) sent) z g.length) at_port (All-contains (Counts r.cargo r.stage n s.words (Counted (n + p) sent)) v.out g counting_is has)
+      let count_is : slice_index s.words (n + p) ≡ sent =
+      subst (λ (z : ℕ). slice_index s.words (n + z) ≡ count_after n (Counted (n + p) sent) z g.length) at_port
+      (All-contains (Counts r.cargo r.stage n s.words (Counted (n + p) sent)) v.out g counting_is has)
       ∙ cond-true (eqb (n + p) (n + p)) sent g.length (eq-eqb (n + p) (n + p) refl) in
       let b : ByAgent r.slot r.cargo r.stage p c n s.words words' = record {
         had = had;
@@ -447,19 +490,25 @@ module _ (n : ℕ) where
       let test : Grant → Bool = λ h. not (is_of g.port g.slot h) in
       let passes : All (λ h. test h ≡ true) (filter test v.out) = filter_passes test v.out in
       let outs : All (Out r.cargo r.stage (number_of v.kind)) (filter test v.out) = All-filter test (Out r.cargo r.stage (number_of v.kind)) v.out k.out in
-      let olds : All (Counts r.cargo r.stage n s.words (Counted (n + p) sent)) (filter test v.out) = All-filter test (Counts r.cargo r.stage n s.words (Counted (n + p) sent)) v.out counting_is in
+      let olds : All (Counts r.cargo r.stage n s.words (Counted (n + p) sent)) (filter test v.out) =
+      All-filter test (Counts r.cargo r.stage n s.words (Counted (n + p) sent)) v.out counting_is in
       let apart : (h : Grant) → Out r.cargo r.stage (number_of v.kind) h → test h ≡ true → h.port ≢ p = λ h o t e. true≢false
-      (sym t ∙ ap not (is_of-same g.port g.slot h (e ∙ sym at_port) (port.drawn_last h.slot (number_of v.kind) (subst (λ (z : ℕ). r.stage z h.slot ≡ drawn (number_of v.kind)) e o.0) ∙ sym last))) in
+      (sym t ∙ ap not (is_of-same g.port g.slot h (e ∙ sym at_port)
+      (port.drawn_last h.slot (number_of v.kind) (subst (λ (z : ℕ). r.stage z h.slot ≡ drawn (number_of v.kind)) e o.0) ∙ sym last))) in
       let mine : Knows r.cargo stage' n words' r.slot w = record {
-        shown = All-weaker (Posted r.cargo r.stage) (Posted r.cargo stage') (posted_stays r.slot r.slot r.cargo r.cargo r.stage p (r.slot p) c f (λ _ _ _. refl) (λ q. omega arith)) v.shown k.shown;
+        shown = All-weaker (Posted r.cargo r.stage) (Posted r.cargo stage') (posted_stays r.slot r.slot r.cargo r.cargo r.stage p (r.slot p) c f (λ _ _ _. refl) (λ q. omega arith))
+            v.shown k.shown;
         out = λ i d lt. let h : Grant = get_or (filter test v.out) i d in let o = outs i d lt in
             (put2_other r.stage p (r.slot p) c h.port h.slot (λ e _. apart h o (passes i d lt) e) ∙ o.0, o.1);
         counts = λ i d lt. let h : Grant = get_or (filter test v.out) i d in let away = apart h (outs i d lt) (passes i d lt) in
-            let places : n + h.port ≢ n + p = λ e. away (omega arith) in counts' h.port ∙ (olds i d lt ∙ cond-false (eqb (n + h.port) (n + p)) sent h.length (ne_eqb (n + h.port) (n + p) places));
+            let places : n + h.port ≢ n + p = λ e. away (omega arith) in
+            counts' h.port ∙ (olds i d lt ∙ cond-false (eqb (n + h.port) (n + p)) sent h.length (ne_eqb (n + h.port) (n + p) places));
         done = All-push (Back r.cargo stage' (number_of v.kind)) v.done (report g sent)
-            (All-weaker (Back r.cargo r.stage (number_of v.kind)) (Back r.cargo stage' (number_of v.kind)) (back_stays r.slot r.slot r.cargo r.cargo r.stage p (r.slot p) c f (λ _ _ _. refl) (λ q. omega arith) (number_of v.kind)) v.done k.done)
+            (All-weaker (Back r.cargo r.stage (number_of v.kind)) (Back r.cargo stage' (number_of v.kind))
+            (back_stays r.slot r.slot r.cargo r.cargo r.stage p (r.slot p) c f (λ _ _ _. refl) (λ q. omega arith) (number_of v.kind)) v.done k.done)
             (ap (λ (z : ℕ × ℕ). stage' z.0 z.1) (λ i. (at_port i, last i)) ∙ (put2_here r.stage p (r.slot p) c ∙ ap (λ (z : ℕ). reported z sent) (sym number_is)), is_out.1);
-        missed = All-weaker (Gone r.cargo r.stage) (Gone r.cargo stage') (gone_stays r.slot r.slot r.cargo r.cargo r.stage p (r.slot p) c f (λ _ _ _. refl) (λ q. omega arith)) v.missed k.missed;
+        missed = All-weaker (Gone r.cargo r.stage) (Gone r.cargo stage') (gone_stays r.slot r.slot r.cargo r.cargo r.stage p (r.slot p) c f (λ _ _ _. refl) (λ q. omega arith))
+            v.missed k.missed;
         drawn_once = AllPairs-filter DifferAt test v.out k.drawn_once;
         once = (
           all_pairs_push ReportsDiffer v.done (report g sent) k.once.0
@@ -467,9 +516,12 @@ module _ (n : ℕ) where
           k.once.1,
         );
         stepping = tt;
-        came = All-weaker (CameOk r.cargo r.stage) (CameOk r.cargo stage') (came_stays r.slot r.slot r.cargo r.cargo r.stage p (r.slot p) c f (λ _ _ _. refl) (λ q. omega arith)) v.back k.came;
-        posts = All-weaker (Posted r.cargo r.stage) (Posted r.cargo stage') (posted_stays r.slot r.slot r.cargo r.cargo r.stage p (r.slot p) c f (λ _ _ _. refl) (λ q. omega arith)) v.posts k.posts;
-        settled = All-weaker (Closed r.cargo r.stage) (Closed r.cargo stage') (closed_stays r.slot r.slot r.cargo r.cargo r.stage p (r.slot p) c f (λ _ _ _. refl) (λ q. omega arith)) v.settled k.settled;
+        came = All-weaker (CameOk r.cargo r.stage) (CameOk r.cargo stage') (came_stays r.slot r.slot r.cargo r.cargo r.stage p (r.slot p) c f (λ _ _ _. refl) (λ q. omega arith))
+            v.back k.came;
+        posts = All-weaker (Posted r.cargo r.stage) (Posted r.cargo stage') (posted_stays r.slot r.slot r.cargo r.cargo r.stage p (r.slot p) c f (λ _ _ _. refl) (λ q. omega arith))
+            v.posts k.posts;
+        settled = All-weaker (Closed r.cargo r.stage) (Closed r.cargo stage')
+            (closed_stays r.slot r.slot r.cargo r.cargo r.stage p (r.slot p) c f (λ _ _ _. refl) (λ q. omega arith)) v.settled k.settled;
       } in
       let word_now : x ≡ word_of c (r.slot p) (r.cargo p (r.slot p)).0 = word_is ∙ ap (λ (z : Grant). word_of c z.slot z.flow) it_is in
       let slot_is : slot_of x ≡ g.slot = ap slot_of word_now ∙ (slot_of-reported a sent (r.slot p) (r.cargo p (r.slot p)).0 fits ∙ sym last) in (

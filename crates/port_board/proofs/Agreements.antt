@@ -1,5 +1,6 @@
 -- What the rule says of the poster's lists.
-use Rattle.std.proofs.Common.{◌≡◌, ◌≢◌, ◌⊎◌, inl, inr, ℕ, zero, suc, ◌<◌, ◌≤◌, eqb, List, [], ◌∷◌, length, get_or, sym, refl, ap, ◌∙◌, subst, ⊎_elim, arith, Option, Some, None, Bool, true, false, cond, not, true≢false, ◌||◌, eq-eqb}
+use Rattle.std.proofs.Common.{◌≡◌, ◌≢◌, ◌⊎◌, inl, inr, ℕ, zero, suc, ◌<◌, ◌≤◌, eqb, List, [], ◌∷◌, length, get_or, sym, refl, ap, ◌∙◌, subst, ⊎_elim, arith, Option, Some, None}
+use Rattle.std.proofs.Common.{Bool, true, false, cond, not, true≢false, ◌||◌, eq-eqb}
 use Rattle.std.specs.Prelude.{All, AllPairs, Contains}
 use Rattle.std.proofs.lemmas.List.Elements.{All-nil, All-weaker, All-contains}
 use Rattle.std.proofs.lemmas.List.Folds.{list_any_at, Any-from_list_any}
@@ -21,7 +22,8 @@ use Rattle.port_board.specs.Views.{report, settlement, is_of, last_at, slot_or_n
 use Rattle.port_board.specs.Rule.{grant_at, stage_after, DifferAt, StandOnce, Posted, Back, Gone, Closed, CameOk, Knows, PosterOk, agent, agents, IsNumber, Seated, Kept}
 use Rattle.port_board.specs.Agreement.{SharesNothing, EachPosted, EachMissedPosted, AnswersAgree, SentCameBack, SentByAgent, Agrees, NobodyHad}
 use Rattle.port_board.specs.Tells.{IsPending}
-use Rattle.port_board.proofs.Words.{IsGranted, IsDrawn, IsReported, IsTaken, reporter, units, shows_post, shows_granted-granted, shows_drawn-drawn, shows_reported-reported, stage_is}
+use Rattle.port_board.proofs.Words.{IsGranted, IsDrawn, IsReported, IsTaken, reporter, units, shows_post, shows_granted-granted, shows_drawn-drawn, shows_reported-reported}
+use Rattle.port_board.proofs.Words.{stage_is}
 use Rattle.port_board.proofs.Lists.{last_is, is_of-true, is_of-same}
 use Rattle.port_board.proofs.Moves.{St, total_none}
 use Rattle.port_board.proofs.AgentSteps.{not_poster}
@@ -39,7 +41,8 @@ module _ (n : ℕ) (s : St) (r : Kept n s) (id : ℕ) (v : View) (at : get_elem?
   posting = r.posting id v at is
 
   pub one_out : (j a : ℕ) (d : View) → get_elem? s.views j ≡ some d → d.kind ≡ Agent a → length v.back < v.made
-  one_out j a d e kind = ⊎_elim (λ (t : r.made ≤ r.returned). absurd (none_out t)) (λ (t : r.returned < r.made). let b = its.1 in let c = its.2 in omega arith) (order r.made r.returned)
+  one_out j a d e kind = ⊎_elim (λ (t : r.made ≤ r.returned). absurd (none_out t)) (λ (t : r.returned < r.made). let b = its.1 in let c = its.2 in
+      omega arith) (order r.made r.returned)
     where
       none_out : r.made ≤ r.returned → ⊥
       none_out t = let seated = r.seated in let none_left = total_none agents s.views j d e (omega arith) in let one : agents d ≡ 1 = ap agent kind in absurd (omega arith)
@@ -101,10 +104,12 @@ module _ (n : ℕ) (s : St) (r : Kept n s) (id : ℕ) (v : View) (at : get_elem?
   one_number : (c d : Came) → Contains v.back c → Contains v.back d → c.number ≡ d.number → c ≡ d
   one_number c d has_c has_d same = dite (ℕ_discrete has_c.0 has_d.0)
       (λ e. sym has_c.2 ∙ (ap (λ (i : ℕ). get_or v.back i c) e ∙ get_or_default v.back has_d.0 c d has_d.1 ∙ has_d.2))
-      (λ far. dite (dec_le has_c.0 has_d.0) (λ below. absurd (differ has_c.0 has_d.0 c d (omega arith) has_d.1 has_c.2 has_d.2 same)) (λ above. absurd (differ has_d.0 has_c.0 d c (omega arith) has_c.1 has_d.2 has_c.2 (sym same))))
+      (λ far. dite (dec_le has_c.0 has_d.0) (λ below. absurd (differ has_c.0 has_d.0 c d (omega arith) has_d.1 has_c.2 has_d.2 same))
+      (λ above. absurd (differ has_d.0 has_c.0 d c (omega arith) has_c.1 has_d.2 has_c.2 (sym same))))
     where
       differ : (i j : ℕ) (x y : Came) → i < j → j < length v.back → get_or v.back i x ≡ x → get_or v.back j y ≡ y → x.number ≡ y.number → ⊥
-      differ i j x y lt within x_is y_is e = its.4 i j x lt within (ap (λ (z : Came). z.number) x_is ∙ (e ∙ ap (λ (z : Came). z.number) (sym y_is ∙ get_or_default v.back j y x within)))
+      differ i j x y lt within x_is y_is e =
+          its.4 i j x lt within (ap (λ (z : Came). z.number) x_is ∙ (e ∙ ap (λ (z : Came). z.number) (sym y_is ∙ get_or_default v.back j y x within)))
 
   by_agent : SentByAgent v
   by_agent y m has said =
@@ -114,7 +119,8 @@ module _ (n : ℕ) (s : St) (r : Kept n s) (id : ℕ) (v : View) (at : get_elem?
       let d = r.reported_there y.grant.port y.grant.slot a m after.1 in
       let u : View = d.0 in
       let R : Report = report (grant_at r.cargo y.grant.port y.grant.slot) m in
-      let number : (c : Came) → Contains v.back c → (r.who c.number ≡ id) × (0 < c.number) × (c.number ≤ r.made) = λ c h. All-contains (IsNumber r.who r.made id) v.back c its.3 h in
+      let number : (c : Came) → Contains v.back c →
+      (r.who c.number ≡ id) × (0 < c.number) × (c.number ≤ r.made) = λ c h. All-contains (IsNumber r.who r.made id) v.back c its.3 h in
       let same_view : r.who a ≡ id → u ≡ v = λ place. some-injective u v (sym d.1 ∙ (ap (get_elem? s.views) place ∙ at)) in
       let all_made = its.1 in
       let found : (0 < a) × (a ≤ r.made) × ((c : Came) → Contains v.back c → c.number ≡ a → Contains c.done R) = ⊎_elim
@@ -125,8 +131,11 @@ module _ (n : ℕ) (s : St) (r : Kept n s) (id : ℕ) (v : View) (at : get_elem?
       let theirs = subst (Seated r.who r.made r.returned (r.who a) u) t.0 (r.each_sits (r.who a) u d.1) in
       let same : u ≡ v = same_view (sym theirs.0 ∙ its.0) in
       let there : Contains v.back t.1.0 = subst (λ (z : View). Contains z.back t.1.0) same t.1.1 in
-      let bounds = number t.1.0 there in
-      (subst (λ (z : ℕ). 0 < z) t.1.2 bounds.1, subst (λ (z : ℕ). z ≤ r.made) t.1.2 bounds.2, λ c h e. subst (λ (z : Came). Contains z.done R) (one_number t.1.0 c there h (t.1.2 ∙ sym e)) t.1.3))
+      let bounds = number t.1.0 there in (
+        subst (λ (z : ℕ). 0 < z) t.1.2 bounds.1,
+        subst (λ (z : ℕ). z ≤ r.made) t.1.2 bounds.2,
+        λ c h e. subst (λ (z : Came). Contains z.done R) (one_number t.1.0 c there h (t.1.2 ∙ sym e)) t.1.3,
+      ))
       d.2 in
       (a, found.0, subst (λ (z : ℕ). a ≤ z) (sym all_made) found.1, λ c h e. subst (λ (g : Grant). Contains c.done (report g m)) (sym closed.1) (found.2 c h e))
 
@@ -143,7 +152,8 @@ module _ (n : ℕ) (s : St) (r : Kept n s) (id : ℕ) (v : View) (at : get_elem?
 
   -- no seat that came back had a grant that is still granted
   pub nobody_had : (g : Grant) → r.stage g.port g.slot ≡ granted → NobodyHad g v
-  nobody_had g is_granted = All-weaker (CameOk r.cargo r.stage) (λ (c : Came). All (λ (x : Report). DifferAt x.grant g) c.done × All (λ (m : ℕ × ℕ). m.0 ≡ g.port → m.1 ≡ g.slot → ⊥) c.missed)
+  nobody_had g is_granted = All-weaker (CameOk r.cargo r.stage) (λ (c : Came). All (λ (x : Report). DifferAt x.grant g) c.done ×
+      All (λ (m : ℕ × ℕ). m.0 ≡ g.port → m.1 ≡ g.slot → ⊥) c.missed)
       (λ c h. (
         All-weaker (Back r.cargo r.stage c.number) (λ (x : Report). DifferAt x.grant g)
             (λ x b pe se. subst IsReported (sym b.0 ∙ (ap (λ (z : ℕ × ℕ). r.stage z.0 z.1) (λ t. (pe t, se t)) ∙ is_granted)) tt) c.done h.0,
@@ -170,7 +180,8 @@ module _ (n : ℕ) (s : St) (r : Kept n s) (id : ℕ) (v : View) (at : get_elem?
       some_none : (x : Grant) → ◌≡◌ {A = Option Grant} (Some x) None → ⊥
       some_none x e = absurd (cc)
 
-      go : (last_at p gs ≡ None → All (λ (g : Grant). g.port ≢ p) gs) → (o : Option Grant) → last_at p gs ≡ o → ◌≡◌ {A = Option Grant} (elim o [ None ↦ cond (eqb g.port p) (Some g) None | Some m ↦ Some m ]) None → All (λ (g : Grant). g.port ≢ p) (g ∷ gs)
+      go : (last_at p gs ≡ None → All (λ (g : Grant). g.port ≢ p) gs) → (o : Option Grant) → last_at p gs ≡ o →
+          ◌≡◌ {A = Option Grant} (elim o [ None ↦ cond (eqb g.port p) (Some g) None | Some m ↦ Some m ]) None → All (λ (g : Grant). g.port ≢ p) (g ∷ gs)
       go further None is e' = cons (λ same. some_none g (sym (cond-true (eqb g.port p) (Some g) None (eq-eqb g.port p same)) ∙ e')) (further is)
       go further (Some m) is e' = absurd (some_none m e')
 
@@ -208,13 +219,16 @@ module _ (n : ℕ) (s : St) (r : Kept n s) (id : ℕ) (v : View) (at : get_elem?
           let y : Settlement = any.1 in
           let match = is_of-true g.port g.slot y.grant any.4 in
           let closed = All-contains (Closed r.cargo r.stage) v.settled y knows.settled (any.0, any.2, any.3) in
-          subst (λ (z : ℕ × ℕ). (r.stage z.0 z.1 ≢ granted) × ((j : ℕ) → r.stage z.0 z.1 ≢ drawn j)) (λ i. ((match.0 ∙ l.0) i, (match.1 ∙ l.1) i)) (over y.sent (r.stage y.grant.port y.grant.slot) closed.0)
+          subst (λ (z : ℕ × ℕ). (r.stage z.0 z.1 ≢ granted) × ((j : ℕ) → r.stage z.0 z.1 ≢ drawn j)) (λ i. ((match.0 ∙ l.0) i, (match.1 ∙ l.1) i))
+          (over y.sent (r.stage y.grant.port y.grant.slot) closed.0)
 
   -- and where it is not settled, it is granted, drawn or reported
-  pub pending : (p : ℕ) → p < n → is_unsettled p v.posts v.settled ≡ true → (r.stage p (r.slot p) ≡ granted) ⊎ ((j : ℕ) × (r.stage p (r.slot p) ≡ drawn j)) ⊎ ((j m : ℕ) × (r.stage p (r.slot p) ≡ reported j m))
+  pub pending : (p : ℕ) → p < n → is_unsettled p v.posts v.settled ≡ true → (r.stage p (r.slot p) ≡ granted) ⊎ ((j : ℕ) × (r.stage p (r.slot p) ≡ drawn j)) ⊎
+      ((j m : ℕ) × (r.stage p (r.slot p) ≡ reported j m))
   pending p inside left = go (last_at p v.posts) refl left
     where
-      stages : (g : Grant) → (g.port ≡ p) × (g.slot ≡ r.slot p) × (g ≡ grant_at r.cargo p (r.slot p)) × (r.stage p (r.slot p) ≢ unposted) → not (is_settled g v.settled) ≡ true → (x : PortStage) → r.stage p (r.slot p) ≡ x
+      stages : (g : Grant) → (g.port ≡ p) × (g.slot ≡ r.slot p) × (g ≡ grant_at r.cargo p (r.slot p)) × (r.stage p (r.slot p) ≢ unposted) → not (is_settled g v.settled) ≡ true →
+          (x : PortStage) → r.stage p (r.slot p) ≡ x
           → (x ≡ granted) ⊎ ((j : ℕ) × (x ≡ drawn j)) ⊎ ((j m : ℕ) × (x ≡ reported j m))
       stages g l left unposted e = absurd (l.3 e)
       stages g l left granted e = inl refl
@@ -226,7 +240,8 @@ module _ (n : ℕ) (s : St) (r : Kept n s) (id : ℕ) (v : View) (at : get_elem?
           (ap (λ (s : Settlement). is_of g.port g.slot s.grant) t.2 ∙ is_of-same g.port g.slot (grant_at r.cargo p (r.slot p)) (sym l.0) (sym l.1)) in
           absurd (true≢false (sym left ∙ ap not hit))
 
-      go : (o : Option Grant) → last_at p v.posts ≡ o → is_left o v.settled ≡ true → (r.stage p (r.slot p) ≡ granted) ⊎ ((j : ℕ) × (r.stage p (r.slot p) ≡ drawn j)) ⊎ ((j m : ℕ) × (r.stage p (r.slot p) ≡ reported j m))
+      go : (o : Option Grant) → last_at p v.posts ≡ o → is_left o v.settled ≡ true → (r.stage p (r.slot p) ≡ granted) ⊎ ((j : ℕ) × (r.stage p (r.slot p) ≡ drawn j)) ⊎
+          ((j m : ℕ) × (r.stage p (r.slot p) ≡ reported j m))
       go None e left = absurd (true≢false (sym left))
       go (Some g) e left = stages g (last_post p g e) left (r.stage p (r.slot p)) refl
 
@@ -237,7 +252,8 @@ module _ (n : ℕ) (s : St) (r : Kept n s) (id : ℕ) (v : View) (at : get_elem?
       let post = last_post p g last in
       let stays : r.stage p (r.slot p) ≢ taken_back = λ e. ⊎_elim (λ (t : r.stage p (r.slot p) ≡ granted). subst IsGranted (sym t ∙ e) tt)
       (λ (t : ((j : ℕ) × (r.stage p (r.slot p) ≡ drawn j)) ⊎ ((j m : ℕ) × (r.stage p (r.slot p) ≡ reported j m))).
-      ⊎_elim (λ (t : (j : ℕ) × (r.stage p (r.slot p) ≡ drawn j)). subst IsDrawn (sym t.1 ∙ e) tt) (λ (t : (j m : ℕ) × (r.stage p (r.slot p) ≡ reported j m)). subst IsReported (sym t.2 ∙ e) tt) t)
+      ⊎_elim (λ (t : (j : ℕ) × (r.stage p (r.slot p) ≡ drawn j)). subst IsDrawn (sym t.1 ∙ e) tt)
+      (λ (t : (j m : ℕ) × (r.stage p (r.slot p) ≡ reported j m)). subst IsReported (sym t.2 ∙ e) tt) t)
       (pending p inside left) in
       let shown = shows_post (r.stage p (r.slot p)) (r.slot p) (r.cargo p (r.slot p)).0 port.fits post.3 stays in (
         ap slot_of port.word_is ∙ (shown.0 ∙ sym post.1),
@@ -250,16 +266,19 @@ module _ (n : ℕ) (s : St) (r : Kept n s) (id : ℕ) (v : View) (at : get_elem?
       let fits = port.fits in
       let x : ℕ = get_or s.words p 0 in (
         ⊎_elim
-            (λ (t : r.stage p (r.slot p) ≡ granted). or_left _ _ (ap shows_granted (port.word_is ∙ ap (λ (z : PortStage). word_of z (r.slot p) (r.cargo p (r.slot p)).0) t) ∙ shows_granted-granted _ _ fits))
+            (λ (t : r.stage p (r.slot p) ≡ granted).
+            or_left _ _ (ap shows_granted (port.word_is ∙ ap (λ (z : PortStage). word_of z (r.slot p) (r.cargo p (r.slot p)).0) t) ∙ shows_granted-granted _ _ fits))
             (λ (t : ((j : ℕ) × (r.stage p (r.slot p) ≡ drawn j)) ⊎ ((j m : ℕ) × (r.stage p (r.slot p) ≡ reported j m))).
             ⊎_elim
             (λ (t : (j : ℕ) × (r.stage p (r.slot p) ≡ drawn j)).
             or_right _ _ (or_left _ _ (ap shows_drawn (port.word_is ∙ ap (λ (z : PortStage). word_of z (r.slot p) (r.cargo p (r.slot p)).0) t.1) ∙ shows_drawn-drawn t.0 _ _ fits)))
             (λ (t : (j m : ℕ) × (r.stage p (r.slot p) ≡ reported j m)).
-            or_right _ _ (or_right _ _ (ap shows_reported (port.word_is ∙ ap (λ (z : PortStage). word_of z (r.slot p) (r.cargo p (r.slot p)).0) t.2) ∙ shows_reported-reported t.0 t.1 _ _ fits))) t)
+            or_right _ _ (or_right _ _ (ap shows_reported (port.word_is ∙ ap (λ (z : PortStage). word_of z (r.slot p) (r.cargo p (r.slot p)).0) t.2) ∙
+            shows_reported-reported t.0 t.1 _ _ fits))) t)
             (pending p inside left),
         (λ shows.
-            let d = (stage_is (r.stage p (r.slot p)) (r.slot p) (r.cargo p (r.slot p)).0 2 fits (eqb-true _ 2 (subst (λ (y : ℕ). shows_drawn y ≡ true) port.word_is shows))).1 refl in
+            let d = (stage_is (r.stage p (r.slot p)) (r.slot p) (r.cargo p (r.slot p)).0 2 fits (eqb-true _ 2 (subst (λ (y : ℕ). shows_drawn y ≡ true) port.word_is shows))).1 refl
+            in
             let u = r.drawn_there p (r.slot p) d.0 d.1 in one_out (r.who d.0) d.0 u.0 u.1 u.2.0),
         shows_last p inside left,
       )

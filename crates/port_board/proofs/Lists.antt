@@ -1,5 +1,6 @@
 -- Lists of posts, drawn grants and missed grants.
-use Rattle.std.proofs.Common.{◌≡◌, ◌≢◌, ℕ, zero, suc, ◌<◌, eqb, List, [], ◌∷◌, ◌++◌, length, get_or, sym, refl, ap, ◌∙◌, subst, ⊎_elim, arith, Option, Some, None, Bool, true, false, cond, filter, true≢false, ◌&&◌, ◌||◌, eq-eqb, ne_eqb}
+use Rattle.std.proofs.Common.{◌≡◌, ◌≢◌, ℕ, zero, suc, ◌<◌, eqb, List, [], ◌∷◌, ◌++◌, length, get_or, sym, refl, ap, ◌∙◌, subst, ⊎_elim, arith, Option, Some, None, Bool, true}
+use Rattle.std.proofs.Common.{false, cond, filter, true≢false, ◌&&◌, ◌||◌, eq-eqb, ne_eqb}
 use Rattle.std.specs.Prelude.{All, AllPairs, Contains}
 use Rattle.std.specs.List.{list_any}
 use Rattle.std.proofs.lemmas.List.Elements.{All-nil, All-push, All-head, All-tail}
@@ -23,7 +24,8 @@ last_is P port h (g ∷ gs) all e = go (λ is. last_is P port h gs (All-tail P g
         let it : g ≡ h = grind arith in (subst P it (All-head P g gs all), ap (λ (x : Grant). x.port) (sym it) ∙ is)
     here (no other) e' = let none_is : None ≡ Some h = subst (λ (b : Bool). cond b (Some g) None ≡ Some h) (ne_eqb g.port port other) e' in absurd (cc)
 
-    go : (last_at port gs ≡ Some h → P h × (h.port ≡ port)) → (o : Option Grant) → last_at port gs ≡ o → elim o [ None ↦ cond (eqb g.port port) (Some g) None | Some m ↦ Some m ] ≡ Some h → P h × (h.port ≡ port)
+    go : (last_at port gs ≡ Some h → P h × (h.port ≡ port)) → (o : Option Grant) → last_at port gs ≡ o →
+        elim o [ None ↦ cond (eqb g.port port) (Some g) None | Some m ↦ Some m ] ≡ Some h → P h × (h.port ≡ port)
     go further None is e' = here (ℕ_discrete g.port port) e'
     go further (Some m) is e' = further (is ∙ e')
 
@@ -32,11 +34,14 @@ pub last_pushed : (port : ℕ) (gs : List Grant) (h : Grant) → last_at port (g
 last_pushed port [] h = refl
 last_pushed port (g ∷ gs) h = go (last_at port gs) (last_at port (gs ++ h ∷ [])) (last_pushed port gs h)
   where
-    here : (b : Bool) (o o' : Option Grant) → o' ≡ cond b (Some h) o → elim o' [ None ↦ cond (eqb g.port port) (Some g) None | Some m ↦ Some m ] ≡ cond b (Some h) (elim o [ None ↦ cond (eqb g.port port) (Some g) None | Some m ↦ Some m ])
+    here : (b : Bool) (o o' : Option Grant) → o' ≡ cond b (Some h) o →
+        elim o' [ None ↦ cond (eqb g.port port) (Some g) None | Some m ↦ Some m ] ≡ cond b (Some h) (elim o [ None ↦ cond (eqb g.port port) (Some g) None | Some m ↦ Some m ])
     here true o o' e = ap (λ (z : Option Grant). elim z [ None ↦ cond (eqb g.port port) (Some g) None | Some m ↦ Some m ]) e
     here false o o' e = ap (λ (z : Option Grant). elim z [ None ↦ cond (eqb g.port port) (Some g) None | Some m ↦ Some m ]) e
 
-    go : (o o' : Option Grant) → o' ≡ cond (eqb h.port port) (Some h) o → elim o' [ None ↦ cond (eqb g.port port) (Some g) None | Some m ↦ Some m ] ≡ cond (eqb h.port port) (Some h) (elim o [ None ↦ cond (eqb g.port port) (Some g) None | Some m ↦ Some m ])
+    go : (o o' : Option Grant) → o' ≡ cond (eqb h.port port) (Some h) o →
+        elim o' [ None ↦ cond (eqb g.port port) (Some g) None | Some m ↦ Some m ] ≡
+        cond (eqb h.port port) (Some h) (elim o [ None ↦ cond (eqb g.port port) (Some g) None | Some m ↦ Some m ])
     go o o' e = here (eqb h.port port) o o' e
 
 pub is_of-true : (port slot : ℕ) (g : Grant) → is_of port slot g ≡ true → (g.port ≡ port) × (g.slot ≡ slot)
@@ -51,7 +56,8 @@ pub is_of-same : (port slot : ℕ) (g : Grant) → g.port ≡ port → g.slot �
 is_of-same port slot g a b = rw (eq-eqb g.port port a, eq-eqb g.slot slot b) refl
 
 pub is_of-false : (port slot : ℕ) (g : Grant) → (g.port ≡ port → g.slot ≡ slot → ⊥) → is_of port slot g ≡ false
-is_of-false port slot g n = ⊎_elim (λ (t : is_of port slot g ≡ true). let s = is_of-true port slot g t in absurd (n s.0 s.1)) (λ (f : is_of port slot g ≡ false). f) (cases_Bool (is_of port slot g))
+is_of-false port slot g n = ⊎_elim (λ (t : is_of port slot g ≡ true). let s = is_of-true port slot g t in absurd (n s.0 s.1)) (λ (f : is_of port slot g ≡ false). f)
+    (cases_Bool (is_of port slot g))
 
 module _ {X : Type 0} (p : X → Bool) where
   pub any_false : (xs : List X) → list_any p xs ≡ false → All (λ x. p x ≡ false) xs
@@ -91,7 +97,8 @@ filter_keeps {X} p (y ∷ ys) x c h = go (λ t. filter_keeps p ys x t h) c.0 c.1
     go further (suc k) lt e = let r = further (k, omega arith, e) in cond_both (p y) (y ∷ filter p ys) (filter p ys) (λ l. Contains l x) (λ _. cons (filter p ys) r) (λ _. r)
 
 -- the posts that a seat missed, after a look that shows that the last one which it has seen is gone
-pub misses : (P : Grant → Type 0) (Q : ℕ × ℕ → Type 0) (v : View) (port : ℕ) → All P v.shown → ((g : Grant) → P g → g.port ≡ port → Q (port, g.slot)) → All Q v.missed → All Q (missed_after v port)
+pub misses : (P : Grant → Type 0) (Q : ℕ × ℕ → Type 0) (v : View) (port : ℕ) → All P v.shown → ((g : Grant) → P g → g.port ≡ port → Q (port, g.slot)) → All Q v.missed →
+    All Q (missed_after v port)
 misses P Q v port all gone was = go (last_at port v.shown) refl
   where
     go : (o : Option Grant) → last_at port v.shown ≡ o → All Q (missed_if v port o)
@@ -112,7 +119,8 @@ misses_once v port once = go (last_at port v.shown)
 
     new : (slot : ℕ) → is_listed v port slot ≡ false → (k : ℕ) (d : ℕ × ℕ) → k < length v.missed → get_or v.missed k d ≢ (port, slot)
     new slot e k d lt same =
-        let none = any_false (is_at slot) v.missed (or_false (list_any (λ (r : Report). is_of port slot r.grant) v.done) _ (or_false (list_any (is_of port slot) v.out) _ e)) k d lt in
+        let none = any_false (is_at slot) v.missed (or_false (list_any (λ (r : Report). is_of port slot r.grant) v.done) _ (or_false (list_any (is_of port slot) v.out) _ e)) k d lt
+        in
         true≢false (sym (rw (eq-eqb (get_or v.missed k d).0 port (ap (λ (x : ℕ × ℕ). x.0) same), eq-eqb (get_or v.missed k d).1 slot (ap (λ (x : ℕ × ℕ). x.1) same)) refl) ∙ none)
 
     go : (o : Option Grant) → AllPairs (λ m k. m ≢ k) (missed_if v port o)
@@ -125,7 +133,9 @@ pub listed : (v : View) (st : Step) (looks : List (ℕ × ℕ)) (port : ℕ) →
 listed v st looks port g last = ⊎_elim
     (λ (was : is_listed v port g.slot ≡ true). with_list (cond-true (is_listed v port g.slot) v.missed (v.missed ++ (port, g.slot) ∷ []) was) was)
     (λ (not_yet : is_listed v port g.slot ≡ false). with_list (cond-false (is_listed v port g.slot) v.missed (v.missed ++ (port, g.slot) ∷ []) not_yet)
-    (or_right (list_any (is_of port g.slot) v.out) _ (or_right (list_any (λ (r : Report). is_of port g.slot r.grant) v.done) _ (any_pushed (is_at g.slot) v.missed (port, g.slot) ∙ or_right (list_any (is_at g.slot) v.missed) _ here))))
+    (or_right (list_any (is_of port g.slot) v.out) _
+    (or_right (list_any (λ (r : Report). is_of port g.slot r.grant) v.done) _
+    (any_pushed (is_at g.slot) v.missed (port, g.slot) ∙ or_right (list_any (is_at g.slot) v.missed) _ here))))
     (cases_Bool (is_listed v port g.slot))
   where
     is_at : ℕ → ℕ × ℕ → Bool
@@ -139,5 +149,6 @@ listed v st looks port g last = ⊎_elim
     or_right false b e = e
 
     -- the list of missed grants is this one
-    with_list : {l : List (ℕ × ℕ)} → missed_if v port (Some g) ≡ l → is_listed (record v { missed = l }) port g.slot ≡ true → is_listed (record v { step = st; looks = looks; missed = missed_after v port }) port g.slot ≡ true
+    with_list : {l : List (ℕ × ℕ)} → missed_if v port (Some g) ≡ l → is_listed (record v { missed = l }) port g.slot ≡ true →
+        is_listed (record v { step = st; looks = looks; missed = missed_after v port }) port g.slot ≡ true
     with_list {l} e h = subst (λ (m : List (ℕ × ℕ)). is_listed (record v { step = st; looks = looks; missed = m }) port g.slot ≡ true) (sym (ap (missed_if v port) last ∙ e)) h

@@ -90,8 +90,12 @@ module _ (n : ℕ) (s : St) (r : Kept n s) (id : ℕ) (v w : View) (at : get_ele
       → ((j : ℕ) (d : View) → j ≢ id → get_elem? s.views j ≡ some d → Knows cargo' stage' n words' slot' d)
       → (w.kind ≡ Poster → PosterOk cargo' stage' n words' slot' w)
       → ((j : ℕ) (d : View) → j ≢ id → get_elem? s.views j ≡ some d → d.kind ≡ Poster → PosterOk cargo' stage' n words' slot' d)
-      → ((p k a : ℕ) → stage' p k ≡ drawn a → ((r.stage p k ≡ drawn a) × (grant_at r.cargo p k ≡ grant_at cargo' p k) × (HasOut a (grant_at r.cargo p k) v → HasOut a (grant_at r.cargo p k) w)) ⊎ ((r.who a ≡ id) × HasOut a (grant_at cargo' p k) w))
-      → ((p k a m : ℕ) → stage' p k ≡ reported a m → ((r.stage p k ≡ reported a m) × (grant_at r.cargo p k ≡ grant_at cargo' p k) × (HasDone a (report (grant_at r.cargo p k) m) v → HasDone a (report (grant_at r.cargo p k) m) w)) ⊎ ((r.who a ≡ id) × HasDone a (report (grant_at cargo' p k) m) w))
+      → ((p k a : ℕ) → stage' p k ≡ drawn a →
+      ((r.stage p k ≡ drawn a) × (grant_at r.cargo p k ≡ grant_at cargo' p k) × (HasOut a (grant_at r.cargo p k) v → HasOut a (grant_at r.cargo p k) w)) ⊎
+      ((r.who a ≡ id) × HasOut a (grant_at cargo' p k) w))
+      → ((p k a m : ℕ) → stage' p k ≡ reported a m →
+      ((r.stage p k ≡ reported a m) × (grant_at r.cargo p k ≡ grant_at cargo' p k) ×
+      (HasDone a (report (grant_at r.cargo p k) m) v → HasDone a (report (grant_at r.cargo p k) m) w)) ⊎ ((r.who a ≡ id) × HasDone a (report (grant_at cargo' p k) m) w))
       → Kept n record { words = words'; homes = s.homes; views = set s.views id w }
   rebuilt words' slot' cargo' stage' wide ports beyond mine others poster posters out done =
       let t = total_set agents s.views id v w at in
@@ -114,7 +118,8 @@ module _ (n : ℕ) (s : St) (r : Kept n s) (id : ℕ) (v w : View) (at : get_ele
         drawn_there = λ p k a e. ⊎_elim
             (λ (t : (r.stage p k ≡ drawn a) × (grant_at r.cargo p k ≡ grant_at cargo' p k) × (HasOut a (grant_at r.cargo p k) v → HasOut a (grant_at r.cargo p k) w)).
             let d = r.drawn_there p k a t.0 in
-            subst (λ (g : Grant). (u : View) × (get_elem? (set s.views id w) (r.who a) ≡ some u) × HasOut a g u) t.1 (still_there (HasOut a (grant_at r.cargo p k)) (r.who a) d.0 d.1 d.2 t.2))
+            subst (λ (g : Grant). (u : View) × (get_elem? (set s.views id w) (r.who a) ≡ some u) × HasOut a g u) t.1
+            (still_there (HasOut a (grant_at r.cargo p k)) (r.who a) d.0 d.1 d.2 t.2))
             (λ (t : (r.who a ≡ id) × HasOut a (grant_at cargo' p k) w). (w, ap (get_elem? (set s.views id w)) t.0 ∙ here, t.1))
             (out p k a e);
         reported_there = λ p k a m e. ⊎_elim

@@ -1,5 +1,6 @@
 -- Seats that are cut and joined keep the rule.
-use Rattle.std.proofs.Common.{◌≡◌, ◌≢◌, ◌⊎◌, inl, inr, ℕ, zero, suc, ◌+◌, ◌<◌, ◌≤◌, List, [], ◌∷◌, ◌++◌, length, get_or, set, sym, refl, ap, ◌∙◌, subst, ⊎_elim, arith, length-append, length-set}
+use Rattle.std.proofs.Common.{◌≡◌, ◌≢◌, ◌⊎◌, inl, inr, ℕ, zero, suc, ◌+◌, ◌<◌, ◌≤◌, List, [], ◌∷◌, ◌++◌, length, get_or, set, sym, refl, ap, ◌∙◌, subst, ⊎_elim, arith}
+use Rattle.std.proofs.Common.{length-append, length-set}
 use Rattle.std.specs.Prelude.{All, AllPairs, Contains, slice_index}
 use Rattle.std.proofs.lemmas.List.Elements.{All-nil, All-push, All-weaker, All-contains, Contains-push, Contains-append_left}
 use Rattle.std.proofs.lemmas.List.Quantifiers.{all_pairs_push}
@@ -20,7 +21,8 @@ use Rattle.port_board.specs.declared.view.Came.{Came}
 use Rattle.port_board.specs.declared.view.Kind.{Kind}
 use Rattle.port_board.specs.declared.view.Kind.TheVariants.{Note, Agent, Poster}
 use Rattle.port_board.specs.Views.{number_of, report, blank, one_more, newcomer, came_of, takes_in}
-use Rattle.port_board.specs.Rule.{Cargo, grant_at, DifferAt, ReportsDiffer, Posted, Out, Back, Gone, Closed, CameOk, StepOk, Counts, Knows, PosterOk, agent, agents, IsNumber, Seated, HasOut, HasDone, Kept, first_poster}
+use Rattle.port_board.specs.Rule.{Cargo, grant_at, DifferAt, ReportsDiffer, Posted, Out, Back, Gone, Closed, CameOk, StepOk, Counts, Knows, PosterOk, agent, agents, IsNumber}
+use Rattle.port_board.specs.Rule.{Seated, HasOut, HasDone, Kept, first_poster}
 use Rattle.port_board.specs.Tells.{note_of, hears, spent}
 use Rattle.port_board.proofs.Words.{IsUnposted}
 use Rattle.coflow_units.proofs.Changes.{put, put_here, put_else}
@@ -32,7 +34,8 @@ none_pairs : {A : Type 0} (R : A → A → Type 0) → AllPairs R []
 none_pairs {A} R i j d lt within = absurd (omega arith)
 
 -- a view with empty lists knows nothing
-blank_knows : (cargo : ℕ → ℕ → Cargo) (stage : ℕ → ℕ → PortStage) (n : ℕ) (words : List ℕ) (slot : ℕ → ℕ) (k : Kind) (seen : List Grant) → All (Posted cargo stage) seen → Knows cargo stage n words slot (record (blank k) { shown = seen })
+blank_knows : (cargo : ℕ → ℕ → Cargo) (stage : ℕ → ℕ → PortStage) (n : ℕ) (words : List ℕ) (slot : ℕ → ℕ) (k : Kind) (seen : List Grant) → All (Posted cargo stage) seen →
+    Knows cargo stage n words slot (record (blank k) { shown = seen })
 blank_knows cargo stage n words slot k seen all = record {
   shown = all;
   out = All-nil (Out cargo stage (number_of k));
@@ -119,8 +122,11 @@ module _ (n : ℕ) where
       let seated = r.seated in
       let long = length-set s.views id w in
       let inside = inside_of s.views id v at in
-      let back_ok : All (IsNumber who' (r.made + 1) id) v.back = All-weaker (IsNumber r.who r.made id) (IsNumber who' (r.made + 1) id) (λ c h. let le = h.2 in (old_who c.number h.2 ∙ h.0, h.1, omega arith)) v.back mine.3 in
-      let sits_old : (j : ℕ) (d : View) → j ≢ id → get_elem? s.views j ≡ some d → Seated who' (r.made + 1) r.returned j d d.kind = λ j d other e. by_kind j d d.kind (λ lead. other (one_lead s r id j v d at is e lead)) old_who (r.each_sits j d e) in record {
+      let back_ok : All (IsNumber who' (r.made + 1) id) v.back =
+      All-weaker (IsNumber r.who r.made id) (IsNumber who' (r.made + 1) id) (λ c h. let le = h.2 in (old_who c.number h.2 ∙ h.0, h.1, omega arith)) v.back mine.3 in
+      let sits_old : (j : ℕ) (d : View) → j ≢ id → get_elem? s.views j ≡ some d →
+      Seated who' (r.made + 1) r.returned j d d.kind = λ j d other e. by_kind j d d.kind (λ lead. other (one_lead s r id j v d at is e lead)) old_who (r.each_sits j d e) in
+      record {
         slot = r.slot;
         cargo = r.cargo;
         stage = r.stage;
@@ -131,19 +137,25 @@ module _ (n : ℕ) where
         each_port = r.each_port;
         beyond = r.beyond;
         seated = omega arith;
-        each_seat = λ j d e. ⊎_elim (λ (h : get_elem? vs j ≡ some d). seats_stay (λ j d. Knows r.cargo r.stage n s.words r.slot d) s.views id w (lead_knows s r id v at) (λ j d _. r.each_seat j d) j d h)
-            (λ (h : (j ≡ last) × (u ≡ d)). subst (Knows r.cargo r.stage n s.words r.slot) h.1 (blank_knows r.cargo r.stage n s.words r.slot (Agent (v.made + 1)) [] (All-nil (Posted r.cargo r.stage)))) (at_end vs u d j e);
+        each_seat = λ j d e. ⊎_elim (λ (h : get_elem? vs j ≡ some d). seats_stay (λ j d. Knows r.cargo r.stage n s.words r.slot d) s.views id w (lead_knows s r id v at)
+            (λ j d _. r.each_seat j d) j d h)
+            (λ (h : (j ≡ last) × (u ≡ d)).
+            subst (Knows r.cargo r.stage n s.words r.slot) h.1 (blank_knows r.cargo r.stage n s.words r.slot (Agent (v.made + 1)) [] (All-nil (Posted r.cargo r.stage))))
+            (at_end vs u d j e);
         each_sits = λ j d e. ⊎_elim
             (λ (h : get_elem? vs j ≡ some d). seats_stay (λ j d. Seated who' (r.made + 1) r.returned j d d.kind) s.views id w
             (subst (Seated who' (r.made + 1) r.returned id w) (sym is) (old_who 0 (omega arith) ∙ mine.0, ap (λ z. z + 1) made_is, mine.2, back_ok, mine.4)) sits_old j d h)
-            (λ (h : (j ≡ last) × (u ≡ d)). subst (λ (z : ℕ × View). Seated who' (r.made + 1) r.returned z.0 z.1 z.1.kind) (λ i. (sym h.0 i, h.1 i)) (ap who' (ap (λ z. z + 1) made_is) ∙ put_here r.who (r.made + 1) last, omega arith, omega arith))
+            (λ (h : (j ≡ last) × (u ≡ d)). subst (λ (z : ℕ × View). Seated who' (r.made + 1) r.returned z.0 z.1 z.1.kind) (λ i. (sym h.0 i, h.1 i))
+            (ap who' (ap (λ z. z + 1) made_is) ∙ put_here r.who (r.made + 1) last, omega arith, omega arith))
             (at_end vs u d j e);
         posting = λ j d e lead. ⊎_elim
-            (λ (h : get_elem? vs j ≡ some d). seats_stay (λ j d. d.kind ≡ Poster → PosterOk r.cargo r.stage n s.words r.slot d) s.views id w (λ _. lead_posts s r id v at is) (λ j d _. r.posting j d) j d h lead)
+            (λ (h : get_elem? vs j ≡ some d). seats_stay (λ j d. d.kind ≡ Poster → PosterOk r.cargo r.stage n s.words r.slot d) s.views id w (λ _. lead_posts s r id v at is)
+            (λ j d _. r.posting j d) j d h lead)
             (λ (h : (j ≡ last) × (u ≡ d)). absurd (subst IsAgent (ap (λ (z : View). z.kind) h.1 ∙ lead) tt)) (at_end vs u d j e);
         drawn_there = λ q k a e. let d = r.drawn_there q k a e in
             let seat = agent_seated r.who r.made r.returned (r.who a) a d.0 d.0.kind d.2.0 (r.each_sits (r.who a) d.0 d.1) in
-            let away : r.who a ≢ id = λ same. subst IsAgent (sym d.2.0 ∙ (ap (λ (z : View). z.kind) (some-injective d.0 v (sym d.1 ∙ (ap (get_elem? s.views) same ∙ at))) ∙ is)) tt in
+            let away : r.who a ≢ id = λ same. subst IsAgent (sym d.2.0 ∙ (ap (λ (z : View). z.kind) (some-injective d.0 v (sym d.1 ∙ (ap (get_elem? s.views) same ∙ at))) ∙ is)) tt
+            in
             (d.0, ap (get_elem? (vs ++ u ∷ [])) (old_who a seat.2) ∙ at_longer vs (u ∷ []) (r.who a) d.0 (set_else s.views id (r.who a) w away ∙ d.1), d.2);
         reported_there = λ q k a m e. let d = r.reported_there q k a m e in
             let R : Report = report (grant_at r.cargo q k) m in
@@ -155,7 +167,8 @@ module _ (n : ℕ) where
             (λ away. (d.0, place ∙ at_longer vs (u ∷ []) (r.who a) d.0 (set_else s.views id (r.who a) w away ∙ d.1), d.2));
       }
     where
-      by_kind : (j : ℕ) (d : View) (k : Kind) → (k ≡ Poster → ⊥) → ((a : ℕ) → a ≤ r.made → put r.who (r.made + 1) (length (set s.views id (one_more v))) a ≡ r.who a) → Seated r.who r.made r.returned j d k
+      by_kind : (j : ℕ) (d : View) (k : Kind) → (k ≡ Poster → ⊥) → ((a : ℕ) → a ≤ r.made → put r.who (r.made + 1) (length (set s.views id (one_more v))) a ≡ r.who a) →
+          Seated r.who r.made r.returned j d k
           → Seated (put r.who (r.made + 1) (length (set s.views id (one_more v)))) (r.made + 1) r.returned j d k
       by_kind j d Note other old h = tt
       by_kind j d (Agent a) other old h = let le = h.2 in (old a h.2 ∙ h.0, h.1, omega arith)
@@ -181,16 +194,19 @@ module _ (n : ℕ) where
         beyond = r.beyond;
         seated = omega arith;
         each_seat = λ j d e. ⊎_elim (λ (h : get_elem? vs j ≡ some d). r.each_seat j d h)
-            (λ (h : (j ≡ length vs) × (u ≡ d)). subst (Knows r.cargo r.stage n s.words r.slot) h.1 (blank_knows r.cargo r.stage n s.words r.slot Note v.posts (r.each_seat id v at).posts)) (at_end vs u d j e);
+            (λ (h : (j ≡ length vs) × (u ≡ d)).
+            subst (Knows r.cargo r.stage n s.words r.slot) h.1 (blank_knows r.cargo r.stage n s.words r.slot Note v.posts (r.each_seat id v at).posts)) (at_end vs u d j e);
         each_sits = λ j d e. ⊎_elim (λ (h : get_elem? vs j ≡ some d). r.each_sits j d h)
             (λ (h : (j ≡ length vs) × (u ≡ d)). subst (λ (z : View). Seated r.who r.made r.returned j z z.kind) h.1 tt) (at_end vs u d j e);
-        posting = λ j d e lead. ⊎_elim (λ (h : get_elem? vs j ≡ some d). r.posting j d h lead) (λ (h : (j ≡ length vs) × (u ≡ d)). absurd (subst IsNote (ap (λ (z : View). z.kind) h.1 ∙ lead) tt)) (at_end vs u d j e);
+        posting = λ j d e lead. ⊎_elim (λ (h : get_elem? vs j ≡ some d). r.posting j d h lead)
+            (λ (h : (j ≡ length vs) × (u ≡ d)). absurd (subst IsNote (ap (λ (z : View). z.kind) h.1 ∙ lead) tt)) (at_end vs u d j e);
         drawn_there = λ q k a e. let d = r.drawn_there q k a e in (d.0, at_longer vs (u ∷ []) (r.who a) d.0 d.1, d.2);
         reported_there = λ q k a m e. let d = r.reported_there q k a m e in (d.0, at_longer vs (u ∷ []) (r.who a) d.0 d.1, d.2);
       }
 
   -- an agent hears of the posts in a note
-  pub hears_note : (id : ℕ) (v : View) (other : ℕ) (w : View) (a : ℕ) → v.kind ≡ Agent a → v.step ≡ Rests → w.kind ≡ Note → w.made ≡ 0 → w.back ≡ [] → Joins (Kept n) id v other w (hears v w) spent
+  pub hears_note : (id : ℕ) (v : View) (other : ℕ) (w : View) (a : ℕ) → v.kind ≡ Agent a → v.step ≡ Rests → w.kind ≡ Note → w.made ≡ 0 → w.back ≡ [] →
+      Joins (Kept n) id v other w (hears v w) spent
   hears_note id v other w a agent_is rests note_is made_is back_is s r at apart there =
       let u : View = hears v w in
       let k = r.each_seat id v at in
@@ -211,19 +227,23 @@ module _ (n : ℕ) where
         settled = k.settled;
       })
       (λ j d _. r.each_seat j d) (λ e. absurd (not_poster v a agent_is e)) (λ j d _. r.posting j d) (λ q m b e. inl (e, refl, (λ z. z))) (λ q m b x e. inl (e, refl, (λ z. z))) in
-      rebuilt n (record { words = s.words; homes = s.homes; views = set s.views id u }) first other w spent there (goes_same w spent (sym note_is) (sym made_is) (sym back_is)) s.words first.slot first.cargo first.stage first.wide first.each_port first.beyond
+      rebuilt n (record { words = s.words; homes = s.homes; views = set s.views id u }) first other w spent there (goes_same w spent (sym note_is) (sym made_is) (sym back_is))
+      s.words first.slot first.cargo first.stage first.wide first.each_port first.beyond
       (blank_knows first.cargo first.stage n s.words first.slot Note [] (All-nil (Posted first.cargo first.stage)))
       (λ j d _. first.each_seat j d) (λ e. absurd (subst IsNote e tt)) (λ j d _. first.posting j d)
       (λ q m b e. inl (e, refl, (λ (z : HasOut b (grant_at first.cargo q m) w). absurd (subst IsNote (sym note_is ∙ z.0) tt))))
       (λ q m b x e. inl (
         e,
         refl,
-        (λ (z : HasDone b (report (grant_at first.cargo q m) x) w). ⊎_elim (λ (t : (w.kind ≡ Agent b) × Contains w.done (report (grant_at first.cargo q m) x)). absurd (subst IsNote (sym note_is ∙ t.0) tt))
-            (λ (t : (w.kind ≡ Poster) × ((c : Came) × Contains w.back c × (c.number ≡ b) × Contains c.done (report (grant_at first.cargo q m) x))). absurd (subst IsNote (sym note_is ∙ t.0) tt)) z),
+        (λ (z : HasDone b (report (grant_at first.cargo q m) x) w).
+            ⊎_elim (λ (t : (w.kind ≡ Agent b) × Contains w.done (report (grant_at first.cargo q m) x)). absurd (subst IsNote (sym note_is ∙ t.0) tt))
+            (λ (t : (w.kind ≡ Poster) × ((c : Came) × Contains w.back c × (c.number ≡ b) × Contains c.done (report (grant_at first.cargo q m) x))). absurd
+            (subst IsNote (sym note_is ∙ t.0) tt)) z),
       ))
 
   -- the poster takes the lists of an agent that holds no drawn grant
-  pub takes_agent : (id : ℕ) (v : View) (other : ℕ) (w : View) (a : ℕ) → v.kind ≡ Poster → v.step ≡ Rests → w.kind ≡ Agent a → w.out ≡ [] → Joins (Kept n) id v other w (takes_in v w) spent
+  pub takes_agent : (id : ℕ) (v : View) (other : ℕ) (w : View) (a : ℕ) → v.kind ≡ Poster → v.step ≡ Rests → w.kind ≡ Agent a → w.out ≡ [] →
+      Joins (Kept n) id v other w (takes_in v w) spent
   takes_agent id v other w a is rests agent_is none_out s r at apart there =
       let u : View = takes_in v w in
       let vs : List View = set s.views id u in
@@ -248,12 +268,17 @@ module _ (n : ℕ) where
       let seated = r.seated in
       let old_ok : All (IsNumber who' r.made id) v.back = All-weaker (IsNumber r.who r.made id) (IsNumber who' r.made id)
       (λ c g. (dite (ℕ_discrete c.number a) (λ e. ap who' e ∙ put_here r.who a id) (λ far. put_else r.who a id c.number far ∙ g.0), g.1, g.2)) v.back mine.3 in
-      let differ : (i : ℕ) (d : Came) → i < length v.back → (get_or v.back i d).number ≢ number_of w.kind = λ i d lt e. apart (sym theirs.0 ∙ (ap r.who (sym (e ∙ number_is)) ∙ (mine.3 i d lt).0)) in
+      let differ : (i : ℕ) (d : Came) → i < length v.back →
+      (get_or v.back i d).number ≢ number_of w.kind = λ i d lt e. apart (sym theirs.0 ∙ (ap r.who (sym (e ∙ number_is)) ∙ (mine.3 i d lt).0)) in
       let mine' : Seated who' r.made (r.returned + 1) id u Poster = (
         put_else r.who a id 0 (λ e. absurd (omega arith)) ∙ mine.0,
         mine.1,
         omega arith,
-        All-push (IsNumber who' r.made id) v.back new old_ok (ap who' number_is ∙ put_here r.who a id, subst (λ (z : ℕ). 0 < z) (sym number_is) theirs.1, subst (λ (z : ℕ). z ≤ r.made) (sym number_is) theirs.2),
+        All-push (IsNumber who' r.made id) v.back new old_ok (
+          ap who' number_is ∙ put_here r.who a id,
+          subst (λ (z : ℕ). 0 < z) (sym number_is) theirs.1,
+          subst (λ (z : ℕ). z ≤ r.made) (sym number_is) theirs.2,
+        ),
         all_pairs_push (λ (c d : Came). c.number ≢ d.number) v.back new mine.4 differ,
       ) in
       let its_view : Knows r.cargo r.stage n s.words r.slot u = record {
@@ -283,21 +308,27 @@ module _ (n : ℕ) where
         each_port = r.each_port;
         beyond = r.beyond;
         seated = omega arith;
-        each_seat = seats_stay (λ j d. Knows r.cargo r.stage n s.words r.slot d) vs other spent (blank_knows r.cargo r.stage n s.words r.slot Note [] (All-nil (Posted r.cargo r.stage)))
+        each_seat = seats_stay (λ j d. Knows r.cargo r.stage n s.words r.slot d) vs other spent
+            (blank_knows r.cargo r.stage n s.words r.slot Note [] (All-nil (Posted r.cargo r.stage)))
             (λ j d _ e. seats_stay (λ j d. Knows r.cargo r.stage n s.words r.slot d) s.views id u its_view (λ i x _. r.each_seat i x) j d e);
         each_sits = seats_stay (λ j d. Seated who' r.made (r.returned + 1) j d d.kind) vs other spent tt
             (λ j d far e. ⊎_elim
-            (λ (t : (j ≡ id) × (u ≡ d)). subst (λ (z : ℕ × View). Seated who' r.made (r.returned + 1) z.0 z.1 z.1.kind) (λ i. (sym t.0 i, t.1 i)) (subst (Seated who' r.made (r.returned + 1) id u) (sym is) mine'))
-            (λ (t : (j ≢ id) × (get_elem? s.views j ≡ some d)). by_kind (r.who) r.made r.returned a id j d d.kind (λ lead. t.0 (one_lead s r id j v d at is t.1 lead)) (λ e. far (sym e ∙ theirs.0)) (r.each_sits j d t.1))
+            (λ (t : (j ≡ id) × (u ≡ d)). subst (λ (z : ℕ × View). Seated who' r.made (r.returned + 1) z.0 z.1 z.1.kind) (λ i. (sym t.0 i, t.1 i))
+            (subst (Seated who' r.made (r.returned + 1) id u) (sym is) mine'))
+            (λ (t : (j ≢ id) × (get_elem? s.views j ≡ some d)). by_kind (r.who) r.made r.returned a id j d d.kind (λ lead. t.0 (one_lead s r id j v d at is t.1 lead))
+            (λ e. far (sym e ∙ theirs.0)) (r.each_sits j d t.1))
             (at_set s.views id j u d e));
         posting = seats_stay (λ j d. d.kind ≡ Poster → PosterOk r.cargo r.stage n s.words r.slot d) vs other spent (λ e. absurd (subst IsNote e tt))
             (λ j d _ e. seats_stay (λ j d. d.kind ≡ Poster → PosterOk r.cargo r.stage n s.words r.slot d) s.views id u
             (λ _. record { slot_is = h.slot_is; each_post = h.each_post; taken = h.taken; count = h.count; stepping = h.stepping }) (λ i x _. r.posting i x) j d e);
         drawn_there = λ q m b e.
             let d = r.drawn_there q m b e in
-            let not_it : r.who b ≢ other = λ same. none_has (grant_at r.cargo q m) (subst (λ (l : List Grant). Contains l (grant_at r.cargo q m)) (ap (λ (z : View). z.out) (is_it (r.who b) d.0 d.1 same) ∙ none_out) d.2.1) in
+            let not_it : r.who b ≢ other =
+            λ same. none_has (grant_at r.cargo q m)
+            (subst (λ (l : List Grant). Contains l (grant_at r.cargo q m)) (ap (λ (z : View). z.out) (is_it (r.who b) d.0 d.1 same) ∙ none_out) d.2.1) in
             let not_me : r.who b ≢ id = λ same. subst IsAgent (sym d.2.0 ∙ (ap (λ (z : View). z.kind) (is_me (r.who b) d.0 d.1 same) ∙ is)) tt in
-            let far : b ≢ a = λ e. not_it (ap r.who e ∙ theirs.0) in (d.0, ap (get_elem? (set vs other spent)) (put_else r.who a id b far) ∙ (far_id (r.who b) not_it not_me ∙ d.1), d.2);
+            let far : b ≢ a = λ e. not_it (ap r.who e ∙ theirs.0) in
+            (d.0, ap (get_elem? (set vs other spent)) (put_else r.who a id b far) ∙ (far_id (r.who b) not_it not_me ∙ d.1), d.2);
         reported_there = λ q m b x e.
             let d = r.reported_there q m b x e in
             let R : Report = report (grant_at r.cargo q m) x in
@@ -321,7 +352,8 @@ module _ (n : ℕ) where
               ap (get_elem? (set vs other spent)) (place ∙ at_me) ∙ at_id,
               ⊎_elim
                   (λ (t : (v.kind ≡ Agent b) × Contains v.done R). absurd (subst IsAgent (sym t.0 ∙ is) tt))
-                  (λ (t : (v.kind ≡ Poster) × ((c : Came) × Contains v.back c × (c.number ≡ b) × Contains c.done R)). inr (is, (t.1.0, Contains-append_left v.back (new ∷ []) t.1.0 t.1.1, t.1.2, t.1.3))) has,
+                  (λ (t : (v.kind ≡ Poster) × ((c : Came) × Contains v.back c × (c.number ≡ b) × Contains c.done R)). inr
+                  (is, (t.1.0, Contains-append_left v.back (new ∷ []) t.1.0 t.1.1, t.1.2, t.1.3))) has,
             ))
             (λ not_me. dite (ℕ_discrete (r.who b) other)
             (λ at_other.
@@ -334,7 +366,8 @@ module _ (n : ℕ) where
       none_has : (g : Grant) → Contains [] g → ⊥
       none_has g c = let lt = c.1 in absurd (omega arith)
 
-      by_kind : (who : ℕ → ℕ) (made returned a id j : ℕ) (d : View) (k : Kind) → (k ≡ Poster → ⊥) → (who a ≡ j → ⊥) → Seated who made returned j d k → Seated (put who a id) made (returned + 1) j d k
+      by_kind : (who : ℕ → ℕ) (made returned a id j : ℕ) (d : View) (k : Kind) → (k ≡ Poster → ⊥) → (who a ≡ j → ⊥) → Seated who made returned j d k →
+          Seated (put who a id) made (returned + 1) j d k
       by_kind who made returned a id j d Note lead far h = tt
       by_kind who made returned a id j d (Agent b) lead far h = (put_else who a id b (λ e. far (ap who (sym e) ∙ h.0)) ∙ h.0, h.1, h.2)
       by_kind who made returned a id j d Poster lead far h = absurd (lead refl)
@@ -360,8 +393,10 @@ module _ (n : ℕ) where
     };
     beyond = λ _ _ _. refl;
     seated = refl;
-    each_seat = λ j v e. subst (Knows (λ _ _. (0, 0)) (λ _ _. unposted) n words (λ _. 0)) (first_is j v e) (blank_knows (λ _ _. (0, 0)) (λ _ _. unposted) n words (λ _. 0) Poster [] (All-nil (Posted (λ _ _. (0, 0)) (λ _ _. unposted))));
-    each_sits = λ j v e. subst (λ (z : View). Seated (λ _. 0) 0 0 j z z.kind) (first_is j v e) (sym (first_at j v e), refl, refl, All-nil (IsNumber (λ _. 0) 0 j), none_pairs (λ (c d : Came). c.number ≢ d.number));
+    each_seat = λ j v e. subst (Knows (λ _ _. (0, 0)) (λ _ _. unposted) n words (λ _. 0)) (first_is j v e)
+        (blank_knows (λ _ _. (0, 0)) (λ _ _. unposted) n words (λ _. 0) Poster [] (All-nil (Posted (λ _ _. (0, 0)) (λ _ _. unposted))));
+    each_sits = λ j v e. subst (λ (z : View). Seated (λ _. 0) 0 0 j z z.kind) (first_is j v e)
+        (sym (first_at j v e), refl, refl, All-nil (IsNumber (λ _. 0) 0 j), none_pairs (λ (c d : Came). c.number ≢ d.number));
     posting = λ j v e _. subst (PosterOk (λ _ _. (0, 0)) (λ _ _. unposted) n words (λ _. 0)) (first_is j v e) record {
       slot_is = λ _. refl;
       each_post = λ _ _ posted. absurd (posted refl);

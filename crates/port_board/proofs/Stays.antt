@@ -111,7 +111,8 @@ module _ (slot slot' : ℕ → ℕ) (cargo cargo' : ℕ → ℕ → Cargo) (stag
   }
 
 -- what another seat knows where one count word changes, at a port where it has nothing out
-pub knows_stays_counted : (cargo : ℕ → ℕ → Cargo) (stage : ℕ → ℕ → PortStage) (n : ℕ) (words : List ℕ) (slot : ℕ → ℕ) (p m : ℕ) (v : View) → ((g : Grant) → Out cargo stage (number_of v.kind) g → g.port ≢ p)
+pub knows_stays_counted : (cargo : ℕ → ℕ → Cargo) (stage : ℕ → ℕ → PortStage) (n : ℕ) (words : List ℕ) (slot : ℕ → ℕ) (p m : ℕ) (v : View) →
+    ((g : Grant) → Out cargo stage (number_of v.kind) g → g.port ≢ p)
     → Knows cargo stage n words slot v → Knows cargo stage n (set words (n + p) m) slot v
 knows_stays_counted cargo stage n words slot p m v apart h = record {
   shown = h.shown;
@@ -177,7 +178,8 @@ module _ (slot : ℕ → ℕ) (cargo : ℕ → ℕ → Cargo) (stage : ℕ → �
     slot_is = h.slot_is;
     each_post = λ q m. put2_keeps stage p (slot p) c q m (λ x. x ≢ unposted → Contains v.posts (grant_at cargo q m)) (h.each_post q m)
         (λ _ _ t _. t b.had);
-    taken = λ q m. put2_keeps stage p (slot p) c q m (λ x. x ≡ taken_back → Contains v.settled (record { grant = grant_at cargo q m; sent = None })) (h.taken q m) (λ _ _ _ e. absurd (b.kept e));
+    taken = λ q m. put2_keeps stage p (slot p) c q m (λ x. x ≡ taken_back → Contains v.settled (record { grant = grant_at cargo q m; sent = None })) (h.taken q m)
+        (λ _ _ _ e. absurd (b.kept e));
     count = λ q a m. put2_keeps stage p (slot p) c q (slot q) (λ x. x ≡ reported a m → slice_index words' (n + q) ≡ count_after n v.step q m) (λ e. b.counts q ∙ h.count q a m e)
         (λ qe _ _ e. subst (λ (z : ℕ). slice_index words' (n + z) ≡ count_after n v.step z m) (sym qe) (b.counts p ∙ (b.counted a m e ∙ sym (uncounted b v.step m h.stepping))));
     stepping = waits b v.step h.stepping;
@@ -192,7 +194,8 @@ module _ (slot : ℕ → ℕ) (cargo : ℕ → ℕ → Cargo) (stage : ℕ → �
   waits_counted (Counted place count) h =
       let q : ℕ = h.0 in
       let is = h.1 in
-      let away : place ≢ n + p = λ e. h.5 a (subst (λ (z : ℕ). stage z (slot z) ≡ drawn a) (omega arith) out) in (q, h.1, h.2, get_or-set_other words (n + p) place m 0 away ∙ h.3, h.4, h.5)
+      let away : place ≢ n + p = λ e. h.5 a (subst (λ (z : ℕ). stage z (slot z) ≡ drawn a) (omega arith) out) in
+      (q, h.1, h.2, get_or-set_other words (n + p) place m 0 away ∙ h.3, h.4, h.5)
   waits_counted (Offered port word) h = h
   waits_counted (Ready port) h = h
 
@@ -202,6 +205,7 @@ module _ (slot : ℕ → ℕ) (cargo : ℕ → ℕ → Cargo) (stage : ℕ → �
     each_post = h.each_post;
     taken = h.taken;
     count = λ q b u e.
-        let away : n + q ≢ n + p = λ s. subst IsDrawn (sym out ∙ subst (λ (z : ℕ). stage z (slot z) ≡ reported b u) (omega arith) e) tt in get_or-set_other words (n + p) (n + q) m 0 away ∙ h.count q b u e;
+        let away : n + q ≢ n + p = λ s. subst IsDrawn (sym out ∙ subst (λ (z : ℕ). stage z (slot z) ≡ reported b u) (omega arith) e) tt in
+        get_or-set_other words (n + p) (n + q) m 0 away ∙ h.count q b u e;
     stepping = waits_counted v.step h.stepping;
   }

@@ -47,7 +47,8 @@ pub slot_of-reported : (a n slot flow : ℕ) → FitsWord slot flow → slot_of 
 slot_of-reported a n slot flow f = omega (arith, f.0, f.1)
 
 -- the word of a post that was not taken back has its slot and its flow
-pub shows_post : (x : PortStage) (slot flow : ℕ) → FitsWord slot flow → x ≢ unposted → x ≢ taken_back → (slot_of (word_of x slot flow) ≡ slot) × (flow_of (word_of x slot flow) ≡ flow)
+pub shows_post : (x : PortStage) (slot flow : ℕ) → FitsWord slot flow → x ≢ unposted → x ≢ taken_back →
+    (slot_of (word_of x slot flow) ≡ slot) × (flow_of (word_of x slot flow) ≡ flow)
 shows_post unposted slot flow f posted kept = absurd (posted refl)
 shows_post granted slot flow f posted kept = (omega (arith, f.0, f.1), omega (arith, f.0, f.1))
 shows_post (drawn j) slot flow f posted kept = (omega (arith, f.0, f.1), omega (arith, f.0, f.1))
@@ -72,7 +73,8 @@ pub shows_reported-reported : (a n slot flow : ℕ) → FitsWord slot flow → s
 shows_reported-reported a n slot flow f = eq-eqb (word_of (reported a n) slot flow / 2305843009213693952) 3 (omega (arith, f.0, f.1))
 
 -- what a word shows is the stage
-pub stage_is : (x : PortStage) (k f state : ℕ) → FitsWord k f → word_of x k f / 2305843009213693952 ≡ state → (state ≡ 1 → x ≡ granted) × (state ≡ 2 → (j : ℕ) × (x ≡ drawn j)) × (state ≡ 3 → (j m : ℕ) × (x ≡ reported j m))
+pub stage_is : (x : PortStage) (k f state : ℕ) → FitsWord k f → word_of x k f / 2305843009213693952 ≡ state →
+    (state ≡ 1 → x ≡ granted) × (state ≡ 2 → (j : ℕ) × (x ≡ drawn j)) × (state ≡ 3 → (j m : ℕ) × (x ≡ reported j m))
 stage_is unposted k f state a e = ((λ s. absurd (omega (arith, a.0, a.1, e, s))), (λ s. absurd (omega (arith, a.0, a.1, e, s))), (λ s. absurd (omega (arith, a.0, a.1, e, s))))
 stage_is granted k f state a e = ((λ s. refl), (λ s. absurd (omega (arith, a.0, a.1, e, s))), (λ s. absurd (omega (arith, a.0, a.1, e, s))))
 stage_is (drawn j) k f state a e = ((λ s. absurd (omega (arith, a.0, a.1, e, s))), (λ s. (j, refl)), (λ s. absurd (omega (arith, a.0, a.1, e, s))))

@@ -1,5 +1,6 @@
 -- The rule of the port words and their counts.
-use Rattle.std.specs.Prelude.{◌≡◌, ◌≢◌, ℕ, ◌+◌, ◌<◌, ◌≤◌, ◌==◌, cond, List, [], ◌∷◌, ◌⊎◌, All, AllPairs, Contains, length, slice_index, Option, Some, None}
+use Rattle.std.specs.Prelude.{◌≡◌, ◌≢◌, ℕ, ◌+◌, ◌<◌, ◌≤◌, ◌==◌, cond, List, [], ◌∷◌, ◌⊎◌, All, AllPairs, Contains}
+use Rattle.std.specs.Prelude.{length, slice_index, Option, Some, None}
 use mathlib.Core.Option.{some}
 use lib.ListN.{get_elem?}
 use Rattle.atomic_table.specs.Table.{State}
@@ -54,7 +55,8 @@ StandOnce done missed = AllPairs ReportsDiffer done × AllPairs (λ m k. m ≢ k
 
 -- no grant stands twice in the lists of a seat
 abbrev pub HoldsOnce : View → Type 0
-HoldsOnce v = AllPairs DifferAt v.out × All (λ (g : Grant). All (λ (r : Report). DifferAt r.grant g) v.done) v.out × StandOnce v.done v.missed
+HoldsOnce v = AllPairs DifferAt v.out × All (λ (g : Grant). All (λ (r : Report). DifferAt r.grant g) v.done) v.out ×
+    StandOnce v.done v.missed
 
 abbrev pub stage_after : Option ℕ → PortStage → Type 0
 stage_after None s = s ≡ taken_back
@@ -70,7 +72,8 @@ module _ (cargo : ℕ → ℕ → Cargo) (stage : ℕ → ℕ → PortStage) whe
 
   -- reported by this agent
   abbrev pub Back : ℕ → Report → Type 0
-  Back agent r = (stage r.grant.port r.grant.slot ≡ reported agent r.sent) × (r.grant ≡ grant_at cargo r.grant.port r.grant.slot)
+  Back agent r = (stage r.grant.port r.grant.slot ≡ reported agent r.sent) ×
+      (r.grant ≡ grant_at cargo r.grant.port r.grant.slot)
 
   -- posted, and no longer granted
   abbrev pub Gone : ℕ × ℕ → Type 0
@@ -82,9 +85,12 @@ module _ (cargo : ℕ → ℕ → Cargo) (stage : ℕ → ℕ → PortStage) whe
   abbrev pub CameOk : Came → Type 0
   CameOk c = All (Back c.number) c.done × All Gone c.missed × StandOnce c.done c.missed
 
-  -- a granted word that an agent loaded: its slot is not past the port's last one, and all posts of the port that the agent has seen are no later
+  -- a granted word that an agent loaded: its slot is not past the port's last one, and all posts of the port that the
+  -- agent has seen are no later
   abbrev pub LoadedOk : (ℕ → ℕ) → ℕ → ℕ → View → Type 0
-  LoadedOk slot port word v = (at : ℕ) × (word ≡ word_of granted at (cargo port at).0) × (at ≤ slot port) × FitsWord at (cargo port at).0 × (stage port at ≢ unposted) × All (λ (g : Grant). g.port ≡ port → g.slot ≤ at) v.shown
+  LoadedOk slot port word v = (at : ℕ) × (word ≡ word_of granted at (cargo port at).0) × (at ≤ slot port) ×
+      FitsWord at (cargo port at).0 × (stage port at ≢ unposted) ×
+      All (λ (g : Grant). g.port ≡ port → g.slot ≤ at) v.shown
 
   abbrev pub StepOk : (ℕ → ℕ) → View → Step → Type 0
   StepOk slot v Rests = Unit {0}
@@ -111,13 +117,16 @@ module _ (cargo : ℕ → ℕ → Cargo) (stage : ℕ → ℕ → PortStage) whe
     pub posts : All Posted v.posts
     pub settled : All Closed v.settled
 
-  -- what the poster is about to do at a port where nothing is granted or drawn, or where it saw a word that it alone may change
+  -- what the poster is about to do at a port where nothing is granted or drawn, or where it saw a word that it alone
+  -- may change
   abbrev pub PosterStep : ℕ → List ℕ → (ℕ → ℕ) → Step → Type 0
   PosterStep n words slot Rests = Unit {0}
   PosterStep n words slot (Loaded port word) = Unit {0}
   PosterStep n words slot (Won port count) = Unit {0}
-  PosterStep n words slot (Counted place count) = (q : ℕ) × (place ≡ n + q) × (q < n) × (slice_index words place ≡ count) × (stage q (slot q) ≢ granted) × ((j : ℕ) → stage q (slot q) ≢ drawn j)
-  PosterStep n words slot (Offered port word) = (word ≡ word_of granted (slot port) (cargo port (slot port)).0) × (stage port (slot port) ≢ unposted)
+  PosterStep n words slot (Counted place count) = (q : ℕ) × (place ≡ n + q) × (q < n) ×
+      (slice_index words place ≡ count) × (stage q (slot q) ≢ granted) × ((j : ℕ) → stage q (slot q) ≢ drawn j)
+  PosterStep n words slot (Offered port word) = (word ≡ word_of granted (slot port) (cargo port (slot port)).0) ×
+      (stage port (slot port) ≢ unposted)
   PosterStep n words slot (Ready port) = (a m : ℕ) × (stage port (slot port) ≡ reported a m)
 
   pub record PosterOk (n : ℕ) (words : List ℕ) (slot : ℕ → ℕ) (v : View) : Type 0 where
@@ -147,7 +156,8 @@ IsNumber who made seat c = (who c.number ≡ seat) × (0 < c.number) × (c.numbe
 abbrev pub Seated : (ℕ → ℕ) → ℕ → ℕ → ℕ → View → Kind → Type 0
 Seated who made returned seat v Note = Unit {0}
 Seated who made returned seat v (Agent k) = (who k ≡ seat) × (0 < k) × (k ≤ made)
-Seated who made returned seat v Poster = (who 0 ≡ seat) × (v.made ≡ made) × (length v.back ≡ returned) × All (IsNumber who made seat) v.back × AllPairs (λ (c d : Came). c.number ≢ d.number) v.back
+Seated who made returned seat v Poster = (who 0 ≡ seat) × (v.made ≡ made) × (length v.back ≡ returned) ×
+    All (IsNumber who made seat) v.back × AllPairs (λ (c d : Came). c.number ≢ d.number) v.back
 
 -- the view of agent k has this grant out
 abbrev pub HasOut : ℕ → Grant → View → Type 0
@@ -155,7 +165,8 @@ HasOut k g v = (v.kind ≡ Agent k) × Contains v.out g
 
 -- the view of agent k has this report, or it came back with the report
 abbrev pub HasDone : ℕ → Report → View → Type 0
-HasDone k r v = ((v.kind ≡ Agent k) × Contains v.done r) ⊎ ((v.kind ≡ Poster) × ((c : Came) × Contains v.back c × (c.number ≡ k) × Contains c.done r))
+HasDone k r v = ((v.kind ≡ Agent k) × Contains v.done r) ⊎
+    ((v.kind ≡ Poster) × ((c : Came) × Contains v.back c × (c.number ≡ k) × Contains c.done r))
 
 -- n ports: their words, and behind them their counts
 pub record Kept (n : ℕ) (s : State (Unit {0}) View) : Type 0 where
@@ -166,14 +177,18 @@ pub record Kept (n : ℕ) (s : State (Unit {0}) View) : Type 0 where
   pub made : ℕ
   pub returned : ℕ
   pub wide : length s.words ≡ n + n
-  pub each_port : (p : ℕ) → p < n → PortOk (slice_index s.words p) (slice_index s.words (n + p)) (slot p) (cargo p) (stage p)
+  pub each_port : (p : ℕ) → p < n →
+      PortOk (slice_index s.words p) (slice_index s.words (n + p)) (slot p) (cargo p) (stage p)
   pub beyond : (p k : ℕ) → n ≤ p → stage p k ≡ unposted
   pub seated : total agents s.views + returned ≡ made
   pub each_seat : (j : ℕ) (v : View) → get_elem? s.views j ≡ some v → Knows cargo stage n s.words slot v
   pub each_sits : (j : ℕ) (v : View) → get_elem? s.views j ≡ some v → Seated who made returned j v v.kind
-  pub posting : (j : ℕ) (v : View) → get_elem? s.views j ≡ some v → v.kind ≡ Poster → PosterOk cargo stage n s.words slot v
-  pub drawn_there : (p k a : ℕ) → stage p k ≡ drawn a → (v : View) × (get_elem? s.views (who a) ≡ some v) × HasOut a (grant_at cargo p k) v
-  pub reported_there : (p k a m : ℕ) → stage p k ≡ reported a m → (v : View) × (get_elem? s.views (who a) ≡ some v) × HasDone a (report (grant_at cargo p k) m) v
+  pub posting : (j : ℕ) (v : View) → get_elem? s.views j ≡ some v → v.kind ≡ Poster →
+      PosterOk cargo stage n s.words slot v
+  pub drawn_there : (p k a : ℕ) → stage p k ≡ drawn a →
+      (v : View) × (get_elem? s.views (who a) ≡ some v) × HasOut a (grant_at cargo p k) v
+  pub reported_there : (p k a m : ℕ) → stage p k ≡ reported a m →
+      (v : View) × (get_elem? s.views (who a) ≡ some v) × HasDone a (report (grant_at cargo p k) m) v
 
 -- the poster of a new board
 abbrev pub first_poster : View

@@ -1,5 +1,6 @@
 -- What each step on a word tells the seat that takes it.
-use Rattle.std.specs.Prelude.{◌≡◌, ℕ, ◌+◌, ◌<◌, ◌≤◌, [], ◌∷◌, ◌++◌, Contains, length, true, false, ◌==◌, ◌||◌, cond, Some, None}
+use Rattle.std.specs.Prelude.{◌≡◌, ℕ, ◌+◌, ◌<◌, ◌≤◌, [], ◌∷◌, ◌++◌, Contains, length, true, false, ◌==◌, ◌||◌, cond}
+use Rattle.std.specs.Prelude.{Some, None}
 use Rattle.atomic_table.specs.Table.{Me, Step as At}
 use Rattle.port_board.specs.declared.view.Grant.{Grant}
 use Rattle.port_board.specs.declared.view.Step.{Step}
@@ -7,7 +8,8 @@ use Rattle.port_board.specs.declared.view.Step.TheVariants.{Rests, Loaded, Won, 
 use Rattle.port_board.specs.declared.view.Kind.TheVariants.{Note}
 use Rattle.port_board.specs.declared.view.View.{View}
 use Rattle.port_board.specs.Words.{shows_granted, shows_drawn, shows_reported, slot_of, flow_of}
-use Rattle.port_board.specs.Views.{grant, missed_after, found_idle, looked, reported_as, posted_too, settled_as, last_at, is_unsettled, blank, sees, IsNewest, ShowsLast}
+use Rattle.port_board.specs.Views.{grant, missed_after, found_idle, looked, reported_as, posted_too, settled_as}
+use Rattle.port_board.specs.Views.{last_at, is_unsettled, blank, sees, IsNewest, ShowsLast}
 use Rattle.port_board.specs.Rule.{HoldsOnce}
 use Rattle.port_board.specs.Agreement.{Agrees, NobodyHad}
 
@@ -29,7 +31,11 @@ loads st m found m' = (m' ≡ (after_load st.word found m.0, m.1)) × HoldsOnce 
 
 -- an agent exchanges the granted word `old`
 abbrev pub after_win : ℕ → ℕ → ℕ → View → View
-after_win port word count v = record v { step = Won port count; looks = v.looks ++ (port, word) ∷ []; out = v.out ++ grant port (slot_of word) (flow_of word) count ∷ [] }
+after_win port word count v = record v {
+  step = Won port count;
+  looks = v.looks ++ (port, word) ∷ [];
+  out = v.out ++ grant port (slot_of word) (flow_of word) count ∷ [];
+}
 
 abbrev pub after_miss : ℕ → ℕ → View → View
 after_miss port word v = record v { step = Rests; looks = v.looks ++ (port, word) ∷ []; missed = missed_after v port }
@@ -52,10 +58,15 @@ after_length place found v = record v { step = Rests; looks = v.looks ++ (place,
 
 -- after the exchange that won the grant, and the read of its length
 abbrev pub drawn_now : ℕ → Grant → ℕ → View → View
-drawn_now ports g word v = record v { step = Rests; looks = (v.looks ++ (g.port, word) ∷ []) ++ (ports + g.port, g.length) ∷ []; out = v.out ++ g ∷ [] }
+drawn_now ports g word v = record v {
+  step = Rests;
+  looks = (v.looks ++ (g.port, word) ∷ []) ++ (ports + g.port, g.length) ∷ [];
+  out = v.out ++ g ∷ [];
+}
 
 abbrev pub reads_length : Of → Sat → ℕ → Sat → Type 0
-reads_length st m found m' = (m' ≡ (after_length st.word found m.0, m.1)) × (found ≡ won_count m.0.step) × (1 ≤ found) × (found ≤ 2199023255552) × HoldsOnce m'.0
+reads_length st m found m' = (m' ≡ (after_length st.word found m.0, m.1)) × (found ≡ won_count m.0.step) × (1 ≤ found) ×
+    (found ≤ 2199023255552) × HoldsOnce m'.0
 
 -- a number is written in a count word, by the agent that drew or by the poster
 abbrev pub counts : Of → Sat → ℕ → Sat → Type 0
@@ -67,11 +78,13 @@ counted _ = 0
 
 -- an agent reports the number that it wrote in the count word
 abbrev pub reports : Of → Sat → ℕ → Sat → Type 0
-reports st m stored m' = (g : Grant) → Contains m.0.out g → g.port ≡ st.word → g.slot ≡ slot_of stored → m' ≡ (reported_as g (counted m.0.step) m.0, m.1)
+reports st m stored m' = (g : Grant) → Contains m.0.out g → g.port ≡ st.word → g.slot ≡ slot_of stored →
+    m' ≡ (reported_as g (counted m.0.step) m.0, m.1)
 
 -- the poster posts a grant whose length it wrote in the count word
 abbrev pub posts : Of → Sat → ℕ → Sat → Type 0
-posts st m stored m' = (m' ≡ (posted_too (grant st.word (slot_of stored) (flow_of stored) (counted m.0.step)) m.0, m.1)) × (is_unsettled st.word m'.0.posts m'.0.settled ≡ true)
+posts st m stored m' = (m' ≡ (posted_too (grant st.word (slot_of stored) (flow_of stored) (counted m.0.step)) m.0, m.1))
+    × (is_unsettled st.word m'.0.posts m'.0.settled ≡ true)
 
 -- the poster loads the word of a port
 abbrev pub poster_step : ℕ → ℕ → Step
@@ -80,23 +93,29 @@ poster_step port word = cond (shows_granted word) (Offered port word) (cond (sho
 abbrev pub seen_by_poster : ℕ → ℕ → View → View
 seen_by_poster port word v = record v { step = poster_step port word; looks = v.looks ++ (port, word) ∷ [] }
 
--- an unsettled post is granted, drawn or reported, and the word shows the last post of the port; with no agent out it is not drawn
+-- an unsettled post is granted, drawn or reported, and the word shows the last post of the port; with no agent out it
+-- is not drawn
 abbrev pub IsPending : ℕ → ℕ → View → Type 0
-IsPending port word v = is_unsettled port v.posts v.settled ≡ true → ((shows_granted word || (shows_drawn word || shows_reported word)) ≡ true) × (shows_drawn word ≡ true → length v.back < v.made) × ShowsLast port word v.posts
+IsPending port word v = is_unsettled port v.posts v.settled ≡ true →
+    ((shows_granted word || (shows_drawn word || shows_reported word)) ≡ true) ×
+    (shows_drawn word ≡ true → length v.back < v.made) × ShowsLast port word v.posts
 
 abbrev pub poster_loads : Of → Sat → ℕ → Sat → Type 0
 poster_loads st m found m' = (m' ≡ (seen_by_poster st.word found m.0, m.1)) × IsPending st.word found m.0 × Agrees m'.0
 
 -- the poster exchanges the granted word `old` for 0
 abbrev pub after_take : ℕ → ℕ → ℕ → View → View
-after_take port old found v = cond (found == old) (looked port found (settled_as port None v)) (seen_by_poster port found v)
+after_take port old found v = cond (found == old) (looked port found (settled_as port None v))
+    (seen_by_poster port found v)
 
 -- where the exchange took the grant back, nobody had it; else the word is no longer granted
 abbrev pub TakesOrNot : ℕ → ℕ → ℕ → View → Type 0
-TakesOrNot port old found v = (found ≡ old → (g : Grant) → last_at port v.posts ≡ Some g → NobodyHad g v) × ((found ≡ old → ⊥) → shows_granted found ≡ false)
+TakesOrNot port old found v = (found ≡ old → (g : Grant) → last_at port v.posts ≡ Some g → NobodyHad g v) ×
+    ((found ≡ old → ⊥) → shows_granted found ≡ false)
 
 abbrev pub takes_back : Of → Sat → ℕ → Sat → Type 0
-takes_back st m found m' = (m' ≡ (after_take st.word st.first found m.0, m.1)) × IsPending st.word found m.0 × TakesOrNot st.word st.first found m.0 × Agrees m'.0
+takes_back st m found m' = (m' ≡ (after_take st.word st.first found m.0, m.1)) × IsPending st.word found m.0 ×
+    TakesOrNot st.word st.first found m.0 × Agrees m'.0
 
 abbrev pub ready_port : Step → ℕ
 ready_port (Ready port) = port
@@ -104,7 +123,8 @@ ready_port _ = 0
 
 -- the poster reads the number that was reported
 abbrev pub reads_sent : Of → Sat → ℕ → Sat → Type 0
-reads_sent st m found m' = (m' ≡ (looked st.word found (settled_as (ready_port m.0.step) (Some found) m.0), m.1)) × Agrees m'.0
+reads_sent st m found m' = (m' ≡ (looked st.word found (settled_as (ready_port m.0.step) (Some found) m.0), m.1)) ×
+    Agrees m'.0
 
 -- a look by which the poster learns what its lists say of one another
 abbrev pub learns : Of → Sat → ℕ → Sat → Type 0

@@ -1,5 +1,6 @@
 -- What contracts see of a board and of its seats, and what each call makes of the view of a seat.
-use Rattle.std.specs.Prelude.{◌≡◌, ℕ, ◌+◌, ◌-◌, ◌≤◌, List, [], ◌∷◌, ◌++◌, All, length, filter, Bool, true, false, not, ◌==◌, ◌&&◌, ◌||◌, ◌⊎◌, cond, Option, Some, None}
+use Rattle.std.specs.Prelude.{◌≡◌, ℕ, ◌+◌, ◌-◌, ◌≤◌, List, [], ◌∷◌, ◌++◌, All, length, filter, Bool, true, false, not}
+use Rattle.std.specs.Prelude.{◌==◌, ◌&&◌, ◌||◌, ◌⊎◌, cond, Option, Some, None}
 use Rattle.std.specs.List.{list_any}
 use Rattle.atomic_table.specs.Seated.{TableId}
 use Rattle.port_board.specs.declared.view.Grant.{Grant}
@@ -59,7 +60,8 @@ last_slot port posts = slot_or_none (last_at port posts)
 
 -- the word has the slot and the flow of the last of these posts at the port
 abbrev pub ShowsLast : ℕ → ℕ → List Grant → Type 0
-ShowsLast port word posts = (g : Grant) → last_at port posts ≡ Some g → (slot_of word ≡ g.slot) × (flow_of word ≡ g.flow)
+ShowsLast port word posts = (g : Grant) → last_at port posts ≡ Some g →
+    (slot_of word ≡ g.slot) × (flow_of word ≡ g.flow)
 
 abbrev pub is_settled : Grant → List Settlement → Bool
 is_settled g settled = list_any (λ (s : Settlement). is_of g.port g.slot s.grant) settled
@@ -95,7 +97,8 @@ missed_after v port = missed_if v port (last_at port v.shown)
 abbrev pub LastIsListed : ℕ → View → Type 0
 LastIsListed port v = (g : Grant) → last_at port v.shown ≡ Some g → is_listed v port g.slot ≡ true
 
--- no post of these at the grant's port has a later slot, and one of its slot is this grant, with its flow and its length
+-- no post of these at the grant's port has a later slot, and one of its slot is this grant, with its flow and its
+-- length
 pub record IsNewest (g : Grant) (posts : List Grant) : Type 0 where
   pub latest : All (λ (h : Grant). h.port ≡ g.port → h.slot ≤ g.slot) posts
   pub same : All (λ (h : Grant). h.port ≡ g.port → h.slot ≡ g.slot → h ≡ g) posts
@@ -110,22 +113,48 @@ found_idle port word v = record v { step = Rests; looks = v.looks ++ (port, word
 
 -- the seat loaded a granted word, and its exchange found another
 abbrev pub found_other : ℕ → ℕ → ℕ → View → View
-found_other port loaded found v = record v { step = Rests; looks = (v.looks ++ (port, loaded) ∷ []) ++ (port, found) ∷ []; missed = missed_after v port }
+found_other port loaded found v =
+    record v {
+      step = Rests;
+      looks = (v.looks ++ (port, loaded) ∷ []) ++ (port, found) ∷ [];
+      missed = missed_after v port;
+    }
 
 -- the seat loaded the granted word, exchanged it, and read the length in the count word
 abbrev pub drew : ℕ → ℕ → Grant → View → View
-drew ports word g v = record v { step = Rests; looks = ((v.looks ++ (g.port, word) ∷ []) ++ (g.port, word) ∷ []) ++ (ports + g.port, g.length) ∷ []; out = v.out ++ g ∷ [] }
+drew ports word g v = record v {
+  step = Rests;
+  looks = ((v.looks ++ (g.port, word) ∷ []) ++ (g.port, word) ∷ []) ++
+      (ports + g.port, g.length) ∷ [];
+  out = v.out ++ g ∷ [];
+}
 
 -- the seat reported the number for the grant
 abbrev pub reported_as : Grant → ℕ → View → View
-reported_as g sent v = record v { step = Rests; out = filter (λ h. not (is_of g.port g.slot h)) v.out; done = v.done ++ report g sent ∷ [] }
+reported_as g sent v = record v {
+  step = Rests;
+  out = filter (λ h. not (is_of g.port g.slot h)) v.out;
+  done = v.done ++ report g sent ∷ [];
+}
 
 -- the poster made one more agent
 abbrev pub one_more : View → View
 one_more v = record v { made = v.made + 1 }
 
 abbrev pub blank : Kind → View
-blank kind = record { kind = kind; made = 0; back = []; posts = []; settled = []; step = Rests; shown = []; out = []; done = []; missed = []; looks = [] }
+blank kind = record {
+  kind = kind;
+  made = 0;
+  back = [];
+  posts = [];
+  settled = [];
+  step = Rests;
+  shown = [];
+  out = [];
+  done = [];
+  missed = [];
+  looks = [];
+}
 
 -- the agent that a poster makes next
 abbrev pub newcomer : View → View
@@ -156,7 +185,8 @@ settled_if (Some g) sent settled = settled ++ settlement g sent ∷ []
 abbrev pub settled_as : ℕ → Option ℕ → View → View
 settled_as port sent v = record v { step = Rests; settled = settled_if (last_at port v.posts) sent v.settled }
 
--- the view at the last look of a settling: the one before the call, or after a look that found the word granted, so that an exchange followed
+-- the view at the last look of a settling: the one before the call, or after a look that found the word granted, so
+-- that an exchange followed
 abbrev pub Tried : ℕ → View → View → Type 0
 Tried port old before = (before ≡ old) ⊎ ((word : ℕ) × (shows_granted word ≡ true) × (before ≡ looked port word old))
 

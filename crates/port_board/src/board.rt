@@ -1,5 +1,6 @@
 //! The board of port words, its poster and its agents.
 ghost use Rattle.std.specs.Prelude.{◌≡◌, ◌≢◌, ◌⊎◌, ℕ, ◌+◌, ◌-◌, ◌*◌, ◌/◌, ◌%◌, ◌^◌, ◌<◌, ◌≤◌, [], ◌∷◌, length, true, false, ◌||◌, AllPairs, Contains, Some, None, IfOk, Result};
+ghost use Rattle.coflow_units.specs.declared.limits.TheConstants.{MAX_PORTS};
 ghost use Rattle.coflow_units.specs.PortWord.{word_of, FitsWord};
 ghost use Rattle.coflow_units.specs.PortWord.PortStage.{granted};
 ghost use Rattle.port_board.specs.declared.view.Came.{Came};
@@ -50,6 +51,7 @@ pub struct PortBoard {
 }
 
 impl Model for PortBoard {
+    ghost use Rattle.coflow_units.specs.declared.limits.TheConstants.{MAX_PORTS};
     ghost use Rattle.std.specs.Prelude.{◌≡◌, ◌+◌, ◌≤◌};
     ghost use Rattle.port_board.specs.Views.{Board};
 
@@ -57,7 +59,8 @@ impl Model for PortBoard {
 
     ghost view = { λ b. record { id = b.table.shared.table_id; ports = b.ports } };
 
-    ghost invariant = { λ b. (b.table.shared.table_id.words ≡ b.ports + b.ports) × (b.table.shared.key ≡ b.ports) × (b.table.shared.table_id.slots ≡ 0) × (1 ≤ b.ports) × (b.ports ≤ 1025) };
+    ghost invariant = { λ b. (b.table.shared.table_id.words ≡ b.ports + b.ports) × (b.table.shared.key ≡ b.ports) ×
+        (b.table.shared.table_id.slots ≡ 0) × (1 ≤ b.ports) × (b.ports ≤ MAX_PORTS + 1) };
 }
 
 /// The one seat that posts and settles. It makes the agents' seats.
@@ -78,7 +81,10 @@ impl Model for Poster {
 
     ghost view = { λ p. record { at = p.place.table_id; view = p.place.me.0 } };
 
-    ghost invariant = { λ p. (p.place.me.1 ≡ []) × (p.place.me.0.step ≡ Rests) × (IsPoster p.place.me.0.kind) × (length p.place.me.0.back + p.agents ≡ p.place.me.0.made) × (length p.posted.items + length p.posted.items ≡ p.place.table_id.words) × ((q : ℕ) → slice_index_or p.posted.items q false ≡ is_unsettled q p.place.me.0.posts p.place.me.0.settled) };
+    ghost invariant = { λ p. (p.place.me.1 ≡ []) × (p.place.me.0.step ≡ Rests) × (IsPoster p.place.me.0.kind) ×
+        (length p.place.me.0.back + p.agents ≡ p.place.me.0.made) ×
+        (length p.posted.items + length p.posted.items ≡ p.place.table_id.words) ×
+        ((q : ℕ) → slice_index_or p.posted.items q false ≡ is_unsettled q p.place.me.0.posts p.place.me.0.settled) };
 }
 
 /// The seat of an agent: a thread that draws grants and reports what it sent.
@@ -100,7 +106,9 @@ impl Model for AgentSeat {
 
     ghost view = { λ s. record { at = s.place.table_id; view = s.place.me.0 } };
 
-    ghost invariant = { λ s. (s.place.me.1 ≡ []) × (s.place.me.0.step ≡ Rests) × (s.place.me.0.kind ≡ Agent (number_of s.place.me.0.kind)) × (s.ports + s.ports ≡ s.place.table_id.words) × All (λ (g : Grant). (g.port < s.ports) × FitsWord g.slot g.flow) s.place.me.0.out };
+    ghost invariant = { λ s. (s.place.me.1 ≡ []) × (s.place.me.0.step ≡ Rests) ×
+        (s.place.me.0.kind ≡ Agent (number_of s.place.me.0.kind)) × (s.ports + s.ports ≡ s.place.table_id.words) ×
+        All (λ (g : Grant). (g.port < s.ports) × FitsWord g.slot g.flow) s.place.me.0.out };
 }
 
 /// A grant that a seat drew. Only `report` spends it.
@@ -185,7 +193,7 @@ impl PortBoard {
     ///
     /// The error is want of memory.
     pub fn new(alloc: Global, ports: u32) -> Result<(PortBoard, Poster), NoMemory>
-        requires ports { (1 ≤ ports) × (ports ≤ 1025) }
+        requires ports { (1 ≤ ports) × (ports ≤ MAX_PORTS + 1) }
         ensures board { IfOk result (λ r. (r.0.ports ≡ ports) × (r.1.at ≡ r.0.id)) }
         ensures poster { IfOk result (λ r. r.1.view ≡ first_poster) }
     {
@@ -240,7 +248,8 @@ impl PortBoard {
         requires reported { seat.view.out ≡ [] }
         ensures own { poster.new.at ≡ poster.old.at }
         ensures lists { (word : ℕ) × (poster.new.view ≡ looked 0 word (takes_in poster.old.view seat.view)) }
-        ensures handed { (c : Came) × Contains poster.new.view.back c × (c.done ≡ seat.view.done) × (c.missed ≡ seat.view.missed) }
+        ensures handed { (c : Came) × Contains poster.new.view.back c × (c.done ≡ seat.view.done) ×
+            (c.missed ≡ seat.view.missed) }
         ensures fewer { agents_out poster.new.view + 1 ≡ agents_out poster.old.view }
         ensures apart { AllPairs SharesNothing poster.new.view.back }
         ensures once { EachOnce poster.new.view }
@@ -290,15 +299,20 @@ impl PortBoard {
         requires own { seat.old.at ≡ self.now.id }
         requires port { port < self.now.ports }
         ensures own { seat.new.at ≡ seat.old.at }
-        ensures drawn { (g : Grant) → result ≡ Draw.Drawn g → (g.port ≡ port) × (seat.new.view ≡ drew self.now.ports (word_of granted g.slot g.flow) g seat.old.view) }
+        ensures drawn { (g : Grant) → result ≡ Draw.Drawn g →
+            (g.port ≡ port) × (seat.new.view ≡ drew self.now.ports (word_of granted g.slot g.flow) g seat.old.view) }
         ensures held { (g : Grant) → result ≡ Draw.Drawn g → Contains seat.new.view.out g }
         ensures length { (g : Grant) → result ≡ Draw.Drawn g → IsLength g.length }
         ensures newest { (g : Grant) → result ≡ Draw.Drawn g → IsNewest g seat.old.view.shown }
-        ensures idle { (word : ℕ) → result ≡ Draw.Idle word → (shows_granted word ≡ false) × (seat.new.view ≡ found_idle port word seat.old.view) }
-        ensures missed { (loaded found : ℕ) → result ≡ Draw.Missed loaded found → (shows_granted loaded ≡ true) × (found ≢ loaded) × (seat.new.view ≡ found_other port loaded found seat.old.view) }
+        ensures idle { (word : ℕ) → result ≡ Draw.Idle word →
+            (shows_granted word ≡ false) × (seat.new.view ≡ found_idle port word seat.old.view) }
+        ensures missed { (loaded found : ℕ) → result ≡ Draw.Missed loaded found →
+            (shows_granted loaded ≡ true) × (found ≢ loaded) ×
+            (seat.new.view ≡ found_other port loaded found seat.old.view) }
         ensures once { HoldsOnce seat.new.view }
         ensures idle_listed { (word : ℕ) → result ≡ Draw.Idle word → LastIsListed port seat.new.view }
-        ensures missed_listed { (loaded found : ℕ) → result ≡ Draw.Missed loaded found → LastIsListed port seat.new.view }
+        ensures missed_listed { (loaded found : ℕ) → result ≡ Draw.Missed loaded found →
+            LastIsListed port seat.new.view }
     {
         match self.look(&mut seat.place, port) {
             Ok(loaded) => self.exchange(&mut seat.place, port, loaded),
@@ -309,7 +323,7 @@ impl PortBoard {
     /// How many ports the board has, from 1 to 1025.
     pub fn ports(&self) -> u32
         ensures ports { result ≡ self.now.ports }
-        ensures range { (1 ≤ result) × (result ≤ 1025) }
+        ensures range { (1 ≤ result) × (result ≤ MAX_PORTS + 1) }
     {
         self.ports
     }
@@ -320,8 +334,10 @@ impl PortBoard {
         requires port { port < self.now.ports }
         requires agent { (place.old.me.0.kind ≡ Agent (number_of place.old.me.0.kind)) × (place.old.me.0.step ≡ Rests) }
         ensures own { place.new.table_id ≡ place.old.table_id }
-        ensures granted { (word : ℕ) → result ≡ Result.Ok word → (shows_granted word ≡ true) × (place.new.me ≡ (loaded_now port word place.old.me.0, place.old.me.1)) }
-        ensures idle { (word : ℕ) → result ≡ Result.Err word → (shows_granted word ≡ false) × (place.new.me ≡ (found_idle port word place.old.me.0, place.old.me.1)) }
+        ensures granted { (word : ℕ) → result ≡ Result.Ok word →
+            (shows_granted word ≡ true) × (place.new.me ≡ (loaded_now port word place.old.me.0, place.old.me.1)) }
+        ensures idle { (word : ℕ) → result ≡ Result.Err word →
+            (shows_granted word ≡ false) × (place.new.me ≡ (found_idle port word place.old.me.0, place.old.me.1)) }
         ensures once { HoldsOnce place.new.me.0 }
     {
         let loaded = self.table.shared.load::<Loads>(place, port as usize);
@@ -339,10 +355,14 @@ impl PortBoard {
         requires agent { place.old.me.0.kind ≡ Agent (number_of place.old.me.0.kind) }
         requires loaded { (place.old.me.0.step ≡ Loaded port loaded) × (shows_granted loaded ≡ true) }
         ensures own { place.new.table_id ≡ place.old.table_id }
-        ensures drawn { (g : Grant) → result ≡ Draw.Drawn g → (g.port ≡ port) × FitsWord g.slot g.flow × (loaded ≡ word_of granted g.slot g.flow) × (place.new.me ≡ (drawn_now self.now.ports g loaded place.old.me.0, place.old.me.1)) }
+        ensures drawn { (g : Grant) → result ≡ Draw.Drawn g →
+            (g.port ≡ port) × FitsWord g.slot g.flow × (loaded ≡ word_of granted g.slot g.flow) ×
+            (place.new.me ≡ (drawn_now self.now.ports g loaded place.old.me.0, place.old.me.1)) }
         ensures length { (g : Grant) → result ≡ Draw.Drawn g → IsLength g.length }
         ensures newest { (g : Grant) → result ≡ Draw.Drawn g → IsNewest g place.old.me.0.shown }
-        ensures missed { (before found : ℕ) → result ≡ Draw.Missed before found → (before ≡ loaded) × (found ≢ loaded) × (place.new.me ≡ (after_miss port found place.old.me.0, place.old.me.1)) }
+        ensures missed { (before found : ℕ) → result ≡ Draw.Missed before found →
+            (before ≡ loaded) × (found ≢ loaded) ×
+            (place.new.me ≡ (after_miss port found place.old.me.0, place.old.me.1)) }
         ensures range { (g : Grant) → result ≡ Draw.Drawn g → g.port + g.port < place.old.table_id.words }
         ensures once { HoldsOnce place.new.me.0 }
         ensures tried { (word : ℕ) → result ≢ Draw.Idle word }
@@ -389,12 +409,20 @@ impl PortBoard {
         requires port { port < self.now.ports }
         requires unsettled { is_unsettled port poster.old.view.posts poster.old.view.settled ≡ true }
         ensures own { poster.new.at ≡ poster.old.at }
-        ensures sent { (n : ℕ) → result ≡ Settled.Sent n → (word : ℕ) × (before : View) × Tried port poster.old.view before × (shows_reported word ≡ true) × (poster.new.view ≡ looked (self.now.ports + port) n (settled_as port (Some n) (looked port word before))) × ShowsLast port word poster.old.view.posts }
-        ensures taken_back { result ≡ Settled.TakenBack → (word : ℕ) × (shows_granted word ≡ true) × (poster.new.view ≡ looked port word (settled_as port None (looked port word poster.old.view))) }
-        ensures busy { (word : ℕ) → result ≡ Settled.Busy word → (before : View) × Tried port poster.old.view before × (shows_drawn word ≡ true) × (poster.new.view ≡ looked port word before) }
+        ensures sent { (n : ℕ) → result ≡ Settled.Sent n →
+            (word : ℕ) × (before : View) × Tried port poster.old.view before × (shows_reported word ≡ true) ×
+            (poster.new.view ≡ looked (self.now.ports + port) n (settled_as port (Some n) (looked port word before))) ×
+            ShowsLast port word poster.old.view.posts }
+        ensures taken_back { result ≡ Settled.TakenBack →
+            (word : ℕ) × (shows_granted word ≡ true) ×
+            (poster.new.view ≡ looked port word (settled_as port None (looked port word poster.old.view))) }
+        ensures busy { (word : ℕ) → result ≡ Settled.Busy word →
+            (before : View) × Tried port poster.old.view before × (shows_drawn word ≡ true) ×
+            (poster.new.view ≡ looked port word before) }
         ensures busy_is_posted { (word : ℕ) → result ≡ Settled.Busy word → ShowsLast port word poster.old.view.posts }
         ensures out { (word : ℕ) → result ≡ Settled.Busy word → 0 < agents_out poster.old.view }
-        ensures nobody { (g : Grant) → result ≡ Settled.TakenBack → last_at port poster.old.view.posts ≡ Some g → NobodyHad g poster.old.view }
+        ensures nobody { (g : Grant) → result ≡ Settled.TakenBack → last_at port poster.old.view.posts ≡ Some g →
+            NobodyHad g poster.old.view }
         ensures seats { (poster.new.view.back ≡ poster.old.view.back) × (poster.new.view.made ≡ poster.old.view.made) }
         ensures posts { poster.new.view.posts ≡ poster.old.view.posts }
         ensures answers { AnswersAgree poster.new.view }
@@ -414,12 +442,20 @@ impl PortBoard {
         requires unsettled { is_unsettled port place.old.me.0.posts place.old.me.0.settled ≡ true }
         ensures own { (place.new.table_id ≡ place.old.table_id) × (place.new.me.1 ≡ []) }
         ensures range { port + port < place.old.table_id.words }
-        ensures sent { (n : ℕ) → result ≡ Settled.Sent n → (word : ℕ) × (before : View) × Tried port place.old.me.0 before × (shows_reported word ≡ true) × (place.new.me.0 ≡ looked (self.now.ports + port) n (settled_as port (Some n) (looked port word before))) × ShowsLast port word place.old.me.0.posts }
-        ensures taken_back { result ≡ Settled.TakenBack → (word : ℕ) × (shows_granted word ≡ true) × (place.new.me.0 ≡ looked port word (settled_as port None (looked port word place.old.me.0))) }
-        ensures busy { (word : ℕ) → result ≡ Settled.Busy word → (before : View) × Tried port place.old.me.0 before × (shows_drawn word ≡ true) × (place.new.me.0 ≡ looked port word before) }
+        ensures sent { (n : ℕ) → result ≡ Settled.Sent n →
+            (word : ℕ) × (before : View) × Tried port place.old.me.0 before × (shows_reported word ≡ true) ×
+            (place.new.me.0 ≡ looked (self.now.ports + port) n (settled_as port (Some n) (looked port word before))) ×
+            ShowsLast port word place.old.me.0.posts }
+        ensures taken_back { result ≡ Settled.TakenBack →
+            (word : ℕ) × (shows_granted word ≡ true) ×
+            (place.new.me.0 ≡ looked port word (settled_as port None (looked port word place.old.me.0))) }
+        ensures busy { (word : ℕ) → result ≡ Settled.Busy word →
+            (before : View) × Tried port place.old.me.0 before × (shows_drawn word ≡ true) ×
+            (place.new.me.0 ≡ looked port word before) }
         ensures busy_is_posted { (word : ℕ) → result ≡ Settled.Busy word → ShowsLast port word place.old.me.0.posts }
         ensures out { (word : ℕ) → result ≡ Settled.Busy word → length place.old.me.0.back < place.old.me.0.made }
-        ensures nobody { (g : Grant) → result ≡ Settled.TakenBack → last_at port place.old.me.0.posts ≡ Some g → NobodyHad g place.old.me.0 }
+        ensures nobody { (g : Grant) → result ≡ Settled.TakenBack → last_at port place.old.me.0.posts ≡ Some g →
+            NobodyHad g place.old.me.0 }
         ensures agrees { Agrees place.new.me.0 }
     {
         let shared = &self.table.shared;
@@ -440,11 +476,15 @@ impl PortBoard {
         requires port { port < self.now.ports }
         requires poster { (IsPoster place.old.me.0.kind) × (place.old.me.0.step ≡ poster_step port word) }
         requires unsettled { is_unsettled port place.old.me.0.posts place.old.me.0.settled ≡ true }
-        requires word { (shows_granted word ≡ false) × ((shows_granted word || (shows_drawn word || shows_reported word)) ≡ true) }
+        requires word { (shows_granted word ≡ false) ×
+            ((shows_granted word || (shows_drawn word || shows_reported word)) ≡ true) }
         requires agrees { Agrees place.old.me.0 }
         ensures own { (place.new.table_id ≡ place.old.table_id) × (place.new.me.1 ≡ place.old.me.1) }
-        ensures sent { (n : ℕ) → result ≡ Settled.Sent n → (shows_reported word ≡ true) × (place.new.me.0 ≡ looked (self.now.ports + port) n (settled_as port (Some n) place.old.me.0)) }
-        ensures busy { (drawn : ℕ) → result ≡ Settled.Busy drawn → (drawn ≡ word) × (shows_drawn word ≡ true) × (place.new.me ≡ place.old.me) }
+        ensures sent { (n : ℕ) → result ≡ Settled.Sent n →
+            (shows_reported word ≡ true) ×
+            (place.new.me.0 ≡ looked (self.now.ports + port) n (settled_as port (Some n) place.old.me.0)) }
+        ensures busy { (drawn : ℕ) → result ≡ Settled.Busy drawn →
+            (drawn ≡ word) × (shows_drawn word ≡ true) × (place.new.me ≡ place.old.me) }
         ensures taken_back { result ≢ Settled.TakenBack }
         ensures agrees { Agrees place.new.me.0 }
     {

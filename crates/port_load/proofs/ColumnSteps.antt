@@ -26,9 +26,11 @@ cleared_none before totals_before n column = record {
   whole = λ row le. refl;
 }
 
-pub cleared_more : (before totals_before cells totals : List ℕ) (n column done : ℕ) → ClearedSoFar before totals_before cells totals n column done → length before ≡ length totals_before * n → column < n → done < length totals_before →
+pub cleared_more : (before totals_before cells totals : List ℕ) (n column done : ℕ) → ClearedSoFar before totals_before cells totals n column done →
+    length before ≡ length totals_before * n → column < n → done < length totals_before →
     slice_index before (done * n + column) ≤ slice_index totals_before done →
-    ClearedSoFar before totals_before (slice_set cells (done * n + column) 0) (slice_set totals done (slice_index totals done - slice_index cells (done * n + column))) n column (done + 1)
+    ClearedSoFar before totals_before (slice_set cells (done * n + column) 0) (slice_set totals done (slice_index totals done - slice_index cells (done * n + column))) n column
+    (done + 1)
 cleared_more before totals_before cells totals n column done so_far len lc lt within =
     let cells_len : length cells ≡ length totals_before * n = so_far.cells_len ∙ len in
     let other_row = λ (row : ℕ) (ne : row ≢ done). written_other cells n done column row column 0 lc lc (λ er ec. ne er) in
@@ -45,14 +47,22 @@ cleared_more before totals_before cells totals n column done so_far len lc lt wi
       taken = λ row lr. elim (cases_eq row done) [
         | inl e ↦
             let new = ap (λ k. slice_index (slice_set totals done v) k) e ∙ get_or-set_same totals done v 0 (omega (arith, so_far.totals_len)) in
-            omega (arith, new, so_far.whole done (omega arith), so_far.later done (omega arith) lt, ap (λ k. slice_index before (k * n + column)) e, ap (λ k. slice_index totals_before k) e)
+            omega (
+              arith,
+              new,
+              so_far.whole done (omega arith),
+              so_far.later done (omega arith) lt,
+              ap (λ k. slice_index before (k * n + column)) e,
+              ap (λ k. slice_index totals_before k) e,
+            )
         | inr ne ↦ ap (λ k. k + slice_index before (row * n + column)) (get_or-set_other totals done row v 0 ne) ∙ so_far.taken row (omega (arith, ne))
       ];
       whole = λ row le. get_or-set_other totals done row v 0 (λ e. omega (arith, e, le)) ∙ so_far.whole row (omega arith);
     }
 
 -- rows without a number in the column are passed by
-pub cleared_past : (before totals_before cells totals : List ℕ) (n column done next : ℕ) → ClearedSoFar before totals_before cells totals n column done → done ≤ next → next ≤ length totals_before →
+pub cleared_past : (before totals_before cells totals : List ℕ) (n column done next : ℕ) → ClearedSoFar before totals_before cells totals n column done → done ≤ next →
+    next ≤ length totals_before →
     ((row : ℕ) → done ≤ row → row < next → slice_index before (row * n + column) ≡ 0) → ClearedSoFar before totals_before cells totals n column next
 cleared_past before totals_before cells totals n column done next so_far after within none = record {
   cells_len = so_far.cells_len;

@@ -9,7 +9,8 @@ use Rattle.coflow_units.proofs.Sums.{Apart, apart_from_pairs, picked_one, sum_ad
 
 -- two places of a table with n columns are one only where row and column are
 pub other_place : (n r c r' c' : ℕ) → c < n → c' < n → (r ≡ r' → c ≡ c' → ⊥) → r * n + c ≢ r' * n + c'
-other_place n r c r' c' lt lt' differ = λ e. differ (sym (div-mul-add r n c lt) ∙ ap (λ k. k / n) e ∙ div-mul-add r' n c' lt') (sym (mod-mul-add r n c lt) ∙ ap (λ k. k % n) e ∙ mod-mul-add r' n c' lt')
+other_place n r c r' c' lt lt' differ =
+    λ e. differ (sym (div-mul-add r n c lt) ∙ ap (λ k. k / n) e ∙ div-mul-add r' n c' lt') (sym (mod-mul-add r n c lt) ∙ ap (λ k. k % n) e ∙ mod-mul-add r' n c' lt')
 
 pub in_table : (n r c rows : ℕ) → r < rows → c < n → r * n + c < rows * n
 in_table n r c rows lr lc = omega (arith, mul-add-lt r n c rows lr lc)
@@ -40,4 +41,9 @@ grown_at f g n a u here others c lt = elim (cases_Bool (a == c)) [
 
 pub sum_grows : (f g : ℕ → ℕ) (n a u : ℕ) → a < n → g a ≡ f a + u → ((c : ℕ) → c < n → c ≢ a → g c ≡ f c) → sum_by g (range_with_len 0 n) ≡ sum_by f (range_with_len 0 n) + u
 sum_grows f g n a u lt here others =
-    omega (arith, sum_same g (λ c. f c + cond (a == c) u 0) (range_with_len 0 n) (λ c has. grown_at f g n a u here others c (in_below n c has)), sum_add f (λ c. cond (a == c) u 0) (range_with_len 0 n), picked_one a (λ c. u) (range_with_len 0 n) (range_apart n) (below_in n a lt))
+    omega (
+      arith,
+      sum_same g (λ c. f c + cond (a == c) u 0) (range_with_len 0 n) (λ c has. grown_at f g n a u here others c (in_below n c has)),
+      sum_add f (λ c. cond (a == c) u 0) (range_with_len 0 n),
+      picked_one a (λ c. u) (range_with_len 0 n) (range_apart n) (below_in n a lt),
+    )

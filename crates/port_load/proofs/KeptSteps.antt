@@ -23,10 +23,12 @@ cell_other : (cells : List ℕ) (place q v : ℕ) → q ≢ place → slice_inde
 cell_other cells place q v ne = get_or-set_other cells place q v 0 ne
 
 -- a cell of another row or column
-pub written_other : (cells : List ℕ) (n row column r c v : ℕ) → column < n → c < n → (r ≡ row → c ≡ column → ⊥) → slice_index (slice_set cells (row * n + column) v) (r * n + c) ≡ slice_index cells (r * n + c)
+pub written_other : (cells : List ℕ) (n row column r c v : ℕ) → column < n → c < n → (r ≡ row → c ≡ column → ⊥) →
+    slice_index (slice_set cells (row * n + column) v) (r * n + c) ≡ slice_index cells (r * n + c)
 written_other cells n row column r c v lt lt' differ = cell_other cells (row * n + column) (r * n + c) v (other_place n r c row column lt' lt differ)
 
-pub written_same : (cells : List ℕ) (n rows row column r v : ℕ) → length cells ≡ rows * n → row < rows → column < n → r ≡ row → slice_index (slice_set cells (row * n + column) v) (r * n + column) ≡ v
+pub written_same : (cells : List ℕ) (n rows row column r v : ℕ) → length cells ≡ rows * n → row < rows → column < n → r ≡ row →
+    slice_index (slice_set cells (row * n + column) v) (r * n + column) ≡ v
 written_same cells n rows row column r v len lr lc e =
     ap (λ k. slice_index (slice_set cells (row * n + column) v) (k * n + column)) e ∙ cell_same cells (row * n + column) v (omega (arith, len, in_table n row column rows lr lc))
 
@@ -54,7 +56,8 @@ pub record IsMarkedAt (old new : MarkTable) (row column : ℕ) : Type 0 where
   pub others : (r c : ℕ) → mark_at new r c ≡ 0 → mark_at old r c ≡ 0
 
 -- units are added to a cell and to the total of its row
-pub kept_more : (coflows ports : ℕ) (cells totals : List ℕ) (by_port by_coflow by_port' by_coflow' : MarkTable) (row coflow units old total : ℕ) → IsKept coflows ports cells totals by_port by_coflow → row < ports + ports → coflow < coflows →
+pub kept_more : (coflows ports : ℕ) (cells totals : List ℕ) (by_port by_coflow by_port' by_coflow' : MarkTable) (row coflow units old total : ℕ) →
+    IsKept coflows ports cells totals by_port by_coflow → row < ports + ports → coflow < coflows →
     old ≡ slice_index cells (row * coflows + coflow) → total ≡ slice_index totals row → IsMarkedAt by_port by_port' row coflow → IsMarkedAt by_coflow by_coflow' coflow row →
     IsKept coflows ports (slice_set cells (row * coflows + coflow) (old + units)) (slice_set totals row (total + units)) by_port' by_coflow'
 kept_more coflows ports cells totals by_port by_coflow by_port' by_coflow' row coflow units old total kept lr lc is total_is at_port of_coflow = record {
@@ -68,18 +71,23 @@ kept_more coflows ports cells totals by_port by_coflow by_port' by_coflow' row c
   coflow_rows = of_coflow.shape.rows ∙ kept.coflow_rows;
   coflow_columns = of_coflow.shape.columns ∙ kept.coflow_columns;
   total = λ r lt. elim (cases_eq r row) [
-    | inl e ↦ ap (λ k. slice_index (slice_set totals row (total + units)) k) e ∙ cell_same totals row (total + units) (omega (arith, kept.totals_len)) ∙ ap (λ k. k + units) (total_is ∙ kept.total row lr)
-        ∙ sym (row_grows cells coflows (ports + ports) row coflow old units kept.cells_len lr lc is) ∙ ap (λ k. row_total (slice_set cells (row * coflows + coflow) (old + units)) coflows k) (sym e)
+    | inl e ↦ ap (λ k. slice_index (slice_set totals row (total + units)) k) e ∙ cell_same totals row (total + units) (omega (arith, kept.totals_len)) ∙
+        ap (λ k. k + units) (total_is ∙ kept.total row lr)
+        ∙ sym (row_grows cells coflows (ports + ports) row coflow old units kept.cells_len lr lc is) ∙
+        ap (λ k. row_total (slice_set cells (row * coflows + coflow) (old + units)) coflows k) (sym e)
     | inr ne ↦ cell_other totals row r (total + units) ne ∙ kept.total r lt ∙ sym (row_stays cells coflows row coflow r (old + units) lc ne)
   ];
   by_port_none = λ c r lt lt' mark.
-      written_other cells coflows row coflow r c (old + units) lc lt (λ er ec. one_mark by_port' row coflow r c er ec at_port.marked mark) ∙ kept.by_port_none c r lt lt' (at_port.others r c mark);
+      written_other cells coflows row coflow r c (old + units) lc lt (λ er ec. one_mark by_port' row coflow r c er ec at_port.marked mark) ∙
+      kept.by_port_none c r lt lt' (at_port.others r c mark);
   by_coflow_none = λ c r lt lt' mark.
-      written_other cells coflows row coflow r c (old + units) lc lt (λ er ec. one_mark by_coflow' coflow row c r ec er of_coflow.marked mark) ∙ kept.by_coflow_none c r lt lt' (of_coflow.others c r mark);
+      written_other cells coflows row coflow r c (old + units) lc lt (λ er ec. one_mark by_coflow' coflow row c r ec er of_coflow.marked mark) ∙
+      kept.by_coflow_none c r lt lt' (of_coflow.others c r mark);
 }
 
 -- a cell is within the total of its row
-pub cell_within : (coflows ports : ℕ) (cells totals : List ℕ) (by_port by_coflow : MarkTable) (row coflow : ℕ) → IsKept coflows ports cells totals by_port by_coflow → row < ports + ports → coflow < coflows →
+pub cell_within : (coflows ports : ℕ) (cells totals : List ℕ) (by_port by_coflow : MarkTable) (row coflow : ℕ) → IsKept coflows ports cells totals by_port by_coflow →
+    row < ports + ports → coflow < coflows →
     slice_index cells (row * coflows + coflow) ≤ slice_index totals row
 cell_within coflows ports cells totals by_port by_coflow row coflow kept lr lc =
     omega (arith, kept.total row lr, member_within_sum (λ c. slice_index cells (row * coflows + c)) (range_with_len 0 coflows) coflow (below_in coflows coflow lc))
@@ -89,7 +97,8 @@ cell_within coflows ports cells totals by_port by_coflow row coflow kept lr lc =
 abbrev pub table_of : ℕ → ℕ → List ℕ → LoadTable
 table_of coflows ports cells = record { coflows = coflows; ports = ports; cells = cells }
 
-pub total_fits : (t : LoadTable) (coflows ports : ℕ) (cells totals : List ℕ) (by_port by_coflow : MarkTable) (port : Port) (row units most : ℕ) → IsKept coflows ports cells totals by_port by_coflow → table_of coflows ports cells ≡ t →
+pub total_fits : (t : LoadTable) (coflows ports : ℕ) (cells totals : List ℕ) (by_port by_coflow : MarkTable) (port : Port) (row units most : ℕ) →
+    IsKept coflows ports cells totals by_port by_coflow → table_of coflows ports cells ≡ t →
     row ≡ port_place ports port → row < ports + ports → total_at t port + units < most → slice_index totals row + units < most
 total_fits t coflows ports cells totals by_port by_coflow port row units most kept view is lt fits =
     let here = subst (λ (x : LoadTable). total_at x port + units < most) (sym view) fits in
@@ -103,7 +112,8 @@ pub port_inside : (t : LoadTable) (coflows ports : ℕ) (cells : List ℕ) (c : 
 port_inside t coflows ports cells c view lt = subst (λ (x : LoadTable). c < x.ports) (sym view) lt
 
 -- the cell of a table seen from its list of cells
-pub cell_is : (t : LoadTable) (coflows ports : ℕ) (cells : List ℕ) (c row : ℕ) (port : Port) → table_of coflows ports cells ≡ t → row ≡ port_place ports port → slice_index cells (row * coflows + c) ≡ load_at t c port
+pub cell_is : (t : LoadTable) (coflows ports : ℕ) (cells : List ℕ) (c row : ℕ) (port : Port) → table_of coflows ports cells ≡ t → row ≡ port_place ports port →
+    slice_index cells (row * coflows + c) ≡ load_at t c port
 cell_is t coflows ports cells c row port view is = ap (λ r. slice_index cells (r * coflows + c)) is ∙ ap (λ (x : LoadTable). load_at x c port) view
 
 -- ---- a table of noughts
@@ -115,13 +125,15 @@ nought_at n k = elim (cases_lt k n) [
 ]
 
 noughts_total : (n columns row : ℕ) → row_total (replicate n 0) columns row ≡ 0
-noughts_total n columns row = sum_same (λ c. slice_index (replicate n 0) (row * columns + c)) (λ c. 0) (range_with_len 0 columns) (λ c has. nought_at n (row * columns + c)) ∙ sum_zero (range_with_len 0 columns)
+noughts_total n columns row = sum_same (λ c. slice_index (replicate n 0) (row * columns + c)) (λ c. 0) (range_with_len 0 columns) (λ c has. nought_at n (row * columns + c)) ∙
+    sum_zero (range_with_len 0 columns)
 
 pub record HasSize (m : MarkTable) (rows columns : ℕ) : Type 0 where
   pub rows_are : m.rows ≡ rows
   pub columns_are : m.columns ≡ columns
 
-pub kept_nought : (coflows ports m n : ℕ) (cells totals : List ℕ) (by_port by_coflow : MarkTable) → coflows ≤ 4096 → 1 ≤ ports → ports ≤ 1025 → cells ≡ replicate m 0 → m ≡ (ports + ports) * coflows → totals ≡ replicate n 0 → n ≡ ports + ports →
+pub kept_nought : (coflows ports m n : ℕ) (cells totals : List ℕ) (by_port by_coflow : MarkTable) → coflows ≤ 4096 → 1 ≤ ports → ports ≤ 1025 → cells ≡ replicate m 0 →
+    m ≡ (ports + ports) * coflows → totals ≡ replicate n 0 → n ≡ ports + ports →
     HasSize by_port (ports + ports) coflows → HasSize by_coflow coflows (ports + ports) → IsKept coflows ports cells totals by_port by_coflow
 kept_nought coflows ports m n cells totals by_port by_coflow lc some lp cells_are m_is totals_are n_is at_port of_coflow = record {
   coflows_limit = lc;
@@ -140,7 +152,8 @@ kept_nought coflows ports m n cells totals by_port by_coflow lc some lp cells_ar
 
 -- ---- a coflow less
 
-pub kept_less : (coflows ports : ℕ) (cells totals cells' totals' : List ℕ) (by_port by_coflow : MarkTable) (coflow : ℕ) → IsKept coflows ports cells totals by_port by_coflow → coflow < coflows → length cells' ≡ length cells → length totals' ≡ length totals →
+pub kept_less : (coflows ports : ℕ) (cells totals cells' totals' : List ℕ) (by_port by_coflow : MarkTable) (coflow : ℕ) → IsKept coflows ports cells totals by_port by_coflow →
+    coflow < coflows → length cells' ≡ length cells → length totals' ≡ length totals →
     ((row : ℕ) → row < length totals → slice_index cells' (row * coflows + coflow) ≡ 0) →
     ((row other : ℕ) → row < length totals → other < coflows → other ≢ coflow → slice_index cells' (row * coflows + other) ≡ slice_index cells (row * coflows + other)) →
     ((row : ℕ) → row < length totals → slice_index totals' row + slice_index cells (row * coflows + coflow) ≡ slice_index totals row) →
@@ -164,7 +177,8 @@ kept_less coflows ports cells totals cells' totals' by_port by_coflow coflow kep
       coflow_columns = kept.coflow_columns;
       total = λ row lr.
           let lt : row < length totals = omega (arith, kept.totals_len) in
-          let grows = sum_grows (λ c. slice_index cells' (row * coflows + c)) (λ c. slice_index cells (row * coflows + c)) coflows coflow (slice_index cells (row * coflows + coflow)) lc (omega (arith, gone row lt)) (λ c l ne. sym (others row c lt l ne)) in
+          let grows = sum_grows (λ c. slice_index cells' (row * coflows + c)) (λ c. slice_index cells (row * coflows + c)) coflows coflow
+          (slice_index cells (row * coflows + coflow)) lc (omega (arith, gone row lt)) (λ c l ne. sym (others row c lt l ne)) in
           omega (arith, grows, kept.total row lr, taken row lt);
       by_port_none = λ c row l lr mark. still_none c row l lr (kept.by_port_none c row l lr mark);
       by_coflow_none = λ c row l lr mark. still_none c row l lr (kept.by_coflow_none c row l lr mark);
@@ -189,6 +203,8 @@ drops_one t coflows ports cells cells' coflow rows view rows_are gone others =
     }
 
 -- a coflow without a mark at a port has no load there
-pub none_at_port : (t : LoadTable) (coflows ports : ℕ) (cells totals : List ℕ) (by_port by_coflow : MarkTable) (port : Port) (row c : ℕ) → IsKept coflows ports cells totals by_port by_coflow → table_of coflows ports cells ≡ t →
+pub none_at_port : (t : LoadTable) (coflows ports : ℕ) (cells totals : List ℕ) (by_port by_coflow : MarkTable) (port : Port) (row c : ℕ) →
+    IsKept coflows ports cells totals by_port by_coflow → table_of coflows ports cells ≡ t →
     row ≡ port_place ports port → row < ports + ports → c < coflows → mark_at by_port row c ≡ 0 → load_at t c port ≡ 0
-none_at_port t coflows ports cells totals by_port by_coflow port row c kept view is lr lc none = sym (cell_is t coflows ports cells c row port view is) ∙ kept.by_port_none c row lc lr none
+none_at_port t coflows ports cells totals by_port by_coflow port row c kept view is lr lc none = sym (cell_is t coflows ports cells c row port view is) ∙
+    kept.by_port_none c row lc lr none

@@ -30,7 +30,8 @@ once_at false a u coflows apart =
 pub within_units : (flows : List Flow) (coflows : List ℕ) (port : Port) → Apart coflows → load_of_all flows coflows port ≤ sum_by (λ (x : Flow). x.units) flows
 within_units flows coflows port apart =
     let swapped = sum_swap (λ (c : ℕ) (x : Flow). if loads c port x then x.units else 0) coflows flows in
-    let most = sum_mono (λ (x : Flow). sum_by (λ c. if loads c port x then x.units else 0) coflows) (λ (x : Flow). x.units) flows (λ x has. once_at (uses port x) x.coflow x.units coflows apart) in
+    let most = sum_mono (λ (x : Flow). sum_by (λ c. if loads c port x then x.units else 0) coflows) (λ (x : Flow). x.units) flows
+    (λ x has. once_at (uses port x) x.coflow x.units coflows apart) in
     omega (arith, swapped, most)
 
 -- ---- the loads without some coflows
@@ -50,14 +51,21 @@ not_false : (b : Bool) → not b ≡ false → b ≡ true
 not_false true e = refl
 not_false false e = sym e
 
-pub load_kept : (dropped : List ℕ) (flows : List Flow) (c : ℕ) (port : Port) → list_any (λ d. d == c) dropped ≡ false → load (flows_without dropped flows) c port ≡ load flows c port
+pub load_kept : (dropped : List ℕ) (flows : List Flow) (c : ℕ) (port : Port) → list_any (λ d. d == c) dropped ≡ false →
+    load (flows_without dropped flows) c port ≡ load flows c port
 load_kept dropped [] c port out = refl
 load_kept dropped (x ∷ xs) c port out =
     let f = λ (y : Flow). if loads c port y then y.units else 0 in
     let rest = load_kept dropped xs c port out in
     keep_first (not (list_any (λ d. d == x.coflow) dropped)) x (flows_without dropped xs) f (load (x ∷ xs) c port)
     (λ kept. omega (arith, rest, sum_by-cons f x xs))
-    (λ gone. omega (arith, rest, sum_by-cons f x xs, other_load c port x (λ e. both_ways (list_any (λ d. d == c) dropped) out (ap (λ k. list_any (λ d. d == k) dropped) (sym e) ∙ not_false (list_any (λ d. d == x.coflow) dropped) gone))))
+    (λ gone. omega (
+      arith,
+      rest,
+      sum_by-cons f x xs,
+      other_load c port x (λ e. both_ways (list_any (λ d. d == c) dropped) out
+          (ap (λ k. list_any (λ d. d == k) dropped) (sym e) ∙ not_false (list_any (λ d. d == x.coflow) dropped) gone)),
+    ))
 
 pub load_gone : (dropped : List ℕ) (flows : List Flow) (c : ℕ) (port : Port) → list_any (λ d. d == c) dropped ≡ true → load (flows_without dropped flows) c port ≡ 0
 load_gone dropped [] c port in' = refl
@@ -65,7 +73,12 @@ load_gone dropped (x ∷ xs) c port in' =
     let f = λ (y : Flow). if loads c port y then y.units else 0 in
     let rest = load_gone dropped xs c port in' in
     keep_first (not (list_any (λ d. d == x.coflow) dropped)) x (flows_without dropped xs) f 0
-    (λ kept. omega (arith, rest, other_load c port x (λ e. both_ways (list_any (λ d. d == c) dropped) (ap (λ k. list_any (λ d. d == k) dropped) (sym e) ∙ not_true (list_any (λ d. d == x.coflow) dropped) kept) in')))
+    (λ kept. omega (
+      arith,
+      rest,
+      other_load c port x
+          (λ e. both_ways (list_any (λ d. d == c) dropped) (ap (λ k. list_any (λ d. d == k) dropped) (sym e) ∙ not_true (list_any (λ d. d == x.coflow) dropped) kept) in'),
+    ))
     (λ gone. rest)
 
 -- ---- tables from which coflows were dropped
@@ -100,7 +113,8 @@ after_drops old new (d ∷ ds) (between, first, later) =
       size = record { coflows = after.size.coflows ∙ first.size.coflows; ports = after.size.ports ∙ first.size.ports };
       gone = λ c port lc lp e. elim (cases_Bool (list_any (λ k. k == c) ds)) [
         | inl t ↦ after.gone c port (coflow_in c lc) (port_in port lp) t
-        | inr f ↦ after.stays c port (coflow_in c lc) (port_in port lp) f ∙ subst (λ k. load_at between k port ≡ 0) (eqb-true d c (or_first (d == c) (list_any (λ k. k == c) ds) e f)) (first.gone port lp)
+        | inr f ↦ after.stays c port (coflow_in c lc) (port_in port lp) f ∙
+            subst (λ k. load_at between k port ≡ 0) (eqb-true d c (or_first (d == c) (list_any (λ k. k == c) ds) e f)) (first.gone port lp)
       ];
       stays = λ c port lc lp e.
           let (other, out) = or_none (d == c) (list_any (λ k. k == c) ds) e in

@@ -9,7 +9,8 @@ use Rattle.port_load.specs.LoadTable.{IsWithin}
 all_more : {X : Type 0} (P : X → Type 0) (xs : List X) (k : ℕ) (d : X) → k < length xs → All P (take k xs) → P (get_or xs k d) → All P (take (k + 1) xs)
 all_more P xs k d lt all here = subst (All P) (sym (take_more xs k d lt)) (All-push P (take k xs) (get_or xs k d) all here)
 
-pub within_more : (flows : List Flow) (coflows ports k : ℕ) (d : Flow) → k < length flows → IsWithin (take k flows) coflows ports → (get_or flows k d).coflow < coflows → (get_or flows k d).ingress < ports → (get_or flows k d).egress < ports →
+pub within_more : (flows : List Flow) (coflows ports k : ℕ) (d : Flow) → k < length flows → IsWithin (take k flows) coflows ports → (get_or flows k d).coflow < coflows →
+    (get_or flows k d).ingress < ports → (get_or flows k d).egress < ports →
     IsWithin (take (k + 1) flows) coflows ports
 within_more flows coflows ports k d lt within lc li le = record {
   coflow = all_more (λ (x : Flow). x.coflow < coflows) flows k d lt within.coflow lc;

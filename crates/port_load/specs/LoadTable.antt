@@ -1,12 +1,14 @@
 -- Tables of loads, and what they say of flows.
-use Rattle.std.specs.Prelude.{◌≡◌, ◌≢◌, ℕ, ◌+◌, ◌*◌, ◌<◌, ◌==◌, Bool, false, not, List, [], ◌∷◌, All, filter, slice_index, sum_by}
+use Rattle.std.specs.Prelude.{◌≡◌, ◌≢◌, ℕ, ◌+◌, ◌*◌, ◌<◌, ◌==◌, Bool, false, not, List, [], ◌∷◌, All, filter}
+use Rattle.std.specs.Prelude.{slice_index, sum_by}
 use Rattle.std.specs.List.{list_any, range_with_len, slice_index_or}
 use Rattle.coflow_units.specs.declared.fabric.Flow.{Flow}
 use Rattle.coflow_units.specs.declared.fabric.Port.{Port}
 use Rattle.coflow_units.specs.Load.{load}
 use Rattle.coflow_units.specs.Ordering.{port_place}
 
--- the number of coflows, the number of ports on each side, and for each port, all ingress ports before all egress ports, the loads of the coflows by number
+-- the number of coflows, the number of ports on each side, and for each port, all ingress ports before all egress
+-- ports, the loads of the coflows by number
 pub record LoadTable : Type 0 where
   pub coflows : ℕ
   pub ports : ℕ
@@ -28,7 +30,8 @@ pub record IsWithin (flows : List Flow) (coflows ports : ℕ) : Type 0 where
 
 -- the table has the loads of these flows, for each coflow and each port
 abbrev pub HasLoads : List Flow → LoadTable → Type 0
-HasLoads flows t = (coflow : ℕ) (port : Port) → coflow < t.coflows → port.number < t.ports → load_at t coflow port ≡ load flows coflow port
+HasLoads flows t = (coflow : ℕ) (port : Port) → coflow < t.coflows → port.number < t.ports →
+    load_at t coflow port ≡ load flows coflow port
 
 -- the two tables have the same numbers of coflows and ports
 pub record IsSameSize (old new : LoadTable) : Type 0 where
@@ -39,7 +42,8 @@ pub record IsSameSize (old new : LoadTable) : Type 0 where
 pub record DropsCoflow (old new : LoadTable) (coflow : ℕ) : Type 0 where
   pub size : IsSameSize old new
   pub gone : (port : Port) → port.number < old.ports → load_at new coflow port ≡ 0
-  pub others : (other : ℕ) (port : Port) → other < old.coflows → other ≢ coflow → port.number < old.ports → load_at new other port ≡ load_at old other port
+  pub others : (other : ℕ) (port : Port) → other < old.coflows → other ≢ coflow → port.number < old.ports →
+      load_at new other port ≡ load_at old other port
 
 -- the coflows are dropped one after another
 abbrev pub DropsAll : LoadTable → LoadTable → List ℕ → Type 0

@@ -1,5 +1,6 @@
 -- Marks of the columns of each row of a table, in words of 64 bits.
 use Rattle.std.specs.Prelude.{◌≡◌, ℕ, ◌+◌, ◌*◌, ◌/◌, ◌%◌, ◌≤◌, List, length, slice_index}
+use Rattle.coflow_units.specs.declared.limits.TheConstants.{MAX_COFLOWS}
 use Rattle.std.specs.Int.{bit_at}
 
 pub record MarkTable : Type 0 where
@@ -13,7 +14,7 @@ width columns = columns / 64 + 1
 
 -- each row has its words
 pub record IsMarking (rows columns : ℕ) (words : List ℕ) : Type 0 where
-  pub columns_limit : columns ≤ 4096
+  pub columns_limit : columns ≤ MAX_COFLOWS
   pub words_len : length words ≡ rows * width columns
 
 -- the bit of a column: 1 where it is marked

@@ -1,5 +1,6 @@
 //! A table of numbers that takes memory only for the blocks in which numbers were set.
 ghost use Rattle.std.specs.Prelude.{◌≡◌, ◌≢◌, ◌+◌, ◌*◌, ◌/◌, ◌<◌, ◌≤◌, IfOk, length, replicate, slice_index, slice_set};
+ghost use Rattle.coflow_units.specs.declared.limits.TheConstants.{MAX_COFLOWS};
 ghost use Rattle.port_load.specs.CellTable.{HasSizeOf, cells_in, no_block};
 
 use coflow_units::NoMemory;
@@ -24,7 +25,12 @@ impl Model for Cells {
 
     ghost Value = { CellTable };
 
-    ghost view = { λ s. record { rows = s.rows; columns = s.columns; blocks = s.blocks.items; numbers = s.numbers.items } };
+    ghost view = { λ s. record {
+      rows = s.rows;
+      columns = s.columns;
+      blocks = s.blocks.items;
+      numbers = s.numbers.items;
+    } };
 
     ghost invariant = { λ s. IsBlocks s.rows s.columns s.blocks.items s.numbers.items (vec_capacity s.numbers) };
 }
@@ -32,8 +38,8 @@ impl Model for Cells {
 impl Cells {
     /// A table of zeros. The error is want of memory.
     pub(crate) fn zeros(alloc: Global, rows: usize, columns: usize) -> Result<Cells, NoMemory>
-        requires rows_limit { rows ≤ 4096 }
-        requires columns_limit { columns ≤ 4096 }
+        requires rows_limit { rows ≤ MAX_COFLOWS }
+        requires columns_limit { columns ≤ MAX_COFLOWS }
         ensures rows_are { IfOk result (λ t. t.rows ≡ rows) }
         ensures columns_are { IfOk result (λ t. t.columns ≡ columns) }
         ensures cells { IfOk result (λ t. cells_in t ≡ replicate (rows * columns) 0) }

@@ -8,10 +8,12 @@ ghost use Rattle.port_load.specs.LoadTable.{DropsAll, HasLoads, LoadTable, flows
 
 /// After any list of coflows was dropped, the table has the loads of the flows of the others, as if it had been filled without the dropped ones.
 pub fn drops_are_anew()
-    ensures { (flows : List Flow) (old new : LoadTable) (dropped : List ℕ) → HasLoads flows old → DropsAll old new dropped → HasLoads (flows_without dropped flows) new }
+    ensures { (flows : List Flow) (old new : LoadTable) (dropped : List ℕ) → HasLoads flows old →
+        DropsAll old new dropped → HasLoads (flows_without dropped flows) new }
 {}
 
 /// A port has no more load than all flows have units.
 pub fn loads_are_within_units()
-    ensures { (flows : List Flow) (coflows : List ℕ) (port : Port) → IsDistinct coflows → load_of_all flows coflows port ≤ sum_by (λ (x : Flow). x.units) flows }
+    ensures { (flows : List Flow) (coflows : List ℕ) (port : Port) → IsDistinct coflows →
+        load_of_all flows coflows port ≤ sum_by (λ (x : Flow). x.units) flows }
 {}

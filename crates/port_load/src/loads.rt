@@ -1,5 +1,6 @@
 //! The table of loads, and its totals.
 ghost use Rattle.std.specs.Prelude.{◌≡◌, ◌≢◌, ℕ, ◌+◌, ◌*◌, ◌^◌, ◌<◌, ◌≤◌, true, false, List, [], ◌∷◌, IfOk, if◌then◌else◌, length, slice_index, sum, sum_by};
+ghost use Rattle.coflow_units.specs.declared.limits.TheConstants.{MAX_COFLOWS, MAX_PORTS};
 ghost use Rattle.coflow_units.specs.declared.fabric.Flow.{Flow};
 ghost use Rattle.coflow_units.specs.declared.fabric.Port.{Port};
 ghost use Rattle.coflow_units.specs.Flows.{with_units};
@@ -47,15 +48,16 @@ impl Model for Loads {
 impl Loads {
     /// The loads of the flows. Coflows count from 0 to `coflows`, at most 4096 of them, and the ports of a side from 0 to `ports`, from 1 to 1025 of them. The units of the flows sum to at most 2^62. The error is want of memory.
     pub fn of(alloc: Global, flows: &[Flow], coflows: u32, ports: u32) -> Result<Loads, NoMemory>
-        requires coflows_limit { coflows ≤ 4096 }
+        requires coflows_limit { coflows ≤ MAX_COFLOWS }
         requires has_ports { 1 ≤ ports }
-        requires ports_limit { ports ≤ 1025 }
+        requires ports_limit { ports ≤ MAX_PORTS + 1 }
         requires within { IsWithin flows.now coflows ports }
         requires units { sum_by (λ (x : Flow). x.units) flows.now ≤ 2 ^ 62 }
         ensures coflows_are { IfOk result (λ t. t.coflows ≡ coflows) }
         ensures ports_are { IfOk result (λ t. t.ports ≡ ports) }
         ensures loads_are { IfOk result (λ t. HasLoads flows.now t) }
-        ensures totals_within { IfOk result (λ t. (port : Port) → port.number < ports → total_at t port ≤ sum_by (λ (x : Flow). x.units) flows.now) }
+        ensures totals_within { IfOk result (λ t. (port : Port) → port.number < ports →
+            total_at t port ≤ sum_by (λ (x : Flow). x.units) flows.now) }
     {
         let mut loads = Loads::empty(alloc, coflows, ports)?;
         for flow in flows {
@@ -71,9 +73,11 @@ impl Loads {
         requires present_len { length present.now ≡ self.old.coflows }
         requires units { sum left.now ≤ 2 ^ 62 }
         ensures size { IsSameSize self.old self.new }
-        ensures present_are { (coflow : ℕ) (port : Port) → coflow < self.old.coflows → port.number < self.old.ports → is_present present.now coflow ≡ true →
+        ensures present_are { (coflow : ℕ) (port : Port) → coflow < self.old.coflows → port.number < self.old.ports →
+            is_present present.now coflow ≡ true →
             load_at self.new coflow port ≡ load (with_units (λ f. slice_index left.now f) flows.now) coflow port }
-        ensures absent_are { (coflow : ℕ) (port : Port) → coflow < self.old.coflows → port.number < self.old.ports → is_present present.now coflow ≡ false →
+        ensures absent_are { (coflow : ℕ) (port : Port) → coflow < self.old.coflows → port.number < self.old.ports →
+            is_present present.now coflow ≡ false →
             load_at self.new coflow port ≡ 0 }
         ensures totals_within { (port : Port) → port.number < self.old.ports → total_at self.new port ≤ sum left.now }
     {
@@ -95,7 +99,7 @@ impl Loads {
     /// The number of coflows.
     pub fn coflows(&self) -> u32
         ensures coflows_are { result ≡ self.now.coflows }
-        ensures limit { self.now.coflows ≤ 4096 }
+        ensures limit { self.now.coflows ≤ MAX_COFLOWS }
     {
         self.coflows
     }
@@ -104,7 +108,7 @@ impl Loads {
     pub fn ports(&self) -> u32
         ensures ports_are { result ≡ self.now.ports }
         ensures has_ports { 1 ≤ self.now.ports }
-        ensures limit { self.now.ports ≤ 1025 }
+        ensures limit { self.now.ports ≤ MAX_PORTS + 1 }
     {
         self.ports
     }
@@ -153,7 +157,8 @@ impl Loads {
         requires { coflow < self.old.coflows }
         ensures dropped { DropsCoflow self.old self.new coflow }
         // where the table had the loads of some flows, it has those of the flows of the other coflows
-        ensures anew { (flows : List Flow) → HasLoads flows self.old → HasLoads (flows_without (coflow ∷ []) flows) self.new }
+        ensures anew { (flows : List Flow) → HasLoads flows self.old →
+            HasLoads (flows_without (coflow ∷ []) flows) self.new }
     {
         clear_column(
             &mut self.cells,
@@ -164,9 +169,9 @@ impl Loads {
     }
 
     fn empty(alloc: Global, coflows: u32, ports: u32) -> Result<Loads, NoMemory>
-        requires coflows_limit { coflows ≤ 4096 }
+        requires coflows_limit { coflows ≤ MAX_COFLOWS }
         requires has_ports { 1 ≤ ports }
-        requires ports_limit { ports ≤ 1025 }
+        requires ports_limit { ports ≤ MAX_PORTS + 1 }
         ensures coflows_are { IfOk result (λ t. t.coflows ≡ coflows) }
         ensures ports_are { IfOk result (λ t. t.ports ≡ ports) }
         ensures none { IfOk result (λ t. (coflow : ℕ) (port : Port) → load_at t coflow port ≡ 0) }
@@ -203,7 +208,8 @@ impl Loads {
         requires units { (port : Port) → port.number < self.old.ports → total_at self.old port + flow.units < 2 ^ 64 }
         ensures size { IsSameSize self.old self.new }
         ensures adds { (coflow : ℕ) (port : Port) → coflow < self.old.coflows → port.number < self.old.ports →
-            load_at self.new coflow port ≡ load_at self.old coflow port + (if loads coflow port flow then flow.units else 0) }
+            load_at self.new coflow port ≡ load_at self.old coflow port +
+            (if loads coflow port flow then flow.units else 0) }
     {
         self.add_at(
             flow.coflow,
@@ -229,8 +235,10 @@ impl Loads {
         requires units_fit { total_at self.old port + units < 2 ^ 64 }
         ensures size { IsSameSize self.old self.new }
         ensures added { load_at self.new coflow port ≡ load_at self.old coflow port + units }
-        ensures others { (other : ℕ) → other < self.old.coflows → other ≢ coflow → load_at self.new other port ≡ load_at self.old other port }
-        ensures elsewhere { (other : ℕ) (at : Port) → other < self.old.coflows → at.number < self.old.ports → port_place self.old.ports at ≢ port_place self.old.ports port →
+        ensures others { (other : ℕ) → other < self.old.coflows → other ≢ coflow →
+            load_at self.new other port ≡ load_at self.old other port }
+        ensures elsewhere { (other : ℕ) (at : Port) → other < self.old.coflows → at.number < self.old.ports →
+            port_place self.old.ports at ≢ port_place self.old.ports port →
             load_at self.new other at ≡ load_at self.old other at }
     {
         let row = row_of(port, self.ports);
@@ -245,7 +253,7 @@ impl Loads {
 /// The row of a port: its place among all ports, ingress ports before egress ports.
 fn row_of(port: Port, ports: u32) -> usize
     requires in_range { port.number < ports }
-    requires limit { ports ≤ 1025 }
+    requires limit { ports ≤ MAX_PORTS + 1 }
     ensures row { result ≡ port_place ports port }
     ensures within { result < ports + ports }
 {
@@ -259,13 +267,15 @@ fn row_of(port: Port, ports: u32) -> usize
 fn clear_column(cells: &mut Cells, totals: &mut [u64], rows_of: &Marks, column: usize)
     requires column_in { column < cells.old.columns }
     requires rows { cells.old.rows ≡ length totals.old }
-    requires within { (row : ℕ) → row < length totals.old → slice_index (cells_in cells.old) (row * cells.old.columns + column) ≤ slice_index totals.old row }
+    requires within { (row : ℕ) → row < length totals.old →
+        slice_index (cells_in cells.old) (row * cells.old.columns + column) ≤ slice_index totals.old row }
     requires marked_rows { column < rows_of.now.rows }
     requires marked_columns { rows_of.now.columns ≡ length totals.old }
     requires marked { (row : ℕ) → row < length totals.old → mark_at rows_of.now column row ≡ 0 →
         slice_index (cells_in cells.old) (row * cells.old.columns + column) ≡ 0 }
     ensures size { HasSizeOf cells.old cells.new }
-    ensures cleared { IsColumnCleared (cells_in cells.old) totals.old (cells_in cells.new) totals.new cells.old.columns column }
+    ensures cleared { IsColumnCleared (cells_in cells.old) totals.old (cells_in cells.new) totals.new cells.old.columns
+        column }
 {
     let mut row = rows_of.next(column, 0);
     'rows: while row < totals.len() {

@@ -1,5 +1,6 @@
 //! Marks of the columns of each row of a table.
 ghost use Rattle.std.specs.Prelude.{◌≡◌, ℕ, ◌<◌, ◌≤◌, IfOk};
+ghost use Rattle.coflow_units.specs.declared.limits.TheConstants.{MAX_COFLOWS};
 ghost use Rattle.port_load.specs.MarkTable.{HasShapeOf, mark_at};
 
 use coflow_units::NoMemory;
@@ -30,8 +31,8 @@ impl Model for Marks {
 impl Marks {
     /// A table without marks. The error is want of memory.
     pub(crate) fn none(alloc: Global, rows: usize, columns: usize) -> Result<Marks, NoMemory>
-        requires rows_limit { rows ≤ 4096 }
-        requires columns_limit { columns ≤ 4096 }
+        requires rows_limit { rows ≤ MAX_COFLOWS }
+        requires columns_limit { columns ≤ MAX_COFLOWS }
         ensures rows_are { IfOk result (λ m. m.rows ≡ rows) }
         ensures columns_are { IfOk result (λ m. m.columns ≡ columns) }
     {

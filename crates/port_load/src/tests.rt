@@ -1,5 +1,6 @@
 //! What no clause says: that the definitions give the loads that were worked out by hand, that a call answers want of memory only where there is none, and that the limits can be met.
 ghost use Rattle.std.specs.Prelude.{◌≡◌, ◌<◌, ◌≤◌, ◌^◌, IsTrue, length, sum_by};
+ghost use Rattle.coflow_units.specs.declared.limits.TheConstants.{MAX_COFLOWS, MAX_PORTS};
 ghost use Rattle.coflow_units.specs.declared.fabric.Flow.{Flow};
 ghost use Rattle.port_load.specs.LoadTable.{IsWithin};
 ghost use Rattle.port_load.specs.TestInputs.{FitsTable};
@@ -42,9 +43,9 @@ fn fits(flows: &[Flow], coflows: u32, ports: u32) -> bool
 }
 
 fn filled(rt: &impl Abort, alloc: Global, flows: &[Flow], coflows: u32, ports: u32) -> Loads
-    requires coflows_limit { coflows ≤ 4096 }
+    requires coflows_limit { coflows ≤ MAX_COFLOWS }
     requires has_ports { 1 ≤ ports }
-    requires ports_limit { ports ≤ 1025 }
+    requires ports_limit { ports ≤ MAX_PORTS + 1 }
     ensures coflows_are { result.coflows ≡ coflows }
     ensures ports_are { result.ports ≡ ports }
 {

@@ -43,7 +43,8 @@ pub fn released_values_fit()
         IsReleasedFeasible i.flows i.weight places →
         ((port : Port) → port.number < i.ports → load_of_all i.flows (front (entries_of places)) port ≤ k) →
         ((c : ℕ) → Contains (front (entries_of places)) c → arrival c ≤ m) →
-        released_value i.flows arrival i.ports places ≤ 2 * ((k + m) * sum_by (budget i.weight) (front (entries_of places))) }
+        released_value i.flows arrival i.ports places ≤
+        2 * ((k + m) * sum_by (budget i.weight) (front (entries_of places))) }
 {}
 
 /// Of a coflow of 6 units and one of 1 unit that arrives at time 2, each schedule costs at least 10.

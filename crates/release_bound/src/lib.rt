@@ -1,4 +1,4 @@
-// Lower bounds that know arrivals: certificates of the cost of schedules that serve nobody before its arrival.
+//! Lower bounds that know arrivals: certificates of the cost of schedules that serve nobody before its arrival.
 #![tactic(auto)]
 
 pub mod laws;

@@ -1,5 +1,6 @@
 -- The flow numbers of a run in a text.
-use Rattle.std.proofs.Common.{◌≡◌, ◌⊎◌, inl, inr, ℕ, suc, ◌+◌, ◌-◌, ◌<◌, ◌≤◌, ◌^◌, List, [], ◌∷◌, ◌++◌, Bool, true, false, Some, None, nat_lt, length, drop, get_or, append_assoc, append-nil, length-append, refl, sym, ap, ◌∙◌, ltb, arith}
+use Rattle.std.proofs.Common.{◌≡◌, ◌⊎◌, inl, inr, ℕ, suc, ◌+◌, ◌-◌, ◌<◌, ◌≤◌, ◌^◌, List, [], ◌∷◌, ◌++◌, Bool, true, false, Some, None, nat_lt, length, drop, get_or, append_assoc}
+use Rattle.std.proofs.Common.{append-nil, length-append, refl, sym, ap, ◌∙◌, ltb, arith}
 use Rattle.std.specs.Prelude.{All, codes}
 use Rattle.std.specs.List.{flat_map, slice_get}
 use Rattle.std.specs.List.Sorted.{IsStrictlyIncreasing}
@@ -13,7 +14,8 @@ use Rattle.report.specs.Text.{run_line, spaced}
 use Rattle.report.specs.Readers.{AreFlows, IsRun, Stops, Rises}
 use Rattle.report.proofs.NumberText.{spaced_unique}
 
-push_rises : (flows : List ℕ) (flow last : ℕ) → IsStrictlyIncreasing flows → 0 < length flows → get_or flows (length flows - 1) 0 ≡ last → last < flow → IsStrictlyIncreasing (flows ++ (flow ∷ []))
+push_rises : (flows : List ℕ) (flow last : ℕ) → IsStrictlyIncreasing flows → 0 < length flows → get_or flows (length flows - 1) 0 ≡ last → last < flow →
+    IsStrictlyIncreasing (flows ++ (flow ∷ []))
 push_rises flows flow last up some at less k lt = go (ltb (k + 1) (length flows)) refl
   where
     go : (b : Bool) → ltb (k + 1) (length flows) ≡ b → get_or (flows ++ (flow ∷ [])) k 0 < get_or (flows ++ (flow ∷ [])) (k + 1) 0
@@ -38,7 +40,8 @@ rises_is flows flow last e = go (slice_get_cases flows (length flows - 1)).1
     tell true h some at = λ up. push_rises flows flow last up some at (grind (arith, nat_tests))
     tell false h some at = λ up. let less = push_falls flows flow last up some at in absurd (grind (arith, nat_tests))
 
-    go : ((x : ℕ) × (length flows - 1 < length flows) × (slice_get flows (length flows - 1) ≡ Some x) × (get_or flows (length flows - 1) x ≡ x)) ⊎ ((length flows ≤ length flows - 1) × (slice_get flows (length flows - 1) ≡ None)) → Rises flows flow (nat_lt last flow)
+    go : ((x : ℕ) × (length flows - 1 < length flows) × (slice_get flows (length flows - 1) ≡ Some x) × (get_or flows (length flows - 1) x ≡ x)) ⊎
+        ((length flows ≤ length flows - 1) × (slice_get flows (length flows - 1) ≡ None)) → Rises flows flow (nat_lt last flow)
     go (inl (x, lt, is, at)) =
         tell (nat_lt last flow) refl (omega arith) (get_or_from_slice_get flows (length flows - 1) last 0 (sym e))
     go (inr (le, none)) = let bad : Some last ≡ None = e ∙ none in cc
@@ -58,11 +61,13 @@ stops_flows [] = tt
 stops_flows (x ∷ xs) = refl
 
 -- a text that begins with the numbers xs is of numbers that begin with xs
-pub goes_on : (xs ys rest : List ℕ) → All (λ f. f < 2 ^ 32) xs → All (λ f. f < 2 ^ 32) ys → Stops rest → flat_map spaced xs ++ rest ≡ flat_map spaced ys → (zs : List ℕ) × (ys ≡ xs ++ zs) × (rest ≡ flat_map spaced zs)
+pub goes_on : (xs ys rest : List ℕ) → All (λ f. f < 2 ^ 32) xs → All (λ f. f < 2 ^ 32) ys → Stops rest → flat_map spaced xs ++ rest ≡ flat_map spaced ys →
+    (zs : List ℕ) × (ys ≡ xs ++ zs) × (rest ≡ flat_map spaced zs)
 goes_on [] ys rest sx sy stops e = (ys, refl, e)
 goes_on (x ∷ xs) [] rest sx sy stops e = absurd cc
 goes_on (x ∷ xs) (y ∷ ys) rest sx sy stops e =
-    let one = spaced_unique (flat_map spaced xs ++ rest) (flat_map spaced ys) x y (omega (arith, sx 0 x (omega arith))) (omega (arith, sy 0 y (omega arith))) (stops_more xs rest stops) (stops_flows ys) (sym (append_assoc (spaced x) (flat_map spaced xs) rest) ∙ e) in
+    let one = spaced_unique (flat_map spaced xs ++ rest) (flat_map spaced ys) x y (omega (arith, sx 0 x (omega arith))) (omega (arith, sy 0 y (omega arith)))
+    (stops_more xs rest stops) (stops_flows ys) (sym (append_assoc (spaced x) (flat_map spaced xs) rest) ∙ e) in
     let more = goes_on xs ys rest (λ k d lt. sx (suc k) d (omega arith)) (λ k d lt. sy (suc k) d (omega arith)) stops one.1 in
     (more.0, (λ i. sym one.0 i ∷ more.1 i), more.2)
 
@@ -93,15 +98,24 @@ next_flow bytes rest flows ys r h e some =
         let lt : length flows < length ys = omega (arith, ap length whole, length-append flows (z ∷ zs)) in
         let is : get_or ys (length flows) z ≡ z = rw whole (middle flows zs z z) in
         let regrouped : ys ≡ (flows ++ (z ∷ [])) ++ zs = whole ∙ sym (append_assoc flows (z ∷ []) zs) in
-        record { flow = z; others = zs; whole = whole; here = here; small = omega (arith, h.1 (length flows) z lt, is); rises = front_rises (flows ++ (z ∷ [])) zs (rw regrouped at h.0) }
+        record {
+          flow = z;
+          others = zs;
+          whole = whole;
+          here = here;
+          small = omega (arith, h.1 (length flows) z lt, is);
+          rises = front_rises (flows ++ (z ∷ [])) zs (rw regrouped at h.0);
+        }
 
 pub none_yet : (bytes flows : List ℕ) → flows ≡ [] → Stops bytes → FlowsSoFar bytes bytes flows
 none_yet bytes [] e stops = record { text = refl; flows_are = ((λ k lt. absurd (omega arith)), (λ k d lt. absurd (omega arith))); stops = stops }
 none_yet bytes (x ∷ xs) e stops = absurd cc
 
-pub one_more : (bytes rest flows behind : List ℕ) (flow : ℕ) → FlowsSoFar bytes rest flows → flow < 2 ^ 32 → rest ≡ spaced flow ++ behind → Stops behind → IsStrictlyIncreasing (flows ++ (flow ∷ [])) → FlowsSoFar bytes behind (flows ++ (flow ∷ []))
+pub one_more : (bytes rest flows behind : List ℕ) (flow : ℕ) → FlowsSoFar bytes rest flows → flow < 2 ^ 32 → rest ≡ spaced flow ++ behind → Stops behind →
+    IsStrictlyIncreasing (flows ++ (flow ∷ [])) → FlowsSoFar bytes behind (flows ++ (flow ∷ []))
 one_more bytes rest flows behind flow r small e stops up =
-    let flat : flat_map spaced (flows ++ (flow ∷ [])) ≡ flat_map spaced flows ++ spaced flow = flat_map-append spaced flows (flow ∷ []) ∙ ap (λ x. flat_map spaced flows ++ x) (append-nil (spaced flow)) in
+    let flat : flat_map spaced (flows ++ (flow ∷ [])) ≡ flat_map spaced flows ++ spaced flow = flat_map-append spaced flows (flow ∷ []) ∙
+    ap (λ x. flat_map spaced flows ++ x) (append-nil (spaced flow)) in
     record {
       text = r.text ∙ (ap (λ x. flat_map spaced flows ++ x) e ∙ (sym (append_assoc (flat_map spaced flows) (spaced flow) behind) ∙ ap (λ x. x ++ behind) (sym flat)));
       flows_are = (up, All-push (λ f. f < 2 ^ 32) flows flow r.flows_are.1 small);
@@ -116,10 +130,12 @@ pub behind_run : (run : Run) (line rest : List ℕ) → line ≡ codes "run" ++ 
 behind_run run line rest f e = ap (drop 3) (sym f ∙ e)
 
 -- the length that was read is the run's
-pub length_is : (run : Run) (line rest r : List ℕ) (n : ℕ) → IsRun run → line ≡ codes "run" ++ rest → line ≡ run_line run → n < 2 ^ 128 → rest ≡ spaced n ++ r → Stops r → (n ≡ run.length) × (r ≡ flat_map spaced run.flows)
+pub length_is : (run : Run) (line rest r : List ℕ) (n : ℕ) → IsRun run → line ≡ codes "run" ++ rest → line ≡ run_line run → n < 2 ^ 128 → rest ≡ spaced n ++ r → Stops r →
+    (n ≡ run.length) × (r ≡ flat_map spaced run.flows)
 length_is run line rest r n h f e small g stops =
     spaced_unique r (flat_map spaced run.flows) n run.length small (omega (arith, h.1)) stops (stops_flows run.flows) (sym g ∙ behind_run run line rest f e)
 
 -- the next number is the one that was read
 pub same_flow : (rest flows ys behind : List ℕ) (flow : ℕ) (n : NextFlow rest flows ys) → flow < 2 ^ 128 → rest ≡ spaced flow ++ behind → Stops behind → flow ≡ n.flow
-same_flow rest flows ys behind flow n small e stops = (spaced_unique behind (flat_map spaced n.others) flow n.flow small (omega (arith, n.small)) stops (stops_flows n.others) (sym e ∙ n.here)).0
+same_flow rest flows ys behind flow n small e stops =
+    (spaced_unique behind (flat_map spaced n.others) flow n.flow small (omega (arith, n.small)) stops (stops_flows n.others) (sym e ∙ n.here)).0

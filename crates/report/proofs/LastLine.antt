@@ -21,8 +21,10 @@ lines_after Done r = []
 pub lines_parted : (s : Stage) (r : Report) → report_lines r ≡ lines_before s r ++ lines_after s r
 lines_parted Version r = refl
 lines_parted Places r = lines_nested r
-lines_parted Slack r = lines_nested r ∙ ap (λ x. version_line r.weights ∷ x) (sym (append_assoc (place_lines r) (bound_line r.bound ∷ []) (slack_line r.slack ∷ cost_line r.cost ∷ last_lines r)))
-lines_parted Cost r = lines_nested r ∙ ap (λ x. version_line r.weights ∷ x) (sym (append_assoc (place_lines r) (bound_line r.bound ∷ slack_line r.slack ∷ []) (cost_line r.cost ∷ last_lines r)))
+lines_parted Slack r = lines_nested r ∙
+    ap (λ x. version_line r.weights ∷ x) (sym (append_assoc (place_lines r) (bound_line r.bound ∷ []) (slack_line r.slack ∷ cost_line r.cost ∷ last_lines r)))
+lines_parted Cost r = lines_nested r ∙
+    ap (λ x. version_line r.weights ∷ x) (sym (append_assoc (place_lines r) (bound_line r.bound ∷ slack_line r.slack ∷ []) (cost_line r.cost ∷ last_lines r)))
 lines_parted Runs r = refl
 lines_parted Done r = sym (append-nil (report_lines r))
 

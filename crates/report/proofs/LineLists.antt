@@ -1,5 +1,6 @@
 -- Lists of lines that begin with one byte, up to a line that begins with another.
-use Rattle.std.proofs.Common.{◌≡◌, ◌⊎◌, inl, inr, ℕ, zero, suc, ◌+◌, ◌<◌, List, [], ◌∷◌, ◌++◌, append_assoc, length, map, drop, get_or, refl, sym, ap, subst, ◌∙◌, arith, zero-add, length-append}
+use Rattle.std.proofs.Common.{◌≡◌, ◌⊎◌, inl, inr, ℕ, zero, suc, ◌+◌, ◌<◌, List, [], ◌∷◌, ◌++◌, append_assoc, length, map, drop, get_or, refl, sym, ap, subst, ◌∙◌, arith, zero-add}
+use Rattle.std.proofs.Common.{length-append}
 use Rattle.std.specs.Prelude.{codes}
 use Rattle.std.specs.List.{range_with_len}
 use Rattle.std.proofs.lemmas.List.FromFn.{map-range_with_len_more, get_or-map-range_with_len, length-map-range_with_len}
@@ -32,7 +33,8 @@ pub tail_is : (x y : List ℕ) (xs ys : List (List ℕ)) → x ∷ xs ≡ y ∷ 
 tail_is x y xs ys e = ap (drop 1) e
 
 -- a line behind some such lines is one more of them, or the line that ends them
-pub next_after : (p : ℕ) (xs ys : List (List ℕ)) (l b : List ℕ) (more rest : List (List ℕ)) → AllFirst p xs → AllFirst p ys → (first b ≡ p → ⊥) → xs ++ (l ∷ more) ≡ ys ++ (b ∷ rest) → ((zs : List (List ℕ)) × (ys ≡ xs ++ (l ∷ zs))) ⊎ ((xs ≡ ys) × (l ≡ b) × (more ≡ rest))
+pub next_after : (p : ℕ) (xs ys : List (List ℕ)) (l b : List ℕ) (more rest : List (List ℕ)) → AllFirst p xs → AllFirst p ys → (first b ≡ p → ⊥) →
+    xs ++ (l ∷ more) ≡ ys ++ (b ∷ rest) → ((zs : List (List ℕ)) × (ys ≡ xs ++ (l ∷ zs))) ⊎ ((xs ≡ ys) × (l ≡ b) × (more ≡ rest))
 next_after p [] [] l b more rest hx hy other e = inr (refl, head_is l b more rest e, tail_is l b more rest e)
 next_after p [] (y ∷ ys) l b more rest hx hy other e = inl (ys, ap (λ x. x ∷ ys) (sym (head_is l y more (ys ++ (b ∷ rest)) e)))
 next_after p (x ∷ xs) [] l b more rest hx hy other e = absurd (other (ap first (sym (head_is x b (xs ++ (l ∷ more)) rest e)) ∙ hx.0))
@@ -41,12 +43,14 @@ next_after p (x ∷ xs) (y ∷ ys) l b more rest hx hy other e = go (next_after 
     same : x ≡ y
     same = head_is x y (xs ++ (l ∷ more)) (ys ++ (b ∷ rest)) e
 
-    go : ((zs : List (List ℕ)) × (ys ≡ xs ++ (l ∷ zs))) ⊎ ((xs ≡ ys) × (l ≡ b) × (more ≡ rest)) → ((zs : List (List ℕ)) × (y ∷ ys ≡ x ∷ xs ++ (l ∷ zs))) ⊎ ((x ∷ xs ≡ y ∷ ys) × (l ≡ b) × (more ≡ rest))
+    go : ((zs : List (List ℕ)) × (ys ≡ xs ++ (l ∷ zs))) ⊎ ((xs ≡ ys) × (l ≡ b) × (more ≡ rest)) →
+        ((zs : List (List ℕ)) × (y ∷ ys ≡ x ∷ xs ++ (l ∷ zs))) ⊎ ((x ∷ xs ≡ y ∷ ys) × (l ≡ b) × (more ≡ rest))
     go (inl (zs, whole)) = inl (zs, (λ i. sym same i ∷ whole i))
     go (inr (w, lb, mr)) = inr ((λ i. same i ∷ w i), lb, mr)
 
 -- where both lists are ended, they are one
-pub both_ended : (p : ℕ) (xs ys : List (List ℕ)) (l b : List ℕ) (more rest : List (List ℕ)) → AllFirst p xs → AllFirst p ys → (first l ≡ p → ⊥) → (first b ≡ p → ⊥) → xs ++ (l ∷ more) ≡ ys ++ (b ∷ rest) → (xs ≡ ys) × (l ≡ b) × (more ≡ rest)
+pub both_ended : (p : ℕ) (xs ys : List (List ℕ)) (l b : List ℕ) (more rest : List (List ℕ)) → AllFirst p xs → AllFirst p ys → (first l ≡ p → ⊥) → (first b ≡ p → ⊥) →
+    xs ++ (l ∷ more) ≡ ys ++ (b ∷ rest) → (xs ≡ ys) × (l ≡ b) × (more ≡ rest)
 both_ended p xs ys l b more rest hx hy other_l other_b e = go (next_after p xs ys l b more rest hx hy other_b e)
   where
     go : ((zs : List (List ℕ)) × (ys ≡ xs ++ (l ∷ zs))) ⊎ ((xs ≡ ys) × (l ≡ b) × (more ≡ rest)) → (xs ≡ ys) × (l ≡ b) × (more ≡ rest)
@@ -73,9 +77,14 @@ lines_nested r = ap (λ x. version_line r.weights ∷ x) (regroup (place_lines r
 -- the next place of a report whose place lines go on
 pub next_place : (f g : ℕ → List ℕ) (n k : ℕ) (l : List ℕ) (zs : List (List ℕ)) → map f (range_with_len 0 n) ≡ map g (range_with_len 0 k) ++ (l ∷ zs) → (k < n) × (l ≡ f k)
 next_place f g n k l zs e =
-    let count : n ≡ k + suc (length zs) = sym (length-map-range_with_len f 0 n) ∙ (ap length e ∙ (length_append (map g (range_with_len 0 k)) (l ∷ zs) ∙ ap (λ x. x + suc (length zs)) (length-map-range_with_len g 0 k))) in
-    let lt : k < n = omega arith in
-    (lt, sym (seam (map g (range_with_len 0 k)) k (length-map-range_with_len g 0 k) l zs) ∙ (ap (λ x. get_or x k []) (sym e) ∙ get_or-map-range_with_len f 0 n k k [] lt (zero-add k)))
+    let count : n ≡ k + suc (length zs) =
+    sym (length-map-range_with_len f 0 n) ∙
+    (ap length e ∙ (length_append (map g (range_with_len 0 k)) (l ∷ zs) ∙ ap (λ x. x + suc (length zs)) (length-map-range_with_len g 0 k))) in
+    let lt : k < n = omega arith in (
+      lt,
+      sym (seam (map g (range_with_len 0 k)) k (length-map-range_with_len g 0 k) l zs) ∙
+          (ap (λ x. get_or x k []) (sym e) ∙ get_or-map-range_with_len f 0 n k k [] lt (zero-add k)),
+    )
   where
     length_append : (xs ys : List (List ℕ)) → length (xs ++ ys) ≡ length xs + length ys
     length_append xs ys = length-append xs ys
@@ -90,4 +99,5 @@ same_lines f g (suc n) h =
     let more : map f (range_with_len 0 n) ≡ map g (range_with_len 0 n) = same_lines f g n (λ k lt. h k (omega arith)) in
     let last : f n ≡ g n = h n (omega arith) in
     let e : n + 1 ≡ suc n = omega arith in
-    subst (λ m. map f (range_with_len 0 m) ≡ map g (range_with_len 0 m)) e (map-range_with_len_more f 0 n n (zero-add n) ∙ ((λ i. more i ++ (last i ∷ [])) ∙ sym (map-range_with_len_more g 0 n n (zero-add n))))
+    subst (λ m. map f (range_with_len 0 m) ≡ map g (range_with_len 0 m)) e
+    (map-range_with_len_more f 0 n n (zero-add n) ∙ ((λ i. more i ++ (last i ∷ [])) ∙ sym (map-range_with_len_more g 0 n n (zero-add n))))

@@ -70,7 +70,8 @@ pub feed_is_next : (line bytes rest : List ℕ) → bytes ≡ ended line ++ rest
 feed_is_next [] bytes rest e = (rest, rw e refl)
 feed_is_next (b ∷ bs) bytes rest e = go (is_feed b) refl (feed_is_next bs (ended bs ++ rest) rest refl)
   where
-    go : (t : Bool) → is_feed b ≡ t → ((behind : List ℕ) × (drop (position_or_len is_feed (ended bs ++ rest)) (ended bs ++ rest) ≡ 10 ∷ behind)) → (behind : List ℕ) × (drop (position_or_len is_feed bytes) bytes ≡ 10 ∷ behind)
+    go : (t : Bool) → is_feed b ≡ t → ((behind : List ℕ) × (drop (position_or_len is_feed (ended bs ++ rest)) (ended bs ++ rest) ≡ 10 ∷ behind)) →
+        (behind : List ℕ) × (drop (position_or_len is_feed bytes) bytes ≡ 10 ∷ behind)
     go true t more =
         let at : position_or_len is_feed (b ∷ ended bs ++ rest) ≡ 0 = rw t refl in
         (ended bs ++ rest, rw (e, at) (ap (λ x. x ∷ ended bs ++ rest) (feed_byte b t)))

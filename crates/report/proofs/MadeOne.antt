@@ -14,7 +14,8 @@ use Rattle.report.proofs.TextLaws.{lines_one}
 counts_are_line : (m : Made) → IsSmallMade m → IsOneLine (counts_line m)
 counts_are_line m h =
     let flows = total_one (codes "coflows 200 flows") m.flows (front_is_line (codes "coflows 200 flows")) h.flows in
-    total_one (codes "coflows 200 flows" ++ spaced m.flows ++ codes " units") m.units (both (codes "coflows 200 flows" ++ spaced m.flows) (codes " units") flows (front_is_line (codes " units"))) h.units
+    total_one (codes "coflows 200 flows" ++ spaced m.flows ++ codes " units") m.units
+    (both (codes "coflows 200 flows" ++ spaced m.flows) (codes " units") flows (front_is_line (codes " units"))) h.units
 
 made_is_lines : (m : Made) → IsSmallMade m → AreLines (made_lines m)
 made_is_lines m h = (

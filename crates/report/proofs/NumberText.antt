@@ -37,7 +37,8 @@ digits_end (c ∷ cs) behind d e =
     rw (one, digits_end cs behind more e) (omega arith)
 
 -- the digits in front of other text are the number
-pub number_parts : (bytes rest : List ℕ) (n k : ℕ) → n < 2 ^ 128 → Stops rest → bytes ≡ decimal n ++ rest → k ≡ position_or_len is_other bytes → (take k bytes ≡ decimal n) × (drop k bytes ≡ rest)
+pub number_parts : (bytes rest : List ℕ) (n k : ℕ) → n < 2 ^ 128 → Stops rest → bytes ≡ decimal n ++ rest → k ≡ position_or_len is_other bytes →
+    (take k bytes ≡ decimal n) × (drop k bytes ≡ rest)
 number_parts bytes rest n k small stops e at =
     let end : k ≡ length (decimal n) = at ∙ ap (position_or_len is_other) e ∙ digits_end (decimal n) rest (digits_of_decimal n small) stops in
     (rw (end, e) (take-append_seam (decimal n) rest), rw (end, e) (drop-append_seam (decimal n) rest))
@@ -73,7 +74,8 @@ pub parses : {E : Type 0} (field : List ℕ) (n : ℕ) (r : Result ℕ E) → n 
 parses field n r small e p = parse-decimal_wide 128 n field r small (wide n small) e p
 
 -- a space, the digits and what follows make up the bytes
-pub number_found : (bytes digits field rest : List ℕ) (k n : ℕ) → bytes ≡ codes " " ++ digits → field ≡ take k digits → rest ≡ drop k digits → field ≡ decimal n → bytes ≡ spaced n ++ rest
+pub number_found : (bytes digits field rest : List ℕ) (k n : ℕ) → bytes ≡ codes " " ++ digits → field ≡ take k digits → rest ≡ drop k digits → field ≡ decimal n →
+    bytes ≡ spaced n ++ rest
 number_found bytes digits field rest k n space f r e =
     let whole : digits ≡ decimal n ++ rest = sym (take-append-drop k digits) ∙ (ap (λ x. x ++ drop k digits) (sym f ∙ e) ∙ ap (λ x. decimal n ++ x) (sym r)) in
     space ∙ ap (λ x. codes " " ++ x) whole

@@ -48,7 +48,8 @@ charge_one p h =
     let e = both (spaced p.id ++ codes " " ++ side_word p.port.side ++ spaced p.port.number) (spaced p.y) d (spaced_one p.y h.y) in
     both (spaced p.id ++ codes " " ++ side_word p.port.side ++ spaced p.port.number ++ spaced p.y) (spaced p.done) e (spaced_one p.done (omega (arith, h.done)))
 
-weight_one : (weights : Option (List ℕ)) (n k : ℕ) → ForEach (λ (x : List ℕ). length x ≡ n) weights → ForEach (All (λ w. (1 ≤ w) × (w ≤ 2 ^ 32))) weights → k < n → IsOneLine (weight_word (weight_at weights k))
+weight_one : (weights : Option (List ℕ)) (n k : ℕ) → ForEach (λ (x : List ℕ). length x ≡ n) weights → ForEach (All (λ w. (1 ≤ w) × (w ≤ 2 ^ 32))) weights → k < n →
+    IsOneLine (weight_word (weight_at weights k))
 weight_one (Some ws) n k each range lt = spaced_one _ (omega (arith, (range k 0 (omega (arith, each))).1))
 weight_one None n k each range lt = tt
 
@@ -64,7 +65,8 @@ flows_one [] h = tt
 flows_one (f ∷ fs) h = both (spaced f) (flat_map spaced fs) (spaced_one f (omega (arith, h 0 f (omega arith)))) (flows_one fs (λ k d lt. h (suc k) d (omega arith)))
 
 run_one : (run : Run) → IsRun run → IsOneLine (run_line run)
-run_one run h = both (codes "run" ++ spaced run.length) (flat_map spaced run.flows) (both (codes "run") (spaced run.length) (front_is_line (codes "run")) (spaced_one run.length (omega (arith, h.1)))) (flows_one run.flows h.2.1)
+run_one run h = both (codes "run" ++ spaced run.length) (flat_map spaced run.flows)
+    (both (codes "run") (spaced run.length) (front_is_line (codes "run")) (spaced_one run.length (omega (arith, h.1)))) (flows_one run.flows h.2.1)
 
 -- a word and a number behind a space
 pub total_one : (word : List ℕ) (n : ℕ) → IsOneLine word → n < 2 ^ 128 → IsOneLine (word ++ spaced n)
@@ -79,7 +81,8 @@ range_lines f zero h = tt
 range_lines f (suc n) h =
     let before : AreLines (map f (range_with_len 0 n)) = range_lines f n (λ k lt. h k (omega arith)) in
     let e : n + 1 ≡ suc n = omega arith in
-    subst (λ m. AreLines (map f (range_with_len 0 m))) e (rw (map-range_with_len_more f 0 n n (zero-add n)) (more_lines (map f (range_with_len 0 n)) (f n) before (h n (omega arith))))
+    subst (λ m. AreLines (map f (range_with_len 0 m))) e
+    (rw (map-range_with_len_more f 0 n n (zero-add n)) (more_lines (map f (range_with_len 0 n)) (f n) before (h n (omega arith))))
 
 runs_lines : (runs : List Run) → All IsRun runs → AreLines (map run_line runs)
 runs_lines [] h = tt
@@ -89,7 +92,11 @@ runs_lines (x ∷ xs) h = (run_one x (h 0 x (omega arith)), runs_lines xs (λ k 
 pub report_is_lines : (r : Report) → IsReport r → HasSmallNumbers r → AreLines (report_lines r)
 report_is_lines r h small =
     let places : AreLines (place_lines r) = range_lines (place_line_at r) (length r.places) (λ k lt. place_one r k h small lt) in
-    let totals : AreLines (total_lines r) = (total_one (codes "bound") r.bound (front_is_line (codes "bound")) small.bound, (total_one (codes "slack") r.slack (front_is_line (codes "slack")) small.slack, (total_one (codes "cost") r.cost (front_is_line (codes "cost")) small.cost, tt))) in
+    let totals : AreLines (total_lines r) = (
+      total_one (codes "bound") r.bound (front_is_line (codes "bound")) small.bound,
+      (total_one (codes "slack") r.slack (front_is_line (codes "slack")) small.slack, (total_one (codes "cost") r.cost (front_is_line (codes "cost")) small.cost, tt)),
+    ) in
     let a : AreLines (place_lines r ++ total_lines r) = both_lines (place_lines r) (total_lines r) places totals in
-    let b : AreLines (place_lines r ++ total_lines r ++ map run_line r.runs) = both_lines (place_lines r ++ total_lines r) (map run_line r.runs) a (runs_lines r.runs (all_runs r h small)) in
+    let b : AreLines (place_lines r ++ total_lines r ++ map run_line r.runs) =
+    both_lines (place_lines r ++ total_lines r) (map run_line r.runs) a (runs_lines r.runs (all_runs r h small)) in
     (version_one r.weights, both_lines (place_lines r ++ total_lines r ++ map run_line r.runs) (codes "end" ∷ []) b (front_is_line (codes "end"), tt))

@@ -1,5 +1,6 @@
 -- The parts of a line in front of other text.
-use Rattle.std.proofs.Common.{◌≡◌, ℕ, suc, ◌<◌, ◌≤◌, ◌^◌, List, [], ◌∷◌, ◌++◌, Bool, true, false, Option, Some, None, length, drop, get_or, append_assoc, append-nil, refl, sym, ap, ◌∙◌, arith}
+use Rattle.std.proofs.Common.{◌≡◌, ℕ, suc, ◌<◌, ◌≤◌, ◌^◌, List, [], ◌∷◌, ◌++◌, Bool, true, false, Option, Some, None, length, drop, get_or, append_assoc, append-nil, refl, sym, ap}
+use Rattle.std.proofs.Common.{◌∙◌, arith}
 use Rattle.std.specs.Prelude.{◌==◌, codes}
 use Rattle.std.proofs.lemmas.Bool.Decides.{nat_tests}
 use Rattle.std.proofs.lemmas.List.{append_cancel_left}
@@ -41,16 +42,20 @@ pub charge_parts : (p : PlaceLine) (rest : List ℕ) → charge_words p ++ rest 
 charge_parts p rest = regroup (spaced p.id) (codes " ") (side_word p.port.side) (spaced p.port.number) (spaced p.y) (spaced p.done) rest
 
 -- a part that was read is that of any place whose words the bytes begin with
-pub id_is : (p : PlaceLine) (bytes rest r : List ℕ) (n : ℕ) → IsSmallPlace p → bytes ≡ charge_words p ++ rest → n < 2 ^ 128 → bytes ≡ spaced n ++ r → Stops r → (n ≡ p.id) × (r ≡ after_id p rest)
+pub id_is : (p : PlaceLine) (bytes rest r : List ℕ) (n : ℕ) → IsSmallPlace p → bytes ≡ charge_words p ++ rest → n < 2 ^ 128 → bytes ≡ spaced n ++ r → Stops r →
+    (n ≡ p.id) × (r ≡ after_id p rest)
 id_is p bytes rest r n small e s f stops = same_number bytes r (after_id p rest) n p.id s (omega (arith, small.id)) stops refl f (e ∙ charge_parts p rest)
 
-pub side_is : (p : PlaceLine) (bytes rest r : List ℕ) (side : Side) → bytes ≡ after_id p rest → bytes ≡ codes " " ++ side_word side ++ r → (side ≡ p.port.side) × (r ≡ after_side p rest)
+pub side_is : (p : PlaceLine) (bytes rest r : List ℕ) (side : Side) → bytes ≡ after_id p rest → bytes ≡ codes " " ++ side_word side ++ r →
+    (side ≡ p.port.side) × (r ≡ after_side p rest)
 side_is p bytes rest r side e f = side_unique side p.port.side r (after_side p rest) (sym f ∙ e)
 
-pub number_is : (p : PlaceLine) (bytes rest r : List ℕ) (n : ℕ) → IsSmallPlace p → bytes ≡ after_side p rest → n < 2 ^ 128 → bytes ≡ spaced n ++ r → Stops r → (n ≡ p.port.number) × (r ≡ after_number p rest)
+pub number_is : (p : PlaceLine) (bytes rest r : List ℕ) (n : ℕ) → IsSmallPlace p → bytes ≡ after_side p rest → n < 2 ^ 128 → bytes ≡ spaced n ++ r → Stops r →
+    (n ≡ p.port.number) × (r ≡ after_number p rest)
 number_is p bytes rest r n small e s f stops = same_number bytes r (after_number p rest) n p.port.number s (omega (arith, small.port)) stops refl f e
 
-pub y_is : (p : PlaceLine) (bytes rest r : List ℕ) (n : ℕ) → IsSmallPlace p → bytes ≡ after_number p rest → n < 2 ^ 128 → bytes ≡ spaced n ++ r → Stops r → (n ≡ p.y) × (r ≡ after_y p rest)
+pub y_is : (p : PlaceLine) (bytes rest r : List ℕ) (n : ℕ) → IsSmallPlace p → bytes ≡ after_number p rest → n < 2 ^ 128 → bytes ≡ spaced n ++ r → Stops r →
+    (n ≡ p.y) × (r ≡ after_y p rest)
 y_is p bytes rest r n small e s f stops = same_number bytes r (after_y p rest) n p.y s small.y stops refl f e
 
 -- bytes begin with the words of one place at most
@@ -69,13 +74,15 @@ weight_stops None = tt
 weight_stops (Some w) = refl
 
 -- without a number the bytes are no weight
-pub no_weight : (weighed : Bool) (bytes : List ℕ) → weighed ≡ true → ((n : ℕ) (rest : List ℕ) → n ≤ 2 ^ 32 → Stops rest → bytes ≡ spaced n ++ rest → ⊥) → (weight : Option ℕ) → IsWeight weighed weight → bytes ≡ weight_word weight → ⊥
+pub no_weight : (weighed : Bool) (bytes : List ℕ) → weighed ≡ true → ((n : ℕ) (rest : List ℕ) → n ≤ 2 ^ 32 → Stops rest → bytes ≡ spaced n ++ rest → ⊥) → (weight : Option ℕ) →
+    IsWeight weighed weight → bytes ≡ weight_word weight → ⊥
 no_weight true bytes is none (Some w) h e = none w [] h.1 tt (e ∙ sym (append-nil (spaced w)))
 no_weight true bytes is none None h e = h
 no_weight false bytes is none weight h e = let bad : false ≡ true = is in cc
 
 -- bytes that are a number and no more are no other weight
-pub only_weight : (weighed : Bool) (bytes rest : List ℕ) (n : ℕ) → weighed ≡ true → n < 2 ^ 128 → bytes ≡ spaced n ++ rest → Stops rest → (weight : Option ℕ) → IsWeight weighed weight → bytes ≡ weight_word weight → (1 ≤ n) × (rest ≡ [])
+pub only_weight : (weighed : Bool) (bytes rest : List ℕ) (n : ℕ) → weighed ≡ true → n < 2 ^ 128 → bytes ≡ spaced n ++ rest → Stops rest → (weight : Option ℕ) →
+    IsWeight weighed weight → bytes ≡ weight_word weight → (1 ≤ n) × (rest ≡ [])
 only_weight true bytes rest n is small f stops (Some w) h e =
     let same = same_number bytes rest [] n w small (omega (arith, h.1)) stops tt f (e ∙ sym (append-nil (spaced w))) in
     (omega (arith, h.0, same.0), same.1)
@@ -89,11 +96,13 @@ place_regroup a b c d = simp append_assoc
 pub place_parts : (k : ℕ) (p : PlaceLine) (weight : Option ℕ) → place_line k p weight ≡ codes "place" ++ (spaced k ++ (charge_words p ++ weight_word weight))
 place_parts k p weight = place_regroup (codes "place") (spaced k) (charge_words p) (weight_word weight)
 
-pub behind_place : (k : ℕ) (p : PlaceLine) (weight : Option ℕ) (line rest : List ℕ) → line ≡ codes "place" ++ rest → line ≡ place_line k p weight → rest ≡ spaced k ++ (charge_words p ++ weight_word weight)
+pub behind_place : (k : ℕ) (p : PlaceLine) (weight : Option ℕ) (line rest : List ℕ) → line ≡ codes "place" ++ rest → line ≡ place_line k p weight →
+    rest ≡ spaced k ++ (charge_words p ++ weight_word weight)
 behind_place k p weight line rest f e = ap (drop 5) (sym f ∙ (e ∙ place_parts k p weight))
 
 -- the number that was read is the place's
-pub place_is : (k n : ℕ) (p : PlaceLine) (weight : Option ℕ) (line rest r : List ℕ) → k < 2 ^ 128 → n < 2 ^ 128 → line ≡ codes "place" ++ rest → line ≡ place_line k p weight → rest ≡ spaced n ++ r → Stops r → (n ≡ k) × (r ≡ charge_words p ++ weight_word weight)
+pub place_is : (k n : ℕ) (p : PlaceLine) (weight : Option ℕ) (line rest r : List ℕ) → k < 2 ^ 128 → n < 2 ^ 128 → line ≡ codes "place" ++ rest → line ≡ place_line k p weight →
+    rest ≡ spaced n ++ r → Stops r → (n ≡ k) × (r ≡ charge_words p ++ weight_word weight)
 place_is k n p weight line rest r sk sn f e g stops =
     same_number rest r (charge_words p ++ weight_word weight) n k sn sk stops refl g (behind_place k p weight line rest f e)
 

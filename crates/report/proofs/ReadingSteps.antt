@@ -25,10 +25,13 @@ pub record ReadSoFar (bytes rest : List ℕ) (d : Draft) (n : ℕ) : Type 0 wher
 pub none_yet : (bytes : List ℕ) (d : Draft) → IsDraft d → draft_lines d ≡ [] → ReadSoFar bytes bytes d 1
 none_yet bytes d h none = record { draft = h; are_lines = rw none tt; count = rw none refl; text = rw none refl }
 
-pub one_more : (bytes rest behind line : List ℕ) (d new : Draft) (n : ℕ) → ReadSoFar bytes rest d n → IsDraft new → draft_lines new ≡ draft_lines d ++ (line ∷ []) → IsOneLine line → rest ≡ ended line ++ behind → ReadSoFar bytes behind new (n + 1)
+pub one_more : (bytes rest behind line : List ℕ) (d new : Draft) (n : ℕ) → ReadSoFar bytes rest d n → IsDraft new → draft_lines new ≡ draft_lines d ++ (line ∷ []) →
+    IsOneLine line → rest ≡ ended line ++ behind → ReadSoFar bytes behind new (n + 1)
 one_more bytes rest behind line d new n r h grown one e =
-    let flat : text_of (draft_lines d ++ (line ∷ [])) ≡ text_of (draft_lines d) ++ ended line = flat_map-append ended (draft_lines d) (line ∷ []) ∙ ap (λ x. text_of (draft_lines d) ++ x) (append-nil (ended line)) in
-    let whole : text_of (draft_lines d) ++ rest ≡ text_of (draft_lines new) ++ behind = ap (λ x. text_of (draft_lines d) ++ x) e ∙ (sym (append_assoc (text_of (draft_lines d)) (ended line) behind) ∙ ap (λ x. x ++ behind) (sym flat ∙ ap text_of (sym grown))) in
+    let flat : text_of (draft_lines d ++ (line ∷ [])) ≡ text_of (draft_lines d) ++ ended line = flat_map-append ended (draft_lines d) (line ∷ []) ∙
+    ap (λ x. text_of (draft_lines d) ++ x) (append-nil (ended line)) in
+    let whole : text_of (draft_lines d) ++ rest ≡ text_of (draft_lines new) ++ behind = ap (λ x. text_of (draft_lines d) ++ x) e ∙
+    (sym (append_assoc (text_of (draft_lines d)) (ended line) behind) ∙ ap (λ x. x ++ behind) (sym flat ∙ ap text_of (sym grown))) in
     record {
       draft = h;
       are_lines = rw grown (more_lines (draft_lines d) line r.are_lines one);
@@ -49,7 +52,8 @@ shorter rest behind line e = omega (arith, ap length e, length-append (ended lin
 
 -- no report has, behind the lines that were read, a line with which the rest begins
 abbrev pub Stuck : List ℕ → Draft → Type 0
-Stuck rest d = (line behind : List ℕ) (r : Report) (more : List (List ℕ)) → IsReport r → HasSmallNumbers r → IsOneLine line → report_lines r ≡ draft_lines d ++ (line ∷ more) → rest ≡ ended line ++ behind → ⊥
+Stuck rest d = (line behind : List ℕ) (r : Report) (more : List (List ℕ)) → IsReport r → HasSmallNumbers r → IsOneLine line → report_lines r ≡ draft_lines d ++ (line ∷ more) →
+    rest ≡ ended line ++ behind → ⊥
 
 -- no report has just the lines that were read, where the rest is empty
 abbrev pub Open : List ℕ → Draft → Type 0
@@ -67,7 +71,8 @@ beginning bytes rest d n k r lt =
       small = r.draft.small;
       front = take k ls;
       others = drop k ls ++ lines_after d.stage (report_of d);
-      lines = lines_parted d.stage (report_of d) ∙ (ap (λ x. x ++ lines_after d.stage (report_of d)) parted ∙ append_assoc (take k ls) (drop k ls) (lines_after d.stage (report_of d)));
+      lines = lines_parted d.stage (report_of d) ∙
+          (ap (λ x. x ++ lines_after d.stage (report_of d)) parted ∙ append_assoc (take k ls) (drop k ls) (lines_after d.stage (report_of d)));
       count = length-take-le k ls (omega (arith, r.count));
       rest = text_of (drop k ls) ++ rest;
       text = r.text ∙ (ap (λ x. x ++ rest) text ∙ append_assoc (text_of (take k ls)) (text_of (drop k ls)) rest);
@@ -89,7 +94,8 @@ bad_at bytes rest d n r stuck early = record { no_text = no_text; counted = omeg
     here b =
         let fronts : AreLines b.front = front_lines b.front b.others (subst AreLines b.lines (report_is_lines b.whole b.report b.small)) in
         let split = text_splits (draft_lines d) b.front rest b.rest r.are_lines fronts (b.count ∙ sym r.count) (sym r.text ∙ b.text) in
-        let whole : report_lines b.whole ≡ draft_lines d ++ (split.0 ∷ b.others) = b.lines ∙ (ap (λ x. x ++ b.others) split.1 ∙ append_assoc (draft_lines d) (split.0 ∷ []) b.others) in
+        let whole : report_lines b.whole ≡ draft_lines d ++ (split.0 ∷ b.others) =
+        b.lines ∙ (ap (λ x. x ++ b.others) split.1 ∙ append_assoc (draft_lines d) (split.0 ∷ []) b.others) in
         stuck split.0 b.rest b.whole b.others b.report b.small split.3 whole split.2
 
 -- the rest begins with no whole line

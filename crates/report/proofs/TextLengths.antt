@@ -15,7 +15,8 @@ use Rattle.coflow_units.proofs.Sums.{all_of_members}
 use Rattle.report.specs.declared.value.PlaceLine.{PlaceLine}
 use Rattle.report.specs.declared.value.Report.{Report}
 use Rattle.report.specs.Report.{ForEach, HasSmallNumbers, IsReport, IsSmallPlace}
-use Rattle.report.specs.Text.{charge_words, ended, place_at, place_line, place_line_at, place_lines, report_text, run_line, side_word, spaced, total_lines, version_line, weight_at, weight_word}
+use Rattle.report.specs.Text.{charge_words, ended, place_at, place_line, place_line_at, place_lines, report_text, run_line, side_word, spaced, total_lines, version_line, weight_at}
+use Rattle.report.specs.Text.{weight_word}
 
 -- ---- numbers
 
@@ -59,7 +60,8 @@ word_is_short : (weight : Option ℕ) → ForEach (λ w. w ≤ 2 ^ 32) weight �
 word_is_short (Some w) small = weight_is_short w small
 word_is_short None small = omega arith
 
-weight_in_range : (weights : Option (List ℕ)) (k n : ℕ) → ForEach (λ (ws : List ℕ). length ws ≡ n) weights → ForEach (All (λ w. (1 ≤ w) × (w ≤ 2 ^ 32))) weights → k < n → ForEach (λ w. w ≤ 2 ^ 32) (weight_at weights k)
+weight_in_range : (weights : Option (List ℕ)) (k n : ℕ) → ForEach (λ (ws : List ℕ). length ws ≡ n) weights → ForEach (All (λ w. (1 ≤ w) × (w ≤ 2 ^ 32))) weights → k < n →
+    ForEach (λ w. w ≤ 2 ^ 32) (weight_at weights k)
 weight_in_range (Some ws) k n each range lt = (range k 0 (omega (arith, each, lt))).1
 weight_in_range None k n each range lt = tt
 
@@ -86,7 +88,8 @@ place_at_is_short r k fits small lt =
 places_are_short : (r : Report) → IsReport r → HasSmallNumbers r → bytes_in (place_lines r) ≤ 200 * length r.places
 places_are_short r fits small =
     let numbers = range_with_len 0 (length r.places) in
-    let each = all_of_members (λ k. length (ended (place_line_at r k)) ≤ 200) numbers (λ k has. place_at_is_short r k fits small (omega (arith, number_below 0 (length r.places) k has))) in
+    let each = all_of_members (λ k. length (ended (place_line_at r k)) ≤ 200) numbers
+    (λ k has. place_at_is_short r k fits small (omega (arith, number_below 0 (length r.places) k has))) in
     omega (
       arith,
       length-map-range_with_len (place_line_at r) 0 (length r.places),
@@ -109,7 +112,8 @@ run_is_short run few small =
       flows_are_short run.flows small,
     )
 
-runs_are_short : (runs : List Run) → All (λ (run : Run). run.length < 2 ^ 64) runs → All (λ (run : Run). All (λ f. f < 2 ^ 32) run.flows) runs → bytes_in (map run_line runs) ≤ 30 * length runs + 11 * sum_by (λ (run : Run). length run.flows) runs
+runs_are_short : (runs : List Run) → All (λ (run : Run). run.length < 2 ^ 64) runs → All (λ (run : Run). All (λ f. f < 2 ^ 32) run.flows) runs →
+    bytes_in (map run_line runs) ≤ 30 * length runs + 11 * sum_by (λ (run : Run). length run.flows) runs
 runs_are_short [] few small = omega arith
 runs_are_short (r ∷ rs) few small =
     omega (
@@ -139,7 +143,8 @@ totals_are_short r small =
     )
 
 -- a text has at most 200 bytes for each place, 30 for each run and 11 for each flow of a run, and 200 more
-pub text_is_short : (r : Report) → IsReport r → HasSmallNumbers r → length (report_text r) ≤ 200 + 200 * length r.places + 30 * length r.runs + 11 * sum_by (λ (run : Run). length run.flows) r.runs
+pub text_is_short : (r : Report) → IsReport r → HasSmallNumbers r →
+    length (report_text r) ≤ 200 + 200 * length r.places + 30 * length r.runs + 11 * sum_by (λ (run : Run). length run.flows) r.runs
 text_is_short r fits small =
     let bytes = λ (line : List ℕ). length (ended line) in
     let first = version_line r.weights ∷ [] in

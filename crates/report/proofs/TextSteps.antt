@@ -17,26 +17,32 @@ pub one_more : (text new : List ℕ) (lines more : List (List ℕ)) (line : List
 one_more text new lines more line old step grown = step ∙ (ap (λ x. x ++ ended line) old ∙ (sym (text_more lines line) ∙ ap text_of (sym grown)))
 
 -- one more line stands at the end of the text, of which some lines are told
-one_more_behind : (front text new : List ℕ) (lines more : List (List ℕ)) (line : List ℕ) → text ≡ front ++ text_of lines → new ≡ text ++ ended line → more ≡ lines ++ (line ∷ []) → new ≡ front ++ text_of more
+one_more_behind : (front text new : List ℕ) (lines more : List (List ℕ)) (line : List ℕ) → text ≡ front ++ text_of lines → new ≡ text ++ ended line → more ≡ lines ++ (line ∷ []) →
+    new ≡ front ++ text_of more
 one_more_behind front text new lines more line old step grown =
     step ∙ (ap (λ x. x ++ ended line) old ∙ (append_assoc front (text_of lines) (ended line) ∙ ap (λ x. front ++ x) (sym (text_more lines line) ∙ ap text_of (sym grown))))
 
 -- the lines of one place more
-pub place_step : (r : Report) (k : ℕ) (front text new : List ℕ) → text ≡ front ++ text_of (map (place_line_at r) (range_with_len 0 k)) → new ≡ text ++ ended (place_line_at r k) → new ≡ front ++ text_of (map (place_line_at r) (range_with_len 0 (k + 1)))
+pub place_step : (r : Report) (k : ℕ) (front text new : List ℕ) → text ≡ front ++ text_of (map (place_line_at r) (range_with_len 0 k)) → new ≡ text ++ ended (place_line_at r k) →
+    new ≡ front ++ text_of (map (place_line_at r) (range_with_len 0 (k + 1)))
 place_step r k front text new old step =
-    one_more_behind front text new (map (place_line_at r) (range_with_len 0 k)) (map (place_line_at r) (range_with_len 0 (k + 1))) (place_line_at r k) old step (map-range_with_len_more (place_line_at r) 0 k k (zero-add k))
+    one_more_behind front text new (map (place_line_at r) (range_with_len 0 k)) (map (place_line_at r) (range_with_len 0 (k + 1))) (place_line_at r k) old step
+    (map-range_with_len_more (place_line_at r) 0 k k (zero-add k))
 
 -- the lines of one run more
-pub run_step : (runs : List Run) (k : ℕ) (run : Run) (front text new : List ℕ) → k < length runs → run ≡ get_or runs k run → text ≡ front ++ text_of (map run_line (take k runs)) → new ≡ text ++ ended (run_line run) → new ≡ front ++ text_of (map run_line (take (k + 1) runs))
+pub run_step : (runs : List Run) (k : ℕ) (run : Run) (front text new : List ℕ) → k < length runs → run ≡ get_or runs k run → text ≡ front ++ text_of (map run_line (take k runs)) →
+    new ≡ text ++ ended (run_line run) → new ≡ front ++ text_of (map run_line (take (k + 1) runs))
 run_step runs k run front text new lt here old step =
-    one_more_behind front text new (map run_line (take k runs)) (map run_line (take (k + 1) runs)) (run_line run) old step (map_more run_line runs k run lt ∙ ap (λ y. map run_line (take k runs) ++ (run_line y ∷ [])) (sym here))
+    one_more_behind front text new (map run_line (take k runs)) (map run_line (take (k + 1) runs)) (run_line run) old step
+    (map_more run_line runs k run lt ∙ ap (λ y. map run_line (take k runs) ++ (run_line y ∷ [])) (sym here))
 
 -- more lines stand at the end of the text
 lines_more : (lines more : List (List ℕ)) (text new : List ℕ) → text ≡ text_of lines → new ≡ text ++ text_of more → new ≡ text_of (lines ++ more)
 lines_more lines more text new old step = step ∙ (ap (λ x. x ++ text_of more) old ∙ sym (flat_map-append ended lines more))
 
 -- the parts of a text in turn
-pub whole : (r : Report) (version places totals runs all : List ℕ) → version ≡ ended (version_line r.weights) → places ≡ version ++ text_of (place_lines r) → totals ≡ places ++ text_of (total_lines r) → runs ≡ totals ++ text_of (map run_line r.runs) → all ≡ runs ++ codes "end\n" → all ≡ report_text r
+pub whole : (r : Report) (version places totals runs all : List ℕ) → version ≡ ended (version_line r.weights) → places ≡ version ++ text_of (place_lines r) →
+    totals ≡ places ++ text_of (total_lines r) → runs ≡ totals ++ text_of (map run_line r.runs) → all ≡ runs ++ codes "end\n" → all ≡ report_text r
 whole r version places totals runs all v p t u e =
     let first = version_line r.weights ∷ [] in
     let to_places = lines_more first (place_lines r) version places (v ∙ sym (append-nil (ended (version_line r.weights)))) p in

@@ -1,5 +1,6 @@
 -- A report that was read in part.
-use Rattle.std.specs.Prelude.{◌≡◌, ◌≢◌, ℕ, ◌-◌, ◌<◌, ◌++◌, Bool, true, false, List, [], ◌∷◌, Option, Some, None, length, map, sum_by}
+use Rattle.std.specs.Prelude.{◌≡◌, ◌≢◌, ℕ, ◌-◌, ◌<◌, ◌++◌, Bool, true, false, List, [], ◌∷◌, Option, Some, None, length}
+use Rattle.std.specs.Prelude.{map, sum_by}
 use Rattle.std.specs.List.{slice_index_or}
 use Rattle.coflow_units.specs.declared.plan.Run.{Run}
 use Rattle.report.specs.declared.draft.Stage.{Stage}
@@ -12,7 +13,14 @@ use Rattle.report.specs.Readers.{weights_if}
 
 -- the report with what was read so far, and nothing where nothing was read
 abbrev pub report_of : Draft → Report
-report_of d = record { places = d.places.items; weights = weights_if d.weighed d.weights.items; bound = d.bound; slack = d.slack; cost = d.cost; runs = d.runs.items }
+report_of d = record {
+  places = d.places.items;
+  weights = weights_if d.weighed d.weights.items;
+  bound = d.bound;
+  slack = d.slack;
+  cost = d.cost;
+  runs = d.runs.items;
+}
 
 -- the lines of a report that were read when the stage begins
 abbrev pub lines_before : Stage → Report → List (List ℕ)
@@ -45,7 +53,8 @@ pub record IsDraft (d : Draft) : Type 0 where
 
 -- no report has the line after the lines that were read
 abbrev pub Refuses : Draft → List ℕ → Type 0
-Refuses d line = (r : Report) (more : List (List ℕ)) → IsReport r → HasSmallNumbers r → report_lines r ≡ draft_lines d ++ (line ∷ more) → ⊥
+Refuses d line = (r : Report) (more : List (List ℕ)) → IsReport r → HasSmallNumbers r →
+    report_lines r ≡ draft_lines d ++ (line ∷ more) → ⊥
 
 -- the line is taken, and stands behind the lines that were read before; or no report has it there
 abbrev pub Takes : Draft → Draft → List ℕ → Bool → Type 0

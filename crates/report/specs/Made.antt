@@ -22,7 +22,8 @@ counts_line m = codes "coflows 200 flows" ++ spaced m.flows ++ codes " units" ++
 
 -- the lines of a summary
 abbrev pub made_lines : Made → List (List ℕ)
-made_lines m = seed_line m.seed ∷ counts_line m ∷ bound_line m.bound ∷ slack_line m.slack ∷ cost_line m.cost ∷ codes "check yes" ∷ codes "end" ∷ []
+made_lines m = seed_line m.seed ∷ counts_line m ∷ bound_line m.bound ∷ slack_line m.slack ∷ cost_line m.cost ∷ codes
+    "check yes" ∷ codes "end" ∷ []
 
 -- the text of a summary
 abbrev pub made_text : Made → List ℕ

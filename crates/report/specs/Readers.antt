@@ -1,5 +1,7 @@
 -- What the readers of the parts of a line answer.
-use Rattle.std.specs.Prelude.{◌≡◌, ◌≢◌, ℕ, ◌<◌, ◌≤◌, ◌-◌, ◌^◌, ◌++◌, Bool, true, false, List, [], ◌∷◌, Option, Some, None, All, codes}
+use Rattle.std.specs.Prelude.{◌≡◌, ◌≢◌, ℕ, ◌<◌, ◌≤◌, ◌-◌, ◌^◌, ◌++◌, Bool, true, false, List, [], ◌∷◌, Option, Some}
+use Rattle.std.specs.Prelude.{None, All, codes}
+use Rattle.coflow_units.specs.declared.limits.TheConstants.{MAX_SLOT, MAX_WEIGHT}
 use Rattle.std.specs.Char.{is_ascii_digit}
 use Rattle.std.specs.List.Sorted.{IsStrictlyIncreasing}
 use Rattle.std.specs.List.{flat_map}
@@ -39,9 +41,11 @@ abbrev pub IsLineThen : {V : Type 0} → (V → List ℕ × List ℕ) → List �
 IsLineThen view bytes (Some v) = IsOneLine (view v).0 × (bytes ≡ ended (view v).0 ++ (view v).1)
 IsLineThen view bytes None = (line rest : List ℕ) → bytes ≡ ended line ++ rest → ⊥
 
--- the bytes begin with a space and a number of at most `most`, and these are the number and what follows; or they do not begin so
+-- the bytes begin with a space and a number of at most `most`, and these are the number and what follows; or they do
+-- not begin so
 abbrev pub IsNumberThen : {V : Type 0} → (V → ℕ × List ℕ) → ℕ → List ℕ → Option V → Type 0
-IsNumberThen view most bytes (Some v) = ((view v).0 ≤ most) × (bytes ≡ spaced (view v).0 ++ (view v).1) × Stops (view v).1
+IsNumberThen view most bytes (Some v) = ((view v).0 ≤ most) × (bytes ≡ spaced (view v).0 ++ (view v).1) ×
+    Stops (view v).1
 IsNumberThen view most bytes None = (n : ℕ) (rest : List ℕ) → n ≤ most → Stops rest → bytes ≡ spaced n ++ rest → ⊥
 
 -- the bytes begin with a space and the word of a side, and these are the side and what follows; or they do not begin so
@@ -49,14 +53,17 @@ abbrev pub IsSideThen : {V : Type 0} → (V → Side × List ℕ) → List ℕ �
 IsSideThen view bytes (Some v) = bytes ≡ codes " " ++ side_word (view v).0 ++ (view v).1
 IsSideThen view bytes None = (side : Side) (rest : List ℕ) → bytes ≡ codes " " ++ side_word side ++ rest → ⊥
 
--- the bytes begin with what a place line says of a place, and these are the place and what follows; or they do not begin so
+-- the bytes begin with what a place line says of a place, and these are the place and what follows; or they do not
+-- begin so
 abbrev pub IsChargeThen : {V : Type 0} → (V → PlaceLine × List ℕ) → List ℕ → Option V → Type 0
-IsChargeThen view bytes (Some v) = IsSmallPlace (view v).0 × (bytes ≡ charge_words (view v).0 ++ (view v).1) × Stops (view v).1
-IsChargeThen view bytes None = (p : PlaceLine) (rest : List ℕ) → IsSmallPlace p → Stops rest → bytes ≡ charge_words p ++ rest → ⊥
+IsChargeThen view bytes (Some v) = IsSmallPlace (view v).0 × (bytes ≡ charge_words (view v).0 ++ (view v).1) ×
+    Stops (view v).1
+IsChargeThen view bytes None = (p : PlaceLine) (rest : List ℕ) → IsSmallPlace p → Stops rest →
+    bytes ≡ charge_words p ++ rest → ⊥
 
 -- a report with weights has a weight from 1 to 2^32 at each place, and one without has none
 abbrev pub IsWeight : Bool → Option ℕ → Type 0
-IsWeight true (Some weight) = (1 ≤ weight) × (weight ≤ 2 ^ 32)
+IsWeight true (Some weight) = (1 ≤ weight) × (weight ≤ MAX_WEIGHT)
 IsWeight true None = ⊥
 IsWeight false (Some weight) = ⊥
 IsWeight false None = Unit {0}
@@ -69,7 +76,8 @@ IsWeightWord weighed bytes None = (weight : Option ℕ) → IsWeight weighed wei
 -- the line is that of place k, and these are the place and its weight; or it is not
 abbrev pub IsPlaceOf : ℕ → Bool → List ℕ → Option (PlaceLine × Option ℕ) → Type 0
 IsPlaceOf k weighed line (Some v) = IsSmallPlace v.0 × IsWeight weighed v.1 × (line ≡ place_line k v.0 v.1)
-IsPlaceOf k weighed line None = (p : PlaceLine) (weight : Option ℕ) → IsSmallPlace p → IsWeight weighed weight → line ≡ place_line k p weight → ⊥
+IsPlaceOf k weighed line None = (p : PlaceLine) (weight : Option ℕ) → IsSmallPlace p → IsWeight weighed weight →
+    line ≡ place_line k p weight → ⊥
 
 -- the line is the word and this number; or it is not the word and a number below 2^128
 abbrev pub IsTotalOf : List ℕ → List ℕ → Option ℕ → Type 0
@@ -92,7 +100,7 @@ IsFlowsOf bytes None = (flows : List ℕ) → AreFlows flows → bytes ≡ flat_
 
 -- a run of 1 to 2^41 - 1 slots
 abbrev pub IsRun : Run → Type 0
-IsRun run = (1 ≤ run.length) × (run.length ≤ 2 ^ 41 - 1) × AreFlows run.flows
+IsRun run = (1 ≤ run.length) × (run.length ≤ MAX_SLOT) × AreFlows run.flows
 
 -- the line is that of this run; or it is none of a run
 abbrev pub IsRunOf : List ℕ → Option Run → Type 0

@@ -24,7 +24,8 @@ pub record IsBeginning (bytes : List ℕ) (n : ℕ) : Type 0 where
   pub rest : List ℕ
   pub text : bytes ≡ text_of front ++ rest
 
--- the bytes are the text of no report, and the line is the first one that no text of a report has after the lines before it
+-- the bytes are the text of no report, and the line is the first one that no text of a report has after the lines
+-- before it
 pub record IsBadAt (bytes : List ℕ) (line : ℕ) : Type 0 where
   pub no_text : (r : Report) → IsTextOf bytes r → ⊥
   pub counted : 1 ≤ line

@@ -32,7 +32,8 @@ weight_word None = []
 
 -- what a place line says of the place: id, side, port, y, and the slot of completion
 abbrev pub charge_words : PlaceLine → List ℕ
-charge_words p = spaced p.id ++ codes " " ++ side_word p.port.side ++ spaced p.port.number ++ spaced p.y ++ spaced p.done
+charge_words p = spaced p.id ++ codes " " ++ side_word p.port.side ++ spaced p.port.number ++ spaced p.y ++
+    spaced p.done
 
 -- the line of the place with number k, counted from 1
 abbrev pub place_line : ℕ → PlaceLine → Option ℕ → List ℕ
@@ -45,7 +46,12 @@ weight_at None k = None
 
 -- the place with index k; an index past the end gives zeros, and is read only where it is known to be a place's
 abbrev pub place_at : List PlaceLine → ℕ → PlaceLine
-place_at places k = slice_index_or places k record { id = 0; port = record { side = Ingress; number = 0 }; y = 0; done = 0 }
+place_at places k = slice_index_or places k record {
+  id = 0;
+  port = record { side = Ingress; number = 0 };
+  y = 0;
+  done = 0;
+}
 
 -- the line of the place with index k
 abbrev pub place_line_at : Report → ℕ → List ℕ
@@ -77,7 +83,8 @@ run_line run = codes "run" ++ spaced run.length ++ flat_map spaced run.flows
 
 -- the lines of a report
 abbrev pub report_lines : Report → List (List ℕ)
-report_lines r = (version_line r.weights ∷ []) ++ place_lines r ++ total_lines r ++ map run_line r.runs ++ (codes "end" ∷ [])
+report_lines r = (version_line r.weights ∷ []) ++ place_lines r ++ total_lines r ++ map run_line r.runs ++
+    (codes "end" ∷ [])
 
 -- the text of some lines
 abbrev pub text_of : List (List ℕ) → List ℕ

@@ -10,7 +10,8 @@ ghost use Rattle.report.specs.Text.{report_text};
 
 /// A text is that of one report at most.
 pub fn texts_are_one()
-    ensures { (a b : Report) → IsReport a → HasSmallNumbers a → IsReport b → HasSmallNumbers b → report_text a ≡ report_text b → a ≡ b }
+    ensures { (a b : Report) → IsReport a → HasSmallNumbers a → IsReport b → HasSmallNumbers b →
+        report_text a ≡ report_text b → a ≡ b }
 {}
 
 /// A text is the summary of one made workload at most.
@@ -20,8 +21,10 @@ pub fn summaries_are_one()
 
 /// A reader gives back the report that was written, where there is memory.
 pub fn written_is_read()
-    ensures same { (written read : Report) → IsReport written → HasSmallNumbers written → GivesReport (report_text written) (Ok read) → read ≡ written }
-    ensures taken { (written : Report) (line : ℕ) → IsReport written → HasSmallNumbers written → GivesReport (report_text written) (Err (BadText line)) → ⊥ }
+    ensures same { (written read : Report) → IsReport written → HasSmallNumbers written →
+        GivesReport (report_text written) (Ok read) → read ≡ written }
+    ensures taken { (written : Report) (line : ℕ) → IsReport written → HasSmallNumbers written →
+        GivesReport (report_text written) (Err (BadText line)) → ⊥ }
 {}
 
 /// A text is refused at one line alone.

@@ -1,5 +1,5 @@
-// The texts of the program: the report of a plan, written and read strictly, and the summary of a made workload, written. Each value has one text, and each text
-// stands for at most one value.
+//! The texts of the program: the report of a plan, written and read strictly, and the summary of a made workload, written. Each value has one text, and each text
+//! stands for at most one value.
 #![tactic(auto)]
 
 mod draft;

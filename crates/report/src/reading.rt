@@ -1,5 +1,6 @@
 //! The report whose text the bytes are.
 ghost use Rattle.std.specs.Prelude.{◌≤◌, ◌^◌, length};
+ghost use Rattle.coflow_units.specs.declared.limits.TheConstants.{MAX_REPORT};
 ghost use Rattle.report.specs.Reading.{GivesReport};
 
 use crate::draft::Draft;
@@ -15,7 +16,7 @@ use std::alloc::Global;
 /// Its line is the first one that no text of a report has after the lines before it. A text that is cut short is refused at the first line that it
 /// does not have whole. `NoMemory`, want of memory, may come in place of any answer.
 pub fn read_report(alloc: Global, bytes: &[u8]) -> Result<Report, ReportFault>
-    requires few { length bytes.now ≤ 2 ^ 30 }
+    requires few { length bytes.now ≤ MAX_REPORT }
     ensures report { GivesReport bytes.now result }
 {
     let mut draft = Draft::new(alloc);

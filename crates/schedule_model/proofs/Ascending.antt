@@ -7,7 +7,8 @@ use Rattle.std.proofs.lemmas.Bool.{cases_lt}
 use Rattle.std.specs.Prelude.{All}
 
 -- what is not below the limit stands no earlier than the first such number
-pub least_from : (numbers : List ℕ) (k limit g : ℕ) → IsStrictlyIncreasing numbers → k < length numbers → All (λ f. f < limit) (take k numbers) → Contains numbers g → limit ≤ g → get_or numbers k 0 ≤ g
+pub least_from : (numbers : List ℕ) (k limit g : ℕ) → IsStrictlyIncreasing numbers → k < length numbers → All (λ f. f < limit) (take k numbers) → Contains numbers g → limit ≤ g →
+    get_or numbers k 0 ≤ g
 least_from numbers k limit g up lt below (j, in', at) le = elim (cases_lt j k) [
   | inl early ↦ absurd (omega (arith, below j g (omega (arith, length-take k numbers)), get_or-take k numbers j g early, at, le))
   | inr late ↦ elim (cases_lt k j) [

@@ -16,11 +16,15 @@ use Rattle.schedule_model.proofs.SlotLoads.{both_use}
 use Rattle.schedule_model.proofs.Standing.{slot_before, stands_at, stands_before, stands_here, which_slot}
 
 -- a slot without repeats is clear
-shares_repeats : (flows : List Flow) (slot : List ℕ) (f g : ℕ) → ((p : ℕ) → Repeats flows Ingress slot p → ⊥) → ((p : ℕ) → Repeats flows Egress slot p → ⊥) → Contains slot f → Contains slot g → f ≢ g → SharesPort flows f g → ⊥
-shares_repeats flows slot f g no_in no_out hf hg ne (inl e) = no_in (ingress_of flows g) (record { one = f; other = g; apart = ne; has_one = hf; has_other = hg; one_uses = e; other_uses = refl })
-shares_repeats flows slot f g no_in no_out hf hg ne (inr e) = no_out (egress_of flows g) (record { one = f; other = g; apart = ne; has_one = hf; has_other = hg; one_uses = e; other_uses = refl })
+shares_repeats : (flows : List Flow) (slot : List ℕ) (f g : ℕ) → ((p : ℕ) → Repeats flows Ingress slot p → ⊥) → ((p : ℕ) → Repeats flows Egress slot p → ⊥) → Contains slot f →
+    Contains slot g → f ≢ g → SharesPort flows f g → ⊥
+shares_repeats flows slot f g no_in no_out hf hg ne (inl e) =
+    no_in (ingress_of flows g) (record { one = f; other = g; apart = ne; has_one = hf; has_other = hg; one_uses = e; other_uses = refl })
+shares_repeats flows slot f g no_in no_out hf hg ne (inr e) =
+    no_out (egress_of flows g) (record { one = f; other = g; apart = ne; has_one = hf; has_other = hg; one_uses = e; other_uses = refl })
 
-pub clear_slot : (flows : List Flow) (slot : List ℕ) → IsStrictlyIncreasing slot → All (λ f. f < length flows) slot → ((p : ℕ) → Repeats flows Ingress slot p → ⊥) → ((p : ℕ) → Repeats flows Egress slot p → ⊥) → IsClear flows slot
+pub clear_slot : (flows : List Flow) (slot : List ℕ) → IsStrictlyIncreasing slot → All (λ f. f < length flows) slot → ((p : ℕ) → Repeats flows Ingress slot p → ⊥) →
+    ((p : ℕ) → Repeats flows Egress slot p → ⊥) → IsClear flows slot
 clear_slot flows slot up names no_in no_out = record {
   ascending = up;
   flow = names;
@@ -31,7 +35,8 @@ clear_slot flows slot up names no_in no_out = record {
 }
 
 -- a clash in a slot is a repeat on the port's side
-clash_repeats : (flows : List Flow) (before rest : List (List ℕ)) (h : List ℕ) (t : ℕ) (port : Port) → ClashesAt flows (before ++ (h ∷ rest)) t port → t ≡ length before + 1 → Repeats flows port.side h port.number
+clash_repeats : (flows : List Flow) (before rest : List (List ℕ)) (h : List ℕ) (t : ℕ) (port : Port) → ClashesAt flows (before ++ (h ∷ rest)) t port → t ≡ length before + 1 →
+    Repeats flows port.side h port.number
 clash_repeats flows before rest h t port clash e = record {
   one = clash.one;
   other = clash.other;
@@ -42,12 +47,15 @@ clash_repeats flows before rest h t port clash e = record {
   other_uses = eqb-true (end_number flows port.side clash.other) port.number clash.other_uses;
 }
 
-no_clash_before : (flows : List Flow) (before rest : List (List ℕ)) (t : ℕ) (port : Port) → All (IsClear flows) before → ClashesAt flows (before ++ rest) t port → t ≤ length before → ⊥
+no_clash_before : (flows : List Flow) (before rest : List (List ℕ)) (t : ℕ) (port : Port) → All (IsClear flows) before → ClashesAt flows (before ++ rest) t port →
+    t ≤ length before → ⊥
 no_clash_before flows before rest t port clear clash le =
     let here = slot_before (IsClear flows) before t clear clash.one_stands.counted le in
-    clash.apart (here.apart clash.one clash.other (stands_before before rest t clash.one clash.one_stands le) (stands_before before rest t clash.other clash.other_stands le) (both_use flows port clash.one clash.other clash.one_uses clash.other_uses))
+    clash.apart (here.apart clash.one clash.other (stands_before before rest t clash.one clash.one_stands le) (stands_before before rest t clash.other clash.other_stands le)
+    (both_use flows port clash.one clash.other clash.one_uses clash.other_uses))
 
-repeat_clashes : (flows : List Flow) (before rest : List (List ℕ)) (h : List ℕ) (side : Side) (number : ℕ) → Repeats flows side h number → ClashesAt flows (before ++ (h ∷ rest)) (length before + 1) (record { side = side; number = number })
+repeat_clashes : (flows : List Flow) (before rest : List (List ℕ)) (h : List ℕ) (side : Side) (number : ℕ) → Repeats flows side h number →
+    ClashesAt flows (before ++ (h ∷ rest)) (length before + 1) (record { side = side; number = number })
 repeat_clashes flows before rest h side number twice = record {
   one = twice.one;
   other = twice.other;
@@ -67,7 +75,8 @@ after_egress : (side : Side) (a b : ℕ) → (side ≡ Ingress → ⊥) → (sid
 after_egress Ingress a b none le = none refl
 after_egress Egress a b none le = le refl
 
-pub first_clash : (flows : List Flow) (before rest : List (List ℕ)) (h : List ℕ) (side : Side) (number : ℕ) → NamesFlows (length flows) (before ++ (h ∷ rest)) → All (IsClear flows) before → Repeats flows side h number →
+pub first_clash : (flows : List Flow) (before rest : List (List ℕ)) (h : List ℕ) (side : Side) (number : ℕ) → NamesFlows (length flows) (before ++ (h ∷ rest)) →
+    All (IsClear flows) before → Repeats flows side h number →
     ((other : Port) → Repeats flows other.side h other.number → number_no_later side number other.side other.number) →
     IsFirstClash flows (before ++ (h ∷ rest)) (length before + 1) (record { side = side; number = number })
 first_clash flows before rest h side number names clear twice least = record {
@@ -85,13 +94,18 @@ first_clash flows before rest h side number names clear twice least = record {
 on_side : (flows : List Flow) (h : List ℕ) (side other : Side) (number : ℕ) → other ≡ side → Repeats flows other h number → Repeats flows side h number
 on_side flows h side other number e twice = subst (λ s. Repeats flows s h number) e twice
 
-pub first_ingress_clash : (flows : List Flow) (before rest : List (List ℕ)) (h : List ℕ) (number : ℕ) → NamesFlows (length flows) (before ++ (h ∷ rest)) → All (IsClear flows) before → Repeats flows Ingress h number →
+pub first_ingress_clash : (flows : List Flow) (before rest : List (List ℕ)) (h : List ℕ) (number : ℕ) → NamesFlows (length flows) (before ++ (h ∷ rest)) →
+    All (IsClear flows) before → Repeats flows Ingress h number →
     ((p : ℕ) → Repeats flows Ingress h p → number ≤ p) → IsFirstClash flows (before ++ (h ∷ rest)) (length before + 1) (record { side = Ingress; number = number })
 first_ingress_clash flows before rest h number names clear twice least =
-    first_clash flows before rest h Ingress number names clear twice (λ other again. after_ingress other.side number other.number (λ e. least other.number (on_side flows h Ingress other.side other.number e again)))
+    first_clash flows before rest h Ingress number names clear twice
+    (λ other again. after_ingress other.side number other.number (λ e. least other.number (on_side flows h Ingress other.side other.number e again)))
 
-pub first_egress_clash : (flows : List Flow) (before rest : List (List ℕ)) (h : List ℕ) (number : ℕ) → NamesFlows (length flows) (before ++ (h ∷ rest)) → All (IsClear flows) before → ((p : ℕ) → Repeats flows Ingress h p → ⊥) →
-    Repeats flows Egress h number → ((p : ℕ) → Repeats flows Egress h p → number ≤ p) → IsFirstClash flows (before ++ (h ∷ rest)) (length before + 1) (record { side = Egress; number = number })
+pub first_egress_clash : (flows : List Flow) (before rest : List (List ℕ)) (h : List ℕ) (number : ℕ) → NamesFlows (length flows) (before ++ (h ∷ rest)) →
+    All (IsClear flows) before → ((p : ℕ) → Repeats flows Ingress h p → ⊥) →
+    Repeats flows Egress h number → ((p : ℕ) → Repeats flows Egress h p → number ≤ p) →
+    IsFirstClash flows (before ++ (h ∷ rest)) (length before + 1) (record { side = Egress; number = number })
 first_egress_clash flows before rest h number names clear none twice least =
     first_clash flows before rest h Egress number names clear twice
-    (λ other again. after_egress other.side number other.number (λ e. none other.number (on_side flows h Ingress other.side other.number e again)) (λ e. least other.number (on_side flows h Egress other.side other.number e again)))
+    (λ other again. after_egress other.side number other.number (λ e. none other.number (on_side flows h Ingress other.side other.number e again))
+    (λ e. least other.number (on_side flows h Egress other.side other.number e again)))

@@ -36,26 +36,32 @@ weight_small weights c small = elim (cases_lt c (length weights)) [
 abbrev pub part_of : List Flow → List ℕ → List (List ℕ) → ℕ → ℕ
 part_of flows weights slots c = weight_of weights c * completion flows slots c
 
-pub part_small : (flows : List Flow) (weights : List ℕ) (slots : List (List ℕ)) (c : ℕ) → All (λ w. w ≤ 4294967296) weights → length slots ≤ 2199023255551 → part_of flows weights slots c ≤ 9444732965739290427392
+pub part_small : (flows : List Flow) (weights : List ℕ) (slots : List (List ℕ)) (c : ℕ) → All (λ w. w ≤ 4294967296) weights → length slots ≤ 2199023255551 →
+    part_of flows weights slots c ≤ 9444732965739290427392
 part_small flows weights slots c small short =
-    product_below (weight_of weights c) (completion flows slots c) (weight_small weights c small) (le_trans (last_within (λ (slot : List ℕ). holds_coflow flows slot c) slots) short)
+    product_below (weight_of weights c) (completion flows slots c) (weight_small weights c small)
+    (le_trans (last_within (λ (slot : List ℕ). holds_coflow flows slot c) slots) short)
 
 pub parts_small : (flows : List Flow) (weights : List ℕ) (slots : List (List ℕ)) (a n : ℕ) → All (λ w. w ≤ 4294967296) weights → length slots ≤ 2199023255551 →
     sum_by (part_of flows weights slots) (range_with_len a n) ≤ n * 9444732965739290427392
 parts_small flows weights slots a n small short = sum_below (part_of flows weights slots) 9444732965739290427392 a n (λ c. part_small flows weights slots c small short)
 
-pub product_small : (flows : List Flow) (weights : List ℕ) (slots : List (List ℕ)) (coflow c a b : ℕ) → All (λ w. w ≤ 4294967296) weights → length slots ≤ 2199023255551 → a ≡ weight_of weights coflow → b ≡ completion flows slots c →
+pub product_small : (flows : List Flow) (weights : List ℕ) (slots : List (List ℕ)) (coflow c a b : ℕ) → All (λ w. w ≤ 4294967296) weights → length slots ≤ 2199023255551 →
+    a ≡ weight_of weights coflow → b ≡ completion flows slots c →
     a * b ≤ 9444732965739290427392
 product_small flows weights slots coflow c a b small short wa cb =
     product_below a b (omega (arith, wa, weight_small weights coflow small)) (omega (arith, cb, last_within (λ (slot : List ℕ). holds_coflow flows slot c) slots, short))
 
 -- one coflow more
-pub part_more : (flows : List Flow) (weights : List ℕ) (slots : List (List ℕ)) (from coflow total a b : ℕ) → from ≤ coflow → total ≡ sum_by (part_of flows weights slots) (range_with_len from (coflow - from)) →
-    a ≡ weight_of weights coflow → b ≡ completion flows slots (from + (coflow - from)) → total + a * b ≡ sum_by (part_of flows weights slots) (range_with_len from (coflow + 1 - from))
+pub part_more : (flows : List Flow) (weights : List ℕ) (slots : List (List ℕ)) (from coflow total a b : ℕ) → from ≤ coflow →
+    total ≡ sum_by (part_of flows weights slots) (range_with_len from (coflow - from)) →
+    a ≡ weight_of weights coflow → b ≡ completion flows slots (from + (coflow - from)) →
+    total + a * b ≡ sum_by (part_of flows weights slots) (range_with_len from (coflow + 1 - from))
 part_more flows weights slots from coflow total a b le is wa cb =
     let n : coflow + 1 - from ≡ suc (coflow - from) = omega arith in
     let place : coflow ≡ from + (coflow - from) = omega arith in
-    let product : a * b ≡ part_of flows weights slots (from + (coflow - from)) = ap (λ x. x * b) (wa ∙ ap (weight_of weights) place) ∙ ap (λ x. weight_of weights (from + (coflow - from)) * x) cb in
+    let product : a * b ≡ part_of flows weights slots (from + (coflow - from)) = ap (λ x. x * b) (wa ∙ ap (weight_of weights) place) ∙
+    ap (λ x. weight_of weights (from + (coflow - from)) * x) cb in
     omega (arith, is, product, range_more (part_of flows weights slots) from (coflow - from), ap (λ k. sum_by (part_of flows weights slots) (range_with_len from k)) n)
 
 -- one block more

@@ -1,5 +1,6 @@
 -- The last slot that passes a test, one run more.
-use Rattle.std.proofs.Common.{◌≡◌, ℕ, ◌+◌, ◌≤◌, ◌<◌, Bool, true, false, cond, List, [], ◌∷◌, ◌++◌, length, get_or, take, replicate, refl, sym, ap, ◌∙◌, arith, zero, suc, append_assoc, append-nil}
+use Rattle.std.proofs.Common.{◌≡◌, ℕ, ◌+◌, ◌≤◌, ◌<◌, Bool, true, false, cond, List, [], ◌∷◌, ◌++◌, length, get_or, take, replicate, refl, sym, ap, ◌∙◌, arith, zero, suc}
+use Rattle.std.proofs.Common.{append_assoc, append-nil}
 use Rattle.std.specs.Prelude.{◌==◌, if◌then◌else◌}
 use Rattle.std.proofs.lemmas.List.{length-append}
 use Rattle.std.proofs.lemmas.Bool.{ne_eqb}
@@ -32,14 +33,16 @@ last_run_yes p xs x zero e = last_push p xs x ∙ ap {B = ℕ} (λ b. if b then 
 last_run_yes p xs x (suc n) e =
     ap (last_where p) (run_step xs x (suc n)) ∙ last_run_yes p (xs ++ x ∷ []) x n e ∙ omega (arith, length-append xs (x ∷ []))
 
-last_run_step : {X : Type 0} (p : X → Bool) (xs : List X) (x : X) (n : ℕ) (b : Bool) → p x ≡ b → 1 ≤ n → last_where p (xs ++ replicate n x) ≡ cond b (length xs + n) (last_where p xs)
+last_run_step : {X : Type 0} (p : X → Bool) (xs : List X) (x : X) (n : ℕ) (b : Bool) → p x ≡ b → 1 ≤ n →
+    last_where p (xs ++ replicate n x) ≡ cond b (length xs + n) (last_where p xs)
 last_run_step p xs x zero b e some = absurd (omega arith)
 last_run_step p xs x (suc n) true e some = last_run_yes p xs x n e
 last_run_step p xs x (suc n) false e some = last_run_not p xs x (suc n) e
 
 -- the completion with one run more
 pub completion_more : (flows : List Flow) (runs : List Run) (k : ℕ) (r : Run) (c : ℕ) → IsKept runs → k < length runs → r ≡ get_or runs k r →
-    completion flows (slots_in (take (k + 1) runs)) c ≡ cond (holds_coflow flows r.flows c) (length (slots_in (take k runs)) + r.length) (completion flows (slots_in (take k runs)) c)
+    completion flows (slots_in (take (k + 1) runs)) c ≡ cond (holds_coflow flows r.flows c) (length (slots_in (take k runs)) + r.length)
+    (completion flows (slots_in (take k runs)) c)
 completion_more flows runs k r c kept lt is =
     ap (λ s. completion flows s c) (run_more runs k r lt is)
     ∙ last_run_step (λ (slot : List ℕ). holds_coflow flows slot c) (slots_in (take k runs)) r.flows r.length (holds_coflow flows r.flows c) refl (run_some runs k r kept lt is)

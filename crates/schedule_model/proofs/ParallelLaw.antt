@@ -24,12 +24,14 @@ last_step m x s r q one before = elim (zero_or_more x) [
   | inr lt ↦ let e : x ≡ 1 = omega arith in rw e (omega arith)
 ]
 
-sum_part : (m x c : ℕ → ℕ) (cs : List ℕ) → sum_by (λ k. m k * c k + m k + x k * (m k + 1)) cs ≡ sum_by (λ k. m k * c k) cs + (sum_by m cs + (sum_by (λ k. x k * m k) cs + sum_by x cs))
+sum_part : (m x c : ℕ → ℕ) (cs : List ℕ) →
+    sum_by (λ k. m k * c k + m k + x k * (m k + 1)) cs ≡ sum_by (λ k. m k * c k) cs + (sum_by m cs + (sum_by (λ k. x k * m k) cs + sum_by x cs))
 sum_part m x c cs =
     let split = sum_same (λ k. m k * c k + m k + x k * (m k + 1)) (λ k. (m k * c k + m k) + (x k * m k + x k)) cs (λ k has. omega arith) in
     omega (arith, split, sum_add (λ k. m k * c k + m k) (λ k. x k * m k + x k) cs, sum_add (λ k. m k * c k) m cs, sum_add (λ k. x k * m k) x cs)
 
-sum_square : (m x : ℕ → ℕ) (cs : List ℕ) → ((k : ℕ) → Contains cs k → x k ≤ 1) → sum_by (λ k. (x k + m k) * (x k + m k)) cs ≡ sum_by x cs + (2 * sum_by (λ k. x k * m k) cs + sum_by (λ k. m k * m k) cs)
+sum_square : (m x : ℕ → ℕ) (cs : List ℕ) → ((k : ℕ) → Contains cs k → x k ≤ 1) →
+    sum_by (λ k. (x k + m k) * (x k + m k)) cs ≡ sum_by x cs + (2 * sum_by (λ k. x k * m k) cs + sum_by (λ k. m k * m k) cs)
 sum_square m x cs one =
     let split = sum_same (λ k. (x k + m k) * (x k + m k)) (λ k. x k + (2 * (x k * m k) + m k * m k)) cs (λ k has. omega (arith, square_at_most_one (x k) (one k has))) in
     omega (arith, split, sum_add x (λ k. 2 * (x k * m k) + m k * m k) cs, sum_add (λ k. 2 * (x k * m k)) (λ k. m k * m k) cs, sum_scale 2 (λ k. x k * m k) cs)
@@ -54,6 +56,7 @@ parallel_core n q cs (h ∷ hs) one none =
     let squares = sum_same (λ k. sum_by (n k) (h ∷ hs) * sum_by (n k) (h ∷ hs)) (λ k. (x k + m k) * (x k + m k)) cs (λ k has. ap (λ z. z * z) (grow k)) in
     let ends = sum_same (λ k. sum_by (n k) (h ∷ hs) * d k) (λ k. (x k + m k) * d k) cs (λ k has. ap (λ z. z * d k) (grow k)) in
     let parts = sum_mono (λ k. m k * c k + m k + x k * (m k + 1)) (λ k. (x k + m k) * d k) cs
-    (λ k has. step_part (m k) (x k) (c k) (d k) (within k has) (each k has) (last_later (q k) h hs) (λ e lt. last_here_yes (q k) h hs e (holds_since (q k h) (x k) (none k h (in_first h hs)) lt))) in
+    (λ k has. step_part (m k) (x k) (c k) (d k) (within k has) (each k has) (last_later (q k) h hs)
+    (λ e lt. last_here_yes (q k) h hs e (holds_since (q k h) (x k) (none k h (in_first h hs)) lt))) in
     let step = last_step (sum_by m cs) (sum_by x cs) (sum_by (λ k. m k * c k) cs) (sum_by (λ k. x k * m k) cs) (sum_by (λ k. m k * m k) cs) (one h (in_first h hs)) before in
     rw (totals, sum_add x m cs, squares, sum_square m x cs each, ends) (le_trans step (omega (arith, parts, sum_part m x c cs)))

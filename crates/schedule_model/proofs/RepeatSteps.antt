@@ -35,10 +35,19 @@ repeats_earlier flows side slot k q lt twice = record {
   other_uses = twice.other_uses;
 }
 
-pub repeats_split : (flows : List Flow) (side : Side) (slot : List ℕ) (k q : ℕ) → k < length slot → Repeats flows side (take (k + 1) slot) q → Repeats flows side (take k slot) q ⊎ (Uses flows side (take k slot) q × (end_number flows side (get_or slot k 0) ≡ q))
+pub repeats_split : (flows : List Flow) (side : Side) (slot : List ℕ) (k q : ℕ) → k < length slot → Repeats flows side (take (k + 1) slot) q →
+    Repeats flows side (take k slot) q ⊎ (Uses flows side (take k slot) q × (end_number flows side (get_or slot k 0) ≡ q))
 repeats_split flows side slot k q lt twice = elim (in_more slot k twice.one lt twice.has_one) [
   | inl one ↦ elim (in_more slot k twice.other lt twice.has_other) [
-    | inl other ↦ inl (record { one = twice.one; other = twice.other; apart = twice.apart; has_one = one; has_other = other; one_uses = twice.one_uses; other_uses = twice.other_uses })
+    | inl other ↦ inl (record {
+      one = twice.one;
+      other = twice.other;
+      apart = twice.apart;
+      has_one = one;
+      has_other = other;
+      one_uses = twice.one_uses;
+      other_uses = twice.other_uses;
+    })
     | inr e ↦ inr ((twice.one, one, twice.one_uses), ap (end_number flows side) e ∙ twice.other_uses)
   ]
   | inr e ↦ elim (in_more slot k twice.other lt twice.has_other) [
@@ -47,7 +56,8 @@ repeats_split flows side slot k q lt twice = elim (in_more slot k twice.one lt t
   ]
 ]
 
-pub repeats_here : (flows : List Flow) (side : Side) (slot : List ℕ) (k p : ℕ) → IsStrictlyIncreasing slot → k < length slot → p ≡ end_number flows side (get_or slot k 0) → Uses flows side (take k slot) p → Repeats flows side (take (k + 1) slot) p
+pub repeats_here : (flows : List Flow) (side : Side) (slot : List ℕ) (k p : ℕ) → IsStrictlyIncreasing slot → k < length slot → p ≡ end_number flows side (get_or slot k 0) →
+    Uses flows side (take k slot) p → Repeats flows side (take (k + 1) slot) p
 repeats_here flows side slot k p up lt e (g, has, at) = record {
   one = g;
   other = get_or slot k 0;
@@ -63,22 +73,26 @@ abbrev pub IsLeast : List Flow → Side → List ℕ → Option ℕ → Type 0
 IsLeast flows side slot least =
     MatchOption least ((p : ℕ) → Repeats flows side slot p → ⊥) (λ p. Repeats flows side slot p × ((q : ℕ) → Repeats flows side slot q → p ≤ q))
 
-same_least : (flows : List Flow) (side : Side) (slot slot' : List ℕ) (least : Option ℕ) → ((q : ℕ) → Repeats flows side slot q → Repeats flows side slot' q) → ((q : ℕ) → Repeats flows side slot' q → Repeats flows side slot q) →
+same_least : (flows : List Flow) (side : Side) (slot slot' : List ℕ) (least : Option ℕ) → ((q : ℕ) → Repeats flows side slot q → Repeats flows side slot' q) →
+    ((q : ℕ) → Repeats flows side slot' q → Repeats flows side slot q) →
     IsLeast flows side slot least → IsLeast flows side slot' least
 same_least flows side slot slot' None to from is = λ p twice. is p (from p twice)
 same_least flows side slot slot' (Some p) to from is = (to p is.0, (λ q twice. is.1 q (from q twice)))
 
 -- the port of the flow is new
-pub least_stays : (flows : List Flow) (side : Side) (slot : List ℕ) (k p : ℕ) (least : Option ℕ) → k < length slot → p ≡ end_number flows side (get_or slot k 0) → (Uses flows side (take k slot) p → ⊥) → IsLeast flows side (take k slot) least →
+pub least_stays : (flows : List Flow) (side : Side) (slot : List ℕ) (k p : ℕ) (least : Option ℕ) → k < length slot → p ≡ end_number flows side (get_or slot k 0) →
+    (Uses flows side (take k slot) p → ⊥) → IsLeast flows side (take k slot) least →
     IsLeast flows side (take (k + 1) slot) least
 least_stays flows side slot k p least lt e new is =
-    same_least flows side (take k slot) (take (k + 1) slot) least (λ q twice. repeats_earlier flows side slot k q lt twice) (λ q twice. elim (repeats_split flows side slot k q lt twice) [
+    same_least flows side (take k slot) (take (k + 1) slot) least (λ q twice. repeats_earlier flows side slot k q lt twice)
+    (λ q twice. elim (repeats_split flows side slot k q lt twice) [
       | inl before ↦ before
       | inr here ↦ absurd (new (subst (λ n. Uses flows side (take k slot) n) (sym (e ∙ here.1)) here.0))
     ]) is
 
 -- the port of the flow was used before
-pub least_falls : (flows : List Flow) (side : Side) (slot : List ℕ) (k p m : ℕ) (least : Option ℕ) → IsStrictlyIncreasing slot → k < length slot → p ≡ end_number flows side (get_or slot k 0) → Uses flows side (take k slot) p → IsLeast flows side (take k slot) least →
+pub least_falls : (flows : List Flow) (side : Side) (slot : List ℕ) (k p m : ℕ) (least : Option ℕ) → IsStrictlyIncreasing slot → k < length slot →
+    p ≡ end_number flows side (get_or slot k 0) → Uses flows side (take k slot) p → IsLeast flows side (take k slot) least →
     m ≤ p → MatchOption least (m ≡ p) (λ b. (m ≤ b) × ((m ≡ b) ⊎ (m ≡ p))) → Repeats flows side (take (k + 1) slot) m × ((q : ℕ) → Repeats flows side (take (k + 1) slot) q → m ≤ q)
 least_falls flows side slot k p m None up lt e used is le which = (
   subst (Repeats flows side (take (k + 1) slot)) (sym which) (repeats_here flows side slot k p up lt e used),
@@ -100,7 +114,8 @@ least_falls flows side slot k p m (Some b) up lt e used is le which = (
 
 -- the table of marks with one port more
 pub seen_more : (flows : List Flow) (side : Side) (slot marks : List ℕ) (mark k p q : ℕ) → k < length slot → p ≡ end_number flows side (get_or slot k 0) → p < length marks →
-    ((r : ℕ) → r < length marks → mark ≤ get_or marks r 0 → Uses flows side (take k slot) r) → q < length (set marks p mark) → mark ≤ get_or (set marks p mark) q 0 → Uses flows side (take (k + 1) slot) q
+    ((r : ℕ) → r < length marks → mark ≤ get_or marks r 0 → Uses flows side (take k slot) r) → q < length (set marks p mark) → mark ≤ get_or (set marks p mark) q 0 →
+    Uses flows side (take (k + 1) slot) q
 seen_more flows side slot marks mark k p q lt e inside seen in' le = elim (cases_eq q p) [
   | inl same ↦ (get_or slot k 0, in_here slot k lt, sym (same ∙ e))
   | inr ne ↦
@@ -108,7 +123,8 @@ seen_more flows side slot marks mark k p q lt e inside seen in' le = elim (cases
       (f, in_earlier slot k f lt has, at)
 ]
 
-all_seen_here : (flows : List Flow) (side : Side) (marks : List ℕ) (mark p f : ℕ) → p < length marks → mark ≤ get_or marks (end_number flows side f) 0 ⊎ (end_number flows side f ≡ p) → mark ≤ get_or (set marks p mark) (end_number flows side f) 0
+all_seen_here : (flows : List Flow) (side : Side) (marks : List ℕ) (mark p f : ℕ) → p < length marks →
+    mark ≤ get_or marks (end_number flows side f) 0 ⊎ (end_number flows side f ≡ p) → mark ≤ get_or (set marks p mark) (end_number flows side f) 0
 all_seen_here flows side marks mark p f inside before = elim (cases_eq (end_number flows side f) p) [
   | inl same ↦ omega (arith, ap (λ n. get_or (set marks p mark) n 0) same, get_or-set_same marks p mark 0 inside)
   | inr ne ↦ elim before [
@@ -118,19 +134,22 @@ all_seen_here flows side marks mark p f inside before = elim (cases_eq (end_numb
 ]
 
 pub all_seen_more : (flows : List Flow) (side : Side) (slot marks : List ℕ) (mark k p f : ℕ) → k < length slot → p ≡ end_number flows side (get_or slot k 0) → p < length marks →
-    ((g : ℕ) → Contains (take k slot) g → mark ≤ get_or marks (end_number flows side g) 0) → Contains (take (k + 1) slot) f → mark ≤ get_or (set marks p mark) (end_number flows side f) 0
+    ((g : ℕ) → Contains (take k slot) g → mark ≤ get_or marks (end_number flows side g) 0) → Contains (take (k + 1) slot) f →
+    mark ≤ get_or (set marks p mark) (end_number flows side f) 0
 all_seen_more flows side slot marks mark k p f lt e inside seen has = elim (in_more slot k f lt has) [
   | inl before ↦ all_seen_here flows side marks mark p f inside (inl (seen f before))
   | inr here ↦ all_seen_here flows side marks mark p f inside (inr (sym (e ∙ ap (end_number flows side) here)))
 ]
 
 -- a port that has the mark already
-pub all_seen_same : (flows : List Flow) (side : Side) (slot marks : List ℕ) (mark k p f : ℕ) → k < length slot → p ≡ end_number flows side (get_or slot k 0) → mark ≤ get_or marks p 0 →
+pub all_seen_same : (flows : List Flow) (side : Side) (slot marks : List ℕ) (mark k p f : ℕ) → k < length slot → p ≡ end_number flows side (get_or slot k 0) →
+    mark ≤ get_or marks p 0 →
     ((g : ℕ) → Contains (take k slot) g → mark ≤ get_or marks (end_number flows side g) 0) → Contains (take (k + 1) slot) f → mark ≤ get_or marks (end_number flows side f) 0
 all_seen_same flows side slot marks mark k p f lt e le seen has = elim (in_more slot k f lt has) [
   | inl before ↦ seen f before
   | inr here ↦ omega (arith, le, ap (λ n. get_or marks n 0) (e ∙ ap (end_number flows side) here))
 ]
 
-pub new_port : (flows : List Flow) (side : Side) (slot marks : List ℕ) (mark p : ℕ) → get_or marks p 0 < mark → ((g : ℕ) → Contains slot g → mark ≤ get_or marks (end_number flows side g) 0) → Uses flows side slot p → ⊥
+pub new_port : (flows : List Flow) (side : Side) (slot marks : List ℕ) (mark p : ℕ) → get_or marks p 0 < mark →
+    ((g : ℕ) → Contains slot g → mark ≤ get_or marks (end_number flows side g) 0) → Uses flows side slot p → ⊥
 new_port flows side slot marks mark p less seen (g, has, at) = omega (arith, less, seen g has, ap (λ n. get_or marks n 0) at)

@@ -10,7 +10,8 @@ use Rattle.schedule_model.specs.Fault.{IsFirstNoFlow, StandsIn}
 pub stands_here : (before rest : List (List ℕ)) (h : List ℕ) (f : ℕ) → Contains h f → StandsIn (before ++ (h ∷ rest)) (length before + 1) f
 stands_here before rest h f has =
     let e : length before ≡ length before + 1 - 1 = omega arith in
-    let at : h ≡ get_or (before ++ (h ∷ rest)) (length before + 1 - 1) [] = sym (get_or_at before h rest [] (length before) refl) ∙ ap (λ n. get_or (before ++ (h ∷ rest)) n []) e in
+    let at : h ≡ get_or (before ++ (h ∷ rest)) (length before + 1 - 1) [] = sym (get_or_at before h rest [] (length before) refl) ∙
+    ap (λ n. get_or (before ++ (h ∷ rest)) n []) e in
     record { counted = omega arith; inside = omega (arith, length-append before (h ∷ rest)); has = subst (λ s. Contains s f) at has }
 
 pub stands_before : (before rest : List (List ℕ)) (t f : ℕ) → StandsIn (before ++ rest) t f → t ≤ length before → Contains (get_or before (t - 1) []) f
@@ -32,13 +33,19 @@ pub slot_before : (P : List ℕ → Type 0) (before : List (List ℕ)) (t : ℕ)
 slot_before P before t all some le = all (t - 1) [] (omega arith)
 
 -- the first number that is no flow's
-pub first_no_flow : (flows : List Flow) (before rest : List (List ℕ)) (h : List ℕ) (f : ℕ) → NamesFlows (length flows) before → Contains h f → length flows ≤ f → ((g : ℕ) → Contains h g → length flows ≤ g → f ≤ g) →
+pub first_no_flow : (flows : List Flow) (before rest : List (List ℕ)) (h : List ℕ) (f : ℕ) → NamesFlows (length flows) before → Contains h f → length flows ≤ f →
+    ((g : ℕ) → Contains h g → length flows ≤ g → f ≤ g) →
     IsFirstNoFlow flows (before ++ (h ∷ rest)) (length before + 1) f
 first_no_flow flows before rest h f names has out least = record {
   stands = stands_here before rest h f has;
   no_flow = out;
   first = λ t g stands none. elim (which_slot t (length before)) [
-    | inl le ↦ absurd (omega (arith, none, All-contains (λ x. x < length flows) (get_or before (t - 1) []) g (slot_before (All (λ x. x < length flows)) before t names stands.counted le) (stands_before before (h ∷ rest) t g stands le)))
+    | inl le ↦ absurd (omega (
+      arith,
+      none,
+      All-contains (λ x. x < length flows) (get_or before (t - 1) []) g (slot_before (All (λ x. x < length flows)) before t names stands.counted le)
+          (stands_before before (h ∷ rest) t g stands le),
+    ))
     | inr later ↦ elim later [
       | inl e ↦ inr (sym e, least g (stands_at before rest h t g stands e) none)
       | inr lt ↦ inl lt

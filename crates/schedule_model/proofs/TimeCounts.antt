@@ -64,12 +64,14 @@ count_same_step p n x false e = count_none p n x e
 pub times_append : (before after : List (List ℕ)) (f : ℕ) → times (before ++ after) f ≡ times before f + times after f
 times_append before after f = sum_by-append (λ (slot : List ℕ). cond (holds slot f) 1 0) before after
 
-pub times_more : (runs : List Run) (k : ℕ) (r : Run) (f : ℕ) → k < length runs → r ≡ get_or runs k r → times (slots_in (take (k + 1) runs)) f ≡ times (slots_in (take k runs)) f + cond (holds r.flows f) r.length 0
+pub times_more : (runs : List Run) (k : ℕ) (r : Run) (f : ℕ) → k < length runs → r ≡ get_or runs k r →
+    times (slots_in (take (k + 1) runs)) f ≡ times (slots_in (take k runs)) f + cond (holds r.flows f) r.length 0
 times_more runs k r f lt is =
     ap (λ s. times s f) (run_more runs k r lt is) ∙ times_append (slots_in (take k runs)) (replicate r.length r.flows) f
     ∙ ap (λ n. times (slots_in (take k runs)) f + n) (count_same_step (λ (slot : List ℕ). holds slot f) r.length r.flows (holds r.flows f) refl)
 
-pub times_fit : (runs : List Run) (k : ℕ) (r : Run) (f n : ℕ) → IsKept runs → k < length runs → r ≡ get_or runs k r → n ≡ times (slots_in (take k runs)) f → n + r.length < 2199023255552
+pub times_fit : (runs : List Run) (k : ℕ) (r : Run) (f n : ℕ) → IsKept runs → k < length runs → r ≡ get_or runs k r → n ≡ times (slots_in (take k runs)) f →
+    n + r.length < 2199023255552
 times_fit runs k r f n kept lt is e = omega (arith, e, count_by-le-length (λ (slot : List ℕ). holds slot f) (slots_in (take k runs)), run_fits runs k r kept lt is)
 
 -- a buffer that was written whole

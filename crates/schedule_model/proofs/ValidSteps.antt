@@ -21,12 +21,14 @@ no_flow_refuses flows slots slot f fault valid =
 clash_refuses : (flows : List Flow) (slots : List (List ℕ)) (slot : ℕ) (port : Port) → IsFirstClash flows slots slot port → IsValid flows slots → ⊥
 clash_refuses flows slots slot port fault valid =
     let clash = fault.clashes in
-    clash.apart ((clear_at flows slots slot clash.one valid clash.one_stands).apart clash.one clash.other clash.one_stands.has clash.other_stands.has (both_use flows port clash.one clash.other clash.one_uses clash.other_uses))
+    clash.apart ((clear_at flows slots slot clash.one valid clash.one_stands).apart clash.one clash.other clash.one_stands.has clash.other_stands.has
+    (both_use flows port clash.one clash.other clash.one_uses clash.other_uses))
 
 miscount_refuses : (flows : List Flow) (slots : List (List ℕ)) (f have want : ℕ) → IsFirstMiscount flows slots f have want → IsValid flows slots → ⊥
 miscount_refuses flows slots f have want fault valid = fault.differ (sym fault.stands_in ∙ valid.served f fault.flow ∙ fault.wants)
 
-pub none_where_valid : (flows : List Flow) (slots : List (List ℕ)) (fault : Option ScheduleFault) → IsFirstFault flows slots fault → (fault ≡ None → IsValid flows slots) × (IsValid flows slots → fault ≡ None)
+pub none_where_valid : (flows : List Flow) (slots : List (List ℕ)) (fault : Option ScheduleFault) → IsFirstFault flows slots fault →
+    (fault ≡ None → IsValid flows slots) × (IsValid flows slots → fault ≡ None)
 none_where_valid flows slots None first = ((λ e. first), (λ valid. refl))
 none_where_valid flows slots (Some (NoFlow slot f)) first = ((λ e. cc), (λ valid. absurd (no_flow_refuses flows slots slot f first valid)))
 none_where_valid flows slots (Some (Clash slot port)) first = ((λ e. cc), (λ valid. absurd (clash_refuses flows slots slot port first valid)))

@@ -1,5 +1,7 @@
--- The first fault of a schedule: numbers that are no flow's come before clashes at ports, and these before wrong numbers of units. Slots count from 1.
-use Rattle.std.specs.Prelude.{◌≡◌, ◌≢◌, ℕ, ◌<◌, ◌≤◌, ◌-◌, ◌⊎◌, true, List, [], All, Contains, length, Option, Some, None}
+-- The first fault of a schedule: numbers that are no flow's come before clashes at ports, and these before wrong
+-- numbers of units. Slots count from 1.
+use Rattle.std.specs.Prelude.{◌≡◌, ◌≢◌, ℕ, ◌<◌, ◌≤◌, ◌-◌, ◌⊎◌, true, List, [], All, Contains, length, Option, Some}
+use Rattle.std.specs.Prelude.{None}
 use Rattle.std.specs.List.{slice_index_or}
 use Rattle.coflow_units.specs.declared.fabric.Flow.{Flow}
 use Rattle.coflow_units.specs.declared.fabric.Port.{Port}

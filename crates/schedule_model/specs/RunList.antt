@@ -22,5 +22,6 @@ NamesFlows flows slots = All (All (λ f. f < flows)) slots
 pub record IsKept (runs : List Run) : Type 0 where
   pub some : All (λ (r : Run). 1 ≤ r.length) runs
   pub ascending : All (λ (r : Run). IsStrictlyIncreasing r.flows) runs
-  pub maximal : (k : ℕ) (r : Run) → k + 1 < length runs → (slice_index_or runs k r).flows ≢ (slice_index_or runs (k + 1) r).flows
+  pub maximal : (k : ℕ) (r : Run) → k + 1 < length runs →
+      (slice_index_or runs k r).flows ≢ (slice_index_or runs (k + 1) r).flows
   pub short : length (slots_in runs) ≤ MAX_SLOT

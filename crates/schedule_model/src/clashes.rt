@@ -20,7 +20,8 @@ pub(crate) fn find_clash(
 ) -> Result<Option<(u64, Port)>, NoMemory>
     requires kept { IsKept runs.now }
     requires names { NamesFlows (length flows.now) (slots_in runs.now) }
-    ensures { IfOk result (λ clash. MatchOption clash (All (IsClear flows.now) (slots_in runs.now)) (λ p. IsFirstClash flows.now (slots_in runs.now) p.0 p.1)) }
+    ensures { IfOk result (λ clash. MatchOption clash (All (IsClear flows.now) (slots_in runs.now))
+        (λ p. IsFirstClash flows.now (slots_in runs.now) p.0 p.1)) }
 {
     let ports = port_count(flows);
     let mut ingress = vec![in alloc; 0u64; ports]?;
@@ -54,7 +55,8 @@ fn least_repeat(
     requires ports { All (λ (x : Flow). end_at side x < length marks.old) flows.now }
     requires new_mark { All (λ m. m < mark) marks.old }
     ensures marks { All (λ m. m ≤ mark) marks.new }
-    ensures least { MatchOption result ((p : ℕ) → Repeats flows.now side slot.now p → ⊥) (λ p. Repeats flows.now side slot.now p × ((q : ℕ) → Repeats flows.now side slot.now q → p ≤ q)) }
+    ensures least { MatchOption result ((p : ℕ) → Repeats flows.now side slot.now p →
+        ⊥) (λ p. Repeats flows.now side slot.now p × ((q : ℕ) → Repeats flows.now side slot.now q → p ≤ q)) }
 {
     let mut least = None;
     for flow in slot {
@@ -71,7 +73,8 @@ fn least_repeat(
 /// The lesser of the two numbers.
 fn lesser(least: Option<u32>, number: u32) -> u32
     ensures within { result ≤ number }
-    ensures cases { MatchOption least (result ≡ number) (λ before. (result ≤ before) × ((result ≡ before) ⊎ (result ≡ number))) }
+    ensures cases { MatchOption least (result ≡ number)
+        (λ before. (result ≤ before) × ((result ≡ before) ⊎ (result ≡ number))) }
 {
     match least {
         Some(before) => before.min(number),

@@ -51,7 +51,8 @@ pub(crate) fn add_run(counts: &mut [u64], slots: u64, flows: &[u32])
 fn first_miscount(flows: &[Flow], counts: &[u64]) -> Option<usize>
     requires { length counts.now ≡ length flows.now }
     ensures { MatchOption result ((f : ℕ) → f < length flows.now → slice_index counts.now f ≡ units_of flows.now f)
-        (λ f. (f < length flows.now) × (slice_index counts.now f ≢ units_of flows.now f) × ((g : ℕ) → g < f → slice_index counts.now g ≡ units_of flows.now g)) }
+        (λ f. (f < length flows.now) × (slice_index counts.now f ≢ units_of flows.now f) ×
+        ((g : ℕ) → g < f → slice_index counts.now g ≡ units_of flows.now g)) }
 {
     for number in 0..flows.len() {
         if counts[number] != flows[number].units {

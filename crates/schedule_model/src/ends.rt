@@ -35,7 +35,8 @@ pub fn completions(
     schedule: &Schedule,
 ) -> Result<Vec<u64>, NoMemory>
     requires { NamesFlows (length flows.now) schedule.now }
-    ensures { IfOk result (λ ends. ends.items ≡ map (λ c. completion flows.now schedule.now c) (range_with_len 0 coflows)) }
+    ensures { IfOk result (λ ends. ends.items ≡
+        map (λ c. completion flows.now schedule.now c) (range_with_len 0 coflows)) }
 {
     let mut ends = vec![in alloc; 0u64; coflows as usize]?;
     fill_ends(flows, schedule.kept(), 0, &mut ends);
@@ -71,7 +72,8 @@ fn cost_between(flows: &[Flow], weights: &[u64], runs: &[Run], from: usize, to: 
     requires order { from < to }
     requires inside { to ≤ length weights.now }
     requires block { to ≤ from + 256 }
-    ensures { result ≡ sum_by (λ c. weight_of weights.now c * completion flows.now (slots_in runs.now) c) (range_with_len from (to - from)) }
+    ensures { result ≡ sum_by (λ c. weight_of weights.now c * completion flows.now (slots_in runs.now) c)
+        (range_with_len from (to - from)) }
 {
     let mut ends = [0; BLOCK];
     fill_ends(flows, runs, from as u32, &mut ends);
@@ -87,7 +89,8 @@ fn fill_ends(flows: &[Flow], runs: &[Run], from: u32, ends: &mut [u64])
     requires kept { IsKept runs.now }
     requires names { NamesFlows (length flows.now) (slots_in runs.now) }
     requires zero { All (λ e. e ≡ 0) ends.old }
-    ensures { (k : ℕ) → k < length ends.old → slice_index ends.new k ≡ completion flows.now (slots_in runs.now) (from + k) }
+    ensures { (k : ℕ) → k < length ends.old →
+        slice_index ends.new k ≡ completion flows.now (slots_in runs.now) (from + k) }
 {
     let mut slot = 0;
     for run in runs {
@@ -99,7 +102,9 @@ fn fill_ends(flows: &[Flow], runs: &[Run], from: u32, ends: &mut [u64])
 /// Writes the slot as the end of each coflow, of those from one number on, that has a flow in it.
 fn mark_ends(flows: &[Flow], numbers: &[u32], from: u32, slot: u64, ends: &mut [u64])
     requires { All (λ f. f < length flows.now) numbers.now }
-    ensures { (k : ℕ) → k < length ends.old → slice_index ends.new k ≡ (if holds_coflow flows.now numbers.now (from + k) then slot else slice_index ends.old k) }
+    ensures { (k : ℕ) → k < length ends.old →
+        slice_index ends.new k ≡ (if holds_coflow flows.now numbers.now (from + k) then slot else slice_index ends.old
+        k) }
 {
     for flow in numbers {
         let coflow = flows[*flow as usize].coflow;

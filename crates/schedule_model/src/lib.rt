@@ -1,4 +1,4 @@
-// Schedules on the fabric: whether a schedule is valid and patient, when coflows end, what a schedule costs, and what every valid schedule must take.
+//! Schedules on the fabric: whether a schedule is valid and patient, when coflows end, what a schedule costs, and what every valid schedule must take.
 #![tactic(auto)]
 
 mod clashes;

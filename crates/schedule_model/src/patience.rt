@@ -102,7 +102,8 @@ fn waits_well(
     requires ingress { All (λ (x : Flow). x.ingress < length ingress.old) flows.now }
     requires egress { All (λ (x : Flow). x.egress < length egress.old) flows.now }
     ensures { IsTrue result
-        ↔ ((f : ℕ) → f < length flows.now → slice_index counts.now f < units_of flows.now f → IsServedOrWaits flows.now order.now slot.now f) }
+        ↔ ((f : ℕ) → f < length flows.now → slice_index counts.now f < units_of flows.now f →
+        IsServedOrWaits flows.now order.now slot.now f) }
 {
     let none = order.len() + 1;
     note_places(flows, places, slot, Side::Ingress, none, ingress);
@@ -122,7 +123,8 @@ fn note_places(
     requires names { All (λ f. f < length flows.now) slot.now }
     requires same { length places.now ≡ length flows.now }
     requires ports { All (λ (x : Flow). end_at side x < length least.old) flows.now }
-    ensures { (p m : ℕ) → p < length least.old → m < none → (slice_index least.new p ≤ m) ↔ ServesBy flows.now places.now side slot.now p m }
+    ensures { (p m : ℕ) → p < length least.old → m < none →
+        (slice_index least.new p ≤ m) ↔ ServesBy flows.now places.now side slot.now p m }
 {
     least.fill(none);
     for flow in slot {
@@ -145,7 +147,8 @@ fn all_wait(
     requires egress { All (λ (x : Flow). x.egress < length egress.now) flows.now }
     ensures { IsTrue result
         ↔ ((f : ℕ) → f < length flows.now → slice_index counts.now f < units_of flows.now f →
-        (slice_index ingress.now (ingress_of flows.now f) ≤ slice_index places.now f) ⊎ (slice_index egress.now (egress_of flows.now f) ≤ slice_index places.now f)) }
+        (slice_index ingress.now (ingress_of flows.now f) ≤ slice_index places.now f) ⊎
+        (slice_index egress.now (egress_of flows.now f) ≤ slice_index places.now f)) }
 {
     for (number, flow) in flows.iter().enumerate() {
         let place = places[number];

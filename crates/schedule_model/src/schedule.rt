@@ -90,7 +90,8 @@ impl Schedule {
 
 /// The place of the last run, where it serves these flows.
 fn equal_last(runs: &[Run], flows: &[u32]) -> Option<usize>
-    ensures { MatchOption result ((k : ℕ) (r : Run) → k + 1 ≡ length runs.now → (slice_index_or runs.now k r).flows ≢ flows.now)
+    ensures { MatchOption result ((k : ℕ) (r : Run) → k + 1 ≡ length runs.now →
+        (slice_index_or runs.now k r).flows ≢ flows.now)
         (λ k. (k + 1 ≡ length runs.now) × ((r : Run) → (slice_index_or runs.now k r).flows ≡ flows.now)) }
 {
     let count = runs.len();

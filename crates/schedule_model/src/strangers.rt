@@ -9,7 +9,8 @@ use coflow_units::{Flow, Run};
 /// The first slot with a number that is no flow's, and the least such number in it.
 pub(crate) fn find_stranger(flows: &[Flow], runs: &[Run]) -> Option<(u64, u32)>
     requires { IsKept runs.now }
-    ensures { MatchOption result (NamesFlows (length flows.now) (slots_in runs.now)) (λ p. IsFirstNoFlow flows.now (slots_in runs.now) p.0 p.1) }
+    ensures { MatchOption result (NamesFlows (length flows.now) (slots_in runs.now))
+        (λ p. IsFirstNoFlow flows.now (slots_in runs.now) p.0 p.1) }
 {
     let mut slot = 0;
     for run in runs {
@@ -24,7 +25,8 @@ pub(crate) fn find_stranger(flows: &[Flow], runs: &[Run]) -> Option<(u64, u32)>
 /// The first number of the list that is at least the limit.
 fn first_from(numbers: &[u32], limit: usize) -> Option<u32>
     requires { IsStrictlyIncreasing numbers.now }
-    ensures { MatchOption result (All (λ f. f < limit) numbers.now) (λ f. Contains numbers.now f × (limit ≤ f) × ((g : ℕ) → Contains numbers.now g → limit ≤ g → f ≤ g)) }
+    ensures { MatchOption result (All (λ f. f < limit) numbers.now) (λ f. Contains numbers.now f × (limit ≤ f) ×
+        ((g : ℕ) → Contains numbers.now g → limit ≤ g → f ≤ g)) }
 {
     for number in numbers {
         if *number as usize >= limit {

@@ -241,7 +241,8 @@ fn the_first_fault_is_told(rt: HostRuntime) -> Result<(), Fail> {
 /// The parallel inequality holds of a schedule with an idle slot, which serving an order never makes: loads 3 and 1 on one port, so the square of 4 and the squares of 3 and 1.
 fn parallel_over_an_idle_slot()
     ensures valid { IsValid two_flows idle_first }
-    ensures bounds { 26 ≤ 2 * sum_by (λ c. load two_flows c first_ingress * completion two_flows idle_first c) (0 ∷ 1 ∷ []) }
+    ensures bounds { 26 ≤ 2 * sum_by (λ c. load two_flows c first_ingress * completion two_flows idle_first c)
+        (0 ∷ 1 ∷ []) }
 {
     laws::parallel();
 }

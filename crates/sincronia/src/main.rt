@@ -1,4 +1,4 @@
-// The program: hands its words, the files and the standard output to the library's one call, and ends with its code.
+//! The program: hands its words, the files and the standard output to the library's one call, and ends with its code.
 #![tactic(auto)]
 
 use outside::{DiskShelf, StdSink};

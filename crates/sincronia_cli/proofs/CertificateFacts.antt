@@ -25,7 +25,8 @@ map_snoc f (y ∷ ys) x = ap (λ t. f y ∷ t) (map_snoc f ys x)
 pub front_of_places : (places : List Place) → front (entries_of places) ≡ reverse (coflows_of places)
 front_of_places [] = refl
 front_of_places (x ∷ xs) =
-    ap (λ (l : List Place). front (map entry_of l)) (reverse-append (x ∷ []) xs) ∙ ap front (map_snoc entry_of (reverse xs) x) ∙ map_snoc (λ (e : Entry). e.coflow) (entries_of xs) (entry_of x)
+    ap (λ (l : List Place). front (map entry_of l)) (reverse-append (x ∷ []) xs) ∙ ap front (map_snoc entry_of (reverse xs) x) ∙
+    map_snoc (λ (e : Entry). e.coflow) (entries_of xs) (entry_of x)
     ∙ ap (λ l. l ++ x.coflow ∷ []) (front_of_places xs) ∙ sym (reverse-cons x.coflow (coflows_of xs))
 
 apart_snoc : (xs : List ℕ) (x : ℕ) → Apart (xs ++ x ∷ []) → Apart xs × (Contains xs x → ⊥)
@@ -47,24 +48,36 @@ apart_reverse (x ∷ xs) apart =
 
 pub places_distinct : (table : TableFacts) (weights : List ℕ) (places : List Place) → IsOrder (instance_of table weights) places → IsDistinct (coflows_of places)
 places_distinct table weights places order =
-    pairs_from_apart (coflows_of places) (apart_reverse (coflows_of places) (subst Apart (front_of_places places) (apart_from_pairs (front (entries_of places)) order.ordering.certificate.once)))
+    pairs_from_apart (coflows_of places)
+    (apart_reverse (coflows_of places) (subst Apart (front_of_places places) (apart_from_pairs (front (entries_of places)) order.ordering.certificate.once)))
 
 -- a coflow of the places is one of those with a weight
-pub places_within : (table : TableFacts) (weights : List ℕ) (places : List Place) → IsOrder (instance_of table weights) places → (c : ℕ) → Contains (coflows_of places) c → c < length table.ids
+pub places_within : (table : TableFacts) (weights : List ℕ) (places : List Place) → IsOrder (instance_of table weights) places → (c : ℕ) → Contains (coflows_of places) c →
+    c < length table.ids
 places_within table weights places order c has =
-    omega (arith, number_below 0 (length table.ids) c (All-contains (Contains (range_with_len 0 (length table.ids))) (front (entries_of places)) c order.ordering.certificate.coflow (subst (λ l. Contains l c) (sym (front_of_places places)) (into_reverse (coflows_of places) c has))))
+    omega (
+      arith,
+      number_below 0 (length table.ids) c
+          (All-contains (Contains (range_with_len 0 (length table.ids))) (front (entries_of places)) c order.ordering.certificate.coflow
+          (subst (λ l. Contains l c) (sym (front_of_places places)) (into_reverse (coflows_of places) c has))),
+    )
 
 -- each coflow with a weight has a place
-pub places_all : (table : TableFacts) (weights : List ℕ) (places : List Place) → IsOrder (instance_of table weights) places → (c : ℕ) → c < length table.ids → Contains (coflows_of places) c
+pub places_all : (table : TableFacts) (weights : List ℕ) (places : List Place) → IsOrder (instance_of table weights) places → (c : ℕ) → c < length table.ids →
+    Contains (coflows_of places) c
 places_all table weights places order c lt =
-    in_reverse (coflows_of places) c (subst (λ l. Contains l c) (front_of_places places) (All-contains (Contains (front (entries_of places))) (range_with_len 0 (length table.ids)) c order.ordering.certificate.all (number_in 0 (length table.ids) c (omega arith) (omega arith))))
+    in_reverse (coflows_of places) c
+    (subst (λ l. Contains l c) (front_of_places places)
+    (All-contains (Contains (front (entries_of places))) (range_with_len 0 (length table.ids)) c order.ordering.certificate.all
+    (number_in 0 (length table.ids) c (omega arith) (omega arith))))
 
 coflow_in : (places : List Place) (k : ℕ) (d : Place) → k < length places → Contains (coflows_of places) (get_or places k d).coflow
 coflow_in [] k d lt = absurd (omega arith)
 coflow_in (x ∷ xs) zero d lt = in_first x.coflow (coflows_of xs)
 coflow_in (x ∷ xs) (suc k) d lt = in_tail x.coflow (coflows_of xs) (get_or xs k d).coflow (coflow_in xs k d (omega arith))
 
-pub each_place_within : (table : TableFacts) (weights : List ℕ) (places : List Place) → IsOrder (instance_of table weights) places → All (λ (x : Place). x.coflow < length table.ids) places
+pub each_place_within : (table : TableFacts) (weights : List ℕ) (places : List Place) → IsOrder (instance_of table weights) places →
+    All (λ (x : Place). x.coflow < length table.ids) places
 each_place_within table weights places order k d lt = places_within table weights places order (get_or places k d).coflow (coflow_in places k d lt)
 
 -- ---- the certificate over a table
@@ -74,20 +87,29 @@ front_in [] k d lt = absurd (omega arith)
 front_in (e ∷ es) zero d lt = in_first e.coflow (front es)
 front_in (e ∷ es) (suc k) d lt = in_tail e.coflow (front es) (get_or es k d).coflow (front_in es k d (omega arith))
 
-front_within : (table : TableFacts) (weights : List ℕ) (places : List Place) → IsOrder (instance_of table weights) places → (c : ℕ) → Contains (front (entries_of places)) c → c < length table.ids
-front_within table weights places order c has = omega (arith, number_below 0 (length table.ids) c (All-contains (Contains (range_with_len 0 (length table.ids))) (front (entries_of places)) c order.ordering.certificate.coflow has))
+front_within : (table : TableFacts) (weights : List ℕ) (places : List Place) → IsOrder (instance_of table weights) places → (c : ℕ) → Contains (front (entries_of places)) c →
+    c < length table.ids
+front_within table weights places order c has =
+    omega (
+      arith,
+      number_below 0 (length table.ids) c
+          (All-contains (Contains (range_with_len 0 (length table.ids))) (front (entries_of places)) c order.ordering.certificate.coflow has),
+    )
 
-pub table_certificate : (table : TableFacts) (weights : List ℕ) (places : List Place) (t : LoadTable) → IsOrder (instance_of table weights) places → t.coflows ≡ length table.ids → t.ports ≡ table.ports → IsCertificateOf t (entries_of places)
+pub table_certificate : (table : TableFacts) (weights : List ℕ) (places : List Place) (t : LoadTable) → IsOrder (instance_of table weights) places → t.coflows ≡ length table.ids →
+    t.ports ≡ table.ports → IsCertificateOf t (entries_of places)
 table_certificate table weights places t order n p = record {
   once = order.ordering.certificate.once;
   coflow = λ k d lt. omega (arith, n, front_within table weights places order (get_or (entries_of places) k d).coflow (front_in (entries_of places) k d lt));
   port = λ k d lt. omega (arith, p, order.ordering.certificate.port k d lt);
 }
 
-pub loads_of : (table : TableFacts) (weights : List ℕ) (places : List Place) (t : LoadTable) → IsOrder (instance_of table weights) places → t.coflows ≡ length table.ids → HasLoads table.flows t → HasLoadsOf table.flows t (entries_of places)
+pub loads_of : (table : TableFacts) (weights : List ℕ) (places : List Place) (t : LoadTable) → IsOrder (instance_of table weights) places → t.coflows ≡ length table.ids →
+    HasLoads table.flows t → HasLoadsOf table.flows t (entries_of places)
 loads_of table weights places t order n loads = λ c port has lt. loads c port (omega (arith, n, front_within table weights places order c has)) lt
 
-pub in_budget : (table : TableFacts) (weights : List ℕ) (places : List Place) (t : LoadTable) → IsOrder (instance_of table weights) places → t.coflows ≡ length table.ids → HasLoads table.flows t → StaysInBudget t weights (entries_of places)
+pub in_budget : (table : TableFacts) (weights : List ℕ) (places : List Place) (t : LoadTable) → IsOrder (instance_of table weights) places → t.coflows ≡ length table.ids →
+    HasLoads table.flows t → StaysInBudget t weights (entries_of places)
 in_budget table weights places t order n loads = record {
   flows = table.flows;
   weight = λ c. slice_index weights c;

@@ -129,7 +129,8 @@ module _ (before mid_count now : ℕ) (old mid new : Option Told) (name : List �
   from_weights (status.BadTrace fault) le keeps read h = absurd h
   from_weights (status.WriteFault count) le keeps read h = absurd h
 
-pub from_table : (before now : ℕ) (old mid new : Option Told) (name : List ℕ) (file : Option (List ℕ)) (unit : ℕ) (trace : Trace) (weights : List ℕ) (fault : TableFault) (s : Status) →
+pub from_table : (before now : ℕ) (old mid new : Option Told) (name : List ℕ) (file : Option (List ℕ)) (unit : ℕ) (trace : Trace) (weights : List ℕ) (fault : TableFault)
+    (s : Status) →
     KeepsFiles old mid → IsTraceOf old name trace → IsWeightsOf mid file trace.coflows weights →
     HasCause trace unit fault → IsStatusOfTable fault s → HasInputCause before now old new name file unit s
 from_table before now old mid new name file unit trace weights (table_fault.Limit which count) s keeps read given h is =

@@ -19,20 +19,24 @@ use Rattle.sincronia_cli.proofs.PlanSound.{plan_is_sound}
 pub seed_is : (seed n : ℕ) → seed ≡ capped n → n < 2 ^ 64 → seed ≡ n
 seed_is seed n is small = omega (arith, is, small)
 
-pub read_is_planned : (planned read : Report) (text lent : List ℕ) → IsReport planned → HasSmallNumbers planned → text ≡ report_text planned → lent ≡ text → IsTextOf lent read → read ≡ planned
+pub read_is_planned : (planned read : Report) (text lent : List ℕ) → IsReport planned → HasSmallNumbers planned → text ≡ report_text planned → lent ≡ text → IsTextOf lent read →
+    read ≡ planned
 read_is_planned planned read text lent fits small written e back = reports_are_one read planned back.report back.small fits small (sym back.text ∙ e ∙ written)
 
 module _ (t : TableFacts) (weights lent : List ℕ) (planned read : Report) where
   pub planned_for : lent ≡ weights → IsPlanOf (instance_of t lent) t.ids planned → IsPlanOf (instance_of t weights) t.ids planned
   planned_for e plan = subst (λ (w : List ℕ). IsPlanOf (instance_of t w) t.ids planned) e plan
 
-  pub planned_is_sound : IsTable t → IsDistinct t.ids → length weights ≡ length t.ids → All (λ w. 1 ≤ w) weights → lent ≡ weights → IsPlanOf (instance_of t lent) t.ids planned → IsSound (instance_of t weights) t.ids planned
+  pub planned_is_sound : IsTable t → IsDistinct t.ids → length weights ≡ length t.ids → All (λ w. 1 ≤ w) weights → lent ≡ weights → IsPlanOf (instance_of t lent) t.ids planned →
+      IsSound (instance_of t weights) t.ids planned
   planned_is_sound table once count least e plan = plan_is_sound t weights planned table once count least (planned_for e plan)
 
-  pub read_is_sound : IsTable t → IsDistinct t.ids → length weights ≡ length t.ids → All (λ w. 1 ≤ w) weights → lent ≡ weights → IsPlanOf (instance_of t lent) t.ids planned → read ≡ planned → IsSound (instance_of t weights) t.ids read
+  pub read_is_sound : IsTable t → IsDistinct t.ids → length weights ≡ length t.ids → All (λ w. 1 ≤ w) weights → lent ≡ weights → IsPlanOf (instance_of t lent) t.ids planned →
+      read ≡ planned → IsSound (instance_of t weights) t.ids read
   read_is_sound table once count least e plan same = subst (λ (r : Report). IsSound (instance_of t weights) t.ids r) (sym same) (planned_is_sound table once count least e plan)
 
-  pub made_of : (said : Said) (seed : ℕ) (text : List ℕ) → IsTable t → IsDistinct t.ids → length weights ≡ length t.ids → All (λ w. 1 ≤ w) weights → lent ≡ weights → IsPlanOf (instance_of t lent) t.ids planned → read ≡ planned →
+  pub made_of : (said : Said) (seed : ℕ) (text : List ℕ) → IsTable t → IsDistinct t.ids → length weights ≡ length t.ids → All (λ w. 1 ≤ w) weights → lent ≡ weights →
+      IsPlanOf (instance_of t lent) t.ids planned → read ≡ planned →
       seed ≡ number said.first → GivesMade seed said.unit t weights → text ≡ made_text (summary_of seed t read) → MadeOf said text
   made_of said seed text table once count least e plan same seed_said gives is = record {
     table = t;

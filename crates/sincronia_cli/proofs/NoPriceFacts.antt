@@ -26,7 +26,11 @@ nothing_paid false n = refl
 
 no_prices_feasible : IsFeasible two_flows one_each no_prices
 no_prices_feasible c =
-    omega (arith, nothing_paid (list_any (λ d. d == c) (1 ∷ 0 ∷ [])) (load two_flows c first_ingress), nothing_paid (list_any (λ d. d == c) (0 ∷ [])) (load two_flows c first_ingress))
+    omega (
+      arith,
+      nothing_paid (list_any (λ d. d == c) (1 ∷ 0 ∷ [])) (load two_flows c first_ingress),
+      nothing_paid (list_any (λ d. d == c) (0 ∷ [])) (load two_flows c first_ingress),
+    )
 
 swapped : (c : ℕ) → Contains (1 ∷ 0 ∷ []) c → Contains (0 ∷ 1 ∷ []) c
 swapped c has = elim (first_or_tail 1 (0 ∷ []) c has) [
@@ -79,7 +83,8 @@ no_prices_greatest : TakesGreatestPorts two_flows 3 no_prices
 no_prices_greatest = ((λ port lt. omega (arith, both_small port.side port.number lt)), ((λ port lt. omega (arith, first_small port.side port.number lt)), tt))
 
 pub without_prices_four : cost two_flows one_each (0 ∷ 1 ∷ []) longer_first_slots ≤ 4 * bound two_flows no_prices + slack two_flows one_each no_prices
-without_prices_four = four_bound_law equal_weights no_prices longer_first_slots equal_instance no_prices_certificate no_prices_feasible no_prices_greatest two_flows_hold.valid two_flows_hold.patient
+without_prices_four = four_bound_law equal_weights no_prices longer_first_slots equal_instance no_prices_certificate no_prices_feasible no_prices_greatest two_flows_hold.valid
+    two_flows_hold.patient
 
 pub second_is_short : end_of longer_first_slots 1 + units_of two_flows 1 ≤
     load_of_all two_flows (up_to (0 ∷ 1 ∷ []) 1) (ingress_port two_flows 1) + load_of_all two_flows (up_to (0 ∷ 1 ∷ []) 1) (egress_port two_flows 1)

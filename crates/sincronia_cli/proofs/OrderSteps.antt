@@ -21,7 +21,8 @@ all_present n present e =
     ap (λ k. filter (is_present present) (range_with_len 0 k)) count
     ∙ keeps_all (is_present present) (range_with_len 0 n) (λ c has. ap (λ xs. get_or xs c false) e ∙ get_or-replicate n c true false (omega (arith, number_below 0 n c has)))
 
-pub all_coflows : (table : TableFacts) (weights : List ℕ) (t : LoadTable) (present lent : List Bool) → lent ≡ present → present ≡ replicate (length table.ids) true → t.coflows ≡ length table.ids → t.ports ≡ table.ports → HasLoads table.flows t →
+pub all_coflows : (table : TableFacts) (weights : List ℕ) (t : LoadTable) (present lent : List Bool) → lent ≡ present → present ≡ replicate (length table.ids) true →
+    t.coflows ≡ length table.ids → t.ports ≡ table.ports → HasLoads table.flows t →
     IsOf (instance_of table weights) t weights lent
 all_coflows table weights t present lent l e n p loads = record {
   coflows = sym (all_present (length table.ids) lent (l ∙ e));

@@ -11,7 +11,8 @@ use Rattle.dual_cert.proofs.FourLaw.{four_bound_law}
 use Rattle.coflow_units.proofs.OrderingLaws.{ordering_feasible, takes_greatest}
 use Rattle.coflow_units.proofs.ServedLaws.{served_valid, served_patient}
 
-pub plan_bound : (i : Instance) (entries : List Entry) (slots : List (List ℕ)) → IsOrdering i entries → IsValid i.flows slots → bound i.flows entries ≤ cost i.flows i.weight i.coflows slots
+pub plan_bound : (i : Instance) (entries : List Entry) (slots : List (List ℕ)) → IsOrdering i entries → IsValid i.flows slots →
+    bound i.flows entries ≤ cost i.flows i.weight i.coflows slots
 plan_bound i entries slots ordering valid = bound_law i entries slots ordering.certificate (ordering_feasible i entries ordering) valid
 
 pub plan_four : (i : Instance) (entries : List Entry) (slots : List (List ℕ)) → IsInstance i → IsOrdering i entries → IsServed i.flows (order_of entries) slots →

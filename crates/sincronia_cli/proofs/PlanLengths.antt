@@ -47,7 +47,8 @@ has_some : (xs : List ℕ) (g : ℕ) → Contains xs g → 1 ≤ length xs
 has_some xs g (k, lt, at) = omega (arith, lt)
 
 -- each slot of a served schedule serves a flow
-slots_serve : (flows : List Flow) (line : List ℕ) (slots : List (List ℕ)) → ((f : ℕ) → f < length flows → Contains line (coflow_of flows f)) → IsServed flows line slots → All (λ (slot : List ℕ). 1 ≤ length slot) slots
+slots_serve : (flows : List Flow) (line : List ℕ) (slots : List (List ℕ)) → ((f : ℕ) → f < length flows → Contains line (coflow_of flows f)) → IsServed flows line slots →
+    All (λ (slot : List ℕ). 1 ≤ length slot) slots
 slots_serve flows line slots named served k d lt =
     let (f, within, owes) = served.so_far.owed k lt in
     let (g, has) = some_grant flows line (left_after flows (take k slots)) (slice_index_or slots k []) f (served.so_far.grants k lt) within (named f within) owes in
@@ -79,7 +80,8 @@ pub plan_text_short : (t : TableFacts) (weights : List ℕ) (r : Report) → IsT
     length (report_text r) ≤ 200 + 200 * length t.ids + 50 * sum_by (λ (x : Flow). x.units) t.flows
 plan_text_short t weights r table fits small p =
     let line = coflows_of p.order in
-    let named = λ (f : ℕ) (lt : f < length t.flows). places_all t weights p.order p.ordering (coflow_of t.flows f) (table.coflow f record { coflow = 0; ingress = 0; egress = 0; units = 0 } lt) in
+    let named = λ (f : ℕ) (lt : f < length t.flows). places_all t weights p.order p.ordering (coflow_of t.flows f)
+    (table.coflow f record { coflow = 0; ingress = 0; egress = 0; units = 0 } lt) in
     let some = each_run (λ (slot : List ℕ). 1 ≤ length slot) p.slots r.runs p.runs (slots_serve t.flows line p.slots named p.served) in
     omega (
       arith,
@@ -92,5 +94,6 @@ plan_text_short t weights r table fits small p =
     )
 
 -- where there are few units, the text is short enough to be read back
-pub few_units_short : (t : TableFacts) (weights text : List ℕ) (r : Report) → IsTable t → sum_by (λ (x : Flow). x.units) t.flows ≤ 102400 → IsReport r → HasSmallNumbers r → IsPlanOf (instance_of t weights) t.ids r → text ≡ report_text r → length text ≤ 2 ^ 30
+pub few_units_short : (t : TableFacts) (weights text : List ℕ) (r : Report) → IsTable t → sum_by (λ (x : Flow). x.units) t.flows ≤ 102400 → IsReport r → HasSmallNumbers r →
+    IsPlanOf (instance_of t weights) t.ids r → text ≡ report_text r → length text ≤ 2 ^ 30
 few_units_short t weights text r table few fits small p is = omega (arith, ap length is, plan_text_short t weights r table fits small p, table.few_coflows)

@@ -45,13 +45,15 @@ plan_is_clear t weights r p = (served_valid t.flows (coflows_of p.order) p.slots
 
 -- ---- the weights
 
-weights_in_range : (t : TableFacts) (weights : List ℕ) (order : List Place) → length weights ≡ length t.ids → All (λ w. 1 ≤ w) weights → All (λ w. w ≤ 4294967296) weights → All (λ (x : Place). x.coflow < length t.ids) order →
+weights_in_range : (t : TableFacts) (weights : List ℕ) (order : List Place) → length weights ≡ length t.ids → All (λ w. 1 ≤ w) weights → All (λ w. w ≤ 4294967296) weights →
+    All (λ (x : Place). x.coflow < length t.ids) order →
     All (λ w. (1 ≤ w) × (w ≤ 4294967296)) (map (λ (x : Place). slice_index weights x.coflow) order)
 weights_in_range t weights order count least most within =
     All-map (λ w. (1 ≤ w) × (w ≤ 4294967296)) (λ (x : Place). slice_index weights x.coflow) order
     (λ k d lt. (least (get_or order k d).coflow 0 (omega (arith, count, within k d lt)), most (get_or order k d).coflow 0 (omega (arith, count, within k d lt))))
 
-pub plan_is_report : (t : TableFacts) (weights : List ℕ) (r : Report) → IsTable t → length weights ≡ length t.ids → All (λ w. 1 ≤ w) weights → All (λ w. w ≤ 4294967296) weights → IsPlanOf (instance_of t weights) t.ids r → IsReport r
+pub plan_is_report : (t : TableFacts) (weights : List ℕ) (r : Report) → IsTable t → length weights ≡ length t.ids → All (λ w. 1 ≤ w) weights → All (λ w. w ≤ 4294967296) weights →
+    IsPlanOf (instance_of t weights) t.ids r → IsReport r
 plan_is_report t weights r table count least most p =
     let stated = map (λ (x : Place). slice_index weights x.coflow) p.order in
     let places : length r.places ≡ length p.order = ap length p.places ∙ length-map p.order (line_of t.ids t.flows p.slots) in
@@ -69,12 +71,18 @@ plan_is_report t weights r table count least most p =
 -- ---- the prices
 
 -- a place charges no more for a unit of load than its coflow has to spend
-y_within : (flows : List Flow) (weight : ℕ → ℕ) (ports : ℕ) (later : List Entry) (coflows : List ℕ) (e : Entry) → IsPlaced flows weight ports later coflows e → e.y ≤ budget weight e.coflow
+y_within : (flows : List Flow) (weight : ℕ → ℕ) (ports : ℕ) (later : List Entry) (coflows : List ℕ) (e : Entry) → IsPlaced flows weight ports later coflows e →
+    e.y ≤ budget weight e.coflow
 y_within flows weight ports later coflows e placed = elim (zero_or_more (load_of_all flows coflows e.port)) [
   | inl none ↦ omega (arith, (placed.idle none).y_is)
   | inr some ↦
       let busy = placed.busy some in
-      omega (arith, busy.y_is, floor_within (residual flows weight later e.coflow) (load flows e.coflow e.port), mul-le-mul_left (residual flows weight later e.coflow / load flows e.coflow e.port) busy.has_load)
+      omega (
+        arith,
+        busy.y_is,
+        floor_within (residual flows weight later e.coflow) (load flows e.coflow e.port),
+        mul-le-mul_left (residual flows weight later e.coflow / load flows e.coflow e.port) busy.has_load,
+      )
 ]
 
 abbrev IsAffordable : (ℕ → ℕ) → Entry → Type 0
@@ -105,7 +113,8 @@ few_places t weights r p =
       at_most coflows (length t.ids) (apart_from_pairs coflows (places_distinct t weights p.order p.ordering)) (λ c has. places_within t weights p.order p.ordering c has),
     )
 
-line_is_small : (t : TableFacts) (weights : List ℕ) (r : Report) → IsTable t → All (λ w. w ≤ 4294967296) weights → (p : IsPlanOf (instance_of t weights) t.ids r) → (x : Place) → x.port.number < t.ports → x.y ≤ budget (λ c. slice_index weights c) x.coflow →
+line_is_small : (t : TableFacts) (weights : List ℕ) (r : Report) → IsTable t → All (λ w. w ≤ 4294967296) weights → (p : IsPlanOf (instance_of t weights) t.ids r) → (x : Place) →
+    x.port.number < t.ports → x.y ≤ budget (λ c. slice_index weights c) x.coflow →
     slice_index t.ids x.coflow < 4294967296 → IsSmallPlace (line_of t.ids t.flows p.slots x)
 line_is_small t weights r table most p x port y id = record {
   id = id;
@@ -114,25 +123,29 @@ line_is_small t weights r table most p x port y id = record {
   done = omega (arith, last_within (λ (slot : List ℕ). holds_coflow t.flows slot x.coflow) p.slots, plan_is_short t weights r table p);
 }
 
-lines_are_small : (t : TableFacts) (weights : List ℕ) (r : Report) → IsTable t → All (λ w. w ≤ 4294967296) weights → All (λ (l : PlaceLine). l.id < 4294967296) r.places → IsPlanOf (instance_of t weights) t.ids r → All IsSmallPlace r.places
+lines_are_small : (t : TableFacts) (weights : List ℕ) (r : Report) → IsTable t → All (λ w. w ≤ 4294967296) weights → All (λ (l : PlaceLine). l.id < 4294967296) r.places →
+    IsPlanOf (instance_of t weights) t.ids r → All IsSmallPlace r.places
 lines_are_small t weights r table most ids p =
     let line = line_of t.ids t.flows p.slots in
     let entries = entries_of p.order in
     let ports = each_place (λ (e : Entry). e.port.number < t.ports) p.order p.ordering.ordering.certificate.port in
-    let ys = each_place (λ (e : Entry). e.y ≤ budget (λ c. slice_index weights c) e.coflow) p.order (all_within t.flows (λ c. slice_index weights c) t.ports [] entries p.ordering.ordering.ordered) in
+    let ys = each_place (λ (e : Entry). e.y ≤ budget (λ c. slice_index weights c) e.coflow) p.order
+    (all_within t.flows (λ c. slice_index weights c) t.ports [] entries p.ordering.ordering.ordered) in
     let named = subst (All (λ (l : PlaceLine). l.id < 4294967296)) p.places ids in
     subst (All IsSmallPlace) (sym p.places)
     (All-map IsSmallPlace line p.order (λ k d lt.
     let id = subst (λ (l : PlaceLine). l.id < 4294967296) (get_or-map line p.order k d (line d) lt) (named k (line d) (omega (arith, lt, length-map p.order line))) in
     line_is_small t weights r table most p (get_or p.order k d) (ports k d lt) (ys k d lt) id))
 
-pub plan_is_small : (t : TableFacts) (weights : List ℕ) (r : Report) → IsTable t → length weights ≡ length t.ids → All (λ w. 1 ≤ w) weights → All (λ w. w ≤ 4294967296) weights → All (λ (l : PlaceLine). l.id < 4294967296) r.places →
+pub plan_is_small : (t : TableFacts) (weights : List ℕ) (r : Report) → IsTable t → length weights ≡ length t.ids → All (λ w. 1 ≤ w) weights → All (λ w. w ≤ 4294967296) weights →
+    All (λ (l : PlaceLine). l.id < 4294967296) r.places →
     IsPlanOf (instance_of t weights) t.ids r → HasSmallNumbers r
 plan_is_small t weights r table count least most ids p =
     let entries = entries_of p.order in
     let weight = λ (c : ℕ). slice_index weights c in
     let fits : 4 * r.bound + r.slack < 340282366920938463463374607431768211456 =
-    values_fit t weights entries r.bound r.slack table p.ordering.ordering.certificate most (ordering_feasible (instance_of t weights) entries p.ordering.ordering) (omega (arith, p.bound_is)) p.slack_is in
+    values_fit t weights entries r.bound r.slack table p.ordering.ordering.certificate most (ordering_feasible (instance_of t weights) entries p.ordering.ordering)
+    (omega (arith, p.bound_is)) p.slack_is in
     record {
       count = omega (arith, few_places t weights r p, table.few_coflows);
       places = lines_are_small t weights r table most ids p;
@@ -144,7 +157,9 @@ plan_is_small t weights r table count least most ids p =
     }
 
 -- where the ids of the table are small, those of the places are
-pub ids_are_small : (t : TableFacts) (weights : List ℕ) (r : Report) → All (λ id. id < 4294967296) t.ids → IsPlanOf (instance_of t weights) t.ids r → All (λ (l : PlaceLine). l.id < 4294967296) r.places
+pub ids_are_small : (t : TableFacts) (weights : List ℕ) (r : Report) → All (λ id. id < 4294967296) t.ids → IsPlanOf (instance_of t weights) t.ids r →
+    All (λ (l : PlaceLine). l.id < 4294967296) r.places
 ids_are_small t weights r ids p =
     subst (All (λ (l : PlaceLine). l.id < 4294967296)) (sym p.places)
-    (All-map (λ (l : PlaceLine). l.id < 4294967296) (line_of t.ids t.flows p.slots) p.order (λ k d lt. ids (get_or p.order k d).coflow 0 (each_place_within t weights p.order p.ordering k d lt)))
+    (All-map (λ (l : PlaceLine). l.id < 4294967296) (line_of t.ids t.flows p.slots) p.order
+    (λ k d lt. ids (get_or p.order k d).coflow 0 (each_place_within t weights p.order p.ordering k d lt)))

@@ -35,7 +35,8 @@ use Rattle.sincronia_cli.proofs.PlannedPlaces.{certificate_again, coflows_again,
 pub ids_differ : (trace : Trace) (unit : ℕ) (t : TableFacts) → IsTrace trace → IsTableOf trace unit t → IsDistinct t.ids
 ids_differ trace unit t is of_trace = subst IsDistinct (sym of_trace.ids) is.ids
 
-pub plan_is_sound : (t : TableFacts) (weights : List ℕ) (r : Report) → IsTable t → IsDistinct t.ids → length weights ≡ length t.ids → All (λ w. 1 ≤ w) weights → IsPlanOf (instance_of t weights) t.ids r → IsSound (instance_of t weights) t.ids r
+pub plan_is_sound : (t : TableFacts) (weights : List ℕ) (r : Report) → IsTable t → IsDistinct t.ids → length weights ≡ length t.ids → All (λ w. 1 ≤ w) weights →
+    IsPlanOf (instance_of t weights) t.ids r → IsSound (instance_of t weights) t.ids r
 plan_is_sound t weights r table once count least p =
     let i : Instance = instance_of t weights in
     let within = each_place_within t weights p.order p.ordering in
@@ -60,12 +61,14 @@ plan_is_sound t weights r table once count least p =
     }
 
 -- so the verdict on it is yes
-pub plan_has_yes : (t : TableFacts) (weights : List ℕ) (r : Report) (verdict : Verdict) → IsTable t → IsDistinct t.ids → length weights ≡ length t.ids → All (λ w. 1 ≤ w) weights → IsPlanOf (instance_of t weights) t.ids r →
+pub plan_has_yes : (t : TableFacts) (weights : List ℕ) (r : Report) (verdict : Verdict) → IsTable t → IsDistinct t.ids → length weights ≡ length t.ids → All (λ w. 1 ≤ w) weights →
+    IsPlanOf (instance_of t weights) t.ids r →
     IsVerdict (instance_of t weights) t.ids r verdict → verdict ≡ Yes
 plan_has_yes t weights r verdict table once count least p is = (yes_where_sound t weights r verdict is).1 (plan_is_sound t weights r table once count least p)
 
 -- and so is that on the report that a reader answers from its text
-pub read_back_has_yes : (t : TableFacts) (weights : List ℕ) (r read : Report) (verdict : Verdict) → IsTable t → IsDistinct t.ids → length weights ≡ length t.ids → All (λ w. 1 ≤ w) weights → IsPlanOf (instance_of t weights) t.ids r →
+pub read_back_has_yes : (t : TableFacts) (weights : List ℕ) (r read : Report) (verdict : Verdict) → IsTable t → IsDistinct t.ids → length weights ≡ length t.ids →
+    All (λ w. 1 ≤ w) weights → IsPlanOf (instance_of t weights) t.ids r →
     IsReport r → HasSmallNumbers r → GivesReport (report_text r) (Ok read) → IsVerdict (instance_of t weights) t.ids read verdict → verdict ≡ Yes
 read_back_has_yes t weights r read verdict table once count least p report small given is =
     plan_has_yes t weights r verdict table once count least p

@@ -26,8 +26,10 @@ module _ (ids : List ℕ) (flows : List Flow) (slots : List (List ℕ)) (once : 
   entries_again : (order : List Place) → All (λ (x : Place). x.coflow < length ids) order → map (entry_for ids) (map line order) ≡ map entry_of order
   entries_again [] within = refl
   entries_again (x ∷ xs) within =
-      let here : entry_for ids (line x) ≡ entry_of x = ap (λ c. entry_with c (line x)) (named_again ids x.coflow once (All-head (λ (x : Place). x.coflow < length ids) x xs within)) in
-      ap (λ (e : Entry). e ∷ map (entry_for ids) (map line xs)) here ∙ ap (λ (l : List Entry). entry_of x ∷ l) (entries_again xs (All-tail (λ (x : Place). x.coflow < length ids) x xs within))
+      let here : entry_for ids (line x) ≡ entry_of x =
+      ap (λ c. entry_with c (line x)) (named_again ids x.coflow once (All-head (λ (x : Place). x.coflow < length ids) x xs within)) in
+      ap (λ (e : Entry). e ∷ map (entry_for ids) (map line xs)) here ∙
+      ap (λ (l : List Entry). entry_of x ∷ l) (entries_again xs (All-tail (λ (x : Place). x.coflow < length ids) x xs within))
 
   pub certificate_again : (order : List Place) → All (λ (x : Place). x.coflow < length ids) order → certificate_in ids (map line order) ≡ entries_of order
   certificate_again order within = ap reverse (entries_again order within) ∙ sym (map_reverse entry_of order)
@@ -44,6 +46,7 @@ real_along f [] k lt = absurd (omega arith)
 real_along f (x ∷ xs) zero lt = refl
 real_along f (x ∷ xs) (suc k) lt = real_along f xs k (omega arith)
 
-pub ends_again : (ids : List ℕ) (flows : List Flow) (slots : List (List ℕ)) (order : List Place) → ends_in (map (line_of ids flows slots) order) ≡ map (λ (x : Place). completion flows slots x.coflow) order
+pub ends_again : (ids : List ℕ) (flows : List Flow) (slots : List (List ℕ)) (order : List Place) →
+    ends_in (map (line_of ids flows slots) order) ≡ map (λ (x : Place). completion flows slots x.coflow) order
 ends_again ids flows slots [] = refl
 ends_again ids flows slots (x ∷ xs) = ap (λ (l : List ℕ). completion flows slots x.coflow ∷ l) (ends_again ids flows slots xs)

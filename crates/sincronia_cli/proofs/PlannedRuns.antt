@@ -33,7 +33,8 @@ pair_at runs k d lt = get_or-map pair_of runs k d (pair_of d) lt
 pub run_lengths : (slots : List (List ℕ)) (runs : List Run) → IsRuns slots (pairs_of runs) → All (λ (r : Run). 1 ≤ r.length) runs
 run_lengths slots runs is k d lt = subst (λ (p : ℕ × List ℕ). 1 ≤ p.0) (pair_at runs k d lt) (is.lengths k (pair_of d) (omega (arith, lt, length-map runs pair_of)))
 
-pub runs_differ : (slots : List (List ℕ)) (runs : List Run) → IsRuns slots (pairs_of runs) → (k : ℕ) (d : Run) → k + 1 < length runs → (slice_index_or runs k d).flows ≢ (slice_index_or runs (k + 1) d).flows
+pub runs_differ : (slots : List (List ℕ)) (runs : List Run) → IsRuns slots (pairs_of runs) → (k : ℕ) (d : Run) → k + 1 < length runs →
+    (slice_index_or runs k d).flows ≢ (slice_index_or runs (k + 1) d).flows
 runs_differ slots runs is k d lt = λ e.
     is.maximal k (pair_of d) (omega (arith, lt, length-map runs pair_of))
     (ap (λ (p : ℕ × List ℕ). p.1) (pair_at runs k d (omega arith)) ∙ e ∙ sym (ap (λ (p : ℕ × List ℕ). p.1) (pair_at runs (k + 1) d lt)))
@@ -62,7 +63,8 @@ last_holds slots n f e has =
     ∙ ap {B = ℕ} (λ b. if b then length (take n slots) + 1 else end_of (take n slots) f) (any_in (get_or slots n []) f has) ∙ ap (λ m. m + 1) (length-take-le n slots (omega arith))
 
 -- the last slot serves a flow, which ends within the loads of its two ports
-pub served_is_short : (flows : List Flow) (line : List ℕ) (slots : List (List ℕ)) → sum_by (λ (x : Flow). x.units) flows ≤ 1099511627776 → IsDistinct line → ((f : ℕ) → f < length flows → Contains line (coflow_of flows f)) →
+pub served_is_short : (flows : List Flow) (line : List ℕ) (slots : List (List ℕ)) → sum_by (λ (x : Flow). x.units) flows ≤ 1099511627776 → IsDistinct line →
+    ((f : ℕ) → f < length flows → Contains line (coflow_of flows f)) →
     IsServed flows line slots → length slots ≤ 2199023255551
 served_is_short flows line slots few once named served = elim (zero_or_more (length slots)) [
   | inl none ↦ omega arith
@@ -76,5 +78,13 @@ served_is_short flows line slots few once named served = elim (zero_or_more (len
       let ends = last_holds slots n g next has in
       let short = short_law flows line slots g (served_valid flows line slots served) (served_patient flows line slots served) within (named g within) in
       let apart = apart_up_to line (coflow_of flows g) once in
-      omega (arith, ends, short, grants.owed g has, within_units flows (up_to line (coflow_of flows g)) (ingress_port flows g) apart, within_units flows (up_to line (coflow_of flows g)) (egress_port flows g) apart, few)
+      omega (
+        arith,
+        ends,
+        short,
+        grants.owed g has,
+        within_units flows (up_to line (coflow_of flows g)) (ingress_port flows g) apart,
+        within_units flows (up_to line (coflow_of flows g)) (egress_port flows g) apart,
+        few,
+      )
 ]

@@ -9,7 +9,8 @@ use Rattle.outside.specs.Shelf.{Told, bytes_of}
 use Rattle.trace_reader.specs.declared.fault.TraceFault.{TraceFault}
 use Rattle.weights.specs.declared.fault.WeightsFault.{WeightsFault}
 use Rattle.sincronia_cli.specs.declared.status.Status.{Status}
-use Rattle.sincronia_cli.specs.declared.status.Status.TheVariants.{BadTrace, BadWeights, BadReport, Limit, ReadFault, NoMemory}
+use Rattle.sincronia_cli.specs.declared.status.Status.TheVariants.{BadTrace, BadWeights, BadReport, Limit, ReadFault}
+use Rattle.sincronia_cli.specs.declared.status.Status.TheVariants.{NoMemory}
 use Rattle.sincronia_cli.specs.FileCauses.{NameFailedIf, ShelfFailed}
 use Rattle.sincronia_cli.specs.Inputs.{bytes_if}
 use Rattle.sincronia_cli.specs.InputCauses.{GiveTable, HasWeightsFault, InputFailed, LimitCause}

@@ -1,7 +1,8 @@
 -- The exit codes.
 use Rattle.std.specs.Prelude.{ℕ}
 use Rattle.sincronia_cli.specs.declared.status.Status.{Status}
-use Rattle.sincronia_cli.specs.declared.status.Status.TheVariants.{Ok, No, Usage, BadTrace, BadWeights, BadReport, Limit, ReadFault, WriteFault, NoMemory}
+use Rattle.sincronia_cli.specs.declared.status.Status.TheVariants.{Ok, No, Usage, BadTrace, BadWeights, BadReport}
+use Rattle.sincronia_cli.specs.declared.status.Status.TheVariants.{Limit, ReadFault, WriteFault, NoMemory}
 
 -- the exit code of a status
 abbrev pub code_of : Status → ℕ

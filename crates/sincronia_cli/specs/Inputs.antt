@@ -1,5 +1,6 @@
 -- The texts of trace and weights, and the instance that they give.
 use Rattle.std.specs.Prelude.{◌≡◌, ℕ, ◌≤◌, ◌^◌, List, All, Option, Some, None, IfSome, length, replicate}
+use Rattle.coflow_units.specs.declared.limits.TheConstants.{MAX_WEIGHT}
 use Rattle.coflow_units.specs.declared.trace.CoflowLine.{CoflowLine}
 use Rattle.coflow_units.specs.declared.trace.Trace.{Trace}
 use Rattle.coflow_units.specs.Trace.{IsTrace}
@@ -42,7 +43,7 @@ pub record IsInput (told : Option Told) (trace : List ℕ) (file : Option (List 
   pub table_fits : IsTable table
   pub count : length weights ≡ length table.ids
   pub least : All (λ w. 1 ≤ w) weights
-  pub most : All (λ w. w ≤ 2 ^ 32) weights
+  pub most : All (λ w. w ≤ MAX_WEIGHT) weights
   pub gives : IfSome told (λ t. Gives (bytes_of t trace) (bytes_if t file) unit table weights)
 
 -- a trace that was read, where the bytes under its name are told: they are its text
@@ -55,5 +56,5 @@ pub record IsWeightsOf (told : Option Told) (file : Option (List ℕ)) (coflows 
     (weights : List ℕ) : Type 0 where
   pub count : length weights ≡ length coflows
   pub least : All (λ w. 1 ≤ w) weights
-  pub most : All (λ w. w ≤ 2 ^ 32) weights
+  pub most : All (λ w. w ≤ MAX_WEIGHT) weights
   pub given : IfSome told (λ t. GiveWeights (bytes_if t file) coflows weights)

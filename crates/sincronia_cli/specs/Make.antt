@@ -16,7 +16,8 @@ use Rattle.sincronia_cli.specs.PlanReport.{IsPlanOf}
 
 -- the texts of the seed give the table of flows and the weights
 abbrev pub GivesMade : ℕ → ℕ → TableFacts → List ℕ → Type 0
-GivesMade seed unit table weights = Gives (trace_text (made_coflows seed)) (Some (weights_text (made_coflows seed))) unit table weights
+GivesMade seed unit table weights =
+    Gives (trace_text (made_coflows seed)) (Some (weights_text (made_coflows seed))) unit table weights
 
 -- the totals of the flows of a table and of a report of its plan
 abbrev pub summary_of : ℕ → TableFacts → Report → Made

@@ -1,4 +1,5 @@
--- The lines on standard error, without their line feeds. There is none where the job ended well, nor where the answer is no.
+-- The lines on standard error, without their line feeds. There is none where the job ended well, nor where the answer
+-- is no.
 use Rattle.std.specs.Prelude.{ℕ, ◌++◌, List, [], codes, decimal}
 use Rattle.coflow_units.specs.declared.quantity.Quantity.{Quantity}
 use Rattle.coflow_units.specs.declared.quantity.Quantity.TheVariants as quantity
@@ -7,7 +8,8 @@ use Rattle.trace_reader.specs.declared.fault.TraceFault.TheVariants as trace
 use Rattle.weights.specs.declared.fault.WeightsFault.{WeightsFault}
 use Rattle.weights.specs.declared.fault.WeightsFault.TheVariants as weight
 use Rattle.sincronia_cli.specs.declared.status.Status.{Status}
-use Rattle.sincronia_cli.specs.declared.status.Status.TheVariants.{Ok, No, Usage, BadTrace, BadWeights, BadReport, Limit, ReadFault, WriteFault, NoMemory}
+use Rattle.sincronia_cli.specs.declared.status.Status.TheVariants.{Ok, No, Usage, BadTrace, BadWeights, BadReport}
+use Rattle.sincronia_cli.specs.declared.status.Status.TheVariants.{Limit, ReadFault, WriteFault, NoMemory}
 
 -- the name of a quantity
 abbrev pub name_of : Quantity → List ℕ
@@ -37,15 +39,18 @@ trace_text (trace.BadLine line field) = codes "trace: line " ++ decimal line ++ 
 trace_text (trace.Missing have want) = codes "trace: have " ++ decimal have ++ codes " lines, want " ++ decimal want
 trace_text (trace.Extra line) = codes "trace: extra line " ++ decimal line
 trace_text (trace.DuplicateId line id) = codes "trace: line " ++ decimal line ++ codes " repeats id " ++ decimal id
-trace_text (trace.PortRange line port) = codes "trace: line " ++ decimal line ++ codes " port " ++ decimal port ++ codes " out of range"
+trace_text (trace.PortRange line port) = codes "trace: line " ++ decimal line ++ codes " port " ++ decimal port ++
+    codes " out of range"
 trace_text (trace.Limit line which count) = limit_text which count
 trace_text trace.NoMemory = codes "no memory"
 
 -- what is wrong with weights
 abbrev pub weights_text : WeightsFault → List ℕ
 weights_text (weight.BadLine line field) = codes "weights: line " ++ decimal line ++ codes " field " ++ decimal field
-weights_text (weight.UnknownId line id) = codes "weights: line " ++ (decimal line ++ (codes " unknown id " ++ decimal id))
-weights_text (weight.DuplicateId line id) = codes "weights: line " ++ (decimal line ++ (codes " repeats id " ++ decimal id))
+weights_text (weight.UnknownId line id) =
+    codes "weights: line " ++ (decimal line ++ (codes " unknown id " ++ decimal id))
+weights_text (weight.DuplicateId line id) =
+    codes "weights: line " ++ (decimal line ++ (codes " repeats id " ++ decimal id))
 weights_text (weight.Limit line which count) = limit_text which count
 weights_text weight.NoMemory = codes "no memory"
 

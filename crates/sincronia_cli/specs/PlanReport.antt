@@ -18,13 +18,24 @@ coflows_of places = map (λ (x : Place). x.coflow) places
 
 -- the line of a place, from the ids and the completions of the coflows
 abbrev pub line_from : List ℕ → List ℕ → Place → PlaceLine
-line_from ids ends x = record { id = slice_index ids x.coflow; port = x.port; y = x.y; done = slice_index ends x.coflow }
+line_from ids ends x = record {
+  id = slice_index ids x.coflow;
+  port = x.port;
+  y = x.y;
+  done = slice_index ends x.coflow;
+}
 
 -- what a report says of a place: the coflow's id, what the place charges, and the coflow's completion
 abbrev pub line_of : List ℕ → List Flow → List (List ℕ) → Place → PlaceLine
-line_of ids flows slots x = record { id = slice_index ids x.coflow; port = x.port; y = x.y; done = completion flows slots x.coflow }
+line_of ids flows slots x = record {
+  id = slice_index ids x.coflow;
+  port = x.port;
+  y = x.y;
+  done = completion flows slots x.coflow;
+}
 
--- The report of the plan: the places of the ordering certificate, the schedule that serves their order, the bound and the slack of the certificate, and the cost of the schedule.
+-- The report of the plan: the places of the ordering certificate, the schedule that serves their order, the bound and
+-- the slack of the certificate, and the cost of the schedule.
 pub record IsPlanOf (i : Instance) (ids : List ℕ) (r : Report) : Type 0 where
   pub order : List Place
   pub ordering : IsOrder i order

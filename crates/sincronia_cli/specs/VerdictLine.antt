@@ -3,7 +3,9 @@ use Rattle.std.specs.Prelude.{ℕ, ◌++◌, List, codes, slice_index}
 use Rattle.report.specs.declared.value.Report.{Report}
 use Rattle.report.specs.Text.{ended, side_word, spaced}
 use Rattle.cert_check.specs.declared.verdict.Reason.{Reason}
-use Rattle.cert_check.specs.declared.verdict.Reason.TheVariants.{BoundTooHigh, ClashIn, CostWrong, DoneWrong, Infeasible, NoFlow, NotPermutation, PortRange, RatioBroken, SlackWrong, UnitsOf, WeightWrong}
+use Rattle.cert_check.specs.declared.verdict.Reason.TheVariants.{BoundTooHigh, ClashIn, CostWrong, DoneWrong}
+use Rattle.cert_check.specs.declared.verdict.Reason.TheVariants.{Infeasible, NoFlow, NotPermutation, PortRange}
+use Rattle.cert_check.specs.declared.verdict.Reason.TheVariants.{RatioBroken, SlackWrong, UnitsOf, WeightWrong}
 use Rattle.cert_check.specs.declared.verdict.Verdict.{Verdict}
 use Rattle.cert_check.specs.declared.verdict.Verdict.TheVariants.{No, Yes}
 
@@ -15,12 +17,14 @@ both stated real = spaced stated ++ spaced real
 abbrev pub reason_line : List ℕ → Reason → List ℕ
 reason_line ids (NotPermutation place) = codes "no order" ++ spaced place
 reason_line ids (PortRange place number) = codes "no port" ++ both place number
-reason_line ids (WeightWrong coflow stated real) = codes "no weight" ++ spaced (slice_index ids coflow) ++ both stated real
+reason_line ids (WeightWrong coflow stated real) = codes "no weight" ++ spaced (slice_index ids coflow) ++
+    both stated real
 reason_line ids (Infeasible coflow) = codes "no infeasible" ++ spaced (slice_index ids coflow)
 reason_line ids (BoundTooHigh stated real) = codes "no bound" ++ both stated real
 reason_line ids (SlackWrong stated real) = codes "no slack" ++ both stated real
 reason_line ids (NoFlow slot flow) = codes "no flow" ++ both slot flow
-reason_line ids (ClashIn slot port) = codes "no clash" ++ spaced slot ++ codes " " ++ side_word port.side ++ spaced port.number
+reason_line ids (ClashIn slot port) = codes "no clash" ++ spaced slot ++ codes " " ++ side_word port.side ++
+    spaced port.number
 reason_line ids (UnitsOf flow have want) = codes "no units" ++ spaced flow ++ both have want
 reason_line ids (DoneWrong coflow stated real) = codes "no done" ++ spaced (slice_index ids coflow) ++ both stated real
 reason_line ids (CostWrong stated real) = codes "no cost" ++ both stated real

@@ -1,5 +1,6 @@
 //! The command `check`: the verdict on a report.
 ghost use Rattle.std.specs.Prelude.{◌≡◌, ◌↔◌, ◌≤◌, ◌^◌, All, IfErr, IfOk, OnOk, Some, length};
+ghost use Rattle.coflow_units.specs.declared.limits.TheConstants.{MAX_WEIGHT};
 ghost use Rattle.cert_check.specs.declared.verdict.Verdict.{Verdict};
 ghost use Rattle.cert_check.specs.Reasons.{IsVerdict, NamesCoflowIfAny};
 ghost use Rattle.cert_check.specs.Sound.{IsSound};
@@ -52,7 +53,7 @@ pub(crate) fn check_report<'a, H: Shelf>(
 /// The line of the verdict on a report, and its status.
 fn outcome_of(alloc: Global, input: &Input, report: &Report) -> Result<Outcome, NoMemory>
     requires count { length input.now.weights ≡ length input.now.table.ids }
-    requires weights { All (λ w. w ≤ 2 ^ 32) input.now.weights }
+    requires weights { All (λ w. w ≤ MAX_WEIGHT) input.now.weights }
     requires report { IsReport report.now }
     ensures { IfOk result (λ o. (verdict : Verdict) × (o.status ≡ status_for verdict) ×
         IsVerdict (instance_of input.now.table input.now.weights) input.now.table.ids report.now verdict ×
@@ -69,7 +70,7 @@ fn outcome_of(alloc: Global, input: &Input, report: &Report) -> Result<Outcome, 
 /// The verdict on a report.
 pub(crate) fn verdict_of(alloc: Global, input: &Input, report: &Report) -> Result<Verdict, NoMemory>
     requires count { length input.now.weights ≡ length input.now.table.ids }
-    requires weights { All (λ w. w ≤ 2 ^ 32) input.now.weights }
+    requires weights { All (λ w. w ≤ MAX_WEIGHT) input.now.weights }
     requires report { IsReport report.now }
     ensures verdict { IfOk result
         (IsVerdict (instance_of input.now.table input.now.weights) input.now.table.ids report.now) }

@@ -1,5 +1,6 @@
 //! The files of a command: the trace, the weights of its coflows, and a report.
 ghost use Rattle.std.specs.Prelude.{◌≡◌, ◌≤◌, ◌^◌, ℕ, IfErr, IfOk, IfSome, OnOk, length, option_map, replicate};
+ghost use Rattle.coflow_units.specs.declared.limits.TheConstants.{MAX_REPORT};
 ghost use Rattle.coflow_units.specs.Trace.{IsTrace};
 ghost use Rattle.flow_table.specs.Table.{IsTable, IsTableOf};
 ghost use Rattle.outside.specs.declared.shelf.Place4.{Place4};
@@ -134,7 +135,7 @@ fn read_file<H: Shelf>(
     most: usize,
     shelf: &mut H,
 ) -> Result<Vec<u8>, Status>
-    requires { most ≤ 2 ^ 30 }
+    requires { most ≤ MAX_REPORT }
     ensures bytes { IfOk result (λ bytes. HasBytes (H.told shelf.old) name.now bytes.items) }
     ensures short { IfOk result (λ bytes. length bytes.items ≤ most) }
     ensures read_out { OnOk result (OfBoth (H.told shelf.old) (H.told shelf.new) (IsReadOut place name.now)) }

@@ -1,4 +1,4 @@
-// The program's commands: from the words of a command line and the bytes of files to the bytes that are written.
+//! The program's commands: from the words of a command line and the bytes of files to the bytes that are written.
 #![tactic(auto)]
 
 mod checking;

@@ -1,5 +1,6 @@
 //! The command `make`: the plan of a made trace, read back and checked.
 ghost use Rattle.std.specs.Prelude.{◌≡◌, ◌≤◌, ◌<◌, ◌^◌, ℕ, All, IfErr, IfOk, None, length, sum_by, true};
+ghost use Rattle.coflow_units.specs.declared.limits.TheConstants.{MAX_REPORT, MAX_TEXT, MAX_UNITS, MAX_WEIGHT};
 ghost use Rattle.cert_check.specs.Sound.{IsSound};
 ghost use Rattle.command_words.specs.Words.{said_by};
 ghost use Rattle.coflow_units.specs.declared.fabric.Flow.{Flow};
@@ -69,7 +70,7 @@ fn made_input(alloc: Global, seed: u64, unit: u64) -> Result<Input, NoMemory>
     ensures ids { IfOk result (λ i. IsDistinct i.table.ids) }
     ensures count { IfOk result (λ i. length i.weights ≡ length i.table.ids) }
     ensures least { IfOk result (λ i. All (λ w. 1 ≤ w) i.weights) }
-    ensures most { IfOk result (λ i. All (λ w. w ≤ 2 ^ 32) i.weights) }
+    ensures most { IfOk result (λ i. All (λ w. w ≤ MAX_WEIGHT) i.weights) }
 {
     let made = made(alloc, seed)?;
     let trace = trace_of_text(alloc, made.trace.as_slice())?;
@@ -80,7 +81,7 @@ fn made_input(alloc: Global, seed: u64, unit: u64) -> Result<Input, NoMemory>
 
 /// The trace of a text that has no fault.
 fn trace_of_text(alloc: Global, text: &[u8]) -> Result<Trace, NoMemory>
-    requires short { length text.now ≤ 2 ^ 26 }
+    requires short { length text.now ≤ MAX_TEXT }
     requires passes { first_fault (trace_checks text.now) ≡ None }
     ensures trace { IfOk result (λ trace. trace ≡ trace_of text.now) }
     ensures fits { IfOk result IsTrace }
@@ -96,7 +97,7 @@ fn trace_of_text(alloc: Global, text: &[u8]) -> Result<Trace, NoMemory>
 
 /// The weights of a text that has no fault.
 fn weights_of_text(alloc: Global, text: &[u8], trace: &Trace) -> Result<Items<u64>, NoMemory>
-    requires short { length text.now ≤ 2 ^ 26 }
+    requires short { length text.now ≤ MAX_TEXT }
     requires passes { first_fault (text_checks text.now trace.now.coflows) ≡ None }
     ensures { IfOk result (λ weights. weights ≡ weights_of text.now trace.now.coflows) }
 {
@@ -127,7 +128,7 @@ fn small_table(alloc: Global, trace: &Trace, unit: u64) -> Result<Table, NoMemor
 
 /// The report whose text the bytes are.
 fn read_back(alloc: Global, text: &[u8]) -> Result<Report, NoMemory>
-    requires few { length text.now ≤ 2 ^ 30 }
+    requires few { length text.now ≤ MAX_REPORT }
     requires written { (r : Report) × IsTextOf text.now r }
     ensures { IfOk result (IsTextOf text.now) }
 {
@@ -141,7 +142,7 @@ fn read_back(alloc: Global, text: &[u8]) -> Result<Report, NoMemory>
 /// The text of the summary, where the check of the report answers yes.
 fn summary(alloc: Global, seed: u64, input: &Input, report: &Report) -> Result<Vec<u8>, NoMemory>
     requires count { length input.now.weights ≡ length input.now.table.ids }
-    requires weights { All (λ w. w ≤ 2 ^ 32) input.now.weights }
+    requires weights { All (λ w. w ≤ MAX_WEIGHT) input.now.weights }
     requires report { IsReport report.now }
     requires sound { IsSound (instance_of input.now.table input.now.weights) input.now.table.ids report.now }
     ensures { IfOk result (λ text. text.items ≡ made_text (summary_of seed input.now.table report.now)) }
@@ -165,7 +166,7 @@ fn summary(alloc: Global, seed: u64, input: &Input, report: &Report) -> Result<V
 
 /// The units of all flows.
 fn units_in(flows: &[Flow]) -> u64
-    requires { sum_by (λ (x : Flow). x.units) flows.now ≤ 2 ^ 40 }
+    requires { sum_by (λ (x : Flow). x.units) flows.now ≤ MAX_UNITS }
     ensures { result ≡ sum_by (λ (x : Flow). x.units) flows.now }
 {
     flows.iter().map(|flow| flow.units).sum()

@@ -1,5 +1,6 @@
 //! The order of the coflows.
 ghost use Rattle.std.specs.Prelude.{◌≡◌, ◌<◌, ◌≤◌, ◌^◌, All, IfOk, length, map};
+ghost use Rattle.coflow_units.specs.declared.limits.TheConstants.{MAX_UNITS, MAX_WEIGHT};
 ghost use Rattle.coflow_units.specs.declared.fabric.Port.{Port};
 ghost use Rattle.flow_table.specs.Table.{instance_of};
 ghost use Rattle.port_load.specs.LoadTable.{HasLoads, total_at};
@@ -15,7 +16,7 @@ use std::alloc::Global;
 /// The order of all coflows of the table, one weight for each, with the places of the ordering certificate.
 pub fn order_of(alloc: Global, table: &Table, weights: &[u64]) -> Result<Bssi, NoMemory>
     requires count { length weights.now ≡ length table.now.ids }
-    requires weights { All (λ w. w ≤ 2 ^ 32) weights.now }
+    requires weights { All (λ w. w ≤ MAX_WEIGHT) weights.now }
     ensures order { IfOk result (λ order. IsOrder (instance_of table.now weights.now) order.places) }
 {
     let mut loads = loads_of(alloc, table)?;
@@ -30,7 +31,8 @@ pub fn loads_of(alloc: Global, table: &Table) -> Result<Loads, NoMemory>
     ensures coflows_are { IfOk result (λ loads. loads.coflows ≡ length table.now.ids) }
     ensures ports_are { IfOk result (λ loads. loads.ports ≡ table.now.ports) }
     ensures loads_are { IfOk result (λ loads. HasLoads table.now.flows loads) }
-    ensures totals_fit { IfOk result (λ loads. (port : Port) → port.number < loads.ports → total_at loads port ≤ 2 ^ 40) }
+    ensures totals_fit { IfOk result (λ loads. (port : Port) → port.number < loads.ports →
+        total_at loads port ≤ MAX_UNITS) }
 {
     let loads = Loads::of(alloc, table.flows(), table.coflows(), table.ports())?;
     Ok(loads)

@@ -20,7 +20,8 @@ pub fn place_lines(
 ) -> Result<Vec<PlaceLine>, NoMemory>
     requires coflow { All (λ (x : Place). x.coflow < length table.now.ids) places.now }
     requires names { NamesFlows (length table.now.flows) schedule.now }
-    ensures lines { IfOk result (λ lines. lines.items ≡ map (line_of table.now.ids table.now.flows schedule.now) places.now) }
+    ensures lines { IfOk result (λ lines. lines.items ≡ map (line_of table.now.ids table.now.flows schedule.now)
+        places.now) }
     ensures ids { IfOk result (λ lines. All (λ (line : PlaceLine). line.id < 2 ^ 32) lines.items) }
 {
     let ends = completions(alloc, table.flows(), table.coflows(), schedule)?;

@@ -1,5 +1,6 @@
 //! The command `plan`: the plan of a trace, as a report.
 ghost use Rattle.std.specs.Prelude.{◌≡◌, ◌<◌, ◌≤◌, ◌^◌, ℕ, All, Contains, IfErr, IfOk, OnOk, length};
+ghost use Rattle.coflow_units.specs.declared.limits.TheConstants.{MAX_WEIGHT};
 ghost use Rattle.coflow_units.specs.Certificate.{bound, slack};
 ghost use Rattle.coflow_units.specs.Flows.{IsDistinct};
 ghost use Rattle.coflow_units.specs.Served.{IsServed};
@@ -59,7 +60,7 @@ pub(crate) fn plan_trace<'a, H: Shelf>(
 fn report_text(alloc: Global, input: &Input) -> Result<Vec<u8>, NoMemory>
     requires count { length input.now.weights ≡ length input.now.table.ids }
     requires least { All (λ w. 1 ≤ w) input.now.weights }
-    requires weights { All (λ w. w ≤ 2 ^ 32) input.now.weights }
+    requires weights { All (λ w. w ≤ MAX_WEIGHT) input.now.weights }
     ensures { IfOk result (λ text. (report : Report) ×
         IsPlanOf (instance_of input.now.table input.now.weights) input.now.table.ids report ×
         (text.items ≡ report_text report)) }
@@ -76,7 +77,7 @@ fn report_text(alloc: Global, input: &Input) -> Result<Vec<u8>, NoMemory>
 pub fn plan(alloc: Global, table: &Table, weights: &[u64]) -> Result<Report, NoMemory>
     requires count { length weights.now ≡ length table.now.ids }
     requires least { All (λ w. 1 ≤ w) weights.now }
-    requires weights { All (λ w. w ≤ 2 ^ 32) weights.now }
+    requires weights { All (λ w. w ≤ MAX_WEIGHT) weights.now }
     ensures plan { IfOk result (λ report. IsPlanOf (instance_of table.now weights.now) table.now.ids report) }
     ensures weights { IfOk result HasWeights }
     ensures report { IfOk result IsReport }
@@ -126,7 +127,7 @@ fn values_of(
     places: &[Place],
 ) -> Result<Values, NoMemory>
     requires count { length weights.now ≡ length table.now.ids }
-    requires weights { All (λ w. w ≤ 2 ^ 32) weights.now }
+    requires weights { All (λ w. w ≤ MAX_WEIGHT) weights.now }
     requires order { IsOrder (instance_of table.now weights.now) places.now }
     ensures bound { IfOk result (λ values. values.bound ≡ bound table.now.flows (entries_of places.now)) }
     ensures slack { IfOk result (λ values.

@@ -35,7 +35,8 @@ none_in_use port_of slot last free = record {
   by = λ p lt e. absurd (omega (arith, free p 0 lt, e));
 }
 
-pub more_in_use : (port_of : ℕ → ℕ) (slot : ℕ) (granted last : List ℕ) (f : ℕ) → IsInUse port_of slot granted last → port_of f < length last → IsInUse port_of slot (granted ++ f ∷ []) (set last (port_of f) slot)
+pub more_in_use : (port_of : ℕ → ℕ) (slot : ℕ) (granted last : List ℕ) (f : ℕ) → IsInUse port_of slot granted last → port_of f < length last →
+    IsInUse port_of slot (granted ++ f ∷ []) (set last (port_of f) slot)
 more_in_use port_of slot granted last f use' lt = record {
   until = All-set (λ n. n ≤ slot) last (port_of f) slot (omega arith) use'.until;
   used = λ g has. elim (cases_eq (port_of g) (port_of f)) [
@@ -72,7 +73,8 @@ nothing_granted flows line left = record {
 }
 
 -- a flow that owes nothing or is blocked is passed over
-pub passed_over : (flows : List Flow) (line : List ℕ) (left : ℕ → ℕ) (seen granted : List ℕ) (f : ℕ) → IsGranting flows line left seen granted → (0 < left f → IsBlocked flows line granted f) → IsGranting flows line left (seen ++ f ∷ []) granted
+pub passed_over : (flows : List Flow) (line : List ℕ) (left : ℕ → ℕ) (seen granted : List ℕ) (f : ℕ) → IsGranting flows line left seen granted →
+    (0 < left f → IsBlocked flows line granted f) → IsGranting flows line left (seen ++ f ∷ []) granted
 passed_over flows line left seen granted f so_far blocked = record {
   inside = λ g has. Contains-append_left seen (f ∷ []) g (so_far.inside g has);
   owed = so_far.owed;
@@ -95,7 +97,8 @@ not_both : (flows : List Flow) (line : List ℕ) (f g : ℕ) → ComesBefore flo
 not_both flows line f g h k = one_way (place_in line (coflow_of flows f)) (place_in line (coflow_of flows g)) f g h k
 
 -- a flow that owes and shares no port with a granted one is granted
-pub granted_too : (flows : List Flow) (line : List ℕ) (left : ℕ → ℕ) (seen granted : List ℕ) (f : ℕ) → IsGranting flows line left seen granted → 0 < left f → ((g : ℕ) → Contains seen g → ComesBefore flows line g f) →
+pub granted_too : (flows : List Flow) (line : List ℕ) (left : ℕ → ℕ) (seen granted : List ℕ) (f : ℕ) → IsGranting flows line left seen granted → 0 < left f →
+    ((g : ℕ) → Contains seen g → ComesBefore flows line g f) →
     ((g : ℕ) → Contains granted g → SharesPort flows g f → ⊥) → IsGranting flows line left (seen ++ f ∷ []) (granted ++ f ∷ [])
 granted_too flows line left seen granted f so_far some later clear = record {
   inside = λ g has. elim (Contains-push_cases granted f g has) [
@@ -132,24 +135,33 @@ granted_too flows line left seen granted f so_far some later clear = record {
 -- ---- the next flow in order
 
 -- the next flow owes nothing, or shares a port with a granted one
-pub skip_next : (flows : List Flow) (line : List ℕ) (left : ℕ → ℕ) (ranked granted : List ℕ) (k : ℕ) → k < length ranked → IsRanked flows line ranked → IsGranting flows line left (take k ranked) granted →
+pub skip_next : (flows : List Flow) (line : List ℕ) (left : ℕ → ℕ) (ranked granted : List ℕ) (k : ℕ) → k < length ranked → IsRanked flows line ranked →
+    IsGranting flows line left (take k ranked) granted →
     (0 < left (get_or ranked k 0) → (g : ℕ) × Contains granted g × SharesPort flows g (get_or ranked k 0)) → IsGranting flows line left (take (k + 1) ranked) granted
-skip_next flows line left ranked granted k lt order so_far blocking = subst (λ (xs : List ℕ). IsGranting flows line left xs granted) (sym (take_more ranked k 0 lt)) (passed_over flows line left (take k ranked) granted (get_or ranked k 0) so_far (λ some.
+skip_next flows line left ranked granted k lt order so_far blocking =
+    subst (λ (xs : List ℕ). IsGranting flows line left xs granted) (sym (take_more ranked k 0 lt))
+    (passed_over flows line left (take k ranked) granted (get_or ranked k 0) so_far (λ some.
     let (g, has, shares) = blocking some in
     (g, has, earlier (ComesBefore flows line) ranked k order.in_order lt g (so_far.inside g has), shares)))
 
 -- the next flow owes, and shares no port with a granted one
-pub grant_next : (flows : List Flow) (line : List ℕ) (left : ℕ → ℕ) (ranked granted after : List ℕ) (k : ℕ) → k < length ranked → IsRanked flows line ranked → after ≡ granted ++ get_or ranked k 0 ∷ [] → IsGranting flows line left (take k ranked) granted → 0 < left (get_or ranked k 0) →
+pub grant_next : (flows : List Flow) (line : List ℕ) (left : ℕ → ℕ) (ranked granted after : List ℕ) (k : ℕ) → k < length ranked → IsRanked flows line ranked →
+    after ≡ granted ++ get_or ranked k 0 ∷ [] → IsGranting flows line left (take k ranked) granted → 0 < left (get_or ranked k 0) →
     ((g : ℕ) → Contains granted g → SharesPort flows g (get_or ranked k 0) → ⊥) → IsGranting flows line left (take (k + 1) ranked) after
-grant_next flows line left ranked granted after k lt order e so_far some clear = subst (λ (xs : List ℕ). IsGranting flows line left xs after) (sym (take_more ranked k 0 lt)) (subst (λ (xs : List ℕ). IsGranting flows line left (take k ranked ++ get_or ranked k 0 ∷ []) xs) (sym e)
+grant_next flows line left ranked granted after k lt order e so_far some clear =
+    subst (λ (xs : List ℕ). IsGranting flows line left xs after) (sym (take_more ranked k 0 lt))
+    (subst (λ (xs : List ℕ). IsGranting flows line left (take k ranked ++ get_or ranked k 0 ∷ []) xs) (sym e)
     (granted_too flows line left (take k ranked) granted (get_or ranked k 0) so_far some (earlier (ComesBefore flows line) ranked k order.in_order lt) clear))
 
 -- its port is in use then
-pub use_next : (port_of : ℕ → ℕ) (slot : ℕ) (granted after last : List ℕ) (f : ℕ) → after ≡ granted ++ f ∷ [] → IsInUse port_of slot granted last → port_of f < length last → IsInUse port_of slot after (set last (port_of f) slot)
-use_next port_of slot granted after last f e use' lt = subst (λ (xs : List ℕ). IsInUse port_of slot xs (set last (port_of f) slot)) (sym e) (more_in_use port_of slot granted last f use' lt)
+pub use_next : (port_of : ℕ → ℕ) (slot : ℕ) (granted after last : List ℕ) (f : ℕ) → after ≡ granted ++ f ∷ [] → IsInUse port_of slot granted last → port_of f < length last →
+    IsInUse port_of slot after (set last (port_of f) slot)
+use_next port_of slot granted after last f e use' lt =
+    subst (λ (xs : List ℕ). IsInUse port_of slot xs (set last (port_of f) slot)) (sym e) (more_in_use port_of slot granted last f use' lt)
 
 -- neither of its ports was in use, so it shares none with a granted flow
-pub shares_none : (flows : List Flow) (slot : ℕ) (granted ingress egress : List ℕ) (f : ℕ) → IsInUse (ingress_of flows) slot granted ingress → IsInUse (egress_of flows) slot granted egress → (get_or ingress (ingress_of flows f) 0 ≡ slot → ⊥) → (get_or egress (egress_of flows f) 0 ≡ slot → ⊥) →
+pub shares_none : (flows : List Flow) (slot : ℕ) (granted ingress egress : List ℕ) (f : ℕ) → IsInUse (ingress_of flows) slot granted ingress →
+    IsInUse (egress_of flows) slot granted egress → (get_or ingress (ingress_of flows f) 0 ≡ slot → ⊥) → (get_or egress (egress_of flows f) 0 ≡ slot → ⊥) →
     (g : ℕ) → Contains granted g → SharesPort flows g f → ⊥
 shares_none flows slot granted ingress egress f in' out in_free out_free g has (inl e) = in_free (ap (λ (p : ℕ). get_or ingress p 0) (sym e) ∙ in'.used g has)
 shares_none flows slot granted ingress egress f in' out in_free out_free g has (inr e) = out_free (ap (λ (p : ℕ). get_or egress p 0) (sym e) ∙ out.used g has)
@@ -162,15 +174,18 @@ flips x y = elim (cases_eq x y) [
   | inr ne ↦ ne_eqb x y ne ∙ sym (ne_eqb y x (λ e. ne (sym e)))
 ]
 
-pub sorted_grants : (flows : List Flow) (line : List ℕ) (left : ℕ → ℕ) (ranked granted sorted : List ℕ) → IsRanked flows line ranked → IsGranting flows line left ranked granted → IsPermutation granted sorted → IsSorted nat_cmp sorted →
+pub sorted_grants : (flows : List Flow) (line : List ℕ) (left : ℕ → ℕ) (ranked granted sorted : List ℕ) → IsRanked flows line ranked → IsGranting flows line left ranked granted →
+    IsPermutation granted sorted → IsSorted nat_cmp sorted →
     IsGrants flows line left sorted
 sorted_grants flows line left ranked granted sorted order all moved ascends =
     let back = λ (f : ℕ) (has : Contains sorted f). Contains-permutation sorted granted f (IsPermutation-sym granted sorted moved) has in
     let there = λ (f : ℕ) (has : Contains granted f). Contains-permutation granted sorted f moved has in
     record {
-      ascending = IsStrictlyIncreasing-from_distinct sorted (IsNonDecreasingBy-from_sort (λ (x : ℕ). x) sorted ascends) (IsDistinct-IsPermutation eqb flips granted sorted moved (IsDistinct-from_AllPairs Decides-eqb granted all.once));
+      ascending = IsStrictlyIncreasing-from_distinct sorted (IsNonDecreasingBy-from_sort (λ (x : ℕ). x) sorted ascends)
+          (IsDistinct-IsPermutation eqb flips granted sorted moved (IsDistinct-from_AllPairs Decides-eqb granted all.once));
       flow = all_of_members (λ f. f < length flows) sorted (λ f has. All-contains (λ g. g < length flows) ranked f order.flow (all.inside f (back f has)));
-      in_line = all_of_members (λ f. Contains line (coflow_of flows f)) sorted (λ f has. All-contains (λ g. Contains line (coflow_of flows g)) ranked f order.in_line (all.inside f (back f has)));
+      in_line = all_of_members (λ f. Contains line (coflow_of flows f)) sorted
+          (λ f has. All-contains (λ g. Contains line (coflow_of flows g)) ranked f order.in_line (all.inside f (back f has)));
       owed = λ f has. all.owed f (back f has);
       free = λ f has (g, in', before, shares). all.free f g (back f has) (back g in') before shares;
       rest = λ f lt in' some. elim (all.rest f (order.all f lt in') some) [

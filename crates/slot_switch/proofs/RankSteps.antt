@@ -25,11 +25,13 @@ number_within a n x (k, lt, at) =
     (omega (arith, e), omega (arith, e, small))
 
 -- a range behind a list, where its numbers come later
-range_later : (R : ℕ → ℕ → Type 0) (xs : List ℕ) (a n : ℕ) → AllPairs R xs → ((x y : ℕ) → Contains xs x → a ≤ y → y < a + n → R x y) → ((x y : ℕ) → a ≤ x → x < y → y < a + n → R x y) → AllPairs R (xs ++ range_with_len a n)
+range_later : (R : ℕ → ℕ → Type 0) (xs : List ℕ) (a n : ℕ) → AllPairs R xs → ((x y : ℕ) → Contains xs x → a ≤ y → y < a + n → R x y) →
+    ((x y : ℕ) → a ≤ x → x < y → y < a + n → R x y) → AllPairs R (xs ++ range_with_len a n)
 range_later R xs a zero pairs across along = subst (λ (ys : List ℕ). AllPairs R ys) (sym (append-nil xs)) pairs
 range_later R xs a (suc n) pairs across along =
     let e : suc n ≡ n + 1 = omega arith in
-    let longer : (xs ++ range_with_len a n) ++ (a + n) ∷ [] ≡ xs ++ range_with_len a (suc n) = append_assoc xs (range_with_len a n) ((a + n) ∷ []) ∙ ap (λ (ys : List ℕ). xs ++ ys) (sym (range_more a n (a + n) refl) ∙ ap (range_with_len a) (sym e)) in
+    let longer : (xs ++ range_with_len a n) ++ (a + n) ∷ [] ≡ xs ++ range_with_len a (suc n) = append_assoc xs (range_with_len a n) ((a + n) ∷ []) ∙
+    ap (λ (ys : List ℕ). xs ++ ys) (sym (range_more a n (a + n) refl) ∙ ap (range_with_len a) (sym e)) in
     let so_far = range_later R xs a n pairs (λ x y has le lt. across x y has le (omega arith)) (λ x y le less lt. along x y le less (omega arith)) in
     subst (λ (ys : List ℕ). AllPairs R ys) longer (all_pairs_push R (xs ++ range_with_len a n) (a + n) so_far (λ k d lt.
     elim (Contains-append_cases xs (range_with_len a n) (get_or (xs ++ range_with_len a n) k d) (Contains-get_or (xs ++ range_with_len a n) k d lt)) [
@@ -73,14 +75,17 @@ place_at line k once lt =
     ]
 
 -- the flows of the next coflow are those of its range
-range_flow : (flows : List Flow) (line starts : List ℕ) (k f : ℕ) → IsStarts flows starts → IsDistinct line → k < length line → get_or line k 0 + 1 < length starts → get_or starts (get_or line k 0) 0 ≤ f →
-    f < get_or starts (get_or line k 0) 0 + (get_or starts (get_or line k 0 + 1) 0 - get_or starts (get_or line k 0) 0) → (f < length flows) × (place_in line (coflow_of flows f) ≡ k)
+range_flow : (flows : List Flow) (line starts : List ℕ) (k f : ℕ) → IsStarts flows starts → IsDistinct line → k < length line → get_or line k 0 + 1 < length starts →
+    get_or starts (get_or line k 0) 0 ≤ f →
+    f < get_or starts (get_or line k 0) 0 + (get_or starts (get_or line k 0 + 1) 0 - get_or starts (get_or line k 0) 0) →
+    (f < length flows) × (place_in line (coflow_of flows f) ≡ k)
 range_flow flows line starts k f at once lt in' low high =
     let within : get_or starts (get_or line k 0 + 1) 0 ≤ length flows = at.within (get_or line k 0 + 1) 0 in' in
     let below : f < get_or starts (get_or line k 0 + 1) 0 = omega arith in
     (omega arith, ap (place_in line) (at.own (get_or line k 0) f in' low below) ∙ place_at line k once lt)
 
-pub rank_more : (flows : List Flow) (line starts ranked : List ℕ) (k : ℕ) → IsStarts flows starts → IsDistinct line → k < length line → get_or line k 0 + 1 < length starts → IsRanking flows line k ranked →
+pub rank_more : (flows : List Flow) (line starts ranked : List ℕ) (k : ℕ) → IsStarts flows starts → IsDistinct line → k < length line → get_or line k 0 + 1 < length starts →
+    IsRanking flows line k ranked →
     IsRanking flows line (k + 1) (ranked ++ range_with_len (get_or starts (get_or line k 0) 0) (get_or starts (get_or line k 0 + 1) 0 - get_or starts (get_or line k 0) 0))
 rank_more flows line starts ranked k at once lt in' so_far =
     let c = get_or line k 0 in
@@ -115,7 +120,8 @@ rank_more flows line starts ranked k at once lt in' so_far =
 pub all_ranked : (flows : List Flow) (line ranked : List ℕ) (k : ℕ) → length line ≤ k → k ≤ length line → IsRanking flows line k ranked → IsRanked flows line ranked
 all_ranked flows line ranked k le ge r = record {
   flow = all_of_members (λ f. f < length flows) ranked r.flow;
-  in_line = all_of_members (λ f. Contains line (coflow_of flows f)) ranked (λ f has. let low : place_in line (coflow_of flows f) < length line = omega (arith, r.placed f has, ge) in (place_in line (coflow_of flows f), low, at_place line (coflow_of flows f) low));
+  in_line = all_of_members (λ f. Contains line (coflow_of flows f)) ranked (λ f has. let low : place_in line (coflow_of flows f) < length line =
+      omega (arith, r.placed f has, ge) in (place_in line (coflow_of flows f), low, at_place line (coflow_of flows f) low));
   in_order = r.in_order;
   all = λ f lt has. r.all f lt (omega (arith, place_of_member line (coflow_of flows f) has, le));
 }

@@ -1,5 +1,6 @@
 -- The served schedule, one run after another.
-use Rattle.std.proofs.Common.{◌≡◌, ℕ, ◌+◌, ◌-◌, ◌^◌, ◌≤◌, ◌<◌, ◌==◌, inl, inr, zero, suc, Bool, true, false, cond, List, [], ◌∷◌, ◌++◌, length, get_or, replicate, Contains, refl, sym, ap, ◌∙◌, arith, length-append, append-nil, append_assoc}
+use Rattle.std.proofs.Common.{◌≡◌, ℕ, ◌+◌, ◌-◌, ◌^◌, ◌≤◌, ◌<◌, ◌==◌, inl, inr, zero, suc, Bool, true, false, cond, List, [], ◌∷◌, ◌++◌, length, get_or, replicate, Contains, refl}
+use Rattle.std.proofs.Common.{sym, ap, ◌∙◌, arith, length-append, append-nil, append_assoc}
 use Rattle.std.specs.Prelude.{sum_by, map}
 use Rattle.std.proofs.lemmas.List.{get_or-map, get_or_past, length-map, length-replicate, get_or_default}
 use Rattle.std.proofs.lemmas.List.Elements.{All-contains}
@@ -22,7 +23,8 @@ use Rattle.slot_switch.proofs.ServeSteps.{some_grant, units_in_all}
 -- ---- a run of slots
 
 -- what is left after a run of equal slots
-pub left_after_run : (flows : List Flow) (slots : List (List ℕ)) (granted : List ℕ) (n f : ℕ) → left_after flows (slots ++ replicate n granted) f ≡ left_after flows slots f - cond (holds granted f) n 0
+pub left_after_run : (flows : List Flow) (slots : List (List ℕ)) (granted : List ℕ) (n f : ℕ) →
+    left_after flows (slots ++ replicate n granted) f ≡ left_after flows slots f - cond (holds granted f) n 0
 left_after_run flows slots granted zero f =
     omega (arith, ap (λ (s : List (List ℕ)). left_after flows s f) (append-nil slots), nothing (holds granted f)) where
       nothing : (b : Bool) → cond {A = ℕ} b 0 0 ≡ 0
@@ -30,7 +32,13 @@ left_after_run flows slots granted zero f =
       nothing false = refl
 left_after_run flows slots granted (suc n) f =
     let again : slots ++ replicate (suc n) granted ≡ slots ++ granted ∷ [] ++ replicate n granted = sym (append_assoc slots (granted ∷ []) (replicate n granted)) in
-    omega (arith, ap (λ (s : List (List ℕ)). left_after flows s f) again, left_after_run flows (slots ++ granted ∷ []) granted n f, times_push slots granted f, parts (holds granted f)) where
+    omega (
+      arith,
+      ap (λ (s : List (List ℕ)). left_after flows s f) again,
+      left_after_run flows (slots ++ granted ∷ []) granted n f,
+      times_push slots granted f,
+      parts (holds granted f),
+    ) where
       parts : (b : Bool) → cond {A = ℕ} b (suc n) 0 ≡ cond b 1 0 + cond b n 0
       parts true = omega arith
       parts false = omega arith
@@ -65,7 +73,8 @@ first_granted : (granted : List ℕ) → 0 < length granted → Contains granted
 first_granted granted lt = (0, lt, sym (get_or_default granted 0 0 (get_or granted 0 0) lt))
 
 -- a run has a slot, where something is granted
-pub run_has_slot : (flows : List Flow) (line : List ℕ) (left : ℕ → ℕ) (granted : List ℕ) (n : ℕ) → IsGrants flows line left granted → IsLeastLeft left granted n → 0 < length granted → 1 ≤ n
+pub run_has_slot : (flows : List Flow) (line : List ℕ) (left : ℕ → ℕ) (granted : List ℕ) (n : ℕ) → IsGrants flows line left granted → IsLeastLeft left granted n →
+    0 < length granted → 1 ≤ n
 run_has_slot flows line left granted n grants least some =
     let (k, f, lt, at, is) = least.reached (λ e. omega (arith, some, ap (λ (xs : List ℕ). length xs) e)) in
     omega (arith, is, grants.owed f (k, lt, at))
@@ -73,7 +82,8 @@ run_has_slot flows line left granted n grants least some =
 within_left : (left : ℕ → ℕ) (granted : List ℕ) (n f : ℕ) → IsLeastLeft left granted n → Contains granted f → n ≤ left f
 within_left left granted n f least has = All-contains (λ f. n ≤ left f) granted f least.below has
 
-run_takes : (flows : List Flow) (line : List ℕ) (slots : List (List ℕ)) (granted : List ℕ) (n h : ℕ) → IsGrants flows line (left_after flows slots) granted → Contains granted h → n ≤ left_after flows slots h →
+run_takes : (flows : List Flow) (line : List ℕ) (slots : List (List ℕ)) (granted : List ℕ) (n h : ℕ) → IsGrants flows line (left_after flows slots) granted → Contains granted h →
+    n ≤ left_after flows slots h →
     left_sum flows (slots ++ replicate n granted) + n ≤ left_sum flows slots
 run_takes flows line slots granted n h grants has long =
     let ns = numbers_of flows in
@@ -82,15 +92,24 @@ run_takes flows line slots granted n h grants has long =
       arith,
       sum_mono (λ f. after f + cond (h == f) n 0) (left_after flows slots) ns (λ f _. at f),
       sum_add after (λ f. cond (h == f) n 0) ns,
-      picked_one h (λ _. n) ns (numbers_apart 0 (length flows)) (number_in 0 (length flows) h (omega arith) (omega (arith, All-contains (λ x. x < length flows) granted h grants.flow has))),
+      picked_one h (λ _. n) ns (numbers_apart 0 (length flows))
+          (number_in 0 (length flows) h (omega arith) (omega (arith, All-contains (λ x. x < length flows) granted h grants.flow has))),
     ) where
       at : (f : ℕ) → left_after flows (slots ++ replicate n granted) f + cond (h == f) n 0 ≤ left_after flows slots f
       at f = elim (cases_eq h f) [
-        | inl e ↦ omega (arith, left_after_run flows slots granted n f, ap {B = ℕ} (λ b. cond b n 0) (ap (holds granted) (sym e) ∙ any_in granted h has), ap {B = ℕ} (λ b. cond b n 0) (eq-eqb h f e), ap (left_after flows slots) e, long)
+        | inl e ↦ omega (
+          arith,
+          left_after_run flows slots granted n f,
+          ap {B = ℕ} (λ b. cond b n 0) (ap (holds granted) (sym e) ∙ any_in granted h has),
+          ap {B = ℕ} (λ b. cond b n 0) (eq-eqb h f e),
+          ap (left_after flows slots) e,
+          long,
+        )
         | inr ne ↦ omega (arith, left_after_run flows slots granted n f, ap {B = ℕ} (λ b. cond b n 0) (ne_eqb h f ne))
       ]
 
-pub serve_run : (flows : List Flow) (line : List ℕ) (slots : List (List ℕ)) (granted : List ℕ) (n : ℕ) → IsServing flows line slots → IsGrants flows line (left_after flows slots) granted → IsLeastLeft (left_after flows slots) granted n → 0 < length granted →
+pub serve_run : (flows : List Flow) (line : List ℕ) (slots : List (List ℕ)) (granted : List ℕ) (n : ℕ) → IsServing flows line slots →
+    IsGrants flows line (left_after flows slots) granted → IsLeastLeft (left_after flows slots) granted n → 0 < length granted →
     IsServing flows line (slots ++ replicate n granted) × (left_sum flows (slots ++ replicate n granted) < left_sum flows slots)
 serve_run flows line slots granted n now grants least some =
     let h = get_or granted 0 0 in
@@ -98,13 +117,15 @@ serve_run flows line slots granted n now grants least some =
     let one = run_has_slot flows line (left_after flows slots) granted n grants least some in
     let long : (g : ℕ) → Contains granted g → n ≤ left_after flows slots g = λ g in'. within_left (left_after flows slots) granted n g least in' in
     let less = run_takes flows line slots granted n h grants has (long h has) in
-    let longer : length (slots ++ replicate n granted) ≡ length slots + n = length-append slots (replicate n granted) ∙ ap (λ (m : ℕ). length slots + m) (length-replicate n granted) in (
+    let longer : length (slots ++ replicate n granted) ≡ length slots + n = length-append slots (replicate n granted) ∙
+    ap (λ (m : ℕ). length slots + m) (length-replicate n granted) in (
       record { so_far = run_goes_on flows line slots granted n h now.so_far grants has long; room = omega (arith, less, longer, now.room) },
       omega (arith, less, one),
     )
 
 -- the schedule stays within its limit
-pub run_is_short : (flows : List Flow) (line : List ℕ) (slots : List (List ℕ)) (granted : List ℕ) (n : ℕ) → IsServing flows line slots → IsGrants flows line (left_after flows slots) granted → IsLeastLeft (left_after flows slots) granted n → 0 < length granted →
+pub run_is_short : (flows : List Flow) (line : List ℕ) (slots : List (List ℕ)) (granted : List ℕ) (n : ℕ) → IsServing flows line slots →
+    IsGrants flows line (left_after flows slots) granted → IsLeastLeft (left_after flows slots) granted n → 0 < length granted →
     sum_by (λ (x : Flow). x.units) flows ≤ 2 ^ 40 → length slots + n ≤ 2199023255551
 run_is_short flows line slots granted n now grants least some few =
     let h = get_or granted 0 0 in
@@ -113,7 +134,8 @@ run_is_short flows line slots granted n now grants least some few =
     omega (arith, now.room, run_takes flows line slots granted n h grants has long, few, units_in_all flows)
 
 -- where nothing is granted, all is served
-pub all_served : (flows : List Flow) (line : List ℕ) (slots : List (List ℕ)) (granted : List ℕ) → ((f : ℕ) → f < length flows → Contains line (coflow_of flows f)) → IsServing flows line slots → IsGrants flows line (left_after flows slots) granted → length granted ≡ 0 →
+pub all_served : (flows : List Flow) (line : List ℕ) (slots : List (List ℕ)) (granted : List ℕ) → ((f : ℕ) → f < length flows → Contains line (coflow_of flows f)) →
+    IsServing flows line slots → IsGrants flows line (left_after flows slots) granted → length granted ≡ 0 →
     IsServed flows line slots
 all_served flows line slots granted named now grants none = record {
   so_far = now.so_far;

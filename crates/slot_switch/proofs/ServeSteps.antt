@@ -1,5 +1,6 @@
 -- The served schedule, one slot after another.
-use Rattle.std.proofs.Common.{◌≡◌, ℕ, ◌+◌, ◌-◌, ◌≤◌, ◌<◌, inl, inr, cond, List, [], ◌∷◌, ◌++◌, length, get_or, take, drop, Contains, refl, sym, ap, subst, ◌∙◌, arith, zero, suc, length-append}
+use Rattle.std.proofs.Common.{◌≡◌, ℕ, ◌+◌, ◌-◌, ◌≤◌, ◌<◌, inl, inr, cond, List, [], ◌∷◌, ◌++◌, length, get_or, take, drop, Contains, refl, sym, ap, subst, ◌∙◌, arith, zero, suc}
+use Rattle.std.proofs.Common.{length-append}
 use Rattle.std.specs.Prelude.{All, Any, sum_by, map}
 use Rattle.std.specs.List.{range_with_len}
 use Rattle.std.proofs.lemmas.List.{take_all, take_at, get_or_default, get_or-map, length-map}
@@ -42,17 +43,20 @@ sum_less a b (x ∷ xs) h le has lt = elim (first_or_tail x xs h has) [
   | inr h' ↦ omega (arith, sum_by-cons a x xs, sum_by-cons b x xs, le x, sum_less a b xs h le h' lt)
 ]
 
-pub some_grant : (flows : List Flow) (line : List ℕ) (left : ℕ → ℕ) (granted : List ℕ) (f : ℕ) → IsGrants flows line left granted → f < length flows → Contains line (coflow_of flows f) → 0 < left f → (h : ℕ) × Contains granted h
+pub some_grant : (flows : List Flow) (line : List ℕ) (left : ℕ → ℕ) (granted : List ℕ) (f : ℕ) → IsGrants flows line left granted → f < length flows →
+    Contains line (coflow_of flows f) → 0 < left f → (h : ℕ) × Contains granted h
 some_grant flows line left granted f grants lt in' some = elim (grants.rest f lt in' some) [
   | inl has ↦ (f, has)
   | inr (h, has, before, shares) ↦ (h, has)
 ]
 
-one_slot_less : (flows : List Flow) (line : List ℕ) (slots : List (List ℕ)) (granted : List ℕ) (h : ℕ) → IsGrants flows line (left_after flows slots) granted → Contains granted h → left_sum flows (slots ++ granted ∷ []) < left_sum flows slots
+one_slot_less : (flows : List Flow) (line : List ℕ) (slots : List (List ℕ)) (granted : List ℕ) (h : ℕ) → IsGrants flows line (left_after flows slots) granted → Contains granted h →
+    left_sum flows (slots ++ granted ∷ []) < left_sum flows slots
 one_slot_less flows line slots granted h grants has =
     let here = ap {B = ℕ} (λ b. cond b 1 0) (any_in granted h has) in
     sum_less (left_after flows (slots ++ granted ∷ [])) (left_after flows slots) (numbers_of flows) h (λ x. omega (arith, times_push slots granted x))
-    (number_in 0 (length flows) h (omega arith) (omega (arith, All-contains (λ x. x < length flows) granted h grants.flow has))) (omega (arith, times_push slots granted h, here, grants.owed h has))
+    (number_in 0 (length flows) h (omega arith) (omega (arith, All-contains (λ x. x < length flows) granted h grants.flow has)))
+    (omega (arith, times_push slots granted h, here, grants.owed h has))
 
 -- ---- the state between two slots
 
@@ -67,7 +71,8 @@ pub record IsServing (flows : List Flow) (line left : List ℕ) (slots : List (L
   pub ingress_free : All (λ last. last < length slots + 1) ingress
   pub egress_free : All (λ last. last < length slots + 1) egress
 
-pub nothing_served : (flows : List Flow) (line left : List ℕ) (ports : ℕ) (ingress egress : List ℕ) → left ≡ map (λ (x : Flow). x.units) flows → length ingress ≡ ports → length egress ≡ ports → All (λ last. last < 1) ingress → All (λ last. last < 1) egress →
+pub nothing_served : (flows : List Flow) (line left : List ℕ) (ports : ℕ) (ingress egress : List ℕ) → left ≡ map (λ (x : Flow). x.units) flows → length ingress ≡ ports →
+    length egress ≡ ports → All (λ last. last < 1) ingress → All (λ last. last < 1) egress →
     IsServing flows line left [] ports ingress egress
 nothing_served flows line left ports ingress egress e in_ports out_ports in_free out_free = record {
   so_far = record { grants = λ t lt. absurd (omega arith); owed = λ t lt. absurd (omega arith) };
@@ -80,15 +85,20 @@ nothing_served flows line left ports ingress egress e in_ports out_ports in_free
   egress_free = out_free;
 }
 
-pub some_owes : (flows : List Flow) (line left : List ℕ) (slots : List (List ℕ)) (ports : ℕ) (ingress egress : List ℕ) (f : ℕ) → IsServing flows line left slots ports ingress egress → f < length left → 0 < get_or left f 0 → (g : ℕ) × (g < length flows) × (0 < left_after flows slots g)
+pub some_owes : (flows : List Flow) (line left : List ℕ) (slots : List (List ℕ)) (ports : ℕ) (ingress egress : List ℕ) (f : ℕ) →
+    IsServing flows line left slots ports ingress egress → f < length left → 0 < get_or left f 0 → (g : ℕ) × (g < length flows) × (0 < left_after flows slots g)
 some_owes flows line left slots ports ingress egress f now lt some = let lt' : f < length flows = omega (arith, lt, now.count) in (f, lt', omega (arith, some, now.units f lt'))
 
 -- the grants for what the table tells are those for what the slots left
-grants_now : (flows : List Flow) (line left : List ℕ) (slots : List (List ℕ)) (granted : List ℕ) → ((f : ℕ) → f < length flows → get_or left f 0 ≡ left_after flows slots f) → IsGrants flows line (λ f. get_or left f 0) granted → IsGrants flows line (left_after flows slots) granted
-grants_now flows line left slots granted units grants = same_grants flows line (λ f. get_or left f 0) (left_after flows slots) granted (λ f lt some. omega (arith, some, units f lt)) (λ f lt some. omega (arith, some, units f lt)) grants
+grants_now : (flows : List Flow) (line left : List ℕ) (slots : List (List ℕ)) (granted : List ℕ) → ((f : ℕ) → f < length flows → get_or left f 0 ≡ left_after flows slots f) →
+    IsGrants flows line (λ f. get_or left f 0) granted → IsGrants flows line (left_after flows slots) granted
+grants_now flows line left slots granted units grants =
+    same_grants flows line (λ f. get_or left f 0) (left_after flows slots) granted (λ f lt some. omega (arith, some, units f lt)) (λ f lt some. omega (arith, some, units f lt))
+    grants
 
 pub serve_more : (flows : List Flow) (line left after : List ℕ) (slots : List (List ℕ)) (ports : ℕ) (ingress egress in_after out_after : List ℕ) (granted : List ℕ) (f : ℕ) →
-    ((g : ℕ) → g < length flows → 0 < units_of flows g → Contains line (coflow_of flows g)) → IsServing flows line left slots ports ingress egress → f < length left → 0 < get_or left f 0 →
+    ((g : ℕ) → g < length flows → 0 < units_of flows g → Contains line (coflow_of flows g)) → IsServing flows line left slots ports ingress egress → f < length left →
+    0 < get_or left f 0 →
     IsGrants flows line (λ g. get_or left g 0) granted → length after ≡ length left → ((g : ℕ) → get_or after g 0 ≡ get_or left g 0 - cond (holds granted g) 1 0) →
     length in_after ≡ length ingress → length out_after ≡ length egress → All (λ last. last ≤ length slots + 1) in_after → All (λ last. last ≤ length slots + 1) out_after →
     IsServing flows line after (slots ++ granted ∷ []) ports in_after out_after × (left_sum flows (slots ++ granted ∷ []) < left_sum flows slots)
@@ -112,7 +122,8 @@ serve_more flows line left after slots ports ingress egress in_after out_after g
       less,
     )
 
-pub all_served : (flows : List Flow) (line left : List ℕ) (slots : List (List ℕ)) (ports : ℕ) (ingress egress : List ℕ) → IsServing flows line left slots ports ingress egress → ((f : ℕ) → f < length left → 0 < get_or left f 0 → ⊥) → IsServed flows line slots
+pub all_served : (flows : List Flow) (line left : List ℕ) (slots : List (List ℕ)) (ports : ℕ) (ingress egress : List ℕ) → IsServing flows line left slots ports ingress egress →
+    ((f : ℕ) → f < length left → 0 < get_or left f 0 → ⊥) → IsServed flows line slots
 all_served flows line left slots ports ingress egress now none = record {
   so_far = now.so_far;
   ended = λ f lt. elim (zero_or_more (left_after flows slots f)) [
@@ -123,20 +134,25 @@ all_served flows line left slots ports ingress egress now none = record {
 
 -- ---- the same for tables that are lent
 
-pub lent_grants : (flows : List Flow) (line ranked lent_ranked left lent granted : List ℕ) → lent_ranked ≡ ranked → lent ≡ left → IsRanked flows line ranked → ((l : List ℕ) → IsRanked flows l lent_ranked → IsGrants flows l (λ f. get_or lent f 0) granted) →
+pub lent_grants : (flows : List Flow) (line ranked lent_ranked left lent granted : List ℕ) → lent_ranked ≡ ranked → lent ≡ left → IsRanked flows line ranked →
+    ((l : List ℕ) → IsRanked flows l lent_ranked → IsGrants flows l (λ f. get_or lent f 0) granted) →
     IsGrants flows line (λ f. get_or left f 0) granted
 lent_grants flows line ranked lent_ranked left lent granted e same order grants =
     subst (λ (xs : List ℕ). IsGrants flows line (λ f. get_or xs f 0) granted) same (grants line (subst (λ (xs : List ℕ). IsRanked flows line xs) (sym e) order))
 
-pub lent_owed : (flows : List Flow) (line left lent granted lent_granted : List ℕ) → lent ≡ left → lent_granted ≡ granted → IsGrants flows line (λ f. get_or left f 0) granted → All (λ f. 0 < get_or lent f 0) lent_granted
+pub lent_owed : (flows : List Flow) (line left lent granted lent_granted : List ℕ) → lent ≡ left → lent_granted ≡ granted → IsGrants flows line (λ f. get_or left f 0) granted →
+    All (λ f. 0 < get_or lent f 0) lent_granted
 lent_owed flows line left lent granted lent_granted e same grants =
-    subst (λ (xs : List ℕ). All (λ f. 0 < get_or lent f 0) xs) (sym same) (subst (λ (xs : List ℕ). All (λ f. 0 < get_or xs f 0) granted) (sym e) (all_of_members (λ f. 0 < get_or left f 0) granted grants.owed))
+    subst (λ (xs : List ℕ). All (λ f. 0 < get_or lent f 0) xs) (sym same)
+    (subst (λ (xs : List ℕ). All (λ f. 0 < get_or xs f 0) granted) (sym e) (all_of_members (λ f. 0 < get_or left f 0) granted grants.owed))
 
-pub lent_within : (flows : List Flow) (line left lent granted lent_granted : List ℕ) → lent ≡ left → lent_granted ≡ granted → length left ≡ length flows → IsGrants flows line (λ f. get_or left f 0) granted → All (λ f. f < length lent) lent_granted
+pub lent_within : (flows : List Flow) (line left lent granted lent_granted : List ℕ) → lent ≡ left → lent_granted ≡ granted → length left ≡ length flows →
+    IsGrants flows line (λ f. get_or left f 0) granted → All (λ f. f < length lent) lent_granted
 lent_within flows line left lent granted lent_granted e same count grants =
     subst (λ (xs : List ℕ). All (λ f. f < length lent) xs) (sym same) (λ k d lt. omega (arith, ap (λ (xs : List ℕ). length xs) e, count, grants.flow k d lt))
 
-pub lent_units : (left lent after granted lent_granted : List ℕ) → lent ≡ left → lent_granted ≡ granted → ((f : ℕ) → get_or after f 0 ≡ get_or lent f 0 - cond (holds lent_granted f) 1 0) → (f : ℕ) → get_or after f 0 ≡ get_or left f 0 - cond (holds granted f) 1 0
+pub lent_units : (left lent after granted lent_granted : List ℕ) → lent ≡ left → lent_granted ≡ granted →
+    ((f : ℕ) → get_or after f 0 ≡ get_or lent f 0 - cond (holds lent_granted f) 1 0) → (f : ℕ) → get_or after f 0 ≡ get_or left f 0 - cond (holds granted f) 1 0
 lent_units left lent after granted lent_granted e same units f =
     units f ∙ ap (λ (xs : List ℕ). get_or xs f 0 - cond (holds lent_granted f) 1 0) e ∙ ap (λ (xs : List ℕ). get_or left f 0 - cond (holds xs f) 1 0) same
 
@@ -151,13 +167,16 @@ pub none_owes : (left lent : List ℕ) → lent ≡ left → (Any (λ units. 0 <
 none_owes left lent e none f lt some =
     none (subst (λ (xs : List ℕ). Any (λ units. 0 < units) xs) (sym e) (f, get_or left f 0, lt, get_or_default left f (get_or left f 0) 0 lt, some))
 
-pub same_state : (flows : List Flow) (line left left_is : List ℕ) (slots slots_are : List (List ℕ)) (ports : ℕ) (ingress ingress_is egress egress_is : List ℕ) → left_is ≡ left → slots_are ≡ slots → ingress_is ≡ ingress → egress_is ≡ egress →
+pub same_state : (flows : List Flow) (line left left_is : List ℕ) (slots slots_are : List (List ℕ)) (ports : ℕ) (ingress ingress_is egress egress_is : List ℕ) → left_is ≡ left →
+    slots_are ≡ slots → ingress_is ≡ ingress → egress_is ≡ egress →
     IsServing flows line left slots ports ingress egress → IsServing flows line left_is slots_are ports ingress_is egress_is
 same_state flows line left left_is slots slots_are ports ingress ingress_is egress egress_is el es ei ee now =
     subst (λ (xs : List ℕ). IsServing flows line left_is slots_are ports ingress_is xs) (sym ee)
     (subst (λ (xs : List ℕ). IsServing flows line left_is slots_are ports xs egress) (sym ei)
-    (subst (λ (xs : List (List ℕ)). IsServing flows line left_is xs ports ingress egress) (sym es) (subst (λ (xs : List ℕ). IsServing flows line xs slots ports ingress egress) (sym el) now)))
+    (subst (λ (xs : List (List ℕ)). IsServing flows line left_is xs ports ingress egress) (sym es)
+    (subst (λ (xs : List ℕ). IsServing flows line xs slots ports ingress egress) (sym el) now)))
 
 -- there are no more slots than units
-pub slots_are_few : (flows : List Flow) (line left : List ℕ) (slots : List (List ℕ)) (ports : ℕ) (ingress egress : List ℕ) → IsServing flows line left slots ports ingress egress → sum_by (λ (x : Flow). x.units) flows ≤ 1099511627776 → length slots ≤ 1099511627776
+pub slots_are_few : (flows : List Flow) (line left : List ℕ) (slots : List (List ℕ)) (ports : ℕ) (ingress egress : List ℕ) → IsServing flows line left slots ports ingress egress →
+    sum_by (λ (x : Flow). x.units) flows ≤ 1099511627776 → length slots ≤ 1099511627776
 slots_are_few flows line left slots ports ingress egress now few = omega (arith, now.room, units_in_all flows, few)

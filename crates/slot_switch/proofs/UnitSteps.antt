@@ -13,7 +13,8 @@ use Rattle.slot_switch.proofs.Lists.{earlier, or_not}
 
 -- an ascending list holds a number once
 pub not_before : (granted : List ℕ) (k : ℕ) → IsStrictlyIncreasing granted → k < length granted → holds (take k granted) (get_or granted k 0) ≡ false
-not_before granted k up lt = any_not (take k granted) (get_or granted k 0) (λ has. let less : get_or granted k 0 < get_or granted k 0 = earlier (λ (x : ℕ) (y : ℕ). x < y) granted k (AllPairs-from_increasing granted up) lt (get_or granted k 0) has in omega (arith, less))
+not_before granted k up lt = any_not (take k granted) (get_or granted k 0) (λ has. let less : get_or granted k 0 < get_or granted k 0 =
+    earlier (λ (x : ℕ) (y : ℕ). x < y) granted k (AllPairs-from_increasing granted up) lt (get_or granted k 0) has in omega (arith, less))
 
 pub has_unit : (left old granted : List ℕ) (k : ℕ) → IsStrictlyIncreasing granted → All (λ f. 0 < get_or old f 0) granted → k < length granted →
     ((f : ℕ) → get_or left f 0 ≡ get_or old f 0 - cond (holds (take k granted) f) 1 0) → 1 ≤ get_or left (get_or granted k 0) 0

@@ -27,7 +27,8 @@ pub fn grants_of_slot(
     requires egress_in_range { All (λ (x : Flow). x.egress < length egress.old) flows.now }
     requires ingress_is_free { All (λ last. last < slot) ingress.old }
     requires egress_is_free { All (λ last. last < slot) egress.old }
-    ensures grants { IfOk result (λ granted. (line : List ℕ) → IsRanked flows.now line ranked.now → IsGrants flows.now line (λ f. slice_index left.now f) granted.items) }
+    ensures grants { IfOk result (λ granted. (line : List ℕ) → IsRanked flows.now line ranked.now →
+        IsGrants flows.now line (λ f. slice_index left.now f) granted.items) }
     ensures ingress { All (λ last. last ≤ slot) ingress.new }
     ensures egress { All (λ last. last ≤ slot) egress.new }
 {

@@ -1,4 +1,4 @@
-// The schedule that serves an order of coflows on the big switch.
+//! The schedule that serves an order of coflows on the big switch.
 #![tactic(auto)]
 
 mod grants;

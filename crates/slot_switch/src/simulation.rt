@@ -1,5 +1,6 @@
 //! The serving of an order, run after run.
 ghost use Rattle.std.specs.Prelude.{◌≡◌, ℕ, ◌+◌, ◌<◌, ◌≤◌, ◌^◌, [], All, Contains, IfOk, length, map, sum_by};
+ghost use Rattle.coflow_units.specs.declared.limits.TheConstants.{MAX_FLOWS, MAX_UNITS};
 ghost use Rattle.coflow_units.specs.declared.fabric.Flow.{Flow};
 ghost use Rattle.coflow_units.specs.Flows.{IsDistinct, coflow_of};
 ghost use Rattle.coflow_units.specs.Served.{IsServed, left_after};
@@ -40,8 +41,8 @@ fn serve(
     requires ingress { All (λ (x : Flow). x.ingress < ports) flows.now }
     requires egress { All (λ (x : Flow). x.egress < ports) flows.now }
     requires few_ports { ports + ports < 2 ^ 32 }
-    requires few { length flows.now ≤ 2 ^ 20 }
-    requires units { sum_by (λ (x : Flow). x.units) flows.now ≤ 2 ^ 40 }
+    requires few { length flows.now ≤ MAX_FLOWS }
+    requires units { sum_by (λ (x : Flow). x.units) flows.now ≤ MAX_UNITS }
     requires distinct { IsDistinct order.now }
     requires known { All (λ c. c + 1 < length starts.now) order.now }
     requires all { (f : ℕ) → f < length flows.now → Contains order.now (coflow_of flows.now f) }
@@ -70,7 +71,7 @@ fn first_grants(
     requires ingress { All (λ (x : Flow). x.ingress < ports) flows.now }
     requires egress { All (λ (x : Flow). x.egress < ports) flows.now }
     requires few_ports { ports + ports < 2 ^ 32 }
-    requires few { length flows.now ≤ 2 ^ 20 }
+    requires few { length flows.now ≤ MAX_FLOWS }
     requires distinct { IsDistinct order.now }
     requires known { All (λ c. c + 1 < length starts.now) order.now }
     ensures { IfOk result (λ grants. IsSettled flows.now order.now (left_after flows.now []) grants) }

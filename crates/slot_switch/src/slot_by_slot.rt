@@ -1,5 +1,6 @@
 //! The schedule that serves an order.
 ghost use Rattle.std.specs.Prelude.{◌≡◌, ℕ, ◌<◌, ◌≤◌, ◌+◌, ◌-◌, ◌^◌, ◌↔◌, All, Any, Contains, IfOk, IsTrue, if◌then◌else◌, length, slice_index, sum_by};
+ghost use Rattle.coflow_units.specs.declared.limits.TheConstants.{MAX_UNITS};
 ghost use Rattle.std.specs.List.Sorted.{IsStrictlyIncreasing};
 ghost use Rattle.coflow_units.specs.declared.fabric.Flow.{Flow};
 ghost use Rattle.coflow_units.specs.Flows.{IsDistinct, coflow_of, units_of};
@@ -26,10 +27,11 @@ pub fn serve_slot_by_slot(
     requires starts { IsStarts flows.now starts.now }
     requires distinct { IsDistinct order.now }
     requires coflows { All (λ c. c + 1 < length starts.now) order.now }
-    requires named { (f : ℕ) → f < length flows.now → 0 < units_of flows.now f → Contains order.now (coflow_of flows.now f) }
+    requires named { (f : ℕ) → f < length flows.now → 0 < units_of flows.now f →
+        Contains order.now (coflow_of flows.now f) }
     requires ingress { All (λ (x : Flow). x.ingress < ports) flows.now }
     requires egress { All (λ (x : Flow). x.egress < ports) flows.now }
-    requires units { sum_by (λ (x : Flow). x.units) flows.now ≤ 2 ^ 40 }
+    requires units { sum_by (λ (x : Flow). x.units) flows.now ≤ MAX_UNITS }
     ensures served { IfOk result (λ schedule. IsServed flows.now order.now schedule) }
 {
     let ranked = ranked_flows(alloc, flows, starts, order)?;

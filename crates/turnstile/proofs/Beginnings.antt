@@ -43,10 +43,12 @@ module _ {E : Type 0} where
   longer_begins log xs ys a b = cond_both (nat_lt (length xs) (length ys)) ys xs (Begins log) (λ _. b) (λ _. a)
 
   pub longer_left : (xs ys : List E) → length xs ≤ length (longer xs ys)
-  longer_left xs ys = cond_both (nat_lt (length xs) (length ys)) ys xs (λ l. length xs ≤ length l) (λ lt. let m = ltb-true (length xs) (length ys) lt in omega arith) (λ _. omega arith)
+  longer_left xs ys = cond_both (nat_lt (length xs) (length ys)) ys xs (λ l. length xs ≤ length l) (λ lt. let m = ltb-true (length xs) (length ys) lt in
+      omega arith) (λ _. omega arith)
 
   pub longer_right : (xs ys : List E) → length ys ≤ length (longer xs ys)
-  longer_right xs ys = cond_both (nat_lt (length xs) (length ys)) ys xs (λ l. length ys ≤ length l) (λ _. omega arith) (λ lt. let m = ltb-false (length xs) (length ys) lt in omega arith)
+  longer_right xs ys = cond_both (nat_lt (length xs) (length ys)) ys xs (λ l. length ys ≤ length l) (λ _. omega arith) (λ lt. let m = ltb-false (length xs) (length ys) lt in
+      omega arith)
 
   -- of a list and one that goes on after it, the longer is the second
   pub longer_is : (xs ys : List E) → Begins ys xs → longer xs ys ≡ ys

@@ -50,9 +50,11 @@ module _ {T E C : Type 0} (by : E → ℕ) (entries : T → List E) (setting : T
       at_most_one (Waiting t) = omega arith
       at_most_one (InTurn t) = omega arith
 
-  -- What is known of a value and its list: the setting, which is that of the rule, that the list goes on after what the root and each seat that came back have seen, and that nobody else has an entry
+  -- What is known of a value and its list: the setting, which is that of the rule, that the list goes on after what the root and each seat that came back have seen, and that
+  -- nobody else has an entry
   abbrev pub Ended : Option C → List E → List (Returned E) → ℕ → T → Type 0
-  Ended said seen back made x = ((setting x ≡ c) × (said ≡ Some (setting x))) × GoesOn by (entries x) 0 seen × GoesOnForEach by (entries x) back × EachCameBack made back × NoneAbove by made (entries x)
+  Ended said seen back made x = ((setting x ≡ c) × (said ≡ Some (setting x))) × GoesOn by (entries x) 0 seen × GoesOnForEach by (entries x) back × EachCameBack made back ×
+      NoneAbove by made (entries x)
 
   -- what the value is, once all seats came back
   pub closes : (s : St) (id : ℕ) (v : V) → Rule s → get_elem? s.views id ≡ some v → v.role ≡ Root → v.stage ≡ Idle → v.made ≡ length v.back
@@ -74,7 +76,8 @@ module _ {T E C : Type 0} (by : E → ℕ) (entries : T → List E) (setting : T
         (
           (h.3, (r.each_setting id v at).0 (subst IsNumbered (sym is) tt) ∙ ap Some (sym h.3)),
           subst (λ l. GoesOn by l 0 v.seen) (sym h.2) mine.0,
-          All-weaker (λ (p : Returned E). GoesOn by r.log p.number p.seen × (r.seat_of p.number ≡ id) × (0 < p.number) × (p.number ≤ r.made)) (λ (p : Returned E). GoesOn by (entries h.0) p.number p.seen)
+          All-weaker (λ (p : Returned E). GoesOn by r.log p.number p.seen × (r.seat_of p.number ≡ id) × (0 < p.number) × (p.number ≤ r.made))
+              (λ (p : Returned E). GoesOn by (entries h.0) p.number p.seen)
               (λ p g. subst (λ l. GoesOn by l p.number p.seen) (sym h.2) g.0) v.back mine.4,
           (λ k low high.
               let d = r.each_number k low (omega arith) in
@@ -92,7 +95,8 @@ module _ {T E C : Type 0} (by : E → ℕ) (entries : T → List E) (setting : T
       numbers_one Root back n h = refl
 
   -- the same of the table after it was closed
-  ends : (ws : List ℕ) (xs : List (Option T)) (id : ℕ) (v : V) (o : Option T) → Final (Seen Rule id v) ws xs → get_elem? xs 0 ≡ some o → v.role ≡ Root → v.stage ≡ Idle → v.made ≡ length v.back
+  ends : (ws : List ℕ) (xs : List (Option T)) (id : ℕ) (v : V) (o : Option T) → Final (Seen Rule id v) ws xs → get_elem? xs 0 ≡ some o → v.role ≡ Root → v.stage ≡ Idle →
+      v.made ≡ length v.back
       → (x : T) × (o ≡ Some x) × Ended v.setting v.seen v.back v.made x
   ends ws xs id v o f at is idle all = let h = closes f.0 id v f.1.0 f.1.1 is idle all in
       (h.0, some-injective o (Some h.0) (sym at ∙ f.4 0 (Some h.0) h.1), h.2)
@@ -101,7 +105,8 @@ module _ {T E C : Type 0} (by : E → ℕ) (entries : T → List E) (setting : T
   abbrev pub seen_as : TableId → M → RootModel E C
   seen_as table m = record { table = table; in_turn = is_in_turn m.0.stage; seen = m.0.seen; made = m.0.made; back = m.0.back; setting = m.0.setting }
 
-  ends_for : (ws : List ℕ) (xs : List (Option T)) (id : ℕ) (table : TableId) (m : M) (root : RootModel E C) (o : Option T) → seen_as table m ≡ root → m.0.role ≡ Root → Holds m.0.stage m.1 → root.in_turn ≡ false → root.made ≡ length root.back
+  ends_for : (ws : List ℕ) (xs : List (Option T)) (id : ℕ) (table : TableId) (m : M) (root : RootModel E C) (o : Option T) → seen_as table m ≡ root → m.0.role ≡ Root →
+      Holds m.0.stage m.1 → root.in_turn ≡ false → root.made ≡ length root.back
       → Final (Seen Rule id m.0) ws xs → get_elem? xs 0 ≡ some o → (x : T) × (o ≡ Some x) × Ended root.setting root.seen root.back root.made x
   ends_for ws xs id table m root o is root_role holds free all f at =
       let idle = is_idle m.0.stage m.1 holds (ap (λ (r : RootModel E C). r.in_turn) is ∙ free) in
@@ -109,12 +114,15 @@ module _ {T E C : Type 0} (by : E → ℕ) (entries : T → List E) (setting : T
       (ends ws xs id m.0 o f at root_role idle.0 (subst (λ (r : RootModel E C). r.made ≡ length r.back) (sym is) all))
 
   -- the value lies in the slot
-  pub has_value : (ws : List ℕ) (xs : List (Option T)) (id : ℕ) (table : TableId) (m : M) (root : RootModel E C) (o : Option T) → seen_as table m ≡ root → m.0.role ≡ Root → Holds m.0.stage m.1 → root.in_turn ≡ false → root.made ≡ length root.back
+  pub has_value : (ws : List ℕ) (xs : List (Option T)) (id : ℕ) (table : TableId) (m : M) (root : RootModel E C) (o : Option T) → seen_as table m ≡ root → m.0.role ≡ Root →
+      Holds m.0.stage m.1 → root.in_turn ≡ false → root.made ≡ length root.back
       → Final (Seen Rule id m.0) ws xs → get_elem? xs 0 ≡ some o → IsSome o
-  has_value ws xs id table m root o is root_role holds free all f at = let h = ends_for ws xs id table m root o is root_role holds free all f at in subst (λ (p : Option T). IsSome p) (sym h.1) refl
+  has_value ws xs id table m root o is root_role holds free all f at = let h = ends_for ws xs id table m root o is root_role holds free all f at in
+      subst (λ (p : Option T). IsSome p) (sym h.1) refl
 
   -- and this is known of it
-  pub value_is : (ws : List ℕ) (xs : List (Option T)) (id : ℕ) (table : TableId) (m : M) (root : RootModel E C) (o : Option T) (y : T) → seen_as table m ≡ root → m.0.role ≡ Root → Holds m.0.stage m.1 → root.in_turn ≡ false → root.made ≡ length root.back
+  pub value_is : (ws : List ℕ) (xs : List (Option T)) (id : ℕ) (table : TableId) (m : M) (root : RootModel E C) (o : Option T) (y : T) → seen_as table m ≡ root → m.0.role ≡ Root →
+      Holds m.0.stage m.1 → root.in_turn ≡ false → root.made ≡ length root.back
       → Final (Seen Rule id m.0) ws xs → get_elem? xs 0 ≡ some o → o ≡ Some y → Ended root.setting root.seen root.back root.made y
   value_is ws xs id table m root o y is root_role holds free all f at is_some =
       let h = ends_for ws xs id table m root o is root_role holds free all f at in subst (Ended root.setting root.seen root.back root.made) (some_value (sym h.1 ∙ is_some)) h.2

@@ -62,7 +62,8 @@ module _ {T E C : Type 0} (by : E → ℕ) (entries : T → List E) (setting : T
             (d.0, at_longer (set s.views id v) (right ∷ []) (r.seat_of k) d.0 d.1, d.2);
         above = r.above;
         home = r.home;
-        each_setting = splits_stay (λ j d. HasSetting c d) s.views id v right (r.each_setting id v at) (λ j d _. r.each_setting j d) ((λ none. absurd none), (r.each_setting id v at).1, no_setting c);
+        each_setting = splits_stay (λ j d. HasSetting c d) s.views id v right (r.each_setting id v at) (λ j d _. r.each_setting j d)
+            ((λ none. absurd none), (r.each_setting id v at).1, no_setting c);
         each_list = splits_stay (λ j d. Saw by r.log r.seat_of r.made r.returned j d.seen d.made d.back d.role) s.views id v right (r.each_list id v at) (λ j d _. r.each_list j d)
             (saw_begins by r.log r.seat_of r.made r.returned id v.seen v.made v.back v.role (r.each_list id v at));
         each_told = splits_stay (λ j d. Begins r.log d.told) s.views id v right (r.each_told id v at) (λ j d _. r.each_told j d) (r.log, refl);
@@ -112,10 +113,13 @@ module _ {T E C : Type 0} (by : E → ℕ) (entries : T → List E) (setting : T
             (numbers_stay r.seat_of r.made s.views id v w' at (λ _ h. h) r.each_number);
         above = r.above;
         home = r.home;
-        each_setting = joins_stay (λ j d. HasSetting c d) s.views id other w' spent ((r.each_setting id v at).0, (r.each_setting id v at).1, (r.each_setting other w at_w).1) (λ j d _. r.each_setting j d) ((λ none. absurd none), no_setting c, no_setting c);
-        each_list = joins_stay (λ j d. Saw by r.log r.seat_of r.made r.returned j d.seen d.made d.back d.role) s.views id other w' spent (r.each_list id v at) (λ j d _. r.each_list j d) (r.log, refl);
+        each_setting = joins_stay (λ j d. HasSetting c d) s.views id other w' spent ((r.each_setting id v at).0, (r.each_setting id v at).1, (r.each_setting other w at_w).1)
+            (λ j d _. r.each_setting j d) ((λ none. absurd none), no_setting c, no_setting c);
+        each_list = joins_stay (λ j d. Saw by r.log r.seat_of r.made r.returned j d.seen d.made d.back d.role) s.views id other w' spent (r.each_list id v at)
+            (λ j d _. r.each_list j d) (r.log, refl);
         each_told = joins_stay (λ j d. Begins r.log d.told) s.views id other w' spent told (λ j d _. r.each_told j d) (r.log, refl);
-        each_stage = joins_stay (λ j d. Queues r.log j r.next r.serving r.taken r.holder d.seen d.stage) s.views id other w' spent (r.each_stage id v at) (λ j d _. r.each_stage j d) tt;
+        each_stage = joins_stay (λ j d. Queues r.log j r.next r.serving r.taken r.holder d.seen d.stage) s.views id other w' spent (r.each_stage id v at)
+            (λ j d _. r.each_stage j d) tt;
       }
 
   -- a look at serving, by which a seat sees what it was told
@@ -168,14 +172,16 @@ module _ {T E C : Type 0} (by : E → ℕ) (entries : T → List E) (setting : T
           each_list = seats_stay (λ j d. Saw by r.log r.seat_of r.made r.returned j d.seen d.made d.back d.role) s.views id w
               (saw_longer by r.log r.seat_of r.made r.returned id v.seen (longer v.seen v.told) v.made v.back v.role all left saw) (λ j d _. r.each_list j d);
           each_told = seats_stay (λ j d. Begins r.log d.told) s.views id w (r.log, refl) (λ j d _. r.each_told j d);
-          each_stage = seats_stay (λ j d. Queues r.log j r.next r.serving r.taken r.holder d.seen d.stage) s.views id w (queues_longer r.log id r.next r.serving r.taken r.holder v.seen (longer v.seen v.told) v.stage all left (r.each_stage id v at)) (λ j d _. r.each_stage j d);
+          each_stage = seats_stay (λ j d. Queues r.log j r.next r.serving r.taken r.holder d.seen d.stage) s.views id w
+              (queues_longer r.log id r.next r.serving r.taken r.holder v.seen (longer v.seen v.told) v.stage all left (r.each_stage id v at)) (λ j d _. r.each_stage j d);
         },
         (
           refl,
           goes_between by r.log v.seen (longer v.seen v.told) (number_of v.role) own.1 all left,
           begins_with r.log v.told (longer v.seen v.told) told all right,
           (λ is. let root = subst (Saw by r.log r.seat_of r.made r.returned id v.seen v.made v.back) is saw in let a = root.2 in let b = root.3 in omega arith),
-          (λ is. let root = subst (Saw by r.log r.seat_of r.made r.returned id v.seen v.made v.back) is saw in subst (λ m. NoneAbove by m (longer v.seen v.told)) (sym root.2) (above_beginning by r.made r.log (longer v.seen v.told) all r.above)),
+          (λ is. let root = subst (Saw by r.log r.seat_of r.made r.returned id v.seen v.made v.back) is saw in
+              subst (λ m. NoneAbove by m (longer v.seen v.told)) (sym root.2) (above_beginning by r.made r.log (longer v.seen v.told) all r.above)),
           (λ x is. (r.each_setting id v at).0 has ∙ ap Some (sym ((r.each_setting id v at).2 x is))),
         ),
       )

@@ -1,5 +1,6 @@
 -- A new turnstile meets the rule, and making a seat and taking one back keep it.
-use Rattle.std.proofs.Common.{◌≡◌, ◌≢◌, ℕ, zero, suc, ◌+◌, ◌<◌, ◌≤◌, List, [], ◌∷◌, ◌++◌, length, set, sym, refl, ap, ◌∙◌, subst, ⊎_elim, arith, Option, Some, length-set, length-append}
+use Rattle.std.proofs.Common.{◌≡◌, ◌≢◌, ℕ, zero, suc, ◌+◌, ◌<◌, ◌≤◌, List, [], ◌∷◌, ◌++◌, length, set, sym, refl, ap, ◌∙◌, subst, ⊎_elim, arith, Option, Some, length-set}
+use Rattle.std.proofs.Common.{length-append}
 use Rattle.std.proofs.lemmas.List.Elements.{All-nil, All-push, All-weaker, All-tail, Contains-push, Contains-append_left}
 use Rattle.std.specs.Prelude.{All}
 use mathlib.Core.Logic.{dite}
@@ -60,26 +61,31 @@ module _ {T E C : Type 0} (by : E → ℕ) (entries : T → List E) (setting : T
     above = All-nil (λ e. by e ≤ 0);
     home = λ _. (x, refl, empty, is);
     each_setting = only (λ j d. HasSetting c d) (root_of c) ((λ _. refl), (λ x e. some_same (sym e)), no_setting c);
-    each_list = only (λ j d. Saw by [] (λ _. 0) 0 0 j d.seen d.made d.back d.role) (root_of c) (([], refl, All-nil (λ e. by e ≢ 0)), refl, refl, refl, All-nil (λ (p : Returned E). GoesOn by [] p.number p.seen × (0 ≡ 0) × (0 < p.number) × (p.number ≤ 0)));
+    each_list = only (λ j d. Saw by [] (λ _. 0) 0 0 j d.seen d.made d.back d.role) (root_of c)
+        (([], refl, All-nil (λ e. by e ≢ 0)), refl, refl, refl, All-nil (λ (p : Returned E). GoesOn by [] p.number p.seen × (0 ≡ 0) × (0 < p.number) × (p.number ≤ 0)));
     each_told = only (λ j d. Begins [] d.told) (root_of c) ([], refl);
     each_stage = only (λ j d. Queues [] j 0 0 0 (λ _. 0) d.seen d.stage) (root_of c) tt;
   }
 
   -- what a view has seen, where the root makes a seat
-  pub saw_newcomer : (log : List E) (seat_of : ℕ → ℕ) (made returned new j : ℕ) (seen : List E) (own : ℕ) (back : List (Returned E)) (role : Role) → role ≢ Root → Saw by log seat_of made returned j seen own back role
+  pub saw_newcomer : (log : List E) (seat_of : ℕ → ℕ) (made returned new j : ℕ) (seen : List E) (own : ℕ) (back : List (Returned E)) (role : Role) → role ≢ Root →
+      Saw by log seat_of made returned j seen own back role
       → Saw by log (put seat_of (made + 1) new) (made + 1) returned j seen own back role
   saw_newcomer log seat_of made returned new j seen own back Note other h = h
-  saw_newcomer log seat_of made returned new j seen own back (Seat number) other h = let a = h.3 in (h.0, put_else seat_of (made + 1) new number (λ e. omega arith) ∙ h.1, h.2, omega arith)
+  saw_newcomer log seat_of made returned new j seen own back (Seat number) other h = let a = h.3 in
+      (h.0, put_else seat_of (made + 1) new number (λ e. omega arith) ∙ h.1, h.2, omega arith)
   saw_newcomer log seat_of made returned new j seen own back Root other h = absurd (other refl)
 
-  pub root_makes : (log : List E) (seat_of : ℕ → ℕ) (made returned new j : ℕ) (seen : List E) (own : ℕ) (back : List (Returned E)) → Saw by log seat_of made returned j seen own back Root
+  pub root_makes : (log : List E) (seat_of : ℕ → ℕ) (made returned new j : ℕ) (seen : List E) (own : ℕ) (back : List (Returned E)) →
+      Saw by log seat_of made returned j seen own back Root
       → Saw by log (put seat_of (made + 1) new) (made + 1) returned j seen (own + 1) back Root
   root_makes log seat_of made returned new j seen own back h = let same = h.2 in (
     h.0,
     put_else seat_of (made + 1) new 0 (λ e. omega arith) ∙ h.1,
     omega arith,
     h.3,
-    All-weaker (λ (p : Returned E). GoesOn by log p.number p.seen × (seat_of p.number ≡ j) × (0 < p.number) × (p.number ≤ made)) (λ (p : Returned E). GoesOn by log p.number p.seen × (put seat_of (made + 1) new p.number ≡ j) × (0 < p.number) × (p.number ≤ made + 1))
+    All-weaker (λ (p : Returned E). GoesOn by log p.number p.seen × (seat_of p.number ≡ j) × (0 < p.number) × (p.number ≤ made))
+        (λ (p : Returned E). GoesOn by log p.number p.seen × (put seat_of (made + 1) new p.number ≡ j) × (0 < p.number) × (p.number ≤ made + 1))
         (λ p g. let a = g.3 in (g.0, put_else seat_of (made + 1) new p.number (λ e. omega arith) ∙ g.1, g.2, omega arith)) back h.4,
   )
 
@@ -150,9 +156,11 @@ module _ {T E C : Type 0} (by : E → ℕ) (entries : T → List E) (setting : T
         seated = omega arith;
         above = All-weaker (λ e. by e ≤ r.made) (λ e. by e ≤ r.made + 1) (λ e l. omega arith) r.log r.above;
         home = r.home;
-        each_setting = splits_stay (λ j d. HasSetting c d) s.views id left right (r.each_setting id v at) (λ j d _. r.each_setting j d) ((λ _. (r.each_setting id v at).0 (subst IsNumbered (sym is) tt)), (r.each_setting id v at).1, no_setting c);
+        each_setting = splits_stay (λ j d. HasSetting c d) s.views id left right (r.each_setting id v at) (λ j d _. r.each_setting j d)
+            ((λ _. (r.each_setting id v at).0 (subst IsNumbered (sym is) tt)), (r.each_setting id v at).1, no_setting c);
         each_list = splits_stay (λ j d. Saw by r.log seats' (r.made + 1) r.returned j d.seen d.made d.back d.role) s.views id left right
-            (subst (Saw by r.log seats' (r.made + 1) r.returned id v.seen (v.made + 1) v.back) (sym is) (root_makes r.log r.seat_of r.made r.returned n id v.seen v.made v.back mine))
+            (subst (Saw by r.log seats' (r.made + 1) r.returned id v.seen (v.made + 1) v.back) (sym is)
+            (root_makes r.log r.seat_of r.made r.returned n id v.seen v.made v.back mine))
             (λ j d other e. saw_newcomer r.log r.seat_of r.made r.returned n j d.seen d.made d.back d.role
             (λ root. other (sym (subst (Saw by r.log r.seat_of r.made r.returned j d.seen d.made d.back) root (r.each_list j d e)).1 ∙ mine.1)) (r.each_list j d e))
             (subst (λ (z : ℕ). Saw by r.log seats' (r.made + 1) r.returned n v.seen 0 [] (Seat (z + 1))) (sym same)
@@ -232,7 +240,12 @@ module _ {T E C : Type 0} (by : E → ℕ) (entries : T → List E) (setting : T
             (λ e. (
               w',
               ap (get_elem? (set vs other spent)) (ap seats' e ∙ put_here r.seat_of k id) ∙ (set_else vs other id spent (λ x. apart (sym x)) ∙ set_here s.views id w' here),
-              subst (λ (z : Role). Numbers z w'.back n) (sym is) (handed_back (number_of w.role) w.seen, Contains-push v.back (handed_back (number_of w.role) w.seen), number_is ∙ sym e),
+              subst (λ (z : Role). Numbers z w'.back n) (sym is) (
+                handed_back (number_of w.role) w.seen,
+                Contains-push v.back (handed_back (number_of w.role) w.seen),
+                number_is ∙
+                    sym e,
+              ),
             ))
             (λ differs. let d = r.each_number n low high in let place : seats' n ≡ r.seat_of n = put_else r.seat_of k id n differs in dite (ℕ_discrete (r.seat_of n) id)
             (λ e. let u : d.0 ≡ v = some-injective d.0 v (sym d.1 ∙ (ap (get_elem? s.views) e ∙ at)) in
@@ -244,9 +257,14 @@ module _ {T E C : Type 0} (by : E → ℕ) (entries : T → List E) (setting : T
             (λ not_me. dite (ℕ_discrete (r.seat_of n) other)
             (λ e. let u : d.0 ≡ w = some-injective d.0 w (sym d.1 ∙ (ap (get_elem? s.views) e ∙ at_w)) in
             let same : k ≡ n = subst (λ (z : Role). Numbers z w.back n) seat (subst (λ (z : V). Numbers z.role z.back n) u d.2) in absurd (differs (sym same)))
-            (λ not_it. (d.0, ap (get_elem? (set vs other spent)) place ∙ (set_else vs other (r.seat_of n) spent not_it ∙ (set_else s.views id (r.seat_of n) w' not_me ∙ d.1)), d.2))));
+            (λ not_it. (
+              d.0,
+              ap (get_elem? (set vs other spent)) place ∙ (set_else vs other (r.seat_of n) spent not_it ∙ (set_else s.views id (r.seat_of n) w' not_me ∙ d.1)),
+              d.2,
+            ))));
         each_setting = seats_stay (λ j d. HasSetting c d) vs other spent ((λ n. absurd n), no_setting c, no_setting c)
-            (λ j d _. seats_stay (λ j d. HasSetting c d) s.views id w' ((r.each_setting id v at).0, (r.each_setting id v at).1, (r.each_setting other w at_w).1) (λ i x _. r.each_setting i x) j d);
+            (λ j d _. seats_stay (λ j d. HasSetting c d) s.views id w' ((r.each_setting id v at).0, (r.each_setting id v at).1, (r.each_setting other w at_w).1)
+            (λ i x _. r.each_setting i x) j d);
         each_list = seats_stay (λ j d. Saw by r.log seats' r.made (r.returned + 1) j d.seen d.made d.back d.role) vs other spent (r.log, refl)
             (λ j d not_it e. ⊎_elim
             (λ (t : (j ≡ id) × (w' ≡ d)). subst (λ (x : ℕ × V). Saw by r.log seats' r.made (r.returned + 1) x.0 x.1.seen x.1.made x.1.back x.1.role) (λ i. (sym t.0 i, t.1 i))
@@ -254,7 +272,8 @@ module _ {T E C : Type 0} (by : E → ℕ) (entries : T → List E) (setting : T
             (λ (t : (j ≢ id) × (get_elem? s.views j ≡ some d)). let saw = r.each_list j d t.1 in saw_back r.log r.seat_of r.made r.returned k id j d.seen d.made d.back d.role
             (λ root. t.0 (sym (subst (Saw by r.log r.seat_of r.made r.returned j d.seen d.made d.back) root saw).1 ∙ saw_v.1)) (λ x. not_it (sym x ∙ same_seat)) saw)
             (at_set s.views id j w' d e));
-        each_told = seats_stay (λ j d. Begins r.log d.told) vs other spent (r.log, refl) (λ j d _. seats_stay (λ j d. Begins r.log d.told) s.views id w' (saw_w.0.0, saw_w.0.1) (λ i x _. r.each_told i x) j d);
+        each_told = seats_stay (λ j d. Begins r.log d.told) vs other spent (r.log, refl)
+            (λ j d _. seats_stay (λ j d. Begins r.log d.told) s.views id w' (saw_w.0.0, saw_w.0.1) (λ i x _. r.each_told i x) j d);
         each_stage = seats_stay (λ j d. Queues r.log j r.next r.serving r.taken r.holder d.seen d.stage) vs other spent tt
             (λ j d _. seats_stay (λ j d. Queues r.log j r.next r.serving r.taken r.holder d.seen d.stage) s.views id w' (r.each_stage id v at) (λ i x _. r.each_stage i x) j d);
       }

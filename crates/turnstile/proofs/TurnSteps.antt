@@ -1,5 +1,6 @@
 -- Taking a ticket, looking at what is served, and leaving keep the rule.
-use Rattle.std.proofs.Common.{◌≡◌, ◌≢◌, ◌⊎◌, ℕ, ◌+◌, ◌%◌, ◌≤◌, List, [], ◌∷◌, ◌++◌, length, get_or, set, sym, refl, ap, ◌∙◌, subst, ⊎_elim, arith, Option, Some, None, length-set, get_or-set_other, get_or-set_same}
+use Rattle.std.proofs.Common.{◌≡◌, ◌≢◌, ◌⊎◌, ℕ, ◌+◌, ◌%◌, ◌≤◌, List, [], ◌∷◌, ◌++◌, length, get_or, set, sym, refl, ap, ◌∙◌, subst, ⊎_elim, arith, Option, Some, None, length-set}
+use Rattle.std.proofs.Common.{get_or-set_other, get_or-set_same}
 use Rattle.std.proofs.lemmas.List.{append-nil}
 use Rattle.std.proofs.lemmas.List.Elements.{All-nil, All-push, All-append}
 use Rattle.std.specs.Prelude.{All}
@@ -20,7 +21,8 @@ use Rattle.turnstile.specs.Tells.{takes_ticket, looks, MayLeave, leaves}
 use Rattle.turnstile.proofs.Beginnings.{begins_on, goes_on}
 use Rattle.turnstile.proofs.Totals.{total_set}
 use Rattle.coflow_units.proofs.Changes.{put, put_here}
-use Rattle.turnstile.proofs.Views.{some_same, ticket, counts_one, seats_stay, few_queued, few_turning, others_wait, others_next, others_queue, others_saw, saw_all, own_seat, numbers_stay}
+use Rattle.turnstile.proofs.Views.{some_same, ticket, counts_one, seats_stay, few_queued, few_turning, others_wait, others_next, others_queue, others_saw, saw_all, own_seat}
+use Rattle.turnstile.proofs.Views.{numbers_stay}
 
 module _ {T E C : Type 0} (by : E → ℕ) (entries : T → List E) (setting : T → C) (c : C) where
   abbrev V : Type 0
@@ -145,16 +147,28 @@ module _ {T E C : Type 0} (by : E → ℕ) (entries : T → List E) (setting : T
           home = λ e. absurd (omega arith);
           each_setting = seats_stay (λ j d. HasSetting c d) s.views id w (r.each_setting id v at) (λ j d _. r.each_setting j d);
           each_list = seats_stay (λ j d. Saw by r.log r.seat_of r.made r.returned j d.seen d.made d.back d.role) s.views id w
-              (subst (λ l. Saw by r.log r.seat_of r.made r.returned id l v.made v.back v.role) (sym h.2) (saw_all by r.log r.log r.seat_of r.made r.returned id v.seen v.made v.back v.role (λ k xs _ _ h. h) (r.each_list id v at))) (λ j d _. r.each_list j d);
+              (subst (λ l. Saw by r.log r.seat_of r.made r.returned id l v.made v.back v.role) (sym h.2)
+              (saw_all by r.log r.log r.seat_of r.made r.returned id v.seen v.made v.back v.role (λ k xs _ _ h. h) (r.each_list id v at))) (λ j d _. r.each_list j d);
           each_told = seats_stay (λ j d. Begins r.log d.told) s.views id w (r.each_told id v at) (λ j d _. r.each_told j d);
           each_stage = seats_stay (λ j d. Queues r.log j r.next r.serving 1 r.holder d.seen d.stage) s.views id w
               (sym now, known.1, known.2, refl, h.2)
               (λ j d other e. others_wait r.log j r.next r.serving r.taken id r.holder d.seen d.stage other mine home_now (r.each_stage j d e));
         },
-        λ u is. let same = same_ticket u is in let above_all : IsRoot v.role → NoneAbove by v.made (entries x) = (λ root. subst (NoneAbove by v.made) (sym h.2) (subst (λ m. NoneAbove by m r.log) (sym (subst (Saw by r.log r.seat_of r.made r.returned id v.seen v.made v.back) root (r.each_list id v at)).2) r.above)) in (
-          (λ _. (x, ((λ i. (record v { stage = InTurn (same i); seen = entries x }, (0, Some x) ∷ me.1)), (r.each_setting id v at).0 has ∙ ap Some (sym h.3), subst (λ l. GoesOn by l (number_of v.role) v.seen) (sym h.2) own.1, above_all))),
-          (λ no. absurd (no (hit ∙ ap (λ z. z % 18446744073709551616) same))),
-        ),
+        λ u is. let same = same_ticket u is in let above_all : IsRoot v.role →
+            NoneAbove by v.made (entries x) =
+            (λ root. subst (NoneAbove by v.made) (sym h.2)
+            (subst (λ m. NoneAbove by m r.log) (sym (subst (Saw by r.log r.seat_of r.made r.returned id v.seen v.made v.back) root (r.each_list id v at)).2) r.above)) in (
+              (λ _. (
+                x,
+                (
+                  (λ i. (record v { stage = InTurn (same i); seen = entries x }, (0, Some x) ∷ me.1)),
+                  (r.each_setting id v at).0 has ∙ ap Some (sym h.3),
+                  subst (λ l. GoesOn by l (number_of v.role) v.seen) (sym h.2) own.1,
+                  above_all,
+                ),
+              )),
+              (λ no. absurd (no (hit ∙ ap (λ z. z % 18446744073709551616) same))),
+            ),
       ))
       (λ miss. (
         v,
@@ -171,7 +185,8 @@ module _ {T E C : Type 0} (by : E → ℕ) (entries : T → List E) (setting : T
   -- the list that is left is the whole list and no entry, or one, of the seat's own
   pub adds : (log : List E) (seat_of : ℕ → ℕ) (id : ℕ) (v : V) (x : T) → v.seen ≡ log → seat_of (number_of v.role) ≡ id
       → (entries x ≡ v.seen) ⊎ ((e : E) × (by e ≡ number_of v.role) × (entries x ≡ v.seen ++ e ∷ []))
-      → (more : List E) × (entries x ≡ log ++ more) × ((k : ℕ) → seat_of k ≢ id → NoneBy by k more) × ((m : ℕ) → number_of v.role ≤ m → All (λ e. by e ≤ m) more) × ((k : ℕ) → k ≢ number_of v.role → NoneBy by k more)
+      → (more : List E) × (entries x ≡ log ++ more) × ((k : ℕ) → seat_of k ≢ id → NoneBy by k more) × ((m : ℕ) → number_of v.role ≤ m → All (λ e. by e ≤ m) more) ×
+      ((k : ℕ) → k ≢ number_of v.role → NoneBy by k more)
   adds log seat_of id v x whole_seen own may = ⊎_elim
       (λ same. ([], same ∙ (whole_seen ∙ sym (append-nil log)), λ k _. All-nil (λ e. by e ≢ k), λ m _. All-nil (λ e. by e ≤ m), λ k _. All-nil (λ e. by e ≢ k)))
       (λ (one : (e : E) × (by e ≡ number_of v.role) × (entries x ≡ v.seen ++ e ∷ [])). (
@@ -233,11 +248,17 @@ module _ {T E C : Type 0} (by : E → ℕ) (entries : T → List E) (setting : T
           in_turn = omega arith;
           seated = omega arith;
           above = subst (All (λ e. by e ≤ r.made)) (sym added.1) (All-append (λ e. by e ≤ r.made) r.log more r.above (added.3 r.made own.2));
-          home = λ _. (x, ap (λ (h : List (maybe.Option (Option T))). get_elem? h 0) back ∙ set_here s.homes 0 (some (Some x)) (omega arith), refl, some_same (sym may.0 ∙ (r.each_setting id v at).0 has));
+          home = λ _. (
+            x,
+            ap (λ (h : List (maybe.Option (Option T))). get_elem? h 0) back ∙ set_here s.homes 0 (some (Some x)) (omega arith),
+            refl,
+            some_same (sym may.0 ∙ (r.each_setting id v at).0 has),
+          );
           each_setting = seats_stay (λ j d. HasSetting c d) s.views id w (r.each_setting id v at) (λ j d _. r.each_setting j d);
           each_list = seats_stay (λ j d. Saw by log' r.seat_of r.made r.returned j d.seen d.made d.back d.role) s.views id w
               (saw_all by r.log log' r.seat_of r.made r.returned id v.seen v.made v.back v.role
-              (λ k xs root pos h. subst (λ l. GoesOn by l k xs) (sym added.1) (goes_on by r.log more k xs (added.4 k (λ e. let z : number_of v.role ≡ 0 = ap number_of root in omega arith)) h)) (r.each_list id v at))
+              (λ k xs root pos h. subst (λ l. GoesOn by l k xs) (sym added.1)
+              (goes_on by r.log more k xs (added.4 k (λ e. let z : number_of v.role ≡ 0 = ap number_of root in omega arith)) h)) (r.each_list id v at))
               (λ j d other e. subst (λ l. Saw by l r.seat_of r.made r.returned j d.seen d.made d.back d.role) (sym added.1)
               (others_saw by r.log more r.seat_of r.made r.returned j id (number_of v.role) d.seen d.made d.back d.role other own.0 added.2 (r.each_list j d e)));
           each_told = λ j d e. subst (λ l. Begins l d.told) (sym added.1)

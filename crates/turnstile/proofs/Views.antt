@@ -1,5 +1,6 @@
 -- What holds of each view after a step of another.
-use Rattle.std.proofs.Common.{◌≡◌, ◌≢◌, ◌⊎◌, inl, inr, ℕ, zero, suc, ◌+◌, ◌<◌, ◌≤◌, List, [], ◌∷◌, ◌++◌, length, set, sym, refl, ap, ◌∙◌, subst, ⊎_elim, arith, Option, Some, None, length-set}
+use Rattle.std.proofs.Common.{◌≡◌, ◌≢◌, ◌⊎◌, inl, inr, ℕ, zero, suc, ◌+◌, ◌<◌, ◌≤◌, List, [], ◌∷◌, ◌++◌, length, set, sym, refl, ap, ◌∙◌, subst, ⊎_elim, arith, Option, Some, None}
+use Rattle.std.proofs.Common.{length-set}
 use Rattle.std.proofs.lemmas.List.{append-nil}
 use Rattle.std.proofs.lemmas.List.Elements.{All-weaker}
 use mathlib.Core.Logic.{dite}
@@ -92,28 +93,35 @@ module _ {E : Type 0} (log : List E) where
       let b = h.1 in (h.0, omega arith, put_else holder next me t (λ e. omega arith) ∙ h.2, h.3, h.4)
 
   -- where a ticket stands does not change as the view sees more
-  pub queues_longer : (j next serving taken : ℕ) (holder : ℕ → ℕ) (seen seen' : List E) (st : Stage) → Begins log seen' → length seen ≤ length seen' → Queues log j next serving taken holder seen st → Queues log j next serving taken holder seen' st
+  pub queues_longer : (j next serving taken : ℕ) (holder : ℕ → ℕ) (seen seen' : List E) (st : Stage) → Begins log seen' → length seen ≤ length seen' →
+      Queues log j next serving taken holder seen st → Queues log j next serving taken holder seen' st
   queues_longer j next serving taken holder seen seen' Idle b l h = tt
   queues_longer j next serving taken holder seen seen' (Waiting t) b l h = h
-  queues_longer j next serving taken holder seen seen' (InTurn t) b l h = (h.0, h.1, h.2, h.3, whole_beginning log seen' b (let same : length seen ≡ length log = ap (λ (z : List E). length z) h.4 in omega arith))
+  queues_longer j next serving taken holder seen seen' (InTurn t) b l h =
+      (h.0, h.1, h.2, h.3, whole_beginning log seen' b (let same : length seen ≡ length log = ap (λ (z : List E). length z) h.4 in omega arith))
 
 module _ {E : Type 0} (by : E → ℕ) where
   -- what another seat has seen, where the seat of the number `mine` leaves with these entries more
-  pub others_saw : (log more : List E) (seat_of : ℕ → ℕ) (made returned j me mine : ℕ) (seen : List E) (own : ℕ) (back : List (Returned E)) (role : Role) → j ≢ me → seat_of mine ≡ me
+  pub others_saw : (log more : List E) (seat_of : ℕ → ℕ) (made returned j me mine : ℕ) (seen : List E) (own : ℕ) (back : List (Returned E)) (role : Role) → j ≢ me →
+      seat_of mine ≡ me
       → ((k : ℕ) → seat_of k ≢ me → NoneBy by k more) → Saw by log seat_of made returned j seen own back role → Saw by (log ++ more) seat_of made returned j seen own back role
   others_saw log more seat_of made returned j me mine seen own back Note other is apart h = begins_on log more seen h
-  others_saw log more seat_of made returned j me mine seen own back (Seat number) other is apart h = (goes_on by log more number seen (apart number (λ e. other (sym h.1 ∙ e))) h.0, h.1, h.2, h.3)
+  others_saw log more seat_of made returned j me mine seen own back (Seat number) other is apart h =
+      (goes_on by log more number seen (apart number (λ e. other (sym h.1 ∙ e))) h.0, h.1, h.2, h.3)
   others_saw log more seat_of made returned j me mine seen own back Root other is apart h = (
     goes_on by log more 0 seen (apart 0 (λ e. other (sym h.1 ∙ e))) h.0,
     h.1,
     h.2,
     h.3,
-    All-weaker (λ (p : Returned E). GoesOn by log p.number p.seen × (seat_of p.number ≡ j) × (0 < p.number) × (p.number ≤ made)) (λ (p : Returned E). GoesOn by (log ++ more) p.number p.seen × (seat_of p.number ≡ j) × (0 < p.number) × (p.number ≤ made))
+    All-weaker (λ (p : Returned E). GoesOn by log p.number p.seen × (seat_of p.number ≡ j) × (0 < p.number) × (p.number ≤ made))
+        (λ (p : Returned E). GoesOn by (log ++ more) p.number p.seen × (seat_of p.number ≡ j) × (0 < p.number) × (p.number ≤ made))
         (λ p g. (goes_on by log more p.number p.seen (apart p.number (λ e. other (sym g.1 ∙ e))) g.0, g.1, g.2, g.3)) back h.4,
   )
 
   -- what a seat has seen that sees the whole list
-  pub saw_all : (log log' : List E) (seat_of : ℕ → ℕ) (made returned j : ℕ) (seen : List E) (own : ℕ) (back : List (Returned E)) (role : Role) → ((k : ℕ) (xs : List E) → role ≡ Root → 0 < k → GoesOn by log k xs → GoesOn by log' k xs) → Saw by log seat_of made returned j seen own back role → Saw by log' seat_of made returned j log' own back role
+  pub saw_all : (log log' : List E) (seat_of : ℕ → ℕ) (made returned j : ℕ) (seen : List E) (own : ℕ) (back : List (Returned E)) (role : Role) →
+      ((k : ℕ) (xs : List E) → role ≡ Root → 0 < k → GoesOn by log k xs → GoesOn by log' k xs) → Saw by log seat_of made returned j seen own back role →
+      Saw by log' seat_of made returned j log' own back role
   saw_all log log' seat_of made returned j seen own back Note on h = ([], sym (append-nil log'))
   saw_all log log' seat_of made returned j seen own back (Seat number) on h = (whole by log' number, h.1, h.2, h.3)
   saw_all log log' seat_of made returned j seen own back Root on h = (
@@ -121,25 +129,29 @@ module _ {E : Type 0} (by : E → ℕ) where
     h.1,
     h.2,
     h.3,
-    All-weaker (λ (p : Returned E). GoesOn by log p.number p.seen × (seat_of p.number ≡ j) × (0 < p.number) × (p.number ≤ made)) (λ (p : Returned E). GoesOn by log' p.number p.seen × (seat_of p.number ≡ j) × (0 < p.number) × (p.number ≤ made))
+    All-weaker (λ (p : Returned E). GoesOn by log p.number p.seen × (seat_of p.number ≡ j) × (0 < p.number) × (p.number ≤ made))
+        (λ (p : Returned E). GoesOn by log' p.number p.seen × (seat_of p.number ≡ j) × (0 < p.number) × (p.number ≤ made))
         (λ p g. (on p.number p.seen refl g.2 g.0, g.1, g.2, g.3)) back h.4,
   )
 
   -- a numbered seat's own number
-  pub own_seat : (log : List E) (seat_of : ℕ → ℕ) (made returned j : ℕ) (seen : List E) (own : ℕ) (back : List (Returned E)) (role : Role) → IsNumbered role → Saw by log seat_of made returned j seen own back role
+  pub own_seat : (log : List E) (seat_of : ℕ → ℕ) (made returned j : ℕ) (seen : List E) (own : ℕ) (back : List (Returned E)) (role : Role) → IsNumbered role →
+      Saw by log seat_of made returned j seen own back role
       → (seat_of (number_of role) ≡ j) × GoesOn by log (number_of role) seen × (number_of role ≤ made)
   own_seat log seat_of made returned j seen own back Note has h = absurd has
   own_seat log seat_of made returned j seen own back (Seat number) has h = (h.1, h.0, h.3)
   own_seat log seat_of made returned j seen own back Root has h = (h.1, h.0, omega arith)
 
   -- what a view has seen, once it sees no less
-  pub saw_longer : (log : List E) (seat_of : ℕ → ℕ) (made returned j : ℕ) (seen seen' : List E) (own : ℕ) (back : List (Returned E)) (role : Role) → Begins log seen' → length seen ≤ length seen'
+  pub saw_longer : (log : List E) (seat_of : ℕ → ℕ) (made returned j : ℕ) (seen seen' : List E) (own : ℕ) (back : List (Returned E)) (role : Role) → Begins log seen' →
+      length seen ≤ length seen'
       → Saw by log seat_of made returned j seen own back role → Saw by log seat_of made returned j seen' own back role
   saw_longer log seat_of made returned j seen seen' own back Note a l h = a
   saw_longer log seat_of made returned j seen seen' own back (Seat number) a l h = (goes_longer by log seen seen' number h.0 a l, h.1, h.2, h.3)
   saw_longer log seat_of made returned j seen seen' own back Root a l h = (goes_longer by log seen seen' 0 h.0 a l, h.1, h.2, h.3, h.4)
 
-  pub saw_begins : (log : List E) (seat_of : ℕ → ℕ) (made returned j : ℕ) (seen : List E) (own : ℕ) (back : List (Returned E)) (role : Role) → Saw by log seat_of made returned j seen own back role → Begins log seen
+  pub saw_begins : (log : List E) (seat_of : ℕ → ℕ) (made returned j : ℕ) (seen : List E) (own : ℕ) (back : List (Returned E)) (role : Role) →
+      Saw by log seat_of made returned j seen own back role → Begins log seen
   saw_begins log seat_of made returned j seen own back Note h = h
   saw_begins log seat_of made returned j seen own back (Seat number) h = (h.0.0, h.0.1)
   saw_begins log seat_of made returned j seen own back Root h = (h.0.0, h.0.1)
@@ -151,7 +163,8 @@ module _ {E C : Type 0} where
   inside (x ∷ xs) (suc i) u e = let h = inside xs i u e in omega arith
 
   -- each number is still some view's
-  pub numbers_stay : (seat_of : ℕ → ℕ) (made : ℕ) (vs : List (View E C)) (me : ℕ) (v w : View E C) → get_elem? vs me ≡ some v → ((k : ℕ) → Numbers v.role v.back k → Numbers w.role w.back k)
+  pub numbers_stay : (seat_of : ℕ → ℕ) (made : ℕ) (vs : List (View E C)) (me : ℕ) (v w : View E C) → get_elem? vs me ≡ some v →
+      ((k : ℕ) → Numbers v.role v.back k → Numbers w.role w.back k)
       → ((k : ℕ) → 0 < k → k ≤ made → (d : View E C) × (get_elem? vs (seat_of k) ≡ some d) × Numbers d.role d.back k)
       → (k : ℕ) → 0 < k → k ≤ made → (d : View E C) × (get_elem? (set vs me w) (seat_of k) ≡ some d) × Numbers d.role d.back k
   numbers_stay seat_of made vs me v w at same each k a b = let d = each k a b in dite (ℕ_discrete (seat_of k) me)
@@ -166,12 +179,15 @@ module _ {E C : Type 0} where
   at_end (x ∷ xs) a b (suc j) e = ⊎_elim inl (λ t. inr (ap suc t.0, t.1)) (at_end xs a b j e)
 
   -- what holds of each view after a split
-  pub splits_stay : (K : ℕ → View E C → Type 0) (vs : List (View E C)) (me : ℕ) (left right : View E C) → K me left → ((j : ℕ) (d : View E C) → j ≢ me → get_elem? vs j ≡ some d → K j d) → K (length vs) right
+  pub splits_stay : (K : ℕ → View E C → Type 0) (vs : List (View E C)) (me : ℕ) (left right : View E C) → K me left →
+      ((j : ℕ) (d : View E C) → j ≢ me → get_elem? vs j ≡ some d → K j d) → K (length vs) right
       → (j : ℕ) (d : View E C) → get_elem? (set vs me left ++ right ∷ []) j ≡ some d → K j d
   splits_stay K vs me left right mine others new j d e = ⊎_elim (λ a. seats_stay K vs me left mine others j d a)
-      (λ (t : (j ≡ length (set vs me left)) × (right ≡ d)). subst (λ (z : ℕ × View E C). K z.0 z.1) (λ i. ((sym (length-set vs me left) ∙ sym t.0) i, t.1 i)) new) (at_end (set vs me left) right d j e)
+      (λ (t : (j ≡ length (set vs me left)) × (right ≡ d)). subst (λ (z : ℕ × View E C). K z.0 z.1) (λ i. ((sym (length-set vs me left) ∙ sym t.0) i, t.1 i)) new)
+      (at_end (set vs me left) right d j e)
 
   -- and after a join
-  pub joins_stay : (K : ℕ → View E C → Type 0) (vs : List (View E C)) (me other : ℕ) (both left : View E C) → K me both → ((j : ℕ) (d : View E C) → j ≢ me → get_elem? vs j ≡ some d → K j d) → K other left
+  pub joins_stay : (K : ℕ → View E C → Type 0) (vs : List (View E C)) (me other : ℕ) (both left : View E C) → K me both →
+      ((j : ℕ) (d : View E C) → j ≢ me → get_elem? vs j ≡ some d → K j d) → K other left
       → (j : ℕ) (d : View E C) → get_elem? (set (set vs me both) other left) j ≡ some d → K j d
   joins_stay K vs me other both left mine others last = seats_stay K (set vs me both) other left last (λ j d _. seats_stay K vs me both mine others j d)

@@ -19,7 +19,8 @@ module _ {E : Type 0} (by : E → ℕ) where
   abbrev pub NoneBy : ℕ → List E → Type 0
   NoneBy number entries = All (λ e. by e ≢ number) entries
 
-  -- the list begins with what was seen, and in the rest there is no entry of this number: all its entries are among those that were seen
+  -- the list begins with what was seen, and in the rest there is no entry of this number: all its entries are among
+  -- those that were seen
   abbrev pub GoesOn : List E → ℕ → List E → Type 0
   GoesOn list number seen = (rest : List E) × (list ≡ seen ++ rest) × NoneBy number rest
 

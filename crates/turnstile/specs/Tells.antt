@@ -25,7 +25,16 @@ module _ {E C : Type 0} where
   one_more v = record v { made = v.made + 1 }
 
   abbrev pub newcomer : View E C → View E C
-  newcomer v = record { role = Seat (v.made + 1); stage = Idle; seen = v.seen; told = []; made = 0; back = []; setting = v.setting; told_setting = None }
+  newcomer v = record {
+    role = Seat (v.made + 1);
+    stage = Idle;
+    seen = v.seen;
+    told = [];
+    made = 0;
+    back = [];
+    setting = v.setting;
+    told_setting = None;
+  }
 
 module _ {E C : Type 0} where
   -- a seat writes a note of what it has seen, and stays as it is
@@ -33,18 +42,40 @@ module _ {E C : Type 0} where
   same_view v = v
 
   abbrev pub note_of : View E C → View E C
-  note_of v = record { role = Note; stage = Idle; seen = v.seen; told = []; made = 0; back = []; setting = v.setting; told_setting = None }
+  note_of v = record {
+    role = Note;
+    stage = Idle;
+    seen = v.seen;
+    told = [];
+    made = 0;
+    back = [];
+    setting = v.setting;
+    told_setting = None;
+  }
 
   -- a seat is told what a note says, and the root what a seat had seen that came back
   abbrev pub hears : View E C → View E C → View E C
   hears v w = record v { told = w.seen; told_setting = w.setting }
 
   abbrev pub takes_in : View E C → View E C → View E C
-  takes_in v w = record v { told = w.seen; told_setting = w.setting; back = v.back ++ handed_back (number_of w.role) w.seen ∷ [] }
+  takes_in v w = record v {
+    told = w.seen;
+    told_setting = w.setting;
+    back = v.back ++ handed_back (number_of w.role) w.seen ∷ [];
+  }
 
   -- what is left of a view that was taken in says nothing
   abbrev pub spent : View E C
-  spent = record { role = Note; stage = Idle; seen = []; told = []; made = 0; back = []; setting = None; told_setting = None }
+  spent = record {
+    role = Note;
+    stage = Idle;
+    seen = [];
+    told = [];
+    made = 0;
+    back = [];
+    setting = None;
+    told_setting = None;
+  }
 
   -- what was told is seen
   abbrev pub learned : View E C → View E C
@@ -54,18 +85,24 @@ module _ {T E C : Type 0} (by : E → ℕ) where
   -- A look by which a seat sees what it was told. No more seats came back to the root than it made, and it made each
   -- caller that has an entry there. Who told the seat has the seat's setting.
   abbrev pub learns : Step (Option T) → Me (Option T) (View E C) → ℕ → Me (Option T) (View E C) → Type 0
-  learns st m found m' = (m' ≡ (learned m.0, m.1)) × GoesOn by (longer m.0.seen m.0.told) (number_of m.0.role) m.0.seen × Begins (longer m.0.seen m.0.told) m.0.told
-      × (IsRoot m.0.role → length m.0.back ≤ m.0.made) × (IsRoot m.0.role → NoneAbove by m.0.made (longer m.0.seen m.0.told)) × ((x : C) → m.0.told_setting ≡ Some x → m.0.setting ≡ Some x)
+  learns st m found m' = (m' ≡ (learned m.0, m.1)) ×
+      GoesOn by (longer m.0.seen m.0.told) (number_of m.0.role) m.0.seen × Begins (longer m.0.seen m.0.told) m.0.told
+      × (IsRoot m.0.role → length m.0.back ≤ m.0.made) ×
+      (IsRoot m.0.role → NoneAbove by m.0.made (longer m.0.seen m.0.told)) ×
+      ((x : C) → m.0.told_setting ≡ Some x → m.0.setting ≡ Some x)
 
 module _ {T E C : Type 0} where
   -- the number found is the ticket that was taken
   abbrev pub takes_ticket : Step (Option T) → Me (Option T) (View E C) → ℕ → Me (Option T) (View E C) → Type 0
-  takes_ticket st m found m' = (t : ℕ) × (found ≡ t % 18446744073709551616) × (m' ≡ (record m.0 { stage = Waiting t }, m.1))
+  takes_ticket st m found m' = (t : ℕ) × (found ≡ t % 18446744073709551616) ×
+      (m' ≡ (record m.0 { stage = Waiting t }, m.1))
 
 module _ {T E C : Type 0} (by : E → ℕ) (entries : T → List E) (setting : T → C) where
-  -- The value was taken. It has the setting, and its list goes on after all that was seen with no entry of this caller; the root made each caller that has an entry
+  -- The value was taken. It has the setting, and its list goes on after all that was seen with no entry of this caller;
+  -- the root made each caller that has an entry
   abbrev pub Took : Me (Option T) (View E C) → ℕ → T → Me (Option T) (View E C) → Type 0
-  Took m t x m' = (m' ≡ (record m.0 { stage = InTurn t; seen = entries x }, (0, Some x) ∷ m.1)) × (m.0.setting ≡ Some (setting x)) × GoesOn by (entries x) (number_of m.0.role) m.0.seen
+  Took m t x m' = (m' ≡ (record m.0 { stage = InTurn t; seen = entries x }, (0, Some x) ∷ m.1)) ×
+      (m.0.setting ≡ Some (setting x)) × GoesOn by (entries x) (number_of m.0.role) m.0.seen
       × (IsRoot m.0.role → NoneAbove by m.0.made (entries x))
 
   -- the value was taken exactly where the ticket is served
@@ -73,7 +110,8 @@ module _ {T E C : Type 0} (by : E → ℕ) (entries : T → List E) (setting : T
   looks st m found m' = (t : ℕ) → m.0.stage ≡ Waiting t
       → (found ≡ t % 18446744073709551616 → (x : T) × Took m t x m') × (found ≢ t % 18446744073709551616 → m' ≡ m)
 
-  -- the value may be put back: it has the setting, and its list is the one at entering, or that list with one entry of this caller
+  -- the value may be put back: it has the setting, and its list is the one at entering, or that list with one entry of
+  -- this caller
   abbrev pub MayLeave : View E C → T → Type 0
   MayLeave v x = (v.setting ≡ Some (setting x)) × AddsAtMostOne by (entries x) (number_of v.role) v.seen
 

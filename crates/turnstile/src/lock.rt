@@ -218,10 +218,12 @@ impl<T: Chronicle> Turnstile<T> {
 
 // Takes a ticket, waits until it is served, and takes the value out.
 fn take_turn<T: Chronicle, R: Wait>(rt: &R, steps: &Steps<T>, place: &mut Place<T>) -> T
-    requires table { (place.old.table_id ≡ steps.now.table_id) × (steps.now.table_id.words ≡ 2) × (steps.now.table_id.slots ≡ 1) }
+    requires table { (place.old.table_id ≡ steps.now.table_id) × (steps.now.table_id.words ≡ 2) ×
+        (steps.now.table_id.slots ≡ 1) }
     requires free { IsNumbered place.old.me.0.role × (place.old.me.0.stage ≡ Idle) × (place.old.me.1 ≡ []) }
     ensures same { (place.new.table_id ≡ place.old.table_id) × (place.new.id ≡ place.old.id) }
-    ensures took { (t : ℕ) × (place.new.me ≡ (record place.old.me.0 { stage = InTurn t; seen = T.entries result }, (0, None) ∷ [])) }
+    ensures took { (t : ℕ) × (place.new.me ≡
+        (record place.old.me.0 { stage = InTurn t; seen = T.entries result }, (0, None) ∷ [])) }
     ensures setting { place.old.me.0.setting ≡ Some (T.setting result) }
     ensures list { GoesOn T.by (T.entries result) (number_of place.old.me.0.role) place.old.me.0.seen }
     ensures numbers { IsRoot place.old.me.0.role → NoneAbove T.by place.old.me.0.made (T.entries result) }
@@ -232,10 +234,12 @@ fn take_turn<T: Chronicle, R: Wait>(rt: &R, steps: &Steps<T>, place: &mut Place<
 
 // Waits until this ticket is served, and takes the value out.
 fn wait_for<T: Chronicle, R: Wait>(rt: &R, steps: &Steps<T>, place: &mut Place<T>, ticket: u64) -> T
-    requires table { (place.old.table_id ≡ steps.now.table_id) × (steps.now.table_id.words ≡ 2) × (steps.now.table_id.slots ≡ 1) }
+    requires table { (place.old.table_id ≡ steps.now.table_id) × (steps.now.table_id.words ≡ 2) ×
+        (steps.now.table_id.slots ≡ 1) }
     requires waits { IsNumbered place.old.me.0.role × (place.old.me.1 ≡ []) × Has place.old.me.0.stage ticket }
     ensures same { (place.new.table_id ≡ place.old.table_id) × (place.new.id ≡ place.old.id) }
-    ensures took { (t : ℕ) × (place.new.me ≡ (record place.old.me.0 { stage = InTurn t; seen = T.entries result }, (0, None) ∷ [])) }
+    ensures took { (t : ℕ) × (place.new.me ≡
+        (record place.old.me.0 { stage = InTurn t; seen = T.entries result }, (0, None) ∷ [])) }
     ensures setting { place.old.me.0.setting ≡ Some (T.setting result) }
     ensures list { GoesOn T.by (T.entries result) (number_of place.old.me.0.role) place.old.me.0.seen }
     ensures numbers { IsRoot place.old.me.0.role → NoneAbove T.by place.old.me.0.made (T.entries result) }
@@ -252,7 +256,8 @@ fn wait_for<T: Chronicle, R: Wait>(rt: &R, steps: &Steps<T>, place: &mut Place<T
 
 // Puts the value back, lets the next ticket be served, and wakes all that wait.
 fn end_turn<T: Chronicle>(steps: &Steps<T>, place: &mut Place<T>, value: T)
-    requires table { (place.old.table_id ≡ steps.now.table_id) × (steps.now.table_id.words ≡ 2) × (steps.now.table_id.slots ≡ 1) }
+    requires table { (place.old.table_id ≡ steps.now.table_id) × (steps.now.table_id.words ≡ 2) ×
+        (steps.now.table_id.slots ≡ 1) }
     requires turn { (t : ℕ) × (place.old.me.0.stage ≡ InTurn t) }
     requires holds { IsNumbered place.old.me.0.role × (place.old.me.1 ≡ (0, None) ∷ []) }
     requires value { MayLeave T.by T.entries T.setting place.old.me.0 value }
@@ -269,12 +274,15 @@ fn end_turn<T: Chronicle>(steps: &Steps<T>, place: &mut Place<T>, value: T)
 
 // A note of what one place has seen is read at another, which has then seen it too.
 fn tell<T: Chronicle>(steps: &Steps<T>, from: &mut Place<T>, to: &mut Place<T>)
-    requires table { (from.old.table_id ≡ steps.now.table_id) × (to.old.table_id ≡ steps.now.table_id) × (steps.now.table_id.words ≡ 2) }
+    requires table { (from.old.table_id ≡ steps.now.table_id) × (to.old.table_id ≡ steps.now.table_id) ×
+        (steps.now.table_id.words ≡ 2) }
     requires numbered { IsNumbered from.old.me.0.role × IsNumbered to.old.me.0.role }
-    ensures same { (from.new.table_id ≡ from.old.table_id) × (from.new.id ≡ from.old.id) × (to.new.table_id ≡ to.old.table_id) × (to.new.id ≡ to.old.id) }
+    ensures same { (from.new.table_id ≡ from.old.table_id) × (from.new.id ≡ from.old.id) ×
+        (to.new.table_id ≡ to.old.table_id) × (to.new.id ≡ to.old.id) }
     ensures from { from.new.me ≡ from.old.me }
     ensures to { to.new.me ≡ (learned (hears to.old.me.0 from.old.me.0), to.old.me.1) }
-    ensures kept { GoesOn T.by (longer to.old.me.0.seen from.old.me.0.seen) (number_of to.old.me.0.role) to.old.me.0.seen }
+    ensures kept { GoesOn T.by (longer to.old.me.0.seen from.old.me.0.seen) (number_of to.old.me.0.role)
+        to.old.me.0.seen }
     ensures heard { Begins (longer to.old.me.0.seen from.old.me.0.seen) from.old.me.0.seen }
     ensures numbers { IsRoot to.old.me.0.role →
         NoneAbove T.by to.old.me.0.made (longer to.old.me.0.seen from.old.me.0.seen) }

@@ -28,9 +28,16 @@ impl<T: Chronicle> Model for TurnSeat<T> {
 
     ghost Value = { SeatModel T.Entry T.Setting };
 
-    ghost view = { λ s. record { table = s.place.table_id; number = s.number; in_turn = is_in_turn s.place.me.0.stage; seen = s.place.me.0.seen; setting = s.place.me.0.setting } };
+    ghost view = { λ s. record {
+      table = s.place.table_id;
+      number = s.number;
+      in_turn = is_in_turn s.place.me.0.stage;
+      seen = s.place.me.0.seen;
+      setting = s.place.me.0.setting;
+    } };
 
-    ghost invariant = { λ s. (s.place.me.0.role ≡ Seat s.number) × Holds s.place.me.0.stage s.place.me.1 × IsSome s.place.me.0.setting };
+    ghost invariant = { λ s. (s.place.me.0.role ≡ Seat s.number) × Holds s.place.me.0.stage s.place.me.1 ×
+        IsSome s.place.me.0.setting };
 }
 
 /// The turnstile's first seat, with the number 0. It makes the other seats and takes them back.
@@ -50,9 +57,18 @@ impl<T: Chronicle> Model for Root<T> {
 
     ghost Value = { RootModel T.Entry T.Setting };
 
-    ghost view = { λ s. record { table = s.place.table_id; in_turn = is_in_turn s.place.me.0.stage; seen = s.place.me.0.seen; made = s.place.me.0.made; back = s.place.me.0.back; setting = s.place.me.0.setting } };
+    ghost view = { λ s. record {
+      table = s.place.table_id;
+      in_turn = is_in_turn s.place.me.0.stage;
+      seen = s.place.me.0.seen;
+      made = s.place.me.0.made;
+      back = s.place.me.0.back;
+      setting = s.place.me.0.setting;
+    } };
 
-    ghost invariant = { λ s. (s.place.me.0.role ≡ Root) × (s.place.me.0.made ≡ s.made) × (length s.place.me.0.back ≡ s.back) × Holds s.place.me.0.stage s.place.me.1 × (s.back ≤ s.made) × IsSome s.place.me.0.setting };
+    ghost invariant = { λ s. (s.place.me.0.role ≡ Root) × (s.place.me.0.made ≡ s.made) ×
+        (length s.place.me.0.back ≡ s.back) × Holds s.place.me.0.stage s.place.me.1 × (s.back ≤ s.made) ×
+        IsSome s.place.me.0.setting };
 }
 
 impl<T: Chronicle> Root<T> {

@@ -43,7 +43,8 @@ fn add<R: Wait>(rt: &R, gate: &Turnstile<Log>, seat: &mut TurnSeat<Log>, line: L
     requires own { seat.old.table ≡ gate.now.table }
     requires free { seat.old.in_turn ≡ false }
     requires number { line.who ≡ seat.old.number }
-    ensures seat { (seat.new.table ≡ gate.entry.now.table) × (seat.new.in_turn ≡ false) × (seat.new.number ≡ seat.old.number) }
+    ensures seat { (seat.new.table ≡ gate.entry.now.table) × (seat.new.in_turn ≡ false) ×
+        (seat.new.number ≡ seat.old.number) }
     ensures found { length seat.old.seen ≤ result }
 {
     let mut turn = gate.enter(rt, seat);
@@ -73,7 +74,8 @@ fn add_many<R: Wait>(rt: &R, gate: &Turnstile<Log>, seat: &mut TurnSeat<Log>, wh
     requires own { seat.old.table ≡ gate.now.table }
     requires free { seat.old.in_turn ≡ false }
     requires number { who ≡ seat.old.number }
-    ensures seat { (seat.new.table ≡ gate.entry.now.table) × (seat.new.in_turn ≡ false) × (seat.new.number ≡ seat.old.number) }
+    ensures seat { (seat.new.table ≡ gate.entry.now.table) × (seat.new.in_turn ≡ false) ×
+        (seat.new.number ≡ seat.old.number) }
 {
     for number in 0..count {
         add(rt, gate, seat, Line { who, number });
@@ -118,7 +120,8 @@ fn add_after_meeting<R: Wait>(
     requires number { line.who ≡ seat.old.number }
     ensures root { (root.new.table ≡ gate.entry.now.table) × (root.new.in_turn ≡ false) }
     ensures seats { (root.new.made ≡ root.old.made) × (root.new.back ≡ root.old.back) }
-    ensures seat { (seat.new.table ≡ gate.entry.now.table) × (seat.new.in_turn ≡ false) × (seat.new.number ≡ seat.old.number) }
+    ensures seat { (seat.new.table ≡ gate.entry.now.table) × (seat.new.in_turn ≡ false) ×
+        (seat.new.number ≡ seat.old.number) }
     ensures found { length root.old.seen ≤ result }
 {
     gate.meet(root, seat);

@@ -60,9 +60,16 @@ reducer_is_word r h =
     let back = is_word r.megabytes (omega (arith, h.megabytes_few)) in
     record {
       full = full_front (decimal r.location) (58 ∷ decimal r.megabytes) front.full;
-      short = omega (arith, length-append (decimal r.location) (58 ∷ decimal r.megabytes), length-decimal-le 3 r.location (omega arith) (omega (arith, h.location_small)) (omega (arith, h.location_small)), length-decimal-le 2 r.megabytes (omega arith) (omega (arith, h.megabytes_few)) (omega (arith, h.megabytes_few)));
-      blanks = All-append (λ b. is_blank b ≡ false) (decimal r.location) (58 ∷ decimal r.megabytes) front.blanks (All-cons (λ b. is_blank b ≡ false) 58 (decimal r.megabytes) refl back.blanks);
-      feeds = All-append (λ b. is_line_feed b ≡ false) (decimal r.location) (58 ∷ decimal r.megabytes) front.feeds (All-cons (λ b. is_line_feed b ≡ false) 58 (decimal r.megabytes) refl back.feeds);
+      short = omega (
+        arith,
+        length-append (decimal r.location) (58 ∷ decimal r.megabytes),
+        length-decimal-le 3 r.location (omega arith) (omega (arith, h.location_small)) (omega (arith, h.location_small)),
+        length-decimal-le 2 r.megabytes (omega arith) (omega (arith, h.megabytes_few)) (omega (arith, h.megabytes_few)),
+      );
+      blanks = All-append (λ b. is_blank b ≡ false) (decimal r.location) (58 ∷ decimal r.megabytes) front.blanks
+          (All-cons (λ b. is_blank b ≡ false) 58 (decimal r.megabytes) refl back.blanks);
+      feeds = All-append (λ b. is_line_feed b ≡ false) (decimal r.location) (58 ∷ decimal r.megabytes) front.feeds
+          (All-cons (λ b. is_line_feed b ≡ false) 58 (decimal r.megabytes) refl back.feeds);
     }
 
 mappers_are_words : (mappers : List ℕ) → All (λ m. m < 150) mappers → AreWords (map decimal mappers)
@@ -75,8 +82,10 @@ reducers_are_words (r ∷ rs) h = (reducer_is_word r (h 0 r (omega arith)), redu
 
 later_are_words : (c : MadeCoflow) → IsMade c → AreWords (later_texts c)
 later_are_words c h =
-    let back : AreWords (back_texts c.reducers) = (is_word (length c.reducers) (omega (arith, h.few_reducers)), reducers_are_words c.reducers h.reducers_small) in
-    (is_word c.arrival (omega (arith, h.arrival_small)), (is_word (length c.mappers) (omega (arith, h.few_mappers)), both_words (map decimal c.mappers) (back_texts c.reducers) (mappers_are_words c.mappers h.mappers_small) back))
+    let back : AreWords (back_texts c.reducers) = (is_word (length c.reducers) (omega (arith, h.few_reducers)), reducers_are_words c.reducers h.reducers_small) in (
+      is_word c.arrival (omega (arith, h.arrival_small)),
+      (is_word (length c.mappers) (omega (arith, h.few_mappers)), both_words (map decimal c.mappers) (back_texts c.reducers) (mappers_are_words c.mappers h.mappers_small) back),
+    )
 
 -- the line of a coflow has these fields
 pub fields_are : (c : MadeCoflow) → IsMade c → fields (coflow_line c) ≡ coflow_texts c

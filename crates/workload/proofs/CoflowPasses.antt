@@ -11,7 +11,8 @@ use Rattle.text_fields.specs.Lines.{Line}
 use Rattle.text_fields.specs.Numbers.{number}
 use Rattle.text_fields.proofs.CheckLists.{pass_first}
 use Rattle.trace_reader.specs.Checks.{each, number_checks}
-use Rattle.trace_reader.specs.Coflow.{back_checks, behind_mappers, coflow_of, front_checks, id_checks, id_of, line_checks, mapper_checks, mapper_count, mappers_of, reducer_checks, reducer_count, reducer_of, reducers_of}
+use Rattle.trace_reader.specs.Coflow.{back_checks, behind_mappers, coflow_of, front_checks, id_checks, id_of, line_checks, mapper_checks, mapper_count, mappers_of, reducer_checks}
+use Rattle.trace_reader.specs.Coflow.{reducer_count, reducer_of, reducers_of}
 use Rattle.trace_reader.specs.declared.fault.TraceFault.{TraceFault}
 use Rattle.trace_reader.specs.declared.fault.TraceFault.TheVariants as fault
 use Rattle.trace_reader.proofs.LineParts.{coflow_is}
@@ -43,14 +44,16 @@ module _ (n : ℕ) (c : MadeCoflow) (h : IsMade c) where
   left_is : behind_mappers (read_line n c) ≡ back_line n c
   left_is =
       let e : 3 + mapper_count (read_line n c) ≡ suc (suc (suc (length (map decimal c.mappers)))) = omega (arith, mappers_count, length-map c.mappers decimal) in
-      ap (λ (k : ℕ). record { number = n; texts = drop k (coflow_texts c) }) e ∙ ap (λ (t : List Text). record { number = n; texts = t }) (drop-append_seam (map decimal c.mappers) (back_texts c.reducers))
+      ap (λ (k : ℕ). record { number = n; texts = drop k (coflow_texts c) }) e ∙
+      ap (λ (t : List Text). record { number = n; texts = t }) (drop-append_seam (map decimal c.mappers) (back_texts c.reducers))
 
   -- an id that no earlier line has
   id_passes : (earlier : List ℕ) → list_any (nat_eq c.id) earlier ≡ false → first_fault (id_checks earlier n (decimal c.id)) ≡ None
   id_passes earlier fresh =
       let small : c.id < 2 ^ 64 = omega (arith, h.id_small) in
       let t : list_any (nat_eq (number (decimal c.id))) earlier ≡ false = rw (value_is c.id small) fresh in
-      pass_first (number_checks n 1 quantity.Id 0 (2 ^ 32 - 1) (decimal c.id)) ((not (list_any (nat_eq (number (decimal c.id))) earlier), fault.DuplicateId n (number (decimal c.id))) ∷ [])
+      pass_first (number_checks n 1 quantity.Id 0 (2 ^ 32 - 1) (decimal c.id))
+      ((not (list_any (nat_eq (number (decimal c.id))) earlier), fault.DuplicateId n (number (decimal c.id))) ∷ [])
       (number_passes n 1 0 (2 ^ 32 - 1) quantity.Id c.id small (omega arith) (omega (arith, h.id_small)))
       ∙ rw t refl
 
@@ -61,9 +64,12 @@ module _ (n : ℕ) (c : MadeCoflow) (h : IsMade c) where
       let mapped : List (Check TraceFault) = number_checks n 3 quantity.Mappers 1 4096 (decimal (length c.mappers)) in
       let texts : List Text = map decimal c.mappers ++ back_texts c.reducers in
       let mappers : List (Check TraceFault) = each (mapper_checks 150 n) 4 texts (mapper_count (read_line n c)) in
-      let all : first_fault mappers ≡ None = rw mappers_count (each_passes decimal (λ m. m < 150) (mapper_checks 150 n) 0 4 c.mappers texts (at_front decimal c.mappers (back_texts c.reducers)) h.mappers_small (λ i m lt. mapper_passes n i m lt)) in
+      let all : first_fault mappers ≡ None =
+      rw mappers_count (each_passes decimal (λ m. m < 150) (mapper_checks 150 n) 0 4 c.mappers texts (at_front decimal c.mappers (back_texts c.reducers)) h.mappers_small
+      (λ i m lt. mapper_passes n i m lt)) in
       pass_first named (arrived ++ (mapped ++ mappers)) (id_passes earlier fresh)
-      ∙ (pass_first arrived (mapped ++ mappers) (number_passes n 2 0 (2 ^ 32 - 1) quantity.Arrival c.arrival (omega (arith, h.arrival_small)) (omega arith) (omega (arith, h.arrival_small)))
+      ∙ (pass_first arrived (mapped ++ mappers)
+      (number_passes n 2 0 (2 ^ 32 - 1) quantity.Arrival c.arrival (omega (arith, h.arrival_small)) (omega arith) (omega (arith, h.arrival_small)))
       ∙ (pass_first mapped mappers (number_passes n 3 1 4096 quantity.Mappers (length c.mappers) (omega (arith, h.few_mappers)) h.has_mapper (omega (arith, h.few_mappers))) ∙ all))
 
   back_passes : (k : ℕ) → first_fault (back_checks 150 k (back_line n c)) ≡ None
@@ -71,13 +77,17 @@ module _ (n : ℕ) (c : MadeCoflow) (h : IsMade c) where
       let texts : List Text = map reducer_text c.reducers in
       let counted : List (Check TraceFault) = number_checks n k quantity.Reducers 0 4096 (decimal (length c.reducers)) in
       let rows : List (Check TraceFault) = each (reducer_checks 150 n) (k + 1) texts (reducer_count (back_line n c)) in
-      let ended : List (Check TraceFault) = (length (drop (1 + reducer_count (back_line n c)) (back_texts c.reducers)) == 0, fault.BadLine n (k + 1 + reducer_count (back_line n c))) ∷ [] in
-      let all : first_fault rows ≡ None = rw reducers_count (each_passes reducer_text IsMadeReducer (reducer_checks 150 n) (record { location = 0; megabytes = 0 }) (k + 1) c.reducers texts (at_all reducer_text c.reducers) h.reducers_small (λ i r made. reducer_passes r made n i)) in
+      let ended : List (Check TraceFault) =
+      (length (drop (1 + reducer_count (back_line n c)) (back_texts c.reducers)) == 0, fault.BadLine n (k + 1 + reducer_count (back_line n c))) ∷ [] in
+      let all : first_fault rows ≡ None =
+      rw reducers_count (each_passes reducer_text IsMadeReducer (reducer_checks 150 n) (record { location = 0; megabytes = 0 }) (k + 1) c.reducers texts
+      (at_all reducer_text c.reducers) h.reducers_small (λ i r made. reducer_passes r made n i)) in
       let count = reducers_count in
       let many = length-map c.reducers reducer_text in
       let left : length (drop (1 + reducer_count (back_line n c)) (back_texts c.reducers)) ≡ 0 = rw length-drop (omega arith) in
       let end : (length (drop (1 + reducer_count (back_line n c)) (back_texts c.reducers)) == 0) ≡ true = rw left refl in
-      pass_first counted (rows ++ ended) (number_passes n k 0 4096 quantity.Reducers (length c.reducers) (omega (arith, h.few_reducers)) (omega arith) (omega (arith, h.few_reducers)))
+      pass_first counted (rows ++ ended)
+      (number_passes n k 0 4096 quantity.Reducers (length c.reducers) (omega (arith, h.few_reducers)) (omega arith) (omega (arith, h.few_reducers)))
       ∙ (pass_first rows ended all ∙ rw end refl)
 
   -- the line passes where no earlier line has the id
@@ -88,13 +98,16 @@ module _ (n : ℕ) (c : MadeCoflow) (h : IsMade c) where
       ∙ (ap (λ (l : Line). first_fault (back_checks 150 (4 + mapper_count line) l)) left_is ∙ back_passes (4 + mapper_count line))
 
   said_mappers : mappers_of (read_line n c) ≡ c.mappers
-  said_mappers = rw mappers_count (values_are decimal number 0 0 c.mappers (map decimal c.mappers ++ back_texts c.reducers) (at_front decimal c.mappers (back_texts c.reducers)) ∙ mappers_are c.mappers h.mappers_small)
+  said_mappers = rw mappers_count (values_are decimal number 0 0 c.mappers (map decimal c.mappers ++ back_texts c.reducers) (at_front decimal c.mappers (back_texts c.reducers)) ∙
+      mappers_are c.mappers h.mappers_small)
 
   said_reducers : reducers_of (back_line n c) ≡ map said_reducer c.reducers
   said_reducers =
-      rw reducers_count (values_are reducer_text reducer_of (record { location = 0; megabytes = 0 }) (record { location = 0; millionths = 0 }) c.reducers (map reducer_text c.reducers) (at_all reducer_text c.reducers)
+      rw reducers_count (values_are reducer_text reducer_of (record { location = 0; megabytes = 0 }) (record { location = 0; millionths = 0 }) c.reducers
+      (map reducer_text c.reducers) (at_all reducer_text c.reducers)
       ∙ reducers_are c.reducers h.reducers_small)
 
   -- the line says the coflow
   pub says : coflow_of (read_line n c) ≡ said_coflow c
-  says = sym (coflow_is (read_line n c) (back_line n c) c.id c.arrival c.mappers (map said_reducer c.reducers) (sym left_is) (sym id_is) (sym (value_is c.arrival (omega (arith, h.arrival_small)))) (sym said_mappers) (sym said_reducers))
+  says = sym (coflow_is (read_line n c) (back_line n c) c.id c.arrival c.mappers (map said_reducer c.reducers) (sym left_is) (sym id_is)
+      (sym (value_is c.arrival (omega (arith, h.arrival_small)))) (sym said_mappers) (sym said_reducers))

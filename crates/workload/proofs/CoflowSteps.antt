@@ -32,7 +32,8 @@ pub none_first : (seed : ℕ) → [] ≡ first_coflows seed 0
 unfolding first_coflows
 none_first seed = refl
 
-pub coflow_step : (seed k x arrival : ℕ) (coflow : MadeCoflow) (old new : List MadeCoflow) → x ≡ before_coflow seed k → arrival ≡ arrival_before seed k → coflow ≡ coflow_from (k + 1) arrival x → old ≡ first_coflows seed k → new ≡ old ++ (coflow ∷ []) → new ≡ first_coflows seed (k + 1)
+pub coflow_step : (seed k x arrival : ℕ) (coflow : MadeCoflow) (old new : List MadeCoflow) → x ≡ before_coflow seed k → arrival ≡ arrival_before seed k →
+    coflow ≡ coflow_from (k + 1) arrival x → old ≡ first_coflows seed k → new ≡ old ++ (coflow ∷ []) → new ≡ first_coflows seed (k + 1)
 unfolding first_coflows
 coflow_step seed k x arrival coflow old new here before made so_far step =
     element_more (coflow_at seed) k coflow old new so_far step (made ∙ (ap (λ a. coflow_from (k + 1) a x) before ∙ ap (coflow_from (k + 1) (arrival_before seed k)) here))

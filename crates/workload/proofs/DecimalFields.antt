@@ -38,7 +38,9 @@ full_from_length (b ∷ bs) h = refl
 
 -- the first byte that passes stands behind those that do not
 first_place : (p : ℕ → Bool) (front : Text) (b : ℕ) (rest : Text) → Lacks p front → p b ≡ true → position_or_len p (front ++ b ∷ rest) ≡ length front
-first_place p front b rest h e = position_or_len_is p (front ++ b ∷ rest) (length front) 0 (grind (arith, common_steps)) (λ k lt. rw (get_or_append_left front (b ∷ rest) 0 k lt) (h k 0 lt)) (λ lt. rw (get_or-append_seam front b rest 0) e)
+first_place p front b rest h e =
+    position_or_len_is p (front ++ b ∷ rest) (length front) 0 (grind (arith, common_steps)) (λ k lt. rw (get_or_append_left front (b ∷ rest) 0 k lt) (h k 0 lt))
+    (λ lt. rw (get_or-append_seam front b rest 0) e)
 
 pub cut_before : (p : ℕ → Bool) (front : Text) (b : ℕ) (rest : Text) → Lacks p front → p b ≡ true → before_first p (front ++ b ∷ rest) ≡ front
 cut_before p front b rest h e = rw (first_place p front b rest h e) (take-append_seam front (b ∷ rest))

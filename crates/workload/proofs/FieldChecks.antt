@@ -27,7 +27,8 @@ number_passes line k least most which n small low high =
     rw (is_a_number n small, t) refl
 
 -- where the checks of each of some fields hold, all do
-row_passes : (checks : ℕ → Text → List (Check TraceFault)) (k : ℕ) (texts : List Text) (a count : ℕ) → ((j : ℕ) → j < a + count → first_fault (checks (k + j) (field_at texts j)) ≡ None)
+row_passes : (checks : ℕ → Text → List (Check TraceFault)) (k : ℕ) (texts : List Text) (a count : ℕ) →
+    ((j : ℕ) → j < a + count → first_fault (checks (k + j) (field_at texts j)) ≡ None)
     → first_fault (flat_map (λ j. checks (k + j) (field_at texts j)) (range_with_len a count)) ≡ None
 row_passes checks k texts a zero h = refl
 row_passes checks k texts a (suc n) h =
@@ -44,12 +45,14 @@ at_front text xs others = λ j d lt. get_or_append_left (map text xs) others [] 
 pub at_all : {X : Type 0} (text : X → Text) (xs : List X) → AreAt text xs (map text xs)
 at_all text xs = λ j d lt. get_or-map text xs j d [] lt
 
-pub each_passes : {X : Type 0} (text : X → Text) (P : X → Type 0) (checks : ℕ → Text → List (Check TraceFault)) (d : X) (k : ℕ) (xs : List X) (texts : List Text) → AreAt text xs texts → All P xs
+pub each_passes : {X : Type 0} (text : X → Text) (P : X → Type 0) (checks : ℕ → Text → List (Check TraceFault)) (d : X) (k : ℕ) (xs : List X) (texts : List Text) →
+    AreAt text xs texts → All P xs
     → ((i : ℕ) (x : X) → P x → first_fault (checks i (text x)) ≡ None) → first_fault (each checks k texts (length xs)) ≡ None
 each_passes text P checks d k xs texts at h passes =
     row_passes checks k texts 0 (length xs) (λ j lt. let less : j < length xs = omega arith in rw (at j d less) (passes (k + j) (get_or xs j d) (h j d less)))
 
-pub values_are : {X Y : Type 0} (text : X → Text) (value : Text → Y) (d : X) (e : Y) (xs : List X) (texts : List Text) → AreAt text xs texts → values value texts (length xs) ≡ map (λ x. value (text x)) xs
+pub values_are : {X Y : Type 0} (text : X → Text) (value : Text → Y) (d : X) (e : Y) (xs : List X) (texts : List Text) → AreAt text xs texts →
+    values value texts (length xs) ≡ map (λ x. value (text x)) xs
 values_are text value d e xs texts at =
     let n = length-map-range_with_len (λ j. value (field_at texts j)) 0 (length xs) in
     ext_get_or e (values value texts (length xs)) (map (λ x. value (text x)) xs) (n ∙ sym (length-map xs (λ x. value (text x)))) (λ i lt.
@@ -87,7 +90,8 @@ module _ (r : MadeReducer) (h : IsMadeReducer r) where
       let low = h.location_small in
       let few = h.megabytes_few in
       let place : nat_le (number (location_part (reducer_text r))) 150 ≡ true = rw (location_is, value_is r.location small_location) (grind (arith, nat_tests)) in
-      let size : nat_le (scaled_up 1000000 (megabytes_part (reducer_text r))) (2 ^ 40 * 1000000) ≡ true = rw (megabytes_are, scaled_is r.megabytes small_megabytes 1000000) (grind (arith, nat_tests)) in
+      let size : nat_le (scaled_up 1000000 (megabytes_part (reducer_text r))) (2 ^ 40 * 1000000) ≡ true =
+      rw (megabytes_are, scaled_is r.megabytes small_megabytes 1000000) (grind (arith, nat_tests)) in
       rw (form, place, size) refl
 
   pub reducer_is : reducer_of (reducer_text r) ≡ said_reducer r

@@ -48,7 +48,13 @@ lines_units unit m [] some h = All-nil (λ (x : CoflowLine). units_of_line unit 
 lines_units unit m (c ∷ cs) some h =
     let made = h.1.0 in
     let reducers = map said_reducer c.reducers in
-    let few : units_of_line unit (said_coflow c) ≤ 512 = omega (arith, sum_by-le (λ (r : Reducer). units_of_reducer unit r) 64 reducers (reducers_units unit c.reducers some made.reducers_small), length-map c.reducers said_reducer, made.few_reducers) in
+    let few : units_of_line unit (said_coflow c) ≤ 512 =
+    omega (
+      arith,
+      sum_by-le (λ (r : Reducer). units_of_reducer unit r) 64 reducers (reducers_units unit c.reducers some made.reducers_small),
+      length-map c.reducers said_reducer,
+      made.few_reducers,
+    ) in
     All-cons (λ (x : CoflowLine). units_of_line unit x ≤ 512) (said_coflow c) (map said_coflow cs) few (lines_units unit (m + 1) cs some h.1.1)
 
 count_within : (flows : List Flow) → All (λ (x : Flow). 1 ≤ x.units) flows → length flows ≤ sum_by (λ (x : Flow). x.units) flows
@@ -59,11 +65,13 @@ count_within (x ∷ xs) h = omega (arith, sum_by-cons (λ (y : Flow). y.units) x
 pub units_few : (t : Trace) (unit : ℕ) (cs : List MadeCoflow) → t.coflows ≡ map said_coflow cs → AreMade 1 cs → length cs ≡ 200 → 1 ≤ unit → units_in_all t unit ≤ 102400
 units_few t unit cs e h many some =
     let all = sum_by-le (λ (x : CoflowLine). units_of_line unit x) 512 (map said_coflow cs) (lines_units unit 1 cs some h) in
-    let same : units_in_all t unit ≡ sum_by (λ (x : CoflowLine). units_of_line unit x) (map said_coflow cs) = ap (λ (xs : List CoflowLine). sum_by (λ (x : CoflowLine). units_of_line unit x) xs) e in
+    let same : units_in_all t unit ≡ sum_by (λ (x : CoflowLine). units_of_line unit x) (map said_coflow cs) =
+    ap (λ (xs : List CoflowLine). sum_by (λ (x : CoflowLine). units_of_line unit x) xs) e in
     omega (arith, length-map cs said_coflow)
 
 -- neither the units nor the flows are too many
-pub flows_fit : (t : Trace) (unit : ℕ) (cs : List MadeCoflow) (which : Quantity) (count : ℕ) → t.coflows ≡ map said_coflow cs → IsTrace t → AreMade 1 cs → length cs ≡ 200 → 1 ≤ unit → HasCause t unit (Limit which count) → ⊥
+pub flows_fit : (t : Trace) (unit : ℕ) (cs : List MadeCoflow) (which : Quantity) (count : ℕ) → t.coflows ≡ map said_coflow cs → IsTrace t → AreMade 1 cs → length cs ≡ 200 →
+    1 ≤ unit → HasCause t unit (Limit which count) → ⊥
 flows_fit t unit cs which count e trace h many some cause = refuse cause (units_few t unit cs e h many some)
   where
     refuse : HasCause t unit (Limit which count) → units_in_all t unit ≤ 102400 → ⊥

@@ -29,7 +29,8 @@ behind_spaces words = flat_map (λ (word : Text). codes " " ++ word) words
 -- the words are the fields
 pub words_are_fields : (word : Text) (words : List Text) → IsWord word → AreWords words → fields (word ++ behind_spaces words) ≡ word ∷ words
 words_are_fields word [] h hs = rw (append-nil, slice_split_none is_blank word h.blanks, h.full) refl
-words_are_fields word (next ∷ words) h hs = rw (slice_split_at is_blank word 32 (next ++ behind_spaces words) h.blanks refl, h.full) (ap (λ l. word ∷ l) (words_are_fields next words hs.0 hs.1))
+words_are_fields word (next ∷ words) h hs =
+    rw (slice_split_at is_blank word 32 (next ++ behind_spaces words) h.blanks refl, h.full) (ap (λ l. word ∷ l) (words_are_fields next words hs.0 hs.1))
 
 -- words before other words
 pub both_words : (xs ys : List Text) → AreWords xs → AreWords ys → AreWords (xs ++ ys)
@@ -41,7 +42,8 @@ one_space text h = All-cons (λ b. is_line_feed b ≡ false) 32 text refl h
 
 spaces_lack_feed : (words : List Text) → AreWords words → Lacks is_line_feed (behind_spaces words)
 spaces_lack_feed [] h = All-nil (λ b. is_line_feed b ≡ false)
-spaces_lack_feed (word ∷ words) h = one_space (word ++ behind_spaces words) (All-append (λ b. is_line_feed b ≡ false) word (behind_spaces words) h.0.feeds (spaces_lack_feed words h.1))
+spaces_lack_feed (word ∷ words) h =
+    one_space (word ++ behind_spaces words) (All-append (λ b. is_line_feed b ≡ false) word (behind_spaces words) h.0.feeds (spaces_lack_feed words h.1))
 
 -- a line of words has no line feed
 pub words_lack_feed : (word : Text) (words : List Text) → IsWord word → AreWords words → Lacks is_line_feed (word ++ behind_spaces words)

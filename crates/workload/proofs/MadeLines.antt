@@ -21,13 +21,15 @@ module _ (line : MadeCoflow → Text) where
   full_lines each m [] h = tt
   full_lines each m (c ∷ cs) h = (each c h.1.0, full_lines each (m + 1) cs h.1.1)
 
-  pub numbered_are : (texts : MadeCoflow → List Text) → ((c : MadeCoflow) → IsMade c → fields (line c) ≡ texts c) → (m n : ℕ) (cs : List MadeCoflow) → AreMade m cs → numbered n (map line cs) ≡ read_lines texts n cs
+  pub numbered_are : (texts : MadeCoflow → List Text) → ((c : MadeCoflow) → IsMade c → fields (line c) ≡ texts c) → (m n : ℕ) (cs : List MadeCoflow) → AreMade m cs →
+      numbered n (map line cs) ≡ read_lines texts n cs
   numbered_are texts each m n [] h = refl
   numbered_are texts each m n (c ∷ cs) h =
       ap (λ (t : List Text). record { number = n; texts = t } ∷ numbered (n + 1) (map line cs)) (each c h.1.0)
       ∙ ap (λ (l : List Line). record { number = n; texts = texts c } ∷ l) (numbered_are texts each (m + 1) (n + 1) cs h.1.1)
 
-  pub text_is_short : (most : ℕ) → ((c : MadeCoflow) → IsMade c → length (line c) + 1 ≤ most) → (m : ℕ) (cs : List MadeCoflow) → AreMade m cs → length (text_of (map line cs)) ≤ length cs * most
+  pub text_is_short : (most : ℕ) → ((c : MadeCoflow) → IsMade c → length (line c) + 1 ≤ most) → (m : ℕ) (cs : List MadeCoflow) → AreMade m cs →
+      length (text_of (map line cs)) ≤ length cs * most
   text_is_short most each m [] h = omega arith
   text_is_short most each m (c ∷ cs) h =
       omega (arith, length-append (ended (line c)) (text_of (map line cs)), length-append (line c) (10 ∷ []), each c h.1.0, text_is_short most each (m + 1) cs h.1.1)

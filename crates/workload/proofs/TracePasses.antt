@@ -43,7 +43,8 @@ unused m id earlier e below = list_any_none (nat_eq id) earlier (λ k d lt. let 
     differ : (x : ℕ) → x < m → nat_eq id x ≡ false
     differ x less = grind (arith, nat_tests)
 
-coflows_pass : (n m : ℕ) (earlier : List ℕ) (cs : List MadeCoflow) → AreMade m cs → All (λ e. e < m) earlier → length earlier + length cs ≤ 200 → first_fault (coflow_checks 150 200 earlier (read_lines coflow_texts n cs)) ≡ None
+coflows_pass : (n m : ℕ) (earlier : List ℕ) (cs : List MadeCoflow) → AreMade m cs → All (λ e. e < m) earlier → length earlier + length cs ≤ 200 →
+    first_fault (coflow_checks 150 200 earlier (read_lines coflow_texts n cs)) ≡ None
 coflows_pass n m earlier [] h below few = refl
 coflows_pass n m earlier (c ∷ cs) h below few =
     let room : nat_lt (length earlier) 200 ≡ true = grind (arith, nat_tests) in
@@ -58,7 +59,8 @@ coflows_pass n m earlier (c ∷ cs) h below few =
 
 coflows_said : (n m : ℕ) (cs : List MadeCoflow) → AreMade m cs → map coflow_of (read_lines coflow_texts n cs) ≡ map said_coflow cs
 coflows_said n m [] h = refl
-coflows_said n m (c ∷ cs) h = ap (λ l. l ∷ map coflow_of (read_lines coflow_texts (n + 1) cs)) (says n c h.1.0) ∙ ap (λ l. said_coflow c ∷ l) (coflows_said (n + 1) (m + 1) cs h.1.1)
+coflows_said n m (c ∷ cs) h = ap (λ l. l ∷ map coflow_of (read_lines coflow_texts (n + 1) cs)) (says n c h.1.0) ∙
+    ap (λ l. said_coflow c ∷ l) (coflows_said (n + 1) (m + 1) cs h.1.1)
 
 -- all checks hold
 pub trace_passes : (cs : List MadeCoflow) → AreMade 1 cs → length cs ≡ 200 → first_fault (trace_checks (trace_text cs)) ≡ None

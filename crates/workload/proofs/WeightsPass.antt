@@ -61,7 +61,8 @@ module _ (c : MadeCoflow) (h : IsMade c) where
       let high = h.weight_small in
       let is_one : is_known ids (number (decimal c.id)) ≡ true = rw (value_is c.id small_id) known in
       let is_new : list_any (nat_eq (number (decimal c.id))) earlier ≡ false = rw (value_is c.id small_id) fresh in
-      let in_range : (nat_le 1 (number (decimal c.weight)) && nat_le (number (decimal c.weight)) (2 ^ 32)) ≡ true = rw (value_is c.weight small_weight) (grind (arith, nat_tests)) in
+      let in_range : (nat_le 1 (number (decimal c.weight)) && nat_le (number (decimal c.weight)) (2 ^ 32)) ≡ true =
+      rw (value_is c.weight small_weight) (grind (arith, nat_tests)) in
       let named : List (Check WeightsFault) = id_checks ids n (decimal c.id) in
       let once : List (Check WeightsFault) = fresh_checks earlier n (decimal c.id) in
       let weighed : List (Check WeightsFault) = weight_checks n (decimal c.weight) in
@@ -71,23 +72,27 @@ module _ (c : MadeCoflow) (h : IsMade c) where
       let d : first_fault weighed ≡ None = rw (is_a_number c.weight small_weight, in_range) refl in
       pass_first named (once ++ (weighed ++ ended)) a ∙ (pass_first once (weighed ++ ended) b ∙ pass_first weighed ended d)
 
-weights_pass : (n m : ℕ) (ids earlier : List ℕ) (cs : List MadeCoflow) → AreMade m cs → All (λ (c : MadeCoflow). is_known ids c.id ≡ true) cs → All (λ e. e < m) earlier → first_fault (lines_checks ids earlier (read_lines weight_texts n cs)) ≡ None
+weights_pass : (n m : ℕ) (ids earlier : List ℕ) (cs : List MadeCoflow) → AreMade m cs → All (λ (c : MadeCoflow). is_known ids c.id ≡ true) cs → All (λ e. e < m) earlier →
+    first_fault (lines_checks ids earlier (read_lines weight_texts n cs)) ≡ None
 weights_pass n m ids earlier [] h known below = refl
 weights_pass n m ids earlier (c ∷ cs) h known below =
     let line = weight_read n c in
     let others : List ℕ → List (Check WeightsFault) = λ (before : List ℕ). lines_checks ids before (read_lines weight_texts (n + 1) cs) in
     let id = h.0 in
     let all : All (λ e. e < m + 1) (earlier ++ c.id ∷ []) = All-push (λ e. e < m + 1) earlier c.id (λ k d lt. omega (arith, below k d lt)) (omega arith) in
-    let next : first_fault (others (earlier ++ c.id ∷ [])) ≡ None = weights_pass (n + 1) (m + 1) ids (earlier ++ c.id ∷ []) cs h.1.1 (λ k d lt. known (suc k) d (omega arith)) all in
+    let next : first_fault (others (earlier ++ c.id ∷ [])) ≡ None =
+    weights_pass (n + 1) (m + 1) ids (earlier ++ c.id ∷ []) cs h.1.1 (λ k d lt. known (suc k) d (omega arith)) all in
     let rest : first_fault (others (earlier ++ id_of line ∷ [])) ≡ None = ap (λ (i : ℕ). first_fault (others (earlier ++ i ∷ []))) (value_is c.id (small_id c h.1.0)) ∙ next in
-    pass_first (line_checks ids earlier line) (others (earlier ++ id_of line ∷ [])) (line_passes c h.1.0 n ids earlier (known 0 c (omega arith)) (unused m c.id earlier h.0 below)) ∙ rest
+    pass_first (line_checks ids earlier line) (others (earlier ++ id_of line ∷ [])) (line_passes c h.1.0 n ids earlier (known 0 c (omega arith)) (unused m c.id earlier h.0 below))
+    ∙ rest
 
 -- the trace has the id of each made coflow
 all_known : (cs : List MadeCoflow) → All (λ (c : MadeCoflow). is_known (ids_of (map said_coflow cs)) c.id ≡ true) cs
 all_known cs = λ k d lt.
     let many = length-map cs said_coflow in
     let more = length-map (map said_coflow cs) (λ (x : CoflowLine). x.id) in
-    let at : get_or (ids_of (map said_coflow cs)) k 0 ≡ (get_or cs k d).id = get_or-map (λ (x : CoflowLine). x.id) (map said_coflow cs) k (said_coflow d) 0 (omega arith) ∙ ap (λ (x : CoflowLine). x.id) (get_or-map said_coflow cs k d (said_coflow d) lt) in
+    let at : get_or (ids_of (map said_coflow cs)) k 0 ≡ (get_or cs k d).id = get_or-map (λ (x : CoflowLine). x.id) (map said_coflow cs) k (said_coflow d) 0 (omega arith) ∙
+    ap (λ (x : CoflowLine). x.id) (get_or-map said_coflow cs k d (said_coflow d) lt) in
     list_any_at (nat_eq (get_or cs k d).id) (ids_of (map said_coflow cs)) k 0 (omega arith) (rw at (same (get_or cs k d).id))
   where
     same : (id : ℕ) → nat_eq id id ≡ true
@@ -107,20 +112,23 @@ pub weights_are_short : (cs : List MadeCoflow) → AreMade 1 cs → length cs �
 weights_are_short cs h count = omega (arith, text_is_short weight_line 14 weight_is_short 1 cs h)
 
 -- a line of an earlier id says nothing of these coflows
-later : (m k : ℕ) (line : Line) (lines : List Line) (cs : List MadeCoflow) → id_of line ≡ m → m < k → AreMade k cs → map (λ (x : CoflowLine). weight_of (line ∷ lines) x.id) (map said_coflow cs) ≡ map (λ (x : CoflowLine). weight_of lines x.id) (map said_coflow cs)
+later : (m k : ℕ) (line : Line) (lines : List Line) (cs : List MadeCoflow) → id_of line ≡ m → m < k → AreMade k cs →
+    map (λ (x : CoflowLine). weight_of (line ∷ lines) x.id) (map said_coflow cs) ≡ map (λ (x : CoflowLine). weight_of lines x.id) (map said_coflow cs)
 later m k line lines [] e less h = refl
 later m k line lines (c ∷ cs) e less h =
     let differ : nat_eq c.id (id_of line) ≡ false = let id = h.0 in grind (arith, nat_tests) in
     rw differ (ap (λ l. weight_of lines c.id ∷ l) (later m (k + 1) line lines cs e (omega arith) h.1.1))
 
-weights_said : (n m : ℕ) (cs : List MadeCoflow) → AreMade m cs → map (λ (x : CoflowLine). weight_of (read_lines weight_texts n cs) x.id) (map said_coflow cs) ≡ map (λ (c : MadeCoflow). c.weight) cs
+weights_said : (n m : ℕ) (cs : List MadeCoflow) → AreMade m cs →
+    map (λ (x : CoflowLine). weight_of (read_lines weight_texts n cs) x.id) (map said_coflow cs) ≡ map (λ (c : MadeCoflow). c.weight) cs
 weights_said n m [] h = refl
 weights_said n m (c ∷ cs) h =
     let line = weight_read n c in
     let id : id_of line ≡ c.id = value_is c.id (small_id c h.1.0) in
     let own : nat_eq c.id (id_of line) ≡ true = grind (arith, nat_tests) in
     let rest = later m (m + 1) line (read_lines weight_texts (n + 1) cs) cs (id ∙ h.0) (omega arith) h.1.1 ∙ weights_said (n + 1) (m + 1) cs h.1.1 in
-    rw own (ap (λ w. w ∷ map (λ (x : CoflowLine). weight_of (read_lines weight_texts n (c ∷ cs)) x.id) (map said_coflow cs)) (value_is c.weight (small_weight c h.1.0)) ∙ ap (λ l. c.weight ∷ l) rest)
+    rw own (ap (λ w. w ∷ map (λ (x : CoflowLine). weight_of (read_lines weight_texts n (c ∷ cs)) x.id) (map said_coflow cs)) (value_is c.weight (small_weight c h.1.0)) ∙
+    ap (λ l. c.weight ∷ l) rest)
 
 -- the weights are what the text says
 pub weights_are_said : (cs : List MadeCoflow) → AreMade 1 cs → weights_of (weights_text cs) (map said_coflow cs) ≡ map (λ (c : MadeCoflow). c.weight) cs

@@ -1,4 +1,5 @@
--- The coflows that are made from a seed. Each is drawn in this order: the growth of the arrival, the mappers, the reducers, the weight.
+-- The coflows that are made from a seed. Each is drawn in this order: the growth of the arrival, the mappers, the
+-- reducers, the weight.
 use Rattle.std.specs.Prelude.{ℕ, zero, suc, ◌+◌, ◌*◌, List, map, sum_by}
 use Rattle.std.specs.List.{range_with_len}
 use Rattle.workload.specs.declared.coflow.MadeCoflow.{MadeCoflow}
@@ -45,7 +46,8 @@ at_reducers x = behind_mappers (at_mappers x)
 abbrev pub at_weight : ℕ → ℕ
 at_weight x = behind_reducers (at_reducers x)
 
--- The coflow with this id that is drawn from state x on, where the arrival was as given before it. Its weight is from 1 to 16.
+-- The coflow with this id that is drawn from state x on, where the arrival was as given before it. Its weight is from 1
+-- to 16.
 abbrev pub coflow_from : ℕ → ℕ → ℕ → MadeCoflow
 coflow_from id arrival x = record {
   id = id;

@@ -1,4 +1,4 @@
-// Made workloads: traces with their weights that are drawn from a seed. A seed stands for exactly one trace, byte by byte.
+//! Made workloads: traces with their weights that are drawn from a seed. A seed stands for exactly one trace, byte by byte.
 #![tactic(auto)]
 
 mod coflow;

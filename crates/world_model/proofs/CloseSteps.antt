@@ -1,5 +1,6 @@
 -- A run is closed.
-use Rattle.std.proofs.Common.{◌≡◌, ℕ, ◌+◌, ◌≤◌, ◌<◌, inl, inr, Bool, true, false, List, get_or, refl, sym, ap, subst, ◌∙◌, arith, Option, Some, None, unwrap_or, is_some, is_none, true≢false}
+use Rattle.std.proofs.Common.{◌≡◌, ℕ, ◌+◌, ◌≤◌, ◌<◌, inl, inr, Bool, true, false, List, get_or, refl, sym, ap, subst, ◌∙◌, arith, Option, Some, None, unwrap_or, is_some, is_none}
+use Rattle.std.proofs.Common.{true≢false}
 use Rattle.std.specs.Prelude.{if◌then◌else◌, nat_lt, ◌==◌, ◌&&◌}
 use Rattle.std.proofs.lemmas.Bool.{and_parts, cases_Bool, ltb-false}
 use Rattle.coflow_units.specs.Flows.{ingress_of}
@@ -19,8 +20,10 @@ use Rattle.world_model.proofs.PortSteps.{mkp, no_way}
 use Rattle.journal.proofs.Ingresses.{grant_there}
 
 -- where the port of a grant is done, the number that was sent for it is credited
-done_credit : (r : Run) (sent_here : ℕ) (note settled : Option ℕ) (b : Bool) → settled ≡ Some sent_here → sent_here ≤ r.slots → nat_lt sent_here r.slots ≡ b → IsNote r note settled →
-    (if is_some settled && nat_lt (unwrap_or settled 0) r.slots then is_some note && (unwrap_or note 0 == unwrap_or settled 0) else true) ≡ true → sent_here ≡ unwrap_or note r.slots
+done_credit : (r : Run) (sent_here : ℕ) (note settled : Option ℕ) (b : Bool) → settled ≡ Some sent_here → sent_here ≤ r.slots → nat_lt sent_here r.slots ≡ b →
+    IsNote r note settled →
+    (if is_some settled && nat_lt (unwrap_or settled 0) r.slots then is_some note && (unwrap_or note 0 == unwrap_or settled 0) else true) ≡ true →
+    sent_here ≡ unwrap_or note r.slots
 done_credit r sent_here None settled true e le lt n done =
     let known : (if nat_lt sent_here r.slots then false else true) ≡ true =
     subst (λ (o : Option ℕ). (if is_some o && nat_lt (unwrap_or o 0) r.slots then false else true) ≡ true) e done in
@@ -29,7 +32,8 @@ done_credit r sent_here None settled false e le lt n done = omega (arith, le, lt
 done_credit r sent_here (Some v) settled b e le lt n done = ap (λ (o : Option ℕ). unwrap_or o 0) (sym e ∙ n.0)
 
 -- what a settled port shows
-settled_is : (r : Run) (grant : Option ℕ) (sent_here : ℕ) (slot flow : ℕ) (stage : PortStage) (count : ℕ) (settled : Option ℕ) → is_some settled ≡ true → IsAtStage r grant sent_here (mkp slot flow stage count settled) →
+settled_is : (r : Run) (grant : Option ℕ) (sent_here : ℕ) (slot flow : ℕ) (stage : PortStage) (count : ℕ) (settled : Option ℕ) → is_some settled ≡ true →
+    IsAtStage r grant sent_here (mkp slot flow stage count settled) →
     Rests stage × (slot ≤ r.first) × (settled ≡ Some sent_here) × (sent_here ≤ r.slots)
 settled_is r grant sent_here slot flow stage count settled some (inl x) = absurd (true≢false (sym some ∙ ap is_some x.2))
 settled_is r grant sent_here slot flow unposted count settled some (inr x) = absurd x.2
@@ -63,9 +67,11 @@ same_if false m n h = refl
 abbrev noted_below : Run → Option ℕ → PortFacts → Bool
 noted_below r note x = if is_short r x then is_some note && (unwrap_or note 0 == unwrap_or x.settled 0) else true
 
-pub credits_sent : (o : Opening) (credited : ℕ → ℕ) (next : ℕ) (r : Run) (xs : List PortFacts) (sent : List SentRun) → ((f : ℕ) → ingress_of o.table.flows f < o.table.ports) → ((p : ℕ) → p < o.table.ports → is_done o r p (get_or xs p idle_port) ≡ true) →
+pub credits_sent : (o : Opening) (credited : ℕ → ℕ) (next : ℕ) (r : Run) (xs : List PortFacts) (sent : List SentRun) → ((f : ℕ) → ingress_of o.table.flows f < o.table.ports) →
+    ((p : ℕ) → p < o.table.ports → is_done o r p (get_or xs p idle_port) ≡ true) →
     IsKept o.table.flows o.table.ports credited next (Some r) xs sent → (f : ℕ) → sent_now o.table.flows (Some r) sent f ≡ credit o.table.flows r f
-credits_sent o credited next r xs sent low done h f = same_if (has r.granted f) (sent_for sent (ingress_of o.table.flows f) r.first) (unwrap_or (note_in r.notes (ingress_of o.table.flows f)) r.slots) (λ e.
+credits_sent o credited next r xs sent low done h f =
+    same_if (has r.granted f) (sent_for sent (ingress_of o.table.flows f) r.first) (unwrap_or (note_in r.notes (ingress_of o.table.flows f)) r.slots) (λ e.
     let p = ingress_of o.table.flows f in
     let x = get_or xs p idle_port in
     let note = note_in r.notes p in
@@ -75,8 +81,10 @@ credits_sent o credited next r xs sent low done h f = same_if (has r.granted f) 
     let k = settled_is r grant (sent_for sent p r.first) x.slot x.flow x.stage x.count x.settled parts.0 ((h.port p (low f)).0) in
     done_credit r (sent_for sent p r.first) note x.settled (nat_lt (sent_for sent p r.first) r.slots) k.2 k.3 refl ((h.port p (low f)).1) parts.1)
 
-pub kept_close : (o : Opening) (credited : ℕ → ℕ) (next : ℕ) (r : Run) (xs : List PortFacts) (sent : List SentRun) → ((f : ℕ) → ingress_of o.table.flows f < o.table.ports) → ((p : ℕ) → p < o.table.ports → is_done o r p (get_or xs p idle_port) ≡ true) →
-    IsSound o.table.flows credited next (Some r) → IsKept o.table.flows o.table.ports credited next (Some r) xs sent → IsKept o.table.flows o.table.ports (λ f. credited f + credit o.table.flows r f) (r.first + r.slots) None xs sent
+pub kept_close : (o : Opening) (credited : ℕ → ℕ) (next : ℕ) (r : Run) (xs : List PortFacts) (sent : List SentRun) → ((f : ℕ) → ingress_of o.table.flows f < o.table.ports) →
+    ((p : ℕ) → p < o.table.ports → is_done o r p (get_or xs p idle_port) ≡ true) →
+    IsSound o.table.flows credited next (Some r) → IsKept o.table.flows o.table.ports credited next (Some r) xs sent →
+    IsKept o.table.flows o.table.ports (λ f. credited f + credit o.table.flows r f) (r.first + r.slots) None xs sent
 kept_close o credited next r xs sent low done sound h =
     let at = λ (p : ℕ). get_or xs p idle_port in
     let g = λ (p : ℕ). grant_in o.table.flows r.granted p in

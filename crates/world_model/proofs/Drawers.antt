@@ -1,5 +1,6 @@
 -- Who drew a post is one of the agents.
-use Rattle.std.proofs.Common.{◌≡◌, ℕ, ◌<◌, Bool, true, false, List, [], ◌∷◌, ◌++◌, length, map, get_or, replicate, refl, sym, ap, subst, ◌∙◌, arith, zero, suc, Option, Some, None, unwrap_or}
+use Rattle.std.proofs.Common.{◌≡◌, ℕ, ◌<◌, Bool, true, false, List, [], ◌∷◌, ◌++◌, length, map, get_or, replicate, refl, sym, ap, subst, ◌∙◌, arith, zero, suc, Option, Some, None}
+use Rattle.std.proofs.Common.{unwrap_or}
 use Rattle.std.specs.Prelude.{◌&&◌, if◌then◌else◌, nat_lt, slice_set}
 use Rattle.std.proofs.lemmas.Bool.{and_parts, ltb-true}
 use Rattle.coflow_units.specs.PortWord.{PortStage, is_drawn_by, is_granted}
@@ -31,7 +32,8 @@ stage_cleared [] q = refl
 stage_cleared (x ∷ xs) zero = refl
 stage_cleared (x ∷ xs) (suc q) = stage_cleared xs q
 
-cleared_if : (agents : ℕ) (xs : List PortFacts) (q : ℕ) (b : Bool) → IsOfAgent agents (get_or xs q idle_port).stage → IsOfAgent agents (get_or (if b then cleared xs else xs) q idle_port).stage
+cleared_if : (agents : ℕ) (xs : List PortFacts) (q : ℕ) (b : Bool) → IsOfAgent agents (get_or xs q idle_port).stage →
+    IsOfAgent agents (get_or (if b then cleared xs else xs) q idle_port).stage
 cleared_if agents xs q true h = subst (IsOfAgent agents) (sym (stage_cleared xs q)) h
 cleared_if agents xs q false h = h
 
@@ -40,7 +42,8 @@ one_port w p x lt new h = λ q. port_set (λ y. IsOfAgent w.agents y.stage) w.po
 
 by_post : (w : WorldFacts) (p : ℕ) (run : Option Run) → p < length w.ports → AreDrawnByAgents w → AreDrawnByAgents (posted w p run)
 by_post w p None lt h = h
-by_post w p (Some r) lt h = one_port w p (record (port_at w p) { slot = r.first; flow = unwrap_or (grant_in w.opening.table.flows r.granted p) 0; stage = granted; count = r.slots }) lt tt h
+by_post w p (Some r) lt h = one_port w p
+    (record (port_at w p) { slot = r.first; flow = unwrap_or (grant_in w.opening.table.flows r.granted p) 0; stage = granted; count = r.slots }) lt tt h
 
 by_settle : (agents : ℕ) (x : PortFacts) (stage : PortStage) → x.stage ≡ stage → IsOfAgent agents x.stage → IsOfAgent agents (settled_by x stage).stage
 by_settle agents x (reported agent units) is h = h

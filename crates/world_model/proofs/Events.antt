@@ -1,5 +1,6 @@
 -- Each step keeps what must hold of a world.
-use Rattle.std.proofs.Common.{◌≡◌, ℕ, ◌≤◌, ◌<◌, Bool, true, false, List, [], ◌∷◌, ◌++◌, length, min, max, get_or, replicate, refl, sym, ap, subst, ◌∙◌, arith, zero, suc, Option, Some, None, unwrap_or, is_some, is_none, inl, inr}
+use Rattle.std.proofs.Common.{◌≡◌, ℕ, ◌≤◌, ◌<◌, Bool, true, false, List, [], ◌∷◌, ◌++◌, length, min, max, get_or, replicate, refl, sym, ap, subst, ◌∙◌, arith, zero, suc, Option}
+use Rattle.std.proofs.Common.{Some, None, unwrap_or, is_some, is_none, inl, inr}
 use Rattle.std.specs.Prelude.{if◌then◌else◌, nat_lt, nat_le, slice_index_or, ◌==◌, ◌&&◌, not, slice_set}
 use Rattle.std.specs.List.{list_all, range_with_len}
 use Rattle.std.proofs.lemmas.Bool.{and_parts, cases_lt, eqb-true, leb-true, ltb-true}
@@ -57,12 +58,17 @@ record KeptBy (o : Opening) (s : State) (xs : List PortFacts) (sent : List SentR
   later : s.next ≤ (after o s k r).next
   credits : CreditsSent o sent (after o s k r).next r s.run
 
-ask_step : (o : Opening) (j l : List ℕ) (w : ℕ → ℕ) (p : List Instance) (credited : ℕ → ℕ) (run : Option Run) (next : ℕ) (xs : List PortFacts) (sent : List SentRun) (k : Command) → is_free k ≡ true →
+ask_step : (o : Opening) (j l : List ℕ) (w : ℕ → ℕ) (p : List Instance) (credited : ℕ → ℕ) (run : Option Run) (next : ℕ) (xs : List PortFacts) (sent : List SentRun) (k : Command) →
+    is_free k ≡ true →
     IsKept o.table.flows o.table.ports credited next run xs sent → KeptBy o (mk j l w p credited run next) xs sent k (answer o (mk j l w p credited run next) k)
 ask_step o j l w p credited run next xs sent (Register c) free h =
-    let s = mk j l w p credited run next in branch (KeptBy o s xs sent (Register c)) (has s.joined c) Already Joined (λ e. record { kept = h; later = omega arith; credits = tt }) (λ e. record { kept = h; later = omega arith; credits = tt })
+    let s = mk j l w p credited run next in
+    branch (KeptBy o s xs sent (Register c)) (has s.joined c) Already Joined (λ e. record { kept = h; later = omega arith; credits = tt })
+    (λ e. record { kept = h; later = omega arith; credits = tt })
 ask_step o j l w p credited run next xs sent (Withdraw c) free h =
-    let s = mk j l w p credited run next in branch (KeptBy o s xs sent (Withdraw c)) (is_present s c) Left NotHere (λ e. record { kept = h; later = omega arith; credits = tt }) (λ e. record { kept = h; later = omega arith; credits = tt })
+    let s = mk j l w p credited run next in
+    branch (KeptBy o s xs sent (Withdraw c)) (is_present s c) Left NotHere (λ e. record { kept = h; later = omega arith; credits = tt })
+    (λ e. record { kept = h; later = omega arith; credits = tt })
 ask_step o j l w p credited None next xs sent Publish free h = record { kept = h; later = omega arith; credits = tt }
 ask_step o j l w p credited (Some r) next xs sent Publish free h = record { kept = h; later = omega arith; credits = tt }
 ask_step o j l w p credited run next xs sent (Pull c) free h =
@@ -72,7 +78,8 @@ ask_step o j l w p credited None next xs sent (Open most) free h =
     let s = mk j l w p credited None next in
     let last = if s.next == slot_end then Late s.next else Opened s.next (slots_for o s most) (length (granted o s)) in
     branch (KeptBy o s xs sent (Open most)) (length (owing o s) == 0) NothingLeft last (λ e. record { kept = h; later = omega arith; credits = tt })
-    (λ e. branch (KeptBy o s xs sent (Open most)) (s.next == slot_end) (Late s.next) (Opened s.next (slots_for o s most) (length (granted o s))) (λ e. record { kept = h; later = omega arith; credits = tt })
+    (λ e. branch (KeptBy o s xs sent (Open most)) (s.next == slot_end) (Late s.next) (Opened s.next (slots_for o s most) (length (granted o s)))
+    (λ e. record { kept = h; later = omega arith; credits = tt })
     (λ e. record { kept = kept_open o.table.flows o.table.ports credited next (slots_for o s most) (granted o s) xs sent h; later = omega arith; credits = tt }))
 ask_step o j l w p credited (Some r) next xs sent (Open most) free h = record { kept = h; later = omega arith; credits = tt }
 ask_step o j l w p credited run next xs sent (Short port units) free h = no_way free
@@ -80,7 +87,8 @@ ask_step o j l w p credited run next xs sent CloseRun free h = no_way free
 ask_step o j l w p credited None next xs sent (Skip to) free h =
     let s = mk j l w p credited None next in
     let last = if nat_le slot_end to then Late to else Skipped (max s.next to) in
-    branch (KeptBy o s xs sent (Skip to)) (nat_lt 0 (length (owing o s))) (StillOwed (slice_index_or (owing o s) 0 0)) last (λ e. record { kept = h; later = omega arith; credits = tt })
+    branch (KeptBy o s xs sent (Skip to)) (nat_lt 0 (length (owing o s))) (StillOwed (slice_index_or (owing o s) 0 0)) last
+    (λ e. record { kept = h; later = omega arith; credits = tt })
     (λ e. branch (KeptBy o s xs sent (Skip to)) (nat_le slot_end to) (Late to) (Skipped (max s.next to)) (λ e. record { kept = h; later = omega arith; credits = tt })
     (λ e. record { kept = kept_later o.table.flows o.table.ports credited next (max next to) xs sent (omega arith) h; later = omega arith; credits = tt }))
 ask_step o j l w p credited (Some r) next xs sent (Skip to) free h = record { kept = h; later = omega arith; credits = tt }
@@ -88,8 +96,10 @@ ask_step o j l w p credited run next xs sent (Reweigh c x) free h =
     let s = mk j l w p credited run next in branch (KeptBy o s xs sent (Reweigh c x)) (is_present s c) (Weighed (s.weight c)) NotHere
     (λ e. record { kept = h; later = omega arith; credits = tt }) (λ e. record { kept = h; later = omega arith; credits = tt })
 
-noted_kept : (o : Opening) (s : State) (r : Run) (xs : List PortFacts) (sent : List SentRun) (port : ℕ) (g : Option ℕ) → s.run ≡ Some r → is_short r (get_or xs port idle_port) ≡ true → KeptState o xs sent s →
-    IsKept o.table.flows o.table.ports s.sent s.next (Some r) xs sent → KeptBy o s xs sent (Short port (unwrap_or (get_or xs port idle_port).settled 0)) (noted r port (unwrap_or (get_or xs port idle_port).settled 0) g)
+noted_kept : (o : Opening) (s : State) (r : Run) (xs : List PortFacts) (sent : List SentRun) (port : ℕ) (g : Option ℕ) → s.run ≡ Some r →
+    is_short r (get_or xs port idle_port) ≡ true → KeptState o xs sent s →
+    IsKept o.table.flows o.table.ports s.sent s.next (Some r) xs sent →
+    KeptBy o s xs sent (Short port (unwrap_or (get_or xs port idle_port).settled 0)) (noted r port (unwrap_or (get_or xs port idle_port).settled 0) g)
 noted_kept o s r xs sent port None is short h here = record { kept = h; later = omega arith; credits = tt }
 noted_kept o s r xs sent port (Some f) is short h here =
     let x = get_or xs port idle_port in
@@ -98,16 +108,19 @@ noted_kept o s r xs sent port (Some f) is short h here =
     let same : unwrap_or x.settled 0 ≡ min (unwrap_or x.settled 0) r.slots = omega arith in
     record {
       kept = subst (λ (z : Option Run). IsKept o.table.flows o.table.ports s.sent s.next (noted_in z port (min (unwrap_or x.settled 0) r.slots)) xs sent) (sym is)
-          (kept_note o.table.flows o.table.ports s.sent s.next r xs sent port (min (unwrap_or x.settled 0) r.slots) (is_some_value x.settled some ∙ ap (λ (n : ℕ). Some n) same) (omega arith) here);
+          (kept_note o.table.flows o.table.ports s.sent s.next r xs sent port (min (unwrap_or x.settled 0) r.slots) (is_some_value x.settled some ∙ ap (λ (n : ℕ). Some n) same)
+          (omega arith) here);
       later = omega arith;
       credits = tt;
     }
 
 note_step : (o : Opening) (j l : List ℕ) (w : ℕ → ℕ) (p : List Instance) (credited : ℕ → ℕ) (run : Option Run) (next : ℕ) (xs : List PortFacts) (sent : List SentRun) (port : ℕ) →
     in_run run (λ r. is_short r (get_or xs port idle_port)) ≡ true → IsKept o.table.flows o.table.ports credited next run xs sent →
-    KeptBy o (mk j l w p credited run next) xs sent (Short port (unwrap_or (get_or xs port idle_port).settled 0)) (answer o (mk j l w p credited run next) (Short port (unwrap_or (get_or xs port idle_port).settled 0)))
+    KeptBy o (mk j l w p credited run next) xs sent (Short port (unwrap_or (get_or xs port idle_port).settled 0))
+    (answer o (mk j l w p credited run next) (Short port (unwrap_or (get_or xs port idle_port).settled 0)))
 note_step o j l w p credited None next xs sent port short h = no_way short
-note_step o j l w p credited (Some r) next xs sent port short h = noted_kept o (mk j l w p credited (Some r) next) r xs sent port (grant_in o.table.flows r.granted port) refl short h h
+note_step o j l w p credited (Some r) next xs sent port short h =
+    noted_kept o (mk j l w p credited (Some r) next) r xs sent port (grant_in o.table.flows r.granted port) refl short h h
 
 past : (xs : List Flow) (f : ℕ) (d : Flow) → length xs ≤ f → get_or xs f d ≡ d
 past [] f d le = refl
@@ -125,8 +138,10 @@ all_done ports p test e lt =
     let at : get_or (range_with_len 0 ports) p 0 ≡ p = omega (arith, get_or-range_with_len 0 ports p 0 lt) in
     subst (λ k. test k ≡ true) at (AllPass-from_list_all test (range_with_len 0 ports) e p 0 (omega (arith, lt, length-range_with_len 0 ports)))
 
-close_step : (o : Opening) (j l : List ℕ) (w : ℕ → ℕ) (p : List Instance) (credited : ℕ → ℕ) (run : Option Run) (next : ℕ) (xs : List PortFacts) (sent : List SentRun) → IsOpening o →
-    in_run run (λ r. list_all (λ port. is_done o r port (get_or xs port idle_port)) (range_with_len 0 o.table.ports)) ≡ true → IsSound o.table.flows credited next run → IsKept o.table.flows o.table.ports credited next run xs sent →
+close_step : (o : Opening) (j l : List ℕ) (w : ℕ → ℕ) (p : List Instance) (credited : ℕ → ℕ) (run : Option Run) (next : ℕ) (xs : List PortFacts) (sent : List SentRun) →
+    IsOpening o →
+    in_run run (λ r. list_all (λ port. is_done o r port (get_or xs port idle_port)) (range_with_len 0 o.table.ports)) ≡ true → IsSound o.table.flows credited next run →
+    IsKept o.table.flows o.table.ports credited next run xs sent →
     KeptBy o (mk j l w p credited run next) xs sent CloseRun (answer o (mk j l w p credited run next) CloseRun)
 close_step o j l w p credited None next xs sent ok done sound h = no_way done
 close_step o j l w p credited (Some r) next xs sent ok done sound h =
@@ -151,7 +166,8 @@ asked_kept w who k by h =
 with_room : (o : Opening) (journal : List Entry) (k : Command) (xs : List PortFacts) (sent : List SentRun) → KeptState o xs sent (state_of o journal) →
     KeptBy o (state_of o journal) xs sent k (answer o (state_of o journal) k) → KeptBy o (state_of o journal) xs sent k (reply_of o journal k)
 with_room o journal k xs sent h new =
-    branch (KeptBy o (state_of o journal) xs sent k) (nat_le (room o k) (length journal)) (Full (length journal)) (answer o (state_of o journal) k) (λ e. record { kept = h; later = omega arith; credits = tt }) (λ e. new)
+    branch (KeptBy o (state_of o journal) xs sent k) (nat_le (room o k) (length journal)) (Full (length journal)) (answer o (state_of o journal) k)
+    (λ e. record { kept = h; later = omega arith; credits = tt }) (λ e. new)
 
 pub sound_of : (w : WorldFacts) → IsWorld w → SoundState w.opening (state_of w.opening w.journal)
 sound_of w h = legal_sound w.opening w.journal h.legal.0 h.legal.1
@@ -159,28 +175,40 @@ sound_of w h = legal_sound w.opening w.journal h.legal.0 h.legal.1
 -- ---- steps
 
 post_run : (w : WorldFacts) (port : ℕ) (credited : ℕ → ℕ) (run : Option Run) (next : ℕ) → port < w.opening.table.ports →
-    in_run run (λ r. is_some (grant_in w.opening.table.flows r.granted port) && not (is_posted r (port_at w port))) ≡ true → IsKept w.opening.table.flows w.opening.table.ports credited next run w.ports w.sent →
+    in_run run (λ r. is_some (grant_in w.opening.table.flows r.granted port) && not (is_posted r (port_at w port))) ≡ true →
+    IsKept w.opening.table.flows w.opening.table.ports credited next run w.ports w.sent →
     IsKept w.opening.table.flows w.opening.table.ports credited next run (posted w port run).ports w.sent
 post_run w port credited None next lt may h = no_way may
 post_run w port credited (Some r) next lt may h =
     let y = port_at w port in
     let (some, apart) = and_parts (is_some (grant_in w.opening.table.flows r.granted port)) (not (is_posted r (port_at w port))) may in
-    kept_port w.opening.table.flows w.opening.table.ports credited next (Some r) w.ports w.sent port (record { slot = r.first; flow = unwrap_or (grant_in w.opening.table.flows r.granted port) 0; stage = Rattle.coflow_units.specs.PortWord.PortStage.granted; count = r.slots; settled = y.settled }) lt h
+    kept_port w.opening.table.flows w.opening.table.ports credited next (Some r) w.ports w.sent port
+    (record {
+      slot = r.first;
+      flow = unwrap_or (grant_in w.opening.table.flows r.granted port) 0;
+      stage = Rattle.coflow_units.specs.PortWord.PortStage.granted;
+      count = r.slots;
+      settled = y.settled;
+    }) lt h
     (post_ok w.opening.table.flows next r w.sent port y.slot y.flow y.stage y.count y.settled some apart)
 
-posted_kept : (w : WorldFacts) (port : ℕ) (run : Option Run) → IsKept w.opening.table.flows w.opening.table.ports (state_of w.opening w.journal).sent (state_of w.opening w.journal).next (state_of w.opening w.journal).run (posted w port run).ports w.sent →
+posted_kept : (w : WorldFacts) (port : ℕ) (run : Option Run) →
+    IsKept w.opening.table.flows w.opening.table.ports (state_of w.opening w.journal).sent (state_of w.opening w.journal).next (state_of w.opening w.journal).run
+    (posted w port run).ports w.sent →
     IsCredited w.opening w.sent (state_of w.opening w.journal).next w.journal → IsLegalWorld (posted w port run) → IsOpening w.opening → IsWorld (posted w port run)
 posted_kept w port None h credited legal ok = record { opening = ok; legal = legal; kept = h; credited = credited }
 posted_kept w port (Some r) h credited legal ok = record { opening = ok; legal = legal; kept = h; credited = credited }
 
-send_run : (flows : List Flow) (ports : ℕ) (credited : ℕ → ℕ) (next : ℕ) (run : Option Run) (xs : List PortFacts) (sent : List SentRun) (p a u : ℕ) → p < ports → is_drawn_by a (get_or xs p idle_port).stage ≡ true →
+send_run : (flows : List Flow) (ports : ℕ) (credited : ℕ → ℕ) (next : ℕ) (run : Option Run) (xs : List PortFacts) (sent : List SentRun) (p a u : ℕ) → p < ports →
+    is_drawn_by a (get_or xs p idle_port).stage ≡ true →
     sent_for sent p (get_or xs p idle_port).slot ≡ 0 → 0 < u → u ≤ (get_or xs p idle_port).count → IsSound flows credited next run → IsKept flows ports credited next run xs sent →
     IsKept flows ports credited next run xs (sent ++ record { slot = (get_or xs p idle_port).slot; flow = (get_or xs p idle_port).flow; units = u; port = p } ∷ [])
 send_run flows ports credited next None xs sent p a u lt drew none some fits sound h =
     let y = get_or xs p idle_port in absurd (not_open flows next sent p y.slot y.flow y.stage y.count y.settled a drew (h.port p lt))
 send_run flows ports credited next (Some r) xs sent p a u lt drew none some fits sound h = kept_send flows ports credited next r xs sent p a u lt drew none some fits sound h
 
-settle_run : (w : WorldFacts) (port : ℕ) (credited : ℕ → ℕ) (run : Option Run) (next : ℕ) → port < w.opening.table.ports → in_run run (λ r. is_posted r (port_at w port) && is_none (port_at w port).settled) ≡ true →
+settle_run : (w : WorldFacts) (port : ℕ) (credited : ℕ → ℕ) (run : Option Run) (next : ℕ) → port < w.opening.table.ports →
+    in_run run (λ r. is_posted r (port_at w port) && is_none (port_at w port).settled) ≡ true →
     IsKept w.opening.table.flows w.opening.table.ports credited next run w.ports w.sent →
     IsKept w.opening.table.flows w.opening.table.ports credited next run (slice_set w.ports port (settled_by (port_at w port) (port_at w port).stage)) w.sent
 settle_run w port credited None next lt may h = no_way may
@@ -191,13 +219,16 @@ settle_run w port credited (Some r) next lt may h =
     (settle_ok w.opening.table.flows next r w.sent port y.slot y.flow y.stage y.count y.settled is none)
 
 -- what is sent begins no earlier than the next slot
-not_early : (flows : List Flow) (credited : ℕ → ℕ) (next : ℕ) (run : Option Run) (sent : List SentRun) (p slot flow : ℕ) (stage : PortStage) (count : ℕ) (settled : Option ℕ) (a : ℕ) → is_drawn_by a stage ≡ true → IsSound flows credited next run →
+not_early : (flows : List Flow) (credited : ℕ → ℕ) (next : ℕ) (run : Option Run) (sent : List SentRun) (p slot flow : ℕ) (stage : PortStage) (count : ℕ) (settled : Option ℕ)
+    (a : ℕ) → is_drawn_by a stage ≡ true → IsSound flows credited next run →
     IsPort flows next run sent p (mkp slot flow stage count settled) → next ≤ slot
 not_early flows credited next None sent p slot flow stage count settled a drew sound h = absurd (not_open flows next sent p slot flow stage count settled a drew h)
-not_early flows credited next (Some r) sent p slot flow stage count settled a drew sound h = omega (arith, sound.open_run.first, (drawn_facts flows next r sent p slot flow stage count settled a drew h).0)
+not_early flows credited next (Some r) sent p slot flow stage count settled a drew sound h =
+    omega (arith, sound.open_run.first, (drawn_facts flows next r sent p slot flow stage count settled a drew h).0)
 
 -- a command that is asked keeps the world where its reply does
-asked_world : (w : WorldFacts) (who : ℕ) (k : Command) → IsWorld w → IsLegalWorld (asks w who k) → KeptBy w.opening (state_of w.opening w.journal) w.ports w.sent k (answer w.opening (state_of w.opening w.journal) k) → IsWorld (asks w who k)
+asked_world : (w : WorldFacts) (who : ℕ) (k : Command) → IsWorld w → IsLegalWorld (asks w who k) →
+    KeptBy w.opening (state_of w.opening w.journal) w.ports w.sent k (answer w.opening (state_of w.opening w.journal) k) → IsWorld (asks w who k)
 asked_world w who k h legal by =
     let all = asked_kept w who k (with_room w.opening w.journal k w.ports w.sent h.kept by) h in
     record { opening = h.opening; legal = legal; kept = all.0; credited = all.1 }
@@ -211,8 +242,10 @@ ask_keeps w who k h may =
 pub post_keeps : (w : WorldFacts) (port : ℕ) → IsWorld w → can w (Post port) ≡ true → IsWorld (moved w (Post port))
 post_keeps w port h may =
     let s = state_of w.opening w.journal in
-    let (low, more) = and_parts (nat_lt port w.opening.table.ports) (in_run (run_of w) (λ r. is_some (grant_in w.opening.table.flows r.granted port) && not (is_posted r (port_at w port)))) may in
-    posted_kept w port (run_of w) (post_run w port s.sent (run_of w) s.next (ltb-true port w.opening.table.ports low) more h.kept) h.credited (moved_legal w (Post port) h.legal may) h.opening
+    let (low, more) = and_parts (nat_lt port w.opening.table.ports)
+    (in_run (run_of w) (λ r. is_some (grant_in w.opening.table.flows r.granted port) && not (is_posted r (port_at w port)))) may in
+    posted_kept w port (run_of w) (post_run w port s.sent (run_of w) s.next (ltb-true port w.opening.table.ports low) more h.kept) h.credited
+    (moved_legal w (Post port) h.legal may) h.opening
 
 pub draw_keeps : (w : WorldFacts) (agent port : ℕ) → IsWorld w → can w (Draw agent port) ≡ true → IsWorld (moved w (Draw agent port))
 draw_keeps w agent port h may =
@@ -222,8 +255,10 @@ draw_keeps w agent port h may =
     record {
       opening = h.opening;
       legal = moved_legal w (Draw agent port) h.legal may;
-      kept = kept_port w.opening.table.flows w.opening.table.ports s.sent s.next s.run w.ports w.sent port (record (port_at w port) { stage = drawn agent }) (ltb-true port w.opening.table.ports low) h.kept
-          (draw_ok w.opening.table.flows s.next s.run w.sent port y.slot y.flow y.stage y.count y.settled agent (and_parts (nat_lt agent w.agents) (is_granted (port_at w port).stage) more).1);
+      kept = kept_port w.opening.table.flows w.opening.table.ports s.sent s.next s.run w.ports w.sent port (record (port_at w port) { stage = drawn agent })
+          (ltb-true port w.opening.table.ports low) h.kept
+          (draw_ok w.opening.table.flows s.next s.run w.sent port y.slot y.flow y.stage y.count y.settled agent
+          (and_parts (nat_lt agent w.agents) (is_granted (port_at w port).stage) more).1);
       credited = h.credited;
     }
 
@@ -243,9 +278,11 @@ send_keeps w agent port units h may =
     record {
       opening = h.opening;
       legal = moved_legal w (Send agent port units) h.legal may;
-      kept = send_run w.opening.table.flows w.opening.table.ports s.sent s.next s.run w.ports w.sent port agent units lt d (eqb-true (sent_for w.sent port (port_at w port).slot) 0 z) (ltb-true 0 units some)
+      kept = send_run w.opening.table.flows w.opening.table.ports s.sent s.next s.run w.ports w.sent port agent units lt d
+          (eqb-true (sent_for w.sent port (port_at w port).slot) 0 z) (ltb-true 0 units some)
           (leb-true units (port_at w port).count most) (sound_of w h) h.kept;
-      credited = credited_send w.opening w.sent (run_sent w port units) s.next _ w.journal (not_early w.opening.table.flows s.sent s.next s.run w.sent port y.slot y.flow y.stage y.count y.settled agent d (sound_of w h) (h.kept.port port lt)) h.credited;
+      credited = credited_send w.opening w.sent (run_sent w port units) s.next _ w.journal
+          (not_early w.opening.table.flows s.sent s.next s.run w.sent port y.slot y.flow y.stage y.count y.settled agent d (sound_of w h) (h.kept.port port lt)) h.credited;
     }
 
 pub report_keeps : (w : WorldFacts) (agent port : ℕ) → IsWorld w → can w (Report agent port) ≡ true → IsWorld (moved w (Report agent port))
@@ -256,9 +293,11 @@ report_keeps w agent port h may =
     record {
       opening = h.opening;
       legal = moved_legal w (Report agent port) h.legal may;
-      kept = kept_port w.opening.table.flows w.opening.table.ports s.sent s.next s.run w.ports w.sent port (record (port_at w port) { stage = reported agent (sent_at w port); count = sent_at w port })
+      kept = kept_port w.opening.table.flows w.opening.table.ports s.sent s.next s.run w.ports w.sent port
+          (record (port_at w port) { stage = reported agent (sent_at w port); count = sent_at w port })
           (ltb-true port w.opening.table.ports low) h.kept
-          (report_ok w.opening.table.flows s.next s.run w.sent port y.slot y.flow y.stage y.count y.settled agent (and_parts (nat_lt agent w.agents) (is_drawn_by agent (port_at w port).stage) more).1);
+          (report_ok w.opening.table.flows s.next s.run w.sent port y.slot y.flow y.stage y.count y.settled agent
+          (and_parts (nat_lt agent w.agents) (is_drawn_by agent (port_at w port).stage) more).1);
       credited = h.credited;
     }
 

@@ -1,5 +1,6 @@
 -- What the fields of a world tell of it, and how the world changes with them.
-use Rattle.std.proofs.Common.{◌≡◌, ◌≢◌, ℕ, ◌≤◌, ◌<◌, ◌^◌, Bool, true, false, List, [], ◌∷◌, ◌++◌, length, map, get_or, replicate, refl, sym, ap, subst, ◌∙◌, arith, zero, suc, Option, Some, None, unwrap_or, is_some, is_none, inl, inr}
+use Rattle.std.proofs.Common.{◌≡◌, ◌≢◌, ℕ, ◌≤◌, ◌<◌, ◌^◌, Bool, true, false, List, [], ◌∷◌, ◌++◌, length, map, get_or, replicate, refl, sym, ap, subst, ◌∙◌, arith, zero, suc}
+use Rattle.std.proofs.Common.{Option, Some, None, unwrap_or, is_some, is_none, inl, inr}
 use Rattle.std.specs.Prelude.{if◌then◌else◌, nat_lt, nat_le, ◌==◌, ◌&&◌, not, slice_set}
 use Rattle.std.specs.List.{list_all, range_with_len}
 use Rattle.std.proofs.lemmas.Bool.{and_from, and_parts, eq-eqb, ne_eqb, le-leb, lt-ltb, ltb-true}
@@ -59,7 +60,8 @@ blocked w e not = sym (ap (λ b. if b then answered w e else Blocked) not)
 pub ports_wide : (m : MasterFacts) (agents : ℕ) (xs : List PortState) (sent : List SentRun) → IsWorld (world_facts m agents xs sent) → length xs ≡ m.opening.table.ports
 ports_wide m agents xs sent h = sym (length-map xs port_of) ∙ h.kept.wide
 
-pub port_read : (m : MasterFacts) (agents : ℕ) (xs : List PortState) (sent : List SentRun) (p : ℕ) (x : PortState) → IsWorld (world_facts m agents xs sent) → p < m.opening.table.ports → x ≡ get_or xs p x → port_of x ≡ port_at (world_facts m agents xs sent) p
+pub port_read : (m : MasterFacts) (agents : ℕ) (xs : List PortState) (sent : List SentRun) (p : ℕ) (x : PortState) → IsWorld (world_facts m agents xs sent) →
+    p < m.opening.table.ports → x ≡ get_or xs p x → port_of x ≡ port_at (world_facts m agents xs sent) p
 port_read m agents xs sent p x h lt is = ap port_of is ∙ sym (get_or-map port_of xs p x idle_port (omega (arith, ports_wide m agents xs sent h, lt)))
 
 -- two readings of one place are the same
@@ -67,14 +69,16 @@ pub same_read : (xs : List PortState) (p : ℕ) (x y : PortState) → p < length
 same_read xs p x y lt ex ey = ex ∙ get_or_default xs p x y lt ∙ sym ey
 
 -- a port keeps its last post and what was sent for it
-pub tells_stays : (m : MasterFacts) (agents : ℕ) (xs : List PortState) (sent : List SentRun) (p : ℕ) (x y : PortState) → IsWorld (world_facts m agents xs sent) → TellsSent xs sent → p < m.opening.table.ports → x ≡ get_or xs p x →
+pub tells_stays : (m : MasterFacts) (agents : ℕ) (xs : List PortState) (sent : List SentRun) (p : ℕ) (x y : PortState) → IsWorld (world_facts m agents xs sent) →
+    TellsSent xs sent → p < m.opening.table.ports → x ≡ get_or xs p x →
     y.slot ≡ x.slot → y.sent ≡ x.sent → TellsSent (slice_set xs p y) sent
 tells_stays m agents xs sent p x y h tells low is slot same =
     let lt : p < length xs = omega (arith, ports_wide m agents xs sent h, low) in
     tells_set xs sent p y tells lt (same ∙ tells_read xs sent p x tells lt is ∙ ap (sent_for sent p) (sym slot))
 
 -- what is kept beside a port is what was sent for its last post
-pub tells_at : (m : MasterFacts) (agents : ℕ) (xs : List PortState) (sent : List SentRun) (p : ℕ) (x : PortState) → IsWorld (world_facts m agents xs sent) → TellsSent xs sent → p < m.opening.table.ports → x ≡ get_or xs p x → x.sent ≡ sent_for sent p x.slot
+pub tells_at : (m : MasterFacts) (agents : ℕ) (xs : List PortState) (sent : List SentRun) (p : ℕ) (x : PortState) → IsWorld (world_facts m agents xs sent) → TellsSent xs sent →
+    p < m.opening.table.ports → x ≡ get_or xs p x → x.sent ≡ sent_for sent p x.slot
 tells_at m agents xs sent p x h tells low is = tells_read xs sent p x tells (omega (arith, ports_wide m agents xs sent h, low)) is
 
 abbrev with_ports : MasterFacts → ℕ → List SentRun → List PortFacts → WorldFacts
@@ -102,18 +106,22 @@ no_slots n e = no_way (sym (ap is_some e))
 
 -- ---- a draw
 
-pub may_draw : (m : MasterFacts) (agents : ℕ) (xs : List PortState) (sent : List SentRun) (a p : ℕ) (x : PortState) → IsWorld (world_facts m agents xs sent) → p < m.opening.table.ports → a < agents →
+pub may_draw : (m : MasterFacts) (agents : ℕ) (xs : List PortState) (sent : List SentRun) (a p : ℕ) (x : PortState) → IsWorld (world_facts m agents xs sent) →
+    p < m.opening.table.ports → a < agents →
     x ≡ get_or xs p x → is_granted (stage_of x.stage) ≡ true → can (world_facts m agents xs sent) (Draw a p) ≡ true
 may_draw m agents xs sent a p x h low few is waits =
     let w = world_facts m agents xs sent in
     and_from (nat_lt p m.opening.table.ports) (nat_lt a agents && is_granted (port_at w p).stage) (lt-ltb p m.opening.table.ports low)
-    (and_from (nat_lt a agents) (is_granted (port_at w p).stage) (lt-ltb a agents few) (ap (λ (y : PortFacts). is_granted y.stage) (sym (port_read m agents xs sent p x h low is)) ∙ waits))
+    (and_from (nat_lt a agents) (is_granted (port_at w p).stage) (lt-ltb a agents few) (ap (λ (y : PortFacts). is_granted y.stage) (sym (port_read m agents xs sent p x h low is)) ∙
+    waits))
 
-pub drawn_world : (m : MasterFacts) (agents : ℕ) (xs : List PortState) (sent : List SentRun) (a p : ℕ) (x : PortState) → IsWorld (world_facts m agents xs sent) → p < m.opening.table.ports → x ≡ get_or xs p x →
+pub drawn_world : (m : MasterFacts) (agents : ℕ) (xs : List PortState) (sent : List SentRun) (a p : ℕ) (x : PortState) → IsWorld (world_facts m agents xs sent) →
+    p < m.opening.table.ports → x ≡ get_or xs p x →
     world_facts m agents (slice_set xs p (record x { stage = Drawn a })) sent ≡ moved (world_facts m agents xs sent) (Draw a p)
 drawn_world m agents xs sent a p x h low is =
     let w = world_facts m agents xs sent in
-    port_changed m agents xs sent p (record x { stage = Drawn a }) (record (port_at w p) { stage = drawn a }) (ap (λ (y : PortFacts). record y { stage = drawn a }) (port_read m agents xs sent p x h low is))
+    port_changed m agents xs sent p (record x { stage = Drawn a }) (record (port_at w p) { stage = drawn a })
+    (ap (λ (y : PortFacts). record y { stage = drawn a }) (port_read m agents xs sent p x h low is))
 
 -- ---- a report
 
@@ -122,7 +130,8 @@ low_report w a p may =
     let (low, more) = and_parts (nat_lt p w.opening.table.ports) (nat_lt a w.agents && is_drawn_by a (port_at w p).stage) may in
     (ltb-true p w.opening.table.ports low, (and_parts (nat_lt a w.agents) (is_drawn_by a (port_at w p).stage) more).1)
 
-pub reported_world : (m : MasterFacts) (agents : ℕ) (xs : List PortState) (sent : List SentRun) (a p n : ℕ) (x : PortState) → IsWorld (world_facts m agents xs sent) → p < m.opening.table.ports → x ≡ get_or xs p x → n ≡ sent_for sent p x.slot →
+pub reported_world : (m : MasterFacts) (agents : ℕ) (xs : List PortState) (sent : List SentRun) (a p n : ℕ) (x : PortState) → IsWorld (world_facts m agents xs sent) →
+    p < m.opening.table.ports → x ≡ get_or xs p x → n ≡ sent_for sent p x.slot →
     world_facts m agents (slice_set xs p (record x { stage = Reported a n; count = n; sent = n })) sent ≡ moved (world_facts m agents xs sent) (Report a p)
 reported_world m agents xs sent a p n x h low is count =
     let w = world_facts m agents xs sent in
@@ -133,7 +142,8 @@ reported_world m agents xs sent a p n x h low is count =
 
 -- ---- a sending
 
-may_send : (m : MasterFacts) (agents : ℕ) (xs : List PortState) (sent : List SentRun) (a p u : ℕ) (x : PortState) → IsWorld (world_facts m agents xs sent) → can (world_facts m agents xs sent) (Report a p) ≡ true →
+may_send : (m : MasterFacts) (agents : ℕ) (xs : List PortState) (sent : List SentRun) (a p u : ℕ) (x : PortState) → IsWorld (world_facts m agents xs sent) →
+    can (world_facts m agents xs sent) (Report a p) ≡ true →
     x ≡ get_or xs p x → sent_for sent p x.slot ≡ 0 → 0 < u → u ≤ x.count → can (world_facts m agents xs sent) (Send a p u) ≡ true
 may_send m agents xs sent a p u x h may is none some fits =
     let w = world_facts m agents xs sent in
@@ -149,22 +159,30 @@ may_send m agents xs sent a p u x h may is none some fits =
     and_from (nat_lt p w.opening.table.ports) (nat_lt a w.agents && (is_drawn_by a y.stage && ((sent_for sent p y.slot == 0) && (nat_lt 0 u && nat_le u y.count)))) low
     (and_from (nat_lt a w.agents) (is_drawn_by a y.stage && ((sent_for sent p y.slot == 0) && (nat_lt 0 u && nat_le u y.count))) few drawn_by)
 
-sent_world : (m : MasterFacts) (agents : ℕ) (xs : List PortState) (sent new : List SentRun) (a p u : ℕ) (x : PortState) → IsWorld (world_facts m agents xs sent) → p < m.opening.table.ports → x ≡ get_or xs p x →
-    new ≡ sent ++ record { slot = x.slot; flow = x.flow; units = u; port = p } ∷ [] → world_facts m agents (slice_set xs p (record x { sent = u })) new ≡ moved (world_facts m agents xs sent) (Send a p u)
+sent_world : (m : MasterFacts) (agents : ℕ) (xs : List PortState) (sent new : List SentRun) (a p u : ℕ) (x : PortState) → IsWorld (world_facts m agents xs sent) →
+    p < m.opening.table.ports → x ≡ get_or xs p x →
+    new ≡ sent ++ record { slot = x.slot; flow = x.flow; units = u; port = p } ∷ [] →
+    world_facts m agents (slice_set xs p (record x { sent = u })) new ≡ moved (world_facts m agents xs sent) (Send a p u)
 sent_world m agents xs sent new a p u x h low is more =
-    ap (with_ports m agents new) (map-set_same port_of xs p (record x { sent = u }) x (ap port_of is)) ∙ ap (world_facts m agents xs) (more ∙ ap (λ (z : PortFacts). sent ++ record { slot = z.slot; flow = z.flow; units = u; port = p } ∷ []) (port_read m agents xs sent p x h low is))
+    ap (with_ports m agents new) (map-set_same port_of xs p (record x { sent = u }) x (ap port_of is)) ∙
+    ap (world_facts m agents xs) (more ∙
+    ap (λ (z : PortFacts). sent ++ record { slot = z.slot; flow = z.flow; units = u; port = p } ∷ []) (port_read m agents xs sent p x h low is))
 
 -- the first run is sent for a post, read twice, and the port changes by its units
-pub send_step : (m : MasterFacts) (agents : ℕ) (xs : List PortState) (sent new : List SentRun) (a p u : ℕ) (x y : PortState) → IsWorld (world_facts m agents xs sent) → TellsSent xs sent → can (world_facts m agents xs sent) (Report a p) ≡ true →
+pub send_step : (m : MasterFacts) (agents : ℕ) (xs : List PortState) (sent new : List SentRun) (a p u : ℕ) (x y : PortState) → IsWorld (world_facts m agents xs sent) →
+    TellsSent xs sent → can (world_facts m agents xs sent) (Report a p) ≡ true →
     x ≡ get_or xs p x → y ≡ get_or xs p y → x.sent ≤ 0 → u ≢ 0 → u ≤ x.count → new ≡ sent ++ record { slot = x.slot; flow = x.flow; units = u; port = p } ∷ [] →
-    (can (world_facts m agents xs sent) (Send a p u) ≡ true) × (world_facts m agents (slice_set xs p (record y { sent = u })) new ≡ moved (world_facts m agents xs sent) (Send a p u)) × TellsSent (slice_set xs p (record y { sent = u })) new
+    (can (world_facts m agents xs sent) (Send a p u) ≡ true) ×
+    (world_facts m agents (slice_set xs p (record y { sent = u })) new ≡ moved (world_facts m agents xs sent) (Send a p u)) ×
+    TellsSent (slice_set xs p (record y { sent = u })) new
 send_step m agents xs sent new a p u x y h tells may is again none some fits more =
     let low = (low_report (world_facts m agents xs sent) a p may).0 in
     let lt : p < length xs = omega (arith, ports_wide m agents xs sent h, low) in
     let same = same_read xs p x y lt is again in
     let here : sent_for sent p x.slot ≡ 0 = omega (arith, tells_read xs sent p x tells lt is, none) in
     let empty : y.sent ≡ 0 = omega (arith, ap (λ (z : PortState). z.sent) same, none) in
-    let more' : new ≡ sent ++ record { slot = y.slot; flow = y.flow; units = u; port = p } ∷ [] = more ∙ ap (λ (z : PortState). sent ++ record { slot = z.slot; flow = z.flow; units = u; port = p } ∷ []) same in (
+    let more' : new ≡ sent ++ record { slot = y.slot; flow = y.flow; units = u; port = p } ∷ [] =
+    more ∙ ap (λ (z : PortState). sent ++ record { slot = z.slot; flow = z.flow; units = u; port = p } ∷ []) same in (
       may_send m agents xs sent a p u x h may is here (omega (arith, some)) fits,
       sent_world m agents xs sent new a p u y h low again more',
       tells_sent xs sent new p u y tells lt again empty more',
@@ -172,27 +190,34 @@ send_step m agents xs sent new a p u x y h tells may is again none some fits mor
 
 -- ---- a post
 
-post_in_run : (flows : List Flow) (run : Option Run) (p next slots flow : ℕ) (y : PortFacts) → OnRun run (λ r. r.first ≡ next) → Some slots ≡ slots_of run → Some flow ≡ flow_at flows run p → y.slot ≢ next →
+post_in_run : (flows : List Flow) (run : Option Run) (p next slots flow : ℕ) (y : PortFacts) → OnRun run (λ r. r.first ≡ next) → Some slots ≡ slots_of run →
+    Some flow ≡ flow_at flows run p → y.slot ≢ next →
     in_run run (λ r. is_some (grant_in flows r.granted p) && not (is_posted r y)) ≡ true
 post_in_run flows None p next slots flow y first opens there other = no_slots slots opens
 post_in_run flows (Some r) p next slots flow y first opens there other =
     and_from (is_some (grant_in flows r.granted p)) (not (is_posted r y)) (ap is_some (sym there)) (ap not (ne_eqb y.slot r.first (λ e. other (e ∙ first))))
 
-post_again : (flows : List Flow) (run : Option Run) (p next : ℕ) (y : PortFacts) → OnRun run (λ r. r.first ≡ next) → y.slot ≡ next → in_run run (λ r. is_some (grant_in flows r.granted p) && not (is_posted r y)) ≡ false
+post_again : (flows : List Flow) (run : Option Run) (p next : ℕ) (y : PortFacts) → OnRun run (λ r. r.first ≡ next) → y.slot ≡ next →
+    in_run run (λ r. is_some (grant_in flows r.granted p) && not (is_posted r y)) ≡ false
 post_again flows None p next y first same = refl
 post_again flows (Some r) p next y first same = and_no (is_some (grant_in flows r.granted p)) (not (is_posted r y)) (ap not (eq-eqb y.slot r.first (same ∙ sym first)))
 
-pub may_post : (m : MasterFacts) (agents : ℕ) (xs : List PortState) (sent : List SentRun) (p slots flow next : ℕ) (x : PortState) → IsWorld (world_facts m agents xs sent) → p < m.opening.table.ports → x ≡ get_or xs p x →
-    Some slots ≡ slots_of (state_of m.opening m.journal).run → Some flow ≡ flow_at m.opening.table.flows (state_of m.opening m.journal).run p → next ≡ (state_of m.opening m.journal).next → x.slot ≢ next →
+pub may_post : (m : MasterFacts) (agents : ℕ) (xs : List PortState) (sent : List SentRun) (p slots flow next : ℕ) (x : PortState) → IsWorld (world_facts m agents xs sent) →
+    p < m.opening.table.ports → x ≡ get_or xs p x →
+    Some slots ≡ slots_of (state_of m.opening m.journal).run → Some flow ≡ flow_at m.opening.table.flows (state_of m.opening m.journal).run p →
+    next ≡ (state_of m.opening m.journal).next → x.slot ≢ next →
     can (world_facts m agents xs sent) (Post p) ≡ true
 may_post m agents xs sent p slots flow next x h low is opens there at other =
     let w = world_facts m agents xs sent in
     let s = state_of m.opening m.journal in
     let read : x.slot ≡ (port_at w p).slot = ap (λ (z : PortFacts). z.slot) (port_read m agents xs sent p x h low is) in
-    and_from (nat_lt p m.opening.table.ports) (in_run (run_of w) (λ r. is_some (grant_in m.opening.table.flows r.granted p) && not (is_posted r (port_at w p)))) (lt-ltb p m.opening.table.ports low)
-    (post_in_run m.opening.table.flows s.run p s.next slots flow (port_at w p) (first_is_next m.opening.table.flows s.sent s.next s.run (sound_of w h)) opens there (λ e. other (read ∙ e ∙ sym at)))
+    and_from (nat_lt p m.opening.table.ports) (in_run (run_of w) (λ r. is_some (grant_in m.opening.table.flows r.granted p) && not (is_posted r (port_at w p))))
+    (lt-ltb p m.opening.table.ports low)
+    (post_in_run m.opening.table.flows s.run p s.next slots flow (port_at w p) (first_is_next m.opening.table.flows s.sent s.next s.run (sound_of w h)) opens there
+    (λ e. other (read ∙ e ∙ sym at)))
 
-pub posted_before : (m : MasterFacts) (agents : ℕ) (xs : List PortState) (sent : List SentRun) (p next : ℕ) (x : PortState) → IsWorld (world_facts m agents xs sent) → p < m.opening.table.ports → x ≡ get_or xs p x →
+pub posted_before : (m : MasterFacts) (agents : ℕ) (xs : List PortState) (sent : List SentRun) (p next : ℕ) (x : PortState) → IsWorld (world_facts m agents xs sent) →
+    p < m.opening.table.ports → x ≡ get_or xs p x →
     next ≡ (state_of m.opening m.journal).next → x.slot ≡ next → can (world_facts m agents xs sent) (Post p) ≡ false
 posted_before m agents xs sent p next x h low is at same =
     let w = world_facts m agents xs sent in
@@ -201,46 +226,57 @@ posted_before m agents xs sent p next x h low is at same =
     and_no (nat_lt p m.opening.table.ports) (in_run (run_of w) (λ r. is_some (grant_in m.opening.table.flows r.granted p) && not (is_posted r (port_at w p))))
     (post_again m.opening.table.flows s.run p s.next (port_at w p) (first_is_next m.opening.table.flows s.sent s.next s.run (sound_of w h)) (sym read ∙ same ∙ at))
 
-nothing_there : (flows : List Flow) (next : ℕ) (run : Option Run) (sent : List SentRun) (p slots : ℕ) (y : PortFacts) → OnRun run (λ r. r.first ≡ next) → Some slots ≡ slots_of run → y.slot ≢ next → IsPort flows next run sent p y → sent_for sent p next ≡ 0
+nothing_there : (flows : List Flow) (next : ℕ) (run : Option Run) (sent : List SentRun) (p slots : ℕ) (y : PortFacts) → OnRun run (λ r. r.first ≡ next) →
+    Some slots ≡ slots_of run → y.slot ≢ next → IsPort flows next run sent p y → sent_for sent p next ≡ 0
 nothing_there flows next None sent p slots y first opens other h = no_slots slots opens
 nothing_there flows next (Some r) sent p slots y first opens other (inl x, n) = ap (sent_for sent p) (sym first) ∙ x.3
 nothing_there flows next (Some r) sent p slots y first opens other (inr x, n) = absurd (other (x.0 ∙ first))
 
 -- where the port was not posted in the run, a post tells that nothing was sent for it
-pub tells_posted : (m : MasterFacts) (agents : ℕ) (xs : List PortState) (sent : List SentRun) (p slots flow next : ℕ) (x : PortState) → IsWorld (world_facts m agents xs sent) → TellsSent xs sent → p < m.opening.table.ports → x ≡ get_or xs p x →
+pub tells_posted : (m : MasterFacts) (agents : ℕ) (xs : List PortState) (sent : List SentRun) (p slots flow next : ℕ) (x : PortState) → IsWorld (world_facts m agents xs sent) →
+    TellsSent xs sent → p < m.opening.table.ports → x ≡ get_or xs p x →
     Some slots ≡ slots_of (state_of m.opening m.journal).run → next ≡ (state_of m.opening m.journal).next → x.slot ≢ next →
     TellsSent (slice_set xs p (record { slot = next; flow = flow; stage = Granted; count = slots; settled = x.settled; sent = 0 })) sent
 tells_posted m agents xs sent p slots flow next x h tells low is opens at other =
     let w = world_facts m agents xs sent in
     let s = state_of m.opening m.journal in
     let read : x.slot ≡ (port_at w p).slot = ap (λ (z : PortFacts). z.slot) (port_read m agents xs sent p x h low is) in
-    let none = nothing_there m.opening.table.flows s.next s.run sent p slots (port_at w p) (first_is_next m.opening.table.flows s.sent s.next s.run (sound_of w h)) opens (λ e. other (read ∙ e ∙ sym at)) (h.kept.port p low) in
-    tells_set xs sent p (record { slot = next; flow = flow; stage = Granted; count = slots; settled = x.settled; sent = 0 }) tells (omega (arith, ports_wide m agents xs sent h, low)) (sym (ap (sent_for sent p) at ∙ none))
+    let none = nothing_there m.opening.table.flows s.next s.run sent p slots (port_at w p) (first_is_next m.opening.table.flows s.sent s.next s.run (sound_of w h)) opens
+    (λ e. other (read ∙ e ∙ sym at)) (h.kept.port p low) in
+    tells_set xs sent p (record { slot = next; flow = flow; stage = Granted; count = slots; settled = x.settled; sent = 0 }) tells
+    (omega (arith, ports_wide m agents xs sent h, low)) (sym (ap (sent_for sent p) at ∙ none))
 
 abbrev post_at : WorldFacts → ℕ → PortFacts → ℕ → ℕ → ℕ → WorldFacts
 post_at w p y slot flow count = with_port w p (record y { slot = slot; flow = flow; stage = granted; count = count })
 
-posted_is : (w : WorldFacts) (p : ℕ) (run : Option Run) (next slots flow : ℕ) → OnRun run (λ r. r.first ≡ next) → Some slots ≡ slots_of run → Some flow ≡ flow_at w.opening.table.flows run p →
+posted_is : (w : WorldFacts) (p : ℕ) (run : Option Run) (next slots flow : ℕ) → OnRun run (λ r. r.first ≡ next) → Some slots ≡ slots_of run →
+    Some flow ≡ flow_at w.opening.table.flows run p →
     post_at w p (port_at w p) next flow slots ≡ posted w p run
 posted_is w p None next slots flow first opens there = no_slots slots opens
 posted_is w p (Some r) next slots flow first opens there =
     ap (λ n. post_at w p (port_at w p) n flow slots) (sym first) ∙ ap (λ n. post_at w p (port_at w p) r.first flow n) (some_same slots r.slots opens)
     ∙ ap (λ (o : Option ℕ). post_at w p (port_at w p) r.first (unwrap_or o 0) r.slots) there
 
-pub posted_world : (m : MasterFacts) (agents : ℕ) (xs : List PortState) (sent : List SentRun) (p slots flow next : ℕ) (x : PortState) → IsWorld (world_facts m agents xs sent) → p < m.opening.table.ports → x ≡ get_or xs p x →
-    Some slots ≡ slots_of (state_of m.opening m.journal).run → Some flow ≡ flow_at m.opening.table.flows (state_of m.opening m.journal).run p → next ≡ (state_of m.opening m.journal).next →
-    world_facts m agents (slice_set xs p (record { slot = next; flow = flow; stage = Granted; count = slots; settled = x.settled; sent = 0 })) sent ≡ moved (world_facts m agents xs sent) (Post p)
+pub posted_world : (m : MasterFacts) (agents : ℕ) (xs : List PortState) (sent : List SentRun) (p slots flow next : ℕ) (x : PortState) → IsWorld (world_facts m agents xs sent) →
+    p < m.opening.table.ports → x ≡ get_or xs p x →
+    Some slots ≡ slots_of (state_of m.opening m.journal).run → Some flow ≡ flow_at m.opening.table.flows (state_of m.opening m.journal).run p →
+    next ≡ (state_of m.opening m.journal).next →
+    world_facts m agents (slice_set xs p (record { slot = next; flow = flow; stage = Granted; count = slots; settled = x.settled; sent = 0 })) sent ≡
+    moved (world_facts m agents xs sent) (Post p)
 posted_world m agents xs sent p slots flow next x h low is opens there at =
     let w = world_facts m agents xs sent in
     let s = state_of m.opening m.journal in
     let read = port_read m agents xs sent p x h low is in
-    port_changed m agents xs sent p (record { slot = next; flow = flow; stage = Granted; count = slots; settled = x.settled; sent = 0 }) (record (port_at w p) { slot = next; flow = flow; stage = granted; count = slots })
+    port_changed m agents xs sent p (record { slot = next; flow = flow; stage = Granted; count = slots; settled = x.settled; sent = 0 })
+    (record (port_at w p) { slot = next; flow = flow; stage = granted; count = slots })
     (ap (λ (y : PortFacts). record y { slot = next; flow = flow; stage = granted; count = slots }) read)
-    ∙ ap (λ n. post_at w p (port_at w p) n flow slots) at ∙ posted_is w p s.run s.next slots flow (first_is_next m.opening.table.flows s.sent s.next s.run (sound_of w h)) opens there
+    ∙ ap (λ n. post_at w p (port_at w p) n flow slots) at ∙ posted_is w p s.run s.next slots flow (first_is_next m.opening.table.flows s.sent s.next s.run (sound_of w h)) opens
+    there
 
 -- ---- a settling
 
-settle_in_run : (run : Option Run) (next : ℕ) (y : PortFacts) → OnRun run (λ r. r.first ≡ next) → is_none (slots_of run) ≡ false → y.slot ≡ next → is_none y.settled ≡ true → in_run run (λ r. is_posted r y && is_none y.settled) ≡ true
+settle_in_run : (run : Option Run) (next : ℕ) (y : PortFacts) → OnRun run (λ r. r.first ≡ next) → is_none (slots_of run) ≡ false → y.slot ≡ next → is_none y.settled ≡ true →
+    in_run run (λ r. is_posted r y && is_none y.settled) ≡ true
 settle_in_run None next y first opens same none = no_way (sym opens)
 settle_in_run (Some r) next y first opens same none = and_from (is_posted r y) (is_none y.settled) (eq-eqb y.slot r.first (same ∙ sym first)) none
 
@@ -255,8 +291,10 @@ none_if_not : (o : Option ℕ) → is_some o ≡ false → is_none o ≡ true
 none_if_not None e = refl
 none_if_not (Some n) e = no_way (sym e)
 
-pub may_settle : (m : MasterFacts) (agents : ℕ) (xs : List PortState) (sent : List SentRun) (p next : ℕ) (x : PortState) → IsWorld (world_facts m agents xs sent) → p < m.opening.table.ports → x ≡ get_or xs p x →
-    is_none (slots_of (state_of m.opening m.journal).run) ≡ false → next ≡ (state_of m.opening m.journal).next → x.slot ≡ next → is_some x.settled ≡ false → can (world_facts m agents xs sent) (Settle p) ≡ true
+pub may_settle : (m : MasterFacts) (agents : ℕ) (xs : List PortState) (sent : List SentRun) (p next : ℕ) (x : PortState) → IsWorld (world_facts m agents xs sent) →
+    p < m.opening.table.ports → x ≡ get_or xs p x →
+    is_none (slots_of (state_of m.opening m.journal).run) ≡ false → next ≡ (state_of m.opening m.journal).next → x.slot ≡ next → is_some x.settled ≡ false →
+    can (world_facts m agents xs sent) (Settle p) ≡ true
 may_settle m agents xs sent p next x h low is opens at same none =
     let w = world_facts m agents xs sent in
     let s = state_of m.opening m.journal in
@@ -265,7 +303,8 @@ may_settle m agents xs sent p next x h low is opens at same none =
     (settle_in_run s.run s.next (port_at w p) (first_is_next m.opening.table.flows s.sent s.next s.run (sound_of w h)) opens (ap (λ (z : PortFacts). z.slot) (sym read) ∙ same ∙ at)
     (ap (λ (z : PortFacts). is_none z.settled) (sym read) ∙ none_if_not x.settled none))
 
-pub settle_not_posted : (m : MasterFacts) (agents : ℕ) (xs : List PortState) (sent : List SentRun) (p next : ℕ) (x : PortState) → IsWorld (world_facts m agents xs sent) → p < m.opening.table.ports → x ≡ get_or xs p x →
+pub settle_not_posted : (m : MasterFacts) (agents : ℕ) (xs : List PortState) (sent : List SentRun) (p next : ℕ) (x : PortState) → IsWorld (world_facts m agents xs sent) →
+    p < m.opening.table.ports → x ≡ get_or xs p x →
     next ≡ (state_of m.opening m.journal).next → x.slot ≢ next → can (world_facts m agents xs sent) (Settle p) ≡ false
 settle_not_posted m agents xs sent p next x h low is at other =
     let w = world_facts m agents xs sent in
@@ -274,7 +313,8 @@ settle_not_posted m agents xs sent p next x h low is at other =
     and_no (nat_lt p m.opening.table.ports) (in_run (run_of w) (λ r. is_posted r (port_at w p) && is_none (port_at w p).settled))
     (settle_other s.run s.next (port_at w p) (first_is_next m.opening.table.flows s.sent s.next s.run (sound_of w h)) (λ e. other (read ∙ e ∙ sym at)))
 
-post_fits : (o : Opening) (credited : ℕ → ℕ) (next : ℕ) (run : Option Run) (sent : List SentRun) (p : ℕ) (y : PortFacts) → length o.table.flows ≤ 2 ^ 20 → IsSound o.table.flows credited next run → IsPort o.table.flows next run sent p y →
+post_fits : (o : Opening) (credited : ℕ → ℕ) (next : ℕ) (run : Option Run) (sent : List SentRun) (p : ℕ) (y : PortFacts) → length o.table.flows ≤ 2 ^ 20 →
+    IsSound o.table.flows credited next run → IsPort o.table.flows next run sent p y →
     is_none (slots_of run) ≡ false → y.slot ≡ next → (y.slot < 2199023255552) × (y.flow < 1048576)
 post_fits o credited next None sent p y few sound h opens same = no_way (sym opens)
 post_fits o credited next (Some r) sent p y few sound (inl x, n) opens same = absurd (omega (arith, x.1, same, sound.open_run.first))
@@ -284,22 +324,26 @@ post_fits o credited next (Some r) sent p y few sound (inr x, n) opens same =
     (omega (arith, x.0, sound.open_run.ends, sound.open_run.some), omega (arith, few, All-contains (λ f. f < length o.table.flows) r.granted y.flow low in'))
 
 -- the word of a post of the open run has room for its slot and its flow
-pub settle_fits : (m : MasterFacts) (agents : ℕ) (xs : List PortState) (sent : List SentRun) (p next : ℕ) (x : PortState) → IsWorld (world_facts m agents xs sent) → p < m.opening.table.ports → x ≡ get_or xs p x →
+pub settle_fits : (m : MasterFacts) (agents : ℕ) (xs : List PortState) (sent : List SentRun) (p next : ℕ) (x : PortState) → IsWorld (world_facts m agents xs sent) →
+    p < m.opening.table.ports → x ≡ get_or xs p x →
     is_none (slots_of (state_of m.opening m.journal).run) ≡ false → next ≡ (state_of m.opening m.journal).next → x.slot ≡ next → (x.slot < 2199023255552) × (x.flow < 1048576)
 settle_fits m agents xs sent p next x h low is opens at same =
     let w = world_facts m agents xs sent in
     let s = state_of m.opening m.journal in
     let read = port_read m agents xs sent p x h low is in
     subst (λ (z : PortFacts). (z.slot < 2199023255552) × (z.flow < 1048576)) (sym read)
-    (post_fits m.opening s.sent s.next s.run sent p (port_at w p) h.opening.table.few_flows (sound_of w h) (h.kept.port p low) opens (ap (λ (z : PortFacts). z.slot) (sym read) ∙ same ∙ at))
+    (post_fits m.opening s.sent s.next s.run sent p (port_at w p) h.opening.table.few_flows (sound_of w h) (h.kept.port p low) opens
+    (ap (λ (z : PortFacts). z.slot) (sym read) ∙ same ∙ at))
 
-pub settled_world : (m : MasterFacts) (agents : ℕ) (xs : List PortState) (sent : List SentRun) (p : ℕ) (x y : PortState) → IsWorld (world_facts m agents xs sent) → p < m.opening.table.ports → x ≡ get_or xs p x →
+pub settled_world : (m : MasterFacts) (agents : ℕ) (xs : List PortState) (sent : List SentRun) (p : ℕ) (x y : PortState) → IsWorld (world_facts m agents xs sent) →
+    p < m.opening.table.ports → x ≡ get_or xs p x →
     port_of y ≡ settled_by (port_of x) (stage_of x.stage) → world_facts m agents (slice_set xs p y) sent ≡ moved (world_facts m agents xs sent) (Settle p)
 settled_world m agents xs sent p x y h low is made =
     let w = world_facts m agents xs sent in
     port_changed m agents xs sent p y (settled_by (port_at w p) (port_at w p).stage) (made ∙ ap (λ (z : PortFacts). settled_by z z.stage) (port_read m agents xs sent p x h low is))
 
-pub settled_answer : (m : MasterFacts) (agents : ℕ) (xs : List PortState) (sent : List SentRun) (p : ℕ) (x : PortState) → IsWorld (world_facts m agents xs sent) → p < m.opening.table.ports → x ≡ get_or xs p x →
+pub settled_answer : (m : MasterFacts) (agents : ℕ) (xs : List PortState) (sent : List SentRun) (p : ℕ) (x : PortState) → IsWorld (world_facts m agents xs sent) →
+    p < m.opening.table.ports → x ≡ get_or xs p x →
     answered_by (port_of x) (stage_of x.stage) ≡ answered (world_facts m agents xs sent) (Settle p)
 settled_answer m agents xs sent p x h low is = ap (λ (z : PortFacts). answered_by z z.stage) (port_read m agents xs sent p x h low is)
 
@@ -311,28 +355,32 @@ note_in_run (Some r) y slots units opens settled lt =
     let same = some_same slots r.slots opens in
     ap (λ (o : Option ℕ). is_some o && nat_lt (unwrap_or o 0) r.slots) settled ∙ lt-ltb units r.slots (omega (arith, same, lt))
 
-pub may_note : (m : MasterFacts) (agents : ℕ) (xs : List PortState) (sent : List SentRun) (p slots units : ℕ) (x : PortState) → IsWorld (world_facts m agents xs sent) → p < m.opening.table.ports → x ≡ get_or xs p x →
+pub may_note : (m : MasterFacts) (agents : ℕ) (xs : List PortState) (sent : List SentRun) (p slots units : ℕ) (x : PortState) → IsWorld (world_facts m agents xs sent) →
+    p < m.opening.table.ports → x ≡ get_or xs p x →
     Some slots ≡ slots_of (state_of m.opening m.journal).run → x.settled ≡ Some units → units < slots → can (world_facts m agents xs sent) (Note p) ≡ true
 may_note m agents xs sent p slots units x h low is opens settled lt =
     let w = world_facts m agents xs sent in
     and_from (nat_lt p m.opening.table.ports) (in_run (run_of w) (λ r. is_short r (port_at w p))) (lt-ltb p m.opening.table.ports low)
     (note_in_run (run_of w) (port_at w p) slots units opens (ap (λ (z : PortFacts). z.settled) (sym (port_read m agents xs sent p x h low is)) ∙ settled) lt)
 
-pub noted_units : (m : MasterFacts) (agents : ℕ) (xs : List PortState) (sent : List SentRun) (p units : ℕ) (x : PortState) → IsWorld (world_facts m agents xs sent) → p < m.opening.table.ports → x ≡ get_or xs p x → x.settled ≡ Some units →
+pub noted_units : (m : MasterFacts) (agents : ℕ) (xs : List PortState) (sent : List SentRun) (p units : ℕ) (x : PortState) → IsWorld (world_facts m agents xs sent) →
+    p < m.opening.table.ports → x ≡ get_or xs p x → x.settled ≡ Some units →
     Short p units ≡ settled_note (world_facts m agents xs sent) p
 noted_units m agents xs sent p units x h low is settled =
     ap (λ (o : Option ℕ). Short p (unwrap_or o 0)) (sym settled) ∙ ap (λ (z : PortFacts). Short p (unwrap_or z.settled 0)) (port_read m agents xs sent p x h low is)
 
 -- ---- a closing
 
-pub all_done_true : (run : Option Run) (test : Run → ℕ → Bool) (ports slots : ℕ) → Some slots ≡ slots_of run → ((p : ℕ) → p < ports → in_run run (λ r. test r p) ≡ true) → in_run run (λ r. list_all (test r) (range_with_len 0 ports)) ≡ true
+pub all_done_true : (run : Option Run) (test : Run → ℕ → Bool) (ports slots : ℕ) → Some slots ≡ slots_of run → ((p : ℕ) → p < ports → in_run run (λ r. test r p) ≡ true) →
+    in_run run (λ r. list_all (test r) (range_with_len 0 ports)) ≡ true
 all_done_true None test ports slots opens all = no_slots slots opens
 all_done_true (Some r) test ports slots opens all = list_all-from_AllPass (test r) (range_with_len 0 ports) (λ i d lt.
     let low : i < ports = omega (arith, lt, length-range_with_len 0 ports) in
     let at : get_or (range_with_len 0 ports) i d ≡ i = omega (arith, get_or-range_with_len 0 ports i d low) in
     subst (λ k. test r k ≡ true) (sym at) (all i low))
 
-pub one_not_done : (run : Option Run) (test : Run → ℕ → Bool) (ports p : ℕ) → p < ports → in_run run (λ r. test r p) ≡ false → in_run run (λ r. list_all (test r) (range_with_len 0 ports)) ≡ false
+pub one_not_done : (run : Option Run) (test : Run → ℕ → Bool) (ports p : ℕ) → p < ports → in_run run (λ r. test r p) ≡ false →
+    in_run run (λ r. list_all (test r) (range_with_len 0 ports)) ≡ false
 one_not_done None test ports p low not = refl
 one_not_done (Some r) test ports p low not =
     let at : get_or (range_with_len 0 ports) p 0 ≡ p = omega (arith, get_or-range_with_len 0 ports p 0 low) in
@@ -347,10 +395,12 @@ same_ports : (n : ℕ) (x : PortState) → port_of x ≡ idle_port → ports_of 
 same_ports zero x is = refl
 same_ports (suc n) x is = ap (λ y. y ∷ ports_of (replicate n x)) is ∙ ap (λ l. idle_port ∷ l) (same_ports n x is)
 
-pub new_facts : (m : MasterFacts) (agents n : ℕ) (xs : List PortState) (sent : List SentRun) (x : PortState) → m.journal ≡ [] → n ≡ m.opening.table.ports → xs ≡ replicate n x → port_of x ≡ idle_port → sent ≡ [] →
+pub new_facts : (m : MasterFacts) (agents n : ℕ) (xs : List PortState) (sent : List SentRun) (x : PortState) → m.journal ≡ [] → n ≡ m.opening.table.ports → xs ≡ replicate n x →
+    port_of x ≡ idle_port → sent ≡ [] →
     world_facts m agents xs sent ≡ new_world m.opening agents
 new_facts m agents n xs sent x empty ports all idle none =
-    ap (λ (l : List PortState). world_facts m agents l sent) (all ∙ ap (λ k. replicate k x) ports) ∙ ap (λ (l : List SentRun). world_facts m agents (replicate m.opening.table.ports x) l) none
+    ap (λ (l : List PortState). world_facts m agents l sent) (all ∙ ap (λ k. replicate k x) ports) ∙
+    ap (λ (l : List SentRun). world_facts m agents (replicate m.opening.table.ports x) l) none
     ∙ ap (λ (l : List PortFacts). with_ports m agents [] l) (same_ports m.opening.table.ports x idle) ∙ ap (new_with m.opening agents) empty
 
 -- ---- nothing settled

@@ -1,5 +1,6 @@
 -- All grants of a run are played, one after another.
-use Rattle.std.proofs.Common.{◌≡◌, ◌≢◌, ℕ, ◌<◌, ◌≤◌, Bool, true, false, List, [], ◌∷◌, ◌++◌, length, get_or, Contains, refl, inl, inr, sym, ap, subst, ◌∙◌, arith, Option, Some, None, append-nil, append_assoc}
+use Rattle.std.proofs.Common.{◌≡◌, ◌≢◌, ℕ, ◌<◌, ◌≤◌, Bool, true, false, List, [], ◌∷◌, ◌++◌, length, get_or, Contains, refl, inl, inr, sym, ap, subst, ◌∙◌, arith, Option, Some}
+use Rattle.std.proofs.Common.{None, append-nil, append_assoc}
 use Rattle.std.specs.Prelude.{◌==◌, ◌&&◌, if◌then◌else◌}
 use Rattle.std.specs.List.{flat_map}
 use Rattle.std.proofs.lemmas.Bool.{ne_eqb}
@@ -48,7 +49,8 @@ pub record AreTurned (o : Opening) (j : List Entry) (a : ℕ) (xs : List PortFac
   pub settled : (f : ℕ) → Contains gs f → get_or ys (ingress_of o.table.flows f) idle_port ≡ settled_port o.table.flows d f
   pub others : (q : ℕ) → ((f : ℕ) → Contains gs f → ingress_of o.table.flows f ≢ q) → get_or ys q idle_port ≡ get_or xs q idle_port
 
-sent_elsewhere : (s : List SentRun) (slot f p n q first : ℕ) (b : Bool) → p ≢ q → sent_for (s ++ (if b then [] else record { slot = slot; flow = f; units = n; port = p } ∷ [])) q first ≡ sent_for s q first
+sent_elsewhere : (s : List SentRun) (slot f p n q first : ℕ) (b : Bool) → p ≢ q →
+    sent_for (s ++ (if b then [] else record { slot = slot; flow = f; units = n; port = p } ∷ [])) q first ≡ sent_for s q first
 sent_elsewhere s slot f p n q first true ne = ap (λ l. sent_for l q first) (append-nil s)
 sent_elsewhere s slot f p n q first false ne =
     omega (arith, sent_more s (record { slot = slot; flow = f; units = n; port = p }) q first, ap {B = ℕ} (λ b. if b && (slot == first) then n else 0) (ne_eqb p q ne))
@@ -67,7 +69,8 @@ abbrev pub ApartAt : List Flow → List ℕ → Type 0
 ApartAt flows [] = Unit {0}
 ApartAt flows (f ∷ fs) = ((g : ℕ) → Contains fs g → ingress_of flows f ≢ ingress_of flows g) × ApartAt flows fs
 
-pub all_turned : (o : Opening) (j : List Entry) (a : ℕ) (xs : List PortFacts) (s : List SentRun) (r : Run) (d : Drive) (gs : List ℕ) → length xs ≡ o.table.ports → 0 < a → (state_of o j).run ≡ Some r →
+pub all_turned : (o : Opening) (j : List Entry) (a : ℕ) (xs : List PortFacts) (s : List SentRun) (r : Run) (d : Drive) (gs : List ℕ) → length xs ≡ o.table.ports → 0 < a →
+    (state_of o j).run ≡ Some r →
     r.first ≡ d.first → ApartAt o.table.flows gs → ((f : ℕ) → Contains gs f → IsReady o xs s r d f) → AreTurned o j a xs s d gs
 all_turned o j a xs s r d [] wide some open' first apart ready = none_turned o j a xs s d
 all_turned o j a xs s r d (f ∷ fs) wide some open' first apart ready =
@@ -75,9 +78,11 @@ all_turned o j a xs s r d (f ∷ fs) wide some open' first apart ready =
     let p = ingress_of flows f in
     let n = sent_from flows d f in
     let h = ready f (in_first f fs) in
-    let one : IsTurn o j a xs s d.first p f n = subst (λ k. IsTurn o j a xs s k p f n) first (turned o j a xs s r p f n h.low wide some open' h.grant h.fresh h.clear h.unsent h.fits) in
+    let one : IsTurn o j a xs s d.first p f n =
+    subst (λ k. IsTurn o j a xs s k p f n) first (turned o j a xs s r p f n h.low wide some open' h.grant h.fresh h.clear h.unsent h.fits) in
     let s' = s ++ units_sent d.first f p n in
-    let same : (g : ℕ) → Contains fs g → get_or one.ys (ingress_of flows g) idle_port ≡ get_or xs (ingress_of flows g) idle_port = λ g in'. one.set.others (ingress_of flows g) (λ e. apart.0 g in' (sym e)) in
+    let same : (g : ℕ) → Contains fs g →
+    get_or one.ys (ingress_of flows g) idle_port ≡ get_or xs (ingress_of flows g) idle_port = λ g in'. one.set.others (ingress_of flows g) (λ e. apart.0 g in' (sym e)) in
     let rest = all_turned o j a one.ys s' r d fs (one.set.wide ∙ wide) some open' first apart.1 (λ g in'.
     let k = ready g (in_tail f fs g in') in
     record {

@@ -1,5 +1,6 @@
 -- What holds of a world that has what every step keeps.
-use Rattle.std.proofs.Common.{◌≡◌, ℕ, ◌+◌, ◌-◌, ◌≤◌, ◌<◌, ◌⊎◌, min, inl, inr, List, [], ◌∷◌, ◌++◌, Contains, length, get_or, take, refl, sym, ap, subst, ◌∙◌, arith, Option, Some, None}
+use Rattle.std.proofs.Common.{◌≡◌, ℕ, ◌+◌, ◌-◌, ◌≤◌, ◌<◌, ◌⊎◌, min, inl, inr, List, [], ◌∷◌, ◌++◌, Contains, length, get_or, take, refl, sym, ap, subst, ◌∙◌, arith, Option, Some}
+use Rattle.std.proofs.Common.{None}
 use Rattle.std.proofs.lemmas.List.{take_more}
 use Rattle.coflow_units.specs.declared.fabric.Flow.{Flow}
 use Rattle.coflow_units.specs.Grants.{IsGrants, IsRunLength}
@@ -46,7 +47,8 @@ sends_in_time w h = λ k d lt.
     let s = state_of w.opening w.journal in
     ended w.opening.table.flows s.next s.run (get_or w.sent k d) ((h.kept.each_sent k d lt).in_time)
 
-closing_credits : (o : Opening) (sent : List SentRun) (next slot : ℕ) (s : State) (e : Entry) (r : Run) → e.reply ≡ Closed slot → s.run ≡ Some r → CreditsSent o sent next e.reply s.run → (f : ℕ) →
+closing_credits : (o : Opening) (sent : List SentRun) (next slot : ℕ) (s : State) (e : Entry) (r : Run) → e.reply ≡ Closed slot → s.run ≡ Some r →
+    CreditsSent o sent next e.reply s.run → (f : ℕ) →
     (after o s e.command e.reply).sent f ≡ s.sent f + sent_in sent r f
 closing_credits o sent next slot s e r reply run h f =
     let closes = subst (CreditsSent o sent next (Closed slot)) run (subst (λ (x : Reply). CreditsSent o sent next x s.run) reply h) in
@@ -101,7 +103,8 @@ one_more w [] e = refl
 one_more w (x ∷ xs) e = one_more (world_after w x) xs e
 
 -- one step more of a list
-pub goes_on : (v w w' : WorldFacts) (es : List Event) (k : ℕ) (d : Event) → k < length es → w ≡ world_of v (take k es) → w' ≡ world_after w (get_or es k d) → w' ≡ world_of v (take (k + 1) es)
+pub goes_on : (v w w' : WorldFacts) (es : List Event) (k : ℕ) (d : Event) → k < length es → w ≡ world_of v (take k es) → w' ≡ world_after w (get_or es k d) →
+    w' ≡ world_of v (take (k + 1) es)
 goes_on v w w' es k d lt is went =
     went ∙ ap (λ (u : WorldFacts). world_after u (get_or es k d)) is ∙ sym (one_more v (take k es) (get_or es k d)) ∙ ap (world_of v) (sym (take_more es k d lt))
 

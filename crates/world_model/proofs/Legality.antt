@@ -20,12 +20,16 @@ use Rattle.world_model.specs.Guards.{can, in_run, is_free, is_short}
 use Rattle.world_model.specs.Steps.{asks, moved, posted, settled_note, world_after}
 use Rattle.world_model.specs.Lawful.{IsLegalWorld}
 
-in_range_more : (o : Opening) (journal : List Entry) (who : ℕ) (k : Command) (r : Reply) (b : Bool) → InRange o journal → in_range o k ≡ true → InRange o (journal ++ (if b then [] else entry who k r ∷ []))
+in_range_more : (o : Opening) (journal : List Entry) (who : ℕ) (k : Command) (r : Reply) (b : Bool) → InRange o journal → in_range o k ≡ true →
+    InRange o (journal ++ (if b then [] else entry who k r ∷ []))
 in_range_more o journal who k r true all ok = subst (InRange o) (sym (append-nil journal)) all
 in_range_more o journal who k r false all ok = All-push (λ (e : Entry). in_range o e.command ≡ true) journal (entry who k r) all ok
 
 asks_legal : (w : WorldFacts) (who : ℕ) (k : Command) → IsLegalWorld w → in_range w.opening k ≡ true → IsLegalWorld (asks w who k)
-asks_legal w who k h ok = (legal_after w.opening w.journal who k h.0, in_range_more w.opening w.journal who k (reply_of w.opening w.journal k) (is_full (reply_of w.opening w.journal k)) h.1 ok)
+asks_legal w who k h ok = (
+  legal_after w.opening w.journal who k h.0,
+  in_range_more w.opening w.journal who k (reply_of w.opening w.journal k) (is_full (reply_of w.opening w.journal k)) h.1 ok,
+)
 
 posted_legal : (w : WorldFacts) (port : ℕ) (r : Option Run) → IsLegalWorld w → IsLegalWorld (posted w port r)
 posted_legal w port None h = h
@@ -38,7 +42,8 @@ moved_legal w (Draw agent port) h may = h
 moved_legal w (Send agent port units) h may = h
 moved_legal w (Report agent port) h may = h
 moved_legal w (Settle port) h may = h
-moved_legal w (Note port) h may = asks_legal w 0 (settled_note w port) h (and_parts (nat_lt port w.opening.table.ports) (in_run (run_of w) (λ r. is_short r (port_at w port))) may).0
+moved_legal w (Note port) h may =
+    asks_legal w 0 (settled_note w port) h (and_parts (nat_lt port w.opening.table.ports) (in_run (run_of w) (λ r. is_short r (port_at w port))) may).0
 moved_legal w Close h may = asks_legal w 0 CloseRun h refl
 
 posted_opening : (w : WorldFacts) (port : ℕ) (r : Option Run) → (posted w port r).opening ≡ w.opening

@@ -12,10 +12,12 @@ use Rattle.world_model.specs.Port.{PortFacts, idle_port}
 use Rattle.world_model.specs.Sent.{sent_for}
 use Rattle.world_model.specs.Kept.{IsKept, IsNote, IsPort, IsSentRun}
 
-pub kept_later : (flows : List Flow) (ports : ℕ) (credited : ℕ → ℕ) (next later : ℕ) (xs : List PortFacts) (sent : List SentRun) → next ≤ later → IsKept flows ports credited next None xs sent → IsKept flows ports credited later None xs sent
+pub kept_later : (flows : List Flow) (ports : ℕ) (credited : ℕ → ℕ) (next later : ℕ) (xs : List PortFacts) (sent : List SentRun) → next ≤ later →
+    IsKept flows ports credited next None xs sent → IsKept flows ports credited later None xs sent
 kept_later flows ports credited next later xs sent le h = record {
   wide = h.wide;
-  each_sent = λ k d low. let x = h.each_sent k d low in record { slot_some = x.slot_some; units_some = x.units_some; at_ingress = x.at_ingress; in_time = omega (arith, x.in_time, le) };
+  each_sent = λ k d low. let x = h.each_sent k d low in
+      record { slot_some = x.slot_some; units_some = x.units_some; at_ingress = x.at_ingress; in_time = omega (arith, x.in_time, le) };
   apart = h.apart;
   accounted = h.accounted;
   port = λ q low. ((h.port q low).0, omega (arith, (h.port q low).1, le));
@@ -44,7 +46,8 @@ now_none : (b : Bool) (n : ℕ) → n ≡ 0 → (if b then n else 0) ≡ 0
 now_none true n e = e
 now_none false n e = refl
 
-pub kept_open : (flows : List Flow) (ports : ℕ) (credited : ℕ → ℕ) (next slots : ℕ) (gs : List ℕ) (xs : List PortFacts) (sent : List SentRun) → IsKept flows ports credited next None xs sent →
+pub kept_open : (flows : List Flow) (ports : ℕ) (credited : ℕ → ℕ) (next slots : ℕ) (gs : List ℕ) (xs : List PortFacts) (sent : List SentRun) →
+    IsKept flows ports credited next None xs sent →
     IsKept flows ports credited next (Some (record { first = next; slots = slots; granted = gs; notes = [] })) (map (λ (x : PortFacts). record x { settled = None }) xs) sent
 kept_open flows ports credited next slots gs xs sent h =
     let none = λ (p : ℕ). none_at flows next sent p h.each_sent in
@@ -59,11 +62,13 @@ kept_open flows ports credited next slots gs xs sent h =
           (inl ((h.port q low).0, (h.port q low).1, refl, none q), tt);
     }
 
-note_more : (r : Run) (p q n : ℕ) (settled : Option ℕ) (b : Bool) → (p == q) ≡ b → (p ≡ q → (settled ≡ Some n) × (n < r.slots)) → IsNote r (note_in r.notes q) settled → IsNote r (if b then Some n else note_in r.notes q) settled
+note_more : (r : Run) (p q n : ℕ) (settled : Option ℕ) (b : Bool) → (p == q) ≡ b → (p ≡ q → (settled ≡ Some n) × (n < r.slots)) → IsNote r (note_in r.notes q) settled →
+    IsNote r (if b then Some n else note_in r.notes q) settled
 note_more r p q n settled true e new old = new (eqb-true p q e)
 note_more r p q n settled false e new old = old
 
-pub kept_note : (flows : List Flow) (ports : ℕ) (credited : ℕ → ℕ) (next : ℕ) (r : Run) (xs : List PortFacts) (sent : List SentRun) (p n : ℕ) → (get_or xs p idle_port).settled ≡ Some n → n < r.slots →
+pub kept_note : (flows : List Flow) (ports : ℕ) (credited : ℕ → ℕ) (next : ℕ) (r : Run) (xs : List PortFacts) (sent : List SentRun) (p n : ℕ) →
+    (get_or xs p idle_port).settled ≡ Some n → n < r.slots →
     IsKept flows ports credited next (Some r) xs sent → IsKept flows ports credited next (Some (record r { notes = (p, n) ∷ r.notes })) xs sent
 kept_note flows ports credited next r xs sent p n settled lt h = record {
   wide = h.wide;

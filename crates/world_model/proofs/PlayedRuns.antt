@@ -1,5 +1,6 @@
 -- A run of the driver among entries of others is a list of steps.
-use Rattle.std.proofs.Common.{◌≡◌, ◌≢◌, ℕ, ◌+◌, ◌<◌, ◌≤◌, Bool, true, false, List, [], ◌∷◌, ◌++◌, length, map, get_or, Contains, refl, inl, inr, sym, ap, subst, ◌∙◌, arith, Option, Some, None, unwrap_or, is_some, is_none, append-nil, append_assoc}
+use Rattle.std.proofs.Common.{◌≡◌, ◌≢◌, ℕ, ◌+◌, ◌<◌, ◌≤◌, Bool, true, false, List, [], ◌∷◌, ◌++◌, length, map, get_or, Contains, refl, inl, inr, sym, ap, subst, ◌∙◌, arith, Option}
+use Rattle.std.proofs.Common.{Some, None, unwrap_or, is_some, is_none, append-nil, append_assoc}
 use Rattle.std.specs.Prelude.{All, ◌==◌, ◌&&◌, if◌then◌else◌, nat_lt, count_by}
 use Rattle.std.specs.List.{list_any, list_all, range_with_len}
 use Rattle.std.proofs.lemmas.Bool.{and_from, cases_lt, eq-eqb, le-ltb, lt-ltb}
@@ -48,7 +49,8 @@ all_rest P xs ys all = λ k d lt. subst P (get_or-append-add xs ys k d) (all (le
 
 -- ---- the opening
 
-open_goes : (o : Opening) (j more : List Entry) (a : ℕ) (xs : List PortFacts) (s : List SentRun) (d : Drive) → IsLegal o (j ++ (opening d ∷ more)) → in_range o (Open d.most) ≡ true →
+open_goes : (o : Opening) (j more : List Entry) (a : ℕ) (xs : List PortFacts) (s : List SentRun) (d : Drive) → IsLegal o (j ++ (opening d ∷ more)) →
+    in_range o (Open d.most) ≡ true →
     world_after (mkw o j a xs s) (step_of (opening d)) ≡ mkw o (j ++ opening d ∷ []) a (cleared xs) s
 open_goes o j more a xs s d legal low =
     let is : Opened d.first d.slots d.count ≡ reply_of o j (Open d.most) = (legal_there o j more (opening d) legal).0 in
@@ -77,7 +79,8 @@ ready o before xs s credited next notes d f h first low grant fits =
 note_done : (r : Run) (x : PortFacts) (note : Option ℕ) (n : ℕ) → x.settled ≡ Some n → (n < r.slots → note ≡ Some n) →
     (is_some x.settled && (if is_short r x then is_some note && (unwrap_or note 0 == unwrap_or x.settled 0) else true)) ≡ true
 note_done r x note n is told =
-    and_from (is_some x.settled) (if is_short r x then is_some note && (unwrap_or note 0 == unwrap_or x.settled 0) else true) (ap (λ (t : Option ℕ). is_some t) is) (elim (cases_lt n r.slots) [
+    and_from (is_some x.settled) (if is_short r x then is_some note && (unwrap_or note 0 == unwrap_or x.settled 0) else true) (ap (λ (t : Option ℕ). is_some t) is)
+    (elim (cases_lt n r.slots) [
       | inl lt ↦
           let noted = told lt in
           ap (λ (b : Bool). if b then is_some note && (unwrap_or note 0 == unwrap_or x.settled 0) else true) (short_is r x n true is (lt-ltb n r.slots lt))
@@ -89,10 +92,12 @@ note_done r x note n is told =
 done_at : (o : Opening) (r : Run) (p : ℕ) (x : PortFacts) (g : Option ℕ) → grant_in o.table.flows r.granted p ≡ g →
     ((f : ℕ) → g ≡ Some f → (n : ℕ) × (x.settled ≡ Some n) × (n < r.slots → note_in r.notes p ≡ Some n)) → is_done o r p x ≡ true
 done_at o r p x None grant told =
-    ap (λ (g : Option ℕ). if is_none g then true else is_some x.settled && (if is_short r x then is_some (note_in r.notes p) && (unwrap_or (note_in r.notes p) 0 == unwrap_or x.settled 0) else true)) grant
+    ap (λ (g : Option ℕ). if is_none g then true else is_some x.settled &&
+    (if is_short r x then is_some (note_in r.notes p) && (unwrap_or (note_in r.notes p) 0 == unwrap_or x.settled 0) else true)) grant
 done_at o r p x (Some f) grant told =
     let (n, is, noted) = told f refl in
-    ap (λ (g : Option ℕ). if is_none g then true else is_some x.settled && (if is_short r x then is_some (note_in r.notes p) && (unwrap_or (note_in r.notes p) 0 == unwrap_or x.settled 0) else true)) grant
+    ap (λ (g : Option ℕ). if is_none g then true else is_some x.settled &&
+    (if is_short r x then is_some (note_in r.notes p) && (unwrap_or (note_in r.notes p) 0 == unwrap_or x.settled 0) else true)) grant
     ∙ note_done r x (note_in r.notes p) n is noted
 
 close_goes : (o : Opening) (j : List Entry) (a : ℕ) (ys : List PortFacts) (s : List SentRun) (d : Drive) (r : Run) → IsLegal o (j ++ closing d ∷ []) → (state_of o j).run ≡ Some r →
@@ -103,7 +108,8 @@ close_goes o j a ys s d r legal open' told =
     let there = legal_there o j [] (closing d) legal in
     let may : can w Close ≡ true =
     all_done_true (state_of o j).run (λ r port. is_done o r port (get_or ys port idle_port)) o.table.ports r.slots (sym (ap slots_of open'))
-    (λ p lt. ap (λ (y : Option Run). in_run y (λ r. is_done o r p (get_or ys p idle_port))) open' ∙ done_at o r p (get_or ys p idle_port) (grant_in o.table.flows r.granted p) refl (told p)) in
+    (λ p lt. ap (λ (y : Option Run). in_run y (λ r. is_done o r p (get_or ys p idle_port))) open' ∙
+    done_at o r p (get_or ys p idle_port) (grant_in o.table.flows r.granted p) refl (told p)) in
     ap (λ (v : WorldFacts). v.journal) (step_is w (asks w 0 CloseRun) Close may refl) ∙ ap (λ x. j ++ adds 0 CloseRun x) (sym there.0)
     ∙ ap (λ (b : Bool). j ++ (if b then [] else closing d ∷ [])) there.1
 
@@ -158,7 +164,8 @@ run_turned w d h some x within =
     let clear = grants_clear o.table.flows (line_of o (opened_in before d)) (owed o (state_of o (opened_in before d))) gs x.grants in
     let r = mkr d.first d.slots gs [] in
     let run = (opened_grants o (opened_in before d) (opening d) d.first d.slots d.count refl).0 in
-    all_turned o (opened_in before d ++ opening d ∷ []) w.agents (cleared w.ports) w.sent r d gs (length-map w.ports (λ (x : PortFacts). record x { settled = None }) ∙ kept.wide) some run refl (clear_apart o.table.flows gs clear)
+    all_turned o (opened_in before d ++ opening d ∷ []) w.agents (cleared w.ports) w.sent r d gs (length-map w.ports (λ (x : PortFacts). record x { settled = None }) ∙ kept.wide)
+    some run refl (clear_apart o.table.flows gs clear)
     (λ f in'. ready o before w.ports w.sent (state_of o before).sent (state_of o before).next [] d f kept (sym x.at_next) (low_of o h.opening f)
     ((grant_at o.table.flows gs (ingress_of o.table.flows f) f clear).1 (in', refl)) (within f in'))
 
@@ -169,21 +176,25 @@ told_at : (o : Opening) (before : List Entry) (d : Drive) (ys : List PortFacts) 
 told_at o before d ys x noted settled p f grant =
     let flows = o.table.flows in
     let (in', here) = grant_is flows (driven o before d) p f grant in
-    let is : (get_or ys p idle_port).settled ≡ Some (sent_from flows d f) = ap (λ q. (get_or ys q idle_port).settled) (sym here) ∙ ap (λ (y : PortFacts). y.settled) (settled f in') in
+    let is : (get_or ys p idle_port).settled ≡ Some (sent_from flows d f) = ap (λ q. (get_or ys q idle_port).settled) (sym here) ∙
+    ap (λ (y : PortFacts). y.settled) (settled f in') in
     let hit = λ (lt : sent_from flows d f < d.slots). any_counted (λ (e : Entry). notes_port p e.command) d.between
     (omega (arith, ap (times_noted d.between) here, noted f in', ap {B = ℕ} (λ b. if b then 1 else 0) (lt-ltb (sent_from flows d f) d.slots lt))) in
     (sent_from flows d f, is, λ lt. x.mid.told p f grant (inr (hit lt)) ∙ ap (λ q. Some (d.sent q)) (sym here))
 
-close_sends_none : (o : Opening) (j : List Entry) (a : ℕ) (ys : List PortFacts) (s : List SentRun) (b : Bool) → (if b then moved (mkw o j a ys s) Close else mkw o j a ys s).sent ≡ s
+close_sends_none : (o : Opening) (j : List Entry) (a : ℕ) (ys : List PortFacts) (s : List SentRun) (b : Bool) →
+    (if b then moved (mkw o j a ys s) Close else mkw o j a ys s).sent ≡ s
 close_sends_none o j a ys s true = refl
 close_sends_none o j a ys s false = refl
 
-close_keeps_opening : (o : Opening) (j : List Entry) (a : ℕ) (ys : List PortFacts) (s : List SentRun) (b : Bool) → (if b then moved (mkw o j a ys s) Close else mkw o j a ys s).opening ≡ o
+close_keeps_opening : (o : Opening) (j : List Entry) (a : ℕ) (ys : List PortFacts) (s : List SentRun) (b : Bool) →
+    (if b then moved (mkw o j a ys s) Close else mkw o j a ys s).opening ≡ o
 close_keeps_opening o j a ys s true = refl
 close_keeps_opening o j a ys s false = refl
 
 -- a run of the driver among entries of others, whose parts are legal, is played by its steps
-pub played_by : (w : WorldFacts) (d : Drive) → IsWorld w → 0 < w.agents → IsLegal w.opening (closed_in w.journal d ++ closing d ∷ []) → InRange w.opening (closed_in w.journal d ++ closing d ∷ []) →
+pub played_by : (w : WorldFacts) (d : Drive) → IsWorld w → 0 < w.agents → IsLegal w.opening (closed_in w.journal d ++ closing d ∷ []) →
+    InRange w.opening (closed_in w.journal d ++ closing d ∷ []) →
     IsDriven w.opening w.journal (closed_in w.journal d ++ closing d ∷ []) d → IsPlayed w (world_of w (steps_of w.opening w.journal d)) (closed_in w.journal d ++ closing d ∷ []) d
 played_by w d h some legal low driven' =
     let o = w.opening in
@@ -201,7 +212,8 @@ played_by w d h some legal low driven' =
     let rest = turns o.table.flows d gs ++ last in
     let one : world_of w (map step_of d.earlier) ≡ mkw o j1 a w.ports w.sent =
     others_go o a w.ports w.sent w.journal d.earlier (opening d ∷ (d.between ++ closing d ∷ [])) k.earlier k.low_earlier driven'.under_way.earlier in
-    let two : world_after (mkw o j1 a w.ports w.sent) (step_of (opening d)) ≡ mkw o j2 a (cleared w.ports) w.sent = open_goes o j1 (d.between ++ closing d ∷ []) a w.ports w.sent d k.opened k.low_open in
+    let two : world_after (mkw o j1 a w.ports w.sent) (step_of (opening d)) ≡ mkw o j2 a (cleared w.ports) w.sent =
+    open_goes o j1 (d.between ++ closing d ∷ []) a w.ports w.sent d k.opened k.low_open in
     let four : world_of (mkw o j2 a t.ys s) (map step_of d.between) ≡ mkw o j3 a t.ys s =
     between_go o a t.ys s d gs j2 d.between (closing d ∷ []) k.between k.low_between driven'.under_way.between (λ f in'. low_of o h.opening f) t.settled run in
     let all : world_of w (steps_of o w.journal d) ≡ world_after (mkw o j3 a t.ys s) Close =
@@ -215,7 +227,8 @@ played_by w d h some legal low driven' =
       sent = ap (λ (v : WorldFacts). v.sent) all ∙ close_sends_none o j3 a t.ys s (can (mkw o j3 a t.ys s) Close);
     }
 
-pub runs_are_played : (w : WorldFacts) (after : List Entry) (d : Drive) → IsWorld w → 0 < w.agents → IsLegal w.opening after → InRange w.opening after → IsDriven w.opening w.journal after d →
+pub runs_are_played : (w : WorldFacts) (after : List Entry) (d : Drive) → IsWorld w → 0 < w.agents → IsLegal w.opening after → InRange w.opening after →
+    IsDriven w.opening w.journal after d →
     (events : List Event) × IsPlayed w (world_of w events) after d
 runs_are_played w after d h some legal low driven' = (
   steps_of w.opening w.journal d,

@@ -1,5 +1,6 @@
 -- What is kept beside each port of what was sent for its last post.
-use Rattle.std.proofs.Common.{◌≡◌, ◌≢◌, ℕ, ◌<◌, inl, inr, List, [], ◌∷◌, ◌++◌, length, map, get_or, replicate, refl, sym, ap, subst, ◌∙◌, arith, zero, suc, None, length-set, get_or-set_same, get_or-set_other}
+use Rattle.std.proofs.Common.{◌≡◌, ◌≢◌, ℕ, ◌<◌, inl, inr, List, [], ◌∷◌, ◌++◌, length, map, get_or, replicate, refl, sym, ap, subst, ◌∙◌, arith, zero, suc, None, length-set}
+use Rattle.std.proofs.Common.{get_or-set_same, get_or-set_other}
 use Rattle.std.specs.Prelude.{if◌then◌else◌, ◌==◌, ◌&&◌, slice_set}
 use Rattle.std.proofs.lemmas.Bool.{cases_eq, ne_eqb}
 use Rattle.std.proofs.lemmas.List.{get_or-map, length-map}
@@ -13,7 +14,8 @@ pub tells_read : (xs : List PortState) (sent : List SentRun) (p : ℕ) (x : Port
 tells_read xs sent p x h lt is = subst (λ (y : PortState). y.sent ≡ sent_for sent p y.slot) (sym is) (h p x lt)
 
 -- one port changes
-pub tells_set : (xs : List PortState) (sent : List SentRun) (p : ℕ) (x : PortState) → TellsSent xs sent → p < length xs → x.sent ≡ sent_for sent p x.slot → TellsSent (slice_set xs p x) sent
+pub tells_set : (xs : List PortState) (sent : List SentRun) (p : ℕ) (x : PortState) → TellsSent xs sent → p < length xs → x.sent ≡ sent_for sent p x.slot →
+    TellsSent (slice_set xs p x) sent
 tells_set xs sent p x h lt new q d low = elim (cases_eq q p) [
   | inl e ↦ subst (λ n. (get_or (slice_set xs p x) n d).sent ≡ sent_for sent n (get_or (slice_set xs p x) n d).slot) (sym e)
       (subst (λ (y : PortState). y.sent ≡ sent_for sent p y.slot) (sym (get_or-set_same xs p x d lt)) new)

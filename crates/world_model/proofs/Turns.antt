@@ -1,5 +1,6 @@
 -- A grant of the open run is played: posted, drawn, sent, reported and settled.
-use Rattle.std.proofs.Common.{◌≡◌, ◌≢◌, ℕ, ◌<◌, ◌≤◌, Bool, true, false, true≢false, List, [], ◌∷◌, ◌++◌, length, get_or, refl, sym, ap, subst, ◌∙◌, arith, Option, Some, None, unwrap_or, is_some, is_none, length-set, get_or-set_same, get_or-set_other, append-nil}
+use Rattle.std.proofs.Common.{◌≡◌, ◌≢◌, ℕ, ◌<◌, ◌≤◌, Bool, true, false, true≢false, List, [], ◌∷◌, ◌++◌, length, get_or, refl, sym, ap, subst, ◌∙◌, arith, Option, Some, None}
+use Rattle.std.proofs.Common.{unwrap_or, is_some, is_none, length-set, get_or-set_same, get_or-set_other, append-nil}
 use Rattle.std.specs.Prelude.{◌==◌, ◌&&◌, not, if◌then◌else◌, nat_lt, nat_le, slice_set}
 use Rattle.std.proofs.lemmas.Bool.{and_from, eq-eqb, eqb-false, eqb-true, le-leb, lt-ltb, ne_eqb}
 use Rattle.coflow_units.specs.PortWord.{PortStage, is_drawn_by, is_granted}
@@ -61,21 +62,26 @@ post_goes o j a xs s r p f lt open' grant fresh none =
     let x = get_or xs p idle_port in
     let test = λ (r : Run). is_some (grant_in o.table.flows r.granted p) && not (is_posted r x) in
     let may : in_run (run_of w) test ≡ true =
-    ap (λ (y : Option Run). in_run y test) open' ∙ and_from (is_some (grant_in o.table.flows r.granted p)) (not (x.slot == r.first)) (ap (λ (g : Option ℕ). is_some g) grant) (ap not (ne_eqb x.slot r.first fresh)) in
-    step_is w (mkw o j a (slice_set xs p (mkp r.first f granted r.slots None)) s) (Post p) (and_from (nat_lt p o.table.ports) (in_run (run_of w) test) (lt-ltb p o.table.ports lt) may)
+    ap (λ (y : Option Run). in_run y test) open' ∙ and_from (is_some (grant_in o.table.flows r.granted p)) (not (x.slot == r.first)) (ap (λ (g : Option ℕ). is_some g) grant)
+    (ap not (ne_eqb x.slot r.first fresh)) in
+    step_is w (mkw o j a (slice_set xs p (mkp r.first f granted r.slots None)) s) (Post p)
+    (and_from (nat_lt p o.table.ports) (in_run (run_of w) test) (lt-ltb p o.table.ports lt) may)
     (ap (λ (y : Option Run). posted w p y) open' ∙ ap (λ (g : Option ℕ). mkw o j a (slice_set xs p (mkp r.first (unwrap_or g 0) granted r.slots x.settled)) s) grant
     ∙ ap (λ (t : Option ℕ). mkw o j a (slice_set xs p (mkp r.first f granted r.slots t)) s) none)
 
-draw_goes : (o : Opening) (j : List Entry) (a : ℕ) (xs : List PortFacts) (s : List SentRun) (p slot f count : ℕ) → p < o.table.ports → 0 < a → get_or xs p idle_port ≡ mkp slot f granted count None →
+draw_goes : (o : Opening) (j : List Entry) (a : ℕ) (xs : List PortFacts) (s : List SentRun) (p slot f count : ℕ) → p < o.table.ports → 0 < a →
+    get_or xs p idle_port ≡ mkp slot f granted count None →
     world_after (mkw o j a xs s) (Draw 0 p) ≡ mkw o j a (slice_set xs p (mkp slot f (drawn 0) count None)) s
 draw_goes o j a xs s p slot f count lt some here =
     let w = mkw o j a xs s in
     let x = get_or xs p idle_port in
     step_is w (mkw o j a (slice_set xs p (mkp slot f (drawn 0) count None)) s) (Draw 0 p)
-    (and_from (nat_lt p o.table.ports) (nat_lt 0 a && is_granted x.stage) (lt-ltb p o.table.ports lt) (and_from (nat_lt 0 a) (is_granted x.stage) (lt-ltb 0 a some) (ap (λ (y : PortFacts). is_granted y.stage) here)))
+    (and_from (nat_lt p o.table.ports) (nat_lt 0 a && is_granted x.stage) (lt-ltb p o.table.ports lt)
+    (and_from (nat_lt 0 a) (is_granted x.stage) (lt-ltb 0 a some) (ap (λ (y : PortFacts). is_granted y.stage) here)))
     (ap (λ (y : PortFacts). mkw o j a (slice_set xs p (record y { stage = drawn 0 })) s) here)
 
-send_goes : (o : Opening) (j : List Entry) (a : ℕ) (xs : List PortFacts) (s : List SentRun) (p slot f count n : ℕ) → p < o.table.ports → 0 < a → get_or xs p idle_port ≡ mkp slot f (drawn 0) count None →
+send_goes : (o : Opening) (j : List Entry) (a : ℕ) (xs : List PortFacts) (s : List SentRun) (p slot f count n : ℕ) → p < o.table.ports → 0 < a →
+    get_or xs p idle_port ≡ mkp slot f (drawn 0) count None →
     sent_for s p slot ≡ 0 → 0 < n → n ≤ count → world_after (mkw o j a xs s) (Send 0 p n) ≡ mkw o j a xs (s ++ record { slot = slot; flow = f; units = n; port = p } ∷ [])
 send_goes o j a xs s p slot f count n lt some here unsent units fits =
     let w = mkw o j a xs s in
@@ -89,13 +95,15 @@ send_goes o j a xs s p slot f count n lt some here unsent units fits =
     (and_from (sent_for s p x.slot == 0) (nat_lt 0 n && nat_le n x.count) free (and_from (nat_lt 0 n) (nat_le n x.count) (lt-ltb 0 n units) few)))))
     (ap (λ (y : PortFacts). mkw o j a xs (s ++ record { slot = y.slot; flow = y.flow; units = n; port = p } ∷ [])) here)
 
-report_goes : (o : Opening) (j : List Entry) (a : ℕ) (xs : List PortFacts) (s : List SentRun) (p slot f count n : ℕ) → p < o.table.ports → 0 < a → get_or xs p idle_port ≡ mkp slot f (drawn 0) count None →
+report_goes : (o : Opening) (j : List Entry) (a : ℕ) (xs : List PortFacts) (s : List SentRun) (p slot f count n : ℕ) → p < o.table.ports → 0 < a →
+    get_or xs p idle_port ≡ mkp slot f (drawn 0) count None →
     sent_for s p slot ≡ n → world_after (mkw o j a xs s) (Report 0 p) ≡ mkw o j a (slice_set xs p (mkp slot f (reported 0 n) n None)) s
 report_goes o j a xs s p slot f count n lt some here sent =
     let w = mkw o j a xs s in
     let x = get_or xs p idle_port in
     step_is w (mkw o j a (slice_set xs p (mkp slot f (reported 0 n) n None)) s) (Report 0 p)
-    (and_from (nat_lt p o.table.ports) (nat_lt 0 a && is_drawn_by 0 x.stage) (lt-ltb p o.table.ports lt) (and_from (nat_lt 0 a) (is_drawn_by 0 x.stage) (lt-ltb 0 a some) (ap (λ (y : PortFacts). is_drawn_by 0 y.stage) here)))
+    (and_from (nat_lt p o.table.ports) (nat_lt 0 a && is_drawn_by 0 x.stage) (lt-ltb p o.table.ports lt)
+    (and_from (nat_lt 0 a) (is_drawn_by 0 x.stage) (lt-ltb 0 a some) (ap (λ (y : PortFacts). is_drawn_by 0 y.stage) here)))
     (ap (λ (y : PortFacts). mkw o j a (slice_set xs p (record y { stage = reported 0 (sent_for s p y.slot); count = sent_for s p y.slot })) s) here
     ∙ ap (λ m. mkw o j a (slice_set xs p (mkp slot f (reported 0 m) m None)) s) sent)
 
@@ -108,7 +116,8 @@ settle_goes o j a xs s r p f n lt open' here =
     let may : in_run (run_of w) test ≡ true =
     ap (λ (y : Option Run). in_run y test) open'
     ∙ and_from (x.slot == r.first) (is_none x.settled) (eq-eqb x.slot r.first (ap (λ (y : PortFacts). y.slot) here)) (ap (λ (y : PortFacts). is_none y.settled) here) in
-    step_is w (mkw o j a (slice_set xs p (mkp r.first f (reported 0 n) n (Some n))) s) (Settle p) (and_from (nat_lt p o.table.ports) (in_run (run_of w) test) (lt-ltb p o.table.ports lt) may)
+    step_is w (mkw o j a (slice_set xs p (mkp r.first f (reported 0 n) n (Some n))) s) (Settle p)
+    (and_from (nat_lt p o.table.ports) (in_run (run_of w) test) (lt-ltb p o.table.ports lt) may)
     (ap (λ (y : PortFacts). mkw o j a (slice_set xs p (settled_by y y.stage)) s) here)
 
 -- ---- all of them
@@ -127,8 +136,10 @@ pub record IsTurn (o : Opening) (j : List Entry) (a : ℕ) (xs : List PortFacts)
   pub goes : world_of (mkw o j a xs s) (turn p n) ≡ mkw o j a ys (s ++ units_sent slot f p n)
   pub set : IsSet xs ys p (mkp slot f (reported 0 n) n (Some n))
 
-turn_is : (o : Opening) (j : List Entry) (a : ℕ) (xs : List PortFacts) (s : List SentRun) (r : Run) (p f n : ℕ) (b : Bool) → (n == 0) ≡ b → p < o.table.ports → length xs ≡ o.table.ports → 0 < a →
-    (state_of o j).run ≡ Some r → grant_in o.table.flows r.granted p ≡ Some f → (get_or xs p idle_port).slot ≢ r.first → (get_or xs p idle_port).settled ≡ None → sent_for s p r.first ≡ 0 → n ≤ r.slots →
+turn_is : (o : Opening) (j : List Entry) (a : ℕ) (xs : List PortFacts) (s : List SentRun) (r : Run) (p f n : ℕ) (b : Bool) → (n == 0) ≡ b → p < o.table.ports →
+    length xs ≡ o.table.ports → 0 < a →
+    (state_of o j).run ≡ Some r → grant_in o.table.flows r.granted p ≡ Some f → (get_or xs p idle_port).slot ≢ r.first → (get_or xs p idle_port).settled ≡ None →
+    sent_for s p r.first ≡ 0 → n ≤ r.slots →
     (ys : List PortFacts) × (world_of (mkw o j a xs s) (turn_by b p n) ≡ mkw o j a ys (s ++ (if b then [] else record { slot = r.first; flow = f; units = n; port = p } ∷ [])))
     × IsSet xs ys p (mkp r.first f (reported 0 n) n (Some n))
 turn_is o j a xs s r p f n true none lt wide some open' grant fresh clear unsent fits =
@@ -146,7 +157,8 @@ turn_is o j a xs s r p f n true none lt wide some open' grant fresh clear unsent
       ap (λ v. world_after (world_after (world_after v (Draw 0 p)) (Report 0 p)) (Settle p)) (post_goes o j a xs s r p f lt open' grant fresh clear)
           ∙ ap (λ v. world_after (world_after v (Report 0 p)) (Settle p)) (draw_goes o j a xs1 s p r.first f r.slots lt some h1.here)
           ∙ ap (λ v. world_after v (Settle p)) (report_goes o j a xs2 s p r.first f r.slots n lt some h2.here (omega (arith, unsent, eqb-true n 0 none)))
-          ∙ settle_goes o j a xs3 s r p f n lt open' h3.here ∙ ap (λ (l : List SentRun). mkw o j a (slice_set xs3 p (mkp r.first f (reported 0 n) n (Some n))) l) (sym (append-nil s)),
+          ∙ settle_goes o j a xs3 s r p f n lt open' h3.here ∙
+          ap (λ (l : List SentRun). mkw o j a (slice_set xs3 p (mkp r.first f (reported 0 n) n (Some n))) l) (sym (append-nil s)),
       set_again xs xs3 p x3 (mkp r.first f (reported 0 n) n (Some n)) low h3,
     )
 turn_is o j a xs s r p f n false any' lt wide some open' grant fresh clear unsent fits =
@@ -161,17 +173,21 @@ turn_is o j a xs s r p f n false any' lt wide some open' grant fresh clear unsen
     let h2 = set_again xs xs1 p x1 x2 low h1 in
     let h3 = set_again xs xs2 p x2 x3 low h2 in
     let x : SentRun = record { slot = r.first; flow = f; units = n; port = p } in
-    let more : sent_for (s ++ x ∷ []) p r.first ≡ n = omega (arith, sent_more s x p r.first, unsent, ap {B = ℕ} (λ b. if b then n else 0) (both_true p p r.first r.first refl refl)) in (
+    let more : sent_for (s ++ x ∷ []) p r.first ≡ n =
+    omega (arith, sent_more s x p r.first, unsent, ap {B = ℕ} (λ b. if b then n else 0) (both_true p p r.first r.first refl refl)) in (
       slice_set xs3 p (mkp r.first f (reported 0 n) n (Some n)),
       ap (λ v. world_after (world_after (world_after (world_after v (Draw 0 p)) (Send 0 p n)) (Report 0 p)) (Settle p)) (post_goes o j a xs s r p f lt open' grant fresh clear)
           ∙ ap (λ v. world_after (world_after (world_after v (Send 0 p n)) (Report 0 p)) (Settle p)) (draw_goes o j a xs1 s p r.first f r.slots lt some h1.here)
-          ∙ ap (λ v. world_after (world_after v (Report 0 p)) (Settle p)) (send_goes o j a xs2 s p r.first f r.slots n lt some h2.here unsent (omega (arith, eqb-false n 0 any')) fits)
-          ∙ ap (λ v. world_after v (Settle p)) (report_goes o j a xs2 (s ++ x ∷ []) p r.first f r.slots n lt some h2.here more) ∙ settle_goes o j a xs3 (s ++ x ∷ []) r p f n lt open' h3.here,
+          ∙ ap (λ v. world_after (world_after v (Report 0 p)) (Settle p))
+          (send_goes o j a xs2 s p r.first f r.slots n lt some h2.here unsent (omega (arith, eqb-false n 0 any')) fits)
+          ∙ ap (λ v. world_after v (Settle p)) (report_goes o j a xs2 (s ++ x ∷ []) p r.first f r.slots n lt some h2.here more) ∙
+          settle_goes o j a xs3 (s ++ x ∷ []) r p f n lt open' h3.here,
       set_again xs xs3 p x3 (mkp r.first f (reported 0 n) n (Some n)) low h3,
     )
 
 pub turned : (o : Opening) (j : List Entry) (a : ℕ) (xs : List PortFacts) (s : List SentRun) (r : Run) (p f n : ℕ) → p < o.table.ports → length xs ≡ o.table.ports → 0 < a →
-    (state_of o j).run ≡ Some r → grant_in o.table.flows r.granted p ≡ Some f → (get_or xs p idle_port).slot ≢ r.first → (get_or xs p idle_port).settled ≡ None → sent_for s p r.first ≡ 0 → n ≤ r.slots →
+    (state_of o j).run ≡ Some r → grant_in o.table.flows r.granted p ≡ Some f → (get_or xs p idle_port).slot ≢ r.first → (get_or xs p idle_port).settled ≡ None →
+    sent_for s p r.first ≡ 0 → n ≤ r.slots →
     IsTurn o j a xs s r.first p f n
 turned o j a xs s r p f n lt wide some open' grant fresh clear unsent fits =
     let (ys, goes, set) = turn_is o j a xs s r p f n (n == 0) refl lt wide some open' grant fresh clear unsent fits in

@@ -1,5 +1,6 @@
 -- What every step of the world keeps.
-use Rattle.std.specs.Prelude.{◌≡◌, ℕ, ◌+◌, ◌<◌, ◌≤◌, ◌⊎◌, if◌then◌else◌, List, All, AllPairs, length, Option, Some, None}
+use Rattle.std.specs.Prelude.{◌≡◌, ℕ, ◌+◌, ◌<◌, ◌≤◌, ◌⊎◌, if◌then◌else◌, List, All, AllPairs, length, Option, Some}
+use Rattle.std.specs.Prelude.{None}
 use Rattle.std.specs.List.{slice_index_or}
 use Rattle.coflow_units.specs.declared.fabric.Flow.{Flow}
 use Rattle.coflow_units.specs.Flows.{ingress_of}
@@ -18,10 +19,12 @@ use Rattle.world_model.specs.World.{WorldFacts}
 abbrev pub IsApart : SentRun → SentRun → Type 0
 IsApart x y = x.flow ≡ y.flow → (x.slot + x.units ≤ y.slot) ⊎ (y.slot + y.units ≤ x.slot)
 
--- The sent run ended before the open run, or begins with it, is no longer than it, and is of the grant of its port. Where no run is open, it ended before the next slot.
+-- The sent run ended before the open run, or begins with it, is no longer than it, and is of the grant of its port.
+-- Where no run is open, it ended before the next slot.
 abbrev pub InTime : List Flow → ℕ → Option Run → SentRun → Type 0
 InTime flows next None x = x.slot + x.units ≤ next
-InTime flows next (Some r) x = (x.slot + x.units ≤ r.first) ⊎ ((x.slot ≡ r.first) × (x.units ≤ r.slots) × (grant_in flows r.granted x.port ≡ Some x.flow))
+InTime flows next (Some r) x = (x.slot + x.units ≤ r.first) ⊎
+    ((x.slot ≡ r.first) × (x.units ≤ r.slots) × (grant_in flows r.granted x.port ≡ Some x.flow))
 
 -- a sent run has a first slot and a unit, left from the ingress of its flow, and is in time
 pub record IsSentRun (flows : List Flow) (next : ℕ) (run : Option Run) (x : SentRun) : Type 0 where
@@ -41,7 +44,8 @@ Rests granted = ⊥
 Rests (drawn agent) = ⊥
 Rests stage = Unit {0}
 
--- the port was not posted in the run: its last post rests and is of an earlier run, and nothing is settled and nothing sent
+-- the port was not posted in the run: its last post rests and is of an earlier run, and nothing is settled and nothing
+-- sent
 abbrev pub IsNotPosted : Run → ℕ → PortFacts → Type 0
 IsNotPosted r sent_here x = Rests x.stage × (x.slot < r.first) × (x.settled ≡ None) × (sent_here ≡ 0)
 
@@ -50,26 +54,33 @@ abbrev pub ByStage : ℕ → ℕ → ℕ → Option ℕ → PortStage → Type 0
 ByStage slots sent_here count settled unposted = ⊥
 ByStage slots sent_here count settled granted = (count ≡ slots) × (settled ≡ None) × (sent_here ≡ 0)
 ByStage slots sent_here count settled (drawn agent) = (count ≡ slots) × (settled ≡ None) × (sent_here ≤ slots)
-ByStage slots sent_here count settled (reported agent n) = (n ≡ sent_here) × (count ≡ sent_here) × (sent_here ≤ slots) × ((settled ≡ None) ⊎ (settled ≡ Some sent_here))
+ByStage slots sent_here count settled (reported agent n) = (n ≡ sent_here) × (count ≡ sent_here) × (sent_here ≤ slots) ×
+    ((settled ≡ None) ⊎ (settled ≡ Some sent_here))
 ByStage slots sent_here count settled taken_back = (settled ≡ Some 0) × (sent_here ≡ 0)
 
 -- the stage of the port in the run, by the port's grant and the units that were sent for it
 abbrev pub IsAtStage : Run → Option ℕ → ℕ → PortFacts → Type 0
-IsAtStage r grant sent_here x = IsNotPosted r sent_here x ⊎ ((x.slot ≡ r.first) × (grant ≡ Some x.flow) × ByStage r.slots sent_here x.count x.settled x.stage)
+IsAtStage r grant sent_here x = IsNotPosted r sent_here x ⊎
+    ((x.slot ≡ r.first) × (grant ≡ Some x.flow) × ByStage r.slots sent_here x.count x.settled x.stage)
 
 -- a note is the settled number, and below the run's length
 abbrev pub IsNote : Run → Option ℕ → Option ℕ → Type 0
 IsNote r None settled = Unit {0}
 IsNote r (Some n) settled = (settled ≡ Some n) × (n < r.slots)
 
--- what holds of a port: where a run is open, its stage in the run and its note; where none is, its last post rests and is of an earlier run
+-- what holds of a port: where a run is open, its stage in the run and its note; where none is, its last post rests and
+-- is of an earlier run
 abbrev pub IsPort : List Flow → ℕ → Option Run → List SentRun → ℕ → PortFacts → Type 0
 IsPort flows next None sent port x = Rests x.stage × (x.slot < next)
-IsPort flows next (Some r) sent port x = IsAtStage r (grant_in flows r.granted port) (sent_for sent port r.first) x × IsNote r (note_in r.notes port) x.settled
+IsPort flows next (Some r) sent port x = IsAtStage r (grant_in flows r.granted port) (sent_for sent port r.first) x ×
+    IsNote r (note_in r.notes port) x.settled
 
--- What holds of the ports and the sent runs, beside a master that has credited so many units to each flow, with this next slot and open run: there is a port for each ingress; each sent run is
--- in time; no two of one flow have a slot in common; the units sent of a flow are those credited to it and those sent in the open run; and each port is at a stage.
-pub record IsKept (flows : List Flow) (ports : ℕ) (credited : ℕ → ℕ) (next : ℕ) (run : Option Run) (xs : List PortFacts) (sent : List SentRun) : Type 0 where
+-- What holds of the ports and the sent runs, beside a master that has credited so many units to each flow, with this
+-- next slot and open run: there is a port for each ingress; each sent run is
+-- in time; no two of one flow have a slot in common; the units sent of a flow are those credited to it and those sent
+-- in the open run; and each port is at a stage.
+pub record IsKept (flows : List Flow) (ports : ℕ) (credited : ℕ → ℕ) (next : ℕ) (run : Option Run) (xs : List PortFacts)
+    (sent : List SentRun) : Type 0 where
   pub wide : length xs ≡ ports
   pub each_sent : All (IsSentRun flows next run) sent
   pub apart : AllPairs IsApart sent
@@ -79,12 +90,15 @@ pub record IsKept (flows : List Flow) (ports : ℕ) (credited : ℕ → ℕ) (ne
 -- what holds of the ports and the sent runs of a world, beside its master
 abbrev pub IsKeptWorld : WorldFacts → Type 0
 IsKeptWorld w =
-    IsKept w.opening.table.flows w.opening.table.ports (state_of w.opening w.journal).sent (state_of w.opening w.journal).next (state_of w.opening w.journal).run w.ports w.sent
+    IsKept w.opening.table.flows w.opening.table.ports (state_of w.opening w.journal).sent
+    (state_of w.opening w.journal).next (state_of w.opening w.journal).run w.ports w.sent
 
 -- what holds of a port of a world, beside its master and the sent runs
 abbrev pub IsPortOf : WorldFacts → ℕ → PortFacts → Type 0
-IsPortOf w p x = IsPort w.opening.table.flows (state_of w.opening w.journal).next (state_of w.opening w.journal).run w.sent p x
+IsPortOf w p x = IsPort w.opening.table.flows (state_of w.opening w.journal).next (state_of w.opening w.journal).run
+    w.sent p x
 
 -- each port tells how many units were sent for its last post
 abbrev pub TellsSent : List PortState → List SentRun → Type 0
-TellsSent ports sent = (p : ℕ) (d : PortState) → p < length ports → (slice_index_or ports p d).sent ≡ sent_for sent p (slice_index_or ports p d).slot
+TellsSent ports sent = (p : ℕ) (d : PortState) → p < length ports →
+    (slice_index_or ports p d).sent ≡ sent_for sent p (slice_index_or ports p d).slot

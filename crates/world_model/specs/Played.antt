@@ -18,7 +18,8 @@ abbrev pub runs_sent : List Flow → Drive → List ℕ → List SentRun
 runs_sent flows d granted =
     flat_map (λ f. units_sent d.first f (ingress_of flows f) (sent_from flows d f)) granted
 
--- the second world has the first one's opening and this journal, and of each grant of the driven run what was sent of it
+-- the second world has the first one's opening and this journal, and of each grant of the driven run what was sent of
+-- it
 pub record IsPlayed (w v : WorldFacts) (after : List Entry) (d : Drive) : Type 0 where
   pub opening : v.opening ≡ w.opening
   pub journal : v.journal ≡ after

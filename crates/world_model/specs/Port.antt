@@ -8,7 +8,8 @@ use Rattle.world_model.specs.declared.port.Stage.{Stage}
 use Rattle.world_model.specs.declared.port.Stage.TheVariants.{Unposted, Granted, Drawn, Reported, TakenBack}
 use Rattle.world_model.specs.declared.port.PortState.{PortState}
 
--- the slot and the flow of the last post, with slot 0 where there was none, the stage that the post is in, the count beside the word, and what was settled since a run was opened last
+-- the slot and the flow of the last post, with slot 0 where there was none, the stage that the post is in, the count
+-- beside the word, and what was settled since a run was opened last
 pub record PortFacts : Type 0 where
   pub slot : ℕ
   pub flow : ℕ
@@ -36,7 +37,8 @@ ports_of xs = map port_of xs
 abbrev pub idle_port : PortFacts
 idle_port = record { slot = 0; flow = 0; stage = unposted; count = 0; settled = None }
 
--- the port after its post in this stage was settled: a reported post is settled by its count; a post that nobody drew is taken back and settled by 0; one that an agent has drawn stays
+-- the port after its post in this stage was settled: a reported post is settled by its count; a post that nobody drew
+-- is taken back and settled by 0; one that an agent has drawn stays
 abbrev pub settled_by : PortFacts → PortStage → PortFacts
 settled_by x (reported agent units) = record x { settled = Some x.count }
 settled_by x granted = record x { stage = taken_back; settled = Some 0 }

@@ -6,7 +6,8 @@ use Rattle.journal.specs.Rows.{two}
 use Rattle.world_model.specs.declared.event.Event.{Event}
 use Rattle.world_model.specs.declared.event.Event.TheVariants.{Ask, Post, Draw, Send, Report, Settle, Note, Close}
 use Rattle.world_model.specs.declared.event.Happened.{Happened}
-use Rattle.world_model.specs.declared.event.Happened.TheVariants.{Replied, Posted, Drawn, Sent, Reported, Settled, Busy, Blocked}
+use Rattle.world_model.specs.declared.event.Happened.TheVariants.{Replied, Posted, Drawn, Sent, Reported, Settled, Busy}
+use Rattle.world_model.specs.declared.event.Happened.TheVariants.{Blocked}
 use Rattle.world_model.specs.declared.event.Happened.TheVariants.{Noted as NotedIt}
 use Rattle.world_model.specs.declared.sent.SentRun.{SentRun}
 use Rattle.world_model.specs.Sent.{times_sent}
@@ -21,16 +22,23 @@ Happens w (x ∷ xs) = (happened w x.0 ≡ x.1) × Happens (world_after w x.0) x
 -- a grant that nobody drew is taken back and noted; another is drawn, sent and reported
 abbrev pub Turns : Type 0
 Turns = Happens (new_world (two 100) 1)
-    ((Ask 1 (Register 0), Replied Joined) ∷ (Ask 0 (Open 2), Replied (Opened 1 2 1)) ∷ (Post 0, Posted) ∷ (Settle 0, Settled 0) ∷ (Post 0, Blocked) ∷ (Close, Blocked)
-    ∷ (Note 0, NotedIt (Noted 0)) ∷ (Close, Replied (Closed 1)) ∷ (Ask 0 (Open 1), Replied (Opened 3 1 1)) ∷ (Post 0, Posted) ∷ (Draw 0 0, Drawn) ∷ (Settle 0, Busy 4611686018430533632)
+    ((Ask 1 (Register 0), Replied Joined) ∷ (Ask 0 (Open 2), Replied (Opened 1 2 1)) ∷ (Post 0, Posted) ∷
+    (Settle 0, Settled 0) ∷ (Post 0, Blocked) ∷ (Close, Blocked)
+    ∷ (Note 0, NotedIt (Noted 0)) ∷ (Close, Replied (Closed 1)) ∷ (Ask 0 (Open 1), Replied (Opened 3 1 1)) ∷
+    (Post 0, Posted) ∷ (Draw 0 0, Drawn) ∷ (Settle 0, Busy 4611686018430533632)
     ∷ (Send 0 0 1, Sent) ∷ (Report 0 0, Reported) ∷ (Settle 0, Settled 1) ∷ (Close, Replied (Closed 3)) ∷ [])
 
--- Two agents. One draws, so the other can't; it sends less than the length, once. The run is closed only once that is noted. The journal was full for all else.
+-- Two agents. One draws, so the other can't; it sends less than the length, once. The run is closed only once that is
+-- noted. The journal was full for all else.
 abbrev pub Shorts : Type 0
 Shorts = Happens (new_world (two 2) 2)
-    ((Ask 1 (Register 0), Replied Joined) ∷ (Ask 0 (Open 5), Replied (Opened 1 3 1)) ∷ (Ask 1 (Pull 0), Replied (Full 2)) ∷ (Draw 0 0, Blocked) ∷ (Post 0, Posted) ∷ (Post 1, Blocked) ∷ (Draw 1 0, Drawn)
-    ∷ (Draw 0 0, Blocked) ∷ (Send 0 0 1, Blocked) ∷ (Send 1 0 4, Blocked) ∷ (Send 1 0 2, Sent) ∷ (Send 1 0 1, Blocked) ∷ (Report 1 0, Reported) ∷ (Close, Blocked) ∷ (Settle 0, Settled 2)
-    ∷ (Settle 0, Blocked) ∷ (Close, Blocked) ∷ (Note 0, NotedIt (Noted 2)) ∷ (Close, Replied (Closed 1)) ∷ (Close, Blocked) ∷ [])
+    ((Ask 1 (Register 0), Replied Joined) ∷ (Ask 0 (Open 5), Replied (Opened 1 3 1)) ∷
+    (Ask 1 (Pull 0), Replied (Full 2)) ∷ (Draw 0 0, Blocked) ∷ (Post 0, Posted) ∷ (Post 1, Blocked) ∷
+    (Draw 1 0, Drawn)
+    ∷ (Draw 0 0, Blocked) ∷ (Send 0 0 1, Blocked) ∷ (Send 1 0 4, Blocked) ∷ (Send 1 0 2, Sent) ∷ (Send 1 0 1, Blocked) ∷
+    (Report 1 0, Reported) ∷ (Close, Blocked) ∷ (Settle 0, Settled 2)
+    ∷ (Settle 0, Blocked) ∷ (Close, Blocked) ∷ (Note 0, NotedIt (Noted 2)) ∷ (Close, Replied (Closed 1)) ∷
+    (Close, Blocked) ∷ [])
 
 -- an agent that the world does not have draws nothing
 abbrev pub Strangers : Type 0
@@ -41,7 +49,8 @@ Strangers = Happens (new_world (two 100) 1)
 -- only who drew a post reports it; one of which nothing was sent is settled with nothing
 abbrev pub SendsNothing : Type 0
 SendsNothing = Happens (new_world (two 100) 2)
-    ((Ask 1 (Register 0), Replied Joined) ∷ (Ask 0 (Open 2), Replied (Opened 1 2 1)) ∷ (Post 0, Posted) ∷ (Draw 1 0, Drawn)
+    ((Ask 1 (Register 0), Replied Joined) ∷ (Ask 0 (Open 2), Replied (Opened 1 2 1)) ∷ (Post 0, Posted) ∷
+    (Draw 1 0, Drawn)
     ∷ (Report 0 0, Blocked) ∷ (Report 1 0, Reported) ∷ (Settle 0, Settled 0) ∷ (Note 0, NotedIt (Noted 0))
     ∷ (Close, Replied (Closed 1)) ∷ [])
 

@@ -10,7 +10,8 @@ use Rattle.world_model.specs.declared.port.PortState.{PortState}
 use Rattle.world_model.specs.declared.sent.SentRun.{SentRun}
 use Rattle.world_model.specs.Port.{PortFacts, idle_port, ports_of}
 
--- the opening and the journal of the master, how many agents there are, each ingress port, and the runs that were sent, the first first
+-- the opening and the journal of the master, how many agents there are, each ingress port, and the runs that were sent,
+-- the first first
 pub record WorldFacts : Type 0 where
   pub opening : Opening
   pub journal : List Entry
@@ -20,11 +21,18 @@ pub record WorldFacts : Type 0 where
 
 -- what is kept of a world tells these facts
 abbrev pub world_facts : MasterFacts → ℕ → List PortState → List SentRun → WorldFacts
-world_facts master agents ports sent = record { opening = master.opening; journal = master.journal; agents = agents; ports = ports_of ports; sent = sent }
+world_facts master agents ports sent =
+    record { opening = master.opening; journal = master.journal; agents = agents; ports = ports_of ports; sent = sent }
 
 -- before the first step: the master's journal is empty, nothing was posted and nothing sent
 abbrev pub new_world : Opening → ℕ → WorldFacts
-new_world o agents = record { opening = o; journal = []; agents = agents; ports = replicate o.table.ports idle_port; sent = [] }
+new_world o agents = record {
+  opening = o;
+  journal = [];
+  agents = agents;
+  ports = replicate o.table.ports idle_port;
+  sent = [];
+}
 
 -- what the port tells, or an idle one where there is no such port
 abbrev pub port_at : WorldFacts → ℕ → PortFacts

@@ -21,24 +21,36 @@ ghost use Rattle.world_model.specs.Rows.{Doubled, SendsNothing, Shorts, Stranger
 /// flow was sent more units than it has; nothing was sent past the open run; each closing credited to each flow what was sent for it in the run; and each opening granted the grants of its
 /// line, for as long as they allow, so that a flow waits only for a coflow no later in the line.
 pub fn worlds_are_lawful()
-    ensures legal { (o : Opening) (agents : ℕ) (events : List Event) → IsOpening o → IsLegalWorld (world_of (new_world o agents) events) }
-    ensures once { (o : Opening) (agents : ℕ) (events : List Event) → IsOpening o → SendsOnce (world_of (new_world o agents) events) }
-    ensures within { (o : Opening) (agents : ℕ) (events : List Event) → IsOpening o → SendsWithin (world_of (new_world o agents) events) }
-    ensures in_time { (o : Opening) (agents : ℕ) (events : List Event) → IsOpening o → SendsInTime (world_of (new_world o agents) events) }
-    ensures credited { (o : Opening) (agents : ℕ) (events : List Event) → IsOpening o → ClosesAsSent (world_of (new_world o agents) events) }
-    ensures granted { (o : Opening) (agents : ℕ) (events : List Event) → IsOpening o → OpensGrants (world_of (new_world o agents) events) }
-    ensures patient { (o : Opening) (agents : ℕ) (events : List Event) → IsOpening o → OpensPatiently (world_of (new_world o agents) events) }
+    ensures legal { (o : Opening) (agents : ℕ) (events : List Event) → IsOpening o →
+        IsLegalWorld (world_of (new_world o agents) events) }
+    ensures once { (o : Opening) (agents : ℕ) (events : List Event) → IsOpening o →
+        SendsOnce (world_of (new_world o agents) events) }
+    ensures within { (o : Opening) (agents : ℕ) (events : List Event) → IsOpening o →
+        SendsWithin (world_of (new_world o agents) events) }
+    ensures in_time { (o : Opening) (agents : ℕ) (events : List Event) → IsOpening o →
+        SendsInTime (world_of (new_world o agents) events) }
+    ensures credited { (o : Opening) (agents : ℕ) (events : List Event) → IsOpening o →
+        ClosesAsSent (world_of (new_world o agents) events) }
+    ensures granted { (o : Opening) (agents : ℕ) (events : List Event) → IsOpening o →
+        OpensGrants (world_of (new_world o agents) events) }
+    ensures patient { (o : Opening) (agents : ℕ) (events : List Event) → IsOpening o →
+        OpensPatiently (world_of (new_world o agents) events) }
 {}
 
 /// A new world has what every step keeps, each step that may be taken keeps it, and so does every list of steps.
 pub fn steps_keep_the_world()
     ensures first { (o : Opening) (agents : ℕ) → IsOpening o → IsWorld (new_world o agents) }
-    ensures ask { (w : WorldFacts) (who : ℕ) (k : Command) → IsWorld w → can w (Ask who k) ≡ true → IsWorld (moved w (Ask who k)) }
+    ensures ask { (w : WorldFacts) (who : ℕ) (k : Command) → IsWorld w → can w (Ask who k) ≡ true →
+        IsWorld (moved w (Ask who k)) }
     ensures post { (w : WorldFacts) (port : ℕ) → IsWorld w → can w (Post port) ≡ true → IsWorld (moved w (Post port)) }
-    ensures draw { (w : WorldFacts) (agent port : ℕ) → IsWorld w → can w (Draw agent port) ≡ true → IsWorld (moved w (Draw agent port)) }
-    ensures send { (w : WorldFacts) (agent port units : ℕ) → IsWorld w → can w (Send agent port units) ≡ true → IsWorld (moved w (Send agent port units)) }
-    ensures report { (w : WorldFacts) (agent port : ℕ) → IsWorld w → can w (Report agent port) ≡ true → IsWorld (moved w (Report agent port)) }
-    ensures settle { (w : WorldFacts) (port : ℕ) → IsWorld w → can w (Settle port) ≡ true → IsWorld (moved w (Settle port)) }
+    ensures draw { (w : WorldFacts) (agent port : ℕ) → IsWorld w → can w (Draw agent port) ≡ true →
+        IsWorld (moved w (Draw agent port)) }
+    ensures send { (w : WorldFacts) (agent port units : ℕ) → IsWorld w → can w (Send agent port units) ≡ true →
+        IsWorld (moved w (Send agent port units)) }
+    ensures report { (w : WorldFacts) (agent port : ℕ) → IsWorld w → can w (Report agent port) ≡ true →
+        IsWorld (moved w (Report agent port)) }
+    ensures settle { (w : WorldFacts) (port : ℕ) → IsWorld w → can w (Settle port) ≡ true →
+        IsWorld (moved w (Settle port)) }
     ensures note { (w : WorldFacts) (port : ℕ) → IsWorld w → can w (Note port) ≡ true → IsWorld (moved w (Note port)) }
     ensures close { (w : WorldFacts) → IsWorld w → can w Close ≡ true → IsWorld (moved w Close) }
     ensures list { (w : WorldFacts) (events : List Event) → IsWorld w → IsWorld (world_of w events) }
@@ -74,12 +86,16 @@ pub fn drawers_are_agents()
 /// and a step at one port leaves the others. Busy comes exactly where a post is to be settled that an agent has drawn and not reported.
 pub fn steps_leave_the_rest()
     ensures opening { (w : WorldFacts) (e : Event) → (world_after w e).opening ≡ w.opening }
-    ensures blocked { (w : WorldFacts) (e : Event) → can w e ≡ false → (happened w e ≡ Blocked) × (world_after w e ≡ w) }
+    ensures blocked { (w : WorldFacts) (e : Event) → can w e ≡ false →
+        (happened w e ≡ Blocked) × (world_after w e ≡ w) }
     ensures full { (w : WorldFacts) (e : Event) → is_full_answer (happened w e) ≡ true → world_after w e ≡ w }
-    ensures refused { (w : WorldFacts) (e : Event) → is_refused_answer (happened w e) ≡ true → IsSameButJournal w (world_after w e) }
-    ensures busy { (w : WorldFacts) (e : Event) (word : ℕ) → happened w e ≡ Busy word → IsBusy w e word × (world_after w e ≡ w) }
+    ensures refused { (w : WorldFacts) (e : Event) → is_refused_answer (happened w e) ≡ true →
+        IsSameButJournal w (world_after w e) }
+    ensures busy { (w : WorldFacts) (e : Event) (word : ℕ) → happened w e ≡ Busy word →
+        IsBusy w e word × (world_after w e ≡ w) }
     ensures drawn { (w : WorldFacts) (e : Event) (word : ℕ) → IsBusy w e word → happened w e ≡ Busy word }
-    ensures others { (w : WorldFacts) (e : Event) (q : ℕ) → leaves e q ≡ true → port_at (world_after w e) q ≡ port_at w q }
+    ensures others { (w : WorldFacts) (e : Event) (q : ℕ) → leaves e q ≡ true →
+        port_at (world_after w e) q ≡ port_at w q }
 {}
 
 /// The definitions give what was worked out by hand.

@@ -40,7 +40,8 @@ impl Model for World {
 
     ghost view = { λ s. world_facts s.master s.agents s.ports.items s.sent.items };
 
-    ghost invariant = { λ s. IsWorld (world_facts s.master s.agents s.ports.items s.sent.items) × TellsSent s.ports.items s.sent.items };
+    ghost invariant = { λ s. IsWorld (world_facts s.master s.agents s.ports.items s.sent.items) ×
+        TellsSent s.ports.items s.sent.items };
 }
 
 impl World {
@@ -71,7 +72,8 @@ impl World {
         ensures world { result ≢ Happened.NoMemory → self.new ≡ world_after self.old event }
         ensures blocked { result ≡ Happened.Blocked → (can self.old event ≡ false) × (self.new ≡ self.old) }
         ensures may { can self.old event ≡ false → result ≡ Happened.Blocked }
-        ensures no_memory { result ≡ Happened.NoMemory → (is_send event ≡ true) × (can self.old event ≡ true) × (self.new ≡ self.old) }
+        ensures no_memory { result ≡ Happened.NoMemory →
+            (is_send event ≡ true) × (can self.old event ≡ true) × (self.new ≡ self.old) }
         ensures busy { (word : ℕ) → result ≡ Happened.Busy word → IsBusy self.old event word × (self.new ≡ self.old) }
         ensures drawn { (word : ℕ) → IsBusy self.old event word → result ≡ Happened.Busy word }
         ensures full { is_full_answer result ≡ true → self.new ≡ self.old }
@@ -230,7 +232,8 @@ impl World {
     fn send(&mut self, agent: u32, port: u32, units: u64) -> Happened
         ensures answer { result ≢ Happened.NoMemory → result ≡ happened self.old (Send agent port units) }
         ensures world { result ≢ Happened.NoMemory → self.new ≡ world_after self.old (Send agent port units) }
-        ensures no_memory { result ≡ Happened.NoMemory → (can self.old (Send agent port units) ≡ true) × (self.new ≡ self.old) }
+        ensures no_memory { result ≡ Happened.NoMemory →
+            (can self.old (Send agent port units) ≡ true) × (self.new ≡ self.old) }
     {
         if !self.is_drawn(agent, port) {
             return Happened::Blocked;

@@ -17,7 +17,8 @@ place_all-requires-clause-ready c =
       gone = c.drop_absent.ensures.absent_go;
       budgets = λ k lt. c.give_budgets.ensures k (omega arith);
     } in
-    subst (λ w. IsReady c.drop_absent.new.loads c.give_budgets.new.residuals w) (sym c.copy_from_slice.ensures.after) (ready_first c.args.loads.now c.drop_absent.new.loads c.args.weights.now c.give_budgets.new.residuals c.args.present.now begun)
+    subst (λ w. IsReady c.drop_absent.new.loads c.give_budgets.new.residuals w) (sym c.copy_from_slice.ensures.after)
+    (ready_first c.args.loads.now c.drop_absent.new.loads c.args.weights.now c.give_budgets.new.residuals c.args.present.now begun)
 
 pub returns-clause-order : goal.returns-clause-order
 returns-clause-order c = λ i of.
@@ -33,7 +34,8 @@ returns-clause-order c = λ i of.
       budgets = λ k lt. c.give_budgets.ensures k (omega arith);
     } in
     let stands = stands_first i c.args.loads.now c.drop_absent.new.loads c.args.weights.now c.give_budgets.new.residuals c.args.present.now of begun in
-    let order = c.place_all.ensures.order i (subst (λ w. Stands i [] i.coflows c.drop_absent.new.loads c.give_budgets.new.residuals w) (sym c.copy_from_slice.ensures.after) stands) in
+    let order = c.place_all.ensures.order i (subst (λ w. Stands i [] i.coflows c.drop_absent.new.loads c.give_budgets.new.residuals w) (sym c.copy_from_slice.ensures.after) stands)
+    in
     let filled = take_front c.count_present-count.result c.place_all.new.places (drop c.count_present-count.result c.args.places.now)
     (length_part c.count_present-count.result c.place_all.new.places c.args.places.now c.place_all.auto.places (omega arith)) in
     subst (IsOrder i) (sym filled) order

@@ -5,5 +5,6 @@ use Rattle.bssi_order.proofs.step.choose.Goals as goal
 
 pub returns-clause-affordable : goal.returns-clause-affordable
 returns-clause-affordable c = λ coflow lt.
-    subst (λ n. (slice_index c.args.residuals.now c.least_ratio-coflow.result / n) * load_at c.args.loads.now coflow c.greatest_port-port.result ≤ slice_index c.args.residuals.now coflow) (sym c.get-own.ensures)
+    subst (λ n. (slice_index c.args.residuals.now c.least_ratio-coflow.result / n) * load_at c.args.loads.now coflow c.greatest_port-port.result ≤
+    slice_index c.args.residuals.now coflow) (sym c.get-own.ensures)
     (affordable c.args.loads.now c.args.residuals.now c.greatest_port-port.result c.least_ratio-coflow.result c.least_ratio-coflow.ensures coflow lt)

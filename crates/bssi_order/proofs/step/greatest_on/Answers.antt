@@ -11,6 +11,9 @@ loop-number-preserved c =
     let t = c.args.loads.now in
     let k = c.loop-number.number in
     elim c.if-total.branch [
-      | then-total w ↦ subst (λ p. FirstSoFar t c.args.side p (k + 1)) (sym w.greatest-is) (first_take t c.args.side c.loop-number.greatest k c.loop-number.invariant (omega arith) (omega (arith, w.if-total.true, c.total.ensures, c.total-in-loop-number.ensures)))
-      | else-total w ↦ subst (λ p. FirstSoFar t c.args.side p (k + 1)) (sym w.greatest-is) (first_keep t c.args.side c.loop-number.greatest k c.loop-number.invariant (omega (arith, w.if-total.false, c.total.ensures, c.total-in-loop-number.ensures)))
+      | then-total w ↦ subst (λ p. FirstSoFar t c.args.side p (k + 1)) (sym w.greatest-is)
+          (first_take t c.args.side c.loop-number.greatest k c.loop-number.invariant (omega arith)
+          (omega (arith, w.if-total.true, c.total.ensures, c.total-in-loop-number.ensures)))
+      | else-total w ↦ subst (λ p. FirstSoFar t c.args.side p (k + 1)) (sym w.greatest-is)
+          (first_keep t c.args.side c.loop-number.greatest k c.loop-number.invariant (omega (arith, w.if-total.false, c.total.ensures, c.total-in-loop-number.ensures)))
     ]

@@ -10,7 +10,8 @@ loaded-init c =
     record {
       within = omega (arith, e.within, n);
       here = λ lt. e.loaded (omega (arith, lt, n));
-      so_far = least_past c.args.loads.now c.args.residuals.now c.args.port 0 0 0 c.next_loaded-coflow.result (least_none c.args.loads.now c.args.residuals.now c.args.port) e.after e.none;
+      so_far = least_past c.args.loads.now c.args.residuals.now c.args.port 0 0 0 c.next_loaded-coflow.result (least_none c.args.loads.now c.args.residuals.now c.args.port) e.after
+          e.none;
     }
 
 pub overflow_mul-ours : goal.overflow_mul-ours

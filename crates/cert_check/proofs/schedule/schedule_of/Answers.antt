@@ -7,4 +7,11 @@ pub push_run-requires-clause-short : goal.push_run-requires-clause-short
 push_run-requires-clause-short c =
     let runs = c.args.runs.now in
     let k = c.loop-run.run-index in
-    omega (arith, ap length c.loop-run.invariant, run_count runs k c.run-item.result c.loop-run-test.true c.run-item.is, count_within runs (k + 1), slots_count runs, c.requires.few_slots)
+    omega (
+      arith,
+      ap length c.loop-run.invariant,
+      run_count runs k c.run-item.result c.loop-run-test.true c.run-item.is,
+      count_within runs (k + 1),
+      slots_count runs,
+      c.requires.few_slots,
+    )

@@ -1,4 +1,5 @@
-use Rattle.coflow_units.proofs.PortWordLaws.{same_granted, same_drawn, same_reported, granted_not_drawn, granted_not_reported, drawn_not_reported, granted_not_zero, drawn_not_zero, reported_not_zero}
+use Rattle.coflow_units.proofs.PortWordLaws.{same_granted, same_drawn, same_reported, granted_not_drawn, granted_not_reported, drawn_not_reported, granted_not_zero, drawn_not_zero}
+use Rattle.coflow_units.proofs.PortWordLaws.{reported_not_zero}
 use Rattle.coflow_units.proofs.laws.port_words_tell.Goals as goal
 
 pub returns-clause-same : goal.returns-clause-same

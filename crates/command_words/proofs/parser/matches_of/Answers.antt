@@ -42,11 +42,13 @@ pub returns-in-Ok-try_get_matches_from-clause-found :
 returns-in-Ok-try_get_matches_from-clause-found c =
     let same : app_of c.in-Ok.command ≡ app = c.in-Ok.ensures in
     let words = c.args.words.now in
-    let none : fault_of app (texts words) ≡ [] = subst (λ (a : App). fault_of a (texts words) ≡ []) same (c.in-Ok-try_get_matches_from.ensures.kinds (ap is_simple_and_free same ∙ free)) in
+    let none : fault_of app (texts words) ≡ [] =
+    subst (λ (a : App). fault_of a (texts words) ≡ []) same (c.in-Ok-try_get_matches_from.ensures.kinds (ap is_simple_and_free same ∙ free)) in
     let rows = (c.in-Ok-try_get_matches_from.ensures.matches (ap is_simple same ∙ simple)).0 in
     finds words _ none (rows ∙ ap (λ (a : App). rows_on a (texts words)) same)
 
-memory : (words : List (String Global)) (us : List Use) (e : Error) → uses None 1 (drop 1 (texts words)) ≡ Some us → IsAccepted us → HasKind (fault_of app (texts words)) e → kind_of e ≡ kind.OutOfMemory
+memory : (words : List (String Global)) (us : List Use) (e : Error) → uses None 1 (drop 1 (texts words)) ≡ Some us → IsAccepted us → HasKind (fault_of app (texts words)) e →
+    kind_of e ≡ kind.OutOfMemory
 memory words us e is accepted has = by (subst (λ (ks : Kinds). HasKind ks e) (fault_is (texts words) us (utf8_behind words) is ∙ not_refused us accepted) has)
   where
     by : HasKind [] e → kind_of e ≡ kind.OutOfMemory

@@ -15,7 +15,8 @@ returns-then-paid-coflow-clause-least c = λ flows weight has hasw.
     let same : all_entries charges ≡ reverse c.args.cert.now = ap reverse c.charges-charges.ensures in
     let certificate = subst (λ l. IsCertificateOf t l) (sym same) c.requires.certificate in
     subst (λ l. IsLeastInfeasible flows weight l k) same
-    (least_infeasible t weights charges paid k (slice_index paid k) (slice_index weights k) certificate c.payments-paid.ensures c.loop-coflow.invariant (omega (arith, c.coflows-coflow-end.ensures.coflows_are)) refl refl
+    (least_infeasible t weights charges paid k (slice_index paid k) (slice_index weights k) certificate c.payments-paid.ensures c.loop-coflow.invariant
+    (omega (arith, c.coflows-coflow-end.ensures.coflows_are)) refl refl
     (omega (arith, c.if-paid-coflow.true)) flows weight (subst (λ l. HasLoadsOf flows t l) (sym same) has) (subst (λ l. HasWeightsOf weight weights l) (sym same) hasw))
 
 pub returns-clause-none : goal.returns-clause-none
@@ -26,5 +27,6 @@ returns-clause-none c = λ flows weight has hasw none.
     let same : all_entries charges ≡ reverse c.args.cert.now = ap reverse c.charges-charges.ensures in
     let certificate = subst (λ l. IsCertificateOf t l) (sym same) c.requires.certificate in
     subst (λ l. IsFeasible flows weight l) same
-    (none_infeasible t weights charges c.payments-paid.result c.loop-coflow.coflow certificate c.payments-paid.ensures c.loop-coflow.invariant (omega (arith, c.coflows-coflow-end.ensures.coflows_are)) flows weight
+    (none_infeasible t weights charges c.payments-paid.result c.loop-coflow.coflow certificate c.payments-paid.ensures c.loop-coflow.invariant
+    (omega (arith, c.coflows-coflow-end.ensures.coflows_are)) flows weight
     (subst (λ l. HasLoadsOf flows t l) (sym same) has) (subst (λ l. HasWeightsOf weight weights l) (sym same) hasw))

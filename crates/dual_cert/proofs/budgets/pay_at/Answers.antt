@@ -8,7 +8,8 @@ loaded-init c =
     let e = c.next_loaded-coflow.ensures in
     record {
       within = omega (arith, e.within, c.coflows-coflows.ensures.coflows_are);
-      so_far = paid_past c.args.loads.now c.args.charges.now c.args.place c.args.paid.now c.args.paid.now 0 c.next_loaded-coflow.result (paid_none c.args.loads.now c.args.charges.now c.args.place c.args.paid.now) e.after e.none;
+      so_far = paid_past c.args.loads.now c.args.charges.now c.args.place c.args.paid.now c.args.paid.now 0 c.next_loaded-coflow.result
+          (paid_none c.args.loads.now c.args.charges.now c.args.place c.args.paid.now) e.after e.none;
     }
 
 pub loaded-preserved : goal.loaded-preserved
@@ -21,7 +22,8 @@ loaded-preserved c =
     let before = slice_index c.loaded.paid k in
     let product = c.saturating_mul.ensures in
     let sum = c.saturating_add.ensures ∙ ap (λ m. min (before + m) most) product in
-    let more = paid_more t charges c.args.place c.args.paid.now c.loaded.paid k c.load_in_front-load.result before c.saturating_add.result c.loaded.invariant.so_far (omega (arith, c.loaded-test.true, n, c.requires.paid_len, c.coflows-coflows.ensures.limit)) c.load_in_front-load.ensures refl sum in
+    let more = paid_more t charges c.args.place c.args.paid.now c.loaded.paid k c.load_in_front-load.result before c.saturating_add.result c.loaded.invariant.so_far
+    (omega (arith, c.loaded-test.true, n, c.requires.paid_len, c.coflows-coflows.ensures.limit)) c.load_in_front-load.ensures refl sum in
     record {
       within = omega (arith, e.within, n);
       so_far = paid_past t charges c.args.place c.args.paid.now _ (k + 1) c.next_loaded-coflow-in-loaded.result more e.after e.none;

@@ -14,7 +14,8 @@ pay_at-requires-clause-port_in c = port_in c.args.loads.now c.args.charges.now c
 pub loop-place-preserved : goal.loop-place-preserved
 loop-place-preserved c = record {
   len = omega (arith, c.loop-place.invariant.len, c.pay_at.auto.paid);
-  paid = place_paid c.args.loads.now c.args.charges.now c.loop-place.place c.loop-place.paid c.pay_at.new.paid c.requires.certificate c.loop-place.invariant.paid (omega arith) c.pay_at.ensures;
+  paid = place_paid c.args.loads.now c.args.charges.now c.loop-place.place c.loop-place.paid c.pay_at.new.paid c.requires.certificate c.loop-place.invariant.paid (omega arith)
+      c.pay_at.ensures;
 }
 
 pub returns : goal.returns

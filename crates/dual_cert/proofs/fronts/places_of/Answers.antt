@@ -12,7 +12,8 @@ pub bounds-places-charges : goal.bounds-places-charges
 bounds-places-charges c = omega (arith, coflow_in c.args.loads.now c.args.charges.now c.loop-place.place c.requires.certificate (omega arith), c.coflows.ensures.limit)
 
 pub loop-place-preserved : goal.loop-place-preserved
-loop-place-preserved c = placed_more c.args.loads.now c.args.charges.now c.loop-place.places c.loop-place.place c.requires.certificate c.coflows.ensures.limit c.loop-place.invariant (omega arith)
+loop-place-preserved c = placed_more c.args.loads.now c.args.charges.now c.loop-place.places c.loop-place.place c.requires.certificate c.coflows.ensures.limit
+    c.loop-place.invariant (omega arith)
 
 pub returns : goal.returns
 returns c = placed_all c.args.charges.now c.loop-place.places c.loop-place.place c.loop-place.invariant (omega arith)

@@ -6,14 +6,19 @@ use Rattle.dual_cert.proofs.ValueSteps.{IsPaidFor, div_ceil_is, value_fits_so_fa
 use Rattle.dual_cert.proofs.value.bound.Goals as goal
 
 pub loop-place-preserved : goal.loop-place-preserved
-loop-place-preserved c = value_step c.args.loads.now c.charges-charges.result.now c.loop-place.value c.loop-place.place c.squares.result c.loop-place.invariant c.squares.ensures (omega arith)
+loop-place-preserved c = value_step c.args.loads.now c.charges-charges.result.now c.loop-place.value c.loop-place.place c.squares.result c.loop-place.invariant c.squares.ensures
+    (omega arith)
 
 pub overflow_add-value : goal.overflow_add-value
 overflow_add-value c =
     let t = c.args.loads.now in
     let charges = c.charges-charges.result.now in
     let same : all_entries charges ≡ reverse c.args.cert.now = ap reverse c.charges-charges.ensures in
-    omega (arith, value_fits_so_far t charges _ (c.loop-place.place + 1) (subst (λ l. IsCertificateOf t l) (sym same) c.requires.certificate) c.coflows.ensures.limit c.requires.totals_fit (subst (λ l. IsPaidFor t l) (sym same) c.requires.feasible) (loop-place-preserved c))
+    omega (
+      arith,
+      value_fits_so_far t charges _ (c.loop-place.place + 1) (subst (λ l. IsCertificateOf t l) (sym same) c.requires.certificate) c.coflows.ensures.limit
+          c.requires.totals_fit (subst (λ l. IsPaidFor t l) (sym same) c.requires.feasible) (loop-place-preserved c),
+    )
 
 pub overflow_mul-value : goal.overflow_mul-value
 overflow_mul-value c = omega (arith, overflow_add-value c)

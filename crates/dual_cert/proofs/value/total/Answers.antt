@@ -25,7 +25,8 @@ overflow_add-total c =
     let t = c.args.loads.now in
     let charges = c.args.charges.now in
     let k = c.loaded.coflow in
-    let small = total_small t charges c.args.place (k + 1) c.requires.certificate c.requires.totals_fit c.requires.place_in (omega (arith, c.loaded-test.true, c.coflows-coflows.ensures.coflows_are)) in
+    let small = total_small t charges c.args.place (k + 1) c.requires.certificate c.requires.totals_fit c.requires.place_in
+    (omega (arith, c.loaded-test.true, c.coflows-coflows.ensures.coflows_are)) in
     omega (arith, c.loaded.invariant.total_is, c.load_in_front-total.ensures, sum_next (load_up_to t charges c.args.place) k, small)
 
 pub next_loaded-coflow-requires-in-loaded-clause-port_in : goal.next_loaded-coflow-requires-in-loaded-clause-port_in
@@ -50,12 +51,14 @@ returns-clause-load c = λ flows has.
     let place = c.args.place in
     let end : c.loaded.coflow ≡ t.coflows = omega (arith, c.loaded-test.false, c.loaded.invariant.within, c.coflows-coflows.ensures.coflows_are) in
     c.loaded.invariant.total_is ∙ ap (sum_to (load_up_to t charges place)) end ∙ front_total t charges place c.requires.certificate
-    ∙ load_is flows t (port_at charges place) charges (place + 1) has (port_in t charges place c.requires.certificate c.requires.place_in) ∙ sym (front_load_is flows charges place c.requires.place_in)
+    ∙ load_is flows t (port_at charges place) charges (place + 1) has (port_in t charges place c.requires.certificate c.requires.place_in) ∙
+    sym (front_load_is flows charges place c.requires.place_in)
 
 pub returns-clause-fits : goal.returns-clause-fits
 returns-clause-fits c =
     omega (
       arith,
       c.loaded.invariant.total_is,
-      total_small c.args.loads.now c.args.charges.now c.args.place c.loaded.coflow c.requires.certificate c.requires.totals_fit c.requires.place_in (omega (arith, c.loaded.invariant.within, c.coflows-coflows.ensures.coflows_are)),
+      total_small c.args.loads.now c.args.charges.now c.args.place c.loaded.coflow c.requires.certificate c.requires.totals_fit c.requires.place_in
+          (omega (arith, c.loaded.invariant.within, c.coflows-coflows.ensures.coflows_are)),
     )

@@ -11,7 +11,8 @@ make c = rest_of c.args.unit (length c.args.line.now.mappers)
 
 moved : (c : goal.In_ok-sort_spots) → IsPermutation (map (make c) c.args.line.now.reducers) c.sort_spots.new.spots.items
 moved c =
-    let all : take c.loop-reducer.reducer-index c.args.line.now.reducers ≡ c.args.line.now.reducers = take_all c.loop-reducer.reducer-index c.args.line.now.reducers (omega (arith, ap length c.as_slice-reducer-items.ensures)) in
+    let all : take c.loop-reducer.reducer-index c.args.line.now.reducers ≡ c.args.line.now.reducers =
+    take_all c.loop-reducer.reducer-index c.args.line.now.reducers (omega (arith, ap length c.as_slice-reducer-items.ensures)) in
     subst (λ l. IsPermutation l c.sort_spots.new.spots.items) (c.loop-reducer.invariant ∙ ap (map (make c)) all) c.in_ok-sort_spots.ensures.moved
 
 pub returns-clause-count : goal.returns-clause-count

@@ -22,11 +22,13 @@ loop-number-preserved c =
     let low = c.requires.coflow n none c.loop-number-test.true in
     record {
       len = length-set c.loop-number.ranks x (n + 1) ∙ c.loop-number.invariant.len;
-      so_far = ranks_more (ranked places) c.loop-number.ranks n x c.loop-number.invariant.so_far c.requires.once (omega (arith, ranked_len places, c.loop-number-test.true)) (place_at places n none c.loop-number-test.true)
+      so_far = ranks_more (ranked places) c.loop-number.ranks n x c.loop-number.invariant.so_far c.requires.once (omega (arith, ranked_len places, c.loop-number-test.true))
+          (place_at places n none c.loop-number-test.true)
           (omega (arith, low, c.loop-number.invariant.len));
     }
 
 pub returns : goal.returns
 returns c = λ coflow lt.
     let end : c.loop-number.number ≡ length (ranked c.args.places.now) = omega (arith, ranked_len c.args.places.now, c.loop-number-test.false, c.loop-number.auto.number-end) in
-    ranks_all (ranked c.args.places.now) c.loop-number.ranks coflow (subst (λ k. RanksSoFar (ranked c.args.places.now) c.loop-number.ranks k) end c.loop-number.invariant.so_far) (omega (arith, lt, c.loop-number.invariant.len))
+    ranks_all (ranked c.args.places.now) c.loop-number.ranks coflow (subst (λ k. RanksSoFar (ranked c.args.places.now) c.loop-number.ranks k) end c.loop-number.invariant.so_far)
+    (omega (arith, lt, c.loop-number.invariant.len))

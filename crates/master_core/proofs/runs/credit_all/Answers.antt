@@ -13,7 +13,8 @@ pub credit-requires-clause-owed : goal.credit-requires-clause-owed
 credit-requires-clause-owed c =
     let k = c.loop-flow.flow-index in
     let g = get_or c.args.granted.now k 0 in
-    credit_fits c.args.flows.now c.args.ledger.now.owed c.loop-flow.ledger.owed c.args.granted.now c.args.noted.now c.args.slots k g c.unwrap_or-units.result c.requires.ascending c.loop-flow-test.true refl c.unwrap_or-units.ensures
+    credit_fits c.args.flows.now c.args.ledger.now.owed c.loop-flow.ledger.owed c.args.granted.now c.args.noted.now c.args.slots k g c.unwrap_or-units.result c.requires.ascending
+    c.loop-flow-test.true refl c.unwrap_or-units.ensures
     (c.requires.notes (ingress_of c.args.flows.now g)) (c.requires.owed k 0 c.loop-flow-test.true) c.loop-flow.invariant.so_far
 
 pub take-requires-clause-enough : goal.take-requires-clause-enough
@@ -21,7 +22,8 @@ take-requires-clause-enough c =
     let k = c.loop-flow.flow-index in
     let g = get_or c.args.granted.now k 0 in
     let before = c.loop-flow.invariant in
-    let fits = credit_fits c.args.flows.now c.args.ledger.now.owed c.loop-flow.ledger.owed c.args.granted.now c.args.noted.now c.args.slots k g c.unwrap_or-units.result c.requires.ascending c.loop-flow-test.true refl c.unwrap_or-units.ensures
+    let fits = credit_fits c.args.flows.now c.args.ledger.now.owed c.loop-flow.ledger.owed c.args.granted.now c.args.noted.now c.args.slots k g c.unwrap_or-units.result
+    c.requires.ascending c.loop-flow-test.true refl c.unwrap_or-units.ensures
     (c.requires.notes (ingress_of c.args.flows.now g)) (c.requires.owed k 0 c.loop-flow-test.true) before.so_far in
     omega (arith, fits, ap (λ (l : List ℕ). get_or l g 0) before.left)
 
@@ -33,20 +35,24 @@ loop-flow-preserved c =
     let owed = c.loop-flow.ledger.owed in
     let left = c.loop-flow.owing.left in
     let before = c.loop-flow.invariant in
-    let fits = credit_fits c.args.flows.now c.args.ledger.now.owed owed c.args.granted.now c.args.noted.now c.args.slots k g n c.requires.ascending c.loop-flow-test.true refl c.unwrap_or-units.ensures
+    let fits = credit_fits c.args.flows.now c.args.ledger.now.owed owed c.args.granted.now c.args.noted.now c.args.slots k g n c.requires.ascending c.loop-flow-test.true refl
+    c.unwrap_or-units.ensures
     (c.requires.notes (ingress_of c.args.flows.now g)) (c.requires.owed k 0 c.loop-flow-test.true) before.so_far in
     let here : g < length left = omega (arith, c.requires.flow k 0 c.loop-flow-test.true, before.owing.count) in
     let low : g < length owed = omega (arith, here, ap (λ (l : List ℕ). length l) before.left) in
     record {
       units = c.credit.ensures.units ∙ before.units;
       owing = c.take.ensures.owed;
-      left = in_step left c.take.new.self.left owed g n (c.take.ensures.owed.count ∙ sym before.owing.count) before.left here c.take.ensures.less c.take.ensures.others ∙ sym c.credit.ensures.owed;
+      left = in_step left c.take.new.self.left owed g n (c.take.ensures.owed.count ∙ sym before.owing.count) before.left here c.take.ensures.less c.take.ensures.others ∙
+          sym c.credit.ensures.owed;
       sums = c.take.ensures.coflows_are ∙ before.sums;
       so_far = λ f. ap (λ (l : List ℕ). get_or l f 0 + credit_of c.args.flows.now (take (k + 1) c.args.granted.now) c.args.noted.now c.args.slots f) c.credit.ensures.owed
-          ∙ credited_more c.args.flows.now c.args.ledger.now.owed owed c.args.granted.now c.args.noted.now c.args.slots k g n c.requires.ascending c.loop-flow-test.true refl low c.unwrap_or-units.ensures fits before.so_far f;
+          ∙ credited_more c.args.flows.now c.args.ledger.now.owed owed c.args.granted.now c.args.noted.now c.args.slots k g n c.requires.ascending c.loop-flow-test.true refl low
+          c.unwrap_or-units.ensures fits before.so_far f;
     }
 
 pub returns-clause-owed : goal.returns-clause-owed
 returns-clause-owed c = λ f.
-    ap (λ (l : List ℕ). get_or c.loop-flow.ledger.owed f 0 + credit_of c.args.flows.now l c.args.noted.now c.args.slots f) (sym (take_all c.loop-flow.flow-index c.args.granted.now c.loop-flow-test.false))
+    ap (λ (l : List ℕ). get_or c.loop-flow.ledger.owed f 0 + credit_of c.args.flows.now l c.args.noted.now c.args.slots f)
+    (sym (take_all c.loop-flow.flow-index c.args.granted.now c.loop-flow-test.false))
     ∙ c.loop-flow.invariant.so_far f

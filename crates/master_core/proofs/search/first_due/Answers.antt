@@ -14,7 +14,8 @@ loop-coflow-init c = λ f lt. absurd (omega arith)
 pub returns-then-of_coflow-gt0 : goal.returns-then-of_coflow-gt0
 returns-then-of_coflow-gt0 c = (
   c.loop-coflow-test.true,
-  both (marked c.args.roster.now.present c.loop-coflow.coflow) _ true true (sym c.is_present.ensures ∙ c.if-not-is_present.false) (ap (nat_lt 0) (sym c.of_coflow.ensures) ∙ lt-ltb 0 c.of_coflow.result c.if-of_coflow-gt0.true),
+  both (marked c.args.roster.now.present c.loop-coflow.coflow) _ true true (sym c.is_present.ensures ∙ c.if-not-is_present.false)
+      (ap (nat_lt 0) (sym c.of_coflow.ensures) ∙ lt-ltb 0 c.of_coflow.result c.if-of_coflow-gt0.true),
   c.loop-coflow.invariant,
 )
 
@@ -28,7 +29,8 @@ pub loop-coflow-preserved : goal.loop-coflow-preserved
 loop-coflow-preserved c =
     let n = c.loop-coflow.coflow in
     none_more (is_due c.args.roster.now.present c.args.owing.now.of_coflow) n c.loop-coflow.invariant
-    (both (marked c.args.roster.now.present n) _ true false (sym c.is_present.ensures ∙ c.if-not-is_present.false) (ap (nat_lt 0) (sym c.of_coflow.ensures) ∙ le-ltb 0 c.of_coflow.result c.if-of_coflow-gt0.false))
+    (both (marked c.args.roster.now.present n) _ true false (sym c.is_present.ensures ∙ c.if-not-is_present.false)
+    (ap (nat_lt 0) (sym c.of_coflow.ensures) ∙ le-ltb 0 c.of_coflow.result c.if-of_coflow-gt0.false))
 
 pub returns : goal.returns
 returns c = λ f lt. c.loop-coflow.invariant f (omega (arith, lt, c.loop-coflow-test.false))

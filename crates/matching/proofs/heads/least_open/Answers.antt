@@ -13,11 +13,14 @@ loop-head-init c = record {
 
 pub loop-head-preserved : goal.loop-head-preserved
 loop-head-preserved c =
-    let (lt, lt', head, other) = zip_turn c.args.heads.now c.args.others.now c.loop-head.yielded _ _ c.next.new.self _ (cc) (cc) c.loop-head.yielded_by (c.in-Some.head, c.in-Some.other) c.in-Some.is c.next.ensures.steps in
+    let (lt, lt', head, other) = zip_turn c.args.heads.now c.args.others.now c.loop-head.yielded _ _ c.next.new.self _ (cc) (cc) c.loop-head.yielded_by
+    (c.in-Some.head, c.in-Some.other) c.in-Some.is c.next.ensures.steps in
     elim c.if-head-other.branch [
-      | then-head-other w ↦ open_next c.args.heads.now c.args.others.now (length c.loop-head.yielded) _ c.loop-head.least c.min-least.result c.if-head-other.open lt (length_push c.loop-head.yielded (c.in-Some.head, c.in-Some.other))
+      | then-head-other w ↦ open_next c.args.heads.now c.args.others.now (length c.loop-head.yielded) _ c.loop-head.least c.min-least.result c.if-head-other.open lt
+          (length_push c.loop-head.yielded (c.in-Some.head, c.in-Some.other))
           (omega (arith, head 0, other 0, w.if-head-other.true)) (omega (arith, head 0, w.open-is)) c.min-least.ensures c.loop-head.invariant
-      | else-head-other w ↦ closed_next c.args.heads.now c.args.others.now (length c.loop-head.yielded) _ c.loop-head.least c.min-least.result c.if-head-other.open (length_push c.loop-head.yielded (c.in-Some.head, c.in-Some.other))
+      | else-head-other w ↦ closed_next c.args.heads.now c.args.others.now (length c.loop-head.yielded) _ c.loop-head.least c.min-least.result c.if-head-other.open
+          (length_push c.loop-head.yielded (c.in-Some.head, c.in-Some.other))
           (omega (arith, head 0, other 0, w.if-head-other.false)) w.open-is c.min-least.ensures c.loop-head.invariant
     ]
 

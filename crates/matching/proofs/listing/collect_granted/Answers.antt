@@ -21,11 +21,13 @@ loop-rank-preserved c =
     let ranks = c.args.ranks.now in
     let r = get_or c.args.at.now c.loop-rank.rank-index 0 in
     let known : r < ranks.count = elim (c.requires.side c.loop-rank.rank-index c.loop-rank-test.true) [ inl e ↦ absurd (c.if-rank.false e) | inr (lt, _) ↦ lt ] in
-    let is : c.index.result.now ≡ ranked_at ranks.flows.items r = c.index.ensures ∙ get_or_default ranks.flows.items r c.index.result.now record { first = 0; second = 0; number = 0 } (omega (arith, known, c.requires.fits)) in
+    let is : c.index.result.now ≡ ranked_at ranks.flows.items r =
+    c.index.ensures ∙ get_or_default ranks.flows.items r c.index.result.now record { first = 0; second = 0; number = 0 } (omega (arith, known, c.requires.fits)) in
     record {
       length_is = length-set c.loop-rank.listed c.loop-rank.count c.index.result.now.number ∙ before.length_is;
       count_fits = omega (arith, before.count_fits);
-      listing = subst (λ (x : Ranked). IsListing ranks c.args.at.now (c.loop-rank.rank-index + 1) (take (c.loop-rank.count + 1) (set c.loop-rank.listed c.loop-rank.count x.number))) (sym is)
+      listing = subst (λ (x : Ranked).
+          IsListing ranks c.args.at.now (c.loop-rank.rank-index + 1) (take (c.loop-rank.count + 1) (set c.loop-rank.listed c.loop-rank.count x.number))) (sym is)
           (list_takes ranks c.args.at.now c.loop-rank.rank-index c.loop-rank.count c.loop-rank.listed c.requires.apart c.requires.side c.loop-rank-test.true c.requires.few known
           (omega (arith, before.count_fits, before.length_is, c.requires.room, c.loop-rank-test.true)) before.listing);
     }

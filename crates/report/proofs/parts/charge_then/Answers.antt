@@ -17,13 +17,16 @@ pub returns-in_default-number_then-2 : goal.returns-in_default-number_then-2
 returns-in_default-number_then-2 c = λ p rest small stops e.
     let a = id_is p c.args.bytes.now rest c.in-Some.rest.now c.in-Some.id small e (omega (arith, c.in-Some.ensures.0)) c.in-Some.ensures.1 c.in-Some.ensures.2 in
     let b = side_is p c.in-Some.rest.now rest c.in-Some-side_then.rest.now c.in-Some-side_then.side a.1 c.in-Some-side_then.ensures in
-    let d = number_is p c.in-Some-side_then.rest.now rest c.in-Some-number_then.rest.now c.in-Some-number_then.number small b.1 (omega (arith, c.in-Some-number_then.ensures.0)) c.in-Some-number_then.ensures.1 c.in-Some-number_then.ensures.2 in
+    let d = number_is p c.in-Some-side_then.rest.now rest c.in-Some-number_then.rest.now c.in-Some-number_then.number small b.1 (omega (arith, c.in-Some-number_then.ensures.0))
+    c.in-Some-number_then.ensures.1 c.in-Some-number_then.ensures.2 in
     c.in_default-number_then-2.ensures p.y (after_y p rest) (omega (arith, small.y)) refl d.1
 
 pub returns-in_default-number_then-3 : goal.returns-in_default-number_then-3
 returns-in_default-number_then-3 c = λ p rest small stops e.
     let a = id_is p c.args.bytes.now rest c.in-Some.rest.now c.in-Some.id small e (omega (arith, c.in-Some.ensures.0)) c.in-Some.ensures.1 c.in-Some.ensures.2 in
     let b = side_is p c.in-Some.rest.now rest c.in-Some-side_then.rest.now c.in-Some-side_then.side a.1 c.in-Some-side_then.ensures in
-    let d = number_is p c.in-Some-side_then.rest.now rest c.in-Some-number_then.rest.now c.in-Some-number_then.number small b.1 (omega (arith, c.in-Some-number_then.ensures.0)) c.in-Some-number_then.ensures.1 c.in-Some-number_then.ensures.2 in
-    let f = y_is p c.in-Some-number_then.rest.now rest c.in-Some-number_then-2.rest.now c.in-Some-number_then-2.y small d.1 (omega (arith, c.in-Some-number_then-2.ensures.0)) c.in-Some-number_then-2.ensures.1 c.in-Some-number_then-2.ensures.2 in
+    let d = number_is p c.in-Some-side_then.rest.now rest c.in-Some-number_then.rest.now c.in-Some-number_then.number small b.1 (omega (arith, c.in-Some-number_then.ensures.0))
+    c.in-Some-number_then.ensures.1 c.in-Some-number_then.ensures.2 in
+    let f = y_is p c.in-Some-number_then.rest.now rest c.in-Some-number_then-2.rest.now c.in-Some-number_then-2.y small d.1 (omega (arith, c.in-Some-number_then-2.ensures.0))
+    c.in-Some-number_then-2.ensures.1 c.in-Some-number_then-2.ensures.2 in
     c.in_default-number_then-3.ensures p.done rest (omega (arith, small.done)) stops f.1

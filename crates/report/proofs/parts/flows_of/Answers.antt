@@ -14,7 +14,9 @@ returns-in_default c = λ ys h e.
 pub returns-then-not-rises : goal.returns-then-not-rises
 returns-then-not-rises c = λ ys h e.
     let next = next_flow c.args.bytes.now c.loop-rest.rest.now c.loop-rest.flows.items ys c.loop-rest.invariant h e (not_empty c.loop-rest.rest.now c.loop-rest-test.ensures) in
-    let same : c.in-Some.flow ≡ next.flow = same_flow c.loop-rest.rest.now c.loop-rest.flows.items ys c.in-Some.behind.now c.in-Some.flow next (omega (arith, c.in-Some.ensures.0)) c.in-Some.ensures.1 c.in-Some.ensures.2 in
+    let same : c.in-Some.flow ≡ next.flow =
+    same_flow c.loop-rest.rest.now c.loop-rest.flows.items ys c.in-Some.behind.now c.in-Some.flow next (omega (arith, c.in-Some.ensures.0)) c.in-Some.ensures.1
+    c.in-Some.ensures.2 in
     let up : IsStrictlyIncreasing (c.deref.result.now ++ (c.in-Some.flow ∷ [])) = rw (c.deref.ensures.value, same) next.rises in
     c.if-not-rises.ensures up
 
@@ -23,4 +25,5 @@ loop-rest-preserved c =
     let before : IsStrictlyIncreasing c.deref.result.now = rw c.deref.ensures.value c.loop-rest.invariant.flows_are.0 in
     let after : IsStrictlyIncreasing (c.loop-rest.flows.items ++ (c.in-Some.flow ∷ [])) = rw c.deref.ensures.value at (c.if-not-rises.ensures before) in
     let small : c.in-Some.flow < 2 ^ 32 = omega (arith, c.in-Some.ensures.0) in
-    rw c.in_ok-push.ensures.items (one_more c.args.bytes.now c.loop-rest.rest.now c.loop-rest.flows.items c.in-Some.behind.now c.in-Some.flow c.loop-rest.invariant small c.in-Some.ensures.1 c.in-Some.ensures.2 after)
+    rw c.in_ok-push.ensures.items (one_more c.args.bytes.now c.loop-rest.rest.now c.loop-rest.flows.items c.in-Some.behind.now c.in-Some.flow c.loop-rest.invariant small
+    c.in-Some.ensures.1 c.in-Some.ensures.2 after)

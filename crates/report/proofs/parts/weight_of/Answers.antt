@@ -7,10 +7,12 @@ returns-in_default c = no_weight c.args.weighed c.args.bytes.now c.if-not-weighe
 
 pub returns-then-weight-eq0 : goal.returns-then-weight-eq0
 returns-then-weight-eq0 c = λ weight h e.
-    let only = only_weight c.args.weighed c.args.bytes.now c.in-Some.rest.now c.in-Some.weight c.if-not-weighed.false (omega (arith, c.in-Some.ensures.0)) c.in-Some.ensures.1 c.in-Some.ensures.2 weight h e in
+    let only = only_weight c.args.weighed c.args.bytes.now c.in-Some.rest.now c.in-Some.weight c.if-not-weighed.false (omega (arith, c.in-Some.ensures.0)) c.in-Some.ensures.1
+    c.in-Some.ensures.2 weight h e in
     absurd (omega (arith, only.0))
 
 pub returns-then-not-is_empty : goal.returns-then-not-is_empty
 returns-then-not-is_empty c = λ weight h e.
-    let only = only_weight c.args.weighed c.args.bytes.now c.in-Some.rest.now c.in-Some.weight c.if-not-weighed.false (omega (arith, c.in-Some.ensures.0)) c.in-Some.ensures.1 c.in-Some.ensures.2 weight h e in
+    let only = only_weight c.args.weighed c.args.bytes.now c.in-Some.rest.now c.in-Some.weight c.if-not-weighed.false (omega (arith, c.in-Some.ensures.0)) c.in-Some.ensures.1
+    c.in-Some.ensures.2 weight h e in
     not_empty c.in-Some.rest.now c.if-not-is_empty.ensures only.1

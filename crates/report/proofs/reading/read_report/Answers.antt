@@ -25,8 +25,10 @@ overflow_add-line_number c = omega (arith, few_read c.args.bytes.now c.loop-rest
 
 pub loop-rest-preserved : goal.loop-rest-preserved
 loop-rest-preserved c =
-    let taken : IsDraft c.accept.new.self × (draft_lines c.accept.new.self ≡ draft_lines c.loop-rest.draft ++ (c.in-Some.line.now ∷ [])) = rw c.if-not-branch.false at c.in_ok-accept.ensures in
-    one_more c.args.bytes.now c.loop-rest.rest.now c.in-Some.behind.now c.in-Some.line.now c.loop-rest.draft c.accept.new.self c.loop-rest.line_number c.loop-rest.invariant taken.0 taken.1 c.in-Some.ensures.0 c.in-Some.ensures.1
+    let taken : IsDraft c.accept.new.self × (draft_lines c.accept.new.self ≡ draft_lines c.loop-rest.draft ++ (c.in-Some.line.now ∷ [])) =
+    rw c.if-not-branch.false at c.in_ok-accept.ensures in
+    one_more c.args.bytes.now c.loop-rest.rest.now c.in-Some.behind.now c.in-Some.line.now c.loop-rest.draft c.accept.new.self c.loop-rest.line_number c.loop-rest.invariant taken.0
+    taken.1 c.in-Some.ensures.0 c.in-Some.ensures.1
 
 pub returns-in-None : goal.returns-in-None
 returns-in-None c = record {

@@ -11,7 +11,12 @@ use Rattle.schedule_model.proofs.TimeCounts.{refill}
 use Rattle.schedule_model.proofs.clashes.find_clash.Goals as goal
 
 pub overflow_add-slot : goal.overflow_add-slot
-overflow_add-slot c = omega (arith, c.loop-run.invariant.slot_is, run_fits c.args.runs.now c.loop-run.run-index c.run-item.result c.requires.kept c.loop-run-test.true c.run-item.is)
+overflow_add-slot c = omega (
+  arith,
+  c.loop-run.invariant.slot_is,
+  run_fits c.args.runs.now c.loop-run.run-index c.run-item.result c.requires.kept c.loop-run-test.true
+      c.run-item.is,
+)
 
 pub least_repeat-requires-clause-names : goal.least_repeat-requires-clause-names
 least_repeat-requires-clause-names c =
@@ -19,7 +24,12 @@ least_repeat-requires-clause-names c =
     (run_holds (All (λ f. f < length c.args.flows.now)) c.args.runs.now c.loop-run.run-index c.run-item.result c.requires.kept c.loop-run-test.true c.run-item.is c.requires.names)
 
 pub overflow_add-result : goal.overflow_add-result
-overflow_add-result c = omega (arith, c.loop-run.invariant.slot_is, run_fits c.args.runs.now c.loop-run.run-index c.run-item.result c.requires.kept c.loop-run-test.true c.run-item.is)
+overflow_add-result c = omega (
+  arith,
+  c.loop-run.invariant.slot_is,
+  run_fits c.args.runs.now c.loop-run.run-index c.run-item.result c.requires.kept c.loop-run-test.true
+      c.run-item.is,
+)
 
 pub returns-in-Some : goal.returns-in-Some
 returns-in-Some c =
@@ -33,12 +43,14 @@ returns-in-Some c =
     let split = run_at runs k r c.requires.kept c.loop-run-test.true c.run-item.is in
     let (twice, least) = c.in-Some.ensures.least in
     let here : Repeats flows Ingress r.flows number = subst (λ h. Repeats flows Ingress h number) c.as_slice-numbers.ensures twice in
-    let first = first_ingress_clash flows before rest r.flows number (subst (NamesFlows (length flows)) split c.requires.names) c.loop-run.invariant.clear here (λ p again. least p (subst (λ h. Repeats flows Ingress h p) (sym c.as_slice-numbers.ensures) again)) in
+    let first = first_ingress_clash flows before rest r.flows number (subst (NamesFlows (length flows)) split c.requires.names) c.loop-run.invariant.clear here
+    (λ p again. least p (subst (λ h. Repeats flows Ingress h p) (sym c.as_slice-numbers.ensures) again)) in
     subst (λ n. IsFirstClash flows (slots_in runs) (n + 1) (record { side = Ingress; number = number })) (sym c.loop-run.invariant.slot_is)
     (subst (λ s. IsFirstClash flows s (length before + 1) (record { side = Ingress; number = number })) (sym split) first)
 
 pub overflow_add-slot-in-loop-run : goal.overflow_add-slot-in-loop-run
-overflow_add-slot-in-loop-run c = omega (arith, c.loop-run.invariant.slot_is, run_fits c.args.runs.now c.loop-run.run-index c.run-item.result c.requires.kept c.loop-run-test.true c.run-item.is)
+overflow_add-slot-in-loop-run c =
+    omega (arith, c.loop-run.invariant.slot_is, run_fits c.args.runs.now c.loop-run.run-index c.run-item.result c.requires.kept c.loop-run-test.true c.run-item.is)
 
 pub least_repeat-requires-in-loop-run-clause-names : goal.least_repeat-requires-in-loop-run-clause-names
 least_repeat-requires-in-loop-run-clause-names c =
@@ -62,12 +74,14 @@ returns-in-Some-least_repeat c =
     let (twice, least) = c.in-Some-least_repeat.ensures.least in
     let here : Repeats flows Egress r.flows number = subst (λ h. Repeats flows Egress h number) c.as_slice-numbers.ensures twice in
     let first = first_egress_clash flows before rest r.flows number (subst (NamesFlows (length flows)) split c.requires.names) c.loop-run.invariant.clear
-    (λ p again. c.in_default.ensures.least p (subst (λ h. Repeats flows Ingress h p) (sym c.as_slice-numbers.ensures) again)) here (λ p again. least p (subst (λ h. Repeats flows Egress h p) (sym c.as_slice-numbers.ensures) again)) in
+    (λ p again. c.in_default.ensures.least p (subst (λ h. Repeats flows Ingress h p) (sym c.as_slice-numbers.ensures) again)) here
+    (λ p again. least p (subst (λ h. Repeats flows Egress h p) (sym c.as_slice-numbers.ensures) again)) in
     subst (λ n. IsFirstClash flows (slots_in runs) (n + 1) (record { side = Egress; number = number })) (sym c.loop-run.invariant.slot_is)
     (subst (λ s. IsFirstClash flows s (length before + 1) (record { side = Egress; number = number })) (sym split) first)
 
 pub overflow_add-slot-in-loop-run-2 : goal.overflow_add-slot-in-loop-run-2
-overflow_add-slot-in-loop-run-2 c = omega (arith, c.loop-run.invariant.slot_is, run_fits c.args.runs.now c.loop-run.run-index c.run-item.result c.requires.kept c.loop-run-test.true c.run-item.is)
+overflow_add-slot-in-loop-run-2 c =
+    omega (arith, c.loop-run.invariant.slot_is, run_fits c.args.runs.now c.loop-run.run-index c.run-item.result c.requires.kept c.loop-run-test.true c.run-item.is)
 
 -- marks up to a slot are marks up to a later one
 later_marks : (marks : List ℕ) (m n : ℕ) → m ≤ n → All (λ x. x ≤ m) marks → All (λ x. x ≤ n) marks
@@ -84,16 +98,22 @@ loop-run-preserved c =
     let some : 1 ≤ r.length = run_some runs k r c.requires.kept lt is in
     let up : c.loop-run.slot + 1 ≤ c.loop-run.slot + r.length = omega arith in
     let ingress = refill c.least_repeat.new.marks c.loop-run.ingress.items c.loop-run.ingress.len (c.least_repeat.auto.marks ∙ c.deref_mut.ensures.len) in
-    let egress = refill c.least_repeat-in-loop-run.new.marks c.loop-run.egress.items c.loop-run.egress.len (c.least_repeat-in-loop-run.auto.marks ∙ c.deref_mut-in-loop-run.ensures.len) in
+    let egress = refill c.least_repeat-in-loop-run.new.marks c.loop-run.egress.items c.loop-run.egress.len
+    (c.least_repeat-in-loop-run.auto.marks ∙ c.deref_mut-in-loop-run.ensures.len) in
     let names = run_holds (All (λ f. f < length flows)) runs k r c.requires.kept lt is c.requires.names in
-    let clear = clear_slot flows r.flows (run_ascends runs k r c.requires.kept lt is) names (λ p twice. c.in_default.ensures.least p (subst (λ h. Repeats flows Ingress h p) (sym c.as_slice-numbers.ensures) twice))
+    let clear = clear_slot flows r.flows (run_ascends runs k r c.requires.kept lt is) names
+    (λ p twice. c.in_default.ensures.least p (subst (λ h. Repeats flows Ingress h p) (sym c.as_slice-numbers.ensures) twice))
     (λ p twice. c.in_default-least_repeat.ensures.least p (subst (λ h. Repeats flows Egress h p) (sym c.as_slice-numbers.ensures) twice)) in
     record {
       slot_is = ap (λ n. n + r.length) c.loop-run.invariant.slot_is ∙ sym (run_count runs k r lt is);
-      ingress_count = ap (λ (xs : List ℕ). length xs) ingress ∙ c.least_repeat.auto.marks ∙ ap (λ (xs : List ℕ). length xs) c.deref_mut.ensures.value ∙ c.loop-run.invariant.ingress_count;
-      egress_count = ap (λ (xs : List ℕ). length xs) egress ∙ c.least_repeat-in-loop-run.auto.marks ∙ ap (λ (xs : List ℕ). length xs) c.deref_mut-in-loop-run.ensures.value ∙ c.loop-run.invariant.egress_count;
-      ingress_marks = subst (All (λ m. m ≤ c.loop-run.slot + r.length)) (sym ingress) (later_marks c.least_repeat.new.marks (c.loop-run.slot + 1) (c.loop-run.slot + r.length) up c.in_default.ensures.marks);
-      egress_marks = subst (All (λ m. m ≤ c.loop-run.slot + r.length)) (sym egress) (later_marks c.least_repeat-in-loop-run.new.marks (c.loop-run.slot + 1) (c.loop-run.slot + r.length) up c.in_default-least_repeat.ensures.marks);
+      ingress_count = ap (λ (xs : List ℕ). length xs) ingress ∙ c.least_repeat.auto.marks ∙ ap (λ (xs : List ℕ). length xs) c.deref_mut.ensures.value ∙
+          c.loop-run.invariant.ingress_count;
+      egress_count = ap (λ (xs : List ℕ). length xs) egress ∙ c.least_repeat-in-loop-run.auto.marks ∙ ap (λ (xs : List ℕ). length xs) c.deref_mut-in-loop-run.ensures.value ∙
+          c.loop-run.invariant.egress_count;
+      ingress_marks = subst (All (λ m. m ≤ c.loop-run.slot + r.length)) (sym ingress)
+          (later_marks c.least_repeat.new.marks (c.loop-run.slot + 1) (c.loop-run.slot + r.length) up c.in_default.ensures.marks);
+      egress_marks = subst (All (λ m. m ≤ c.loop-run.slot + r.length)) (sym egress)
+          (later_marks c.least_repeat-in-loop-run.new.marks (c.loop-run.slot + 1) (c.loop-run.slot + r.length) up c.in_default-least_repeat.ensures.marks);
       clear = run_each (IsClear flows) runs k r lt is c.loop-run.invariant.clear clear;
     }
 

@@ -19,7 +19,8 @@ loop-flow-preserved-then-marks-number c =
       marked = All-set (λ m. m ≤ c.args.mark) marks p c.args.mark (omega arith) c.loop-flow.invariant.marked;
       seen = λ q in' le. seen_more flows c.args.side slot marks c.args.mark k p q lt c.port_at-number.ensures inside c.loop-flow.invariant.seen in' le;
       all_seen = λ f has. all_seen_more flows c.args.side slot marks c.args.mark k p f lt c.port_at-number.ensures inside c.loop-flow.invariant.all_seen has;
-      least = least_stays flows c.args.side slot k p c.loop-flow.least lt c.port_at-number.ensures (new_port flows c.args.side (take k slot) marks c.args.mark p c.if-marks-number.true c.loop-flow.invariant.all_seen) c.loop-flow.invariant.least;
+      least = least_stays flows c.args.side slot k p c.loop-flow.least lt c.port_at-number.ensures
+          (new_port flows c.args.side (take k slot) marks c.args.mark p c.if-marks-number.true c.loop-flow.invariant.all_seen) c.loop-flow.invariant.least;
     }
 
 pub loop-flow-preserved : goal.loop-flow-preserved
@@ -38,8 +39,10 @@ loop-flow-preserved c =
       marked = c.loop-flow.invariant.marked;
       seen = λ q in' le. let (f, has, at) = c.loop-flow.invariant.seen q in' le in (f, in_earlier slot k f lt has, at);
       all_seen = λ f has. all_seen_same flows c.args.side slot marks c.args.mark k p f lt c.port_at-number.ensures c.if-marks-number.false c.loop-flow.invariant.all_seen has;
-      least = least_falls flows c.args.side slot k p c.lesser.result c.loop-flow.least c.requires.ascending lt c.port_at-number.ensures used c.loop-flow.invariant.least c.lesser.ensures.within c.lesser.ensures.cases;
+      least = least_falls flows c.args.side slot k p c.lesser.result c.loop-flow.least c.requires.ascending lt c.port_at-number.ensures used c.loop-flow.invariant.least
+          c.lesser.ensures.within c.lesser.ensures.cases;
     }
 
 pub returns-clause-least : goal.returns-clause-least
-returns-clause-least c = subst (λ s. IsLeast c.args.flows.now c.args.side s c.loop-flow.least) (take_all c.loop-flow.flow-index c.args.slot.now c.loop-flow-test.false) c.loop-flow.invariant.least
+returns-clause-least c = subst (λ s. IsLeast c.args.flows.now c.args.side s c.loop-flow.least) (take_all c.loop-flow.flow-index c.args.slot.now c.loop-flow-test.false)
+    c.loop-flow.invariant.least

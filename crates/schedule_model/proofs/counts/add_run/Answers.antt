@@ -12,4 +12,5 @@ overflow_add-counts c =
 
 pub loop-flow-preserved : goal.loop-flow-preserved
 loop-flow-preserved c =
-    add_more c.loop-flow.counts c.args.counts.now c.args.flows.now c.args.slots c.loop-flow.flow-index c.requires.ascending (λ k d lt. omega (arith, c.requires.names k d lt, c.loop-flow.auto.counts)) c.loop-flow-test.true c.loop-flow.invariant
+    add_more c.loop-flow.counts c.args.counts.now c.args.flows.now c.args.slots c.loop-flow.flow-index c.requires.ascending
+    (λ k d lt. omega (arith, c.requires.names k d lt, c.loop-flow.auto.counts)) c.loop-flow-test.true c.loop-flow.invariant

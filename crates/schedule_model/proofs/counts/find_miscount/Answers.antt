@@ -15,7 +15,8 @@ add_run-requires-clause-names c =
 
 pub add_run-requires-clause-fits : goal.add_run-requires-clause-fits
 add_run-requires-clause-fits c f =
-    let at : get_or c.deref_mut.result.now f 0 ≡ times (slots_in (take c.loop-run.run-index c.args.runs.now)) f = ap (λ (xs : List ℕ). get_or xs f 0) c.deref_mut.ensures.value ∙ c.loop-run.invariant.times_are f in
+    let at : get_or c.deref_mut.result.now f 0 ≡ times (slots_in (take c.loop-run.run-index c.args.runs.now)) f = ap (λ (xs : List ℕ). get_or xs f 0) c.deref_mut.ensures.value ∙
+    c.loop-run.invariant.times_are f in
     omega (arith, times_fit c.args.runs.now c.loop-run.run-index c.run-item.result f (get_or c.deref_mut.result.now f 0) c.requires.kept c.loop-run-test.true c.run-item.is at)
 
 pub loop-run-preserved : goal.loop-run-preserved
@@ -25,7 +26,8 @@ loop-run-preserved c =
     record {
       count = ap (λ (xs : List ℕ). length xs) written ∙ c.add_run.auto.counts ∙ count;
       times_are = λ f. ap (λ (xs : List ℕ). get_or xs f 0) written ∙ c.add_run.ensures f
-          ∙ ap (λ (n : ℕ). n + cond (holds c.as_slice.result.now f) c.run-item.result.length 0) (ap (λ (xs : List ℕ). get_or xs f 0) c.deref_mut.ensures.value ∙ c.loop-run.invariant.times_are f)
+          ∙ ap (λ (n : ℕ). n + cond (holds c.as_slice.result.now f) c.run-item.result.length 0)
+          (ap (λ (xs : List ℕ). get_or xs f 0) c.deref_mut.ensures.value ∙ c.loop-run.invariant.times_are f)
           ∙ ap (λ (h : List ℕ). times (slots_in (take c.loop-run.run-index c.args.runs.now)) f + cond (holds h f) c.run-item.result.length 0) c.as_slice.ensures
           ∙ sym (times_more c.args.runs.now c.loop-run.run-index c.run-item.result f c.loop-run-test.true c.run-item.is);
     }

@@ -5,7 +5,8 @@ use Rattle.schedule_model.specs.RunList.{slots_in}
 use Rattle.schedule_model.proofs.CostSums.{block_more, part_of, parts_small}
 use Rattle.schedule_model.proofs.ends.cost.Goals as goal
 
-sums_fit : (total part from to : ℕ) → total ≤ from * 9444732965739290427392 → part ≤ (to - from) * 9444732965739290427392 → from ≤ to → to ≤ 4294967296 → total + part < 340282366920938463463374607431768211456
+sums_fit : (total part from to : ℕ) → total ≤ from * 9444732965739290427392 → part ≤ (to - from) * 9444732965739290427392 → from ≤ to → to ≤ 4294967296 →
+    total + part < 340282366920938463463374607431768211456
 sums_fit total part from to small more le few = omega arith
 
 pub overflow_add-total : goal.overflow_add-total
@@ -20,7 +21,8 @@ overflow_add-total c =
     let inside : to ≤ length weights = grind (arith, c.min-to.ensures) in
     omega (
       arith,
-      sums_fit c.loop-from.total c.cost_between-total.result from to (omega (arith, c.loop-from.invariant.total_is, parts_small flows weights slots 0 from c.requires.small c.kept-runs.ensures.kept.short))
+      sums_fit c.loop-from.total c.cost_between-total.result from to
+          (omega (arith, c.loop-from.invariant.total_is, parts_small flows weights slots 0 from c.requires.small c.kept-runs.ensures.kept.short))
           (omega (arith, part, parts_small flows weights slots from (to - from) c.requires.small c.kept-runs.ensures.kept.short)) le (omega (arith, inside, c.requires.few)),
     )
 

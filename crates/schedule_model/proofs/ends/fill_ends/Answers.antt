@@ -7,7 +7,12 @@ use Rattle.schedule_model.proofs.LastSlots.{completion_more}
 use Rattle.schedule_model.proofs.ends.fill_ends.Goals as goal
 
 pub overflow_add-slot : goal.overflow_add-slot
-overflow_add-slot c = omega (arith, c.loop-run.invariant.slot_is, run_fits c.args.runs.now c.loop-run.run-index c.run-item.result c.requires.kept c.loop-run-test.true c.run-item.is)
+overflow_add-slot c = omega (
+  arith,
+  c.loop-run.invariant.slot_is,
+  run_fits c.args.runs.now c.loop-run.run-index c.run-item.result c.requires.kept c.loop-run-test.true
+      c.run-item.is,
+)
 
 pub mark_ends-requires : goal.mark_ends-requires
 mark_ends-requires c =

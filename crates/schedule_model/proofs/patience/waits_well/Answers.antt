@@ -19,5 +19,6 @@ returns c =
     let in_i = λ (f : ℕ) (lt : f < length flows). let h : ingress_of flows f < length ingress = omega (arith, c.requires.ingress f none lt, c.note_places.auto.least) in h in
     let in_e = λ (f : ℕ) (lt : f < length flows). let h : egress_of flows f < length egress = omega (arith, c.requires.egress f none lt, c.note_places-2.auto.least) in h in (
       (λ t f lt left. waits_from flows order places slot ingress egress f c.requires.names c.requires.places lt (in_i f lt) (in_e f lt) ti te (c.all_wait.ensures.0 t f lt left)),
-      (λ all. c.all_wait.ensures.1 (λ f lt left. waits_to flows order places slot ingress egress f c.requires.names c.requires.places lt (in_i f lt) (in_e f lt) ti te (all f lt left))),
+      (λ all. c.all_wait.ensures.1 (λ f lt left. waits_to flows order places slot ingress egress f c.requires.names c.requires.places lt (in_i f lt) (in_e f lt) ti te
+          (all f lt left))),
     )

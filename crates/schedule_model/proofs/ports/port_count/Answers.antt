@@ -16,13 +16,17 @@ loop-flow-preserved c =
     let egress : (get_or flows k none).egress < n = grind (arith, c.max.ensures, c.max-count.ensures) in
     record {
       ingress = All-more (λ (x : Flow). x.ingress < n) flows k none c.loop-flow-test.true
-          (All-weaker (λ (x : Flow). x.ingress < c.loop-flow.count) (λ (x : Flow). x.ingress < n) (λ x lt. omega (arith, lt, grows)) (take k flows) c.loop-flow.invariant.ingress) ingress;
+          (All-weaker (λ (x : Flow). x.ingress < c.loop-flow.count) (λ (x : Flow). x.ingress < n) (λ x lt. omega (arith, lt, grows)) (take k flows) c.loop-flow.invariant.ingress)
+          ingress;
       egress = All-more (λ (x : Flow). x.egress < n) flows k none c.loop-flow-test.true
-          (All-weaker (λ (x : Flow). x.egress < c.loop-flow.count) (λ (x : Flow). x.egress < n) (λ x lt. omega (arith, lt, grows)) (take k flows) c.loop-flow.invariant.egress) egress;
+          (All-weaker (λ (x : Flow). x.egress < c.loop-flow.count) (λ (x : Flow). x.egress < n) (λ x lt. omega (arith, lt, grows)) (take k flows) c.loop-flow.invariant.egress)
+          egress;
     }
 
 pub returns-clause-ingress : goal.returns-clause-ingress
-returns-clause-ingress c = subst (All (λ (x : Flow). x.ingress < c.loop-flow.count)) (take_all c.loop-flow.flow-index c.args.flows.now c.loop-flow-test.false) c.loop-flow.invariant.ingress
+returns-clause-ingress c = subst (All (λ (x : Flow). x.ingress < c.loop-flow.count)) (take_all c.loop-flow.flow-index c.args.flows.now c.loop-flow-test.false)
+    c.loop-flow.invariant.ingress
 
 pub returns-clause-egress : goal.returns-clause-egress
-returns-clause-egress c = subst (All (λ (x : Flow). x.egress < c.loop-flow.count)) (take_all c.loop-flow.flow-index c.args.flows.now c.loop-flow-test.false) c.loop-flow.invariant.egress
+returns-clause-egress c = subst (All (λ (x : Flow). x.egress < c.loop-flow.count)) (take_all c.loop-flow.flow-index c.args.flows.now c.loop-flow-test.false)
+    c.loop-flow.invariant.egress

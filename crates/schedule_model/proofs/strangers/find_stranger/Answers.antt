@@ -18,8 +18,10 @@ returns-in-Some c =
     let flows = c.args.flows.now in
     let (has, out, least) = c.in-Some.ensures in
     let here : Contains r.flows f = subst (λ l. Contains l f) c.as_slice.ensures has in
-    let first = first_no_flow flows (slots_in (take k runs)) (after_first runs k r) r.flows f c.loop-run.invariant.names here out (λ g in'. least g (subst (λ l. Contains l g) (sym c.as_slice.ensures) in')) in
-    subst (λ n. IsFirstNoFlow flows (slots_in runs) (n + 1) f) (sym c.loop-run.invariant.slot_is) (subst (λ s. IsFirstNoFlow flows s (length (slots_in (take k runs)) + 1) f) (sym (run_at runs k r c.requires c.loop-run-test.true c.run-item.is)) first)
+    let first = first_no_flow flows (slots_in (take k runs)) (after_first runs k r) r.flows f c.loop-run.invariant.names here out
+    (λ g in'. least g (subst (λ l. Contains l g) (sym c.as_slice.ensures) in')) in
+    subst (λ n. IsFirstNoFlow flows (slots_in runs) (n + 1) f) (sym c.loop-run.invariant.slot_is)
+    (subst (λ s. IsFirstNoFlow flows s (length (slots_in (take k runs)) + 1) f) (sym (run_at runs k r c.requires c.loop-run-test.true c.run-item.is)) first)
 
 pub overflow_add-slot : goal.overflow_add-slot
 overflow_add-slot c = omega (arith, c.loop-run.invariant.slot_is, run_fits c.args.runs.now c.loop-run.run-index c.run-item.result c.requires c.loop-run-test.true c.run-item.is)

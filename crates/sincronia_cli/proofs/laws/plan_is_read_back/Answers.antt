@@ -12,7 +12,8 @@ returns-clause-small c = λ t weights r is ids p. plan_is_small t weights r is.t
 
 pub returns-clause-same : goal.returns-clause-same
 returns-clause-same c = λ t weights r read is ids p given.
-    reports_are_one read r given.report given.small (plan_is_report t weights r is.table is.count is.least is.most p) (plan_is_small t weights r is.table is.count is.least is.most (ids_are_small t weights r ids p) p) (sym given.text)
+    reports_are_one read r given.report given.small (plan_is_report t weights r is.table is.count is.least is.most p)
+    (plan_is_small t weights r is.table is.count is.least is.most (ids_are_small t weights r ids p) p) (sym given.text)
 
 pub returns-clause-yes : goal.returns-clause-yes
 returns-clause-yes c = λ t weights r read verdict is once ids p given verdict_is.
@@ -21,4 +22,8 @@ returns-clause-yes c = λ t weights r read verdict is once ids p given verdict_i
 
 pub returns-clause-taken : goal.returns-clause-taken
 returns-clause-taken c = λ t weights r line is ids p given.
-    given.no_text r (record { report = plan_is_report t weights r is.table is.count is.least is.most p; small = plan_is_small t weights r is.table is.count is.least is.most (ids_are_small t weights r ids p) p; text = refl })
+    given.no_text r (record {
+      report = plan_is_report t weights r is.table is.count is.least is.most p;
+      small = plan_is_small t weights r is.table is.count is.least is.most (ids_are_small t weights r ids p) p;
+      text = refl;
+    })

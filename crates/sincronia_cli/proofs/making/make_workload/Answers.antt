@@ -11,20 +11,25 @@ read_back-requires-clause-few c =
     c.in_ok-planned.ensures.report c.in_ok-planned.ensures.small c.in_ok-planned.ensures.plan (c.deref.ensures.value ∙ c.in_ok-text.ensures.text)
 
 pub read_back-requires-clause-written : goal.read_back-requires-clause-written
-read_back-requires-clause-written c = (c.in_ok-planned.planned, record { report = c.in_ok-planned.ensures.report; small = c.in_ok-planned.ensures.small; text = c.deref.ensures.value ∙ c.in_ok-text.ensures.text })
+read_back-requires-clause-written c =
+    (c.in_ok-planned.planned, record { report = c.in_ok-planned.ensures.report; small = c.in_ok-planned.ensures.small; text = c.deref.ensures.value ∙ c.in_ok-text.ensures.text })
 
 pub summary-requires-clause-sound : goal.summary-requires-clause-sound
 summary-requires-clause-sound c =
     read_is_sound c.in_ok-input.input.table c.in_ok-input.input.weights c.as_slice.result.now c.in_ok-planned.planned c.in_ok-report.report
     c.in_ok-input.ensures.table c.in_ok-input.ensures.ids c.in_ok-input.ensures.count c.in_ok-input.ensures.least c.as_slice.ensures c.in_ok-planned.ensures.plan
-    (read_is_planned c.in_ok-planned.planned c.in_ok-report.report c.in_ok-text.text.items c.deref.result.now c.in_ok-planned.ensures.report c.in_ok-planned.ensures.small c.in_ok-text.ensures.text c.deref.ensures.value c.in_ok-report.ensures)
+    (read_is_planned c.in_ok-planned.planned c.in_ok-report.report c.in_ok-text.text.items c.deref.result.now c.in_ok-planned.ensures.report c.in_ok-planned.ensures.small
+    c.in_ok-text.ensures.text c.deref.ensures.value c.in_ok-report.ensures)
 
 pub returns-clause-outcome : goal.returns-clause-outcome
 returns-clause-outcome c =
-    let seed : c.in-Some.seed ≡ number c.args.words.first.now = seed_is c.in-Some.seed (number c.args.words.first.now) (c.in-Some.ensures.1 ∙ ap (λ (xs : List ℕ). capped (number xs)) c.as_bytes.ensures.value) c.requires.small in (
+    let seed : c.in-Some.seed ≡ number c.args.words.first.now =
+    seed_is c.in-Some.seed (number c.args.words.first.now) (c.in-Some.ensures.1 ∙ ap (λ (xs : List ℕ). capped (number xs)) c.as_bytes.ensures.value) c.requires.small in (
       refl,
-      made_of c.in_ok-input.input.table c.in_ok-input.input.weights c.as_slice.result.now c.in_ok-planned.planned c.in_ok-report.report (said_by c.args.words) c.in-Some.seed c.in_ok-text-2.text.items
+      made_of c.in_ok-input.input.table c.in_ok-input.input.weights c.as_slice.result.now c.in_ok-planned.planned c.in_ok-report.report (said_by c.args.words) c.in-Some.seed
+          c.in_ok-text-2.text.items
           c.in_ok-input.ensures.table c.in_ok-input.ensures.ids c.in_ok-input.ensures.count c.in_ok-input.ensures.least c.as_slice.ensures c.in_ok-planned.ensures.plan
-          (read_is_planned c.in_ok-planned.planned c.in_ok-report.report c.in_ok-text.text.items c.deref.result.now c.in_ok-planned.ensures.report c.in_ok-planned.ensures.small c.in_ok-text.ensures.text c.deref.ensures.value c.in_ok-report.ensures)
+          (read_is_planned c.in_ok-planned.planned c.in_ok-report.report c.in_ok-text.text.items c.deref.result.now c.in_ok-planned.ensures.report c.in_ok-planned.ensures.small
+          c.in_ok-text.ensures.text c.deref.ensures.value c.in_ok-report.ensures)
           seed c.in_ok-input.ensures.gives c.in_ok-text-2.ensures,
     )

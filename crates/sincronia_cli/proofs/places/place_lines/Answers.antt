@@ -29,8 +29,10 @@ loop-place-preserved c =
     let ends = c.in_ok-ends.ensures ∙ (ap (λ (fs : List Flow). map (λ d. completion fs c.args.schedule.now d) (range_with_len 0 c.coflows.result)) c.flows.ensures.flows
     ∙ ap (λ n. map (λ d. completion c.args.table.now.flows c.args.schedule.now d) (range_with_len 0 n)) c.coflows.ensures.coflows) in
     record {
-      lines = lines_more c.args.table.now.ids c.args.table.now.flows c.args.schedule.now (length c.args.table.now.ids) c.in_ok-ends.ends.items c.deref.result.now c.args.places.now c.loop-place.place-index nowhere c.loop-place.lines.items c.push.new.self.items c.line_of.result
-          c.loop-place.invariant.lines c.in_ok-push.ensures.items c.line_of.ensures.line c.deref.ensures.value ends (c.requires.coflow c.loop-place.place-index nowhere c.loop-place-test.true) c.loop-place-test.true;
+      lines = lines_more c.args.table.now.ids c.args.table.now.flows c.args.schedule.now (length c.args.table.now.ids) c.in_ok-ends.ends.items c.deref.result.now c.args.places.now
+          c.loop-place.place-index nowhere c.loop-place.lines.items c.push.new.self.items c.line_of.result
+          c.loop-place.invariant.lines c.in_ok-push.ensures.items c.line_of.ensures.line c.deref.ensures.value ends
+          (c.requires.coflow c.loop-place.place-index nowhere c.loop-place-test.true) c.loop-place-test.true;
       ids = subst (All (λ (line : PlaceLine). line.id < 4294967296)) (sym c.in_ok-push.ensures.items)
           (All-push (λ (line : PlaceLine). line.id < 4294967296) c.loop-place.lines.items c.line_of.result c.loop-place.invariant.ids c.line_of.ensures.id);
     }

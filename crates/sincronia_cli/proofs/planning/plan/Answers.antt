@@ -16,28 +16,40 @@ use Rattle.sincronia_cli.proofs.PlanSteps.{slots_hold_flows}
 use Rattle.sincronia_cli.proofs.planning.plan.Goals as goal
 
 pub served-requires-clause-distinct : goal.served-requires-clause-distinct
-served-requires-clause-distinct c = places_distinct c.args.table.now c.args.weights.now c.places-places.result.now (subst (IsOrder (instance_of c.args.table.now c.args.weights.now)) (sym c.places-places.ensures) c.in_ok-order.ensures.order)
+served-requires-clause-distinct c =
+    places_distinct c.args.table.now c.args.weights.now c.places-places.result.now
+    (subst (IsOrder (instance_of c.args.table.now c.args.weights.now)) (sym c.places-places.ensures) c.in_ok-order.ensures.order)
 
 pub served-requires-clause-known : goal.served-requires-clause-known
-served-requires-clause-known c = places_known c.args.table.now c.args.weights.now c.places-places.result.now (subst (IsOrder (instance_of c.args.table.now c.args.weights.now)) (sym c.places-places.ensures) c.in_ok-order.ensures.order)
+served-requires-clause-known c =
+    places_known c.args.table.now c.args.weights.now c.places-places.result.now
+    (subst (IsOrder (instance_of c.args.table.now c.args.weights.now)) (sym c.places-places.ensures) c.in_ok-order.ensures.order)
 
 pub served-requires-clause-all : goal.served-requires-clause-all
-served-requires-clause-all c = places_all c.args.table.now c.args.weights.now c.places-places.result.now (subst (IsOrder (instance_of c.args.table.now c.args.weights.now)) (sym c.places-places.ensures) c.in_ok-order.ensures.order)
+served-requires-clause-all c =
+    places_all c.args.table.now c.args.weights.now c.places-places.result.now
+    (subst (IsOrder (instance_of c.args.table.now c.args.weights.now)) (sym c.places-places.ensures) c.in_ok-order.ensures.order)
 
 pub place_lines-requires-clause-coflow : goal.place_lines-requires-clause-coflow
-place_lines-requires-clause-coflow c = each_place_within c.args.table.now c.args.weights.now c.places-places.result.now (subst (IsOrder (instance_of c.args.table.now c.args.weights.now)) (sym c.places-places.ensures) c.in_ok-order.ensures.order)
+place_lines-requires-clause-coflow c =
+    each_place_within c.args.table.now c.args.weights.now c.places-places.result.now
+    (subst (IsOrder (instance_of c.args.table.now c.args.weights.now)) (sym c.places-places.ensures) c.in_ok-order.ensures.order)
 
 pub place_lines-requires-clause-names : goal.place_lines-requires-clause-names
-place_lines-requires-clause-names c = slots_hold_flows c.args.table.now.flows (coflows_of c.places-places.result.now) c.in_ok-schedule.schedule c.in_ok-schedule.schedule refl c.in_ok-schedule.ensures
+place_lines-requires-clause-names c =
+    slots_hold_flows c.args.table.now.flows (coflows_of c.places-places.result.now) c.in_ok-schedule.schedule c.in_ok-schedule.schedule refl c.in_ok-schedule.ensures
 
 pub place_weights-requires : goal.place_weights-requires
 place_weights-requires c = record {
-  coflow = subst (λ n. All (λ (x : Place). x.coflow < n) c.places-places.result.now) (sym c.requires.count) (each_place_within c.args.table.now c.args.weights.now c.places-places.result.now (subst (IsOrder (instance_of c.args.table.now c.args.weights.now)) (sym c.places-places.ensures) c.in_ok-order.ensures.order));
+  coflow = subst (λ n. All (λ (x : Place). x.coflow < n) c.places-places.result.now) (sym c.requires.count)
+      (each_place_within c.args.table.now c.args.weights.now c.places-places.result.now
+      (subst (IsOrder (instance_of c.args.table.now c.args.weights.now)) (sym c.places-places.ensures) c.in_ok-order.ensures.order));
 }
 
 pub cost-cost-requires-clause-names : goal.cost-cost-requires-clause-names
 cost-cost-requires-clause-names c =
-    subst (λ n. All (All (λ f. f < n)) c.in_ok-schedule.schedule) (ap (λ xs. length xs) (sym c.flows.ensures.flows)) (slots_hold_flows c.args.table.now.flows (coflows_of c.places-places.result.now) c.in_ok-schedule.schedule c.in_ok-schedule.schedule refl c.in_ok-schedule.ensures)
+    subst (λ n. All (All (λ f. f < n)) c.in_ok-schedule.schedule) (ap (λ xs. length xs) (sym c.flows.ensures.flows))
+    (slots_hold_flows c.args.table.now.flows (coflows_of c.places-places.result.now) c.in_ok-schedule.schedule c.in_ok-schedule.schedule refl c.in_ok-schedule.ensures)
 
 pub returns-clause-plan : goal.returns-clause-plan
 returns-clause-plan c = record {
@@ -49,7 +61,9 @@ returns-clause-plan c = record {
   weights = ap Some (c.from_vec-2.ensures ∙ c.in_ok-list.ensures);
   bound_is = c.in_ok-values.ensures.bound;
   slack_is = c.in_ok-values.ensures.slack;
-  cost_is = c.cost-cost.ensures ∙ (ap (λ (fs : List Flow). cost fs (λ coflow. slice_index c.args.weights.now coflow) (range_with_len 0 (length c.args.weights.now)) c.in_ok-schedule.schedule) c.flows.ensures.flows
+  cost_is = c.cost-cost.ensures ∙
+      (ap (λ (fs : List Flow). cost fs (λ coflow. slice_index c.args.weights.now coflow) (range_with_len 0 (length c.args.weights.now)) c.in_ok-schedule.schedule)
+      c.flows.ensures.flows
       ∙ ap (λ n. cost c.args.table.now.flows (λ coflow. slice_index c.args.weights.now coflow) (range_with_len 0 n) c.in_ok-schedule.schedule) c.requires.count);
   runs = subst (λ rs. IsRuns c.in_ok-schedule.schedule (pairs_of rs)) (sym c.from_vec-3.ensures) c.into_runs.ensures.runs;
 }

@@ -8,7 +8,8 @@ pub loop-place-preserved : goal.loop-place-preserved
 loop-place-preserved c =
     let k = c.loop-place.place in
     let line = c.args.order.now in
-    distinct_more line k c.loop-place-test.true c.loop-place.invariant (λ has. true≢false (sym (any_in (take k line) (get_or line k 0) has) ∙ sym c.contains.ensures.value ∙ c.if-contains.false))
+    distinct_more line k c.loop-place-test.true c.loop-place.invariant
+    (λ has. true≢false (sym (any_in (take k line) (get_or line k 0) has) ∙ sym c.contains.ensures.value ∙ c.if-contains.false))
 
 pub returns : goal.returns
 returns c = λ _. subst (λ (xs : List ℕ). IsDistinct xs) (take_all c.loop-place.place c.args.order.now c.loop-place-test.false) c.loop-place.invariant

@@ -12,7 +12,8 @@ push_run-requires-clause-some c =
     let now = c.loop-grants.invariant in
     let left = left_after flows c.loop-grants.schedule in
     let granted = listed_in c.loop-grants.grants in
-    run_has_slot flows c.args.order.now left granted c.least_left-length.result now.settled.grants (c.least_left-length.ensures flows c.args.order.now left now.settled) (omega (arith, c.count.ensures, c.loop-grants-test.true))
+    run_has_slot flows c.args.order.now left granted c.least_left-length.result now.settled.grants (c.least_left-length.ensures flows c.args.order.now left now.settled)
+    (omega (arith, c.count.ensures, c.loop-grants-test.true))
 
 pub push_run-requires-clause-short : goal.push_run-requires-clause-short
 push_run-requires-clause-short c =
@@ -20,7 +21,8 @@ push_run-requires-clause-short c =
     let now = c.loop-grants.invariant in
     let left = left_after flows c.loop-grants.schedule in
     let granted = listed_in c.loop-grants.grants in
-    run_is_short flows c.args.order.now c.loop-grants.schedule granted c.least_left-length.result now.serving now.settled.grants (c.least_left-length.ensures flows c.args.order.now left now.settled)
+    run_is_short flows c.args.order.now c.loop-grants.schedule granted c.least_left-length.result now.serving now.settled.grants
+    (c.least_left-length.ensures flows c.args.order.now left now.settled)
     (omega (arith, c.count.ensures, c.loop-grants-test.true)) c.requires.units
 
 pub loop-grants-smaller : goal.loop-grants-smaller
@@ -30,7 +32,8 @@ loop-grants-smaller c =
     let left = left_after flows c.loop-grants.schedule in
     let granted = listed_in c.loop-grants.grants in
     let n = c.least_left-length.result in
-    let step = serve_run flows c.args.order.now c.loop-grants.schedule granted n now.serving now.settled.grants (c.least_left-length.ensures flows c.args.order.now left now.settled) (omega (arith, c.count.ensures, c.loop-grants-test.true)) in
+    let step = serve_run flows c.args.order.now c.loop-grants.schedule granted n now.serving now.settled.grants
+    (c.least_left-length.ensures flows c.args.order.now left now.settled) (omega (arith, c.count.ensures, c.loop-grants-test.true)) in
     omega (arith, step.1, ap (left_sum flows) (c.in_ok-push_run.ensures.pushed ∙ ap (λ (xs : List ℕ). c.loop-grants.schedule ++ replicate n xs) c.flows.ensures))
 
 pub loop-grants-preserved : goal.loop-grants-preserved
@@ -43,7 +46,8 @@ loop-grants-preserved c =
     let granted = listed_in c.loop-grants.grants in
     let n = c.least_left-length.result in
     let pushed : c.push_run.new.self ≡ slots ++ replicate n granted = c.in_ok-push_run.ensures.pushed ∙ ap (λ (xs : List ℕ). slots ++ replicate n xs) c.flows.ensures in
-    let step = serve_run flows line slots granted n now.serving now.settled.grants (c.least_left-length.ensures flows line left now.settled) (omega (arith, c.count.ensures, c.loop-grants-test.true)) in
+    let step = serve_run flows line slots granted n now.serving now.settled.grants (c.least_left-length.ensures flows line left now.settled)
+    (omega (arith, c.count.ensures, c.loop-grants-test.true)) in
     let after = left_after flows (slots ++ replicate n granted) in
     let settled = c.repair.ensures.settled flows line after (c.take_run.ensures.matching flows line left after now.settled (left_after_run flows slots granted n)) in
     record {
@@ -54,4 +58,5 @@ loop-grants-preserved c =
 pub returns : goal.returns
 returns c =
     let now = c.loop-grants.invariant in
-    all_served c.args.flows.now c.args.order.now c.loop-grants.schedule (listed_in c.loop-grants.grants) c.requires.all now.serving now.settled.grants (omega (arith, c.count.ensures, c.loop-grants-test.false))
+    all_served c.args.flows.now c.args.order.now c.loop-grants.schedule (listed_in c.loop-grants.grants) c.requires.all now.serving now.settled.grants
+    (omega (arith, c.count.ensures, c.loop-grants-test.false))

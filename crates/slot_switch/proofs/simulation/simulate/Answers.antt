@@ -7,7 +7,8 @@ use Rattle.slot_switch.proofs.simulation.simulate.Goals as goal
 
 pub serve-requires-clause-known : goal.serve-requires-clause-known
 serve-requires-clause-known c =
-    All-weaker (λ x. x < length c.args.table.now.ids) (λ x. x + 1 < length c.starts.result.now) (λ x lt. omega (arith, lt, ap (λ (xs : List ℕ). length xs) c.starts.ensures.starts, c.starts.ensures.table.starts_len)) c.args.order.now c.requires.known
+    All-weaker (λ x. x < length c.args.table.now.ids) (λ x. x + 1 < length c.starts.result.now)
+    (λ x lt. omega (arith, lt, ap (λ (xs : List ℕ). length xs) c.starts.ensures.starts, c.starts.ensures.table.starts_len)) c.args.order.now c.requires.known
 
 pub serve-requires-clause-all : goal.serve-requires-clause-all
 serve-requires-clause-all c =

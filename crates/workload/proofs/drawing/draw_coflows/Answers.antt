@@ -21,7 +21,8 @@ loop-index-preserved c =
     let so_far = c.loop-index.invariant in
     let grown = ap (λ (m : MadeCoflow). m.arrival) c.in_ok-coflow.ensures.coflow in
     record {
-      items = coflow_step seed k x arrival coflow c.loop-index.coflows.items c.push.new.self.items so_far.state so_far.arrival c.in_ok-coflow.ensures.coflow so_far.items c.in_ok-push.ensures.items;
+      items = coflow_step seed k x arrival coflow c.loop-index.coflows.items c.push.new.self.items so_far.state so_far.arrival c.in_ok-coflow.ensures.coflow so_far.items
+          c.in_ok-push.ensures.items;
       state = state_step seed k x c.draw_coflow.new.numbers.state so_far.state c.in_ok-coflow.ensures.state;
       arrival = arrival_step seed k x arrival coflow.arrival so_far.state so_far.arrival grown;
       small = small_step k x arrival coflow.arrival so_far.small grown;

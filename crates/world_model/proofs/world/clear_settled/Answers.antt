@@ -24,12 +24,14 @@ returns-clause-ports c =
     let xs = c.args.ports.now in
     let k = c.loop-port.port-index in
     ap (λ (l : List PortState). ports_of l)
-    (c.loop-port.invariant ∙ ap (λ (l : List PortState). map unsettled l ++ drop k xs) (take_all k xs c.loop-port-test.false) ∙ ap (λ (l : List PortState). map unsettled xs ++ l) (drop_all k xs c.loop-port-test.false) ∙ append-nil (map unsettled xs))
+    (c.loop-port.invariant ∙ ap (λ (l : List PortState). map unsettled l ++ drop k xs) (take_all k xs c.loop-port-test.false) ∙
+    ap (λ (l : List PortState). map unsettled xs ++ l) (drop_all k xs c.loop-port-test.false) ∙ append-nil (map unsettled xs))
     ∙ cleared_is xs
 
 pub returns-clause-sent : goal.returns-clause-sent
 returns-clause-sent c = λ sent tells.
     let xs = c.args.ports.now in
     let k = c.loop-port.port-index in
-    let all = c.loop-port.invariant ∙ ap (λ (l : List PortState). map unsettled l ++ drop k xs) (take_all k xs c.loop-port-test.false) ∙ ap (λ (l : List PortState). map unsettled xs ++ l) (drop_all k xs c.loop-port-test.false) ∙ append-nil (map unsettled xs) in
+    let all = c.loop-port.invariant ∙ ap (λ (l : List PortState). map unsettled l ++ drop k xs) (take_all k xs c.loop-port-test.false) ∙
+    ap (λ (l : List PortState). map unsettled xs ++ l) (drop_all k xs c.loop-port-test.false) ∙ append-nil (map unsettled xs) in
     subst (λ (l : List PortState). TellsSent l sent) (sym all) (tells_cleared xs sent tells)

@@ -12,7 +12,9 @@ returns-clause-order c = λ i of.
     subst (λ ps. IsOrder i (take c.order-self-inside.result ps)) (sym places) (c.order-self-inside.ensures.order i of)
 
 pub returns-clause-feasible : goal.returns-clause-feasible
-returns-clause-feasible c = λ i of. ordering_feasible i (entries_of (take c.order-self-inside.result (with_items c.self.inside.places c.order-self-inside.new.places).items)) (returns-clause-order c i of).ordering
+returns-clause-feasible c = λ i of. ordering_feasible i (entries_of (take c.order-self-inside.result (with_items c.self.inside.places c.order-self-inside.new.places).items))
+    (returns-clause-order c i of).ordering
 
 pub returns-clause-below : goal.returns-clause-below
-returns-clause-below c = λ i of. ordering_rests i (entries_of (take c.order-self-inside.result (with_items c.self.inside.places c.order-self-inside.new.places).items)) (returns-clause-order c i of).ordering
+returns-clause-below c = λ i of. ordering_rests i (entries_of (take c.order-self-inside.result (with_items c.self.inside.places c.order-self-inside.new.places).items))
+    (returns-clause-order c i of).ordering

@@ -26,7 +26,8 @@ loop-coflow-preserved-then-rank-ne0 c =
     let joined = c.args.joined.now in
     let x = get_or joined c.loop-coflow.coflow-index 0 in
     record {
-      line = passes_by (waits (ranked c.args.orders.now.places) c.args.roster.now.present) c.args.self.now.coflows joined c.loop-coflow.self-inside.coflows.items c.loop-coflow.coflow-index x c.loop-coflow.invariant.line c.loop-coflow-test.true refl
+      line = passes_by (waits (ranked c.args.orders.now.places) c.args.roster.now.present) c.args.self.now.coflows joined c.loop-coflow.self-inside.coflows.items
+          c.loop-coflow.coflow-index x c.loop-coflow.invariant.line c.loop-coflow-test.true refl
           (ap (λ b. b && marked c.args.roster.now.present x) (ap (λ n. n == 0) (sym c.rank.ensures) ∙ ne_eqb c.rank.result 0 c.if-rank-ne0.true));
       few = omega (arith, c.loop-coflow.invariant.few);
       room = c.loop-coflow.invariant.room;
@@ -37,8 +38,10 @@ loop-coflow-preserved-then-not-is_present c =
     let joined = c.args.joined.now in
     let x = get_or joined c.loop-coflow.coflow-index 0 in
     record {
-      line = passes_by (waits (ranked c.args.orders.now.places) c.args.roster.now.present) c.args.self.now.coflows joined c.loop-coflow.self-inside.coflows.items c.loop-coflow.coflow-index x c.loop-coflow.invariant.line c.loop-coflow-test.true refl
-          (both _ (marked c.args.roster.now.present x) true false (ap (λ n. n == 0) (sym c.rank.ensures) ∙ eq-eqb c.rank.result 0 c.if-rank-ne0.false) (sym c.is_present.ensures ∙ c.if-not-is_present.true));
+      line = passes_by (waits (ranked c.args.orders.now.places) c.args.roster.now.present) c.args.self.now.coflows joined c.loop-coflow.self-inside.coflows.items
+          c.loop-coflow.coflow-index x c.loop-coflow.invariant.line c.loop-coflow-test.true refl
+          (both _ (marked c.args.roster.now.present x) true false (ap (λ n. n == 0) (sym c.rank.ensures) ∙ eq-eqb c.rank.result 0 c.if-rank-ne0.false)
+          (sym c.is_present.ensures ∙ c.if-not-is_present.true));
       few = omega (arith, c.loop-coflow.invariant.few);
       room = c.loop-coflow.invariant.room;
     }
@@ -49,8 +52,10 @@ loop-coflow-preserved c =
     let items = c.loop-coflow.self-inside.coflows.items in
     let x = get_or joined c.loop-coflow.coflow-index 0 in
     record {
-      line = joins (waits (ranked c.args.orders.now.places) c.args.roster.now.present) c.args.self.now.coflows joined items c.push_reserved.new.self.items c.loop-coflow.coflow-index x c.loop-coflow.invariant.line c.loop-coflow-test.true refl
-          (both _ (marked c.args.roster.now.present x) true true (ap (λ n. n == 0) (sym c.rank.ensures) ∙ eq-eqb c.rank.result 0 c.if-rank-ne0.false) (sym c.is_present.ensures ∙ c.if-not-is_present.false)) c.push_reserved.ensures.items;
+      line = joins (waits (ranked c.args.orders.now.places) c.args.roster.now.present) c.args.self.now.coflows joined items c.push_reserved.new.self.items
+          c.loop-coflow.coflow-index x c.loop-coflow.invariant.line c.loop-coflow-test.true refl
+          (both _ (marked c.args.roster.now.present x) true true (ap (λ n. n == 0) (sym c.rank.ensures) ∙ eq-eqb c.rank.result 0 c.if-rank-ne0.false)
+          (sym c.is_present.ensures ∙ c.if-not-is_present.false)) c.push_reserved.ensures.items;
       few = omega (arith, c.loop-coflow.invariant.few, length-append items (x ∷ []), ap (λ (l : List ℕ). length l) c.push_reserved.ensures.items);
       room = c.push_reserved.ensures.capacity ∙ c.loop-coflow.invariant.room;
     }
@@ -58,4 +63,5 @@ loop-coflow-preserved c =
 pub returns-clause-line : goal.returns-clause-line
 returns-clause-line c =
     let p = waits (ranked c.args.orders.now.places) c.args.roster.now.present in
-    all_looked_at p c.args.self.now.coflows c.args.joined.now c.loop-coflow.self-inside.coflows.items c.loop-coflow.coflow-index c.loop-coflow.invariant.line c.loop-coflow-test.false
+    all_looked_at p c.args.self.now.coflows c.args.joined.now c.loop-coflow.self-inside.coflows.items c.loop-coflow.coflow-index c.loop-coflow.invariant.line
+    c.loop-coflow-test.false

@@ -28,7 +28,8 @@ loop-place-preserved-then-not-is_present c =
     let places = c.args.places.now in
     let k = c.loop-place.place-index in
     record {
-      line = passes_by (marked c.args.roster.now.present) [] (ranked places) c.loop-place.self-inside.coflows.items k (get_or places k no_place).coflow c.loop-place.invariant.line (omega (arith, ranked_len places, c.loop-place-test.true))
+      line = passes_by (marked c.args.roster.now.present) [] (ranked places) c.loop-place.self-inside.coflows.items k (get_or places k no_place).coflow c.loop-place.invariant.line
+          (omega (arith, ranked_len places, c.loop-place-test.true))
           (place_at places k no_place c.loop-place-test.true) (sym c.is_present.ensures ∙ c.if-not-is_present.true);
       few = omega (arith, c.loop-place.invariant.few);
       room = c.loop-place.invariant.room;
@@ -41,7 +42,8 @@ loop-place-preserved c =
     let items = c.loop-place.self-inside.coflows.items in
     let x = (get_or places k no_place).coflow in
     record {
-      line = joins (marked c.args.roster.now.present) [] (ranked places) items c.push_reserved.new.self.items k x c.loop-place.invariant.line (omega (arith, ranked_len places, c.loop-place-test.true))
+      line = joins (marked c.args.roster.now.present) [] (ranked places) items c.push_reserved.new.self.items k x c.loop-place.invariant.line
+          (omega (arith, ranked_len places, c.loop-place-test.true))
           (place_at places k no_place c.loop-place-test.true) (sym c.is_present.ensures ∙ c.if-not-is_present.false) c.push_reserved.ensures.items;
       few = omega (arith, c.loop-place.invariant.few, length-append items (x ∷ []), ap (λ (l : List ℕ). length l) c.push_reserved.ensures.items);
       room = c.push_reserved.ensures.capacity ∙ c.loop-place.invariant.room;
@@ -50,7 +52,8 @@ loop-place-preserved c =
 pub returns-clause-line : goal.returns-clause-line
 returns-clause-line c =
     let items = c.loop-place.self-inside.coflows.items in
-    all_looked_at (marked c.args.roster.now.present) [] (ranked c.args.places.now) items c.loop-place.place-index c.loop-place.invariant.line (omega (arith, ranked_len c.args.places.now, c.loop-place-test.false))
+    all_looked_at (marked c.args.roster.now.present) [] (ranked c.args.places.now) items c.loop-place.place-index c.loop-place.invariant.line
+    (omega (arith, ranked_len c.args.places.now, c.loop-place-test.false))
 
 pub returns-clause-few : goal.returns-clause-few
 returns-clause-few c = omega (arith, c.loop-place.invariant.few, c.loop-place.auto.place-index-end)

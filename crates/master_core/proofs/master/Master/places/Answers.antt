@@ -12,4 +12,5 @@ pub returns-clause-order : goal.returns-clause-order
 returns-clause-order c =
     let s = state_of c.self.inside.opening c.self.inside.journal.items in
     subst (λ (v : MasterFacts). ranked c.places.result.now ≡ order_in v.opening v.journal (version_of v.journal)) c.self.view_is
-    (ap (λ (l : List Place). ranked l) c.places.ensures.places ∙ c.self.invariant.tells.orders.order_is ∙ ap (order s) (version_counted c.self.inside.opening c.self.inside.journal.items))
+    (ap (λ (l : List Place). ranked l) c.places.ensures.places ∙ c.self.invariant.tells.orders.order_is ∙
+    ap (order s) (version_counted c.self.inside.opening c.self.inside.journal.items))

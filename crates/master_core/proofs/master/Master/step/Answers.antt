@@ -11,21 +11,37 @@ use Rattle.master_core.proofs.master.Master.step.Goals as goal
 
 pub overflow_cast-result : goal.overflow_cast-result
 overflow_cast-result c =
-    omega (arith, c.len-entries.ensures, legal_fits c.self.inside.opening c.self.inside.journal.items c.self.invariant.legal, c.self.invariant.fit.opening.few_entries, c.self.invariant.fit.opening.table.few_ports)
+    omega (
+      arith,
+      c.len-entries.ensures,
+      legal_fits c.self.inside.opening c.self.inside.journal.items c.self.invariant.legal,
+      c.self.invariant.fit.opening.few_entries,
+      c.self.invariant.fit.opening.table.few_ports,
+    )
 
 pub carry_out-reply-requires-clause-version_fits : goal.carry_out-reply-requires-clause-version_fits
 carry_out-reply-requires-clause-version_fits c =
     let o = c.self.inside.opening in
     let journal = c.self.inside.journal.items in
-    omega (arith, legal_fits o journal c.self.invariant.legal, c.self.invariant.fit.opening.few_entries, c.self.invariant.fit.opening.table.few_ports, c.self.invariant.tells.orders.version_is, version_counted o journal, versions_few journal)
+    omega (
+      arith,
+      legal_fits o journal c.self.invariant.legal,
+      c.self.invariant.fit.opening.few_entries,
+      c.self.invariant.fit.opening.table.few_ports,
+      c.self.invariant.tells.orders.version_is,
+      version_counted o journal,
+      versions_few journal,
+    )
 
 pub invariant_of-self : goal.invariant_of-self
 invariant_of-self c =
     let o = c.self.inside.opening in
     let journal = c.self.inside.journal.items in
     let lt : length journal < room o c.args.command = omega (arith, c.len-entries.ensures, c.room_for.ensures, c.if-entries-room_for.false) in
-    master_goes_on o journal c.push_reserved.new.self.items _ _ c.self.inside.standing c.carry_out-reply.new.self c.args.who c.args.command c.carry_out-reply.result c.self.invariant
-    (subst (λ (v : MasterFacts). IsInRange v.opening c.args.command) (sym c.self.view_is) c.requires) lt c.carry_out-reply.ensures c.push_reserved.ensures.items c.push_reserved.ensures.capacity
+    master_goes_on o journal c.push_reserved.new.self.items _ _ c.self.inside.standing c.carry_out-reply.new.self c.args.who c.args.command c.carry_out-reply.result
+    c.self.invariant
+    (subst (λ (v : MasterFacts). IsInRange v.opening c.args.command) (sym c.self.view_is) c.requires) lt c.carry_out-reply.ensures c.push_reserved.ensures.items
+    c.push_reserved.ensures.capacity
 
 pub returns-clause-journal : goal.returns-clause-journal
 returns-clause-journal c =

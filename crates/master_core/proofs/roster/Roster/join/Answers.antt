@@ -17,4 +17,5 @@ pub invariant_of-self : goal.invariant_of-self
 invariant_of-self c =
     let away = subst (λ (v : Attendance). has v.joined c.args.coflow ≡ false) (sym c.self.view_is) c.requires.away in
     let lt = subst (λ (v : Attendance). c.args.coflow < length v.present) (sym c.self.view_is) c.requires.coflow_in in
-    attends c.self.inside.joined.items c.push_reserved.new.self.items c.self.inside.seen.items c.self.inside.present.items _ _ c.args.coflow c.self.invariant c.push_reserved.ensures.items c.push_reserved.ensures.capacity away lt
+    attends c.self.inside.joined.items c.push_reserved.new.self.items c.self.inside.seen.items c.self.inside.present.items _ _ c.args.coflow c.self.invariant
+    c.push_reserved.ensures.items c.push_reserved.ensures.capacity away lt

@@ -20,7 +20,8 @@ returns-clause-begun c =
       refl,
       record {
         first_is = refl;
-        slots_is = c.min-2.ensures ∙ ap (λ n. min n (2199023255552 - c.args.first)) c.min.ensures ∙ least_is left granted c.grants_owed-granted.result.length c.args.most (2199023255552 - c.args.first) g c.grants_owed-granted.ensures.length there;
+        slots_is = c.min-2.ensures ∙ ap (λ n. min n (2199023255552 - c.args.first)) c.min.ensures ∙
+            least_is left granted c.grants_owed-granted.result.length c.args.most (2199023255552 - c.args.first) g c.grants_owed-granted.ensures.length there;
         grants = made;
         at = subst (λ (l : List Flow). TellsIngresses l granted c.grants_owed-granted.new.scratch.at) c.flows.ensures.flows c.grants_owed-granted.ensures.at;
         noted_len = omega (arith, c.fill.ensures.len, c.self.invariant.0, ap (λ (v : KeptRuns). v.ports) c.self.view_is);

@@ -23,7 +23,8 @@ returns-in_default c =
     let ends = c.in_default.ensures in
     let (none, same) = ends.run in
     follows o Close old NoneOpen (record old { ledger = c.end.new.ledger; owing = c.end.new.owing; runs = c.end.new.self })
-    (fits_closed o old c.end.new.ledger c.end.new.owing c.end.new.self old.next c.requires.fit ends.units (subst (λ (l : List Flow). IsOwed l c.end.new.owing) c.flows-flows.ensures.flows ends.owed) ends.left ends.sums ends.ports ends.closed c.requires.fit.next_ends)
+    (fits_closed o old c.end.new.ledger c.end.new.owing c.end.new.self old.next c.requires.fit ends.units
+    (subst (λ (l : List Flow). IsOwed l c.end.new.owing) c.flows-flows.ensures.flows ends.owed) ends.left ends.sums ends.ports ends.closed c.requires.fit.next_ends)
     (λ s t.
     let none' = none_told o.table.flows o.table.ports s.run old.runs.run t.run none in (
       close_none s.run none',
@@ -47,7 +48,9 @@ returns c =
     let fits = fits_kept o.table.flows old.ledger.owed old.runs.run k c.requires.fit.run is in
     let new = record old { ledger = c.end.new.ledger; owing = c.end.new.owing; runs = c.end.new.self; next = x.first + x.slots } in
     follows o Close old (Closed x.first) new
-    (fits_closed o old c.end.new.ledger c.end.new.owing c.end.new.self (x.first + x.slots) c.requires.fit ends.units (subst (λ (l : List Flow). IsOwed l c.end.new.owing) c.flows-flows.ensures.flows ends.owed) ends.left ends.sums ends.ports ends.closed (omega (arith, fits.ends, first, slots)))
+    (fits_closed o old c.end.new.ledger c.end.new.owing c.end.new.self (x.first + x.slots) c.requires.fit ends.units
+    (subst (λ (l : List Flow). IsOwed l c.end.new.owing) c.flows-flows.ensures.flows ends.owed) ends.left ends.sums ends.ports ends.closed
+    (omega (arith, fits.ends, first, slots)))
     (λ s t.
     let (r, run, told) = open_of o.table.flows o.table.ports s.run old.runs.run k t.run is in (
       close_some s.run r x.first run (sym told.first ∙ sym first),

@@ -36,7 +36,8 @@ returns-then-is_none c =
     let none = none_owing o.table.flows old.roster.present old.owing.left c.first_owing.result c.first_owing.ensures c.if-is_none.ensures in
     follows o (Open c.args.most) old NothingLeft old c.requires.fit
     (λ s t. (
-      ap (still (opened o s c.args.most)) (none_told o.table.flows o.table.ports s.run old.runs.run t.run c.in_default.ensures) ∙ open_free o s c.args.most (owing_none o s old c.requires.fit t none),
+      ap (still (opened o s c.args.most)) (none_told o.table.flows o.table.ports s.run old.runs.run t.run c.in_default.ensures) ∙
+          open_free o s c.args.most (owing_none o s old c.requires.fit t none),
       t,
     ))
 
@@ -50,7 +51,8 @@ returns-then-self-gt-MAX_SLOT c =
     (λ s t.
     let (rest, e) = owing_first o s old f c.requires.fit t lt here none in (
       ap (still (opened o s c.args.most)) (none_told o.table.flows o.table.ports s.run old.runs.run t.run c.in_default.ensures) ∙ open_owed o s c.args.most f rest e
-          ∙ ap (λ (b : Bool). if b then Late s.next else Opened s.next (slots_for o s c.args.most) (length (granted o s))) (eq-eqb s.next slot_end (sym t.next ∙ last)) ∙ ap Late (sym t.next),
+          ∙ ap (λ (b : Bool). if b then Late s.next else Opened s.next (slots_for o s c.args.most) (length (granted o s))) (eq-eqb s.next slot_end (sym t.next ∙ last)) ∙
+          ap Late (sym t.next),
       t,
     ))
 
@@ -60,7 +62,8 @@ begin-run-requires-clause-some c =
     let old = c.args.self.now in
     let (f, lt, here, none) = some_owing o.table.flows old.roster.present old.owing.left c.first_owing.result c.first_owing.ensures c.if-is_none.ensures in
     let (marks, owes) = and_parts (marked old.roster.present (coflow_of o.table.flows f)) _ here in
-    let in' = any_has c.coflows.result.now (coflow_of o.table.flows f) (ap (λ l. has l (coflow_of o.table.flows f)) c.coflows.ensures ∙ c.fill.ensures.all (coflow_of o.table.flows f) marks) in
+    let in' = any_has c.coflows.result.now (coflow_of o.table.flows f)
+    (ap (λ l. has l (coflow_of o.table.flows f)) c.coflows.ensures ∙ c.fill.ensures.all (coflow_of o.table.flows f) marks) in
     (f, lt, in', ltb-true 0 _ owes)
 
 pub returns : goal.returns
@@ -74,23 +77,28 @@ returns c =
     let x = c.begin-run.result in
     follows o (Open c.args.most) old (Opened x.first x.slots x.count) (record old { line = c.fill.new.self; runs = c.begin-run.new.self })
     (fits_opened o old c.fill.new.self c.begin-run.new.self c.requires.fit c.fill.ensures.room c.begin-run.ensures.ports
-    (subst (FitsOpen o.table.flows old.ledger.owed) (sym run) (begun_fits o.table.flows o.table.ports c.coflows.result.now old.ledger.owed old.next c.args.most k c.requires.fit.next_ends begun'')))
+    (subst (FitsOpen o.table.flows old.ledger.owed) (sym run)
+    (begun_fits o.table.flows o.table.ports c.coflows.result.now old.ledger.owed old.next c.args.most k c.requires.fit.next_ends begun'')))
     (λ s t.
     let (rest, e) = owing_first o s old f c.requires.fit t lt here none in
     let line = c.coflows.ensures ∙ c.fill.ensures.line ∙ line_told s old t.coflows t.orders in
     let opens = begun_told o s c.coflows.result.now old.ledger.owed o.table.ports old.next c.args.most k line t.owed t.next begun'' in
     let early : old.next < slot_end = omega (arith, c.if-self-gt-MAX_SLOT.false) in (
       ap (still (opened o s c.args.most)) (none_told o.table.flows o.table.ports s.run old.runs.run t.run c.in_default.ensures) ∙ open_owed o s c.args.most f rest e
-          ∙ ap (λ (b : Bool). if b then Late s.next else Opened s.next (slots_for o s c.args.most) (length (granted o s))) (ne_eqb s.next slot_end (λ z. omega (arith, z, t.next, early)))
+          ∙ ap (λ (b : Bool). if b then Late s.next else Opened s.next (slots_for o s c.args.most) (length (granted o s)))
+          (ne_eqb s.next slot_end (λ z. omega (arith, z, t.next, early)))
           ∙ ap (λ n. Opened n (slots_for o s c.args.most) (length (granted o s))) (sym t.next ∙ sym begun''.first_is ∙ sym first)
-          ∙ ap (λ n. Opened x.first n (length (granted o s))) (sym opens.slots_are ∙ sym slots) ∙ ap (λ (l : List ℕ). Opened x.first x.slots (length l)) (sym opens.granted_are) ∙ ap (Opened x.first x.slots) (sym count),
+          ∙ ap (λ n. Opened x.first n (length (granted o s))) (sym opens.slots_are ∙ sym slots) ∙ ap (λ (l : List ℕ). Opened x.first x.slots (length l)) (sym opens.granted_are) ∙
+          ap (Opened x.first x.slots) (sym count),
       record {
         coflows = t.coflows;
         weight = t.weight;
         orders = t.orders;
         owed = t.owed;
-        run = subst (λ (z : Option KeptRun). TellsRun o.table.flows o.table.ports (Some (record { first = x.first; slots = x.slots; granted = granted o s; notes = [] })) z) (sym run)
-            (open_kept o.table.flows o.table.ports c.coflows.result.now (λ f. slice_index old.ledger.owed f) old.next c.args.most x.first x.slots (granted o s) k begun'' (sym first) (sym slots) opens.granted_are);
+        run = subst (λ (z : Option KeptRun). TellsRun o.table.flows o.table.ports (Some (record { first = x.first; slots = x.slots; granted = granted o s; notes = [] })) z)
+            (sym run)
+            (open_kept o.table.flows o.table.ports c.coflows.result.now (λ f. slice_index old.ledger.owed f) old.next c.args.most x.first x.slots (granted o s) k begun''
+            (sym first) (sym slots) opens.granted_are);
         next = t.next;
       },
     ))

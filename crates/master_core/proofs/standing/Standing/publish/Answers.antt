@@ -27,7 +27,9 @@ returns-in-Some c =
 
 pub publish-requires-clause-units : goal.publish-requires-clause-units
 publish-requires-clause-units c =
-    subst (λ (l : List ℕ). sum l ≤ 2 ^ 40) (sym c.owed_all.ensures.owed) (owed_within c.args.opening.now.table c.args.self.now.ledger.units c.args.self.now.ledger.owed c.requires.fit.opening.table c.requires.fit.units c.owed_all.ensures.balanced)
+    subst (λ (l : List ℕ). sum l ≤ 2 ^ 40) (sym c.owed_all.ensures.owed)
+    (owed_within c.args.opening.now.table c.args.self.now.ledger.units c.args.self.now.ledger.owed c.requires.fit.opening.table c.requires.fit.units
+    c.owed_all.ensures.balanced)
 
 pub returns : goal.returns
 returns c =

@@ -12,7 +12,8 @@ returns-then-rank-eq0 c =
     let r = c.rank-rank.result in
     follows c.args.opening.now (Pull c.args.coflow) c.args.self.now (Unranked v) c.args.self.now c.requires.fit
     (λ s t. (
-      pull_told c.args.opening.now s c.args.self.now c.args.coflow v r t c.version-version.ensures c.rank-rank.ensures ∙ ap (λ (b : Bool). if b then Unranked v else Rank v r) (eq-eqb r 0 c.if-rank-eq0.true),
+      pull_told c.args.opening.now s c.args.self.now c.args.coflow v r t c.version-version.ensures c.rank-rank.ensures ∙
+          ap (λ (b : Bool). if b then Unranked v else Rank v r) (eq-eqb r 0 c.if-rank-eq0.true),
       t,
     ))
 
@@ -22,6 +23,7 @@ returns c =
     let r = c.rank-rank.result in
     follows c.args.opening.now (Pull c.args.coflow) c.args.self.now (Rank v r) c.args.self.now c.requires.fit
     (λ s t. (
-      pull_told c.args.opening.now s c.args.self.now c.args.coflow v r t c.version-version.ensures c.rank-rank.ensures ∙ ap (λ (b : Bool). if b then Unranked v else Rank v r) (ne_eqb r 0 c.if-rank-eq0.false),
+      pull_told c.args.opening.now s c.args.self.now c.args.coflow v r t c.version-version.ensures c.rank-rank.ensures ∙
+          ap (λ (b : Bool). if b then Unranked v else Rank v r) (ne_eqb r 0 c.if-rank-eq0.false),
       t,
     ))

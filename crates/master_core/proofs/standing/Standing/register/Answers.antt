@@ -26,7 +26,8 @@ returns c =
     (λ s t. let away' = ap (λ l. has l c.args.coflow) (sym t.coflows.joined_is) ∙ away in (
       ap told away',
       record {
-        coflows = coflow_joins (length c.args.opening.now.table.ids) s.joined s.left old.roster new c.args.coflow t.coflows c.requires.fit.present_len c.requires.coflow_in away' c.join.ensures.joined c.join.ensures.present;
+        coflows = coflow_joins (length c.args.opening.now.table.ids) s.joined s.left old.roster new c.args.coflow t.coflows c.requires.fit.present_len c.requires.coflow_in away'
+            c.join.ensures.joined c.join.ensures.present;
         weight = t.weight;
         orders = more_joined s.joined s.published old.orders c.args.coflow t.orders;
         owed = t.owed;

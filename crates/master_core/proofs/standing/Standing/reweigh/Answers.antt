@@ -10,7 +10,11 @@ use Rattle.master_core.proofs.standing.Standing.reweigh.Goals as goal
 pub returns-then-not-is_present : goal.returns-then-not-is_present
 returns-then-not-is_present c =
     follows c.args.opening.now (Reweigh c.args.coflow c.args.weight) c.args.self.now NotHere c.args.self.now c.requires.fit
-    (λ s t. (ap (λ (b : Bool). if b then Weighed (s.weight c.args.coflow) else NotHere) (sym (t.coflows.present_is c.args.coflow) ∙ sym c.is_present.ensures ∙ c.if-not-is_present.true), t))
+    (λ s t. (
+      ap (λ (b : Bool). if b then Weighed (s.weight c.args.coflow) else NotHere)
+          (sym (t.coflows.present_is c.args.coflow) ∙ sym c.is_present.ensures ∙ c.if-not-is_present.true),
+      t,
+    ))
 
 pub returns : goal.returns
 returns c =

@@ -18,7 +18,8 @@ returns-in-Some c =
     let is = sym c.note.ensures.noted ∙ c.in-Some.is in
     let run = c.note.ensures.run ∙ ap (λ (x : Option ℕ). with_note old.runs.run p x) c.in-Some.is in
     follows o (Short p c.args.units) old (Noted n) (record old { runs = new })
-    (fits_runs o old new c.requires.fit c.note.ensures.ports (subst (FitsOpen o.table.flows old.ledger.owed) (sym run) (fits_noted o.table.flows old.ledger.owed old.runs.run p c.args.units n c.requires.fit.run is)))
+    (fits_runs o old new c.requires.fit c.note.ensures.ports
+    (subst (FitsOpen o.table.flows old.ledger.owed) (sym run) (fits_noted o.table.flows old.ledger.owed old.runs.run p c.args.units n c.requires.fit.run is)))
     (λ s t. (
       answer_noted o.table.flows o.table.ports s.run old.runs.run p c.args.units n t.run is,
       record {
@@ -26,7 +27,8 @@ returns-in-Some c =
         weight = t.weight;
         orders = t.orders;
         owed = t.owed;
-        run = subst (λ (x : Option KeptRun). TellsRun o.table.flows o.table.ports (noted_in s.run p n) x) (sym run) (run_noted o.table.flows o.table.ports s.run old.runs.run p n c.requires.ingress_in t.run);
+        run = subst (λ (x : Option KeptRun). TellsRun o.table.flows o.table.ports (noted_in s.run p n) x) (sym run)
+            (run_noted o.table.flows o.table.ports s.run old.runs.run p n c.requires.ingress_in t.run);
         next = t.next;
       },
     ))

@@ -40,7 +40,8 @@ returns-then-to-gt-MAX_SLOT c =
     let none = c.in_default-first_owing.ensures in
     follows o (Skip c.args.to) old (Late c.args.to) old c.requires.fit
     (λ s t. (
-      ap (still (skipped o s c.args.to)) (none_told o.table.flows o.table.ports s.run old.runs.run t.run c.in_default.ensures) ∙ skip_free o s c.args.to (owing_none o s old c.requires.fit t none)
+      ap (still (skipped o s c.args.to)) (none_told o.table.flows o.table.ports s.run old.runs.run t.run c.in_default.ensures) ∙
+          skip_free o s c.args.to (owing_none o s old c.requires.fit t none)
           ∙ ap (λ (b : Bool). if b then Late c.args.to else Skipped (max s.next c.args.to)) (le-leb slot_end c.args.to (omega arith)),
       t,
     ))
@@ -51,9 +52,12 @@ returns c =
     let old = c.args.self.now in
     let none = c.in_default-first_owing.ensures in
     let n = c.max-self.result in
-    follows o (Skip c.args.to) old (Skipped n) (record old { next = n }) (fits_next o old n c.requires.fit (omega (arith, c.max-self.ensures, c.requires.fit.next_ends, c.if-to-gt-MAX_SLOT.false)))
+    follows o (Skip c.args.to) old (Skipped n) (record old { next = n })
+    (fits_next o old n c.requires.fit (omega (arith, c.max-self.ensures, c.requires.fit.next_ends, c.if-to-gt-MAX_SLOT.false)))
     (λ s t. (
-      ap (still (skipped o s c.args.to)) (none_told o.table.flows o.table.ports s.run old.runs.run t.run c.in_default.ensures) ∙ skip_free o s c.args.to (owing_none o s old c.requires.fit t none)
-          ∙ ap (λ (b : Bool). if b then Late c.args.to else Skipped (max s.next c.args.to)) (lt-leb slot_end c.args.to (omega arith)) ∙ ap Skipped (ap (λ m. max m c.args.to) (sym t.next) ∙ sym c.max-self.ensures),
+      ap (still (skipped o s c.args.to)) (none_told o.table.flows o.table.ports s.run old.runs.run t.run c.in_default.ensures) ∙
+          skip_free o s c.args.to (owing_none o s old c.requires.fit t none)
+          ∙ ap (λ (b : Bool). if b then Late c.args.to else Skipped (max s.next c.args.to)) (lt-leb slot_end c.args.to (omega arith)) ∙
+          ap Skipped (ap (λ m. max m c.args.to) (sym t.next) ∙ sym c.max-self.ensures),
       record { coflows = t.coflows; weight = t.weight; orders = t.orders; owed = t.owed; run = t.run; next = refl },
     ))

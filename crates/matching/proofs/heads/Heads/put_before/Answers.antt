@@ -11,7 +11,12 @@ pub index-requires : goal.index-requires
 index-requires c =
     let g = graph_of c.args.ranks.now in
     let k = c.requires.ranks in
-    let is : c.index-flow.result.now ≡ ranked_at c.args.ranks.now.flows.items c.args.rank = c.index-flow.ensures ∙ get_or_default c.args.ranks.now.flows.items c.args.rank c.index-flow.result.now record { first = 0; second = 0; number = 0 } (omega (arith, c.requires.rank, k.fits)) in
+    let is : c.index-flow.result.now ≡ ranked_at c.args.ranks.now.flows.items c.args.rank =
+    c.index-flow.ensures ∙ get_or_default c.args.ranks.now.flows.items c.args.rank c.index-flow.result.now record {
+      first = 0;
+      second = 0;
+      number = 0;
+    } (omega (arith, c.requires.rank, k.fits)) in
     let a = ap (λ (x : Ranked). x.first) is in
     let b = ap (λ (x : Ranked). x.second) is in
     let pair : IsPair c.args.ranks.now.ports c.index-flow.result.now.first c.index-flow.result.now.second = record {
@@ -24,13 +29,23 @@ index-requires c =
 pub replace-requires-clause-first : goal.replace-requires-clause-first
 replace-requires-clause-first c =
     let k = c.requires.ranks in
-    let is : c.index-flow.result.now ≡ ranked_at c.args.ranks.now.flows.items c.args.rank = c.index-flow.ensures ∙ get_or_default c.args.ranks.now.flows.items c.args.rank c.index-flow.result.now record { first = 0; second = 0; number = 0 } (omega (arith, c.requires.rank, k.fits)) in
+    let is : c.index-flow.result.now ≡ ranked_at c.args.ranks.now.flows.items c.args.rank =
+    c.index-flow.ensures ∙ get_or_default c.args.ranks.now.flows.items c.args.rank c.index-flow.result.now record {
+      first = 0;
+      second = 0;
+      number = 0;
+    } (omega (arith, c.requires.rank, k.fits)) in
     omega (arith, ap (λ (x : Ranked). x.first) is, k.graph.first c.args.rank c.requires.rank)
 
 pub replace-requires-clause-second : goal.replace-requires-clause-second
 replace-requires-clause-second c =
     let k = c.requires.ranks in
-    let is : c.index-flow.result.now ≡ ranked_at c.args.ranks.now.flows.items c.args.rank = c.index-flow.ensures ∙ get_or_default c.args.ranks.now.flows.items c.args.rank c.index-flow.result.now record { first = 0; second = 0; number = 0 } (omega (arith, c.requires.rank, k.fits)) in
+    let is : c.index-flow.result.now ≡ ranked_at c.args.ranks.now.flows.items c.args.rank =
+    c.index-flow.ensures ∙ get_or_default c.args.ranks.now.flows.items c.args.rank c.index-flow.result.now record {
+      first = 0;
+      second = 0;
+      number = 0;
+    } (omega (arith, c.requires.rank, k.fits)) in
     omega (arith, ap (λ (x : Ranked). x.second) is, k.graph.second c.args.rank c.requires.rank)
 
 pub returns-clause-heads : goal.returns-clause-heads
@@ -38,7 +53,12 @@ returns-clause-heads c =
     let g = graph_of c.args.ranks.now in
     let k = c.requires.ranks in
     let ports = c.args.ranks.now.ports in
-    let is : c.index-flow.result.now ≡ ranked_at c.args.ranks.now.flows.items c.args.rank = c.index-flow.ensures ∙ get_or_default c.args.ranks.now.flows.items c.args.rank c.index-flow.result.now record { first = 0; second = 0; number = 0 } (omega (arith, c.requires.rank, k.fits)) in
+    let is : c.index-flow.result.now ≡ ranked_at c.args.ranks.now.flows.items c.args.rank =
+    c.index-flow.ensures ∙ get_or_default c.args.ranks.now.flows.items c.args.rank c.index-flow.result.now record {
+      first = 0;
+      second = 0;
+      number = 0;
+    } (omega (arith, c.requires.rank, k.fits)) in
     let re = subst (λ (x : Ranked). IsReplaced ports c.args.self.now.least.items c.replace.new.self.least.items x.first x.second c.args.rank) is c.replace.ensures.replaced in
     filled_heads ports g c.args.rank c.args.self.now.least.items c.replace.new.self.least.items k.graph c.requires.rank c.replace.ensures.size re c.requires.heads
 
@@ -49,7 +69,12 @@ returns-clause-chain c =
     let ports = c.args.ranks.now.ports in
     let rank = c.args.rank in
     let old = c.args.self.now in
-    let is : c.index-flow.result.now ≡ ranked_at c.args.ranks.now.flows.items rank = c.index-flow.ensures ∙ get_or_default c.args.ranks.now.flows.items rank c.index-flow.result.now record { first = 0; second = 0; number = 0 } (omega (arith, c.requires.rank, k.fits)) in
+    let is : c.index-flow.result.now ≡ ranked_at c.args.ranks.now.flows.items rank =
+    c.index-flow.ensures ∙ get_or_default c.args.ranks.now.flows.items rank c.index-flow.result.now record {
+      first = 0;
+      second = 0;
+      number = 0;
+    } (omega (arith, c.requires.rank, k.fits)) in
     let pair : IsPair ports (g.first rank) (g.second rank) = record {
       first_low = k.graph.first rank c.requires.rank;
       second_from = k.graph.second_from rank c.requires.rank;
@@ -59,7 +84,11 @@ returns-clause-chain c =
     let lk : across < ports = omega (arith, pair.second_low, pair.second_from) in
     let place = ap (λ (x : Ranked). x.first * ports + (x.second - ports)) is in
     let head : c.index.result.now ≡ head_at ports old.least.items (g.first rank) across =
-    c.index.ensures ∙ ap (λ i. get_or old.least.items i c.index.result.now) place ∙ get_or_default old.least.items (g.first rank * ports + across) c.index.result.now 0 (omega (arith, place_first ports (g.first rank) (g.second rank) pair, c.requires.heads.size)) in
+    c.index.ensures ∙ ap (λ i. get_or old.least.items i c.index.result.now) place ∙
+    get_or_default old.least.items (g.first rank * ports + across) c.index.result.now 0
+    (omega (arith, place_first ports (g.first rank) (g.second rank) pair, c.requires.heads.size)) in
     let next = head_is_next ports g rank (g.first rank) across (head_at ports old.least.items (g.first rank) across) k.graph c.requires.rank lk
-    (inl (refl, omega (arith, opposite_first ports (g.first rank) across pair.first_low, pair.second_from))) (c.requires.heads.head (g.first rank) across (omega (arith, pair.first_low)) lk) in
-    subst (λ x. IsChain g x.items rank) (sym c.replace.ensures.next) (next_chain g old.next.items rank c.index.result.now c.requires.rank (subst (λ x. IsNext g rank x) (sym head) next) c.requires.chain)
+    (inl (refl, omega (arith, opposite_first ports (g.first rank) across pair.first_low, pair.second_from)))
+    (c.requires.heads.head (g.first rank) across (omega (arith, pair.first_low)) lk) in
+    subst (λ x. IsChain g x.items rank) (sym c.replace.ensures.next)
+    (next_chain g old.next.items rank c.index.result.now c.requires.rank (subst (λ x. IsNext g rank x) (sym head) next) c.requires.chain)

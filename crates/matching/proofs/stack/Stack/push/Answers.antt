@@ -29,4 +29,5 @@ returns-clause-pushed c =
     let s = c.self.inside in
     let lt : c.args.port < length s.marks.items = omega (arith, c.requires, ap (λ v. v.room) c.self.view_is) in
     let free : get_or s.marks.items c.args.port false ≡ false = read_as s.marks.items c.args.port c.index.result.now false lt c.index.ensures c.if-index.false in
-    subst (λ xs. IsPushed xs (take (s.count + 1) (set s.ports.items s.count c.args.port)) c.args.port) (ap (λ v. v.ports) c.self.view_is) (pushed s.count s.ports.items s.marks.items c.args.port c.self.invariant lt free)
+    subst (λ xs. IsPushed xs (take (s.count + 1) (set s.ports.items s.count c.args.port)) c.args.port) (ap (λ v. v.ports) c.self.view_is)
+    (pushed s.count s.ports.items s.marks.items c.args.port c.self.invariant lt free)

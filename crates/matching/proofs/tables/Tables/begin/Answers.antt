@@ -13,4 +13,5 @@ returns-clause-settled c =
 
 pub returns-clause-whole : goal.returns-clause-whole
 returns-clause-whole c =
-    whole_again c.args.self.now c.repair.new.self c.requires.whole (room_again c.args.self.now c.lay_out.new.self c.repair.new.self c.lay_out.ensures.room c.repair.ensures.room) c.repair.ensures.within c.repair.ensures.sound
+    whole_again c.args.self.now c.repair.new.self c.requires.whole (room_again c.args.self.now c.lay_out.new.self c.repair.new.self c.lay_out.ensures.room c.repair.ensures.room)
+    c.repair.ensures.within c.repair.ensures.sound

@@ -21,7 +21,8 @@ returns-clause-sound c =
     let lower = λ (r : ℕ). get_or (set m.left.items rank 0) r 0 in
     let known = c.requires.granted.0 in
     let next = get_or m.heads.next.items rank 0 in
-    let flow_is : c.index-flow.result.now ≡ ranked_at m.ranks.flows.items rank = c.index-flow.ensures ∙ get_or_default m.ranks.flows.items rank c.index-flow.result.now record { first = 0; second = 0; number = 0 } (omega (arith, known, s.ranks.fits)) in
+    let flow_is : c.index-flow.result.now ≡ ranked_at m.ranks.flows.items rank =
+    c.index-flow.ensures ∙ get_or_default m.ranks.flows.items rank c.index-flow.result.now record { first = 0; second = 0; number = 0 } (omega (arith, known, s.ranks.fits)) in
     let next_is : c.index-next.result.now ≡ next = c.index-next.ensures ∙ get_or_default m.heads.next.items rank c.index-next.result.now 0 (omega (arith, known, s.chain.fits)) in
     let ended : lower rank ≡ 0 = get_or-set_at m.left.items rank rank 0 0 (omega arith) (omega (arith, known, s.lefts)) in
     let others = λ (r : ℕ) (ne : r ≢ rank). get_or-set_other m.left.items rank r 0 0 ne in
@@ -36,10 +37,13 @@ returns-clause-sound c =
       next_is = s.chain.next_is rank (omega arith) known;
     } in
     let re = subst (λ (x : Ranked). IsReplaced ports m.heads.least.items c.replace.new.self.least.items x.first x.second next) flow_is
-    (subst (λ (x : ℕ). IsReplaced ports m.heads.least.items c.replace.new.self.least.items c.index-flow.result.now.first c.index-flow.result.now.second x) next_is c.replace.ensures.replaced) in
-    let freed = subst (λ (x : Ranked). IsFreed ports g m.board.at.items c.free.new.self.at.items m.board.waiting.ports c.free.new.self.waiting.ports x.first) flow_is c.free.ensures.freed in
+    (subst (λ (x : ℕ). IsReplaced ports m.heads.least.items c.replace.new.self.least.items c.index-flow.result.now.first c.index-flow.result.now.second x) next_is
+    c.replace.ensures.replaced) in
+    let freed = subst (λ (x : Ranked). IsFreed ports g m.board.at.items c.free.new.self.at.items m.board.waiting.ports c.free.new.self.waiting.ports x.first) flow_is
+    c.free.ensures.freed in
     let pushed = subst (λ (x : Ranked). IsPushed c.free.new.self.waiting.ports c.push.new.self.ports x.first) flow_is c.push.ensures.pushed in
-    let goes = goes_out ports g (left_at m) lower m.board.at.items c.free.new.self.at.items m.board.waiting.ports c.free.new.self.waiting.ports c.push.new.self.ports rank s.ranks.graph s.board c.requires.granted ended others freed pushed in
+    let goes = goes_out ports g (left_at m) lower m.board.at.items c.free.new.self.at.items m.board.waiting.ports c.free.new.self.waiting.ports c.push.new.self.ports rank
+    s.ranks.graph s.board c.requires.granted ended others freed pushed in
     record {
       ranks = s.ranks;
       lefts = omega (arith, s.lefts, length-set m.left.items rank 0);
@@ -48,7 +52,8 @@ returns-clause-sound c =
       behind = ended_behind ports g (left_at m) lower rank next ending;
       board = c.free.ensures.board;
       room = c.push.ensures.room ∙ c.free.ensures.room ∙ s.room;
-      kept = rank_ends g (left_at m) lower (Stands g m.board.at.items) (Stands g c.free.new.self.at.items) (λ p. Contains m.board.waiting.ports p) (λ p. Contains c.push.new.self.ports p) rank goes s.kept;
+      kept = rank_ends g (left_at m) lower (Stands g m.board.at.items) (Stands g c.free.new.self.at.items) (λ p. Contains m.board.waiting.ports p)
+          (λ p. Contains c.push.new.self.ports p) rank goes s.kept;
       top = λ r q has lq some a b.
           let (old, ne) = goes.from r has in
           let nq : q ≢ rank = λ e. omega (arith, ended, ap lower e, some) in
@@ -61,9 +66,16 @@ returns-clause-others c = λ p low ne.
     let g = graph_of m.ranks in
     let s = c.requires.sound in
     let rank = c.args.rank in
-    let flow_is : c.index-flow.result.now ≡ ranked_at m.ranks.flows.items rank = c.index-flow.ensures ∙ get_or_default m.ranks.flows.items rank c.index-flow.result.now record { first = 0; second = 0; number = 0 } (omega (arith, c.requires.granted.0, s.ranks.fits)) in
-    let freed = subst (λ (x : Ranked). IsFreed m.ranks.ports g m.board.at.items c.free.new.self.at.items m.board.waiting.ports c.free.new.self.waiting.ports x.first) flow_is c.free.ensures.freed in
-    stays_at m.ranks.ports g m.board.at.items c.free.new.self.at.items m.board.waiting.ports c.free.new.self.waiting.ports rank p s.ranks.graph s.board c.requires.granted freed low ne
+    let flow_is : c.index-flow.result.now ≡ ranked_at m.ranks.flows.items rank =
+    c.index-flow.ensures ∙ get_or_default m.ranks.flows.items rank c.index-flow.result.now record {
+      first = 0;
+      second = 0;
+      number = 0;
+    } (omega (arith, c.requires.granted.0, s.ranks.fits)) in
+    let freed = subst (λ (x : Ranked). IsFreed m.ranks.ports g m.board.at.items c.free.new.self.at.items m.board.waiting.ports c.free.new.self.waiting.ports x.first) flow_is
+    c.free.ensures.freed in
+    stays_at m.ranks.ports g m.board.at.items c.free.new.self.at.items m.board.waiting.ports c.free.new.self.waiting.ports rank p s.ranks.graph s.board c.requires.granted freed low
+    ne
 
 pub returns-clause-room : goal.returns-clause-room
 returns-clause-room c = record {

@@ -11,17 +11,31 @@ use Rattle.matching.proofs.tables.Tables.lay_out.Goals as goal
 
 pub copy_left-requires-clause-fits : goal.copy_left-requires-clause-fits
 copy_left-requires-clause-fits c =
-    omega (arith, c.rank.ensures.len, c.requires.room, c.requires.whole.room.ranked, ranking_fits c.args.flows.now c.args.line.now (λ f. get_or c.args.left.now f 0) (length c.args.line.now) 0 c.rank.new.self c.rank.ensures.ranking)
+    omega (
+      arith,
+      c.rank.ensures.len,
+      c.requires.room,
+      c.requires.whole.room.ranked,
+      ranking_fits c.args.flows.now c.args.line.now (λ f. get_or c.args.left.now f 0) (length c.args.line.now) 0 c.rank.new.self c.rank.ensures.ranking,
+    )
 
 pub copy_left-requires-clause-room : goal.copy_left-requires-clause-room
-copy_left-requires-clause-room c = omega (arith, c.requires.room, ranking_fits c.args.flows.now c.args.line.now (λ f. get_or c.args.left.now f 0) (length c.args.line.now) 0 c.rank.new.self c.rank.ensures.ranking)
+copy_left-requires-clause-room c =
+    omega (
+      arith,
+      c.requires.room,
+      ranking_fits c.args.flows.now c.args.line.now (λ f. get_or c.args.left.now f 0) (length c.args.line.now) 0 c.rank.new.self
+          c.rank.ensures.ranking,
+    )
 
 pub fill-requires-clause-ranks : goal.fill-requires-clause-ranks
 fill-requires-clause-ranks c =
     let flows = c.args.flows.now in
     let made = c.rank.new.self in
-    let ranks = ranking_made flows c.args.line.now (λ (f : ℕ). get_or c.args.left.now f 0) (length c.args.line.now) 0 made (omega (arith, c.requires.room, c.requires.whole.room.few)) (omega (arith, c.rank.ensures.len, c.requires.room, c.requires.whole.room.ranked))
-    (subst (λ n. All (λ (x : Flow). x.ingress < n) flows) (sym c.rank.ensures.ports) c.requires.ingress) (subst (λ n. All (λ (x : Flow). x.egress < n) flows) (sym c.rank.ensures.ports) c.requires.egress) c.rank.ensures.ranking in
+    let ranks = ranking_made flows c.args.line.now (λ (f : ℕ). get_or c.args.left.now f 0) (length c.args.line.now) 0 made
+    (omega (arith, c.requires.room, c.requires.whole.room.few)) (omega (arith, c.rank.ensures.len, c.requires.room, c.requires.whole.room.ranked))
+    (subst (λ n. All (λ (x : Flow). x.ingress < n) flows) (sym c.rank.ensures.ports) c.requires.ingress)
+    (subst (λ n. All (λ (x : Flow). x.egress < n) flows) (sym c.rank.ensures.ports) c.requires.egress) c.rank.ensures.ranking in
     subst (λ (x : Ranks). IsRanks x) (sym c.copy_left.ensures.ranks) ranks
 
 pub fill-requires-clause-room : goal.fill-requires-clause-room
@@ -50,7 +64,8 @@ returns-clause-begun c =
     let count = ap (λ (x : Ranks). x.count) e in
     let board = ap (λ (x : Board). length x.at.items) c.copy_left.ensures.board in
     let size : length copied.board.at.items ≡ copied.ranks.ports + copied.ranks.ports = omega (arith, board, c.requires.whole.sound.board.size, ports) in
-    let ranks = ranking_made flows line left (length line) 0 made (omega (arith, c.requires.room, room.few)) (omega (arith, c.rank.ensures.len, c.requires.room, room.ranked)) (subst (λ n. All (λ (x : Flow). x.ingress < n) flows) (sym c.rank.ensures.ports) c.requires.ingress)
+    let ranks = ranking_made flows line left (length line) 0 made (omega (arith, c.requires.room, room.few)) (omega (arith, c.rank.ensures.len, c.requires.room, room.ranked))
+    (subst (λ n. All (λ (x : Flow). x.ingress < n) flows) (sym c.rank.ensures.ports) c.requires.ingress)
     (subst (λ n. All (λ (x : Flow). x.egress < n) flows) (sym c.rank.ensures.ports) c.requires.egress) c.rank.ensures.ranking in
     record {
       ranking = subst (λ (x : Ranks). IsRanking flows line left (length line) 0 x) (sym e) c.rank.ensures.ranking;

@@ -11,7 +11,8 @@ pub loop-ingress-init : goal.loop-ingress-init
 loop-ingress-init c = least_begins (graph_of c.args.self.now.ranks) (left_at c.args.self.now) c.args.self.now.board.at.items
 
 pub returns : goal.returns
-returns c = λ flows line left s. least_is flows line left c.args.self.now c.loop-ingress.ingress c.loop-ingress.least (omega (arith, c.loop-ingress-test.false)) c.requires.ranks c.requires.board s c.loop-ingress.invariant
+returns c = λ flows line left s. least_is flows line left c.args.self.now c.loop-ingress.ingress c.loop-ingress.least (omega (arith, c.loop-ingress-test.false)) c.requires.ranks
+    c.requires.board s c.loop-ingress.invariant
 
 pub loop-ingress-preserved : goal.loop-ingress-preserved
 loop-ingress-preserved c =
@@ -27,4 +28,5 @@ loop-ingress-preserved c =
       | then-least-eq0 w ↦ inl (w.if-least-eq0.true, omega (arith, w.least-is, left))
       | else-least-eq0 w ↦ inr (omega (arith, w.if-least-eq0.false), omega (arith, w.least-is, w.min-least.ensures, left))
     ] in
-    least_takes m.ranks.ports g (left_at m) m.board.at.items n c.loop-ingress.least c.if-least-eq0.least r s.board c.loop-ingress-test.true c.if-rank.false is (s.kept.owed r stands) how c.loop-ingress.invariant
+    least_takes m.ranks.ports g (left_at m) m.board.at.items n c.loop-ingress.least c.if-least-eq0.least r s.board c.loop-ingress-test.true c.if-rank.false is
+    (s.kept.owed r stands) how c.loop-ingress.invariant

@@ -12,7 +12,8 @@ returns-then-rank-index-clause-sound c =
     let g = graph_of m.ranks in
     let s = c.requires.sound in
     let rank = c.look-rank.result in
-    let stands : c.index.result.now ≡ get_or m.board.at.items c.args.port 0 = c.index.ensures ∙ get_or_default m.board.at.items c.args.port c.index.result.now 0 (omega (arith, s.board.size, c.requires.port)) in
+    let stands : c.index.result.now ≡ get_or m.board.at.items c.args.port 0 =
+    c.index.ensures ∙ get_or_default m.board.at.items c.args.port c.index.result.now 0 (omega (arith, s.board.size, c.requires.port)) in
     let scene : IsScene m.ranks.ports g (left_at m) m.heads.least.items m.board.at.items c.args.port rank = record {
       graph = s.ranks.graph;
       table = s.heads;
@@ -30,8 +31,10 @@ returns-then-rank-index-clause-sound c =
       behind = s.behind;
       board = c.put.ensures.board;
       room = c.put.ensures.room ∙ s.room;
-      kept = rank_goes_in g (left_at m) (Stands g m.board.at.items) (Stands g c.put.new.self.at.items) (λ p. (p ≡ c.args.port) ⊎ Contains m.board.waiting.ports p) (λ p. Contains c.put.new.self.waiting.ports p) c.args.port rank
-          (found_goes_in m.ranks.ports g (left_at m) m.heads.least.items m.board.at.items c.put.new.self.at.items m.board.waiting.ports c.put.new.self.waiting.ports c.args.port rank scene found placed) s.kept;
+      kept = rank_goes_in g (left_at m) (Stands g m.board.at.items) (Stands g c.put.new.self.at.items) (λ p. (p ≡ c.args.port) ⊎ Contains m.board.waiting.ports p)
+          (λ p. Contains c.put.new.self.waiting.ports p) c.args.port rank
+          (found_goes_in m.ranks.ports g (left_at m) m.heads.least.items m.board.at.items c.put.new.self.at.items m.board.waiting.ports c.put.new.self.waiting.ports c.args.port
+          rank scene found placed) s.kept;
       top = λ r q has lq some a b. elim (placed.from r has) [
         | inl e ↦ subst (λ x. x ≤ q) (sym e) (found.top q lq some (subst (λ x. g.first q ≡ g.first x) e a) (subst (λ x. g.second q ≡ g.second x) e b))
         | inr (old, _) ↦ s.top r q old lq some a b
@@ -41,7 +44,8 @@ returns-then-rank-index-clause-sound c =
 pub returns-then-rank-index-clause-budget : goal.returns-then-rank-index-clause-budget
 returns-then-rank-index-clause-budget c =
     let m = c.args.self.now in
-    budget_falls ((m.ranks.ports + m.ranks.ports) * 2 ^ (2 * m.ranks.count)) (total_weight m.ranks.count m.board.at.items) (total_weight m.ranks.count c.put.new.self.at.items) (length m.board.waiting.ports) (length c.put.new.self.waiting.ports)
+    budget_falls ((m.ranks.ports + m.ranks.ports) * 2 ^ (2 * m.ranks.count)) (total_weight m.ranks.count m.board.at.items) (total_weight m.ranks.count c.put.new.self.at.items)
+    (length m.board.waiting.ports) (length c.put.new.self.waiting.ports)
     c.put.ensures.placed.rises (weight_bound m.ranks.ports m.ranks.count c.put.new.self.at.items c.put.ensures.board.size) c.put.ensures.placed.two_more
 
 pub returns-else-rank-index-clause-sound : goal.returns-else-rank-index-clause-sound
@@ -50,7 +54,8 @@ returns-else-rank-index-clause-sound c =
     let g = graph_of m.ranks in
     let s = c.requires.sound in
     let rank = c.look-rank.result in
-    let stands : c.index.result.now ≡ get_or m.board.at.items c.args.port 0 = c.index.ensures ∙ get_or_default m.board.at.items c.args.port c.index.result.now 0 (omega (arith, s.board.size, c.requires.port)) in
+    let stands : c.index.result.now ≡ get_or m.board.at.items c.args.port 0 =
+    c.index.ensures ∙ get_or_default m.board.at.items c.args.port c.index.result.now 0 (omega (arith, s.board.size, c.requires.port)) in
     let scene : IsScene m.ranks.ports g (left_at m) m.heads.least.items m.board.at.items c.args.port rank = record {
       graph = s.ranks.graph;
       table = s.heads;
@@ -66,7 +71,8 @@ returns-else-rank-index-clause-sound c =
       behind = s.behind;
       board = s.board;
       room = s.room;
-      kept = port_leaves g (left_at m) (Stands g m.board.at.items) (λ p. (p ≡ c.args.port) ⊎ Contains m.board.waiting.ports p) (λ p. Contains m.board.waiting.ports p) c.args.port (λ q w. w)
+      kept = port_leaves g (left_at m) (Stands g m.board.at.items) (λ p. (p ≡ c.args.port) ⊎ Contains m.board.waiting.ports p) (λ p. Contains m.board.waiting.ports p) c.args.port
+          (λ q w. w)
           (clear_at m.ranks.ports g (left_at m) m.heads.least.items m.board.at.items c.args.port rank scene (omega (arith, stands, c.if-rank-index.false))) s.kept;
       top = s.top;
     }

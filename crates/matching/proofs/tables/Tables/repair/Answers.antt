@@ -17,7 +17,8 @@ use Rattle.matching.proofs.tables.Tables.repair.Goals as goal
 pub list_granted-granted-requires-clause-side : goal.list_granted-granted-requires-clause-side
 list_granted-granted-requires-clause-side c =
     let m = c.settle.new.self in
-    subst (λ (xs : List ℕ). IsFirstSide m.ranks (take m.ranks.ports xs)) (sym c.deref.ensures.value) (first_side m.ranks m.board.at.items c.settle.ensures.sound.ranks c.settle.ensures.sound.board)
+    subst (λ (xs : List ℕ). IsFirstSide m.ranks (take m.ranks.ports xs)) (sym c.deref.ensures.value)
+    (first_side m.ranks m.board.at.items c.settle.ensures.sound.ranks c.settle.ensures.sound.board)
 
 pub returns-clause-settled : goal.returns-clause-settled
 returns-clause-settled c = λ flows line left m.
@@ -31,7 +32,8 @@ returns-clause-settled c = λ flows line left m.
     let e = c.settle.ensures.ranks in
     let listing = subst (λ (xs : List ℕ). IsListing now.ranks (take now.ranks.ports xs) (length (take now.ranks.ports xs)) (take n listed)) c.deref.ensures.value l.listing in
     let back = written_back now.listed.len listed now.listed.items (l.len ∙ c.deref_mut.ensures.len) in
-    let told = subst (λ (xs : List ℕ). IsTold (number_of now.ranks) (Stands g at) (take n xs)) (sym back) (listed_told now.ranks at (take n listed) s.ranks s.board l.ascending listing) in
+    let told = subst (λ (xs : List ℕ). IsTold (number_of now.ranks) (Stands g at) (take n xs)) (sym back)
+    (listed_told now.ranks at (take n listed) s.ranks s.board l.ascending listing) in
     let lined = subst (λ (x : Ranks). IsLined flows line left x.ports (number_of x) (graph_of x)) (sym e) m.lined in
     let units : (r : ℕ) → r < now.ranks.count → left_at now r ≡ left (number_of now.ranks r) =
     λ r lt. ap (λ x. get_or x.items r 0) c.settle.ensures.left ∙ m.units r (omega (arith, lt, ap (λ (x : Ranks). x.count) e)) ∙ ap (λ (x : Ranks). left (number_of x r)) (sym e) in
@@ -54,7 +56,9 @@ returns-clause-room c =
       nexts = ap (λ (x : Heads). length x.next.items) c.settle.ensures.heads;
       listed = omega (
         arith,
-        ap (λ (xs : List ℕ). length xs) (written_back c.settle.new.self.listed.len c.list_granted-granted.new.listed c.settle.new.self.listed.items (c.list_granted-granted.ensures.len ∙ c.deref_mut.ensures.len)),
+        ap (λ (xs : List ℕ). length xs)
+            (written_back c.settle.new.self.listed.len c.list_granted-granted.new.listed c.settle.new.self.listed.items
+            (c.list_granted-granted.ensures.len ∙ c.deref_mut.ensures.len)),
         c.list_granted-granted.ensures.len,
         c.deref_mut.ensures.len,
         ap (λ x. length x.items) c.settle.ensures.listed,

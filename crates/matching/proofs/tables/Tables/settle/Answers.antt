@@ -17,6 +17,7 @@ look_at-requires-clause-sound c =
       behind = s.behind;
       board = s.board;
       room = c.pop.ensures.room ∙ s.room;
-      kept = waits_more g (left_at m) (Stands g m.board.at.items) (λ p. Contains m.board.waiting.ports p) (λ p. (p ≡ c.in-Some.port) ⊎ Contains c.pop.new.self.ports p) (λ p has. c.in-Some.ensures.popped.keeps p has) s.kept;
+      kept = waits_more g (left_at m) (Stands g m.board.at.items) (λ p. Contains m.board.waiting.ports p) (λ p. (p ≡ c.in-Some.port) ⊎ Contains c.pop.new.self.ports p)
+          (λ p has. c.in-Some.ensures.popped.keeps p has) s.kept;
       top = s.top;
     }

@@ -14,7 +14,8 @@ returns-then-left-units-clause-sound c =
     let n = c.index-left.result.now - c.args.units in
     let known : rank < length m.left.items = omega (arith, c.requires.granted.0, s.lefts) in
     let had : c.index-left.result.now ≡ get_or m.left.items rank 0 = c.index-left.ensures ∙ get_or_default m.left.items rank c.index-left.result.now 0 known in
-    let same : IsSameOwing m.ranks.count (left_at m) (λ q. get_or (set m.left.items rank n) q 0) = lowered m.ranks.count m.left.items rank n known (omega arith) (omega (arith, had, c.if-left-units.true)) in
+    let same : IsSameOwing m.ranks.count (left_at m) (λ q. get_or (set m.left.items rank n) q 0) =
+    lowered m.ranks.count m.left.items rank n known (omega arith) (omega (arith, had, c.if-left-units.true)) in
     let lower = λ (q : ℕ). get_or (set m.left.items rank n) q 0 in
     record {
       ranks = s.ranks;

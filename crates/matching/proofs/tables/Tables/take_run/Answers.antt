@@ -32,7 +32,8 @@ loop-ingress-preserved-then-rank c =
       room = before.room;
       ranks = before.ranks;
       granted = before.granted;
-      taken = run_skips c.args.self.now l.self n c.args.units c.requires.whole.sound.ranks (sym none ∙ c.if-rank.true) (subst (λ k. IsRunTaken c.args.self.now l.self k c.args.units) next before.taken);
+      taken = run_skips c.args.self.now l.self n c.args.units c.requires.whole.sound.ranks (sym none ∙ c.if-rank.true)
+          (subst (λ k. IsRunTaken c.args.self.now l.self k c.args.units) next before.taken);
     }
 
 pub take_rank-requires-clause-granted : goal.take_rank-requires-clause-granted
@@ -41,8 +42,10 @@ take_rank-requires-clause-granted c =
     let before = l.invariant in
     let n = l.ingress - 1 in
     let low : n < l.self.ranks.ports = omega (arith, c.loop-ingress-test.true, before.low, ap (λ (x : Ranks). x.ports) before.ranks) in
-    let rank_is : c.index-rank.result.now ≡ rank_at l.self n = c.index-rank.ensures ∙ get_or_default l.self.board.at.items n c.index-rank.result.now 0 (omega (arith, low, before.sound.board.size)) in
-    subst (λ x. Stands (graph_of l.self.ranks) l.self.board.at.items x) (sym rank_is) (begins_at l.self.ranks.ports (graph_of l.self.ranks) l.self.board.at.items n before.sound.ranks.graph before.sound.board low (λ e. c.if-rank.false (rank_is ∙ e))).0
+    let rank_is : c.index-rank.result.now ≡ rank_at l.self n =
+    c.index-rank.ensures ∙ get_or_default l.self.board.at.items n c.index-rank.result.now 0 (omega (arith, low, before.sound.board.size)) in
+    subst (λ x. Stands (graph_of l.self.ranks) l.self.board.at.items x) (sym rank_is)
+    (begins_at l.self.ranks.ports (graph_of l.self.ranks) l.self.board.at.items n before.sound.ranks.graph before.sound.board low (λ e. c.if-rank.false (rank_is ∙ e))).0
 
 pub loop-ingress-preserved : goal.loop-ingress-preserved
 loop-ingress-preserved c =
@@ -61,7 +64,8 @@ loop-ingress-preserved c =
       room = room_again first l.self c.take_rank.new.self before.room e.room;
       ranks = e.ranks ∙ before.ranks;
       granted = e.granted ∙ before.granted;
-      taken = run_takes first l.self c.take_rank.new.self n c.args.units c.requires.whole.sound.ranks c.requires.whole.sound.board before.ranks low (λ x. c.if-rank.false (rank_is ∙ x))
+      taken = run_takes first l.self c.take_rank.new.self n c.args.units c.requires.whole.sound.ranks c.requires.whole.sound.board before.ranks low
+          (λ x. c.if-rank.false (rank_is ∙ x))
           (subst (λ x. IsRankTaken l.self c.take_rank.new.self x c.args.units) rank_is e.taken) (subst (λ k. IsRunTaken first l.self k c.args.units) next before.taken);
     }
 
@@ -69,7 +73,8 @@ pub returns-clause-matching : goal.returns-clause-matching
 returns-clause-matching c = λ flows line left lower s less.
     let before = c.loop-ingress.invariant in
     let done : c.loop-ingress.ingress ≡ 0 = omega (arith, c.loop-ingress-test.false) in
-    run_matching flows line left lower c.args.self.now c.loop-ingress.self c.args.units c.requires.whole.sound.ranks c.requires.whole.sound.board before.ranks (subst (λ k. IsRunTaken c.args.self.now c.loop-ingress.self k c.args.units) done before.taken) s less
+    run_matching flows line left lower c.args.self.now c.loop-ingress.self c.args.units c.requires.whole.sound.ranks c.requires.whole.sound.board before.ranks
+    (subst (λ k. IsRunTaken c.args.self.now c.loop-ingress.self k c.args.units) done before.taken) s less
 
 pub returns-clause-whole : goal.returns-clause-whole
 returns-clause-whole c =

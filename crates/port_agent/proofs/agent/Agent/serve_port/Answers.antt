@@ -41,8 +41,12 @@ pub returns-in-Idle-clause-port : goal.returns-in-Idle-clause-port
 returns-in-Idle-clause-port g c =
     let view = ap (λ u. u.view) c.self.view_is in
     let e = (c.in-Idle.ensures.idle _ refl).1 in
-    let v : View = c.self.inside.seat.view in
-    (refl, c.in-Idle.ensures.idle_listed _ refl, subst (λ (z : View). GoesOn z c.draw.new.seat.view []) view (subst (λ (z : View). GoesOn v z []) (sym e) (goes_missed v Rests (v.looks ++ (c.args.port, c.in-Idle._word) ∷ []) c.args.port)))
+    let v : View = c.self.inside.seat.view in (
+      refl,
+      c.in-Idle.ensures.idle_listed _ refl,
+      subst (λ (z : View). GoesOn z c.draw.new.seat.view []) view
+          (subst (λ (z : View). GoesOn v z []) (sym e) (goes_missed v Rests (v.looks ++ (c.args.port, c.in-Idle._word) ∷ []) c.args.port)),
+    )
 
 pub returns-in-Missed-clause-port : goal.returns-in-Missed-clause-port
 returns-in-Missed-clause-port g c =
@@ -52,5 +56,6 @@ returns-in-Missed-clause-port g c =
       refl,
       c.in-Missed.ensures.missed_listed _ _ refl,
       subst (λ (z : View). GoesOn z c.draw.new.seat.view []) view
-          (subst (λ (z : View). GoesOn v z []) (sym e) (goes_missed v Rests ((v.looks ++ (c.args.port, c.in-Missed._loaded) ∷ []) ++ (c.args.port, c.in-Missed._found) ∷ []) c.args.port)),
+          (subst (λ (z : View). GoesOn v z []) (sym e)
+          (goes_missed v Rests ((v.looks ++ (c.args.port, c.in-Missed._loaded) ∷ []) ++ (c.args.port, c.in-Missed._found) ∷ []) c.args.port)),
     )

@@ -11,29 +11,40 @@ use Rattle.port_board.proofs.Posting.{after_back, some_out, one_fewer, carry_pos
 use Rattle.port_board.proofs.board.PortBoard.back.Goals as goal
 
 pub join_seat-requires : goal.join_seat-requires
-join_seat-requires c = (search rules, search rules, c.seat.invariant.0, search rules, takes_agent _ _ _ _ _ _ c.poster.invariant.2 c.poster.invariant.1 c.seat.invariant.2 (ap (λ u. u.view.out) c.seat.view_is ∙ c.requires.reported))
+join_seat-requires c = (
+  search rules,
+  search rules,
+  c.seat.invariant.0,
+  search rules,
+  takes_agent _ _ _ _ _ _ c.poster.invariant.2 c.poster.invariant.1 c.seat.invariant.2 (ap (λ u. u.view.out) c.seat.view_is ∙ c.requires.reported),
+)
 
 pub load-requires : goal.load-requires
-load-requires c = let e = c.join_seat.ensures.2 in (search rules, search rules, learning _ _ _ _ _ (ap (λ (m : M). m.0.kind) e ∙ c.poster.invariant.2) (ap (λ (m : M). m.0.step) e ∙ c.poster.invariant.1))
+load-requires c = let e = c.join_seat.ensures.2 in
+    (search rules, search rules, learning _ _ _ _ _ (ap (λ (m : M). m.0.kind) e ∙ c.poster.invariant.2) (ap (λ (m : M). m.0.step) e ∙ c.poster.invariant.1))
 
 pub overflow_sub-poster : goal.overflow_sub-poster
 overflow_sub-poster c =
     let e = c.join_seat.ensures.2 in
-    some_out c.poster.inside.agents c.poster.inside.posted.items _ c.poster.inside.place.me c.seat.inside.place.me.0 c.poster.invariant (subst (λ (m : M). length m.0.back ≤ m.0.made) e c.load.ensures.2.1)
+    some_out c.poster.inside.agents c.poster.inside.posted.items _ c.poster.inside.place.me c.seat.inside.place.me.0 c.poster.invariant
+    (subst (λ (m : M). length m.0.back ≤ m.0.made) e c.load.ensures.2.1)
 
 pub invariant_of-poster : goal.invariant_of-poster
 invariant_of-poster c =
     let e = c.join_seat.ensures.2 in
-    let out = some_out c.poster.inside.agents c.poster.inside.posted.items _ c.poster.inside.place.me c.seat.inside.place.me.0 c.poster.invariant (subst (λ (m : M). length m.0.back ≤ m.0.made) e c.load.ensures.2.1) in
+    let out = some_out c.poster.inside.agents c.poster.inside.posted.items _ c.poster.inside.place.me c.seat.inside.place.me.0 c.poster.invariant
+    (subst (λ (m : M). length m.0.back ≤ m.0.made) e c.load.ensures.2.1) in
     carry_poster _ _ _ _ _ _ (c.load.ensures.0 ∙ c.join_seat.ensures.0) (c.load.ensures.2.0 ∙ ap (λ (m : M). (looked 0 c.load.result m.0, m.1)) e)
     (after_back c.poster.inside.agents c.poster.inside.posted.items _ 0 c.load.result c.poster.inside.place.me c.seat.inside.place.me.0 c.poster.invariant out)
 
 pub returns-clause-fewer : goal.returns-clause-fewer
 returns-clause-fewer c =
     let e = c.join_seat.ensures.2 in
-    let out = some_out c.poster.inside.agents c.poster.inside.posted.items _ c.poster.inside.place.me c.seat.inside.place.me.0 c.poster.invariant (subst (λ (m : M). length m.0.back ≤ m.0.made) e c.load.ensures.2.1) in
+    let out = some_out c.poster.inside.agents c.poster.inside.posted.items _ c.poster.inside.place.me c.seat.inside.place.me.0 c.poster.invariant
+    (subst (λ (m : M). length m.0.back ≤ m.0.made) e c.load.ensures.2.1) in
     ap (λ (m : M). agents_out m.0 + 1) (c.load.ensures.2.0 ∙ ap (λ (m : M). (looked 0 c.load.result m.0, m.1)) e)
-    ∙ (one_fewer c.poster.inside.agents c.poster.inside.posted.items _ c.poster.inside.place.me c.seat.inside.place.me.0 c.poster.invariant out ∙ ap agents_out (ap (λ u. u.view) c.poster.view_is))
+    ∙ (one_fewer c.poster.inside.agents c.poster.inside.posted.items _ c.poster.inside.place.me c.seat.inside.place.me.0 c.poster.invariant out ∙
+    ap agents_out (ap (λ u. u.view) c.poster.view_is))
 
 pub returns-clause-handed : goal.returns-clause-handed
 returns-clause-handed c =

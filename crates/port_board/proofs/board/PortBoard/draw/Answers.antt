@@ -25,27 +25,37 @@ invariant_of-seat c =
     draw_cases (SeatOk c.seat.inside.ports c.exchange.new.place.table_id.words c.exchange.new.place.me) c.exchange.result
     (λ g is. let d = c.exchange.ensures.drawn g is in
     carry _ _ _ _ _ table (d.3 ∙ ap (λ (m : M). (drawn_now c.args.self.now.ports g c.in-Ok.loaded m.0, m.1)) e)
-    (after_drawn c.seat.inside.ports _ c.args.self.now.ports c.args.port c.in-Ok.loaded c.seat.inside.place.me g c.seat.invariant (subst (λ (t : TableId). g.port + g.port < t.words) c.look.ensures.own (c.exchange.ensures.range g is)) d.1))
+    (after_drawn c.seat.inside.ports _ c.args.self.now.ports c.args.port c.in-Ok.loaded c.seat.inside.place.me g c.seat.invariant
+    (subst (λ (t : TableId). g.port + g.port < t.words) c.look.ensures.own (c.exchange.ensures.range g is)) d.1))
     (λ a b is. let d = c.exchange.ensures.missed a b is in
-    carry _ _ _ _ _ table (d.2 ∙ ap (λ (m : M). (after_miss c.args.port b m.0, m.1)) e) (after_missed c.seat.inside.ports _ c.args.port c.in-Ok.loaded b c.seat.inside.place.me c.seat.invariant))
+    carry _ _ _ _ _ table (d.2 ∙ ap (λ (m : M). (after_miss c.args.port b m.0, m.1)) e)
+    (after_missed c.seat.inside.ports _ c.args.port c.in-Ok.loaded b c.seat.inside.place.me c.seat.invariant))
     c.exchange.ensures.tried
 
 pub invariant_of-seat-in-Err : goal.invariant_of-seat-in-Err
-invariant_of-seat-in-Err c = let e = (c.in-Err.ensures.idle _ refl).1 in carry _ _ _ _ _ c.look.ensures.own e (after_idle c.seat.inside.ports _ c.args.port c.in-Err.word c.seat.inside.place.me c.seat.invariant)
+invariant_of-seat-in-Err c = let e = (c.in-Err.ensures.idle _ refl).1 in
+    carry _ _ _ _ _ c.look.ensures.own e (after_idle c.seat.inside.ports _ c.args.port c.in-Err.word c.seat.inside.place.me c.seat.invariant)
 
 pub returns-in-Ok-clause-drawn : goal.returns-in-Ok-clause-drawn
 returns-in-Ok-clause-drawn c g is =
     let e = (c.in-Ok.ensures.granted _ refl).1 in
     let view = ap (λ u. u.view) c.seat.view_is in
-    let d = c.exchange.ensures.drawn g is in
-    (d.0, ap (λ (m : M). m.0) (d.3 ∙ ap (λ (m : M). (drawn_now c.args.self.now.ports g c.in-Ok.loaded m.0, m.1)) e) ∙ (λ i. drawn_now c.args.self.now.ports g (d.2 i) (loaded_now (sym d.0 i) (d.2 i) (view i))))
+    let d = c.exchange.ensures.drawn g is in (
+      d.0,
+      ap (λ (m : M). m.0) (d.3 ∙ ap (λ (m : M). (drawn_now c.args.self.now.ports g c.in-Ok.loaded m.0, m.1)) e) ∙
+          (λ i. drawn_now c.args.self.now.ports g (d.2 i) (loaded_now (sym d.0 i) (d.2 i) (view i))),
+    )
 
 pub returns-in-Ok-clause-missed : goal.returns-in-Ok-clause-missed
 returns-in-Ok-clause-missed c a b is =
     let e = c.in-Ok.ensures.granted _ refl in
     let view = ap (λ u. u.view) c.seat.view_is in
-    let d = c.exchange.ensures.missed a b is in
-    (subst (λ z. shows_granted z ≡ true) (sym d.0) e.0, (λ x. d.1 (x ∙ d.0)), ap (λ (m : M). m.0) (d.2 ∙ ap (λ (m : M). (after_miss c.args.port b m.0, m.1)) e.1) ∙ (λ i. after_miss c.args.port b (loaded_now c.args.port (sym d.0 i) (view i))))
+    let d = c.exchange.ensures.missed a b is in (
+      subst (λ z. shows_granted z ≡ true) (sym d.0) e.0,
+      (λ x. d.1 (x ∙ d.0)),
+      ap (λ (m : M). m.0) (d.2 ∙ ap (λ (m : M). (after_miss c.args.port b m.0, m.1)) e.1) ∙
+          (λ i. after_miss c.args.port b (loaded_now c.args.port (sym d.0 i) (view i))),
+    )
 
 pub returns-in-Ok-clause-missed_listed : goal.returns-in-Ok-clause-missed_listed
 returns-in-Ok-clause-missed_listed c a b is =
@@ -54,7 +64,8 @@ returns-in-Ok-clause-missed_listed c a b is =
     subst (λ (m : M). LastIsListed c.args.port m.0) (sym (d.2 ∙ ap (λ (m : M). (after_miss c.args.port b m.0, m.1)) e.1)) (listed c.seat.inside.place.me.0 Rests [] c.args.port)
 
 pub returns-in-Err-clause-idle_listed : goal.returns-in-Err-clause-idle_listed
-returns-in-Err-clause-idle_listed c word is = subst (λ (m : M). LastIsListed c.args.port m.0) (sym (c.in-Err.ensures.idle _ refl).1) (listed c.seat.inside.place.me.0 Rests [] c.args.port)
+returns-in-Err-clause-idle_listed c word is =
+    subst (λ (m : M). LastIsListed c.args.port m.0) (sym (c.in-Err.ensures.idle _ refl).1) (listed c.seat.inside.place.me.0 Rests [] c.args.port)
 
 pub returns-in-Ok-clause-held : goal.returns-in-Ok-clause-held
 returns-in-Ok-clause-held c g is = let d = c.exchange.ensures.drawn g is in subst (λ (m : M). Contains m.0.out g) (sym d.3) (Contains-push c.look.new.place.me.0.out g)

@@ -23,10 +23,12 @@ store-requires-2 c =
     let table = ap (λ u. u.at) c.poster.view_is ∙ (c.requires.own ∙ sym (ap (λ u. u.id) c.self.view_is)) in
     let e = c.store.ensures.2 in
     let at = c.count_place-count.ensures ∙ ap (λ z. z + c.args.port) (sym c.self.invariant.1) in
-    let above = subst (λ (m : M). last_slot c.args.port m.0.posts < c.args.slot) (sym e) (subst (λ (v : View). last_slot c.args.port v.posts < c.args.slot) (sym view) c.requires.slot.0) in (
+    let above = subst (λ (m : M). last_slot c.args.port m.0.posts < c.args.slot) (sym e)
+    (subst (λ (v : View). last_slot c.args.port v.posts < c.args.slot) (sym view) c.requires.slot.0) in (
       c.store.ensures.0 ∙ table,
       search rules,
-      posting _ _ _ _ _ _ _ c.args.flow c.args.length (ap (λ (m : M). m.0.kind) e ∙ c.poster.invariant.2) (ap (λ (m : M). m.0.step) e ∙ ap (λ z. Counted z c.args.length) at) (search rules) above
+      posting _ _ _ _ _ _ _ c.args.flow c.args.length (ap (λ (m : M). m.0.kind) e ∙ c.poster.invariant.2) (ap (λ (m : M). m.0.step) e ∙ ap (λ z. Counted z c.args.length) at)
+          (search rules) above
           (c.requires.slot.1, c.requires.flow) c.requires.length.0 c.requires.length.1 (ap (λ z. 2305843009213693952 + (c.args.slot * 1048576 + z)) c.from.ensures),
     )
 
@@ -38,5 +40,7 @@ invariant_of-poster c =
     let g : Grant = grant c.args.port (slot_of word) (flow_of word) c.args.length in
     let went = c.store-2.ensures.2.0 ∙ ap (λ (m : M). (posted_too (grant c.args.port (slot_of word) (flow_of word) (counted m.0.step)) m.0, m.1)) e in
     let new = subst (λ (m : M). is_unsettled c.args.port m.0.posts m.0.settled ≡ true) went c.store-2.ensures.2.1 in
-    let inside = port_in c.args.port (length c.poster.inside.posted.items) c.self.inside.ports c.poster.inside.place.table_id c.self.inside.table.shared.table_id (search rules) c.poster.invariant.4 table c.self.invariant.0 in
-    carry_poster _ _ _ _ _ _ (c.store-2.ensures.0 ∙ c.store.ensures.0) went (after_post c.poster.inside.agents c.poster.inside.posted.items _ c.poster.inside.place.me c.args.port g c.poster.invariant refl inside new)
+    let inside = port_in c.args.port (length c.poster.inside.posted.items) c.self.inside.ports c.poster.inside.place.table_id c.self.inside.table.shared.table_id (search rules)
+    c.poster.invariant.4 table c.self.invariant.0 in
+    carry_poster _ _ _ _ _ _ (c.store-2.ensures.0 ∙ c.store.ensures.0) went
+    (after_post c.poster.inside.agents c.poster.inside.posted.items _ c.poster.inside.place.me c.args.port g c.poster.invariant refl inside new)

@@ -14,7 +14,8 @@ use Rattle.port_board.proofs.Sitting.{SeatOk, in_board, after_report, carry}
 use Rattle.port_board.proofs.board.PortBoard.report.Goals as goal
 
 -- the grant stands among those that the seat has out
-held : (ports : ℕ) (v w : View) (g h : Grant) (words : ℕ) (m : M) → m.0 ≡ w → SeatOk ports words m → h ≡ g → Contains w.out g → Contains m.0.out h × (h.port < ports) × FitsWord h.slot h.flow
+held : (ports : ℕ) (v w : View) (g h : Grant) (words : ℕ) (m : M) → m.0 ≡ w → SeatOk ports words m → h ≡ g → Contains w.out g →
+    Contains m.0.out h × (h.port < ports) × FitsWord h.slot h.flow
 held ports v w g h words m same ok it has =
     let here : Contains m.0.out h = subst (λ (z : View × Grant). Contains z.0.out z.1) (λ i. (sym same i, sym it i)) has in
     let fits = All-contains (λ (g : Grant). (g.port < ports) × FitsWord g.slot g.flow) m.0.out h ok.4 here in
@@ -24,24 +25,32 @@ pub store-requires : goal.store-requires
 store-requires c =
     let g : Grant = grant c.drawn.inside.port c.drawn.inside.slot c.drawn.inside.flow c.drawn.inside.length in
     let view = ap (λ u. u.view) c.seat.view_is in
-    let has = held c.seat.inside.ports c.seat.inside.place.me.0 c.args.seat.now.view c.args.drawn g _ c.seat.inside.place.me view c.seat.invariant c.drawn.view_is c.requires.drawn in
+    let has = held c.seat.inside.ports c.seat.inside.place.me.0 c.args.seat.now.view c.args.drawn g _ c.seat.inside.place.me view c.seat.invariant c.drawn.view_is c.requires.drawn
+    in
     let table = ap (λ u. u.at) c.seat.view_is ∙ (c.requires.own ∙ sym (ap (λ u. u.id) c.self.view_is)) in
-    let range = in_board c.drawn.inside.port c.seat.inside.ports c.self.inside.ports c.self.inside.table.shared.key c.seat.inside.place.table_id c.self.inside.table.shared.table_id has.1 c.seat.invariant.3 table c.self.invariant.0 c.self.invariant.1 in
-    let at = c.count_place-count.ensures ∙ ap (λ z. z + c.drawn.inside.port) range.0 in
-    (table, subst (λ z. z < c.self.inside.table.shared.table_id.words) (sym c.count_place-count.ensures) range.2, counting _ _ _ _ _ _ _ _ g c.seat.invariant.2 c.seat.invariant.1 has.0 refl range.1 at)
+    let range = in_board c.drawn.inside.port c.seat.inside.ports c.self.inside.ports c.self.inside.table.shared.key c.seat.inside.place.table_id c.self.inside.table.shared.table_id
+    has.1 c.seat.invariant.3 table c.self.invariant.0 c.self.invariant.1 in
+    let at = c.count_place-count.ensures ∙ ap (λ z. z + c.drawn.inside.port) range.0 in (
+      table,
+      subst (λ z. z < c.self.inside.table.shared.table_id.words) (sym c.count_place-count.ensures) range.2,
+      counting _ _ _ _ _ _ _ _ g c.seat.invariant.2 c.seat.invariant.1 has.0 refl range.1 at,
+    )
 
 pub store-requires-2 : goal.store-requires-2
 store-requires-2 c =
     let g : Grant = grant c.drawn.inside.port c.drawn.inside.slot c.drawn.inside.flow c.drawn.inside.length in
     let view = ap (λ u. u.view) c.seat.view_is in
-    let has = held c.seat.inside.ports c.seat.inside.place.me.0 c.args.seat.now.view c.args.drawn g _ c.seat.inside.place.me view c.seat.invariant c.drawn.view_is c.requires.drawn in
+    let has = held c.seat.inside.ports c.seat.inside.place.me.0 c.args.seat.now.view c.args.drawn g _ c.seat.inside.place.me view c.seat.invariant c.drawn.view_is c.requires.drawn
+    in
     let table = ap (λ u. u.at) c.seat.view_is ∙ (c.requires.own ∙ sym (ap (λ u. u.id) c.self.view_is)) in
-    let range = in_board c.drawn.inside.port c.seat.inside.ports c.self.inside.ports c.self.inside.table.shared.key c.seat.inside.place.table_id c.self.inside.table.shared.table_id has.1 c.seat.invariant.3 table c.self.invariant.0 c.self.invariant.1 in
+    let range = in_board c.drawn.inside.port c.seat.inside.ports c.self.inside.ports c.self.inside.table.shared.key c.seat.inside.place.table_id c.self.inside.table.shared.table_id
+    has.1 c.seat.invariant.3 table c.self.invariant.0 c.self.invariant.1 in
     let at = c.count_place-count.ensures ∙ ap (λ z. z + c.drawn.inside.port) range.0 in
     let e = c.store.ensures.2 in (
       c.store.ensures.0 ∙ table,
       range.3,
-      reporting _ _ _ _ _ _ c.args.sent _ g (ap (λ (m : M). m.0.kind) e ∙ c.seat.invariant.2) (ap (λ (m : M). m.0.step) e ∙ ap (λ z. Counted z c.args.sent) at) (subst (λ (m : M). Contains m.0.out g) (sym e) has.0) refl range.1
+      reporting _ _ _ _ _ _ c.args.sent _ g (ap (λ (m : M). m.0.kind) e ∙ c.seat.invariant.2) (ap (λ (m : M). m.0.step) e ∙ ap (λ z. Counted z c.args.sent) at)
+          (subst (λ (m : M). Contains m.0.out g) (sym e) has.0) refl range.1
           (ap (λ z. 6917529027641081856 + (c.drawn.inside.slot * 1048576 + z)) c.from.ensures),
     )
 
@@ -49,7 +58,8 @@ pub invariant_of-seat : goal.invariant_of-seat
 invariant_of-seat c =
     let g : Grant = grant c.drawn.inside.port c.drawn.inside.slot c.drawn.inside.flow c.drawn.inside.length in
     let view = ap (λ u. u.view) c.seat.view_is in
-    let has = held c.seat.inside.ports c.seat.inside.place.me.0 c.args.seat.now.view c.args.drawn g _ c.seat.inside.place.me view c.seat.invariant c.drawn.view_is c.requires.drawn in
+    let has = held c.seat.inside.ports c.seat.inside.place.me.0 c.args.seat.now.view c.args.drawn g _ c.seat.inside.place.me view c.seat.invariant c.drawn.view_is c.requires.drawn
+    in
     let e = c.store.ensures.2 in
     let now = subst (λ (m : M). Contains m.0.out g) (sym e) has.0 in
     let word : ℕ → ℕ = λ z. 6917529027641081856 + (c.drawn.inside.slot * 1048576 + z) in
@@ -61,7 +71,8 @@ pub returns-clause-report : goal.returns-clause-report
 returns-clause-report c =
     let g : Grant = grant c.drawn.inside.port c.drawn.inside.slot c.drawn.inside.flow c.drawn.inside.length in
     let view = ap (λ u. u.view) c.seat.view_is in
-    let has = held c.seat.inside.ports c.seat.inside.place.me.0 c.args.seat.now.view c.args.drawn g _ c.seat.inside.place.me view c.seat.invariant c.drawn.view_is c.requires.drawn in
+    let has = held c.seat.inside.ports c.seat.inside.place.me.0 c.args.seat.now.view c.args.drawn g _ c.seat.inside.place.me view c.seat.invariant c.drawn.view_is c.requires.drawn
+    in
     let e = c.store.ensures.2 in
     let now = subst (λ (m : M). Contains m.0.out g) (sym e) has.0 in
     let word : ℕ → ℕ = λ z. 6917529027641081856 + (c.drawn.inside.slot * 1048576 + z) in

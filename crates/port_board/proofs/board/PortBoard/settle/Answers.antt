@@ -22,19 +22,27 @@ invariant_of-poster c =
     let k : M = c.try_settle-answer.new.place.me in
     let fits : (b : Bool) → Type 0 = λ b. PosterFits c.poster.inside.agents (set c.poster.inside.posted.items c.args.port b) c.poster.inside.place.table_id.words k in
     let all = settled_cases (λ r. fits (is_busy r)) c.try_settle-answer.result
-    (λ n is. let t = told.sent n is in after_settled c.poster.inside.agents c.poster.inside.posted.items _ c.poster.inside.place.me k c.args.port _ _ _ _ t.1 c.poster.invariant told.own.1 t.2 inside left t.4)
-    (λ is. let t = told.taken_back is in after_settled c.poster.inside.agents c.poster.inside.posted.items _ c.poster.inside.place.me k c.args.port _ _ _ _ c.poster.inside.place.me.0 c.poster.invariant told.own.1 (inl refl) inside left t.2)
-    (λ w is. let t = told.busy w is in after_busy c.poster.inside.agents c.poster.inside.posted.items _ c.poster.inside.place.me k c.args.port w t.0 c.poster.invariant told.own.1 t.1 inside left t.3) in
+    (λ n is. let t = told.sent n is in
+    after_settled c.poster.inside.agents c.poster.inside.posted.items _ c.poster.inside.place.me k c.args.port _ _ _ _ t.1 c.poster.invariant told.own.1 t.2 inside left t.4)
+    (λ is. let t = told.taken_back is in
+    after_settled c.poster.inside.agents c.poster.inside.posted.items _ c.poster.inside.place.me k c.args.port _ _ _ _ c.poster.inside.place.me.0 c.poster.invariant told.own.1
+    (inl refl) inside left t.2)
+    (λ w is. let t = told.busy w is in
+    after_busy c.poster.inside.agents c.poster.inside.posted.items _ c.poster.inside.place.me k c.args.port w t.0 c.poster.invariant told.own.1 t.1 inside left t.3) in
     carry_poster _ _ _ _ k k told.own.0 refl (subst fits (sym c.is_busy.ensures) all)
 
 -- a settling leaves the lists that it has nothing to do with
-same_lists : (port ports : ℕ) (old k : View) (r : Settled) → ((n : ℕ) → r ≡ Sent n → (word : ℕ) × (before : View) × Tried port old before × (shows_reported word ≡ true) × (k ≡ looked (ports + port) n (settled_as port (Some n) (looked port word before))) × ShowsLast port word old.posts)
+same_lists : (port ports : ℕ) (old k : View) (r : Settled) →
+    ((n : ℕ) → r ≡ Sent n → (word : ℕ) × (before : View) × Tried port old before × (shows_reported word ≡ true) ×
+    (k ≡ looked (ports + port) n (settled_as port (Some n) (looked port word before))) × ShowsLast port word old.posts)
     → (r ≡ TakenBack → (word : ℕ) × (shows_granted word ≡ true) × (k ≡ looked port word (settled_as port None (looked port word old))))
-    → ((word : ℕ) → r ≡ Busy word → (before : View) × Tried port old before × (shows_drawn word ≡ true) × (k ≡ looked port word before)) → (k.back ≡ old.back) × (k.made ≡ old.made) × (k.posts ≡ old.posts)
+    → ((word : ℕ) → r ≡ Busy word → (before : View) × Tried port old before × (shows_drawn word ≡ true) × (k ≡ looked port word before)) →
+    (k.back ≡ old.back) × (k.made ≡ old.made) × (k.posts ≡ old.posts)
 same_lists port ports old k r sent taken busy =
     let P : View → Type 0 = λ z. (z.back ≡ old.back) × (z.made ≡ old.made) × (z.posts ≡ old.posts) in
     settled_cases (λ _. P k) r
-    (λ n is. let t = sent n is in subst P (sym t.4) (tried_is (λ b. P (looked (ports + port) n (settled_as port (Some n) (looked port t.0 b)))) port old t.1 (refl, refl, refl) (λ _. (refl, refl, refl)) t.2))
+    (λ n is. let t = sent n is in subst P (sym t.4)
+    (tried_is (λ b. P (looked (ports + port) n (settled_as port (Some n) (looked port t.0 b)))) port old t.1 (refl, refl, refl) (λ _. (refl, refl, refl)) t.2))
     (λ is. let t = taken is in subst P (sym t.2) (refl, refl, refl))
     (λ w is. let t = busy w is in subst P (sym t.3) (tried_is (λ b. P (looked port w b)) port old t.0 (refl, refl, refl) (λ _. (refl, refl, refl)) t.1))
 
@@ -49,7 +57,8 @@ pub returns-clause-posts : goal.returns-clause-posts
 returns-clause-posts c =
     let view = ap (λ u. u.view) c.poster.view_is in
     let told = c.try_settle-answer.ensures in
-    let t = same_lists c.args.port _ c.poster.inside.place.me.0 c.try_settle-answer.new.place.me.0 c.try_settle-answer.result told.sent told.taken_back told.busy in t.2 ∙ ap (λ (v : View). v.posts) view
+    let t = same_lists c.args.port _ c.poster.inside.place.me.0 c.try_settle-answer.new.place.me.0 c.try_settle-answer.result told.sent told.taken_back told.busy in
+    t.2 ∙ ap (λ (v : View). v.posts) view
 
 pub returns-clause-nobody : goal.returns-clause-nobody
 returns-clause-nobody c g is last =

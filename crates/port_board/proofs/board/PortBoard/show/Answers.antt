@@ -8,5 +8,11 @@ split_seat-note-requires c = (search rules, search rules, makes_note _ _ _ c.pos
 
 pub join_seat-requires : goal.join_seat-requires
 join_seat-requires c =
-    let e = c.split_seat-note.ensures.4 in
-    (search rules, search rules, search rules, search rules, hears_note _ _ _ _ _ _ c.seat.invariant.2 c.seat.invariant.1 (ap (λ (m : M). m.0.kind) e) (ap (λ (m : M). m.0.made) e) (ap (λ (m : M). m.0.back) e))
+    let e = c.split_seat-note.ensures.4 in (
+      search rules,
+      search rules,
+      search rules,
+      search rules,
+      hears_note _ _ _ _ _ _ c.seat.invariant.2 c.seat.invariant.1 (ap (λ (m : M). m.0.kind) e) (ap (λ (m : M). m.0.made) e)
+          (ap (λ (m : M). m.0.back) e),
+    )

@@ -14,13 +14,23 @@ load-loaded-requires c = (search rules, search rules, poster_loading _ _ _ _ _ c
 pub returns-then-loaded-ne-GRANTED-clause-sent : goal.returns-then-loaded-ne-GRANTED-clause-sent
 returns-then-loaded-ne-GRANTED-clause-sent c n is =
     let e = c.load-loaded.ensures.2.0 in
-    let t = c.conclude.ensures.sent n is in
-    (c.load-loaded.result, c.args.place.now.me.0, inl refl, t.0, t.1 ∙ ap (λ (m : M). looked (c.args.self.now.ports + c.args.port) n (settled_as c.args.port (Some n) m.0)) e, (c.load-loaded.ensures.2.1 c.requires.unsettled).2)
+    let t = c.conclude.ensures.sent n is in (
+      c.load-loaded.result,
+      c.args.place.now.me.0,
+      inl refl,
+      t.0,
+      t.1 ∙ ap (λ (m : M). looked (c.args.self.now.ports + c.args.port) n (settled_as c.args.port (Some n) m.0)) e,
+      (c.load-loaded.ensures.2.1 c.requires.unsettled).2,
+    )
 
 pub compare_exchange-found-requires : goal.compare_exchange-found-requires
 compare_exchange-found-requires c =
-    let e = c.load-loaded.ensures.2.0 in
-    (search rules, search rules, taking _ _ _ _ _ _ (ap (λ (m : M). m.0.kind) e ∙ c.requires.poster.0) (ap (λ (m : M). m.0.step) e ∙ step_offered _ _ (eq-eqb _ _ c.if-loaded-ne-GRANTED.false)) (search rules))
+    let e = c.load-loaded.ensures.2.0 in (
+      search rules,
+      search rules,
+      taking _ _ _ _ _ _ (ap (λ (m : M). m.0.kind) e ∙ c.requires.poster.0)
+          (ap (λ (m : M). m.0.step) e ∙ step_offered _ _ (eq-eqb _ _ c.if-loaded-ne-GRANTED.false)) (search rules),
+    )
 
 pub returns-then-found-loaded-clause-nobody : goal.returns-then-found-loaded-clause-nobody
 returns-then-found-loaded-clause-nobody c g is last =
@@ -31,7 +41,12 @@ returns-then-found-loaded-clause-nobody c g is last =
 pub returns-clause-sent : goal.returns-clause-sent
 returns-clause-sent c n is =
     let e = c.load-loaded.ensures.2.0 in
-    let x = c.compare_exchange-found.ensures.2.0 ∙ ap (λ b. (cond b (looked c.args.port c.compare_exchange-found.result (settled_as c.args.port None c.load-loaded.new.seat.me.0)) (seen_by_poster c.args.port c.compare_exchange-found.result c.load-loaded.new.seat.me.0), c.load-loaded.new.seat.me.1)) (ne_eqb _ _ c.if-found-loaded.false) in
+    let x = c.compare_exchange-found.ensures.2.0 ∙
+    ap (λ b. (
+      cond b (looked c.args.port c.compare_exchange-found.result (settled_as c.args.port None c.load-loaded.new.seat.me.0))
+          (seen_by_poster c.args.port c.compare_exchange-found.result c.load-loaded.new.seat.me.0),
+      c.load-loaded.new.seat.me.1,
+    )) (ne_eqb _ _ c.if-found-loaded.false) in
     let t = c.conclude-2.ensures.sent n is in (
       c.compare_exchange-found.result,
       looked c.args.port c.load-loaded.result c.args.place.now.me.0,
@@ -45,14 +60,20 @@ returns-clause-sent c n is =
 pub returns-clause-busy : goal.returns-clause-busy
 returns-clause-busy c word is =
     let e = c.load-loaded.ensures.2.0 in
-    let x = c.compare_exchange-found.ensures.2.0 ∙ ap (λ b. (cond b (looked c.args.port c.compare_exchange-found.result (settled_as c.args.port None c.load-loaded.new.seat.me.0)) (seen_by_poster c.args.port c.compare_exchange-found.result c.load-loaded.new.seat.me.0), c.load-loaded.new.seat.me.1)) (ne_eqb _ _ c.if-found-loaded.false) in
+    let x = c.compare_exchange-found.ensures.2.0 ∙
+    ap (λ b. (
+      cond b (looked c.args.port c.compare_exchange-found.result (settled_as c.args.port None c.load-loaded.new.seat.me.0))
+          (seen_by_poster c.args.port c.compare_exchange-found.result c.load-loaded.new.seat.me.0),
+      c.load-loaded.new.seat.me.1,
+    )) (ne_eqb _ _ c.if-found-loaded.false) in
     let t = c.conclude-2.ensures.busy word is in
     let shown = subst (λ z. shows_drawn z ≡ true) (sym t.0) t.1 in (
       looked c.args.port c.load-loaded.result c.args.place.now.me.0,
       inr (c.load-loaded.result, eq-eqb _ _ c.if-loaded-ne-GRANTED.false, refl),
       shown,
       ap (λ (m : M). m.0) (t.2 ∙ (x ∙ ap (λ (m : M). (seen_by_poster c.args.port c.compare_exchange-found.result m.0, m.1)) e))
-          ∙ (λ i. record (looked c.args.port (sym t.0 i) (looked c.args.port c.load-loaded.result c.args.place.now.me.0)) { step = (step_rests c.args.port c.compare_exchange-found.result t.1 ∙ sym c.requires.poster.1) i }),
+          ∙ (λ i. record (looked c.args.port (sym t.0 i) (looked c.args.port c.load-loaded.result c.args.place.now.me.0))
+          { step = (step_rests c.args.port c.compare_exchange-found.result t.1 ∙ sym c.requires.poster.1) i }),
     )
 
 pub returns-clause-busy_is_posted : goal.returns-clause-busy_is_posted

@@ -9,7 +9,8 @@ invariant_of-self c =
     let s = c.self.inside in
     let k = c.self.invariant in
     subst (λ xs. IsBlocks s.rows s.columns c.fill.new.self.items xs (vec_capacity c.clear.new.self)) (sym c.clear.ensures.items)
-    (blocks_none s.rows s.columns (vec_len s.blocks) (vec_capacity c.clear.new.self) c.fill.new.self.items k.rows_limit k.columns_limit (omega (arith, k.blocks_len)) (c.fill.ensures.items (λ y e. e)) (omega (arith, k.room_is, c.clear.ensures.capacity)))
+    (blocks_none s.rows s.columns (vec_len s.blocks) (vec_capacity c.clear.new.self) c.fill.new.self.items k.rows_limit k.columns_limit (omega (arith, k.blocks_len))
+    (c.fill.ensures.items (λ y e. e)) (omega (arith, k.room_is, c.clear.ensures.capacity)))
 
 pub returns-clause-cells : goal.returns-clause-cells
 returns-clause-cells c =

@@ -14,8 +14,10 @@ returns-then-block c =
     let lc : c.args.column < s.columns = omega (arith, c.requires.column_in, ap (λ (x : CellTable). x.columns) c.self.view_is) in
     let p = c.args.row * width s.columns + c.args.column / 64 in
     let inside = place_in s.rows s.columns s.blocks.items c.args.row c.args.column c.self.invariant.blocks_len lr lc in
-    let none : slice_index s.blocks.items p ≡ no_block = omega (arith, c.index-block.ensures, get_or_default_zero s.blocks.items p c.index-block.result.now inside, c.if-block.true) in
-    sym (none_reads s.rows s.columns s.blocks.items s.numbers.items _ (slice_index s.blocks.items p) (c.args.column % 64) c.self.invariant none) ∙ sym (cell_in_list t c.args.row c.args.column lr lc)
+    let none : slice_index s.blocks.items p ≡ no_block =
+    omega (arith, c.index-block.ensures, get_or_default_zero s.blocks.items p c.index-block.result.now inside, c.if-block.true) in
+    sym (none_reads s.rows s.columns s.blocks.items s.numbers.items _ (slice_index s.blocks.items p) (c.args.column % 64) c.self.invariant none) ∙
+    sym (cell_in_list t c.args.row c.args.column lr lc)
     ∙ ap (λ (x : CellTable). slice_index (cells_in x) (c.args.row * x.columns + c.args.column)) c.self.view_is
 
 pub index-requires : goal.index-requires

@@ -21,7 +21,8 @@ push_reserved-requires c =
     let k = c.loop-count._count in
     let lt : c.args.place < length s.blocks.items = omega (arith, c.requires.place_in, ap (λ (x : CellTable). length x.blocks) c.self.view_is) in
     let fits : c.index.result.now < 2 ^ 32 = search rules in
-    let none : slice_index s.blocks.items c.args.place ≡ no_block = omega (arith, fits, c.index.ensures, get_or_default_zero s.blocks.items c.args.place c.index.result.now lt, c.if-index-lt4294967295.false) in
+    let none : slice_index s.blocks.items c.args.place ≡ no_block =
+    omega (arith, fits, c.index.ensures, get_or_default_zero s.blocks.items c.args.place c.index.result.now lt, c.if-index-lt4294967295.false) in
     let room = room_for_one s.rows s.columns s.blocks.items s.numbers.items (vec_capacity s.numbers) c.args.place c.self.invariant lt none in
     omega (arith, ap length c.loop-count.invariant.numbers, length-append s.numbers.items (replicate k 0), length-replicate {A = ℕ} k 0, c.loop-count.invariant.room, room)
 
@@ -47,11 +48,14 @@ invariant_of-self c =
     let b = c.len-block.result / 64 in
     let lt : place < length s.blocks.items = omega (arith, c.requires.place_in, ap (λ (x : CellTable). length x.blocks) c.self.view_is) in
     let fits : c.index.result.now < 2 ^ 32 = search rules in
-    let none : slice_index s.blocks.items place ≡ no_block = omega (arith, fits, c.index.ensures, get_or_default_zero s.blocks.items place c.index.result.now lt, c.if-index-lt4294967295.false) in
+    let none : slice_index s.blocks.items place ≡ no_block =
+    omega (arith, fits, c.index.ensures, get_or_default_zero s.blocks.items place c.index.result.now lt, c.if-index-lt4294967295.false) in
     let b_is : b * 64 ≡ length s.numbers.items = omega (arith, c.len-block.ensures, c.self.invariant.numbers_len) in
     let end : l._count ≡ 64 = omega arith in
-    blocks_along s.rows s.columns (slice_set s.blocks.items place b) (s.numbers.items ++ replicate 64 0) (vec_capacity s.numbers) l.self-inside.rows l.self-inside.columns (slice_set l.self-inside.blocks.items place b) l.self-inside.numbers.items (vec_capacity l.self-inside.numbers)
-    l.invariant.rows l.invariant.columns (ap (λ xs. slice_set xs place b) l.invariant.blocks) (l.invariant.numbers ∙ ap (λ n. s.numbers.items ++ replicate n 0) end) l.invariant.room
+    blocks_along s.rows s.columns (slice_set s.blocks.items place b) (s.numbers.items ++ replicate 64 0) (vec_capacity s.numbers) l.self-inside.rows l.self-inside.columns
+    (slice_set l.self-inside.blocks.items place b) l.self-inside.numbers.items (vec_capacity l.self-inside.numbers)
+    l.invariant.rows l.invariant.columns (ap (λ xs. slice_set xs place b) l.invariant.blocks) (l.invariant.numbers ∙ ap (λ n. s.numbers.items ++ replicate n 0) end)
+    l.invariant.room
     (blocks_opened s.rows s.columns s.blocks.items s.numbers.items (vec_capacity s.numbers) place b c.self.invariant lt none b_is)
 
 pub returns-clause-size : goal.returns-clause-size
@@ -78,9 +82,11 @@ returns-clause-cells c =
     let t : CellTable = record { rows = s.rows; columns = s.columns; blocks = s.blocks.items; numbers = s.numbers.items } in
     let lt : place < length s.blocks.items = omega (arith, c.requires.place_in, ap (λ (x : CellTable). length x.blocks) c.self.view_is) in
     let fits : c.index.result.now < 2 ^ 32 = search rules in
-    let none : slice_index s.blocks.items place ≡ no_block = omega (arith, fits, c.index.ensures, get_or_default_zero s.blocks.items place c.index.result.now lt, c.if-index-lt4294967295.false) in
+    let none : slice_index s.blocks.items place ≡ no_block =
+    omega (arith, fits, c.index.ensures, get_or_default_zero s.blocks.items place c.index.result.now lt, c.if-index-lt4294967295.false) in
     let b_is : b * 64 ≡ length s.numbers.items = omega (arith, c.len-block.ensures, c.self.invariant.numbers_len) in
     let end : l._count ≡ 64 = omega arith in
-    cells_along s.rows s.columns (slice_set s.blocks.items place b) (s.numbers.items ++ replicate 64 0) l.self-inside.rows l.self-inside.columns (slice_set l.self-inside.blocks.items place b) l.self-inside.numbers.items
+    cells_along s.rows s.columns (slice_set s.blocks.items place b) (s.numbers.items ++ replicate 64 0) l.self-inside.rows l.self-inside.columns
+    (slice_set l.self-inside.blocks.items place b) l.self-inside.numbers.items
     l.invariant.rows l.invariant.columns (ap (λ xs. slice_set xs place b) l.invariant.blocks) (l.invariant.numbers ∙ ap (λ n. s.numbers.items ++ replicate n 0) end)
     ∙ cells_opened t (vec_capacity s.numbers) place b c.self.invariant lt none b_is ∙ ap cells_in c.self.view_is

@@ -10,7 +10,11 @@ open-requires c =
     let lr : c.args.row < s.rows = omega (arith, c.requires.row_in, ap (λ (x : CellTable). x.rows) c.self.view_is) in
     let lc : c.args.column < s.columns = omega (arith, c.requires.column_in, ap (λ (x : CellTable). x.columns) c.self.view_is) in
     record {
-      place_in = omega (arith, place_in s.rows s.columns s.blocks.items c.args.row c.args.column c.self.invariant.blocks_len lr lc, ap (λ (x : CellTable). length x.blocks) c.self.view_is);
+      place_in = omega (
+        arith,
+        place_in s.rows s.columns s.blocks.items c.args.row c.args.column c.self.invariant.blocks_len lr lc,
+        ap (λ (x : CellTable). length x.blocks) c.self.view_is,
+      );
     }
 
 pub set_in-requires-clause-place_is : goal.set_in-requires-clause-place_is

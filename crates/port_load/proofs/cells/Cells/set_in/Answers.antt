@@ -16,10 +16,12 @@ returns-clause-cells c =
     let lc : column < s.columns = omega (arith, c.requires.column_in, ap (λ (x : CellTable). x.columns) c.self.view_is) in
     let p = row * width s.columns + column / 64 in
     let place : c.args.place ≡ p = c.requires.place_is ∙ sym (ap (λ (x : CellTable). row * width x.columns + column / 64) c.self.view_is) in
-    let there : slice_index s.blocks.items p ≢ no_block = λ e. c.requires.there (sym (ap (λ (x : CellTable). slice_index x.blocks c.args.place) c.self.view_is) ∙ ap (slice_index s.blocks.items) place ∙ e) in
+    let there : slice_index s.blocks.items p ≢ no_block =
+    λ e. c.requires.there (sym (ap (λ (x : CellTable). slice_index x.blocks c.args.place) c.self.view_is) ∙ ap (slice_index s.blocks.items) place ∙ e) in
     let inside = place_in s.rows s.columns s.blocks.items row column c.self.invariant.blocks_len lr lc in
     let lp : c.args.place < length s.blocks.items = omega (arith, inside, place) in
-    let block : c.index.result.now ≡ slice_index s.blocks.items p = c.index.ensures ∙ get_or_default_zero s.blocks.items c.args.place c.index.result.now lp ∙ ap (slice_index s.blocks.items) place in
+    let block : c.index.result.now ≡ slice_index s.blocks.items p = c.index.ensures ∙ get_or_default_zero s.blocks.items c.args.place c.index.result.now lp ∙
+    ap (slice_index s.blocks.items) place in
     let q : 64 * c.index.result.now + column % 64 ≡ slice_index s.blocks.items p * 64 + column % 64 = omega (arith, block) in
     cells_set t _ row column (64 * c.index.result.now + column % 64) c.args.number c.self.invariant lr lc there q
     ∙ ap (λ (x : CellTable). slice_set (cells_in x) (row * x.columns + column) c.args.number) c.self.view_is

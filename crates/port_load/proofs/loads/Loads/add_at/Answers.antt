@@ -14,17 +14,20 @@ overflow_add-load c =
     let row = c.row_of-row.result in
     let kept = c.self.invariant.kept in
     let lc = coflow_inside c.args.self.now s.coflows s.ports (cells_in s.cells) c.args.coflow c.self.view_is c.requires.coflow_in in
-    let total = total_fits c.args.self.now s.coflows s.ports (cells_in s.cells) s.totals.items s.by_port s.by_coflow c.args.port row c.args.units (2 ^ 64) kept c.self.view_is c.row_of-row.ensures.row
+    let total = total_fits c.args.self.now s.coflows s.ports (cells_in s.cells) s.totals.items s.by_port s.by_coflow c.args.port row c.args.units (2 ^ 64) kept c.self.view_is
+    c.row_of-row.ensures.row
     c.row_of-row.ensures.within c.requires.units_fit in
     let cell = cell_within s.coflows s.ports (cells_in s.cells) s.totals.items s.by_port s.by_coflow row c.args.coflow kept c.row_of-row.ensures.within lc in
-    let got : c.get.result ≡ slice_index (cells_in s.cells) (row * s.coflows + c.args.coflow) = c.get.ensures ∙ ap (λ n. slice_index (cells_in s.cells) (row * n + c.args.coflow)) c.self.invariant.columns in
+    let got : c.get.result ≡ slice_index (cells_in s.cells) (row * s.coflows + c.args.coflow) =
+    c.get.ensures ∙ ap (λ n. slice_index (cells_in s.cells) (row * n + c.args.coflow)) c.self.invariant.columns in
     omega (arith, got, cell, total)
 
 pub overflow_add-index_mut : goal.overflow_add-index_mut
 overflow_add-index_mut c =
     let s = c.self.inside in
     let row = c.row_of-row.result in
-    let total = total_fits c.args.self.now s.coflows s.ports (cells_in s.cells) s.totals.items s.by_port s.by_coflow c.args.port row c.args.units (2 ^ 64) c.self.invariant.kept c.self.view_is c.row_of-row.ensures.row
+    let total = total_fits c.args.self.now s.coflows s.ports (cells_in s.cells) s.totals.items s.by_port s.by_coflow c.args.port row c.args.units (2 ^ 64) c.self.invariant.kept
+    c.self.view_is c.row_of-row.ensures.row
     c.row_of-row.ensures.within c.requires.units_fit in
     let read = get_or_default_zero s.totals.items row c.index_mut.result.now (omega (arith, c.row_of-row.ensures.within, c.self.invariant.kept.totals_len)) in
     omega (arith, read, c.index_mut.ensures.value, total)
@@ -35,11 +38,13 @@ invariant_of-self c =
     let row = c.row_of-row.result in
     let kept = c.self.invariant.kept in
     let lc = coflow_inside c.args.self.now s.coflows s.ports (cells_in s.cells) c.args.coflow c.self.view_is c.requires.coflow_in in
-    let got : c.get.result ≡ slice_index (cells_in s.cells) (row * s.coflows + c.args.coflow) = c.get.ensures ∙ ap (λ n. slice_index (cells_in s.cells) (row * n + c.args.coflow)) c.self.invariant.columns in
+    let got : c.get.result ≡ slice_index (cells_in s.cells) (row * s.coflows + c.args.coflow) =
+    c.get.ensures ∙ ap (λ n. slice_index (cells_in s.cells) (row * n + c.args.coflow)) c.self.invariant.columns in
     let set : cells_in c.set.new.self ≡ slice_set (cells_in s.cells) (row * s.coflows + c.args.coflow) (c.get.result + c.args.units) =
     c.set.ensures.cells ∙ ap (λ n. slice_set (cells_in s.cells) (row * n + c.args.coflow) (c.get.result + c.args.units)) c.self.invariant.columns in
     let total = c.index_mut.ensures.value ∙ get_or_default_zero s.totals.items row c.index_mut.result.now (omega (arith, c.row_of-row.ensures.within, kept.totals_len)) in
-    let more = kept_more s.coflows s.ports (cells_in s.cells) s.totals.items s.by_port s.by_coflow c.mark.new.self c.mark-2.new.self row c.args.coflow c.args.units c.get.result c.index_mut.result.now kept
+    let more = kept_more s.coflows s.ports (cells_in s.cells) s.totals.items s.by_port s.by_coflow c.mark.new.self c.mark-2.new.self row c.args.coflow c.args.units c.get.result
+    c.index_mut.result.now kept
     c.row_of-row.ensures.within lc got total record { shape = c.mark.ensures.shape; marked = c.mark.ensures.marked; others = c.mark.ensures.others }
     record { shape = c.mark-2.ensures.shape; marked = c.mark-2.ensures.marked; others = c.mark-2.ensures.others } in
     record {
@@ -53,11 +58,13 @@ returns-clause-added c =
     let s = c.self.inside in
     let row = c.row_of-row.result in
     let lc = coflow_inside c.args.self.now s.coflows s.ports (cells_in s.cells) c.args.coflow c.self.view_is c.requires.coflow_in in
-    let got : c.get.result ≡ slice_index (cells_in s.cells) (row * s.coflows + c.args.coflow) = c.get.ensures ∙ ap (λ n. slice_index (cells_in s.cells) (row * n + c.args.coflow)) c.self.invariant.columns in
+    let got : c.get.result ≡ slice_index (cells_in s.cells) (row * s.coflows + c.args.coflow) =
+    c.get.ensures ∙ ap (λ n. slice_index (cells_in s.cells) (row * n + c.args.coflow)) c.self.invariant.columns in
     let set : cells_in c.set.new.self ≡ slice_set (cells_in s.cells) (row * s.coflows + c.args.coflow) (c.get.result + c.args.units) =
     c.set.ensures.cells ∙ ap (λ n. slice_set (cells_in s.cells) (row * n + c.args.coflow) (c.get.result + c.args.units)) c.self.invariant.columns in
     ap (λ xs. load_at (table_of s.coflows s.ports xs) c.args.coflow c.args.port) set
-    ∙ written_same (cells_in s.cells) s.coflows (s.ports + s.ports) row c.args.coflow (port_place s.ports c.args.port) (c.get.result + c.args.units) c.self.invariant.kept.cells_len c.row_of-row.ensures.within lc
+    ∙ written_same (cells_in s.cells) s.coflows (s.ports + s.ports) row c.args.coflow (port_place s.ports c.args.port) (c.get.result + c.args.units) c.self.invariant.kept.cells_len
+    c.row_of-row.ensures.within lc
     (sym c.row_of-row.ensures.row)
     ∙ ap (λ n. n + c.args.units) (got ∙ cell_is c.args.self.now s.coflows s.ports (cells_in s.cells) c.args.coflow row c.args.port c.self.view_is c.row_of-row.ensures.row)
 

@@ -12,7 +12,8 @@ invariant_of-self c =
     record {
       rows = c.clear.ensures.size.rows ∙ c.self.invariant.rows;
       columns = c.clear.ensures.size.columns ∙ c.self.invariant.columns;
-      kept = kept_nought s.coflows s.ports (s.cells.rows * s.cells.columns) (vec_len s.totals) (cells_in c.clear.new.self) c.fill.new.self.items c.clear-2.new.self c.clear-3.new.self k.coflows_limit k.has_ports k.ports_limit
+      kept = kept_nought s.coflows s.ports (s.cells.rows * s.cells.columns) (vec_len s.totals) (cells_in c.clear.new.self) c.fill.new.self.items c.clear-2.new.self
+          c.clear-3.new.self k.coflows_limit k.has_ports k.ports_limit
           c.clear.ensures.cells (ap₂ (λ (a b : ℕ). a * b) c.self.invariant.rows c.self.invariant.columns) (c.fill.ensures.items (λ y e. e)) (omega (arith, k.totals_len))
           record { rows_are = c.clear-2.ensures.shape.rows ∙ k.port_rows; columns_are = c.clear-2.ensures.shape.columns ∙ k.port_columns }
           record { rows_are = c.clear-3.ensures.shape.rows ∙ k.coflow_rows; columns_are = c.clear-3.ensures.shape.columns ∙ k.coflow_columns };

@@ -27,10 +27,12 @@ invariant_of-self c =
     let s = c.self.inside in
     let new = c.clear_column.new in
     let lc = coflow_inside c.args.self.now s.coflows s.ports (cells_in s.cells) c.args.coflow c.self.view_is c.requires in
-    let along = cleared_along (cells_in s.cells) c.deref_mut.result.now (cells_in s.cells) s.totals.items (cells_in new.cells) new.totals s.cells.columns c.args.coflow refl c.deref_mut.ensures.value c.clear_column.ensures.cleared in
+    let along = cleared_along (cells_in s.cells) c.deref_mut.result.now (cells_in s.cells) s.totals.items (cells_in new.cells) new.totals s.cells.columns c.args.coflow refl
+    c.deref_mut.ensures.value c.clear_column.ensures.cleared in
     let cleared = subst (λ n. IsColumnCleared (cells_in s.cells) s.totals.items (cells_in new.cells) new.totals n c.args.coflow) c.self.invariant.columns along in
     let totals = with_items_is s.totals new.totals (omega (arith, cleared.totals_len)) in
-    let kept = kept_less s.coflows s.ports (cells_in s.cells) s.totals.items (cells_in new.cells) new.totals s.by_port s.by_coflow c.args.coflow c.self.invariant.kept lc cleared.cells_len cleared.totals_len cleared.gone
+    let kept = kept_less s.coflows s.ports (cells_in s.cells) s.totals.items (cells_in new.cells) new.totals s.by_port s.by_coflow c.args.coflow c.self.invariant.kept lc
+    cleared.cells_len cleared.totals_len cleared.gone
     cleared.others cleared.taken in
     record {
       rows = c.clear_column.ensures.size.rows ∙ c.self.invariant.rows;
@@ -42,9 +44,11 @@ pub returns-clause-dropped : goal.returns-clause-dropped
 returns-clause-dropped c =
     let s = c.self.inside in
     let new = c.clear_column.new in
-    let along = cleared_along (cells_in s.cells) c.deref_mut.result.now (cells_in s.cells) s.totals.items (cells_in new.cells) new.totals s.cells.columns c.args.coflow refl c.deref_mut.ensures.value c.clear_column.ensures.cleared in
+    let along = cleared_along (cells_in s.cells) c.deref_mut.result.now (cells_in s.cells) s.totals.items (cells_in new.cells) new.totals s.cells.columns c.args.coflow refl
+    c.deref_mut.ensures.value c.clear_column.ensures.cleared in
     let cleared = subst (λ n. IsColumnCleared (cells_in s.cells) s.totals.items (cells_in new.cells) new.totals n c.args.coflow) c.self.invariant.columns along in
-    drops_one c.args.self.now s.coflows s.ports (cells_in s.cells) (cells_in new.cells) c.args.coflow (length s.totals.items) c.self.view_is c.self.invariant.kept.totals_len cleared.gone cleared.others
+    drops_one c.args.self.now s.coflows s.ports (cells_in s.cells) (cells_in new.cells) c.args.coflow (length s.totals.items) c.self.view_is c.self.invariant.kept.totals_len
+    cleared.gone cleared.others
 
 pub returns-clause-anew : goal.returns-clause-anew
 returns-clause-anew c = λ flows has.

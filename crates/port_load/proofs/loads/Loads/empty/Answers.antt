@@ -9,8 +9,10 @@ pub invariant_of-result : goal.invariant_of-result
 invariant_of-result c = record {
   rows = c.in_ok-cells.ensures.rows_are ∙ omega arith;
   columns = c.in_ok-cells.ensures.columns_are;
-  kept = kept_nought c.args.coflows c.args.ports ((2 * c.args.ports) * c.args.coflows) (2 * c.args.ports) (cells_in c.in_ok-cells.cells) c.in_ok-totals.totals.items c.in_ok-by_port.by_port c.in_ok-by_coflow.by_coflow
-      c.requires.coflows_limit c.requires.has_ports c.requires.ports_limit c.in_ok-cells.ensures.cells (omega arith) (c.in_ok-totals.ensures.items_if_clones_equal (λ y e. e)) (omega arith)
+  kept = kept_nought c.args.coflows c.args.ports ((2 * c.args.ports) * c.args.coflows) (2 * c.args.ports) (cells_in c.in_ok-cells.cells) c.in_ok-totals.totals.items
+      c.in_ok-by_port.by_port c.in_ok-by_coflow.by_coflow
+      c.requires.coflows_limit c.requires.has_ports c.requires.ports_limit c.in_ok-cells.ensures.cells (omega arith) (c.in_ok-totals.ensures.items_if_clones_equal (λ y e. e))
+      (omega arith)
       record { rows_are = c.in_ok-by_port.ensures.rows_are ∙ omega arith; columns_are = c.in_ok-by_port.ensures.columns_are }
       record { rows_are = c.in_ok-by_coflow.ensures.rows_are; columns_are = c.in_ok-by_coflow.ensures.columns_are ∙ omega arith };
 }

@@ -14,18 +14,26 @@ pub add-requires-clause-units : goal.add-requires-clause-units
 add-requires-clause-units c = λ port lp.
     let k = c.loop-number.number in
     let lt : k < length c.args.flows.now = omega arith in
-    omega (arith, fill_fits c.args.self.now c.loop-number.self c.args.flows.now c.args.left.now c.args.present.now k (2 ^ 62) c.loop-number.invariant lt c.requires.left_len c.requires.units port lp)
+    omega (
+      arith,
+      fill_fits c.args.self.now c.loop-number.self c.args.flows.now c.args.left.now c.args.present.now k (2 ^ 62) c.loop-number.invariant lt c.requires.left_len
+          c.requires.units port lp,
+    )
 
 pub loop-number-preserved : goal.loop-number-preserved
 loop-number-preserved c =
     let k = c.loop-number.number in
     let lt : k < length c.args.flows.now = omega arith in
-    fill_add c.args.self.now c.loop-number.self c.add.new.self c.args.flows.now c.args.left.now c.args.present.now k c.loop-number.invariant lt c.if-not-present-flow.false c.add.ensures.size c.add.ensures.adds
+    fill_add c.args.self.now c.loop-number.self c.add.new.self c.args.flows.now c.args.left.now c.args.present.now k c.loop-number.invariant lt c.if-not-present-flow.false
+    c.add.ensures.size c.add.ensures.adds
 
 pub returns-clause-present_are : goal.returns-clause-present_are
 returns-clause-present_are c = λ coflow port lc lp t.
     c.loop-number.invariant.present_are coflow port lc lp t
-    ∙ ap (λ xs. load xs coflow port) (take_all c.loop-number.number (flows_left c.args.left.now c.args.flows.now) (omega (arith, same_length (λ f. slice_index c.args.left.now f) c.args.flows.now)))
+    ∙ ap (λ xs. load xs coflow port)
+    (take_all c.loop-number.number (flows_left c.args.left.now c.args.flows.now) (omega (arith, same_length (λ f. slice_index c.args.left.now f) c.args.flows.now)))
 
 pub returns-clause-totals_within : goal.returns-clause-totals_within
-returns-clause-totals_within c = filled_within c.args.self.now c.loop-number.self c.args.flows.now c.args.left.now c.args.present.now c.loop-number.number c.loop-number.invariant (omega arith) c.requires.left_len
+returns-clause-totals_within c =
+    filled_within c.args.self.now c.loop-number.self c.args.flows.now c.args.left.now c.args.present.now c.loop-number.number c.loop-number.invariant (omega arith)
+    c.requires.left_len

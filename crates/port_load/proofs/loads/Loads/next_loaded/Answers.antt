@@ -12,7 +12,8 @@ marked-init c =
     record {
       after = e.after;
       within = omega (arith, e.within, c.self.invariant.kept.port_columns);
-      none = λ k le lt. none_at_port c.args.self.now s.coflows s.ports (cells_in s.cells) s.totals.items s.by_port s.by_coflow c.args.port c.row_of-row.result k c.self.invariant.kept c.self.view_is c.row_of-row.ensures.row c.row_of-row.ensures.within
+      none = λ k le lt. none_at_port c.args.self.now s.coflows s.ports (cells_in s.cells) s.totals.items s.by_port s.by_coflow c.args.port c.row_of-row.result k
+          c.self.invariant.kept c.self.view_is c.row_of-row.ensures.row c.row_of-row.ensures.within
           (omega (arith, lt, e.within, c.self.invariant.kept.port_columns)) (e.none k le lt);
     }
 
@@ -24,7 +25,8 @@ marked-preserved c =
     let row = c.row_of-row.result in
     let read : slice_index (cells_in s.cells) (row * s.coflows + at) ≡ 0 =
     omega (arith, c.if-get-gt0.false, c.get.ensures, ap (λ n. slice_index (cells_in s.cells) (row * n + at)) c.self.invariant.columns) in
-    let here : load_at c.args.self.now at c.args.port ≡ 0 = sym (cell_is c.args.self.now s.coflows s.ports (cells_in s.cells) at row c.args.port c.self.view_is c.row_of-row.ensures.row) ∙ read in
+    let here : load_at c.args.self.now at c.args.port ≡ 0 =
+    sym (cell_is c.args.self.now s.coflows s.ports (cells_in s.cells) at row c.args.port c.self.view_is c.row_of-row.ensures.row) ∙ read in
     record {
       after = omega (arith, e.after, c.marked.invariant.after);
       within = omega (arith, e.within, c.self.invariant.kept.port_columns);
@@ -32,7 +34,8 @@ marked-preserved c =
         | inl old ↦ c.marked.invariant.none k le old
         | inr new ↦ elim (cases_eq k at) [
           | inl same ↦ ap (λ j. load_at c.args.self.now j c.args.port) same ∙ here
-          | inr ne ↦ none_at_port c.args.self.now s.coflows s.ports (cells_in s.cells) s.totals.items s.by_port s.by_coflow c.args.port row k c.self.invariant.kept c.self.view_is c.row_of-row.ensures.row c.row_of-row.ensures.within
+          | inr ne ↦ none_at_port c.args.self.now s.coflows s.ports (cells_in s.cells) s.totals.items s.by_port s.by_coflow c.args.port row k c.self.invariant.kept c.self.view_is
+              c.row_of-row.ensures.row c.row_of-row.ensures.within
               (omega (arith, lt, e.within, c.self.invariant.kept.port_columns)) (e.none k (omega (arith, ne)) lt)
         ]
       ];

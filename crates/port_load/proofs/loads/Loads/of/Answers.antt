@@ -28,7 +28,8 @@ loop-flow-preserved c =
       loads_are = λ coflow port lc lp.
           let lc' = subst (λ n. coflow < n) size.coflows lc in
           let lp' = subst (λ n. port.number < n) size.ports lp in
-          c.add.ensures.adds coflow port lc' lp' ∙ ap (λ n. n + (if loads coflow port (flow_at flows k) then (flow_at flows k).units else 0)) (c.loop-flow.invariant.loads_are coflow port lc' lp')
+          c.add.ensures.adds coflow port lc' lp' ∙
+          ap (λ n. n + (if loads coflow port (flow_at flows k) then (flow_at flows k).units else 0)) (c.loop-flow.invariant.loads_are coflow port lc' lp')
           ∙ sym (load_more flows k coflow port record { coflow = 0; ingress = 0; egress = 0; units = 0 } lt);
     }
 

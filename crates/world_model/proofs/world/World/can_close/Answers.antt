@@ -28,4 +28,5 @@ returns-clause-may c =
     let w = c.args.self.now in
     let ends : w.opening.table.ports ≤ c.loop-port.port = search rules in
     let opens : Some c.in-Some.slots ≡ slots_of (run_of w) = search rules in
-    sym (all_done_true (run_of w) (λ r port. is_done w.opening r port (port_at w port)) w.opening.table.ports c.in-Some.slots opens (λ p lt. c.loop-port.invariant p (omega (arith, lt, ends))))
+    sym (all_done_true (run_of w) (λ r port. is_done w.opening r port (port_at w port)) w.opening.table.ports c.in-Some.slots opens
+    (λ p lt. c.loop-port.invariant p (omega (arith, lt, ends))))

@@ -18,8 +18,10 @@ invariant_of-self c =
     let waits = sym c.is_granted.ensures ∙ c.if-not-is_granted.false in
     let may = may_draw i.master i.agents i.ports.items i.sent.items c.args.agent c.args.port c.index.result.now c.self.invariant.0 low few c.index.ensures waits in
     let x = c.index_mut.result.now in (
-      subst IsWorld (sym (drawn_world i.master i.agents i.ports.items i.sent.items c.args.agent c.args.port x c.self.invariant.0 low c.index_mut.ensures.value)) (draw_keeps w c.args.agent c.args.port c.self.invariant.0 may),
-      tells_stays i.master i.agents i.ports.items i.sent.items c.args.port x (record x { stage = Drawn c.args.agent }) c.self.invariant.0 c.self.invariant.1 low c.index_mut.ensures.value refl refl,
+      subst IsWorld (sym (drawn_world i.master i.agents i.ports.items i.sent.items c.args.agent c.args.port x c.self.invariant.0 low c.index_mut.ensures.value))
+          (draw_keeps w c.args.agent c.args.port c.self.invariant.0 may),
+      tells_stays i.master i.agents i.ports.items i.sent.items c.args.port x (record x { stage = Drawn c.args.agent }) c.self.invariant.0 c.self.invariant.1 low
+          c.index_mut.ensures.value refl refl,
     )
 
 pub returns-clause-world : goal.returns-clause-world
@@ -32,5 +34,6 @@ returns-clause-world c =
     let may = may_draw i.master i.agents i.ports.items i.sent.items c.args.agent c.args.port c.index.result.now c.self.invariant.0 low few c.index.ensures waits in
     let is = drawn_world i.master i.agents i.ports.items i.sent.items c.args.agent c.args.port c.index_mut.result.now c.self.invariant.0 low c.index_mut.ensures.value in
     let x = c.index_mut.result.now in
-    subst (λ (v : WorldFacts). world_facts i.master i.agents (slice_set i.ports.items c.args.port (record x { stage = Drawn c.args.agent })) i.sent.items ≡ world_after v (Draw c.args.agent c.args.port)) c.self.view_is
+    subst (λ (v : WorldFacts). world_facts i.master i.agents (slice_set i.ports.items c.args.port (record x { stage = Drawn c.args.agent })) i.sent.items ≡
+    world_after v (Draw c.args.agent c.args.port)) c.self.view_is
     (stepped w (world_facts i.master i.agents (slice_set i.ports.items c.args.port (record x { stage = Drawn c.args.agent })) i.sent.items) (Draw c.args.agent c.args.port) may is)

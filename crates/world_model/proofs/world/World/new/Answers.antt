@@ -10,7 +10,8 @@ invariant_of-result c =
     let m = c.args.master in
     let ports : c.ports.result ≡ m.opening.table.ports = search rules in
     let all = c.in_ok-ports.ensures.items_if_clones_equal (λ y e. e) in (
-      subst IsWorld (sym (new_facts m c.args.agents c.ports.result c.in_ok-ports.ports.items c.new.result.items c.idle.result c.requires ports all c.idle.ensures.port c.new.ensures.items))
+      subst IsWorld (sym (new_facts m c.args.agents c.ports.result c.in_ok-ports.ports.items c.new.result.items c.idle.result c.requires ports all c.idle.ensures.port
+          c.new.ensures.items))
           (new_is_world m.opening c.args.agents c.journal.ensures.opening),
       tells_new c.ports.result c.in_ok-ports.ports.items c.new.result.items c.idle.result all c.idle.ensures.sent c.new.ensures.items,
     )

@@ -21,7 +21,8 @@ carry_out-requires-clause-keeps c =
     let p = c.args.port in
     let low : p < m.opening.table.ports = search rules in
     let opens : Some c.in-Some.slots ≡ slots_of (state_of m.opening m.journal).run = sym c.in-Some.is ∙ c.open_slots.ensures in
-    let may = may_note m i.agents xs i.sent.items p c.in-Some.slots c.in-Some-settled.units c.index.result.now c.self.invariant.0 low c.index.ensures opens c.in-Some-settled.is c.if-units-slots.false in
+    let may = may_note m i.agents xs i.sent.items p c.in-Some.slots c.in-Some-settled.units c.index.result.now c.self.invariant.0 low c.index.ensures opens c.in-Some-settled.is
+    c.if-units-slots.false in
     let noted = noted_units m i.agents xs i.sent.items p c.in-Some-settled.units c.index.result.now c.self.invariant.0 low c.index.ensures c.in-Some-settled.is in
     subst (λ (v : WorldFacts). IsWorld (asks v 0 (Short p c.in-Some-settled.units))) c.self.view_is
     (subst (λ (k : Command). IsWorld (asks w 0 k)) (sym noted) (note_keeps w p c.self.invariant.0 may))
@@ -35,7 +36,9 @@ returns-clause-world c =
     let p = c.args.port in
     let low : p < m.opening.table.ports = search rules in
     let opens : Some c.in-Some.slots ≡ slots_of (state_of m.opening m.journal).run = sym c.in-Some.is ∙ c.open_slots.ensures in
-    let may = may_note m i.agents xs i.sent.items p c.in-Some.slots c.in-Some-settled.units c.index.result.now c.self.invariant.0 low c.index.ensures opens c.in-Some-settled.is c.if-units-slots.false in
+    let may = may_note m i.agents xs i.sent.items p c.in-Some.slots c.in-Some-settled.units c.index.result.now c.self.invariant.0 low c.index.ensures opens c.in-Some-settled.is
+    c.if-units-slots.false in
     let noted = noted_units m i.agents xs i.sent.items p c.in-Some-settled.units c.index.result.now c.self.invariant.0 low c.index.ensures c.in-Some-settled.is in
     let is = ap (λ (k : Command). asks w 0 k) noted in
-    c.carry_out.ensures.world ∙ subst (λ (v : WorldFacts). asks v 0 (Short p c.in-Some-settled.units) ≡ world_after v (Note p)) c.self.view_is (stepped w (asks w 0 (Short p c.in-Some-settled.units)) (Note p) may is)
+    c.carry_out.ensures.world ∙ subst (λ (v : WorldFacts). asks v 0 (Short p c.in-Some-settled.units) ≡ world_after v (Note p)) c.self.view_is
+    (stepped w (asks w 0 (Short p c.in-Some-settled.units)) (Note p) may is)

@@ -6,7 +6,8 @@ use Rattle.world_model.proofs.world.World.play.Goals as goal
 
 pub loop-event-preserved : goal.loop-event-preserved
 loop-event-preserved c =
-    goes_on (new_world c.args.master.opening c.args.agents) c.loop-event.world c.step.new.self c.args.events.now c.loop-event.event-index _ c.loop-event-test.true c.loop-event.invariant
+    goes_on (new_world c.args.master.opening c.args.agents) c.loop-event.world c.step.new.self c.args.events.now c.loop-event.event-index _ c.loop-event-test.true
+    c.loop-event.invariant
     (c.step.ensures.world c.in_default.not-NoMemory)
 
 pub returns-clause-legal : goal.returns-clause-legal

@@ -21,7 +21,8 @@ returns-then-last-first-clause-answer c =
     let w = world_facts m i.agents xs i.sent.items in
     let p = c.args.port in
     let low : p < m.opening.table.ports = search rules in
-    let not = posted_before m i.agents xs i.sent.items p c.next_slot-first.result c.index-last.result.now c.self.invariant.0 low c.index-last.ensures c.next_slot-first.ensures c.if-last-first.true in
+    let not = posted_before m i.agents xs i.sent.items p c.next_slot-first.result c.index-last.result.now c.self.invariant.0 low c.index-last.ensures c.next_slot-first.ensures
+    c.if-last-first.true in
     subst (λ (v : WorldFacts). Blocked ≡ happened v (Post p)) c.self.view_is (blocked w (Post p) not)
 
 pub returns-then-last-first-clause-world : goal.returns-then-last-first-clause-world
@@ -32,7 +33,8 @@ returns-then-last-first-clause-world c =
     let w = world_facts m i.agents xs i.sent.items in
     let p = c.args.port in
     let low : p < m.opening.table.ports = search rules in
-    let not = posted_before m i.agents xs i.sent.items p c.next_slot-first.result c.index-last.result.now c.self.invariant.0 low c.index-last.ensures c.next_slot-first.ensures c.if-last-first.true in
+    let not = posted_before m i.agents xs i.sent.items p c.next_slot-first.result c.index-last.result.now c.self.invariant.0 low c.index-last.ensures c.next_slot-first.ensures
+    c.if-last-first.true in
     subst (λ (v : WorldFacts). v ≡ world_after v (Post p)) c.self.view_is (stays w (Post p) not)
 
 pub invariant_of-self : goal.invariant_of-self
@@ -45,10 +47,13 @@ invariant_of-self c =
     let low : p < m.opening.table.ports = search rules in
     let opens : Some c.in-Some.slots ≡ slots_of (state_of m.opening m.journal).run = sym c.in-Some.is ∙ c.open_slots.ensures in
     let there : Some c.in-Some-granted.flow ≡ flow_at m.opening.table.flows (state_of m.opening m.journal).run p = sym c.in-Some-granted.is ∙ c.granted.ensures in
-    let may = may_post m i.agents xs i.sent.items p c.in-Some.slots c.in-Some-granted.flow c.next_slot-first.result c.index-last.result.now c.self.invariant.0 low c.index-last.ensures opens there c.next_slot-first.ensures c.if-last-first.false in
-    let is = posted_world m i.agents xs i.sent.items p c.in-Some.slots c.in-Some-granted.flow c.next_slot-first.result c.index-last.result.now c.self.invariant.0 low c.index-last.ensures opens there c.next_slot-first.ensures in (
+    let may = may_post m i.agents xs i.sent.items p c.in-Some.slots c.in-Some-granted.flow c.next_slot-first.result c.index-last.result.now c.self.invariant.0 low
+    c.index-last.ensures opens there c.next_slot-first.ensures c.if-last-first.false in
+    let is = posted_world m i.agents xs i.sent.items p c.in-Some.slots c.in-Some-granted.flow c.next_slot-first.result c.index-last.result.now c.self.invariant.0 low
+    c.index-last.ensures opens there c.next_slot-first.ensures in (
       subst IsWorld (sym is) (post_keeps w p c.self.invariant.0 may),
-      tells_posted m i.agents xs i.sent.items p c.in-Some.slots c.in-Some-granted.flow c.next_slot-first.result c.index-last.result.now c.self.invariant.0 c.self.invariant.1 low c.index-last.ensures opens c.next_slot-first.ensures c.if-last-first.false,
+      tells_posted m i.agents xs i.sent.items p c.in-Some.slots c.in-Some-granted.flow c.next_slot-first.result c.index-last.result.now c.self.invariant.0 c.self.invariant.1 low
+          c.index-last.ensures opens c.next_slot-first.ensures c.if-last-first.false,
     )
 
 pub returns-clause-answer : goal.returns-clause-answer
@@ -61,7 +66,8 @@ returns-clause-answer c =
     let low : p < m.opening.table.ports = search rules in
     let opens : Some c.in-Some.slots ≡ slots_of (state_of m.opening m.journal).run = sym c.in-Some.is ∙ c.open_slots.ensures in
     let there : Some c.in-Some-granted.flow ≡ flow_at m.opening.table.flows (state_of m.opening m.journal).run p = sym c.in-Some-granted.is ∙ c.granted.ensures in
-    let may = may_post m i.agents xs i.sent.items p c.in-Some.slots c.in-Some-granted.flow c.next_slot-first.result c.index-last.result.now c.self.invariant.0 low c.index-last.ensures opens there c.next_slot-first.ensures c.if-last-first.false in
+    let may = may_post m i.agents xs i.sent.items p c.in-Some.slots c.in-Some-granted.flow c.next_slot-first.result c.index-last.result.now c.self.invariant.0 low
+    c.index-last.ensures opens there c.next_slot-first.ensures c.if-last-first.false in
     subst (λ (v : WorldFacts). Posted ≡ happened v (Post p)) c.self.view_is (told w (Post p) Posted may refl)
 
 pub returns-clause-world : goal.returns-clause-world
@@ -74,8 +80,17 @@ returns-clause-world c =
     let low : p < m.opening.table.ports = search rules in
     let opens : Some c.in-Some.slots ≡ slots_of (state_of m.opening m.journal).run = sym c.in-Some.is ∙ c.open_slots.ensures in
     let there : Some c.in-Some-granted.flow ≡ flow_at m.opening.table.flows (state_of m.opening m.journal).run p = sym c.in-Some-granted.is ∙ c.granted.ensures in
-    let may = may_post m i.agents xs i.sent.items p c.in-Some.slots c.in-Some-granted.flow c.next_slot-first.result c.index-last.result.now c.self.invariant.0 low c.index-last.ensures opens there c.next_slot-first.ensures c.if-last-first.false in
-    let is = posted_world m i.agents xs i.sent.items p c.in-Some.slots c.in-Some-granted.flow c.next_slot-first.result c.index-last.result.now c.self.invariant.0 low c.index-last.ensures opens there c.next_slot-first.ensures in
-    let x : PortState = record { slot = c.next_slot-first.result; flow = c.in-Some-granted.flow; stage = Granted; count = c.in-Some.slots; settled = c.index-last.result.now.settled; sent = 0 } in
+    let may = may_post m i.agents xs i.sent.items p c.in-Some.slots c.in-Some-granted.flow c.next_slot-first.result c.index-last.result.now c.self.invariant.0 low
+    c.index-last.ensures opens there c.next_slot-first.ensures c.if-last-first.false in
+    let is = posted_world m i.agents xs i.sent.items p c.in-Some.slots c.in-Some-granted.flow c.next_slot-first.result c.index-last.result.now c.self.invariant.0 low
+    c.index-last.ensures opens there c.next_slot-first.ensures in
+    let x : PortState = record {
+      slot = c.next_slot-first.result;
+      flow = c.in-Some-granted.flow;
+      stage = Granted;
+      count = c.in-Some.slots;
+      settled = c.index-last.result.now.settled;
+      sent = 0;
+    } in
     subst (λ (v : WorldFacts). world_facts m i.agents (slice_set xs p x) i.sent.items ≡ world_after v (Post p)) c.self.view_is
     (stepped w (world_facts m i.agents (slice_set xs p x) i.sent.items) (Post p) may is)

@@ -18,12 +18,15 @@ invariant_of-self c =
     let xs = i.ports.items in
     let w = world_facts m i.agents xs i.sent.items in
     let p = c.args.port in
-    let may : can w (Report c.args.agent p) ≡ true = subst (λ (v : WorldFacts). can v (Report c.args.agent p) ≡ true) (sym c.self.view_is) (sym c.is_drawn.ensures ∙ c.if-not-is_drawn.false) in
+    let may : can w (Report c.args.agent p) ≡ true =
+    subst (λ (v : WorldFacts). can v (Report c.args.agent p) ≡ true) (sym c.self.view_is) (sym c.is_drawn.ensures ∙ c.if-not-is_drawn.false) in
     let (low, drew) = low_report w c.args.agent p may in
     let x = c.index-post.result.now in
     let count = tells_at m i.agents xs i.sent.items p x c.self.invariant.0 c.self.invariant.1 low c.index-post.ensures in (
-      subst IsWorld (sym (reported_world m i.agents xs i.sent.items c.args.agent p x.sent x c.self.invariant.0 low c.index-post.ensures count)) (report_keeps w c.args.agent p c.self.invariant.0 may),
-      tells_stays m i.agents xs i.sent.items p x (record x { stage = Reported c.args.agent x.sent; count = x.sent; sent = x.sent }) c.self.invariant.0 c.self.invariant.1 low c.index-post.ensures refl refl,
+      subst IsWorld (sym (reported_world m i.agents xs i.sent.items c.args.agent p x.sent x c.self.invariant.0 low c.index-post.ensures count))
+          (report_keeps w c.args.agent p c.self.invariant.0 may),
+      tells_stays m i.agents xs i.sent.items p x (record x { stage = Reported c.args.agent x.sent; count = x.sent; sent = x.sent }) c.self.invariant.0 c.self.invariant.1 low
+          c.index-post.ensures refl refl,
     )
 
 pub returns-clause-world : goal.returns-clause-world
@@ -33,7 +36,8 @@ returns-clause-world c =
     let xs = i.ports.items in
     let w = world_facts m i.agents xs i.sent.items in
     let p = c.args.port in
-    let may : can w (Report c.args.agent p) ≡ true = subst (λ (v : WorldFacts). can v (Report c.args.agent p) ≡ true) (sym c.self.view_is) (sym c.is_drawn.ensures ∙ c.if-not-is_drawn.false) in
+    let may : can w (Report c.args.agent p) ≡ true =
+    subst (λ (v : WorldFacts). can v (Report c.args.agent p) ≡ true) (sym c.self.view_is) (sym c.is_drawn.ensures ∙ c.if-not-is_drawn.false) in
     let (low, drew) = low_report w c.args.agent p may in
     let x = c.index-post.result.now in
     let n = x.sent in

@@ -19,8 +19,10 @@ invariant_of-self-2 c =
     let u = c.args.units in
     let new = c.push.new.self.items in
     let y = c.index_mut.result.now in
-    let may : can w (Report c.args.agent p) ≡ true = subst (λ (v : WorldFacts). can v (Report c.args.agent p) ≡ true) (sym c.self.view_is) (sym c.is_drawn.ensures ∙ c.if-not-is_drawn.false) in
-    let (sends, is, tells) = send_step m i.agents xs i.sent.items new c.args.agent p u c.index-post.result.now y c.self.invariant.0 c.self.invariant.1 may c.index-post.ensures c.index_mut.ensures.value c.if-post-gt0.false c.if-units-eq0.false c.if-units-post.false c.in-Ok.ensures.items in
+    let may : can w (Report c.args.agent p) ≡ true =
+    subst (λ (v : WorldFacts). can v (Report c.args.agent p) ≡ true) (sym c.self.view_is) (sym c.is_drawn.ensures ∙ c.if-not-is_drawn.false) in
+    let (sends, is, tells) = send_step m i.agents xs i.sent.items new c.args.agent p u c.index-post.result.now y c.self.invariant.0 c.self.invariant.1 may c.index-post.ensures
+    c.index_mut.ensures.value c.if-post-gt0.false c.if-units-eq0.false c.if-units-post.false c.in-Ok.ensures.items in
     (subst IsWorld (sym is) (send_keeps w c.args.agent p u c.self.invariant.0 sends), tells)
 
 pub returns-clause-world : goal.returns-clause-world
@@ -33,7 +35,9 @@ returns-clause-world c = λ no_memory.
     let u = c.args.units in
     let new = c.push.new.self.items in
     let y = c.index_mut.result.now in
-    let may : can w (Report c.args.agent p) ≡ true = subst (λ (v : WorldFacts). can v (Report c.args.agent p) ≡ true) (sym c.self.view_is) (sym c.is_drawn.ensures ∙ c.if-not-is_drawn.false) in
-    let (sends, is, tells) = send_step m i.agents xs i.sent.items new c.args.agent p u c.index-post.result.now y c.self.invariant.0 c.self.invariant.1 may c.index-post.ensures c.index_mut.ensures.value c.if-post-gt0.false c.if-units-eq0.false c.if-units-post.false c.in-Ok.ensures.items in
+    let may : can w (Report c.args.agent p) ≡ true =
+    subst (λ (v : WorldFacts). can v (Report c.args.agent p) ≡ true) (sym c.self.view_is) (sym c.is_drawn.ensures ∙ c.if-not-is_drawn.false) in
+    let (sends, is, tells) = send_step m i.agents xs i.sent.items new c.args.agent p u c.index-post.result.now y c.self.invariant.0 c.self.invariant.1 may c.index-post.ensures
+    c.index_mut.ensures.value c.if-post-gt0.false c.if-units-eq0.false c.if-units-post.false c.in-Ok.ensures.items in
     subst (λ (v : WorldFacts). world_facts m i.agents (slice_set xs p (record y { sent = u })) new ≡ world_after v (Send c.args.agent p u)) c.self.view_is
     (stepped w (world_facts m i.agents (slice_set xs p (record y { sent = u })) new) (Send c.args.agent p u) sends is)
