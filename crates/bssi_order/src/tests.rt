@@ -1,5 +1,5 @@
 //! What no clause says: that the definitions give the orders that were worked out by hand, that a run agrees with a plain program of the definition, and that the limits can be met.
-ghost use Rattle.std.specs.Prelude.{◌≡◌, ◌<◌, ◌≤◌, ◌^◌, All, IsTrue, length, sum_by};
+ghost use Rattle.std.specs.Prelude.{◌+◌, ◌≡◌, ◌<◌, ◌≤◌, ◌^◌, All, IsTrue, length, sum_by};
 ghost use Rattle.coflow_units.specs.declared.limits.TheConstants.{MAX_COFLOWS, MAX_PORTS, MAX_WEIGHT};
 ghost use Rattle.coflow_units.specs.declared.fabric.Flow.{Flow};
 ghost use Rattle.bssi_order.specs.TestInputs.{FitsRun};

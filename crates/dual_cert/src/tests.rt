@@ -1,5 +1,5 @@
 //! What no clause says: that the definitions give the values that were worked out by hand, that a call answers want of memory only where there is none, and that the limits can be met.
-ghost use Rattle.std.specs.Prelude.{◌≡◌, ◌≢◌, ℕ, ◌<◌, ◌≤◌, ◌^◌, All, Contains, IsTrue, false, length, reverse};
+ghost use Rattle.std.specs.Prelude.{◌+◌, ◌≡◌, ◌≢◌, ℕ, ◌<◌, ◌≤◌, ◌^◌, All, Contains, IsTrue, false, length, reverse};
 ghost use Rattle.coflow_units.specs.declared.limits.TheConstants.{MAX_COFLOWS, MAX_PORTS, MAX_UNITS, MAX_WEIGHT};
 ghost use Rattle.std.specs.List.{slice_index_or};
 ghost use Rattle.coflow_units.specs.declared.fabric.Port.{Port};

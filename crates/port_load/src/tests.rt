@@ -1,5 +1,5 @@
 //! What no clause says: that the definitions give the loads that were worked out by hand, that a call answers want of memory only where there is none, and that the limits can be met.
-ghost use Rattle.std.specs.Prelude.{◌≡◌, ◌<◌, ◌≤◌, ◌^◌, IsTrue, length, sum_by};
+ghost use Rattle.std.specs.Prelude.{◌+◌, ◌≡◌, ◌<◌, ◌≤◌, ◌^◌, IsTrue, length, sum_by};
 ghost use Rattle.coflow_units.specs.declared.limits.TheConstants.{MAX_COFLOWS, MAX_PORTS};
 ghost use Rattle.coflow_units.specs.declared.fabric.Flow.{Flow};
 ghost use Rattle.port_load.specs.LoadTable.{IsWithin};
