@@ -1,22 +1,21 @@
 -- Without notes each closed run sent a unit, so there are at most as many as units.
-use Rattle.std.proofs.Common.{◌≡◌, ℕ, ◌≤◌, ◌<◌, false, true≢false, List, [], ◌∷◌, ◌++◌, Contains, length, get_or, refl, sym, ap, subst, ◌∙◌, arith, cond, suc, Option, Some, None}
-use Rattle.std.specs.Prelude.{All, ◌&&◌, nat_lt, option_to_list, sum_by}
+use Rattle.std.proofs.Common.{◌≡◌, ℕ, ◌+◌, ◌*◌, ◌≤◌, ◌<◌, inl, inr, false, true≢false, List, [], ◌∷◌, ◌++◌, Contains, length, get_or, refl, sym, ap, subst, ◌∙◌, arith, cond, suc, Option, Some, None}
+use Rattle.std.specs.Prelude.{All, count_by, option_to_list, sum_by}
 use Rattle.std.specs.List.{range_with_len}
-use Rattle.std.proofs.lemmas.Bool.{and_parts, ltb-true}
+use Rattle.std.proofs.lemmas.Bool.{cases_Bool, ltb-false}
 use Rattle.std.proofs.lemmas.List.{length-append}
-use Rattle.std.proofs.lemmas.List.Elements.{All-append, All-contains, All-push, Contains-get_or, Contains-push}
+use Rattle.std.proofs.lemmas.List.Elements.{All-append, All-contains, All-push, Contains-push}
 use Rattle.std.proofs.lemmas.List.Sums.{sum_by-cons, sum_by_push}
 use Rattle.coflow_units.specs.declared.fabric.Flow.{Flow}
-use Rattle.coflow_units.specs.Flows.{coflow_of, units_of}
-use Rattle.coflow_units.proofs.Lists.{by_number, filter_in, number_below, number_in}
-use Rattle.coflow_units.proofs.RunLengths.{some_grant}
-use Rattle.coflow_units.proofs.Sums.{any_has, member_within_sum, sum_mono, sum_same, sum_swap}
+use Rattle.coflow_units.specs.Flows.{units_of}
+use Rattle.coflow_units.proofs.Lists.{by_number, number_in}
+use Rattle.coflow_units.proofs.Sums.{member_within_sum, sum_add, sum_mono, sum_same, sum_swap}
 use Rattle.journal.specs.declared.command.Command.{Command}
 use Rattle.journal.specs.declared.command.Entry.{Entry}
 use Rattle.journal.specs.declared.command.Reply.{Reply}
 use Rattle.journal.specs.declared.command.Reply.TheVariants.{Opened, Noted, Closed}
 use Rattle.journal.specs.declared.opening.Opening.{Opening}
-use Rattle.journal.specs.State.{has, owed, Run, State}
+use Rattle.journal.specs.State.{owed, Run, State}
 use Rattle.journal.specs.Line.{line, owing}
 use Rattle.journal.specs.Runs.{credit, granted}
 use Rattle.journal.specs.Fold.{after, closed, state_of}
@@ -27,22 +26,18 @@ use Rattle.journal.proofs.Instances.{are_the_grants}
 use Rattle.journal.proofs.Sound.{legal_sound}
 use Rattle.journal.specs.Closed.{closed_by, closed_runs, IsClosedRun}
 use Rattle.journal.specs.Entries.{TellsEntry}
-use Rattle.journal.specs.Counts.{closings, is_closing, is_noting, IsWhole, units_sent}
+use Rattle.journal.specs.Counts.{closings, is_closing, is_noted, is_noting, IsWhole, units_granted, units_sent}
 use Rattle.journal.proofs.ClosedSteps.{closed_push}
 use Rattle.journal.proofs.RunsInOrder.{closed_sound}
 use Rattle.journal.proofs.Along.{all_front, along}
 use Rattle.journal.proofs.ScheduleTimes.{full_credit}
+use Rattle.journal.proofs.WereOpened.{opened_some, some_granted, were_opened}
+use Rattle.std.proofs.Math.Nat.{one-le-mul}
 
 -- ---- a run that is opened grants something
 
 pub opened_grant : (o : Opening) (s : State) → 0 < length (owing o s) → (f : ℕ) × Contains (granted o s) f
-opened_grant o s some =
-    let test = λ (f : ℕ). has (line s) (coflow_of o.table.flows f) && nat_lt 0 (owed o s f) in
-    let f = get_or (owing o s) 0 0 in
-    let (in', pass) = filter_in test (range_with_len 0 (length o.table.flows)) f (Contains-get_or (owing o s) 0 0 some) in
-    let parts = and_parts (has (line s) (coflow_of o.table.flows f)) (nat_lt 0 (owed o s f)) pass in
-    some_grant o.table.flows (line s) (owed o s) (granted o s) f (are_the_grants o.table.flows (line s) (owed o s)) (omega (arith, number_below 0 (length o.table.flows) f in'))
-    (any_has (line s) (coflow_of o.table.flows f) parts.0) (ltb-true 0 (owed o s f) parts.1)
+opened_grant o s some = some_granted o s (granted o s) (are_the_grants o.table.flows (line s) (owed o s)) some
 
 closed_none : (o : Opening) (s : State) (run : Option Run) → s.run ≡ run → OnRun (closed o s run).run IsWhole
 closed_none o s None e = subst (λ x. OnRun x IsWhole) (sym e) tt
@@ -111,30 +106,76 @@ at_least_one : (w : Run → ℕ) (runs : List Run) → ((k : ℕ) (d : Run) → 
 at_least_one w [] each = omega arith
 at_least_one w (r ∷ rs) each = omega (arith, sum_by-cons w r rs, each 0 r (omega arith), at_least_one w rs (λ k d lt. each (suc k) d (omega arith)))
 
-some_unit : (flows : List Flow) (next : ℕ) (r : Run) → IsClosedRun flows next r → IsWhole r → 1 ≤ sum_by (λ f. credit flows r f) (range_with_len 0 (length flows))
-some_unit flows next r h whole =
+-- a run without notes sends at least a unit in each slot
+pub whole_units : (flows : List Flow) (next : ℕ) (r : Run) → IsClosedRun flows next r → IsWhole r → r.slots ≤ sum_by (λ f. credit flows r f) (range_with_len 0 (length flows))
+whole_units flows next r h whole =
     let (f, in') = whole.0 in
     let lt = All-contains (λ f. f < length flows) r.granted f h.clear.flow in' in
     omega (
       arith,
-      h.some,
       full_credit flows r f whole.1 in',
       member_within_sum (λ f. credit flows r f) (range_with_len 0 (length flows)) f (number_in 0 (length flows) f (omega arith) (omega (arith, lt))),
     )
+
+-- the units of a run, and of all of them
+abbrev pub units_of_run : List Flow → Run → ℕ
+units_of_run flows r = sum_by (λ f. credit flows r f) (range_with_len 0 (length flows))
+
+pub units_by_runs : (o : Opening) (journal : List Entry) → IsLegal o journal → InRange o journal →
+    units_sent o journal ≡ sum_by (λ r. units_of_run o.table.flows r) (closed_runs o journal)
+units_by_runs o journal legal ok =
+    let flows = o.table.flows in
+    let runs = closed_runs o journal in
+    let range = range_with_len 0 (length flows) in
+    sum_same (λ f. (state_of o journal).sent f) (λ f. sum_by (λ r. credit flows r f) runs) range (λ f in'. (closed_sound o journal legal ok).sent_is f)
+    ∙ sym (sum_swap (λ (r : Run) (f : ℕ). credit flows r f) runs range)
+
+no_items : {X : Type 0} (xs : List X) → length xs ≡ 0 → xs ≡ []
+no_items [] none = refl
+no_items (x ∷ xs) none = absurd (omega (arith, none))
 
 -- without notes no more runs are closed than units are sent
 pub few_closings : (o : Opening) (journal : List Entry) → IsLegal o journal → InRange o journal → NoNotes journal → closings journal ≤ units_sent o journal
 few_closings o journal legal ok none =
     let flows = o.table.flows in
     let runs = closed_runs o journal in
-    let range = range_with_len 0 (length flows) in
+    let next = (state_of o journal).next in
     let h = closed_sound o journal legal ok in
     let whole = (unnoted o journal legal none).closed in
-    let many = at_least_one (λ r. sum_by (λ f. credit flows r f) range) runs (λ k d lt. some_unit flows (state_of o journal).next (get_or runs k d) (h.each k d lt) (whole k d lt))
-    in
-    let sums = sum_swap (λ (r : Run) (f : ℕ). credit flows r f) runs range in
-    let sent = sum_same (λ f. (state_of o journal).sent f) (λ f. sum_by (λ r. credit flows r f) runs) range (λ f in'. h.sent_is f) in
-    omega (arith, closings_are o journal legal, many, sums, sent)
+    let many = at_least_one (λ r. units_of_run flows r) runs
+    (λ k d lt. omega (arith, (h.each k d lt).some, whole_units flows next (get_or runs k d) (h.each k d lt) (whole k d lt))) in
+    omega (arith, closings_are o journal legal, many, units_by_runs o journal legal ok)
+
+-- nor more than that and the runs with notes
+some_or_noted : (flows : List Flow) (next : ℕ) (r : Run) → IsClosedRun flows next r → (f : ℕ) × Contains r.granted f →
+    1 ≤ units_of_run flows r + cond {A = ℕ} (is_noted r) 1 0
+some_or_noted flows next r h some = elim (cases_Bool (is_noted r)) [
+  | inl yes' ↦ omega (arith, ap {B = ℕ} (λ b. cond b 1 0) yes')
+  | inr not' ↦ omega (arith, h.some, whole_units flows next r h (some, no_items r.notes (omega (arith, ltb-false 0 (length r.notes) not'))))
+]
+
+pub noted_closings : (o : Opening) (journal : List Entry) → IsLegal o journal → InRange o journal → closings journal ≤ units_sent o journal + count_by is_noted (closed_runs o journal)
+noted_closings o journal legal ok =
+    let flows = o.table.flows in
+    let runs = closed_runs o journal in
+    let next = (state_of o journal).next in
+    let h = closed_sound o journal legal ok in
+    let opened = (were_opened o journal legal).1 in
+    let many = at_least_one (λ r. units_of_run flows r + cond {A = ℕ} (is_noted r) 1 0) runs
+    (λ k d lt. some_or_noted flows next (get_or runs k d) (h.each k d lt) (opened_some o journal (get_or runs k d) legal (opened k d lt))) in
+    omega (arith, closings_are o journal legal, many, sum_add (λ r. units_of_run flows r) (λ r. cond {A = ℕ} (is_noted r) 1 0) runs, units_by_runs o journal legal ok)
+
+-- nor more than units were granted
+pub granted_closings : (o : Opening) (journal : List Entry) → IsLegal o journal → InRange o journal → closings journal ≤ units_granted (closed_runs o journal)
+granted_closings o journal legal ok =
+    let runs = closed_runs o journal in
+    let h = closed_sound o journal legal ok in
+    let opened = (were_opened o journal legal).1 in
+    let many = at_least_one (λ (r : Run). r.slots * length r.granted) runs
+    (λ k d lt.
+    let (f, in') = opened_some o journal (get_or runs k d) legal (opened k d lt) in
+    one-le-mul (h.each k d lt).some (omega (arith, in'.1))) in
+    omega (arith, closings_are o journal legal, many)
 
 -- no more units are sent than the flows have
 pub units_within : (o : Opening) (journal : List Entry) → IsLegal o journal → InRange o journal → units_sent o journal ≤ sum_by (λ (x : Flow). x.units) o.table.flows

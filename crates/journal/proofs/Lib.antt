@@ -34,3 +34,5 @@ pub mod WholeWork
 pub mod RunRowChecks
 pub mod WereOpened
 pub mod WireUnits
+pub mod NextSlots
+pub mod OwnEntries

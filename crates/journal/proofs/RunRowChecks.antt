@@ -1,6 +1,7 @@
 -- The rows, computed.
-use Rattle.std.proofs.Common.{◌≡◌, ℕ, ◌⊎◌, true, inl, inr, List, [], ◌∷◌, Contains, refl, subst, arith}
+use Rattle.std.proofs.Common.{◌≡◌, ℕ, ◌≤◌, ◌⊎◌, true, inl, inr, List, [], ◌∷◌, Contains, refl, ap, cond, subst, arith}
 use Rattle.std.specs.Prelude.{All}
+use Rattle.std.proofs.lemmas.Bool.{cases_eq, ne_eqb}
 use Rattle.std.proofs.lemmas.List.Elements.{All-cons, All-nil}
 use Rattle.coflow_units.specs.Flows.{ingress_of}
 use Rattle.coflow_units.specs.Rows.{two_flows}
@@ -11,7 +12,7 @@ use Rattle.journal.specs.declared.command.Reply.TheVariants.{Joined, Left, Still
 use Rattle.journal.specs.declared.command.Entry.{Entry}
 use Rattle.journal.specs.Journal.{entry}
 use Rattle.journal.specs.Driven.{is_other, IsShortOf, times_noted}
-use Rattle.journal.specs.RunRows.{NotedRun, one_run, OneRun, OpenRun, ServedOrder, SkippedSlots, TwiceOnAWire, TwoPorts, WithdrawalBetween}
+use Rattle.journal.specs.RunRows.{CountedGrants, CountedNotes, CountedRuns, FurthestSkips, NotedRun, one_run, OneRun, OpenRun, ServedOrder, SkippedSlots, TwiceOnAWire, TwoPorts, WithdrawalBetween}
 
 pub served_order_is : ServedOrder
 unfolding the_ordering the_grants
@@ -63,6 +64,12 @@ between_is granted in' =
 earlier_is : All (λ e. is_other e ≡ true) one_run.earlier
 earlier_is = All-cons (λ e. is_other e ≡ true) (entry 3 (Register 1) Joined) [] refl (All-nil (λ e. is_other e ≡ true))
 
+once_is : (port : ℕ) → times_noted one_run.between port ≤ 1
+once_is port = elim (cases_eq 0 port) [
+  | inl same ↦ subst (λ p. times_noted one_run.between p ≤ 1) same (omega arith)
+  | inr other ↦ omega (arith, ap {B = ℕ} (λ b. cond b 1 0) (ne_eqb 0 port other))
+]
+
 noted_is : (f : ℕ) → 0 ≡ f → times_noted one_run.between (ingress_of two_flows f) ≡ 1
 noted_is f e = subst (λ g. times_noted one_run.between (ingress_of two_flows g) ≡ 1) e refl
 
@@ -72,10 +79,24 @@ one_run_is = (
   (refl, refl, (refl, refl, (refl, refl, (refl, refl, (refl, refl, (refl, refl, (refl, refl, (refl, refl, (refl, refl, tt))))))))),
   record {
     goes_on = refl;
-    under_way = record { goes_on = refl; earlier = earlier_is; between = between_is (0 ∷ []) (in_first 0 []) };
+    under_way = record { goes_on = refl; earlier = earlier_is; between = between_is (0 ∷ []) (in_first 0 []); once = once_is };
     within = λ f in'. omega arith;
     noted = λ f in'. noted_is f (only_one f in');
   },
   refl,
   refl,
 )
+
+pub counted_runs_are : CountedRuns
+unfolding the_ordering the_grants
+counted_runs_are = (refl, refl, refl, refl, refl)
+
+pub counted_grants_are : CountedGrants
+unfolding the_ordering the_grants
+counted_grants_are = (refl, refl, refl, refl, refl)
+
+pub furthest_skips_are : FurthestSkips
+furthest_skips_are = (refl, refl, refl)
+
+pub counted_notes_are : CountedNotes
+counted_notes_are = (refl, refl, refl, refl)

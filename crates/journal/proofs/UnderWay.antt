@@ -1,13 +1,17 @@
 -- A run that is under way: what holds then, how it goes on, what is answered, and that there is room to end it.
 use Rattle.std.proofs.Common.{◌≡◌, ℕ, ◌+◌, ◌≤◌, ◌<◌, ◌⊎◌, inl, inr, true, false, true≢false, List, [], ◌∷◌, ◌++◌, Contains, length, min, refl, sym, ap, subst, ◌∙◌, arith, suc}
 use Rattle.std.proofs.Common.{cond, append_assoc, append-nil, Some}
-use Rattle.std.specs.Prelude.{All, not, nat_lt, if◌then◌else◌}
-use Rattle.std.proofs.lemmas.Bool.{and_parts, leb-false, lt-leb}
+use Rattle.std.specs.Prelude.{All, not, nat_lt, sum_by, ◌==◌, if◌then◌else◌}
+use Rattle.std.specs.List.{range_with_len}
+use Rattle.std.proofs.lemmas.Bool.{and_parts, cases_eq, eq-eqb, leb-false, lt-leb, ltb-true, ne_eqb}
 use Rattle.std.proofs.lemmas.List.{length-append}
-use Rattle.std.proofs.lemmas.List.Elements.{All-append, All-push}
+use Rattle.std.proofs.lemmas.List.Elements.{All-append, All-contains, All-push, Contains-append_right}
+use Rattle.std.proofs.lemmas.List.FromFn.{length-range_with_len}
 use Rattle.std.proofs.lemmas.List.Sums.{sum_by-append, sum_by-cons}
 use Rattle.coflow_units.specs.Flows.{ingress_of}
+use Rattle.coflow_units.proofs.Lists.{number_in}
 use Rattle.coflow_units.proofs.ServedLaws.{grants_clear}
+use Rattle.coflow_units.proofs.Sums.{member_within_sum, sum_mono, sum_swap}
 use Rattle.journal.specs.declared.command.Command.{Command}
 use Rattle.journal.specs.declared.command.Command.TheVariants.{Short, Close}
 use Rattle.journal.specs.declared.command.Entry.{Entry}
@@ -17,8 +21,9 @@ use Rattle.journal.specs.declared.opening.Opening.{Opening}
 use Rattle.journal.specs.State.{owed}
 use Rattle.journal.specs.Runs.{grant_in}
 use Rattle.journal.specs.Fold.{state_of}
-use Rattle.journal.specs.Answer.{noted, on_run, reply_of, room}
+use Rattle.journal.specs.Answer.{in_range, noted, on_run, reply_of, room}
 use Rattle.journal.specs.Journal.{entry, is_full, IsLegal, line_of}
+use Rattle.journal.specs.Sound.{InRange}
 use Rattle.journal.proofs.Legal.{full_is, legal_front}
 use Rattle.journal.proofs.Versions.{legal_there}
 use Rattle.journal.specs.Driven.{closed_in, Drive, driven, is_other, IsDriven, IsRunning, IsShortOf, IsUnderWay, notes_port, opened_in, opening, times_noted}
@@ -36,7 +41,7 @@ legal_now : (o : Opening) (before now : List Entry) (d : Drive) → IsLegal o no
 legal_now o before now d legal h = subst (IsLegal o) (h.goes_on ∙ sym (append-nil (closed_in before d))) legal
 
 on_its_own : (o : Opening) (before now : List Entry) (d : Drive) → IsUnderWay o before now d → IsUnderWay o before (closed_in before d) d
-on_its_own o before now d h = record { goes_on = refl; earlier = h.earlier; between = h.between }
+on_its_own o before now d h = record { goes_on = refl; earlier = h.earlier; between = h.between; once = h.once }
 
 runs_in : (o : Opening) (before : List Entry) (d : Drive) → IsAt o before d → IsRunning o before (closed_in before d) d
 runs_in o before d x =
@@ -53,52 +58,6 @@ runs_in o before d x =
 pub running : (o : Opening) (before now : List Entry) (d : Drive) → IsLegal o now → IsUnderWay o before now d → IsRunning o before now d
 running o before now d legal h =
     subst (λ l. IsRunning o before l d) (sym h.goes_on) (runs_in o before d (at o before [] d (legal_now o before now d legal h) (on_its_own o before now d h)))
-
--- ---- how it goes on
-
-pub opens : (o : Opening) (before : List Entry) (d : Drive) → d.between ≡ [] → All (λ e. is_other e ≡ true) d.earlier → IsUnderWay o before (opened_in before d ++ opening d ∷ []) d
-opens o before d none earlier = record {
-  goes_on = sym (append-nil (opened_in before d ++ opening d ∷ [])) ∙ ap (λ l. (opened_in before d ++ opening d ∷ []) ++ l) (sym none);
-  earlier = earlier;
-  between = subst (All (λ e. (is_other e ≡ true) ⊎ IsShortOf o.table.flows (driven o before d) d e)) (sym none) (λ k e lt. absurd (omega arith));
-}
-
-more : (o : Opening) (before now es : List Entry) (d : Drive) → IsUnderWay o before now d → All (λ e. (is_other e ≡ true) ⊎ IsShortOf o.table.flows (driven o before d) d e) es →
-    IsUnderWay o before (now ++ es) (record d { between = d.between ++ es })
-more o before now es d h all = record {
-  goes_on = ap (λ (l : List Entry). l ++ es) h.goes_on ∙ append_assoc (opened_in before d ++ opening d ∷ []) d.between es;
-  earlier = h.earlier;
-  between = All-append (λ e. (is_other e ≡ true) ⊎ IsShortOf o.table.flows (driven o before d) d e) d.between es h.between all;
-}
-
-pub others_more : (o : Opening) (before now es : List Entry) (d : Drive) → IsUnderWay o before now d → All (λ e. is_other e ≡ true) es →
-    IsUnderWay o before (now ++ es) (record d { between = d.between ++ es })
-others_more o before now es d h all = more o before now es d h (λ k e lt. inl (all k e lt))
-
-pub note_more : (o : Opening) (before now : List Entry) (d : Drive) (f : ℕ) (reply : Reply) → IsUnderWay o before now d → Contains (driven o before d) f →
-    d.sent (ingress_of o.table.flows f) < d.slots →
-    IsUnderWay o before (now ++ entry 0 (Short (ingress_of o.table.flows f) (d.sent (ingress_of o.table.flows f))) reply ∷ [])
-    (record d { between = d.between ++ entry 0 (Short (ingress_of o.table.flows f) (d.sent (ingress_of o.table.flows f))) reply ∷ [] })
-note_more o before now d f reply h in' lt =
-    let e = entry 0 (Short (ingress_of o.table.flows f) (d.sent (ingress_of o.table.flows f))) reply in
-    more o before now (e ∷ []) d h
-    (All-push (λ e. (is_other e ≡ true) ⊎ IsShortOf o.table.flows (driven o before d) d e) [] e (λ k x low. absurd (omega arith)) (inr (f, in', refl, refl, lt)))
-
--- what was sent may be told as late as before the first note
-pub sent_told : (o : Opening) (before now : List Entry) (d : Drive) (sent : ℕ → ℕ) → IsUnderWay o before now d → All (λ e. is_other e ≡ true) d.between →
-    IsUnderWay o before now (record d { sent = sent })
-sent_told o before now d sent h all = record { goes_on = h.goes_on; earlier = h.earlier; between = λ k e lt. inl (all k e lt) }
-
-pub closes : (o : Opening) (before now : List Entry) (d : Drive) (reply : Reply) → IsUnderWay o before now d →
-    ((f : ℕ) → Contains (driven o before d) f → d.sent (ingress_of o.table.flows f) ≤ d.slots) →
-    ((f : ℕ) → Contains (driven o before d) f → times_noted d.between (ingress_of o.table.flows f) ≡ (if nat_lt (d.sent (ingress_of o.table.flows f)) d.slots then 1 else 0)) →
-    IsDriven o before (now ++ entry 0 Close reply ∷ []) (record d { answer = reply })
-closes o before now d reply h within noted = record {
-  goes_on = ap (λ (l : List Entry). l ++ entry 0 Close reply ∷ []) h.goes_on;
-  under_way = record { goes_on = refl; earlier = h.earlier; between = h.between };
-  within = within;
-  noted = noted;
-}
 
 -- ---- how often a port is noted
 
@@ -135,6 +94,66 @@ others_end_none (e ∷ es) all =
       ap {B = ℕ} (λ b. cond b 1 0) (not_ending e.command (free e (all 0 e (omega arith)))),
       others_end_none es (λ k d lt. all (suc k) d (omega arith)),
     )
+
+-- ---- how it goes on
+
+pub opens : (o : Opening) (before : List Entry) (d : Drive) → d.between ≡ [] → All (λ e. is_other e ≡ true) d.earlier → IsUnderWay o before (opened_in before d ++ opening d ∷ []) d
+opens o before d none earlier = record {
+  goes_on = sym (append-nil (opened_in before d ++ opening d ∷ [])) ∙ ap (λ l. (opened_in before d ++ opening d ∷ []) ++ l) (sym none);
+  earlier = earlier;
+  between = subst (All (λ e. (is_other e ≡ true) ⊎ IsShortOf o.table.flows (driven o before d) d e)) (sym none) (λ k e lt. absurd (omega arith));
+  once = λ port. subst (λ es. times_noted es port ≤ 1) (sym none) (omega arith);
+}
+
+more : (o : Opening) (before now es : List Entry) (d : Drive) → IsUnderWay o before now d → All (λ e. (is_other e ≡ true) ⊎ IsShortOf o.table.flows (driven o before d) d e) es →
+    ((port : ℕ) → times_noted d.between port + times_noted es port ≤ 1) →
+    IsUnderWay o before (now ++ es) (record d { between = d.between ++ es })
+more o before now es d h all once = record {
+  goes_on = ap (λ (l : List Entry). l ++ es) h.goes_on ∙ append_assoc (opened_in before d ++ opening d ∷ []) d.between es;
+  earlier = h.earlier;
+  between = All-append (λ e. (is_other e ≡ true) ⊎ IsShortOf o.table.flows (driven o before d) d e) d.between es h.between all;
+  once = λ port. omega (arith, noted_both d.between es port, once port);
+}
+
+pub others_more : (o : Opening) (before now es : List Entry) (d : Drive) → IsUnderWay o before now d → All (λ e. is_other e ≡ true) es →
+    IsUnderWay o before (now ++ es) (record d { between = d.between ++ es })
+others_more o before now es d h all = more o before now es d h (λ k e lt. inl (all k e lt)) (λ port. omega (arith, h.once port, others_note_none es port all))
+
+-- one note more
+noted_one : (es : List Entry) (e : Entry) (p port n : ℕ) → e.command ≡ Short p n → times_noted es p ≡ 0 → times_noted es port ≤ 1 → times_noted es port + times_noted (e ∷ []) port ≤ 1
+noted_one es e p port n asks none low =
+    let one = sum_by-cons (λ (e : Entry). cond {A = ℕ} (notes_port port e.command) 1 0) e [] in
+    let test : notes_port port e.command ≡ (p == port) = ap (notes_port port) asks in
+    elim (cases_eq p port) [
+      | inl same ↦ omega (arith, one, ap {B = ℕ} (λ b. cond b 1 0) (test ∙ eq-eqb p port same), subst (λ q. times_noted es q ≡ 0) same none)
+      | inr other ↦ omega (arith, one, ap {B = ℕ} (λ b. cond b 1 0) (test ∙ ne_eqb p port other), low)
+    ]
+
+pub note_more : (o : Opening) (before now : List Entry) (d : Drive) (f : ℕ) (reply : Reply) → IsUnderWay o before now d → Contains (driven o before d) f →
+    d.sent (ingress_of o.table.flows f) < d.slots → times_noted d.between (ingress_of o.table.flows f) ≡ 0 →
+    IsUnderWay o before (now ++ entry 0 (Short (ingress_of o.table.flows f) (d.sent (ingress_of o.table.flows f))) reply ∷ [])
+    (record d { between = d.between ++ entry 0 (Short (ingress_of o.table.flows f) (d.sent (ingress_of o.table.flows f))) reply ∷ [] })
+note_more o before now d f reply h in' lt none =
+    let e = entry 0 (Short (ingress_of o.table.flows f) (d.sent (ingress_of o.table.flows f))) reply in
+    more o before now (e ∷ []) d h
+    (All-push (λ e. (is_other e ≡ true) ⊎ IsShortOf o.table.flows (driven o before d) d e) [] e (λ k x low. absurd (omega arith)) (inr (f, in', refl, refl, lt)))
+    (λ port. noted_one d.between e (ingress_of o.table.flows f) port (d.sent (ingress_of o.table.flows f)) refl none (h.once port))
+
+-- what was sent may be told as late as before the first note
+pub sent_told : (o : Opening) (before now : List Entry) (d : Drive) (sent : ℕ → ℕ) → IsUnderWay o before now d → All (λ e. is_other e ≡ true) d.between →
+    IsUnderWay o before now (record d { sent = sent })
+sent_told o before now d sent h all = record { goes_on = h.goes_on; earlier = h.earlier; between = λ k e lt. inl (all k e lt); once = h.once }
+
+pub closes : (o : Opening) (before now : List Entry) (d : Drive) (reply : Reply) → IsUnderWay o before now d →
+    ((f : ℕ) → Contains (driven o before d) f → d.sent (ingress_of o.table.flows f) ≤ d.slots) →
+    ((f : ℕ) → Contains (driven o before d) f → times_noted d.between (ingress_of o.table.flows f) ≡ (if nat_lt (d.sent (ingress_of o.table.flows f)) d.slots then 1 else 0)) →
+    IsDriven o before (now ++ entry 0 Close reply ∷ []) (record d { answer = reply })
+closes o before now d reply h within noted = record {
+  goes_on = ap (λ (l : List Entry). l ++ entry 0 Close reply ∷ []) h.goes_on;
+  under_way = record { goes_on = refl; earlier = h.earlier; between = h.between; once = h.once };
+  within = within;
+  noted = noted;
+}
 
 -- ---- what is answered
 
@@ -181,6 +200,7 @@ note_taken o before now front rest d e legal h is x =
       earlier = h.earlier;
       between = all_front (λ e. (is_other e ≡ true) ⊎ IsShortOf o.table.flows (driven o before d) d e) front (e ∷ rest)
           (subst (All (λ e. (is_other e ≡ true) ⊎ IsShortOf o.table.flows (driven o before d) d e)) is h.between);
+      once = λ port. omega (arith, noted_both front (e ∷ rest) port, ap (λ es. times_noted es port) is, h.once port);
     } in
     note_reply o before (start ++ front) part e.who x.0 (d.sent p) e.reply here so_far x.1 ∙ ap (λ (n : ℕ). Noted n) (least (d.sent p) d.slots x.4)
 
@@ -198,9 +218,40 @@ ending_room o (Short port units) e = refl
 ending_room o Close e = refl
 ending_room o k e = absurd (true≢false (sym e))
 
-pub room_to_end : (o : Opening) (before now : List Entry) (d : Drive) (k : Command) → IsLegal o now → IsUnderWay o before now d → endings d.between ≤ o.table.ports →
+-- an entry of a run under way that may be asked past the limit notes a port
+ends_once : (o : Opening) (before : List Entry) (d : Drive) (e : Entry) → (is_other e ≡ true) ⊎ IsShortOf o.table.flows (driven o before d) d e → in_range o e.command ≡ true →
+    cond {A = ℕ} (is_ending e.command) 1 0 ≤ sum_by (λ p. cond {A = ℕ} (notes_port p e.command) 1 0) (range_with_len 0 o.table.ports)
+ends_once o before d e (inl other) ok = omega (arith, ap {B = ℕ} (λ b. cond b 1 0) (not_ending e.command (free e other)))
+ends_once o before d e (inr (f, in', who, asks, lt)) ok =
+    let port = ingress_of o.table.flows f in
+    let range = range_with_len 0 o.table.ports in
+    let low = ltb-true port o.table.ports (sym (ap (in_range o) asks) ∙ ok) in
+    let there = member_within_sum (λ p. cond {A = ℕ} (notes_port p e.command) 1 0) range port (number_in 0 o.table.ports port (omega arith) (omega (arith, low))) in
+    let hit : notes_port port e.command ≡ true = ap (notes_port port) asks ∙ eq-eqb port port refl in
+    omega (arith, there, ap {B = ℕ} (λ b. cond b 1 0) hit, ap {B = ℕ} (λ k. cond (is_ending k) 1 0) asks)
+
+ones : (xs : List ℕ) → sum_by (λ (x : ℕ). 1) xs ≡ length xs
+ones [] = refl
+ones (x ∷ xs) = omega (arith, sum_by-cons (λ (x : ℕ). 1) x xs, ones xs)
+
+-- at most one note for each port
+pub few_endings : (o : Opening) (before now : List Entry) (d : Drive) → InRange o now → IsUnderWay o before now d → endings d.between ≤ o.table.ports
+few_endings o before now d ok h =
+    let range = range_with_len 0 o.table.ports in
+    let P = λ (e : Entry). (is_other e ≡ true) ⊎ IsShortOf o.table.flows (driven o before d) d e in
+    let Ok = λ (e : Entry). in_range o e.command ≡ true in
+    let all = subst (All Ok) h.goes_on ok in
+    let each = sum_mono (λ (e : Entry). cond {A = ℕ} (is_ending e.command) 1 0) (λ e. sum_by (λ p. cond {A = ℕ} (notes_port p e.command) 1 0) range) d.between
+    (λ e in'. ends_once o before d e (All-contains P d.between e h.between in')
+    (All-contains Ok (closed_in before d) e all (Contains-append_right (opened_in before d ++ opening d ∷ []) d.between e in'))) in
+    let swap = sum_swap (λ (e : Entry) (p : ℕ). cond {A = ℕ} (notes_port p e.command) 1 0) d.between range in
+    let once = sum_mono (λ p. times_noted d.between p) (λ (p : ℕ). 1) range (λ p in'. h.once p) in
+    omega (arith, each, swap, once, ones range, length-range_with_len 0 o.table.ports)
+
+pub room_to_end : (o : Opening) (before now : List Entry) (d : Drive) (k : Command) → IsLegal o now → InRange o now → IsUnderWay o before now d →
     is_ending k ≡ true → is_full (reply_of o now k) ≡ false
-room_to_end o before now d k legal h few ends =
+room_to_end o before now d k legal ok h ends =
+    let few = few_endings o before now d ok h in
     let whole = legal_now o before now d legal h in
     let low = within_limit o (opened_in before d) (d.between ++ []) (opening d) (legal_open o before [] d whole) refl in
     let high = further_room o (opened_in before d ++ opening d ∷ []) d.between (subst (IsLegal o) h.goes_on legal) low in

@@ -1,5 +1,5 @@
 -- Each version has its entry.
-use Rattle.std.proofs.Common.{◌≡◌, ℕ, ◌+◌, ◌≤◌, ◌<◌, inl, inr, Bool, List, [], ◌∷◌, ◌++◌, length, refl, sym, ap, subst, ◌∙◌, arith, cond, append_assoc}
+use Rattle.std.proofs.Common.{◌≡◌, ℕ, ◌+◌, ◌≤◌, ◌<◌, inl, inr, Bool, true, List, [], ◌∷◌, ◌++◌, get_or, length, refl, sym, ap, subst, ◌∙◌, arith, cond, append_assoc}
 use Rattle.std.specs.Prelude.{if◌then◌else◌}
 use Rattle.std.proofs.lemmas.Bool.{cases_eq, cases_lt, eq-eqb, ne_eqb}
 use Rattle.std.proofs.lemmas.List.Sums.{sum_by_push}
@@ -15,6 +15,7 @@ use Rattle.journal.proofs.Growth.{version_append, version_counted}
 use Rattle.journal.specs.Entries.{TellsEntry}
 use Rattle.journal.specs.Versions.{is_the_version, IsMade, times_made}
 use Rattle.journal.proofs.Along.{along}
+use Rattle.journal.proofs.Versions.{legal_there, version_is_next}
 
 -- how often a version is made in a journal with this newest version
 pub record IsCount (v newest times : ℕ) : Type 0 where
@@ -85,3 +86,30 @@ made o journal v legal some le =
       | inl lt ↦ newest_step o (state_of o before) before e e.reply v refl (version_counted o before) next.tells lt (omega (arith, le, version_append before (e ∷ [])))
       | inr ge ↦ made_later before e v (h ge)
     ]) (λ le. absurd (omega (arith, some, le))) journal legal le
+
+-- ---- no other entry
+
+abbrev rest_of : List Entry → List Entry
+rest_of [] = []
+rest_of (e ∷ es) = es
+
+-- two places of a journal, after equally many versions, at entries that are answered with one, are the same place
+same_place : (a b c d : List Entry) (e f : Entry) → a ++ (e ∷ b) ≡ c ++ (f ∷ d) → version_of a ≡ version_of c → is_version e.reply ≡ true → is_version f.reply ≡ true →
+    (a ≡ c) × (e ≡ f) × (b ≡ d)
+same_place [] b [] d e f is n ve vf = (refl, ap (λ l. get_or l 0 e) is, ap rest_of is)
+same_place [] b (x ∷ c) d e f is n ve vf =
+    let here : e ≡ x = ap (λ l. get_or l 0 e) is in
+    absurd (omega (arith, n, ap {B = ℕ} (λ b. cond b 1 0) (ap (λ (y : Entry). is_version y.reply) (sym here) ∙ ve)))
+same_place (x ∷ a) b [] d e f is n ve vf =
+    let here : x ≡ f = ap (λ l. get_or l 0 f) is in
+    absurd (omega (arith, n, ap {B = ℕ} (λ b. cond b 1 0) (ap (λ (y : Entry). is_version y.reply) here ∙ vf)))
+same_place (x ∷ a) b (y ∷ c) d e f is n ve vf =
+    let here : x ≡ y = ap (λ l. get_or l 0 e) is in
+    let (front, at, later) = same_place a b c d e f (ap rest_of is) (omega (arith, n, ap {B = ℕ} (λ (z : Entry). cond (is_version z.reply) 1 0) here)) ve vf in
+    (ap (λ z. z ∷ a) here ∙ ap (λ l. y ∷ l) front, at, later)
+
+pub only : (o : Opening) (before more : List Entry) (e : Entry) (v : ℕ) → IsLegal o (before ++ (e ∷ more)) → e.reply ≡ Version v → (x : IsMade (before ++ (e ∷ more)) v) →
+    (x.before ≡ before) × (x.entry ≡ e) × (x.more ≡ more)
+only o before more e v legal tells x =
+    let number = version_is_next o before e.command v (sym (legal_there o before more e legal).0 ∙ tells) in
+    same_place x.before x.more before more x.entry e (sym x.stands) (omega (arith, x.below, number)) (ap is_version x.reply) (ap is_version tells)

@@ -9,7 +9,7 @@ use Rattle.journal.specs.declared.command.Command.{Command}
 use Rattle.journal.specs.declared.command.Command.TheVariants.{Open, Short, Close}
 use Rattle.journal.specs.declared.command.Entry.{Entry}
 use Rattle.journal.specs.declared.command.Reply.{Reply}
-use Rattle.journal.specs.declared.command.Reply.TheVariants.{Opened}
+use Rattle.journal.specs.declared.command.Reply.TheVariants.{Noted, Opened}
 use Rattle.journal.specs.declared.opening.Opening.{Opening}
 use Rattle.journal.specs.State.{has, owed, Run}
 use Rattle.journal.specs.Runs.{credit, grant_in, granted}
@@ -39,6 +39,10 @@ pub record Drive : Type 0 where
   pub between : List Entry
   pub answer : Reply
   pub sent : ℕ → ℕ
+
+-- the entries of the driver, in order
+abbrev pub own_entries : List Entry → List Entry
+own_entries entries = filter (λ (e : Entry). e.who == 0) entries
 
 -- the opening and the closing
 abbrev pub opening : Drive → Entry
@@ -76,16 +80,23 @@ IsShortOf flows granted d e =
     (f : ℕ) × Contains granted f × (e.who ≡ 0) × (e.command ≡ Short (ingress_of flows f) (sent_from flows d f))
     × (sent_from flows d f < d.slots)
 
+-- The driver noted the units that were sent from the port of a granted flow, fewer than the run has slots, and the
+-- note was taken.
+abbrev pub IsTakenNote : List Flow → List ℕ → Drive → Entry → Type 0
+IsTakenNote flows granted d e =
+    (f : ℕ) × Contains granted f × (e ≡ noting flows d f (Noted (sent_from flows d f))) × (sent_from flows d f < d.slots)
+
 -- how often the entries note the port
 abbrev pub times_noted : List Entry → ℕ → ℕ
 times_noted entries port = count_by (λ (e : Entry). notes_port port e.command) entries
 
 -- A run of the driver is under way: after entries of others the journal goes on by an Open that was answered Opened,
--- and then by notes of the driver among entries of others.
+-- and then by notes of the driver among entries of others, at most one for each port.
 pub record IsUnderWay (o : Opening) (before now : List Entry) (d : Drive) : Type 0 where
   pub goes_on : now ≡ closed_in before d
   pub earlier : All (λ e. is_other e ≡ true) d.earlier
   pub between : All (λ e. (is_other e ≡ true) ⊎ IsShortOf o.table.flows (driven o before d) d e) d.between
+  pub once : (port : ℕ) → times_noted d.between port ≤ 1
 
 -- no more units were sent from the port of a granted flow than the run has slots
 abbrev pub IsWithinRun : Opening → List Entry → Drive → Type 0

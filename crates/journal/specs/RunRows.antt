@@ -1,5 +1,5 @@
 -- What the runs of two small flows make, worked out by hand.
-use Rattle.std.specs.Prelude.{◌≡◌, ℕ, List, [], ◌∷◌, ◌++◌, map}
+use Rattle.std.specs.Prelude.{◌≡◌, ℕ, List, [], ◌∷◌, ◌++◌, count_by, map}
 use Rattle.coflow_units.specs.Rows.{all_ties}
 use Rattle.journal.specs.declared.command.Command.{Command}
 use Rattle.journal.specs.declared.command.Command.TheVariants.{Register, Withdraw, Publish, Pull, Open, Short, Close}
@@ -11,8 +11,10 @@ use Rattle.journal.specs.declared.command.Entry.{Entry}
 use Rattle.journal.specs.declared.opening.Opening.{Opening}
 use Rattle.journal.specs.Journal.{entry, IsLegal}
 use Rattle.journal.specs.Rows.{two}
-use Rattle.journal.specs.Closed.{schedule_of, times_on, wire_of}
-use Rattle.journal.specs.Driven.{closed_in, closing, Drive, IsDriven}
+use Rattle.journal.specs.Closed.{closed_runs, schedule_of, times_on, wire_of}
+use Rattle.journal.specs.Counts.{closings, endings, furthest_skip, is_noted, openings, slots_together, units_granted}
+use Rattle.journal.specs.Counts.{units_sent}
+use Rattle.journal.specs.Driven.{closed_in, closing, Drive, IsDriven, own_entries, times_noted}
 
 -- entries of caller 0
 abbrev pub entries : List (Command × Reply) → List Entry
@@ -134,3 +136,29 @@ OneRun =
     IsLegal (two 100) after_one_run × IsDriven (two 100) registered after_one_run one_run
     × (schedule_of (two 100) after_one_run ≡ (0 ∷ []) ∷ [] ∷ [] ∷ [])
     × (wire_of (two 100) after_one_run 0 ≡ (1, 0, 1) ∷ [])
+
+-- what is counted in the run with a note and the whole run after it
+abbrev pub CountedRuns : Type 0
+CountedRuns =
+    (closings noted_run ≡ 2) × (units_sent (two 100) noted_run ≡ 3)
+    × (slots_together (closed_runs (two 100) noted_run) ≡ 4)
+    × (count_by is_noted (closed_runs (two 100) noted_run) ≡ 1) × (openings noted_run ≡ (1, 2, 1) ∷ (3, 2, 1) ∷ [])
+
+-- two runs of one slot with two grants each, and one with one; a run that is still open was opened too
+abbrev pub CountedGrants : Type 0
+CountedGrants =
+    (units_granted (closed_runs two_ports ports_apart) ≡ 5) × (units_sent two_ports ports_apart ≡ 4)
+    × (count_by is_noted (closed_runs two_ports ports_apart) ≡ 1)
+    × (openings ports_apart ≡ (1, 1, 2) ∷ (2, 1, 2) ∷ (3, 1, 1) ∷ []) × (openings open_run ≡ (1, 2, 1) ∷ [])
+
+-- the furthest skip: none, one, and one to a slot that is past, which tells the next slot
+abbrev pub FurthestSkips : Type 0
+FurthestSkips =
+    (furthest_skip noted_run ≡ 1) × (furthest_skip skipped_slots ≡ 4)
+    × (furthest_skip (entries ((Skip 5, Skipped 5) ∷ (Skip 3, Skipped 5) ∷ (Pull 0, Unranked 0) ∷ [])) ≡ 5)
+
+-- what the driver and others ask while the driven run is under way
+abbrev pub CountedNotes : Type 0
+CountedNotes =
+    (own_entries one_run.between ≡ entry 0 (Short 0 1) (Noted 1) ∷ []) × (endings one_run.between ≡ 1)
+    × (times_noted one_run.between 0 ≡ 1) × (times_noted one_run.between 1 ≡ 0)

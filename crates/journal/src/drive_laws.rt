@@ -17,7 +17,7 @@ ghost use Rattle.journal.specs.Answer.{reply_of};
 ghost use Rattle.journal.specs.Journal.{entry, is_full, IsLegal, line_of};
 ghost use Rattle.journal.specs.Sound.{InRange};
 ghost use Rattle.journal.specs.Closed.{schedule_of};
-ghost use Rattle.journal.specs.Driven.{Drive, driven, driven_slots, GoesOnByRun, is_other, IsDriven, IsNotedAsDue, IsRunning, IsSentWhole, IsShortOf, IsUnderWay, IsWithinRun, noting, opened_in, opening, sent_from, times_noted};
+ghost use Rattle.journal.specs.Driven.{closing, Drive, driven, driven_slots, GoesOnByRun, is_other, IsDriven, IsNotedAsDue, IsTakenNote, IsRunning, IsSentWhole, IsShortOf, IsUnderWay, IsWithinRun, noting, opened_in, opening, own_entries, sent_from, times_noted};
 ghost use Rattle.journal.specs.Entries.{IsOpenReply};
 ghost use Rattle.journal.specs.Counts.{endings, is_ending};
 
@@ -33,6 +33,7 @@ pub fn runs_go_on_under_way()
         All (λ e. is_other e ≡ true) d.between → IsUnderWay o before now (record d { sent = sent }) }
     ensures notes { (o : Opening) (before now : List Entry) (d : Drive) (f : ℕ) (reply : Reply) →
         IsUnderWay o before now d → Contains (driven o before d) f → sent_from o.table.flows d f < d.slots →
+        times_noted d.between (ingress_of o.table.flows f) ≡ 0 →
         IsUnderWay o before (now ++ noting o.table.flows d f reply ∷ [])
         (record d { between = d.between ++ noting o.table.flows d f reply ∷ [] }) }
     ensures closes { (o : Opening) (before now : List Entry) (d : Drive) (reply : Reply) → IsUnderWay o before now d →
@@ -63,11 +64,29 @@ pub fn drivers_are_answered()
         IsLegal o (now ++ entry who Close reply ∷ []) → IsUnderWay o before now d → reply ≡ Closed d.first }
 {}
 
-/// While a run is under way and at most one note was made for each port, a further note and the Close have room.
+/// While a run is under way no more notes were made than there are ports, so that a further note and the Close have
+/// room.
 pub fn drivers_have_room()
-    ensures { (o : Opening) (before now : List Entry) (d : Drive) (k : Command) → IsLegal o now →
-        IsUnderWay o before now d → endings d.between ≤ o.table.ports → is_ending k ≡ true →
-        is_full (reply_of o now k) ≡ false }
+    ensures few { (o : Opening) (before now : List Entry) (d : Drive) → InRange o now → IsUnderWay o before now d →
+        endings d.between ≤ o.table.ports }
+    ensures room { (o : Opening) (before now : List Entry) (d : Drive) (k : Command) → IsLegal o now →
+        InRange o now → IsUnderWay o before now d → is_ending k ≡ true → is_full (reply_of o now k) ≡ false }
+{}
+
+/// The driver's own entries of a driven run are, in order, its opening, its notes and its closing, and where the run was
+/// sent whole the opening and the closing alone. In a legal journal each note is taken, and the closing tells the first
+/// slot of the run.
+pub fn driven_runs_have_own_entries()
+    ensures entries { (o : Opening) (before after : List Entry) (d : Drive) → IsDriven o before after d →
+        own_entries after
+        ≡ own_entries before ++ opening d ∷ [] ++ own_entries d.between ++ closing d ∷ [] }
+    ensures notes { (o : Opening) (before after : List Entry) (d : Drive) → IsLegal o after →
+        IsDriven o before after d →
+        All (IsTakenNote o.table.flows (driven o before d) d) (own_entries d.between) }
+    ensures whole { (o : Opening) (before after : List Entry) (d : Drive) → IsDriven o before after d →
+        IsSentWhole o before d → own_entries d.between ≡ [] }
+    ensures close { (o : Opening) (before after : List Entry) (d : Drive) → IsLegal o after →
+        IsDriven o before after d → closing d ≡ entry 0 Close (Closed d.first) }
 {}
 
 /// Notes, and Short and Close entries, are counted piece by piece, and entries of others are none.

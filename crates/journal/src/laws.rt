@@ -164,6 +164,9 @@ pub fn versions_have_their_entries()
         IsMade journal v }
     ensures once { (o : Opening) (journal : List Entry) (v : ℕ) → IsLegal o journal → 1 ≤ v → v ≤ version_of journal →
         times_made journal v ≡ 1 }
+    ensures only { (o : Opening) (before more : List Entry) (e : Entry) (v : ℕ) → IsLegal o (before ++ e ∷ more) →
+        e.reply ≡ Version v → (x : IsMade (before ++ e ∷ more) v) →
+        (x.before ≡ before) × (x.entry ≡ e) × (x.more ≡ more) }
     ensures later { (o : Opening) (journal : List Entry) (v : ℕ) → IsLegal o journal → version_of journal < v →
         times_made journal v ≡ 0 }
     ensures few { (journal : List Entry) → version_of journal ≤ length journal }

@@ -1,5 +1,5 @@
 //! Laws of the journals of the one-thread master. Each says something of every opening and every legal journal.
-ghost use Rattle.std.specs.Prelude.{◌≡◌, ℕ, ◌+◌, ◌<◌, ◌≤◌, ◌==◌, ◌&&◌, ◌↔◌, false, true, not, slice_index, if◌then◌else◌, All, Contains, List, [], ◌∷◌, ◌++◌, flat_map, length, map, None, replicate, Some, sum_by};
+ghost use Rattle.std.specs.Prelude.{◌≡◌, ℕ, ◌+◌, ◌<◌, ◌≤◌, ◌==◌, ◌&&◌, ◌↔◌, false, true, not, slice_index, if◌then◌else◌, All, Contains, List, [], ◌∷◌, ◌++◌, count_by, flat_map, length, map, None, option_to_list, replicate, Some, sum_by};
 ghost use Rattle.std.specs.List.{filter, slice_index_or};
 ghost use Rattle.coflow_units.specs.declared.fabric.Flow.{Flow};
 ghost use Rattle.coflow_units.specs.Flows.{ingress_of};
@@ -18,8 +18,8 @@ ghost use Rattle.journal.specs.Closed.{AreClosed, closed_by, closed_runs, IsOpen
 ghost use Rattle.journal.specs.Driven.{driven, opening};
 ghost use Rattle.journal.specs.Entries.{is_driving, is_moving};
 ghost use Rattle.journal.specs.Moves.{ClosesRun, NotesRun, OpensRun, SkipsSlots};
-ghost use Rattle.journal.specs.Counts.{closings, is_noting, is_skipping, IsWhole, run_line, units_sent};
-ghost use Rattle.journal.specs.RunRows.{NotedRun, OneRun, OpenRun, ServedOrder, SkippedSlots, TwiceOnAWire, TwoPorts, WithdrawalBetween};
+ghost use Rattle.journal.specs.Counts.{closings, furthest_skip, is_noted, is_noting, is_skipping, IsSlotOf, IsWhole, opening_of, openings, run_line, slots_together, units_granted, units_sent};
+ghost use Rattle.journal.specs.RunRows.{CountedGrants, CountedNotes, CountedRuns, FurthestSkips, NotedRun, OneRun, OpenRun, ServedOrder, SkippedSlots, TwiceOnAWire, TwoPorts, WithdrawalBetween};
 
 /// What the entries that move a run do: they open one, note units in it, close it, or let slots pass where none is
 /// open.
@@ -54,12 +54,15 @@ pub fn runs_are_in_order()
 {}
 
 /// Each closed run, and the open one, was opened by an entry of the journal: it has the grants of its line and of what
-/// was owed there, began with the next slot, and is as long as was asked and allowed.
+/// was owed there, began with the next slot, and is as long as was asked and allowed. Each has its own entry: those that
+/// open a run tell of these runs, in order, and of no others.
 pub fn runs_were_opened()
     ensures closed { (o : Opening) (journal : List Entry) → IsLegal o journal →
         All (IsOpenedIn o journal) (closed_runs o journal) }
     ensures open { (o : Opening) (journal : List Entry) (r : Run) → IsLegal o journal →
         (state_of o journal).run ≡ Some r → IsOpenedIn o journal r }
+    ensures opened { (o : Opening) (journal : List Entry) → IsLegal o journal →
+        openings journal ≡ map opening_of (closed_runs o journal ++ option_to_list (state_of o journal).run) }
 {}
 
 /// How the closed runs, the wires and the schedule go on by an entry: a closing adds the open run, what it sent and its
@@ -83,6 +86,20 @@ pub fn others_leave_runs()
         LeavesRuns o journal (journal ++ e ∷ []) }
     ensures commands { (o : Opening) (before more : List Entry) → IsLegal o (before ++ more) →
         All (λ (e : Entry). is_driving e.command ≡ false) more → LeavesRuns o before (before ++ more) }
+{}
+
+/// No slot is passed without a skip or a run: from the furthest skip on each slot before the next one is of a closed run.
+/// So the next slot lies no further past that skip than the closed runs have slots, and, where nothing was noted, than
+/// units were sent.
+pub fn next_slots_are_few()
+    ensures passed { (o : Opening) (journal : List Entry) (slot : ℕ) → IsLegal o journal → InRange o journal →
+        furthest_skip journal ≤ slot → slot < (state_of o journal).next →
+        (r : Run) × Contains (closed_runs o journal) r × IsSlotOf slot r }
+    ensures runs { (o : Opening) (journal : List Entry) → IsLegal o journal → InRange o journal →
+        (state_of o journal).next ≤ furthest_skip journal + slots_together (closed_runs o journal) }
+    ensures units { (o : Opening) (journal : List Entry) → IsLegal o journal → InRange o journal →
+        All (λ (e : Entry). is_noting e.command ≡ false) journal →
+        (state_of o journal).next ≤ furthest_skip journal + units_sent o journal }
 {}
 
 /// The next slot never falls.
@@ -128,20 +145,26 @@ pub fn runs_without_notes_are_even()
     ensures run { (flows : List Flow) (r : Run) → r.notes ≡ [] → slots_in flows r ≡ replicate r.slots r.granted }
 {}
 
-/// Each Closed entry closes a run. Where nothing was noted, no more runs were closed than units were sent, and no more
+/// Each Closed entry closes a run. No more runs are closed than units were granted by them. Where nothing was noted, no
+/// more were closed than units were sent, and else no more than that and the runs in which something was noted. No more
 /// units are sent than the flows have.
 pub fn closings_are_few()
     ensures runs { (o : Opening) (journal : List Entry) → IsLegal o journal →
         closings journal ≡ length (closed_runs o journal) }
     ensures units { (o : Opening) (journal : List Entry) → IsLegal o journal → InRange o journal →
         All (λ (e : Entry). is_noting e.command ≡ false) journal → closings journal ≤ units_sent o journal }
+    ensures granted { (o : Opening) (journal : List Entry) → IsLegal o journal → InRange o journal →
+        closings journal ≤ units_granted (closed_runs o journal) }
+    ensures noted { (o : Opening) (journal : List Entry) → IsLegal o journal → InRange o journal →
+        closings journal ≤ units_sent o journal + count_by is_noted (closed_runs o journal) }
     ensures within { (o : Opening) (journal : List Entry) → IsLegal o journal → InRange o journal →
         units_sent o journal ≤ sum_by (λ (x : Flow). x.units) o.table.flows }
 {}
 
 /// The definitions give the schedules and wires that were worked out by hand: of coflows that are served in a published
 /// order, of a run with a note, of slots that pass, of two runs with a withdrawal between, of a run that is still open,
-/// of two ports, and of a driven run among entries of others; and a run that is twice on a wire counts twice there.
+/// of two ports, and of a driven run among entries of others; and a run that is twice on a wire counts twice there. What
+/// is counted in these journals was counted by hand.
 pub fn run_rows_hold()
     ensures served_order { ServedOrder }
     ensures noted_run { NotedRun }
@@ -151,4 +174,8 @@ pub fn run_rows_hold()
     ensures two_ports { TwoPorts }
     ensures twice_on_a_wire { TwiceOnAWire }
     ensures one_run { OneRun }
+    ensures counted_runs { CountedRuns }
+    ensures counted_grants { CountedGrants }
+    ensures furthest_skips { FurthestSkips }
+    ensures counted_notes { CountedNotes }
 {}

@@ -1,5 +1,5 @@
 use Rattle.journal.proofs.FurtherRoom.{few_versions}
-use Rattle.journal.proofs.VersionEntries.{counted, made}
+use Rattle.journal.proofs.VersionEntries.{counted, made, only}
 use Rattle.journal.proofs.laws.versions_have_their_entries.Goals as goal
 
 pub returns-clause-made : goal.returns-clause-made
@@ -7,6 +7,9 @@ returns-clause-made c = made
 
 pub returns-clause-once : goal.returns-clause-once
 returns-clause-once c = λ o journal v legal some le. (counted o journal v legal).once some le
+
+pub returns-clause-only : goal.returns-clause-only
+returns-clause-only c = only
 
 pub returns-clause-later : goal.returns-clause-later
 returns-clause-later c = λ o journal v legal lt. (counted o journal v legal).above lt

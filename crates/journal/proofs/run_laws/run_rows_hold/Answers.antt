@@ -1,4 +1,4 @@
-use Rattle.journal.proofs.RunRowChecks.{noted_run_is, one_run_is, open_run_is, served_order_is, skipped_slots_are, twice_is, two_ports_are, withdrawal_between_is}
+use Rattle.journal.proofs.RunRowChecks.{counted_grants_are, counted_notes_are, counted_runs_are, furthest_skips_are, noted_run_is, one_run_is, open_run_is, served_order_is, skipped_slots_are, twice_is, two_ports_are, withdrawal_between_is}
 use Rattle.journal.proofs.run_laws.run_rows_hold.Goals as goal
 
 pub returns-clause-served_order : goal.returns-clause-served_order
@@ -24,3 +24,15 @@ returns-clause-two_ports c = two_ports_are
 
 pub returns-clause-twice_on_a_wire : goal.returns-clause-twice_on_a_wire
 returns-clause-twice_on_a_wire c = twice_is
+
+pub returns-clause-counted_runs : goal.returns-clause-counted_runs
+returns-clause-counted_runs c = counted_runs_are
+
+pub returns-clause-counted_grants : goal.returns-clause-counted_grants
+returns-clause-counted_grants c = counted_grants_are
+
+pub returns-clause-furthest_skips : goal.returns-clause-furthest_skips
+returns-clause-furthest_skips c = furthest_skips_are
+
+pub returns-clause-counted_notes : goal.returns-clause-counted_notes
+returns-clause-counted_notes c = counted_notes_are
