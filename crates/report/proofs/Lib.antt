@@ -4,6 +4,7 @@ pub mod LineText
 pub mod NumberText
 pub mod TextLengths
 pub mod PartText
+pub mod DigitText
 pub mod FlowText
 pub mod LineLists
 pub mod DraftText

@@ -1,5 +1,5 @@
 -- A text is the summary of one made workload at most.
-use Rattle.std.proofs.Common.{◌≡◌, ℕ, ◌++◌, append_assoc, List, [], ◌∷◌, drop, get_or, refl, sym, ap, ◌∙◌}
+use Rattle.std.proofs.Common.{◌≡◌, ℕ, ◌++◌, append_assoc, List, [], drop, get_or, refl, sym, ap, ◌∙◌}
 use Rattle.std.specs.Prelude.{codes}
 use Rattle.report.specs.declared.made.Made.{Made}
 use Rattle.report.specs.Made.{IsSmallMade, counts_line, made_lines, made_text}

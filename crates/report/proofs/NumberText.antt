@@ -28,7 +28,7 @@ digits_of_decimal n h = own.from (decimal n) (decimal_is_IsNumeral_wide n (wide 
 pub decimal_one : (m n : ℕ) → m < 2 ^ 128 → n < 2 ^ 128 → decimal m ≡ decimal n → m ≡ n
 decimal_one m n hm hn e = sym (decimal_is_IsNumeral_wide m (wide m hm)).1 ∙ (ap (digits_value 10) e ∙ (decimal_is_IsNumeral_wide n (wide n hn)).1)
 
-digits_end : (ds behind : List ℕ) → all_ascii_digits ds ≡ true → Stops behind → position_or_len is_other (ds ++ behind) ≡ length ds
+pub digits_end : (ds behind : List ℕ) → all_ascii_digits ds ≡ true → Stops behind → position_or_len is_other (ds ++ behind) ≡ length ds
 digits_end [] [] d e = refl
 digits_end [] (b ∷ bs) d e = rw e refl
 digits_end (c ∷ cs) behind d e =

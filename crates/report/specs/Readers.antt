@@ -1,8 +1,10 @@
 -- What the readers of the parts of a line answer.
-use Rattle.std.specs.Prelude.{◌≡◌, ◌≢◌, ℕ, ◌<◌, ◌≤◌, ◌-◌, ◌^◌, ◌++◌, Bool, true, false, List, [], ◌∷◌, Option, Some}
-use Rattle.std.specs.Prelude.{None, All, codes}
+use Rattle.std.specs.Prelude.{◌≡◌, ◌≢◌, ℕ, ◌<◌, ◌≤◌, ◌^◌, ◌++◌, Bool, true, false, List, [], ◌∷◌, Option, Some}
+use Rattle.std.specs.Prelude.{◌⊎◌, None, All, codes, drop, length, take}
 use Rattle.coflow_units.specs.declared.limits.TheConstants.{MAX_SLOT, MAX_WEIGHT}
 use Rattle.std.specs.Char.{is_ascii_digit}
+use Rattle.std.specs.Str.{all_ascii_digits}
+use Rattle.std.specs.Str.Parse.{digits_value}
 use Rattle.std.specs.List.Sorted.{IsStrictlyIncreasing}
 use Rattle.std.specs.List.{flat_map}
 use Rattle.coflow_units.specs.declared.fabric.Side.{Side}
@@ -47,6 +49,11 @@ abbrev pub IsNumberThen : {V : Type 0} → (V → ℕ × List ℕ) → ℕ → L
 IsNumberThen view most bytes (Some v) = ((view v).0 ≤ most) × (bytes ≡ spaced (view v).0 ++ (view v).1) ×
     Stops (view v).1
 IsNumberThen view most bytes None = (n : ℕ) (rest : List ℕ) → n ≤ most → Stops rest → bytes ≡ spaced n ++ rest → ⊥
+
+-- so many leading digits, and the number that they are: all of them, or enough for a number above `most`
+abbrev pub IsLeading : ℕ → List ℕ → ℕ → ℕ → Type 0
+IsLeading most bytes number count = (count ≤ length bytes) × (all_ascii_digits (take count bytes) ≡ true) ×
+    (digits_value 10 (take count bytes) ≡ number) × ((most < number) ⊎ Stops (drop count bytes))
 
 -- the bytes begin with a space and the word of a side, and these are the side and what follows; or they do not begin so
 abbrev pub IsSideThen : {V : Type 0} → (V → Side × List ℕ) → List ℕ → Option V → Type 0

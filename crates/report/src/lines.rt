@@ -1,8 +1,8 @@
 //! A line, and a number behind a space.
-ghost use Rattle.std.specs.Prelude.{◌==◌, ◌≡◌, ◌≤◌, not, length, position};
+ghost use Rattle.std.specs.Prelude.{◌==◌, ◌≡◌, ◌<◌, ◌≤◌, ◌^◌, ◌↔◌, IsTrue, not, length, position, slice_index};
 ghost use Rattle.std.specs.Char.{is_ascii_digit};
 ghost use Rattle.std.specs.List.{position_or_len};
-ghost use Rattle.report.specs.Readers.{IsLineThen, IsNumberThen, IsSideThen};
+ghost use Rattle.report.specs.Readers.{IsLeading, IsLineThen, IsNumberThen, IsSideThen};
 
 use coflow_units::Side;
 use itoa::Buffer;
@@ -78,6 +78,60 @@ pub(crate) fn number_then(bytes: &[u8], most: u128) -> Option<(u128, &[u8])>
     } else {
         None
     }
+}
+
+/// As `number_then`, of a smaller number: each byte is looked at once.
+pub(crate) fn count_then(bytes: &[u8], most: u64) -> Option<(u64, &[u8])>
+    requires { most < 2 ^ 60 }
+    ensures { IsNumberThen (λ x. (x.0, x.1.now)) most bytes.now result }
+{
+    let Some((first, digits)) = bytes.split_first() else {
+        return None;
+    };
+    if *first != b' ' {
+        return None;
+    }
+    let (number, count) = leading_number(digits, most);
+    if number > most {
+        return None;
+    }
+    if !is_plain(digits, count) {
+        return None;
+    }
+    let (_, rest) = digits.split_at(count);
+    Some((number, rest))
+}
+
+/// The number that the leading digits are, and how many they are. Digits behind a number above `most` are not read.
+fn leading_number(digits: &[u8], most: u64) -> (u64, usize)
+    requires { most < 2 ^ 60 }
+    ensures { IsLeading most digits.now result.0 result.1 }
+{
+    let mut number = 0;
+    let mut count = 0;
+    'digits: while count < digits.len() {
+        let byte = digits[count];
+        if !byte.is_ascii_digit() {
+            return (number, count);
+        }
+        if number > most {
+            return (number, count);
+        }
+        number = number * 10 + u64::from(byte - b'0');
+        count += 1;
+    }
+    (number, count)
+}
+
+/// There is a digit, and the first of more than one is not zero.
+fn is_plain(digits: &[u8], count: usize) -> bool
+    requires { count ≤ length digits.now }
+    ensures { IsTrue result ↔ ((0 < count) × (slice_index digits.now 0 ≡ 48 → count ≡ 1)) }
+{
+    if count == 0 {
+        return false;
+    }
+    digits[0] != b'0' || count == 1
 }
 
 /// The side that the bytes begin with behind a space, and the bytes behind it.

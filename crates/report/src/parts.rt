@@ -1,8 +1,8 @@
 //! What a line of a report says.
-ghost use Rattle.std.specs.Prelude.{◌≡◌, ◌↔◌, IfOk, IsTrue, codes};
+ghost use Rattle.std.specs.Prelude.{◌==◌, ◌≡◌, ◌↔◌, IfOk, IsTrue, codes, count_by};
 ghost use Rattle.report.specs.Readers.{IsChargeThen, IsFlowsOf, IsPlaceOf, IsRunOf, IsTotalOf, IsVersionOf, IsWeightWord, Rises, Stops};
 
-use crate::lines::{number_then, side_then};
+use crate::lines::{count_then, number_then, side_then};
 use crate::value::PlaceLine;
 use coflow_units::{Items, MAX_SLOT, MAX_WEIGHT, NoMemory, Port, Run};
 use std::alloc::Global;
@@ -123,15 +123,22 @@ fn rises(flows: &[u32], flow: u32) -> bool
     }
 }
 
+/// How many spaces the bytes have.
+fn spaces_in(bytes: &[u8]) -> usize
+    ensures { result ≡ count_by (λ b. b == 32) bytes.now }
+{
+    bytes.iter().filter(|b| **b == b' ').count()
+}
+
 /// The ascending flow numbers that the bytes are, each behind a space.
 fn flows_of(alloc: Global, bytes: &[u8]) -> Result<Option<Items<u32>>, NoMemory>
     requires { Stops bytes.now }
     ensures { IfOk result (λ v. IsFlowsOf bytes.now v) }
 {
-    let mut flows = Vec::new(alloc);
+    let mut flows = Vec::with_capacity(alloc, spaces_in(bytes))?;
     let mut rest = bytes;
     while !rest.is_empty() {
-        let Some((flow, behind)) = number_then(rest, u128::from(u32::MAX)) else {
+        let Some((flow, behind)) = count_then(rest, u64::from(u32::MAX)) else {
             return Ok(None);
         };
         if !rises(&flows, flow as u32) {
@@ -150,7 +157,7 @@ pub(crate) fn run_of(alloc: Global, line: &[u8]) -> Result<Option<Run>, NoMemory
     let Some(rest) = line.strip_prefix(b"run") else {
         return Ok(None);
     };
-    let Some((length, rest)) = number_then(rest, u128::from(MAX_SLOT)) else {
+    let Some((length, rest)) = count_then(rest, MAX_SLOT) else {
         return Ok(None);
     };
     if length == 0 {
@@ -159,8 +166,5 @@ pub(crate) fn run_of(alloc: Global, line: &[u8]) -> Result<Option<Run>, NoMemory
     let Some(flows) = flows_of(alloc, rest)? else {
         return Ok(None);
     };
-    Ok(Some(Run {
-        length: length as u64,
-        flows,
-    }))
+    Ok(Some(Run { length, flows }))
 }

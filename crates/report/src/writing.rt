@@ -3,7 +3,7 @@ ghost use Rattle.std.specs.Prelude.{◌≡◌, ◌<◌, ◌+◌, ◌++◌, IfOk,
 ghost use Rattle.report.specs.Text.{charge_words, ended, place_line_at, place_lines, report_text, run_line, side_word, text_of, total_lines, version_line, weight_at, weight_word};
 ghost use Rattle.report.specs.Report.{HasWeights};
 
-use crate::numbers::{push_named, push_number};
+use crate::numbers::{push_flow, push_named, push_number, width_of};
 use crate::value::{PlaceLine, Report};
 use coflow_units::{NoMemory, Run, Side};
 use std::alloc::Global;
@@ -19,13 +19,35 @@ pub fn write_report(alloc: Global, report: &Report) -> Result<Vec<u8>, NoMemory>
     requires weight_each { HasWeights report.now }
     ensures text { IfOk result (λ bytes. bytes.items ≡ report_text report.now) }
 {
-    let mut text = Vec::new(alloc);
+    let mut text = Vec::with_capacity(alloc, room_for(report))?;
     push_version(&mut text, report)?;
     push_places(&mut text, report)?;
     push_totals(&mut text, report)?;
     push_runs(&mut text, report)?;
     text.extend_from_slice(b"end\n")?;
     Ok(text)
+}
+
+/// Room for the text, so that it is not moved while it grows. No clause needs it.
+fn room_for(report: &Report) -> usize {
+    let mut room = report.places.as_slice().len().saturating_mul(200);
+    for run in report.runs.as_slice() {
+        room = room.saturating_add(room_for_run(run));
+    }
+    room.saturating_add(200)
+}
+
+/// Room for the line of a run: its last flow has the most digits.
+fn room_for_run(run: &Run) -> usize {
+    let flows = run.flows.as_slice();
+    let digits = match flows.last() {
+        Some(last) => width_of(*last),
+        None => 0,
+    };
+    flows
+        .len()
+        .saturating_mul(digits.saturating_add(1))
+        .saturating_add(30)
 }
 
 /// The first line.
@@ -125,7 +147,7 @@ fn push_run(text: &mut Vec<u8>, run: &Run) -> Result<(), NoMemory>
     text.extend_from_slice(b"run")?;
     push_number(text, u128::from(run.length))?;
     for flow in run.flows.as_slice() {
-        push_number(text, u128::from(*flow))?;
+        push_flow(text, *flow)?;
     }
     text.extend_from_slice(b"\n")?;
     Ok(())

@@ -5,7 +5,7 @@ use Rattle.report.proofs.writing.write_report.Goals as goal
 
 pub returns : goal.returns
 returns c =
-    let version : c.push_version.new.text.items ≡ [] ++ ended (version_line c.args.report.now.weights) = rw c.new-text.ensures.items at c.in_ok-push_version.ensures in
+    let version : c.push_version.new.text.items ≡ [] ++ ended (version_line c.args.report.now.weights) = rw c.in_ok-text.ensures.items at c.in_ok-push_version.ensures in
     record {
       text = whole c.args.report.now c.push_version.new.text.items c.push_places.new.text.items c.push_totals.new.text.items c.push_runs.new.text.items
           c.extend_from_slice.new.self.items
