@@ -9,6 +9,3 @@ mod words;
 
 pub use command::Command;
 pub use words::{Words, WordsFault, read_words};
-
-#[cfg(test)]
-mod tests;

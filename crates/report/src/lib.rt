@@ -18,6 +18,3 @@ pub use made::{Made, write_made};
 pub use reading::read_report;
 pub use value::{PlaceLine, Report};
 pub use writing::write_report;
-
-#[cfg(test)]
-mod tests;

@@ -10,6 +10,3 @@ pub use decimals::{Decimal, decimal_of};
 pub use fields::Fields;
 pub use lines::Lines;
 pub use numbers::{is_number, number_of};
-
-#[cfg(test)]
-mod tests;

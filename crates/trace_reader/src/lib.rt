@@ -13,6 +13,3 @@ mod trace;
 
 pub use fault::TraceFault;
 pub use trace::read_trace;
-
-#[cfg(test)]
-mod tests;

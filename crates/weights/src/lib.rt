@@ -9,6 +9,3 @@ mod weights;
 
 pub use fault::WeightsFault;
 pub use weights::read_weights;
-
-#[cfg(test)]
-mod tests;

@@ -10,6 +10,3 @@ mod writing;
 
 pub use coflow::{MadeCoflow, MadeReducer};
 pub use generator::{Made0, made};
-
-#[cfg(test)]
-mod tests;

@@ -1,0 +1,179 @@
+//! Command lines.
+use command_words::read_words;
+use std::alloc::Global;
+use std::test::Fail;
+
+/// The program's name, and the words between the spaces of a line.
+fn cut(alloc: Global, line: &str) -> Result<Vec<String>, Fail> {
+    let mut words: Vec<String> = Vec::new(alloc);
+    words.push(String::from_str(alloc, "sincronia")?)?;
+    for word in line.split(' ') {
+        words.push(String::from_str(alloc, word)?)?;
+    }
+    Ok(words)
+}
+
+/// What a line says: the command, FIRST, SECOND and the weights, each `-` where there is none, and the values of `--unit`, `--agents`, `--epoch`, `--run` and `--slot-ms`;
+/// or its fault.
+fn answer(alloc: Global, words: &[String]) -> Result<String, Fail> {
+    match read_words(alloc, words) {
+        Ok(said) => {
+            let (second, weights) = (said.second.unwrap_or("-"), said.weights.unwrap_or("-"));
+            Ok(format!(in alloc;
+                "{:?} {} {second} {weights} {} {} {} {} {}",
+                said.command, said.first, said.unit, said.agents, said.epoch, said.run, said.slot_ms
+            )?)
+        }
+        Err(fault) => Ok(format!(in alloc; "{fault}")?),
+    }
+}
+
+#[test]
+fn lines_that_are_read(rt: HostRuntime) -> Result<(), Fail> {
+    let table = [
+        ("plan t", "Plan t - - 1 4 1024 1 8"),
+        ("--weights w plan t", "Plan t - w 1 4 1024 1 8"),
+        ("plan --weights w t", "Plan t - w 1 4 1024 1 8"),
+        ("plan t --weights w", "Plan t - w 1 4 1024 1 8"),
+        ("plan t --weights=w", "Plan t - w 1 4 1024 1 8"),
+        ("plan t --weights=-x", "Plan t - -x 1 4 1024 1 8"),
+        ("plan t --weights=--", "Plan t - -- 1 4 1024 1 8"),
+        ("plan t --weights=a=b", "Plan t - a=b 1 4 1024 1 8"),
+        ("plan t --weights =b", "Plan t - =b 1 4 1024 1 8"),
+        ("plan t --weights==b", "Plan t - =b 1 4 1024 1 8"),
+        ("plan t --unit 01", "Plan t - - 1 4 1024 1 8"),
+        ("plan t --unit 1048576", "Plan t - - 1048576 4 1024 1 8"),
+        ("plan t --agents=1", "Plan t - - 1 1 1024 1 8"),
+        ("plan t --agents 64", "Plan t - - 1 64 1024 1 8"),
+        (
+            "plan t --epoch 1099511627776",
+            "Plan t - - 1 4 1099511627776 1 8",
+        ),
+        (
+            "plan t --run 1099511627776",
+            "Plan t - - 1 4 1024 1099511627776 8",
+        ),
+        ("plan t --slot-ms 1048576", "Plan t - - 1 4 1024 1 1048576"),
+        (
+            "--slot-ms 6 plan --run 5 --epoch=4 t --agents 3 --weights=w --unit 2",
+            "Plan t - w 2 3 4 5 6",
+        ),
+        ("check t r", "Check t r - 1 4 1024 1 8"),
+        ("check --unit=1 t --run 1 r --", "Check t r - 1 4 1024 1 8"),
+        ("check -- -t --", "Check -t -- - 1 4 1024 1 8"),
+        ("check t -- --unit", "Check t --unit - 1 4 1024 1 8"),
+        ("make 007", "Make 007 - - 1 4 1024 1 8"),
+        (
+            "make 18446744073709551615",
+            "Make 18446744073709551615 - - 1 4 1024 1 8",
+        ),
+        ("make 0 --epoch 5", "Make 0 - - 1 4 5 1 8"),
+        ("plan help", "Plan help - - 1 4 1024 1 8"),
+        ("plan plan", "Plan plan - - 1 4 1024 1 8"),
+        ("plan -- -x", "Plan -x - - 1 4 1024 1 8"),
+        ("plan -- --", "Plan -- - - 1 4 1024 1 8"),
+        ("-- plan t", "Plan t - - 1 4 1024 1 8"),
+        ("plan -- t", "Plan t - - 1 4 1024 1 8"),
+        ("plan t --", "Plan t - - 1 4 1024 1 8"),
+    ];
+    for (line, want) in table {
+        let words = cut(rt.alloc(), line)?;
+        assert_eq!(rt; answer(rt.alloc(), &words)?.as_str(), want, "{line}");
+    }
+    Ok(())
+}
+
+/// Lines that are refused, one behind another.
+const REFUSED: &str = "plan
+check t
+make
+make x
+make -1
+make -- -1
+make +1
+make 18446744073709551616
+paln t
+help plan
+help
+PLAN t
+plan  x
+plan t r
+plan t r x
+make 1 r
+check t r x
+plan -
+plan -- -
+plan -x
+plan -5
+plan ---
+plan -=
+plan t -w x
+check t -
+check - r
+-- plan -- t
+plan -- t --unit 1
+--help
+plan t --help
+plan t -h
+--version
+plan t --version
+plan t -V
+plan t --unit=1 --unit 1
+--unit 1 plan --unit 2 t
+plan t --weights w --weights=w2
+plan t --weights -x
+plan t --weights -
+plan t --weights=-
+plan t --weights=
+plan t --weights --
+plan t --weights --unit 1
+plan t --weights
+plan t --unit
+plan t --unitt 1
+plan t --uni 1
+plan t --=1
+plan t --unit=
+plan t --unit +5
+plan t --unit -1
+plan t --unit=-1
+plan t --unit 0
+plan t --unit 1048577
+plan t --unit 1x
+plan t --agents 0
+plan t --agents 65
+plan t --epoch 0
+plan t --epoch 1099511627777
+plan t --epoch 99999999999999999999
+plan t --run 0
+plan t --run 1099511627777
+plan t --slot-ms 0
+plan t --slot-ms 1048577
+plan t --slot_ms 8
+plan t ---unit 1
+make 1 --epoch 0
+make 1 --weights=";
+
+#[test]
+fn lines_that_are_refused(rt: HostRuntime) -> Result<(), Fail> {
+    for line in REFUSED.split('\n') {
+        let words = cut(rt.alloc(), line)?;
+        assert_eq!(rt;
+            answer(rt.alloc(), &words)?.as_str(),
+            "the words are no command line",
+            "{line}"
+        );
+    }
+    // a word that is empty, and no words at all
+    for line in ["", " ", "plan t -- ", "plan t --weights "] {
+        let words = cut(rt.alloc(), line)?;
+        assert_eq!(rt;
+            answer(rt.alloc(), &words)?.as_str(),
+            "the words are no command line"
+        );
+    }
+    assert_eq!(rt;
+        answer(rt.alloc(), &[])?.as_str(),
+        "the words are no command line"
+    );
+    Ok(())
+}
