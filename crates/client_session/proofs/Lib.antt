@@ -1,0 +1,7 @@
+pub mod OwnSteps
+pub mod Passes
+pub mod Agreement
+pub mod Answered
+pub mod Turning
+pub mod Pulling
+pub mod Beginning

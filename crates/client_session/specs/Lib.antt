@@ -1,0 +1,6 @@
+pub mod Own
+pub mod Models
+pub mod Desk
+pub mod Turns
+pub mod Drivers
+pub mod Halls

@@ -1,0 +1,90 @@
+//! The hall, where clients take turns at one master and read its ranks.
+ghost use Rattle.std.specs.Prelude.{◌≡◌, ℕ, ◌+◌, ◌^◌, ◌<◌, ◌≤◌, length, [], IfOk, OnOk, OnErr, Some};
+ghost use Rattle.client_session.specs.Models.{IsDriverOf, IsSessionOf};
+ghost use Rattle.client_session.specs.Halls.{IsFirstDriver, IsNewSession};
+
+use crate::desk::Desk;
+use crate::driver::Driver;
+use crate::session::Session;
+use coflow_units::NoMemory;
+use master_core::Master;
+use rank_board::RankBoard;
+use std::alloc::Global;
+use std::marker::Model;
+use turnstile::Turnstile;
+
+/// A master that any number of sessions ask in turns, and the board on which its ranks are read without waiting.
+///
+/// Contracts see which hall it is, and what no call changes: the opening of its master, and its board.
+#[derive(Drop)]
+pub struct Hall {
+    pub(crate) gate: Turnstile<Desk>,
+    pub(crate) board: RankBoard,
+}
+
+impl Model for Hall {
+    ghost use Rattle.std.specs.Prelude.{◌≡◌, length};
+    ghost use Rattle.client_session.specs.Models.{HallModel};
+
+    ghost Value = { HallModel };
+
+    ghost view = { λ h. record { gate = h.gate.table; setting = h.gate.setting } };
+
+    ghost invariant = { λ h. (h.gate.setting.board ≡ h.board) ×
+        (h.gate.setting.board.coflows ≡ length h.gate.setting.opening.table.ids) };
+}
+
+impl Hall {
+    /// Puts a master without entries into a new hall, and makes its driver, which may take so many turns.
+    ///
+    /// The error is want of memory, and drops the master.
+    pub fn begin(
+        alloc: Global,
+        master: Master,
+        driver_calls: u64,
+    ) -> Result<(Hall, Driver), NoMemory>
+        requires empty { master.journal ≡ [] }
+        requires few { driver_calls ≤ 2 ^ 40 }
+        ensures opening { IfOk result (λ made. made.0.setting.opening ≡ master.opening) }
+        ensures driver { IfOk result (λ made. IsFirstDriver made.0 driver_calls made.1) }
+    {
+        let (board, publisher, rank) = RankBoard::new(alloc, master.table().coflows())?;
+        let (gate, root) = Turnstile::new(alloc, Desk::new(master, publisher))?;
+        let hall = Hall { gate, board };
+        let driver = Driver {
+            root,
+            rank,
+            left: driver_calls,
+            turned: 0,
+            position: 0,
+        };
+        Ok((hall, driver))
+    }
+
+    /// Makes a session with the next number, from 1 on, which may take so many turns. It has seen what the driver has seen. A driver makes at most 2^16 sessions.
+    ///
+    /// The error is want of memory for the session's receipts, and the driver is as before.
+    pub fn session(
+        &self,
+        alloc: Global,
+        driver: &mut Driver,
+        calls: u32,
+    ) -> Result<Session, NoMemory>
+        requires own { IsDriverOf self.now driver.old }
+        requires room { driver.old.made < 2 ^ 16 }
+        ensures session { IfOk result (λ s. IsNewSession self.now driver.old calls s) }
+        ensures counted { OnOk result (driver.new ≡ record driver.old { made = driver.old.made + 1 }) }
+        ensures refused { OnErr result (driver.new ≡ driver.old) }
+    {
+        let receipts = Vec::with_capacity(alloc, calls as usize)?;
+        let seat = self.gate.seat(&mut driver.root);
+        Ok(Session {
+            seat,
+            rank: self.board.seat(&mut driver.rank),
+            number: driver.root.made(),
+            left: calls,
+            position: driver.position,
+            receipts,
+        })
+    }
+}

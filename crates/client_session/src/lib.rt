@@ -1,0 +1,18 @@
+//! Many clients of one master at once. Each takes its turns in a session of its own, which keeps a receipt of each, and reads ranks without waiting.
+#![tactic(auto)]
+
+mod desk;
+mod driver;
+mod hall;
+mod receipt;
+mod session;
+
+pub use driver::Driver;
+pub use hall::Hall;
+pub use journal::{Command, Entry, Opening, Reply};
+pub use rank_board::Pulled;
+pub use receipt::{Answer, Receipt};
+pub use session::Session;
+
+#[cfg(test)]
+mod tests;
