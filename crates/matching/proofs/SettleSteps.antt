@@ -17,6 +17,16 @@ waits_more g left granted waits more to k = record {
   rest = λ r lt some. elim (k.rest r lt some) [ inl covered ↦ inl covered | inr (inl w) ↦ inr (inl (to (g.first r) w)) | inr (inr w) ↦ inr (inr (to (g.second r) w)) ];
 }
 
+-- where each port of the first side waits, no other has to
+pub first_side_waits : (ports : ℕ) (g : Graph) (left : ℕ → ℕ) (granted waits more : ℕ → Type 0) → IsGraph ports g → ((p : ℕ) → p < ports → more p) → IsKept g left granted waits →
+    IsKept g left granted more
+first_side_waits ports g left granted waits more graph all k = record {
+  known = k.known;
+  owed = k.owed;
+  apart = k.apart;
+  rest = λ r lt some. inr (inl (all (g.first r) (graph.first r lt)));
+}
+
 -- ---- the two sides
 
 pub opposite_first : (ports p k : ℕ) → p < ports → opposite ports p k ≡ ports + k

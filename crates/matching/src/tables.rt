@@ -264,9 +264,26 @@ impl Tables {
         ensures heads { self.new.heads ≡ self.old.heads }
         ensures listed { self.new.listed ≡ self.old.listed }
     {
+        self.turn_to_first();
         while let Some(port) = self.board.waiting.pop() {
             self.look_at(port);
         }
+    }
+
+    /// Where that leaves fewer looks, all ports of the first side wait in place of those of the second side that do: each flow that may be to be had has a port of the first side.
+    fn turn_to_first(&mut self)
+        requires { IsSound self.old (λ p. Contains self.old.board.waiting.ports p) }
+        ensures sound { IsSound self.new (λ p. Contains self.new.board.waiting.ports p) }
+        ensures ranks { self.new.ranks ≡ self.old.ranks }
+        ensures left { self.new.left ≡ self.old.left }
+        ensures heads { self.new.heads ≡ self.old.heads }
+        ensures listed { self.new.listed ≡ self.old.listed }
+    {
+        let ports = self.ranks.ports;
+        if !self.board.waiting.favours_first(ports) {
+            return;
+        }
+        self.board.waiting.wait_first(ports);
     }
 
     /// Puts in the least rank that is to be had at the port, if there is one.
