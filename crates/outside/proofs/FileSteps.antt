@@ -13,7 +13,7 @@ use Rattle.std.proofs.lemmas.Grind.{common_steps, get_or-set_at}
 use Rattle.std.proofs.Math.Seq.{map-set_same, get_or-append_seam}
 use Rattle.outside.specs.declared.files.File.{File}
 use Rattle.outside.specs.Rose.{Rose}
-use Rattle.outside.specs.Files.{names_of, contents_of, counts_of, number_of, bytes_at, count_at, AddsName, HasNoFile, Puts}
+use Rattle.outside.specs.Files.{names_of, contents_of, counts_of, number_of, bytes_at, count_at, CountsName, HasNoFile, LeavesOtherNames, Puts}
 
 pub same_names : (files : List File) (i : ℕ) (f d : File) → string_bytes f.name ≡ string_bytes (get_or files i d).name → names_of (set files i f) ≡ names_of files
 same_names files i f d e = map-set_same (λ (x : File). string_bytes x.name) files i f d e
@@ -210,20 +210,34 @@ missing_as old new names many name e = ap (λ ns. number_of ns name) (sym names)
 pub same_missing : (old new : List File) → names_of new ≡ names_of old → length new ≡ length old → (name : List ℕ) → HasNoFile new name ↔ HasNoFile old name
 same_missing old new names many name = (missing_as old new names many name, missing_as new old (sym names) (sym many) name)
 
+-- what a file in place of another of its name does to the names
+pub record SetsName (old new : List File) (name : List ℕ) : Type 0 where
+  pub added : HasNoFile new name → ⊥
+  pub others : LeavesOtherNames old new name
+  pub count : CountsName old new name
+
 pub set_adds : (files : List File) (i : ℕ) (f d : File) (name : List ℕ) → i ≡ number_of (names_of files) name → i < length files →
-    string_bytes f.name ≡ string_bytes (get_or files i d).name → AddsName files (set files i f) name
+    string_bytes f.name ≡ string_bytes (get_or files i d).name → SetsName files (set files i f) name
 set_adds files i f d name at inside nm =
     let names : names_of (set files i f) ≡ names_of files = same_names files i f d nm in
     let many : length (set files i f) ≡ length files = length-set files i f in
     record {
       added = λ e. let old : HasNoFile files name = missing_as files (set files i f) names many name e in omega (arith, at, old, inside);
       others = λ n differ. same_missing files (set files i f) names many n;
+      count = record { new_name = λ none. absurd (omega (arith, at, none, inside)); old_name = λ some. many };
     }
 
-pub push_adds : (files : List File) (f : File) (name : List ℕ) → length files ≤ number_of (names_of files) name → string_bytes f.name ≡ name → AddsName files (files ++ f ∷ []) name
+-- a number at the end of the files is that of no file
+pub not_there : (files : List File) (name : List ℕ) (i : ℕ) → i ≡ number_of (names_of files) name → length files ≤ i → number_of (names_of files) name ≡ length files
+not_there files name i at past =
+    let within : number_of (names_of files) name ≤ length (names_of files) = prefix_len-le-length _ (names_of files) in
+    omega (arith, at, past, within, length-map files (λ (x : File). string_bytes x.name))
+
+pub push_adds : (files : List File) (f : File) (name : List ℕ) → number_of (names_of files) name ≡ length files → string_bytes f.name ≡ name → SetsName files (files ++ f ∷ []) name
 push_adds files f name absent nm = record {
   added = λ e. by_name (sym (ap (λ ns. number_of ns name) names) ∙ e) (stands N name name);
   others = λ n differ. by_other n differ (stands N name n);
+  count = record { new_name = λ none. longer; old_name = λ some. absurd (some absent) };
 }
   where
     N : List (List ℕ)

@@ -1,5 +1,5 @@
 -- Files in memory, by their numbers, and the places at which they are read.
-use Rattle.std.specs.Prelude.{◌≡◌, ◌≢◌, ◌↔◌, ℕ, Bool, List, [], Option, Some, None, drop, length, map, string_bytes}
+use Rattle.std.specs.Prelude.{◌≡◌, ◌≢◌, ◌↔◌, ◌+◌, ℕ, Bool, List, [], Option, Some, None, drop, length, map, string_bytes}
 use Rattle.std.specs.Prelude.{is_some, nat_eq}
 use Rattle.std.specs.List.{position_or_len, slice_index_or}
 use Rattle.std.specs.Cmp.Lexicographic.{pointwise}
@@ -49,10 +49,14 @@ pub record Puts (old new : List File) (missing : ℕ) (name bytes : List ℕ) : 
 abbrev pub HasNoFile : List File → List ℕ → Type 0
 HasNoFile files name = number_of (names_of files) name ≡ length files
 
--- a file has the name, and every other name is that of a file where it was one before, and nowhere else
-pub record AddsName (old new : List File) (name : List ℕ) : Type 0 where
-  pub added : HasNoFile new name → ⊥
-  pub others : (n : List ℕ) → n ≢ name → HasNoFile new n ↔ HasNoFile old n
+-- every other name is that of a file where it was one before, and nowhere else
+abbrev pub LeavesOtherNames : List File → List File → List ℕ → Type 0
+LeavesOtherNames old new name = (n : List ℕ) → n ≢ name → HasNoFile new n ↔ HasNoFile old n
+
+-- one file more where no file had the name, and else as many as before
+pub record CountsName (old new : List File) (name : List ℕ) : Type 0 where
+  pub new_name : HasNoFile old name → length new ≡ length old + 1
+  pub old_name : (HasNoFile old name → ⊥) → length new ≡ length old
 
 -- what is held at a place
 abbrev pub held : {T : Type 0} → Places T → Place4 → Option T

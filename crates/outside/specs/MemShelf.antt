@@ -1,9 +1,9 @@
 -- What a shelf in memory tells.
-use Rattle.std.specs.Prelude.{◌≡◌, ◌↔◌, ℕ, Bool, List, Contains}
+use Rattle.std.specs.Prelude.{◌≡◌, ◌↔◌, ℕ, Bool, List, Contains, length}
 use Rattle.outside.specs.declared.shelf.Place4.{Place4}
 use Rattle.outside.specs.declared.mem_shelf.MemShelf.{MemShelf}
 use Rattle.outside.specs.Shelf.{Told, faults_of}
-use Rattle.outside.specs.Files.{AddsName, HasNoFile, count_at, counts_of, is_started, memory_told}
+use Rattle.outside.specs.Files.{CountsName, HasNoFile, LeavesOtherNames, count_at, counts_of, is_started, memory_told}
 
 abbrev pub mem_told : MemShelf → Told
 mem_told shelf =
@@ -23,18 +23,25 @@ FailsNow shelf = Contains shelf.fails.items shelf.calls
 abbrev pub IsMissing : MemShelf → List ℕ → Type 0
 IsMissing shelf name = HasNoFile shelf.files.items name
 
--- the name was put, and of every other name it is as before whether it was
-abbrev pub PutsName : MemShelf → MemShelf → List ℕ → Type 0
-PutsName old new name = AddsName old.files.items new.files.items name
+-- of every other name it is as before whether it was put
+abbrev pub LeavesOthers : MemShelf → MemShelf → List ℕ → Type 0
+LeavesOthers old new name = LeavesOtherNames old.files.items new.files.items name
+
+-- how many names the shelf holds
+abbrev pub count_of : MemShelf → ℕ
+count_of shelf = length shelf.files.items
+
+-- one name more where the name was not put, and else as many as before
+abbrev pub CountsOnce : MemShelf → MemShelf → List ℕ → Type 0
+CountsOnce old new name = CountsName old.files.items new.files.items name
 
 -- the same names were put
 abbrev pub HasSameNames : MemShelf → MemShelf → Type 0
 HasSameNames old new = (name : List ℕ) → IsMissing new name ↔ IsMissing old name
 
--- no count of faults changed, neither that of the shelf nor that of a name
-pub record HasSameCounts (old new : MemShelf) : Type 0 where
-  pub all : mem_faults new ≡ mem_faults old
-  pub each : (name : List ℕ) → faults_of (mem_told new) name ≡ faults_of (mem_told old) name
+-- no name has another count of faults
+abbrev pub HasSameCounts : MemShelf → MemShelf → Type 0
+HasSameCounts old new = (name : List ℕ) → faults_of (mem_told new) name ≡ faults_of (mem_told old) name
 
 -- a read gives at most so many bytes
 abbrev pub piece_of : MemShelf → ℕ

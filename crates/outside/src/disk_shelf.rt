@@ -1,8 +1,8 @@
 //! The files of the system as a shelf.
-ghost use Rattle.std.specs.Prelude.{◌≡◌, ◌≤◌, OnErr, Some, is_ok, is_some, true};
+ghost use Rattle.std.specs.Prelude.{◌≡◌, ◌<◌, ◌≤◌, OnErr, OnOk, Some, length, is_ok, is_some, true};
 ghost use Rattle.std.specs.Io.{ReadsAtMost};
 ghost use Rattle.std.specs.Io.KnownBytes.{ReadConsumes};
-ghost use Rattle.outside.specs.Rose.{Rose};
+ghost use Rattle.outside.specs.Rose.{Rose, RoseOnce};
 
 use crate::shelf::{Place4, Shelf};
 use crate::sink::Failed;
@@ -47,6 +47,8 @@ fn open<R: Files>(
     ensures opened { is_some opened.new ≡ is_ok result }
     ensures later { faults.old ≤ faults.new }
     ensures cause { OnErr result (Rose faults.old faults.new) }
+    ensures still { OnOk result (faults.new ≡ faults.old) }
+    ensures once { OnErr result (RoseOnce faults.old faults.new) }
 {
     match fs::open(files, name) {
         Ok(file) => {
@@ -72,6 +74,8 @@ fn read_some<F: Read>(
     ensures opened { is_some opened.new ≡ true }
     ensures later { faults.old ≤ faults.new }
     ensures cause { OnErr result (Rose faults.old faults.new) }
+    ensures still { OnOk result (faults.new ≡ faults.old) }
+    ensures once { OnErr result (RoseOnce faults.old faults.new) }
     ensures bound { ReadsAtMost result buffer.new }
     ensures bytes { (before after : F) → opened.old ≡ Some before → opened.new ≡ Some after →
         ReadConsumes (F.remaining before) (F.remaining after) result buffer.new }
@@ -103,7 +107,24 @@ impl<R: Files + Drop> Shelf for DiskShelf<R> {
         }
     }
 
-    fn read(&mut self, place: Place4, buffer: &mut [u8]) -> Result<usize, Failed> {
+    /// Hands on what the file at the place answered: the first bytes that it has left, and none only at its end.
+    fn read(&mut self, place: Place4, buffer: &mut [u8]) -> Result<usize, Failed>
+        requires room { 0 < length buffer.old }
+        requires started { at_place (is_some self.old.trace) (is_some self.old.weights) (is_some self.old.report)
+            (is_some self.old.script) place ≡ true }
+        ensures later { self.old.faults ≤ self.new.faults }
+        ensures cause { OnErr result (Rose self.old.faults self.new.faults) }
+        ensures still { OnOk result (self.new.faults ≡ self.old.faults) }
+        ensures once { OnErr result (RoseOnce self.old.faults self.new.faults) }
+        ensures bound { ReadsAtMost result buffer.new }
+        ensures started { at_place (is_some self.new.trace) (is_some self.new.weights) (is_some self.new.report)
+            (is_some self.new.script) ≡ at_place (is_some self.old.trace) (is_some self.old.weights)
+            (is_some self.old.report) (is_some self.old.script) }
+        ensures bytes { (before after : R.File) →
+            at_place self.old.trace self.old.weights self.old.report self.old.script place ≡ Some before →
+            at_place self.new.trace self.new.weights self.new.report self.new.script place ≡ Some after →
+            ReadConsumes (R.File.remaining before) (R.File.remaining after) result buffer.new }
+    {
         match place {
             Place4::Trace => read_some(&mut self.trace, buffer, &mut self.faults),
             Place4::Weights => read_some(&mut self.weights, buffer, &mut self.faults),

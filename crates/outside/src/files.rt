@@ -3,7 +3,7 @@ ghost use Rattle.std.specs.Prelude.{◌≡◌, ℕ, ◌+◌, ◌-◌, ◌^◌, �
 ghost use Rattle.outside.specs.declared.sink.Failed.{Failed};
 ghost use Rattle.outside.specs.Rose.{Rose};
 ghost use Rattle.outside.specs.Shelf.{Moves};
-ghost use Rattle.outside.specs.Files.{bytes_at, contents_of, count_at, counts_of, held, names_of, number_of, with_held, AddsName, Puts};
+ghost use Rattle.outside.specs.Files.{bytes_at, contents_of, count_at, counts_of, held, names_of, number_of, with_held, CountsName, HasNoFile, LeavesOtherNames, Puts};
 
 use crate::piece::Piece;
 use crate::shelf::Place4;
@@ -154,7 +154,9 @@ pub(crate) fn put(
     bytes: &[u8],
 ) -> Result<(), NoMemory>
     ensures ok { OnOk result (Puts files.old.items files.new.items missing name.now bytes.now) }
-    ensures named { OnOk result (AddsName files.old.items files.new.items name.now) }
+    ensures named { OnOk result (HasNoFile files.new.items name.now → ⊥) }
+    ensures alone { OnOk result (LeavesOtherNames files.old.items files.new.items name.now) }
+    ensures count { OnOk result (CountsName files.old.items files.new.items name.now) }
     ensures no_memory { OnErr result (files.new.items ≡ files.old.items) }
 {
     let bytes = Vec::from_slice(alloc, bytes)?;

@@ -1,9 +1,9 @@
 //! A shelf in memory, of which some calls fail.
 ghost use Rattle.std.specs.Prelude.{◌≡◌, ℕ, ◌+◌, ◌-◌, ◌^◌, ◌<◌, ◌≤◌, ◌⊎◌, List, false, is_ok, length, min, true, IfOk, IsOkAnd, OnErr, OnOk, Some};
 ghost use Rattle.std.specs.Io.{ReadsAtMost};
-ghost use Rattle.outside.specs.Rose.{Rose};
+ghost use Rattle.outside.specs.Rose.{Rose, RoseOnce};
 ghost use Rattle.outside.specs.Shelf.{IsBare, PutsBytes, Reads, SameElsewhere, Starts};
-ghost use Rattle.outside.specs.MemShelf.{mem_faults, mem_started, mem_told, piece_of, FailsNow, HasMade, HasSameCounts, HasSameNames, IsMissing, PutsName};
+ghost use Rattle.outside.specs.MemShelf.{count_of, mem_faults, mem_started, mem_told, piece_of, CountsOnce, FailsNow, HasMade, HasSameCounts, HasSameNames, IsMissing, LeavesOthers};
 
 use crate::files::{
     Counts, File, Opened, Places, bytes_at, copy_some, next_fails, number_of, put, raise,
@@ -39,6 +39,7 @@ impl MemShelf {
         ensures calls { IsOkAnd result (λ s. (s.fails.items ≡ fails.items) × (s.calls ≡ 0)) }
         ensures piece { IsOkAnd result (λ s. piece_of s ≡ piece) }
         ensures names { IsOkAnd result (λ s. (name : List ℕ) → IsMissing s name) }
+        ensures count { IsOkAnd result (λ s. count_of s ≡ 0) }
     {
         Ok(MemShelf {
             alloc,
@@ -60,8 +61,10 @@ impl MemShelf {
         ensures faults { mem_faults self.new ≡ mem_faults self.old }
         ensures calls { HasMade self.old self.new self.old.calls }
         ensures piece { piece_of self.new ≡ piece_of self.old }
-        ensures named { OnOk result (PutsName self.old self.new name.now) }
-        ensures names { OnErr result (HasSameNames self.old self.new) }
+        ensures named { OnOk result (IsMissing self.new name.now → ⊥) }
+        ensures alone { OnOk result (LeavesOthers self.old self.new name.now) }
+        ensures count { OnOk result (CountsOnce self.old self.new name.now) }
+        ensures names { OnErr result (HasSameNames self.old self.new × (count_of self.new ≡ count_of self.old)) }
         ensures no_memory { OnErr result (mem_told self.new ≡ mem_told self.old) }
         ensures started { OnErr result (mem_started self.new ≡ mem_started self.old) }
     {
@@ -91,13 +94,15 @@ impl Shelf for MemShelf {
     fn start(&mut self, place: Place4, name: &str) -> Result<(), Failed>
         ensures later { mem_faults self.old ≤ mem_faults self.new }
         ensures cause { OnErr result (Rose (mem_faults self.old) (mem_faults self.new)) }
+        ensures still { OnOk result (mem_faults self.new ≡ mem_faults self.old) }
+        ensures once { OnErr result (RoseOnce (mem_faults self.old) (mem_faults self.new)) }
+        ensures counts { OnOk result (HasSameCounts self.old self.new) }
         ensures started { mem_started self.new place ≡ is_ok result }
         ensures others { SameElsewhere place (mem_started self.old) (mem_started self.new) }
         ensures told { Starts (Some (mem_told self.old)) (Some (mem_told self.new)) place name.now result }
         ensures counted { HasMade self.old self.new (min (self.old.calls + 1) (2 ^ 64 - 1)) }
         ensures fails { OnErr result (FailsNow self.new ⊎ IsMissing self.old name.now) }
         ensures succeeds { OnOk result ((FailsNow self.new → ⊥) × (IsMissing self.old name.now → ⊥)) }
-        ensures still { OnOk result (HasSameCounts self.old self.new) }
         ensures names { HasSameNames self.old self.new }
         ensures piece { piece_of self.new ≡ piece_of self.old }
     {
@@ -118,13 +123,15 @@ impl Shelf for MemShelf {
         requires started { mem_started self.old place ≡ true }
         ensures later { mem_faults self.old ≤ mem_faults self.new }
         ensures cause { OnErr result (Rose (mem_faults self.old) (mem_faults self.new)) }
+        ensures still { OnOk result (mem_faults self.new ≡ mem_faults self.old) }
+        ensures once { OnErr result (RoseOnce (mem_faults self.old) (mem_faults self.new)) }
+        ensures counts { OnOk result (HasSameCounts self.old self.new) }
         ensures bound { ReadsAtMost result buffer.new }
         ensures started { mem_started self.new ≡ mem_started self.old }
         ensures told { Reads (Some (mem_told self.old)) (Some (mem_told self.new)) place buffer.new result }
         ensures counted { HasMade self.old self.new (min (self.old.calls + 1) (2 ^ 64 - 1)) }
         ensures fails { OnErr result (FailsNow self.new) }
         ensures succeeds { OnOk result (FailsNow self.new → ⊥) }
-        ensures still { OnOk result (HasSameCounts self.old self.new) }
         ensures names { HasSameNames self.old self.new }
         ensures piece { piece_of self.new ≡ piece_of self.old }
         ensures at_most { IfOk result (λ n. n ≤ piece_of self.old) }

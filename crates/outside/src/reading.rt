@@ -1,6 +1,6 @@
 //! Reading a file to its end.
-ghost use Rattle.std.specs.Prelude.{◌≡◌, ◌≤◌, true, length, IfOk};
-ghost use Rattle.outside.specs.Rose.{Rose};
+ghost use Rattle.std.specs.Prelude.{◌≡◌, ◌≢◌, ◌≤◌, Err, true, length, IfOk};
+ghost use Rattle.outside.specs.Rose.{Rose, RoseOnce};
 ghost use Rattle.outside.specs.Shelf.{ReadsWhole};
 
 use crate::shelf::{Place4, Shelf};
@@ -42,7 +42,7 @@ impl From<AllocError> for ReadStop {
 
 /// Reads what is left at a started place to its end: at most `most` bytes.
 ///
-/// `Fault` comes only where the shelf's count of faults rose, and that of the name at the place where it is told. `TooLong` comes exactly where `most + 1` bytes were taken.
+/// `Fault` comes only where the shelf's count of faults rose, and that of the name at the place where it is told. `TooLong` comes exactly where `most + 1` bytes were taken. The first fault of the shelf is the last call: `Fault` raises the count by one, and any other answer leaves it as it was.
 pub fn read_all<H: Shelf>(
     alloc: Global,
     shelf: &mut H,
@@ -52,6 +52,8 @@ pub fn read_all<H: Shelf>(
     requires { H.started shelf.old place ≡ true }
     ensures later { H.faults shelf.old ≤ H.faults shelf.new }
     ensures fault { result ≡ Err ReadStop.Fault → Rose (H.faults shelf.old) (H.faults shelf.new) }
+    ensures once { result ≡ Err ReadStop.Fault → RoseOnce (H.faults shelf.old) (H.faults shelf.new) }
+    ensures still { result ≢ Err ReadStop.Fault → H.faults shelf.new ≡ H.faults shelf.old }
     ensures short { IfOk result (λ bytes. length bytes.items ≤ most) }
     ensures started { H.started shelf.new ≡ H.started shelf.old }
     ensures told { ReadsWhole (H.told shelf.old) (H.told shelf.new) place most result }

@@ -1,55 +1,52 @@
 //! The standard output as a sink.
-ghost use Rattle.std.specs.Prelude.{◌≡◌, ◌+◌, ◌-◌, ◌^◌, ◌≤◌, ◌<◌, ◌⊎◌, IfOk, IsErr, IsFalse, Ok, OnErr, OnOk, length, min};
-ghost use Rattle.outside.specs.Rose.{Rose};
+ghost use Rattle.std.specs.Prelude.{◌≡◌, ◌≤◌, ◌<◌, IfOk, OnErr, OnOk, length};
+ghost use Rattle.std.specs.Io.KnownBytes.{WriteAppends};
+ghost use Rattle.outside.specs.Rose.{Rose, RoseOnce};
 
 use crate::sink::{Failed, Sink};
-use std::io;
+use std::io::Write;
 
-/// The standard output of a runtime. It tells no content, and its count rises at each error of the system.
+/// A writer of the standard library, such as the standard output, as a sink. It tells no content, and its count rises
+/// at each error of the writer.
 #[derive(Drop)]
-pub struct StdSink<P: Print + Drop> {
-    out: P,
+pub struct StdSink<W: Write + Drop> {
+    out: W,
     faults: u64,
 }
 
-impl<P: Print + Drop> StdSink<P> {
-    /// A sink over the output of a runtime. It takes no memory.
-    pub fn new(out: P) -> StdSink<P>
-        ensures { result.faults ≡ 0 }
+impl<W: Write + Drop> StdSink<W> {
+    /// A sink over a writer. It takes no memory.
+    pub fn new(out: W) -> StdSink<W>
+        ensures faults { result.faults ≡ 0 }
+        ensures out { result.out ≡ out }
     {
         StdSink { out, faults: 0 }
     }
 }
 
-impl<P: Print + Drop> Sink for StdSink<P> {
+impl<W: Write + Drop> Sink for StdSink<W> {
     ghost use Rattle.std.specs.Prelude.{None};
 
     ghost faults = { λ s. s.faults };
 
     ghost taken = { λ _. None };
 
-    /// Writes to the output. An answer of 0 for a piece that is not empty is a fault.
-    fn write(&mut self, piece: &[u8]) -> Result<usize, Failed> {
-        let written = self.out.write_some(piece);
-        answer_to(written, piece.is_empty(), &mut self.faults)
-    }
-}
-
-/// The answer to a piece, from what the output answered. An error is counted, and so is 0 for a piece that is not
-/// empty.
-fn answer_to(written: io::Result<usize>, is_empty: bool, faults: &mut u64) -> Result<usize, Failed>
-    ensures taken { IfOk result (λ n. written ≡ Ok n) }
-    ensures some { IsFalse is_empty → IfOk result (λ n. 0 < n) }
-    ensures fails { OnErr result (IsErr written ⊎ (IsFalse is_empty × (written ≡ Ok 0))) }
-    ensures later { faults.old ≤ faults.new }
-    ensures cause { OnErr result (Rose faults.old faults.new) }
-    ensures still { OnOk result (faults.new ≡ faults.old) }
-{
-    match written {
-        Ok(count) if count > 0 || is_empty => Ok(count),
-        _ => {
-            *faults = faults.saturating_add(1);
-            Err(Failed)
+    /// Writes to the writer. An answer of 0 for a piece that is not empty is a fault. What the writer took are the first bytes of the piece, as many as the answer says, and none at a fault.
+    fn write(&mut self, piece: &[u8]) -> Result<usize, Failed>
+        ensures later { self.old.faults ≤ self.new.faults }
+        ensures cause { OnErr result (Rose self.old.faults self.new.faults) }
+        ensures still { OnOk result (self.new.faults ≡ self.old.faults) }
+        ensures once { OnErr result (RoseOnce self.old.faults self.new.faults) }
+        ensures bound { IfOk result (λ n. n ≤ length piece.now) }
+        ensures some { 0 < length piece.now → IfOk result (λ n. 0 < n) }
+        ensures bytes { WriteAppends (W.contents self.old.out) (W.contents self.new.out) result piece.now }
+    {
+        match self.out.write(piece) {
+            Ok(count) if count > 0 || piece.is_empty() => Ok(count),
+            _ => {
+                self.faults = self.faults.saturating_add(1);
+                Err(Failed)
+            }
         }
     }
 }

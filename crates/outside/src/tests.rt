@@ -130,7 +130,7 @@ fn files_of_the_system_are_read(rt: HostRuntime) -> Result<(), Fail> {
 #[test]
 fn the_standard_output_takes_a_text(rt: HostRuntime) -> Result<(), Fail> {
     // No clause refuses a sink that always fails. What stands in the output is not looked at here.
-    let mut sink = StdSink::new(rt.clone()?);
+    let mut sink = StdSink::new(rt.stdout());
     write_all(&mut sink, REPORT)?;
     Ok(())
 }

@@ -28,6 +28,6 @@ fn run(rt: &HostRuntime) -> Status {
         return Status::NoMemory;
     };
     let mut shelf = DiskShelf::new(*rt);
-    let mut out = StdSink::new(*rt);
+    let mut out = StdSink::new(rt.stdout());
     sincronia(alloc, &words, &mut shelf, &mut out)
 }

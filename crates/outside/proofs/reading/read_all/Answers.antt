@@ -35,7 +35,7 @@ loop-bytes-preserved g c =
     record {
       short = rw items short;
       started = c.in_ok-count.ensures.started ∙ c.loop-bytes.invariant.started;
-      later = omega (arith, c.in_ok-count.ensures.later);
+      still = c.in_ok-count.ensures.still ∙ c.loop-bytes.invariant.still;
       told = rw items told;
     }
 

@@ -6,7 +6,7 @@ abbrev pub invariant-loop-bytes : goal.invariant-loop-bytes
 invariant-loop-bytes g l = record {
   short : length l.bytes.items ≤ l.most;
   started : g.H.Shelf.started l.shelf ≡ g.H.Shelf.started l.fn.shelf;
-  later : g.H.Shelf.faults l.fn.shelf ≤ g.H.Shelf.faults l.shelf;
+  still : g.H.Shelf.faults l.shelf ≡ g.H.Shelf.faults l.fn.shelf;
   told : ToldSoFar (g.H.Shelf.told l.fn.shelf) (g.H.Shelf.told l.shelf) l.place l.bytes.items;
 }
 

@@ -1,4 +1,4 @@
-use Rattle.std.proofs.Common.{◌≡◌, ◌-◌, ◌≤◌, ℕ, List, length, take, drop, arith, length-drop}
+use Rattle.std.proofs.Common.{◌≡◌, ◌-◌, ◌≤◌, ℕ, List, length, take, drop, arith, length-drop, ◌∙◌}
 use Rattle.std.proofs.lemmas.Grind.{common_steps}
 use Rattle.outside.specs.declared.sink.Failed.{Failed}
 use Rattle.outside.proofs.WriteSteps.{write_step}
@@ -16,6 +16,6 @@ loop-written-preserved g c =
     let bound = rw (length-drop w text) at (rw same at c.in_ok-written.ensures.bound) in
     record {
       within = omega (arith, bound);
-      later = omega (arith, c.in_ok-written.ensures.later);
+      still = c.in_ok-written.ensures.still ∙ c.loop-written.invariant.still;
       taken = write_step Failed _ _ _ text _ w n same c.loop-written.invariant.taken c.in_ok-written.ensures.taken;
     }

@@ -1,4 +1,4 @@
-use Rattle.std.proofs.Common.{length, ◌-◌, ◌≤◌}
+use Rattle.std.proofs.Common.{◌≡◌, length, ◌-◌, ◌≤◌}
 use Rattle.std.specs.Prelude.{take}
 use Rattle.outside.proofs.SoFar.{TakenSoFar}
 use Rattle.outside.proofs.writing.write_all.Given as goal
@@ -6,7 +6,7 @@ use Rattle.outside.proofs.writing.write_all.Given as goal
 abbrev pub invariant-loop-written : goal.invariant-loop-written
 invariant-loop-written g l = record {
   within : l.written ≤ length l.text;
-  later : g.K.Sink.faults l.fn.sink ≤ g.K.Sink.faults l.sink;
+  still : g.K.Sink.faults l.sink ≡ g.K.Sink.faults l.fn.sink;
   taken : TakenSoFar (g.K.Sink.taken l.fn.sink) (g.K.Sink.taken l.sink) (take l.written l.text);
 }
 
