@@ -88,7 +88,7 @@ file_to_report before now old new name (status.WriteFault count) h = absurd h
 -- ---- a report that is read after the trace and the weights
 
 -- the bytes, where there are any, are the text of the report
-abbrev IsTextIf : Report → Option (List ℕ) → Type 0
+abbrev pub IsTextIf : Report → Option (List ℕ) → Type 0
 IsTextIf report None = Unit {0}
 IsTextIf report (Some text) = (length text ≤ 2 ^ 30) × IsTextOf text report
 
@@ -99,15 +99,11 @@ pub report_named : (old mid : Option Told) (second : Option (List ℕ)) (name : 
     IsReportIfNamed old second report
 report_named old mid second name report is keeps of = subst (λ o. IsReportIfNamed old o report) (sym is) (report_before old mid name report keeps of)
 
--- every file of `check` is read to its end
-pub checked_out : (old mid new : Option Told) (said : Said) (name : List ℕ) → said.second ≡ Some name → KeepsFiles old mid → OfBoth old mid (AreReadOut said.first said.weights) →
-    OfBoth mid new (KeepsOthers place.Report) → OfBoth mid new (IsReadOut place.Report name) →
-    OfBoth old new (ReadsOut Check said)
-checked_out old mid new said name is keeps out others report =
-    both_joined old new (AreReadOut said.first said.weights) (IsReadOutIf place.Report said.second)
-    (both_through old mid new (AreReadOut said.first said.weights) (KeepsOthers place.Report) (AreReadOut said.first said.weights) still out others)
-    (subst (λ o. OfBoth old new (IsReadOutIf place.Report o)) (sym is)
-    (later_out old mid new place.Report (Some name) keeps (of_both mid new (IsReadOut place.Report name) (IsReadOutIf place.Report (Some name)) (λ a b h. h) report)))
+-- trace and weights are still read to their ends after the report is read
+pub still_both_out : (old mid new : Option Told) (said : Said) → OfBoth old mid (AreReadOut said.first said.weights) → OfBoth mid new (KeepsOthers place.Report) →
+    OfBoth old new (AreReadOut said.first said.weights)
+still_both_out old mid new said out others =
+    both_through old mid new (AreReadOut said.first said.weights) (KeepsOthers place.Report) (AreReadOut said.first said.weights) still out others
   where
     trace_differs : place.Trace ≡ place.Report → ⊥
     trace_differs e = cc
@@ -122,6 +118,16 @@ checked_out old mid new said name is keeps out others report =
     still : (a b c : Told) → AreReadOut said.first said.weights a b → KeepsOthers place.Report b c → AreReadOut said.first said.weights a c
     still a b c ((file, left), weights) (files, lefts) =
         ((files place.Trace trace_differs ∙ file, lefts place.Trace trace_differs ∙ left), still_if said.weights a b c weights (files, lefts))
+
+-- every file of `check` is read to its end
+pub checked_out : (old mid new : Option Told) (said : Said) (name : List ℕ) → said.second ≡ Some name → KeepsFiles old mid → OfBoth old mid (AreReadOut said.first said.weights) →
+    OfBoth mid new (KeepsOthers place.Report) → OfBoth mid new (IsReadOut place.Report name) →
+    OfBoth old new (ReadsOut Check said)
+checked_out old mid new said name is keeps out others report =
+    both_joined old new (AreReadOut said.first said.weights) (IsReadOutIf place.Report said.second)
+    (still_both_out old mid new said out others)
+    (subst (λ o. OfBoth old new (IsReadOutIf place.Report o)) (sym is)
+    (later_out old mid new place.Report (Some name) keeps (of_both mid new (IsReadOut place.Report name) (IsReadOutIf place.Report (Some name)) (λ a b h. h) report)))
 
 module _ (before mid_count now : ℕ) (old mid new : Option Told) (said : Said) (name : List ℕ) where
   bad_report : (line : ℕ) → said.second ≡ Some name → KeepsFiles old mid → IfSome old (FilesGiveTable said) → IfSome mid (λ t. IsBadReport (Some (bytes_of t name)) line) →

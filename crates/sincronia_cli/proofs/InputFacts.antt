@@ -31,7 +31,7 @@ given_before : (old mid : Option Told) (file : Option (List ℕ)) (coflows : Lis
 given_before old mid file coflows weights keeps h = told_before old mid file (λ b. GiveWeights b coflows weights) keeps h
 
 -- what was read of a trace
-abbrev ReadAs : List ℕ → Trace → Told → Type 0
+abbrev pub ReadAs : List ℕ → Trace → Told → Type 0
 ReadAs name trace t = IsTraceText (bytes_of t name) × (trace ≡ trace_of (bytes_of t name))
 
 pub input_is : (old mid : Option Told) (name : List ℕ) (file : Option (List ℕ)) (unit : ℕ) (trace : Trace) (weights : List ℕ) (table : TableFacts) → IsTraceOf old name trace →
@@ -101,7 +101,7 @@ module _ (before mid_count now : ℕ) (old mid new : Option Told) (name : List �
       both_and old new (ReadAs name trace) (NameFailedIf file) (InputFailed name file) (λ a b (text, is) h. at_weights text h) read.reads
       (named_before old mid new file keeps named)
 
-  by_name : (o : Option (List ℕ)) (count : ℕ) → IsWeightsCause mid_count now mid new o trace.coflows (status.ReadFault count) → (count ≡ 1) × Rose mid_count now ×
+  pub by_name : (o : Option (List ℕ)) (count : ℕ) → IsWeightsCause mid_count now mid new o trace.coflows (status.ReadFault count) → (count ≡ 1) × Rose mid_count now ×
       OfBoth mid new (NameFailedIf o)
   by_name None count h = absurd h
   by_name (Some weights) count (one, rose, named) = (one, rose, of_both mid new (NameFailed weights) (NameFailedIf (Some weights)) (λ a b h. h) named)

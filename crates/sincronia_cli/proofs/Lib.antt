@@ -13,6 +13,7 @@ pub mod InputFacts
 pub mod WordFacts
 pub mod OutcomeFacts
 pub mod CheckFacts
+pub mod TurnFacts
 pub mod WrittenFacts
 pub mod CompleteFacts
 pub mod MadeInput

@@ -18,10 +18,16 @@ abbrev pub IsReportText : Option (List ℕ) → Type 0
 IsReportText None = ⊥
 IsReportText (Some text) = (length text ≤ most_report) × (report : Report) × IsTextOf text report
 
--- the texts of all files that the command reads are told, they have no fault, and they are within the limits
+-- the texts of all files that the command reads have no fault, and they are within the limits
+abbrev pub HasGoodFiles : Command → Said → Told → Type 0
+HasGoodFiles command.Plan said t = FilesGiveTable said t
+HasGoodFiles command.Check said t = FilesGiveTable said t × IsReportText (bytes_if t said.second)
+HasGoodFiles command.Make said t = Unit {0}
+
+-- the files that the command reads are told, and they are good
 abbrev pub AreGood : Command → Said → Option Told → Type 0
-AreGood command.Plan said told = IsSomeAnd told (FilesGiveTable said)
-AreGood command.Check said told = IsSomeAnd told (λ t. FilesGiveTable said t × IsReportText (bytes_if t said.second))
+AreGood command.Plan said told = IsSomeAnd told (HasGoodFiles command.Plan said)
+AreGood command.Check said told = IsSomeAnd told (HasGoodFiles command.Check said)
 AreGood command.Make said told = Unit {0}
 
 -- the job of the command was done, and its text was written whole

@@ -8,6 +8,7 @@ pub mod VerdictLine
 pub mod Check
 pub mod Make
 pub mod Outcome
+pub mod Ends
 pub mod FileCauses
 pub mod TraceCauses
 pub mod WeightsCauses
@@ -15,6 +16,7 @@ pub mod InputCauses
 pub mod ReportCauses
 pub mod Causes
 pub mod Complete
+pub mod Turns
 pub mod Code
 pub mod Messages
 pub mod NoPrices

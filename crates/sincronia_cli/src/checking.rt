@@ -1,5 +1,5 @@
 //! The command `check`: the verdict on a report.
-ghost use Rattle.std.specs.Prelude.{◌≡◌, ◌↔◌, ◌≤◌, ◌^◌, All, IfErr, IfOk, OnOk, Some, length};
+ghost use Rattle.std.specs.Prelude.{◌≡◌, ◌↔◌, ◌≤◌, ◌^◌, All, IfErr, IfOk, IfSome, OnOk, Some, length};
 ghost use Rattle.coflow_units.specs.declared.limits.TheConstants.{MAX_WEIGHT};
 ghost use Rattle.cert_check.specs.declared.verdict.Verdict.{Verdict};
 ghost use Rattle.cert_check.specs.Reasons.{IsVerdict, NamesCoflowIfAny};
@@ -10,7 +10,10 @@ ghost use Rattle.flow_table.specs.Table.{instance_of};
 ghost use Rattle.report.specs.Report.{IsReport};
 ghost use Rattle.sincronia_cli.specs.Causes.{HasFilesCause};
 ghost use Rattle.sincronia_cli.specs.Check.{CheckOf, status_for};
+ghost use Rattle.sincronia_cli.specs.Complete.{HasGoodFiles};
+ghost use Rattle.sincronia_cli.specs.Ends.{CountsFault};
 ghost use Rattle.sincronia_cli.specs.Shelves.{KeepsFiles, OfBoth, ReadsOut};
+ghost use Rattle.sincronia_cli.specs.Turns.{FilesInTurn};
 ghost use Rattle.sincronia_cli.specs.VerdictLine.{verdict_text};
 
 use crate::inputs::{Input, read_input, read_report_file};
@@ -40,7 +43,11 @@ pub(crate) fn check_report<'a, H: Shelf>(
         CheckOf (H.told shelf.old) (said_by words.entry) verdict o.text.items) }
     ensures read_out { OnOk result (OfBoth (H.told shelf.old) (H.told shelf.new)
         (ReadsOut Command.Check (said_by words.entry))) }
+    ensures good { OnOk result (IfSome (H.told shelf.old) (HasGoodFiles Command.Check (said_by words.entry))) }
+    ensures in_turn { IfErr result (λ status. OfBoth (H.told shelf.old) (H.told shelf.new)
+        (FilesInTurn (said_by words.entry) status)) }
     ensures keeps { KeepsFiles (H.told shelf.old) (H.told shelf.new) }
+    ensures counts { CountsFault (H.faults shelf.old) (H.faults shelf.new) result }
     ensures cause { IfErr result (λ status. HasFilesCause (H.faults shelf.old) (H.faults shelf.new) (H.told shelf.old)
         (H.told shelf.new) (said_by words.entry) status) }
 {

@@ -4,7 +4,7 @@ ghost use Rattle.coflow_units.specs.declared.quantity.Quantity.{Quantity};
 ghost use Rattle.command_words.specs.declared.command.Command.{Command};
 ghost use Rattle.command_words.specs.Line.{texts};
 ghost use Rattle.command_words.specs.Words.{IsWords, Said, said_by};
-ghost use Rattle.outside.specs.Rose.{Rose};
+ghost use Rattle.outside.specs.Rose.{Rose, RoseOnce};
 ghost use Rattle.trace_reader.specs.declared.fault.TraceFault.{TraceFault};
 ghost use Rattle.weights.specs.declared.fault.WeightsFault.{WeightsFault};
 ghost use Rattle.cert_check.specs.declared.verdict.Reason.{Reason};
@@ -12,13 +12,15 @@ ghost use Rattle.cert_check.specs.declared.verdict.Verdict.{Verdict};
 ghost use Rattle.sincronia_cli.specs.Causes.{FileFailed, FilesLimit, FilesReportFault, FilesTraceFault, FilesWeightsFault, HasCauseOf};
 ghost use Rattle.sincronia_cli.specs.Check.{WritesVerdict, WritesYes};
 ghost use Rattle.sincronia_cli.specs.Command.{Fits, IsCommand, IsOfFiles};
-ghost use Rattle.sincronia_cli.specs.Complete.{AreGood, EndsWell, IsStill};
+ghost use Rattle.sincronia_cli.specs.Complete.{AreGood, EndsWell, HasGoodFiles, IsStill};
+ghost use Rattle.sincronia_cli.specs.Ends.{IsDone, IsReadFault, IsWriteFault, CountsFault};
 ghost use Rattle.sincronia_cli.specs.FileCauses.{ShelfFailed};
 ghost use Rattle.sincronia_cli.specs.Make.{WritesMade};
 ghost use Rattle.sincronia_cli.specs.Outcome.{HasText, IsOutcome, WritesBeginning};
 ghost use Rattle.sincronia_cli.specs.Plan.{WritesPlan};
 ghost use Rattle.sincronia_cli.specs.Shelves.{KeepsFiles, OfBoth, ReadsOut};
 ghost use Rattle.sincronia_cli.specs.TraceCauses.{IsTraceForm};
+ghost use Rattle.sincronia_cli.specs.Turns.{FilesInTurn};
 ghost use Rattle.sincronia_cli.specs.WeightsCauses.{IsWeightsForm};
 
 use crate::checking::check_report;
@@ -45,7 +47,10 @@ use std::alloc::Global;
 ///   it, and writes a summary. It reads no file.
 ///
 /// Files are looked at one after another, and the first fault ends the job: the trace is read, and then its grammar is
-/// tested; so are the weights; then the table of flows is made; then the report is read, and its grammar is tested.
+/// tested; so are the weights; then the table of flows is made; then the report is read, and its grammar is tested. A
+/// file is started only where nothing that is looked at before it is wrong. No call that failed is tried again: the
+/// shelf's count of faults rises by one at `ReadFault`, the sink's at `WriteFault`, and neither does at any other
+/// status.
 ///
 /// The statuses are:
 /// - `Ok`: the text was written whole, and the answer of `check` is yes.
@@ -65,8 +70,8 @@ use std::alloc::Global;
 /// - `NoMemory`: no memory was to be had.
 ///
 /// Where the files of the command are told and good and no count of faults rises, the status is `Ok`, or for `check`
-/// `Ok` or `No`, or `NoMemory`. At `Ok`, `No` and `WriteFault` every file of the command was read to its end; after any
-/// other status nothing was written. The files on the shelf are as before.
+/// `Ok` or `No`, or `NoMemory`. At `Ok` and `No` those files are good. At `Ok`, `No` and `WriteFault` every file of the
+/// command was read to its end; after any other status nothing was written. The files on the shelf are as before.
 pub fn sincronia<H: Shelf, K: Sink>(
     alloc: Global,
     words: &[String],
@@ -85,8 +90,12 @@ pub fn sincronia<H: Shelf, K: Sink>(
     ensures complete { (said : Said) → IsWords (texts words.now) said →
         AreGood said.command said (H.told shelf.old) → IsStill (H.faults shelf.old) (H.faults shelf.new) →
         IsStill (K.faults out.old) (K.faults out.new) → EndsWell said.command result ⊎ (result ≡ Status.NoMemory) }
+    ensures good { IsDone result → (said : Said) × IsWords (texts words.now) said ×
+        IfSome (H.told shelf.old) (HasGoodFiles said.command said) }
     ensures read_out { (said : Said) → IsWords (texts words.now) said → HasText result →
         OfBoth (H.told shelf.old) (H.told shelf.new) (ReadsOut said.command said) }
+    ensures in_turn { (said : Said) → IsWords (texts words.now) said →
+        OfBoth (H.told shelf.old) (H.told shelf.new) (FilesInTurn said result) }
     ensures usage { result ≡ Status.Usage → (said : Said) → IsWords (texts words.now) said → ⊥ }
     ensures words { result ≢ Status.Usage → result ≢ Status.NoMemory → (said : Said) × IsWords (texts words.now) said }
     ensures bad_trace { (fault : TraceFault) → result ≡ Status.BadTrace fault →
@@ -108,6 +117,10 @@ pub fn sincronia<H: Shelf, K: Sink>(
     ensures beginning { (count : ℕ) → result ≡ Status.WriteFault count →
         (said : Said) × IsWords (texts words.now) said ×
         WritesBeginning (H.told shelf.old) said (K.taken out.old) (K.taken out.new) }
+    ensures still_shelf { (IsReadFault result → ⊥) → H.faults shelf.new ≡ H.faults shelf.old }
+    ensures once_shelf { IsReadFault result → RoseOnce (H.faults shelf.old) (H.faults shelf.new) }
+    ensures still_sink { (IsWriteFault result → ⊥) → K.faults out.new ≡ K.faults out.old }
+    ensures once_sink { IsWriteFault result → RoseOnce (K.faults out.old) (K.faults out.new) }
     ensures keeps { KeepsFiles (H.told shelf.old) (H.told shelf.new) }
     ensures untouched { (said : Said) → IsCommand Command.Make (texts words.now) said →
         (H.told shelf.new ≡ H.told shelf.old) × (H.faults shelf.new ≡ H.faults shelf.old) }
@@ -138,10 +151,15 @@ fn carry_out<'a, H: Shelf>(
     ensures outcome { IfOk result (λ o. IsOutcome (H.told shelf.old) (said_by words.entry) o.status o.text.items) }
     ensures read_out { OnOk result (OfBoth (H.told shelf.old) (H.told shelf.new)
         (ReadsOut (said_by words.entry).command (said_by words.entry))) }
+    ensures good { OnOk result (IfSome (H.told shelf.old)
+        (HasGoodFiles (said_by words.entry).command (said_by words.entry))) }
+    ensures in_turn { IfErr result (λ status. OfBoth (H.told shelf.old) (H.told shelf.new)
+        (FilesInTurn (said_by words.entry) status)) }
     ensures cause { IfErr result
         (HasCauseOf (H.faults shelf.old) (H.faults shelf.new) (H.told shelf.old) (H.told shelf.new)
         (said_by words.entry)) }
     ensures keeps { KeepsFiles (H.told shelf.old) (H.told shelf.new) }
+    ensures counts { CountsFault (H.faults shelf.old) (H.faults shelf.new) result }
     ensures untouched { (said_by words.entry).command ≡ Command.Make →
         (H.told shelf.new ≡ H.told shelf.old) × (H.faults shelf.new ≡ H.faults shelf.old) }
 {

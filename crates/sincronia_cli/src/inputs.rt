@@ -6,12 +6,14 @@ ghost use Rattle.flow_table.specs.Table.{IsTable, IsTableOf};
 ghost use Rattle.outside.specs.declared.shelf.Place4.{Place4};
 ghost use Rattle.outside.specs.Shelf.{bytes_of};
 ghost use Rattle.sincronia_cli.specs.Check.{IsReportOf};
+ghost use Rattle.sincronia_cli.specs.Ends.{CountsFault};
 ghost use Rattle.sincronia_cli.specs.FileCauses.{IsFileCause};
 ghost use Rattle.sincronia_cli.specs.InputCauses.{GiveTable, HasInputCause};
 ghost use Rattle.sincronia_cli.specs.Inputs.{IsInput, IsTraceOf, IsWeightsOf, bytes_if};
 ghost use Rattle.sincronia_cli.specs.ReportCauses.{IsReportCause};
 ghost use Rattle.sincronia_cli.specs.Shelves.{AreReadOut, HasBytes, IsReadOut, IsReadOutIf, KeepsFiles, KeepsOthers, OfBoth};
 ghost use Rattle.sincronia_cli.specs.TraceCauses.{IsTraceCause};
+ghost use Rattle.sincronia_cli.specs.Turns.{InputInTurn, IsAsBefore};
 ghost use Rattle.sincronia_cli.specs.WeightsCauses.{IsWeightsCause};
 
 use crate::status::Status;
@@ -48,8 +50,12 @@ pub fn read_input<H: Shelf>(
         GiveTable (bytes_of t name.now) (bytes_if t (option_map (λ s. s.now) weights_name.entry)) unit)) }
     ensures read_out { OnOk result (OfBoth (H.told shelf.old) (H.told shelf.new)
         (AreReadOut name.now (option_map (λ s. s.now) weights_name.entry))) }
+    ensures in_turn { IfErr result (λ status. OfBoth (H.told shelf.old) (H.told shelf.new)
+        (InputInTurn name.now (option_map (λ s. s.now) weights_name.entry) status)) }
+    ensures no_report { OfBoth (H.told shelf.old) (H.told shelf.new) (IsAsBefore Place4.Report) }
     ensures keeps { KeepsFiles (H.told shelf.old) (H.told shelf.new) }
     ensures later { H.faults shelf.old ≤ H.faults shelf.new }
+    ensures counts { CountsFault (H.faults shelf.old) (H.faults shelf.new) result }
     ensures cause { IfErr result
         (HasInputCause (H.faults shelf.old) (H.faults shelf.new) (H.told shelf.old) (H.told shelf.new) name.now
         (option_map (λ s. s.now) weights_name.entry) unit) }
@@ -64,8 +70,10 @@ pub fn read_input<H: Shelf>(
 fn trace_of_file<H: Shelf>(alloc: Global, name: &str, shelf: &mut H) -> Result<Trace, Status>
     ensures trace { IfOk result (IsTraceOf (H.told shelf.old) name.now) }
     ensures read_out { OnOk result (OfBoth (H.told shelf.old) (H.told shelf.new) (IsReadOut Place4.Trace name.now)) }
+    ensures others { OfBoth (H.told shelf.old) (H.told shelf.new) (KeepsOthers Place4.Trace) }
     ensures keeps { KeepsFiles (H.told shelf.old) (H.told shelf.new) }
     ensures later { H.faults shelf.old ≤ H.faults shelf.new }
+    ensures counts { CountsFault (H.faults shelf.old) (H.faults shelf.new) result }
     ensures cause { IfErr result
         (IsTraceCause (H.faults shelf.old) (H.faults shelf.new) (H.told shelf.old) (H.told shelf.new) name.now) }
 {
@@ -88,6 +96,7 @@ fn weights_of_file<H: Shelf>(
     ensures others { OfBoth (H.told shelf.old) (H.told shelf.new) (KeepsOthers Place4.Weights) }
     ensures keeps { KeepsFiles (H.told shelf.old) (H.told shelf.new) }
     ensures later { H.faults shelf.old ≤ H.faults shelf.new }
+    ensures counts { CountsFault (H.faults shelf.old) (H.faults shelf.new) result }
     ensures cause { IfErr result
         (IsWeightsCause (H.faults shelf.old) (H.faults shelf.new) (H.told shelf.old) (H.told shelf.new)
         (option_map (λ s. s.now) name.entry) trace.now.coflows) }
@@ -119,6 +128,7 @@ pub(crate) fn read_report_file<H: Shelf>(
     ensures read_out { OnOk result (OfBoth (H.told shelf.old) (H.told shelf.new) (IsReadOut Place4.Report name.now)) }
     ensures others { OfBoth (H.told shelf.old) (H.told shelf.new) (KeepsOthers Place4.Report) }
     ensures keeps { KeepsFiles (H.told shelf.old) (H.told shelf.new) }
+    ensures counts { CountsFault (H.faults shelf.old) (H.faults shelf.new) result }
     ensures cause { IfErr result
         (IsReportCause (H.faults shelf.old) (H.faults shelf.new) (H.told shelf.old) (H.told shelf.new) name.now) }
 {
@@ -142,6 +152,7 @@ fn read_file<H: Shelf>(
     ensures others { OfBoth (H.told shelf.old) (H.told shelf.new) (KeepsOthers place) }
     ensures keeps { KeepsFiles (H.told shelf.old) (H.told shelf.new) }
     ensures later { H.faults shelf.old ≤ H.faults shelf.new }
+    ensures counts { CountsFault (H.faults shelf.old) (H.faults shelf.new) result }
     ensures cause { IfErr result
         (IsFileCause most (H.faults shelf.old) (H.faults shelf.new) (H.told shelf.old) (H.told shelf.new) name.now) }
 {

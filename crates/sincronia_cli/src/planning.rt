@@ -1,5 +1,5 @@
 //! The command `plan`: the plan of a trace, as a report.
-ghost use Rattle.std.specs.Prelude.{◌≡◌, ◌<◌, ◌≤◌, ◌^◌, ℕ, All, Contains, IfErr, IfOk, OnOk, length};
+ghost use Rattle.std.specs.Prelude.{◌≡◌, ◌<◌, ◌≤◌, ◌^◌, ℕ, All, Contains, IfErr, IfOk, IfSome, OnOk, length};
 ghost use Rattle.coflow_units.specs.declared.limits.TheConstants.{MAX_WEIGHT};
 ghost use Rattle.coflow_units.specs.Certificate.{bound, slack};
 ghost use Rattle.coflow_units.specs.Flows.{IsDistinct};
@@ -12,9 +12,12 @@ ghost use Rattle.command_words.specs.Words.{said_by};
 ghost use Rattle.report.specs.declared.value.Report.{Report};
 ghost use Rattle.report.specs.Text.{report_text};
 ghost use Rattle.sincronia_cli.specs.Causes.{HasFilesCause};
+ghost use Rattle.sincronia_cli.specs.Complete.{HasGoodFiles};
+ghost use Rattle.sincronia_cli.specs.Ends.{CountsFault};
 ghost use Rattle.sincronia_cli.specs.Plan.{PlanOf};
 ghost use Rattle.sincronia_cli.specs.PlanReport.{IsPlanOf, coflows_of};
 ghost use Rattle.sincronia_cli.specs.Shelves.{KeepsFiles, OfBoth, ReadsOut};
+ghost use Rattle.sincronia_cli.specs.Turns.{FilesInTurn};
 
 use crate::inputs::{Input, read_input};
 use crate::order::{coflows_in, loads_of, order_of};
@@ -43,7 +46,11 @@ pub(crate) fn plan_trace<'a, H: Shelf>(
         (o.status ≡ Status.Ok) × PlanOf (H.told shelf.old) (said_by words.entry) o.text.items) }
     ensures read_out { OnOk result (OfBoth (H.told shelf.old) (H.told shelf.new)
         (ReadsOut Command.Plan (said_by words.entry))) }
+    ensures good { OnOk result (IfSome (H.told shelf.old) (HasGoodFiles Command.Plan (said_by words.entry))) }
+    ensures in_turn { IfErr result (λ status. OfBoth (H.told shelf.old) (H.told shelf.new)
+        (FilesInTurn (said_by words.entry) status)) }
     ensures keeps { KeepsFiles (H.told shelf.old) (H.told shelf.new) }
+    ensures counts { CountsFault (H.faults shelf.old) (H.faults shelf.new) result }
     ensures cause { IfErr result
         (HasFilesCause (H.faults shelf.old) (H.faults shelf.new) (H.told shelf.old) (H.told shelf.new)
         (said_by words.entry)) }

@@ -3,6 +3,7 @@ use Rattle.command_words.specs.Line.{texts}
 use Rattle.command_words.specs.Words.{said_by}
 use Rattle.sincronia_cli.proofs.CompleteFacts.{good_files_end}
 use Rattle.sincronia_cli.proofs.OutcomeFacts.{bad_report_checked}
+use Rattle.sincronia_cli.proofs.TurnFacts.{text_in_turn, turn_for}
 use Rattle.sincronia_cli.proofs.WrittenFacts.{made_written, plan_written, yes_written}
 use Rattle.sincronia_cli.proofs.command.sincronia.Goals as goal
 
@@ -40,3 +41,17 @@ pub returns-in-Err-clause-complete : goal.returns-in-Err-clause-complete
 returns-in-Err-clause-complete g c = λ said is good shelf sink.
     good_files_end (texts c.args.words.now) (said_by c.in-Ok.words) said (g.H.Shelf.faults c.args.shelf.now) (g.H.Shelf.faults c.carry_out.new.shelf)
     (g.H.Shelf.told c.args.shelf.now) (g.H.Shelf.told c.carry_out.new.shelf) c.in-Err.status c.in-Ok.ensures.said is c.in-Err.ensures.cause good shelf
+
+pub returns-in-Err-clause-in_turn : goal.returns-in-Err-clause-in_turn
+returns-in-Err-clause-in_turn g c = λ said is.
+    turn_for (texts c.args.words.now) (said_by c.in-Ok.words) said (g.H.Shelf.told c.args.shelf.now) (g.H.Shelf.told c.carry_out.new.shelf) c.in-Err.status
+    c.in-Ok.ensures.said is c.in-Err.ensures.in_turn
+
+pub returns-clause-in_turn : goal.returns-clause-in_turn
+returns-clause-in_turn g c = λ said is.
+    let old = g.H.Shelf.told c.args.shelf.now in
+    let new = g.H.Shelf.told c.carry_out.new.shelf in
+    let outcome = c.in-Ok-carry_out.outcome in
+    let ensures = c.in-Ok-carry_out.ensures in
+    turn_for (texts c.args.words.now) (said_by c.in-Ok.words) said old new outcome.status c.in-Ok.ensures.said is
+    (text_in_turn old new (said_by c.in-Ok.words) outcome.status outcome.text.items ensures.outcome ensures.good ensures.read_out (λ e. (ensures.untouched e).0))

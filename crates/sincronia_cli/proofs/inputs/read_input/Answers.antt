@@ -1,7 +1,7 @@
 use Rattle.std.specs.Prelude.{option_map}
 use Rattle.sincronia_cli.specs.InputCauses.{IsStatusOfTable}
 use Rattle.sincronia_cli.proofs.InputFacts.{both_out, from_table, from_trace, from_weights, input_is, table_given}
-use Rattle.sincronia_cli.proofs.ShelfFacts.{passed_as, passed_on}
+use Rattle.sincronia_cli.proofs.ShelfFacts.{files_kept, passed_as, passed_on}
 use Rattle.sincronia_cli.proofs.inputs.read_input.Goals as goal
 
 pub returns-in_err-trace-clause-cause : goal.returns-in_err-trace-clause-cause
@@ -41,3 +41,8 @@ returns-clause-read_out g c =
     both_out (g.H.Shelf.told c.args.shelf.now) (g.H.Shelf.told c.trace_of_file.new.shelf) (g.H.Shelf.told c.weights_of_file.new.shelf) c.args.name.now
     (option_map (λ s. s.now) c.args.weights_name)
     c.in_ok-trace.ensures.read_out c.in_ok-trace.ensures.keeps c.in_ok-weights.ensures.others c.in_ok-weights.ensures.read_out
+
+pub returns-in_err-table-clause-keeps : goal.returns-in_err-table-clause-keeps
+returns-in_err-table-clause-keeps g c =
+    files_kept (g.H.Shelf.told c.args.shelf.now) (g.H.Shelf.told c.trace_of_file.new.shelf) (g.H.Shelf.told c.weights_of_file.new.shelf) c.in_ok-trace.ensures.keeps
+    c.in_ok-weights.ensures.keeps

@@ -1,0 +1,26 @@
+-- How a job ended: done, at a fault of the shelf, or at a fault of the sink.
+use Rattle.std.specs.Prelude.{◌≡◌, ℕ, Result, Ok, Err}
+use Rattle.outside.specs.Rose.{RoseOnce}
+use Rattle.sincronia_cli.specs.declared.status.Status.{Status}
+use Rattle.sincronia_cli.specs.declared.status.Status.TheVariants as status
+
+-- the job was done: its text was written whole
+abbrev pub IsDone : Status → Type 0
+IsDone status.Ok = Unit {0}
+IsDone status.No = Unit {0}
+IsDone other = ⊥
+
+-- a call to the shelf failed
+abbrev pub IsReadFault : Status → Type 0
+IsReadFault (status.ReadFault count) = Unit {0}
+IsReadFault other = ⊥
+
+-- a call to the sink failed
+abbrev pub IsWriteFault : Status → Type 0
+IsWriteFault (status.WriteFault count) = Unit {0}
+IsWriteFault other = ⊥
+
+-- the shelf's count of faults is greater by one at a read fault, and else as before
+abbrev pub CountsFault : {X : Type 0} → ℕ → ℕ → Result X Status → Type 0
+CountsFault before now (Ok x) = now ≡ before
+CountsFault before now (Err s) = ((IsReadFault s → ⊥) → now ≡ before) × (IsReadFault s → RoseOnce before now)
