@@ -16,8 +16,3 @@ mod verdict_line;
 
 pub use command::sincronia;
 pub use status::Status;
-
-#[cfg(test)]
-mod check_tests;
-#[cfg(test)]
-mod tests;

@@ -1,0 +1,54 @@
+//! Jobs over files in memory.
+use outside::{MemShelf, MemSink};
+use sincronia_cli::{Status, sincronia};
+use std::alloc::Global;
+use std::test::Fail;
+
+pub(crate) const TWO: &[u8] = b"2 2\n1 0 1 0 1 1:3\n2 0 1 0 1 1:1\n";
+
+pub(crate) const THREE: &[u8] =
+    b"150 3\n1 0 2 20 38 1 93:1.0\n2 120 1 7 2 93:4.5 7:2\n3 250 3 20 64 110 2 38:6.25 93:1\n";
+
+/// Stands for a file that is not there.
+pub(crate) const NONE: &[u8] = b"no file";
+
+pub(crate) fn words(alloc: Global, texts: &[&str]) -> Result<Vec<String>, Fail> {
+    let mut words = Vec::new(alloc);
+    for text in texts {
+        words.push(String::from_str(alloc, text)?)?;
+    }
+    Ok(words)
+}
+
+/// A call of the shelf that fails, counted from 1, or 0 where none fails; and how many bytes the sink takes until it fails.
+#[derive(Clone, Copy)]
+pub(crate) struct Failing {
+    pub(crate) call: u32,
+    pub(crate) after: Option<u64>,
+}
+
+/// Nothing fails.
+pub(crate) const NEVER: Failing = Failing {
+    call: 0,
+    after: None,
+};
+
+/// The status and the bytes taken, of these words over the trace `t`, the weights `w` and the report `r`, of which a byte
+/// is read at a time.
+pub(crate) fn job(
+    alloc: Global,
+    texts: &[&str],
+    files: [&[u8]; 3],
+    failing: Failing,
+) -> Result<(Status, MemSink), Fail> {
+    let mut shelf = MemShelf::new(alloc, 1, vec![in alloc; failing.call]?)?;
+    for (name, bytes) in ["t", "w", "r"].into_iter().zip(files) {
+        if bytes != NONE {
+            shelf.put(name, bytes)?;
+        }
+    }
+    let mut out = MemSink::new(alloc, 4096, failing.after)?;
+    let words = words(alloc, texts)?;
+    let status = sincronia(alloc, &words, &mut shelf, &mut out);
+    Ok((status, out))
+}
