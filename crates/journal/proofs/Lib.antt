@@ -36,3 +36,4 @@ pub mod WereOpened
 pub mod WireUnits
 pub mod NextSlots
 pub mod OwnEntries
+pub mod TallySteps

@@ -14,3 +14,4 @@ pub mod Moves
 pub mod Counts
 pub mod Driven
 pub mod RunRows
+pub mod Tally

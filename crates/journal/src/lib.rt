@@ -6,6 +6,8 @@ pub mod drive_laws;
 pub mod laws;
 mod opening;
 pub mod run_laws;
+mod tally;
 
 pub use command::{Command, Entry, Reply};
 pub use opening::Opening;
+pub use tally::{Credit, CreditedRun, RunTally};
