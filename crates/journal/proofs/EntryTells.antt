@@ -2,7 +2,7 @@
 use Rattle.std.proofs.Common.{◌≡◌, ℕ, ◌+◌, inl, inr, true, false, true≢false, List, [], ◌∷◌, ◌++◌, length, max, refl, sym, ap, subst, ◌∙◌, arith, append_assoc, append-nil, Option}
 use Rattle.std.proofs.Common.{Some, None}
 use Rattle.std.specs.Prelude.{All, if◌then◌else◌, nat_lt, nat_le, slice_index_or, ◌==◌}
-use Rattle.std.proofs.lemmas.Bool.{eqb-false, eqb-true, leb-true, ltb-true}
+use Rattle.std.proofs.lemmas.Bool.{eqb-false, eqb-true, leb-false, leb-true, ltb-false, ltb-true}
 use Rattle.std.proofs.lemmas.List.{get_or_append_left, length-append}
 use Rattle.journal.specs.declared.command.Command.{Command}
 use Rattle.journal.specs.declared.command.Command.TheVariants.{Register, Withdraw, Publish, Pull, Open, Short, Close, Skip, Reweigh}
@@ -38,7 +38,7 @@ opened_tells o s most none =
     let P = TellsEntry o s (Open most) in
     let made = Opened s.next (slots_for o s most) (length (granted o s)) in
     branch P (length (owing o s) == 0) NothingLeft (if s.next == slot_end then Late s.next else made) (λ e. (most, refl, none, eqb-true (length (owing o s)) 0 e)) (λ some.
-    branch P (s.next == slot_end) (Late s.next) made (λ e. let at = eqb-true s.next slot_end e in (none, inl (most, refl, at, at)))
+    branch P (s.next == slot_end) (Late s.next) made (λ e. let at = eqb-true s.next slot_end e in (none, inl (most, refl, at, at, omega (arith, eqb-false (length (owing o s)) 0 some))))
     (λ e. (most, refl, none, omega (arith, eqb-false (length (owing o s)) 0 some), refl, refl, refl)))
 
 skipped_tells : (o : Opening) (s : State) (to : ℕ) → s.run ≡ None → TellsEntry o s (Skip to) (skipped o s to)
@@ -46,7 +46,10 @@ skipped_tells o s to none =
     let P = TellsEntry o s (Skip to) in
     branch P (nat_lt 0 (length (owing o s))) (StillOwed (slice_index_or (owing o s) 0 0)) (if nat_le slot_end to then Late to else Skipped (max s.next to))
     (λ e. (to, refl, none, ltb-true 0 (length (owing o s)) e, refl))
-    (λ e. branch P (nat_le slot_end to) (Late to) (Skipped (max s.next to)) (λ late. (none, inr (refl, leb-true slot_end to late))) (λ e. (to, refl, none, refl)))
+    (λ some.
+    let nobody : length (owing o s) ≡ 0 = omega (arith, ltb-false 0 (length (owing o s)) some) in
+    branch P (nat_le slot_end to) (Late to) (Skipped (max s.next to)) (λ late. (none, inr (refl, leb-true slot_end to late, nobody)))
+    (λ e. (to, refl, none, refl, nobody, leb-false slot_end to e)))
 
 answer_tells : (o : Opening) (s : State) (k : Command) → TellsEntry o s k (answer o s k)
 answer_tells o s (Register c) = branch (TellsEntry o s (Register c)) (has s.joined c) Already Joined (λ e. (c, refl, e)) (λ e. (c, refl, e))

@@ -36,11 +36,9 @@ is_passing (Skipped slot) = true
 is_passing reply = false
 
 -- What a reply tells of its command and of the state that it answers in: a new version is the next one; a pull tells
--- the
--- newest version, and the place in it where there is one; a run is opened where none is open and a flow owes, with the
--- next slot; a note is of a grant of the open run; a closing is of the open run; slots are skipped where no run is
--- open;
--- and each refusal has its cause.
+-- the newest version, and the place in it where there is one; a run is opened where none is open and a flow owes, with
+-- the next slot; a note is of a grant of the open run; a closing is of the open run; slots are skipped where no run is
+-- open and no flow of the line owes; and each refusal has its cause.
 abbrev pub TellsEntry : Opening → State → Command → Reply → Type 0
 TellsEntry o s k (Version v) = (k ≡ Publish) × (s.run ≡ None) × (v ≡ version s + 1)
 TellsEntry o s k (Rank v r) = (c : ℕ) × (k ≡ Pull c) × (v ≡ version s) × (r ≡ rank s v c) × (0 < r)
@@ -52,7 +50,8 @@ TellsEntry o s k (Noted n) =
     (port units f : ℕ) × (r : Run) × (k ≡ Short port units) × (s.run ≡ Some r)
     × (grant_in o.table.flows r.granted port ≡ Some f) × (n ≡ min units r.slots)
 TellsEntry o s k (Closed slot) = (r : Run) × (k ≡ Close) × (s.run ≡ Some r) × (slot ≡ r.first)
-TellsEntry o s k (Skipped slot) = (to : ℕ) × (k ≡ Skip to) × (s.run ≡ None) × (slot ≡ max s.next to)
+TellsEntry o s k (Skipped slot) =
+    (to : ℕ) × (k ≡ Skip to) × (s.run ≡ None) × (slot ≡ max s.next to) × (length (owing o s) ≡ 0) × (to < slot_end)
 TellsEntry o s k Already = (c : ℕ) × (k ≡ Register c) × (has s.joined c ≡ true)
 TellsEntry o s k Joined = (c : ℕ) × (k ≡ Register c) × (has s.joined c ≡ false)
 TellsEntry o s k Left = (c : ℕ) × (k ≡ Withdraw c) × (is_present s c ≡ true)
@@ -64,7 +63,8 @@ TellsEntry o s k (StillOpen slot) =
 TellsEntry o s k NothingLeft = (most : ℕ) × (k ≡ Open most) × (s.run ≡ None) × (length (owing o s) ≡ 0)
 TellsEntry o s k (Late slot) =
     (s.run ≡ None)
-    × (((most : ℕ) × (k ≡ Open most) × (slot ≡ slot_end) × (s.next ≡ slot_end)) ⊎ ((k ≡ Skip slot) × (slot_end ≤ slot)))
+    × (((most : ℕ) × (k ≡ Open most) × (slot ≡ slot_end) × (s.next ≡ slot_end) × (0 < length (owing o s)))
+    ⊎ ((k ≡ Skip slot) × (slot_end ≤ slot) × (length (owing o s) ≡ 0)))
 TellsEntry o s k (NotGranted port) = (units : ℕ) × (k ≡ Short port units) × (flow_at o.table.flows s.run port ≡ None)
 TellsEntry o s k NoneOpen = (k ≡ Close) × (s.run ≡ None)
 TellsEntry o s k (StillOwed f) =
@@ -72,8 +72,7 @@ TellsEntry o s k (StillOwed f) =
 TellsEntry o s k (Full n) = Unit {0}
 
 -- what an Open is answered where no run is open: that nothing is left, where no flow of the line owes; that it comes
--- too
--- late, where no slot is left; or the run that it opens
+-- too late, where no slot is left; or the run that it opens
 abbrev pub IsOpenReply : Opening → State → ℕ → Reply → Type 0
 IsOpenReply o s most reply =
     ((reply ≡ NothingLeft) × (length (owing o s) ≡ 0))
