@@ -1,5 +1,6 @@
 -- Without notes each closed run sent a unit, so there are at most as many as units.
-use Rattle.std.proofs.Common.{◌≡◌, ℕ, ◌+◌, ◌*◌, ◌≤◌, ◌<◌, inl, inr, false, true≢false, List, [], ◌∷◌, ◌++◌, Contains, length, get_or, refl, sym, ap, subst, ◌∙◌, arith, cond, suc, Option, Some, None}
+use Rattle.std.proofs.Common.{◌≡◌, ℕ, ◌+◌, ◌*◌, ◌≤◌, ◌<◌, inl, inr, false, true≢false, List, [], ◌∷◌, ◌++◌, Contains, length, get_or, refl, sym, ap, subst, ◌∙◌, arith, cond}
+use Rattle.std.proofs.Common.{suc, Option, Some, None}
 use Rattle.std.specs.Prelude.{All, count_by, option_to_list, sum_by}
 use Rattle.std.specs.List.{range_with_len}
 use Rattle.std.proofs.lemmas.Bool.{cases_Bool, ltb-false}
@@ -154,7 +155,8 @@ some_or_noted flows next r h some = elim (cases_Bool (is_noted r)) [
   | inr not' ↦ omega (arith, h.some, whole_units flows next r h (some, no_items r.notes (omega (arith, ltb-false 0 (length r.notes) not'))))
 ]
 
-pub noted_closings : (o : Opening) (journal : List Entry) → IsLegal o journal → InRange o journal → closings journal ≤ units_sent o journal + count_by is_noted (closed_runs o journal)
+pub noted_closings : (o : Opening) (journal : List Entry) → IsLegal o journal → InRange o journal →
+    closings journal ≤ units_sent o journal + count_by is_noted (closed_runs o journal)
 noted_closings o journal legal ok =
     let flows = o.table.flows in
     let runs = closed_runs o journal in

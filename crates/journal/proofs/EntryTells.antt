@@ -38,7 +38,8 @@ opened_tells o s most none =
     let P = TellsEntry o s (Open most) in
     let made = Opened s.next (slots_for o s most) (length (granted o s)) in
     branch P (length (owing o s) == 0) NothingLeft (if s.next == slot_end then Late s.next else made) (λ e. (most, refl, none, eqb-true (length (owing o s)) 0 e)) (λ some.
-    branch P (s.next == slot_end) (Late s.next) made (λ e. let at = eqb-true s.next slot_end e in (none, inl (most, refl, at, at, omega (arith, eqb-false (length (owing o s)) 0 some))))
+    branch P (s.next == slot_end) (Late s.next) made
+    (λ e. let at = eqb-true s.next slot_end e in (none, inl (most, refl, at, at, omega (arith, eqb-false (length (owing o s)) 0 some))))
     (λ e. (most, refl, none, omega (arith, eqb-false (length (owing o s)) 0 some), refl, refl, refl)))
 
 skipped_tells : (o : Opening) (s : State) (to : ℕ) → s.run ≡ None → TellsEntry o s (Skip to) (skipped o s to)

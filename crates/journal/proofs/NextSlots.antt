@@ -39,7 +39,8 @@ record IsFew (runs : List Run) (skip next : ℕ) : Type 0 where
   few : next ≤ skip + slots_together runs
 
 few_same : (runs : List Run) (skip more next : ℕ) → skip ≤ more → next ≤ more + slots_together runs → IsFew runs skip next → IsFew (runs ++ []) more next
-few_same runs skip more next le few h = subst (λ l. IsFew l more next) (sym (append-nil runs)) (record { passed = λ slot low high. h.passed slot (omega (arith, low, le)) high; few = few })
+few_same runs skip more next le few h =
+    subst (λ l. IsFew l more next) (sym (append-nil runs)) (record { passed = λ slot low high. h.passed slot (omega (arith, low, le)) high; few = few })
 
 closing : (o : Opening) (s : State) (run : Option Run) (runs : List Run) (skip : ℕ) → OnRun run (IsOpenRun o.table.flows s.sent s.next) → IsFew runs skip s.next →
     IsFew (runs ++ option_to_list run) (max skip 1) (closed o s run).next
@@ -76,7 +77,8 @@ pub passed : (o : Opening) (journal : List Entry) (slot : ℕ) → IsLegal o jou
     (r : Run) × Contains (closed_runs o journal) r × IsSlotOf slot r
 passed o journal slot legal ok low high = (few_along o journal legal ok).passed slot low high
 
-pub few_by_runs : (o : Opening) (journal : List Entry) → IsLegal o journal → InRange o journal → (state_of o journal).next ≤ furthest_skip journal + slots_together (closed_runs o journal)
+pub few_by_runs : (o : Opening) (journal : List Entry) → IsLegal o journal → InRange o journal →
+    (state_of o journal).next ≤ furthest_skip journal + slots_together (closed_runs o journal)
 few_by_runs o journal legal ok = (few_along o journal legal ok).few
 
 -- ---- without notes

@@ -12,7 +12,8 @@ use Rattle.journal.specs.declared.command.Reply.TheVariants.{Joined, Left, Still
 use Rattle.journal.specs.declared.command.Entry.{Entry}
 use Rattle.journal.specs.Journal.{entry}
 use Rattle.journal.specs.Driven.{is_other, IsShortOf, times_noted}
-use Rattle.journal.specs.RunRows.{CountedGrants, CountedNotes, CountedRuns, FurthestSkips, NotedRun, one_run, OneRun, OpenRun, ServedOrder, SkippedSlots, TwiceOnAWire, TwoPorts, WithdrawalBetween}
+use Rattle.journal.specs.RunRows.{CountedGrants, CountedNotes, CountedRuns, FurthestSkips, NotedRun, one_run, OneRun, OpenRun, ServedOrder, SkippedSlots, TwiceOnAWire}
+use Rattle.journal.specs.RunRows.{TwoPorts, WithdrawalBetween}
 
 pub served_order_is : ServedOrder
 unfolding the_ordering the_grants

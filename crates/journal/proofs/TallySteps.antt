@@ -1,5 +1,6 @@
 -- How a tally of runs goes on by an entry.
-use Rattle.std.proofs.Common.{◌≡◌, ◌≢◌, ℕ, ◌+◌, ◌<◌, inl, inr, Bool, true, false, List, [], ◌∷◌, ◌++◌, Contains, drop, get_or, length, map, set, take, zero, suc, refl, sym, ap, subst, ◌∙◌, arith, append-nil, Option, Some, None, unwrap_or}
+use Rattle.std.proofs.Common.{◌≡◌, ◌≢◌, ℕ, ◌+◌, ◌<◌, inl, inr, Bool, true, false, List, [], ◌∷◌, ◌++◌, Contains, drop, get_or, length, map, set, take, zero, suc, refl, sym}
+use Rattle.std.proofs.Common.{ap, subst, ◌∙◌, arith, append-nil, Option, Some, None, unwrap_or}
 use Rattle.std.specs.Prelude.{◌==◌, if◌then◌else◌, option_map, option_to_list}
 use Rattle.std.proofs.lemmas.Bool.{cases_eq, eq-eqb, ne_eqb}
 use Rattle.std.proofs.lemmas.List.{map-append}
@@ -74,7 +75,8 @@ note_run flows None port n = refl
 note_run flows (Some r) port n =
     ap (λ (l : List Credit). Some (record { first = r.first; slots = r.slots; credits = l }))
     (map_twice (noted_credit port n) (λ f. credit_at flows f (credit flows r f)) r.granted
-    ∙ map_same (λ f. noted_credit port n (credit_at flows f (credit flows r f))) (λ f. credit_at flows f (credit flows (mk r.first r.slots r.granted ((port, n) ∷ r.notes)) f)) r.granted
+    ∙ map_same (λ f. noted_credit port n (credit_at flows f (credit flows r f)))
+    (λ f. credit_at flows f (credit flows (mk r.first r.slots r.granted ((port, n) ∷ r.notes)) f)) r.granted
     (λ f in'. one_noted flows r.first r.slots r.granted r.notes port n f in'))
 
 -- ---- one entry

@@ -120,7 +120,8 @@ pub others_more : (o : Opening) (before now es : List Entry) (d : Drive) → IsU
 others_more o before now es d h all = more o before now es d h (λ k e lt. inl (all k e lt)) (λ port. omega (arith, h.once port, others_note_none es port all))
 
 -- one note more
-noted_one : (es : List Entry) (e : Entry) (p port n : ℕ) → e.command ≡ Short p n → times_noted es p ≡ 0 → times_noted es port ≤ 1 → times_noted es port + times_noted (e ∷ []) port ≤ 1
+noted_one : (es : List Entry) (e : Entry) (p port n : ℕ) → e.command ≡ Short p n → times_noted es p ≡ 0 → times_noted es port ≤ 1 →
+    times_noted es port + times_noted (e ∷ []) port ≤ 1
 noted_one es e p port n asks none low =
     let one = sum_by-cons (λ (e : Entry). cond {A = ℕ} (notes_port port e.command) 1 0) e [] in
     let test : notes_port port e.command ≡ (p == port) = ap (notes_port port) asks in

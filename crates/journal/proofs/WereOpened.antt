@@ -1,5 +1,6 @@
 -- The open run and the closed runs of a legal journal were opened by its entries.
-use Rattle.std.proofs.Common.{◌≡◌, ℕ, ◌-◌, ◌<◌, Contains, List, [], ◌∷◌, ◌++◌, get_or, length, map, min, refl, sym, ap, subst, ◌∙◌, arith, append_assoc, append-nil, Option, Some, None}
+use Rattle.std.proofs.Common.{◌≡◌, ℕ, ◌-◌, ◌<◌, Contains, List, [], ◌∷◌, ◌++◌, get_or, length, map, min, refl, sym, ap, subst, ◌∙◌, arith, append_assoc, append-nil, Option}
+use Rattle.std.proofs.Common.{Some, None}
 use Rattle.std.specs.Prelude.{All, nat_lt, option_to_list, ◌&&◌}
 use Rattle.std.specs.List.{flat_map, range_with_len}
 use Rattle.std.proofs.lemmas.Bool.{and_parts, ltb-true}
@@ -176,6 +177,6 @@ some_granted o s granted grants some =
 pub opened_some : (o : Opening) (journal : List Entry) (r : Run) → IsLegal o journal → IsOpenedIn o journal r → (f : ℕ) × Contains r.granted f
 opened_some o journal r legal h =
     let tells = entry_tells o h.before h.more h.entry (subst (IsLegal o) h.stands legal) in
-    let opens : TellsEntry o (state_of o h.before) h.entry.command (Opened r.first r.slots (length r.granted)) = subst (TellsEntry o (state_of o h.before) h.entry.command) h.reply tells
-    in
+    let opens : TellsEntry o (state_of o h.before) h.entry.command (Opened r.first r.slots (length r.granted)) =
+    subst (TellsEntry o (state_of o h.before) h.entry.command) h.reply tells in
     some_granted o (state_of o h.before) r.granted h.grants opens.3

@@ -84,7 +84,8 @@ IsShortOf flows granted d e =
 -- note was taken.
 abbrev pub IsTakenNote : List Flow → List ℕ → Drive → Entry → Type 0
 IsTakenNote flows granted d e =
-    (f : ℕ) × Contains granted f × (e ≡ noting flows d f (Noted (sent_from flows d f))) × (sent_from flows d f < d.slots)
+    (f : ℕ) × Contains granted f × (e ≡ noting flows d f (Noted (sent_from flows d f)))
+    × (sent_from flows d f < d.slots)
 
 -- how often the entries note the port
 abbrev pub times_noted : List Entry → ℕ → ℕ

@@ -1,4 +1,5 @@
-use Rattle.journal.proofs.RunRowChecks.{counted_grants_are, counted_notes_are, counted_runs_are, furthest_skips_are, noted_run_is, one_run_is, open_run_is, served_order_is, skipped_slots_are, twice_is, two_ports_are, withdrawal_between_is}
+use Rattle.journal.proofs.RunRowChecks.{counted_grants_are, counted_notes_are, counted_runs_are, furthest_skips_are, noted_run_is, one_run_is, open_run_is, served_order_is}
+use Rattle.journal.proofs.RunRowChecks.{skipped_slots_are, twice_is, two_ports_are, withdrawal_between_is}
 use Rattle.journal.proofs.run_laws.run_rows_hold.Goals as goal
 
 pub returns-clause-served_order : goal.returns-clause-served_order
