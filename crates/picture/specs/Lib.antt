@@ -1,0 +1,3 @@
+pub mod Bars
+pub mod Curve
+pub mod Drawing

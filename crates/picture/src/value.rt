@@ -1,0 +1,49 @@
+//! Bars, windows and steps. Slots count from 1.
+ghost use Rattle.std.specs.Prelude.{◌≡◌};
+
+use coflow_units::{NoMemory, Side};
+
+/// The bars of a picture: 2^18.
+pub const MAX_BARS: u64 = 262_144;
+
+/// A stretch of slots in which a port serves one coflow, from the first to the last, both among them.
+#[derive(Clone, Copy, Debug, PartialEq, Eq)]
+pub struct Bar {
+    pub coflow: u32,
+    pub first: u64,
+    pub last: u64,
+}
+
+/// What a picture shows of a schedule: the ports of one side, and the slots from the first to the last, both shown.
+#[derive(Clone, Copy, Debug, PartialEq, Eq)]
+pub struct Window {
+    pub side: Side,
+    pub first: u64,
+    pub last: u64,
+}
+
+/// A step of the curve: a slot in which a coflow is completed, and how many are completed by its end.
+#[derive(Clone, Copy, Debug, PartialEq, Eq)]
+pub struct Step {
+    pub slot: u64,
+    pub done: u64,
+}
+
+/// Why there are no bars.
+#[derive(Clone, Copy, Debug, PartialEq, Eq)]
+pub enum BarsFault {
+    /// There would be so many bars, more than `MAX_BARS`. The number is 2^64 - 1 where there would be more than that.
+    TooMany { bars: u64 },
+    /// No memory was to be had.
+    NoMemory,
+}
+
+impl From<NoMemory> for BarsFault {
+    ghost use Rattle.picture.specs.declared.value.BarsFault.TheVariants.{NoMemory};
+
+    ghost from_gives = { λ _ e. e ≡ NoMemory };
+
+    fn from(_error: NoMemory) -> BarsFault {
+        BarsFault::NoMemory
+    }
+}
