@@ -5,6 +5,3 @@ mod bssi;
 mod step;
 
 pub use bssi::Bssi;
-
-#[cfg(test)]
-mod tests;

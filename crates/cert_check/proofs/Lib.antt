@@ -10,5 +10,4 @@ pub mod NamedCoflow
 pub mod Firsts
 pub mod EndFacts
 pub mod Verdicts
-pub mod TestSteps
 pub mod OneVerdict

@@ -11,6 +11,3 @@ mod verdict;
 
 pub use checking::check;
 pub use verdict::{Reason, Verdict};
-
-#[cfg(test)]
-mod tests;

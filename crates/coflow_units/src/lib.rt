@@ -23,6 +23,3 @@ pub use plain::load_of;
 pub use plan::{Place, Run};
 pub use quantity::Quantity;
 pub use trace::{CoflowLine, Reducer, Trace};
-
-#[cfg(test)]
-mod tests;

@@ -11,4 +11,3 @@ pub mod BudgetSteps
 pub mod ValueSteps
 pub mod OfInstance
 pub mod FirstPays
-pub mod TestSteps

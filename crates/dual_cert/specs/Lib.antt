@@ -1,4 +1,3 @@
 pub mod TableCertificate
 pub mod OtherCertificate
-pub mod TestInputs
 pub mod PlaceTable

@@ -10,6 +10,3 @@ mod value;
 pub use budgets::infeasible;
 pub use cert::Cert;
 pub use value::{bound, slack};
-
-#[cfg(test)]
-mod tests;

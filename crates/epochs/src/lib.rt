@@ -8,6 +8,3 @@ mod scan;
 
 pub use action::Action;
 pub use epochs::Epochs;
-
-#[cfg(test)]
-mod tests;

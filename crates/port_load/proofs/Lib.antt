@@ -3,6 +3,5 @@ pub mod KeptSteps
 pub mod LoadSums
 pub mod ColumnSteps
 pub mod FlowSteps
-pub mod TestSteps
 pub mod MarkSteps
 pub mod CellSteps

@@ -7,6 +7,3 @@ mod loads;
 mod marks;
 
 pub use loads::Loads;
-
-#[cfg(test)]
-mod tests;

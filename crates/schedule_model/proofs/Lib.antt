@@ -14,4 +14,3 @@ pub mod RepeatSteps
 pub mod ValidSteps
 pub mod RunPushes
 pub mod WaitSteps
-pub mod IdleSlots

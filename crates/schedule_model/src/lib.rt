@@ -17,6 +17,3 @@ pub use fault::ScheduleFault;
 pub use patience::is_patient;
 pub use schedule::Schedule;
 pub use validity::find_fault;
-
-#[cfg(test)]
-mod tests;

@@ -1,8 +1,9 @@
-//! What no clause says: runs that were worked out by hand, and that an `Epochs` is made where memory is there.
+//! What an online run does next, in runs that were worked out by hand.
 ghost use Rattle.std.specs.Prelude.{◌≡◌, ◌≤◌, ◌^◌, length};
 ghost use Rattle.coflow_units.specs.declared.limits.TheConstants.{MAX_OPTION_SLOTS};
 
-use crate::*;
+use coflow_units::MAX_SLOT;
+use epochs::{Action, Epochs};
 use std::alloc::Global;
 use std::process::Abort;
 
@@ -25,9 +26,9 @@ fn two_coflows(rt: &impl Abort, alloc: Global, second: u64, every: u64) -> Epoch
 /// At the time, where the coflows owe so many units, this is done.
 fn step(rt: &impl Abort, epochs: &mut Epochs, time: u64, owed: [u64; 2], action: Action)
     requires coflows { length epochs.old.arrivals ≡ 2 }
-    requires time_fits { time ≤ 2 ^ 41 }
     ensures { length epochs.new.arrivals ≡ 2 }
 {
+    assert!(rt; time < MAX_SLOT);
     assert_eq!(rt; epochs.next(time, &owed), action);
 }
 

@@ -1,0 +1,172 @@
+//! Verdicts on reports, which are told by their texts.
+use crate::inputs::{TWO, are_weights, table_of};
+use cert_check::check;
+use coflow_units::MAX_TEXT;
+use port_load::Loads;
+use report::read_report;
+use std::alloc::Global;
+use std::process::Abort;
+use std::test::Fail;
+
+/// The verdict on the report with this text.
+fn verdict_of(
+    rt: &impl Abort,
+    alloc: Global,
+    trace: &str,
+    weights: &[u64],
+    text: &str,
+) -> Result<String, Fail> {
+    let table = table_of(alloc, trace)?;
+    assert!(rt; weights.len() == table.coflows() as usize);
+    let fit = are_weights(weights);
+    assert!(rt; fit);
+    let loads = Loads::of(alloc, table.flows(), table.coflows(), table.ports())?;
+    assert!(rt; text.len() <= MAX_TEXT);
+    let report = read_report(alloc, text.as_bytes())?;
+    let verdict = check(alloc, &table, &loads, weights, &report)?;
+    Ok(format!(in alloc; "{verdict:?}")?)
+}
+
+/// The places, the totals and the runs of the right report of two coflows.
+const RIGHT: [&str; 3] = [
+    "place 1 2 in 0 733007751851 1/place 2 1 in 0 366503875925 4/",
+    "bound 5/slack 1/cost 5/",
+    "run 1 1/run 3 0/",
+];
+
+/// Places, totals and runs, and the verdict on the report that has them. A `-` stands for those of the right report, and a `/` for a line end. What is looked at later
+/// than what is told is wrong too. At the end are prices that charge nothing, a price that is free since its front has no load, and as many idle slots as there may be.
+const EDITS: &str = "- | - | - => Yes
+- | bound 4/slack 1/cost 5/ | - => Yes
+- | bound 1/slack 1/cost 5/ | - => Yes
+- | bound 6/slack 2/cost 6/ | - => No(BoundTooHigh { stated: 6, real: 5 })
+- | bound 5/slack 2/cost 6/ | - => No(SlackWrong { stated: 2, real: 1 })
+- | bound 0/slack 1/cost 6/ | - => No(CostWrong { stated: 6, real: 5 })
+- | bound 0/slack 1/cost 5/ | - => No(RatioBroken { cost: 5, most: 1 })
+ | bound 9/slack 9/cost 9/ | run 1 9/ => No(NotPermutation { place: 1 })
+place 1 0 in 9 0 0/ | bound 9/slack 9/cost 9/ | run 1 9/ => No(NotPermutation { place: 1 })
+place 1 2 in 9 0 0/ | bound 9/slack 9/cost 9/ | run 1 9/ => No(NotPermutation { place: 2 })
+place 1 1 in 9 0 0/place 2 1 in 9 0 0/ | bound 9/slack 9/cost 9/ | run 1 9/ => No(NotPermutation { place: 2 })
+place 1 1 in 9 0 0/place 2 4294967295 in 9 0 0/ | bound 9/slack 9/cost 9/ | run 1 9/ => No(NotPermutation { place: 2 })
+place 1 1 in 9 0 0/place 2 2 in 9 0 0/place 3 1 in 9 0 0/ | bound 9/slack 9/cost 9/ | run 1 9/ => No(NotPermutation { place: 3 })
+place 1 1 in 2 0 0/place 2 2 in 3 0 0/ | bound 9/slack 9/cost 9/ | run 1 9/ => No(PortRange { place: 2, number: 3 })
+place 1 2 out 3 0 0/place 2 1 in 4294967295 0 0/ | bound 9/slack 9/cost 9/ | run 1 9/ => No(PortRange { place: 1, number: 3 })
+place 1 2 in 0 733007751851 1/place 2 1 in 0 366503875926 4/ | bound 9/slack 9/cost 9/ | run 1 9/ => No(Infeasible { coflow: 0 })
+place 1 2 in 0 733007751852 1/place 2 1 in 0 366503875925 4/ | bound 9/slack 9/cost 9/ | run 1 9/ => No(Infeasible { coflow: 1 })
+place 1 1 out 1 0 0/place 2 2 out 1 340282366920938463463374607431768211455 0/ | bound 9/slack 9/cost 9/ | run 1 9/ => No(Infeasible { coflow: 0 })
+- | bound 5/slack 1/cost 6/ | run 2 0 1/run 1 2 3/run 1 9/ => No(NoFlow { slot: 3, flow: 2 })
+- | bound 5/slack 1/cost 6/ | run 1 1/run 3 0 1/ => No(ClashIn { slot: 2, port: Port { side: Ingress, number: 0 } })
+- | bound 5/slack 1/cost 6/ | run 1 1/run 2 0/ => No(UnitsOf { flow: 0, have: 2, want: 3 })
+- | bound 5/slack 1/cost 6/ | run 3 0/ => No(UnitsOf { flow: 1, have: 0, want: 1 })
+- | bound 5/slack 1/cost 6/ |  => No(UnitsOf { flow: 0, have: 0, want: 3 })
+- | bound 5/slack 1/cost 6/ | run 3 0/run 1 1/ => No(DoneWrong { coflow: 0, stated: 4, real: 3 })
+- | bound 5/slack 1/cost 6/ | run 1 1/run 1/run 3 0/run 7/ => No(DoneWrong { coflow: 0, stated: 4, real: 5 })
+place 1 2 in 0 0 1/place 2 1 in 0 0 4/ | bound 0/slack 10/cost 5/ | - => Yes
+place 1 2 in 2 340282366920938463463374607431768211455 1/place 2 1 in 0 366503875925 4/ | - | - => Yes
+place 1 2 in 0 733007751851 2/place 2 1 in 0 366503875925 6/ | bound 5/slack 1/cost 8/ | run 1/run 1 1/run 1/run 3 0/run 2199023255545/ => Yes
+place 1 2 in 0 733007751851 2199023255548/place 2 1 in 0 366503875925 2199023255551/ | bound 5/slack 1/cost 4398046511099/ | run 2199023255547/run 1 1/run 3 0/ => No(RatioBroken { cost: 4398046511099, most: 21 })";
+
+/// The text of the report that a row of the edits tells.
+fn edited(alloc: Global, row: &str) -> Result<String, Fail> {
+    let mut text = String::from_str(alloc, "sincronia 1\n")?;
+    for (part, right) in row.split(" | ").zip(RIGHT) {
+        let part = if part == "-" { right } else { part };
+        push_lines(&mut text, part)?;
+    }
+    text.push_str("end\n")?;
+    Ok(text)
+}
+
+/// Appends a text, in which a `/` stands for a line end.
+fn push_lines(text: &mut String, short: &str) -> Result<(), Fail> {
+    let mut pieces = short.split('/');
+    if let Some(first) = pieces.next() {
+        text.push_str(first)?;
+    }
+    for piece in pieces {
+        text.push_str("\n")?;
+        text.push_str(piece)?;
+    }
+    Ok(())
+}
+
+#[test]
+fn edits_of_a_right_report(rt: HostRuntime) -> Result<(), Fail> {
+    for row in EDITS.split('\n') {
+        let Some((parts, want)) = row.split_once(" => ") else {
+            return Err(Fail::new("a row without an arrow"));
+        };
+        let text = edited(rt.alloc(), parts)?;
+        let have = verdict_of(&rt, rt.alloc(), TWO, &[1, 1], text.as_str())?;
+        assert_eq!(rt; have.as_str(), want, "{row}");
+    }
+    Ok(())
+}
+
+/// Weights that are stated, and other coflows: of the first two rows without weights one flow meets another at its egress, and one coflow pays too much at a port where the
+/// last place has no load. The slack is more than 2 where a port has more than 2^20 units.
+#[test]
+fn other_weights_and_coflows(rt: HostRuntime) -> Result<(), Fail> {
+    let weighted =
+        "2/place 1 1 in 0 733007751850 3 5/place 2 2 in 0 1099511627776 4 1/bound 19/slack 1/cost 19/run 3 0/run 1 1/";
+    let rows: [(&str, &[u64], &str, &str); 10] = [
+        (TWO, &[5, 1], weighted, "Yes"),
+        (
+            TWO,
+            &[5, 1],
+            "2/place 1 2 in 0 0 4 4294967296/place 2 1 in 0 0 3 4294967296/bound 19/slack 1/cost 19/run 3 0/run 1 1/",
+            "No(WeightWrong { coflow: 0, stated: 4294967296, real: 5 })",
+        ),
+        (
+            TWO,
+            &[1, 1],
+            weighted,
+            "No(WeightWrong { coflow: 0, stated: 5, real: 1 })",
+        ),
+        (
+            "2 2\n1 0 1 0 1 1:1\n2 0 1 2 1 1:1\n",
+            &[1, 1],
+            "1/place 1 1 out 1 0 1/place 2 2 out 1 0 1/bound 0/slack 6/cost 2/run 1 0 1/",
+            "No(ClashIn { slot: 1, port: Port { side: Egress, number: 1 } })",
+        ),
+        (
+            "2 2\n1 0 1 0 1 1:1\n2 0 1 2 1 0:1\n",
+            &[1, 1],
+            "1/place 1 1 in 0 1099511627777 1/place 2 2 in 2 0 1/bound 0/slack 0/cost 2/run 1 0 1/",
+            "No(Infeasible { coflow: 0 })",
+        ),
+        (
+            "2 3\n3 0 1 0 0\n4 0 1 0 1 1:2\n5 0 1 2 0\n",
+            &[1, 1, 1],
+            "1/place 1 5 out 2 340282366920938463463374607431768211455 0/place 2 3 in 1 1 0/place 3 4 in 0 549755813888 2/bound 2/slack 0/cost 2/run 2 0/",
+            "Yes",
+        ),
+        (
+            "1 1\n1 0 1 0 1 0:1048577\n",
+            &[1048576],
+            "1/place 1 1 in 0 1099510579200 1048577/bound 1099512676351/slack 3/cost 1099512676352/run 1048577 0/",
+            "Yes",
+        ),
+        (
+            "1024 1\n1 0 1 1024 1 1024:1099511627776\n",
+            &[4294967296],
+            "1/place 1 1 in 1024 4294967296 1099511627776/bound 4722366482869645213696/slack 0/cost 4722366482869645213696/run 1099511627776 0/",
+            "Yes",
+        ),
+        ("2 0\n", &[], "1/bound 0/slack 0/cost 0/", "Yes"),
+        (
+            "2 0\n",
+            &[],
+            "1/place 1 0 in 0 0 0/bound 0/slack 0/cost 0/",
+            "No(NotPermutation { place: 1 })",
+        ),
+    ];
+    for (trace, weights, short, want) in rows {
+        let mut text = String::from_str(rt.alloc(), "sincronia ")?;
+        push_lines(&mut text, short)?;
+        text.push_str("end\n")?;
+        let have = verdict_of(&rt, rt.alloc(), trace, weights, text.as_str())?;
+        assert_eq!(rt; have.as_str(), want, "{text}");
+    }
+    Ok(())
+}
