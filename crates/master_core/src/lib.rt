@@ -11,10 +11,3 @@ mod standing;
 
 pub use journal::{Command, Entry, Opening, Reply, laws};
 pub use master::Master;
-
-#[cfg(test)]
-mod plain;
-#[cfg(test)]
-mod plays;
-#[cfg(test)]
-mod tests;

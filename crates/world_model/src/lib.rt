@@ -11,6 +11,3 @@ pub use event::{Event, Happened};
 pub use port::{PortState, Stage};
 pub use sent::SentRun;
 pub use world::World;
-
-#[cfg(test)]
-mod tests;

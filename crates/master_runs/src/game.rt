@@ -1,0 +1,68 @@
+//! Masters and worlds that play the lines of a list.
+use crate::line::{Said, said_of};
+use crate::stop::Stop;
+use crate::telling::{tell_journal, tell_master, tell_sent, tell_world};
+use master_core::{Command, Master};
+use std::io;
+use text_fields::Lines;
+use world_model::{Event, World};
+
+/// A master answers the commands of the lines.
+pub fn play_master(
+    rt: &HostRuntime,
+    master: &mut Master,
+    lines: &mut Lines<'_>,
+) -> Result<(), Stop> {
+    while let Some(mut fields) = lines.next() {
+        let line = fields.line();
+        let said = said_of(&mut fields)?;
+        answer(rt, master, line, said)?;
+    }
+    tell_master(rt, master)?;
+    Ok(tell_journal(rt, master)?)
+}
+
+/// A master answers what the line with this number says.
+fn answer(rt: &HostRuntime, master: &mut Master, line: u32, said: Said) -> Result<(), Stop> {
+    match said {
+        Said::Tell => Ok(tell_master(rt, master)?),
+        Said::Step(Event::Ask { who, command }) => Ok(ask(rt, master, who, command)?),
+        Said::Step(_) => Err(Stop::Line(line)),
+    }
+}
+
+/// Asks a command that is in range, and prints the reply.
+fn ask(rt: &HostRuntime, master: &mut Master, who: u32, command: Command) -> io::Result<()> {
+    if !master.is_in_range(command) {
+        return println!(rt; "out of range");
+    }
+    let reply = master.step(who, command);
+    println!(rt; "{reply:?}")
+}
+
+/// A world takes the steps of the lines.
+pub fn play_world(rt: &HostRuntime, world: &mut World, lines: &mut Lines<'_>) -> Result<(), Stop> {
+    while let Some(mut fields) = lines.next() {
+        let said = said_of(&mut fields)?;
+        take(rt, world, said)?;
+    }
+    Ok(tell_end(rt, world)?)
+}
+
+/// A world does what a line says.
+fn take(rt: &HostRuntime, world: &mut World, said: Said) -> io::Result<()> {
+    match said {
+        Said::Tell => tell_world(rt, world),
+        Said::Step(event) => {
+            let happened = world.step(event);
+            println!(rt; "{happened:?}")
+        }
+    }
+}
+
+/// Prints all that a world tells.
+fn tell_end(rt: &HostRuntime, world: &World) -> io::Result<()> {
+    tell_world(rt, world)?;
+    tell_journal(rt, world.master())?;
+    tell_sent(rt, world)
+}

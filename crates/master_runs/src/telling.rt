@@ -1,0 +1,77 @@
+//! Prints what masters and worlds tell.
+use master_core::Master;
+use std::io;
+use world_model::World;
+
+/// Prints what a master tells, but for its journal.
+pub fn tell_master(rt: &HostRuntime, master: &Master) -> io::Result<()> {
+    println!(rt; "version {}", master.version())?;
+    println!(rt; "places {:?}", master.places())?;
+    println!(rt; "ranks {:?}", master.ranks())?;
+    println!(rt;
+        "next {} open {:?}",
+        master.next_slot(),
+        master.open_slots()
+    )?;
+    println!(rt; "granted {:?}", master.granted_flows())?;
+    tell_coflows(rt, master)?;
+    tell_flows(rt, master)?;
+    tell_ports(rt, master)
+}
+
+fn tell_coflows(rt: &HostRuntime, master: &Master) -> io::Result<()> {
+    for coflow in 0..master.table().coflows() {
+        println!(rt;
+            "coflow {} rank {} weight {}",
+            coflow,
+            master.rank(coflow),
+            master.weight(coflow)
+        )?;
+    }
+    Ok(())
+}
+
+fn tell_flows(rt: &HostRuntime, master: &Master) -> io::Result<()> {
+    for flow in 0..master.table().flows().len() as u32 {
+        println!(rt; "flow {} owes {}", flow, master.owed(flow))?;
+    }
+    Ok(())
+}
+
+fn tell_ports(rt: &HostRuntime, master: &Master) -> io::Result<()> {
+    for port in 0..master.table().ports() {
+        println!(rt;
+            "ingress {} granted {:?} noted {:?}",
+            port,
+            master.granted(port),
+            master.noted(port)
+        )?;
+    }
+    Ok(())
+}
+
+/// Prints the entries of a master's journal.
+pub fn tell_journal(rt: &HostRuntime, master: &Master) -> io::Result<()> {
+    for entry in master.journal() {
+        println!(rt; "entry {} {:?} {:?}", entry.who, entry.command, entry.reply)?;
+    }
+    Ok(())
+}
+
+/// Prints what a world tells, but for the journal and the runs that were sent.
+pub fn tell_world(rt: &HostRuntime, world: &World) -> io::Result<()> {
+    tell_master(rt, world.master())?;
+    println!(rt; "agents {}", world.agents())?;
+    for port in 0..world.master().table().ports() {
+        println!(rt; "port {} {:?}", port, world.port(port))?;
+    }
+    Ok(())
+}
+
+/// Prints the runs that the agents of a world sent.
+pub fn tell_sent(rt: &HostRuntime, world: &World) -> io::Result<()> {
+    for run in world.sent() {
+        println!(rt; "{:?}", run)?;
+    }
+    Ok(())
+}
