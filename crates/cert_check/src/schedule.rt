@@ -1,22 +1,19 @@
 //! What a report says of its schedule.
 ghost use Rattle.std.specs.Prelude.{◌≡◌, ◌<◌, ◌≤◌, ◌+◌, ◌-◌, ◌*◌, ◌^◌, All, IfOk, MatchOption, length, slice_index, sum_by};
-ghost use Rattle.coflow_units.specs.declared.limits.TheConstants.{MAX_COFLOWS, MAX_SLOT, MAX_WEIGHT};
+ghost use Rattle.coflow_units.specs.declared.limits.TheConstants.{MAX_COFLOWS, MAX_WEIGHT};
 ghost use Rattle.std.specs.List.{range_with_len};
-ghost use Rattle.std.specs.List.Sorted.{IsStrictlyIncreasing};
-ghost use Rattle.coflow_units.specs.declared.plan.Run.{Run};
 ghost use Rattle.flow_table.specs.Table.{instance_of};
 ghost use Rattle.report.specs.Report.{IsReport};
-ghost use Rattle.schedule_model.specs.RunList.{slots_in};
 ghost use Rattle.cert_check.specs.Parts.{HasSoundSchedule, IsFirstFrom, reason_for};
 ghost use Rattle.cert_check.specs.Places.{NamesEach, coflows_in};
 ghost use Rattle.cert_check.specs.Reasons.{schedule_kind};
 
 use crate::stated::{Claim, ends_of, least_wrong};
 use crate::verdict::Reason;
-use coflow_units::{NoMemory, Run};
+use coflow_units::NoMemory;
 use flow_table::Table;
 use report::Report;
-use schedule_model::{Schedule, ScheduleFault, completions, find_fault};
+use schedule_model::{ScheduleFault, completions_of_runs, find_fault_of_runs};
 use std::alloc::Global;
 
 /// The first reason of the schedule, the completions and the cost, where the places name these coflows.
@@ -38,11 +35,11 @@ pub(crate) fn wrong_schedule(
         (IsFirstFrom (instance_of table.now weights.now) table.now.ids report.now schedule_kind)) }
 {
     let flows = table.flows();
-    let schedule = schedule_of(alloc, report.runs.as_slice())?;
-    if let Some(fault) = find_fault(alloc, flows, &schedule)? {
+    let runs = report.runs.as_slice();
+    if let Some(fault) = find_fault_of_runs(alloc, flows, runs)? {
         return Ok(Some(reason_of(fault)));
     }
-    let ends = completions(alloc, flows, table.coflows(), &schedule)?;
+    let ends = completions_of_runs(alloc, flows, table.coflows(), runs)?;
     let stated = ends_of(alloc, report.places.as_slice())?;
     if let Some(claim) = least_wrong(coflows, &stated, &ends) {
         return Ok(Some(wrong_end(claim)));
@@ -68,20 +65,6 @@ fn wrong_end(claim: Claim) -> Reason
         stated: claim.stated,
         real: claim.real,
     }
-}
-
-/// The schedule of the runs.
-fn schedule_of(alloc: Global, runs: &[Run]) -> Result<Schedule, NoMemory>
-    requires lengths { All (λ (run : Run). 1 ≤ run.length) runs.now }
-    requires few_slots { sum_by (λ (run : Run). run.length) runs.now ≤ MAX_SLOT }
-    requires ascending { All (λ (run : Run). IsStrictlyIncreasing run.flows) runs.now }
-    ensures { IfOk result (λ schedule. schedule ≡ slots_in runs.now) }
-{
-    let mut schedule = Schedule::new(alloc);
-    for run in runs {
-        schedule.push_run(run.length, run.flows.as_slice())?;
-    }
-    Ok(schedule)
 }
 
 /// The fault of a schedule, as a reason.

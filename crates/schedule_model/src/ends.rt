@@ -1,17 +1,17 @@
 //! When coflows end, and what a schedule costs.
 ghost use Rattle.std.specs.Prelude.{◌≡◌, ◌<◌, ◌≤◌, ◌+◌, ◌-◌, ◌*◌, ◌^◌, ℕ, All, IfOk, if◌then◌else◌, length, map, slice_index, sum_by};
-ghost use Rattle.coflow_units.specs.declared.limits.TheConstants.{MAX_WEIGHT};
+ghost use Rattle.coflow_units.specs.declared.limits.TheConstants.{MAX_COFLOWS, MAX_WEIGHT};
 ghost use Rattle.std.specs.List.{range_with_len};
 ghost use Rattle.coflow_units.specs.Completion.{completion, holds_coflow};
 ghost use Rattle.schedule_model.specs.RunList.{IsKept, NamesFlows, slots_in};
 ghost use Rattle.schedule_model.specs.Weights.{weight_of, weighted_cost};
 
 use crate::schedule::Schedule;
-use coflow_units::{Flow, NoMemory, Run};
+use coflow_units::{Flow, MAX_COFLOWS, NoMemory, Run};
 use std::alloc::Global;
 
 /// How many coflows share one pass over the runs where no memory is taken.
-const BLOCK: usize = 256;
+const BLOCK: usize = MAX_COFLOWS as usize;
 
 /// The number of the last slot that holds a flow of the coflow, counted from 1, or 0 where none does.
 ///
@@ -38,14 +38,30 @@ pub fn completions(
     ensures { IfOk result (λ ends. ends.items ≡
         map (λ c. completion flows.now schedule.now c) (range_with_len 0 coflows)) }
 {
+    let ends = completions_of_runs(alloc, flows, coflows, schedule.kept())?;
+    Ok(ends)
+}
+
+/// As `completions`, of the schedule whose runs these are.
+pub fn completions_of_runs(
+    alloc: Global,
+    flows: &[Flow],
+    coflows: u32,
+    runs: &[Run],
+) -> Result<Vec<u64>, NoMemory>
+    requires kept { IsKept runs.now }
+    requires names { NamesFlows (length flows.now) (slots_in runs.now) }
+    ensures { IfOk result (λ ends. ends.items ≡
+        map (λ c. completion flows.now (slots_in runs.now) c) (range_with_len 0 coflows)) }
+{
     let mut ends = vec![in alloc; 0u64; coflows as usize]?;
-    fill_ends(flows, schedule.kept(), 0, &mut ends);
+    fill_ends(flows, runs, 0, &mut ends);
     Ok(ends)
 }
 
 /// The sum of weight times completion over the coflows, with the weight of each coflow at its number. A coflow past the weights counts for nothing.
 ///
-/// The numbers in the schedule are flows', and each weight is at most 2^32. It takes no memory, and goes over the runs once for each 256 coflows.
+/// The numbers in the schedule are flows', and each weight is at most 2^32. It takes no memory, and goes over the runs once for each 4096 coflows.
 pub fn cost(flows: &[Flow], weights: &[u64], schedule: &Schedule) -> u128
     requires names { NamesFlows (length flows.now) schedule.now }
     requires small { All (λ w. w ≤ MAX_WEIGHT) weights.now }
@@ -71,7 +87,7 @@ fn cost_between(flows: &[Flow], weights: &[u64], runs: &[Run], from: usize, to: 
     requires few { length weights.now ≤ 2 ^ 32 }
     requires order { from < to }
     requires inside { to ≤ length weights.now }
-    requires block { to ≤ from + 256 }
+    requires block { to ≤ from + MAX_COFLOWS }
     ensures { result ≡ sum_by (λ c. weight_of weights.now c * completion flows.now (slots_in runs.now) c)
         (range_with_len from (to - from)) }
 {

@@ -12,8 +12,8 @@ mod schedule;
 mod strangers;
 mod validity;
 
-pub use ends::{completion, completions, cost};
+pub use ends::{completion, completions, completions_of_runs, cost};
 pub use fault::ScheduleFault;
 pub use patience::is_patient;
 pub use schedule::Schedule;
-pub use validity::find_fault;
+pub use validity::{find_fault, find_fault_of_runs};

@@ -2,13 +2,14 @@
 ghost use Rattle.std.specs.Prelude.{◌≡◌, ◌≤◌, ◌^◌, ◌↔◌, IfOk, None, length};
 ghost use Rattle.coflow_units.specs.Schedule.{IsValid};
 ghost use Rattle.schedule_model.specs.Fault.{IsFirstFault};
+ghost use Rattle.schedule_model.specs.RunList.{IsKept, slots_in};
 
 use crate::clashes::find_clash;
 use crate::counts::find_miscount;
 use crate::fault::ScheduleFault;
 use crate::schedule::Schedule;
 use crate::strangers::find_stranger;
-use coflow_units::{Flow, NoMemory};
+use coflow_units::{Flow, NoMemory, Run};
 use std::alloc::Global;
 
 /// Tests whether a schedule is valid for the flows: each number is a flow's, no two flows of a slot share a port, and each flow stands in as many slots as it has units.
@@ -26,7 +27,21 @@ pub fn find_fault(
     ensures first { IfOk result (λ fault. IsFirstFault flows.now schedule.now fault) }
     ensures valid { IfOk result (λ fault. (fault ≡ None) ↔ IsValid flows.now schedule.now) }
 {
-    let runs = schedule.kept();
+    let fault = find_fault_of_runs(alloc, flows, schedule.kept())?;
+    Ok(fault)
+}
+
+/// As `find_fault`, of the schedule whose runs these are: no run is empty, the flows of each ascend, and neighbours differ.
+pub fn find_fault_of_runs(
+    alloc: Global,
+    flows: &[Flow],
+    runs: &[Run],
+) -> Result<Option<ScheduleFault>, NoMemory>
+    requires few { length flows.now ≤ 2 ^ 32 }
+    requires kept { IsKept runs.now }
+    ensures first { IfOk result (λ fault. IsFirstFault flows.now (slots_in runs.now) fault) }
+    ensures valid { IfOk result (λ fault. (fault ≡ None) ↔ IsValid flows.now (slots_in runs.now)) }
+{
     if let Some((slot, flow)) = find_stranger(flows, runs) {
         return Ok(Some(ScheduleFault::NoFlow { slot, flow }));
     }

@@ -1,12 +1,11 @@
-use Rattle.std.proofs.Common.{◌≡◌, ◌+◌, ◌∙◌, length, arith, ap}
+use Rattle.std.proofs.Common.{◌≡◌, map, subst}
+use Rattle.std.specs.List.{range_with_len}
 use Rattle.coflow_units.specs.Completion.{completion}
-use Rattle.schedule_model.proofs.CostSums.{by_place}
-use Rattle.schedule_model.proofs.TimeCounts.{refill}
+use Rattle.schedule_model.specs.RunList.{NamesFlows}
 use Rattle.schedule_model.proofs.ends.completions.Goals as goal
 
+pub completions_of_runs-requires-clause-names : goal.completions_of_runs-requires-clause-names
+completions_of_runs-requires-clause-names c = rw c.kept.ensures.slots c.requires
+
 pub returns : goal.returns
-returns c =
-    let count : length c.fill_ends.new.ends ≡ c.args.coflows = c.fill_ends.auto.ends ∙ c.deref_mut.ensures.len ∙ c.in_ok-ends.ensures.len in
-    refill c.fill_ends.new.ends c.in_ok-ends.ends.items c.in_ok-ends.ends.len (c.fill_ends.auto.ends ∙ c.deref_mut.ensures.len)
-    ∙ by_place (λ x. completion c.args.flows.now c.args.schedule.now x) c.fill_ends.new.ends c.args.coflows count
-    (λ k lt. c.fill_ends.ensures k (omega (arith, lt, count, c.fill_ends.auto.ends)) ∙ ap (λ s. completion c.args.flows.now s (0 + k)) c.kept.ensures.slots)
+returns c = subst (λ s. c.in_ok-ends.ends.items ≡ map (λ x. completion c.args.flows.now s x) (range_with_len 0 c.args.coflows)) c.kept.ensures.slots c.in_ok-ends.ensures

@@ -4,7 +4,7 @@ use Rattle.schedule_model.specs.RunList.{slots_in}
 use Rattle.schedule_model.proofs.CostSums.{part_more, parts_small, product_small}
 use Rattle.schedule_model.proofs.ends.cost_between.Goals as goal
 
-total_fits : (n total product : ℕ) → n ≤ 256 → total ≤ n * 9444732965739290427392 → product ≤ 9444732965739290427392 → total + product < 340282366920938463463374607431768211456
+total_fits : (n total product : ℕ) → n ≤ 4096 → total ≤ n * 9444732965739290427392 → product ≤ 9444732965739290427392 → total + product < 340282366920938463463374607431768211456
 total_fits n total product few small one = omega arith
 
 pub overflow_mul-total : goal.overflow_mul-total
