@@ -1,5 +1,6 @@
 -- Digits that are read one by one.
-use Rattle.std.proofs.Common.{◌≡◌, ◌⊎◌, inl, inr, ℕ, zero, suc, ◌+◌, ◌-◌, ◌*◌, ◌/◌, ◌%◌, ◌<◌, ◌≤◌, ◌^◌, List, [], ◌∷◌, ◌++◌, true, length, append-nil, append_assoc, length-append, replicate, take, drop, get_or, refl, sym, ap, ◌∙◌, arith}
+use Rattle.std.proofs.Common.{◌≡◌, ◌⊎◌, inl, inr, ℕ, zero, suc, ◌+◌, ◌-◌, ◌*◌, ◌/◌, ◌%◌, ◌<◌, ◌≤◌, ◌^◌, List, [], ◌∷◌, ◌++◌, true, length}
+use Rattle.std.proofs.Common.{append-nil, append_assoc, length-append, replicate, take, drop, get_or, refl, sym, ap, ◌∙◌, arith}
 use Rattle.std.proofs.lemmas.Bool.Decides.{nat_tests}
 use Rattle.std.proofs.lemmas.Fmt.{decimal-digits_value, decimal_digit, decimal_is_IsNumeral_wide, decimal_nonempty, decimal_step, first_decimal, length-decimal-le}
 use Rattle.std.proofs.lemmas.Str.Parse.{IsNumeralModel, numerals_by_value, tells_all_ascii_digits}
@@ -131,7 +132,8 @@ has_one_digit n lt = sym (ap length (decimal_digit n lt))
 
 -- ---- a number that is written where it stays
 
-pub written_there : (text filled written : List ℕ) (n at : ℕ) → filled ≡ text ++ replicate (1 + length (decimal n)) 32 → at + length (decimal n) ≡ length text + 1 + length (decimal n) →
+pub written_there : (text filled written : List ℕ) (n at : ℕ) → filled ≡ text ++ replicate (1 + length (decimal n)) 32 →
+    at + length (decimal n) ≡ length text + 1 + length (decimal n) →
     drop at written ≡ decimal n ++ drop (length text + 1 + length (decimal n)) filled → take at written ≡ take at filled → written ≡ text ++ spaced n
 written_there text filled written n at grown start behind front =
     let width : ℕ = length (decimal n) in

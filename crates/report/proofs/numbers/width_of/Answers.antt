@@ -24,10 +24,12 @@ pub returns-in-1000000-to-9999999 : goal.returns-in-1000000-to-9999999
 returns-in-1000000-to-9999999 c = has_digits 6 c.args.number (omega (arith, c.in-1000000-to-9999999)) (omega (arith, c.in-1000000-to-9999999)) (omega (arith, c.ranges.number))
 
 pub returns-in-10000000-to-99999999 : goal.returns-in-10000000-to-99999999
-returns-in-10000000-to-99999999 c = has_digits 7 c.args.number (omega (arith, c.in-10000000-to-99999999)) (omega (arith, c.in-10000000-to-99999999)) (omega (arith, c.ranges.number))
+returns-in-10000000-to-99999999 c =
+    has_digits 7 c.args.number (omega (arith, c.in-10000000-to-99999999)) (omega (arith, c.in-10000000-to-99999999)) (omega (arith, c.ranges.number))
 
 pub returns-in-100000000-to-999999999 : goal.returns-in-100000000-to-999999999
-returns-in-100000000-to-999999999 c = has_digits 8 c.args.number (omega (arith, c.in-100000000-to-999999999)) (omega (arith, c.in-100000000-to-999999999)) (omega (arith, c.ranges.number))
+returns-in-100000000-to-999999999 c =
+    has_digits 8 c.args.number (omega (arith, c.in-100000000-to-999999999)) (omega (arith, c.in-100000000-to-999999999)) (omega (arith, c.ranges.number))
 
 pub returns-in_default : goal.returns-in_default
 returns-in_default c = has_digits 9 c.args.number (omega (arith, c.in_default)) (omega (arith, c.ranges.number)) (omega (arith, c.ranges.number))
