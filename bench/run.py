@@ -3,7 +3,7 @@
 
 Use: bench/run.py [--peer 'PROGRAM WORD ..'] [SHAPE ..]
 
-First, on each shape of load, the commands `plan` and `check`, output to /dev/null: seconds, the least of three runs, and the peak of memory. `--peer` names another program
+First, on each shape of load, the commands `plan` and `check`, output to /dev/null: seconds of the processor, the least of three runs, and the peak of memory. `--peer` names another program
 with the same commands, words behind it included; it runs in turn with ours, and the ratios to it are printed beside. Shapes on the command line are the only ones that run.
 Then, with no shape named, the limits of the text and of the table, and the benchmarks of parts of the program, one run each.
 """
@@ -13,9 +13,10 @@ import shlex
 import subprocess
 import sys
 import tempfile
-import time
 
-import traces
+sys.dont_write_bytecode = True  # the folder stays as it is
+
+import traces  # noqa: E402
 
 TOP = os.path.dirname(os.path.dirname(os.path.abspath(__file__)))
 PROGRAM = os.path.join(TOP, "crates", "sincronia", "out", "sincronia")
@@ -72,16 +73,14 @@ def planned(folder, options):
 
 
 def measured(command, folder):
-    """Seconds, peak memory in MiB and exit code of a run in a process of its own, output to /dev/null."""
+    """Seconds of the processor, peak memory in MiB and exit code of a run in a process of its own, output to /dev/null. Other work on the machine counts little so."""
     reader, writer = os.pipe()
     pid = os.fork()
     if pid == 0:
         os.close(reader)
-        before = time.monotonic()
         code = subprocess.run(command, cwd=folder, stdout=subprocess.DEVNULL, stderr=subprocess.DEVNULL, timeout=900, check=False).returncode
-        seconds = time.monotonic() - before
-        memory = resource.getrusage(resource.RUSAGE_CHILDREN).ru_maxrss / 1024
-        os.write(writer, ("%f %f %d" % (seconds, memory, code)).encode())
+        usage = resource.getrusage(resource.RUSAGE_CHILDREN)
+        os.write(writer, ("%f %f %d" % (usage.ru_utime + usage.ru_stime, usage.ru_maxrss / 1024, code)).encode())
         os._exit(0)
     os.close(writer)
     with os.fdopen(reader) as pipe:
