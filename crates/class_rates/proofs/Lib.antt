@@ -1,0 +1,4 @@
+mod ClassLaw
+mod ClassOrders
+mod FoldSteps
+mod PairLists

@@ -1,0 +1,4 @@
+pub mod Classes
+pub mod ClassPatient
+pub mod Cap
+pub mod Rows

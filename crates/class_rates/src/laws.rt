@@ -1,0 +1,57 @@
+//! Laws of classes: what class order there is, and what schedules that keep classes cost.
+ghost use Rattle.std.specs.Prelude.{◌≡◌, ℕ, ◌<◌, ◌≤◌, List, Contains, length};
+ghost use Rattle.coflow_units.specs.declared.fabric.Flow.{Flow};
+ghost use Rattle.coflow_units.specs.Flows.{Instance, IsInstance, coflow_of};
+ghost use Rattle.coflow_units.specs.Completion.{completion, cost, end_of};
+ghost use Rattle.coflow_units.specs.Patient.{IsPatient};
+ghost use Rattle.coflow_units.specs.Schedule.{IsValid};
+ghost use Rattle.coflow_units.specs.Served.{IsServed};
+ghost use Rattle.class_rates.specs.Cap.{cap, cap_of_coflow, cap_of_flow};
+ghost use Rattle.class_rates.specs.ClassPatient.{IsClassPatient};
+ghost use Rattle.class_rates.specs.Classes.{IsClassOrder, class_in};
+ghost use Rattle.class_rates.specs.Rows.{cap_of_two, folded};
+
+/// In a valid schedule that keeps classes and leaves no port idle that could serve, each flow ends no later than its cap: the loads of its two ports over the coflows of
+/// its class and of those before it, less its own units. So each coflow ends by its cap, and the schedule costs at most the sum of weight times cap, whichever
+/// flow of a class is served first.
+///
+/// Source: the argument for order-preserving schedules of Agarwal, Rajakrishnan, Narayan, Agarwal, Shmoys and Vahdat, "Sincronia: near-optimal network design for coflows", SIGCOMM 2018,
+/// with classes for coflows.
+pub fn class_is_short()
+    ensures flow { (i : Instance) (class : ℕ → ℕ) (slots : List (List ℕ)) (f : ℕ) → IsInstance i →
+        IsValid i.flows slots → IsClassPatient i.flows class slots → f < length i.flows →
+        end_of slots f ≤ cap_of_flow i.flows i.coflows class f }
+    ensures coflow { (i : Instance) (class : ℕ → ℕ) (slots : List (List ℕ)) (c : ℕ) → IsInstance i →
+        IsValid i.flows slots → IsClassPatient i.flows class slots →
+        completion i.flows slots c ≤ cap_of_coflow i.flows i.coflows class c }
+    ensures cost { (i : Instance) (class : ℕ → ℕ) (slots : List (List ℕ)) → IsInstance i →
+        IsValid i.flows slots → IsClassPatient i.flows class slots →
+        cost i.flows i.weight i.coflows slots ≤ cap i.flows i.weight i.coflows class }
+{}
+
+/// Coflows have at most one class order.
+pub fn class_order_is_one()
+    ensures { (coflows : List ℕ) (class : ℕ → ℕ) (a b : List ℕ) → IsClassOrder coflows class a →
+        IsClassOrder coflows class b → a ≡ b }
+{}
+
+/// A schedule that is patient for a class order keeps its classes, and so does the served schedule of a class order.
+pub fn class_order_keeps_classes()
+    ensures patient { (flows : List Flow) (coflows : List ℕ) (class : ℕ → ℕ) (order : List ℕ) (slots : List (List ℕ)) →
+        IsClassOrder coflows class order →
+        ((f : ℕ) → f < length flows → Contains coflows (coflow_of flows f)) → IsValid flows slots →
+        IsPatient flows order slots → IsClassPatient flows class slots }
+    ensures served { (flows : List Flow) (coflows : List ℕ) (class : ℕ → ℕ) (order : List ℕ) (slots : List (List ℕ)) →
+        IsClassOrder coflows class order →
+        ((f : ℕ) → f < length flows → Contains coflows (coflow_of flows f)) →
+        IsServed flows order slots → IsClassPatient flows class slots }
+{}
+
+/// Of two coflows of 3 units and of 1 unit at the same ports, the shorter one first, two classes have the cap 6 and one class has the cap 12.
+pub fn rows_hold()
+    ensures first { folded 2 1 ≡ 1 }
+    ensures second { folded 2 0 ≡ 2 }
+    ensures one { folded 1 0 ≡ 1 }
+    ensures two_classes { cap_of_two 2 ≡ 6 }
+    ensures one_class { cap_of_two 1 ≡ 12 }
+{}
