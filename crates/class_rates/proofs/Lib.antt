@@ -1,3 +1,4 @@
+mod CapSteps
 mod ClassLaw
 mod ClassOrders
 mod FoldSteps

@@ -52,4 +52,12 @@ impl Classes {
     {
         &self.order
     }
+
+    /// The class of each coflow, by number.
+    pub(crate) fn numbers(&self) -> &[u32]
+        ensures numbers { result.now ≡ self.now.numbers }
+        ensures classes { IsClasses self.now }
+    {
+        &self.numbers
+    }
 }
