@@ -1,4 +1,5 @@
 //! Command lines.
+use crate::rows::parts_of;
 use command_words::read_words;
 use std::alloc::Global;
 use std::test::Fail;
@@ -28,57 +29,46 @@ fn answer(alloc: Global, words: &[String]) -> Result<String, Fail> {
     }
 }
 
+/// Lines and what they say.
+const READ: &str = "plan t => Plan t - - 1 4 1024 1 8
+--weights w plan t => Plan t - w 1 4 1024 1 8
+plan --weights w t => Plan t - w 1 4 1024 1 8
+plan t --weights w => Plan t - w 1 4 1024 1 8
+plan t --weights=w => Plan t - w 1 4 1024 1 8
+plan t --weights=-x => Plan t - -x 1 4 1024 1 8
+plan t --weights=-- => Plan t - -- 1 4 1024 1 8
+plan t --weights=a=b => Plan t - a=b 1 4 1024 1 8
+plan t --weights =b => Plan t - =b 1 4 1024 1 8
+plan t --weights==b => Plan t - =b 1 4 1024 1 8
+plan t --unit 01 => Plan t - - 1 4 1024 1 8
+plan t --unit 1048576 => Plan t - - 1048576 4 1024 1 8
+plan t --agents=1 => Plan t - - 1 1 1024 1 8
+plan t --agents 64 => Plan t - - 1 64 1024 1 8
+plan t --epoch 1099511627776 => Plan t - - 1 4 1099511627776 1 8
+plan t --run 1099511627776 => Plan t - - 1 4 1024 1099511627776 8
+plan t --slot-ms 1048576 => Plan t - - 1 4 1024 1 1048576
+--slot-ms 6 plan --run 5 --epoch=4 t --agents 3 --weights=w --unit 2 => Plan t - w 2 3 4 5 6
+check t r => Check t r - 1 4 1024 1 8
+check --unit=1 t --run 1 r -- => Check t r - 1 4 1024 1 8
+check -- -t -- => Check -t -- - 1 4 1024 1 8
+check t -- --unit => Check t --unit - 1 4 1024 1 8
+make 007 => Make 007 - - 1 4 1024 1 8
+make 18446744073709551615 => Make 18446744073709551615 - - 1 4 1024 1 8
+make 0 --epoch 5 => Make 0 - - 1 4 5 1 8
+plan help => Plan help - - 1 4 1024 1 8
+plan plan => Plan plan - - 1 4 1024 1 8
+plan -- -x => Plan -x - - 1 4 1024 1 8
+plan -- -- => Plan -- - - 1 4 1024 1 8
+-- plan t => Plan t - - 1 4 1024 1 8
+plan -- t => Plan t - - 1 4 1024 1 8
+plan t -- => Plan t - - 1 4 1024 1 8";
+
 #[test]
 fn lines_that_are_read(rt: HostRuntime) -> Result<(), Fail> {
-    let table = [
-        ("plan t", "Plan t - - 1 4 1024 1 8"),
-        ("--weights w plan t", "Plan t - w 1 4 1024 1 8"),
-        ("plan --weights w t", "Plan t - w 1 4 1024 1 8"),
-        ("plan t --weights w", "Plan t - w 1 4 1024 1 8"),
-        ("plan t --weights=w", "Plan t - w 1 4 1024 1 8"),
-        ("plan t --weights=-x", "Plan t - -x 1 4 1024 1 8"),
-        ("plan t --weights=--", "Plan t - -- 1 4 1024 1 8"),
-        ("plan t --weights=a=b", "Plan t - a=b 1 4 1024 1 8"),
-        ("plan t --weights =b", "Plan t - =b 1 4 1024 1 8"),
-        ("plan t --weights==b", "Plan t - =b 1 4 1024 1 8"),
-        ("plan t --unit 01", "Plan t - - 1 4 1024 1 8"),
-        ("plan t --unit 1048576", "Plan t - - 1048576 4 1024 1 8"),
-        ("plan t --agents=1", "Plan t - - 1 1 1024 1 8"),
-        ("plan t --agents 64", "Plan t - - 1 64 1024 1 8"),
-        (
-            "plan t --epoch 1099511627776",
-            "Plan t - - 1 4 1099511627776 1 8",
-        ),
-        (
-            "plan t --run 1099511627776",
-            "Plan t - - 1 4 1024 1099511627776 8",
-        ),
-        ("plan t --slot-ms 1048576", "Plan t - - 1 4 1024 1 1048576"),
-        (
-            "--slot-ms 6 plan --run 5 --epoch=4 t --agents 3 --weights=w --unit 2",
-            "Plan t - w 2 3 4 5 6",
-        ),
-        ("check t r", "Check t r - 1 4 1024 1 8"),
-        ("check --unit=1 t --run 1 r --", "Check t r - 1 4 1024 1 8"),
-        ("check -- -t --", "Check -t -- - 1 4 1024 1 8"),
-        ("check t -- --unit", "Check t --unit - 1 4 1024 1 8"),
-        ("make 007", "Make 007 - - 1 4 1024 1 8"),
-        (
-            "make 18446744073709551615",
-            "Make 18446744073709551615 - - 1 4 1024 1 8",
-        ),
-        ("make 0 --epoch 5", "Make 0 - - 1 4 5 1 8"),
-        ("plan help", "Plan help - - 1 4 1024 1 8"),
-        ("plan plan", "Plan plan - - 1 4 1024 1 8"),
-        ("plan -- -x", "Plan -x - - 1 4 1024 1 8"),
-        ("plan -- --", "Plan -- - - 1 4 1024 1 8"),
-        ("-- plan t", "Plan t - - 1 4 1024 1 8"),
-        ("plan -- t", "Plan t - - 1 4 1024 1 8"),
-        ("plan t --", "Plan t - - 1 4 1024 1 8"),
-    ];
-    for (line, want) in table {
-        let words = cut(rt.alloc(), line)?;
-        assert_eq!(rt; answer(rt.alloc(), &words)?.as_str(), want, "{line}");
+    for row in READ.split('\n') {
+        let (line, want) = parts_of(rt.alloc(), row)?;
+        let words = cut(rt.alloc(), line.as_str())?;
+        assert_eq!(rt; answer(rt.alloc(), &words)?.as_str(), want, "{row}");
     }
     Ok(())
 }

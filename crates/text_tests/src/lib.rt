@@ -11,6 +11,8 @@ mod numbers;
 #[cfg(test)]
 mod reports;
 #[cfg(test)]
+mod rows;
+#[cfg(test)]
 mod traces;
 #[cfg(test)]
 mod weight_lists;

@@ -1,4 +1,5 @@
 //! Texts of weights, for a trace with the coflows 1 and 2.
+use crate::rows::parts_of;
 use coflow_units::MAX_TEXT;
 use std::alloc::Global;
 use std::test::Fail;
@@ -17,53 +18,49 @@ fn answer(alloc: Global, bytes: &[u8]) -> Result<String, Fail> {
         Ok(weights) => weights,
         Err(fault) => return Ok(format!(in alloc; "{fault}")?),
     };
-    let mut text = String::new(alloc);
+    let mut text = String::from_str(alloc, "weights")?;
     for weight in weights.as_slice() {
-        write!(text, "{weight} ")?;
+        write!(text, " {weight}")?;
     }
     Ok(text)
 }
 
+/// Texts, and their weights or first faults. A `/` stands for a line end.
+const ROWS: &str = " => weights 1 1
+/ \r/\t/ => weights 1 1
+1 5/2 1/ => weights 5 1
+2 1/1 5 => weights 5 1
+2 7/ => weights 1 7
+/\t01\t0005 \r// => weights 5 1
+1 4294967296 => weights 4294967296 1
+1 1/2 00000000000000000000000000002 => weights 1 2
+x 1 => line 1: field 1 is not as it should be
++1 1 => line 1: field 1 is not as it should be
+1:1 => line 1: field 1 is not as it should be
+9 1 => line 1: no coflow has the id 9
+9 x y => line 1: no coflow has the id 9
+4294967297 1 => line 1: no coflow has the id 4294967297
+99999999999999999999 1 => line 1: no coflow has the id 18446744073709551615
+1 2/1 3 => line 2: an earlier line has the id 1
+2 2//002 => line 3: an earlier line has the id 2
+1 => line 1: field 2 is not as it should be
+1 2.0 => line 1: field 2 is not as it should be
+1 2/2 \x0b => line 2: field 2 is not as it should be
+1 0 => line 1: Weight of 0 is outside its range
+/1 4294967297 3 => line 2: Weight of 4294967297 is outside its range
+1 99999999999999999999 => line 1: Weight of 18446744073709551615 is outside its range
+1 2 3 => line 1: field 3 is not as it should be
+1 2/2 2 x/9 1 => line 2: field 3 is not as it should be";
+
 #[test]
 fn weights_and_first_faults(rt: HostRuntime) -> Result<(), Fail> {
-    let table: [(&[u8], &str); 25] = [
-        (b"", "1 1 "),
-        (b"\n \r\n\t\n", "1 1 "),
-        (b"1 5\n2 1\n", "5 1 "),
-        (b"2 1\n1 5", "5 1 "),
-        (b"2 7\n", "1 7 "),
-        (b"\n\t01\t0005 \r\n\n", "5 1 "),
-        (b"1 4294967296", "4294967296 1 "),
-        (b"1 1\n2 00000000000000000000000000002", "1 2 "),
-        (b"x 1", "line 1: field 1 is not as it should be"),
-        (b"+1 1", "line 1: field 1 is not as it should be"),
-        (b"1:1", "line 1: field 1 is not as it should be"),
-        (b"9 1", "line 1: no coflow has the id 9"),
-        (b"9 x y", "line 1: no coflow has the id 9"),
-        (b"4294967297 1", "line 1: no coflow has the id 4294967297"),
-        (
-            b"99999999999999999999 1",
-            "line 1: no coflow has the id 18446744073709551615",
-        ),
-        (b"1 2\n1 3", "line 2: an earlier line has the id 1"),
-        (b"2 2\n\n002", "line 3: an earlier line has the id 2"),
-        (b"1", "line 1: field 2 is not as it should be"),
-        (b"1 2.0", "line 1: field 2 is not as it should be"),
-        (b"1 2\n2 \x0b", "line 2: field 2 is not as it should be"),
-        (b"1 0", "line 1: Weight of 0 is outside its range"),
-        (
-            b"\n1 4294967297 3",
-            "line 2: Weight of 4294967297 is outside its range",
-        ),
-        (
-            b"1 99999999999999999999",
-            "line 1: Weight of 18446744073709551615 is outside its range",
-        ),
-        (b"1 2 3", "line 1: field 3 is not as it should be"),
-        (b"1 2\n2 2 x\n9 1", "line 2: field 3 is not as it should be"),
-    ];
-    for (text, want) in table {
-        assert_eq!(rt; answer(rt.alloc(), text)?.as_str(), want);
+    for row in ROWS.split('\n') {
+        let (text, want) = parts_of(rt.alloc(), row)?;
+        assert_eq!(rt;
+            answer(rt.alloc(), text.as_bytes())?.as_str(),
+            want,
+            "{row}"
+        );
     }
     Ok(())
 }
