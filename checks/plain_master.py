@@ -235,6 +235,20 @@ class Master:
             *("ingress %d granted %s noted %s" % (port, optional(run and run.granted.get(port)), optional(run and self.noted(run, n, port))) for port in range(self.ports)),
         ]
 
+    def closed(self):
+        """The lines of the closed runs, counted entry by entry: a flow that a run grants is credited with what was noted last at its port, or with the run's length."""
+        lines, run, units = [], None, {}
+        for k, (_, asked, (name, *numbers)) in enumerate(self.journal):
+            if name == "Opened":
+                run = self.run_at(k)
+                units = dict.fromkeys(run.granted, run.slots)
+            elif name == "Noted":
+                units[asked[1]] = numbers[0]
+            elif name == "Closed":
+                lines.append("closed %d %d" % (run.first, run.slots))
+                lines += ("credit %d %d %d" % (flow, port, units[port]) for flow, port in sorted((flow, port) for port, flow in run.granted.items()))
+        return lines
+
     def entries(self):
         return ["entry %d %s %s" % (who, shown(command), named(reply[0], reply[1:])) for who, command, reply in self.journal]
 
@@ -392,7 +406,28 @@ def game(ports, coflows, limit, lines):
             reply = master.ask(int(who), asked)
             said.append(named(reply[0], reply[1:]))
     head = ["master", limit, *(coflow.weight for coflow in coflows)]
-    return [written(head), *map(written, lines)], said + master.told() + master.entries()
+    return [written(head), *map(written, lines)], said + master.told() + master.closed() + master.entries()
+
+
+def fault_of_schedule(lines, flows):
+    """What is wrong with the schedule that printed closed runs are, or None: slots ascend, no port carries two units in a slot, and a flow stands in it once for each unit that it owes no more."""
+    sent, owes, end, slots, busy = [0] * len(flows), [0] * len(flows), 0, 0, set()
+    for word, *rest in (line.split() for line in lines):
+        if word == "closed":
+            first, slots, busy = int(rest[0]), int(rest[1]), set()
+            if first <= end:
+                return "a run begins in slot %d, and slot %d is of the run before" % (first, end)
+            end = first + slots - 1
+        elif word == "credit":
+            flow, port, units = map(int, rest)
+            used = {("ingress", flows[flow].ingress), ("egress", flows[flow].egress)}
+            if port != flows[flow].ingress or units > slots or used & busy:
+                return "flow %d is credited %d units at ingress %d" % (flow, units, port)
+            busy, sent[flow] = busy | used, sent[flow] + units
+        elif word == "flow":
+            owes[int(rest[0])] = int(rest[2])
+    wrong = [f for f, flow in enumerate(flows) if sent[f] + owes[f] != flow.units]
+    return "flow %d is in %d slots and owes %d units" % (wrong[0], sent[wrong[0]], owes[wrong[0]]) if wrong else None
 
 
 def fault_of_drawn(folder, seed, ports, coflows, limit, met):
@@ -400,7 +435,8 @@ def fault_of_drawn(folder, seed, ports, coflows, limit, met):
     r = random.Random(seed)
     lines, said = game(ports, coflows, limit, [line(r, ports, len(coflows)) for _ in range(120)])
     met |= {it.split("(")[0] for it in said}
-    return first_difference(ran(folder, ports, coflows, lines), said)
+    have = ran(folder, ports, coflows, lines)
+    return first_difference(have, said) or fault_of_schedule(have, flows_of(coflows, 1))
 
 
 def results(folder):

@@ -1,8 +1,11 @@
 //! Masters and worlds that play the lines of a list.
 use crate::line::{Said, said_of};
 use crate::stop::Stop;
-use crate::telling::{tell_journal, tell_master, tell_sent, tell_world};
+use crate::telling::{tell_closed, tell_journal, tell_master, tell_sent, tell_world};
+use coflow_units::NoMemory;
+use journal::RunTally;
 use master_core::{Command, Master};
+use std::alloc::Global;
 use std::io;
 use text_fields::Lines;
 use world_model::{Event, World};
@@ -10,16 +13,39 @@ use world_model::{Event, World};
 /// A master answers the commands of the lines.
 pub fn play_master(
     rt: &HostRuntime,
+    alloc: Global,
     master: &mut Master,
     lines: &mut Lines<'_>,
 ) -> Result<(), Stop> {
+    let mut tally = RunTally::new(alloc);
     while let Some(mut fields) = lines.next() {
         let line = fields.line();
         let said = said_of(&mut fields)?;
+        let entries = master.journal().len();
         answer(rt, master, line, said)?;
+        take_down(alloc, &mut tally, master, entries)?;
     }
     tell_master(rt, master)?;
+    tell_closed(rt, tally.closed())?;
     Ok(tell_journal(rt, master)?)
+}
+
+/// The tally takes down the entry of the journal at this place, where there is one.
+fn take_down(
+    alloc: Global,
+    tally: &mut RunTally,
+    master: &Master,
+    place: usize,
+) -> Result<(), NoMemory> {
+    match master.journal().get(place) {
+        Some(entry) => tally.take(
+            alloc,
+            *entry,
+            master.table().flows(),
+            master.granted_flows(),
+        ),
+        None => Ok(()),
+    }
 }
 
 /// A master answers what the line with this number says.

@@ -4,7 +4,9 @@
 //! The first line of the list says who plays, with a weight for each coflow of the trace: `master LIMIT WEIGHT..` is a master whose journal takes entries up to the limit,
 //! and `world LIMIT WEIGHT.. AGENTS` is a world of such a master and of so many agents.
 //! A line `CALLER WORD NUMBER..` behind it asks a command, and in a world a line `WORD NUMBER..` is a step of an agent or of the driver of runs. A line `tell` prints what is
-//! told at that point. The exit code is 0 where all lines were played, and 1 where a line is not such, or something else was wanting.
+//! told at that point. Behind the last line a master also tells its closed runs, each with what it credits to its flows.
+//!
+//! The exit code is 0 where all lines were played, and 1 where a line is not such, or something else was wanting.
 #![tactic(auto)]
 
 mod game;
@@ -102,7 +104,7 @@ fn play(rt: &HostRuntime, alloc: Global, table: Table, lines: &mut Lines<'_>) ->
     match word(&mut first) {
         "master" => {
             let mut master = master_of(alloc, table, &mut first)?;
-            play_master(rt, &mut master, lines)
+            play_master(rt, alloc, &mut master, lines)
         }
         "world" => {
             let mut world = world_of(alloc, table, &mut first)?;

@@ -1,4 +1,5 @@
 //! Prints what masters and worlds tell.
+use journal::{Credit, CreditedRun};
 use master_core::Master;
 use std::io;
 use world_model::World;
@@ -45,6 +46,25 @@ fn tell_ports(rt: &HostRuntime, master: &Master) -> io::Result<()> {
             port,
             master.granted(port),
             master.noted(port)
+        )?;
+    }
+    Ok(())
+}
+
+/// Prints closed runs: the first slot and the number of slots of each, and what it credits to each flow that it granted.
+pub fn tell_closed(rt: &HostRuntime, runs: &[CreditedRun]) -> io::Result<()> {
+    for run in runs {
+        println!(rt; "closed {} {}", run.first, run.slots)?;
+        tell_credits(rt, run.credits.as_slice())?;
+    }
+    Ok(())
+}
+
+fn tell_credits(rt: &HostRuntime, credits: &[Credit]) -> io::Result<()> {
+    for credit in credits {
+        println!(rt;
+            "credit {} {} {}",
+            credit.flow, credit.ingress, credit.units
         )?;
     }
     Ok(())
