@@ -1,20 +1,24 @@
 -- What a new session is.
-use Rattle.std.proofs.Common.{◌≡◌, ℕ, ◌+◌, ◌<◌, ◌≤◌, ◌^◌, List, [], length, map, refl, sym, ap, ◌∙◌, subst, arith}
-use Rattle.std.specs.Prelude.{All}
-use Rattle.std.proofs.lemmas.List.Elements.{All-nil}
-use Rattle.turnstile.specs.Models.{next_seat, RootModel, SeatModel as TurnSeatModel}
+use Rattle.std.proofs.Common.{◌≡◌, ◌≢◌, ℕ, ◌+◌, ◌<◌, ◌≤◌, ◌^◌, true, Some, List, [], length, map, refl, sym, ap, ◌∙◌, subst, arith}
+use Rattle.std.specs.Prelude.{All, unwrap_or}
+use Rattle.std.proofs.lemmas.List.Elements.{All-nil, All-weaker}
+use Rattle.turnstile.specs.Models.{first_root, next_seat, RootModel, SeatModel as TurnSeatModel}
+use Rattle.atomic_table.specs.Seated.{TableId}
 use Rattle.journal.specs.declared.command.Entry.{Entry}
+use Rattle.journal.specs.declared.opening.Opening.{Opening}
+use Rattle.journal.specs.Answer.{in_range}
+use Rattle.journal.specs.Entries.{is_driving}
 use Rattle.rank_board.specs.declared.pulls.Pull.{Pull}
 use Rattle.rank_board.specs.Models.{new_seat, SeatModel}
 use Rattle.client_session.specs.declared.desk.Setting.{Setting}
 use Rattle.client_session.specs.declared.receipt.Receipt.{Receipt}
 use Rattle.client_session.specs.Own.{IsPass, own_entries, receipt_of}
-use Rattle.client_session.specs.Drivers.{IsDriver}
+use Rattle.client_session.specs.Drivers.{IsDriver, IsSeen, who_of}
 use Rattle.client_session.specs.Turns.{IsSession}
 use Rattle.client_session.proofs.OwnSteps.{own_above}
 use Rattle.client_session.proofs.Passes.{pass_first}
 
-module _ (root : RootModel Entry Setting) (seat : TurnSeatModel Entry Setting) (turned position number : ℕ) (h : IsDriver root turned position)
+module _ (root : RootModel Entry Setting) (seat : TurnSeatModel Entry Setting) (turned position number : ℕ) (ports : ℕ) (h : IsDriver root turned position ports)
     (seat_is : seat ≡ next_seat root) (number_is : number ≡ root.made + 1) where
   pub nothing_own : own_entries number seat.seen ≡ []
   nothing_own = ap (λ (s : TurnSeatModel Entry Setting). own_entries number s.seen) seat_is ∙ own_above number root.made root.seen (omega (arith, number_is)) h.numbers
@@ -35,3 +39,35 @@ module _ (root : RootModel Entry Setting) (seat : TurnSeatModel Entry Setting) (
             (subst (λ (x : SeatModel). IsPass [] x.pulls x.seen) (sym rank_is) (pass_first rank.seen));
         coflow = λ c e. subst (λ (x : SeatModel). All (λ (p : Pull). p.coflow < c.board.coflows) x.pulls) (sym rank_is) (All-nil (λ (p : Pull). p.coflow < c.board.coflows));
       }
+
+nothing_seen : (o : Opening) → IsSeen o []
+nothing_seen o = record {
+  legal = tt;
+  in_range = All-nil (λ (e : Entry). in_range o e.command ≡ true);
+  driven = All-nil (λ (e : Entry). is_driving e.command ≡ true → e.who ≡ 0);
+}
+
+-- the driver of a new hall
+pub first_driver : (root : RootModel Entry Setting) (table : TableId) (setting : Setting) (ports : ℕ) → root ≡ first_root table setting → ports ≡ setting.opening.table.ports →
+    IsDriver root 0 0 ports
+first_driver root table setting ports is same = subst (λ (r : RootModel Entry Setting). IsDriver r 0 0 ports) (sym is) (record {
+  free = refl;
+  none_back = refl;
+  numbers = All-nil (λ e. who_of e ≤ 0);
+  position_is = refl;
+  turned_is = omega arith;
+  others = All-nil (λ e. who_of e ≢ 0);
+  seen = λ c e. subst (λ (x : Setting). IsSeen x.opening [] × (ports ≡ x.opening.table.ports)) (ap (λ o. unwrap_or o setting) e) (nothing_seen setting.opening, same);
+})
+
+-- the driver once it made one more session
+pub one_more : (root new : RootModel Entry Setting) (turned position ports : ℕ) → new ≡ record root { made = root.made + 1 } → IsDriver root turned position ports → IsDriver new turned position ports
+one_more root new turned position ports is h = subst (λ (r : RootModel Entry Setting). IsDriver r turned position ports) (sym is) (record {
+  free = h.free;
+  none_back = h.none_back;
+  numbers = All-weaker (λ e. who_of e ≤ root.made) (λ e. who_of e ≤ root.made + 1) (λ e le. omega arith) root.seen h.numbers;
+  position_is = h.position_is;
+  turned_is = h.turned_is;
+  others = h.others;
+  seen = h.seen;
+})

@@ -5,3 +5,4 @@ pub mod Answered
 pub mod Turning
 pub mod Pulling
 pub mod Beginning
+pub mod Driving

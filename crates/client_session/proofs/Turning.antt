@@ -1,5 +1,5 @@
 -- What a session is after a turn.
-use Rattle.std.proofs.Common.{◌≡◌, ℕ, ◌+◌, ◌-◌, ◌<◌, ◌≤◌, inl, inr, true, false, List, [], ◌∷◌, ◌++◌, length, map, refl, sym, ap, ◌∙◌, subst, arith, length-append, Result, Ok, Err}
+use Rattle.std.proofs.Common.{◌≡◌, ℕ, ◌+◌, ◌-◌, ◌<◌, ◌≤◌, inl, inr, Bool, true, false, List, [], ◌∷◌, ◌++◌, length, map, refl, sym, ap, ◌∙◌, subst, arith, length-append, Result, Ok, Err}
 use Rattle.std.specs.Prelude.{All}
 use Rattle.turnstile.specs.Histories.{AddsAtMostOne, GoesOn}
 use Rattle.turnstile.specs.Models.{SeatModel as TurnSeatModel}
@@ -31,6 +31,10 @@ Sits = TurnSeatModel Entry Setting
 abbrev pub done_in : Receipt → Answer → Receipt
 done_in d (Done r) = r
 done_in d a = d
+
+abbrev pub is_done : Answer → Bool
+is_done (Done r) = true
+is_done a = false
 
 abbrev pub full_in : ℕ → Answer → ℕ
 full_in d (Full n) = n

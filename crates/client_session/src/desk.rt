@@ -1,11 +1,12 @@
 //! The value behind the turnstile: the master, and the publisher of its ranks.
 ghost use Rattle.std.specs.Prelude.{◌≡◌, ℕ, ◌≤◌, false, true, length, [], All, Ok, Err};
-ghost use Rattle.journal.specs.Answer.{IsInRange, reply_of};
+ghost use Rattle.journal.specs.Answer.{IsInRange, reply_of, room};
 ghost use Rattle.journal.specs.Entries.{is_driving};
 ghost use Rattle.journal.specs.Journal.{journal_after, version_of};
 ghost use Rattle.rank_board.specs.Models.{saw_front};
 ghost use Rattle.client_session.specs.Own.{look_version};
 ghost use Rattle.client_session.specs.Desk.{AddsEntry, IsRanked, MetAt};
+ghost use Rattle.client_session.specs.Drivers.{IsSeen};
 ghost use Rattle.client_session.specs.declared.receipt.Receipt.{Receipt};
 
 use crate::receipt::Receipt;
@@ -75,9 +76,10 @@ impl Desk {
         Desk { master, publisher }
     }
 
-    /// How many entries the journal has.
+    /// How many entries the journal has. It is legal, its commands are in range, and runs in it are driven by the caller 0 alone.
     pub fn position(&self) -> u32
-        ensures { result ≡ length self.now.journal }
+        ensures position { result ≡ length self.now.journal }
+        ensures seen { IsSeen self.now.setting.opening self.now.journal }
     {
         self.master.journal().len() as u32
     }
@@ -113,6 +115,28 @@ impl Desk {
             return Err(entries);
         }
         self.meet(board, seat);
+        Ok(Receipt {
+            position: self.position(),
+            version: self.master.version(),
+            reply,
+        })
+    }
+
+    /// Carries out a command of the caller 0, and publishes the version that it makes.
+    ///
+    /// The error is that the journal has no room: it has so many entries.
+    pub fn drive(&mut self, board: &RankBoard, command: Command) -> Result<Receipt, u32>
+        requires board { self.old.setting.board ≡ board.now }
+        requires range { IsInRange self.old.setting.opening command }
+        ensures setting { self.new.setting ≡ self.old.setting }
+        ensures entry { (r : Receipt) → result ≡ Ok r → AddsEntry self.old.journal self.new.journal 0 command r }
+        ensures full { (n : ℕ) → result ≡ Err n → (self.new.journal ≡ self.old.journal) ×
+            (n ≡ length self.old.journal) × (room self.old.setting.opening command ≤ n) }
+    {
+        let reply = self.step(board, 0, command);
+        if let Reply::Full(entries) = reply {
+            return Err(entries);
+        }
         Ok(Receipt {
             position: self.position(),
             version: self.master.version(),

@@ -38,6 +38,7 @@ impl Hall {
     /// Puts a master without entries into a new hall, and makes its driver, which may take so many turns.
     ///
     /// The error is want of memory, and drops the master.
+    #[tactic(auto, using(crate::proofs::Beginning::first_driver))]
     pub fn begin(
         alloc: Global,
         master: Master,
@@ -48,6 +49,7 @@ impl Hall {
         ensures opening { IfOk result (λ made. made.0.setting.opening ≡ master.opening) }
         ensures driver { IfOk result (λ made. IsFirstDriver made.0 driver_calls made.1) }
     {
+        let ports = master.table().ports();
         let (board, publisher, rank) = RankBoard::new(alloc, master.table().coflows())?;
         let (gate, root) = Turnstile::new(alloc, Desk::new(master, publisher))?;
         let hall = Hall { gate, board };
@@ -57,6 +59,7 @@ impl Hall {
             left: driver_calls,
             turned: 0,
             position: 0,
+            ports,
         };
         Ok((hall, driver))
     }

@@ -47,7 +47,7 @@ returns c =
     let adds_entry : AddsEntry journal after who k (record { position = c.position.result; version = c.version.result; reply = c.step-reply.result }) = record {
       room = ap is_full reply ∙ one.0;
       journal = ends ∙ (one.1 ∙ ap (λ r. journal ++ entry who k r ∷ []) (sym reply));
-      position = c.position.ensures;
+      position = c.position.ensures.position;
       version = c.version.ensures ∙ ap (λ (d : DeskModel). version_of d.journal) c.self.view_is;
     } in
     let seen : met_seat.seen ≡ version_of after = ap (λ (x : SeatModel). x.seen) last.seat ∙ ap (λ (d : DeskModel). version_of d.journal) (sym last.desk) in

@@ -27,7 +27,7 @@ invariant_of-self g c =
     let some : 0 < c.self.inside.left = omega (arith, c.if-self-eq0.false) in
     session_answered seat c.leave.new.seat c.self.inside.rank c.answer-answer.new.seat number c.self.inside.left c.self.inside.position c.position-self-inside.result journal
     after final goes some
-    c.position-self-inside.ensures c.self.inside.receipts.items c.push_reserved.new.self.items _ _ c.self.invariant c.args.command c.in-Ok.receipt
+    c.position-self-inside.ensures.position c.self.inside.receipts.items c.push_reserved.new.self.items _ _ c.self.invariant c.args.command c.in-Ok.receipt
     (a.entry c.in-Ok.receipt c.in-Ok.is)
     (a.met c.in-Ok.receipt c.in-Ok.is) a.seat.1 c.push_reserved.ensures.items c.push_reserved.ensures.capacity
 
@@ -43,7 +43,7 @@ invariant_of-self-in-Err g c =
     let some : 0 < c.self.inside.left = omega (arith, c.if-self-eq0.false) in
     session_refused seat c.leave.new.seat c.self.inside.rank c.answer-answer.new.seat number c.self.inside.left c.self.inside.position c.position-self-inside.result journal
     after final goes some
-    c.position-self-inside.ensures c.self.inside.receipts.items c.self.inside.receipts.items (vec_capacity c.self.inside.receipts) (vec_capacity c.self.inside.receipts)
+    c.position-self-inside.ensures.position c.self.inside.receipts.items c.self.inside.receipts.items (vec_capacity c.self.inside.receipts) (vec_capacity c.self.inside.receipts)
     c.self.invariant (a.full c.in-Err.entries c.in-Err.is).0 a.seat.1 a.seat.2
 
 pub returns-in-Ok-clause-done : goal.returns-in-Ok-clause-done
@@ -58,7 +58,7 @@ returns-in-Ok-clause-done g c = λ r is.
     let some : 0 < c.self.inside.left = omega (arith, c.if-self-eq0.false) in
     let done = done_answered seat c.leave.new.seat c.self.inside.rank c.answer-answer.new.seat number c.self.inside.left c.self.inside.position c.position-self-inside.result
     journal after final goes
-    some c.position-self-inside.ensures c.args.command c.in-Ok.receipt c.self.invariant.position_is (a.entry c.in-Ok.receipt c.in-Ok.is) (a.met c.in-Ok.receipt c.in-Ok.is) in
+    some c.position-self-inside.ensures.position c.args.command c.in-Ok.receipt c.self.invariant.position_is (a.entry c.in-Ok.receipt c.in-Ok.is) (a.met c.in-Ok.receipt c.in-Ok.is) in
     let new = model c.leave.new.seat c.answer-answer.new.seat number (c.self.inside.left - 1) c.position-self-inside.result in
     subst (IsDone c.args.command c.args.self.now new) (ap (done_in c.in-Ok.receipt) is) (subst (λ (s : SessionModel). IsDone c.args.command s new c.in-Ok.receipt)
     c.self.view_is done)
@@ -79,7 +79,7 @@ returns-in-Err-clause-full g c = λ n is.
     let limit = subst (λ (x : Setting). x.opening.limit ≤ c.in-Err.entries) setting f.2 in
     let full = full_answered seat c.leave.new.seat c.self.inside.rank c.answer-answer.new.seat number c.self.inside.left c.self.inside.position c.position-self-inside.result
     journal after final goes
-    some c.position-self-inside.ensures c.args.hall.now.setting.opening c.in-Err.entries c.self.invariant.position_is f.0 f.1 limit in
+    some c.position-self-inside.ensures.position c.args.hall.now.setting.opening c.in-Err.entries c.self.invariant.position_is f.0 f.1 limit in
     let new = model c.leave.new.seat c.answer-answer.new.seat number (c.self.inside.left - 1) c.position-self-inside.result in
     subst (IsFull c.args.hall.now.setting.opening c.args.self.now new) (ap (full_in c.in-Err.entries) is)
     (subst (λ (s : SessionModel). IsFull c.args.hall.now.setting.opening s new c.in-Err.entries) c.self.view_is full)
