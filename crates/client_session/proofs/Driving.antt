@@ -58,7 +58,7 @@ driver_model root rank left turned position = record {
 }
 
 module _ (root final : Roots) (rank : SeatModel) (left turned position new_position : ℕ) (ports : ℕ) (journal after : List Entry)
-  (h : IsDriver root turned position ports) (final_is : final ≡ record root { in_turn = false; seen = after }) (goes : GoesOn who_of journal 0 root.seen) (ends : new_position ≡ length after) where
+    (h : IsDriver root turned position ports) (final_is : final ≡ record root { in_turn = false; seen = after }) (goes : GoesOn who_of journal 0 root.seen) (ends : new_position ≡ length after) where
   seen_is : take new_position final.seen ≡ after
   seen_is = ap (λ (t : Roots). take new_position t.seen) final_is ∙ take_all new_position after (omega (arith, ends))
 
