@@ -15,7 +15,6 @@ pub mod StopSteps
 pub mod StartSteps
 pub mod TableSteps
 pub mod FlowsExist
-pub mod TestSteps
 pub mod TablesOne
 pub mod LimitSteps
 pub mod RowFlows

@@ -14,6 +14,3 @@ mod units;
 
 pub use fault::TableFault;
 pub use table::Table;
-
-#[cfg(test)]
-mod tests;

@@ -4,6 +4,3 @@
 mod ledger;
 
 pub use ledger::Ledger;
-
-#[cfg(test)]
-mod tests;

@@ -9,6 +9,3 @@ mod scratch;
 pub use owing::Owing;
 pub use pass::Granted;
 pub use scratch::{Scratch, grants, grants_owed};
-
-#[cfg(test)]
-mod tests;

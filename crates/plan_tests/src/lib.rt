@@ -5,6 +5,8 @@
 #[cfg(test)]
 mod actions;
 #[cfg(test)]
+mod grants;
+#[cfg(test)]
 mod inputs;
 #[cfg(test)]
 mod limits;
@@ -14,5 +16,7 @@ mod loads;
 mod orders;
 #[cfg(test)]
 mod schedules;
+#[cfg(test)]
+mod tables;
 #[cfg(test)]
 mod verdicts;
