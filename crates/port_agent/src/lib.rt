@@ -2,7 +2,5 @@
 #![tactic(auto)]
 
 mod agent;
-#[cfg(test)]
-mod tests;
 
 pub use agent::{Agent, Served};

@@ -11,6 +11,3 @@ mod view;
 pub use chronicle::Chronicle;
 pub use lock::{Turnstile, TurnstileBack};
 pub use seats::{Root, Turn, TurnSeat};
-
-#[cfg(test)]
-mod tests;

@@ -1,7 +1,8 @@
+//! Agents of the ports on threads of their own.
 ghost use Rattle.std.specs.Prelude.{◌≡◌, ◌+◌, ◌<◌, ◌≤◌, ◌^◌, [], length, false};
 
-use crate::agent::{Agent, Served};
 use outside::{CountWire, MemWire};
+use port_agent::{Agent, Served};
 use port_board::{PortBoard, Poster, Settled};
 use std::test::*;
 use std::thread::{Threads, join_mut};

@@ -1,11 +1,11 @@
+//! Posts at ports in an order that is known.
 ghost use Rattle.std.specs.Prelude.{◌≡◌, ◌≤◌, [], Contains};
 ghost use Rattle.port_board.specs.declared.view.Grant.{Grant};
 
-use crate::board::{AgentSeat, Draw, Drawn, PortBoard, Poster, Settled};
+use port_board::{AgentSeat, Draw, PortBoard, Poster, Settled};
 use std::test::*;
 
-const GRANTED: u64 = 2305843009214742528;
-
+// The word of a port whose grant of flow 0 in slot 1 is drawn.
 const DRAWN: u64 = 4611686018428436480;
 
 // What an answer was, for a comparison. A grant that is drawn is reported in full.
@@ -65,46 +65,6 @@ fn one_of_two_agents_draws(rt: HostRuntime) -> Result<(), Fail> {
     assert_eq!(rt; board.settle(&mut poster, 0), Settled::Sent(1));
     assert!(rt; !poster.posted(0), "the post is settled");
     assert_eq!(rt; poster.agents(), 2);
-    Ok(())
-}
-
-// A drawn grant of a seat that was taken apart, which nothing reports.
-fn drop_unreported(draw: Draw) -> Seen {
-    match draw {
-        Draw::Drawn(drawn) => {
-            let Drawn {
-                port: _,
-                slot: _,
-                flow: _,
-                length,
-            } = drawn;
-            Seen::Took(length)
-        }
-        Draw::Idle(word) => Seen::Idle(word),
-        Draw::Missed { loaded, found } => Seen::Missed(loaded, found),
-    }
-}
-
-#[test]
-fn an_agent_that_loaded_first_may_miss(rt: HostRuntime) -> Result<(), Fail> {
-    let Ok((board, mut poster)) = PortBoard::new(rt.alloc(), 2) else {
-        panic!(&rt; "no memory");
-    };
-    let mut first = board.agent(&mut poster);
-    let second = board.agent(&mut poster);
-    post_first(&board, &mut poster);
-    let AgentSeat {
-        mut place,
-        ports: _,
-    } = second;
-    let loaded = match board.look(&mut place, 0) {
-        Ok(loaded) => loaded,
-        Err(word) => panic!(&rt; "idle {word}"),
-    };
-    let one = board.draw(&mut first, 0);
-    let two = board.exchange(&mut place, 0, loaded);
-    assert_eq!(rt; drop_unreported(two), Seen::Missed(GRANTED, DRAWN));
-    assert_eq!(rt; finish(&board, &mut first, one), Seen::Took(1));
     Ok(())
 }
 

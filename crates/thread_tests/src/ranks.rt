@@ -1,48 +1,9 @@
+//! Ranks that readers pull on threads of their own while others publish.
 ghost use Rattle.std.specs.Prelude.{◌≡◌, []};
 
-use crate::board::{Publisher, Pulled, RankBoard, RankSeat};
+use rank_board::{Publisher, Pulled, RankBoard, RankSeat};
 use std::test::*;
 use std::thread::join_mut;
-
-#[test]
-fn a_reader_that_is_overtaken_twice_finds_a_later_version(rt: HostRuntime) -> Result<(), Fail> {
-    let (board, mut publisher, mut seat) = RankBoard::new(rt.alloc(), 2)?;
-    assert_eq!(rt;
-        board.pull(&mut seat, 0, 0),
-        Pulled::Unranked { version: 0 }
-    );
-    board.publish(&mut publisher, &[2, 1]);
-    assert_eq!(rt;
-        board.pull(&mut seat, 1, 0),
-        Pulled::Rank {
-            version: 1,
-            rank: 1
-        }
-    );
-    assert_eq!(rt;
-        board.pull(&mut seat, 0, 0),
-        Pulled::Rank {
-            version: 1,
-            rank: 2
-        }
-    );
-    let mut slow = board.seat(&mut seat);
-    board.look(&mut slow);
-    board.publish(&mut publisher, &[1, 2]);
-    board.publish(&mut publisher, &[0, 1]);
-    assert_eq!(rt;
-        board.read(&mut slow, 1, 0),
-        Pulled::Moved { front: 1, found: 3 }
-    );
-    board.tell(&mut slow, &mut seat);
-    board.meet(&mut publisher, &mut slow);
-    assert_eq!(rt; (seat.seen(), slow.seen()), (3, 3));
-    assert_eq!(rt;
-        board.pull(&mut seat, 0, 0),
-        Pulled::Unranked { version: 3 }
-    );
-    Ok(())
-}
 
 // How many versions the publisher publishes, and how many pulls each reader makes.
 const VERSIONS: u32 = 5_000;
