@@ -1,15 +1,14 @@
 -- The grants of a slot, computed.
-use Rattle.std.proofs.Common.{◌≡◌, ℕ, ◌+◌, ◌≤◌, ◌<◌, ◌⊎◌, inl, inr, Bool, true, false, not, List, [], ◌∷◌, length, get_or, Contains, refl, sym, ap, subst, ◌∙◌, arith, true≢false}
+use Rattle.std.proofs.Common.{◌≡◌, ℕ, ◌≤◌, ◌<◌, ◌⊎◌, inl, inr, Bool, true, false, not, List, [], ◌∷◌, length, Contains, refl, sym, ap, subst, ◌∙◌, arith}
 use Rattle.std.specs.Prelude.{◌==◌, ◌||◌, ◌&&◌, if◌then◌else◌, nat_lt}
 use Rattle.std.specs.List.{list_any, filter, range_with_len}
-use Rattle.std.specs.List.Sorted.{IsStrictlyIncreasing}
-use Rattle.std.proofs.lemmas.List.FromFn.{get_or-range_with_len, length-range_with_len}
-use Rattle.std.proofs.lemmas.List.Kept.{AllPairs-filter}
-use Rattle.std.proofs.lemmas.Bool.{ltb-true, ltb-false, lt-ltb, eqb-true, eq-eqb, both_ways, or_cases, and_parts, and_from}
+use Rattle.std.proofs.lemmas.Bool.{ltb-true, ltb-false, lt-ltb, not-true, eqb-true, eq-eqb, both_ways, or_cases, and_parts, and_from}
 use Rattle.coflow_units.specs.declared.fabric.Flow.{Flow}
 use Rattle.coflow_units.specs.Flows.{coflow_of, ingress_of, egress_of, SharesPort}
 use Rattle.coflow_units.specs.Grants.{place_in, ComesBefore, IsBlocked, IsGrants}
 use Rattle.coflow_units.proofs.Lists.{any_where, any_from, filter_in, keeps, number_in, number_below, numbers_apart}
+use Rattle.coflow_units.proofs.Bools.{second_not}
+use Rattle.coflow_units.proofs.Ranges.{range_rises}
 use Rattle.coflow_units.proofs.GrantLaws.{rank, rank_falls}
 use Rattle.coflow_units.proofs.ServedLaws.{some_order}
 use Rattle.coflow_units.proofs.Sums.{any_has, any_in, in_first, in_tail, nothing_in, first_or_tail, all_of_members, Apart, or_right}
@@ -148,15 +147,6 @@ taken_rest flows key busy got f x lt (inr (inl (b, in', sh))) = elim (first_or_t
 ]
 taken_rest flows key busy got f x lt (inr (inr (g, has, less, sh))) = inr (inr (g, in_tail f got g has, less, sh))
 
-second_not : (a b : Bool) → a ≡ true → (a && not b) ≡ false → b ≡ true
-second_not true true t e = refl
-second_not true false t e = absurd (true≢false e)
-second_not false b t e = absurd (true≢false (sym t))
-
-not_is : (b : Bool) → not b ≡ true → b ≡ false
-not_is true e = absurd (true≢false (sym e))
-not_is false e = refl
-
 taken : (flows : List Flow) (key : ℕ → ℕ) (wants : ℕ → Bool) (busy fs got : List ℕ) (f : ℕ) → ((y : ℕ) → Contains fs y → key f < key y) → wants f ≡ true →
     list_any (shares flows f) busy ≡ false →
     IsPass flows key wants (f ∷ busy) fs got → IsPass flows key wants busy (f ∷ fs) (f ∷ got)
@@ -211,7 +201,7 @@ pass_step : (flows : List Flow) (key : ℕ → ℕ) (wants : ℕ → Bool) (busy
     IsPass flows key wants busy (f ∷ fs) (if b then f ∷ pass flows wants (f ∷ busy) fs else pass flows wants busy fs)
 pass_step flows key wants busy fs f up yes' no' true e =
     let (w, n) = and_parts (wants f) (not (list_any (shares flows f) busy)) e in
-    taken flows key wants busy fs (pass flows wants (f ∷ busy) fs) f up w (not_is (list_any (shares flows f) busy) n) yes'
+    taken flows key wants busy fs (pass flows wants (f ∷ busy) fs) f up w (not-true (list_any (shares flows f) busy) n) yes'
 pass_step flows key wants busy fs f up yes' no' false e = passed flows key wants busy fs (pass flows wants busy fs) f e no'
 
 pub pass_is : (flows : List Flow) (key : ℕ → ℕ) (wants : ℕ → Bool) (busy fs : List ℕ) → Rises key fs → IsPass flows key wants busy fs (pass flows wants busy fs)
@@ -239,14 +229,6 @@ passed_of flows line left = pass flows (wants_in flows line left) [] (sorted_by 
 
 abbrev pub grants_of : List Flow → List ℕ → (ℕ → ℕ) → List ℕ
 grants_of flows line left = filter (λ f. list_any (λ g. g == f) (passed_of flows line left)) (numbers_of flows)
-
-range_pair : (n i j d : ℕ) → i < j → j < n → get_or (range_with_len 0 n) i d < get_or (range_with_len 0 n) j d
-range_pair n i j d less lt = omega (arith, get_or-range_with_len 0 n i d (omega arith), get_or-range_with_len 0 n j d lt)
-
-range_rises : (p : ℕ → Bool) (n : ℕ) → IsStrictlyIncreasing (filter p (range_with_len 0 n))
-range_rises p n k lt =
-    AllPairs-filter (λ (x : ℕ) (y : ℕ). x < y) p (range_with_len 0 n) (λ i j d less in'. range_pair n i j d less (omega (arith, in', length-range_with_len 0 n))) k (k + 1) 0
-    (omega arith) lt
 
 rank_before : (flows : List Flow) (line : List ℕ) (g f : ℕ) → g < length flows → ComesBefore flows line g f → rank flows line g < rank flows line f
 rank_before flows line g f lt before = rank_falls (place_in line (coflow_of flows g)) (place_in line (coflow_of flows f)) g f (length flows) lt before

@@ -1,5 +1,6 @@
 -- Members of lists, and the lists of the numbers from one on.
-use Rattle.std.proofs.Common.{Bool, Contains, List, [], ap, arith, false, inl, inr, length, refl, reverse, subst, suc, sym, take, true, true≢false, zero, ℕ, ◌++◌, ◌+◌, ◌-◌, ◌<◌}
+use Rattle.std.proofs.Common.{Bool, Contains, List, [], ap, arith, cond, false, inl, inr, length, refl}
+use Rattle.std.proofs.Common.{reverse, subst, suc, sym, take, true, true≢false, zero, ℕ, ◌++◌, ◌+◌, ◌-◌, ◌<◌}
 use Rattle.std.proofs.Common.{◌∙◌, ◌∷◌, ◌≡◌, ◌≤◌}
 use Rattle.std.proofs.lemmas.Bool.{both_ways, cases_Bool, or_cases}
 use Rattle.std.proofs.lemmas.List.{reverse-append, take_all}
@@ -53,6 +54,16 @@ keeps p (y ∷ ys) x has e = elim (first_or_tail y ys x has) [
   | inl same ↦ subst (λ z. Contains (filter p (y ∷ ys)) z) same (keeps_first p y ys (ap p same ∙ e))
   | inr h ↦ keeps_tail p y ys x (p y) (keeps p ys x h e)
 ]
+
+-- what holds of each member keeps all
+pub filter_all : (p : ℕ → Bool) (xs : List ℕ) → ((x : ℕ) → Contains xs x → p x ≡ true) → filter p xs ≡ xs
+filter_all p [] all = refl
+filter_all p (x ∷ xs) all = ap (λ b. cond b (x ∷ filter p xs) (filter p xs)) (all x (in_first x xs)) ∙ ap (λ l. x ∷ l) (filter_all p xs (λ y has. all y (in_tail x xs y has)))
+
+pub filter_same : (p q : ℕ → Bool) (xs : List ℕ) → ((x : ℕ) → Contains xs x → p x ≡ q x) → filter p xs ≡ filter q xs
+filter_same p q [] same = refl
+filter_same p q (x ∷ xs) same = ap (λ b. cond b (x ∷ filter p xs) (filter p xs)) (same x (in_first x xs)) ∙
+    ap (λ l. cond (q x) (x ∷ l) l) (filter_same p q xs (λ y has. same y (in_tail x xs y has)))
 
 -- all flow numbers
 pub number_below : (a n f : ℕ) → Contains (range_with_len a n) f → f < a + n

@@ -5,7 +5,7 @@ use Rattle.std.specs.Prelude.{sum_by, if◌then◌else◌, nat_lt}
 use Rattle.std.specs.List.{list_any}
 use Rattle.std.proofs.Math.Seq.{take-append_seam}
 use Rattle.std.proofs.lemmas.List.{take-append-le}
-use Rattle.std.proofs.lemmas.List.Sums.{sum_by-cons, sum_by_push}
+use Rattle.std.proofs.lemmas.List.Sums.{sum_by-append, sum_by_push}
 use Rattle.std.proofs.lemmas.List.Elements.{All-contains}
 use Rattle.std.proofs.lemmas.Bool.{ltb-true, lt-ltb, both_ways}
 use Rattle.coflow_units.specs.declared.fabric.Flow.{Flow}
@@ -16,7 +16,8 @@ use Rattle.coflow_units.specs.Served.{left_after, IsServed, IsServedSoFar}
 use Rattle.coflow_units.proofs.Lists.{any_where, any_from, number_in, number_below}
 use Rattle.coflow_units.proofs.GrantsExist.{grants_of, grants_exist, numbers_of}
 use Rattle.coflow_units.proofs.Numbers.{zero_or_more}
-use Rattle.coflow_units.proofs.Sums.{any_in, nothing_in, first_or_tail, member_within_sum, sum_mono}
+use Rattle.coflow_units.proofs.RunLengths.{some_grant}
+use Rattle.coflow_units.proofs.Sums.{any_in, member_within_sum, sum_less}
 
 abbrev pub owes : List Flow → List (List ℕ) → Bool
 owes flows slots = list_any (λ f. nat_lt 0 (left_after flows slots f)) (numbers_of flows)
@@ -72,25 +73,14 @@ goes_on flows line s g so_far grants owed = record {
   ];
 }
 
--- what is left falls
-sum_less : (a b : ℕ → ℕ) (xs : List ℕ) (h : ℕ) → ((x : ℕ) → a x ≤ b x) → Contains xs h → a h < b h → sum_by a xs < sum_by b xs
-sum_less a b [] h le has lt = absurd (nothing_in h has)
-sum_less a b (x ∷ xs) h le has lt = elim (first_or_tail x xs h has) [
-  | inl e ↦ omega (arith, sum_by-cons a x xs, sum_by-cons b x xs, sum_mono a b xs (λ y _. le y), subst (λ n. a n < b n) (sym e) lt)
-  | inr h' ↦ omega (arith, sum_by-cons a x xs, sum_by-cons b x xs, le x, sum_less a b xs h le h' lt)
-]
-
 pub times_push : (s : List (List ℕ)) (g : List ℕ) (f : ℕ) → times (s ++ g ∷ []) f ≡ times s f + cond (holds g f) 1 0
 times_push s g f = sum_by_push (λ h. cond (holds h f) 1 0) s g
 
-some_grant : (flows : List Flow) (line : List ℕ) (left : ℕ → ℕ) (g : List ℕ) (f : ℕ) → IsGrants flows line left g → f < length flows → Contains line (coflow_of flows f) →
-    0 < left f → (h : ℕ) × Contains g h
-some_grant flows line left g f grants lt in' some = elim (grants.rest f lt in' some) [
-  | inl has ↦ (f, has)
-  | inr (h, has, before, shares) ↦ (h, has)
-]
+pub times_append : (a b : List (List ℕ)) (f : ℕ) → times (a ++ b) f ≡ times a f + times b f
+times_append a b f = sum_by-append (λ slot. cond (holds slot f) 1 0) a b
 
-falls_by_one : (flows : List Flow) (line : List ℕ) (s : List (List ℕ)) (g : List ℕ) (h : ℕ) → IsGrants flows line (left_after flows s) g → Contains g h →
+-- what is left falls
+pub falls_by_one : (flows : List Flow) (line : List ℕ) (s : List (List ℕ)) (g : List ℕ) (h : ℕ) → IsGrants flows line (left_after flows s) g → Contains g h →
     left_sum flows (s ++ g ∷ []) < left_sum flows s
 falls_by_one flows line s g h grants has =
     let here = ap {B = ℕ} (λ b. cond b 1 0) (any_in g h has) in

@@ -1,7 +1,6 @@
 -- The small cases, decided.
-use Rattle.std.proofs.Common.{◌≡◌, ℕ, ◌+◌, ◌*◌, ◌^◌, ◌<◌, ◌≤◌, Bool, true, false, inl, inr, List, [], ◌∷◌, Contains, refl, ap, arith, zero, suc}
+use Rattle.std.proofs.Common.{◌≡◌, ℕ, ◌+◌, ◌*◌, ◌^◌, ◌<◌, ◌≤◌, inl, inr, List, [], ◌∷◌, Contains, refl, ap, arith, zero, suc}
 use Rattle.std.specs.List.{slice_index_or}
-use Rattle.std.specs.Prelude.{if◌then◌else◌}
 use Rattle.std.proofs.lemmas.Bool.{ltb-true}
 use Rattle.std.proofs.lemmas.List.Elements.{All-from_recursion}
 use Rattle.coflow_units.specs.Flows.{FlowBefore, IsInstance, IsWhole, SharesPort, units_of}
@@ -26,7 +25,8 @@ use Rattle.coflow_units.proofs.ServedExists.{served_exists}
 use Rattle.coflow_units.proofs.ServedLaws.{grants_clear, served_valid, served_patient}
 use Rattle.coflow_units.proofs.ServeLaws.{one_served}
 use Rattle.coflow_units.proofs.RunLengths.{one_run_length, run_length_is}
-use Rattle.coflow_units.proofs.Sums.{all_of_members, first_or_tail, in_first, in_tail, nothing_in, pairs_from_apart}
+use Rattle.coflow_units.proofs.Bools.{part}
+use Rattle.coflow_units.proofs.Sums.{all_of_members, first_or_tail, in_first, in_tail, not_the_other, nothing_in, pairs_from_apart}
 
 served_case : IsServed two_flows (0 ∷ 1 ∷ []) longer_first_slots
 served_case = served_exists two_flows (0 ∷ 1 ∷ []) (named two_flows (0 ∷ 1 ∷ []) refl)
@@ -64,20 +64,16 @@ certificate_case = record {
   port = All-from_recursion (λ (e : Entry). e.port.number < 3) equal_weights_places (omega arith, (omega arith, tt));
 }
 
-at_most : (b : Bool) (n : ℕ) → (if b then n else 0) ≤ n
-at_most true n = omega arith
-at_most false n = omega arith
-
 both_at_most : (port : Port) → load_of_all two_flows (0 ∷ 1 ∷ []) port ≤ 4
 both_at_most port =
     omega (
       arith,
-      at_most (loads 0 port record { coflow = 0; ingress = 0; egress = 1; units = 3 }) 3,
-      at_most (loads 1 port record { coflow = 1; ingress = 0; egress = 1; units = 1 }) 1,
+      part (loads 0 port record { coflow = 0; ingress = 0; egress = 1; units = 3 }) 3,
+      part (loads 1 port record { coflow = 1; ingress = 0; egress = 1; units = 1 }) 1,
     )
 
 shorter_at_most : (port : Port) → load_of_all two_flows (1 ∷ []) port ≤ 1
-shorter_at_most port = omega (arith, at_most (loads 1 port record { coflow = 1; ingress = 0; egress = 1; units = 1 }) 1)
+shorter_at_most port = omega (arith, part (loads 1 port record { coflow = 1; ingress = 0; egress = 1; units = 1 }) 1)
 
 greatest_case : TakesGreatestPorts two_flows 3 equal_weights_places
 greatest_case = ((λ port lt. both_at_most port), ((λ port lt. shorter_at_most port), tt))
@@ -177,9 +173,6 @@ dear feasible = omega (arith, feasible 0, ltb-true (budget one_each 0) (used two
 
 twice : IsCertificate equal_weights named_twice → ⊥
 twice certificate = certificate.once 0 1 0 (omega arith) (omega arith) refl
-
-not_the_other : Contains {X = ℕ} (0 ∷ []) 1 → ⊥
-not_the_other has = elim (first_or_tail 0 [] 1 has) [ inl e ↦ omega (arith, e) | inr none ↦ nothing_in 1 none ]
 
 lacks_one : IsCertificate equal_weights one_left_out → ⊥
 lacks_one certificate = not_the_other (certificate.all 1 0 (omega arith))

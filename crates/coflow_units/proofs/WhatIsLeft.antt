@@ -9,7 +9,7 @@ use Rattle.coflow_units.specs.Flows.{Instance, IsInstance, coflow_of, units_of, 
 abbrev owing : ℕ → Flow → Flow
 owing n x = record { coflow = x.coflow; ingress = x.ingress; egress = x.egress; units = n }
 
-length_from : (k : ℕ) (units : ℕ → ℕ) (flows : List Flow) → length (with_units_from k units flows) ≡ length flows
+pub length_from : (k : ℕ) (units : ℕ → ℕ) (flows : List Flow) → length (with_units_from k units flows) ≡ length flows
 length_from k units [] = refl
 length_from k units (x ∷ xs) = ap suc (length_from (k + 1) units xs)
 

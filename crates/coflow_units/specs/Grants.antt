@@ -17,6 +17,11 @@ ComesBefore flows line g f =
     (place_in line (coflow_of flows g) < place_in line (coflow_of flows f))
     ⊎ ((place_in line (coflow_of flows g) ≡ place_in line (coflow_of flows f)) × (g < f))
 
+-- the flows of the first k coflows of the line, and those of the next coflow with a number below n
+abbrev pub IsLookedAt : List Flow → List ℕ → ℕ → ℕ → ℕ → Type 0
+IsLookedAt flows line k n f =
+    (place_in line (coflow_of flows f) < k) ⊎ ((place_in line (coflow_of flows f) ≡ k) × (f < n))
+
 -- a granted flow that comes before has a port in common
 abbrev pub IsBlocked : List Flow → List ℕ → List ℕ → ℕ → Type 0
 IsBlocked flows line granted f = (g : ℕ) × Contains granted g × ComesBefore flows line g f × SharesPort flows g f

@@ -1,5 +1,5 @@
 -- What a trace says, within the limits of the coflow-benchmark format as this project reads it.
-use Rattle.std.specs.Prelude.{ℕ, ◌*◌, ◌^◌, ◌≤◌, List, All, length, map}
+use Rattle.std.specs.Prelude.{ℕ, ◌*◌, ◌≤◌, List, All, length, map}
 use Rattle.coflow_units.specs.declared.limits.TheConstants.{MAX_COFLOWS, MAX_MAPPERS, MAX_MEGABYTES, MAX_PORTS}
 use Rattle.coflow_units.specs.declared.limits.TheConstants.{MAX_REDUCERS}
 use Rattle.coflow_units.specs.declared.trace.CoflowLine.{CoflowLine}

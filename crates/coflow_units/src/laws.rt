@@ -99,8 +99,8 @@ pub fn runs_are_one()
 /// What is left of an instance, with the coflows that are present, is an instance over the same flow numbers.
 pub fn what_is_left()
     ensures instance { (i : Instance) (present : List ℕ) (units : ℕ → ℕ) → IsInstance i → IsStrictlyIncreasing present →
-        ((f : ℕ) → f < length i.flows → 0 < units f → Contains present (coflow_of i.flows f)) →
-        IsInstance (record { coflows = present; weight = i.weight; ports = i.ports; flows = with_units units i.flows }) }
+        ((f : ℕ) → f < length i.flows → 0 < units f → Contains present (coflow_of i.flows f)) → IsInstance
+        (record { coflows = present; weight = i.weight; ports = i.ports; flows = with_units units i.flows }) }
     ensures units { (units : ℕ → ℕ) (flows : List Flow) (f : ℕ) → f < length flows →
         units_of (with_units units flows) f ≡ units f }
     ensures coflow { (units : ℕ → ℕ) (flows : List Flow) (f : ℕ) → f < length flows →
