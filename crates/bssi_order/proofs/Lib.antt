@@ -1,3 +1,4 @@
 pub mod OrderingSteps
 pub mod TableSteps
 pub mod StandSteps
+pub mod BeginSteps

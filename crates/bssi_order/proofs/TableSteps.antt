@@ -1,20 +1,21 @@
 -- The loops over a table of loads, step by step.
-use Rattle.std.proofs.Common.{◌≡◌, ℕ, ◌+◌, ◌-◌, ◌*◌, ◌/◌, ◌^◌, ◌<◌, ◌≤◌, ◌⊎◌, inl, inr, Bool, true, false, cond, List, [], ◌∷◌, length, Contains, refl, sym, ap, subst, ◌∙◌, arith}
+use Rattle.std.proofs.Common.{◌≡◌, ℕ, ◌+◌, ◌-◌, ◌*◌, ◌/◌, ◌^◌, ◌<◌, ◌≤◌, ◌⊎◌, inl, inr, Bool, true, false, cond, List, [], ◌∷◌, length, refl, sym, ap, subst, ◌∙◌, arith}
 use Rattle.std.proofs.Common.{length-set, zero, suc, true≢false}
-use Rattle.std.specs.Prelude.{count_by, sum_by, slice_index, slice_set}
+use Rattle.std.specs.Prelude.{count_by, slice_index, slice_set}
 use Rattle.std.specs.List.{range_with_len}
 use Rattle.std.proofs.lemmas.Bool.{cases_Bool, cases_eq, cases_lt}
 use Rattle.std.proofs.lemmas.List.{get_or-set_same, get_or-set_other}
 use Rattle.std.proofs.Math.ListN.{get_or-eq_default}
-use Rattle.std.proofs.Math.Nat.{mul-le-mul, mul-le-mul_right, le_of_mul-le-mul_right}
+use Rattle.std.proofs.Math.Nat.{mul-le-mul}
 use Rattle.std.proofs.lemmas.List.Sums.{sum_by-cons}
 use Rattle.coflow_units.specs.declared.fabric.Port.{Port}
 use Rattle.coflow_units.specs.declared.fabric.Side.{Side}
-use Rattle.coflow_units.proofs.Numbers.{floor_within}
-use Rattle.coflow_units.proofs.Sums.{in_first, in_tail, member_within_sum}
+use Rattle.coflow_units.proofs.Numbers.{floor_within, ratio_le}
+use Rattle.coflow_units.proofs.Sums.{member_within_sum, some_term}
 use Rattle.coflow_units.proofs.OrderingLaws.{within_ratio}
+use Rattle.coflow_units.proofs.Ranges.{in_range}
 use Rattle.port_load.specs.LoadTable.{IsSameSize, LoadTable, is_present, load_at, total_at}
-use Rattle.port_load.proofs.Grid.{below_in, in_below}
+use Rattle.port_load.proofs.Grid.{below_in}
 use Rattle.bssi_order.specs.Step.{IsGreatestWaiting, IsLeastRatio}
 
 -- ---- absent coflows are dropped
@@ -119,25 +120,15 @@ greatest_of waiting greatest so_far some =
 pub within_total : (t : LoadTable) (c : ℕ) (port : Port) → c < t.coflows → load_at t c port ≤ total_at t port
 within_total t c port lt = member_within_sum (λ k. load_at t k port) (range_with_len 0 t.coflows) c (below_in t.coflows c lt)
 
-some_term : (f : ℕ → ℕ) (xs : List ℕ) → 0 < sum_by f xs → (x : ℕ) × Contains xs x × (0 < f x)
-some_term f [] lt = absurd (omega arith)
-some_term f (x ∷ xs) lt = elim (cases_lt 0 (f x)) [
-  | inl some ↦ (x, in_first x xs, some)
-  | inr none ↦ let (y, has, some) = some_term f xs (omega (arith, lt, sum_by-cons f x xs)) in (y, in_tail x xs y has, some)
-]
-
 pub some_load : (t : LoadTable) (port : Port) → 0 < total_at t port → (c : ℕ) × (c < t.coflows) × (0 < load_at t c port)
 some_load t port lt =
     let (c, has, some) = some_term (λ k. load_at t k port) (range_with_len 0 t.coflows) lt in
-    (c, in_below t.coflows c has, some)
+    (c, in_range t.coflows c has, some)
 
 -- ---- ratios
 
 pub product_fits : (a b : ℕ) → a ≤ 2 ^ 72 → b ≤ 2 ^ 40 → a * b ≤ 2 ^ 112
 product_fits a b la lb = let h : a * b ≤ 2 ^ 72 * 2 ^ 40 = mul-le-mul la lb in h
-
-ratio_le : (rk lk rl ll rc lc : ℕ) → 0 < ll → rk * ll ≤ rl * lk → rl * lc ≤ rc * ll → rk * lc ≤ rc * lk
-ratio_le rk lk rl ll rc lc some first second = le_of_mul-le-mul_right {k = ll} (omega (arith, mul-le-mul_right lc first, mul-le-mul_right lk second)) some
 
 pub least_load_fits : (t : LoadTable) (residuals : List ℕ) (port : Port) (least least_load done most : ℕ) → LeastSoFar t residuals port least least_load done →
     total_at t port ≤ most → least_load ≤ most

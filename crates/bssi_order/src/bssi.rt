@@ -33,7 +33,8 @@ impl Model for Bssi {
 
     ghost view = { λ s. record { room = length s.places.items; places = take s.count s.places.items } };
 
-    ghost invariant = { λ s. HasRoom (length s.places.items) s.count (length s.residuals.items) (length s.waiting.items) };
+    ghost invariant = { λ s. HasRoom (length s.places.items) s.count
+        (length s.residuals.items) (length s.waiting.items) };
 }
 
 impl Bssi {

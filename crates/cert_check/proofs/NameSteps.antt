@@ -1,19 +1,18 @@
 -- Ids that name coflows, one after another.
 use Rattle.std.proofs.Common.{◌≡◌, ℕ, ◌+◌, ◌-◌, ◌≤◌, ◌<◌, inl, inr, Bool, true, false, cond, List, [], ◌∷◌, ◌++◌, length, get_or, take, nat_eq, refl, sym, ap, subst, ◌∙◌, arith}
 use Rattle.std.proofs.Common.{Contains}
-use Rattle.std.specs.Prelude.{◌==◌, ◌||◌, All, None, Option, Some, map, slice_index, sum_by, unwrap_or}
+use Rattle.std.specs.Prelude.{◌==◌, ◌||◌, All, None, Option, Some, map, slice_index, unwrap_or}
 use Rattle.std.specs.List.{list_any, position_or_len, range_with_len}
 use Rattle.std.proofs.lemmas.Bool.{cases_Bool, cases_lt, false≢true}
 use Rattle.std.proofs.lemmas.List.{get_or-map, get_or-take, get_or_default, length-map, length-take-le, map_push, take_all, take_more}
 use Rattle.std.proofs.lemmas.List.Elements.{All-contains}
-use Rattle.std.proofs.lemmas.List.Sums.{sum_by-cons}
 use Rattle.std.proofs.lemmas.List.FromFn.{length-range_with_len}
 use Rattle.std.proofs.lemmas.List.Folds.{list_any-append}
 use Rattle.coflow_units.specs.declared.fabric.Side.TheVariants.{Ingress}
 use Rattle.coflow_units.specs.Flows.{IsDistinct}
 use Rattle.coflow_units.proofs.LinePlaces.{at_place, place_of_member}
 use Rattle.coflow_units.proofs.Lists.{number_in}
-use Rattle.coflow_units.proofs.Sums.{Apart, any_has, any_in, apart_from_pairs, first_or_tail, members_at_most}
+use Rattle.coflow_units.proofs.Sums.{Apart, any_has, any_in, apart_from_pairs, first_or_tail, members_at_most, sum_ones}
 use Rattle.report.specs.declared.value.PlaceLine.{PlaceLine}
 use Rattle.report.specs.Text.{place_at}
 use Rattle.cert_check.specs.Places.{IsFirstWrong, IsNew, IsNotNew, IsWrong, NamesEach, coflow_with, ids_in}
@@ -188,10 +187,6 @@ new_within ids stated k inside new j d lt =
     let at : get_or (map (coflow_with ids) (take k stated)) j d ≡ coflow_with ids (slice_index stated j) =
     get_or-map (coflow_with ids) (take k stated) j 0 d (omega (arith, length-take-le k stated inside)) ∙ ap (coflow_with ids) (get_or-take k stated j 0 below) in
     omega (arith, at, known_within ids (slice_index stated j) (new j below).known)
-
-pub sum_ones : (xs : List ℕ) → sum_by (λ (x : ℕ). 1) xs ≡ length xs
-sum_ones [] = refl
-sum_ones (x ∷ xs) = omega (arith, sum_ones xs, sum_by-cons (λ (y : ℕ). 1) x xs)
 
 -- different numbers below n are at most n
 pub at_most : (xs : List ℕ) (n : ℕ) → Apart xs → ((x : ℕ) → Contains xs x → x < n) → length xs ≤ n

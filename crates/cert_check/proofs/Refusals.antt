@@ -10,7 +10,7 @@ use Rattle.coflow_units.specs.declared.fabric.Port.{Port}
 use Rattle.coflow_units.specs.Certificate.{Entry, IsFeasible}
 use Rattle.coflow_units.specs.Schedule.{IsClear, IsValid}
 use Rattle.coflow_units.proofs.Lists.{number_below, numbers_apart}
-use Rattle.coflow_units.proofs.Sums.{members_at_most}
+use Rattle.coflow_units.proofs.Sums.{members_at_most, sum_ones}
 use Rattle.dual_cert.specs.TableCertificate.{IsLeastInfeasible}
 use Rattle.report.specs.declared.value.PlaceLine.{PlaceLine}
 use Rattle.report.specs.Text.{place_at}
@@ -19,7 +19,7 @@ use Rattle.schedule_model.specs.RunList.{NamesFlows}
 use Rattle.schedule_model.proofs.SlotLoads.{both_use}
 use Rattle.cert_check.specs.Places.{IsFirstOutOfRange, IsFirstWrong, NamesEach, coflow_with, coflows_in, ids_in}
 use Rattle.cert_check.specs.Stated.{AreReal, AreRealIfAny, IsLeastWrong, IsLeastWrongOfAny}
-use Rattle.cert_check.proofs.NameSteps.{sum_ones, within_known}
+use Rattle.cert_check.proofs.NameSteps.{within_known}
 
 -- a list with each number below n has at least n elements
 at_least : (xs : List ℕ) (n : ℕ) → ((c : ℕ) → c < n → Contains xs c) → n ≤ length xs

@@ -16,7 +16,8 @@ use Rattle.coflow_units.specs.Patient.{egress_port, ingress_port}
 use Rattle.coflow_units.specs.Load.{load_of_all, loads}
 use Rattle.coflow_units.proofs.Lists.{filter_in, keeps, number_below, number_in, numbers_apart, range_more as range_sum}
 use Rattle.coflow_units.proofs.Sums.{Apart, picked_none, picked_one, sum_add, sum_mono, sum_same, sum_swap, sum_zero}
-use Rattle.slot_switch.proofs.Ranges.{range_more, sum_range_more}
+use Rattle.coflow_units.proofs.Ranges.{sum_next}
+use Rattle.slot_switch.proofs.Ranges.{range_more}
 use Rattle.class_rates.specs.Cap.{cap_of_coflow, cap_of_flow, greatest, up_to_class}
 use Rattle.class_rates.specs.Tallies.{HasCapsBelow, HasCapsUpTo, HasLoadsBelow, HasLoadsUpTo, before_class, coflows_of, number_at}
 
@@ -365,7 +366,7 @@ small_at xs i most small = elim (cases_lt i (length xs)) [
 ]
 
 pub sum_more : (w : ℕ → ℕ) (k total a b : ℕ) → total ≡ sum_by w (range_with_len 0 k) → a * b ≡ w k → total + a * b ≡ sum_by w (range_with_len 0 (k + 1))
-sum_more w k total a b is e = omega (arith, is, e, sum_range_more w k)
+sum_more w k total a b is e = omega (arith, is, e, sum_next w k)
 
 pub product : (a b x y : ℕ) → a ≡ x → b ≡ y → a * b ≡ x * y
 product a b x y ea eb = ap (λ n. n * b) ea ∙ ap (λ n. x * n) eb

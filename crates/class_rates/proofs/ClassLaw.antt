@@ -1,6 +1,6 @@
 -- A flow that waits only while its ports serve no flow of a later class ends early.
-use Rattle.std.proofs.Common.{◌≡◌, ℕ, ◌+◌, ◌*◌, ◌≤◌, ◌<◌, inl, inr, Bool, true, false, cond, max}
-use Rattle.std.proofs.Common.{List, [], ◌∷◌, length, get_or, take, Contains, refl, sym, ap, subst, ◌∙◌, arith, le_trans}
+use Rattle.std.proofs.Common.{◌≡◌, ℕ, ◌+◌, ◌*◌, ◌≤◌, ◌<◌, inl, inr, Bool, true, false, cond}
+use Rattle.std.proofs.Common.{List, [], ◌∷◌, length, get_or, take, Contains, refl, ap, subst, ◌∙◌, arith, le_trans}
 use Rattle.std.specs.Prelude.{sum_by, count_by, ◌==◌}
 use Rattle.std.proofs.Math.Nat.{le-max_left, le-max_right, mul-le-mul_left}
 use Rattle.std.proofs.lemmas.List.{get_or_default}
@@ -9,9 +9,7 @@ use Rattle.std.proofs.lemmas.List.Sums.{sum_by-cons}
 use Rattle.std.proofs.lemmas.Bool.{both_ways, eq-eqb, le-leb}
 use Rattle.coflow_units.specs.Completion.{completion, cost, end_of}
 use Rattle.coflow_units.specs.declared.fabric.Flow.{Flow}
-use Rattle.coflow_units.specs.declared.fabric.Port.{Port}
-use Rattle.coflow_units.specs.Flows.{Instance, IsInstance, SharesPort, coflow_of, egress_of, flow_at, ingress_of, units_of}
-use Rattle.coflow_units.specs.Load.{load_of_all}
+use Rattle.coflow_units.specs.Flows.{Instance, IsInstance, SharesPort, coflow_of, egress_of, ingress_of, units_of}
 use Rattle.coflow_units.specs.Patient.{egress_port, ingress_port}
 use Rattle.coflow_units.specs.Schedule.{IsClear, IsValid, holds, times}
 use Rattle.coflow_units.proofs.Lists.{keeps, number_in}
@@ -19,7 +17,7 @@ use Rattle.coflow_units.proofs.Numbers.{zero_or_more}
 use Rattle.coflow_units.proofs.Sums.{any_has, any_in, first_or_tail, nothing_in, sum_add, sum_mono}
 use Rattle.schedule_model.proofs.CoflowEnds.{some_flow}
 use Rattle.schedule_model.proofs.SlotLoads.{carries}
-use Rattle.schedule_model.proofs.WaitingLaw.{carried_of_all, entry_carries, last_none, waiting}
+use Rattle.schedule_model.proofs.WaitingLaw.{carried_of_all, entry_carries, last_none, waiting, two}
 use Rattle.class_rates.specs.Cap.{cap, cap_of_coflow, cap_of_flow, greatest, up_to_class}
 use Rattle.class_rates.specs.ClassPatient.{IsClassPatient, IsServedOrWaitsByClass}
 
@@ -51,9 +49,6 @@ stands i slots h g known valid inside has =
 -- the units of these coflows that a slot carries through the flow's two ports
 abbrev at_both : List Flow → List ℕ → ℕ → List ℕ → ℕ
 at_both flows cs f h = sum_by (λ c. carries flows (ingress_port flows f) c h) cs + sum_by (λ c. carries flows (egress_port flows f) c h) cs
-
-two : (a b : ℕ) → 1 ≤ a → 1 ≤ b → 2 ≤ a + b
-two a b la lb = omega arith
 
 shared : (flows : List Flow) (cs slot : List ℕ) (f g : ℕ) → Contains slot g → Contains cs (coflow_of flows g) → SharesPort flows g f → 1 ≤ at_both flows cs f slot
 shared flows cs slot f g has in' (inl e) = omega (arith, entry_carries flows (ingress_port flows f) cs slot g has in' (eq-eqb (ingress_of flows g) (ingress_of flows f) e))

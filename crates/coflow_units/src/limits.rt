@@ -28,6 +28,10 @@ pub const MAX_FLOWS: u32 = 1_048_576;
 pub const MAX_SLOT: u64 = 2_199_023_255_551;
 /// The units of a trace that clients share live: 2^20.
 pub const MAX_LIVE_UNITS: u64 = 1_048_576;
+/// The megabytes of a unit, as an option, from 1: 2^20.
+pub const MAX_UNIT: u64 = 1_048_576;
+/// The milliseconds of a slot, as an option, from 1: 2^20.
+pub const MAX_SLOT_MS: u64 = 1_048_576;
 /// The slots of an epoch and of a run, as options: 2^40.
 pub const MAX_OPTION_SLOTS: u64 = 1_099_511_627_776;
 /// What a budget of weight 1 holds: 2^40.

@@ -1,7 +1,8 @@
 -- What the parser makes of one word.
 use Rattle.std.proofs.Common.{◌≡◌, ℕ, ◌<◌, suc, List, [], ◌∷◌, Option, Some, None, Bool, true, false, refl, length, arith}
-use Rattle.std.specs.Prelude.{◌&&◌, slice_get}
+use Rattle.std.specs.Prelude.{slice_get}
 use Rattle.std.specs.Str.{bytes_eq, chars}
+use Rattle.std.proofs.lemmas.Bool.{and_right}
 use Rattle.std.proofs.lemmas.Slice.Eq.{bytes_eq-Decides}
 use Rattle.clap.specs.Words.{Kinds, Row, Text}
 use Rattle.clap.specs.Kinds.{or_else}
@@ -18,10 +19,6 @@ pub record IsPlain (w : Text) : Type 0 where
   pub short : short_of w ≡ None
   pub ends : bytes_eq w (45 ∷ 45 ∷ []) ≡ false
 
-and_false : (b : Bool) → (b && false) ≡ false
-and_false true = refl
-and_false false = refl
-
 or_else_none : (a : Kinds) → or_else a [] ≡ a
 or_else_none [] = refl
 or_else_none (k ∷ ks) = refl
@@ -32,26 +29,26 @@ pub name_turn : (k : ℕ) (id : Text) → IsName k id → (rows : List Row) (p :
     turn_fault shape [] (ready rows p k) w ≡ settle_fault rules false (held rows p)
 unfolding clap_on_literals
 name_turn k id n rows None w i = rw (i.ends, i.long, i.short, n.by_index) refl
-name_turn k id n rows (Some p) w i = rw (i.ends, i.long, i.short, n.by_index, and_false (bytes_eq p.0 id)) refl
+name_turn k id n rows (Some p) w i = rw (i.ends, i.long, i.short, n.by_index, and_right (bytes_eq p.0 id) false refl) refl
 
 pub name_walk : (k : ℕ) (id : Text) → IsName k id → (rows : List Row) (p : Option (Text × List Text)) (w : Text) → IsPlain w →
     walked rules [] (ready rows p k) w ≡ ready (settled rules (held rows p)).rows (Some (id, w ∷ [])) (suc k)
 unfolding clap_on_literals
 name_walk k id n rows None w i = rw (i.ends, i.long, i.short, n.by_index, n.next) refl
-name_walk k id n rows (Some p) w i = rw (i.ends, i.long, i.short, n.by_index, and_false (bytes_eq p.0 id), n.next) refl
+name_walk k id n rows (Some p) w i = rw (i.ends, i.long, i.short, n.by_index, and_right (bytes_eq p.0 id) false refl, n.next) refl
 
 -- Behind `--` each word is a name.
 pub trail_turn : (k : ℕ) (id : Text) → IsName k id → (rows : List Row) (p : Option (Text × List Text)) (w : Text) →
     turn_fault shape [] (trails rows p k) w ≡ settle_fault rules false (held rows p)
 unfolding clap_on_literals
 trail_turn k id n rows None w = rw n.by_index refl
-trail_turn k id n rows (Some p) w = rw (n.by_index, and_false (bytes_eq p.0 id)) refl
+trail_turn k id n rows (Some p) w = rw (n.by_index, and_right (bytes_eq p.0 id) false refl) refl
 
 pub trail_walk : (k : ℕ) (id : Text) → IsName k id → (rows : List Row) (p : Option (Text × List Text)) (w : Text) →
     walked rules [] (trails rows p k) w ≡ trails (settled rules (held rows p)).rows (Some (id, w ∷ [])) (suc k)
 unfolding clap_on_literals
 trail_walk k id n rows None w = rw (n.by_index, n.next) refl
-trail_walk k id n rows (Some p) w = rw (n.by_index, and_false (bytes_eq p.0 id), n.next) refl
+trail_walk k id n rows (Some p) w = rw (n.by_index, and_right (bytes_eq p.0 id) false refl, n.next) refl
 
 -- A fourth name is one too many.
 pub name_4 : (rows : List Row) (p : Option (Text × List Text)) (w : Text) → IsPlain w → turn_fault shape [] (ready rows p 4) w ≡ kind.UnknownArgument ∷ []
@@ -135,7 +132,7 @@ late_walk rows o k = refl
 
 pub late_name : (k : ℕ) (id : Text) → IsName k id → (o : Text) → IsArgument o → (rows : List Row) (w : Text) → Fails (late rows o k) w
 unfolding clap_on_literals
-late_name k id n o a rows w = (kind.InvalidValue, [], rw (n.by_index, and_false (bytes_eq o id), a.by_id) refl)
+late_name k id n o a rows w = (kind.InvalidValue, [], rw (n.by_index, and_right (bytes_eq o id) false refl, a.by_id) refl)
 
 pub late_4 : (rows : List Row) (o w : Text) → Fails (late rows o 4) w
 unfolding clap_on_literals

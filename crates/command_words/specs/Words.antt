@@ -1,5 +1,6 @@
 -- The words of a command line.
 use Rattle.std.specs.Prelude.{◌≡◌, ℕ, ◌≤◌, ◌^◌, true, List, Option, Some, None, IfSome, codes, drop, option_map}
+use Rattle.coflow_units.specs.declared.limits.TheConstants.{MAX_OPTION_SLOTS, MAX_SLOT_MS, MAX_UNIT}
 use Rattle.text_fields.specs.Numbers.{is_number, number}
 use Rattle.command_words.specs.Line.{IsOnce, Text, Use, uses, value_of}
 use Rattle.command_words.specs.Commands.{IsFileName, IsFirst, IsSecond, row_of}
@@ -44,11 +45,11 @@ pub record IsSaid (value : Text → Option Text) (said : Said) : Type 0 where
   pub first : value (codes "FIRST") ≡ Some said.first
   pub second : value (codes "SECOND") ≡ said.second
   pub weights : value (codes "weights") ≡ said.weights
-  pub unit : IsSetting (2 ^ 20) 1 (value (codes "unit")) said.unit
+  pub unit : IsSetting MAX_UNIT 1 (value (codes "unit")) said.unit
   pub agents : IsSetting 64 4 (value (codes "agents")) said.agents
-  pub epoch : IsSetting (2 ^ 40) 1024 (value (codes "epoch")) said.epoch
-  pub run : IsSetting (2 ^ 40) 1 (value (codes "run")) said.run
-  pub slot_ms : IsSetting (2 ^ 20) 8 (value (codes "slot-ms")) said.slot_ms
+  pub epoch : IsSetting MAX_OPTION_SLOTS 1024 (value (codes "epoch")) said.epoch
+  pub run : IsSetting MAX_OPTION_SLOTS 1 (value (codes "run")) said.run
+  pub slot_ms : IsSetting MAX_SLOT_MS 8 (value (codes "slot-ms")) said.slot_ms
   pub first_fits : IsFirst (row_of said.command).first said.first
   pub second_fits : IsSecond (row_of said.command).takes_second said.second
   pub weights_fit : IfSome said.weights IsFileName

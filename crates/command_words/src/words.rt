@@ -10,7 +10,7 @@ use crate::command::Command;
 use crate::parser::matches_of;
 use crate::values::{is_file_name, setting_of};
 use clap::ArgMatches;
-use coflow_units::MAX_OPTION_SLOTS;
+use coflow_units::{MAX_OPTION_SLOTS, MAX_SLOT_MS, MAX_UNIT};
 use std::alloc::Global;
 use thiserror::Error;
 
@@ -87,11 +87,11 @@ fn words_of<'a>(matches: &ArgMatches<'a>) -> Option<Words<'a>>
     if !is_optional_name(weights) {
         return None;
     }
-    let unit = setting_of(matches.get_str("unit"), 1 << 20, 1)?;
+    let unit = setting_of(matches.get_str("unit"), MAX_UNIT, 1)?;
     let agents = setting_of(matches.get_str("agents"), 64, 4)?;
     let epoch = setting_of(matches.get_str("epoch"), MAX_OPTION_SLOTS, 1024)?;
     let run = setting_of(matches.get_str("run"), MAX_OPTION_SLOTS, 1)?;
-    let slot_ms = setting_of(matches.get_str("slot-ms"), 1 << 20, 8)?;
+    let slot_ms = setting_of(matches.get_str("slot-ms"), MAX_SLOT_MS, 8)?;
     Some(Words {
         command,
         first,

@@ -9,7 +9,7 @@ use Rattle.coflow_units.specs.Completion.{cost}
 use Rattle.coflow_units.specs.Certificate.{Entry, IsCertificate, IsFeasible, bound, budget, used}
 use Rattle.coflow_units.specs.Rows.{equal_weights}
 use Rattle.coflow_units.proofs.CertificateSteps.{used_outside}
-use Rattle.coflow_units.proofs.Sums.{all_of_members, first_or_tail, in_first, in_tail, nothing_in, pairs_from_apart}
+use Rattle.coflow_units.proofs.Sums.{all_of_members, first_or_tail, in_first, in_tail, nothing_in, pairs_from_apart, not_the_other}
 use Rattle.dual_cert.specs.OtherCertificate.{first_pays}
 use Rattle.dual_cert.proofs.DualLaw.{bound_law}
 
@@ -37,12 +37,6 @@ back c has = elim (one_of_two c has) [
   | inr e ↦ subst (λ n. Contains (0 ∷ 1 ∷ []) n) (sym e) (in_first 0 (1 ∷ []))
 ]
 
-not_one : Contains {X = ℕ} (0 ∷ []) 1 → ⊥
-not_one has = elim (first_or_tail 0 [] 1 has) [
-  | inl e ↦ omega (arith, e)
-  | inr none ↦ nothing_in 1 none
-]
-
 first_pays_ports : All (λ (e : Entry). e.port.number < 3) first_pays
 first_pays_ports =
     let free : Entry = record { coflow = 1; port = record { side = Ingress; number = 0 }; y = 0 } in
@@ -52,7 +46,7 @@ first_pays_ports =
 
 pub first_pays_certificate : IsCertificate equal_weights first_pays
 first_pays_certificate = record {
-  once = pairs_from_apart (1 ∷ 0 ∷ []) (not_one, ((λ none. nothing_in 0 none), tt));
+  once = pairs_from_apart (1 ∷ 0 ∷ []) (not_the_other, ((λ none. nothing_in 0 none), tt));
   coflow = all_of_members (Contains (0 ∷ 1 ∷ [])) (1 ∷ 0 ∷ []) back;
   all = all_of_members (Contains (1 ∷ 0 ∷ [])) (0 ∷ 1 ∷ []) turned;
   port = first_pays_ports;

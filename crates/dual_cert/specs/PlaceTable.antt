@@ -1,6 +1,7 @@
 -- Which coflows are in the front of a place, and what they have on its port.
 use Rattle.std.specs.Prelude.{◌≡◌, ℕ, ◌+◌, ◌<◌, ◌≤◌, ◌==◌, if◌then◌else◌, Bool, List, Contains, length, slice_index}
 use Rattle.std.specs.List.{list_any}
+use Rattle.coflow_units.specs.declared.limits.TheConstants.{MAX_COFLOWS}
 use Rattle.coflow_units.specs.Certificate.{front}
 use Rattle.port_load.specs.LoadTable.{LoadTable, load_at}
 use Rattle.dual_cert.specs.declared.cert.Charge.{Charge}
@@ -17,8 +18,8 @@ load_up_to t charges place coflow =
 
 -- for each coflow a number that is at most a place's number exactly where the coflow is in the front of that place
 pub record HasPlaces (charges : List Charge) (places : List ℕ) : Type 0 where
-  pub len : length places ≡ 4096
-  pub early : (coflow place : ℕ) → coflow < 4096 → place < length charges → slice_index places coflow ≤ place →
+  pub len : length places ≡ MAX_COFLOWS
+  pub early : (coflow place : ℕ) → coflow < MAX_COFLOWS → place < length charges → slice_index places coflow ≤ place →
       Contains (front (entries_to (place + 1) charges)) coflow
-  pub late : (coflow place : ℕ) → coflow < 4096 → place < length charges → place < slice_index places coflow →
+  pub late : (coflow place : ℕ) → coflow < MAX_COFLOWS → place < length charges → place < slice_index places coflow →
       Contains (front (entries_to (place + 1) charges)) coflow → ⊥

@@ -1,6 +1,7 @@
 //! What the coflows of a certificate pay, against their budgets.
 ghost use Rattle.std.specs.Prelude.{◌≡◌, ℕ, ◌+◌, ◌-◌, ◌*◌, ◌^◌, ◌<◌, List, None, IfSome, length, min, reverse, slice_index};
 ghost use Rattle.coflow_units.specs.declared.fabric.Flow.{Flow};
+ghost use Rattle.coflow_units.specs.declared.limits.TheConstants.{MAX_COFLOWS};
 ghost use Rattle.coflow_units.specs.Certificate.{IsFeasible, used};
 ghost use Rattle.dual_cert.specs.PlaceTable.{HasPlaces, load_up_to};
 ghost use Rattle.dual_cert.specs.TableCertificate.{HasLoadsOf, HasWeightsOf, IsCertificateOf, IsLeastInfeasible, all_entries, charge_at, port_at};
@@ -54,7 +55,7 @@ fn pay_at(loads: &Loads, charges: &[Charge], places: &[usize], place: usize, pai
     requires places { HasPlaces charges.now places.now }
     requires place_in { place < length charges.now }
     requires port_in { (port_at charges.now place).number < loads.now.ports }
-    requires paid_len { length paid.old ≡ 4096 }
+    requires paid_len { length paid.old ≡ MAX_COFLOWS }
     ensures { (coflow used : ℕ) → coflow < loads.now.coflows → slice_index paid.old coflow ≡ min used (2 ^ 128 - 1) →
         slice_index paid.new coflow ≡
         min (used + (charge_at charges.now place).y * load_up_to loads.now charges.now place coflow) (2 ^ 128 - 1) }

@@ -10,12 +10,13 @@ use Rattle.coflow_units.specs.declared.trace.Trace.{Trace}
 use Rattle.coflow_units.specs.Trace.{IsCoflowLine, IsTrace}
 use Rattle.coflow_units.proofs.Lists.{by_number, number_in, numbers_apart}
 use Rattle.coflow_units.proofs.Sums.{picked_one, sum_same, sum_swap, sum_zero}
+use Rattle.coflow_units.proofs.Ranges.{in_range}
 use Rattle.flow_table.specs.FlowsOf.{IsFlowsOf, units_between}
 use Rattle.flow_table.specs.Units.{share, units_in_all, units_of_line, units_of_reducer}
 use Rattle.flow_table.specs.Sent.{line_of, places, sent, sent_by, sent_of}
 use Rattle.flow_table.proofs.FlowOrder.{term}
 use Rattle.flow_table.proofs.Shares.{picked, shares_are_all}
-use Rattle.flow_table.proofs.Within.{flows_within, in_range}
+use Rattle.flow_table.proofs.Within.{flows_within}
 
 abbrev below : ℕ → List ℕ
 below n = range_with_len 0 n

@@ -1,7 +1,6 @@
 -- Flows of a trace are of its coflows and between its locations.
 use Rattle.std.proofs.Common.{◌≡◌, ℕ, ◌+◌, ◌<◌, ◌≤◌, inl, inr, Bool, true, false, List, [], get_or, length, refl, ap, ◌∙◌, arith}
-use Rattle.std.specs.Prelude.{All, Contains, if◌then◌else◌, ◌==◌, slice_index}
-use Rattle.std.specs.List.{range_with_len}
+use Rattle.std.specs.Prelude.{All, if◌then◌else◌, ◌==◌, slice_index}
 use Rattle.std.proofs.lemmas.Bool.{cases_lt, ne_eqb}
 use Rattle.std.proofs.lemmas.List.{get_or_past}
 use Rattle.std.proofs.lemmas.List.Elements.{All-contains}
@@ -11,16 +10,13 @@ use Rattle.coflow_units.specs.declared.trace.CoflowLine.{CoflowLine}
 use Rattle.coflow_units.specs.declared.trace.Reducer.{Reducer}
 use Rattle.coflow_units.specs.declared.trace.Trace.{Trace}
 use Rattle.coflow_units.specs.Trace.{IsCoflowLine, IsTrace}
-use Rattle.coflow_units.proofs.Lists.{number_below}
 use Rattle.coflow_units.proofs.Sums.{sum_same, sum_zero}
+use Rattle.coflow_units.proofs.Ranges.{in_range}
 use Rattle.flow_table.specs.FlowsOf.{HaveUnits, IsFlowsOf}
 use Rattle.flow_table.specs.Units.{share, units_of_reducer}
 use Rattle.flow_table.specs.Sent.{line_of, places, sent, sent_by, sent_of}
 use Rattle.flow_table.proofs.FlowOrder.{own_term, term}
 use Rattle.flow_table.proofs.Shares.{picked}
-
-pub in_range : (n k : ℕ) → Contains (range_with_len 0 n) k → k < n
-in_range n k has = omega (arith, number_below 0 n k has)
 
 -- past the last coflow nothing is sent
 pub no_coflow : (t : Trace) (unit c i e : ℕ) → length t.coflows ≤ c → sent t unit c i e ≡ 0

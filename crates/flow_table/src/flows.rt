@@ -1,6 +1,6 @@
 //! The flows of a trace.
 ghost use Rattle.std.specs.Prelude.{◌≡◌, ℕ, ◌+◌, ◌*◌, ◌^◌, ◌<◌, ◌≤◌, All, IfErr, IfOk, OnOk, length};
-ghost use Rattle.coflow_units.specs.declared.limits.TheConstants.{MAX_FLOWS, MAX_MAPPERS, MAX_MEGABYTES, MAX_UNITS};
+ghost use Rattle.coflow_units.specs.declared.limits.TheConstants.{MAX_FLOWS, MAX_MAPPERS, MAX_MEGABYTES, MAX_UNIT, MAX_UNITS};
 ghost use Rattle.coflow_units.specs.Trace.{IsCoflowLine, IsTrace};
 ghost use Rattle.flow_table.specs.declared.spots.Spot.{Spot};
 ghost use Rattle.flow_table.specs.FlowsOf.{HaveUnitsBefore, IsFlowsOf, IsTooMany};
@@ -21,7 +21,7 @@ use std::alloc::Global;
 pub(crate) fn flows_of(alloc: Global, trace: &Trace, unit: u64) -> Result<Vec<Flow>, Stop>
     requires trace { IsTrace trace.now }
     requires some { 1 ≤ unit }
-    requires unit_limit { unit ≤ 2 ^ 20 }
+    requires unit_limit { unit ≤ MAX_UNIT }
     requires units { units_in_all trace.now unit ≤ MAX_UNITS }
     ensures flows { IfOk result (λ flows. IsFlowsOf trace.now unit flows.items) }
     ensures few { IfOk result (λ flows. length flows.items ≤ MAX_FLOWS) }
@@ -45,7 +45,7 @@ fn push_coflow(
     ports: u32,
 ) -> Result<(), Stop>
     requires some { 1 ≤ unit }
-    requires unit_limit { unit ≤ 2 ^ 20 }
+    requires unit_limit { unit ≤ MAX_UNIT }
     requires line { (number : ℕ) × (ports ≡ number + 1) × IsCoflowLine number line.now }
     requires units { units_of_line unit line.now ≤ MAX_UNITS }
     requires few { length flows.old.items ≤ MAX_FLOWS }

@@ -1,6 +1,6 @@
 //! Numbers that stand at locations, sorted so that those of one location stand together.
 ghost use Rattle.std.specs.Prelude.{◌≡◌, ℕ, ◌%◌, ◌^◌, ◌<◌, ◌≤◌, ◌==◌, All, IfOk, OnOk, if◌then◌else◌, length, slice_index, sum_by};
-ghost use Rattle.coflow_units.specs.declared.limits.TheConstants.{MAX_MAPPERS};
+ghost use Rattle.coflow_units.specs.declared.limits.TheConstants.{MAX_MAPPERS, MAX_UNIT};
 ghost use Rattle.std.specs.List.Sorted.{IsPermutation};
 ghost use Rattle.coflow_units.specs.declared.trace.Reducer.{Reducer};
 ghost use Rattle.flow_table.specs.declared.spots.Spot.{Spot};
@@ -48,7 +48,7 @@ pub(crate) fn reducer_rests(
     unit: u64,
 ) -> Result<Vec<Spot>, AllocError>
     requires some { 1 ≤ unit }
-    requires unit_limit { unit ≤ 2 ^ 20 }
+    requires unit_limit { unit ≤ MAX_UNIT }
     requires has_mapper { 1 ≤ length line.now.mappers }
     requires few { length line.now.mappers ≤ MAX_MAPPERS }
     ensures sorted { IfOk result (λ spots. IsByLocation spots.items) }

@@ -1,6 +1,6 @@
 //! The table of flows.
 ghost use Rattle.std.specs.Prelude.{◌≡◌, ◌-◌, ◌^◌, ◌<◌, ◌≤◌, ◌==◌, IfErr, IfOk, OnOk, drop, filter, length, map, slice_index, take};
-ghost use Rattle.coflow_units.specs.declared.limits.TheConstants.{MAX_UNITS};
+ghost use Rattle.coflow_units.specs.declared.limits.TheConstants.{MAX_UNIT, MAX_UNITS};
 ghost use Rattle.coflow_units.specs.declared.fabric.Flow.{Flow};
 ghost use Rattle.coflow_units.specs.declared.trace.CoflowLine.{CoflowLine};
 ghost use Rattle.coflow_units.specs.Flows.{flow_at};
@@ -67,7 +67,7 @@ impl Table {
     pub fn build(alloc: Global, trace: &Trace, unit: u64) -> Result<Table, TableFault>
         requires trace { IsTrace trace.now }
         requires some { 1 ≤ unit }
-        requires unit_limit { unit ≤ 2 ^ 20 }
+        requires unit_limit { unit ≤ MAX_UNIT }
         ensures table { IfOk result (λ table. IsTableOf trace.now unit table) }
         ensures within_limits { IfOk result IsTable }
         ensures units { OnOk result (units_in_all trace.now unit ≤ MAX_UNITS) }

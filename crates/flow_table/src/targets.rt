@@ -1,6 +1,6 @@
 //! The egress ports to which a coflow sends.
 ghost use Rattle.std.specs.Prelude.{◌≡◌, ◌≢◌, ℕ, ◌+◌, ◌^◌, ◌<◌, ◌≤◌, All, IfOk, length, slice_index};
-ghost use Rattle.coflow_units.specs.declared.limits.TheConstants.{MAX_UNITS};
+ghost use Rattle.coflow_units.specs.declared.limits.TheConstants.{MAX_UNIT, MAX_UNITS};
 ghost use Rattle.coflow_units.specs.Trace.{IsCoflowLine};
 ghost use Rattle.flow_table.specs.declared.targets.Target.{Target};
 ghost use Rattle.flow_table.specs.declared.spots.Spot.{Spot};
@@ -33,7 +33,7 @@ pub(crate) fn targets_of(
     rests: &[Spot],
 ) -> Result<Vec<Target>, AllocError>
     requires some { 1 ≤ unit }
-    requires unit_limit { unit ≤ 2 ^ 20 }
+    requires unit_limit { unit ≤ MAX_UNIT }
     requires line { (number : ℕ) × (ports ≡ number + 1) × IsCoflowLine number line.now }
     requires units { units_of_line unit line.now ≤ MAX_UNITS }
     requires sorted { IsByLocation rests.now }
@@ -71,7 +71,7 @@ fn wholes_of(
     ports: u32,
 ) -> Result<Vec<u64>, AllocError>
     requires some { 1 ≤ unit }
-    requires unit_limit { unit ≤ 2 ^ 20 }
+    requires unit_limit { unit ≤ MAX_UNIT }
     requires line { (number : ℕ) × (ports ≡ number + 1) × IsCoflowLine number line.now }
     requires units { units_of_line unit line.now ≤ MAX_UNITS }
     ensures count { IfOk result (λ wholes. length wholes.items ≡ ports) }

@@ -1,5 +1,6 @@
 //! The units of reducers.
 ghost use Rattle.std.specs.Prelude.{◌≡◌, ◌-◌, ◌≤◌, ◌^◌, min};
+ghost use Rattle.coflow_units.specs.declared.limits.TheConstants.{MAX_UNIT};
 ghost use Rattle.flow_table.specs.Units.{units_in_all, units_of_line, units_of_reducer};
 
 use coflow_units::{CoflowLine, Reducer, Trace};
@@ -9,7 +10,7 @@ const MILLIONTHS: u64 = 1_000_000;
 /// The units of a reducer, rounded up, where a unit has so many megabytes.
 pub(crate) fn units_of_reducer(reducer: &Reducer, unit: u64) -> u64
     requires some { 1 ≤ unit }
-    requires unit_limit { unit ≤ 2 ^ 20 }
+    requires unit_limit { unit ≤ MAX_UNIT }
     ensures { result ≡ units_of_reducer unit reducer.now }
 {
     reducer.millionths.div_ceil(unit * MILLIONTHS)
@@ -18,7 +19,7 @@ pub(crate) fn units_of_reducer(reducer: &Reducer, unit: u64) -> u64
 /// The units of all coflows, or the greatest number where there are more.
 pub(crate) fn units_in_all(trace: &Trace, unit: u64) -> u64
     requires some { 1 ≤ unit }
-    requires unit_limit { unit ≤ 2 ^ 20 }
+    requires unit_limit { unit ≤ MAX_UNIT }
     ensures { result ≡ min (units_in_all trace.now unit) (2 ^ 64 - 1) }
 {
     let mut total = 0u64;
@@ -31,7 +32,7 @@ pub(crate) fn units_in_all(trace: &Trace, unit: u64) -> u64
 /// The units of all reducers of a coflow, or the greatest number where there are more.
 fn units_of_line(line: &CoflowLine, unit: u64) -> u64
     requires some { 1 ≤ unit }
-    requires unit_limit { unit ≤ 2 ^ 20 }
+    requires unit_limit { unit ≤ MAX_UNIT }
     ensures { result ≡ min (units_of_line unit line.now) (2 ^ 64 - 1) }
 {
     let mut total = 0u64;

@@ -2,13 +2,12 @@
 use Rattle.std.proofs.Common.{◌≡◌, ℕ, ◌+◌, ◌≤◌, ◌<◌, inl, inr, Bool, List, Option, Some, None, length, get_or, Contains, sym, ap, ◌∙◌, arith}
 use Rattle.std.specs.Prelude.{All}
 use Rattle.std.specs.List.Sorted.{IsStrictlyIncreasing}
-use Rattle.std.proofs.lemmas.Bool.{cases_eq, cases_lt}
-use Rattle.std.proofs.lemmas.List.{get_or_default, get_or_past}
-use Rattle.std.proofs.lemmas.List.Elements.{Contains-get_or}
+use Rattle.std.proofs.lemmas.Bool.{cases_lt}
+use Rattle.std.proofs.lemmas.List.{get_or_past}
 use Rattle.coflow_units.specs.declared.fabric.Flow.{Flow}
 use Rattle.coflow_units.specs.Flows.{coflow_of, ingress_of, IsDistinct, SharesPort}
 use Rattle.coflow_units.specs.Grants.{place_in, ComesBefore, IsGrants}
-use Rattle.coflow_units.proofs.LinePlaces.{place_of_member, at_place}
+use Rattle.coflow_units.proofs.LinePlaces.{at_place, at_place_zero, place_at, place_of_member}
 use Rattle.coflow_units.proofs.Sums.{all_of_members}
 use Rattle.coflow_units.specs.Starts.{IsStarts}
 use Rattle.greedy_rates.specs.Room.{flow_at_ingress, TellsIngresses}
@@ -16,24 +15,6 @@ use Rattle.greedy_rates.specs.Pass.{Stands, IsGranting, IsListing, IsNext}
 use Rattle.greedy_rates.proofs.PassSteps.{front_moves, not_none, same_some}
 
 -- ---- one coflow after another
-
-at_place_zero : (line : List ℕ) (c : ℕ) → place_in line c < length line → get_or line (place_in line c) 0 ≡ c
-at_place_zero line c lt = get_or_default line (place_in line c) 0 c lt ∙ at_place line c lt
-
--- in a line without repetition the place of its k-th coflow is k
-place_at : (line : List ℕ) (k : ℕ) → IsDistinct line → k < length line → place_in line (get_or line k 0) ≡ k
-place_at line k once lt =
-    let c = get_or line k 0 in
-    let in' : Contains line c = Contains-get_or line k 0 lt in
-    let low : place_in line c < length line = place_of_member line c in' in
-    let first : get_or line (place_in line c) 0 ≡ c = at_place_zero line c low in
-    elim (cases_eq (place_in line c) k) [
-      | inl e ↦ e
-      | inr ne ↦ elim (cases_lt (place_in line c) k) [
-        | inl less ↦ absurd (once (place_in line c) k 0 less lt first)
-        | inr more ↦ absurd (once k (place_in line c) 0 (omega arith) low (sym first))
-      ]
-    ]
 
 -- the flows between two starts are those of the coflow at this place
 pub next_coflow : (flows : List Flow) (line starts : List ℕ) (k : ℕ) → IsStarts flows starts → IsDistinct line → k < length line → get_or line k 0 + 1 < length starts →

@@ -1,9 +1,8 @@
 -- The flows at the ingress ports, one after another.
-use Rattle.std.proofs.Common.{◌≡◌, ◌≢◌, ℕ, ◌+◌, ◌≤◌, ◌<◌, inl, inr, List, [], ◌∷◌, ◌++◌, Option, Some, None, length, get_or, set, take, drop, min, false, true≢false, Contains, sym}
+use Rattle.std.proofs.Common.{◌≡◌, ◌≢◌, ℕ, ◌+◌, ◌≤◌, ◌<◌, inl, inr, List, [], ◌∷◌, ◌++◌, Option, Some, None, length, get_or, set, take, min, false, true≢false, Contains, sym}
 use Rattle.std.proofs.Common.{ap, subst, ◌∙◌, arith}
 use Rattle.std.specs.Prelude.{Any, All, ◌==◌}
-use Rattle.std.proofs.lemmas.Grind.{common_steps}
-use Rattle.std.proofs.lemmas.Bool.{cases_eq, cases_lt, ne_eqb, eq-eqb}
+use Rattle.std.proofs.lemmas.Bool.{cases_lt}
 use Rattle.std.proofs.lemmas.List.{get_or_default, take_more, take_more_set}
 use Rattle.std.proofs.lemmas.List.Elements.{All-push, All-weaker, Contains-push, Contains-push_cases, Contains-append_left, Contains-get_or}
 use Rattle.std.proofs.lemmas.List.Quantifiers.{all_pairs_push}
@@ -15,6 +14,8 @@ use Rattle.std.proofs.lemmas.List.Sorted.{Contains-permutation, IsPermutation-sy
 use Rattle.std.proofs.lemmas.Map.Keys.{IsDistinct-IsPermutation, IsStrictlyIncreasing-from_distinct}
 use Rattle.std.proofs.lemmas.Map.Made.{IsDistinct-from_AllPairs}
 use Rattle.coflow_units.proofs.Sums.{nothing_in, pairs_from_apart, rising_apart}
+use Rattle.coflow_units.proofs.Bools.{flips}
+pub use Rattle.coflow_units.proofs.Fronts.{written_back}
 use Rattle.greedy_rates.specs.Room.{flow_at_ingress}
 use Rattle.greedy_rates.specs.Pass.{IsListing}
 use Rattle.greedy_rates.proofs.PassSteps.{not_none, same_some}
@@ -63,12 +64,6 @@ list_takes at n count f listed one some lt so_far =
 
 -- ---- the same list, sorted
 
-flips : (x y : ℕ) → eqb x y ≡ eqb y x
-flips x y = elim (cases_eq x y) [
-  | inl e ↦ eq-eqb x y e ∙ sym (eq-eqb y x (sym e))
-  | inr ne ↦ ne_eqb x y ne ∙ sym (ne_eqb y x (λ e. ne (sym e)))
-]
-
 pub sorted_rises : (at : List (Option ℕ)) (n : ℕ) (listed sorted : List ℕ) → IsListing at n listed → IsPermutation listed sorted → IsSorted nat_cmp sorted →
     IsStrictlyIncreasing sorted
 sorted_rises at n listed sorted list moved ascends =
@@ -100,11 +95,3 @@ least_reached left granted i least next lt is (k, x, in', at, e) = elim (cases_l
 
 pub not_nothing : (xs : List ℕ) → (length xs == 0) ≡ false → xs ≡ [] → ⊥
 not_nothing xs some e = true≢false (sym (ap (λ (ys : List ℕ). length ys == 0) e) ∙ some)
-
--- ---- lists that were written back
-
-pub front_again : (n : ℕ) (front old : List ℕ) → length front ≡ n → take n (front ++ drop n old) ≡ front
-front_again n front old e = grind (arith, common_steps, e)
-
-pub written_back : {X : Type 0} (n : ℕ) (new old : List X) → length new ≡ n → take n (new ++ drop (length new) old) ≡ new
-written_back n new old e = grind (arith, common_steps, e)

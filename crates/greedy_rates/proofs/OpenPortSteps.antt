@@ -1,17 +1,14 @@
 -- How many ports are open, when one of them closes.
-use Rattle.std.proofs.Common.{◌≡◌, ◌≢◌, ℕ, ◌+◌, ◌<◌, ◌==◌, inl, inr, Bool, true, false, true≢false, suc, cond, List, Option, None, length, get_or, refl, sym, ap, ◌∙◌, arith}
+use Rattle.std.proofs.Common.{◌≡◌, ◌≢◌, ℕ, ◌+◌, ◌<◌, ◌==◌, inl, inr, Bool, true, false, true≢false, cond, List, Option, None, length, get_or, refl, sym, ap, ◌∙◌, arith}
 use Rattle.std.specs.Prelude.{◌&&◌, not, sum_by, nat_lt}
 use Rattle.std.specs.List.{range_with_len}
 use Rattle.std.specs.Option.{is_some}
 use Rattle.std.proofs.lemmas.Bool.{cases_eq, eqb-true, eq-eqb, lt-ltb}
-use Rattle.coflow_units.proofs.Lists.{number_in, numbers_apart, range_more}
+use Rattle.coflow_units.proofs.Lists.{number_in, numbers_apart}
 use Rattle.coflow_units.proofs.Sums.{sum_same, sum_add, picked_one, member_within_sum}
+use Rattle.coflow_units.proofs.Ranges.{sum_next}
 use Rattle.greedy_rates.specs.Room.{flow_at_ingress}
 use Rattle.greedy_rates.specs.OpenPorts.{how_many, open_ingresses, open_egresses}
-
-pub sum_next : (w : ℕ → ℕ) (n : ℕ) → sum_by w (range_with_len 0 (n + 1)) ≡ sum_by w (range_with_len 0 n) + w n
-sum_next w n = let e : n + 1 ≡ suc n = omega arith in let z : 0 + n ≡ n = omega arith in
-    ap (λ (k : ℕ). sum_by w (range_with_len 0 k)) e ∙ (range_more w 0 n ∙ ap (λ (k : ℕ). sum_by w (range_with_len 0 n) + w k) z)
 
 -- one place stops passing the test
 pub one_closes : (was now : ℕ → Bool) (table : List ℕ) (a : ℕ) → a < length table → was a ≡ true → now a ≡ false → ((p : ℕ) → p ≢ a → now p ≡ was p) →

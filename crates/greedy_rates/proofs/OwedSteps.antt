@@ -13,6 +13,7 @@ use Rattle.greedy_rates.specs.Room.{flow_at_ingress}
 use Rattle.greedy_rates.specs.Pass.{Stands, IsGranting, IsNext}
 use Rattle.greedy_rates.specs.Owed.{Owed, IsOwed, IsTally}
 use Rattle.coflow_units.specs.Starts.{IsStarts}
+use Rattle.coflow_units.proofs.Bools.{second_not}
 use Rattle.greedy_rates.specs.OpenPorts.{open_ingresses, open_egresses}
 use Rattle.greedy_rates.proofs.PassSteps.{skip_flow, grant_flow}
 use Rattle.greedy_rates.proofs.LineSteps.{coflow_begins, coflow_ends}
@@ -118,11 +119,6 @@ rest_is_cut flows line left k at busy le cut so_far =
 
 -- ---- open ports
 
-and_false : (a b : Bool) → a ≡ true → (a && not b) ≡ false → b ≡ true
-and_false true true _ _ = refl
-and_false true false _ e = absurd (true≢false e)
-and_false false b e _ = absurd (true≢false (sym e))
-
 -- a flow that owes makes its ports owe
 pub owes_at : (key : ℕ → ℕ) (left table : List ℕ) (f : ℕ) → IsTally key left table → f < length left → 0 < get_or left f 0 → 0 < get_or table (key f) 0
 owes_at key left table f tally lt some = omega (arith, left_within key left table f tally lt, some)
@@ -134,7 +130,7 @@ no_ingress_open flows line left k n table at busy tally same none so_far f lt so
     let in' : f < length left = omega (arith, lt, same) in
     let i = ingress_of flows f in
     stands_at flows line (λ g. get_or left g 0) k n at busy f so_far
-    (and_false (nat_lt 0 (get_or table i 0)) (is_some (flow_at_ingress at i)) (lt-ltb 0 (get_or table i 0) (owes_at (ingress_of flows) left table f tally in' some))
+    (second_not (nat_lt 0 (get_or table i 0)) (is_some (flow_at_ingress at i)) (lt-ltb 0 (get_or table i 0) (owes_at (ingress_of flows) left table f tally in' some))
     (none_open (λ p. nat_lt 0 (get_or table p 0) && not (is_some (flow_at_ingress at p))) table i none (tally.within f in')))
 
 pub no_egress_open : (flows : List Flow) (line : List ℕ) (left : List ℕ) (k n : ℕ) (table : List ℕ) (at : List (Option ℕ)) (busy : List Bool) →
@@ -144,7 +140,7 @@ no_egress_open flows line left k n table at busy tally same none so_far f lt som
     let in' : f < length left = omega (arith, lt, same) in
     let e = egress_of flows f in
     let (g, s, there) = so_far.by e
-    (and_false (nat_lt 0 (get_or table e 0)) (get_or busy e false) (lt-ltb 0 (get_or table e 0) (owes_at (egress_of flows) left table f tally in' some))
+    (second_not (nat_lt 0 (get_or table e 0)) (get_or busy e false) (lt-ltb 0 (get_or table e 0) (owes_at (egress_of flows) left table f tally in' some))
     (none_open (λ p. nat_lt 0 (get_or table p 0) && not (get_or busy p false)) table e none (tally.within f in'))) in
     (g, s, inr there)
 

@@ -2,14 +2,15 @@
 use Rattle.std.proofs.Common.{◌≡◌, ℕ, ◌+◌, ◌<◌, ◌⊎◌, inl, inr, Bool, true, false, true≢false, List, Option, Some, None, length, get_or, set, refl, sym, ap, subst, ◌∙◌, arith}
 use Rattle.std.specs.Option.{is_some}
 use Rattle.std.specs.Prelude.{unwrap_or}
-use Rattle.std.proofs.lemmas.Bool.{cases_eq, cases_lt}
+use Rattle.std.proofs.lemmas.Bool.{cases_eq}
 use Rattle.std.proofs.lemmas.Grind.{get_or-set_at}
 use Rattle.std.proofs.lemmas.List.{get_or-set_other}
 use Rattle.coflow_units.specs.declared.fabric.Flow.{Flow}
 use Rattle.coflow_units.specs.Flows.{coflow_of, ingress_of, egress_of, SharesPort}
-use Rattle.coflow_units.specs.Grants.{place_in, ComesBefore}
+use Rattle.coflow_units.specs.Grants.{place_in, ComesBefore, IsLookedAt}
+use Rattle.coflow_units.proofs.LinePlaces.{in_front, old_or_next, one_more}
 use Rattle.greedy_rates.specs.Room.{flow_at_ingress}
-use Rattle.greedy_rates.specs.Pass.{IsLookedAt, Stands, IsGranting}
+use Rattle.greedy_rates.specs.Pass.{Stands, IsGranting}
 
 pub not_none : (o : Option ℕ) (x : ℕ) → o ≡ None → o ≡ Some x → ⊥
 not_none o x a b = true≢false (ap is_some (sym b ∙ a))
@@ -52,22 +53,6 @@ front_moves flows line left k n k' n' at busy there back so_far = record {
   by = so_far.by;
   rest = λ f lt seen some. so_far.rest f lt (back f lt seen) some;
 }
-
--- a flow of the front comes before the next one
-in_front : (flows : List Flow) (line : List ℕ) (k n g : ℕ) → place_in line (coflow_of flows n) ≡ k → IsLookedAt flows line k n g → ComesBefore flows line g n
-in_front flows line k n g here (inl low) = inl (omega (arith, low, here))
-in_front flows line k n g here (inr (same, low)) = inr (same ∙ sym here, low)
-
-one_more : (flows : List Flow) (line : List ℕ) (k n f : ℕ) → IsLookedAt flows line k n f → IsLookedAt flows line k (n + 1) f
-one_more flows line k n f (inl low) = inl low
-one_more flows line k n f (inr (same, low)) = inr (same, omega (arith, low))
-
-old_or_next : (flows : List Flow) (line : List ℕ) (k n f : ℕ) → IsLookedAt flows line k (n + 1) f → IsLookedAt flows line k n f ⊎ (f ≡ n)
-old_or_next flows line k n f (inl low) = inl (inl low)
-old_or_next flows line k n f (inr (same, low)) = elim (cases_lt f n) [
-  | inl less ↦ inl (inr (same, less))
-  | inr more ↦ inr (omega (arith, low, more))
-]
 
 -- the next flow owes nothing, or one that stands has a port in common
 pub skip_flow : (flows : List Flow) (line : List ℕ) (left : ℕ → ℕ) (k n : ℕ) (at : List (Option ℕ)) (busy : List Bool) → place_in line (coflow_of flows n) ≡ k →

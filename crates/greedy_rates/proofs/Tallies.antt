@@ -5,11 +5,12 @@ use Rattle.std.specs.Prelude.{sum_by, sum, map}
 use Rattle.std.specs.List.{range_with_len}
 use Rattle.std.proofs.lemmas.Bool.{cases_eq, cases_lt, eqb-true, eq-eqb}
 use Rattle.std.proofs.lemmas.Grind.{get_or-set_at}
-use Rattle.std.proofs.lemmas.List.{get_or-set_other, get_or_default, get_or-map, length-map, ext_get_or, get_or-replicate, length-replicate, get_or_past}
+use Rattle.std.proofs.lemmas.List.{get_or-set_other, get_or_default, get_or-map, length-map, ext_get_or, length-replicate}
 use Rattle.coflow_units.proofs.Lists.{number_in, numbers_apart, by_number}
 use Rattle.coflow_units.proofs.Sums.{sum_same, sum_zero, sum_mono, sum_add, picked_one, member_within_sum}
 use Rattle.coflow_units.specs.declared.fabric.Flow.{Flow}
 use Rattle.coflow_units.specs.Flows.{units_of}
+use Rattle.coflow_units.proofs.Ranges.{zero_at}
 use Rattle.greedy_rates.specs.Owed.{owed_by, IsTally}
 
 -- what a flow adds to the sum of a key
@@ -194,12 +195,6 @@ pub all_units : (flows : List Flow) (left : List ℕ) (n : ℕ) → length left 
     left ≡ map (λ (x : Flow). x.units) flows
 all_units flows left n same le done = ext_get_or 0 left (map (λ (x : Flow). x.units) flows) (same ∙ sym (length-map flows (λ (x : Flow). x.units))) (λ f lt.
     done f (omega (arith, lt, same, le)) ∙ sym (get_or-map (λ (x : Flow). x.units) flows f record { coflow = 0; ingress = 0; egress = 0; units = 0 } 0 (omega (arith, lt, same))))
-
-zero_at : (n k : ℕ) → ◌≡◌ {A = ℕ} (get_or (replicate n 0) k 0) 0
-zero_at n k = elim (cases_lt k n) [
-  | inl less ↦ get_or-replicate n k 0 0 less
-  | inr more ↦ get_or_past (replicate n 0) k 0 (omega (arith, more, length-replicate {A = ℕ} n 0))
-]
 
 pub zeros_tally : (key : ℕ → ℕ) (left table : List ℕ) (n size : ℕ) → left ≡ replicate n 0 → table ≡ replicate size 0 → ((f : ℕ) → f < n → key f < size) → IsTally key left table
 zeros_tally key left table n size e e' within =

@@ -3,13 +3,8 @@ use Rattle.std.specs.Prelude.{◌≡◌, ℕ, ◌<◌, ◌≤◌, ◌⊎◌, Boo
 use Rattle.std.specs.List.{slice_index_or}
 use Rattle.coflow_units.specs.declared.fabric.Flow.{Flow}
 use Rattle.coflow_units.specs.Flows.{coflow_of, ingress_of, egress_of, IsDistinct, SharesPort}
-use Rattle.coflow_units.specs.Grants.{place_in, ComesBefore}
+use Rattle.coflow_units.specs.Grants.{place_in, ComesBefore, IsLookedAt}
 use Rattle.greedy_rates.specs.Room.{flow_at_ingress}
-
--- the flows of the first k coflows of the line, and those of the next coflow with a number below n
-abbrev pub IsLookedAt : List Flow → List ℕ → ℕ → ℕ → ℕ → Type 0
-IsLookedAt flows line k n f = (place_in line (coflow_of flows f) < k) ⊎
-    ((place_in line (coflow_of flows f) ≡ k) × (f < n))
 
 -- the flow stands at its ingress
 abbrev pub Stands : List Flow → List (Option ℕ) → ℕ → Type 0

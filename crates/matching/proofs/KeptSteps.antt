@@ -5,6 +5,7 @@ use Rattle.coflow_units.specs.declared.fabric.Flow.{Flow}
 use Rattle.coflow_units.specs.Flows.{coflow_of, SharesPort}
 use Rattle.coflow_units.specs.Grants.{ComesBefore, IsBlocked, IsGrants}
 use Rattle.coflow_units.proofs.Sums.{all_of_members}
+use Rattle.coflow_units.proofs.LinePlaces.{not_itself}
 use Rattle.matching.specs.Kept.{Graph, Meets, Touches, IsCovered, IsKept, IsClear, IsPutIn, IsEnded, IsLined, IsTold}
 
 pub meets_or_not : (g : Graph) (r s : ℕ) → Meets g r s ⊎ (Meets g r s → ⊥)
@@ -127,10 +128,6 @@ shares_meets : (flows : List Flow) (line : List ℕ) (left : ℕ → ℕ) (ports
     s < g.count → SharesPort flows (number r) (number s) → Meets g r s
 shares_meets flows line left ports number g r s l lr ls (inl e) = inl (l.first_is r lr ∙ e ∙ sym (l.first_is s ls))
 shares_meets flows line left ports number g r s l lr ls (inr e) = inr (omega (arith, l.second_is r lr, e, l.second_is s ls))
-
-not_itself : (flows : List Flow) (line : List ℕ) (f : ℕ) → ComesBefore flows line f f → ⊥
-not_itself flows line f (inl lt) = omega (arith, lt)
-not_itself flows line f (inr (_, lt)) = omega (arith, lt)
 
 pub kept_is_granted : (flows : List Flow) (line : List ℕ) (left : ℕ → ℕ) (ports : ℕ) (number : ℕ → ℕ) (g : Graph) (granted waits : ℕ → Type 0) (told : List ℕ) →
     IsLined flows line left ports number g → IsTold number granted told →

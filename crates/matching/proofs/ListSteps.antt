@@ -1,9 +1,8 @@
 -- The flows at the first ports, one after another.
-use Rattle.std.proofs.Common.{◌≡◌, ◌≢◌, ℕ, ◌+◌, ◌≤◌, ◌<◌, inl, inr, List, [], ◌∷◌, ◌++◌, length, get_or, set, take, drop, Contains, sym, ap, subst, ◌∙◌, arith}
+use Rattle.std.proofs.Common.{◌≡◌, ◌≢◌, ℕ, ◌+◌, ◌≤◌, ◌<◌, inl, inr, List, [], ◌∷◌, ◌++◌, length, get_or, set, take, Contains, sym, ap, subst, ◌∙◌, arith}
 use Rattle.std.proofs.Math.Dec.{eqb}
-use Rattle.std.proofs.lemmas.Bool.{cases_eq, cases_lt, ne_eqb, eq-eqb}
+use Rattle.std.proofs.lemmas.Bool.{cases_eq, cases_lt}
 use Rattle.std.proofs.lemmas.Bool.Decides.{Decides-eqb}
-use Rattle.std.proofs.lemmas.Grind.{common_steps}
 use Rattle.std.proofs.lemmas.List.{take_more_set}
 use Rattle.std.proofs.lemmas.List.Elements.{Contains-push, Contains-push_cases, Contains-append_left, Contains-get_or}
 use Rattle.std.proofs.lemmas.List.Quantifiers.{all_pairs_push}
@@ -14,6 +13,7 @@ use Rattle.std.specs.List.Sorted.{IsPermutation, IsSorted, IsStrictlyIncreasing}
 use Rattle.std.specs.Ordering.{nat_cmp}
 use Rattle.coflow_units.specs.Flows.{IsDistinct}
 use Rattle.coflow_units.proofs.Sums.{nothing_in, pairs_from_apart, rising_apart}
+use Rattle.coflow_units.proofs.Bools.{flips}
 use Rattle.matching.specs.declared.ranks.Ranks.{Ranks}
 use Rattle.matching.specs.Board.{no_rank, first_of}
 use Rattle.matching.specs.Ranking.{number_of}
@@ -81,22 +81,10 @@ list_takes ranks at n count listed apart side lt few stands room so_far =
 
 -- ---- the same list, sorted
 
-flips : (x y : ℕ) → eqb x y ≡ eqb y x
-flips x y = elim (cases_eq x y) [
-  | inl e ↦ eq-eqb x y e ∙ sym (eq-eqb y x (sym e))
-  | inr ne ↦ ne_eqb x y ne ∙ sym (ne_eqb y x (λ e. ne (sym e)))
-]
-
 pub sorted_rises : (listed sorted : List ℕ) → IsDistinct listed → IsPermutation listed sorted → IsSorted nat_cmp sorted → IsStrictlyIncreasing sorted
 sorted_rises listed sorted once moved ascends =
     IsStrictlyIncreasing-from_distinct sorted (IsNonDecreasingBy-from_sort (λ (x : ℕ). x) sorted ascends)
     (IsDistinct-IsPermutation eqb flips listed sorted moved (IsDistinct-from_AllPairs Decides-eqb listed once))
-
-pub written_back : {X : Type 0} (n : ℕ) (new old : List X) → length new ≡ n → take n (new ++ drop (length new) old) ≡ new
-written_back n new old e = grind (arith, common_steps, e)
-
-pub front_again : (n : ℕ) (front old : List ℕ) → length front ≡ n → take n (front ++ drop n old) ≡ front
-front_again n front old e = grind (arith, common_steps, e)
 
 pub sorted_lists : (ranks : Ranks) (at : List ℕ) (n : ℕ) (listed sorted : List ℕ) → IsListing ranks at n listed → IsPermutation listed sorted → IsStrictlyIncreasing sorted →
     IsListing ranks at n sorted

@@ -1,25 +1,23 @@
 -- The grants that are kept, from the flows of a line to the list of those that are granted.
-use Rattle.std.proofs.Common.{◌≡◌, ◌≢◌, ℕ, ◌+◌, ◌-◌, ◌^◌, ◌≤◌, ◌<◌, inl, inr, List, length, get_or, set, take, Contains, refl, sym, ap, subst, ◌∙◌, arith}
-use Rattle.std.specs.Prelude.{All, if◌then◌else◌}
+use Rattle.std.proofs.Common.{◌≡◌, ◌≢◌, ℕ, ◌+◌, ◌-◌, ◌^◌, ◌≤◌, ◌<◌, inl, inr, List, length, get_or, take, Contains, refl, sym, ap, subst, ◌∙◌, arith}
+use Rattle.std.specs.Prelude.{All}
 use Rattle.std.specs.List.Sorted.{IsStrictlyIncreasing}
-use Rattle.std.proofs.lemmas.Bool.{cases_eq, cases_lt, eq-eqb, ne_eqb}
-use Rattle.std.proofs.lemmas.Grind.{get_or-set_at}
-use Rattle.std.proofs.lemmas.List.{get_or-set_other, get_or-take, length-take, length-take-le}
+use Rattle.std.proofs.lemmas.List.{get_or-take, length-take, length-take-le}
 use Rattle.coflow_units.specs.declared.fabric.Flow.{Flow}
 use Rattle.coflow_units.specs.Flows.{coflow_of}
 use Rattle.coflow_units.specs.Grants.{place_in, ComesBefore}
-use Rattle.coflow_units.proofs.LinePlaces.{place_of_member, at_place}
+use Rattle.coflow_units.proofs.LinePlaces.{place_of_member, at_place, not_itself}
 use Rattle.matching.specs.declared.ranks.Ranks.{Ranks}
 use Rattle.matching.specs.declared.tables.Tables.{Tables}
-use Rattle.matching.specs.Kept.{Graph, IsLined, IsTold}
+use Rattle.matching.specs.Kept.{IsLined, IsTold}
 use Rattle.matching.specs.Board.{no_rank, first_of, graph_of, IsRanks, IsBoard, Stands}
 use Rattle.matching.specs.Listing.{IsFirstSide, IsListing}
-use Rattle.matching.specs.Matching.{IsBegun, IsMatching, IsLess}
+use Rattle.matching.specs.Matching.{IsBegun, IsMatching}
 use Rattle.matching.specs.Ranking.{number_of, IsRanking}
 use Rattle.matching.specs.Sound.{IsSound, left_at}
 use Rattle.matching.proofs.BoardSteps.{stands_at}
 use Rattle.matching.proofs.EndSteps.{IsSameOwing, same_heads}
-use Rattle.matching.proofs.RankSteps.{distinct_below, not_itself}
+use Rattle.matching.proofs.RankSteps.{distinct_below}
 
 -- ---- the list
 

@@ -1,26 +1,26 @@
 -- The ranking of the flows of a line, one flow after another.
-use Rattle.std.proofs.Common.{◌≡◌, ◌≢◌, ℕ, ◌+◌, ◌≤◌, ◌<◌, ◌⊎◌, inl, inr, List, length, get_or, set, map, Contains, sym, ap, subst, ◌∙◌, arith}
+use Rattle.std.proofs.Common.{◌≡◌, ◌≢◌, ℕ, ◌+◌, ◌≤◌, ◌<◌, ◌⊎◌, inl, inr, List, length, get_or, set, map, sym, ap, subst, ◌∙◌, arith}
 use Rattle.std.specs.Prelude.{All}
 use Rattle.std.specs.List.{range_with_len}
 use Rattle.std.proofs.Math.Dec.{eqb}
-use Rattle.std.proofs.lemmas.Bool.{cases_eq, cases_lt, eqb-true}
+use Rattle.std.proofs.lemmas.Bool.{cases_lt, eqb-true}
 use Rattle.std.proofs.lemmas.Bool.Decides.{Decides-eqb}
 use Rattle.std.proofs.lemmas.Grind.{get_or-set_at}
-use Rattle.std.proofs.lemmas.List.{get_or-set_other, get_or_default, get_or-map}
-use Rattle.std.proofs.lemmas.List.Elements.{All-contains, Contains-get_or}
+use Rattle.std.proofs.lemmas.List.{get_or-set_other, get_or-map}
+use Rattle.std.proofs.lemmas.List.Elements.{All-contains}
 use Rattle.std.proofs.lemmas.List.FromFn.{get_or-range_with_len, length-range_with_len, length-map-range_with_len}
 use Rattle.std.proofs.lemmas.Map.Made.{IsDistinct-from_AllPairs}
 use Rattle.std.proofs.lemmas.Map.Steps.{length-le_from_distinct_below}
 use Rattle.coflow_units.specs.declared.fabric.Flow.{Flow}
 use Rattle.coflow_units.specs.Flows.{coflow_of, ingress_of, egress_of, IsDistinct}
-use Rattle.coflow_units.specs.Grants.{place_in, ComesBefore}
+use Rattle.coflow_units.specs.Grants.{place_in, ComesBefore, IsLookedAt}
 use Rattle.coflow_units.specs.Starts.{IsStarts}
-use Rattle.coflow_units.proofs.LinePlaces.{place_of_member, at_place}
+use Rattle.coflow_units.proofs.LinePlaces.{at_place_zero, in_front, not_itself, old_or_next, one_more, place_at}
 use Rattle.coflow_units.proofs.Lists.{any_where}
 use Rattle.matching.specs.declared.ranks.Ranked.{Ranked}
 use Rattle.matching.specs.declared.ranks.Ranks.{Ranks}
 use Rattle.matching.specs.Board.{ranked_at}
-use Rattle.matching.specs.Ranking.{number_of, IsLookedAt, IsCoflowAt, IsRanking}
+use Rattle.matching.specs.Ranking.{number_of, IsCoflowAt, IsRanking}
 
 -- ---- different numbers below a bound are at most so many
 
@@ -39,27 +39,6 @@ distinct_below number count bound low apart =
       length-le_from_distinct_below xs bound (IsDistinct-from_AllPairs Decides-eqb xs once) (λ q e. let (x, has, same) = any_where (eqb q) xs e in
           subst (λ n. n < bound) (sym (eqb-true q x same)) (All-contains (λ n. n < bound) xs x all has)),
     )
-
--- ---- which flows were looked at
-
-pub not_itself : (flows : List Flow) (line : List ℕ) (f : ℕ) → ComesBefore flows line f f → ⊥
-not_itself flows line f (inl lt) = omega (arith, lt)
-not_itself flows line f (inr (_, lt)) = omega (arith, lt)
-
-in_front : (flows : List Flow) (line : List ℕ) (k n g : ℕ) → place_in line (coflow_of flows n) ≡ k → IsLookedAt flows line k n g → ComesBefore flows line g n
-in_front flows line k n g here (inl low) = inl (omega (arith, low, here))
-in_front flows line k n g here (inr (same, low)) = inr (same ∙ sym here, low)
-
-one_more : (flows : List Flow) (line : List ℕ) (k n f : ℕ) → IsLookedAt flows line k n f → IsLookedAt flows line k (n + 1) f
-one_more flows line k n f (inl low) = inl low
-one_more flows line k n f (inr (same, low)) = inr (same, omega (arith, low))
-
-old_or_next : (flows : List Flow) (line : List ℕ) (k n f : ℕ) → IsLookedAt flows line k (n + 1) f → IsLookedAt flows line k n f ⊎ (f ≡ n)
-old_or_next flows line k n f (inl low) = inl (inl low)
-old_or_next flows line k n f (inr (same, low)) = elim (cases_lt f n) [
-  | inl less ↦ inl (inr (same, less))
-  | inr more ↦ inr (omega (arith, low, more))
-]
 
 -- ---- one flow more
 
@@ -179,23 +158,6 @@ front_moves flows line left k n k' n' ranks there back so_far = record {
   first_is = so_far.first_is;
   second_is = so_far.second_is;
 }
-
-at_place_zero : (line : List ℕ) (c : ℕ) → place_in line c < length line → get_or line (place_in line c) 0 ≡ c
-at_place_zero line c lt = get_or_default line (place_in line c) 0 c lt ∙ at_place line c lt
-
-place_at : (line : List ℕ) (k : ℕ) → IsDistinct line → k < length line → place_in line (get_or line k 0) ≡ k
-place_at line k once lt =
-    let c = get_or line k 0 in
-    let in' : Contains line c = Contains-get_or line k 0 lt in
-    let low : place_in line c < length line = place_of_member line c in' in
-    let first : get_or line (place_in line c) 0 ≡ c = at_place_zero line c low in
-    elim (cases_eq (place_in line c) k) [
-      | inl e ↦ e
-      | inr ne ↦ elim (cases_lt (place_in line c) k) [
-        | inl less ↦ absurd (once (place_in line c) k 0 less lt first)
-        | inr more ↦ absurd (once k (place_in line c) 0 (omega arith) low (sym first))
-      ]
-    ]
 
 pub next_coflow : (flows : List Flow) (line starts : List ℕ) (k : ℕ) → IsStarts flows starts → IsDistinct line → k < length line → get_or line k 0 + 1 < length starts →
     IsCoflowAt flows line k (get_or starts (get_or line k 0) 0) (get_or starts (get_or line k 0 + 1) 0)

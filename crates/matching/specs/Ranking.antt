@@ -2,18 +2,13 @@
 use Rattle.std.specs.Prelude.{◌≡◌, ℕ, ◌+◌, ◌<◌, ◌≤◌, ◌⊎◌, List, length}
 use Rattle.coflow_units.specs.declared.fabric.Flow.{Flow}
 use Rattle.coflow_units.specs.Flows.{coflow_of, ingress_of, egress_of}
-use Rattle.coflow_units.specs.Grants.{place_in, ComesBefore}
+use Rattle.coflow_units.specs.Grants.{place_in, ComesBefore, IsLookedAt}
 use Rattle.matching.specs.declared.ranks.Ranks.{Ranks}
 use Rattle.matching.specs.Board.{ranked_at, first_of, second_of}
 
 -- the number of the flow at a rank
 abbrev pub number_of : Ranks → ℕ → ℕ
 number_of ranks r = (ranked_at ranks.flows.items r).number
-
--- the flows of the first k coflows of the line, and those of the next coflow with a number below n
-abbrev pub IsLookedAt : List Flow → List ℕ → ℕ → ℕ → ℕ → Type 0
-IsLookedAt flows line k n f =
-    (place_in line (coflow_of flows f) < k) ⊎ ((place_in line (coflow_of flows f) ≡ k) × (f < n))
 
 -- the flows from the first number up to the end are those of the coflow at place k of the line
 pub record IsCoflowAt (flows : List Flow) (line : List ℕ) (k first end : ℕ) : Type 0 where

@@ -1,5 +1,5 @@
 -- Blocks of cells are made and numbers set in them.
-use Rattle.std.proofs.Common.{◌≡◌, ◌≢◌, ℕ, ◌+◌, ◌*◌, ◌/◌, ◌%◌, ◌<◌, ◌≤◌, inl, inr, Bool, true, false, cond, List, [], ◌∷◌, ◌++◌, length, zero, suc, refl, sym, ap, subst, ◌∙◌, ap₂}
+use Rattle.std.proofs.Common.{◌≡◌, ◌≢◌, ℕ, ◌+◌, ◌*◌, ◌/◌, ◌%◌, ◌<◌, ◌≤◌, inl, inr, Bool, true, false, cond, List, [], ◌∷◌, ◌++◌, length, zero, suc, sym, ap, subst, ◌∙◌, ap₂}
 use Rattle.std.proofs.Common.{arith, length-set, mod-lt, div-lt_iff_lt-mul, div-add-mod'}
 use Rattle.std.specs.Prelude.{◌==◌, map, replicate, slice_index, slice_set, sum_by}
 use Rattle.std.specs.List.{range_with_len}
@@ -8,14 +8,14 @@ use Rattle.std.proofs.lemmas.Grind.{same_number_lists}
 use Rattle.std.proofs.lemmas.List.{append_assoc, get_or-append-add, get_or_append_left, replicate-append-replicate, get_or-replicate, get_or-set_same, get_or-set_other}
 use Rattle.std.proofs.lemmas.List.{length-append, length-replicate}
 use Rattle.std.proofs.lemmas.List.FromFn.{get_or-map-range_with_len, length-map-range_with_len, length-range_with_len}
-use Rattle.std.proofs.lemmas.List.Sums.{sum_by-cons}
 use Rattle.std.proofs.lemmas.Nat.{div-mul-add, mod-mul-add}
 use Rattle.std.proofs.Math.ListN.{get_or-eq_default}
 use Rattle.std.proofs.Math.Nat.{mul-le-mul}
-use Rattle.coflow_units.proofs.Sums.{sum_mono, sum_same, sum_zero}
+use Rattle.coflow_units.proofs.Sums.{sum_mono, sum_same, sum_zero, sum_ones}
+use Rattle.coflow_units.proofs.Ranges.{in_range}
 use Rattle.port_load.specs.CellTable.{CellTable, IsBlocks, cell_of, cells_in, no_block, opened}
 use Rattle.port_load.specs.MarkTable.{width}
-use Rattle.port_load.proofs.Grid.{in_below, in_table, sum_grows}
+use Rattle.port_load.proofs.Grid.{in_table, sum_grows}
 
 -- ---- how many blocks are there
 
@@ -23,17 +23,13 @@ at_most_one : (b : Bool) → cond b 0 1 ≤ 1
 at_most_one true = omega arith
 at_most_one false = omega arith
 
-ones : (xs : List ℕ) → sum_by (λ (x : ℕ). 1) xs ≡ length xs
-ones [] = refl
-ones (x ∷ xs) = omega (arith, sum_by-cons (λ (y : ℕ). 1) x xs, ones xs)
-
 pub opened_most : (blocks : List ℕ) → opened blocks ≤ length blocks
 opened_most blocks =
     let numbers = range_with_len 0 (length blocks) in
     omega (
       arith,
       sum_mono (λ k. cond (slice_index blocks k == no_block) 0 1) (λ (k : ℕ). 1) numbers (λ k has. at_most_one (slice_index blocks k == no_block)),
-      ones numbers,
+      sum_ones numbers,
       length-range_with_len 0 (length blocks),
     )
 
@@ -92,7 +88,7 @@ none_opened : (blocks : List ℕ) → ((k : ℕ) → k < length blocks → slice
 none_opened blocks none =
     let numbers = range_with_len 0 (length blocks) in
     sum_same (λ k. cond (slice_index blocks k == no_block) 0 1) (λ (k : ℕ). 0) numbers
-    (λ k has. ap {B = ℕ} (λ x. cond x 0 1) (eq-eqb (slice_index blocks k) no_block (none k (in_below (length blocks) k has)))) ∙ sum_zero numbers
+    (λ k has. ap {B = ℕ} (λ x. cond x 0 1) (eq-eqb (slice_index blocks k) no_block (none k (in_range (length blocks) k has)))) ∙ sum_zero numbers
 
 pub blocks_none : (rows columns count room : ℕ) (blocks : List ℕ) → rows ≤ 4096 → columns ≤ 4096 → count ≡ rows * width columns → blocks ≡ replicate count no_block →
     64 * count ≤ room → IsBlocks rows columns blocks [] room

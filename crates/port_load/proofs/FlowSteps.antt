@@ -13,8 +13,9 @@ use Rattle.coflow_units.specs.Load.{load, loads}
 use Rattle.coflow_units.specs.Ordering.{port_place, port_place_on}
 use Rattle.coflow_units.proofs.Sums.{sum_mono, sum_same}
 use Rattle.coflow_units.proofs.WhatIsLeft.{left_flow, same_length}
+use Rattle.coflow_units.proofs.Ranges.{in_range}
 use Rattle.port_load.specs.LoadTable.{HasLoads, IsSameSize, LoadTable, is_present, load_at, total_at}
-use Rattle.port_load.proofs.Grid.{in_below, range_apart}
+use Rattle.port_load.proofs.Grid.{range_apart}
 use Rattle.port_load.proofs.LoadSums.{within_units}
 
 abbrev pub port_of : Side → ℕ → Port
@@ -87,14 +88,14 @@ pub total_elsewhere : (old new : LoadTable) (coflow number units n : ℕ) → Ad
 total_elsewhere old new coflow number units n adds ln lp =
     ap (λ k. sum_by (λ c. load_at new c (port_of Egress n)) (range_with_len 0 k)) adds.size.coflows
     ∙ sum_same (λ c. load_at new c (port_of Egress n)) (λ c. load_at old c (port_of Egress n)) (range_with_len 0 old.coflows)
-    (λ c has. adds.elsewhere c (port_of Egress n) (in_below old.coflows c has) lp (λ e. omega (arith, e, ln)))
+    (λ c has. adds.elsewhere c (port_of Egress n) (in_range old.coflows c has) lp (λ e. omega (arith, e, ln)))
 
 -- ---- a list of flows, flow by flow
 
 pub total_within : (flows : List Flow) (t : LoadTable) (port : Port) → port.number < t.ports → ((c : ℕ) → c < t.coflows → load_at t c port ≤ load flows c port) →
     total_at t port ≤ sum_by (λ (x : Flow). x.units) flows
 total_within flows t port lp most =
-    let up = sum_mono (λ c. load_at t c port) (λ c. load flows c port) (range_with_len 0 t.coflows) (λ c has. most c (in_below t.coflows c has)) in
+    let up = sum_mono (λ c. load_at t c port) (λ c. load flows c port) (range_with_len 0 t.coflows) (λ c has. most c (in_range t.coflows c has)) in
     omega (arith, up, within_units flows (range_with_len 0 t.coflows) port (range_apart t.coflows))
 
 pub load_more : (flows : List Flow) (k c : ℕ) (port : Port) (d : Flow) → k < length flows →

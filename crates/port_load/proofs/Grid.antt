@@ -6,6 +6,7 @@ use Rattle.std.proofs.lemmas.Nat.{mul-add-lt, div-mul-add, mod-mul-add}
 use Rattle.std.proofs.lemmas.Bool.{cases_Bool, eqb-true, eq-eqb, both_ways}
 use Rattle.std.proofs.lemmas.List.FromFn.{length-range_with_len, get_or-range_with_len}
 use Rattle.coflow_units.proofs.Sums.{Apart, apart_from_pairs, picked_one, sum_add, sum_same}
+use Rattle.coflow_units.proofs.Ranges.{in_range}
 
 -- two places of a table with n columns are one only where row and column are
 pub other_place : (n r c r' c' : ℕ) → c < n → c' < n → (r ≡ r' → c ≡ c' → ⊥) → r * n + c ≢ r' * n + c'
@@ -18,11 +19,6 @@ in_table n r c rows lr lc = omega (arith, mul-add-lt r n c rows lr lc)
 -- the numbers below n
 pub below_in : (n a : ℕ) → a < n → Contains (range_with_len 0 n) a
 below_in n a lt = (a, omega (arith, length-range_with_len 0 n), get_or-range_with_len 0 n a a lt ∙ zero-add a)
-
-pub in_below : (n a : ℕ) → Contains (range_with_len 0 n) a → a < n
-in_below n a (k, lt, at) =
-    let below : k < n = omega (arith, lt, length-range_with_len 0 n) in
-    omega (arith, at, get_or-range_with_len 0 n k a below)
 
 apart_at : (n i j d : ℕ) → i < j → j < n → get_or (range_with_len 0 n) i d ≢ get_or (range_with_len 0 n) j d
 apart_at n i j d lt in' = λ e. omega (arith, e, get_or-range_with_len 0 n i d (omega arith), get_or-range_with_len 0 n j d in')
@@ -43,7 +39,7 @@ pub sum_grows : (f g : ℕ → ℕ) (n a u : ℕ) → a < n → g a ≡ f a + u 
 sum_grows f g n a u lt here others =
     omega (
       arith,
-      sum_same g (λ c. f c + cond (a == c) u 0) (range_with_len 0 n) (λ c has. grown_at f g n a u here others c (in_below n c has)),
+      sum_same g (λ c. f c + cond (a == c) u 0) (range_with_len 0 n) (λ c has. grown_at f g n a u here others c (in_range n c has)),
       sum_add f (λ c. cond (a == c) u 0) (range_with_len 0 n),
       picked_one a (λ c. u) (range_with_len 0 n) (range_apart n) (below_in n a lt),
     )

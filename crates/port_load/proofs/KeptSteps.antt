@@ -10,10 +10,11 @@ use Rattle.coflow_units.specs.declared.fabric.Port.{Port}
 use Rattle.coflow_units.specs.declared.fabric.Side.{Side}
 use Rattle.coflow_units.specs.declared.fabric.Side.TheVariants.{Ingress, Egress}
 use Rattle.coflow_units.specs.Ordering.{port_place, port_place_on}
+use Rattle.coflow_units.proofs.Ranges.{in_range}
 use Rattle.port_load.specs.Kept.{IsKept, row_total}
 use Rattle.port_load.specs.MarkTable.{HasShapeOf, MarkTable, mark_at}
 use Rattle.port_load.specs.LoadTable.{DropsCoflow, LoadTable, load_at, total_at}
-use Rattle.port_load.proofs.Grid.{below_in, in_below, in_table, other_place, sum_grows}
+use Rattle.port_load.proofs.Grid.{below_in, in_table, other_place, sum_grows}
 
 -- a cell after one was written
 cell_same : (cells : List ℕ) (place v : ℕ) → place < length cells → slice_index (slice_set cells place v) place ≡ v
@@ -43,7 +44,7 @@ row_grows cells n rows row column old units len lr lc is =
 pub row_stays : (cells : List ℕ) (n row column r v : ℕ) → column < n → r ≢ row → row_total (slice_set cells (row * n + column) v) n r ≡ row_total cells n r
 row_stays cells n row column r v lc ne =
     sum_same (λ c. slice_index (slice_set cells (row * n + column) v) (r * n + c)) (λ c. slice_index cells (r * n + c)) (range_with_len 0 n)
-    (λ c has. written_other cells n row column r c v lc (in_below n c has) (λ er ec. ne er))
+    (λ c has. written_other cells n row column r c v lc (in_range n c has) (λ er ec. ne er))
 
 -- a column is marked or it is not
 one_mark : (m : MarkTable) (row column r c : ℕ) → r ≡ row → c ≡ column → mark_at m row column ≡ 1 → mark_at m r c ≡ 0 → ⊥

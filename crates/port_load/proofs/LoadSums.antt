@@ -3,7 +3,7 @@ use Rattle.std.proofs.Common.{◌≡◌, ◌≢◌, ℕ, ◌+◌, ◌<◌, ◌�
 use Rattle.std.specs.Prelude.{not, sum_by, ◌==◌, ◌&&◌, ◌||◌, if◌then◌else◌}
 use Rattle.std.specs.List.{list_any}
 use Rattle.std.proofs.lemmas.List.Sums.{sum_by-cons}
-use Rattle.std.proofs.lemmas.Bool.{cases_Bool, eqb-true, ne_eqb, eq-eqb, both_ways}
+use Rattle.std.proofs.lemmas.Bool.{cases_Bool, not-true, or_parts, eqb-true, ne_eqb, eq-eqb, both_ways}
 use Rattle.coflow_units.specs.declared.fabric.Flow.{Flow}
 use Rattle.coflow_units.specs.declared.fabric.Port.{Port}
 use Rattle.coflow_units.specs.Flows.{uses}
@@ -43,10 +43,6 @@ keep_first false x xs f n yes' no' = no' refl
 other_load : (c : ℕ) (port : Port) (x : Flow) → (x.coflow ≡ c → ⊥) → (if loads c port x then x.units else 0) ≡ 0
 other_load c port x ne = ap (λ b. if (b && uses port x) then x.units else 0) (ne_eqb x.coflow c ne)
 
-not_true : (b : Bool) → not b ≡ true → b ≡ false
-not_true true e = sym e
-not_true false e = refl
-
 not_false : (b : Bool) → not b ≡ false → b ≡ true
 not_false true e = refl
 not_false false e = sym e
@@ -77,7 +73,7 @@ load_gone dropped (x ∷ xs) c port in' =
       arith,
       rest,
       other_load c port x
-          (λ e. both_ways (list_any (λ d. d == c) dropped) (ap (λ k. list_any (λ d. d == k) dropped) (sym e) ∙ not_true (list_any (λ d. d == x.coflow) dropped) kept) in'),
+          (λ e. both_ways (list_any (λ d. d == c) dropped) (ap (λ k. list_any (λ d. d == k) dropped) (sym e) ∙ not-true (list_any (λ d. d == x.coflow) dropped) kept) in'),
     ))
     (λ gone. rest)
 
@@ -87,10 +83,6 @@ pub record AfterDrops (old new : LoadTable) (dropped : List ℕ) : Type 0 where
   pub size : IsSameSize old new
   pub gone : (c : ℕ) (port : Port) → c < old.coflows → port.number < old.ports → list_any (λ d. d == c) dropped ≡ true → load_at new c port ≡ 0
   pub stays : (c : ℕ) (port : Port) → c < old.coflows → port.number < old.ports → list_any (λ d. d == c) dropped ≡ false → load_at new c port ≡ load_at old c port
-
-or_none : (a b : Bool) → (a || b) ≡ false → (a ≡ false) × (b ≡ false)
-or_none true b e = absurd (both_ways true e refl)
-or_none false b e = (refl, e)
 
 or_first : (a b : Bool) → (a || b) ≡ true → b ≡ false → a ≡ true
 or_first true b e f = refl
@@ -117,7 +109,7 @@ after_drops old new (d ∷ ds) (between, first, later) =
             subst (λ k. load_at between k port ≡ 0) (eqb-true d c (or_first (d == c) (list_any (λ k. k == c) ds) e f)) (first.gone port lp)
       ];
       stays = λ c port lc lp e.
-          let (other, out) = or_none (d == c) (list_any (λ k. k == c) ds) e in
+          let (other, out) = or_parts (d == c) (list_any (λ k. k == c) ds) e in
           after.stays c port (coflow_in c lc) (port_in port lp) out ∙ first.others c port lc (not_same d c other) lp;
     }
 

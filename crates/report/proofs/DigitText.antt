@@ -3,7 +3,6 @@ use Rattle.std.proofs.Common.{◌≡◌, ◌⊎◌, inl, inr, ℕ, zero, suc, �
 use Rattle.std.proofs.Common.{append-nil, append_assoc, length-append, replicate, take, drop, get_or, refl, sym, ap, ◌∙◌, arith}
 use Rattle.std.proofs.lemmas.Bool.Decides.{nat_tests}
 use Rattle.std.proofs.lemmas.Fmt.{decimal-digits_value, decimal_digit, decimal_is_IsNumeral_wide, decimal_nonempty, decimal_step, first_decimal, length-decimal-le}
-use Rattle.std.proofs.lemmas.Str.Parse.{IsNumeralModel, numerals_by_value, tells_all_ascii_digits}
 use Rattle.std.proofs.lemmas.List.{drop_all, get_or-take, length-replicate, length-take-le, take-append-drop, take_all, take_at, take_more}
 use Rattle.std.specs.Prelude.{decimal}
 use Rattle.std.specs.Char.{digit_value, is_ascii_digit}
@@ -12,10 +11,7 @@ use Rattle.std.specs.Str.{all_ascii_digits}
 use Rattle.std.specs.Str.Parse.{digits_value, digits_value_after}
 use Rattle.report.specs.Text.{spaced}
 use Rattle.report.specs.Readers.{IsLeading, Stops}
-use Rattle.report.proofs.NumberText.{digits_end, is_other, number_parts}
-
-own : IsNumeralModel (λ ds. all_ascii_digits ds ≡ true) (digits_value 10)
-own = numerals_by_value _ tells_all_ascii_digits
+use Rattle.report.proofs.NumberText.{digits_end, is_other, number_parts, own}
 
 -- ---- one more digit
 

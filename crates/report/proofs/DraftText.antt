@@ -7,6 +7,7 @@ use Rattle.std.proofs.lemmas.List.{get_or_append_left}
 use Rattle.std.proofs.Math.Seq.{get_or-append_seam}
 use Rattle.std.proofs.lemmas.List.Sums.{get_or-le-sum_by, sum_by-append, sum_by-cons}
 use Rattle.coflow_units.specs.declared.plan.Run.{Run}
+use Rattle.coflow_units.proofs.Fronts.{head_of}
 use Rattle.report.specs.declared.draft.Draft.{Draft}
 use Rattle.report.specs.declared.draft.Stage.{Stage}
 use Rattle.report.specs.declared.draft.Stage.TheVariants.{Places, Slack, Cost, Runs, Done}
@@ -17,7 +18,7 @@ use Rattle.report.specs.Readers.{IsPlaceOf, IsRun, IsRunOf, IsTotalOf, IsWeight,
 use Rattle.report.specs.Draft.{Differs, IsDraft, Refuses, lines_before, report_of}
 use Rattle.report.proofs.FlowText.{goes_on, stops_flows}
 use Rattle.report.proofs.NumberText.{spaced_unique}
-use Rattle.report.proofs.LineLists.{AllFirst, all_first, both_ended, first, head_is, last_lines, lines_behind, lines_nested, next_after, next_place, places_first, tail_is}
+use Rattle.report.proofs.LineLists.{AllFirst, all_first, both_ended, first, last_lines, lines_behind, lines_nested, next_after, next_place, places_first, regroup, tail_is}
 
 abbrev slots_in : Run → ℕ
 slots_in run = run.length
@@ -44,7 +45,7 @@ refuse_bound d line stage no_place no_bound r more report small e =
     whole = begins d Places r line more stage e
 
     versions : version_line (report_of d).weights ≡ version_line r.weights
-    versions = head_is _ _ (place_lines (report_of d) ++ (line ∷ more)) (place_lines r ++ lines_behind r (last_lines r)) whole
+    versions = head_of _ _ (place_lines (report_of d) ++ (line ∷ more)) (place_lines r ++ lines_behind r (last_lines r)) whole
 
     tails : place_lines (report_of d) ++ (line ∷ more) ≡ place_lines r ++ lines_behind r (last_lines r)
     tails = tail_is (version_line (report_of d).weights) (version_line r.weights) _ _ whole
@@ -73,7 +74,7 @@ refuse_slack d line stage no_slack r more report small e =
     let regrouped : version_line p.weights ∷ (place_lines p ++ (bound_line p.bound ∷ line ∷ more)) ≡ version_line r.weights ∷ (place_lines r ++ lines_behind r (last_lines r)) =
     ap (λ x. version_line p.weights ∷ x) (sym (append_assoc (place_lines p) (bound_line p.bound ∷ []) (line ∷ more))) ∙ begins d Slack r line more stage e in
     let rest = after_places p r (bound_line p.bound) (line ∷ more) (last_lines r) (λ bad. absurd (omega (arith, bad))) regrouped in
-    no_slack r.slack small.slack (head_is line (slack_line r.slack) more (cost_line r.cost ∷ last_lines r) rest)
+    no_slack r.slack small.slack (head_of line (slack_line r.slack) more (cost_line r.cost ∷ last_lines r) rest)
 
 pub refuse_cost : (d : Draft) (line : List ℕ) → d.stage ≡ Cost → IsTotalOf (codes "cost") line None → Refuses d line
 refuse_cost d line stage no_cost r more report small e =
@@ -84,10 +85,7 @@ refuse_cost d line stage no_cost r more report small e =
     begins d Cost r line more stage e in
     let rest = after_places p r (bound_line p.bound) (slack_line p.slack ∷ line ∷ more) (last_lines r) (λ bad. absurd (omega (arith, bad))) regrouped in
     let behind = tail_is (slack_line p.slack) (slack_line r.slack) (line ∷ more) (cost_line r.cost ∷ last_lines r) rest in
-    no_cost r.cost small.cost (head_is line (cost_line r.cost) more (last_lines r) behind)
-
-regroup : (a b c d : List (List ℕ)) → a ++ b ++ c ++ d ≡ a ++ (b ++ (c ++ d))
-regroup a b c d = simp append_assoc
+    no_cost r.cost small.cost (head_of line (cost_line r.cost) more (last_lines r) behind)
 
 -- behind the cost stand the same lines
 after_totals : (p r : Report) (rest : List (List ℕ)) →
@@ -119,10 +117,10 @@ run_unique a b ha hb e =
 pub runs_go_on : (xs ys : List Run) (line : List ℕ) (zs : List (List ℕ)) → All IsRun xs → All IsRun ys → map run_line ys ≡ map run_line xs ++ (line ∷ zs) →
     (run : Run) × (others : List Run) × (ys ≡ xs ++ (run ∷ others)) × (line ≡ run_line run) × IsRun run
 runs_go_on [] [] line zs hx hy e = absurd cc
-runs_go_on [] (y ∷ ys) line zs hx hy e = (y, ys, refl, sym (head_is (run_line y) line (map run_line ys) zs e), hy 0 y (omega arith))
+runs_go_on [] (y ∷ ys) line zs hx hy e = (y, ys, refl, sym (head_of (run_line y) line (map run_line ys) zs e), hy 0 y (omega arith))
 runs_go_on (x ∷ xs) [] line zs hx hy e = absurd cc
 runs_go_on (x ∷ xs) (y ∷ ys) line zs hx hy e =
-    let same : x ≡ y = run_unique x y (hx 0 x (omega arith)) (hy 0 y (omega arith)) (sym (head_is (run_line y) (run_line x) (map run_line ys) (map run_line xs ++ (line ∷ zs)) e))
+    let same : x ≡ y = run_unique x y (hx 0 x (omega arith)) (hy 0 y (omega arith)) (sym (head_of (run_line y) (run_line x) (map run_line ys) (map run_line xs ++ (line ∷ zs)) e))
     in
     let more = runs_go_on xs ys line zs (λ k d lt. hx (suc k) d (omega arith)) (λ k d lt. hy (suc k) d (omega arith))
     (tail_is (run_line y) (run_line x) (map run_line ys) (map run_line xs ++ (line ∷ zs)) e) in

@@ -7,6 +7,7 @@ use Rattle.std.proofs.lemmas.List.FromFn.{map-range_with_len_more, get_or-map-ra
 use Rattle.std.proofs.Math.Seq.{get_or-append_seam}
 use Rattle.report.specs.declared.value.Report.{Report}
 use Rattle.report.specs.Text.{bound_line, cost_line, place_line_at, place_lines, report_lines, run_line, slack_line, total_lines, version_line}
+use Rattle.coflow_units.proofs.Fronts.{head_of}
 
 -- the first byte of a line
 abbrev pub first : List ℕ → ℕ
@@ -26,22 +27,19 @@ pub inner_first : (p : ℕ) (xs zs : List (List ℕ)) (l : List ℕ) → AllFirs
 inner_first p [] zs l h = h.0
 inner_first p (x ∷ xs) zs l h = inner_first p xs zs l h.1
 
-pub head_is : (x y : List ℕ) (xs ys : List (List ℕ)) → x ∷ xs ≡ y ∷ ys → x ≡ y
-head_is x y xs ys e = ap (λ l. get_or l 0 []) e
-
 pub tail_is : (x y : List ℕ) (xs ys : List (List ℕ)) → x ∷ xs ≡ y ∷ ys → xs ≡ ys
 tail_is x y xs ys e = ap (drop 1) e
 
 -- a line behind some such lines is one more of them, or the line that ends them
 pub next_after : (p : ℕ) (xs ys : List (List ℕ)) (l b : List ℕ) (more rest : List (List ℕ)) → AllFirst p xs → AllFirst p ys → (first b ≡ p → ⊥) →
     xs ++ (l ∷ more) ≡ ys ++ (b ∷ rest) → ((zs : List (List ℕ)) × (ys ≡ xs ++ (l ∷ zs))) ⊎ ((xs ≡ ys) × (l ≡ b) × (more ≡ rest))
-next_after p [] [] l b more rest hx hy other e = inr (refl, head_is l b more rest e, tail_is l b more rest e)
-next_after p [] (y ∷ ys) l b more rest hx hy other e = inl (ys, ap (λ x. x ∷ ys) (sym (head_is l y more (ys ++ (b ∷ rest)) e)))
-next_after p (x ∷ xs) [] l b more rest hx hy other e = absurd (other (ap first (sym (head_is x b (xs ++ (l ∷ more)) rest e)) ∙ hx.0))
+next_after p [] [] l b more rest hx hy other e = inr (refl, head_of l b more rest e, tail_is l b more rest e)
+next_after p [] (y ∷ ys) l b more rest hx hy other e = inl (ys, ap (λ x. x ∷ ys) (sym (head_of l y more (ys ++ (b ∷ rest)) e)))
+next_after p (x ∷ xs) [] l b more rest hx hy other e = absurd (other (ap first (sym (head_of x b (xs ++ (l ∷ more)) rest e)) ∙ hx.0))
 next_after p (x ∷ xs) (y ∷ ys) l b more rest hx hy other e = go (next_after p xs ys l b more rest hx.1 hy.1 other (tail_is x y (xs ++ (l ∷ more)) (ys ++ (b ∷ rest)) e))
   where
     same : x ≡ y
-    same = head_is x y (xs ++ (l ∷ more)) (ys ++ (b ∷ rest)) e
+    same = head_of x y (xs ++ (l ∷ more)) (ys ++ (b ∷ rest)) e
 
     go : ((zs : List (List ℕ)) × (ys ≡ xs ++ (l ∷ zs))) ⊎ ((xs ≡ ys) × (l ≡ b) × (more ≡ rest)) →
         ((zs : List (List ℕ)) × (y ∷ ys ≡ x ∷ xs ++ (l ∷ zs))) ⊎ ((x ∷ xs ≡ y ∷ ys) × (l ≡ b) × (more ≡ rest))
@@ -60,7 +58,7 @@ both_ended p xs ys l b more rest hx hy other_l other_b e = go (next_after p xs y
 pub places_first : (r : Report) → AllFirst 112 (place_lines r)
 places_first r = all_first 112 (place_line_at r) (λ k. refl) (range_with_len 0 (length r.places))
 
-regroup : (a b c d : List (List ℕ)) → a ++ b ++ c ++ d ≡ a ++ (b ++ (c ++ d))
+pub regroup : (a b c d : List (List ℕ)) → a ++ b ++ c ++ d ≡ a ++ (b ++ (c ++ d))
 regroup a b c d = simp append_assoc
 
 -- the lines behind the cost

@@ -1,12 +1,11 @@
 -- A line in front of other text.
-use Rattle.std.proofs.Common.{◌≡◌, ◌≢◌, ℕ, suc, ◌+◌, ◌≤◌, List, [], ◌∷◌, ◌++◌, Bool, true, false, not, Some, None, length, take, drop, refl, sym, ap, ◌∙◌, append_assoc, ltb, arith}
-use Rattle.std.specs.Prelude.{◌==◌, nat_eq, position}
+use Rattle.std.proofs.Common.{◌≡◌, ◌≢◌, ℕ, suc, ◌+◌, List, [], ◌∷◌, ◌++◌, Bool, true, false, length, take, drop, refl, sym, ap, ◌∙◌, append_assoc, arith}
+use Rattle.std.specs.Prelude.{◌==◌, nat_eq}
 use Rattle.std.specs.List.{position_or_len}
 use Rattle.std.specs.Cmp.Lexicographic.{pointwise}
 use Rattle.std.proofs.lemmas.Bool.Decides.{nat_tests, Decides-eqb}
 use Rattle.std.proofs.lemmas.Slice.Eq.{slice_eq-Decides}
 use Rattle.std.proofs.lemmas.List.{take-append-drop}
-use Rattle.std.proofs.lemmas.List.Sums.{prefix_len-le-length}
 use Rattle.std.proofs.Math.Seq.{take-append_seam}
 use Rattle.report.specs.Text.{ended}
 use Rattle.report.specs.Readers.{IsOneLine}
@@ -24,15 +23,6 @@ prefix_found word bytes rest h r = sym (take-append-drop (length word) bytes) �
 -- the bytes do not begin with the word
 pub not_there : (word rest bytes : List ℕ) → pointwise nat_eq (take (length word) bytes) word ≡ false → bytes ≡ word ++ rest → ⊥
 not_there word rest bytes h e = not_same (take (length word) bytes) word h (rw e (take-append_seam word rest))
-
-pub none_length : {X : Type 0} (p : X → Bool) (xs : List X) → None ≡ position p xs → length xs ≡ position_or_len p xs
-none_length p xs none =
-    let le : position_or_len p xs ≤ length xs = prefix_len-le-length (λ x. not (p x)) xs in
-    go (ltb (position_or_len p xs) (length xs)) refl le
-  where
-    go : (b : Bool) → ltb (position_or_len p xs) (length xs) ≡ b → position_or_len p xs ≤ length xs → length xs ≡ position_or_len p xs
-    go true e le = let bad : None ≡ Some (position_or_len p xs) = none ∙ rw e refl in cc
-    go false e le = grind (arith, nat_tests)
 
 -- bytes begin with one line at most
 pub line_unique : (a b x y : List ℕ) → IsOneLine a → IsOneLine b → ended a ++ x ≡ ended b ++ y → (a ≡ b) × (x ≡ y)

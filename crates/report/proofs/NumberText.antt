@@ -16,7 +16,7 @@ use Rattle.report.specs.Readers.{Stops}
 abbrev pub is_other : ℕ → Bool
 is_other b = not (is_ascii_digit b)
 
-own : IsNumeralModel (λ ds. all_ascii_digits ds ≡ true) (digits_value 10)
+pub own : IsNumeralModel (λ ds. all_ascii_digits ds ≡ true) (digits_value 10)
 own = numerals_by_value _ tells_all_ascii_digits
 
 wide : (n : ℕ) → n < 2 ^ 128 → n < 10 ^ 64

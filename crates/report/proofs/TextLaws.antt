@@ -5,6 +5,7 @@ use Rattle.std.specs.Prelude.{All, codes}
 use Rattle.std.proofs.lemmas.List.{append_cancel_left, ext_get_or}
 use Rattle.std.proofs.lemmas.List.FromFn.{get_or-map-range_with_len, length-map-range_with_len}
 use Rattle.coflow_units.specs.declared.plan.Run.{Run}
+use Rattle.coflow_units.proofs.Fronts.{head_of}
 use Rattle.report.specs.declared.value.PlaceLine.{PlaceLine}
 use Rattle.report.specs.declared.value.Report.{Report}
 use Rattle.report.specs.Report.{ForEach, HasSmallNumbers, IsReport, IsSmallPlace}
@@ -13,7 +14,7 @@ use Rattle.report.specs.Text.{text_of, version_line, weight_at, weight_word}
 use Rattle.report.specs.Readers.{IsRun}
 use Rattle.report.proofs.NumberText.{decimal_one}
 use Rattle.report.proofs.PartText.{charge_unique, place_parts, weight_stops}
-use Rattle.report.proofs.LineLists.{both_ended, head_is, last_lines, lines_behind, lines_nested, places_first, tail_is}
+use Rattle.report.proofs.LineLists.{both_ended, last_lines, lines_behind, lines_nested, places_first, tail_is}
 use Rattle.report.proofs.DraftText.{all_runs, run_unique, runs_first}
 use Rattle.report.proofs.OneLine.{report_is_lines}
 use Rattle.report.proofs.ReadingText.{AreLines, text_goes_on}
@@ -29,7 +30,7 @@ runs_one [] [] hx hy e = refl
 runs_one [] (y ∷ ys) hx hy e = absurd cc
 runs_one (x ∷ xs) [] hx hy e = absurd cc
 runs_one (x ∷ xs) (y ∷ ys) hx hy e =
-    let same : x ≡ y = run_unique x y (hx 0 x (omega arith)) (hy 0 y (omega arith)) (head_is (run_line x) (run_line y) (map run_line xs) (map run_line ys) e) in
+    let same : x ≡ y = run_unique x y (hx 0 x (omega arith)) (hy 0 y (omega arith)) (head_of (run_line x) (run_line y) (map run_line xs) (map run_line ys) e) in
     let more : xs ≡ ys = runs_one xs ys (λ k d lt. hx (suc k) d (omega arith)) (λ k d lt. hy (suc k) d (omega arith))
     (tail_is (run_line x) (run_line y) (map run_line xs) (map run_line ys) e) in
     λ i. same i ∷ more i
@@ -62,7 +63,7 @@ reports_are_one a b ha sa hb sb e = λ i. record { places = places i; weights = 
     whole = sym (lines_nested a) ∙ (lines_one (report_lines a) (report_lines b) (report_is_lines a ha sa) (report_is_lines b hb sb) e ∙ lines_nested b)
 
     versions : version_line a.weights ≡ version_line b.weights
-    versions = head_is (version_line a.weights) (version_line b.weights) (place_lines a ++ lines_behind a (last_lines a)) (place_lines b ++ lines_behind b (last_lines b)) whole
+    versions = head_of (version_line a.weights) (version_line b.weights) (place_lines a ++ lines_behind a (last_lines a)) (place_lines b ++ lines_behind b (last_lines b)) whole
 
     parts : (place_lines a ≡ place_lines b) × (bound_line a.bound ≡ bound_line b.bound) ×
         (slack_line a.slack ∷ cost_line a.cost ∷ last_lines a ≡ slack_line b.slack ∷ cost_line b.cost ∷ last_lines b)
@@ -78,10 +79,10 @@ reports_are_one a b ha sa hb sb e = λ i. record { places = places i; weights = 
 
     slack : a.slack ≡ b.slack
     slack = decimal_one a.slack b.slack sa.slack sb.slack
-        (ap (drop 6) (head_is (slack_line a.slack) (slack_line b.slack) (cost_line a.cost ∷ last_lines a) (cost_line b.cost ∷ last_lines b) parts.2))
+        (ap (drop 6) (head_of (slack_line a.slack) (slack_line b.slack) (cost_line a.cost ∷ last_lines a) (cost_line b.cost ∷ last_lines b) parts.2))
 
     cost : a.cost ≡ b.cost
-    cost = decimal_one a.cost b.cost sa.cost sb.cost (ap (drop 5) (head_is (cost_line a.cost) (cost_line b.cost) (last_lines a) (last_lines b) behind))
+    cost = decimal_one a.cost b.cost sa.cost sb.cost (ap (drop 5) (head_of (cost_line a.cost) (cost_line b.cost) (last_lines a) (last_lines b) behind))
 
     runs : a.runs ≡ b.runs
     runs = runs_one a.runs b.runs (all_runs a ha sa) (all_runs b hb sb)

@@ -1,19 +1,12 @@
 -- The text of a report, line by line.
 use Rattle.std.specs.Prelude.{ℕ, ◌+◌, ◌++◌, List, [], ◌∷◌, Option, Some, None, length, map, codes, decimal}
 use Rattle.std.specs.List.{flat_map, range_with_len, slice_index_or}
+pub use Rattle.coflow_units.specs.Text.{ended, spaced, text_of}
 use Rattle.coflow_units.specs.declared.fabric.Side.{Side}
 use Rattle.coflow_units.specs.declared.fabric.Side.TheVariants.{Ingress, Egress}
 use Rattle.coflow_units.specs.declared.plan.Run.{Run}
 use Rattle.report.specs.declared.value.PlaceLine.{PlaceLine}
 use Rattle.report.specs.declared.value.Report.{Report}
-
--- a line with its line feed
-abbrev pub ended : List ℕ → List ℕ
-ended line = line ++ codes "\n"
-
--- a number behind a space
-abbrev pub spaced : ℕ → List ℕ
-spaced n = codes " " ++ decimal n
 
 -- the first line tells the version: 2 with weights, 1 without
 abbrev pub version_line : Option (List ℕ) → List ℕ
@@ -85,10 +78,6 @@ run_line run = codes "run" ++ spaced run.length ++ flat_map spaced run.flows
 abbrev pub report_lines : Report → List (List ℕ)
 report_lines r = (version_line r.weights ∷ []) ++ place_lines r ++ total_lines r ++ map run_line r.runs ++
     (codes "end" ∷ [])
-
--- the text of some lines
-abbrev pub text_of : List (List ℕ) → List ℕ
-text_of lines = flat_map ended lines
 
 -- the text of a report
 abbrev pub report_text : Report → List ℕ

@@ -1,7 +1,6 @@
 -- A coflow ends with one of its flows.
 use Rattle.std.proofs.Common.{◌≡◌, ℕ, ◌+◌, ◌*◌, ◌≤◌, ◌<◌, ◌⊎◌, inl, inr, Bool, true, List, [], ◌∷◌, length, Contains, refl, sym, ap, subst, ◌∙◌, arith}
 use Rattle.std.specs.Prelude.{◌==◌}
-use Rattle.std.specs.List.{list_any}
 use Rattle.std.proofs.lemmas.List.Elements.{All-contains}
 use Rattle.std.proofs.lemmas.Bool.{cases_Bool, eqb-true, eq-eqb}
 use Rattle.coflow_units.specs.declared.fabric.Flow.{Flow}
@@ -13,7 +12,7 @@ use Rattle.coflow_units.specs.Completion.{last_where, end_of, completion, holds_
 use Rattle.coflow_units.specs.Patient.{IsPatient, up_to, ingress_port, egress_port}
 use Rattle.schedule_model.proofs.WaitingLaw.{short_law}
 use Rattle.schedule_model.proofs.Slots.{last_later, last_here_yes, last_here_not}
-use Rattle.coflow_units.proofs.Sums.{any_in, in_first, in_tail}
+use Rattle.coflow_units.proofs.Sums.{any_in, in_first, in_tail, any_has}
 use Rattle.coflow_units.proofs.Numbers.{zero_or_more}
 use Rattle.coflow_units.proofs.Lists.{any_where, any_from}
 
@@ -33,9 +32,6 @@ last_mono p q (x ∷ xs) to = elim (zero_or_more (last_where p xs)) [
       omega (arith, last_later p x xs some, last_later q x xs (omega (arith, before)), before)
 ]
 
-any_same : (xs : List ℕ) (f : ℕ) → list_any (λ g. g == f) xs ≡ true → Contains xs f
-any_same xs f e = let (g, has, at) = any_where (λ g. g == f) xs e in subst (λ n. Contains xs n) (eqb-true g f at) has
-
 -- a coflow that ends has a flow that ends with it
 pub record EndsWith (flows : List Flow) (slots : List (List ℕ)) (c : ℕ) : Type 0 where
   pub flow : ℕ
@@ -46,7 +42,7 @@ pub record EndsWith (flows : List Flow) (slots : List (List ℕ)) (c : ℕ) : Ty
   pub end : completion flows slots c ≡ end_of slots flow
 
 holds_of : (flows : List Flow) (c f : ℕ) (slot : List ℕ) → coflow_of flows f ≡ c → holds slot f ≡ true → holds_coflow flows slot c ≡ true
-holds_of flows c f slot e h = any_from (λ g. coflow_of flows g == c) slot f (any_same slot f h) (eq-eqb (coflow_of flows f) c e)
+holds_of flows c f slot e h = any_from (λ g. coflow_of flows g == c) slot f (any_has slot f h) (eq-eqb (coflow_of flows f) c e)
 
 pub some_flow : (flows : List Flow) (slots : List (List ℕ)) (c : ℕ) → (completion flows slots c ≡ 0) ⊎ EndsWith flows slots c
 some_flow flows [] c = inl refl

@@ -1,11 +1,11 @@
 -- What the slots of a schedule carry through a port.
-use Rattle.std.proofs.Common.{◌≡◌, ℕ, ◌+◌, ◌*◌, ◌≤◌, ◌<◌, inl, inr, Bool, true, false, cond, List, [], ◌∷◌, length, Contains, refl, sym, ap, subst, ◌∙◌, arith, true≢false}
+use Rattle.std.proofs.Common.{◌≡◌, ℕ, ◌+◌, ◌*◌, ◌≤◌, ◌<◌, inl, inr, Bool, true, false, cond, List, [], ◌∷◌, length, Contains, refl, sym, ap, subst, ◌∙◌, arith}
 use Rattle.std.specs.Prelude.{sum_by, ◌==◌, ◌||◌, ◌&&◌}
 use Rattle.std.specs.List.{range_with_len}
 use Rattle.std.specs.List.Sorted.{IsStrictlyIncreasing}
 use Rattle.std.proofs.lemmas.List.Sums.{sum_by-cons}
 use Rattle.std.proofs.lemmas.List.Elements.{All-contains}
-use Rattle.std.proofs.lemmas.Bool.{cases_Bool, eqb-true, ne_eqb}
+use Rattle.std.proofs.lemmas.Bool.{cases_Bool, or_parts, eqb-true, ne_eqb}
 use Rattle.coflow_units.specs.declared.fabric.Flow.{Flow}
 use Rattle.coflow_units.specs.declared.fabric.Port.{Port}
 use Rattle.coflow_units.specs.declared.fabric.Side.{Side}
@@ -82,15 +82,11 @@ one_per_slot flows port cs slot apart clear =
     (λ f has. coflow_most (uses port (flow_at flows f)) (coflow_of flows f) cs apart) in
     omega (arith, turned, each, uses_most flows port slot clear.ascending clear.apart)
 
-or_false : (a b : Bool) → (a || b) ≡ false → (a ≡ false) × (b ≡ false)
-or_false true b e = absurd (true≢false e)
-or_false false b e = (refl, e)
-
 -- a slot that holds no flow of the coflow carries nothing of it
 pub carries_none : (flows : List Flow) (port : Port) (c : ℕ) (slot : List ℕ) → holds_coflow flows slot c ≡ false → carries flows port c slot ≡ 0
 carries_none flows port c [] out = refl
 carries_none flows port c (x ∷ xs) out =
-    let (here, later) = or_false (coflow_of flows x == c) (holds_coflow flows xs c) out in
+    let (here, later) = or_parts (coflow_of flows x == c) (holds_coflow flows xs c) out in
     omega (
       arith,
       sum_by-cons (λ f. cond (loads c port (flow_at flows f)) 1 0) x xs,

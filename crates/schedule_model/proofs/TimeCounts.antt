@@ -1,22 +1,20 @@
 -- In how many slots a flow stands, one run more.
 use Rattle.std.proofs.Common.{◌≡◌, ℕ, ◌+◌, ◌<◌, inl, inr, Bool, true, false, cond, List, ◌++◌, length, get_or, set, take, drop, replicate, refl, sym, ap, ◌∙◌, arith, zero, suc}
-use Rattle.std.specs.Prelude.{All, count_by, ◌==◌, ◌||◌}
+use Rattle.std.specs.Prelude.{All, count_by, ◌==◌}
 use Rattle.std.specs.List.Sorted.{IsStrictlyIncreasing}
 use Rattle.std.proofs.lemmas.List.{get_or-set_other, take_at}
 use Rattle.std.proofs.lemmas.Grind.{get_or-set_at}
 use Rattle.std.proofs.lemmas.List.Folds.{list_any_more}
-use Rattle.std.proofs.lemmas.List.Sums.{count_by-le-length, sum_by-append, sum_by-cons}
+use Rattle.std.proofs.lemmas.List.Sums.{count_by-le-length, sum_by-cons}
 use Rattle.std.proofs.lemmas.Bool.{ne_eqb, eq-eqb, cases_eq}
 use Rattle.coflow_units.specs.declared.plan.Run.{Run}
 use Rattle.coflow_units.specs.Schedule.{holds, times}
 use Rattle.coflow_units.proofs.Sums.{any_not, or_right}
+use Rattle.coflow_units.proofs.Bools.{or_not}
+use Rattle.coflow_units.proofs.ServedExists.{times_append}
 use Rattle.schedule_model.specs.RunList.{IsKept, slots_in}
 use Rattle.schedule_model.proofs.Ascending.{above_earlier}
 use Rattle.schedule_model.proofs.RunSlots.{run_fits, run_more}
-
-or_not : (a b : Bool) → b ≡ false → (a || b) ≡ a
-or_not true b e = refl
-or_not false b e = e
 
 -- an ascending list holds a number once
 pub not_before : (numbers : List ℕ) (k : ℕ) → IsStrictlyIncreasing numbers → k < length numbers → holds (take k numbers) (get_or numbers k 0) ≡ false
@@ -60,9 +58,6 @@ count_none p (suc n) x e = omega (arith, sum_by-cons (λ y. cond (p y) 1 0) x (r
 count_same_step : {X : Type 0} (p : X → Bool) (n : ℕ) (x : X) (b : Bool) → p x ≡ b → count_by p (replicate n x) ≡ cond b n 0
 count_same_step p n x true e = count_all p n x e
 count_same_step p n x false e = count_none p n x e
-
-pub times_append : (before after : List (List ℕ)) (f : ℕ) → times (before ++ after) f ≡ times before f + times after f
-times_append before after f = sum_by-append (λ (slot : List ℕ). cond (holds slot f) 1 0) before after
 
 pub times_more : (runs : List Run) (k : ℕ) (r : Run) (f : ℕ) → k < length runs → r ≡ get_or runs k r →
     times (slots_in (take (k + 1) runs)) f ≡ times (slots_in (take k runs)) f + cond (holds r.flows f) r.length 0

@@ -65,7 +65,7 @@ pub carried_of_all : (flows : List Flow) (port : Port) (cs : List ℕ) (slots : 
 carried_of_all flows port cs slots valid = sum_swap (λ h c. carries flows port c h) slots cs ∙
     sum_same (λ c. sum_by (carries flows port c) slots) (λ c. load flows c port) cs (λ c has. carried_is_load flows port c slots valid)
 
-two : (a b : ℕ) → 1 ≤ a → 1 ≤ b → 2 ≤ a + b
+pub two : (a b : ℕ) → 1 ≤ a → 1 ≤ b → 2 ≤ a + b
 two a b la lb = omega arith
 
 -- the units of these coflows that a slot carries through the flow's two ports

@@ -4,7 +4,7 @@ use Rattle.std.specs.Prelude.{All}
 use Rattle.std.specs.List.Sorted.{IsPermutation, IsSorted}
 use Rattle.std.specs.Ordering.{nat_cmp}
 use Rattle.std.proofs.Math.Dec.{eqb}
-use Rattle.std.proofs.lemmas.Bool.{cases_eq, ne_eqb, eq-eqb}
+use Rattle.std.proofs.lemmas.Bool.{cases_eq}
 use Rattle.std.proofs.lemmas.Bool.Decides.{Decides-eqb}
 use Rattle.std.proofs.lemmas.Grind.{get_or-set_at}
 use Rattle.std.proofs.lemmas.List.{get_or-set_other, take_more}
@@ -17,6 +17,7 @@ use Rattle.coflow_units.specs.declared.fabric.Flow.{Flow}
 use Rattle.coflow_units.specs.Flows.{coflow_of, ingress_of, egress_of, IsDistinct, SharesPort}
 use Rattle.coflow_units.specs.Grants.{place_in, ComesBefore, IsBlocked, IsGrants}
 use Rattle.coflow_units.proofs.Sums.{all_of_members, nothing_in}
+use Rattle.coflow_units.proofs.Bools.{flips}
 use Rattle.slot_switch.specs.Ranks.{IsRanked}
 use Rattle.slot_switch.proofs.Lists.{earlier}
 
@@ -167,12 +168,6 @@ shares_none flows slot granted ingress egress f in' out in_free out_free g has (
 shares_none flows slot granted ingress egress f in' out in_free out_free g has (inr e) = out_free (ap (λ (p : ℕ). get_or egress p 0) (sym e) ∙ out.used g has)
 
 -- ---- all flows were looked at
-
-flips : (x y : ℕ) → eqb x y ≡ eqb y x
-flips x y = elim (cases_eq x y) [
-  | inl e ↦ eq-eqb x y e ∙ sym (eq-eqb y x (sym e))
-  | inr ne ↦ ne_eqb x y ne ∙ sym (ne_eqb y x (λ e. ne (sym e)))
-]
 
 pub sorted_grants : (flows : List Flow) (line : List ℕ) (left : ℕ → ℕ) (ranked granted sorted : List ℕ) → IsRanked flows line ranked → IsGranting flows line left ranked granted →
     IsPermutation granted sorted → IsSorted nat_cmp sorted →

@@ -1,8 +1,6 @@
 -- Lists of neighbouring numbers, one number longer.
 use Rattle.std.proofs.Common.{◌≡◌, ℕ, ◌+◌, ◌-◌, ◌≤◌, [], ◌∷◌, ◌++◌, List, ap, ◌∙◌, arith, zero, suc}
-use Rattle.std.specs.Prelude.{sum_by}
 use Rattle.std.specs.List.{range_with_len}
-use Rattle.std.proofs.lemmas.List.Sums.{sum_by_push}
 
 -- the list grows at its head
 range_suc : (a n : ℕ) → range_with_len a (n + 1) ≡ a ∷ range_with_len (a + 1) n
@@ -13,9 +11,6 @@ pub range_more : (a n j : ℕ) → a + n ≡ j → range_with_len a (n + 1) ≡ 
 range_more a zero j e = let h : a ≡ j = omega (arith, e) in ap (λ (x : ℕ). x ∷ []) h
 range_more a (suc n) j e =
     range_suc a (suc n) ∙ ap (λ (xs : List ℕ). a ∷ xs) ((let s : suc n ≡ n + 1 = omega arith in ap (range_with_len (a + 1)) s) ∙ range_more (a + 1) n j (omega (arith, e)))
-
-pub sum_range_more : (f : ℕ → ℕ) (n : ℕ) → sum_by f (range_with_len 0 (n + 1)) ≡ sum_by f (range_with_len 0 n) + f n
-sum_range_more f n = ap (sum_by f) (range_more 0 n n (omega arith)) ∙ sum_by_push f (range_with_len 0 n) n
 
 pub range_step : (a n : ℕ) → a ≤ n → range_with_len a (n + 1 - a) ≡ range_with_len a (n - a) ++ n ∷ []
 range_step a n le = let e : n + 1 - a ≡ n - a + 1 = omega (arith, le) in ap (range_with_len a) e ∙ range_more a (n - a) n (omega (arith, le))

@@ -2,15 +2,16 @@
 use Rattle.std.proofs.Common.{◌≡◌, ℕ, ◌+◌, ◌-◌, ◌≤◌, ◌<◌, inl, inr, List, [], ◌∷◌, ◌++◌, length, get_or, Contains, refl, sym, ap, subst, ◌∙◌, arith, zero, suc}
 use Rattle.std.specs.Prelude.{AllPairs}
 use Rattle.std.specs.List.{range_with_len}
-use Rattle.std.proofs.lemmas.Bool.{cases_eq, cases_lt}
-use Rattle.std.proofs.lemmas.List.{append-nil, append_assoc, get_or_default}
+use Rattle.std.proofs.lemmas.Bool.{cases_lt}
+use Rattle.std.proofs.lemmas.List.{append-nil, append_assoc}
 use Rattle.std.proofs.lemmas.List.FromFn.{get_or-range_with_len, length-range_with_len}
 use Rattle.std.proofs.lemmas.List.Elements.{Contains-append_left, Contains-append_right, Contains-append_cases, Contains-get_or}
 use Rattle.std.proofs.lemmas.List.Quantifiers.{all_pairs_push}
 use Rattle.coflow_units.specs.declared.fabric.Flow.{Flow}
 use Rattle.coflow_units.specs.Flows.{coflow_of, IsDistinct}
 use Rattle.coflow_units.specs.Grants.{place_in, ComesBefore}
-use Rattle.coflow_units.proofs.LinePlaces.{place_of_member, at_place}
+use Rattle.coflow_units.proofs.LinePlaces.{at_place, at_place_zero, place_of_member}
+pub use Rattle.coflow_units.proofs.LinePlaces.{place_at}
 use Rattle.coflow_units.proofs.Lists.{number_in}
 use Rattle.coflow_units.proofs.Sums.{all_of_members, nothing_in}
 use Rattle.coflow_units.specs.Starts.{IsStarts}
@@ -55,24 +56,6 @@ none_ranked flows line = record {
   in_order = λ i j d less lt. absurd (omega arith);
   all = λ f lt low. absurd (omega arith);
 }
-
-at_place_zero : (line : List ℕ) (c : ℕ) → place_in line c < length line → get_or line (place_in line c) 0 ≡ c
-at_place_zero line c lt = get_or_default line (place_in line c) 0 c lt ∙ at_place line c lt
-
--- in a line without repetition the place of its k-th coflow is k
-pub place_at : (line : List ℕ) (k : ℕ) → IsDistinct line → k < length line → place_in line (get_or line k 0) ≡ k
-place_at line k once lt =
-    let c = get_or line k 0 in
-    let in' : Contains line c = Contains-get_or line k 0 lt in
-    let low : place_in line c < length line = place_of_member line c in' in
-    let first : get_or line (place_in line c) 0 ≡ c = at_place_zero line c low in
-    elim (cases_eq (place_in line c) k) [
-      | inl e ↦ e
-      | inr ne ↦ elim (cases_lt (place_in line c) k) [
-        | inl less ↦ absurd (once (place_in line c) k 0 less lt first)
-        | inr more ↦ absurd (once k (place_in line c) 0 (omega arith) low (sym first))
-      ]
-    ]
 
 -- the flows of the next coflow are those of its range
 range_flow : (flows : List Flow) (line starts : List ℕ) (k f : ℕ) → IsStarts flows starts → IsDistinct line → k < length line → get_or line k 0 + 1 < length starts →

@@ -18,7 +18,8 @@ use Rattle.coflow_units.proofs.Lists.{number_in, numbers_apart}
 use Rattle.coflow_units.proofs.GrantsExist.{numbers_of}
 use Rattle.coflow_units.proofs.Sums.{any_in, sum_mono, sum_add, picked_one}
 use Rattle.coflow_units.specs.LeastLeft.{IsLeastLeft}
-use Rattle.slot_switch.proofs.ServeSteps.{some_grant, units_in_all}
+use Rattle.coflow_units.proofs.RunLengths.{some_grant}
+use Rattle.slot_switch.proofs.ServeSteps.{units_in_all}
 
 -- ---- a run of slots
 

@@ -4,21 +4,20 @@ use Rattle.std.proofs.Common.{length-append}
 use Rattle.std.specs.Prelude.{All, Any, sum_by, map}
 use Rattle.std.specs.List.{range_with_len}
 use Rattle.std.proofs.lemmas.List.{take_all, take_at, get_or_default, get_or-map, length-map}
-use Rattle.std.proofs.lemmas.List.Elements.{All-contains, All-weaker}
-use Rattle.std.proofs.lemmas.List.Sums.{sum_by-cons, sum_by_more}
+use Rattle.std.proofs.lemmas.List.Elements.{All-weaker}
+use Rattle.std.proofs.lemmas.List.Sums.{sum_by_more}
 use Rattle.coflow_units.specs.declared.fabric.Flow.{Flow}
 use Rattle.coflow_units.specs.Flows.{coflow_of, units_of}
 use Rattle.coflow_units.specs.Grants.{IsGrants}
 use Rattle.coflow_units.specs.Schedule.{holds}
 use Rattle.coflow_units.specs.Served.{left_after, IsServed, IsServedSoFar}
 use Rattle.coflow_units.proofs.Numbers.{zero_or_more}
-use Rattle.coflow_units.proofs.ServedExists.{goes_on, left_sum, times_push}
+use Rattle.coflow_units.proofs.ServedExists.{falls_by_one, goes_on, left_sum, times_push}
 use Rattle.coflow_units.proofs.ServedRuns.{same_grants}
-use Rattle.coflow_units.proofs.GrantsExist.{numbers_of}
-use Rattle.coflow_units.proofs.Lists.{number_in}
-use Rattle.coflow_units.proofs.Sums.{any_in, all_of_members, first_or_tail, nothing_in, sum_mono}
+use Rattle.coflow_units.proofs.Sums.{all_of_members}
 use Rattle.slot_switch.specs.Ranks.{IsRanked}
-use Rattle.slot_switch.proofs.Ranges.{sum_range_more}
+use Rattle.coflow_units.proofs.Ranges.{sum_next}
+pub use Rattle.coflow_units.proofs.RunLengths.{some_grant}
 
 -- ---- the units of all flows
 
@@ -26,37 +25,13 @@ sum_below : (flows : List Flow) (n : ℕ) → n ≤ length flows → sum_by (lef
 sum_below flows zero le = refl
 sum_below flows (suc n) le =
     let e : suc n ≡ n + 1 = omega arith in
-    ap (λ (k : ℕ). sum_by (left_after flows []) (range_with_len 0 k)) e ∙ sum_range_more (left_after flows []) n
+    ap (λ (k : ℕ). sum_by (left_after flows []) (range_with_len 0 k)) e ∙ sum_next (left_after flows []) n
     ∙ (let step : sum_by (left_after flows []) (range_with_len 0 n) + left_after flows [] n ≡ sum_by (λ (x : Flow). x.units) (take (n + 1) flows) =
     omega (arith, sum_below flows n (omega arith), sum_by_more (λ (x : Flow). x.units) flows n record { coflow = 0; ingress = 0; egress = 0; units = 0 } (omega arith)) in step)
     ∙ ap (λ (k : ℕ). sum_by (λ (x : Flow). x.units) (take k flows)) (sym e)
 
 pub units_in_all : (flows : List Flow) → left_sum flows [] ≡ sum_by (λ (x : Flow). x.units) flows
 units_in_all flows = sum_below flows (length flows) (omega arith) ∙ ap (λ (xs : List Flow). sum_by (λ (x : Flow). x.units) xs) (take_all (length flows) flows (omega arith))
-
--- ---- what is left falls
-
-sum_less : (a b : ℕ → ℕ) (xs : List ℕ) (h : ℕ) → ((x : ℕ) → a x ≤ b x) → Contains xs h → a h < b h → sum_by a xs < sum_by b xs
-sum_less a b [] h le has lt = absurd (nothing_in h has)
-sum_less a b (x ∷ xs) h le has lt = elim (first_or_tail x xs h has) [
-  | inl e ↦ omega (arith, sum_by-cons a x xs, sum_by-cons b x xs, sum_mono a b xs (λ y _. le y), subst (λ n. a n < b n) (sym e) lt)
-  | inr h' ↦ omega (arith, sum_by-cons a x xs, sum_by-cons b x xs, le x, sum_less a b xs h le h' lt)
-]
-
-pub some_grant : (flows : List Flow) (line : List ℕ) (left : ℕ → ℕ) (granted : List ℕ) (f : ℕ) → IsGrants flows line left granted → f < length flows →
-    Contains line (coflow_of flows f) → 0 < left f → (h : ℕ) × Contains granted h
-some_grant flows line left granted f grants lt in' some = elim (grants.rest f lt in' some) [
-  | inl has ↦ (f, has)
-  | inr (h, has, before, shares) ↦ (h, has)
-]
-
-one_slot_less : (flows : List Flow) (line : List ℕ) (slots : List (List ℕ)) (granted : List ℕ) (h : ℕ) → IsGrants flows line (left_after flows slots) granted → Contains granted h →
-    left_sum flows (slots ++ granted ∷ []) < left_sum flows slots
-one_slot_less flows line slots granted h grants has =
-    let here = ap {B = ℕ} (λ b. cond b 1 0) (any_in granted h has) in
-    sum_less (left_after flows (slots ++ granted ∷ [])) (left_after flows slots) (numbers_of flows) h (λ x. omega (arith, times_push slots granted x))
-    (number_in 0 (length flows) h (omega arith) (omega (arith, All-contains (λ x. x < length flows) granted h grants.flow has)))
-    (omega (arith, times_push slots granted h, here, grants.owed h has))
 
 -- ---- the state between two slots
 
@@ -107,7 +82,7 @@ serve_more flows line left after slots ports ingress egress in_after out_after g
     let lt' : f < length flows = omega (arith, lt, now.count) in
     let owes : 0 < left_after flows slots f = omega (arith, some, now.units f lt') in
     let (h, has) = some_grant flows line (left_after flows slots) granted f is lt' (named f lt' (omega (arith, owes))) owes in
-    let less = one_slot_less flows line slots granted h is has in
+    let less = falls_by_one flows line slots granted h is has in
     let longer : length (slots ++ granted ∷ []) ≡ length slots + 1 = length-append slots (granted ∷ []) in (
       record {
         so_far = goes_on flows line slots granted now.so_far is (f, lt', owes);

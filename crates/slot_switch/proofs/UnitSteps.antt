@@ -1,20 +1,15 @@
 -- One unit less for each flow of a slot.
-use Rattle.std.proofs.Common.{◌≡◌, ℕ, ◌+◌, ◌-◌, ◌≤◌, ◌<◌, inl, inr, false, cond, List, length, get_or, set, take, sym, ap, ◌∙◌, arith}
+use Rattle.std.proofs.Common.{◌≡◌, ℕ, ◌+◌, ◌-◌, ◌≤◌, ◌<◌, inl, inr, cond, List, length, get_or, set, take, sym, ap, ◌∙◌, arith}
 use Rattle.std.specs.Prelude.{All, ◌==◌}
 use Rattle.std.specs.List.Sorted.{IsStrictlyIncreasing}
 use Rattle.std.proofs.lemmas.List.{get_or-set_other}
 use Rattle.std.proofs.lemmas.Grind.{get_or-set_at}
 use Rattle.std.proofs.lemmas.List.Folds.{list_any_more}
-use Rattle.std.proofs.lemmas.List.Kept.{AllPairs-from_increasing}
 use Rattle.std.proofs.lemmas.Bool.{ne_eqb, eq-eqb, cases_eq}
 use Rattle.coflow_units.specs.Schedule.{holds}
-use Rattle.coflow_units.proofs.Sums.{any_not, or_right}
-use Rattle.slot_switch.proofs.Lists.{earlier, or_not}
-
--- an ascending list holds a number once
-pub not_before : (granted : List ℕ) (k : ℕ) → IsStrictlyIncreasing granted → k < length granted → holds (take k granted) (get_or granted k 0) ≡ false
-not_before granted k up lt = any_not (take k granted) (get_or granted k 0) (λ has. let less : get_or granted k 0 < get_or granted k 0 =
-    earlier (λ (x : ℕ) (y : ℕ). x < y) granted k (AllPairs-from_increasing granted up) lt (get_or granted k 0) has in omega (arith, less))
+use Rattle.coflow_units.proofs.Sums.{or_right}
+use Rattle.coflow_units.proofs.Bools.{or_not}
+use Rattle.schedule_model.proofs.TimeCounts.{not_before}
 
 pub has_unit : (left old granted : List ℕ) (k : ℕ) → IsStrictlyIncreasing granted → All (λ f. 0 < get_or old f 0) granted → k < length granted →
     ((f : ℕ) → get_or left f 0 ≡ get_or old f 0 - cond (holds (take k granted) f) 1 0) → 1 ≤ get_or left (get_or granted k 0) 0

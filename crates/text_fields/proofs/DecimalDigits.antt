@@ -14,7 +14,7 @@ use Rattle.text_fields.specs.Fields.{Text}
 use Rattle.text_fields.specs.Numbers.{is_digit, is_number, number, capped, most}
 use Rattle.text_fields.specs.Decimals.{IsFraction, is_point, whole_part, fraction_part, scaled_up}
 use Rattle.text_fields.proofs.Digits.{own, digits_of_number}
-use Rattle.text_fields.proofs.FieldCuts.{none_len}
+use Rattle.coflow_units.proofs.Fronts.{none_length}
 use Rattle.std.proofs.Common.{position, Option, Some, None, append-nil}
 use Rattle.std.specs.Prelude.{unwrap_or}
 
@@ -215,7 +215,7 @@ front_value digits front rest n p e =
 
 pub no_point : (field : Text) → None ≡ position is_point field → (whole_part field ≡ field) × (fraction_part field ≡ [])
 no_point field none =
-    let e = none_len is_point field none in
+    let e = none_length is_point field none in
     (rw (← e) (grind (arith, common_steps)), drop_nothing (position_or_len is_point field + 1) field (omega (arith, e)))
 
 pub at_point : (field : Text) (point : ℕ) → Some point ≡ position is_point field → (point ≡ position_or_len is_point field) × (point < length field)

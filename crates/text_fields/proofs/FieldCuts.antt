@@ -1,23 +1,13 @@
 -- Where a field begins and ends.
-use Rattle.std.proofs.Common.{◌≡◌, ℕ, ◌<◌, ◌≤◌, List, [], ◌∷◌, Some, None, Bool, true, false, not, ltb, suc, add-zero, length, get_or, take, drop, position, refl, sym, ap, ◌∙◌}
+use Rattle.std.proofs.Common.{◌≡◌, ℕ, ◌<◌, List, [], ◌∷◌, Bool, true, false, not, suc, add-zero, length, get_or, take, drop, refl, sym, ap, ◌∙◌}
 use Rattle.std.proofs.Common.{arith}
 use Rattle.std.proofs.lemmas.Grind.{common_steps}
 use Rattle.std.proofs.lemmas.Bool.Decides.{nat_tests}
-use Rattle.std.proofs.lemmas.List.Sums.{prefix_len-le-length, passes_at_first}
+use Rattle.std.proofs.lemmas.List.Sums.{passes_at_first}
 use Rattle.std.proofs.Math.Seq.{get_or-drop}
 use Rattle.std.specs.List.{position_or_len, slice_split, filter}
 use Rattle.std.specs.Prelude.{◌==◌}
 use Rattle.text_fields.specs.Fields.{Text, fields, field_at, is_blank, is_full}
-
--- Where no element is such a one, the place of the first is the length.
-pub none_len : {X : Type 0} (p : X → Bool) (xs : List X) → None ≡ position p xs → length xs ≡ position_or_len p xs
-none_len p xs none =
-    let le : position_or_len p xs ≤ length xs = prefix_len-le-length (λ x. not (p x)) xs in
-    go (ltb (position_or_len p xs) (length xs)) refl le
-  where
-    go : (b : Bool) → ltb (position_or_len p xs) (length xs) ≡ b → position_or_len p xs ≤ length xs → length xs ≡ position_or_len p xs
-    go true e le = let bad : None ≡ Some (position_or_len p xs) = none ∙ rw e refl in cc
-    go false e le = grind (arith, nat_tests)
 
 abbrev pub start_of : Text → ℕ
 start_of = position_or_len (λ b. not (is_blank b))

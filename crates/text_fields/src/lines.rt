@@ -1,6 +1,7 @@
 //! The lines of a text that have fields.
 ghost use Rattle.std.specs.Prelude.{◌≡◌, ◌≤◌, ◌<◌, ℕ, ◌+◌, List, length, ◌^◌, take, drop, position};
 ghost use Rattle.std.specs.List.{position_or_len};
+ghost use Rattle.coflow_units.specs.declared.limits.TheConstants.{MAX_TEXT};
 ghost use Rattle.text_fields.specs.Fields.{fields, is_full};
 ghost use Rattle.text_fields.specs.Lines.{CutsLine, Line, TakesLine, is_line_feed, lines_from, lines_of};
 
@@ -26,7 +27,7 @@ impl<'a> Lines<'a> {
     /// The lines of a whole text of at most 2^26 bytes. Lines are cut by line feeds and counted from 1, blank ones included; the last one needs no
     /// line feed.
     pub fn new(text: &'a [u8]) -> Self
-        requires { length text.now ≤ 2 ^ 26 }
+        requires { length text.now ≤ MAX_TEXT }
         ensures { result ≡ lines_of text.now }
     {
         Lines {

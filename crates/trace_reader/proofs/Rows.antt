@@ -13,19 +13,13 @@ use Rattle.trace_reader.specs.Checks.{Answers, each, values}
 use Rattle.trace_reader.specs.Coflow.{without}
 use Rattle.trace_reader.specs.declared.fault.TraceFault.{TraceFault}
 use Rattle.trace_reader.proofs.Faults.{retold}
+use Rattle.coflow_units.proofs.Ranges.{range_append}
 
 -- The fields before field j passed and say the items, and those from there on are left.
 pub record SoFar {X : Type 0} (checks : ℕ → ℕ → Text → List (Check TraceFault)) (value : Text → X) (k : ℕ) (start now : Line) (items : List X) (j : ℕ) : Type 0 where
   pub left : now ≡ without j start
   pub passed : first_fault (each (checks start.number) k start.texts j) ≡ None
   pub items_are : items ≡ values value start.texts j
-
-range_split : (a n m : ℕ) → range_with_len a (n + m) ≡ range_with_len a n ++ range_with_len (a + n) m
-range_split a zero m = let e : zero + m ≡ m = omega arith in let f : a + zero ≡ a = omega arith in rw (e, f) refl
-range_split a (suc n) m =
-    let e : suc n + m ≡ suc (n + m) = omega arith in
-    let f : a + suc n ≡ a + 1 + n = omega arith in
-    rw (e, f) (ap (λ l. a ∷ l) (range_split (a + 1) n m))
 
 module _ (checks : ℕ → Text → List (Check TraceFault)) (k : ℕ) (texts : List Text) where
   abbrev at : ℕ → List (Check TraceFault)
@@ -34,7 +28,7 @@ module _ (checks : ℕ → Text → List (Check TraceFault)) (k : ℕ) (texts : 
   -- The checks before field j, those of field j, and those of m more.
   each_split : (j m : ℕ) → each checks k texts (j + suc m) ≡ each checks k texts j ++ (at j ++ flat_map at (range_with_len (j + 1) m))
   each_split j m =
-      ap (flat_map at) (range_split 0 j (suc m)) ∙ flat_map-append at (range_with_len 0 j) (range_with_len (0 + j) (suc m))
+      ap (flat_map at) (range_append 0 j (suc m)) ∙ flat_map-append at (range_with_len 0 j) (range_with_len (0 + j) (suc m))
       ∙ (let z : 0 + j ≡ j = omega arith in rw z refl)
 
   -- One field more passes.

@@ -1,20 +1,9 @@
 -- The texts of made coflows: a trace, and the weights.
 use Rattle.std.specs.Prelude.{ℕ, ◌++◌, List, ◌∷◌, length, map, codes, decimal}
 use Rattle.std.specs.List.{flat_map}
+pub use Rattle.coflow_units.specs.Text.{ended, spaced, text_of}
 use Rattle.workload.specs.declared.coflow.MadeCoflow.{MadeCoflow}
 use Rattle.workload.specs.declared.coflow.MadeReducer.{MadeReducer}
-
--- a line with its line feed
-abbrev pub ended : List ℕ → List ℕ
-ended line = line ++ codes "\n"
-
--- the text of some lines
-abbrev pub text_of : List (List ℕ) → List ℕ
-text_of lines = flat_map ended lines
-
--- a number behind a space
-abbrev pub spaced : ℕ → List ℕ
-spaced n = codes " " ++ decimal n
 
 -- a reducer behind a space: its location, a colon, its megabytes
 abbrev pub reducer_word : MadeReducer → List ℕ

@@ -1,7 +1,7 @@
 use Rattle.std.proofs.Common.{[], drop, subst, sym, arith}
 use Rattle.bssi_order.specs.Order.{IsOrder}
 use Rattle.bssi_order.specs.Step.{IsReady, Stands}
-use Rattle.bssi_order.proofs.StandSteps.{IsBegun, length_part, ready_first, stands_first, take_front}
+use Rattle.bssi_order.proofs.BeginSteps.{IsBegun, length_part, ready_first, stands_first, take_front}
 use Rattle.bssi_order.proofs.bssi.order.Goals as goal
 
 pub place_all-requires-clause-ready : goal.place_all-requires-clause-ready

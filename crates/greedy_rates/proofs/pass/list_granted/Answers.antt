@@ -3,8 +3,9 @@ use Rattle.std.proofs.Common.{◌≡◌, ℕ, List, length, take, subst, sym, ar
 use Rattle.std.specs.List.Sorted.{IsStrictlyIncreasing}
 use Rattle.std.proofs.lemmas.List.{length-take-le}
 use Rattle.greedy_rates.specs.Pass.{IsListing}
-use Rattle.greedy_rates.proofs.ListSteps.{front_again, sorted_rises, sorted_lists}
+use Rattle.greedy_rates.proofs.ListSteps.{sorted_rises, sorted_lists}
 use Rattle.greedy_rates.proofs.pass.list_granted.Goals as goal
+use Rattle.coflow_units.proofs.Fronts.{front_again}
 
 pub returns-clause-listing : goal.returns-clause-listing
 returns-clause-listing c =

@@ -3,7 +3,7 @@ use Rattle.std.proofs.Common.{◌≡◌, ℕ, List, Option, Some, get_or, length
 use Rattle.coflow_units.specs.Grants.{IsGrants}
 use Rattle.greedy_rates.specs.Room.{TellsIngresses, flow_at_ingress}
 use Rattle.greedy_rates.specs.Pass.{IsGranting, IsListing}
-use Rattle.greedy_rates.proofs.ListSteps.{written_back}
+use Rattle.coflow_units.proofs.Fronts.{written_back}
 use Rattle.greedy_rates.proofs.LineSteps.{grants_are, ingresses_are, one_ingress, stands_within}
 use Rattle.greedy_rates.proofs.scratch.grants.Goals as goal
 

@@ -1,4 +1,4 @@
-use Rattle.report.proofs.LineText.{none_length}
+use Rattle.coflow_units.proofs.Fronts.{none_length}
 use Rattle.report.proofs.lines.digits_length.Goals as goal
 
 pub returns-in-None-clause-digits : goal.returns-in-None-clause-digits

@@ -9,7 +9,7 @@ use Rattle.matching.specs.Ranking.{number_of}
 use Rattle.matching.specs.Sound.{left_at}
 use Rattle.matching.proofs.EndSteps.{IsSameOwing, same_kept}
 use Rattle.matching.proofs.KeptSteps.{kept_is_granted}
-use Rattle.matching.proofs.ListSteps.{written_back}
+use Rattle.coflow_units.proofs.Fronts.{written_back}
 use Rattle.matching.proofs.MatchingSteps.{first_side, listed_told}
 use Rattle.matching.proofs.RunSteps.{told_at}
 use Rattle.matching.proofs.tables.Tables.repair.Goals as goal
