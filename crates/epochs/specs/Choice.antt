@@ -1,5 +1,6 @@
 -- The action that an online run takes: the first of a list that applies.
 use Rattle.std.specs.Prelude.{◌≡◌, ℕ, ◌+◌, ◌<◌, ◌≤◌, List, None, slice_index}
+use Rattle.coflow_units.specs.declared.limits.TheConstants.{MAX_PUBLISHINGS}
 use Rattle.epochs.specs.declared.action.Action.{Action}
 use Rattle.epochs.specs.declared.action.Action.TheVariants.{Register, Withdraw, Publish, Run, Skip, End, TooMany}
 use Rattle.epochs.specs.Course.{ComesFirst, Course, IsEpochStart, IsFirstServed, IsNextArrival, IsNextStop, IsPresent}
@@ -28,13 +29,13 @@ pub record IsReady (s : Course) (time : ℕ) (owed : List ℕ) : Type 0 where
 
 -- one more order may be published
 abbrev pub Publishes : Course → ℕ → List ℕ → Type 0
-Publishes s time owed = IsReady s time owed × (s.published < 8192)
+Publishes s time owed = IsReady s time owed × (s.published < MAX_PUBLISHINGS)
 
 -- as many orders were published as may be; the count is that of one more
 pub record IsTooMany (s : Course) (time : ℕ) (owed : List ℕ) (count : ℕ) : Type 0 where
   pub ready : IsReady s time owed
-  pub published : s.published ≡ 8192
-  pub is_next : count ≡ 8193
+  pub published : s.published ≡ MAX_PUBLISHINGS
+  pub is_next : count ≡ MAX_PUBLISHINGS + 1
 
 -- some coflow that is present owes a unit, and `most` slots on an epoch starts or a coflow arrives for the first time
 pub record Runs (s : Course) (time : ℕ) (owed : List ℕ) (most : ℕ) : Type 0 where
@@ -77,9 +78,9 @@ pub record IsFirstAction (s : Course) (time : ℕ) (owed : List ℕ) (action : A
 -- too many
 abbrev pub IsOrderAction : Course → List ℕ → Action → Type 0
 IsOrderAction s owed (Withdraw coflow) = ServedFirst s.registered s.withdrawn owed coflow
-IsOrderAction s owed Publish = IsFirstServed s.registered s.withdrawn owed None × (s.published < 8192)
+IsOrderAction s owed Publish = IsFirstServed s.registered s.withdrawn owed None × (s.published < MAX_PUBLISHINGS)
 IsOrderAction s owed (TooMany count) =
-    IsFirstServed s.registered s.withdrawn owed None × (s.published ≡ 8192) × (count ≡ 8193)
+    IsFirstServed s.registered s.withdrawn owed None × (s.published ≡ MAX_PUBLISHINGS) × (count ≡ MAX_PUBLISHINGS + 1)
 IsOrderAction s owed other = ⊥
 
 -- what is done where nobody owes anything and everybody who arrived has joined

@@ -1,7 +1,7 @@
 -- The course of an online run: which coflows joined and left, and when an order was published last.
 use Rattle.std.specs.Prelude.{◌≡◌, ◌≢◌, ℕ, ◌+◌, ◌%◌, ◌^◌, ◌<◌, ◌≤◌, ◌⊎◌, Bool, true, false, List, All, Option, None}
 use Rattle.std.specs.Prelude.{Some, length, replicate, slice_index, slice_set}
-use Rattle.coflow_units.specs.declared.limits.TheConstants.{MAX_COFLOWS, MAX_OPTION_SLOTS}
+use Rattle.coflow_units.specs.declared.limits.TheConstants.{MAX_COFLOWS, MAX_OPTION_SLOTS, MAX_PUBLISHINGS}
 use Rattle.std.specs.List.{slice_index_or}
 use Rattle.epochs.specs.declared.action.Action.{Action}
 use Rattle.epochs.specs.declared.action.Action.TheVariants.{Register, Withdraw, Publish, Run, Skip, End, TooMany}
@@ -165,5 +165,5 @@ pub record IsSound (s : Course) (upcoming : Option ℕ) : Type 0 where
   pub epoch_fits : s.every ≤ MAX_OPTION_SLOTS
   pub registered_len : length s.registered ≡ length s.arrivals
   pub withdrawn_len : length s.withdrawn ≡ length s.arrivals
-  pub published_limit : s.published ≤ 8192
+  pub published_limit : s.published ≤ MAX_PUBLISHINGS
   pub joins_next : IsFirstWaiting s.arrivals s.registered upcoming

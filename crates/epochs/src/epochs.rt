@@ -1,6 +1,6 @@
 //! What an online run keeps, and what it decides from it.
-ghost use Rattle.std.specs.Prelude.{◌≡◌, ℕ, ◌^◌, ◌<◌, ◌≤◌, ◌↔◌, All, IfOk, IsTrue, length};
-ghost use Rattle.coflow_units.specs.declared.limits.TheConstants.{MAX_COFLOWS, MAX_OPTION_SLOTS};
+ghost use Rattle.std.specs.Prelude.{◌≡◌, ◌+◌, ℕ, ◌^◌, ◌<◌, ◌≤◌, ◌↔◌, All, IfOk, IsTrue, length};
+ghost use Rattle.coflow_units.specs.declared.limits.TheConstants.{MAX_COFLOWS, MAX_OPTION_SLOTS, MAX_SLOT};
 ghost use Rattle.epochs.specs.Course.{Course, HaveJoined, IsArrived, IsEpochStart, IsNextStop, after, at_first};
 ghost use Rattle.epochs.specs.Choice.{IsFirstAction, IsIdleAction, IsOrderAction};
 
@@ -79,7 +79,7 @@ impl Epochs {
     /// What is answered is kept as done: the coflow joined or left, or the order was published.
     pub fn next(&mut self, time: u64, owed: &[u64]) -> Action
         requires owed_len { length owed.now ≡ length self.old.arrivals }
-        requires time_fits { time ≤ 2 ^ 41 }
+        requires time_fits { time ≤ MAX_SLOT + 1 }
         ensures first { IsFirstAction self.old time owed.now result }
         ensures course { self.new ≡ after self.old time result }
         ensures coflows { self.new.arrivals ≡ self.old.arrivals }
@@ -103,7 +103,7 @@ impl Epochs {
     /// The first action that applies.
     fn first_action(&self, time: u64, owed: &[u64]) -> Action
         requires owed_len { length owed.now ≡ length self.now.arrivals }
-        requires time_fits { time ≤ 2 ^ 41 }
+        requires time_fits { time ≤ MAX_SLOT + 1 }
         ensures { IsFirstAction self.now time owed.now result }
     {
         match self.arrived(time) {
@@ -125,7 +125,7 @@ impl Epochs {
     /// The first action that applies, where everybody who arrived has joined.
     fn action_of_joined(&self, time: u64, owed: &[u64]) -> Action
         requires owed_len { length owed.now ≡ length self.now.arrivals }
-        requires time_fits { time ≤ 2 ^ 41 }
+        requires time_fits { time ≤ MAX_SLOT + 1 }
         requires joined { HaveJoined self.now time }
         ensures { IsFirstAction self.now time owed.now result }
     {
@@ -177,7 +177,7 @@ impl Epochs {
 
     /// The first time after this one at which an epoch starts or a coflow arrives.
     fn next_stop(&self, time: u64) -> u64
-        requires { time ≤ 2 ^ 41 }
+        requires { time ≤ MAX_SLOT + 1 }
         ensures { IsNextStop self.now time result }
     {
         let start = time - time % self.every + self.every;

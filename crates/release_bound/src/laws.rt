@@ -16,7 +16,8 @@ ghost use Rattle.release_bound.specs.Rows.{long_after_short, long_and_short, sho
 pub fn late_parallel()
     ensures { (flows : List Flow) (arrival : ℕ → ℕ) (slots : List (List ℕ)) (port : Port) (coflows : List ℕ) →
         IsReleased flows arrival slots → IsDistinct coflows →
-        front_value flows arrival coflows port ≤ 2 * sum_by (λ c. load flows c port * completion flows slots c) coflows }
+        front_value flows arrival coflows port ≤
+        2 * sum_by (λ c. load flows c port * completion flows slots c) coflows }
 {}
 
 /// Where nobody is served before its arrival, no coflow ends before its arrival and its greatest load on a port.
