@@ -4,8 +4,11 @@ pub mod Lists
 pub mod Stays
 pub mod Moves
 pub mod AgentSteps
+pub mod AgentReports
 pub mod Sitting
 pub mod Agreements
 pub mod PosterSteps
+pub mod PostSteps
 pub mod Posting
 pub mod Seats
+pub mod NewBoard

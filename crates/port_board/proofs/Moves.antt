@@ -7,7 +7,7 @@ use native.Mathlib.Decide.{ℕ_discrete}
 use lib.ListN.{get_elem?}
 use lib.Seq.{set-get_or}
 use Rattle.atomic_table.specs.Table.{State}
-use Rattle.atomic_table.proofs.Lists.{at_set, set_here, set_else}
+use Rattle.atomic_table.proofs.Lists.{set_here, set_else}
 use Rattle.coflow_units.specs.PortWord.{PortStage}
 use Rattle.coflow_units.specs.PortWord.PortStage.{unposted, drawn, reported}
 use Rattle.port_board.specs.declared.view.Grant.{Grant}
@@ -18,14 +18,10 @@ use Rattle.port_board.specs.declared.view.Kind.{Kind}
 use Rattle.port_board.specs.declared.view.Kind.TheVariants.{Note, Agent, Poster}
 use Rattle.port_board.specs.Views.{number_of, report}
 use Rattle.port_board.specs.Rule.{Cargo, PortOk, grant_at, Knows, PosterOk, total, agent, agents, IsNumber, Seated, HasOut, HasDone, Kept}
+use Rattle.coflow_units.proofs.Elements.{seats_stay}
 
 abbrev pub St : Type 0
 St = State (Unit {0}) View
-
-pub seats_stay : (K : ℕ → View → Type 0) (vs : List View) (me : ℕ) (w : View) → K me w → ((j : ℕ) (d : View) → j ≢ me → get_elem? vs j ≡ some d → K j d)
-    → (j : ℕ) (d : View) → get_elem? (set vs me w) j ≡ some d → K j d
-seats_stay K vs me w mine others j d e = ⊎_elim (λ (t : (j ≡ me) × (w ≡ d)). subst (λ (x : ℕ × View). K x.0 x.1) (λ i. (sym t.0 i, t.1 i)) mine)
-    (λ (t : (j ≢ me) × (get_elem? vs j ≡ some d)). others j d t.0 t.1) (at_set vs me j w d e)
 
 pub total_set : (f : View → ℕ) (vs : List View) (j : ℕ) (v w : View) → get_elem? vs j ≡ some v → total f (set vs j w) + f v ≡ total f vs + f w
 total_set f [] j v w e = absurd (some-ne-none v (sym e))
@@ -123,7 +119,8 @@ module _ (n : ℕ) (s : St) (r : Kept n s) (id : ℕ) (v w : View) (at : get_ele
             (λ (t : (r.who a ≡ id) × HasOut a (grant_at cargo' p k) w). (w, ap (get_elem? (set s.views id w)) t.0 ∙ here, t.1))
             (out p k a e);
         reported_there = λ p k a m e. ⊎_elim
-            (λ (t : (r.stage p k ≡ reported a m) × (grant_at r.cargo p k ≡ grant_at cargo' p k) × (HasDone a (report (grant_at r.cargo p k) m) v → HasDone a (report (grant_at r.cargo p k) m) w)).
+            (λ (t : (r.stage p k ≡ reported a m) × (grant_at r.cargo p k ≡ grant_at cargo' p k)
+            × (HasDone a (report (grant_at r.cargo p k) m) v → HasDone a (report (grant_at r.cargo p k) m) w)).
             let d = r.reported_there p k a m t.0 in
             subst (λ (g : Grant). (u : View) × (get_elem? (set s.views id w) (r.who a) ≡ some u) × HasDone a (report g m) u) t.1
             (still_there (HasDone a (report (grant_at r.cargo p k) m)) (r.who a) d.0 d.1 d.2 t.2))

@@ -13,8 +13,8 @@ use Rattle.port_board.specs.declared.view.View.{View}
 use Rattle.port_board.specs.declared.view.Step.TheVariants.{Rests}
 use Rattle.port_board.specs.Views.{IsPoster, settlement, is_of, last_at, is_settled, is_left, is_unsettled, settled_if, settled_as, posted_too, looked, takes_in, came_of, Tried}
 use Rattle.port_board.specs.Views.{agents_out}
-use Rattle.port_board.specs.declared.board.Settled.{Settled}
-use Rattle.port_board.specs.declared.board.Settled.TheVariants.{Sent, TakenBack, Busy}
+use Rattle.port_board.specs.declared.answer.Settled.{Settled}
+use Rattle.port_board.specs.declared.answer.Settled.TheVariants.{Sent, TakenBack, Busy}
 use Rattle.port_board.specs.Words.{shows_granted}
 use Rattle.port_board.proofs.Lists.{last_is, last_pushed, is_of-same, is_of-false, any_pushed}
 use Rattle.port_board.proofs.AgentSteps.{M}

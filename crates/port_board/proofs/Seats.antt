@@ -1,17 +1,16 @@
 -- Seats that are cut and joined keep the rule.
-use Rattle.std.proofs.Common.{◌≡◌, ◌≢◌, ◌⊎◌, inl, inr, ℕ, zero, suc, ◌+◌, ◌<◌, ◌≤◌, List, [], ◌∷◌, ◌++◌, length, get_or, set, sym, refl, ap, ◌∙◌, subst, ⊎_elim, arith}
+use Rattle.std.proofs.Common.{◌≡◌, ◌≢◌, ◌⊎◌, inl, inr, ℕ, ◌+◌, ◌<◌, ◌≤◌, List, [], ◌∷◌, ◌++◌, length, get_or, set, sym, refl, ap, ◌∙◌, subst, ⊎_elim, arith}
 use Rattle.std.proofs.Common.{length-append, length-set}
-use Rattle.std.specs.Prelude.{All, AllPairs, Contains, slice_index}
+use Rattle.std.specs.Prelude.{All, AllPairs, Contains}
 use Rattle.std.proofs.lemmas.List.Elements.{All-nil, All-push, All-weaker, All-contains, Contains-push, Contains-append_left}
 use Rattle.std.proofs.lemmas.List.Quantifiers.{all_pairs_push}
 use mathlib.Core.Logic.{dite}
-use mathlib.Core.Option.{some, some-injective, some-ne-none}
+use mathlib.Core.Option.{some, some-injective}
 use native.Mathlib.Decide.{ℕ_discrete}
 use lib.ListN.{get_elem?}
-use Rattle.atomic_table.specs.Table.{Splits, Joins, opening}
+use Rattle.atomic_table.specs.Table.{Splits, Joins}
 use Rattle.atomic_table.proofs.Lists.{at_set, set_here, set_else, set_again, at_longer}
 use Rattle.coflow_units.specs.PortWord.{PortStage}
-use Rattle.coflow_units.specs.PortWord.PortStage.{unposted}
 use Rattle.port_board.specs.declared.view.Grant.{Grant}
 use Rattle.port_board.specs.declared.view.Report.{Report}
 use Rattle.port_board.specs.declared.view.Step.{Step}
@@ -22,19 +21,19 @@ use Rattle.port_board.specs.declared.view.Kind.{Kind}
 use Rattle.port_board.specs.declared.view.Kind.TheVariants.{Note, Agent, Poster}
 use Rattle.port_board.specs.Views.{number_of, report, blank, one_more, newcomer, came_of, takes_in}
 use Rattle.port_board.specs.Rule.{Cargo, grant_at, DifferAt, ReportsDiffer, Posted, Out, Back, Gone, Closed, CameOk, StepOk, Counts, Knows, PosterOk, agent, agents, IsNumber}
-use Rattle.port_board.specs.Rule.{Seated, HasOut, HasDone, Kept, first_poster}
+use Rattle.port_board.specs.Rule.{Seated, HasOut, HasDone, Kept}
 use Rattle.port_board.specs.Tells.{note_of, hears, spent}
-use Rattle.port_board.proofs.Words.{IsUnposted}
 use Rattle.coflow_units.proofs.Changes.{put, put_here, put_else}
-use Rattle.port_board.proofs.Moves.{St, seats_stay, total_set, total_push, inside_of, rebuilt, agent_seated}
+use Rattle.port_board.proofs.Moves.{St, total_set, total_push, inside_of, rebuilt, agent_seated}
 use Rattle.port_board.proofs.AgentSteps.{goes_same, not_poster}
 use Rattle.port_board.proofs.Agreements.{its}
+use Rattle.coflow_units.proofs.Elements.{at_end, seats_stay}
 
-none_pairs : {A : Type 0} (R : A → A → Type 0) → AllPairs R []
+pub none_pairs : {A : Type 0} (R : A → A → Type 0) → AllPairs R []
 none_pairs {A} R i j d lt within = absurd (omega arith)
 
 -- a view with empty lists knows nothing
-blank_knows : (cargo : ℕ → ℕ → Cargo) (stage : ℕ → ℕ → PortStage) (n : ℕ) (words : List ℕ) (slot : ℕ → ℕ) (k : Kind) (seen : List Grant) → All (Posted cargo stage) seen →
+pub blank_knows : (cargo : ℕ → ℕ → Cargo) (stage : ℕ → ℕ → PortStage) (n : ℕ) (words : List ℕ) (slot : ℕ → ℕ) (k : Kind) (seen : List Grant) → All (Posted cargo stage) seen →
     Knows cargo stage n words slot (record (blank k) { shown = seen })
 blank_knows cargo stage n words slot k seen all = record {
   shown = all;
@@ -49,12 +48,6 @@ blank_knows cargo stage n words slot k seen all = record {
   posts = All-nil (Posted cargo stage);
   settled = All-nil (Closed cargo stage);
 }
-
-at_end : (l : List View) (a b : View) (j : ℕ) → get_elem? (l ++ a ∷ []) j ≡ some b → (get_elem? l j ≡ some b) ⊎ ((j ≡ length l) × (a ≡ b))
-at_end [] a b zero e = inr (refl, some-injective a b e)
-at_end [] a b (suc j) e = absurd (some-ne-none b (sym e))
-at_end (x ∷ xs) a b zero e = inl e
-at_end (x ∷ xs) a b (suc j) e = ⊎_elim (λ t. inl t) (λ (t : (j ≡ length xs) × (a ≡ b)). inr (ap suc t.0, t.1)) (at_end xs a b j e)
 
 abbrev IsNote : Kind → Type 0
 IsNote Note = Unit {0}
@@ -371,47 +364,3 @@ module _ (n : ℕ) where
       by_kind who made returned a id j d Note lead far h = tt
       by_kind who made returned a id j d (Agent b) lead far h = (put_else who a id b (λ e. far (ap who (sym e) ∙ h.0)) ∙ h.0, h.1, h.2)
       by_kind who made returned a id j d Poster lead far h = absurd (lead refl)
-
-  -- a new board
-  pub starts : (words : List ℕ) → length words ≡ n + n → ((i : ℕ) → slice_index words i ≡ 0) → Kept n (opening words [] first_poster)
-  starts words long zeros = record {
-    slot = λ _. 0;
-    cargo = λ _ _. (0, 0);
-    stage = λ _ _. unposted;
-    who = λ _. 0;
-    made = 0;
-    returned = 0;
-    wide = long;
-    each_port = λ p _. record {
-      word_is = zeros p;
-      fits = (omega arith, omega arith);
-      lengths = λ k posted. absurd (posted refl);
-      later = λ k _. refl;
-      granted_last = λ k e. absurd (subst IsUnposted e tt);
-      drawn_last = λ k j e. absurd (subst IsUnposted e tt);
-      count_is = λ e. absurd (subst IsUnposted e tt);
-    };
-    beyond = λ _ _ _. refl;
-    seated = refl;
-    each_seat = λ j v e. subst (Knows (λ _ _. (0, 0)) (λ _ _. unposted) n words (λ _. 0)) (first_is j v e)
-        (blank_knows (λ _ _. (0, 0)) (λ _ _. unposted) n words (λ _. 0) Poster [] (All-nil (Posted (λ _ _. (0, 0)) (λ _ _. unposted))));
-    each_sits = λ j v e. subst (λ (z : View). Seated (λ _. 0) 0 0 j z z.kind) (first_is j v e)
-        (sym (first_at j v e), refl, refl, All-nil (IsNumber (λ _. 0) 0 j), none_pairs (λ (c d : Came). c.number ≢ d.number));
-    posting = λ j v e _. subst (PosterOk (λ _ _. (0, 0)) (λ _ _. unposted) n words (λ _. 0)) (first_is j v e) record {
-      slot_is = λ _. refl;
-      each_post = λ _ _ posted. absurd (posted refl);
-      taken = λ _ _ e. absurd (subst IsUnposted e tt);
-      count = λ _ _ _ e. absurd (subst IsUnposted e tt);
-      stepping = tt;
-    };
-    drawn_there = λ _ _ _ e. absurd (subst IsUnposted e tt);
-    reported_there = λ _ _ _ _ e. absurd (subst IsUnposted e tt);
-  }
-    where
-      first_is : (j : ℕ) (v : View) → get_elem? (first_poster ∷ []) j ≡ some v → first_poster ≡ v
-      first_is zero v e = some-injective first_poster v e
-      first_is (suc j) v e = absurd (some-ne-none v (sym e))
-
-      first_at : (j : ℕ) (v : View) → get_elem? (first_poster ∷ []) j ≡ some v → j ≡ 0
-      first_at zero v e = refl
-      first_at (suc j) v e = absurd (some-ne-none v (sym e))

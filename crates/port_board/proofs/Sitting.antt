@@ -7,8 +7,8 @@ use Rattle.coflow_units.specs.PortWord.{FitsWord}
 use Rattle.port_board.specs.declared.view.Grant.{Grant}
 use Rattle.port_board.specs.declared.view.Kind.TheVariants.{Agent}
 use Rattle.port_board.specs.declared.view.Step.TheVariants.{Rests}
-use Rattle.port_board.specs.declared.board.Draw.{Draw}
-use Rattle.port_board.specs.declared.board.Draw.TheVariants.{Drawn, Idle, Missed}
+use Rattle.port_board.specs.declared.answer.Draw.{Draw}
+use Rattle.port_board.specs.declared.answer.Draw.TheVariants.{Drawn, Idle, Missed}
 use Rattle.port_board.specs.Views.{number_of, found_idle, reported_as}
 use Rattle.port_board.specs.Tells.{loaded_now, drawn_now, after_miss}
 use Rattle.port_board.proofs.AgentSteps.{M}

@@ -1,6 +1,6 @@
 //! The board of port words, its poster and its agents.
 ghost use Rattle.std.specs.Prelude.{◌≡◌, ◌≢◌, ◌⊎◌, ℕ, ◌+◌, ◌-◌, ◌*◌, ◌/◌, ◌%◌, ◌^◌, ◌<◌, ◌≤◌, [], ◌∷◌, length, true, false, ◌||◌, AllPairs, Contains, Some, None, IfOk, Result};
-ghost use Rattle.coflow_units.specs.declared.limits.TheConstants.{MAX_PORTS};
+ghost use Rattle.coflow_units.specs.declared.limits.TheConstants.{MAX_FLOWS, MAX_PORTS, MAX_SLOT};
 ghost use Rattle.coflow_units.specs.PortWord.{word_of, FitsWord};
 ghost use Rattle.coflow_units.specs.PortWord.PortStage.{granted};
 ghost use Rattle.port_board.specs.declared.view.Came.{Came};
@@ -15,10 +15,12 @@ ghost use Rattle.port_board.specs.Answers.{is_busy};
 ghost use Rattle.port_board.specs.Tells.{loaded_now, after_miss, drawn_now, poster_step};
 ghost use Rattle.port_board.specs.Agreement.{SharesNothing, EachOnce, EachPosted, EachMissedPosted, AnswersAgree, SentCameBack, SentByAgent, NobodyHad, Agrees};
 
+use crate::answer::{Draw, Drawn, Settled};
 use crate::plays::{
     Another, Counts, Draws, Hears, Learns, Loads, Notes, PosterLoads, Posts, ReadsLength,
     ReadsSent, Reports, TakesBack, TakesIn,
 };
+use crate::seat::{AgentSeat, Poster};
 use crate::view::{Place, Ports, View};
 use atomic_table::Table;
 use coflow_units::NoMemory;
@@ -58,131 +60,6 @@ impl Model for PortBoard {
 
     ghost invariant = { λ b. (b.table.shared.table_id.words ≡ b.ports + b.ports) × (b.table.shared.key ≡ b.ports) ×
         (b.table.shared.table_id.slots ≡ 0) × (1 ≤ b.ports) × (b.ports ≤ MAX_PORTS + 1) };
-}
-
-/// The one seat that posts and settles. It makes the agents' seats.
-#[derive(Drop)]
-pub struct Poster {
-    place: Place,
-    agents: u32,
-    // whether each port has an unsettled post
-    posted: Vec<bool>,
-}
-
-impl Model for Poster {
-    ghost use Rattle.std.specs.Prelude.{◌≡◌, ℕ, ◌+◌, ◌≤◌, [], length, false, slice_index_or};
-    ghost use Rattle.port_board.specs.declared.view.Step.TheVariants.{Rests};
-    ghost use Rattle.port_board.specs.Views.{Sits, IsPoster, is_unsettled};
-
-    ghost Value = { Sits };
-
-    ghost view = { λ p. record { at = p.place.table_id; view = p.place.me.0 } };
-
-    ghost invariant = { λ p. (p.place.me.1 ≡ []) × (p.place.me.0.step ≡ Rests) × (IsPoster p.place.me.0.kind) ×
-        (length p.place.me.0.back + p.agents ≡ p.place.me.0.made) ×
-        (length p.posted.items + length p.posted.items ≡ p.place.table_id.words) ×
-        ((q : ℕ) → slice_index_or p.posted.items q false ≡ is_unsettled q p.place.me.0.posts p.place.me.0.settled) };
-}
-
-/// The seat of an agent: a thread that draws grants and reports what it sent.
-#[derive(Drop)]
-pub struct AgentSeat {
-    place: Place,
-    ports: u32,
-}
-
-impl Model for AgentSeat {
-    ghost use Rattle.std.specs.Prelude.{◌≡◌, ◌+◌, ◌<◌, [], All};
-    ghost use Rattle.coflow_units.specs.PortWord.{FitsWord};
-    ghost use Rattle.port_board.specs.declared.view.Grant.{Grant};
-    ghost use Rattle.port_board.specs.declared.view.Kind.TheVariants.{Agent};
-    ghost use Rattle.port_board.specs.declared.view.Step.TheVariants.{Rests};
-    ghost use Rattle.port_board.specs.Views.{Sits, number_of};
-
-    ghost Value = { Sits };
-
-    ghost view = { λ s. record { at = s.place.table_id; view = s.place.me.0 } };
-
-    ghost invariant = { λ s. (s.place.me.1 ≡ []) × (s.place.me.0.step ≡ Rests) ×
-        (s.place.me.0.kind ≡ Agent (number_of s.place.me.0.kind)) × (s.ports + s.ports ≡ s.place.table_id.words) ×
-        All (λ (g : Grant). (g.port < s.ports) × FitsWord g.slot g.flow) s.place.me.0.out };
-}
-
-/// A grant that a seat drew. Only `report` spends it.
-pub struct Drawn {
-    port: u32,
-    slot: u64,
-    flow: u32,
-    length: u64,
-}
-
-impl Model for Drawn {
-    ghost use Rattle.port_board.specs.declared.view.Grant.{Grant};
-    ghost use Rattle.port_board.specs.Views.{grant};
-
-    ghost Value = { Grant };
-
-    ghost view = { λ d. grant d.port d.slot d.flow d.length };
-}
-
-impl Drawn {
-    /// The ingress port of the grant.
-    pub fn port(&self) -> u32
-        ensures { result ≡ self.now.port }
-    {
-        self.port
-    }
-
-    /// The first slot in which the flow may send.
-    pub fn slot(&self) -> u64
-        ensures { result ≡ self.now.slot }
-    {
-        self.slot
-    }
-
-    /// The flow that may send.
-    pub fn flow(&self) -> u32
-        ensures { result ≡ self.now.flow }
-    {
-        self.flow
-    }
-
-    /// How many slots the grant has, and so how many units may be sent.
-    pub fn length(&self) -> u64
-        ensures { result ≡ self.now.length }
-    {
-        self.length
-    }
-}
-
-/// What a try to draw at a port came to.
-pub enum Draw {
-    /// The seat drew this grant.
-    Drawn(Drawn),
-    /// The word that was loaded is not granted.
-    Idle(u64),
-    /// The word that was loaded was granted, and the exchange found another.
-    Missed { loaded: u64, found: u64 },
-}
-
-/// What the settling of a post came to.
-#[derive(Clone, Copy, Debug, PartialEq, Eq)]
-pub enum Settled {
-    /// An agent drew the grant and reported this number.
-    Sent(u64),
-    /// Nobody drew the grant, and nobody can any more.
-    TakenBack,
-    /// An agent drew the grant and has not reported: the word that shows it. The post stays unsettled.
-    Busy(u64),
-}
-
-impl Settled {
-    // Whether the post stays unsettled.
-    fn is_busy(&self) -> bool
-        ensures { result ≡ is_busy self.now }
-    {
-        matches!(self, Settled::Busy(_))
-    }
 }
 
 impl PortBoard {
@@ -270,9 +147,9 @@ impl PortBoard {
         requires own { poster.old.at ≡ self.now.id }
         requires port { port < self.now.ports }
         requires settled { is_unsettled port poster.old.view.posts poster.old.view.settled ≡ false }
-        requires slot { (last_slot port poster.old.view.posts < slot) × (slot < 2 ^ 41) }
-        requires flow { flow < 2 ^ 20 }
-        requires length { (1 ≤ length) × (length ≤ 2 ^ 41) }
+        requires slot { (last_slot port poster.old.view.posts < slot) × (slot ≤ MAX_SLOT) }
+        requires flow { flow < MAX_FLOWS }
+        requires length { (1 ≤ length) × (length ≤ MAX_SLOT + 1) }
         ensures own { poster.new.at ≡ poster.old.at }
         ensures post { poster.new.view ≡ posted_too (grant port slot flow length) poster.old.view }
         ensures unsettled { is_unsettled port poster.new.view.posts poster.new.view.settled ≡ true }
@@ -498,23 +375,4 @@ fn count_place(ports: u32, port: u32) -> usize
     ensures { result ≡ ports + port }
 {
     ports as usize + port as usize
-}
-
-impl Poster {
-    /// The number of agents made and not back.
-    pub fn agents(&self) -> u32
-        ensures { result ≡ agents_out self.now.view }
-    {
-        self.agents
-    }
-
-    /// Whether the port has a post that is not settled.
-    pub fn posted(&self, port: u32) -> bool
-        ensures { result ≡ is_unsettled port self.now.view.posts self.now.view.settled }
-    {
-        match self.posted.get(port as usize) {
-            Some(posted) => *posted,
-            None => false,
-        }
-    }
 }

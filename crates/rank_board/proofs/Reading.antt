@@ -12,7 +12,8 @@ use Rattle.rank_board.specs.Words.{word_at, coflow_at, rank_word, rank_of, WasPu
 use Rattle.rank_board.specs.Banks.{WasWritten, Knows, Kept}
 use Rattle.rank_board.specs.Tells.{looks, reads, meets, after_look, after_read}
 use Rattle.rank_board.proofs.Ranks.{none_next}
-use Rattle.rank_board.proofs.Views.{St, M, seats_stay, with_views}
+use Rattle.rank_board.proofs.Views.{St, M, with_views}
+use Rattle.coflow_units.proofs.Elements.{seats_stay}
 
 module _ (n : ℕ) where
   -- a load of a word changes the view of the seat alone

@@ -6,7 +6,8 @@ use Rattle.atomic_table.proofs.Lists.{set_else}
 use Rattle.rank_board.specs.declared.view.View.{View}
 use Rattle.rank_board.specs.Banks.{WasWritten, Knows, Kept, blank}
 use Rattle.rank_board.specs.Tells.{same_view, newcomer, hears, without_right, right_of, takes_right}
-use Rattle.rank_board.proofs.Views.{seats_stay, one_more_stays, knows_more, with_views}
+use Rattle.rank_board.proofs.Views.{one_more_stays, knows_more, with_views}
+use Rattle.coflow_units.proofs.Elements.{seats_stay}
 
 -- a view without looks, which may not publish
 blank_knows : (published : List (List ℕ)) (next : List ℕ) (writer place seen : ℕ) → seen ≤ length published → Knows published next writer place (record blank { seen = seen })

@@ -14,7 +14,9 @@ use Rattle.rank_board.specs.Words.{word_at, rank_word, rank_of}
 use Rattle.rank_board.specs.Banks.{WasWritten, Knows, Kept, publisher_view}
 use Rattle.rank_board.specs.Tells.{writes, raises}
 use Rattle.rank_board.proofs.Ranks.{at_last, at_first, longer, rank_stays, rank_new, small_stays, all_published, writes_more}
-use Rattle.rank_board.proofs.Views.{M, seats_stay, knows_more}
+use Rattle.rank_board.proofs.Views.{M, knows_more}
+use Rattle.coflow_units.proofs.Elements.{seats_stay}
+use Rattle.coflow_units.proofs.Ranges.{zero_at}
 
 module _ (n : ℕ) where
   -- the word of the next coflow, of the next version
@@ -122,14 +124,9 @@ module _ (n : ℕ) where
         refl,
       )
 
-zero_words : (m i : ℕ) → ◌≡◌ {A = ℕ} (get_or (replicate m 0) i 0) 0
-zero_words zero i = refl
-zero_words (suc m) zero = refl
-zero_words (suc m) (suc i) = zero_words m i
-
 -- the words of a new board
 pub new_words : (words : List ℕ) (n : ℕ) → words ≡ replicate (1 + 2 * n) 0 → (length words ≡ 1 + 2 * n) × ((i : ℕ) → get_or words i 0 ≡ 0)
-new_words words n e = (ap (λ (l : List ℕ). length l) e ∙ length-replicate (1 + 2 * n) 0, λ i. ap (λ (l : List ℕ). get_or l i 0) e ∙ zero_words (1 + 2 * n) i)
+new_words words n e = (ap (λ (l : List ℕ). length l) e ∙ length-replicate (1 + 2 * n) 0, λ i. ap (λ (l : List ℕ). get_or l i 0) e ∙ zero_at (1 + 2 * n) i)
 
 no_ranks : (v c : ℕ) → rank_of [] v c ≡ 0
 no_ranks zero c = refl

@@ -1,7 +1,8 @@
 use Rattle.std.proofs.Common.{rules, ap, ◌∙◌, refl, eq-eqb}
 use Rattle.std.proofs.lemmas.Bool.{cond-true}
 use Rattle.port_board.specs.declared.view.View.{View}
-use Rattle.port_board.proofs.AgentSteps.{drawing, reading_length}
+use Rattle.port_board.proofs.AgentSteps.{drawing}
+use Rattle.port_board.proofs.AgentReports.{reading_length}
 use Rattle.port_board.proofs.board.PortBoard.exchange.Goals as goal
 
 pub compare_exchange-found-requires : goal.compare_exchange-found-requires

@@ -1,6 +1,6 @@
 use Rattle.std.proofs.Common.{◌*◌, sym, ap, ◌∙◌}
 use Rattle.std.specs.Prelude.{replicate}
-use Rattle.port_board.proofs.Seats.{starts}
+use Rattle.port_board.proofs.NewBoard.{starts}
 use Rattle.port_board.proofs.Posting.{new_words}
 use Rattle.port_board.proofs.board.PortBoard.new.Goals as goal
 

@@ -1,4 +1,4 @@
-use Rattle.std.proofs.Common.{rules, ◌≡◌, ℕ, ◌+◌, ◌*◌, ◌<◌, ◌∙◌, sym, ap, refl, subst, length, true, false}
+use Rattle.std.proofs.Common.{rules, ◌≡◌, ℕ, ◌+◌, ◌*◌, ◌<◌, ◌∙◌, sym, ap, refl, subst, arith, length, true, false}
 use Rattle.port_board.specs.declared.view.View.{View}
 use Rattle.port_board.specs.declared.view.Step.TheVariants.{Counted}
 use Rattle.port_board.specs.declared.view.Grant.{Grant}
@@ -6,7 +6,7 @@ use Rattle.port_board.specs.Words.{slot_of, flow_of}
 use Rattle.port_board.specs.Tells.{counted}
 use Rattle.port_board.specs.Views.{is_unsettled, last_slot, posted_too, grant}
 use Rattle.port_board.proofs.AgentSteps.{M}
-use Rattle.port_board.proofs.PosterSteps.{measuring, posting}
+use Rattle.port_board.proofs.PostSteps.{measuring, posting}
 use Rattle.port_board.proofs.Posting.{after_post, carry_poster, port_in}
 use Rattle.port_board.proofs.board.PortBoard.post.Goals as goal
 
@@ -23,13 +23,14 @@ store-requires-2 c =
     let table = ap (λ u. u.at) c.poster.view_is ∙ (c.requires.own ∙ sym (ap (λ u. u.id) c.self.view_is)) in
     let e = c.store.ensures.2 in
     let at = c.count_place-count.ensures ∙ ap (λ z. z + c.args.port) (sym c.self.invariant.1) in
+    let fits : c.args.slot < 2199023255552 = omega (arith, c.requires.slot.1) in
     let above = subst (λ (m : M). last_slot c.args.port m.0.posts < c.args.slot) (sym e)
     (subst (λ (v : View). last_slot c.args.port v.posts < c.args.slot) (sym view) c.requires.slot.0) in (
       c.store.ensures.0 ∙ table,
       search rules,
       posting _ _ _ _ _ _ _ c.args.flow c.args.length (ap (λ (m : M). m.0.kind) e ∙ c.poster.invariant.2) (ap (λ (m : M). m.0.step) e ∙ ap (λ z. Counted z c.args.length) at)
           (search rules) above
-          (c.requires.slot.1, c.requires.flow) c.requires.length.0 c.requires.length.1 (ap (λ z. 2305843009213693952 + (c.args.slot * 1048576 + z)) c.from.ensures),
+          (fits, c.requires.flow) c.requires.length.0 c.requires.length.1 (ap (λ z. 2305843009213693952 + (c.args.slot * 1048576 + z)) c.from.ensures),
     )
 
 pub invariant_of-poster : goal.invariant_of-poster

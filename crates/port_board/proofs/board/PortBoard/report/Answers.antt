@@ -9,7 +9,8 @@ use Rattle.port_board.specs.Views.{grant, reported_as}
 use Rattle.port_board.specs.Words.{slot_of}
 use Rattle.port_board.specs.Tells.{counted}
 use Rattle.port_board.proofs.Words.{slot_of-reported}
-use Rattle.port_board.proofs.AgentSteps.{M, counting, reporting}
+use Rattle.port_board.proofs.AgentSteps.{M}
+use Rattle.port_board.proofs.AgentReports.{counting, reporting}
 use Rattle.port_board.proofs.Sitting.{SeatOk, in_board, after_report, carry}
 use Rattle.port_board.proofs.board.PortBoard.report.Goals as goal
 

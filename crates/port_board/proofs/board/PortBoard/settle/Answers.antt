@@ -1,8 +1,8 @@
 use Rattle.std.proofs.Common.{◌≡◌, inl, ℕ, ◌+◌, ◌<◌, ◌∙◌, sym, ap, refl, subst, arith, length, set, Bool, Some, None, true}
 use Rattle.port_board.specs.declared.view.View.{View}
-use Rattle.port_board.specs.declared.board.Settled.{Settled}
+use Rattle.port_board.specs.declared.answer.Settled.{Settled}
 use Rattle.port_board.specs.Views.{last_at, is_unsettled, looked, settled_as, Tried, ShowsLast}
-use Rattle.port_board.specs.declared.board.Settled.TheVariants.{Sent, TakenBack, Busy}
+use Rattle.port_board.specs.declared.answer.Settled.TheVariants.{Sent, TakenBack, Busy}
 use Rattle.port_board.specs.Words.{shows_granted, shows_drawn, shows_reported}
 use Rattle.port_board.specs.Answers.{is_busy}
 use Rattle.port_board.specs.Agreement.{NobodyHad}
