@@ -1,0 +1,11 @@
+-- the search goes on from the power
+use Rattle.std.proofs.Common.{◌≡◌, ◌≤◌, ◌<◌, ◌-◌, ◌*◌, ◌⊎◌}
+use Rattle.picture_text.specs.Ticks.{step_from, step_of}
+use Rattle.picture_text.proofs.ticks.step_of.Given as goal
+
+abbrev pub invariant-loop : goal.invariant-loop
+invariant-loop l = record {
+  same : step_from (13 - l.counter) l.power l.count ≡ step_of l.count;
+  some : 1 ≤ l.power;
+  low : (l.power ≡ 1) ⊎ (4 * l.power < l.count);
+}

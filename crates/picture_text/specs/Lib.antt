@@ -1,0 +1,7 @@
+pub mod Text
+pub mod Layout
+pub mod Palette
+pub mod Heaviest
+pub mod Ticks
+pub mod Title
+pub mod Svg
