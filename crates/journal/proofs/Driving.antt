@@ -9,7 +9,9 @@ use Rattle.coflow_units.specs.declared.fabric.Flow.{Flow}
 use Rattle.coflow_units.specs.Flows.{ingress_of}
 use Rattle.coflow_units.specs.Grants.{IsGrants}
 use Rattle.coflow_units.proofs.ServedLaws.{grants_clear}
-use Rattle.coflow_units.proofs.Sums.{any_has, any_in, in_first, in_tail}
+use Rattle.coflow_units.proofs.Sums.{any_has, any_in}
+use Rattle.coflow_units.proofs.Bools.{same_if}
+use Rattle.coflow_units.proofs.Lists.{filter_all, filter_same}
 use Rattle.journal.specs.declared.command.Command.TheVariants.{Close}
 use Rattle.journal.specs.declared.command.Entry.{Entry}
 use Rattle.journal.specs.declared.command.Reply.TheVariants.{NoneOpen, Closed}
@@ -33,15 +35,10 @@ use Rattle.journal.proofs.ClosedSteps.{closed_push, wire_push}
 use Rattle.journal.proofs.Ingresses.{grant_at, grant_is}
 use Rattle.journal.proofs.Schedules.{schedule_push}
 use Rattle.journal.proofs.Ranges.{range_none, range_same}
-use Rattle.journal.proofs.Filters.{filter_all, filter_same}
 use Rattle.journal.proofs.Along.{all_front}
 use Rattle.journal.proofs.EntryTells.{entry_tells}
 
 -- ---- what is credited
-
-if_has : (b : Bool) (m n : ℕ) → (b ≡ true → m ≡ n) → (if b then m else 0) ≡ (if b then n else 0)
-if_has true m n same = same refl
-if_has false m n same = refl
 
 from_note : (d : Drive) (p : ℕ) (told : Option ℕ) → d.sent p ≤ d.slots → IsNoteOf d p told → (d.sent p < d.slots → told ≡ Some (d.sent p)) → unwrap_or told d.slots ≡ d.sent p
 from_note d p told le (inr e) low = ap (λ (n : Option ℕ). unwrap_or n d.slots) e
@@ -99,7 +96,7 @@ ends o before d r legal ok h =
       sent = λ f.
           ap (λ (t : State). t.sent f) state ∙ ap (λ n. n + credit flows r f) (h.leaves.sent f)
           ∙ ap (λ n. (state_of o before).sent f + n)
-          (if_has (has r.granted f) (unwrap_or (note_in r.notes (ingress_of flows f)) r.slots) (d.sent (ingress_of flows f))
+          (same_if (has r.granted f) (unwrap_or (note_in r.notes (ingress_of flows f)) r.slots) (d.sent (ingress_of flows f))
           (λ t. sym (ap {B = ℕ} (λ b. if b then unwrap_or (note_in r.notes (ingress_of flows f)) r.slots else 0) t) ∙ h.credits f (any_has r.granted f t)) ∙
           ap (λ gs. if has gs f then d.sent (ingress_of flows f) else 0) h.granted);
       closed = (r, h.run, closed_push o j (closing d) ∙ ap (λ l. closed_runs o j ++ l) added ∙ ap (λ l. l ++ r ∷ []) h.leaves.closed, h.first, h.slots, h.granted, h.credits);

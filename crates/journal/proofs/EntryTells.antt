@@ -40,7 +40,7 @@ opened_tells o s most none =
     branch P (length (owing o s) == 0) NothingLeft (if s.next == slot_end then Late s.next else made) (λ e. (most, refl, none, eqb-true (length (owing o s)) 0 e)) (λ some.
     branch P (s.next == slot_end) (Late s.next) made
     (λ e. let at = eqb-true s.next slot_end e in (none, inl (most, refl, at, at, omega (arith, eqb-false (length (owing o s)) 0 some))))
-    (λ e. (most, refl, none, omega (arith, eqb-false (length (owing o s)) 0 some), refl, refl, refl)))
+    (λ e. (most, refl, none, omega (arith, eqb-false (length (owing o s)) 0 some), refl, refl, refl, eqb-false s.next slot_end e)))
 
 skipped_tells : (o : Opening) (s : State) (to : ℕ) → s.run ≡ None → TellsEntry o s (Skip to) (skipped o s to)
 skipped_tells o s to none =

@@ -37,3 +37,6 @@ pub mod WireUnits
 pub mod NextSlots
 pub mod OwnEntries
 pub mod TallySteps
+pub mod TallySlots
+pub mod Ending
+pub mod Longest

@@ -1,38 +1,21 @@
 -- What an Open is answered.
-use Rattle.std.proofs.Common.{◌≡◌, ℕ, ◌+◌, ◌-◌, ◌<◌, ◌⊎◌, inl, inr, true, List, [], ◌∷◌, ◌++◌, Contains, get_or, length, min, refl, sym, ap, subst, ◌∙◌, arith, append_assoc, None}
+use Rattle.std.proofs.Common.{◌≡◌, ℕ, ◌+◌, ◌-◌, ◌<◌, inl, inr, List, ◌∷◌, ◌++◌, length, refl, sym, ap, subst, ◌∙◌, arith, None}
 use Rattle.std.specs.Prelude.{◌==◌, if◌then◌else◌}
 use Rattle.std.proofs.lemmas.Bool.{eqb-false, eqb-true}
-use Rattle.coflow_units.specs.Flows.{ingress_of}
-use Rattle.coflow_units.specs.Grants.{IsGrants, IsRunLength}
-use Rattle.coflow_units.specs.Served.{IsServedSoFar, left_after}
-use Rattle.coflow_units.proofs.ServedRuns.{run_goes_on, same_grants}
-use Rattle.coflow_units.proofs.Sums.{any_in}
-use Rattle.journal.specs.declared.command.Command.{Command}
 use Rattle.journal.specs.declared.command.Command.TheVariants.{Open}
 use Rattle.journal.specs.declared.command.Entry.{Entry}
 use Rattle.journal.specs.declared.command.Reply.{Reply}
 use Rattle.journal.specs.declared.command.Reply.TheVariants.{StillOpen, NothingLeft, Late, Opened}
 use Rattle.journal.specs.declared.opening.Opening.{Opening}
-use Rattle.journal.specs.State.{owed, slot_end, State}
+use Rattle.journal.specs.State.{slot_end, State}
 use Rattle.journal.specs.Line.{owing}
 use Rattle.journal.specs.Runs.{granted, slots_for}
 use Rattle.journal.specs.Fold.{state_of}
-use Rattle.journal.specs.Answer.{in_range, on_run, opened}
-use Rattle.journal.specs.Journal.{entry, IsLegal, line_of}
-use Rattle.journal.specs.Sound.{InRange}
-use Rattle.journal.proofs.Legal.{legal_front}
-use Rattle.journal.proofs.Opened.{run_length_is}
+use Rattle.journal.specs.Answer.{on_run, opened}
+use Rattle.journal.specs.Journal.{entry, IsLegal}
 use Rattle.journal.proofs.Sound.{branch}
-use Rattle.journal.specs.Closed.{schedule_of}
-use Rattle.journal.specs.Driven.{closing, Drive, driven, GoesOnByRun, IsDriven, IsSentWhole, opened_in, opening}
 use Rattle.journal.specs.Entries.{IsOpenReply}
 use Rattle.journal.proofs.Between.{answered}
-use Rattle.journal.proofs.Counting.{opened_grant}
-use Rattle.journal.proofs.Driving.{driven_even, driven_goes_on, free, legal_open}
-use Rattle.journal.proofs.Leaving.{others_leave}
-use Rattle.journal.proofs.Along.{all_front}
-use Rattle.journal.proofs.EntryTells.{entry_tells}
-use Rattle.journal.proofs.ScheduleTimes.{times_is_sent}
 
 -- ---- what an Open is answered
 
@@ -42,7 +25,8 @@ opened_is o s most =
     let P = IsOpenReply o s most in
     branch P (length (owing o s) == 0) NothingLeft (if s.next == slot_end then Late s.next else made) (λ e. inl (refl, eqb-true (length (owing o s)) 0 e)) (λ some.
     let owes : 0 < length (owing o s) = omega (arith, eqb-false (length (owing o s)) 0 some) in
-    branch P (s.next == slot_end) (Late s.next) made (λ e. inr (inl (ap Late (eqb-true s.next slot_end e), eqb-true s.next slot_end e, owes))) (λ e. inr (inr (refl, owes))))
+    branch P (s.next == slot_end) (Late s.next) made (λ e. inr (inl (ap Late (eqb-true s.next slot_end e), eqb-true s.next slot_end e, owes)))
+    (λ e. inr (inr (refl, owes, eqb-false s.next slot_end e))))
 
 -- where no run is open, an Open finds nothing left, comes too late, or opens a run
 pub open_reply : (o : Opening) (before more : List Entry) (who most : ℕ) (reply : Reply) → IsLegal o (before ++ (entry who (Open most) reply ∷ more)) →

@@ -1,24 +1,6 @@
 -- Lists over ranges of numbers.
-use Rattle.std.proofs.Common.{◌≡◌, ℕ, ◌+◌, ◌-◌, ◌≤◌, ◌<◌, inl, inr, Bool, false, List, [], ◌∷◌, ◌++◌, map, replicate, refl, sym, ap, ◌∙◌, arith, append-nil, zero, suc, cond}
-use Rattle.std.specs.Prelude.{All, nat_le, nat_lt, ◌&&◌}
-use Rattle.std.specs.List.{filter, range_with_len}
-use Rattle.std.proofs.lemmas.Bool.{and_from, and_left, and_right, cases_lt, le-leb, le-ltb, lt-leb, lt-ltb}
-use Rattle.std.proofs.lemmas.List.{map-append}
-use Rattle.std.proofs.lemmas.List.Concat.{flat_map-append}
-use Rattle.coflow_units.specs.declared.fabric.Flow.{Flow}
-use Rattle.journal.specs.State.{Run}
-use Rattle.journal.specs.Runs.{credit}
-use Rattle.journal.specs.Closed.{flows_in, IsClosedRun, reaches, run_in, slots_in}
-
-pub range_append : (a m n : ℕ) → range_with_len a (m + n) ≡ range_with_len a m ++ range_with_len (a + m) n
-range_append a zero n =
-    let e : a ≡ a + 0 = omega arith in
-    let e2 : 0 + n ≡ n = omega arith in
-    ap (range_with_len a) e2 ∙ ap (λ b. range_with_len b n) e
-range_append a (suc m) n =
-    let e : suc m + n ≡ suc (m + n) = omega arith in
-    let e2 : a + 1 + m ≡ a + suc m = omega arith in
-    ap (range_with_len a) e ∙ ap (λ l. a ∷ l) (range_append (a + 1) m n ∙ ap (λ b. range_with_len (a + 1) m ++ range_with_len b n) e2)
+use Rattle.std.proofs.Common.{◌≡◌, ℕ, ◌+◌, ◌≤◌, ◌<◌, ◌∷◌, map, replicate, refl, ap, ◌∙◌, arith, zero, suc}
+use Rattle.std.specs.List.{range_with_len}
 
 pub range_same : {X : Type 0} (f g : ℕ → X) (a n : ℕ) → ((t : ℕ) → a ≤ t → t < a + n → f t ≡ g t) → map f (range_with_len a n) ≡ map g (range_with_len a n)
 range_same f g a zero same = refl

@@ -1,19 +1,20 @@
 -- The rows, computed.
-use Rattle.std.proofs.Common.{◌≡◌, ℕ, ◌≤◌, ◌⊎◌, true, inl, inr, List, [], ◌∷◌, Contains, refl, ap, cond, subst, arith}
+use Rattle.std.proofs.Common.{◌≡◌, ℕ, ◌<◌, ◌≤◌, ◌⊎◌, true, inl, inr, List, [], ◌∷◌, Contains, refl, ap, cond, subst, arith}
 use Rattle.std.specs.Prelude.{All}
 use Rattle.std.proofs.lemmas.Bool.{cases_eq, ne_eqb}
 use Rattle.std.proofs.lemmas.List.Elements.{All-cons, All-nil}
 use Rattle.coflow_units.specs.Flows.{ingress_of}
-use Rattle.coflow_units.specs.Rows.{two_flows}
-use Rattle.coflow_units.proofs.Sums.{first_or_tail, in_first, nothing_in}
+use Rattle.coflow_units.specs.Rows.{all_ties, two_flows}
+use Rattle.coflow_units.proofs.Sums.{first_or_tail, in_first, in_tail, nothing_in}
 use Rattle.journal.specs.Chosen.{the_ordering, the_grants}
 use Rattle.journal.specs.declared.command.Command.TheVariants.{Register, Withdraw, Publish, Pull, Short, Reweigh}
 use Rattle.journal.specs.declared.command.Reply.TheVariants.{Joined, Left, StillOpen, Unranked, Noted, Weighed}
 use Rattle.journal.specs.declared.command.Entry.{Entry}
 use Rattle.journal.specs.Journal.{entry}
-use Rattle.journal.specs.Driven.{is_other, IsShortOf, times_noted}
-use Rattle.journal.specs.RunRows.{CountedGrants, CountedNotes, CountedRuns, FurthestSkips, NotedRun, one_run, OneRun, OpenRun, ServedOrder, SkippedSlots, TwiceOnAWire}
-use Rattle.journal.specs.RunRows.{TwoPorts, WithdrawalBetween}
+use Rattle.journal.specs.Driven.{is_other, IsShortOf, notes_due, sent_from, times_noted}
+use Rattle.journal.specs.RunRows.{CountedGrants, CountedKinds, CountedNotes, CountedRuns, DrivenApart, EndedFlows, first_apart, FurthestSkips}
+use Rattle.journal.specs.RunRows.{NotedRun, one_run, OneRun, OpenRun, ServedOrder, SkippedSlots, TwiceOnAWire}
+use Rattle.journal.specs.RunRows.{second_apart, SlotsOfARun, TalliedSlots, TwoPorts, WithdrawalBetween}
 
 pub served_order_is : ServedOrder
 unfolding the_ordering the_grants
@@ -97,7 +98,92 @@ unfolding the_ordering the_grants
 counted_grants_are = (refl, refl, refl, refl, refl)
 
 pub furthest_skips_are : FurthestSkips
-furthest_skips_are = (refl, refl, refl)
+furthest_skips_are = (refl, refl, refl, refl)
 
 pub counted_notes_are : CountedNotes
-counted_notes_are = (refl, refl, refl, refl)
+counted_notes_are = (refl, refl, refl, refl, refl)
+
+-- ---- two ports
+
+both : (f : ℕ) → Contains (0 ∷ 3 ∷ []) f → (0 ≡ f) ⊎ (3 ≡ f)
+both f in' = elim (first_or_tail 0 (3 ∷ []) f in') [
+  | inl e ↦ inl e
+  | inr h ↦ elim (first_or_tail 3 [] f h) [
+    | inl e ↦ inr e
+    | inr h ↦ absurd (nothing_in f h)
+  ]
+]
+
+of_both : (P : ℕ → Type 0) → P 0 → P 3 → (f : ℕ) → Contains (0 ∷ 3 ∷ []) f → P f
+of_both P zero' three f in' = elim (both f in') [
+  | inl e ↦ subst P e zero'
+  | inr e ↦ subst P e three
+]
+
+within_one : 1 ≤ 1
+within_one = omega arith
+
+none_within : 0 ≤ 1
+none_within = omega arith
+
+none_below : 0 < 1
+none_below = omega arith
+
+once_apart : (port : ℕ) → times_noted first_apart.between port ≤ 1
+once_apart port = elim (cases_eq 1 port) [
+  | inl same ↦ subst (λ p. times_noted first_apart.between p ≤ 1) same within_one
+  | inr other ↦ omega (arith, ap {B = ℕ} (λ b. cond b 1 0) (ne_eqb 1 port other))
+]
+
+abbrev Apart : List ℕ → Entry → Type 0
+Apart granted e = (is_other e ≡ true) ⊎ IsShortOf all_ties.flows granted first_apart e
+
+between_apart : (granted : List ℕ) → Contains granted 3 → All (Apart granted) first_apart.between
+between_apart granted in' =
+    All-cons (Apart granted) (entry 0 (Short 1 0) (Noted 0)) [] (inr (3, in', refl, refl, none_below)) (All-nil (Apart granted))
+
+abbrev AnyBetween : List ℕ → Entry → Type 0
+AnyBetween granted e = (is_other e ≡ true) ⊎ IsShortOf all_ties.flows granted second_apart e
+
+no_between : (granted : List ℕ) → All (AnyBetween granted) []
+no_between granted = All-nil (AnyBetween granted)
+
+pub driven_apart_are : DrivenApart
+unfolding the_ordering the_grants
+driven_apart_are = (
+  refl,
+  record {
+    goes_on = refl;
+    under_way = record {
+      goes_on = refl;
+      earlier = All-nil (λ e. is_other e ≡ true);
+      between = between_apart (0 ∷ 3 ∷ []) (in_tail 0 (3 ∷ []) 3 (in_first 3 []));
+      once = once_apart;
+    };
+    within = of_both (λ f. sent_from all_ties.flows first_apart f ≤ 1) within_one none_within;
+    noted = of_both (λ f. times_noted first_apart.between (ingress_of all_ties.flows f) ≡ notes_due all_ties.flows first_apart f) refl refl;
+  },
+  refl,
+  refl,
+  record {
+    goes_on = refl;
+    under_way = record { goes_on = refl; earlier = All-nil (λ e. is_other e ≡ true); between = no_between (1 ∷ 2 ∷ []); once = λ port. none_within };
+    within = λ f in'. within_one;
+    noted = λ f in'. refl;
+  },
+  λ f in'. refl,
+)
+
+pub counted_kinds_are : CountedKinds
+counted_kinds_are = (refl, refl)
+
+pub slots_of_a_run_are : SlotsOfARun
+slots_of_a_run_are = ((omega arith, omega arith), (omega arith, omega arith), λ h. absurd (omega (arith, h.0)), λ h. absurd (omega (arith, h.1)))
+
+pub ended_flows_are : EndedFlows
+unfolding the_ordering the_grants
+ended_flows_are = (refl, refl, refl, refl, refl, refl)
+
+pub tallied_slots_are : TalliedSlots
+unfolding the_ordering the_grants
+tallied_slots_are = (refl, refl, refl, refl, refl)

@@ -1,16 +1,18 @@
 -- The slots that closed runs make.
-use Rattle.std.proofs.Common.{◌≡◌, ℕ, ◌+◌, ◌-◌, ◌≤◌, ◌<◌, inl, inr, Bool, false, List, [], ◌∷◌, ◌++◌, map, replicate, refl, sym, ap, ◌∙◌, arith, append-nil, zero, suc, cond}
+use Rattle.std.proofs.Common.{◌≡◌, ℕ, ◌+◌, ◌-◌, ◌≤◌, ◌<◌, inl, inr, List, [], ◌∷◌, ◌++◌, map, replicate, refl, sym, ap, ◌∙◌, arith, append-nil, suc}
 use Rattle.std.specs.Prelude.{All, nat_le, nat_lt, ◌&&◌}
 use Rattle.std.specs.List.{filter, range_with_len}
 use Rattle.std.proofs.lemmas.Bool.{and_from, and_left, and_right, cases_lt, le-leb, le-ltb, lt-leb, lt-ltb}
 use Rattle.std.proofs.lemmas.List.{map-append}
 use Rattle.std.proofs.lemmas.List.Concat.{flat_map-append}
 use Rattle.coflow_units.specs.declared.fabric.Flow.{Flow}
+use Rattle.coflow_units.proofs.Lists.{filter_same}
+use Rattle.coflow_units.proofs.Ranges.{range_append}
 use Rattle.journal.specs.State.{Run}
 use Rattle.journal.specs.Runs.{credit}
 use Rattle.journal.specs.Closed.{flows_in, IsClosedRun, reaches, run_in, slots_in}
-use Rattle.journal.proofs.Filters.{filter_out, filter_same}
-use Rattle.journal.proofs.Ranges.{range_append, range_none, range_same, range_shift}
+use Rattle.journal.proofs.Filters.{filter_out}
+use Rattle.journal.proofs.Ranges.{range_none, range_same, range_shift}
 
 -- ---- what stands in a slot
 

@@ -1,18 +1,19 @@
 -- How often a flow stands in the slots of closed runs, and that its slots are clear.
-use Rattle.std.proofs.Common.{◌≡◌, ℕ, ◌+◌, ◌-◌, ◌≤◌, ◌<◌, inl, inr, Bool, true, false, List, [], ◌∷◌, ◌++◌, length, get_or, map, min, replicate, unwrap_or, refl, sym, ap, subst}
+use Rattle.std.proofs.Common.{◌≡◌, ℕ, ◌+◌, ◌-◌, ◌≤◌, ◌<◌, inl, inr, Bool, true, false, List, [], ◌∷◌, length, get_or, map, min, replicate, unwrap_or, refl, sym, ap, subst}
 use Rattle.std.proofs.Common.{◌∙◌, arith, append-nil, zero, suc, cond, Contains, Option, Some, None}
-use Rattle.std.specs.Prelude.{All, nat_lt, ◌&&◌, ◌||◌, ◌==◌, if◌then◌else◌, option_to_list, sum_by}
+use Rattle.std.specs.Prelude.{All, nat_lt, ◌&&◌, if◌then◌else◌, option_to_list, sum_by}
 use Rattle.std.specs.List.{filter, flat_map, range_with_len}
-use Rattle.std.proofs.lemmas.Bool.{and_right, cases_lt, eqb-true, le-ltb, lt-ltb}
+use Rattle.std.proofs.lemmas.Bool.{cases_lt, le-ltb, lt-ltb}
 use Rattle.std.proofs.lemmas.List.Elements.{All-append, All-filter, All-map, All-replicate}
 use Rattle.std.proofs.lemmas.List.Kept.{IsStrictlyIncreasing-filter}
-use Rattle.std.proofs.lemmas.List.Sums.{sum_by-append, sum_by-cons}
+use Rattle.std.proofs.lemmas.List.Sums.{sum_by-cons}
 use Rattle.std.proofs.lemmas.List.Folds.{sum_by-replicate}
 use Rattle.coflow_units.specs.declared.fabric.Flow.{Flow}
 use Rattle.coflow_units.specs.Flows.{ingress_of}
 use Rattle.coflow_units.specs.Schedule.{holds, IsClear, times}
-use Rattle.coflow_units.proofs.Lists.{filter_in, range_more}
-use Rattle.coflow_units.proofs.Sums.{any_in, in_first, in_tail, nothing_in, sum_same, sum_zero}
+use Rattle.coflow_units.proofs.Lists.{filter_in, range_more, filter_all}
+use Rattle.coflow_units.proofs.Sums.{any_in, nothing_in, sum_same, sum_zero}
+use Rattle.coflow_units.proofs.ServedExists.{times_append}
 use Rattle.journal.specs.declared.command.Command.{Command}
 use Rattle.journal.specs.declared.command.Entry.{Entry}
 use Rattle.journal.specs.declared.command.Reply.{Reply}
@@ -27,12 +28,9 @@ use Rattle.journal.specs.Closed.{schedule_of, slots_added, slots_in}
 use Rattle.journal.proofs.RunsInOrder.{closed_run}
 use Rattle.journal.proofs.Schedules.{along_schedule}
 use Rattle.journal.proofs.Ranges.{range_none, range_same}
-use Rattle.journal.proofs.Filters.{filter_all, holds_filter}
+use Rattle.journal.proofs.Filters.{holds_filter}
 
 -- ---- counts
-
-pub times_append : (a b : List (List ℕ)) (f : ℕ) → times (a ++ b) f ≡ times a f + times b f
-times_append a b f = sum_by-append (λ slot. cond (holds slot f) 1 0) a b
 
 sum_map : {X : Type 0} (w : X → ℕ) (h : ℕ → X) (xs : List ℕ) → sum_by w (map h xs) ≡ sum_by (λ x. w (h x)) xs
 sum_map w h [] = refl

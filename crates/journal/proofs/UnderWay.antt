@@ -1,9 +1,9 @@
 -- A run that is under way: what holds then, how it goes on, what is answered, and that there is room to end it.
 use Rattle.std.proofs.Common.{◌≡◌, ℕ, ◌+◌, ◌≤◌, ◌<◌, ◌⊎◌, inl, inr, true, false, true≢false, List, [], ◌∷◌, ◌++◌, Contains, length, min, refl, sym, ap, subst, ◌∙◌, arith, suc}
 use Rattle.std.proofs.Common.{cond, append_assoc, append-nil, Some}
-use Rattle.std.specs.Prelude.{All, not, nat_lt, sum_by, ◌==◌, if◌then◌else◌}
+use Rattle.std.specs.Prelude.{All, nat_lt, sum_by, ◌==◌, if◌then◌else◌}
 use Rattle.std.specs.List.{range_with_len}
-use Rattle.std.proofs.lemmas.Bool.{and_parts, cases_eq, eq-eqb, leb-false, lt-leb, ltb-true, ne_eqb}
+use Rattle.std.proofs.lemmas.Bool.{cases_eq, eq-eqb, leb-false, lt-leb, ltb-true, ne_eqb}
 use Rattle.std.proofs.lemmas.List.{length-append}
 use Rattle.std.proofs.lemmas.List.Elements.{All-append, All-contains, All-push, Contains-append_right}
 use Rattle.std.proofs.lemmas.List.FromFn.{length-range_with_len}
@@ -11,7 +11,7 @@ use Rattle.std.proofs.lemmas.List.Sums.{sum_by-append, sum_by-cons}
 use Rattle.coflow_units.specs.Flows.{ingress_of}
 use Rattle.coflow_units.proofs.Lists.{number_in}
 use Rattle.coflow_units.proofs.ServedLaws.{grants_clear}
-use Rattle.coflow_units.proofs.Sums.{member_within_sum, sum_mono, sum_swap}
+use Rattle.coflow_units.proofs.Sums.{member_within_sum, sum_mono, sum_swap, sum_ones}
 use Rattle.journal.specs.declared.command.Command.{Command}
 use Rattle.journal.specs.declared.command.Command.TheVariants.{Short, Close}
 use Rattle.journal.specs.declared.command.Entry.{Entry}
@@ -29,8 +29,8 @@ use Rattle.journal.proofs.Versions.{legal_there}
 use Rattle.journal.specs.Driven.{closed_in, Drive, driven, is_other, IsDriven, IsRunning, IsShortOf, IsUnderWay, notes_port, opened_in, opening, times_noted}
 use Rattle.journal.specs.Entries.{is_driving}
 use Rattle.journal.specs.Counts.{endings, is_ending}
-use Rattle.journal.proofs.Between.{answered, mkr, not_driving, not_noting}
-use Rattle.journal.proofs.Driving.{at, IsAt, legal_open}
+use Rattle.journal.proofs.Between.{answered, mkr, not_noting}
+use Rattle.journal.proofs.Driving.{at, free, IsAt, legal_open}
 use Rattle.journal.proofs.Ingresses.{grant_at}
 use Rattle.journal.proofs.Along.{all_front}
 use Rattle.journal.proofs.FurtherRoom.{further_room, room_is}
@@ -66,9 +66,6 @@ noted_both xs ys port = sum_by-append (λ (e : Entry). cond {A = ℕ} (notes_por
 
 pub endings_both : (xs ys : List Entry) → endings (xs ++ ys) ≡ endings xs + endings ys
 endings_both xs ys = sum_by-append (λ (e : Entry). cond {A = ℕ} (is_ending e.command) 1 0) xs ys
-
-free : (e : Entry) → is_other e ≡ true → is_driving e.command ≡ false
-free e h = not_driving (is_driving e.command) (and_parts (nat_lt 0 e.who) (not (is_driving e.command)) h).1
 
 not_ending : (k : Command) → is_driving k ≡ false → is_ending k ≡ false
 not_ending (Short port units) e = absurd (true≢false e)
@@ -231,10 +228,6 @@ ends_once o before d e (inr (f, in', who, asks, lt)) ok =
     let hit : notes_port port e.command ≡ true = ap (notes_port port) asks ∙ eq-eqb port port refl in
     omega (arith, there, ap {B = ℕ} (λ b. cond b 1 0) hit, ap {B = ℕ} (λ k. cond (is_ending k) 1 0) asks)
 
-ones : (xs : List ℕ) → sum_by (λ (x : ℕ). 1) xs ≡ length xs
-ones [] = refl
-ones (x ∷ xs) = omega (arith, sum_by-cons (λ (x : ℕ). 1) x xs, ones xs)
-
 -- at most one note for each port
 pub few_endings : (o : Opening) (before now : List Entry) (d : Drive) → InRange o now → IsUnderWay o before now d → endings d.between ≤ o.table.ports
 few_endings o before now d ok h =
@@ -247,7 +240,7 @@ few_endings o before now d ok h =
     (All-contains Ok (closed_in before d) e all (Contains-append_right (opened_in before d ++ opening d ∷ []) d.between e in'))) in
     let swap = sum_swap (λ (e : Entry) (p : ℕ). cond {A = ℕ} (notes_port p e.command) 1 0) d.between range in
     let once = sum_mono (λ p. times_noted d.between p) (λ (p : ℕ). 1) range (λ p in'. h.once p) in
-    omega (arith, each, swap, once, ones range, length-range_with_len 0 o.table.ports)
+    omega (arith, each, swap, once, sum_ones range, length-range_with_len 0 o.table.ports)
 
 pub room_to_end : (o : Opening) (before now : List Entry) (d : Drive) (k : Command) → IsLegal o now → InRange o now → IsUnderWay o before now d →
     is_ending k ≡ true → is_full (reply_of o now k) ≡ false

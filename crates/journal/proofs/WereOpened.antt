@@ -34,7 +34,7 @@ use Rattle.journal.proofs.Instances.{are_the_grants}
 use Rattle.journal.proofs.Opened.{run_length_is}
 
 -- one entry more
-more_entries : (o : Opening) (j : List Entry) (e : Entry) (r : Run) → IsOpenedIn o j r → IsOpenedIn o (j ++ e ∷ []) r
+abbrev pub more_entries : (o : Opening) (j : List Entry) (e : Entry) (r : Run) → IsOpenedIn o j r → IsOpenedIn o (j ++ e ∷ []) r
 more_entries o j e r h = record {
   before = h.before;
   entry = h.entry;
@@ -49,7 +49,7 @@ more_entries o j e r h = record {
 }
 
 -- other notes
-other_notes : (o : Opening) (j : List Entry) (r : Run) (notes : List (ℕ × ℕ)) → IsOpenedIn o j r → IsOpenedIn o j (record r { notes = notes })
+abbrev pub other_notes : (o : Opening) (j : List Entry) (r : Run) (notes : List (ℕ × ℕ)) → IsOpenedIn o j r → IsOpenedIn o j (record r { notes = notes })
 other_notes o j r notes h = record {
   before = h.before;
   entry = h.entry;
@@ -64,10 +64,10 @@ other_notes o j r notes h = record {
 }
 
 -- the run that an entry opens
-opened_here : (o : Opening) (j : List Entry) (e : Entry) (slot slots count : ℕ) → e.reply ≡ Opened slot slots count →
+abbrev pub opened_here : (o : Opening) (j : List Entry) (e : Entry) (slot slots count : ℕ) → e.reply ≡ Opened slot slots count →
     TellsEntry o (state_of o j) e.command (Opened slot slots count) →
     IsOpenedIn o (j ++ e ∷ []) (record { first = slot; slots = slots; granted = granted o (state_of o j); notes = [] })
-opened_here o j e slot slots count reply (most, asks, none, owes, at, len, counted) =
+opened_here o j e slot slots count reply (most, asks, none, owes, at, len, counted, left) =
     let s = state_of o j in
     record {
       before = j;
@@ -91,7 +91,7 @@ run_noted : (o : Opening) (j : List Entry) (e : Entry) (port n : ℕ) (run : Opt
 run_noted o j e port n None h = tt
 run_noted o j e port n (Some r) h = other_notes o (j ++ e ∷ []) r ((port, n) ∷ r.notes) (more_entries o j e r h)
 
-none_after : (o : Opening) (s : State) (run : Option Run) (P : Run → Type 0) → s.run ≡ run → OnRun (closed o s run).run P
+pub none_after : (o : Opening) (s : State) (run : Option Run) (P : Run → Type 0) → s.run ≡ run → OnRun (closed o s run).run P
 none_after o s None P is = subst (λ x. OnRun x P) (sym is) tt
 none_after o s (Some r) P is = tt
 

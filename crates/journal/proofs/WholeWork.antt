@@ -1,5 +1,5 @@
 -- The line where all present coflows are ranked, and what is left where nothing was sent.
-use Rattle.std.proofs.Common.{◌≡◌, ℕ, ◌+◌, ◌<◌, Bool, true, false, List, [], ◌∷◌, ◌++◌, Contains, length, get_or, refl, ap, ◌∙◌, arith, suc, cond, append-nil}
+use Rattle.std.proofs.Common.{◌≡◌, ℕ, ◌+◌, ◌<◌, Bool, true, false, List, [], ◌∷◌, ◌++◌, length, get_or, refl, ap, ◌∙◌, arith, suc, append-nil}
 use Rattle.std.specs.Prelude.{◌&&◌, not, if◌then◌else◌, slice_index}
 use Rattle.std.specs.List.{filter, range_with_len}
 use Rattle.std.proofs.lemmas.Bool.{and_right}
@@ -7,13 +7,13 @@ use Rattle.std.proofs.lemmas.List.{get_or_default}
 use Rattle.std.proofs.Math.Path.{fun_ext}
 use Rattle.coflow_units.specs.declared.fabric.Flow.{Flow}
 use Rattle.coflow_units.specs.Flows.{coflow_of, Instance, with_units, with_units_from}
-use Rattle.coflow_units.proofs.Lists.{number_below, number_in}
-use Rattle.coflow_units.proofs.Sums.{any_in, in_first, in_tail}
+use Rattle.coflow_units.proofs.Lists.{number_below, number_in, filter_all}
+use Rattle.coflow_units.proofs.Sums.{any_in}
 use Rattle.flow_table.specs.Table.{instance_of}
 use Rattle.journal.specs.declared.opening.Opening.{Opening}
 use Rattle.journal.specs.State.{has, is_present, IsOpening, owed, present, State, what_is_left}
 use Rattle.journal.specs.Line.{line, newest}
-use Rattle.journal.proofs.Filters.{filter_all, filter_out}
+use Rattle.journal.proofs.Filters.{filter_out}
 
 ranked_or_left : (a b : Bool) → (b ≡ false → a ≡ true) → (not a && not b) ≡ false
 ranked_or_left a true h = and_right (not a) false refl

@@ -41,8 +41,8 @@ pub record Drive : Type 0 where
   pub sent : ℕ → ℕ
 
 -- the entries of the driver, in order
-abbrev pub own_entries : List Entry → List Entry
-own_entries entries = filter (λ (e : Entry). e.who == 0) entries
+abbrev pub driver_entries : List Entry → List Entry
+driver_entries entries = filter (λ (e : Entry). e.who == 0) entries
 
 -- the opening and the closing
 abbrev pub opening : Drive → Entry

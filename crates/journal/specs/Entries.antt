@@ -1,5 +1,5 @@
 -- What an entry of a legal journal tells of the state that it answered in.
-use Rattle.std.specs.Prelude.{◌≡◌, ℕ, ◌+◌, ◌<◌, ◌≤◌, ◌⊎◌, min, max, Bool, true, false, length, Some, None}
+use Rattle.std.specs.Prelude.{◌≡◌, ◌≢◌, ℕ, ◌+◌, ◌<◌, ◌≤◌, ◌⊎◌, min, max, Bool, true, false, length, Some, None}
 use Rattle.std.specs.List.{slice_index_or}
 use Rattle.journal.specs.declared.command.Command.{Command}
 use Rattle.journal.specs.declared.command.Command.TheVariants.{Register, Withdraw, Publish, Pull, Open, Short, Close}
@@ -36,8 +36,8 @@ is_passing (Skipped slot) = true
 is_passing reply = false
 
 -- What a reply tells of its command and of the state that it answers in: a new version is the next one; a pull tells
--- the newest version, and the place in it where there is one; a run is opened where none is open and a flow owes, with
--- the next slot; a note is of a grant of the open run; a closing is of the open run; slots are skipped where no run is
+-- the newest version, and the place in it where there is one; a run is opened where none is open, a flow owes, and a
+-- slot is left, with the next slot; a note is of a grant of the open run; a closing is of the open run; slots are skipped where no run is
 -- open and no flow of the line owes; and each refusal has its cause.
 abbrev pub TellsEntry : Opening → State → Command → Reply → Type 0
 TellsEntry o s k (Version v) = (k ≡ Publish) × (s.run ≡ None) × (v ≡ version s + 1)
@@ -45,7 +45,7 @@ TellsEntry o s k (Rank v r) = (c : ℕ) × (k ≡ Pull c) × (v ≡ version s) �
 TellsEntry o s k (Unranked v) = (c : ℕ) × (k ≡ Pull c) × (v ≡ version s) × (rank s v c ≡ 0)
 TellsEntry o s k (Opened slot slots count) =
     (most : ℕ) × (k ≡ Open most) × (s.run ≡ None) × (0 < length (owing o s)) × (slot ≡ s.next)
-    × (slots ≡ slots_for o s most) × (count ≡ length (granted o s))
+    × (slots ≡ slots_for o s most) × (count ≡ length (granted o s)) × (s.next ≢ slot_end)
 TellsEntry o s k (Noted n) =
     (port units f : ℕ) × (r : Run) × (k ≡ Short port units) × (s.run ≡ Some r)
     × (grant_in o.table.flows r.granted port ≡ Some f) × (n ≡ min units r.slots)
@@ -72,9 +72,10 @@ TellsEntry o s k (StillOwed f) =
 TellsEntry o s k (Full n) = Unit {0}
 
 -- what an Open is answered where no run is open: that nothing is left, where no flow of the line owes; that it comes
--- too late, where no slot is left; or the run that it opens
+-- too late, where a flow owes and no slot is left; or the run that it opens, where a flow owes and a slot is left
 abbrev pub IsOpenReply : Opening → State → ℕ → Reply → Type 0
 IsOpenReply o s most reply =
     ((reply ≡ NothingLeft) × (length (owing o s) ≡ 0))
     ⊎ (((reply ≡ Late slot_end) × (s.next ≡ slot_end) × (0 < length (owing o s)))
-    ⊎ ((reply ≡ Opened s.next (slots_for o s most) (length (granted o s))) × (0 < length (owing o s))))
+    ⊎ ((reply ≡ Opened s.next (slots_for o s most) (length (granted o s))) × (0 < length (owing o s))
+    × (s.next ≢ slot_end)))

@@ -12,6 +12,7 @@ pub mod Entries
 pub mod Closed
 pub mod Moves
 pub mod Counts
+pub mod Ends
 pub mod Driven
 pub mod RunRows
 pub mod Tally

@@ -1,20 +1,25 @@
 -- What the runs of two small flows make, worked out by hand.
-use Rattle.std.specs.Prelude.{◌≡◌, ℕ, List, [], ◌∷◌, ◌++◌, count_by, map}
-use Rattle.coflow_units.specs.Rows.{all_ties}
+use Rattle.std.specs.Prelude.{◌≡◌, ℕ, ◌==◌, if◌then◌else◌, true, false, List, [], ◌∷◌, ◌++◌, count_by, map}
+use Rattle.coflow_units.specs.Rows.{all_ties, two_flows}
 use Rattle.journal.specs.declared.command.Command.{Command}
 use Rattle.journal.specs.declared.command.Command.TheVariants.{Register, Withdraw, Publish, Pull, Open, Short, Close}
 use Rattle.journal.specs.declared.command.Command.TheVariants.{Skip, Reweigh}
 use Rattle.journal.specs.declared.command.Reply.{Reply}
 use Rattle.journal.specs.declared.command.Reply.TheVariants.{Joined, Left, StillOpen, Version, Unranked, NothingLeft}
-use Rattle.journal.specs.declared.command.Reply.TheVariants.{Opened, Noted, Closed, Skipped, Weighed}
+use Rattle.journal.specs.declared.command.Reply.TheVariants.{Late, Opened, Noted, Closed, Skipped, Weighed}
 use Rattle.journal.specs.declared.command.Entry.{Entry}
 use Rattle.journal.specs.declared.opening.Opening.{Opening}
+use Rattle.journal.specs.declared.tally.Credit.{Credit}
+use Rattle.journal.specs.declared.tally.CreditedRun.{CreditedRun}
+use Rattle.journal.specs.State.{Run}
 use Rattle.journal.specs.Journal.{entry, IsLegal}
 use Rattle.journal.specs.Rows.{two}
 use Rattle.journal.specs.Closed.{closed_runs, schedule_of, times_on, wire_of}
 use Rattle.journal.specs.Counts.{closings, endings, furthest_skip, is_noted, openings, slots_together, units_granted}
-use Rattle.journal.specs.Counts.{units_sent}
-use Rattle.journal.specs.Driven.{closed_in, closing, Drive, IsDriven, own_entries, times_noted}
+use Rattle.journal.specs.Counts.{is_noting, is_skipping, IsSlotOf, units_sent}
+use Rattle.journal.specs.Ends.{flows_ended, runs_without_end}
+use Rattle.journal.specs.Tally.{credited, tallied_schedule, tallied_wire}
+use Rattle.journal.specs.Driven.{closed_in, closing, Drive, IsDriven, driver_entries, IsSentWhole, notes_due, times_noted}
 
 -- entries of caller 0
 abbrev pub entries : List (Command × Reply) → List Entry
@@ -151,14 +156,112 @@ CountedGrants =
     × (count_by is_noted (closed_runs two_ports ports_apart) ≡ 1)
     × (openings ports_apart ≡ (1, 1, 2) ∷ (2, 1, 2) ∷ (3, 1, 1) ∷ []) × (openings open_run ≡ (1, 2, 1) ∷ [])
 
--- the furthest skip: none, one, and one to a slot that is past, which tells the next slot
+-- the furthest skip: none, one, one to a slot that is past, which tells the next slot, and one that comes too late
 abbrev pub FurthestSkips : Type 0
 FurthestSkips =
     (furthest_skip noted_run ≡ 1) × (furthest_skip skipped_slots ≡ 4)
     × (furthest_skip (entries ((Skip 5, Skipped 5) ∷ (Skip 3, Skipped 5) ∷ (Pull 0, Unranked 0) ∷ [])) ≡ 5)
+    × (furthest_skip (entries ((Skip 2199023255552, Late 2199023255552) ∷ [])) ≡ 1)
 
 -- what the driver and others ask while the driven run is under way
 abbrev pub CountedNotes : Type 0
 CountedNotes =
-    (own_entries one_run.between ≡ entry 0 (Short 0 1) (Noted 1) ∷ []) × (endings one_run.between ≡ 1)
+    (driver_entries one_run.between ≡ entry 0 (Short 0 1) (Noted 1) ∷ []) × (endings one_run.between ≡ 1)
     × (times_noted one_run.between 0 ≡ 1) × (times_noted one_run.between 1 ≡ 0)
+    × (driver_entries after_one_run
+    ≡ entries ((Register 0, Joined) ∷ (Open 5, Opened 1 3 1) ∷ (Short 0 1, Noted 1) ∷ (Close, Closed 1) ∷ []))
+
+-- the first run of two ports: a unit was sent in its one slot from port 0, and none from port 1, which was noted
+abbrev pub first_apart : Drive
+first_apart = record {
+  earlier = [];
+  most = 9;
+  first = 1;
+  slots = 1;
+  count = 2;
+  between = entry 0 (Short 1 0) (Noted 0) ∷ [];
+  answer = Closed 1;
+  sent = λ port. if port == 0 then 1 else 0;
+}
+
+-- and the second one, in which a unit was sent from each
+abbrev pub second_apart : Drive
+second_apart = record {
+  earlier = [];
+  most = 9;
+  first = 2;
+  slots = 1;
+  count = 2;
+  between = [];
+  answer = Closed 2;
+  sent = λ port. 1;
+}
+
+-- the journals before the first run, after it, and after the second one
+abbrev pub both_registered : List Entry
+both_registered = entries ((Register 0, Joined) ∷ (Register 1, Joined) ∷ [])
+
+abbrev pub after_first_apart : List Entry
+after_first_apart = closed_in both_registered first_apart ++ closing first_apart ∷ []
+
+abbrev pub after_second_apart : List Entry
+after_second_apart = closed_in after_first_apart second_apart ++ closing second_apart ∷ []
+
+-- both are driven runs of that journal; the port that sent its unit is to be noted not at all, and the other one once;
+-- and the second one was sent whole
+abbrev pub DrivenApart : Type 0
+DrivenApart =
+    (after_second_apart
+    ++ entries ((Open 9, Opened 3 1 1) ∷ (Close, Closed 3) ∷ (Open 9, NothingLeft) ∷ []) ≡ ports_apart)
+    × IsDriven two_ports both_registered after_first_apart first_apart
+    × (notes_due all_ties.flows first_apart 0 ≡ 0) × (notes_due all_ties.flows first_apart 3 ≡ 1)
+    × IsDriven two_ports after_first_apart after_second_apart second_apart
+    × IsSentWhole two_ports after_first_apart second_apart
+
+-- which commands note, and which skip
+abbrev pub CountedKinds : Type 0
+CountedKinds =
+    (map (λ (e : Entry). is_noting e.command) noted_run ≡ false ∷ false ∷ true ∷ false ∷ false ∷ false ∷ [])
+    × (map (λ (e : Entry). is_skipping e.command) skipped_slots ≡ true ∷ false ∷ false ∷ false ∷ [])
+
+-- a run of the slots 4 and 5, of which one unit was sent
+abbrev pub two_slots : Run
+two_slots = record { first = 4; slots = 2; granted = 0 ∷ []; notes = (0, 1) ∷ [] }
+
+abbrev pub SlotsOfARun : Type 0
+SlotsOfARun =
+    IsSlotOf 4 two_slots × IsSlotOf 5 two_slots × (IsSlotOf 3 two_slots → ⊥) × (IsSlotOf 6 two_slots → ⊥)
+
+-- a run of the slots 1 and 2 that grants the flow
+abbrev pub two_of : ℕ → List (ℕ × ℕ) → Run
+two_of f notes = record { first = 1; slots = 2; granted = f ∷ []; notes = notes }
+
+-- in the run with a note no flow ended, and in the one after it one did; in each run of the two ports one ended; and
+-- where a coflow left after two of its units were sent, its flow owes one still
+abbrev pub EndedFlows : Type 0
+EndedFlows =
+    (flows_ended (two 100) noted_run ≡ 1)
+    × (runs_without_end (two 100) noted_run ≡ two_of 0 ((0, 1) ∷ []) ∷ [])
+    × (flows_ended two_ports ports_apart ≡ 4) × (runs_without_end two_ports ports_apart ≡ [])
+    × (flows_ended (two 100) withdrawal_between ≡ 1)
+    × (runs_without_end (two 100) withdrawal_between ≡ two_of 0 [] ∷ [])
+
+-- so many units of the flow, which begins at the port
+abbrev pub credit_of : ℕ → ℕ → ℕ → Credit
+credit_of flow ingress units = record { flow = flow; ingress = ingress; units = units }
+
+-- one unit of flow 0 in a run of two slots, and two of flow 2 beside one of flow 1 in a run of three slots that begins
+-- with slot 4
+abbrev pub two_credited : List CreditedRun
+two_credited =
+    record { first = 1; slots = 2; credits = credit_of 0 0 1 ∷ [] }
+    ∷ record { first = 4; slots = 3; credits = credit_of 1 1 1 ∷ credit_of 2 0 2 ∷ [] } ∷ []
+
+abbrev pub TalliedSlots : Type 0
+TalliedSlots =
+    (tallied_schedule two_credited 7 ≡ (0 ∷ []) ∷ [] ∷ [] ∷ (1 ∷ 2 ∷ []) ∷ (2 ∷ []) ∷ [] ∷ [])
+    × (tallied_wire two_credited 0 ≡ (1, 0, 1) ∷ (4, 2, 2) ∷ []) × (tallied_wire two_credited 1 ≡ (4, 1, 1) ∷ [])
+    × (tallied_wire two_credited 2 ≡ [])
+    × (map (credited two_flows) (closed_runs (two 100) noted_run)
+    ≡ record { first = 1; slots = 2; credits = credit_of 0 0 1 ∷ [] }
+    ∷ record { first = 3; slots = 2; credits = credit_of 0 0 2 ∷ [] } ∷ [])

@@ -1,6 +1,6 @@
 -- What a master begins with, and the state that its journal has made of it.
-use Rattle.std.specs.Prelude.{◌≡◌, ℕ, ◌≤◌, ◌-◌, ◌^◌, ◌==◌, ◌&&◌, Bool, not, if◌then◌else◌, List, length, All, Option}
-use Rattle.coflow_units.specs.declared.limits.TheConstants.{MAX_WEIGHT}
+use Rattle.std.specs.Prelude.{◌≡◌, ℕ, ◌+◌, ◌≤◌, ◌-◌, ◌^◌, ◌==◌, ◌&&◌, Bool, not, if◌then◌else◌, List, length, All, Option}
+use Rattle.coflow_units.specs.declared.limits.TheConstants.{MAX_SLOT, MAX_WEIGHT}
 use Rattle.std.specs.List.{filter, list_any, range_with_len}
 use Rattle.coflow_units.specs.Flows.{Instance, coflow_of, units_of, with_units}
 use Rattle.flow_table.specs.Table.{IsTable}
@@ -31,7 +31,7 @@ has xs x = list_any (λ y. y == x) xs
 
 -- no slot is at or after this one
 abbrev pub slot_end : ℕ
-slot_end = 2 ^ 41
+slot_end = MAX_SLOT + 1
 
 -- The flows stand in a table that is within its limits, each coflow has a weight within its range, and so is the limit
 -- of the journal.

@@ -17,7 +17,7 @@ ghost use Rattle.journal.specs.Answer.{reply_of};
 ghost use Rattle.journal.specs.Journal.{entry, is_full, IsLegal, line_of};
 ghost use Rattle.journal.specs.Sound.{InRange};
 ghost use Rattle.journal.specs.Closed.{schedule_of};
-ghost use Rattle.journal.specs.Driven.{closing, Drive, driven, driven_slots, GoesOnByRun, is_other, IsDriven, IsNotedAsDue, IsTakenNote, IsRunning, IsSentWhole, IsShortOf, IsUnderWay, IsWithinRun, noting, opened_in, opening, own_entries, sent_from, times_noted};
+ghost use Rattle.journal.specs.Driven.{closing, Drive, driven, driven_slots, GoesOnByRun, is_other, IsDriven, IsNotedAsDue, IsTakenNote, IsRunning, IsSentWhole, IsShortOf, IsUnderWay, IsWithinRun, noting, opened_in, opening, driver_entries, sent_from, times_noted};
 ghost use Rattle.journal.specs.Entries.{IsOpenReply};
 ghost use Rattle.journal.specs.Counts.{endings, is_ending};
 
@@ -78,13 +78,13 @@ pub fn drivers_have_room()
 /// slot of the run.
 pub fn driven_runs_have_own_entries()
     ensures entries { (o : Opening) (before after : List Entry) (d : Drive) → IsDriven o before after d →
-        own_entries after
-        ≡ own_entries before ++ opening d ∷ [] ++ own_entries d.between ++ closing d ∷ [] }
+        driver_entries after
+        ≡ driver_entries before ++ opening d ∷ [] ++ driver_entries d.between ++ closing d ∷ [] }
     ensures notes { (o : Opening) (before after : List Entry) (d : Drive) → IsLegal o after →
         IsDriven o before after d →
-        All (IsTakenNote o.table.flows (driven o before d) d) (own_entries d.between) }
+        All (IsTakenNote o.table.flows (driven o before d) d) (driver_entries d.between) }
     ensures whole { (o : Opening) (before after : List Entry) (d : Drive) → IsDriven o before after d →
-        IsSentWhole o before d → own_entries d.between ≡ [] }
+        IsSentWhole o before d → driver_entries d.between ≡ [] }
     ensures close { (o : Opening) (before after : List Entry) (d : Drive) → IsLegal o after →
         IsDriven o before after d → closing d ≡ entry 0 Close (Closed d.first) }
 {}

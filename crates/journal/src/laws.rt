@@ -1,5 +1,5 @@
 //! Laws of the definitions. Each says something of every opening and every journal.
-ghost use Rattle.std.specs.Prelude.{◌≡◌, ℕ, ◌+◌, ◌-◌, min, ◌<◌, ◌≤◌, nat_le, true, false, Some, All, AllPairs, List, [], ◌∷◌, ◌++◌, length, map, not, slice_index};
+ghost use Rattle.std.specs.Prelude.{◌≡◌, ◌↔◌, ℕ, ◌+◌, ◌-◌, min, ◌<◌, ◌≤◌, nat_le, true, false, Some, All, AllPairs, List, [], ◌∷◌, ◌++◌, length, map, not, slice_index};
 ghost use Rattle.std.specs.List.{slice_index_or, filter};
 ghost use Rattle.coflow_units.specs.declared.fabric.Flow.{Flow};
 ghost use Rattle.coflow_units.specs.Flows.{Instance, IsInstance, coflow_of, units_of};
@@ -13,7 +13,7 @@ ghost use Rattle.journal.specs.declared.command.Reply.TheVariants.{NothingLeft, 
 ghost use Rattle.journal.specs.declared.command.Command.TheVariants.{Open, Pull, Reweigh};
 ghost use Rattle.journal.specs.Chosen.{the_grants, the_ordering};
 ghost use Rattle.journal.specs.State.{has, is_present, IsOpening, owed, Run, slot_end, State, what_is_left};
-ghost use Rattle.journal.specs.Line.{version, newest, line};
+ghost use Rattle.journal.specs.Line.{version, newest, line, owing};
 ghost use Rattle.journal.specs.Runs.{credit, granted, slots_for};
 ghost use Rattle.journal.specs.Fold.{after, state_of};
 ghost use Rattle.journal.specs.Answer.{reply_of, room};
@@ -131,6 +131,13 @@ pub fn replies_tell()
         reply_of o journal (Open most) ≡ NothingLeft → f < length o.table.flows →
         is_present (state_of o journal) (coflow_of o.table.flows f) ≡ true →
         owed o (state_of o journal) f ≡ 0 }
+{}
+
+/// No flow of the line owes a unit exactly where each flow of a present coflow owes none.
+pub fn nothing_is_owing()
+    ensures { (o : Opening) (journal : List Entry) → IsOpening o →
+        (length (owing o (state_of o journal)) ≡ 0) ↔ ((f : ℕ) → f < length o.table.flows →
+        is_present (state_of o journal) (coflow_of o.table.flows f) ≡ true → owed o (state_of o journal) f ≡ 0) }
 {}
 
 /// The grants of a run that is opened are those of the line and of what is owed at its entry, and its length is the longest that they and the last slot allow.

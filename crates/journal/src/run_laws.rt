@@ -18,8 +18,10 @@ ghost use Rattle.journal.specs.Closed.{AreClosed, closed_by, closed_runs, IsOpen
 ghost use Rattle.journal.specs.Driven.{driven, opening};
 ghost use Rattle.journal.specs.Entries.{is_driving, is_moving};
 ghost use Rattle.journal.specs.Moves.{ClosesRun, NotesRun, OpensRun, SkipsSlots};
+ghost use Rattle.journal.specs.Tally.{IsTally, tallied_schedule, tallied_wire, TalliedRuns};
+ghost use Rattle.journal.specs.Ends.{flows_ended, IsLongAsAsked, runs_without_end};
 ghost use Rattle.journal.specs.Counts.{closings, furthest_skip, is_noted, is_noting, is_skipping, IsSlotOf, IsWhole, opening_of, openings, run_line, slots_together, units_granted, units_sent};
-ghost use Rattle.journal.specs.RunRows.{CountedGrants, CountedNotes, CountedRuns, FurthestSkips, NotedRun, OneRun, OpenRun, ServedOrder, SkippedSlots, TwiceOnAWire, TwoPorts, WithdrawalBetween};
+ghost use Rattle.journal.specs.RunRows.{CountedGrants, CountedKinds, CountedNotes, CountedRuns, DrivenApart, EndedFlows, FurthestSkips, NotedRun, OneRun, OpenRun, ServedOrder, SkippedSlots, SlotsOfARun, TalliedSlots, TwiceOnAWire, TwoPorts, WithdrawalBetween};
 
 /// What the entries that move a run do: they open one, note units in it, close it, or let slots pass where none is
 /// open.
@@ -76,7 +78,8 @@ pub fn runs_go_on()
     ensures schedule { (o : Opening) (journal : List Entry) (e : Entry) → IsLegal o (journal ++ e ∷ []) →
         InRange o journal →
         schedule_of o (journal ++ e ∷ [])
-        ≡ schedule_of o journal ++ slots_added o.table.flows (state_of o journal).next (state_of o journal).run e.reply }
+        ≡ schedule_of o journal
+        ++ slots_added o.table.flows (state_of o journal).next (state_of o journal).run e.reply }
 {}
 
 /// A reply that is none of Opened, Noted, Closed and Skipped leaves the open run, the next slot, the units sent, the
@@ -161,10 +164,33 @@ pub fn closings_are_few()
         units_sent o journal ≤ sum_by (λ (x : Flow). x.units) o.table.flows }
 {}
 
+/// Each closing ends a flow, or closes a run in which no flow ends: so there are no more closings than flows that owe
+/// nothing and such runs. Where nothing was noted in such a run, it has all the slots that were asked for and that were
+/// left.
+pub fn closings_end_flows()
+    ensures few { (o : Opening) (journal : List Entry) → IsLegal o journal → InRange o journal →
+        closings journal ≤ flows_ended o journal + length (runs_without_end o journal) }
+    ensures closed { (o : Opening) (journal : List Entry) (r : Run) → Contains (runs_without_end o journal) r →
+        Contains (closed_runs o journal) r }
+    ensures whole { (o : Opening) (journal : List Entry) → IsLegal o journal →
+        All (λ (r : Run). r.notes ≡ [] → IsLongAsAsked o journal r) (runs_without_end o journal) }
+    ensures flows { (o : Opening) (journal : List Entry) → flows_ended o journal ≤ length o.table.flows }
+{}
+
+/// The schedule of a journal is the one that a tally of its closed runs makes up to the next slot: a flow stands in so
+/// many slots of each run as the run credits units to it, from the run's first slot on. And what a wire was sent is what
+/// the runs of the tally sent from its port.
+pub fn tallies_tell_schedules()
+    ensures schedule { (o : Opening) (journal : List Entry) (x : TalliedRuns) → IsTally o journal x →
+        schedule_of o journal ≡ tallied_schedule x.closed (state_of o journal).next }
+    ensures wire { (o : Opening) (journal : List Entry) (x : TalliedRuns) (port : ℕ) → IsLegal o journal →
+        InRange o journal → IsTally o journal x → wire_of o journal port ≡ tallied_wire x.closed port }
+{}
+
 /// The definitions give the schedules and wires that were worked out by hand: of coflows that are served in a published
 /// order, of a run with a note, of slots that pass, of two runs with a withdrawal between, of a run that is still open,
-/// of two ports, and of a driven run among entries of others; and a run that is twice on a wire counts twice there. What
-/// is counted in these journals was counted by hand.
+/// of two ports, and of driven runs, one of them among entries of others; and a run that is twice on a wire counts twice
+/// there. What is counted in these journals was counted by hand, and so was the schedule of a tally.
 pub fn run_rows_hold()
     ensures served_order { ServedOrder }
     ensures noted_run { NotedRun }
@@ -178,4 +204,9 @@ pub fn run_rows_hold()
     ensures counted_grants { CountedGrants }
     ensures furthest_skips { FurthestSkips }
     ensures counted_notes { CountedNotes }
+    ensures driven_apart { DrivenApart }
+    ensures counted_kinds { CountedKinds }
+    ensures slots_of_a_run { SlotsOfARun }
+    ensures ended_flows { EndedFlows }
+    ensures tallied_slots { TalliedSlots }
 {}

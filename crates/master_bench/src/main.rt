@@ -3,11 +3,12 @@
 //! Its arguments are the file of the trace and the megabytes of a unit.
 #![tactic(auto)]
 
-ghost use Rattle.std.specs.Prelude.{◌≡◌, ◌^◌, ◌≤◌, [], IfOk, length};
+ghost use Rattle.std.specs.Prelude.{◌≡◌, ◌≤◌, [], IfOk, length};
+ghost use Rattle.coflow_units.specs.declared.limits.TheConstants.{MAX_UNIT};
 ghost use Rattle.coflow_units.specs.Trace.{IsTrace};
 ghost use Rattle.master_bench.specs.Answered.{IsLastAnswer};
 
-use coflow_units::{Items, MAX_FLOWS, MAX_SLOT, MAX_TEXT, NoMemory, Trace};
+use coflow_units::{Items, MAX_FLOWS, MAX_SLOT, MAX_TEXT, MAX_UNIT, NoMemory, Trace};
 use flow_table::Table;
 use master_core::{Command, Master, Reply};
 use outside::{DiskShelf, Place4, Shelf, read_all};
@@ -81,17 +82,17 @@ fn run(rt: &HostRuntime) -> Result<Summary, Stop> {
 /// The megabytes of a unit: the second argument, from 1 to 2^20, or 1.
 fn unit_of(words: &[String]) -> u64
     ensures some { 1 ≤ result }
-    ensures limit { result ≤ 2 ^ 20 }
+    ensures limit { result ≤ MAX_UNIT }
 {
     match words.get(2) {
-        Some(word) => word.parse::<u64>().unwrap_or(1).clamp(1, 1_048_576),
+        Some(word) => word.parse::<u64>().unwrap_or(1).clamp(1, MAX_UNIT),
         None => 1,
     }
 }
 
 fn measured<H: Shelf>(alloc: Global, name: &str, unit: u64, shelf: &mut H) -> Result<Summary, Stop>
     requires some { 1 ≤ unit }
-    requires limit { unit ≤ 2 ^ 20 }
+    requires limit { unit ≤ MAX_UNIT }
 {
     let trace = read_file(alloc, name, shelf)?;
     let Ok(table) = Table::build(alloc, &trace, unit) else {

@@ -1,12 +1,13 @@
 -- The run that is opened is that of the state.
-use Rattle.std.proofs.Common.{◌≡◌, ℕ, ◌-◌, ◌<◌, ◌≤◌, Bool, true, false, List, [], ◌∷◌, ◌++◌, length, min, Contains, Option, Some, None, refl, sym, ap, subst, ◌∙◌, arith}
+use Rattle.std.proofs.Common.{◌≡◌, ℕ, ◌-◌, ◌<◌, ◌≤◌, Bool, true, false, List, [], ◌∷◌, ◌++◌, length, min, Option, Some, None, refl, sym, ap, subst, ◌∙◌, arith}
 use Rattle.std.proofs.Common.{true≢false, unwrap_or}
-use Rattle.std.specs.Prelude.{◌&&◌, not, if◌then◌else◌, slice_index, is_some, MatchOption}
+use Rattle.std.specs.Prelude.{◌&&◌, not, slice_index, is_some, MatchOption}
 use Rattle.std.specs.List.{filter}
 use Rattle.coflow_units.specs.declared.fabric.Flow.{Flow}
 use Rattle.coflow_units.specs.Grants.{IsGrants}
-use Rattle.coflow_units.proofs.Sums.{all_of_members, any_in, in_first, in_tail}
+use Rattle.coflow_units.proofs.Sums.{all_of_members, any_in}
 use Rattle.greedy_rates.specs.Room.{TellsIngresses}
+use Rattle.coflow_units.proofs.Lists.{filter_same}
 use Rattle.journal.specs.declared.opening.Opening.{Opening}
 use Rattle.master_core.specs.declared.standing.Standing.{Standing}
 use Rattle.journal.specs.State.{has, owed, slot_end, State}
@@ -39,12 +40,6 @@ none_owing flows present owes None m e = m
 none_owing flows present owes (Some f) m e = absurd (true≢false e)
 
 -- ---- the line
-
-pub filter_same : (p q : ℕ → Bool) (xs : List ℕ) → ((x : ℕ) → Contains xs x → p x ≡ q x) → filter p xs ≡ filter q xs
-filter_same p q [] same = refl
-filter_same p q (x ∷ xs) same =
-    let rest = filter_same p q xs (λ y in'. same y (in_tail x xs y in')) in
-    ap (λ (b : Bool). if b then x ∷ filter p xs else filter p xs) (same x (in_first x xs)) ∙ ap (λ l. if q x then x ∷ l else l) rest
 
 pub line_told : (s : State) (x : Standing) → TellsCoflows s.joined s.left x.roster → TellsOrders s.joined s.published x.orders →
     filter (marked x.roster.present) (ranked x.orders.places) ++ filter (waits (ranked x.orders.places) x.roster.present) x.roster.joined ≡ line s

@@ -1,9 +1,9 @@
 -- What the places of an order say of its coflows, and for which instances an order is made.
-use Rattle.std.proofs.Common.{◌≡◌, ℕ, ◌≤◌, ◌<◌, inl, inr, Bool, true, List, [], ◌∷◌, ◌++◌, length, get_or, reverse, Contains, refl, sym, ap, subst, ◌∙◌, arith, zero, suc}
+use Rattle.std.proofs.Common.{◌≡◌, ℕ, ◌≤◌, ◌<◌, Bool, true, List, [], ◌∷◌, ◌++◌, length, get_or, reverse, Contains, refl, sym, ap, subst, ◌∙◌, arith, zero, suc}
 use Rattle.std.specs.Prelude.{All, map, slice_index}
 use Rattle.std.specs.List.{range_with_len}
 use Rattle.std.proofs.lemmas.List.{reverse-append, reverse-reverse}
-use Rattle.std.proofs.lemmas.List.Elements.{All-contains, Contains-append_left, Contains-push}
+use Rattle.std.proofs.lemmas.List.Elements.{All-contains}
 use Rattle.coflow_units.specs.declared.fabric.Flow.{Flow}
 use Rattle.coflow_units.specs.declared.fabric.Port.{Port}
 use Rattle.coflow_units.specs.declared.plan.Place.{Place}
@@ -11,7 +11,7 @@ use Rattle.coflow_units.specs.Certificate.{Entry, entry_of, front, order_of}
 use Rattle.coflow_units.specs.Flows.{Instance, IsDistinct, with_units}
 use Rattle.coflow_units.specs.Load.{load}
 use Rattle.coflow_units.proofs.Lists.{filter_in, number_below, reverse-cons, into_reverse}
-use Rattle.coflow_units.proofs.Sums.{Apart, apart_from_pairs, first_or_tail, in_first, in_tail, nothing_in, pairs_from_apart}
+use Rattle.coflow_units.proofs.Sums.{Apart, apart_from_pairs, in_first, in_tail, pairs_from_apart, apart_snoc}
 use Rattle.port_load.specs.LoadTable.{IsSameSize, LoadTable, is_present, load_at}
 use Rattle.bssi_order.specs.Order.{IsOf, IsOrder, entries_of, present_coflows}
 use Rattle.master_core.specs.Published.{IsLeft, ranked}
@@ -33,17 +33,6 @@ front_of_places (x ∷ xs) =
 -- the order of the entries is that of the places
 pub order_of_places : (places : List Place) → order_of (entries_of places) ≡ ranked places
 order_of_places places = ap reverse (front_of_places places) ∙ reverse-reverse (ranked places)
-
-apart_snoc : (xs : List ℕ) (x : ℕ) → Apart (xs ++ x ∷ []) → Apart xs × (Contains xs x → ⊥)
-apart_snoc [] x apart = (tt, nothing_in x)
-apart_snoc (y ∷ ys) x apart =
-    let (tail, out) = apart_snoc ys x apart.1 in (
-      ((λ has. apart.0 (Contains-append_left ys (x ∷ []) y has)), tail),
-      (λ has. elim (first_or_tail y ys x has) [
-        | inl e ↦ apart.0 (subst (λ n. Contains (ys ++ x ∷ []) n) (sym e) (Contains-push ys x))
-        | inr later ↦ out later
-      ]),
-    )
 
 apart_reverse : (xs : List ℕ) → Apart (reverse xs) → Apart xs
 apart_reverse [] apart = tt

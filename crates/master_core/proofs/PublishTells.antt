@@ -11,7 +11,7 @@ use Rattle.coflow_units.specs.declared.plan.Place.{Place}
 use Rattle.coflow_units.specs.Flows.{Instance, coflow_of, uses, with_units_from}
 use Rattle.coflow_units.specs.Certificate.{order_of}
 use Rattle.coflow_units.specs.Load.{load, loads}
-use Rattle.coflow_units.proofs.Lists.{filter_in, number_below}
+use Rattle.coflow_units.proofs.Lists.{filter_in, number_below, filter_same}
 use Rattle.coflow_units.proofs.Sums.{any_in}
 use Rattle.flow_table.specs.Table.{IsTable, TableFacts}
 use Rattle.grant_ledger.specs.Accounts.{IsBalanced}
@@ -26,7 +26,6 @@ use Rattle.master_core.specs.Published.{IsLeft, Published, TellsPlaces, last_of,
 use Rattle.master_core.specs.Standing.{IsFit, Tells, TellsOrders}
 use Rattle.journal.proofs.Growth.{made_at}
 use Rattle.journal.proofs.Instances.{left_is_instance, only_ordering}
-use Rattle.master_core.proofs.OpenTells.{filter_same}
 use Rattle.master_core.proofs.PlaceSteps.{order_of_places, place_is_of}
 
 -- ---- the units that are owed

@@ -8,6 +8,7 @@ use Rattle.coflow_units.specs.Flows.{IsDistinct}
 use Rattle.coflow_units.specs.Grants.{place_in}
 use Rattle.coflow_units.proofs.LinePlaces.{at_place, place_of_member}
 use Rattle.coflow_units.proofs.Sums.{any_has, any_in}
+use Rattle.coflow_units.proofs.Ranges.{zero_at}
 use Rattle.journal.specs.State.{has}
 use Rattle.journal.specs.Line.{rank_in}
 use Rattle.master_core.specs.Published.{ranked}
@@ -42,15 +43,10 @@ ranks_all xs ranks c h lt = elim (cases_Bool (has xs c)) [
       ∙ sym (ap (λ (b : Bool). if b then place_in xs c + 1 else 0) f)
 ]
 
-nought_at : (n k : ℕ) → ◌≡◌ {A = ℕ} (get_or (replicate n 0) k 0) 0
-nought_at zero k = refl
-nought_at (suc n) zero = refl
-nought_at (suc n) (suc k) = nought_at n k
-
 pub ranks_none : (xs ranks : List ℕ) (n : ℕ) → ranks ≡ replicate n 0 → RanksSoFar xs ranks 0
 ranks_none xs ranks n is = record {
   there = λ k lt. absurd (omega arith);
-  none = λ c lt apart. ap (λ l. get_or l c 0) is ∙ nought_at n c;
+  none = λ c lt apart. ap (λ l. get_or l c 0) is ∙ zero_at n c;
 }
 
 pub place_at : (places : List Place) (n : ℕ) (d : Place) → n < length places → get_or (ranked places) n 0 ≡ (get_or places n d).coflow

@@ -1,13 +1,12 @@
 -- The first flow that owes, found by the sums of the coflows.
-use Rattle.std.proofs.Common.{◌≡◌, ℕ, ◌+◌, ◌≤◌, ◌<◌, ◌==◌, inl, inr, Bool, true, false, cond, List, [], ◌∷◌, length, get_or, Contains, refl, ap, subst, ◌∙◌, arith}
-use Rattle.std.specs.Prelude.{◌&&◌, nat_lt, sum_by}
+use Rattle.std.proofs.Common.{◌≡◌, ℕ, ◌+◌, ◌≤◌, ◌<◌, ◌==◌, inl, inr, Bool, true, false, cond, List, length, get_or, refl, ap, subst, ◌∙◌, arith}
+use Rattle.std.specs.Prelude.{◌&&◌, nat_lt}
 use Rattle.std.specs.List.{range_with_len}
 use Rattle.std.proofs.lemmas.Bool.{and_from, and_parts, cases_lt, eqb-true, le-ltb, lt-ltb, ltb-false, ltb-true}
-use Rattle.std.proofs.lemmas.List.Sums.{sum_by-cons}
 use Rattle.coflow_units.specs.declared.fabric.Flow.{Flow}
 use Rattle.coflow_units.specs.Flows.{coflow_of}
 use Rattle.coflow_units.proofs.Lists.{number_below}
-use Rattle.coflow_units.proofs.Sums.{in_first, in_tail}
+use Rattle.coflow_units.proofs.Sums.{some_term}
 use Rattle.greedy_rates.specs.Owed.{IsOwed, IsTally, Owed}
 use Rattle.greedy_rates.proofs.Tallies.{left_within, part}
 use Rattle.flow_table.specs.Table.{IsTable, TableFacts}
@@ -17,13 +16,6 @@ use Rattle.master_core.specs.Standing.{IsNoneDue, IsNoneOwing, is_due, is_owing}
 use Rattle.master_core.proofs.Bools.{and_false}
 
 -- ---- a sum that is some has a flow that owes
-
-some_term : (f : ℕ → ℕ) (xs : List ℕ) → 0 < sum_by f xs → (x : ℕ) × Contains xs x × (0 < f x)
-some_term f [] lt = absurd (omega arith)
-some_term f (x ∷ xs) lt = elim (cases_lt 0 (f x)) [
-  | inl some ↦ (x, in_first x xs, some)
-  | inr none ↦ let (y, in', some) = some_term f xs (omega (arith, lt, sum_by-cons f x xs)) in (y, in_tail x xs y in', some)
-]
 
 some_part : (b : Bool) (n : ℕ) → 0 < cond b n 0 → (b ≡ true) × (0 < n)
 some_part true n some = (refl, some)

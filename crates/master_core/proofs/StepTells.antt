@@ -1,8 +1,9 @@
 -- A command that finds room adds its entry, and what is kept tells the state after it.
-use Rattle.std.proofs.Common.{◌≡◌, ℕ, ◌<◌, ◌≤◌, Bool, true, false, List, [], ◌∷◌, ◌++◌, length, refl, sym, ap, subst, ◌∙◌, arith}
+use Rattle.std.proofs.Common.{◌≡◌, ℕ, ◌<◌, Bool, true, false, List, [], ◌∷◌, ◌++◌, length, refl, sym, ap, subst, ◌∙◌, arith}
 use Rattle.std.specs.Prelude.{◌&&◌, ◌^◌, if◌then◌else◌, nat_le, nat_lt}
 use Rattle.std.proofs.lemmas.Bool.{and_from, le-leb, lt-leb, lt-ltb}
 use Rattle.std.proofs.lemmas.List.Elements.{All-push}
+pub use Rattle.journal.proofs.FurtherRoom.{few_versions as versions_few}
 use Rattle.journal.specs.declared.command.Command.{Command}
 use Rattle.journal.specs.declared.command.Command.TheVariants.{Register, Withdraw, Publish, Pull, Open, Short, Close, Skip, Reweigh}
 use Rattle.journal.specs.declared.command.Entry.{Entry}
@@ -12,7 +13,7 @@ use Rattle.journal.specs.declared.opening.Opening.{Opening}
 use Rattle.master_core.specs.declared.standing.Standing.{Standing}
 use Rattle.journal.specs.Fold.{after, state_of}
 use Rattle.journal.specs.Answer.{IsInRange, answer, in_range, reply_of, room}
-use Rattle.journal.specs.Journal.{IsLegal, entry, is_full, is_version, journal_after, version_of}
+use Rattle.journal.specs.Journal.{IsLegal, entry, is_full, journal_after}
 use Rattle.master_core.specs.Master.{IsMaster}
 use Rattle.journal.specs.Sound.{InRange}
 use Rattle.master_core.specs.Standing.{Follows, Tells}
@@ -31,14 +32,6 @@ range_told o (Skip to) h = refl
 range_told o (Reweigh c w) h =
     and_from (nat_lt c (length o.table.ids)) (nat_lt 0 w && nat_le w (2 ^ 32)) (lt-ltb c (length o.table.ids) h.0)
     (and_from (nat_lt 0 w) (nat_le w (2 ^ 32)) (lt-ltb 0 w h.1) (le-leb w (2 ^ 32) h.2))
-
-one_most : (b : Bool) → (if b then 1 else 0) ≤ 1
-one_most true = omega arith
-one_most false = omega arith
-
-pub versions_few : (journal : List Entry) → version_of journal ≤ length journal
-versions_few [] = omega arith
-versions_few (e ∷ es) = omega (arith, one_most (is_version e.reply), versions_few es)
 
 -- where there is room, the reply is the answer of the state, and the journal is not full
 pub answered : (o : Opening) (journal : List Entry) (k : Command) → length journal < room o k → reply_of o journal k ≡ answer o (state_of o journal) k

@@ -125,7 +125,8 @@ impl Master {
 
     /// The flow that is granted at an ingress in the open run. None comes exactly where no run is open, or the ingress has no grant in it.
     pub fn granted(&self, ingress: u32) -> Option<u32>
-        ensures { result ≡ flow_at self.now.opening.table.flows (state_of self.now.opening self.now.journal).run ingress }
+        ensures { result ≡
+            flow_at self.now.opening.table.flows (state_of self.now.opening self.now.journal).run ingress }
     {
         self.standing.runs.at(ingress)
     }

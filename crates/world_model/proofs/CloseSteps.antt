@@ -7,6 +7,7 @@ use Rattle.coflow_units.specs.Flows.{ingress_of}
 use Rattle.coflow_units.specs.PortWord.{PortStage}
 use Rattle.coflow_units.specs.PortWord.PortStage.{unposted, granted, drawn, reported, taken_back}
 use Rattle.coflow_units.proofs.Sums.{any_has}
+use Rattle.coflow_units.proofs.Bools.{same_if}
 use Rattle.journal.specs.declared.opening.Opening.{Opening}
 use Rattle.journal.specs.State.{Run, has}
 use Rattle.journal.specs.Runs.{credit, grant_in, note_in}
@@ -59,10 +60,6 @@ idle_is r sent_here x (Some f) none (inr h) = no_way none
 done_parts : (g x : Bool) → g ≡ false → (if g then true else x) ≡ true → x ≡ true
 done_parts true x e h = absurd (true≢false e)
 done_parts false x e h = h
-
-same_if : (b : Bool) (m n : ℕ) → (b ≡ true → m ≡ n) → (if b then m else 0) ≡ (if b then n else 0)
-same_if true m n h = h refl
-same_if false m n h = refl
 
 abbrev noted_below : Run → Option ℕ → PortFacts → Bool
 noted_below r note x = if is_short r x then is_some note && (unwrap_or note 0 == unwrap_or x.settled 0) else true

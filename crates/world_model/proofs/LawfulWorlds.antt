@@ -67,7 +67,7 @@ opens_grants w h = λ before more e slot slots count is reply.
     let o = w.opening in
     let s = state_of o before in
     let (run, grants) = opened_grants o before e slot slots count reply in
-    let (most, command, none, owes, next, len, counted) = subst (TellsEntry o s e.command) reply (entry_tells o before more e (subst (IsLegal o) is h.legal.0)) in
+    let (most, command, none, owes, next, len, counted, left) = subst (TellsEntry o s e.command) reply (entry_tells o before more e (subst (IsLegal o) is h.legal.0)) in
     let long = subst (IsRunLength (owed o s) (granted o s) (min most (slot_end - s.next))) (sym len) (run_length_is o s most) in (
       most,
       record { first = slot; slots = slots; granted = granted o s; notes = [] },

@@ -10,6 +10,7 @@ pub mod Events
 pub mod BusySteps
 pub mod Refusals
 pub mod Fields
+pub mod PostFields
 pub mod LawfulWorlds
 pub mod RowChecks
 pub mod Turns

@@ -6,6 +6,7 @@ use Rattle.std.proofs.lemmas.Bool.{cases_eq, eqb-true, eq-eqb}
 use Rattle.coflow_units.specs.declared.fabric.Flow.{Flow}
 use Rattle.coflow_units.specs.PortWord.{PortStage, is_drawn_by, is_granted}
 use Rattle.coflow_units.specs.PortWord.PortStage.{unposted, granted, drawn, reported, taken_back}
+pub use Rattle.journal.proofs.Replies.{no_way}
 use Rattle.journal.specs.State.{Run}
 use Rattle.journal.specs.Runs.{grant_in, note_in}
 use Rattle.world_model.specs.declared.sent.SentRun.{SentRun}
@@ -34,9 +35,6 @@ kept_port flows ports credited next run xs sent p x lt h new = record {
 
 abbrev pub mkp : ℕ → ℕ → PortStage → ℕ → Option ℕ → PortFacts
 mkp slot flow stage count settled = record { slot = slot; flow = flow; stage = stage; count = count; settled = settled }
-
-pub no_way : {A : Type 0} → false ≡ true → A
-no_way e = absurd (true≢false (sym e))
 
 pub draw_ok : (flows : List Flow) (next : ℕ) (run : Option Run) (sent : List SentRun) (p slot flow : ℕ) (stage : PortStage) (count : ℕ) (settled : Option ℕ) (a : ℕ) →
     is_granted stage ≡ true →

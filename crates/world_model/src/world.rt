@@ -9,7 +9,7 @@ ghost use Rattle.world_model.specs.Sent.{sent_for};
 ghost use Rattle.world_model.specs.World.{WorldFacts, new_world, port_at, run_of};
 ghost use Rattle.world_model.specs.Kept.{IsPortOf, TellsSent};
 ghost use Rattle.world_model.specs.Guards.{can, in_run, is_done, is_free};
-ghost use Rattle.world_model.specs.Steps.{IsBusy, IsSameButJournal, asks, cleared, happened, is_full_answer, is_opened, is_refused_answer, is_send, world_after, world_of};
+ghost use Rattle.world_model.specs.Steps.{IsBusy, IsSameButJournal, asks, cleared, happened, is_full_answer, is_opened, is_refused_answer, is_send, world_after};
 ghost use Rattle.world_model.specs.Lawful.{ClosesAsSent, IsLegalWorld, IsWorld, OpensGrants, OpensPatiently, SendsInTime, SendsOnce, SendsWithin};
 
 use crate::event::{Event, Happened};
@@ -89,36 +89,6 @@ impl World {
             Event::Note { port } => self.note(port),
             Event::Close => self.close(),
         }
-    }
-
-    /// The world after a list of steps from a new one, of this master, whose journal is empty, and of so many agents. A step that may not be taken is passed over. The error is
-    /// want of memory.
-    ///
-    /// Whatever the steps are: the journal is legal; no pair of a slot and a flow was sent twice, no flow more often than it has units, and nothing past the open run; each
-    /// closing credited to each flow what was sent for it in the run; each opening granted the grants of its line, so that a flow of the line waits only for a coflow no later in it.
-    pub fn play(
-        alloc: Global,
-        master: Master,
-        agents: u32,
-        events: &[Event],
-    ) -> Result<World, NoMemory>
-        requires { master.journal ≡ [] }
-        ensures world { IfOk result (λ w. w ≡ world_of (new_world master.opening agents) events.now) }
-        ensures legal { IfOk result (λ w. IsLegalWorld w) }
-        ensures once { IfOk result (λ w. SendsOnce w) }
-        ensures within { IfOk result (λ w. SendsWithin w) }
-        ensures in_time { IfOk result (λ w. SendsInTime w) }
-        ensures credited { IfOk result (λ w. ClosesAsSent w) }
-        ensures granted { IfOk result (λ w. OpensGrants w) }
-        ensures patient { IfOk result (λ w. OpensPatiently w) }
-    {
-        let mut world = World::new(alloc, master, agents)?;
-        for event in events {
-            if let Happened::NoMemory = world.step(*event) {
-                return Err(NoMemory);
-            }
-        }
-        Ok(world)
     }
 
     /// The master.

@@ -1,4 +1,5 @@
 use Rattle.journal.proofs.RunRowChecks.{counted_grants_are, counted_notes_are, counted_runs_are, furthest_skips_are, noted_run_is, one_run_is, open_run_is, served_order_is}
+use Rattle.journal.proofs.RunRowChecks.{counted_kinds_are, driven_apart_are, ended_flows_are, slots_of_a_run_are, tallied_slots_are}
 use Rattle.journal.proofs.RunRowChecks.{skipped_slots_are, twice_is, two_ports_are, withdrawal_between_is}
 use Rattle.journal.proofs.run_laws.run_rows_hold.Goals as goal
 
@@ -37,3 +38,18 @@ returns-clause-furthest_skips c = furthest_skips_are
 
 pub returns-clause-counted_notes : goal.returns-clause-counted_notes
 returns-clause-counted_notes c = counted_notes_are
+
+pub returns-clause-driven_apart : goal.returns-clause-driven_apart
+returns-clause-driven_apart c = driven_apart_are
+
+pub returns-clause-counted_kinds : goal.returns-clause-counted_kinds
+returns-clause-counted_kinds c = counted_kinds_are
+
+pub returns-clause-slots_of_a_run : goal.returns-clause-slots_of_a_run
+returns-clause-slots_of_a_run c = slots_of_a_run_are
+
+pub returns-clause-ended_flows : goal.returns-clause-ended_flows
+returns-clause-ended_flows c = ended_flows_are
+
+pub returns-clause-tallied_slots : goal.returns-clause-tallied_slots
+returns-clause-tallied_slots c = tallied_slots_are

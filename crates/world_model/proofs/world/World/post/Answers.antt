@@ -10,7 +10,8 @@ use Rattle.journal.specs.Fold.{state_of}
 use Rattle.journal.specs.Runs.{flow_at, slots_of}
 use Rattle.world_model.specs.declared.port.Stage.TheVariants.{Granted}
 use Rattle.world_model.proofs.Events.{post_keeps}
-use Rattle.world_model.proofs.Fields.{blocked, may_post, posted_before, posted_world, stays, stepped, tells_posted, told}
+use Rattle.world_model.proofs.Fields.{blocked, stays, stepped, told}
+use Rattle.world_model.proofs.PostFields.{may_post, posted_before, posted_world, tells_posted}
 use Rattle.world_model.proofs.world.World.post.Goals as goal
 
 pub returns-then-last-first-clause-answer : goal.returns-then-last-first-clause-answer
