@@ -13,7 +13,8 @@ from collections import Counter, namedtuple
 from dataclasses import dataclass
 
 sys.dont_write_bytecode = True
-from plain_master import DRAWN, TWO, Master, build, compared, fault_of_refusals, first_difference, named, optional, ran, row_of, written
+from master_journal import Master, named, optional
+from plain_master import DRAWN, TWO, build, compared, fault_of_refusals, first_difference, ran, row_of, written
 from plain_plan import Coflow, drawn
 from refused_memory import make_library
 
@@ -185,7 +186,7 @@ def fault_of_row(folder, limit, agents, text, told, entries, sent):
     counts = [sum(line.startswith(word) for line in said) for word in ("entry", "SentRun")]
     if not set(told) <= set(said) or counts != [entries, sent]:
         return "the plain world tells %s" % said
-    return first_difference(ran(folder, *TWO, lines), said) or fault_of_refusals(folder, said)
+    return first_difference(ran(folder, *TWO, lines), said) or fault_of_refusals(folder, said, "NoMemory")
 
 
 # Drawn lists
