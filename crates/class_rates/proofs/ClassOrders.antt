@@ -13,7 +13,7 @@ use Rattle.coflow_units.specs.Served.{IsServed}
 use Rattle.coflow_units.proofs.LinePlaces.{at_place, place_of_member}
 use Rattle.coflow_units.proofs.ServedLaws.{served_patient, served_valid}
 use Rattle.coflow_units.proofs.Sums.{first_or_tail, in_first, in_tail, nothing_in}
-use Rattle.class_rates.specs.Classes.{ClassBefore, IsClassOrder}
+use Rattle.class_rates.specs.Classes.{ClassBefore, IsClassOrder, RisesAlong}
 use Rattle.class_rates.specs.ClassPatient.{IsClassPatient, IsServedOrWaitsByClass}
 
 head_before : (class : ℕ → ℕ) (x c : ℕ) (xs : List ℕ) → AllPairs (ClassBefore class) (x ∷ xs) → Contains xs c → ClassBefore class x c
@@ -86,18 +86,22 @@ classes_rise class order c d sorted hc hd le =
           omega (arith, ap class e)
     ]
 
-keeps_class : (flows : List Flow) (coflows : List ℕ) (class : ℕ → ℕ) (order slot : List ℕ) (f : ℕ) → IsClassOrder coflows class order →
-    ((f : ℕ) → f < length flows → Contains coflows (coflow_of flows f)) → IsClear flows slot → f < length flows → IsServedOrWaits flows order slot f →
-    IsServedOrWaitsByClass flows class slot f
-keeps_class flows coflows class order slot f by known clear lt (inl has) = inl has
-keeps_class flows coflows class order slot f by known clear lt (inr (g, has, shares, le)) =
+keeps_class : (flows : List Flow) (class : ℕ → ℕ) (order slot : List ℕ) (f : ℕ) → RisesAlong class order → ((f : ℕ) → f < length flows → Contains order (coflow_of flows f)) →
+    IsClear flows slot → f < length flows → IsServedOrWaits flows order slot f → IsServedOrWaitsByClass flows class slot f
+keeps_class flows class order slot f rises known clear lt (inl has) = inl has
+keeps_class flows class order slot f rises known clear lt (inr (g, has, shares, le)) =
     let in' : g < length flows = All-contains (λ x. x < length flows) slot g clear.flow has in
-    inr (g, has, shares, classes_rise class order (coflow_of flows g) (coflow_of flows f) by.sorted (by.all _ (known g in')) (by.all _ (known f lt)) le)
+    inr (g, has, shares, rises (coflow_of flows g) (coflow_of flows f) (known g in') (known f lt) le)
+
+pub along_law : (flows : List Flow) (class : ℕ → ℕ) (order : List ℕ) (slots : List (List ℕ)) → RisesAlong class order →
+    ((f : ℕ) → f < length flows → Contains order (coflow_of flows f)) → IsValid flows slots → IsPatient flows order slots → IsClassPatient flows class slots
+along_law flows class order slots rises known valid patient = λ t f in' lt left.
+    keeps_class flows class order (get_or slots t []) f rises known (valid.clear t [] in') lt (patient t f in' lt left)
 
 pub patient_law : (flows : List Flow) (coflows : List ℕ) (class : ℕ → ℕ) (order : List ℕ) (slots : List (List ℕ)) → IsClassOrder coflows class order →
     ((f : ℕ) → f < length flows → Contains coflows (coflow_of flows f)) → IsValid flows slots → IsPatient flows order slots → IsClassPatient flows class slots
-patient_law flows coflows class order slots by known valid patient = λ t f in' lt left.
-    keeps_class flows coflows class order (get_or slots t []) f by known (valid.clear t [] in') lt (patient t f in' lt left)
+patient_law flows coflows class order slots by known valid patient =
+    along_law flows class order slots (λ c d. classes_rise class order c d by.sorted) (λ f lt. by.all _ (known f lt)) valid patient
 
 pub served_law : (flows : List Flow) (coflows : List ℕ) (class : ℕ → ℕ) (order : List ℕ) (slots : List (List ℕ)) → IsClassOrder coflows class order →
     ((f : ℕ) → f < length flows → Contains coflows (coflow_of flows f)) → IsServed flows order slots → IsClassPatient flows class slots

@@ -1,5 +1,6 @@
 mod CapSteps
 mod ClassLaw
-mod ClassOrders
+pub mod ClassOrders
+mod ClassRows
 mod FoldSteps
 mod PairLists

@@ -18,6 +18,11 @@ class_in order classes coflow = class_at (length order) classes (place_in order 
 abbrev pub ClassBefore : (ℕ → ℕ) → ℕ → ℕ → Type 0
 ClassBefore class c d = (class c < class d) ⊎ ((class c ≡ class d) × (c < d))
 
+-- classes do not fall along the order
+abbrev pub RisesAlong : (ℕ → ℕ) → List ℕ → Type 0
+RisesAlong class order = (c d : ℕ) → Contains order c → Contains order d → place_in order c ≤ place_in order d →
+    class c ≤ class d
+
 -- the coflows by class and then by number
 pub record IsClassOrder (coflows : List ℕ) (class : ℕ → ℕ) (order : List ℕ) : Type 0 where
   pub sorted : AllPairs (ClassBefore class) order

@@ -1,9 +1,10 @@
 -- Classes, caps and schedules of small instances, worked out by hand.
-use Rattle.std.specs.Prelude.{ℕ, List, [], ◌∷◌}
+use Rattle.std.specs.Prelude.{◌≡◌, ℕ, List, [], ◌∷◌, map}
+use Rattle.std.specs.List.{range_with_len}
 use Rattle.coflow_units.specs.Flows.{Instance}
-use Rattle.coflow_units.specs.Rows.{equal_weights}
+use Rattle.coflow_units.specs.Rows.{all_ties, equal_weights, realistic, unequal_weights}
 use Rattle.class_rates.specs.Cap.{cap}
-use Rattle.class_rates.specs.Classes.{class_in}
+use Rattle.class_rates.specs.Classes.{IsClassOrder, class_at, class_in}
 
 -- the shorter one of the two coflows comes first
 abbrev pub short_first : List ℕ
@@ -16,3 +17,33 @@ folded classes = class_in short_first classes
 -- the cap of two coflows of one flow each, of 3 units and of 1 unit, at the same two ports
 abbrev pub cap_of_two : ℕ → ℕ
 cap_of_two classes = cap equal_weights.flows equal_weights.weight equal_weights.coflows (folded classes)
+
+-- the classes of the places of an order of so many coflows
+abbrev pub classes_along : ℕ → ℕ → List ℕ
+classes_along n classes = map (class_at n classes) (range_with_len 0 n)
+
+-- the cap of the coflows of an instance in an order, folded into so many classes
+abbrev pub cap_in : Instance → List ℕ → ℕ → ℕ
+cap_in i order classes = cap i.flows i.weight i.coflows (class_in order classes)
+
+-- three coflows in two classes, five in three, and two in more classes than there are coflows
+pub record ClassesAlong : Type 0 where
+  pub three : classes_along 3 2 ≡ 1 ∷ 1 ∷ 2 ∷ []
+  pub five : classes_along 5 3 ≡ 1 ∷ 1 ∷ 2 ∷ 2 ∷ 3 ∷ []
+  pub two : classes_along 2 8 ≡ 1 ∷ 5 ∷ []
+
+-- the shorter coflow first: two classes keep that order, and one class has the coflows by number
+pub record ClassOrders : Type 0 where
+  pub two : IsClassOrder (0 ∷ 1 ∷ []) (folded 2) (1 ∷ 0 ∷ [])
+  pub one : IsClassOrder (0 ∷ 1 ∷ []) (folded 1) (0 ∷ 1 ∷ [])
+
+-- what schedules cost at most that keep the classes of an order
+pub record Caps : Type 0 where
+  pub three_coflows_in_one : cap_in realistic (0 ∷ 2 ∷ 1 ∷ []) 1 ≡ 31
+  pub three_coflows_in_two : cap_in realistic (0 ∷ 2 ∷ 1 ∷ []) 2 ≡ 24
+  pub three_coflows_in_three : cap_in realistic (0 ∷ 2 ∷ 1 ∷ []) 3 ≡ 19
+  pub ties_in_one : cap_in all_ties (0 ∷ 1 ∷ []) 1 ≡ 6
+  pub ties_in_two : cap_in all_ties (0 ∷ 1 ∷ []) 2 ≡ 5
+  pub weights_in_one : cap_in unequal_weights short_first 1 ≡ 32
+  pub weights_in_two : cap_in unequal_weights short_first 2 ≡ 26
+  pub weights_in_their_order : cap_in unequal_weights (0 ∷ 1 ∷ []) 2 ≡ 22

@@ -11,8 +11,7 @@ use std::alloc::Global;
 /// The classes of an order of coflows, as a switch with so many priorities can serve it.
 ///
 /// `order` has each coflow once: the numbers from 0 on. There may be from 1 to 64 classes. Of n coflows the one at place r, counted from 0, has the
-/// class `1 + r * classes / n`, rounded down. So classes rise along the order, and no two of them differ by more than one in their
-/// number of coflows. The error is want of memory.
+/// class `1 + r * classes / n`, rounded down. So classes do not fall along the order. The error is want of memory.
 pub fn fold(alloc: Global, order: &[u32], classes: u32) -> Result<Classes, NoMemory>
     requires permutation { IsPermutation order.now }
     requires some { 1 ≤ classes }

@@ -8,8 +8,8 @@ ghost use Rattle.coflow_units.specs.Schedule.{IsValid};
 ghost use Rattle.coflow_units.specs.Served.{IsServed};
 ghost use Rattle.class_rates.specs.Cap.{cap, cap_of_coflow, cap_of_flow};
 ghost use Rattle.class_rates.specs.ClassPatient.{IsClassPatient};
-ghost use Rattle.class_rates.specs.Classes.{IsClassOrder, class_in};
-ghost use Rattle.class_rates.specs.Rows.{cap_of_two, folded};
+ghost use Rattle.class_rates.specs.Classes.{IsClassOrder, RisesAlong, class_in};
+ghost use Rattle.class_rates.specs.Rows.{Caps, ClassOrders, ClassesAlong, cap_of_two, folded};
 
 /// In a valid schedule that keeps classes and leaves no port idle that could serve, each flow ends no later than its cap: the loads of its two ports over the coflows of
 /// its class and of those before it, less its own units. So each coflow ends by its cap, and the schedule costs at most the sum of weight times cap, whichever
@@ -35,8 +35,16 @@ pub fn class_order_is_one()
         IsClassOrder coflows class b → a ≡ b }
 {}
 
-/// A schedule that is patient for a class order keeps its classes, and so does the served schedule of a class order.
+/// Classes do not fall along the order that was folded.
+pub fn classes_rise()
+    ensures { (order : List ℕ) (classes : ℕ) → RisesAlong (class_in order classes) order }
+{}
+
+/// A schedule that is patient for an order along which classes do not fall keeps these classes. So does one that is patient for the class order, and the served schedule of the class order.
 pub fn class_order_keeps_classes()
+    ensures along { (flows : List Flow) (class : ℕ → ℕ) (order : List ℕ) (slots : List (List ℕ)) →
+        RisesAlong class order → ((f : ℕ) → f < length flows → Contains order (coflow_of flows f)) →
+        IsValid flows slots → IsPatient flows order slots → IsClassPatient flows class slots }
     ensures patient { (flows : List Flow) (coflows : List ℕ) (class : ℕ → ℕ) (order : List ℕ) (slots : List (List ℕ)) →
         IsClassOrder coflows class order →
         ((f : ℕ) → f < length flows → Contains coflows (coflow_of flows f)) → IsValid flows slots →
@@ -47,8 +55,12 @@ pub fn class_order_keeps_classes()
         IsServed flows order slots → IsClassPatient flows class slots }
 {}
 
-/// Of two coflows of 3 units and of 1 unit at the same ports, the shorter one first, two classes have the cap 6 and one class has the cap 12.
+/// Of two coflows of 3 units and of 1 unit at the same ports, the shorter one first, two classes have the cap 6 and one class has the cap 12. The classes, class orders and caps of small instances are as they were
+/// worked out by hand.
 pub fn rows_hold()
+    ensures along { ClassesAlong }
+    ensures orders { ClassOrders }
+    ensures caps { Caps }
     ensures first { folded 2 1 ≡ 1 }
     ensures second { folded 2 0 ≡ 2 }
     ensures one { folded 1 0 ≡ 1 }
