@@ -1,7 +1,4 @@
 //! A shelf whose report has no end.
-ghost use Rattle.std.specs.Prelude.{◌≡◌, ◌<◌, IsOk, length, true};
-ghost use Rattle.std.specs.Io.{ReadsAtMost};
-ghost use Rattle.outside.specs.SureShelf.{sure_started};
 
 use outside::{Failed, Place4, Shelf, SureShelf};
 

@@ -3,7 +3,8 @@ use Rattle.std.proofs.Common.{◌≡◌, ◌≢◌, ℕ, ◌+◌, ◌-◌, ◌^�
 use Rattle.std.proofs.Math.ListN.{set, drop_of_length-le}
 use Rattle.std.specs.Prelude.{◌↔◌, nat_eq, string_bytes, min}
 use Rattle.std.specs.Cmp.Lexicographic.{pointwise, bytes_decides}
-use Rattle.std.proofs.lemmas.List.{get_or-map, get_or-set_other, get_or_append_left, get_or_past, length-append, length-map, length-set, length-take-le, map-append, map-set}
+use Rattle.std.proofs.lemmas.List.{get_or-map, get_or-set_other, get_or_append_left, get_or_past, length-append, length-map, length-set}
+use Rattle.std.proofs.lemmas.List.{length-take-le, map-append, map-set}
 use Rattle.std.proofs.lemmas.List.{drop-drop, take-append-le, take-take, take-append-drop, nil_from_length}
 use Rattle.std.proofs.lemmas.List.Folds.{position_or_len_push}
 use Rattle.std.proofs.lemmas.List.Sums.{passes_at_first, position_or_len_is, prefix_len-le-length}
@@ -12,8 +13,8 @@ use Rattle.std.proofs.lemmas.Bool.Decides.{eqb_tells}
 use Rattle.std.proofs.lemmas.Grind.{common_steps, get_or-set_at}
 use Rattle.std.proofs.Math.Seq.{map-set_same, get_or-append_seam}
 use Rattle.outside.specs.declared.files.File.{File}
-use Rattle.outside.specs.Rose.{Rose}
-use Rattle.outside.specs.Files.{names_of, contents_of, counts_of, number_of, bytes_at, count_at, CountsName, HasNoFile, LeavesOtherNames, Puts}
+use Rattle.outside.specs.Rose.{RoseOnce}
+use Rattle.outside.specs.Files.{names_of, contents_of, counts_of, number_of, bytes_at, count_at, file_at, CountsName, HasNoFile, LeavesOtherNames, Puts}
 
 pub same_names : (files : List File) (i : ℕ) (f d : File) → string_bytes f.name ≡ string_bytes (get_or files i d).name → names_of (set files i f) ≡ names_of files
 same_names files i f d e = map-set_same (λ (x : File). string_bytes x.name) files i f d e
@@ -43,9 +44,18 @@ later_counts files i missing f d inside up k =
       | inr other ↦ rw (other_count files i missing k f other.1) (omega arith)
     ]
 
+file_inside : (files : List File) (i : ℕ) → i < length files → file_at files i ≡ i
+file_inside files i inside = omega arith
+
 pub risen_count : (files : List File) (i missing : ℕ) (f d : File) → i < length files → f.faults ≡ min ((get_or files i d).faults + 1) (2 ^ 64 - 1) →
-    Rose (count_at (counts_of files) missing i) (count_at (counts_of (set files i f)) missing i)
-risen_count files i missing f d inside up = rw (count_of files i missing d inside, set_count files i missing f inside) (omega arith)
+    RoseOnce (count_at (counts_of files) missing (file_at files i)) (count_at (counts_of (set files i f)) missing (file_at files i))
+risen_count files i missing f d inside up = rw (file_inside files i inside, count_of files i missing d inside, set_count files i missing f inside) up
+
+pub kept_count : (files : List File) (i missing : ℕ) (f : File) → i < length files → (k : ℕ) → k ≢ file_at files i →
+    count_at (counts_of (set files i f)) missing k ≡ count_at (counts_of files) missing k
+kept_count files i missing f inside k other = other_count files i missing k f (λ same. other (same ∙ sym (file_inside files i inside)))
+
+-- ---- names
 
 -- the first file with a name
 pub number_is : (names : List (List ℕ)) (name : List ℕ) (i : ℕ) → i ≤ length names → ((k : ℕ) → k < i → pointwise nat_eq (get_or names k []) name ≡ false) →
@@ -227,11 +237,15 @@ set_adds files i f d name at inside nm =
       count = record { new_name = λ none. absurd (omega (arith, at, none, inside)); old_name = λ some. many };
     }
 
+-- a name stands for a file or for the missing one
+pub number_within : (files : List File) (name : List ℕ) → number_of (names_of files) name ≤ length files
+number_within files name =
+    let within : number_of (names_of files) name ≤ length (names_of files) = prefix_len-le-length _ (names_of files) in
+    omega (arith, within, length-map files (λ (x : File). string_bytes x.name))
+
 -- a number at the end of the files is that of no file
 pub not_there : (files : List File) (name : List ℕ) (i : ℕ) → i ≡ number_of (names_of files) name → length files ≤ i → number_of (names_of files) name ≡ length files
-not_there files name i at past =
-    let within : number_of (names_of files) name ≤ length (names_of files) = prefix_len-le-length _ (names_of files) in
-    omega (arith, at, past, within, length-map files (λ (x : File). string_bytes x.name))
+not_there files name i at past = omega (arith, at, past, number_within files name)
 
 pub push_adds : (files : List File) (f : File) (name : List ℕ) → number_of (names_of files) name ≡ length files → string_bytes f.name ≡ name → SetsName files (files ++ f ∷ []) name
 push_adds files f name absent nm = record {

@@ -6,8 +6,8 @@ use Rattle.std.proofs.lemmas.List.{length-take-le}
 use Rattle.std.proofs.Math.Seq.{drop-append_seam}
 use Rattle.outside.specs.declared.shelf.Place4.{Place4}
 use Rattle.outside.specs.declared.reading.ReadStop.TheVariants.{Fault, TooLong, NoMemory}
-use Rattle.outside.specs.Rose.{Rose}
-use Rattle.outside.specs.Shelf.{Told, Keeps, ReadsAt, Reads, ReadsWhole, ReadsWholeAt, faults_at}
+use Rattle.outside.specs.Rose.{RoseOnce}
+use Rattle.outside.specs.Shelf.{Told, Keeps, KeepsOtherCounts, ReadsAt, Reads, ReadsWhole, ReadsWholeAt, faults_at}
 use Rattle.outside.proofs.SoFar.{ReadsSoFar, ToldSoFar}
 
 pub keeps_on : (a b c : Told) → Keeps a b → Keeps b c → Keeps a c
@@ -20,6 +20,7 @@ step_at old mid new place bytes buffer n s r = record {
   file_at = r.file_at ∙ s.file_at;
   left = append_assoc bytes (take n buffer) (new.left place) ∙ ap (λ v. bytes ++ v) r.moves.0 ∙ s.left;
   others_left = λ p other. r.others_left p other ∙ s.others_left p other;
+  still = r.still ∙ s.still;
 }
 
 -- what a read did, where the shelf is known to tell
@@ -44,16 +45,25 @@ fault_at old mid new place bytes buffer most e short s r = record {
   keeps = keeps_on old mid new s.keeps r.keeps;
   file_at = r.file_at ∙ s.file_at;
   takes =
-      (length bytes, short, r.moves ∙ left_is bytes (mid.left place) (old.left place) s.left, rose);
+      (length bytes, short, r.moves ∙ left_is bytes (mid.left place) (old.left place) s.left);
+  counts = (rose, others);
   others_left = λ p other. r.others_left p other ∙ s.others_left p other;
 }
   where
-    rose : Rose (faults_at old place) (faults_at new place)
+    here : mid.file_at place ≡ old.file_at place
+    here = ap (λ (f : Place4 → ℕ). f place) s.file_at
+
+    rose : RoseOnce (faults_at old place) (faults_at new place)
     rose =
-        let same : mid.file_at place ≡ old.file_at place = ap (λ f. f place) s.file_at in
-        let now : new.file_at place ≡ mid.file_at place = ap (λ f. f place) r.file_at in
-        let risen : Rose (mid.faults (old.file_at place)) (new.faults (new.file_at place)) = rw (← same) r.cause in
-        omega (arith, risen, s.keeps.later (old.file_at place))
+        let now : new.file_at place ≡ mid.file_at place = ap (λ (f : Place4 → ℕ). f place) r.file_at in
+        let before : faults_at mid place ≡ faults_at old place = ap (λ (f : ℕ → ℕ). f (mid.file_at place)) s.still ∙ ap old.faults here in
+        rw before at r.cause
+
+    others : KeepsOtherCounts old new (old.file_at place)
+    others n other =
+        let file : mid.file n ≡ old.file n = ap (λ (f : List ℕ → ℕ). f n) s.keeps.file in
+        let counted : mid.faults (mid.file n) ≡ old.faults (old.file n) = ap (λ (f : ℕ → ℕ). f (mid.file n)) s.still ∙ ap old.faults file in
+        r.other_counts n (λ same. other (sym file ∙ same ∙ here)) ∙ counted
 
 -- the shelf failed
 pub read_fault : (E : Type 0) (old m new : Option Told) (place : Place4) (bytes buffer : List ℕ) (most : ℕ) (e : E) → length bytes ≤ most → ToldSoFar old m place bytes →
@@ -72,7 +82,7 @@ read_too_long (Some x) new place bytes most long s =
     let t = s.0 in
     let left = left_is bytes (t.left place) (x.left place) s.2.left in
     let whole : length bytes + length (t.left place) ≡ length (x.left place) = sym (length-append bytes (t.left place)) ∙ ap length s.2.left in
-    (t, s.1, record { keeps = s.2.keeps; file_at = s.2.file_at; takes = (omega (arith, whole, long), rw long at left); others_left = s.2.others_left })
+    (t, s.1, record { keeps = s.2.keeps; file_at = s.2.file_at; takes = (omega (arith, whole, long), rw long at left); counts = s.2.still; others_left = s.2.others_left })
 
 -- there was no memory for the bytes that came
 pub read_no_memory : (old new : Option Told) (place : Place4) (bytes : List ℕ) (most : ℕ) → length bytes ≤ most → ToldSoFar old new place bytes →
@@ -86,6 +96,7 @@ read_no_memory (Some x) new place bytes most short s =
         keeps = s.2.keeps;
         file_at = s.2.file_at;
         takes = (length bytes, short, left_is bytes (t.left place) (x.left place) s.2.left);
+        counts = s.2.still;
         others_left = s.2.others_left;
       },
     )

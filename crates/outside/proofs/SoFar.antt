@@ -9,6 +9,7 @@ pub record ReadsSoFar (old new : Told) (place : Place4) (bytes : List ℕ) : Typ
   pub file_at : new.file_at ≡ old.file_at
   pub left : bytes ++ new.left place ≡ old.left place
   pub others_left : SameElsewhere place old.left new.left
+  pub still : new.faults ≡ old.faults
 
 abbrev pub ToldSoFar : Option Told → Option Told → Place4 → List ℕ → Type 0
 ToldSoFar None new place bytes = new ≡ None

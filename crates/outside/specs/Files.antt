@@ -1,5 +1,5 @@
 -- Files in memory, by their numbers, and the places at which they are read.
-use Rattle.std.specs.Prelude.{◌≡◌, ◌≢◌, ◌↔◌, ◌+◌, ℕ, Bool, List, [], Option, Some, None, drop, length, map, string_bytes}
+use Rattle.std.specs.Prelude.{◌≡◌, ◌≢◌, ◌↔◌, ◌+◌, ℕ, Bool, List, [], Option, Some, None, drop, length, map, min, string_bytes}
 use Rattle.std.specs.Prelude.{is_some, nat_eq}
 use Rattle.std.specs.List.{position_or_len, slice_index_or}
 use Rattle.std.specs.Cmp.Lexicographic.{pointwise}
@@ -30,6 +30,10 @@ bytes_at contents number = slice_index_or contents number []
 -- the count of faults of a file; the numbers past the end share one
 abbrev pub count_at : List ℕ → ℕ → ℕ → ℕ
 count_at counts missing number = slice_index_or counts number missing
+
+-- the file that a number stands for: every number past the end stands for the missing file, which is the one at the end
+abbrev pub file_at : List File → ℕ → ℕ
+file_at files number = min number (length files)
 
 -- the bytes under a name
 abbrev pub bytes_under : List File → List ℕ → List ℕ
@@ -73,9 +77,9 @@ with_held places Report value = record places { report = value }
 with_held places Script value = record places { script = value }
 
 -- what is told of a place
-abbrev pub file_held : Option Opened → ℕ
-file_held None = 0
-file_held (Some o) = o.file
+abbrev pub file_held : List File → Option Opened → ℕ
+file_held files None = 0
+file_held files (Some o) = file_at files o.file
 
 abbrev pub left_held : List (List ℕ) → Option Opened → List ℕ
 left_held contents None = []
@@ -87,7 +91,7 @@ memory_told files faults places = record {
   file = number_of (names_of files);
   bytes = bytes_at (contents_of files);
   faults = faults;
-  file_at = λ p. file_held (held places p);
+  file_at = λ p. file_held files (held places p);
   left = λ p. left_held (contents_of files) (held places p);
 }
 

@@ -3,6 +3,7 @@ ghost use Rattle.std.specs.Prelude.{◌≡◌, ◌<◌, ◌≤◌, OnErr, OnOk, 
 ghost use Rattle.std.specs.Io.{ReadsAtMost};
 ghost use Rattle.std.specs.Io.KnownBytes.{ReadConsumes};
 ghost use Rattle.outside.specs.Rose.{Rose, RoseOnce};
+ghost use Rattle.outside.specs.Shelf.{SameElsewhere};
 
 use crate::shelf::{Place4, Shelf};
 use crate::sink::Failed;
@@ -10,7 +11,8 @@ use std::fs;
 use std::io::Read;
 use std::rt::Files;
 
-/// Files of the system by their paths. It tells no content, and its count rises at each error of the system.
+/// Files of the system by their paths. It tells no content. A call that fails raises its count of
+/// faults by one, up to 2^64 - 1.
 #[derive(Drop)]
 pub struct DiskShelf<R: Files + Drop> {
     files: R,
@@ -98,7 +100,23 @@ impl<R: Files + Drop> Shelf for DiskShelf<R> {
 
     ghost told = { λ _. None };
 
-    fn start(&mut self, place: Place4, name: &str) -> Result<(), Failed> {
+    /// Opens the file to be read. What stands at the other places is as before.
+    fn start(&mut self, place: Place4, name: &str) -> Result<(), Failed>
+        ensures later { self.old.faults ≤ self.new.faults }
+        ensures cause { OnErr result (Rose self.old.faults self.new.faults) }
+        ensures still { OnOk result (self.new.faults ≡ self.old.faults) }
+        ensures once { OnErr result (RoseOnce self.old.faults self.new.faults) }
+        ensures started { at_place (is_some self.new.trace) (is_some self.new.weights) (is_some self.new.report)
+            (is_some self.new.script) place ≡ is_ok result }
+        ensures others { SameElsewhere place
+            (at_place (is_some self.old.trace) (is_some self.old.weights) (is_some self.old.report)
+            (is_some self.old.script))
+            (at_place (is_some self.new.trace) (is_some self.new.weights) (is_some self.new.report)
+            (is_some self.new.script)) }
+        ensures elsewhere { SameElsewhere place
+            (at_place self.old.trace self.old.weights self.old.report self.old.script)
+            (at_place self.new.trace self.new.weights self.new.report self.new.script) }
+    {
         match place {
             Place4::Trace => open(&self.files, name, &mut self.trace, &mut self.faults),
             Place4::Weights => open(&self.files, name, &mut self.weights, &mut self.faults),
@@ -107,7 +125,8 @@ impl<R: Files + Drop> Shelf for DiskShelf<R> {
         }
     }
 
-    /// Hands on what the file at the place answered: the first bytes that it has left, and none only at its end.
+    /// Hands on what the file at the place answered: the first bytes that it has left, and none only at its end. What
+    /// stands at the other places is as before.
     fn read(&mut self, place: Place4, buffer: &mut [u8]) -> Result<usize, Failed>
         requires room { 0 < length buffer.old }
         requires started { at_place (is_some self.old.trace) (is_some self.old.weights) (is_some self.old.report)
@@ -124,6 +143,9 @@ impl<R: Files + Drop> Shelf for DiskShelf<R> {
             at_place self.old.trace self.old.weights self.old.report self.old.script place ≡ Some before →
             at_place self.new.trace self.new.weights self.new.report self.new.script place ≡ Some after →
             ReadConsumes (R.File.remaining before) (R.File.remaining after) result buffer.new }
+        ensures elsewhere { SameElsewhere place
+            (at_place self.old.trace self.old.weights self.old.report self.old.script)
+            (at_place self.new.trace self.new.weights self.new.report self.new.script) }
     {
         match place {
             Place4::Trace => read_some(&mut self.trace, buffer, &mut self.faults),

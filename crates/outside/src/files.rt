@@ -1,9 +1,9 @@
 //! Files in memory, and the places at which they are read.
-ghost use Rattle.std.specs.Prelude.{◌≡◌, ℕ, ◌+◌, ◌-◌, ◌^◌, ◌<◌, ◌≤◌, ◌↔◌, Contains, IsTrue, None, Ok, OnErr, OnOk, drop, length, max, min};
+ghost use Rattle.std.specs.Prelude.{◌≡◌, ℕ, ◌+◌, ◌-◌, ◌^◌, ◌<◌, ◌≤◌, ◌≢◌, ◌↔◌, Contains, IsTrue, None, Ok, OnErr, OnOk, drop, length, max, min};
 ghost use Rattle.outside.specs.declared.sink.Failed.{Failed};
-ghost use Rattle.outside.specs.Rose.{Rose};
+ghost use Rattle.outside.specs.Rose.{RoseOnce};
 ghost use Rattle.outside.specs.Shelf.{Moves};
-ghost use Rattle.outside.specs.Files.{bytes_at, contents_of, count_at, counts_of, held, names_of, number_of, with_held, CountsName, HasNoFile, LeavesOtherNames, Puts};
+ghost use Rattle.outside.specs.Files.{bytes_at, contents_of, count_at, counts_of, file_at, held, names_of, number_of, with_held, CountsName, HasNoFile, LeavesOtherNames, Puts};
 
 use crate::piece::Piece;
 use crate::shelf::Place4;
@@ -125,16 +125,18 @@ pub(crate) fn next_fails(calls: &mut u64, fails: &[u32]) -> bool
     fails.iter().any(|call| u64::from(*call) == number)
 }
 
-/// Adds one to the count of all faults and to that of a file. Counts end at 2^64 - 1.
+/// Adds one to the count of all faults and to that of a file, and leaves the counts of other files. Counts end at 2^64 - 1.
 pub(crate) fn raise(files: &mut [File], counts: &mut Counts, number: usize)
     ensures all { counts.new.all ≡ min (counts.old.all + 1) (2 ^ 64 - 1) }
     ensures grows { counts.old.all ≤ counts.new.all }
     ensures names { names_of files.new ≡ names_of files.old }
     ensures contents { contents_of files.new ≡ contents_of files.old }
+    ensures rose { RoseOnce (count_at (counts_of files.old) counts.old.missing (file_at files.old number))
+        (count_at (counts_of files.new) counts.new.missing (file_at files.old number)) }
+    ensures others { (k : ℕ) → k ≢ file_at files.old number → k ≤ length files.old →
+        count_at (counts_of files.new) counts.new.missing k ≡ count_at (counts_of files.old) counts.old.missing k }
     ensures later { (k : ℕ) →
         count_at (counts_of files.old) counts.old.missing k ≤ count_at (counts_of files.new) counts.new.missing k }
-    ensures rose { Rose (count_at (counts_of files.old) counts.old.missing number)
-        (count_at (counts_of files.new) counts.new.missing number) }
 {
     counts.all = counts.all.saturating_add(1);
     if number < files.len() {

@@ -14,8 +14,6 @@ mod sink;
 mod std_sink;
 mod sure_shelf;
 mod sure_sink;
-#[cfg(test)]
-mod tests;
 mod wire;
 mod writing;
 

@@ -74,7 +74,7 @@ impl Wire for MemWire {
 
     ghost runs = { λ w. Some w.runs.items };
 
-    /// Accepts what comes before the unit that fails, and nothing where the room is full. The count rises by one exactly where not all units were accepted.
+    /// Accepts what comes before the unit that fails, and nothing where the room is full. The count rises by one, up to 2^64 - 1, exactly where not all units were accepted.
     fn send(&mut self, slot: u64, flow: u32, length: u64) -> u64
         requires { 1 ≤ length }
         ensures later { self.old.faults ≤ self.new.faults }

@@ -25,19 +25,22 @@ pub returns-then-number-len-clause-named : goal.returns-then-number-len-clause-n
 returns-then-number-len-clause-named c =
     let at = rw c.deref.ensures.value at c.number_of-number.ensures in
     let inside : c.number_of-number.result < length c.args.files.now.items = omega (arith, c.args.files.now.ok.0) in
-    (set_adds c.args.files.now.items c.number_of-number.result _ c.index_mut.result.now c.args.name.now at inside (ap (λ (x : File). string_bytes x.name) c.index_mut.ensures.value)).added
+    let same = ap (λ (x : File). string_bytes x.name) c.index_mut.ensures.value in
+    (set_adds c.args.files.now.items c.number_of-number.result _ c.index_mut.result.now c.args.name.now at inside same).added
 
 pub returns-then-number-len-clause-alone : goal.returns-then-number-len-clause-alone
 returns-then-number-len-clause-alone c =
     let at = rw c.deref.ensures.value at c.number_of-number.ensures in
     let inside : c.number_of-number.result < length c.args.files.now.items = omega (arith, c.args.files.now.ok.0) in
-    (set_adds c.args.files.now.items c.number_of-number.result _ c.index_mut.result.now c.args.name.now at inside (ap (λ (x : File). string_bytes x.name) c.index_mut.ensures.value)).others
+    let same = ap (λ (x : File). string_bytes x.name) c.index_mut.ensures.value in
+    (set_adds c.args.files.now.items c.number_of-number.result _ c.index_mut.result.now c.args.name.now at inside same).others
 
 pub returns-then-number-len-clause-count : goal.returns-then-number-len-clause-count
 returns-then-number-len-clause-count c =
     let at = rw c.deref.ensures.value at c.number_of-number.ensures in
     let inside : c.number_of-number.result < length c.args.files.now.items = omega (arith, c.args.files.now.ok.0) in
-    (set_adds c.args.files.now.items c.number_of-number.result _ c.index_mut.result.now c.args.name.now at inside (ap (λ (x : File). string_bytes x.name) c.index_mut.ensures.value)).count
+    let same = ap (λ (x : File). string_bytes x.name) c.index_mut.ensures.value in
+    (set_adds c.args.files.now.items c.number_of-number.result _ c.index_mut.result.now c.args.name.now at inside same).count
 
 pub returns-clause-named : goal.returns-clause-named
 returns-clause-named c =

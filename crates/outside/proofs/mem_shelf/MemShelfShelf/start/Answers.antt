@@ -17,7 +17,7 @@ returns-then-failing-clause-told c =
     let missing = c.raise.new.counts.missing in
     let after = count_at (counts_of c.raise.new.files) missing in
     let told = start_fails {X = Unit {0}} {E = Failed} shelf.files.items c.raise.new.files before after shelf.places c.args.place c.args.name.now c.number_of-file.result _ file
-    r.names r.contents r.later r.rose in
+    r.names r.contents r.later r.rose r.others in
     let long = rw c.deref_mut.ensures.value at c.raise.auto.files in
     let many : length c.raise.new.files ≡ shelf.files.len = long ∙ sym shelf.files.ok.0 in
     let same = with_items_is shelf.files c.raise.new.files many in
