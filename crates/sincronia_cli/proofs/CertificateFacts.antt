@@ -18,7 +18,7 @@ use Rattle.sincronia_cli.specs.PlanReport.{coflows_of}
 
 -- ---- the coflows of the places, and the front of the certificate
 
-map_snoc : {X Y : Type 0} (f : X → Y) (xs : List X) (x : X) → map f (xs ++ x ∷ []) ≡ map f xs ++ f x ∷ []
+pub map_snoc : {X Y : Type 0} (f : X → Y) (xs : List X) (x : X) → map f (xs ++ x ∷ []) ≡ map f xs ++ f x ∷ []
 map_snoc f [] x = refl
 map_snoc f (y ∷ ys) x = ap (λ t. f y ∷ t) (map_snoc f ys x)
 

@@ -55,18 +55,18 @@ table_fits trace weights unit which count good (in_weights text limit) = weights
 table_fits trace weights unit which count good (in_table text ws give cause) = good.fits which count cause
 
 -- the report, where there is one, has no fault
-record HasGoodReport (report : Option (List ℕ)) : Type 0 where
-  line : (n : ℕ) → IsBadReport report n → ⊥
-  fits : (which : Quantity) (count : ℕ) → ReportLimit report which count → ⊥
+pub record HasGoodReport (report : Option (List ℕ)) : Type 0 where
+  pub line : (n : ℕ) → IsBadReport report n → ⊥
+  pub fits : (which : Quantity) (count : ℕ) → ReportLimit report which count → ⊥
 
-report_is_good : (report : Option (List ℕ)) → IsReportText report → HasGoodReport report
+pub report_is_good : (report : Option (List ℕ)) → IsReportText report → HasGoodReport report
 report_is_good None good = absurd good
 report_is_good (Some text) (short, report, is) = record {
   line = λ n (low, bad). bad.no_text report is;
   fits = λ which count (text_is, told, long). absurd (omega (arith, short, long));
 }
 
-no_report : HasGoodReport None
+pub no_report : HasGoodReport None
 no_report = record { line = λ n bad. bad; fits = λ which count (is, told, long). long }
 
 -- ---- so a command does not end early
@@ -123,7 +123,7 @@ verdict_ends : (verdict : Verdict) (s : Status) → s ≡ status_for verdict →
 verdict_ends Yes s is = inl is
 verdict_ends (No reason) s is = inr is
 
-written_by : (k : Command) (told : Option Told) (said : Said) (s : Status) (text : List ℕ) → OutcomeBy k told said s text → EndsWell k s
+pub written_by : (k : Command) (told : Option Told) (said : Said) (s : Status) (text : List ℕ) → OutcomeBy k told said s text → EndsWell k s
 written_by Plan told said s text outcome = outcome.0
 written_by Check told said s text (verdict, is, checks) = verdict_ends verdict s is
 written_by Make told said s text outcome = outcome.0

@@ -16,6 +16,7 @@ pub mod CheckFacts
 pub mod TurnFacts
 pub mod WrittenFacts
 pub mod CompleteFacts
+pub mod FirstFacts
 pub mod MadeInput
 pub mod PlannedRuns
 pub mod PlannedPlaces

@@ -1,13 +1,13 @@
 -- The slack of a plan.
-use Rattle.std.proofs.Common.{◌≡◌, ℕ, ◌*◌, ◌^◌, ◌<◌, ◌≤◌, List, length, sym, ap, arith, le_trans}
-use Rattle.std.specs.Prelude.{Contains, map, sum_by}
+use Rattle.std.proofs.Common.{ℕ, ◌*◌, ◌^◌, ◌<◌, ◌≤◌, List, length, arith, le_trans}
+use Rattle.std.specs.Prelude.{Contains, sum_by}
 use Rattle.std.specs.List.{range_with_len}
 use Rattle.std.proofs.lemmas.List.Elements.{All-contains}
 use Rattle.std.proofs.lemmas.List.{length-map}
 use Rattle.std.proofs.lemmas.List.FromFn.{length-range_with_len}
 use Rattle.coflow_units.specs.declared.fabric.Flow.{Flow}
 use Rattle.coflow_units.specs.declared.fabric.Port.{Port}
-use Rattle.coflow_units.specs.Flows.{Instance, IsInstance}
+use Rattle.coflow_units.specs.Flows.{Instance}
 use Rattle.coflow_units.specs.Load.{load, load_of_all}
 use Rattle.coflow_units.specs.Certificate.{Entry, IsCertificate, front, front_loads, slack}
 use Rattle.coflow_units.specs.Ordering.{IsOrdering}

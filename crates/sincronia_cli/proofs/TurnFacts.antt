@@ -1,5 +1,5 @@
 -- How far a command came with its files, and that the shelf's count of faults stays.
-use Rattle.std.proofs.Common.{◌≡◌, ◌≢◌, IsErrAnd, IfErr, ℕ, List, Option, Some, None, Result, Ok, Err, refl, sym, subst, ◌∙◌}
+use Rattle.std.proofs.Common.{◌≡◌, ◌≢◌, IsErrAnd, IfErr, ℕ, List, Option, Some, Result, Ok, Err, refl, sym, subst, ◌∙◌}
 use Rattle.std.specs.Prelude.{IfSome}
 use Rattle.command_words.specs.declared.command.Command.{Command}
 use Rattle.command_words.specs.declared.command.Command.TheVariants.{Check, Make, Plan}
@@ -130,7 +130,8 @@ pub weights_in_turn : (before mid_count now : ℕ) (old mid new : Option Told) (
 weights_in_turn before mid_count now old mid new name file unit trace s keeps read out others cause =
     past_trace old mid new name file trace s read out others
     (λ count is.
-    let (one, rose, named) = by_name before mid_count now old mid new name file unit trace file count (subst (λ (x : Status). IsWeightsCause mid_count now mid new file trace.coflows x) is cause) in
+    let known = subst (λ (x : Status). IsWeightsCause mid_count now mid new file trace.coflows x) is cause in
+    let (one, rose, named) = by_name before mid_count now old mid new name file unit trace file count known in
     named_before old mid new file keeps named)
 
 pub table_in_turn : (old mid new : Option Told) (name : List ℕ) (file : Option (List ℕ)) (trace : Trace) (fault : TableFault) (s : Status) → IsTraceOf old name trace →

@@ -6,6 +6,7 @@ use Rattle.cert_check.specs.declared.verdict.Verdict.TheVariants.{No, Yes}
 use Rattle.cert_check.specs.Reasons.{IsVerdict}
 use Rattle.cert_check.specs.Sound.{IsSound}
 use Rattle.flow_table.specs.Table.{TableFacts, instance_of}
+use Rattle.coflow_units.specs.declared.limits.TheConstants.{MAX_REPORT}
 use Rattle.outside.specs.Shelf.{Told, bytes_of}
 use Rattle.report.specs.declared.value.Report.{Report}
 use Rattle.report.specs.Reading.{IsTextOf}
@@ -13,7 +14,6 @@ use Rattle.report.specs.Report.{HasSmallNumbers, IsReport}
 use Rattle.sincronia_cli.specs.declared.status.Status.{Status}
 use Rattle.sincronia_cli.specs.declared.status.Status.TheVariants as status
 use Rattle.sincronia_cli.specs.Inputs.{IsInput}
-use Rattle.sincronia_cli.specs.Limits.{most_report}
 use Rattle.sincronia_cli.specs.Plan.{Appends, BoundsEverySchedule}
 use Rattle.sincronia_cli.specs.VerdictLine.{verdict_text}
 
@@ -21,7 +21,7 @@ use Rattle.sincronia_cli.specs.VerdictLine.{verdict_text}
 pub record IsReportOf (told : Option Told) (name : List ℕ) (report : Report) : Type 0 where
   pub fits : IsReport report
   pub small : HasSmallNumbers report
-  pub reads : IfSome told (λ t. (length (bytes_of t name) ≤ most_report) × IsTextOf (bytes_of t name) report)
+  pub reads : IfSome told (λ t. (length (bytes_of t name) ≤ MAX_REPORT) × IsTextOf (bytes_of t name) report)
 
 -- there is a name of a report, and this is the report
 abbrev pub IsReportIfNamed : Option Told → Option (List ℕ) → Report → Type 0

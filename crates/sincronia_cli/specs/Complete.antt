@@ -3,6 +3,7 @@ use Rattle.std.specs.Prelude.{◌≡◌, ℕ, ◌≤◌, ◌⊎◌, List, Option
 use Rattle.command_words.specs.declared.command.Command.{Command}
 use Rattle.command_words.specs.declared.command.Command.TheVariants as command
 use Rattle.command_words.specs.Words.{Said}
+use Rattle.coflow_units.specs.declared.limits.TheConstants.{MAX_REPORT}
 use Rattle.outside.specs.Rose.{Rose}
 use Rattle.outside.specs.Shelf.{Told}
 use Rattle.report.specs.declared.value.Report.{Report}
@@ -11,12 +12,11 @@ use Rattle.sincronia_cli.specs.declared.status.Status.{Status}
 use Rattle.sincronia_cli.specs.declared.status.Status.TheVariants.{No, Ok}
 use Rattle.sincronia_cli.specs.Causes.{FilesGiveTable}
 use Rattle.sincronia_cli.specs.Inputs.{bytes_if}
-use Rattle.sincronia_cli.specs.Limits.{most_report}
 
 -- there is a file of a report, and it has the text of one
 abbrev pub IsReportText : Option (List ℕ) → Type 0
 IsReportText None = ⊥
-IsReportText (Some text) = (length text ≤ most_report) × (report : Report) × IsTextOf text report
+IsReportText (Some text) = (length text ≤ MAX_REPORT) × (report : Report) × IsTextOf text report
 
 -- the texts of all files that the command reads have no fault, and they are within the limits
 abbrev pub HasGoodFiles : Command → Said → Told → Type 0

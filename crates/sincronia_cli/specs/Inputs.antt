@@ -1,6 +1,6 @@
 -- The texts of trace and weights, and the instance that they give.
-use Rattle.std.specs.Prelude.{◌≡◌, ℕ, ◌≤◌, ◌^◌, List, All, Option, Some, None, IfSome, length, replicate}
-use Rattle.coflow_units.specs.declared.limits.TheConstants.{MAX_WEIGHT}
+use Rattle.std.specs.Prelude.{◌≡◌, ℕ, ◌≤◌, List, All, Option, Some, None, IfSome, length, replicate}
+use Rattle.coflow_units.specs.declared.limits.TheConstants.{MAX_TEXT, MAX_WEIGHT}
 use Rattle.coflow_units.specs.declared.trace.CoflowLine.{CoflowLine}
 use Rattle.coflow_units.specs.declared.trace.Trace.{Trace}
 use Rattle.coflow_units.specs.Trace.{IsTrace}
@@ -9,11 +9,10 @@ use Rattle.outside.specs.Shelf.{Told, bytes_of}
 use Rattle.text_fields.specs.Checks.{first_fault}
 use Rattle.trace_reader.specs.Trace.{trace_checks, trace_of}
 use Rattle.weights.specs.Weights.{text_checks, weights_of}
-use Rattle.sincronia_cli.specs.Limits.{most_text}
 
 -- the text is that of a trace: it is short, and all its checks hold
 pub record IsTraceText (text : List ℕ) : Type 0 where
-  pub short : length text ≤ most_text
+  pub short : length text ≤ MAX_TEXT
   pub passes : first_fault (trace_checks text) ≡ None
 
 -- each coflow has weight 1 where there is no file of weights, and else the weights are those of a text of weights for
@@ -21,7 +20,7 @@ pub record IsTraceText (text : List ℕ) : Type 0 where
 abbrev pub GiveWeights : Option (List ℕ) → List CoflowLine → List ℕ → Type 0
 GiveWeights None coflows weights = weights ≡ replicate (length coflows) 1
 GiveWeights (Some text) coflows weights =
-    (length text ≤ most_text) × (first_fault (text_checks text coflows) ≡ None) × (weights ≡ weights_of text coflows)
+    (length text ≤ MAX_TEXT) × (first_fault (text_checks text coflows) ≡ None) × (weights ≡ weights_of text coflows)
 
 -- the text of a trace, that of weights where there is one, and the megabytes of a unit give the table of flows and the
 -- weights

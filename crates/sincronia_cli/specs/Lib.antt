@@ -16,6 +16,7 @@ pub mod InputCauses
 pub mod ReportCauses
 pub mod Causes
 pub mod Complete
+pub mod FirstCause
 pub mod Turns
 pub mod Code
 pub mod Messages

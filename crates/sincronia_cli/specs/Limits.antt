@@ -1,10 +1,6 @@
--- How many bytes of a file are read at most.
+-- A limit of the words.
 use Rattle.std.specs.Prelude.{ℕ, ◌^◌}
 
--- of a trace, and of weights
-abbrev pub most_text : ℕ
-most_text = 2 ^ 26
-
--- of a report
-abbrev pub most_report : ℕ
-most_report = 2 ^ 30
+-- the megabytes of a unit, from 1
+abbrev pub most_unit : ℕ
+most_unit = 2 ^ 20

@@ -1,5 +1,6 @@
 -- Why the report of a file was not read.
 use Rattle.std.specs.Prelude.{◌≡◌, ℕ, ◌≤◌, ◌<◌, ◌+◌, List, Option, Some, None, IfSome, length}
+use Rattle.coflow_units.specs.declared.limits.TheConstants.{MAX_REPORT}
 use Rattle.coflow_units.specs.declared.quantity.Quantity.{Quantity}
 use Rattle.coflow_units.specs.declared.quantity.Quantity.TheVariants.{Text}
 use Rattle.outside.specs.Shelf.{Told, bytes_of}
@@ -9,21 +10,20 @@ use Rattle.report.specs.Reading.{IsBadAt}
 use Rattle.sincronia_cli.specs.declared.status.Status.{Status}
 use Rattle.sincronia_cli.specs.declared.status.Status.TheVariants.{BadReport, Limit, NoMemory, ReadFault}
 use Rattle.sincronia_cli.specs.FileCauses.{NameFailed, ShelfFailed}
-use Rattle.sincronia_cli.specs.Limits.{most_report}
 
 -- there is a file of a report, and this is the first line that no text of a report has
 abbrev pub IsBadReport : Option (List ℕ) → ℕ → Type 0
 IsBadReport None line = ⊥
-IsBadReport (Some text) line = (length text ≤ most_report) × IsBadAt text line
+IsBadReport (Some text) line = (length text ≤ MAX_REPORT) × IsBadAt text line
 
 -- there is a file of a report, and it is longer than any report that is read
 abbrev pub IsLongReport : Option (List ℕ) → Type 0
 IsLongReport None = ⊥
-IsLongReport (Some text) = most_report < length text
+IsLongReport (Some text) = MAX_REPORT < length text
 
 -- the bytes of the report are too many
 abbrev pub ReportLimit : Option (List ℕ) → Quantity → ℕ → Type 0
-ReportLimit report which count = (which ≡ Text) × (count ≡ most_report + 1) × IsLongReport report
+ReportLimit report which count = (which ≡ Text) × (count ≡ MAX_REPORT + 1) × IsLongReport report
 
 -- the status says the fault
 abbrev pub IsStatusOfReport : ReportFault → Status → Type 0

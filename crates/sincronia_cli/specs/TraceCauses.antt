@@ -1,5 +1,6 @@
 -- Why the trace of a file was not read.
 use Rattle.std.specs.Prelude.{◌≡◌, ℕ, ◌≤◌, ◌<◌, ◌+◌, ◌⊎◌, List, Option, Some, IfSome, length}
+use Rattle.coflow_units.specs.declared.limits.TheConstants.{MAX_TEXT}
 use Rattle.coflow_units.specs.declared.quantity.Quantity.{Quantity}
 use Rattle.coflow_units.specs.declared.quantity.Quantity.TheVariants.{Text}
 use Rattle.outside.specs.Shelf.{Told, bytes_of}
@@ -10,11 +11,10 @@ use Rattle.trace_reader.specs.declared.fault.TraceFault.TheVariants as trace_fau
 use Rattle.sincronia_cli.specs.declared.status.Status.{Status}
 use Rattle.sincronia_cli.specs.declared.status.Status.TheVariants.{BadTrace, Limit, NoMemory, ReadFault}
 use Rattle.sincronia_cli.specs.FileCauses.{NameFailed, ShelfFailed}
-use Rattle.sincronia_cli.specs.Limits.{most_text}
 
 -- the text is longer than any trace or weights that are read
 abbrev pub IsTooLong : List ℕ → Type 0
-IsTooLong text = most_text < length text
+IsTooLong text = MAX_TEXT < length text
 
 -- a fault of form in a trace: no quantity is outside its range, and memory did not run out
 abbrev pub IsTraceForm : TraceFault → Type 0
@@ -24,12 +24,12 @@ IsTraceForm fault = Unit {0}
 
 -- the trace has this fault, and it is the first
 pub record HasTraceFault (trace : List ℕ) (fault : TraceFault) : Type 0 where
-  pub short : length trace ≤ most_text
+  pub short : length trace ≤ MAX_TEXT
   pub first : first_fault (trace_checks trace) ≡ Some fault
 
 -- the bytes of a trace are too many, or a quantity of it is outside its range and nothing before it is wrong
 abbrev pub TraceLimit : List ℕ → Quantity → ℕ → Type 0
-TraceLimit trace which count = ((which ≡ Text) × (count ≡ most_text + 1) × IsTooLong trace)
+TraceLimit trace which count = ((which ≡ Text) × (count ≡ MAX_TEXT + 1) × IsTooLong trace)
     ⊎ ((line : ℕ) × HasTraceFault trace (trace_fault.Limit line which count))
 
 -- the status says the fault

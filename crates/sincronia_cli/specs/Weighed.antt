@@ -1,5 +1,5 @@
 -- Tables with weights.
-use Rattle.std.specs.Prelude.{◌≡◌, ℕ, ◌≤◌, ◌^◌, List, All, length}
+use Rattle.std.specs.Prelude.{◌≡◌, ℕ, ◌≤◌, List, All, length}
 use Rattle.coflow_units.specs.declared.limits.TheConstants.{MAX_WEIGHT}
 use Rattle.flow_table.specs.Table.{IsTable, TableFacts}
 

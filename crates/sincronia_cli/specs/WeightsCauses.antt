@@ -1,5 +1,6 @@
 -- Why the weights of a file were not read.
 use Rattle.std.specs.Prelude.{◌≡◌, ℕ, ◌≤◌, ◌+◌, ◌⊎◌, List, Option, Some, None, IfSome, length}
+use Rattle.coflow_units.specs.declared.limits.TheConstants.{MAX_TEXT}
 use Rattle.coflow_units.specs.declared.trace.CoflowLine.{CoflowLine}
 use Rattle.coflow_units.specs.declared.quantity.Quantity.{Quantity}
 use Rattle.coflow_units.specs.declared.quantity.Quantity.TheVariants.{Text}
@@ -12,7 +13,6 @@ use Rattle.sincronia_cli.specs.declared.status.Status.{Status}
 use Rattle.sincronia_cli.specs.declared.status.Status.TheVariants.{BadWeights, Limit, NoMemory, ReadFault}
 use Rattle.sincronia_cli.specs.FileCauses.{NameFailed, ShelfFailed}
 use Rattle.sincronia_cli.specs.Inputs.{bytes_if}
-use Rattle.sincronia_cli.specs.Limits.{most_text}
 use Rattle.sincronia_cli.specs.TraceCauses.{IsTooLong}
 
 -- a fault of form in weights: no quantity is outside its range, and memory did not run out
@@ -25,7 +25,7 @@ IsWeightsForm fault = Unit {0}
 abbrev pub IsFaultOf : Option (List ℕ) → List CoflowLine → WeightsFault → Type 0
 IsFaultOf None coflows fault = ⊥
 IsFaultOf (Some text) coflows fault =
-    (length text ≤ most_text) × (first_fault (text_checks text coflows) ≡ Some fault)
+    (length text ≤ MAX_TEXT) × (first_fault (text_checks text coflows) ≡ Some fault)
 
 -- there is a file of weights, and it is too long
 abbrev pub AreTooLong : Option (List ℕ) → Type 0
@@ -34,7 +34,7 @@ AreTooLong (Some text) = IsTooLong text
 
 -- the bytes of the weights are too many, or a quantity of them is outside its range and nothing before it is wrong
 abbrev pub WeightsLimit : Option (List ℕ) → List CoflowLine → Quantity → ℕ → Type 0
-WeightsLimit weights coflows which count = ((which ≡ Text) × (count ≡ most_text + 1) × AreTooLong weights)
+WeightsLimit weights coflows which count = ((which ≡ Text) × (count ≡ MAX_TEXT + 1) × AreTooLong weights)
     ⊎ ((line : ℕ) × IsFaultOf weights coflows (weights_fault.Limit line which count))
 
 -- the status says the fault

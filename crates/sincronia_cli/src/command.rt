@@ -1,5 +1,5 @@
 //! The program's job, from the words to the written text.
-ghost use Rattle.std.specs.Prelude.{◌≡◌, ◌≢◌, ◌≤◌, ◌⊎◌, ◌^◌, ℕ, All, Err, IfErr, IfOk, IfSome, OnOk, length};
+ghost use Rattle.std.specs.Prelude.{◌≡◌, ◌≢◌, ◌≤◌, ◌⊎◌, ℕ, All, Err, IfErr, IfOk, IfSome, IsSomeAnd, OnOk, length};
 ghost use Rattle.coflow_units.specs.declared.quantity.Quantity.{Quantity};
 ghost use Rattle.command_words.specs.declared.command.Command.{Command};
 ghost use Rattle.command_words.specs.Line.{texts};
@@ -15,6 +15,7 @@ ghost use Rattle.sincronia_cli.specs.Command.{Fits, IsCommand, IsOfFiles};
 ghost use Rattle.sincronia_cli.specs.Complete.{AreGood, EndsWell, HasGoodFiles, IsStill};
 ghost use Rattle.sincronia_cli.specs.Ends.{IsDone, IsReadFault, IsWriteFault, CountsFault};
 ghost use Rattle.sincronia_cli.specs.FileCauses.{ShelfFailed};
+ghost use Rattle.sincronia_cli.specs.FirstCause.{EndsBy, IsFirstCause, IsInterrupted};
 ghost use Rattle.sincronia_cli.specs.Make.{WritesMade};
 ghost use Rattle.sincronia_cli.specs.Outcome.{HasText, IsOutcome, WritesBeginning};
 ghost use Rattle.sincronia_cli.specs.Plan.{WritesPlan};
@@ -49,8 +50,11 @@ use std::alloc::Global;
 /// Files are looked at one after another, and the first fault ends the job: the trace is read, and then its grammar is
 /// tested; so are the weights; then the table of flows is made; then the report is read, and its grammar is tested. A
 /// file is started only where nothing that is looked at before it is wrong. No call that failed is tried again: the
-/// shelf's count of faults rises by one at `ReadFault`, the sink's at `WriteFault`, and neither does at any other
-/// status.
+/// shelf's count of faults rises by one at `ReadFault`, the sink's at `WriteFault`, each up to 2^64 - 1, where it stops,
+/// and neither does at any other status.
+///
+/// What is said here of the bytes of files, of the files that are looked at and of what is written holds where shelf and
+/// sink tell it, as those in memory do. The others tell their counts of faults alone.
 ///
 /// The statuses are:
 /// - `Ok`: the text was written whole, and the answer of `check` is yes.
@@ -69,8 +73,9 @@ use std::alloc::Global;
 ///   written, which is shorter than the text.
 /// - `NoMemory`: no memory was to be had.
 ///
-/// Where the files of the command are told and good and no count of faults rises, the status is `Ok`, or for `check`
-/// `Ok` or `No`, or `NoMemory`. At `Ok` and `No` those files are good. At `Ok`, `No` and `WriteFault` every file of the
+/// Where the files of the command are told, the status is the one of the first thing that is wrong with them, or where
+/// they are good `Ok`, or for `check` `Ok` or `No`; only `ReadFault`, `WriteFault` and `NoMemory` may come in its place,
+/// the first two only where a count of faults rises. At `Ok` and `No` those files are good. At `Ok`, `No` and `WriteFault` every file of the
 /// command was read to its end; after any other status nothing was written. The files on the shelf are as before.
 pub fn sincronia<H: Shelf, K: Sink>(
     alloc: Global,
@@ -90,6 +95,9 @@ pub fn sincronia<H: Shelf, K: Sink>(
     ensures complete { (said : Said) → IsWords (texts words.now) said →
         AreGood said.command said (H.told shelf.old) → IsStill (H.faults shelf.old) (H.faults shelf.new) →
         IsStill (K.faults out.old) (K.faults out.new) → EndsWell said.command result ⊎ (result ≡ Status.NoMemory) }
+    ensures first { (said : Said) (cause : Status) → IsOfFiles (texts words.now) said →
+        IsSomeAnd (H.told shelf.old) (λ t. IsFirstCause said t cause) →
+        EndsBy said.command cause result ⊎ IsInterrupted result }
     ensures good { IsDone result → (said : Said) × IsWords (texts words.now) said ×
         IfSome (H.told shelf.old) (HasGoodFiles said.command said) }
     ensures read_out { (said : Said) → IsWords (texts words.now) said → HasText result →

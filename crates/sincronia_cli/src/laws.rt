@@ -26,6 +26,12 @@ ghost use Rattle.cert_check.specs.declared.verdict.Verdict.{Verdict};
 ghost use Rattle.cert_check.specs.declared.verdict.Verdict.TheVariants.{Yes};
 ghost use Rattle.cert_check.specs.Reasons.{IsVerdict};
 ghost use Rattle.cert_check.specs.Sound.{IsSound};
+ghost use Rattle.command_words.specs.Line.{Text};
+ghost use Rattle.command_words.specs.Words.{Said};
+ghost use Rattle.outside.specs.Shelf.{Told};
+ghost use Rattle.sincronia_cli.specs.declared.status.Status.{Status};
+ghost use Rattle.sincronia_cli.specs.Command.{IsOfFiles};
+ghost use Rattle.sincronia_cli.specs.FirstCause.{IsFirstCause};
 ghost use Rattle.sincronia_cli.specs.NoPrices.{no_prices};
 ghost use Rattle.sincronia_cli.specs.PlanReport.{IsPlanOf};
 ghost use Rattle.sincronia_cli.specs.Weighed.{IsWeighed};
@@ -101,4 +107,12 @@ pub fn plan_text_is_short()
     ensures { (t : TableFacts) (weights : List ℕ) (r : Report) → IsWeighed t weights → All (λ id. id < 2 ^ 32) t.ids →
         IsPlanOf (instance_of t weights) t.ids r →
         length (report_text r) ≤ 200 + 200 * length t.ids + 50 * sum_by (λ (x : Flow). x.units) t.flows }
+{}
+
+/// What the files of a command call for is one: of its first fault, in the trace, the weights, the table or the report,
+/// and that they are good, at most one holds, with one value. So where the files are told, `BadTrace`, `BadWeights`,
+/// `Limit` and `BadReport` come exactly where theirs is the first, unless a call fails or memory runs out before.
+pub fn first_cause_is_one()
+    ensures { (words : List Text) (said : Said) (t : Told) (a b : Status) → IsOfFiles words said →
+        IsFirstCause said t a → IsFirstCause said t b → a ≡ b }
 {}

@@ -54,8 +54,7 @@ fn reason_text(alloc: Global, table: &Table, reason: Reason) -> Result<String, N
         Reason::SlackWrong { stated, real } => format!(in alloc; "no slack {stated} {real}\n")?,
         Reason::NoFlow { slot, flow } => format!(in alloc; "no flow {slot} {flow}\n")?,
         Reason::ClashIn { slot, port } => {
-            let side = side_word(port.side);
-            let number = port.number;
+            let (side, number) = (side_word(port.side), port.number);
             format!(in alloc; "no clash {slot} {side} {number}\n")?
         }
         Reason::UnitsOf { flow, have, want } => format!(in alloc;

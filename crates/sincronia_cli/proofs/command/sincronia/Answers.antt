@@ -2,6 +2,7 @@ use Rattle.std.proofs.Common.{ap, Err}
 use Rattle.command_words.specs.Line.{texts}
 use Rattle.command_words.specs.Words.{said_by}
 use Rattle.sincronia_cli.proofs.CompleteFacts.{good_files_end}
+use Rattle.sincronia_cli.proofs.FirstFacts.{first_ends, text_ends}
 use Rattle.sincronia_cli.proofs.OutcomeFacts.{bad_report_checked}
 use Rattle.sincronia_cli.proofs.TurnFacts.{text_in_turn, turn_for}
 use Rattle.sincronia_cli.proofs.WrittenFacts.{made_written, plan_written, yes_written}
@@ -41,6 +42,20 @@ pub returns-in-Err-clause-complete : goal.returns-in-Err-clause-complete
 returns-in-Err-clause-complete g c = λ said is good shelf sink.
     good_files_end (texts c.args.words.now) (said_by c.in-Ok.words) said (g.H.Shelf.faults c.args.shelf.now) (g.H.Shelf.faults c.carry_out.new.shelf)
     (g.H.Shelf.told c.args.shelf.now) (g.H.Shelf.told c.carry_out.new.shelf) c.in-Err.status c.in-Ok.ensures.said is c.in-Err.ensures.cause good shelf
+
+pub returns-in-Err-Usage-clause-first : goal.returns-in-Err-Usage-clause-first
+returns-in-Err-Usage-clause-first g c = λ said cause is x. absurd (c.in-Err-Usage.ensures.usage (ap Err c.in-Err-Usage.field-0-is) said is.words_say)
+
+pub returns-in-Err-clause-first : goal.returns-in-Err-clause-first
+returns-in-Err-clause-first g c = λ said cause is x.
+    first_ends (texts c.args.words.now) (said_by c.in-Ok.words) said (g.H.Shelf.faults c.args.shelf.now) (g.H.Shelf.faults c.carry_out.new.shelf)
+    (g.H.Shelf.told c.args.shelf.now) (g.H.Shelf.told c.carry_out.new.shelf) c.in-Err.status cause c.in-Ok.ensures.said is c.in-Err.ensures.cause x
+
+pub returns-clause-first : goal.returns-clause-first
+returns-clause-first g c = λ said cause is x.
+    let outcome = c.in-Ok-carry_out.outcome in
+    text_ends (texts c.args.words.now) (said_by c.in-Ok.words) said (g.H.Shelf.told c.args.shelf.now) outcome.status cause outcome.text.items
+    c.in-Ok.ensures.said is c.in-Ok-carry_out.ensures.good c.in-Ok-carry_out.ensures.outcome x
 
 pub returns-in-Err-clause-in_turn : goal.returns-in-Err-clause-in_turn
 returns-in-Err-clause-in_turn g c = λ said is.

@@ -1,0 +1,280 @@
+-- What the files of a command call for is one, and the command ends by it.
+use Rattle.std.proofs.Common.{◌≡◌, ◌+◌, ◌<◌, ℕ, inl, inr, List, Option, Some, None, refl, sym, subst, ◌∙◌, ap, arith}
+use Rattle.std.specs.Prelude.{◌⊎◌, IfSome, IsSomeAnd}
+use Rattle.coflow_units.specs.declared.limits.TheConstants.{MAX_REPORT, MAX_TEXT}
+use Rattle.coflow_units.specs.declared.quantity.Quantity.{Quantity}
+use Rattle.coflow_units.specs.declared.quantity.Quantity.TheVariants as quantity
+use Rattle.coflow_units.specs.declared.trace.CoflowLine.{CoflowLine}
+use Rattle.coflow_units.specs.declared.trace.Trace.{Trace}
+use Rattle.command_words.specs.declared.command.Command.{Command}
+use Rattle.command_words.specs.declared.command.Command.TheVariants.{Check, Make, Plan}
+use Rattle.command_words.specs.Line.{Text}
+use Rattle.command_words.specs.Commands.{IsSecond, row_of}
+use Rattle.command_words.specs.Words.{IsWords, Said}
+use Rattle.command_words.proofs.OneMeaning.{words_one}
+use Rattle.flow_table.specs.Causes.{ExceedsLimit}
+use Rattle.outside.specs.Shelf.{Told, bytes_of}
+use Rattle.report.specs.Reading.{IsBadAt}
+use Rattle.trace_reader.specs.Trace.{trace_of}
+use Rattle.trace_reader.specs.declared.fault.TraceFault.{TraceFault}
+use Rattle.trace_reader.specs.declared.fault.TraceFault.TheVariants as trace_fault
+use Rattle.weights.specs.declared.fault.WeightsFault.{WeightsFault}
+use Rattle.weights.specs.declared.fault.WeightsFault.TheVariants as weights_fault
+use Rattle.sincronia_cli.specs.declared.status.Status.{Status}
+use Rattle.sincronia_cli.specs.declared.status.Status.TheVariants as status
+use Rattle.sincronia_cli.specs.Causes.{CauseBy, HasCauseOf, HasFilesCause}
+use Rattle.sincronia_cli.specs.Command.{IsOfFiles, ReadsFiles}
+use Rattle.sincronia_cli.specs.Complete.{EndsWell, HasGoodFiles}
+use Rattle.sincronia_cli.specs.FirstCause.{EndsBy, IsFirstCause, IsInterrupted}
+use Rattle.sincronia_cli.specs.InputCauses.{GiveTable, LimitCause}
+use Rattle.sincronia_cli.specs.InputCauses.LimitCause.{in_table, in_trace, in_weights}
+use Rattle.sincronia_cli.specs.Inputs.{GiveWeights, IsTraceText, bytes_if}
+use Rattle.sincronia_cli.specs.Outcome.{IsOutcome}
+use Rattle.sincronia_cli.specs.ReportCauses.{IsBadReport, IsLongReport}
+use Rattle.sincronia_cli.specs.TraceCauses.{HasTraceFault, IsTooLong, IsTraceForm}
+use Rattle.sincronia_cli.specs.WeightsCauses.{AreTooLong, IsFaultOf, IsWeightsForm}
+use Rattle.sincronia_cli.proofs.CompleteFacts.{HasGoodReport, no_report, report_is_good, trace_is_good, weights_are_good, written_by}
+
+-- ---- the status of a fault
+
+abbrev of_trace : TraceFault → Status
+of_trace (trace_fault.Limit line which count) = status.Limit which count
+of_trace fault = status.BadTrace fault
+
+abbrev of_weights : WeightsFault → Status
+of_weights (weights_fault.Limit line which count) = status.Limit which count
+of_weights fault = status.BadWeights fault
+
+-- ---- why one step ends with a status
+
+data TraceStops (text : List ℕ) (s : Status) : Type 0 where
+  long_trace : IsTooLong text → s ≡ status.Limit quantity.Text (MAX_TEXT + 1) → TraceStops text s
+  bad_trace : (f : TraceFault) → HasTraceFault text f → s ≡ of_trace f → TraceStops text s
+
+data WeightsStop (file : Option (List ℕ)) (coflows : List CoflowLine) (s : Status) : Type 0 where
+  long_weights : AreTooLong file → s ≡ status.Limit quantity.Text (MAX_TEXT + 1) → WeightsStop file coflows s
+  bad_weights : (f : WeightsFault) → IsFaultOf file coflows f → s ≡ of_weights f → WeightsStop file coflows s
+
+data TableStops (trace : Trace) (unit : ℕ) (s : Status) : Type 0 where
+  over : (which : Quantity) (count : ℕ) → ExceedsLimit trace unit which count → s ≡ status.Limit which count → TableStops trace unit s
+
+data ReportStops (report : Option (List ℕ)) (s : Status) : Type 0 where
+  long_report : IsLongReport report → s ≡ status.Limit quantity.Text (MAX_REPORT + 1) → ReportStops report s
+  bad_report : (line : ℕ) → IsBadReport report line → s ≡ status.BadReport line → ReportStops report s
+
+-- ---- each step has one
+
+trace_one : (text : List ℕ) (a b : Status) → TraceStops text a → TraceStops text b → a ≡ b
+trace_one text a b (long_trace x e) (long_trace y f) = e ∙ sym f
+trace_one text a b (long_trace x e) (bad_trace g h f) = absurd (omega (arith, x, h.short))
+trace_one text a b (bad_trace g h f) (long_trace x e) = absurd (omega (arith, x, h.short))
+trace_one text a b (bad_trace g h e) (bad_trace k l f) =
+    let same : Some g ≡ Some k = sym h.first ∙ l.first in
+    let one : g ≡ k = cc in
+    e ∙ ap of_trace one ∙ sym f
+
+weights_stop_one : (file : Option (List ℕ)) (coflows : List CoflowLine) (a b : Status) → WeightsStop file coflows a → WeightsStop file coflows b → a ≡ b
+weights_stop_one None coflows a b (long_weights x e) y = absurd x
+weights_stop_one None coflows a b (bad_weights g h e) y = absurd h
+weights_stop_one (Some text) coflows a b (long_weights x e) (long_weights y f) = e ∙ sym f
+weights_stop_one (Some text) coflows a b (long_weights x e) (bad_weights g (short, first) f) = absurd (omega (arith, x, short))
+weights_stop_one (Some text) coflows a b (bad_weights g (short, first) f) (long_weights x e) = absurd (omega (arith, x, short))
+weights_stop_one (Some text) coflows a b (bad_weights g (short, first) e) (bad_weights k (low, is) f) =
+    let same : Some g ≡ Some k = sym first ∙ is in
+    let one : g ≡ k = cc in
+    e ∙ ap of_weights one ∙ sym f
+
+table_one : (trace : Trace) (unit : ℕ) (a b : Status) → TableStops trace unit a → TableStops trace unit b → a ≡ b
+table_one trace unit a b (over v m (inl (v_is, (many, m_is))) e) (over w n (inl (w_is, (more, n_is))) f) =
+    let which : v ≡ w = v_is ∙ sym w_is in
+    let count : m ≡ n = m_is ∙ sym n_is in
+    e ∙ rw (which, count) (sym f)
+table_one trace unit a b (over v m (inr (v_is, (few, m_is, long))) e) (over w n (inr (w_is, (less, n_is, many))) f) =
+    let which : v ≡ w = v_is ∙ sym w_is in
+    let count : m ≡ n = m_is ∙ sym n_is in
+    e ∙ rw (which, count) (sym f)
+table_one trace unit a b (over v m (inl (v_is, (many, m_is))) e) (over w n (inr (w_is, (few, n_is, long))) f) = absurd (omega (arith, many, few))
+table_one trace unit a b (over v m (inr (v_is, (few, m_is, long))) e) (over w n (inl (w_is, (many, n_is))) f) = absurd (omega (arith, many, few))
+
+line_not_before : (bytes : List ℕ) (m n : ℕ) → IsBadAt bytes m → IsBadAt bytes n → m < n → ⊥
+line_not_before bytes m n at_m at_n less = at_m.here (at_n.before m less)
+
+bad_line_one : (bytes : List ℕ) (m n : ℕ) → IsBadAt bytes m → IsBadAt bytes n → m ≡ n
+bad_line_one bytes m n at_m at_n = grind (arith, line_not_before bytes m n at_m at_n, line_not_before bytes n m at_n at_m)
+
+report_one : (report : Option (List ℕ)) (a b : Status) → ReportStops report a → ReportStops report b → a ≡ b
+report_one None a b (long_report x e) y = absurd x
+report_one None a b (bad_report m x e) y = absurd x
+report_one (Some text) a b (long_report x e) (long_report y f) = e ∙ sym f
+report_one (Some text) a b (long_report x e) (bad_report m (short, bad) f) = absurd (omega (arith, x, short))
+report_one (Some text) a b (bad_report m (short, bad) f) (long_report x e) = absurd (omega (arith, x, short))
+report_one (Some text) a b (bad_report m (short, bad) e) (bad_report n (low, wrong) f) =
+    let one : m ≡ n = bad_line_one text m n bad wrong in
+    e ∙ ap (λ k. status.BadReport k) one ∙ sym f
+
+-- ---- a step that has one does not go on
+
+trace_ends : (text : List ℕ) (a : Status) → TraceStops text a → IsTraceText text → ⊥
+trace_ends text a (long_trace x e) good = absurd (omega (arith, x, good.short))
+trace_ends text a (bad_trace f h e) good = trace_is_good text f good h
+
+weights_end : (file : Option (List ℕ)) (coflows : List CoflowLine) (list : List ℕ) (a : Status) → WeightsStop file coflows a → GiveWeights file coflows list → ⊥
+weights_end None coflows list a (long_weights x e) good = x
+weights_end (Some text) coflows list a (long_weights x e) (short, passes, is) = absurd (omega (arith, x, short))
+weights_end file coflows list a (bad_weights f h e) good = weights_are_good file coflows list f good h
+
+table_ends : (trace : List ℕ) (file : Option (List ℕ)) (unit : ℕ) (a : Status) → TableStops (trace_of trace) unit a → GiveTable trace file unit → ⊥
+table_ends trace file unit a (over which count x e) good = good.fits which count x
+
+report_ends : (report : Option (List ℕ)) (a : Status) → ReportStops report a → HasGoodReport report → ⊥
+report_ends None a (long_report x e) good = x
+report_ends (Some text) a (long_report x e) good = good.fits quantity.Text (MAX_REPORT + 1) (refl, refl, x)
+report_ends report a (bad_report line x e) good = good.line line x
+
+-- ---- the steps in turn
+
+data Stops (trace : List ℕ) (file : Option (List ℕ)) (unit : ℕ) (report : Option (List ℕ)) (s : Status) : Type 0 where
+  at_trace : TraceStops trace s → Stops trace file unit report s
+  at_weights : IsTraceText trace → WeightsStop file (trace_of trace).coflows s → Stops trace file unit report s
+  at_table : IsTraceText trace → (list : List ℕ) → GiveWeights file (trace_of trace).coflows list → TableStops (trace_of trace) unit s → Stops trace file unit report s
+  at_report : GiveTable trace file unit → ReportStops report s → Stops trace file unit report s
+  at_end : GiveTable trace file unit → HasGoodReport report → s ≡ status.Ok → Stops trace file unit report s
+
+module _ (trace : List ℕ) (file : Option (List ℕ)) (unit : ℕ) (report : Option (List ℕ)) where
+  abbrev coflows : List CoflowLine
+  coflows = (trace_of trace).coflows
+
+  stops_one : (a b : Status) → Stops trace file unit report a → Stops trace file unit report b → a ≡ b
+  stops_one a b (at_trace x) (at_trace y) = trace_one trace a b x y
+  stops_one a b (at_trace x) (at_weights text y) = absurd (trace_ends trace a x text)
+  stops_one a b (at_trace x) (at_table text list give y) = absurd (trace_ends trace a x text)
+  stops_one a b (at_trace x) (at_report table y) = absurd (trace_ends trace a x table.gives.trace_text)
+  stops_one a b (at_trace x) (at_end table good y) = absurd (trace_ends trace a x table.gives.trace_text)
+  stops_one a b (at_weights text x) (at_trace y) = absurd (trace_ends trace b y text)
+  stops_one a b (at_weights text x) (at_weights again y) = weights_stop_one file coflows a b x y
+  stops_one a b (at_weights text x) (at_table again list give y) = absurd (weights_end file coflows list a x give)
+  stops_one a b (at_weights text x) (at_report table y) = absurd (weights_end file coflows table.list a x table.gives.weights_are)
+  stops_one a b (at_weights text x) (at_end table good y) = absurd (weights_end file coflows table.list a x table.gives.weights_are)
+  stops_one a b (at_table text list give x) (at_trace y) = absurd (trace_ends trace b y text)
+  stops_one a b (at_table text list give x) (at_weights again y) = absurd (weights_end file coflows list b y give)
+  stops_one a b (at_table text list give x) (at_table again other gives y) = table_one (trace_of trace) unit a b x y
+  stops_one a b (at_table text list give x) (at_report table y) = absurd (table_ends trace file unit a x table)
+  stops_one a b (at_table text list give x) (at_end table good y) = absurd (table_ends trace file unit a x table)
+  stops_one a b (at_report table x) (at_trace y) = absurd (trace_ends trace b y table.gives.trace_text)
+  stops_one a b (at_report table x) (at_weights text y) = absurd (weights_end file coflows table.list b y table.gives.weights_are)
+  stops_one a b (at_report table x) (at_table text list give y) = absurd (table_ends trace file unit b y table)
+  stops_one a b (at_report table x) (at_report again y) = report_one report a b x y
+  stops_one a b (at_report table x) (at_end again good y) = absurd (report_ends report a x good)
+  stops_one a b (at_end table good x) (at_trace y) = absurd (trace_ends trace b y table.gives.trace_text)
+  stops_one a b (at_end table good x) (at_weights text y) = absurd (weights_end file coflows table.list b y table.gives.weights_are)
+  stops_one a b (at_end table good x) (at_table text list give y) = absurd (table_ends trace file unit b y table)
+  stops_one a b (at_end table good x) (at_report again y) = absurd (report_ends report b y good)
+  stops_one a b (at_end table good x) (at_end again fine y) = x ∙ sym y
+
+-- ---- a first cause is one of them
+
+by_trace : (f : TraceFault) → IsTraceForm f → of_trace f ≡ status.BadTrace f
+by_trace trace_fault.BadHeader form = refl
+by_trace (trace_fault.BadLine line field) form = refl
+by_trace (trace_fault.Missing have want) form = refl
+by_trace (trace_fault.Extra line) form = refl
+by_trace (trace_fault.DuplicateId line id) form = refl
+by_trace (trace_fault.PortRange line port) form = refl
+by_trace (trace_fault.Limit line which count) form = absurd form
+by_trace trace_fault.NoMemory form = refl
+
+by_weights : (f : WeightsFault) → IsWeightsForm f → of_weights f ≡ status.BadWeights f
+by_weights (weights_fault.BadLine line field) form = refl
+by_weights (weights_fault.UnknownId line id) form = refl
+by_weights (weights_fault.DuplicateId line id) form = refl
+by_weights (weights_fault.Limit line which count) form = absurd form
+by_weights weights_fault.NoMemory form = refl
+
+by_limit : (trace : List ℕ) (file : Option (List ℕ)) (unit : ℕ) (report : Option (List ℕ)) (which : Quantity) (count : ℕ) → LimitCause trace file unit which count →
+    Stops trace file unit report (status.Limit which count)
+by_limit trace file unit report which count (in_trace (inl (is, told, long))) = at_trace (long_trace long (rw (is, told) refl))
+by_limit trace file unit report which count (in_trace (inr (line, bad))) = at_trace (bad_trace _ bad refl)
+by_limit trace file unit report which count (in_weights text (inl (is, told, long))) = at_weights text (long_weights long (rw (is, told) refl))
+by_limit trace file unit report which count (in_weights text (inr (line, bad))) = at_weights text (bad_weights _ bad refl)
+by_limit trace file unit report which count (in_table text list give cause) = at_table text list give (over which count cause refl)
+
+by_good : (k : Command) (said : Said) (t : Told) → ReadsFiles k → IsSecond (row_of k).takes_second said.second → HasGoodFiles k said t →
+    Stops (bytes_of t said.first) (bytes_if t said.weights) said.unit (bytes_if t said.second) status.Ok
+by_good Plan said t reads fits table = at_end table (none said.second fits) refl
+  where
+    none : (second : Option Text) → IsSecond (row_of Plan).takes_second second → HasGoodReport (bytes_if t second)
+    none None fits = no_report
+    none (Some name) fits = absurd fits
+by_good Check said t reads fits (table, report) = at_end table (report_is_good (bytes_if t said.second) report) refl
+by_good Make said t reads fits good = absurd reads
+
+stops_of : (words : List Text) (said : Said) (t : Told) (s : Status) → IsOfFiles words said → IsFirstCause said t s →
+    Stops (bytes_of t said.first) (bytes_if t said.weights) said.unit (bytes_if t said.second) s
+stops_of words said t (status.BadTrace f) is (form, bad) = at_trace (bad_trace f bad (sym (by_trace f form)))
+stops_of words said t (status.BadWeights f) is (form, (text, bad)) = at_weights text (bad_weights f bad (sym (by_weights f form)))
+stops_of words said t (status.BadReport line) is (table, bad) = at_report table (bad_report line bad refl)
+stops_of words said t (status.Limit which count) is (inl cause) = by_limit _ _ said.unit _ which count cause
+stops_of words said t (status.Limit which count) is (inr (table, (text, told, long))) = at_report table (long_report long (rw (text, told) refl))
+stops_of words said t status.Ok is good = by_good said.command said t is.reads is.words_say.says.second_fits good
+stops_of words said t status.No is cause = absurd cause
+stops_of words said t status.Usage is cause = absurd cause
+stops_of words said t (status.ReadFault count) is cause = absurd cause
+stops_of words said t (status.WriteFault count) is cause = absurd cause
+stops_of words said t status.NoMemory is cause = absurd cause
+
+pub first_cause_one : (words : List Text) (said : Said) (t : Told) (a b : Status) → IsOfFiles words said → IsFirstCause said t a → IsFirstCause said t b → a ≡ b
+first_cause_one words said t a b is x y = stops_one _ _ _ _ a b (stops_of words said t a is x) (stops_of words said t b is y)
+
+-- ---- so a command that reads files ends by it
+
+by_cause : (words : List Text) (said : Said) (t : Told) (s cause : Status) → IsOfFiles words said → IsFirstCause said t s → IsFirstCause said t cause →
+    EndsBy said.command s s → EndsBy said.command cause s ⊎ IsInterrupted s
+by_cause words said t s cause is this x ends = inl (subst (λ (c : Status). EndsBy said.command c s) (first_cause_one words said t s cause is this x) ends)
+
+files_end_by : (words : List Text) (said : Said) (before now : ℕ) (t : Told) (new : Option Told) (s cause : Status) → IsOfFiles words said →
+    HasFilesCause before now (Some t) new said s → IsFirstCause said t cause → EndsBy said.command cause s ⊎ IsInterrupted s
+files_end_by words said before now t new (status.BadTrace f) cause is why x = by_cause words said t (status.BadTrace f) cause is why x refl
+files_end_by words said before now t new (status.BadWeights f) cause is why x = by_cause words said t (status.BadWeights f) cause is why x refl
+files_end_by words said before now t new (status.BadReport line) cause is why x = by_cause words said t (status.BadReport line) cause is why.1 x refl
+files_end_by words said before now t new (status.Limit which count) cause is why x = by_cause words said t (status.Limit which count) cause is why x refl
+files_end_by words said before now t new (status.ReadFault count) cause is why x = inr tt
+files_end_by words said before now t new status.NoMemory cause is why x = inr tt
+files_end_by words said before now t new status.Ok cause is why x = absurd why
+files_end_by words said before now t new status.No cause is why x = absurd why
+files_end_by words said before now t new status.Usage cause is why x = absurd why
+files_end_by words said before now t new (status.WriteFault count) cause is why x = absurd why
+
+of_files : (k : Command) (before now : ℕ) (old new : Option Told) (said : Said) (s : Status) → ReadsFiles k → CauseBy k before now old new said s →
+    HasFilesCause before now old new said s
+of_files Plan before now old new said s reads why = why
+of_files Check before now old new said s reads why = why
+of_files Make before now old new said s reads why = absurd reads
+
+pub first_ends : (words : List Text) (by said : Said) (before now : ℕ) (old new : Option Told) (s cause : Status) → IsWords words by → IsOfFiles words said →
+    HasCauseOf before now old new by s → IsSomeAnd old (λ t. IsFirstCause said t cause) → EndsBy said.command cause s ⊎ IsInterrupted s
+first_ends words by said before now old new s cause read is why x = go old here x
+  where
+    here : HasFilesCause before now old new said s
+    here =
+        of_files said.command before now old new said s is.reads
+        (subst (λ (y : Said). HasCauseOf before now old new y s) (words_one words by said read is.words_say) why)
+
+    go : (told : Option Told) → HasFilesCause before now told new said s → IsSomeAnd told (λ t. IsFirstCause said t cause) → EndsBy said.command cause s ⊎ IsInterrupted s
+    go None why x = absurd x
+    go (Some t) why x = files_end_by words said before now t new s cause is why x
+
+pub text_ends : (words : List Text) (by said : Said) (old : Option Told) (s cause : Status) (text : List ℕ) → IsWords words by → IsOfFiles words said →
+    IfSome old (HasGoodFiles by.command by) → IsOutcome old by s text → IsSomeAnd old (λ t. IsFirstCause said t cause) → EndsBy said.command cause s ⊎ IsInterrupted s
+text_ends words by said old s cause text read is good outcome x = go old (subst (λ (y : Said). IfSome old (HasGoodFiles y.command y)) same good) x
+  where
+    same : by ≡ said
+    same = words_one words by said read is.words_say
+
+    ends : EndsWell said.command s
+    ends = written_by said.command old said s text (subst (λ (y : Said). IsOutcome old y s text) same outcome)
+
+    go : (told : Option Told) → IfSome told (HasGoodFiles said.command said) → IsSomeAnd told (λ t. IsFirstCause said t cause) → EndsBy said.command cause s ⊎ IsInterrupted s
+    go None good x = absurd x
+    go (Some t) good x =
+        let one : status.Ok ≡ cause = first_cause_one words said t status.Ok cause is good x in
+        inl (subst (λ (c : Status). EndsBy said.command c s) one ends)

@@ -1,0 +1,33 @@
+-- What the files of a command call for.
+use Rattle.std.specs.Prelude.{◌≡◌}
+use Rattle.command_words.specs.declared.command.Command.{Command}
+use Rattle.command_words.specs.Words.{Said}
+use Rattle.outside.specs.Shelf.{Told}
+use Rattle.sincronia_cli.specs.declared.status.Status.{Status}
+use Rattle.sincronia_cli.specs.declared.status.Status.TheVariants.{BadTrace, BadWeights, BadReport, Limit, Ok}
+use Rattle.sincronia_cli.specs.declared.status.Status.TheVariants.{NoMemory, ReadFault, WriteFault}
+use Rattle.sincronia_cli.specs.Causes.{FilesLimit, FilesReportFault, FilesTraceFault, FilesWeightsFault}
+use Rattle.sincronia_cli.specs.Complete.{EndsWell, HasGoodFiles}
+use Rattle.sincronia_cli.specs.TraceCauses.{IsTraceForm}
+use Rattle.sincronia_cli.specs.WeightsCauses.{IsWeightsForm}
+
+-- The status says the first thing that is wrong with the files of a command, or is Ok where they are good.
+abbrev pub IsFirstCause : Said → Told → Status → Type 0
+IsFirstCause said t (BadTrace fault) = IsTraceForm fault × FilesTraceFault said fault t
+IsFirstCause said t (BadWeights fault) = IsWeightsForm fault × FilesWeightsFault said fault t
+IsFirstCause said t (Limit which count) = FilesLimit said which count t
+IsFirstCause said t (BadReport line) = FilesReportFault said line t
+IsFirstCause said t Ok = HasGoodFiles said.command said t
+IsFirstCause said t status = ⊥
+
+-- the status of a command whose files call for this one
+abbrev pub EndsBy : Command → Status → Status → Type 0
+EndsBy command Ok status = EndsWell command status
+EndsBy command cause status = status ≡ cause
+
+-- a call to the shelf or the sink failed, or no memory was to be had
+abbrev pub IsInterrupted : Status → Type 0
+IsInterrupted (ReadFault count) = Unit {0}
+IsInterrupted (WriteFault count) = Unit {0}
+IsInterrupted NoMemory = Unit {0}
+IsInterrupted status = ⊥
