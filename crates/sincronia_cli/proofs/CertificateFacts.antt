@@ -1,14 +1,14 @@
 -- What the places of an order say as a certificate over a table of loads, and as an order to be served.
-use Rattle.std.proofs.Common.{◌≡◌, ℕ, ◌<◌, inl, inr, List, [], ◌∷◌, ◌++◌, length, get_or, reverse, Contains, refl, sym, ap, subst, ◌∙◌, arith, zero, suc}
+use Rattle.std.proofs.Common.{◌≡◌, ℕ, ◌<◌, List, [], ◌∷◌, ◌++◌, length, get_or, reverse, Contains, refl, sym, ap, subst, ◌∙◌, arith, zero, suc}
 use Rattle.std.specs.Prelude.{All, map, slice_index}
 use Rattle.std.specs.List.{range_with_len}
-use Rattle.std.proofs.lemmas.List.{reverse-append}
-use Rattle.std.proofs.lemmas.List.Elements.{All-contains, Contains-append_left, Contains-push}
+use Rattle.std.proofs.lemmas.List.{map-append, reverse-append}
+use Rattle.std.proofs.lemmas.List.Elements.{All-contains}
 use Rattle.coflow_units.specs.declared.plan.Place.{Place}
 use Rattle.coflow_units.specs.Certificate.{Entry, entry_of, front}
 use Rattle.coflow_units.specs.Flows.{IsDistinct}
 use Rattle.coflow_units.proofs.Lists.{number_below, number_in, reverse-cons, in_reverse, into_reverse}
-use Rattle.coflow_units.proofs.Sums.{Apart, all_of_members, apart_from_pairs, first_or_tail, in_first, in_tail, nothing_in, pairs_from_apart}
+use Rattle.coflow_units.proofs.Sums.{Apart, all_of_members, apart_from_pairs, apart_snoc, in_first, in_tail, pairs_from_apart}
 use Rattle.port_load.specs.LoadTable.{HasLoads, LoadTable}
 use Rattle.bssi_order.specs.Order.{IsOrder, entries_of}
 use Rattle.coflow_units.proofs.OrderingLaws.{ordering_feasible}
@@ -18,27 +18,12 @@ use Rattle.sincronia_cli.specs.PlanReport.{coflows_of}
 
 -- ---- the coflows of the places, and the front of the certificate
 
-pub map_snoc : {X Y : Type 0} (f : X → Y) (xs : List X) (x : X) → map f (xs ++ x ∷ []) ≡ map f xs ++ f x ∷ []
-map_snoc f [] x = refl
-map_snoc f (y ∷ ys) x = ap (λ t. f y ∷ t) (map_snoc f ys x)
-
 pub front_of_places : (places : List Place) → front (entries_of places) ≡ reverse (coflows_of places)
 front_of_places [] = refl
 front_of_places (x ∷ xs) =
-    ap (λ (l : List Place). front (map entry_of l)) (reverse-append (x ∷ []) xs) ∙ ap front (map_snoc entry_of (reverse xs) x) ∙
-    map_snoc (λ (e : Entry). e.coflow) (entries_of xs) (entry_of x)
+    ap (λ (l : List Place). front (map entry_of l)) (reverse-append (x ∷ []) xs) ∙ ap front (map-append entry_of (reverse xs) (x ∷ [])) ∙
+    map-append (λ (e : Entry). e.coflow) (entries_of xs) (entry_of x ∷ [])
     ∙ ap (λ l. l ++ x.coflow ∷ []) (front_of_places xs) ∙ sym (reverse-cons x.coflow (coflows_of xs))
-
-apart_snoc : (xs : List ℕ) (x : ℕ) → Apart (xs ++ x ∷ []) → Apart xs × (Contains xs x → ⊥)
-apart_snoc [] x apart = (tt, nothing_in x)
-apart_snoc (y ∷ ys) x apart =
-    let (tail, out) = apart_snoc ys x apart.1 in (
-      ((λ has. apart.0 (Contains-append_left ys (x ∷ []) y has)), tail),
-      (λ has. elim (first_or_tail y ys x has) [
-        | inl e ↦ apart.0 (subst (λ n. Contains (ys ++ x ∷ []) n) (sym e) (Contains-push ys x))
-        | inr later ↦ out later
-      ]),
-    )
 
 apart_reverse : (xs : List ℕ) → Apart (reverse xs) → Apart xs
 apart_reverse [] apart = tt

@@ -2,18 +2,17 @@
 use Rattle.std.proofs.Common.{◌≡◌, ℕ, ◌+◌, ◌<◌, List, [], ◌∷◌, ◌++◌, length, get_or, take, sym, ap, ◌∙◌, arith}
 use Rattle.std.specs.Prelude.{map, slice_index}
 use Rattle.std.specs.List.{range_with_len}
-use Rattle.std.proofs.lemmas.List.{get_or-map, length-map, take_more}
+use Rattle.std.proofs.lemmas.List.{get_or-map, length-map, map-append, take_more}
 use Rattle.std.proofs.lemmas.List.FromFn.{get_or-range_with_len, length-range_with_len}
 use Rattle.coflow_units.specs.declared.fabric.Flow.{Flow}
 use Rattle.coflow_units.specs.declared.plan.Place.{Place}
 use Rattle.coflow_units.specs.Completion.{completion}
 use Rattle.report.specs.declared.value.PlaceLine.{PlaceLine}
 use Rattle.sincronia_cli.specs.PlanReport.{line_from, line_of}
-use Rattle.sincronia_cli.proofs.CertificateFacts.{map_snoc}
 
 -- one more element
 pub map_more : {X Y : Type 0} (f : X → Y) (xs : List X) (k : ℕ) (d : X) → k < length xs → map f (take (k + 1) xs) ≡ map f (take k xs) ++ f (get_or xs k d) ∷ []
-map_more f xs k d lt = ap (map f) (take_more xs k d lt) ∙ map_snoc f (take k xs) (get_or xs k d)
+map_more f xs k d lt = ap (map f) (take_more xs k d lt) ∙ map-append f (take k xs) (get_or xs k d ∷ [])
 
 pub ends_are : (flows : List Flow) (slots : List (List ℕ)) (n : ℕ) (ends : List ℕ) (c : ℕ) → ends ≡ map (λ c. completion flows slots c) (range_with_len 0 n) → c < n →
     slice_index ends c ≡ completion flows slots c

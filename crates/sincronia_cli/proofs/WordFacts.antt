@@ -1,5 +1,6 @@
 -- What words say fits their command.
-use Rattle.std.proofs.Common.{ℕ, ◌^◌, ◌≤◌, List, Option, Some, None, arith}
+use Rattle.std.proofs.Common.{ℕ, ◌≤◌, List, Option, Some, None, arith}
+use Rattle.coflow_units.specs.declared.limits.TheConstants.{MAX_UNIT}
 use Rattle.command_words.specs.Line.{Text}
 use Rattle.command_words.specs.Words.{IsSetting, IsWords, Said}
 use Rattle.sincronia_cli.specs.Command.{Fits}
@@ -8,8 +9,8 @@ setting_fits : (most default : ℕ) (value : Option Text) (n : ℕ) → 1 ≤ de
 setting_fits most default None n low high is = (omega (arith, is, low), omega (arith, is, high))
 setting_fits most default (Some text) n low high (_, least, greatest, is) = (omega (arith, is, least), omega (arith, is, greatest))
 
-pub unit_fits : (words : List Text) (said : Said) → IsWords words said → (1 ≤ said.unit) × (said.unit ≤ 2 ^ 20)
-unit_fits words said is = setting_fits (2 ^ 20) 1 _ said.unit (omega arith) (omega arith) is.says.unit
+pub unit_fits : (words : List Text) (said : Said) → IsWords words said → (1 ≤ said.unit) × (said.unit ≤ MAX_UNIT)
+unit_fits words said is = setting_fits (MAX_UNIT) 1 _ said.unit (omega arith) (omega arith) is.says.unit
 
 pub words_fit : (words : List Text) (said : Said) → IsWords words said → Fits said
 words_fit words said is = record { some = (unit_fits words said is).0; unit_limit = (unit_fits words said is).1; first = is.says.first_fits; second = is.says.second_fits }

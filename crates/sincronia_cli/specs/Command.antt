@@ -1,11 +1,11 @@
 -- The words of each command.
 use Rattle.std.specs.Prelude.{◌≡◌, ◌≤◌, List}
+use Rattle.coflow_units.specs.declared.limits.TheConstants.{MAX_UNIT}
 use Rattle.command_words.specs.declared.command.Command.{Command}
 use Rattle.command_words.specs.declared.command.Command.TheVariants.{Check, Make, Plan}
 use Rattle.command_words.specs.Commands.{IsFirst, IsSecond, row_of}
 use Rattle.command_words.specs.Line.{Text}
 use Rattle.command_words.specs.Words.{IsWords, Said}
-use Rattle.sincronia_cli.specs.Limits.{most_unit}
 
 -- the words are those of the command
 pub record IsCommand (command : Command) (words : List Text) (said : Said) : Type 0 where
@@ -26,6 +26,6 @@ pub record IsOfFiles (words : List Text) (said : Said) : Type 0 where
 -- what is said fits its command: the unit is in its range, and the names are those that the command takes
 pub record Fits (said : Said) : Type 0 where
   pub some : 1 ≤ said.unit
-  pub unit_limit : said.unit ≤ most_unit
+  pub unit_limit : said.unit ≤ MAX_UNIT
   pub first : IsFirst (row_of said.command).first said.first
   pub second : IsSecond (row_of said.command).takes_second said.second

@@ -1,4 +1,3 @@
-pub mod Limits
 pub mod Shelves
 pub mod Inputs
 pub mod PlanReport

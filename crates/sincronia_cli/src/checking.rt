@@ -1,6 +1,6 @@
 //! The command `check`: the verdict on a report.
 ghost use Rattle.std.specs.Prelude.{◌≡◌, ◌↔◌, ◌≤◌, All, IfErr, IfOk, IfSome, OnOk, Some, length};
-ghost use Rattle.coflow_units.specs.declared.limits.TheConstants.{MAX_WEIGHT};
+ghost use Rattle.coflow_units.specs.declared.limits.TheConstants.{MAX_UNIT, MAX_WEIGHT};
 ghost use Rattle.cert_check.specs.declared.verdict.Verdict.{Verdict};
 ghost use Rattle.cert_check.specs.Reasons.{IsVerdict, NamesCoflowIfAny};
 ghost use Rattle.cert_check.specs.Sound.{IsSound};
@@ -15,7 +15,6 @@ ghost use Rattle.sincronia_cli.specs.Ends.{CountsFault};
 ghost use Rattle.sincronia_cli.specs.Shelves.{KeepsFiles, OfBoth, ReadsOut};
 ghost use Rattle.sincronia_cli.specs.Turns.{FilesInTurn};
 ghost use Rattle.sincronia_cli.specs.VerdictLine.{verdict_text};
-ghost use Rattle.sincronia_cli.specs.Limits.{most_unit};
 
 use crate::inputs::{Input, read_input, read_report_file};
 use crate::order::loads_of;
@@ -38,7 +37,7 @@ pub(crate) fn check_report<'a, H: Shelf>(
     shelf: &mut H,
 ) -> Result<Outcome, Status>
     requires some { 1 ≤ words.unit }
-    requires unit_limit { words.unit ≤ most_unit }
+    requires unit_limit { words.unit ≤ MAX_UNIT }
     requires second { (said_by words).second ≡ Some name.now }
     ensures outcome { IfOk result (λ o. (verdict : Verdict) × (o.status ≡ status_for verdict) ×
         CheckOf (H.told shelf.old) (said_by words.entry) verdict o.text.items) }

@@ -1,6 +1,6 @@
 //! The files of a command: the trace, the weights of its coflows, and a report.
 ghost use Rattle.std.specs.Prelude.{◌≡◌, ◌≤◌, ℕ, IfErr, IfOk, IfSome, OnOk, length, option_map, replicate};
-ghost use Rattle.coflow_units.specs.declared.limits.TheConstants.{MAX_REPORT};
+ghost use Rattle.coflow_units.specs.declared.limits.TheConstants.{MAX_REPORT, MAX_UNIT};
 ghost use Rattle.coflow_units.specs.Trace.{IsTrace};
 ghost use Rattle.flow_table.specs.Table.{IsTable, IsTableOf};
 ghost use Rattle.outside.specs.declared.shelf.Place4.{Place4};
@@ -15,7 +15,6 @@ ghost use Rattle.sincronia_cli.specs.Shelves.{AreReadOut, HasBytes, IsReadOut, I
 ghost use Rattle.sincronia_cli.specs.TraceCauses.{IsTraceCause};
 ghost use Rattle.sincronia_cli.specs.Turns.{InputInTurn, IsAsBefore};
 ghost use Rattle.sincronia_cli.specs.WeightsCauses.{IsWeightsCause};
-ghost use Rattle.sincronia_cli.specs.Limits.{most_unit};
 
 use crate::status::Status;
 use coflow_units::{Items, MAX_REPORT, MAX_TEXT, NoMemory, Quantity, Trace};
@@ -44,7 +43,7 @@ pub fn read_input<H: Shelf>(
     shelf: &mut H,
 ) -> Result<Input, Status>
     requires some { 1 ≤ unit }
-    requires unit_limit { unit ≤ most_unit }
+    requires unit_limit { unit ≤ MAX_UNIT }
     ensures input { IfOk result (λ i.
         IsInput (H.told shelf.old) name.now (option_map (λ s. s.now) weights_name.entry) unit i.table i.weights) }
     ensures table { OnOk result (IfSome (H.told shelf.old) (λ t.

@@ -1,6 +1,6 @@
 //! The command `make`: the plan of a made trace, read back and checked.
 ghost use Rattle.std.specs.Prelude.{◌≡◌, ◌≤◌, ◌<◌, ◌^◌, ℕ, All, IfErr, IfOk, None, length, sum_by, true};
-ghost use Rattle.coflow_units.specs.declared.limits.TheConstants.{MAX_REPORT, MAX_TEXT, MAX_UNITS, MAX_WEIGHT};
+ghost use Rattle.coflow_units.specs.declared.limits.TheConstants.{MAX_REPORT, MAX_TEXT, MAX_UNIT, MAX_UNITS, MAX_WEIGHT};
 ghost use Rattle.cert_check.specs.Sound.{IsSound};
 ghost use Rattle.command_words.specs.Words.{said_by};
 ghost use Rattle.coflow_units.specs.declared.fabric.Flow.{Flow};
@@ -20,7 +20,6 @@ ghost use Rattle.trace_reader.specs.Trace.{trace_checks, trace_of};
 ghost use Rattle.weights.specs.Weights.{text_checks, weights_of};
 ghost use Rattle.sincronia_cli.specs.Causes.{HasMadeCause};
 ghost use Rattle.sincronia_cli.specs.Make.{GivesMade, MadeOf, summary_of};
-ghost use Rattle.sincronia_cli.specs.Limits.{most_unit};
 
 use crate::checking::verdict_of;
 use crate::inputs::Input;
@@ -41,7 +40,7 @@ use workload::made;
 /// The summary of the plan of the trace that is made from the seed of the words, whose report was read back and found right. There is one where there is memory.
 pub(crate) fn make_workload<'a>(alloc: Global, words: Words<'a>) -> Result<Outcome, Status>
     requires some { 1 ≤ words.unit }
-    requires unit_limit { words.unit ≤ most_unit }
+    requires unit_limit { words.unit ≤ MAX_UNIT }
     requires is_number { is_number words.first.now ≡ true }
     requires small { number words.first.now < 2 ^ 64 }
     ensures outcome { IfOk result (λ o. (o.status ≡ Status.Ok) × MadeOf (said_by words.entry) o.text.items) }
@@ -64,7 +63,7 @@ pub(crate) fn make_workload<'a>(alloc: Global, words: Words<'a>) -> Result<Outco
 /// The flows and the weights of the texts of a seed. They are read as files are.
 fn made_input(alloc: Global, seed: u64, unit: u64) -> Result<Input, NoMemory>
     requires some { 1 ≤ unit }
-    requires unit_limit { unit ≤ most_unit }
+    requires unit_limit { unit ≤ MAX_UNIT }
     ensures gives { IfOk result (λ i. GivesMade seed unit i.table i.weights) }
     ensures table { IfOk result (λ i. IsTable i.table) }
     ensures units { IfOk result (λ i. sum_by (λ (x : Flow). x.units) i.table.flows ≤ 102400) }
@@ -115,7 +114,7 @@ fn weights_of_text(alloc: Global, text: &[u8], trace: &Trace) -> Result<Items<u6
 fn small_table(alloc: Global, trace: &Trace, unit: u64) -> Result<Table, NoMemory>
     requires trace { IsTrace trace.now }
     requires some { 1 ≤ unit }
-    requires unit_limit { unit ≤ most_unit }
+    requires unit_limit { unit ≤ MAX_UNIT }
     requires fits { (which : Quantity) (count : ℕ) → HasCause trace.now unit (TableFault.Limit which count) → ⊥ }
     ensures of { IfOk result (IsTableOf trace.now unit) }
     ensures table { IfOk result IsTable }

@@ -1,6 +1,6 @@
 //! The command `plan`: the plan of a trace, as a report.
 ghost use Rattle.std.specs.Prelude.{◌≡◌, ◌<◌, ◌≤◌, ℕ, All, Contains, IfErr, IfOk, IfSome, OnOk, length};
-ghost use Rattle.coflow_units.specs.declared.limits.TheConstants.{MAX_WEIGHT};
+ghost use Rattle.coflow_units.specs.declared.limits.TheConstants.{MAX_UNIT, MAX_WEIGHT};
 ghost use Rattle.coflow_units.specs.Certificate.{bound, slack};
 ghost use Rattle.coflow_units.specs.Flows.{IsDistinct};
 ghost use Rattle.coflow_units.specs.Served.{IsServed};
@@ -18,7 +18,6 @@ ghost use Rattle.sincronia_cli.specs.Plan.{PlanOf};
 ghost use Rattle.sincronia_cli.specs.PlanReport.{IsPlanOf, coflows_of};
 ghost use Rattle.sincronia_cli.specs.Shelves.{KeepsFiles, OfBoth, ReadsOut};
 ghost use Rattle.sincronia_cli.specs.Turns.{FilesInTurn};
-ghost use Rattle.sincronia_cli.specs.Limits.{most_unit};
 
 use crate::inputs::{Input, read_input};
 use crate::order::{coflows_in, loads_of, order_of};
@@ -42,7 +41,7 @@ pub(crate) fn plan_trace<'a, H: Shelf>(
     shelf: &mut H,
 ) -> Result<Outcome, Status>
     requires some { 1 ≤ words.unit }
-    requires unit_limit { words.unit ≤ most_unit }
+    requires unit_limit { words.unit ≤ MAX_UNIT }
     ensures outcome { IfOk result (λ o.
         (o.status ≡ Status.Ok) × PlanOf (H.told shelf.old) (said_by words.entry) o.text.items) }
     ensures read_out { OnOk result (OfBoth (H.told shelf.old) (H.told shelf.new)
