@@ -13,6 +13,3 @@ pub use journal::{Command, Entry, Opening, Reply};
 pub use rank_board::Pulled;
 pub use receipt::{Answer, Receipt};
 pub use session::Session;
-
-#[cfg(test)]
-mod tests;

@@ -9,4 +9,6 @@ mod posts;
 #[cfg(test)]
 mod ranks;
 #[cfg(test)]
+mod sessions;
+#[cfg(test)]
 mod turns;
