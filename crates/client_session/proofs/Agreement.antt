@@ -1,7 +1,7 @@
 -- The tables that a board published agree with the journal, as it goes on and more is published.
 use Rattle.std.proofs.Common.{◌≡◌, ℕ, ◌+◌, ◌<◌, ◌≤◌, Bool, true, false, List, [], ◌∷◌, ◌++◌, length, get_or, refl, sym, ap, ◌∙◌, subst, arith, length-append, append-nil, true≢false, inl, inr}
 use Rattle.std.specs.Prelude.{All, if◌then◌else◌, nat_le, ◌==◌, ◌/◌}
-use Rattle.std.proofs.lemmas.Bool.{cases_eq, cases_lt, eq-eqb, leb-true, ne_eqb}
+use Rattle.std.proofs.lemmas.Bool.{cases_eq, cases_lt, eq-eqb, leb-false, leb-true, ne_eqb}
 use Rattle.std.proofs.lemmas.List.Elements.{All-push, All-weaker}
 use Rattle.journal.specs.declared.command.Command.{Command}
 use Rattle.journal.specs.declared.command.Command.TheVariants.{Close, Publish, Short}
@@ -13,8 +13,8 @@ use Rattle.journal.specs.State.{State}
 use Rattle.journal.specs.Entries.{is_driving, TellsEntry}
 use Rattle.journal.specs.Fold.{state_of}
 use Rattle.journal.specs.Answer.{answer, reply_of, room}
-use Rattle.journal.proofs.Legal.{answer_not, full_is}
-use Rattle.journal.specs.Journal.{adds, entry, is_full, is_version, journal_after, rank_of, version_of}
+use Rattle.journal.proofs.Legal.{answer_not, full_is, legal_rest}
+use Rattle.journal.specs.Journal.{adds, entry, is_full, is_version, IsLegal, journal_after, LegalFrom, rank_of, version_of}
 use Rattle.journal.proofs.Growth.{journal_stays, rank_kept, version_append}
 use Rattle.journal.proofs.EntryTells.{reply_tells}
 use Rattle.rank_board.specs.Words.{rank_of as published_rank, WasPublished}
@@ -78,7 +78,7 @@ version_stays o journal who k other =
     let e = quiet o (state_of o journal) k (reply_of o journal k) (reply_tells o journal k) other in
     omega (arith, version_append journal (adds who k (reply_of o journal k)), quiet_adds who k (reply_of o journal k) e)
 
-not_version : (r : Reply) → ((v : ℕ) → r ≡ Version v → ⊥) → is_version r ≡ false
+pub not_version : (r : Reply) → ((v : ℕ) → r ≡ Version v → ⊥) → is_version r ≡ false
 not_version (Version v) other = absurd (other v refl)
 not_version r other = refl
 
@@ -126,7 +126,7 @@ full_count false m n x never e = absurd (true≢false (sym (ap is_full e) ∙ ne
 pub full_tells : (o : Opening) (journal : List Entry) (k : Command) (n : ℕ) → reply_of o journal k ≡ Full n → n ≡ length journal
 full_tells o journal k n e = full_count (nat_le (room o k) (length journal)) (length journal) n (answer o (state_of o journal) k) (answer_not o (state_of o journal) k) e
 
-quiet_room : (o : Opening) (k : Command) → is_driving k ≡ false → room o k ≡ o.limit
+pub quiet_room : (o : Opening) (k : Command) → is_driving k ≡ false → room o k ≡ o.limit
 quiet_room o (Short port units) e = absurd (true≢false e)
 quiet_room o Close e = absurd (true≢false e)
 quiet_room o k e = refl
@@ -175,3 +175,10 @@ pub driven_after : (o : Opening) (journal after : List Entry) (who : ℕ) (k : C
     DrivenByRoot journal →
     DrivenByRoot after
 driven_after o journal after who k is caller h = subst DrivenByRoot (sym is) (driven_more journal who k (reply_of o journal k) caller h)
+
+-- a journal in which the last entry has a reply had room for it
+pub room_met : (o : Opening) (journal after : List Entry) (who : ℕ) (k : Command) (r : Reply) → IsLegal o after → after ≡ journal ++ entry who k r ∷ [] → length journal < room o k
+room_met o journal after who k r legal is =
+    let there : LegalFrom o journal (entry who k r ∷ []) = legal_rest o [] journal (entry who k r ∷ []) (subst (IsLegal o) is legal) in
+    let small : nat_le (room o k) (length journal) ≡ false = sym (full_is o journal k) ∙ (ap is_full (sym there.0) ∙ there.1) in
+    omega (arith, leb-false (room o k) (length journal) small)

@@ -1,6 +1,7 @@
 -- What a new session is.
-use Rattle.std.proofs.Common.{◌≡◌, ◌≢◌, ℕ, ◌+◌, ◌<◌, ◌≤◌, ◌^◌, true, Some, List, [], length, map, refl, sym, ap, ◌∙◌, subst, arith}
+use Rattle.std.proofs.Common.{◌≡◌, ◌≢◌, ℕ, ◌+◌, ◌<◌, ◌≤◌, ◌^◌, true, Option, Some, List, [], ◌++◌, length, map, take, drop, refl, sym, ap, ◌∙◌, subst, arith}
 use Rattle.std.specs.Prelude.{All, unwrap_or}
+use Rattle.std.proofs.lemmas.List.{take_all, take-append-le}
 use Rattle.std.proofs.lemmas.List.Elements.{All-nil, All-weaker}
 use Rattle.turnstile.specs.Models.{first_root, next_seat, RootModel, SeatModel as TurnSeatModel}
 use Rattle.atomic_table.specs.Seated.{TableId}
@@ -13,12 +14,13 @@ use Rattle.rank_board.specs.Models.{new_seat, SeatModel}
 use Rattle.client_session.specs.declared.desk.Setting.{Setting}
 use Rattle.client_session.specs.declared.receipt.Receipt.{Receipt}
 use Rattle.client_session.specs.Own.{IsPass, own_entries, receipt_of}
-use Rattle.client_session.specs.Drivers.{IsDriver, IsSeen, who_of}
+use Rattle.client_session.specs.Desk.{IsSeen}
+use Rattle.client_session.specs.Drivers.{IsDriver, TellsGrants, who_of}
 use Rattle.client_session.specs.Turns.{IsSession}
 use Rattle.client_session.proofs.OwnSteps.{own_above}
 use Rattle.client_session.proofs.Passes.{pass_first}
 
-module _ (root : RootModel Entry Setting) (seat : TurnSeatModel Entry Setting) (turned position number : ℕ) (ports : ℕ) (h : IsDriver root turned position ports)
+module _ (root : RootModel Entry Setting) (seat : TurnSeatModel Entry Setting) (turned position number : ℕ) (granted : List (Option ℕ)) (h : IsDriver root turned position granted)
     (seat_is : seat ≡ next_seat root) (number_is : number ≡ root.made + 1) where
   pub nothing_own : own_entries number seat.seen ≡ []
   nothing_own = ap (λ (s : TurnSeatModel Entry Setting). own_entries number s.seen) seat_is ∙ own_above number root.made root.seen (omega (arith, number_is)) h.numbers
@@ -47,22 +49,31 @@ nothing_seen o = record {
   driven = All-nil (λ (e : Entry). is_driving e.command ≡ true → e.who ≡ 0);
 }
 
+-- a list that was told anew, as a vector
+pub retold : (o : Opening) (journal : List Entry) (n : ℕ) (new old : List (Option ℕ)) → n ≡ o.table.ports → TellsGrants o journal new →
+    TellsGrants o journal (take n (new ++ drop (length new) old))
+retold o journal n new old ports told =
+    let long : n ≡ length new = omega (arith, told.ports, ports) in
+    subst (TellsGrants o journal) (sym (take-append-le n new (drop (length new) old) (omega (arith, long)) ∙ take_all n new (omega (arith, long)))) told
+
 -- the driver of a new hall
-pub first_driver : (root : RootModel Entry Setting) (table : TableId) (setting : Setting) (ports : ℕ) → root ≡ first_root table setting → ports ≡ setting.opening.table.ports →
-    IsDriver root 0 0 ports
-first_driver root table setting ports is same = subst (λ (r : RootModel Entry Setting). IsDriver r 0 0 ports) (sym is) (record {
+pub first_driver : (root : RootModel Entry Setting) (table : TableId) (setting : Setting) (granted : List (Option ℕ)) → root ≡ first_root table setting →
+    TellsGrants setting.opening [] granted → IsDriver root 0 0 granted
+first_driver root table setting granted is told = subst (λ (r : RootModel Entry Setting). IsDriver r 0 0 granted) (sym is) (record {
   free = refl;
   none_back = refl;
   numbers = All-nil (λ e. who_of e ≤ 0);
   position_is = refl;
   turned_is = omega arith;
   others = All-nil (λ e. who_of e ≢ 0);
-  seen = λ c e. subst (λ (x : Setting). IsSeen x.opening [] × (ports ≡ x.opening.table.ports)) (ap (λ o. unwrap_or o setting) e) (nothing_seen setting.opening, same);
+  seen = λ c e. nothing_seen c.opening;
+  grants = λ c e. subst (λ (x : Setting). TellsGrants x.opening [] granted) (ap (λ o. unwrap_or o setting) e) told;
 })
 
 -- the driver once it made one more session
-pub one_more : (root new : RootModel Entry Setting) (turned position ports : ℕ) → new ≡ record root { made = root.made + 1 } → IsDriver root turned position ports → IsDriver new turned position ports
-one_more root new turned position ports is h = subst (λ (r : RootModel Entry Setting). IsDriver r turned position ports) (sym is) (record {
+pub one_more : (root new : RootModel Entry Setting) (turned position : ℕ) (granted : List (Option ℕ)) → new ≡ record root { made = root.made + 1 } →
+    IsDriver root turned position granted → IsDriver new turned position granted
+one_more root new turned position granted is h = subst (λ (r : RootModel Entry Setting). IsDriver r turned position granted) (sym is) (record {
   free = h.free;
   none_back = h.none_back;
   numbers = All-weaker (λ e. who_of e ≤ root.made) (λ e. who_of e ≤ root.made + 1) (λ e le. omega arith) root.seen h.numbers;
@@ -70,4 +81,5 @@ one_more root new turned position ports is h = subst (λ (r : RootModel Entry Se
   turned_is = h.turned_is;
   others = h.others;
   seen = h.seen;
+  grants = h.grants;
 })

@@ -6,3 +6,4 @@ pub mod Turning
 pub mod Pulling
 pub mod Beginning
 pub mod Driving
+pub mod Publishing

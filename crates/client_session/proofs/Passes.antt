@@ -1,10 +1,12 @@
 -- What a session keeps of its entries and noted pulls, as it gets more of either.
-use Rattle.std.proofs.Common.{◌≡◌, ℕ, ◌+◌, ◌-◌, ◌≤◌, List, [], ◌∷◌, ◌++◌, length, get_or, take, drop, refl, sym, ap, ◌∙◌, subst, arith, length-append}
+use Rattle.std.proofs.Common.{◌≡◌, ℕ, ◌+◌, ◌-◌, ◌≤◌, List, [], ◌∷◌, ◌++◌, length, get_or, take, drop, refl, sym, ap, ◌∙◌, subst, arith, length-append, append_assoc}
 use Rattle.std.specs.Prelude.{All}
 use Rattle.std.proofs.lemmas.List.{take_all, drop_all, take-append-le, drop-append-le}
 use Rattle.std.proofs.lemmas.List.Elements.{All-nil, All-push, All-weaker}
 use Rattle.rank_board.specs.declared.pulls.Pull.{Pull}
+use Rattle.rank_board.specs.Models.{SeatModel}
 use Rattle.rank_board.specs.Pulls.{pull_of}
+use Rattle.client_session.specs.Desk.{KeepsLooks}
 use Rattle.client_session.specs.Own.{IsPass, OwnEntry, StandsBetween, version_before, versions_in}
 
 abbrev Upto : ℕ → OwnEntry → Type 0
@@ -60,3 +62,7 @@ pass_noted own notes seen v c r le h =
       notes_seen = All-push (λ (p : Pull). p.version ≤ v) notes (pull_of v c r (length own)) l.notes_seen (omega arith);
       between = All-push (StandsBetween own) notes (pull_of v c r (length own)) h.between (new_between own seen v c r le h.own_seen);
     }
+
+-- words that were loaded, and then more
+pub keeps_more : (a b c : SeatModel) (more : List (ℕ × ℕ)) → KeepsLooks a b → c.looks ≡ b.looks ++ more → KeepsLooks a c
+keeps_more a b c more first then = (first.0 ++ more, then ∙ (ap (λ l. l ++ more) first.1 ∙ append_assoc a.looks first.0 more))

@@ -1,12 +1,13 @@
 -- What a session is after a turn.
-use Rattle.std.proofs.Common.{◌≡◌, ℕ, ◌+◌, ◌-◌, ◌<◌, ◌≤◌, inl, inr, Bool, true, false, List, [], ◌∷◌, ◌++◌, length, map, refl, sym, ap, ◌∙◌, subst, arith, length-append, Result, Ok, Err}
+use Rattle.std.proofs.Common.{◌≡◌, ℕ, ◌+◌, ◌-◌, ◌<◌, ◌≤◌, inl, inr, Bool, true, false, List, [], ◌∷◌, ◌++◌, length, map, refl, sym, ap, ◌∙◌, subst, arith, length-append, Result, Ok, Err, true≢false}
 use Rattle.std.specs.Prelude.{All}
 use Rattle.turnstile.specs.Histories.{AddsAtMostOne, GoesOn}
 use Rattle.turnstile.specs.Models.{SeatModel as TurnSeatModel}
 use Rattle.journal.specs.declared.command.Command.{Command}
 use Rattle.journal.specs.declared.command.Entry.{Entry}
 use Rattle.journal.specs.declared.opening.Opening.{Opening}
-use Rattle.journal.specs.Journal.{entry}
+use Rattle.journal.specs.Entries.{is_driving}
+use Rattle.journal.specs.Journal.{entry, version_of}
 use Rattle.rank_board.specs.declared.pulls.Pull.{Pull}
 use Rattle.rank_board.specs.Models.{SeatModel}
 use Rattle.client_session.specs.declared.desk.Setting.{Setting}
@@ -15,8 +16,9 @@ use Rattle.client_session.specs.declared.receipt.Answer.{Answer}
 use Rattle.client_session.specs.declared.receipt.Answer.TheVariants.{Done, Full}
 use Rattle.client_session.specs.Own.{IsPass, own_entries, receipt_of}
 use Rattle.client_session.specs.Models.{SessionModel}
-use Rattle.client_session.specs.Desk.{AddsEntry, MetAt}
-use Rattle.client_session.specs.Turns.{IsDone, IsFull, IsSession}
+use Rattle.client_session.specs.Desk.{AddsEntry, IsSeen, KeepsLooks, MetAt}
+use Rattle.client_session.specs.Turns.{IsDone, IsFull, IsSession, IsTurn, KeepsPlace}
+use Rattle.client_session.proofs.Agreement.{quiet_room, room_met}
 use Rattle.client_session.proofs.OwnSteps.{own_same}
 use Rattle.client_session.proofs.Passes.{pass_later}
 use Rattle.client_session.proofs.Answered.{later_answered, looks_answered, newer_answered, not_older_answered, own_answered, pass_answered, receipts_answered, version_answered}
@@ -39,6 +41,10 @@ is_done a = false
 abbrev pub full_in : ℕ → Answer → ℕ
 full_in d (Full n) = n
 full_in d a = d
+
+abbrev pub is_full_answer : Answer → Bool
+is_full_answer (Full n) = true
+is_full_answer a = false
 
 adds_at_most : (journal after : List Entry) (number : ℕ) (k : Command) (result : Result Receipt ℕ) → ((r : Receipt) → result ≡ Ok r → AddsEntry journal after number k r) →
     ((n : ℕ) → result ≡ Err n → after ≡ journal) → AddsAtMostOne who_of after number journal
@@ -108,26 +114,83 @@ module _ (seat final : Sits) (rank new_rank : SeatModel) (number left position n
           coflow = λ c e. subst (All (λ (p : Pull). p.coflow < c.board.coflows)) (sym pulls) (h.coflow c e);
         })
 
-  pub done_answered : (k : Command) (r : Receipt) → length seat.seen ≡ position → AddsEntry journal after number k r → MetAt journal after rank new_rank →
-      IsDone k (model seat rank number left position) (model final new_rank number (left - 1) new_position) r
-  done_answered k r position_is adds met = record {
-    room = adds.room;
-    own = ap (λ (t : Sits). own_entries number t.seen) final_is ∙ own_answered number journal seat.seen after k r goes adds;
-    left = omega (arith, some);
-    later = omega (arith, position_is, later_answered number journal seat.seen after k r goes adds);
-    position = ends ∙ sym adds.position;
-    not_older = not_older_answered number journal seat.seen after k r goes adds rank new_rank met;
-    newer = newer_answered number journal seat.seen after k r goes adds rank new_rank met;
-    version = version_answered number journal seat.seen after k r goes adds rank new_rank met;
-    looks = looks_answered number journal seat.seen after k r goes adds rank new_rank met;
-  }
+  abbrev pub old_session : SessionModel
+  old_session = model seat rank number left position
 
-  pub full_answered : (o : Opening) (n : ℕ) → length seat.seen ≡ position → after ≡ journal → n ≡ length journal → o.limit ≤ n →
-      IsFull o (model seat rank number left position) (model final new_rank number (left - 1) new_position) n
-  full_answered o n position_is same entries limit = record {
-    limit = limit;
-    own = ap (λ (t : Sits). own_entries number t.seen) final_is ∙ (ap (own_entries number) same ∙ own_same number journal seat.seen goes);
-    left = omega (arith, some);
-    not_shorter = omega (arith, position_is, entries, ap (λ (l : List Entry). length l) goes.1, length-append seat.seen goes.0);
-    position = ends ∙ (ap (λ (l : List Entry). length l) same ∙ sym entries);
-  }
+  abbrev pub new_session : SessionModel
+  new_session = model final new_rank number (left - 1) new_position
+
+  own_after : own_entries number final.seen ≡ own_entries number after
+  own_after = ap (λ (t : Sits). own_entries number t.seen) final_is
+
+  module _ (o : Opening) (k : Command) (quiet : is_driving k ≡ false) (seen : IsSeen o after) (position_is : length seat.seen ≡ position) where
+    done_answered : (r : Receipt) → AddsEntry journal after number k r → MetAt journal after rank new_rank → IsDone o k old_session new_session r
+    done_answered r adds met =
+        let has_room = room_met o journal after number k r.reply seen.legal adds.journal in
+        record {
+          room = adds.room;
+          limit = omega (
+            arith,
+            has_room,
+            quiet_room o k quiet,
+            adds.position,
+            ap (λ (l : List Entry). length l) adds.journal,
+            length-append journal (entry number k r.reply ∷ []),
+          );
+          before = journal;
+          seen = subst (IsSeen o) adds.journal seen;
+          position_is = adds.position ∙ ap (λ (l : List Entry). length l) adds.journal;
+          version_is = adds.version ∙ ap version_of adds.journal;
+          entries = own_after ∙ ap (own_entries number) adds.journal;
+          own = own_after ∙ own_answered number journal seat.seen after k r goes adds;
+          left = omega (arith, some);
+          later = omega (arith, position_is, later_answered number journal seat.seen after k r goes adds);
+          position = ends ∙ sym adds.position;
+          not_older = not_older_answered number journal seat.seen after k r goes adds rank new_rank met;
+          newer = newer_answered number journal seat.seen after k r goes adds rank new_rank met;
+          version = version_answered number journal seat.seen after k r goes adds rank new_rank met;
+          looks = looks_answered number journal seat.seen after k r goes adds rank new_rank met;
+        }
+
+    full_answered : (n : ℕ) → after ≡ journal → n ≡ length journal → o.limit ≤ n → IsFull o old_session new_session n
+    full_answered n same entries limit = record {
+      limit = limit;
+      met = journal;
+      seen = subst (IsSeen o) same seen;
+      count_is = entries;
+      own = own_after ∙ (ap (own_entries number) same ∙ own_same number journal seat.seen goes);
+      left = omega (arith, some);
+      not_shorter = omega (arith, position_is, entries, ap (λ (l : List Entry). length l) goes.1, length-append seat.seen goes.0);
+      position = ends ∙ (ap (λ (l : List Entry). length l) same ∙ sym entries);
+    }
+
+    module _ (table : new_rank.table ≡ rank.table) (pulls : new_rank.pulls ≡ rank.pulls) (looks : KeepsLooks rank new_rank) (later : rank.seen ≤ new_rank.seen) where
+      keeps : KeepsPlace old_session new_session
+      keeps = record {
+        gate = ap (λ (t : Sits). t.table) final_is;
+        setting = ap (λ (t : Sits). t.setting) final_is;
+        number = refl;
+        board = table;
+        notes = pulls;
+        looks = looks;
+        version = later;
+      }
+
+      -- what the turn answers tells what it did
+      pub turn_done : (r : Receipt) → AddsEntry journal after number k r → MetAt journal after rank new_rank → IsTurn o k old_session new_session (Done r)
+      turn_done r adds met = record {
+        place = keeps;
+        done = λ x is. subst (IsDone o k old_session new_session) (ap (done_in r) is) (done_answered r adds met);
+        full = λ n is. absurd (true≢false (ap is_done is));
+        spent = λ is. absurd (true≢false (ap is_done is));
+        calls = λ none. absurd (omega (arith, none, some));
+      }
+
+      pub turn_full : (n : ℕ) → after ≡ journal → n ≡ length journal → o.limit ≤ n → IsTurn o k old_session new_session (Full n)
+      turn_full n same entries limit = record {
+        place = keeps;
+        done = λ x is. absurd (true≢false (ap is_full_answer is));
+        full = λ m is. subst (IsFull o old_session new_session) (ap (full_in n) is) (full_answered n same entries limit);
+        spent = λ is. absurd (true≢false (ap is_full_answer is));
+        calls = λ none. absurd (omega (arith, none, some));
+      }

@@ -4,7 +4,8 @@ use Rattle.journal.specs.declared.command.Command.{Command}
 use Rattle.journal.specs.declared.command.Entry.{Entry}
 use Rattle.journal.specs.declared.opening.Opening.{Opening}
 use Rattle.journal.specs.Entries.{is_driving}
-use Rattle.journal.specs.Journal.{entry, is_full, rank_of, version_of}
+use Rattle.journal.specs.Journal.{entry, is_full, IsLegal, rank_of, version_of}
+use Rattle.journal.specs.Sound.{InRange}
 use Rattle.rank_board.specs.Models.{SeatModel}
 use Rattle.rank_board.specs.Words.{rank_of as published_rank}
 use Rattle.rank_board.specs.declared.pulls.Pull.{Pull}
@@ -27,6 +28,12 @@ pub record AgreesWith (o : Opening) (journal : List Entry) (published : List (Li
 abbrev pub DrivenByRoot : List Entry → Type 0
 DrivenByRoot journal = All (λ (e : Entry). is_driving e.command ≡ true → e.who ≡ 0) journal
 
+-- a journal that a caller met is legal, its commands are in range, and runs in it are driven by the caller 0 alone
+pub record IsSeen (o : Opening) (journal : List Entry) : Type 0 where
+  pub legal : IsLegal o journal
+  pub in_range : InRange o journal
+  pub driven : DrivenByRoot journal
+
 -- the noted pull has the rank of its version
 abbrev pub IsRanked : Opening → List Entry → Pull → Type 0
 IsRanked o journal p = (p.version ≤ version_of journal) ×
@@ -38,6 +45,10 @@ pub record AddsEntry (before after : List Entry) (who : ℕ) (k : Command) (r : 
   pub journal : after ≡ before ++ entry who k r.reply ∷ []
   pub position : r.position ≡ length after
   pub version : r.version ≡ version_of after
+
+-- the seat loaded further words, and none of those before is forgotten
+abbrev pub KeepsLooks : SeatModel → SeatModel → Type 0
+KeepsLooks old new = (more : List (ℕ × ℕ)) × (new.looks ≡ old.looks ++ more)
 
 -- The seat of a caller met the publisher in its turn: what it had seen stood before the turn's entry, it has seen the
 -- newest version after it, and so has every word that it loaded.

@@ -33,6 +33,12 @@ pub record SessionModel : Type 0 where
   pub own : List OwnEntry
   pub rank : SeatModel
 
+-- what a refused close keeps: the hall, its driver and its sessions
+pub record ClosingModel : Type 0 where
+  pub hall : HallModel
+  pub driver : DriverModel
+  pub sessions : List SessionModel
+
 -- they are of this hall
 abbrev pub IsDriverOf : HallModel → DriverModel → Type 0
 IsDriverOf hall driver = (driver.gate ≡ hall.gate) × (driver.setting ≡ Some hall.setting) ×

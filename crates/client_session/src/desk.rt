@@ -1,15 +1,18 @@
 //! The value behind the turnstile: the master, and the publisher of its ranks.
-ghost use Rattle.std.specs.Prelude.{◌≡◌, ℕ, ◌≤◌, false, true, length, [], All, Ok, Err};
+ghost use Rattle.std.specs.Prelude.{◌≡◌, ℕ, ◌≤◌, false, true, length, [], All, Ok, Err, vec_capacity};
 ghost use Rattle.journal.specs.Answer.{IsInRange, reply_of, room};
 ghost use Rattle.journal.specs.Entries.{is_driving};
-ghost use Rattle.journal.specs.Journal.{journal_after, version_of};
+ghost use Rattle.journal.specs.Fold.{state_of};
+ghost use Rattle.journal.specs.Journal.{journal_after, order_in, version_of};
+ghost use Rattle.master_core.specs.Published.{TellsPlaces, ranked};
 ghost use Rattle.rank_board.specs.Models.{saw_front};
 ghost use Rattle.client_session.specs.Own.{look_version};
-ghost use Rattle.client_session.specs.Desk.{AddsEntry, IsRanked, MetAt};
-ghost use Rattle.client_session.specs.Drivers.{IsSeen};
+ghost use Rattle.client_session.specs.Desk.{AddsEntry, IsRanked, IsSeen, KeepsLooks, MetAt};
+ghost use Rattle.client_session.specs.Drivers.{TellsGrants};
 ghost use Rattle.client_session.specs.declared.receipt.Receipt.{Receipt};
 
 use crate::receipt::Receipt;
+use coflow_units::Place;
 use journal::{Command, Entry, Opening, Reply};
 use master_core::Master;
 use rank_board::{Publisher, RankBoard, RankSeat};
@@ -84,6 +87,39 @@ impl Desk {
         self.master.journal().len() as u32
     }
 
+    /// Tells for each ingress what is granted there in the open run.
+    pub fn tell_grants(&self, granted: &mut [Option<u32>])
+        requires ports { length granted.old ≡ self.now.setting.opening.table.ports }
+        ensures granted { TellsGrants self.now.setting.opening self.now.journal granted.new }
+    {
+        for ingress in 0..self.master.table().ports() {
+            granted[ingress as usize] = self.master.granted(ingress);
+        }
+    }
+
+    /// Makes the list the places of the newest version.
+    pub fn hand_out(&self, places: &mut Vec<Place>)
+        requires room { length self.now.setting.opening.table.ids ≤ vec_capacity places.old }
+        ensures order { ranked places.new.items ≡
+            order_in self.now.setting.opening self.now.journal (version_of self.now.journal) }
+        ensures places { TellsPlaces (state_of self.now.setting.opening self.now.journal).published places.new.items }
+        ensures room { vec_capacity places.new ≡ vec_capacity places.old }
+    {
+        copy_places(self.master.places(), places);
+    }
+
+    /// The master, once the hall is closed.
+    pub fn into_master(self) -> Master
+        ensures opening { result.opening ≡ self.setting.opening }
+        ensures journal { result.journal ≡ self.journal }
+    {
+        let Desk {
+            master,
+            publisher: _,
+        } = self;
+        master
+    }
+
     /// Carries out a command of a caller whose seat at the board is this one, and publishes the version that it makes.
     /// The seat meets the publisher before a publishing, and after each command that adds an entry.
     ///
@@ -105,7 +141,7 @@ impl Desk {
         ensures full { (n : ℕ) → result ≡ Err n → (self.new.journal ≡ self.old.journal) ×
             (n ≡ length self.old.journal) × (self.old.setting.opening.limit ≤ n) }
         ensures seat { (seat.new.table ≡ seat.old.table) × (seat.new.pulls ≡ seat.old.pulls) ×
-            (seat.old.seen ≤ seat.new.seen) }
+            KeepsLooks seat.old seat.new × (seat.old.seen ≤ seat.new.seen) }
     {
         if let Command::Publish = command {
             self.meet(board, seat);
@@ -172,5 +208,17 @@ impl Desk {
         ensures pulls { All (IsRanked self.old.setting.opening self.old.journal) seat.new.pulls }
     {
         board.meet(&mut self.publisher, seat);
+    }
+}
+
+// Makes the list the same as these places, for which it has room.
+fn copy_places(from: &[Place], to: &mut Vec<Place>)
+    requires room { length from.now ≤ vec_capacity to.old }
+    ensures places { to.new.items ≡ from.now }
+    ensures room { vec_capacity to.new ≡ vec_capacity to.old }
+{
+    to.clear();
+    for place in from {
+        to.push_reserved(*place);
     }
 }

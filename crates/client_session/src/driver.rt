@@ -1,21 +1,22 @@
 //! The first caller of a hall.
-ghost use Rattle.std.specs.Prelude.{◌≡◌, ℕ, ◌+◌, ◌<◌, ◌≤◌, length, Some};
+ghost use Rattle.std.specs.Prelude.{◌≡◌, ℕ, ◌+◌, ◌-◌, ◌<◌, ◌≤◌, true, false, length, None, Some, Ok, Err, vec_capacity};
 ghost use Rattle.journal.specs.Answer.{IsInRange};
-ghost use Rattle.journal.specs.declared.command.Command.TheVariants.{Close, Open, Register, Short, Skip, Withdraw};
-ghost use Rattle.turnstile.specs.Histories.{NoneAbove};
+ghost use Rattle.journal.specs.declared.command.Command.TheVariants.{Close, Open, Publish, Register, Short, Skip, Withdraw};
+ghost use Rattle.turnstile.specs.Histories.{AddsAtMostOne, NoneAbove};
 ghost use Rattle.client_session.specs.declared.desk.Setting.{Setting};
-ghost use Rattle.client_session.specs.declared.receipt.Receipt.{Receipt};
+ghost use Rattle.client_session.specs.Desk.{IsSeen};
 ghost use Rattle.client_session.specs.Models.{IsDriverOf};
-ghost use Rattle.client_session.specs.Drivers.{IsDrivenOn, IsSeen, IsStopped, StaysInHall, who_of};
+ghost use Rattle.client_session.specs.Drivers.{flow_granted, HandsOut, IsDriverTurn, TellsGrants, who_of};
 
 use crate::desk::Desk;
 use crate::hall::Hall;
-use crate::receipt::{Answer, Receipt};
-use journal::Command;
+use crate::receipt::{Answer, is_version};
+use coflow_units::Place;
+use journal::{Command, Reply};
 use rank_board::RankSeat;
 use std::marker::Model;
 use std::sync::Wait;
-use turnstile::Root;
+use turnstile::{Root, Turn, Turnstile};
 
 /// The first caller of a hall, whose number is 0. It makes the sessions, and it alone opens and closes runs.
 ///
@@ -28,7 +29,8 @@ pub struct Driver {
     pub(crate) left: u64,
     pub(crate) turned: u32,
     pub(crate) position: u32,
-    pub(crate) ports: u32,
+    /// For each ingress what is granted there in the open run of that journal.
+    pub(crate) granted: Vec<Option<u32>>,
 }
 
 impl Model for Driver {
@@ -48,7 +50,7 @@ impl Model for Driver {
       position = d.position;
     } };
 
-    ghost invariant = { λ d. IsDriver d.root d.turned d.position d.ports };
+    ghost invariant = { λ d. IsDriver d.root d.turned d.position d.granted.items };
 }
 
 impl Driver {
@@ -68,62 +70,53 @@ impl Driver {
         self.left
     }
 
-    /// Opens a run of at most so many slots. It takes one turn, which may wait, and no memory.
+    /// The flow that is granted at an ingress in the open run of the journal that the driver has seen. `None` comes exactly where no run is open in it, or the ingress has no grant there.
+    pub fn granted(&self, ingress: u32) -> Option<u32>
+        ensures { (c : Setting) → self.now.setting ≡ Some c → ingress < c.opening.table.ports →
+            result ≡ flow_granted c.opening self.now.journal ingress }
+    {
+        match self.granted.get(ingress as usize) {
+            Some(flow) => *flow,
+            None => None,
+        }
+    }
+
+    /// Asks that a run of at most so many slots is opened. It takes one turn, which may wait, and no memory.
     ///
     /// `Spent` comes exactly where fewer calls are left than the run may need: this one, a note for each port, and its close.
     pub fn open_run<R: Wait>(&mut self, rt: &R, hall: &Hall, most: u64) -> Answer
         requires own { IsDriverOf hall.now self.old }
         requires most { 1 ≤ most }
-        ensures same { StaysInHall self.old self.new }
-        ensures done { (r : Receipt) → result ≡ Answer.Done r → IsDrivenOn (Open most) self.old self.new r }
-        ensures full { (n : ℕ) → result ≡ Answer.Full n →
-            IsStopped hall.now.setting.opening (Open most) self.old self.new n }
-        ensures spent { result ≡ Answer.Spent →
-            (self.old.left < hall.now.setting.opening.table.ports + 2) × (self.new ≡ self.old) }
-        ensures calls { self.old.left < hall.now.setting.opening.table.ports + 2 → result ≡ Answer.Spent }
+        ensures turn { IsDriverTurn hall.now.setting.opening (Open most) (hall.now.setting.opening.table.ports + 2)
+            self.old self.new result }
     {
-        if self.left < u64::from(self.ports) + 2 {
+        if self.left < self.granted.len() as u64 + 2 {
             return Answer::Spent;
         }
         self.ask(rt, hall, Command::Open(most))
     }
 
-    /// Notes that so many units were sent from an ingress port in the open run. It takes one turn, which may wait, and no memory.
+    /// Asks for the note that so many units were sent from an ingress port in the open run. It takes one turn, which may wait, and no memory.
     pub fn short<R: Wait>(&mut self, rt: &R, hall: &Hall, port: u32, sent: u64) -> Answer
         requires own { IsDriverOf hall.now self.old }
         requires port { port < hall.now.setting.opening.table.ports }
-        ensures same { StaysInHall self.old self.new }
-        ensures done { (r : Receipt) → result ≡ Answer.Done r → IsDrivenOn (Short port sent) self.old self.new r }
-        ensures full { (n : ℕ) → result ≡ Answer.Full n →
-            IsStopped hall.now.setting.opening (Short port sent) self.old self.new n }
-        ensures spent { result ≡ Answer.Spent → (self.old.left ≡ 0) × (self.new ≡ self.old) }
-        ensures calls { self.old.left ≡ 0 → result ≡ Answer.Spent }
+        ensures turn { IsDriverTurn hall.now.setting.opening (Short port sent) 1 self.old self.new result }
     {
         self.ask(rt, hall, Command::Short(port, sent))
     }
 
-    /// Closes the open run. It takes one turn, which may wait, and no memory.
+    /// Asks that the open run is closed. It takes one turn, which may wait, and no memory.
     pub fn close_run<R: Wait>(&mut self, rt: &R, hall: &Hall) -> Answer
         requires own { IsDriverOf hall.now self.old }
-        ensures same { StaysInHall self.old self.new }
-        ensures done { (r : Receipt) → result ≡ Answer.Done r → IsDrivenOn Close self.old self.new r }
-        ensures full { (n : ℕ) → result ≡ Answer.Full n →
-            IsStopped hall.now.setting.opening Close self.old self.new n }
-        ensures spent { result ≡ Answer.Spent → (self.old.left ≡ 0) × (self.new ≡ self.old) }
-        ensures calls { self.old.left ≡ 0 → result ≡ Answer.Spent }
+        ensures turn { IsDriverTurn hall.now.setting.opening Close 1 self.old self.new result }
     {
         self.ask(rt, hall, Command::Close)
     }
 
-    /// Lets slots pass, up to the one before this slot. It takes one turn, which may wait, and no memory.
+    /// Asks that slots pass, up to the one before this slot. It takes one turn, which may wait, and no memory.
     pub fn skip<R: Wait>(&mut self, rt: &R, hall: &Hall, to: u64) -> Answer
         requires own { IsDriverOf hall.now self.old }
-        ensures same { StaysInHall self.old self.new }
-        ensures done { (r : Receipt) → result ≡ Answer.Done r → IsDrivenOn (Skip to) self.old self.new r }
-        ensures full { (n : ℕ) → result ≡ Answer.Full n →
-            IsStopped hall.now.setting.opening (Skip to) self.old self.new n }
-        ensures spent { result ≡ Answer.Spent → (self.old.left ≡ 0) × (self.new ≡ self.old) }
-        ensures calls { self.old.left ≡ 0 → result ≡ Answer.Spent }
+        ensures turn { IsDriverTurn hall.now.setting.opening (Skip to) 1 self.old self.new result }
     {
         self.ask(rt, hall, Command::Skip(to))
     }
@@ -132,12 +125,7 @@ impl Driver {
     pub fn register<R: Wait>(&mut self, rt: &R, hall: &Hall, coflow: u32) -> Answer
         requires own { IsDriverOf hall.now self.old }
         requires coflow { coflow < length hall.now.setting.opening.table.ids }
-        ensures same { StaysInHall self.old self.new }
-        ensures done { (r : Receipt) → result ≡ Answer.Done r → IsDrivenOn (Register coflow) self.old self.new r }
-        ensures full { (n : ℕ) → result ≡ Answer.Full n →
-            IsStopped hall.now.setting.opening (Register coflow) self.old self.new n }
-        ensures spent { result ≡ Answer.Spent → (self.old.left ≡ 0) × (self.new ≡ self.old) }
-        ensures calls { self.old.left ≡ 0 → result ≡ Answer.Spent }
+        ensures turn { IsDriverTurn hall.now.setting.opening (Register coflow) 1 self.old self.new result }
     {
         self.ask(rt, hall, Command::Register(coflow))
     }
@@ -146,39 +134,75 @@ impl Driver {
     pub fn withdraw<R: Wait>(&mut self, rt: &R, hall: &Hall, coflow: u32) -> Answer
         requires own { IsDriverOf hall.now self.old }
         requires coflow { coflow < length hall.now.setting.opening.table.ids }
-        ensures same { StaysInHall self.old self.new }
-        ensures done { (r : Receipt) → result ≡ Answer.Done r → IsDrivenOn (Withdraw coflow) self.old self.new r }
-        ensures full { (n : ℕ) → result ≡ Answer.Full n →
-            IsStopped hall.now.setting.opening (Withdraw coflow) self.old self.new n }
-        ensures spent { result ≡ Answer.Spent → (self.old.left ≡ 0) × (self.new ≡ self.old) }
-        ensures calls { self.old.left ≡ 0 → result ≡ Answer.Spent }
+        ensures turn { IsDriverTurn hall.now.setting.opening (Withdraw coflow) 1 self.old self.new result }
     {
         self.ask(rt, hall, Command::Withdraw(coflow))
+    }
+
+    /// Asks that the present coflows are ordered anew. It takes one turn, which may wait, and no memory. Where it is answered with a version, the list becomes the places of that
+    /// version, and else it stays as it was. It has room for one place for each coflow.
+    pub fn publish_out<R: Wait>(
+        &mut self,
+        rt: &R,
+        hall: &Hall,
+        places: &mut Vec<Place>,
+    ) -> Answer
+        requires own { IsDriverOf hall.now self.old }
+        requires room { length hall.now.setting.opening.table.ids ≤ vec_capacity places.old }
+        ensures turn { IsDriverTurn hall.now.setting.opening Publish 1 self.old self.new result }
+        ensures places { HandsOut hall.now.setting.opening self.new.journal result places.old.items places.new.items }
+        ensures room { vec_capacity places.new ≡ vec_capacity places.old }
+    {
+        if self.left == 0 {
+            return Answer::Spent;
+        }
+        let mut turn = hall.gate.enter_root(rt, &mut self.root);
+        let answer = turn.value.drive(&hall.board, Command::Publish);
+        if is_version(&answer) {
+            turn.value.hand_out(places);
+        }
+        self.position = end_turn(&hall.gate, &mut self.root, &mut self.granted, turn);
+        self.turned = self.position;
+        self.left -= 1;
+        Answer::of_turn(answer)
     }
 
     // Takes a turn for a command.
     fn ask<R: Wait>(&mut self, rt: &R, hall: &Hall, command: Command) -> Answer
         requires own { IsDriverOf hall.now self.old }
         requires range { IsInRange hall.now.setting.opening command }
-        ensures same { StaysInHall self.old self.new }
-        ensures done { (r : Receipt) → result ≡ Answer.Done r → IsDrivenOn command self.old self.new r }
-        ensures full { (n : ℕ) → result ≡ Answer.Full n →
-            IsStopped hall.now.setting.opening command self.old self.new n }
-        ensures spent { result ≡ Answer.Spent → (self.old.left ≡ 0) × (self.new ≡ self.old) }
-        ensures calls { self.old.left ≡ 0 → result ≡ Answer.Spent }
+        ensures turn { IsDriverTurn hall.now.setting.opening command 1 self.old self.new result }
     {
         if self.left == 0 {
             return Answer::Spent;
         }
         let mut turn = hall.gate.enter_root(rt, &mut self.root);
         let answer = turn.value.drive(&hall.board, command);
-        self.position = turn.value.position();
+        self.position = end_turn(&hall.gate, &mut self.root, &mut self.granted, turn);
         self.turned = self.position;
-        hall.gate.leave_root(&mut self.root, turn);
         self.left -= 1;
-        match answer {
-            Ok(receipt) => Answer::Done(receipt),
-            Err(entries) => Answer::Full(entries),
-        }
+        Answer::of_turn(answer)
     }
+}
+
+// Ends the driver's turn, and keeps what is granted in the open run. The answer is the length of the journal, which is one that callers may see.
+fn end_turn(
+    gate: &Turnstile<Desk>,
+    root: &mut Root<Desk>,
+    granted: &mut Vec<Option<u32>>,
+    turn: Turn<Desk>,
+) -> u32
+    requires own { (root.old.table ≡ gate.now.table) × (root.old.in_turn ≡ true) }
+    requires setting { root.old.setting ≡ Some turn.value.setting }
+    requires list { AddsAtMostOne who_of turn.value.journal 0 root.old.seen }
+    requires ports { length granted.old.items ≡ turn.value.setting.opening.table.ports }
+    ensures root { root.new ≡ record root.old { in_turn = false; seen = turn.value.journal } }
+    ensures position { result ≡ length turn.value.journal }
+    ensures seen { IsSeen turn.value.setting.opening turn.value.journal }
+    ensures granted { TellsGrants turn.value.setting.opening turn.value.journal granted.new.items }
+{
+    let position = turn.value.position();
+    turn.value.tell_grants(granted);
+    gate.leave_root(root, turn);
+    position
 }

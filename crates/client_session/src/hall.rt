@@ -38,7 +38,6 @@ impl Hall {
     /// Puts a master without entries into a new hall, and makes its driver, which may take so many turns.
     ///
     /// The error is want of memory, and drops the master.
-    #[tactic(auto, using(crate::proofs::Beginning::first_driver))]
     pub fn begin(
         alloc: Global,
         master: Master,
@@ -49,9 +48,11 @@ impl Hall {
         ensures opening { IfOk result (λ made. made.0.setting.opening ≡ master.opening) }
         ensures driver { IfOk result (λ made. IsFirstDriver made.0 driver_calls made.1) }
     {
-        let ports = master.table().ports();
+        let mut granted = vec![in alloc; None; master.table().ports() as usize]?;
         let (board, publisher, rank) = RankBoard::new(alloc, master.table().coflows())?;
-        let (gate, root) = Turnstile::new(alloc, Desk::new(master, publisher))?;
+        let desk = Desk::new(master, publisher);
+        desk.tell_grants(&mut granted);
+        let (gate, root) = Turnstile::new(alloc, desk)?;
         let hall = Hall { gate, board };
         let driver = Driver {
             root,
@@ -59,12 +60,12 @@ impl Hall {
             left: driver_calls,
             turned: 0,
             position: 0,
-            ports,
+            granted,
         };
         Ok((hall, driver))
     }
 
-    /// Makes a session with the next number, from 1 on, which may take so many turns. It has seen what the driver has seen. A driver makes at most 2^16 sessions.
+    /// Makes a session with the next number, from 1 on, which may take so many turns. It has seen as long a journal as the driver has seen, and has no entries. A driver makes at most 2^16 sessions.
     ///
     /// The error is want of memory for the session's receipts, and the driver is as before.
     pub fn session(

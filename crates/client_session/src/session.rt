@@ -5,10 +5,9 @@ ghost use Rattle.journal.specs.Answer.{IsInRange};
 ghost use Rattle.journal.specs.Entries.{is_driving};
 ghost use Rattle.journal.specs.declared.command.Command.TheVariants.{Publish, Pull, Register, Reweigh, Withdraw};
 ghost use Rattle.rank_board.specs.Models.{FoundAnother, pulled, saw_front, SeatModel};
-ghost use Rattle.client_session.specs.declared.receipt.Receipt.{Receipt};
 ghost use Rattle.client_session.specs.Models.{IsSessionOf};
 ghost use Rattle.client_session.specs.Own.{IsPass, receipt_of};
-ghost use Rattle.client_session.specs.Turns.{IsDone, IsFull, KeepsPlace};
+ghost use Rattle.client_session.specs.Turns.{IsTurn};
 
 use crate::desk::Desk;
 use crate::hall::Hall;
@@ -97,11 +96,7 @@ impl Session {
     pub fn register<R: Wait>(&mut self, rt: &R, hall: &Hall, coflow: u32) -> Answer
         requires own { IsSessionOf hall.now self.old }
         requires coflow { coflow < length hall.now.setting.opening.table.ids }
-        ensures same { KeepsPlace self.old self.new }
-        ensures done { (r : Receipt) → result ≡ Answer.Done r → IsDone (Register coflow) self.old self.new r }
-        ensures full { (n : ℕ) → result ≡ Answer.Full n → IsFull hall.now.setting.opening self.old self.new n }
-        ensures spent { result ≡ Answer.Spent → (self.old.left ≡ 0) × (self.new ≡ self.old) }
-        ensures calls { self.old.left ≡ 0 → result ≡ Answer.Spent }
+        ensures turn { IsTurn hall.now.setting.opening (Register coflow) self.old self.new result }
     {
         self.ask(rt, hall, Command::Register(coflow))
     }
@@ -110,11 +105,7 @@ impl Session {
     pub fn withdraw<R: Wait>(&mut self, rt: &R, hall: &Hall, coflow: u32) -> Answer
         requires own { IsSessionOf hall.now self.old }
         requires coflow { coflow < length hall.now.setting.opening.table.ids }
-        ensures same { KeepsPlace self.old self.new }
-        ensures done { (r : Receipt) → result ≡ Answer.Done r → IsDone (Withdraw coflow) self.old self.new r }
-        ensures full { (n : ℕ) → result ≡ Answer.Full n → IsFull hall.now.setting.opening self.old self.new n }
-        ensures spent { result ≡ Answer.Spent → (self.old.left ≡ 0) × (self.new ≡ self.old) }
-        ensures calls { self.old.left ≡ 0 → result ≡ Answer.Spent }
+        ensures turn { IsTurn hall.now.setting.opening (Withdraw coflow) self.old self.new result }
     {
         self.ask(rt, hall, Command::Withdraw(coflow))
     }
@@ -122,11 +113,7 @@ impl Session {
     /// Asks that the present coflows are ordered anew. The new ranks stand on the board before the turn ends. It takes one turn, which may wait, and no memory.
     pub fn publish<R: Wait>(&mut self, rt: &R, hall: &Hall) -> Answer
         requires own { IsSessionOf hall.now self.old }
-        ensures same { KeepsPlace self.old self.new }
-        ensures done { (r : Receipt) → result ≡ Answer.Done r → IsDone Publish self.old self.new r }
-        ensures full { (n : ℕ) → result ≡ Answer.Full n → IsFull hall.now.setting.opening self.old self.new n }
-        ensures spent { result ≡ Answer.Spent → (self.old.left ≡ 0) × (self.new ≡ self.old) }
-        ensures calls { self.old.left ≡ 0 → result ≡ Answer.Spent }
+        ensures turn { IsTurn hall.now.setting.opening Publish self.old self.new result }
     {
         self.ask(rt, hall, Command::Publish)
     }
@@ -135,11 +122,7 @@ impl Session {
     pub fn pull_turn<R: Wait>(&mut self, rt: &R, hall: &Hall, coflow: u32) -> Answer
         requires own { IsSessionOf hall.now self.old }
         requires coflow { coflow < length hall.now.setting.opening.table.ids }
-        ensures same { KeepsPlace self.old self.new }
-        ensures done { (r : Receipt) → result ≡ Answer.Done r → IsDone (Pull coflow) self.old self.new r }
-        ensures full { (n : ℕ) → result ≡ Answer.Full n → IsFull hall.now.setting.opening self.old self.new n }
-        ensures spent { result ≡ Answer.Spent → (self.old.left ≡ 0) × (self.new ≡ self.old) }
-        ensures calls { self.old.left ≡ 0 → result ≡ Answer.Spent }
+        ensures turn { IsTurn hall.now.setting.opening (Pull coflow) self.old self.new result }
     {
         self.ask(rt, hall, Command::Pull(coflow))
     }
@@ -149,11 +132,7 @@ impl Session {
         requires own { IsSessionOf hall.now self.old }
         requires coflow { coflow < length hall.now.setting.opening.table.ids }
         requires weight { (1 ≤ weight) × (weight ≤ MAX_WEIGHT) }
-        ensures same { KeepsPlace self.old self.new }
-        ensures done { (r : Receipt) → result ≡ Answer.Done r → IsDone (Reweigh coflow weight) self.old self.new r }
-        ensures full { (n : ℕ) → result ≡ Answer.Full n → IsFull hall.now.setting.opening self.old self.new n }
-        ensures spent { result ≡ Answer.Spent → (self.old.left ≡ 0) × (self.new ≡ self.old) }
-        ensures calls { self.old.left ≡ 0 → result ≡ Answer.Spent }
+        ensures turn { IsTurn hall.now.setting.opening (Reweigh coflow weight) self.old self.new result }
     {
         self.ask(rt, hall, Command::Reweigh { coflow, weight })
     }
@@ -184,11 +163,7 @@ impl Session {
         requires own { IsSessionOf hall.now self.old }
         requires range { IsInRange hall.now.setting.opening command }
         requires kind { is_driving command ≡ false }
-        ensures same { KeepsPlace self.old self.new }
-        ensures done { (r : Receipt) → result ≡ Answer.Done r → IsDone command self.old self.new r }
-        ensures full { (n : ℕ) → result ≡ Answer.Full n → IsFull hall.now.setting.opening self.old self.new n }
-        ensures spent { result ≡ Answer.Spent → (self.old.left ≡ 0) × (self.new ≡ self.old) }
-        ensures calls { self.old.left ≡ 0 → result ≡ Answer.Spent }
+        ensures turn { IsTurn hall.now.setting.opening command self.old self.new result }
     {
         if self.left == 0 {
             return Answer::Spent;

@@ -1,5 +1,5 @@
 -- The seat met the publisher around a turn.
-use Rattle.std.proofs.Common.{rules, ◌≡◌, ℕ, ◌+◌, ◌<◌, ◌≤◌, List, [], ◌∷◌, ◌++◌, sym, ap, ◌∙◌, subst, arith, length, true≢false, is_ok}
+use Rattle.std.proofs.Common.{rules, ◌≡◌, ℕ, ◌+◌, ◌<◌, ◌≤◌, List, [], ◌∷◌, ◌++◌, sym, ap, ◌∙◌, subst, arith, length, append-nil, true≢false, is_ok}
 use Rattle.std.specs.Prelude.{All}
 use Rattle.std.proofs.lemmas.Result.{IfOk-at_ok}
 use Rattle.journal.specs.Answer.{reply_of}
@@ -7,8 +7,9 @@ use Rattle.journal.specs.Journal.{adds, entry, is_full, journal_after, version_o
 use Rattle.journal.proofs.Growth.{version_append}
 use Rattle.rank_board.specs.Models.{SeatModel}
 use Rattle.client_session.specs.Own.{look_version}
-use Rattle.client_session.specs.Desk.{AddsEntry, DeskModel, MetAt}
+use Rattle.client_session.specs.Desk.{AddsEntry, DeskModel, KeepsLooks, MetAt}
 use Rattle.client_session.proofs.Agreement.{one_added, version_stays}
+use Rattle.client_session.proofs.Passes.{keeps_more}
 use Rattle.client_session.proofs.desk.Desk.answer.Goals.{in-Publish, in_default}
 use Rattle.client_session.proofs.desk.Desk.answer.Goals as goal
 
@@ -57,10 +58,19 @@ returns c =
       looks = subst (λ (d : DeskModel). All (λ look. look_version look ≤ version_of d.journal) met_seat.looks) (sym last.desk) last.looks;
     } in
     let grows : seat.seen ≤ met_seat.seen = omega (arith, before, seen, ap version_of ends, version_append journal (adds who k (reply_of o journal k))) in
+    let once : KeepsLooks seat c.match-command.seat = elim c.match-command.branch [
+      | in-Publish w ↦ (
+          (0, version_of journal) ∷ [],
+          ap (λ (x : SeatModel). x.looks) w.seat-is ∙ ap (λ (x : SeatModel). x.looks) w.meet.ensures.seat,
+        )
+      | in_default w ↦ ([], ap (λ (x : SeatModel). x.looks) w.seat-is ∙ sym (append-nil seat.looks))
+    ] in
+    let looks : KeepsLooks seat met_seat = keeps_more seat c.match-command.seat met_seat ((0, version_of c.step-reply.new.self.journal) ∷ []) once
+    (ap (λ (x : SeatModel). x.looks) last.seat) in
     record {
       setting = setting;
       entry = λ r is. IfOk-at_ok (λ r. AddsEntry journal after who k r) is adds_entry;
       met = λ r is. met;
       full = λ n is. absurd (true≢false (ap is_ok is));
-      seat = (ap (λ (x : SeatModel). x.table) last.seat ∙ table, ap (λ (x : SeatModel). x.pulls) last.seat ∙ pulls, grows);
+      seat = (ap (λ (x : SeatModel). x.table) last.seat ∙ table, ap (λ (x : SeatModel). x.pulls) last.seat ∙ pulls, looks, grows);
     }

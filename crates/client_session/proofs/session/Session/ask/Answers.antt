@@ -5,8 +5,10 @@ use Rattle.turnstile.specs.Histories.{GoesOn}
 use Rattle.journal.specs.declared.command.Entry.{Entry}
 use Rattle.client_session.specs.declared.desk.Setting.{Setting}
 use Rattle.client_session.specs.Models.{HallModel, SessionModel}
-use Rattle.client_session.specs.Turns.{IsDone, IsFull}
-use Rattle.client_session.proofs.Turning.{done_answered, done_in, full_answered, full_in, left_is, may_leave, model, session_answered, session_refused, who_of}
+use Rattle.client_session.specs.declared.receipt.Answer.TheVariants.{Done, Full}
+use Rattle.client_session.specs.Desk.{IsSeen}
+use Rattle.client_session.specs.Turns.{IsTurn}
+use Rattle.client_session.proofs.Turning.{left_is, may_leave, model, session_answered, session_refused, turn_done, turn_full, who_of}
 use Rattle.client_session.proofs.session.Session.ask.Goals as goal
 
 pub leave-requires-clause-list : goal.leave-requires-clause-list
@@ -44,10 +46,11 @@ invariant_of-self-in-Err g c =
     session_refused seat c.leave.new.seat c.self.inside.rank c.answer-answer.new.seat number c.self.inside.left c.self.inside.position c.position-self-inside.result journal
     after final goes some
     c.position-self-inside.ensures.position c.self.inside.receipts.items c.self.inside.receipts.items (vec_capacity c.self.inside.receipts) (vec_capacity c.self.inside.receipts)
-    c.self.invariant (a.full c.in-Err.entries c.in-Err.is).0 a.seat.1 a.seat.2
+    c.self.invariant (a.full c.in-Err.entries c.in-Err.is).0 a.seat.1 a.seat.3
 
-pub returns-in-Ok-clause-done : goal.returns-in-Ok-clause-done
-returns-in-Ok-clause-done g c = λ r is.
+pub returns-in-Ok : goal.returns-in-Ok
+returns-in-Ok g c =
+    let o = c.args.hall.now.setting.opening in
     let journal = c.enter-turn.result.value.journal in
     let after = c.answer-answer.new.self.journal in
     let seat = c.self.inside.seat in
@@ -56,15 +59,18 @@ returns-in-Ok-clause-done g c = λ r is.
     let final = left_is seat c.enter-turn.new.seat c.leave.new.seat journal after c.enter-turn.ensures.seat c.leave.ensures.seat in
     let goes = subst (λ n. GoesOn who_of journal n seat.seen) c.self.invariant.number_is c.enter-turn.ensures.list in
     let some : 0 < c.self.inside.left = omega (arith, c.if-self-eq0.false) in
-    let done = done_answered seat c.leave.new.seat c.self.inside.rank c.answer-answer.new.seat number c.self.inside.left c.self.inside.position c.position-self-inside.result
-    journal after final goes
-    some c.position-self-inside.ensures.position c.args.command c.in-Ok.receipt c.self.invariant.position_is (a.entry c.in-Ok.receipt c.in-Ok.is) (a.met c.in-Ok.receipt c.in-Ok.is) in
+    let setting : c.answer-answer.new.self.setting ≡ c.args.hall.now.setting =
+    a.setting ∙ ap (λ x. unwrap_or x c.args.hall.now.setting) (sym c.enter-turn.ensures.setting ∙ (ap (λ (m : SessionModel). m.setting) c.self.view_is ∙ c.requires.own.1)) in
+    let seen = subst (λ (x : Setting). IsSeen x.opening after) setting c.position-self-inside.ensures.seen in
+    let done = turn_done seat c.leave.new.seat c.self.inside.rank c.answer-answer.new.seat number c.self.inside.left c.self.inside.position c.position-self-inside.result
+    journal after final goes some c.position-self-inside.ensures.position o c.args.command c.requires.kind seen c.self.invariant.position_is a.seat.0 a.seat.1 a.seat.2 a.seat.3
+    c.in-Ok.receipt (a.entry c.in-Ok.receipt c.in-Ok.is) (a.met c.in-Ok.receipt c.in-Ok.is) in
     let new = model c.leave.new.seat c.answer-answer.new.seat number (c.self.inside.left - 1) c.position-self-inside.result in
-    subst (IsDone c.args.command c.args.self.now new) (ap (done_in c.in-Ok.receipt) is) (subst (λ (s : SessionModel). IsDone c.args.command s new c.in-Ok.receipt)
-    c.self.view_is done)
+    record { turn = subst (λ (s : SessionModel). IsTurn o c.args.command s new (Done c.in-Ok.receipt)) c.self.view_is done; }
 
-pub returns-in-Err-clause-full : goal.returns-in-Err-clause-full
-returns-in-Err-clause-full g c = λ n is.
+pub returns-in-Err : goal.returns-in-Err
+returns-in-Err g c =
+    let o = c.args.hall.now.setting.opening in
     let journal = c.enter-turn.result.value.journal in
     let after = c.answer-answer.new.self.journal in
     let seat = c.self.inside.seat in
@@ -74,12 +80,12 @@ returns-in-Err-clause-full g c = λ n is.
     let goes = subst (λ n. GoesOn who_of journal n seat.seen) c.self.invariant.number_is c.enter-turn.ensures.list in
     let some : 0 < c.self.inside.left = omega (arith, c.if-self-eq0.false) in
     let f = a.full c.in-Err.entries c.in-Err.is in
-    let setting : c.enter-turn.result.value.setting ≡ c.args.hall.now.setting =
+    let entered : c.enter-turn.result.value.setting ≡ c.args.hall.now.setting =
     ap (λ x. unwrap_or x c.args.hall.now.setting) (sym c.enter-turn.ensures.setting ∙ (ap (λ (m : SessionModel). m.setting) c.self.view_is ∙ c.requires.own.1)) in
-    let limit = subst (λ (x : Setting). x.opening.limit ≤ c.in-Err.entries) setting f.2 in
-    let full = full_answered seat c.leave.new.seat c.self.inside.rank c.answer-answer.new.seat number c.self.inside.left c.self.inside.position c.position-self-inside.result
-    journal after final goes
-    some c.position-self-inside.ensures.position c.args.hall.now.setting.opening c.in-Err.entries c.self.invariant.position_is f.0 f.1 limit in
+    let seen = subst (λ (x : Setting). IsSeen x.opening after) (a.setting ∙ entered) c.position-self-inside.ensures.seen in
+    let limit = subst (λ (x : Setting). x.opening.limit ≤ c.in-Err.entries) entered f.2 in
+    let full = turn_full seat c.leave.new.seat c.self.inside.rank c.answer-answer.new.seat number c.self.inside.left c.self.inside.position c.position-self-inside.result
+    journal after final goes some c.position-self-inside.ensures.position o c.args.command c.requires.kind seen c.self.invariant.position_is a.seat.0 a.seat.1 a.seat.2 a.seat.3
+    c.in-Err.entries f.0 f.1 limit in
     let new = model c.leave.new.seat c.answer-answer.new.seat number (c.self.inside.left - 1) c.position-self-inside.result in
-    subst (IsFull c.args.hall.now.setting.opening c.args.self.now new) (ap (full_in c.in-Err.entries) is)
-    (subst (λ (s : SessionModel). IsFull c.args.hall.now.setting.opening s new c.in-Err.entries) c.self.view_is full)
+    record { turn = subst (λ (s : SessionModel). IsTurn o c.args.command s new (Full c.in-Err.entries)) c.self.view_is full; }

@@ -1,0 +1,113 @@
+-- A turn adds the driver's entry, or finds no room.
+use Rattle.std.proofs.Common.{rules, ◌≡◌, ℕ, ◌+◌, ◌-◌, ◌<◌, ◌≤◌, List, [], ◌∷◌, ◌++◌, take, length, sym, ap, ◌∙◌, subst, arith, refl, Some, Ok, Err, true, false, true≢false}
+use Rattle.std.specs.Prelude.{unwrap_or}
+use Rattle.journal.specs.Answer.{room}
+use Rattle.turnstile.specs.Models.{RootModel}
+use Rattle.journal.specs.declared.command.Entry.{Entry}
+use Rattle.client_session.specs.declared.desk.Setting.{Setting}
+use Rattle.client_session.specs.declared.receipt.Answer.{Answer}
+use Rattle.client_session.specs.Answers.{answer_of, makes_version}
+use Rattle.client_session.specs.Desk.{IsSeen}
+use Rattle.client_session.specs.Drivers.{HandsOut, IsDriverTurn, TellsGrants}
+use Rattle.client_session.specs.Models.{DriverModel}
+use Rattle.client_session.proofs.Driving.{driver_kept, driver_model, driver_turned, numbers_after, root_left, root_may_leave}
+use Rattle.std.proofs.lemmas.List.{take_all}
+use Rattle.coflow_units.specs.declared.plan.Place.{Place}
+use Rattle.journal.specs.declared.command.Command.TheVariants.{Publish}
+use Rattle.journal.specs.Fold.{state_of}
+use Rattle.journal.specs.Journal.{order_in, version_of}
+use Rattle.master_core.specs.Published.{ranked, TellsPlaces}
+use Rattle.client_session.proofs.Publishing.{hands_out, hands_nothing}
+use Rattle.client_session.proofs.driver.Driver.publish_out.Goals.{then-is_version, else-is_version}
+use Rattle.client_session.proofs.driver.Driver.publish_out.Goals as goal
+
+pub end_turn-self-inside-requires-clause-list : goal.end_turn-self-inside-requires-clause-list
+end_turn-self-inside-requires-clause-list g c =
+    let a = c.drive-answer.ensures in
+    root_may_leave c.self.inside.root c.enter_root-turn.new.root c.enter_root-turn.result.value.journal c.drive-answer.new.self.journal Publish c.drive-answer.result
+    c.enter_root-turn.ensures.root a.entry (λ n e. (a.full n e).0)
+
+pub invariant_of-self : goal.invariant_of-self
+invariant_of-self g c =
+    let d = c.self.inside in
+    let k = Publish in
+    let o = c.args.hall.now.setting.opening in
+    let journal = c.enter_root-turn.result.value.journal in
+    let after = c.drive-answer.new.self.journal in
+    let result = c.drive-answer.result in
+    let a = c.drive-answer.ensures in
+    let e = c.enter_root-turn.ensures in
+    let t = c.end_turn-self-inside.ensures in
+    let end = c.end_turn-self-inside in
+    let final = root_left d.root c.enter_root-turn.new.root end.new.root journal after e.root t.root in
+    let above = numbers_after d.root.made journal after k result a.entry (λ n e. (a.full n e).0) e.numbers in
+    driver_kept d.root end.new.root d.rank d.left d.turned d.position end.result d.granted.items journal after c.self.invariant final e.list t.position e.numbers
+    end.new.granted.items above
+    (λ s is.
+    let same : c.drive-answer.new.self.setting ≡ s = a.setting ∙ ap (λ x. unwrap_or x s) (sym e.setting ∙ is) in
+    (subst (λ (x : Setting). IsSeen x.opening after) same t.seen, subst (λ (x : Setting). TellsGrants x.opening after end.new.granted.items) same t.granted))
+
+pub returns-clause-turn : goal.returns-clause-turn
+returns-clause-turn g c =
+    let d = c.self.inside in
+    let k = Publish in
+    let o = c.args.hall.now.setting.opening in
+    let journal = c.enter_root-turn.result.value.journal in
+    let after = c.drive-answer.new.self.journal in
+    let result = c.drive-answer.result in
+    let a = c.drive-answer.ensures in
+    let e = c.enter_root-turn.ensures in
+    let t = c.end_turn-self-inside.ensures in
+    let end = c.end_turn-self-inside in
+    let final = root_left d.root c.enter_root-turn.new.root end.new.root journal after e.root t.root in
+    let above = numbers_after d.root.made journal after k result a.entry (λ n e. (a.full n e).0) e.numbers in
+    let entered : c.enter_root-turn.result.value.setting ≡ c.args.hall.now.setting =
+    ap (λ x. unwrap_or x c.args.hall.now.setting) (sym e.setting ∙ (ap (λ (m : DriverModel). m.setting) c.self.view_is ∙ c.requires.own.1)) in
+    let seen = subst (λ (x : Setting). IsSeen x.opening after) (a.setting ∙ entered) t.seen in
+    let some : 0 < d.left = omega (arith, c.if-self-eq0.false) in
+    let full : (n : ℕ) → result ≡ Err n → (after ≡ journal) × (n ≡ length journal) × (room o k ≤ n) = λ n err.
+    let f = a.full n err in (f.0, f.1, subst (λ (x : Setting). room x.opening k ≤ n) entered f.2) in
+    let turned = driver_turned d.root end.new.root d.rank d.left d.turned d.position end.result d.granted.items journal after c.self.invariant final e.list t.position e.numbers
+    o k some seen above result a.entry full in
+    let new = driver_model end.new.root d.rank (d.left - 1) end.result end.result in
+    subst (λ (x : Answer). IsDriverTurn o k 1 c.args.self.now new x) (sym c.of_turn.ensures)
+    (subst (λ (s : DriverModel). IsDriverTurn o k 1 s new (answer_of result)) c.self.view_is turned)
+
+pub returns-clause-places : goal.returns-clause-places
+returns-clause-places g c =
+    let d = c.self.inside in
+    let k = Publish in
+    let o = c.args.hall.now.setting.opening in
+    let journal = c.enter_root-turn.result.value.journal in
+    let after = c.drive-answer.new.self.journal in
+    let result = c.drive-answer.result in
+    let a = c.drive-answer.ensures in
+    let e = c.enter_root-turn.ensures in
+    let t = c.end_turn-self-inside.ensures in
+    let end = c.end_turn-self-inside in
+    let final = root_left d.root c.enter_root-turn.new.root end.new.root journal after e.root t.root in
+    let above = numbers_after d.root.made journal after k result a.entry (λ n e. (a.full n e).0) e.numbers in
+    let entered : c.enter_root-turn.result.value.setting ≡ c.args.hall.now.setting =
+    ap (λ x. unwrap_or x c.args.hall.now.setting) (sym e.setting ∙ (ap (λ (m : DriverModel). m.setting) c.self.view_is ∙ c.requires.own.1)) in
+    let set = a.setting ∙ entered in
+    let seen = subst (λ (x : Setting). IsSeen x.opening after) set t.seen in
+    let old = c.args.places.now.items in
+    let places = c.if-is_version.places.items in
+    let told : makes_version result ≡ true → (ranked places ≡ order_in o after (version_of after)) × TellsPlaces (state_of o after).published places = λ yes.
+    elim c.if-is_version.branch [
+      | then-is_version w ↦ (
+          ap (λ (v : _). ranked v.items) w.places-is ∙ subst (λ (x : Setting). ranked w.hand_out.new.places.items ≡ order_in x.opening after (version_of after)) set w.hand_out.ensures.order,
+          subst (λ (x : Setting). TellsPlaces (state_of x.opening after).published places) set
+          (subst (λ (l : List Place). TellsPlaces (state_of c.drive-answer.new.self.setting.opening after).published l) (sym (ap (λ (v : _). v.items) w.places-is)) w.hand_out.ensures.places),
+        )
+      | else-is_version w ↦ absurd (true≢false (sym yes ∙ (sym c.is_version.ensures ∙ w.if-is_version.false)))
+    ] in
+    let kept : makes_version result ≡ false → places ≡ old = λ no.
+    elim c.if-is_version.branch [
+      | then-is_version w ↦ absurd (true≢false (sym w.if-is_version.true ∙ (c.is_version.ensures ∙ no)))
+      | else-is_version w ↦ ap (λ (v : _). v.items) w.places-is
+    ] in
+    let whole : take end.result end.new.root.seen ≡ after =
+    ap (λ (r : RootModel Entry Setting). take end.result r.seen) t.root ∙ take_all end.result after (omega (arith, t.position)) in
+    subst (λ j. HandsOut o j c.of_turn.result old places) (sym whole)
+    (subst (λ (x : Answer). HandsOut o after x old places) (sym c.of_turn.ensures) (hands_out o journal after result old places seen a.entry told kept))
