@@ -141,12 +141,7 @@ impl Driver {
 
     /// Asks that the present coflows are ordered anew. It takes one turn, which may wait, and no memory. Where it is answered with a version, the list becomes the places of that
     /// version, and else it stays as it was. It has room for one place for each coflow.
-    pub fn publish_out<R: Wait>(
-        &mut self,
-        rt: &R,
-        hall: &Hall,
-        places: &mut Vec<Place>,
-    ) -> Answer
+    pub fn publish_out<R: Wait>(&mut self, rt: &R, hall: &Hall, places: &mut Vec<Place>) -> Answer
         requires own { IsDriverOf hall.now self.old }
         requires room { length hall.now.setting.opening.table.ids ≤ vec_capacity places.old }
         ensures turn { IsDriverTurn hall.now.setting.opening Publish 1 self.old self.new result }

@@ -60,9 +60,9 @@ returns c =
     let grows : seat.seen ≤ met_seat.seen = omega (arith, before, seen, ap version_of ends, version_append journal (adds who k (reply_of o journal k))) in
     let once : KeepsLooks seat c.match-command.seat = elim c.match-command.branch [
       | in-Publish w ↦ (
-          (0, version_of journal) ∷ [],
-          ap (λ (x : SeatModel). x.looks) w.seat-is ∙ ap (λ (x : SeatModel). x.looks) w.meet.ensures.seat,
-        )
+        (0, version_of journal) ∷ [],
+        ap (λ (x : SeatModel). x.looks) w.seat-is ∙ ap (λ (x : SeatModel). x.looks) w.meet.ensures.seat,
+      )
       | in_default w ↦ ([], ap (λ (x : SeatModel). x.looks) w.seat-is ∙ sym (append-nil seat.looks))
     ] in
     let looks : KeepsLooks seat met_seat = keeps_more seat c.match-command.seat met_seat ((0, version_of c.step-reply.new.self.journal) ∷ []) once

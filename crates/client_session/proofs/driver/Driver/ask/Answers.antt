@@ -62,5 +62,7 @@ returns g c =
     let turned = driver_turned d.root end.new.root d.rank d.left d.turned d.position end.result d.granted.items journal after c.self.invariant final e.list t.position e.numbers
     o k some seen above result a.entry full in
     let new = driver_model end.new.root d.rank (d.left - 1) end.result end.result in
-    record { turn = subst (λ (x : Answer). IsDriverTurn o k 1 c.args.self.now new x) (sym c.of_turn.ensures)
-        (subst (λ (s : DriverModel). IsDriverTurn o k 1 s new (answer_of result)) c.self.view_is turned); }
+    record {
+      turn = subst (λ (x : Answer). IsDriverTurn o k 1 c.args.self.now new x) (sym c.of_turn.ensures)
+          (subst (λ (s : DriverModel). IsDriverTurn o k 1 s new (answer_of result)) c.self.view_is turned);
+    }

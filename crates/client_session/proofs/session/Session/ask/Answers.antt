@@ -66,7 +66,7 @@ returns-in-Ok g c =
     journal after final goes some c.position-self-inside.ensures.position o c.args.command c.requires.kind seen c.self.invariant.position_is a.seat.0 a.seat.1 a.seat.2 a.seat.3
     c.in-Ok.receipt (a.entry c.in-Ok.receipt c.in-Ok.is) (a.met c.in-Ok.receipt c.in-Ok.is) in
     let new = model c.leave.new.seat c.answer-answer.new.seat number (c.self.inside.left - 1) c.position-self-inside.result in
-    record { turn = subst (λ (s : SessionModel). IsTurn o c.args.command s new (Done c.in-Ok.receipt)) c.self.view_is done; }
+    record { turn = subst (λ (s : SessionModel). IsTurn o c.args.command s new (Done c.in-Ok.receipt)) c.self.view_is done }
 
 pub returns-in-Err : goal.returns-in-Err
 returns-in-Err g c =
@@ -88,4 +88,4 @@ returns-in-Err g c =
     journal after final goes some c.position-self-inside.ensures.position o c.args.command c.requires.kind seen c.self.invariant.position_is a.seat.0 a.seat.1 a.seat.2 a.seat.3
     c.in-Err.entries f.0 f.1 limit in
     let new = model c.leave.new.seat c.answer-answer.new.seat number (c.self.inside.left - 1) c.position-self-inside.result in
-    record { turn = subst (λ (s : SessionModel). IsTurn o c.args.command s new (Full c.in-Err.entries)) c.self.view_is full; }
+    record { turn = subst (λ (s : SessionModel). IsTurn o c.args.command s new (Full c.in-Err.entries)) c.self.view_is full }
