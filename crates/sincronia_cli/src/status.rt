@@ -24,7 +24,8 @@ pub enum Status {
     BadWeights(WeightsFault),
     /// The file is no report. No text of a report has this line, counted from 1, after the lines before it.
     BadReport { line: u32 },
-    /// A counted quantity is outside its range. The count is told as 2^64 - 1 where it is greater.
+    /// A counted quantity is outside its range. The count is told as 2^64 - 1 where it is greater. Of the bytes of a text
+    /// and of flows it is one more than the limit.
     Limit { which: Quantity, count: u64 },
     /// A call to the shelf failed.
     ReadFault { count: u32 },
