@@ -1,0 +1,9 @@
+pub mod KeyOrders
+pub mod Permutations
+pub mod AllCoflows
+pub mod Greatest
+pub mod Noted
+pub mod OneRow
+pub mod ServedOrders
+pub mod Benches
+pub mod UnfitRows

@@ -1,0 +1,10 @@
+use Rattle.std.proofs.Common.{List, ℕ, length, subst}
+use Rattle.std.specs.List.Sorted.{IsPermutation}
+use Rattle.rankers.specs.ByKey.{key_in}
+use Rattle.rankers.proofs.KeyOrders.{by_key_one, sorted_by_key}
+use Rattle.rankers.proofs.by_key.fill_by_key.Goals as goal
+
+pub returns : goal.returns
+returns c = by_key_one (key_in c.args.keys.now) (length c.args.out.now) c.sort_by_key.new.numbers
+    (sorted_by_key (key_in c.args.keys.now) (length c.args.out.now) c.sort_by_key.new.numbers c.requires
+    (subst (λ (xs : List ℕ). IsPermutation xs c.sort_by_key.new.numbers) c.number.ensures c.sort_by_key.ensures.moved) c.sort_by_key.ensures.sorted)

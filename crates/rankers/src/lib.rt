@@ -1,0 +1,20 @@
+//! Rankers of coflows, asked side by side: what each of their orders costs on a trace, before and after they were told how the first one went.
+#![tactic(auto)]
+
+mod by_key;
+mod comparing;
+mod facts;
+mod kinds;
+pub mod laws;
+mod order;
+mod ranker;
+mod rounds;
+mod row;
+mod scoring;
+
+pub use comparing::compare;
+pub use facts::Facts;
+pub use kinds::{Attained, Bssi0, Fifo, Sebf};
+pub use order::{loads_of, order_of};
+pub use ranker::Ranker;
+pub use row::{Row, Scored};
