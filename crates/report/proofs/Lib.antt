@@ -1,5 +1,6 @@
 pub mod TextSteps
 pub mod MadeSteps
+pub mod BenchText
 pub mod LineText
 pub mod NumberText
 pub mod TextLengths
@@ -15,3 +16,4 @@ pub mod LastLine
 pub mod ReadingSteps
 pub mod TextLaws
 pub mod MadeOne
+pub mod BenchOne

@@ -72,7 +72,7 @@ run_one run h = both (codes "run" ++ spaced run.length) (flat_map spaced run.flo
 pub total_one : (word : List ℕ) (n : ℕ) → IsOneLine word → n < 2 ^ 128 → IsOneLine (word ++ spaced n)
 total_one word n h small = both word (spaced n) h (spaced_one n small)
 
-both_lines : (xs ys : List (List ℕ)) → AreLines xs → AreLines ys → AreLines (xs ++ ys)
+pub both_lines : (xs ys : List (List ℕ)) → AreLines xs → AreLines ys → AreLines (xs ++ ys)
 both_lines [] ys hx hy = hy
 both_lines (x ∷ xs) ys hx hy = (hx.0, both_lines xs ys hx.1 hy)
 
@@ -84,7 +84,7 @@ range_lines f (suc n) h =
     subst (λ m. AreLines (map f (range_with_len 0 m))) e
     (rw (map-range_with_len_more f 0 n n (zero-add n)) (more_lines (map f (range_with_len 0 n)) (f n) before (h n (omega arith))))
 
-runs_lines : (runs : List Run) → All IsRun runs → AreLines (map run_line runs)
+pub runs_lines : (runs : List Run) → All IsRun runs → AreLines (map run_line runs)
 runs_lines [] h = tt
 runs_lines (x ∷ xs) h = (run_one x (h 0 x (omega arith)), runs_lines xs (λ k d lt. h (suc k) d (omega arith)))
 

@@ -25,7 +25,7 @@ place_unique k p q w v sp sq e =
     charge_unique p q (weight_word w) (weight_word v) sp sq (weight_stops w) (weight_stops v)
     (append_cancel_left (spaced k) (charge_words p ++ weight_word w) (charge_words q ++ weight_word v) behind)
 
-runs_one : (xs ys : List Run) → All IsRun xs → All IsRun ys → map run_line xs ≡ map run_line ys → xs ≡ ys
+pub runs_one : (xs ys : List Run) → All IsRun xs → All IsRun ys → map run_line xs ≡ map run_line ys → xs ≡ ys
 runs_one [] [] hx hy e = refl
 runs_one [] (y ∷ ys) hx hy e = absurd cc
 runs_one (x ∷ xs) [] hx hy e = absurd cc

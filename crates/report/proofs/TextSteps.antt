@@ -29,15 +29,20 @@ place_step r k front text new old step =
     one_more_behind front text new (map (place_line_at r) (range_with_len 0 k)) (map (place_line_at r) (range_with_len 0 (k + 1))) (place_line_at r k) old step
     (map-range_with_len_more (place_line_at r) 0 k k (zero-add k))
 
+-- the line of one element more
+pub each_step : {X : Type 0} (line : X → List ℕ) (xs : List X) (k : ℕ) (x : X) (front text new : List ℕ) → k < length xs → x ≡ get_or xs k x →
+    text ≡ front ++ text_of (map line (take k xs)) → new ≡ text ++ ended (line x) → new ≡ front ++ text_of (map line (take (k + 1) xs))
+each_step line xs k x front text new lt here old step =
+    one_more_behind front text new (map line (take k xs)) (map line (take (k + 1) xs)) (line x) old step
+    (map_more line xs k x lt ∙ ap (λ y. map line (take k xs) ++ (line y ∷ [])) (sym here))
+
 -- the lines of one run more
 pub run_step : (runs : List Run) (k : ℕ) (run : Run) (front text new : List ℕ) → k < length runs → run ≡ get_or runs k run → text ≡ front ++ text_of (map run_line (take k runs)) →
     new ≡ text ++ ended (run_line run) → new ≡ front ++ text_of (map run_line (take (k + 1) runs))
-run_step runs k run front text new lt here old step =
-    one_more_behind front text new (map run_line (take k runs)) (map run_line (take (k + 1) runs)) (run_line run) old step
-    (map_more run_line runs k run lt ∙ ap (λ y. map run_line (take k runs) ++ (run_line y ∷ [])) (sym here))
+run_step = each_step run_line
 
 -- more lines stand at the end of the text
-lines_more : (lines more : List (List ℕ)) (text new : List ℕ) → text ≡ text_of lines → new ≡ text ++ text_of more → new ≡ text_of (lines ++ more)
+pub lines_more : (lines more : List (List ℕ)) (text new : List ℕ) → text ≡ text_of lines → new ≡ text ++ text_of more → new ≡ text_of (lines ++ more)
 lines_more lines more text new old step = step ∙ (ap (λ x. x ++ text_of more) old ∙ sym (flat_map-append ended lines more))
 
 -- the parts of a text in turn

@@ -4,3 +4,5 @@ pub mod Made
 pub mod Readers
 pub mod Reading
 pub mod Draft
+pub mod Compared
+pub mod Classed

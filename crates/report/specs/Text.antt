@@ -1,5 +1,5 @@
 -- The text of a report, line by line.
-use Rattle.std.specs.Prelude.{ℕ, ◌+◌, ◌++◌, List, [], ◌∷◌, Option, Some, None, length, map, codes, decimal}
+use Rattle.std.specs.Prelude.{ℕ, ◌+◌, ◌++◌, List, [], ◌∷◌, Option, Some, None, length, map, codes}
 use Rattle.std.specs.List.{flat_map, range_with_len, slice_index_or}
 pub use Rattle.coflow_units.specs.Text.{ended, spaced, text_of}
 use Rattle.coflow_units.specs.declared.fabric.Side.{Side}

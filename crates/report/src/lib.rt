@@ -1,7 +1,9 @@
-//! The texts of the program: the report of a plan, written and read strictly, and the summary of a made workload, written. Each value has one text, and each text
+//! The texts of the program: the report of a plan, written and read strictly, and the summary of a made workload, a comparison of rankers and the classes of a trace, written. Each value has one text, and each text
 //! stands for at most one value.
 #![tactic(auto)]
 
+mod classed;
+mod compared;
 mod draft;
 mod fault;
 pub mod laws;
@@ -13,6 +15,8 @@ mod reading;
 mod value;
 mod writing;
 
+pub use classed::{ClassText, Member, write_classes};
+pub use compared::{Compare, RowLine, RowText, write_compare};
 pub use fault::ReportFault;
 pub use made::{Made, write_made};
 pub use reading::read_report;

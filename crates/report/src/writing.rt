@@ -141,7 +141,7 @@ fn push_runs(text: &mut Vec<u8>, report: &Report) -> Result<(), NoMemory>
 }
 
 /// The line of a run.
-fn push_run(text: &mut Vec<u8>, run: &Run) -> Result<(), NoMemory>
+pub(crate) fn push_run(text: &mut Vec<u8>, run: &Run) -> Result<(), NoMemory>
     ensures { OnOk result (text.new.items ≡ text.old.items ++ ended (run_line run.now)) }
 {
     text.extend_from_slice(b"run")?;
