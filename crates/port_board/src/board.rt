@@ -27,6 +27,9 @@ use coflow_units::NoMemory;
 use std::alloc::Global;
 use std::marker::Model;
 
+#[cfg(test)]
+mod tests;
+
 // A port word is its state times 2^61, its slot times 2^20, and its flow.
 const STATE: u64 = 1 << 61;
 

@@ -13,6 +13,9 @@ use coflow_units::NoMemory;
 use std::alloc::Global;
 use std::marker::Model;
 
+#[cfg(test)]
+mod tests;
+
 // The place of the front.
 const FRONT: usize = 0;
 
