@@ -38,6 +38,7 @@ plan t --weights=w => Plan t - w 1 4 1024 1 8
 plan t --weights=-x => Plan t - -x 1 4 1024 1 8
 plan t --weights=-- => Plan t - -- 1 4 1024 1 8
 plan t --weights=a=b => Plan t - a=b 1 4 1024 1 8
+plan t --weights a=b => Plan t - a=b 1 4 1024 1 8
 plan t --weights =b => Plan t - =b 1 4 1024 1 8
 plan t --weights==b => Plan t - =b 1 4 1024 1 8
 plan t --unit 01 => Plan t - - 1 4 1024 1 8

@@ -54,10 +54,11 @@ end
 ";
 
 #[test]
-fn writes_the_greatest_numbers(rt: HostRuntime) -> Result<(), Fail> {
+fn writes_and_reads_the_greatest_numbers(rt: HostRuntime) -> Result<(), Fail> {
     let report = greatest(rt.alloc())?;
     let text = write_report(rt.alloc(), &report)?;
     assert!(rt; text.as_slice() == GREATEST.as_bytes());
+    assert_eq!(rt; refused_at(rt.alloc(), GREATEST)?, 0);
     Ok(())
 }
 
