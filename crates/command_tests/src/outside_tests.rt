@@ -49,7 +49,7 @@ fn files_of_the_system_are_read(rt: HostRuntime) -> Result<(), Fail> {
 
 #[test]
 fn the_standard_output_takes_a_text(rt: HostRuntime) -> Result<(), Fail> {
-    // No clause refuses a write that does not ask the output. What stands in the output is not looked at here.
+    // No clause refuses a write that fails without asking the output. What stands in the output is not looked at.
     let mut sink = StdSink::new(rt.stdout());
     write_all(&mut sink, REPORT)?;
     Ok(())
