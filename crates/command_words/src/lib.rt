@@ -8,4 +8,5 @@ mod values;
 mod words;
 
 pub use command::Command;
+pub use values::{is_file_name, setting_of};
 pub use words::{Words, WordsFault, read_words};

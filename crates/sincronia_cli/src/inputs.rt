@@ -119,7 +119,7 @@ fn equal_weights(alloc: Global, trace: &Trace) -> Result<Items<u64>, NoMemory>
 }
 
 /// Reads the report under a name. The error is the status that says why there is none.
-pub(crate) fn read_report_file<H: Shelf>(
+pub fn read_report_file<H: Shelf>(
     alloc: Global,
     name: &str,
     shelf: &mut H,

@@ -15,4 +15,6 @@ mod status;
 mod verdict_line;
 
 pub use command::sincronia;
+pub use inputs::{Input, read_input, read_report_file};
+pub use order::loads_of;
 pub use status::Status;

@@ -1,0 +1,5 @@
+pub mod Parser
+pub mod Words
+pub mod Status
+pub mod Picture
+pub mod Written

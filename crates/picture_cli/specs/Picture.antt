@@ -1,0 +1,116 @@
+-- The picture of a report.
+use Rattle.std.specs.Prelude.{◌≡◌, ℕ, ◌<◌, List, Option, Some, None, IfSome, length, map, min}
+use Rattle.std.specs.List.{range_with_len}
+use Rattle.coflow_units.specs.Completion.{completion}
+use Rattle.coflow_units.specs.Flows.{Instance}
+use Rattle.flow_table.specs.Table.{TableFacts, instance_of}
+use Rattle.outside.specs.Shelf.{Told}
+use Rattle.cert_check.specs.declared.verdict.Verdict.{Verdict}
+use Rattle.cert_check.specs.declared.verdict.Verdict.TheVariants as verdict
+use Rattle.cert_check.specs.declared.verdict.Reason.{Reason}
+use Rattle.cert_check.specs.Reasons.{IsVerdict}
+use Rattle.cert_check.specs.Sound.{IsSound}
+use Rattle.picture.specs.declared.value.BarsFault.TheVariants as bars_fault
+use Rattle.picture.specs.declared.value.Window.{Window}
+use Rattle.picture.specs.Bars.{IsBars, IsTooMany}
+use Rattle.picture.specs.Curve.{IsCurve}
+use Rattle.picture_text.specs.declared.value.Picture.{Picture}
+use Rattle.picture_text.specs.Heaviest.{IsHeaviest}
+use Rattle.picture_text.specs.Svg.{picture_text}
+use Rattle.report.specs.declared.value.Report.{Report}
+use Rattle.schedule_model.specs.RunList.{slots_in}
+use Rattle.sincronia_cli.specs.Causes.{HasFilesCause}
+use Rattle.sincronia_cli.specs.Check.{IsReportOf}
+use Rattle.sincronia_cli.specs.Ends.{IsWriteFault}
+use Rattle.sincronia_cli.specs.Inputs.{IsInput}
+use Rattle.sincronia_cli.specs.declared.status.Status.{Status}
+use Rattle.sincronia_cli.specs.declared.status.Status.TheVariants as status
+use Rattle.command_words.specs.Words.{Said}
+use Rattle.command_words.specs.declared.command.Command.TheVariants as command
+use Rattle.picture_cli.specs.Words.{PictureSaid}
+use Rattle.picture_cli.specs.declared.status.PictureStatus.{PictureStatus}
+use Rattle.picture_cli.specs.declared.status.PictureStatus.TheVariants.{Ended, No, NoSlots, Ok, TooManyBars}
+
+-- what `sincronia check` would be said with the same files
+abbrev pub check_of : PictureSaid → Said
+check_of said = record {
+  command = command.Check;
+  first = said.trace;
+  second = Some said.report;
+  weights = said.weights;
+  unit = said.unit;
+  agents = 4;
+  epoch = 1024;
+  run = 1;
+  slot_ms = 8;
+}
+
+-- the window that is drawn: its last slot is at most the last one of the schedule
+abbrev pub window_of : PictureSaid → Report → Window
+window_of said r = record {
+  side = said.side;
+  first = said.from;
+  last = min said.to (length (slots_in r.runs));
+}
+
+-- The picture shows the report: the bars of its schedule in the window, the completions of all coflows of the table as a
+-- curve, the ids and the weights, the coflows with the most weight, and the stated cost and bound.
+pub record IsPictureOf (t : TableFacts) (ws : List ℕ) (r : Report) (said : PictureSaid) (p : Picture) : Type 0
+  where
+    pub window_is : p.window ≡ window_of said r
+    pub bars : IsBars t.flows (slots_in r.runs) t.ports p.window p.rows
+    pub curve : IsCurve (map (λ c. completion t.flows (slots_in r.runs) c) (range_with_len 0 (length t.ids))) p.steps
+    pub ids_are : p.ids ≡ t.ids
+    pub weights_are : p.weights ≡ ws
+    pub heaviest : IsHeaviest ws p.heavy
+    pub cost_is : p.cost ≡ r.cost
+    pub bound_is : p.bound ≡ r.bound
+
+-- why a right report has no picture
+abbrev pub HasNoPicture : TableFacts → Report → PictureSaid → PictureStatus → Type 0
+HasNoPicture t r said (NoSlots first last) =
+    (first ≡ (window_of said r).first) × (last ≡ (window_of said r).last) × (last < first)
+HasNoPicture t r said (TooManyBars bars) =
+    IsTooMany t.flows (slots_in r.runs) t.ports (window_of said r) (bars_fault.TooMany bars)
+HasNoPicture t r said (Ended s) = s ≡ status.NoMemory
+HasNoPicture t r said s = ⊥
+
+-- why a report has no picture: the answer of its check is no, or, where it is yes, one of those
+abbrev pub HasVerdictCause : TableFacts → List ℕ → Report → PictureSaid → PictureStatus → Type 0
+HasVerdictCause t ws r said No = (reason : Reason) × IsVerdict (instance_of t ws) t.ids r (verdict.No reason)
+HasVerdictCause t ws r said (Ended s) = s ≡ status.NoMemory
+HasVerdictCause t ws r said s = IsVerdict (instance_of t ws) t.ids r verdict.Yes × HasNoPicture t r said s
+
+-- the instance that the files give, the report, and the verdict on it
+pub record Judged (told : Option Told) (said : PictureSaid) (answer : Verdict) : Type 0 where
+  pub table : TableFacts
+  pub list : List ℕ
+  pub input : IsInput told said.trace said.weights said.unit table list
+  pub report : Report
+  pub report_is : IsReportOf told said.report report
+  pub verdict_is : IsVerdict (instance_of table list) table.ids report answer
+
+-- The report of the files is right, and this is the text of its picture.
+pub record Draws (told : Option Told) (said : PictureSaid) (text : List ℕ) : Type 0 where
+  pub judged : Judged told said verdict.Yes
+  pub right : IsSound (instance_of judged.table judged.list) judged.table.ids judged.report
+  pub picture : Picture
+  pub shows : IsPictureOf judged.table judged.list judged.report said picture
+  pub text_is : text ≡ picture_text picture
+
+-- The cause of a status that comes before anything is written.
+-- The shelf had and has these counts of faults, and told and tells these files.
+abbrev pub HasPictureCause : ℕ → ℕ → Option Told → Option Told → PictureSaid → PictureStatus → Type 0
+HasPictureCause before now old new said No = (reason : Reason) × Judged old said (verdict.No reason)
+HasPictureCause before now old new said (NoSlots first last) =
+    (j : Judged old said verdict.Yes) × HasNoPicture j.table j.report said (NoSlots first last)
+HasPictureCause before now old new said (TooManyBars bars) =
+    (j : Judged old said verdict.Yes) × HasNoPicture j.table j.report said (TooManyBars bars)
+HasPictureCause before now old new said (Ended s) = HasFilesCause before now old new (check_of said) s
+HasPictureCause before now old new said s = ⊥
+
+-- there was a picture to be written
+abbrev pub HasPicture : PictureStatus → Type 0
+HasPicture Ok = Unit {0}
+HasPicture (Ended s) = IsWriteFault s
+HasPicture s = ⊥

@@ -1,0 +1,34 @@
+-- Exit codes, and the line on standard error.
+use Rattle.std.specs.Prelude.{◌≡◌, ℕ, ◌++◌, List, [], codes, decimal}
+use Rattle.picture.specs.declared.value.BarsFault.{BarsFault}
+use Rattle.picture.specs.declared.value.BarsFault.TheVariants as bars_fault
+use Rattle.sincronia_cli.specs.Code.{code_of as code_of_status}
+use Rattle.sincronia_cli.specs.Messages.{status_text}
+use Rattle.sincronia_cli.specs.declared.status.Status.TheVariants as status
+use Rattle.picture_cli.specs.declared.status.PictureStatus.{PictureStatus}
+use Rattle.picture_cli.specs.declared.status.PictureStatus.TheVariants.{Ok, No, Usage, NoSlots, TooManyBars, Ended}
+
+-- the exit code of a status
+abbrev pub code_of : PictureStatus → ℕ
+code_of Ok = 0
+code_of No = 1
+code_of Usage = 2
+code_of (NoSlots first last) = 2
+code_of (TooManyBars bars) = 7
+code_of (Ended s) = code_of_status s
+
+-- the status says the fault
+abbrev pub IsStatusOfBars : BarsFault → PictureStatus → Type 0
+IsStatusOfBars (bars_fault.TooMany bars) s = s ≡ TooManyBars bars
+IsStatusOfBars bars_fault.NoMemory s = s ≡ Ended status.NoMemory
+
+-- what is printed on standard error behind the program's name
+abbrev pub line_of : PictureStatus → List ℕ
+line_of Ok = []
+line_of No = codes "report: not right for this trace and these weights; sincronia check says why"
+line_of Usage = codes "usage: sincronia_picture TRACE REPORT [--weights FILE] [--unit MEGABYTES] [--from SLOT] " ++
+    codes "[--to SLOT] [--side in|out]"
+line_of (NoSlots first last) = codes "window: no slot from " ++ decimal first ++ codes " to " ++ decimal last
+line_of (TooManyBars bars) = codes "limit: bars " ++ decimal bars ++
+    codes ", at most 262144 are drawn; choose a window with --from and --to"
+line_of (Ended s) = status_text s

@@ -1,0 +1,72 @@
+//! The job of drawing, from the words to the written picture.
+ghost use Rattle.std.specs.Prelude.{◌≡◌, ◌≢◌, ℕ};
+ghost use Rattle.cert_check.specs.declared.verdict.Reason.{Reason};
+ghost use Rattle.cert_check.specs.declared.verdict.Verdict.{Verdict};
+ghost use Rattle.command_words.specs.Line.{texts};
+ghost use Rattle.outside.specs.Rose.{Rose};
+ghost use Rattle.sincronia_cli.specs.Ends.{IsWriteFault};
+ghost use Rattle.sincronia_cli.specs.Shelves.{KeepsFiles};
+ghost use Rattle.sincronia_cli.specs.declared.status.Status.{Status};
+ghost use Rattle.picture_cli.specs.Picture.{HasPicture, HasPictureCause};
+ghost use Rattle.picture_cli.specs.Words.{IsPictureWords, PictureSaid};
+ghost use Rattle.picture_cli.specs.Written.{WritesFront, WritesPicture};
+
+use crate::drawing::draw;
+use crate::status::PictureStatus;
+use crate::words::read_words;
+use command_words::WordsFault;
+use outside::{Shelf, Sink, write_all};
+use sincronia_cli::Status;
+use std::alloc::Global;
+
+/// Draws the picture that the words ask for, and writes it to the sink.
+///
+/// The words are `TRACE REPORT`, and options before, between or behind them, each at most once: `--weights FILE` and `--unit MEGABYTES` as for `sincronia check`;
+/// `--from SLOT` and `--to SLOT`, the first and the last slot that are shown, which are those of the schedule without them; and `--side in` or `--side out`, whose
+/// ports are shown, ingress ports without it.
+///
+/// The trace, the weights and the report are read in this order, and the first fault ends the job. The report is checked as `sincronia check` does it.
+///
+/// The statuses are:
+/// - `Ok`: the picture was written whole.
+/// - `No`: the answer of the check is no.
+/// - `Usage`: the words are no command line.
+/// - `NoSlots`: the report is right, and the window has none of its slots.
+/// - `TooManyBars`: the report is right, and there would be so many bars, or 2^64 - 1 where there would be more than that.
+/// - `Ended`: as `sincronia check` ends before it writes, or at a fault of the sink, or where no memory was to be had.
+///
+/// Nothing was written but at `Ok`, and at a fault of the sink, where a beginning of the picture was written. The files on the shelf are as before.
+pub fn sincronia_picture<H: Shelf, K: Sink>(
+    alloc: Global,
+    words: &[String],
+    shelf: &mut H,
+    out: &mut K,
+) -> PictureStatus
+    ensures picture { result ≡ PictureStatus.Ok → (said : PictureSaid) × IsPictureWords (texts words.now) said ×
+        WritesPicture (H.told shelf.old) said (K.taken out.old) (K.taken out.new) }
+    ensures usage { result ≡ PictureStatus.Usage → (said : PictureSaid) → IsPictureWords (texts words.now) said → ⊥ }
+    ensures cause { result ≢ PictureStatus.Usage → result ≢ PictureStatus.Ended Status.NoMemory →
+        (HasPicture result → ⊥) → (said : PictureSaid) × IsPictureWords (texts words.now) said ×
+        HasPictureCause (H.faults shelf.old) (H.faults shelf.new) (H.told shelf.old) (H.told shelf.new) said result }
+    ensures write { (count : ℕ) → result ≡ PictureStatus.Ended (Status.WriteFault count) →
+        (count ≡ 1) × Rose (K.faults out.old) (K.faults out.new) }
+    ensures beginning { (count : ℕ) → result ≡ PictureStatus.Ended (Status.WriteFault count) →
+        (said : PictureSaid) × IsPictureWords (texts words.now) said ×
+        WritesFront (H.told shelf.old) said (K.taken out.old) (K.taken out.new) }
+    ensures keeps { KeepsFiles (H.told shelf.old) (H.told shelf.new) }
+    ensures unwritten { (HasPicture result → ⊥) → K.taken out.new ≡ K.taken out.old }
+{
+    let words = match read_words(alloc, words) {
+        Ok(words) => words,
+        Err(WordsFault::Usage) => return PictureStatus::Usage,
+        Err(WordsFault::NoMemory) => return PictureStatus::Ended(Status::NoMemory),
+    };
+    let text = match draw(alloc, words, shelf) {
+        Ok(text) => text,
+        Err(status) => return status,
+    };
+    let Ok(()) = write_all(out, &text) else {
+        return PictureStatus::Ended(Status::WriteFault { count: 1 });
+    };
+    PictureStatus::Ok
+}

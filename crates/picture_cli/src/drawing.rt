@@ -1,0 +1,192 @@
+//! The picture of a report.
+ghost use Rattle.std.specs.Prelude.{◌≡◌, ◌≤◌, ◌^◌, All, IfErr, IfOk, length, min};
+ghost use Rattle.coflow_units.specs.declared.limits.TheConstants.{MAX_SLOT, MAX_WEIGHT};
+ghost use Rattle.cert_check.specs.declared.verdict.Verdict.{Verdict};
+ghost use Rattle.cert_check.specs.declared.verdict.Reason.{Reason};
+ghost use Rattle.cert_check.specs.Reasons.{IsVerdict};
+ghost use Rattle.cert_check.specs.Sound.{IsSound};
+ghost use Rattle.flow_table.specs.Table.{instance_of};
+ghost use Rattle.picture_text.specs.declared.value.Picture.{Picture};
+ghost use Rattle.picture_text.specs.Layout.{IsDrawable};
+ghost use Rattle.picture_text.specs.Svg.{picture_text};
+ghost use Rattle.report.specs.Report.{IsReport};
+ghost use Rattle.schedule_model.specs.RunList.{slots_in};
+ghost use Rattle.sincronia_cli.specs.Shelves.{KeepsFiles};
+ghost use Rattle.picture_cli.specs.Picture.{Draws, HasNoPicture, HasPictureCause, HasVerdictCause, IsPictureOf, window_of};
+ghost use Rattle.picture_cli.specs.Words.{said_by};
+
+use crate::status::PictureStatus;
+use crate::words::PictureWords;
+use cert_check::{Verdict, check};
+use coflow_units::{Items, NoMemory, Run};
+use flow_table::Table;
+use outside::Shelf;
+use picture::{Window, bars_of, curve_of};
+use picture_text::{Picture, heaviest, write_picture};
+use report::Report;
+use schedule_model::completions_of_runs;
+use sincronia_cli::{Input, loads_of, read_input, read_report_file};
+use std::alloc::Global;
+
+/// The picture that the words ask for as a text, or the status of why there is none.
+pub(crate) fn draw<'a, H: Shelf>(
+    alloc: Global,
+    words: PictureWords<'a>,
+    shelf: &mut H,
+) -> Result<Vec<u8>, PictureStatus>
+    requires some { 1 ≤ words.unit }
+    requires unit_limit { words.unit ≤ 2 ^ 20 }
+    requires from { 1 ≤ words.from }
+    ensures drawn { IfOk result (λ text. Draws (H.told shelf.old) (said_by words.entry) text.items) }
+    ensures cause { IfErr result (HasPictureCause (H.faults shelf.old) (H.faults shelf.new) (H.told shelf.old)
+        (H.told shelf.new) (said_by words.entry)) }
+    ensures keeps { KeepsFiles (H.told shelf.old) (H.told shelf.new) }
+{
+    let input = read_input(alloc, words.trace, words.weights, words.unit, shelf)?;
+    let report = read_report_file(alloc, words.report, shelf)?;
+    let text = picture_of(alloc, words, &input, &report)?;
+    Ok(text)
+}
+
+/// The text of the picture of a report, which is checked first.
+fn picture_of<'a>(
+    alloc: Global,
+    words: PictureWords<'a>,
+    input: &Input,
+    report: &Report,
+) -> Result<Vec<u8>, PictureStatus>
+    requires count { length input.now.weights ≡ length input.now.table.ids }
+    requires weights { All (λ w. w ≤ MAX_WEIGHT) input.now.weights }
+    requires report { IsReport report.now }
+    requires from { 1 ≤ words.from }
+    ensures drawn { IfOk result (λ text.
+        IsVerdict (instance_of input.now.table input.now.weights) input.now.table.ids report.now Verdict.Yes ×
+        IsSound (instance_of input.now.table input.now.weights) input.now.table.ids report.now × (p : Picture) ×
+        IsPictureOf input.now.table input.now.weights report.now (said_by words.entry) p ×
+        (text.items ≡ picture_text p)) }
+    ensures cause { IfErr result (HasVerdictCause input.now.table input.now.weights report.now (said_by words.entry)) }
+{
+    let loads = loads_of(alloc, &input.table)?;
+    let verdict = check(
+        alloc,
+        &input.table,
+        &loads,
+        input.weights.as_slice(),
+        report,
+    )?;
+    match verdict {
+        Verdict::Yes => draw_right(alloc, words, input, report),
+        Verdict::No(_) => Err(PictureStatus::No),
+    }
+}
+
+/// The text of the picture of a right report.
+fn draw_right<'a>(
+    alloc: Global,
+    words: PictureWords<'a>,
+    input: &Input,
+    report: &Report,
+) -> Result<Vec<u8>, PictureStatus>
+    requires count { length input.now.weights ≡ length input.now.table.ids }
+    requires weights { All (λ w. w ≤ MAX_WEIGHT) input.now.weights }
+    requires report { IsReport report.now }
+    requires right { IsSound (instance_of input.now.table input.now.weights) input.now.table.ids report.now }
+    requires from { 1 ≤ words.from }
+    ensures drawn { IfOk result (λ text. (p : Picture) ×
+        IsPictureOf input.now.table input.now.weights report.now (said_by words.entry) p ×
+        (text.items ≡ picture_text p)) }
+    ensures cause { IfErr result (HasNoPicture input.now.table report.now (said_by words.entry)) }
+{
+    let picture = picture_in(alloc, words, input, report)?;
+    let text = write_picture(alloc, &picture)?;
+    Ok(text)
+}
+
+/// The picture of a right report.
+fn picture_in<'a>(
+    alloc: Global,
+    words: PictureWords<'a>,
+    input: &Input,
+    report: &Report,
+) -> Result<Picture, PictureStatus>
+    requires count { length input.now.weights ≡ length input.now.table.ids }
+    requires weights { All (λ w. w ≤ MAX_WEIGHT) input.now.weights }
+    requires report { IsReport report.now }
+    requires right { IsSound (instance_of input.now.table input.now.weights) input.now.table.ids report.now }
+    requires from { 1 ≤ words.from }
+    ensures shows { IfOk result
+        (IsPictureOf input.now.table input.now.weights report.now (said_by words.entry)) }
+    ensures drawable { IfOk result IsDrawable }
+    ensures cause { IfErr result (HasNoPicture input.now.table report.now (said_by words.entry)) }
+{
+    let runs = report.runs.as_slice();
+    let window = window_in(words, runs);
+    if window.last < window.first {
+        return Err(PictureStatus::NoSlots {
+            first: window.first,
+            last: window.last,
+        });
+    }
+    let table = &input.table;
+    let rows = bars_of(alloc, table.flows(), table.ports(), runs, window)?;
+    let ends = completions_of_runs(alloc, table.flows(), table.coflows(), runs)?;
+    let steps = curve_of(alloc, &ends)?;
+    let ids = ids_of(alloc, table)?;
+    let weights = copy_of(alloc, input.weights.as_slice())?;
+    let heavy = heaviest(alloc, input.weights.as_slice())?;
+    Ok(Picture {
+        window,
+        rows: Items::from_vec(rows),
+        steps: Items::from_vec(steps),
+        ids,
+        weights,
+        heavy: Items::from_vec(heavy),
+        cost: report.cost,
+        bound: report.bound,
+    })
+}
+
+/// The window that is drawn of a schedule.
+fn window_in<'a>(words: PictureWords<'a>, runs: &[Run]) -> Window
+    requires { length (slots_in runs.now) ≤ MAX_SLOT }
+    ensures side { result.side ≡ (said_by words.entry).side }
+    ensures first { result.first ≡ (said_by words.entry).from }
+    ensures last { result.last ≡ min (said_by words.entry).to (length (slots_in runs.now)) }
+{
+    Window {
+        side: words.side,
+        first: words.from,
+        last: words.to.min(slots_of(runs)),
+    }
+}
+
+/// How many slots the runs have.
+fn slots_of(runs: &[Run]) -> u64
+    requires { length (slots_in runs.now) ≤ MAX_SLOT }
+    ensures { result ≡ length (slots_in runs.now) }
+{
+    let mut slots = 0;
+    for run in runs {
+        slots += run.length;
+    }
+    slots
+}
+
+/// The ids of the coflows, by number.
+fn ids_of(alloc: Global, table: &Table) -> Result<Items<u32>, NoMemory>
+    ensures { IfOk result (λ ids. ids ≡ table.now.ids) }
+{
+    let mut ids = Vec::new(alloc);
+    for coflow in 0..table.coflows() {
+        ids.push(table.id(coflow))?;
+    }
+    Ok(Items::from_vec(ids))
+}
+
+/// The same weights.
+fn copy_of(alloc: Global, weights: &[u64]) -> Result<Items<u64>, NoMemory>
+    ensures { IfOk result (λ copy. copy ≡ weights.now) }
+{
+    let copy = Vec::from_slice(alloc, weights)?;
+    Ok(Items::from_vec(copy))
+}

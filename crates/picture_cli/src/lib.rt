@@ -1,0 +1,12 @@
+//! The program that draws plans: from the words of a command line and the bytes of a trace and a report to the bytes of a picture.
+#![tactic(auto)]
+
+mod command;
+mod drawing;
+mod messages;
+mod parser;
+mod status;
+mod words;
+
+pub use command::sincronia_picture;
+pub use status::PictureStatus;

@@ -1,0 +1,84 @@
+//! The words as one simple command.
+ghost use Rattle.std.specs.Prelude.{◌≡◌, ◌≢◌, ◌↔◌, Err, IfOk, [], codes, false};
+ghost use Rattle.clap.specs.Words.{app_of, fault_of, found_of, rule_of, with_rule};
+ghost use Rattle.command_words.specs.Line.{texts};
+ghost use Rattle.command_words.specs.Parser.{needed_rule, option_rule};
+ghost use Rattle.command_words.specs.declared.words.WordsFault.TheVariants.{Usage};
+ghost use Rattle.picture_cli.specs.Parser.{IsFound, app, app_with_names};
+
+use clap::error::ErrorKind;
+use clap::{Arg, ArgAction, ArgMatches, Command};
+use command_words::WordsFault;
+use std::alloc::{AllocError, Global};
+
+/// What the words give each argument. `Usage` comes where a word is refused, an argument is used twice, or TRACE or REPORT is missing.
+pub(crate) fn matches_of<'a>(
+    alloc: Global,
+    words: &'a [String],
+) -> Result<ArgMatches<'a>, WordsFault>
+    ensures found { IfOk result (λ m. IsFound (texts words.entry.now) (found_of m)) }
+    ensures usage { result ≡ Err Usage → fault_of app (texts words.entry.now) ≢ [] }
+{
+    let Ok(command) = picture_command(alloc) else {
+        return Err(WordsFault::NoMemory);
+    };
+    match command.try_get_matches_from(words) {
+        Ok(matches) => Ok(matches),
+        Err(error) => Err(fault_by(error.kind())),
+    }
+}
+
+/// The fault of an error of the parser. Each kind but want of memory is `Usage`.
+fn fault_by(kind: ErrorKind) -> WordsFault
+    ensures { result ≡ Usage ↔ kind ≢ ErrorKind.OutOfMemory }
+{
+    match kind {
+        ErrorKind::OutOfMemory => WordsFault::NoMemory,
+        _ => WordsFault::Usage,
+    }
+}
+
+/// The command.
+fn picture_command<'a>(alloc: Global) -> Result<Command<'a>, AllocError>
+    ensures { IfOk result (λ c. app_of c ≡ app) }
+{
+    let command = command_with_names(alloc)?;
+    let command = with_arg(command, option_named(alloc, "weights"))?;
+    let command = with_arg(command, option_named(alloc, "unit"))?;
+    let command = with_arg(command, option_named(alloc, "from"))?;
+    let command = with_arg(command, option_named(alloc, "to"))?;
+    let command = with_arg(command, option_named(alloc, "side"))?;
+    Ok(command)
+}
+
+fn command_with_names<'a>(alloc: Global) -> Result<Command<'a>, AllocError>
+    ensures { IfOk result (λ c. app_of c ≡ app_with_names) }
+{
+    let command = Command::new(alloc, "sincronia_picture")
+        .disable_help_flag(true)
+        .disable_version_flag(true);
+    let command = with_arg(command, needed_name(alloc, "TRACE"))?;
+    let command = with_arg(command, needed_name(alloc, "REPORT"))?;
+    Ok(command)
+}
+
+fn with_arg<'a>(command: Command<'a>, arg: Arg<'a>) -> Result<Command<'a>, AllocError>
+    requires { arg.global ≡ false }
+    ensures { IfOk result (λ c. app_of c ≡ with_rule (app_of command.entry) (rule_of arg.entry)) }
+{
+    command.arg(arg)
+}
+
+fn needed_name<'a>(alloc: Global, name: &'a str) -> Arg<'a>
+    ensures rule { rule_of result ≡ needed_rule name.entry.now }
+    ensures local { result.global ≡ false }
+{
+    Arg::new(alloc, name).action(ArgAction::Set).required(true)
+}
+
+fn option_named<'a>(alloc: Global, name: &'a str) -> Arg<'a>
+    ensures rule { rule_of result ≡ option_rule name.entry.now }
+    ensures local { result.global ≡ false }
+{
+    Arg::new(alloc, name).long(name).action(ArgAction::Set)
+}
