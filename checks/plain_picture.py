@@ -105,7 +105,8 @@ def renders(text):
     """Whether the renderer makes an image of the picture, where there is one."""
     if RENDERER is None:
         return True
-    return subprocess.run([RENDERER, "-o", os.devnull], input=text.encode(), capture_output=True, timeout=60).returncode == 0
+    made = subprocess.run([RENDERER], input=text.encode(), capture_output=True, timeout=60)
+    return made.returncode == 0 and made.stdout.startswith(b"\x89PNG")
 
 
 def fault_of(folder, ports, coflows, unit, r):
