@@ -38,14 +38,14 @@ use std::alloc::Global;
 /// - `plan TRACE` reads the file of that name on the shelf and writes the plan of its trace. With `--weights FILE` the
 ///   coflows have the weights of that file, and else weight 1 each; with `--unit MEGABYTES` a unit has so many
 ///   megabytes, and else one. The plan is that of the order by bottleneck, select, scale, iterate: a report of version 2
-///   with the order's places, a lower bound on the cost of every schedule with its slack, the schedule that serves the
-///   order, and its cost, which is at most four times the bound and the slack. (Sincronia: Agarwal, Rajakrishnan,
+///   with the order's places, a lower bound on the cost of every valid schedule with its slack, the schedule that
+///   serves the order, and its cost, which is at most four times the bound and the slack. (Sincronia: Agarwal, Rajakrishnan,
 ///   Narayan, Agarwal, Shmoys and Vahdat, SIGCOMM 2018.)
 /// - `check TRACE REPORT` reads a report of a plan of that trace, by whomever made, and writes one line: yes with its
 ///   totals where all that it says is right, and else no with the first reason. `--weights` and `--unit` are as for
 ///   `plan`. A yes says that the stated bound is at most the cost of every valid schedule.
-/// - `make SEED` makes a trace and weights from a number, plans them as `plan` does, reads its own report back, checks
-///   it, and writes a summary. It reads no file.
+/// - `make SEED` makes a trace and weights from a number, plans them as `plan` does, and writes a summary of the plan,
+///   whose report is right. It reads no file.
 ///
 /// Files are looked at one after another, and the first fault ends the job: the trace is read, and then its grammar is
 /// tested; so are the weights; then the table of flows is made; then the report is read, and its grammar is tested. A
