@@ -3,8 +3,11 @@ pub mod WaitSteps
 pub mod BoardSteps
 pub mod LookSteps
 pub mod SettleSteps
+pub mod BitSteps
+pub mod PassSteps
 pub mod HeadSteps
 pub mod EndSteps
+pub mod RowSteps
 pub mod RankSteps
 pub mod ListSteps
 pub mod MatchingSteps

@@ -1,5 +1,5 @@
 -- The grants that are kept, from the flows of a line to the list of those that are granted.
-use Rattle.std.proofs.Common.{◌≡◌, ◌≢◌, ℕ, ◌+◌, ◌-◌, ◌^◌, ◌≤◌, ◌<◌, inl, inr, List, length, get_or, take, Contains, refl, sym, ap, subst, ◌∙◌, arith}
+use Rattle.std.proofs.Common.{◌≡◌, ◌≢◌, ℕ, ◌+◌, ◌^◌, ◌≤◌, ◌<◌, inl, inr, List, length, get_or, take, Contains, refl, sym, ap, subst, ◌∙◌, arith}
 use Rattle.std.specs.Prelude.{All}
 use Rattle.std.specs.List.Sorted.{IsStrictlyIncreasing}
 use Rattle.std.proofs.lemmas.List.{get_or-take, length-take, length-take-le}
@@ -17,6 +17,7 @@ use Rattle.matching.specs.Ranking.{number_of, IsRanking}
 use Rattle.matching.specs.Sound.{IsSound, left_at}
 use Rattle.matching.proofs.BoardSteps.{stands_at}
 use Rattle.matching.proofs.EndSteps.{IsSameOwing, same_heads}
+use Rattle.matching.proofs.RowSteps.{same_rows}
 use Rattle.matching.proofs.RankSteps.{distinct_below}
 
 -- ---- the list
@@ -99,6 +100,7 @@ begun_sound flows line left m b =
       heads = same_heads m.ranks.ports g (λ r. r + 1) (left_at m) m.heads.least.items same b.heads;
       chain = b.chain;
       behind = λ r s less ls _ _ _. owes s ls;
+      rows = same_rows m.ranks.ports g (λ r. r + 1) (left_at m) m.heads.rows same b.rows;
       board = record {
         size = b.size;
         own = λ p lt. inl (b.none p lt);
@@ -113,6 +115,7 @@ begun_sound flows line left m b =
         rest = λ r lt some. inr (inl (b.all (g.first r) (omega (arith, first_low r lt))));
       };
       top = λ r s hr ls _ _ _. absurd (omega (arith, hr.0, b.ranks.graph.few, hr.1, b.none (g.first r) (omega (arith, first_low r hr.0))));
+      settled = λ r low. absurd (omega (arith, low, b.start));
     }
 
 pub begun_matching : (flows : List Flow) (line : List ℕ) (left : ℕ → ℕ) (m : Tables) → IsBegun flows line left m → IsMatching flows line left m

@@ -3,9 +3,11 @@ use Rattle.std.proofs.Common.{◌≡◌, ℕ, ◌+◌, ◌*◌, ◌^◌, ◌≤�
 use Rattle.std.proofs.lemmas.List.{get_or-replicate, length-replicate}
 use Rattle.std.proofs.lemmas.Nat.{mul-add-lt}
 use Rattle.matching.specs.declared.tables.Tables.{Tables}
-use Rattle.matching.specs.Board.{no_rank}
+use Rattle.matching.specs.Board.{graph_of, no_rank}
 use Rattle.matching.specs.Matching.{HasRoom, IsSameRoom, IsWhole}
-use Rattle.matching.specs.Sound.{IsSound}
+use Rattle.matching.specs.Rows.{IsBlank, IsShaped}
+use Rattle.matching.specs.Sound.{IsSound, left_at}
+use Rattle.matching.proofs.RowSteps.{no_rows}
 
 pub room_again : (old mid new : Tables) → IsSameRoom old mid → IsSameRoom mid new → IsSameRoom old new
 room_again old mid new a b = record {
@@ -42,6 +44,10 @@ pub record IsEmpty (m : Tables) (flows : ℕ) : Type 0 where
   pub board : m.board.at.items ≡ replicate (m.ranks.ports + m.ranks.ports) no_rank
   pub waiting : m.board.waiting.room ≡ m.ranks.ports + m.ranks.ports
   pub listed : length m.listed.items ≡ m.ranks.ports
+  pub shape : IsShaped m.ranks.ports m.heads.rows
+  pub blank : IsBlank m.heads.rows
+  pub rowless : m.heads.rows.count ≡ 0
+  pub rowless' : m.heads.rows.ranked ≡ 0
 
 filled_with : (xs : List ℕ) (n k : ℕ) → xs ≡ replicate n no_rank → k < n → get_or xs k 0 ≡ no_rank
 filled_with xs n k e lt = ap (λ ys. get_or ys k 0) e ∙ get_or-replicate n k no_rank 0 lt
@@ -69,6 +75,7 @@ empty_whole m flows e = record {
     };
     chain = record { fits = omega (arith, e.none); next_is = λ r from lt. absurd (omega (arith, lt, e.none)) };
     behind = λ r s less lt. absurd (omega (arith, lt, e.none));
+    rows = no_rows m.ranks.ports (graph_of m.ranks) (left_at m) m.heads.rows e.shape e.blank e.rowless e.rowless';
     board = record {
       size = ap (λ (xs : List ℕ). length xs) e.board ∙ length-replicate (ports + ports) no_rank;
       own = λ p lt. inl (filled_with m.board.at.items (ports + ports) p e.board lt);
@@ -83,6 +90,7 @@ empty_whole m flows e = record {
       rest = λ r lt. absurd (omega (arith, lt, e.none));
     };
     top = λ r s has. absurd (omega (arith, has.0, e.none));
+    settled = λ r low lt. absurd (omega (arith, lt, e.none));
   };
   room = record {
     few_ports = e.few_ports;

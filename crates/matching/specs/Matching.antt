@@ -10,6 +10,7 @@ use Rattle.matching.specs.Kept.{IsLined}
 use Rattle.matching.specs.Board.{IsRanks, first_of, graph_of, no_rank}
 use Rattle.matching.specs.Heads.{IsChain, IsHeads}
 use Rattle.matching.specs.Ranking.{IsRanking, number_of}
+use Rattle.matching.specs.Rows.{IsRows}
 use Rattle.matching.specs.Sound.{IsSound, left_at, rank_at}
 
 -- for how many flows there is room
@@ -56,6 +57,8 @@ pub record IsBegun (flows : List Flow) (line : List ℕ) (left : ℕ → ℕ) (m
   pub units : (r : ℕ) → r < m.ranks.count → left_at m r ≡ left (number_of m.ranks r)
   pub heads : IsHeads m.ranks.ports (graph_of m.ranks) (λ r. r + 1) m.heads.least.items
   pub chain : IsChain (graph_of m.ranks) m.heads.next.items 0
+  pub rows : IsRows m.ranks.ports (graph_of m.ranks) (λ r. r + 1) m.heads.rows
+  pub start : m.settled ≡ 0
   pub size : length m.board.at.items ≡ m.ranks.ports + m.ranks.ports
   pub none : (p : ℕ) → p < m.ranks.ports + m.ranks.ports → rank_at m p ≡ no_rank
   pub room : m.board.waiting.room ≡ m.ranks.ports + m.ranks.ports

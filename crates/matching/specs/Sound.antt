@@ -1,9 +1,10 @@
 -- Kept grants with their tables.
 use Rattle.std.specs.Prelude.{◌≡◌, ℕ, ◌+◌, ◌-◌, ◌*◌, ◌^◌, ◌<◌, ◌≤◌, length, slice_index}
 use Rattle.matching.specs.declared.tables.Tables.{Tables}
-use Rattle.matching.specs.Kept.{Graph, IsKept}
+use Rattle.matching.specs.Kept.{Graph, IsCovered, IsKept}
 use Rattle.matching.specs.Board.{graph_of, IsRanks, IsBoard, Stands, total_weight}
 use Rattle.matching.specs.Heads.{IsHeads, IsChain, IsOwingBehind}
+use Rattle.matching.specs.Rows.{IsRows}
 
 -- the units that a rank has left
 abbrev pub left_at : Tables → ℕ → ℕ
@@ -18,6 +19,10 @@ abbrev pub IsFirstOfPair : Graph → (ℕ → ℕ) → (ℕ → Type 0) → Type
 IsFirstOfPair g left granted = (r s : ℕ) → granted r → s < g.count → 0 < left s → g.first s ≡ g.first r →
     g.second s ≡ g.second r → r ≤ s
 
+-- below a bound each rank that owes is covered
+abbrev pub IsSettledBelow : Graph → (ℕ → ℕ) → (ℕ → Type 0) → ℕ → Type 0
+IsSettledBelow g left granted bound = (r : ℕ) → r < bound → r < g.count → 0 < left r → IsCovered g granted r
+
 -- the tables fit the ranks, and the granted ranks are kept with the ports that wait
 pub record IsSound (m : Tables) (waits : ℕ → Type 0) : Type 0 where
   pub ranks : IsRanks m.ranks
@@ -25,10 +30,12 @@ pub record IsSound (m : Tables) (waits : ℕ → Type 0) : Type 0 where
   pub heads : IsHeads m.ranks.ports (graph_of m.ranks) (left_at m) m.heads.least.items
   pub chain : IsChain (graph_of m.ranks) m.heads.next.items 0
   pub behind : IsOwingBehind (graph_of m.ranks) (left_at m)
+  pub rows : IsRows m.ranks.ports (graph_of m.ranks) (left_at m) m.heads.rows
   pub board : IsBoard m.ranks.ports (graph_of m.ranks) m.board.at.items
   pub room : m.board.waiting.room ≡ m.ranks.ports + m.ranks.ports
   pub kept : IsKept (graph_of m.ranks) (left_at m) (Stands (graph_of m.ranks) m.board.at.items) waits
   pub top : IsFirstOfPair (graph_of m.ranks) (left_at m) (Stands (graph_of m.ranks) m.board.at.items)
+  pub settled : IsSettledBelow (graph_of m.ranks) (left_at m) (Stands (graph_of m.ranks) m.board.at.items) m.settled
 
 -- how many looks the grants can still take, at most
 abbrev pub budget : Tables → ℕ

@@ -1,6 +1,7 @@
 //! What is granted at each port.
 ghost use Rattle.std.specs.Prelude.{◌≡◌, ℕ, ◌+◌, ◌<◌, ◌≤◌, ◌^◌, Contains, length, slice_index};
 ghost use Rattle.matching.specs.Board.{IsBoard, IsFreed, IsPlaced, IsRanks, first_of, graph_of, second_of};
+ghost use Rattle.matching.specs.Pass.{IsKeptBelow};
 
 use crate::ranks::{NONE, Ranks};
 use crate::waiting::Waiting;
@@ -25,6 +26,19 @@ impl Board {
         self.at.fill(NONE);
         for port in 0..self.at.len() as u32 {
             self.waiting.push(port);
+        }
+    }
+
+    /// What is below the bound stays, and all else goes out.
+    pub fn keep_below(&mut self, bound: u32)
+        ensures waiting { self.new.waiting ≡ self.old.waiting }
+        ensures kept { IsKeptBelow self.old.at.items self.new.at.items bound }
+    {
+        for port in 0..self.at.len() {
+            if self.at[port] < bound {
+                continue;
+            }
+            self.at[port] = NONE;
         }
     }
 

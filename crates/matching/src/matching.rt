@@ -15,6 +15,7 @@ use std::marker::Model;
 ///
 /// A change of grants is a repair, and not a new pass over all flows. Where a flow ends, its two ports wait for a look. A look at a port finds the first flow there that owes
 /// and comes before what is granted at both of its ports. That flow is granted, and what it displaces leaves its other port waiting. When no port waits, the grants are those of the line.
+/// Where many flows end at once, one pass over the flows from the first of them on takes less time: in each row of flows that begin at one port, the first that owes and finds its other port free is granted.
 /// So displaced proposals are repaired in deferred acceptance (Gale and Shapley, "College admissions and the stability of marriage", The American Mathematical Monthly 69, 1962),
 /// with one order of all flows in place of each side's own.
 ///

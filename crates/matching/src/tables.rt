@@ -13,6 +13,7 @@ use crate::board::Board;
 use crate::heads::Heads;
 use crate::listing::list_granted;
 use crate::ranks::{NONE, Ranked, Ranks};
+use crate::rows::Rows;
 use crate::waiting::Waiting;
 use coflow_units::{Flow, NoMemory};
 use std::alloc::Global;
@@ -28,6 +29,8 @@ pub struct Tables {
     /// The numbers of the granted flows, ascending, in the first `granted` places.
     pub listed: Vec<u32>,
     pub granted: u32,
+    /// Each rank below this that owes is granted, or shares a port with a granted one that comes before it.
+    pub settled: u32,
 }
 
 impl Tables {
@@ -54,6 +57,7 @@ impl Tables {
         let heads = Heads {
             least: vec![in alloc; NONE; sides * ports as usize]?,
             next: vec![in alloc; NONE; flows as usize]?,
+            rows: Rows::with_room(alloc, flows, ports)?,
         };
         let board = Board {
             at: vec![in alloc; NONE; sides]?,
@@ -67,6 +71,7 @@ impl Tables {
             board,
             listed,
             granted: 0,
+            settled: 0,
         })
     }
 
@@ -106,6 +111,7 @@ impl Tables {
         self.copy_left(left);
         self.heads.fill(&self.ranks);
         self.board.clear();
+        self.settled = 0;
     }
 
     /// Takes the units that each ranked flow has left.
@@ -247,14 +253,16 @@ impl Tables {
             rank_at self.new p ≡ rank_at self.old p }
     {
         self.left[rank as usize] = 0;
+        self.settled = self.settled.min(rank);
         let flow = self.ranks.flows[rank as usize];
         let next = self.heads.next[rank as usize];
         self.heads.replace(self.ranks.ports, flow, next);
+        self.heads.rows.end(&self.ranks, rank);
         self.board.free(&self.ranks, flow.first);
         self.board.waiting.push(flow.first);
     }
 
-    /// Looks at the ports that wait until none does.
+    /// Looks at the ports that wait until none does, or passes all rows where that takes less time.
     fn settle(&mut self)
         requires { IsSound self.old (λ p. Contains self.old.board.waiting.ports p) }
         ensures sound { IsSound self.new (λ p. Contains self.new.board.waiting.ports p) }
@@ -264,6 +272,25 @@ impl Tables {
         ensures heads { self.new.heads ≡ self.old.heads }
         ensures listed { self.new.listed ≡ self.old.listed }
     {
+        if self.favours_pass() {
+            self.pass();
+            return;
+        }
+        self.look_until_none_waits();
+        self.settled = NONE;
+    }
+
+    /// Looks at the ports that wait until none does.
+    fn look_until_none_waits(&mut self)
+        requires { IsSound self.old (λ p. Contains self.old.board.waiting.ports p) }
+        ensures sound { IsSound self.new (λ p. Contains self.new.board.waiting.ports p) }
+        ensures settled { self.new.board.waiting.ports ≡ [] }
+        ensures ranks { self.new.ranks ≡ self.old.ranks }
+        ensures left { self.new.left ≡ self.old.left }
+        ensures heads { self.new.heads ≡ self.old.heads }
+        ensures listed { self.new.listed ≡ self.old.listed }
+    {
+        self.settled = 0;
         self.turn_to_first();
         while let Some(port) = self.board.waiting.pop() {
             self.look_at(port);
@@ -274,6 +301,7 @@ impl Tables {
     fn turn_to_first(&mut self)
         requires { IsSound self.old (λ p. Contains self.old.board.waiting.ports p) }
         ensures sound { IsSound self.new (λ p. Contains self.new.board.waiting.ports p) }
+        ensures settled { self.new.settled ≡ self.old.settled }
         ensures ranks { self.new.ranks ≡ self.old.ranks }
         ensures left { self.new.left ≡ self.old.left }
         ensures heads { self.new.heads ≡ self.old.heads }
@@ -290,7 +318,9 @@ impl Tables {
     fn look_at(&mut self, port: u32)
         requires sound { IsSound self.old (λ p. (p ≡ port) ⊎ Contains self.old.board.waiting.ports p) }
         requires port { port < self.old.ranks.ports + self.old.ranks.ports }
+        requires settled { self.old.settled ≡ 0 }
         ensures sound { IsSound self.new (λ p. Contains self.new.board.waiting.ports p) }
+        ensures settled { self.new.settled ≡ 0 }
         ensures budget { budget self.new ≤ budget self.old }
         ensures ranks { self.new.ranks ≡ self.old.ranks }
         ensures left { self.new.left ≡ self.old.left }

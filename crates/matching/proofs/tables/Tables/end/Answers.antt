@@ -1,10 +1,11 @@
-use Rattle.std.proofs.Common.{◌≡◌, ◌≢◌, ℕ, get_or, length, set, Contains, refl, subst, sym, ap, ◌∙◌, arith}
+use Rattle.std.proofs.Common.{◌≡◌, ◌≢◌, ◌<◌, ℕ, get_or, length, set, Contains, refl, subst, sym, ap, ◌∙◌, arith}
 use Rattle.std.proofs.lemmas.Grind.{get_or-set_at}
 use Rattle.std.proofs.lemmas.List.{get_or-set_other, get_or_default, length-set}
 use Rattle.matching.specs.declared.ranks.Ranked.{Ranked}
 use Rattle.matching.specs.Waits.{IsPushed}
 use Rattle.matching.specs.Board.{IsFreed, Stands, graph_of, ranked_at}
 use Rattle.matching.specs.Heads.{IsChain, IsReplaced}
+use Rattle.matching.specs.Rows.{IsRows}
 use Rattle.matching.specs.Sound.{left_at}
 use Rattle.matching.proofs.KeptSteps.{rank_ends}
 use Rattle.matching.proofs.EndSteps.{goes_out, stays_at}
@@ -50,6 +51,7 @@ returns-clause-sound c =
       heads = ended_heads ports g (left_at m) lower rank next m.heads.least.items c.replace.new.self.least.items ending c.replace.ensures.size re s.heads;
       chain = subst (λ x. IsChain g x.items 0) (sym c.replace.ensures.next) s.chain;
       behind = ended_behind ports g (left_at m) lower rank next ending;
+      rows = c.end.ensures.rows (left_at m) lower ended others (subst (λ x. IsRows ports g (left_at m) x) (sym c.replace.ensures.rows) s.rows);
       board = c.free.ensures.board;
       room = c.push.ensures.room ∙ c.free.ensures.room ∙ s.room;
       kept = rank_ends g (left_at m) lower (Stands g m.board.at.items) (Stands g c.free.new.self.at.items) (λ p. Contains m.board.waiting.ports p)
@@ -58,6 +60,11 @@ returns-clause-sound c =
           let (old, ne) = goes.from r has in
           let nq : q ≢ rank = λ e. omega (arith, ended, ap lower e, some) in
           s.top r q old lq (omega (arith, others q nq, some)) a b;
+      settled = λ r low lt some.
+          let less : r < rank = omega (arith, low, c.min-self.ensures) in
+          let nr : r ≢ rank = λ e. omega (arith, e, less) in
+          let (q, has, le, meets) = s.settled r (omega (arith, low, c.min-self.ensures)) lt (omega (arith, others r nr, some)) in
+          (q, goes.keeps q has (λ e. omega (arith, e, le, less)), le, meets);
     }
 
 pub returns-clause-others : goal.returns-clause-others
@@ -85,3 +92,8 @@ returns-clause-room c = record {
   nexts = ap (λ x. length x.items) c.replace.ensures.next;
   listed = refl;
 }
+
+pub end-requires-clause-rows : goal.end-requires-clause-rows
+end-requires-clause-rows c =
+    let m = c.args.self.now in
+    (left_at m, subst (λ x. IsRows m.ranks.ports (graph_of m.ranks) (left_at m) x) (sym c.replace.ensures.rows) c.requires.sound.rows)

@@ -1,4 +1,4 @@
-use Rattle.std.proofs.Common.{◌≡◌, ◌<◌, ◌+◌, ℕ, length, get_or, subst, sym, ap, ◌∙◌, arith}
+use Rattle.std.proofs.Common.{◌≡◌, ◌<◌, ◌+◌, ℕ, length, get_or, refl, subst, sym, ap, ◌∙◌, arith}
 use Rattle.std.specs.Prelude.{All}
 use Rattle.coflow_units.specs.declared.fabric.Flow.{Flow}
 use Rattle.matching.specs.declared.board.Board.{Board}
@@ -74,6 +74,8 @@ returns-clause-begun c =
       units = λ r lt. c.copy_left.ensures.left r (omega (arith, lt, count)) ∙ ap (λ (x : Ranks). left (number_of x r)) (sym e);
       heads = c.fill.ensures.heads;
       chain = c.fill.ensures.chain;
+      rows = c.fill.ensures.rows;
+      start = refl;
       size = c.clear.ensures.len ∙ size;
       none = λ p lt. c.clear.ensures.none p (omega (arith, lt, size));
       room = omega (arith, c.clear.ensures.room, ap (λ (x : Board). x.waiting.room) c.copy_left.ensures.board, c.requires.whole.sound.room, ports);

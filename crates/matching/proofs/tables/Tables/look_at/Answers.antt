@@ -29,6 +29,7 @@ returns-then-rank-index-clause-sound c =
       heads = s.heads;
       chain = s.chain;
       behind = s.behind;
+      rows = s.rows;
       board = c.put.ensures.board;
       room = c.put.ensures.room ∙ s.room;
       kept = rank_goes_in g (left_at m) (Stands g m.board.at.items) (Stands g c.put.new.self.at.items) (λ p. (p ≡ c.args.port) ⊎ Contains m.board.waiting.ports p)
@@ -39,6 +40,7 @@ returns-then-rank-index-clause-sound c =
         | inl e ↦ subst (λ x. x ≤ q) (sym e) (found.top q lq some (subst (λ x. g.first q ≡ g.first x) e a) (subst (λ x. g.second q ≡ g.second x) e b))
         | inr (old, _) ↦ s.top r q old lq some a b
       ];
+      settled = λ r low. absurd (omega (arith, low, c.requires.settled));
     }
 
 pub returns-then-rank-index-clause-budget : goal.returns-then-rank-index-clause-budget
@@ -69,10 +71,12 @@ returns-else-rank-index-clause-sound c =
       heads = s.heads;
       chain = s.chain;
       behind = s.behind;
+      rows = s.rows;
       board = s.board;
       room = s.room;
       kept = port_leaves g (left_at m) (Stands g m.board.at.items) (λ p. (p ≡ c.args.port) ⊎ Contains m.board.waiting.ports p) (λ p. Contains m.board.waiting.ports p) c.args.port
           (λ q w. w)
           (clear_at m.ranks.ports g (left_at m) m.heads.least.items m.board.at.items c.args.port rank scene (omega (arith, stands, c.if-rank-index.false))) s.kept;
       top = s.top;
+      settled = λ r low. absurd (omega (arith, low, c.requires.settled));
     }

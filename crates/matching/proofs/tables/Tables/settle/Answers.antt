@@ -1,23 +1,22 @@
-use Rattle.std.proofs.Common.{◌≡◌, ◌⊎◌, Contains, ◌∙◌}
-use Rattle.matching.specs.Board.{graph_of, Stands}
-use Rattle.matching.specs.Sound.{left_at}
-use Rattle.matching.proofs.SettleSteps.{waits_more}
+use Rattle.std.proofs.Common.{ℕ, inl, inr, List, Contains, subst}
+use Rattle.coflow_units.proofs.Sums.{nothing_in}
 use Rattle.matching.proofs.tables.Tables.settle.Goals as goal
 
-pub look_at-requires-clause-sound : goal.look_at-requires-clause-sound
-look_at-requires-clause-sound c =
-    let m = c.loop-port.self in
-    let g = graph_of m.ranks in
-    let s = c.loop-port.invariant.sound in
+pub returns-clause-sound : goal.returns-clause-sound
+returns-clause-sound c =
+    let s = c.look_until_none_waits.ensures.sound in
+    let none = c.look_until_none_waits.ensures.settled in
+    let nowhere = λ (p : ℕ) (has : Contains c.look_until_none_waits.new.self.board.waiting.ports p). nothing_in p (subst (λ (xs : List ℕ). Contains xs p) none has) in
     record {
       ranks = s.ranks;
       lefts = s.lefts;
       heads = s.heads;
       chain = s.chain;
       behind = s.behind;
+      rows = s.rows;
       board = s.board;
-      room = c.pop.ensures.room ∙ s.room;
-      kept = waits_more g (left_at m) (Stands g m.board.at.items) (λ p. Contains m.board.waiting.ports p) (λ p. (p ≡ c.in-Some.port) ⊎ Contains c.pop.new.self.ports p)
-          (λ p has. c.in-Some.ensures.popped.keeps p has) s.kept;
+      room = s.room;
+      kept = s.kept;
       top = s.top;
+      settled = λ r low lt some. elim (s.kept.rest r lt some) [ inl covered ↦ covered | inr (inl w) ↦ absurd (nowhere _ w) | inr (inr w) ↦ absurd (nowhere _ w) ];
     }

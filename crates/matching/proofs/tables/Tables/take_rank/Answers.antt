@@ -3,6 +3,7 @@ use Rattle.std.proofs.lemmas.List.{get_or_default, length-set}
 use Rattle.matching.specs.Board.{Stands, graph_of}
 use Rattle.matching.specs.Sound.{left_at}
 use Rattle.matching.proofs.EndSteps.{IsSameOwing, lowered, same_kept, same_heads, same_behind, set_less}
+use Rattle.matching.proofs.RowSteps.{same_rows}
 use Rattle.matching.proofs.tables.Tables.take_rank.Goals as goal
 
 pub returns-then-left-units-clause-sound : goal.returns-then-left-units-clause-sound
@@ -23,10 +24,12 @@ returns-then-left-units-clause-sound c =
       heads = same_heads m.ranks.ports g (left_at m) lower m.heads.least.items same s.heads;
       chain = s.chain;
       behind = same_behind g (left_at m) lower same s.behind;
+      rows = same_rows m.ranks.ports g (left_at m) lower m.heads.rows same s.rows;
       board = s.board;
       room = s.room;
       kept = same_kept g (left_at m) lower (Stands g m.board.at.items) (λ p. Contains m.board.waiting.ports p) same s.kept;
       top = λ r q has lq some a b. s.top r q has lq ((same q lq).1 some) a b;
+      settled = λ r low lt some. s.settled r low lt ((same r lt).1 some);
     }
 
 pub returns-then-left-units-clause-taken : goal.returns-then-left-units-clause-taken

@@ -1,7 +1,7 @@
 -- all stays sound, and the budget falls
 use Rattle.std.proofs.Common.{◌≡◌, Contains}
 use Rattle.matching.specs.Sound.{IsSound, budget}
-use Rattle.matching.proofs.tables.Tables.settle.Given as goal
+use Rattle.matching.proofs.tables.Tables.look_until_none_waits.Given as goal
 
 abbrev pub invariant-loop-port : goal.invariant-loop-port
 invariant-loop-port l = record {
@@ -10,6 +10,7 @@ invariant-loop-port l = record {
   left : l.self.left ≡ l.fn.self.left;
   heads : l.self.heads ≡ l.fn.self.heads;
   listed : l.self.listed ≡ l.fn.self.listed;
+  settled : l.self.settled ≡ 0;
 }
 
 abbrev pub decreases-loop-port : goal.decreases-loop-port

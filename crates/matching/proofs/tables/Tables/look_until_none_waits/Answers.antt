@@ -1,0 +1,42 @@
+use Rattle.std.proofs.Common.{◌≡◌, ◌⊎◌, Contains, ◌∙◌, arith}
+use Rattle.matching.specs.Board.{graph_of, Stands}
+use Rattle.matching.specs.Sound.{left_at}
+use Rattle.matching.proofs.SettleSteps.{waits_more}
+use Rattle.matching.proofs.tables.Tables.look_until_none_waits.Goals as goal
+
+pub look_at-requires-clause-sound : goal.look_at-requires-clause-sound
+look_at-requires-clause-sound c =
+    let m = c.loop-port.self in
+    let g = graph_of m.ranks in
+    let s = c.loop-port.invariant.sound in
+    record {
+      ranks = s.ranks;
+      lefts = s.lefts;
+      heads = s.heads;
+      chain = s.chain;
+      behind = s.behind;
+      rows = s.rows;
+      board = s.board;
+      room = c.pop.ensures.room ∙ s.room;
+      kept = waits_more g (left_at m) (Stands g m.board.at.items) (λ p. Contains m.board.waiting.ports p) (λ p. (p ≡ c.in-Some.port) ⊎ Contains c.pop.new.self.ports p)
+          (λ p has. c.in-Some.ensures.popped.keeps p has) s.kept;
+      top = s.top;
+      settled = s.settled;
+    }
+
+pub turn_to_first-requires : goal.turn_to_first-requires
+turn_to_first-requires c =
+    let s = c.requires in
+    record {
+      ranks = s.ranks;
+      lefts = s.lefts;
+      heads = s.heads;
+      chain = s.chain;
+      behind = s.behind;
+      rows = s.rows;
+      board = s.board;
+      room = s.room;
+      kept = s.kept;
+      top = s.top;
+      settled = λ r low. absurd (omega (arith, low));
+    }
