@@ -7,3 +7,4 @@ pub mod Pulling
 pub mod Beginning
 pub mod Driving
 pub mod Publishing
+pub mod Levelling

@@ -1,5 +1,5 @@
 -- What the driver and sessions are after they told each other what they have seen.
-use Rattle.std.specs.Prelude.{◌≡◌, ℕ, ◌<◌, ◌≤◌, List, All, length, slice_index_or}
+use Rattle.std.specs.Prelude.{◌≡◌, ℕ, ◌≤◌, List, [], ◌∷◌, All}
 use Rattle.rank_board.specs.Models.{SeatModel}
 use Rattle.client_session.specs.Desk.{KeepsLooks}
 use Rattle.client_session.specs.Models.{DriverModel, SessionModel}
@@ -16,9 +16,10 @@ pub record IsRaised (old new : SessionModel) : Type 0 where
   pub version : old.rank.seen ≤ new.rank.seen
 
 -- so is each session, in the order of the list
-pub record AreRaised (old new : List SessionModel) : Type 0 where
-  pub count : length new ≡ length old
-  pub each : (i : ℕ) (d : SessionModel) → i < length old → IsRaised (slice_index_or old i d) (slice_index_or new i d)
+abbrev pub AreRaised : List SessionModel → List SessionModel → Type 0
+AreRaised [] [] = Unit {0}
+AreRaised (old ∷ olds) (new ∷ news) = IsRaised old new × AreRaised olds news
+AreRaised olds news = ⊥
 
 -- neither the driver nor a session has seen a journal that is longer
 abbrev pub IsLongest : DriverModel → List SessionModel → ℕ → Type 0
@@ -37,6 +38,19 @@ pub record IsLevel (driver new_driver : DriverModel) (sessions new_sessions : Li
   pub longest : IsLongest driver sessions new_driver.position
   pub one : All (λ (s : SessionModel). s.position ≡ new_driver.position) new_sessions
   pub newest : All (λ (s : SessionModel). IsNewest sessions s.rank.seen) new_sessions
+
+-- The driver and a session met, and with it the seat that hears the versions. Both have seen the longer of their
+-- journals, and the session a version that is not below one that the seat has seen.
+pub record IsMetByOne (driver new_driver : DriverModel) (heard new_heard : SeatModel) (session new_session : SessionModel)
+    : Type 0 where
+  pub driver_is : new_driver ≡ record driver { position = new_driver.position }
+  pub board : new_heard.table ≡ heard.table
+  pub raised : IsRaised session new_session
+  pub longest : (driver.position ≤ new_driver.position) × (session.position ≤ new_driver.position)
+  pub within : (top : ℕ) → driver.position ≤ top → session.position ≤ top → new_driver.position ≤ top
+  pub one : new_session.position ≡ new_driver.position
+  pub heard_it : (heard.seen ≤ new_heard.seen) × (session.rank.seen ≤ new_heard.seen)
+  pub version : new_heard.seen ≤ new_session.rank.seen
 
 -- The driver met each session in turn, and with it the seat that hears their versions. A session has then seen what
 -- the driver had seen before, and the driver and the seat what all of them had seen, and no longer journal.

@@ -1,6 +1,7 @@
 //! The hall, where clients take turns at one master and read its ranks.
-ghost use Rattle.std.specs.Prelude.{◌≡◌, ℕ, ◌+◌, ◌^◌, ◌<◌, ◌≤◌, length, [], IfOk, OnOk, OnErr, Some};
+ghost use Rattle.std.specs.Prelude.{◌≡◌, ℕ, ◌+◌, ◌^◌, ◌<◌, ◌≤◌, if◌then◌else◌, All, length, nat_lt, [], IfOk, OnOk, OnErr, Some};
 ghost use Rattle.client_session.specs.Models.{IsDriverOf, IsSessionOf};
+ghost use Rattle.client_session.specs.Levels.{IsLevel, IsMetByEach, IsMetByOne};
 ghost use Rattle.client_session.specs.Halls.{IsFirstDriver, IsNewSession};
 
 use crate::desk::Desk;
@@ -8,7 +9,7 @@ use crate::driver::Driver;
 use crate::session::Session;
 use coflow_units::NoMemory;
 use master_core::Master;
-use rank_board::RankBoard;
+use rank_board::{RankBoard, RankSeat};
 use std::alloc::Global;
 use std::marker::Model;
 use turnstile::Turnstile;
@@ -91,4 +92,50 @@ impl Hall {
             receipts,
         })
     }
+
+    /// Lets the driver and these sessions see what any of them has seen: each has then seen the longest journal that one of them had seen, and each session a version that is
+    /// not below one that a session had seen. It waits for nobody, and takes no memory.
+    pub fn level(&self, driver: &mut Driver, sessions: &mut [Session])
+        requires driver { IsDriverOf self.now driver.old }
+        requires sessions { All (IsSessionOf self.now) sessions.old }
+        ensures level { IsLevel driver.old driver.new sessions.old sessions.new }
+    {
+        let mut heard = self.board.seat(&mut driver.rank);
+        self.meet_each(driver, &mut heard, sessions);
+        self.meet_each(driver, &mut heard, sessions);
+    }
+
+    // The driver meets each session in turn, and so does a seat that hears their versions.
+    fn meet_each(&self, driver: &mut Driver, heard: &mut RankSeat, sessions: &mut [Session])
+        requires driver { IsDriverOf self.now driver.old }
+        requires board { heard.old.table ≡ self.now.setting.board.table }
+        requires sessions { All (IsSessionOf self.now) sessions.old }
+        ensures met { IsMetByEach driver.old driver.new heard.old heard.new sessions.old sessions.new }
+    {
+        for session in sessions.iter_mut() {
+            self.meet_one(driver, heard, session);
+        }
+    }
+
+    // The driver meets a session, and so does a seat that hears its version.
+    fn meet_one(&self, driver: &mut Driver, heard: &mut RankSeat, session: &mut Session)
+        requires driver { IsDriverOf self.now driver.old }
+        requires board { heard.old.table ≡ self.now.setting.board.table }
+        requires session { IsSessionOf self.now session.old }
+        ensures met { IsMetByOne driver.old driver.new heard.old heard.new session.old session.new }
+    {
+        self.gate.meet(&mut driver.root, &mut session.seat);
+        let position = greater(driver.position, session.position);
+        driver.position = position;
+        session.position = position;
+        self.board.tell(&mut session.rank, heard);
+        self.board.tell(heard, &mut session.rank);
+    }
+}
+
+// The greater of two numbers.
+fn greater(one: u32, other: u32) -> u32
+    ensures { result ≡ (if nat_lt one other then other else one) }
+{
+    if one < other { other } else { one }
 }
