@@ -62,7 +62,7 @@ impl Agent {
         seat
     }
 
-    /// Tries once to draw at each port from `first` on, one for each wire. What it draws it sends on the wire of the port, and reports how much the wire accepted.
+    /// Draws at most once at each port from `first` on, one for each wire. What it draws it sends on the wire of the port, and reports how much the wire accepted.
     ///
     /// The seat is of this board, which has at least `first` ports and one more for each wire.
     pub fn serve<W: Wire>(&mut self, board: &PortBoard, first: u32, wires: &mut [W]) -> Served

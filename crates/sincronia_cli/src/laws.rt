@@ -62,7 +62,7 @@ pub fn plan_slack_is_small()
         r.slack ≤ 2 * length t.ids) }
 {}
 
-/// The laws hold of certificates and orders that no plan has: two flows served in the order of their numbers, with a certificate that charges nothing.
+/// The laws hold of a worked certificate and order: two flows served in the order of their numbers, with a certificate that charges nothing.
 pub fn laws_hold_without_prices()
     ensures four { cost two_flows one_each (0 ∷ 1 ∷ []) longer_first_slots ≤ 4 * bound two_flows no_prices +
         slack two_flows one_each no_prices }

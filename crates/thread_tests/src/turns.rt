@@ -128,8 +128,8 @@ fn empty(rt: &impl Alloc<A = Global>) -> Log
     }
 }
 
-// No clause says that a thread that sleeps is woken. Where the end of a turn wakes at another word, or wakes one thread alone, or a wait parks on
-// another number than the one it has loaded, some thread sleeps for ever here.
+// No clause says that a thread that sleeps is woken. Where the end of a turn wakes at another word, or wakes one thread alone, or a wait sleeps past
+// its turn, some thread sleeps for ever here.
 #[test]
 fn the_root_and_two_seats_take_many_turns(rt: HostRuntime) -> Result<(), Fail> {
     let (gate, mut root) = Turnstile::new(rt.alloc(), empty(&rt))?;
