@@ -18,6 +18,7 @@ use Rattle.cert_check.specs.declared.verdict.Verdict.{Verdict}
 use Rattle.cert_check.specs.declared.verdict.Verdict.TheVariants as verdict
 use Rattle.cert_check.specs.Reasons.{IsVerdict}
 use Rattle.cert_check.specs.Sound.{IsSound}
+use Rattle.dual_cert.proofs.DualLaw.{bound_law}
 use Rattle.flow_table.specs.Table.{IsTable, TableFacts, instance_of}
 use Rattle.outside.specs.Shelf.{Told}
 use Rattle.picture.specs.declared.value.Bar.{Bar}
@@ -95,6 +96,7 @@ unfolding judged_by
 draws_by old mid said t ws r text input keeps report (holds, sound, p, shows, same) = record {
   judged = judged_by old mid said t ws r verdict.Yes input keeps report holds;
   right = sound;
+  bounds = λ slots valid. omega (arith, sound.bound_is_low, bound_law (instance_of t ws) _ slots sound.certificate sound.feasible valid);
   picture = p;
   shows = shows;
   text_is = same;

@@ -23,6 +23,7 @@ use Rattle.sincronia_cli.specs.Causes.{HasFilesCause}
 use Rattle.sincronia_cli.specs.Check.{IsReportOf}
 use Rattle.sincronia_cli.specs.Ends.{IsWriteFault}
 use Rattle.sincronia_cli.specs.Inputs.{IsInput}
+use Rattle.sincronia_cli.specs.Plan.{BoundsEverySchedule}
 use Rattle.sincronia_cli.specs.declared.status.Status.{Status}
 use Rattle.sincronia_cli.specs.declared.status.Status.TheVariants as status
 use Rattle.command_words.specs.Words.{Said}
@@ -90,10 +91,12 @@ pub record Judged (told : Option Told) (said : PictureSaid) (answer : Verdict) :
   pub report_is : IsReportOf told said.report report
   pub verdict_is : IsVerdict (instance_of table list) table.ids report answer
 
--- The report of the files is right, and this is the text of its picture.
+-- The report of the files is right, so its bound is at most the cost of every valid schedule of the instance that they
+-- give. And this is the text of its picture.
 pub record Draws (told : Option Told) (said : PictureSaid) (text : List ℕ) : Type 0 where
   pub judged : Judged told said verdict.Yes
   pub right : IsSound (instance_of judged.table judged.list) judged.table.ids judged.report
+  pub bounds : BoundsEverySchedule (instance_of judged.table judged.list) judged.report
   pub picture : Picture
   pub shows : IsPictureOf judged.table judged.list judged.report said picture
   pub text_is : text ≡ picture_text picture

@@ -32,7 +32,7 @@ use std::alloc::Global;
 /// - `No`: the answer of the check is no.
 /// - `Usage`: the words are no command line.
 /// - `NoSlots`: the report is right, and the window has none of its slots.
-/// - `TooManyBars`: the report is right, and there would be so many bars, or 2^64 - 1 where there would be more than that.
+/// - `TooManyBars`: the report is right, and there would be so many bars.
 /// - `Ended`: as `sincronia check` ends before it writes, or at a fault of the sink, or where no memory was to be had.
 ///
 /// Nothing was written but at `Ok`, and at a fault of the sink, where a beginning of the picture was written. The files on the shelf are as before.

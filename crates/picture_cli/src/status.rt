@@ -15,7 +15,7 @@ pub enum PictureStatus {
     No,
     /// The words are no command.
     Usage,
-    /// The window has no slot: its first slot is behind its last one, or behind the last one of the schedule.
+    /// The window has no slot: its first slot is behind its last one, or behind the last one of the schedule. So it is where the schedule has no slot.
     NoSlots { first: u64, last: u64 },
     /// The window has so many bars, more than are drawn.
     TooManyBars { bars: u64 },
