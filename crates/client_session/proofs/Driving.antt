@@ -70,7 +70,7 @@ none_made (e ∷ es) above none =
     let some : who_of e ≡ 0 → ⊥ = All-head (λ e. who_of e ≢ 0) e es none in
     absurd (some (omega (arith, low)))
 
-all_right : (made : ℕ) (xs ys : List Entry) → NoneAbove who_of made (xs ++ ys) → NoneAbove who_of made ys
+pub all_right : (made : ℕ) (xs ys : List Entry) → NoneAbove who_of made (xs ++ ys) → NoneAbove who_of made ys
 all_right made [] ys h = h
 all_right made (x ∷ xs) ys h = all_right made xs ys (All-tail (λ e. who_of e ≤ made) x (xs ++ ys) h)
 

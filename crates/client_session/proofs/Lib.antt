@@ -8,3 +8,5 @@ pub mod Beginning
 pub mod Driving
 pub mod Publishing
 pub mod Levelling
+pub mod Standing
+pub mod Endings

@@ -21,7 +21,7 @@ pick_append : (b : Bool) (x : OwnEntry) (xs ys : List OwnEntry) → pick b x (xs
 pick_append true x xs ys = refl
 pick_append false x xs ys = refl
 
-own_append : (k n v : ℕ) (xs ys : List Entry) → own_from k n v (xs ++ ys) ≡ own_from k n v xs ++ own_from k (n + length xs) (v + version_of xs) ys
+pub own_append : (k n v : ℕ) (xs ys : List Entry) → own_from k n v (xs ++ ys) ≡ own_from k n v xs ++ own_from k (n + length xs) (v + version_of xs) ys
 own_append k n v [] ys = (λ i. own_from k (zero_n i) (zero_v i) ys)
   where
     zero_n : n ≡ n + 0

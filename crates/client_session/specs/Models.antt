@@ -1,5 +1,5 @@
 -- What contracts see of a hall, its driver and its sessions.
-use Rattle.std.specs.Prelude.{◌≡◌, ℕ, List, Option, Some}
+use Rattle.std.specs.Prelude.{◌≡◌, ℕ, ◌≤◌, List, Option, Some, All, length}
 use Rattle.atomic_table.specs.Seated.{TableId}
 use Rattle.journal.specs.declared.command.Entry.{Entry}
 use Rattle.rank_board.specs.Models.{SeatModel}
@@ -47,3 +47,9 @@ IsDriverOf hall driver = (driver.gate ≡ hall.gate) × (driver.setting ≡ Some
 abbrev pub IsSessionOf : HallModel → SessionModel → Type 0
 IsSessionOf hall session = (session.gate ≡ hall.gate) × (session.setting ≡ Some hall.setting) ×
     (session.rank.table ≡ hall.setting.board.table)
+
+-- what is closed is of one hall, and no session that the driver made is missing
+pub record MayClose (c : ClosingModel) : Type 0 where
+  pub driver : IsDriverOf c.hall c.driver
+  pub sessions : All (IsSessionOf c.hall) c.sessions
+  pub all : c.driver.made ≤ length c.sessions

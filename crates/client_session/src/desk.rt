@@ -112,11 +112,13 @@ impl Desk {
     pub fn into_master(self) -> Master
         ensures opening { result.opening ≡ self.setting.opening }
         ensures journal { result.journal ≡ self.journal }
+        ensures seen { IsSeen self.setting.opening self.journal }
     {
         let Desk {
             master,
             publisher: _,
         } = self;
+        let _journal = master.journal();
         master
     }
 

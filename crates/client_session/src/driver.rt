@@ -7,6 +7,7 @@ ghost use Rattle.client_session.specs.declared.desk.Setting.{Setting};
 ghost use Rattle.client_session.specs.Desk.{IsSeen};
 ghost use Rattle.client_session.specs.Models.{IsDriverOf};
 ghost use Rattle.client_session.specs.Drivers.{flow_granted, HandsOut, IsDriverTurn, TellsGrants, who_of};
+ghost use Rattle.client_session.specs.Returns.{IsRootOf};
 
 use crate::desk::Desk;
 use crate::hall::Hall;
@@ -160,6 +161,21 @@ impl Driver {
         self.turned = self.position;
         self.left -= 1;
         Answer::of_turn(answer)
+    }
+
+    // What is left of a driver that ends: its root at the turnstile.
+    pub(crate) fn into_root(self) -> Root<Desk>
+        ensures root { IsRootOf self result }
+    {
+        let Driver {
+            root,
+            rank: _,
+            left: _,
+            turned: _,
+            position: _,
+            granted: _,
+        } = self;
+        root
     }
 
     // Takes a turn for a command.

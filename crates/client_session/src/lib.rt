@@ -1,12 +1,14 @@
 //! Many clients of one master at once. Each takes its turns in a session of its own, which keeps a receipt of each, and reads ranks without waiting.
 #![tactic(auto)]
 
+mod close;
 mod desk;
 mod driver;
 mod hall;
 mod receipt;
 mod session;
 
+pub use close::{CloseFault, Closing};
 pub use driver::Driver;
 pub use hall::Hall;
 pub use journal::{Command, Entry, Opening, Reply};

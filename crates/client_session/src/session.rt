@@ -7,6 +7,7 @@ ghost use Rattle.journal.specs.declared.command.Command.TheVariants.{Publish, Pu
 ghost use Rattle.rank_board.specs.Models.{FoundAnother, pulled, saw_front, SeatModel};
 ghost use Rattle.client_session.specs.Models.{IsSessionOf};
 ghost use Rattle.client_session.specs.Own.{IsPass, receipt_of};
+ghost use Rattle.client_session.specs.Returns.{IsSeatOf, KeepsNotes};
 ghost use Rattle.client_session.specs.Turns.{IsTurn};
 
 use crate::desk::Desk;
@@ -156,6 +157,23 @@ impl Session {
     {
         hall.board
             .pull(&mut self.rank, coflow, self.receipts.len() as u32)
+    }
+
+    // What is left of a session that ends: its seat at the turnstile, and the one at the board.
+    pub(crate) fn into_seats(self) -> (TurnSeat<Desk>, RankSeat)
+        ensures seat { IsSeatOf self result.0 }
+        ensures rank { result.1 ≡ self.rank }
+        ensures notes { KeepsNotes self }
+    {
+        let Session {
+            seat,
+            rank,
+            number: _,
+            left: _,
+            position: _,
+            receipts: _,
+        } = self;
+        (seat, rank)
     }
 
     // Takes a turn for a command that every caller may ask.
