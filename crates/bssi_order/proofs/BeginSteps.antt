@@ -36,7 +36,7 @@ pub record IsBegun (t₀ t : LoadTable) (weights residuals : List ℕ) (present 
   pub gone : (c : ℕ) (port : Port) → c < t₀.coflows → port.number < t₀.ports → is_present present c ≡ false → load_at t c port ≡ 0
   pub budgets : (c : ℕ) → c < t₀.coflows → slice_index residuals c ≡ slice_index weights c * 2 ^ 40
 
-budget_fits : (w : ℕ) → w ≤ 2 ^ 32 → w * 2 ^ 40 ≤ 2 ^ 72
+pub budget_fits : (w : ℕ) → w ≤ 2 ^ 32 → w * 2 ^ 40 ≤ 2 ^ 72
 budget_fits w le = omega arith
 
 begun_load : (t₀ t : LoadTable) (weights residuals : List ℕ) (present : List Bool) → IsBegun t₀ t weights residuals present → (c : ℕ) (port : Port) → c < t₀.coflows →

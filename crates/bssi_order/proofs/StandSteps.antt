@@ -48,7 +48,8 @@ left_total i later left t residuals waiting ready stands port lp =
     let same = sum_same w (λ c. load i.flows c port) left (λ c has. stands.load c port has lp) in
     omega (arith, up, down, same)
 
-first_greatest : (i : Instance) (left : List ℕ) (t : LoadTable) (port : Port) → i.ports ≡ t.ports → ((p : Port) → p.number < t.ports → total_at t p ≡ load_of_all i.flows left p) →
+pub first_greatest : (i : Instance) (left : List ℕ) (t : LoadTable) (port : Port) → i.ports ≡ t.ports →
+    ((p : Port) → p.number < t.ports → total_at t p ≡ load_of_all i.flows left p) →
     IsGreatestPort t port → IsFirstGreatest i.flows i.ports left port
 first_greatest i left t port ports totals first = record {
   in_range = subst (λ n. port.number < n) (sym ports) first.in_range;
@@ -73,9 +74,10 @@ pub chosen_in : (i : Instance) (later : List Entry) (left : List ℕ) (t : LoadT
     IsChosen t residuals waiting x → Contains left x.coflow
 chosen_in i later left t residuals waiting x ready stands chosen = stands.all x.coflow (omega (arith, present_below waiting x.coflow chosen.waits, ready.waiting_len)) chosen.waits
 
-placed_busy : (i : Instance) (later : List Entry) (left : List ℕ) (t : LoadTable) (residuals : List ℕ) (waiting : List Bool) (x : Place) → Stands i later left t residuals waiting →
+pub placed_busy : (i : Instance) (later : List Entry) (left : List ℕ) (t : LoadTable) (residuals : List ℕ) (waiting : List Bool) (x : Entry) →
+    Stands i later left t residuals waiting →
     Contains left x.coflow → x.port.number < t.ports →
-    IsLeastRatio t residuals x.port x.coflow → x.y ≡ slice_index residuals x.coflow / load_at t x.coflow x.port → IsPlacedBusy i.flows i.weight later left (entry_of x)
+    IsLeastRatio t residuals x.port x.coflow → x.y ≡ slice_index residuals x.coflow / load_at t x.coflow x.port → IsPlacedBusy i.flows i.weight later left x
 placed_busy i later left t residuals waiting x stands has lp least y_is =
     let own = stands.load x.coflow x.port has lp in
     let kept = stands.residual x.coflow has in
@@ -104,7 +106,7 @@ is_placed i later left t residuals waiting x ready stands chosen =
           record { greatest = λ d in'. (chosen.idle_coflow none').greatest d (stands.members d in').1; y_is = chosen.idle_y none' };
       busy = λ some.
           let some' = subst (λ n. 0 < n) (sym here) some in
-          placed_busy i later left t residuals waiting x stands has chosen.port.in_range (chosen.busy_coflow some') (chosen.busy_y some');
+          placed_busy i later left t residuals waiting (entry_of x) stands has chosen.port.in_range (chosen.busy_coflow some') (chosen.busy_y some');
     }
 
 -- ---- after one place
@@ -118,34 +120,34 @@ marked_then waiting a c lt mark = elim (cases_eq c a) [
 left_pays : (r r' b s s' y l l' : ℕ) → r' ≡ r - y * l → r ≡ b - s → l ≡ l' → s' ≡ y * l' + s → r' ≡ b - s'
 left_pays r r' b s s' y l l' a c d e = omega (arith, a, c, e, ap (λ n. y * n) d)
 
-pub stands_more : (i : Instance) (later : List Entry) (left : List ℕ) (t t' : LoadTable) (residuals residuals' : List ℕ) (waiting : List Bool) (x : Place) →
-    IsReady t residuals waiting → Stands i later left t residuals waiting →
-    IsChosen t residuals waiting x → Pays t x.port x.y residuals residuals' → DropsCoflow t t' x.coflow →
-    Stands i (entry_of x ∷ later) (without x.coflow left) t' residuals' (slice_set waiting x.coflow false)
-stands_more i later left t t' residuals residuals' waiting x ready stands chosen pays drops =
+pub stands_more : (i : Instance) (later : List Entry) (left : List ℕ) (t t' : LoadTable) (residuals residuals' : List ℕ) (waiting : List Bool) (e : Entry) →
+    Stands i later left t residuals waiting → is_present waiting e.coflow ≡ true → e.port.number < t.ports → Pays t e.port e.y residuals residuals' → DropsCoflow t t' e.coflow →
+    Stands i (e ∷ later) (without e.coflow left) t' residuals' (slice_set waiting e.coflow false)
+stands_more i later left t t' residuals residuals' waiting e stands waits lp pays drops =
     let apart = apart_from_pairs left stands.distinct in
-    let lt = present_below waiting x.coflow chosen.waits in
-    let was = λ (c : ℕ) (has : Contains (without x.coflow left) c). without_in x.coflow left c has in
-    let other = λ (c : ℕ) (has : Contains (without x.coflow left) c) (e : c ≡ x.coflow). without_out x.coflow left apart (subst (λ k. Contains (without x.coflow left) k) e has) in
+    let lt = present_below waiting e.coflow waits in
+    let was = λ (c : ℕ) (has : Contains (without e.coflow left) c). without_in e.coflow left c has in
+    let other = λ (c : ℕ) (has : Contains (without e.coflow left) c) (is : c ≡ e.coflow). without_out e.coflow left apart
+    (subst (λ k. Contains (without e.coflow left) k) is has) in
     record {
       ports = stands.ports ∙ sym drops.size.ports;
-      distinct = pairs_from_apart (without x.coflow left) (without_apart x.coflow left apart);
+      distinct = pairs_from_apart (without e.coflow left) (without_apart e.coflow left apart);
       members = λ c has. (
         subst (λ n. c < n) (sym drops.size.coflows) (stands.members c (was c has)).0,
-        get_or-set_other waiting x.coflow c false false (other c has) ∙
+        get_or-set_other waiting e.coflow c false false (other c has) ∙
             (stands.members c (was c has)).1,
       );
       all = λ c lc mark.
-          let (ne, here) = marked_then waiting x.coflow c lt mark in
-          without_keeps x.coflow left c (λ e. ne (sym e)) (stands.all c (subst (λ n. c < n) drops.size.coflows lc) here);
-      load = λ c port has lp.
-          let lp' = subst (λ n. port.number < n) drops.size.ports lp in
-          drops.others c port (stands.members c (was c has)).0 (other c has) lp' ∙ stands.load c port (was c has) lp';
+          let (ne, here) = marked_then waiting e.coflow c lt mark in
+          without_keeps e.coflow left c (λ is. ne (sym is)) (stands.all c (subst (λ n. c < n) drops.size.coflows lc) here);
+      load = λ c port has lp'.
+          let lp'' = subst (λ n. port.number < n) drops.size.ports lp' in
+          drops.others c port (stands.members c (was c has)).0 (other c has) lp'' ∙ stands.load c port (was c has) lp'';
       residual = λ c has.
-          left_pays (slice_index residuals c) (slice_index residuals' c) (budget i.weight c) (spent i.flows later c) (spent i.flows (entry_of x ∷ later) c) x.y (load_at t c x.port)
-          (load i.flows c x.port)
-          (pays c (stands.members c (was c has)).0) (stands.residual c (was c has)) (stands.load c x.port (was c has) chosen.port.in_range)
-          (spent_more i.flows (entry_of x) later c);
+          left_pays (slice_index residuals c) (slice_index residuals' c) (budget i.weight c) (spent i.flows later c) (spent i.flows (e ∷ later) c) e.y (load_at t c e.port)
+          (load i.flows c e.port)
+          (pays c (stands.members c (was c has)).0) (stands.residual c (was c has)) (stands.load c e.port (was c has) lp)
+          (spent_more i.flows e later c);
     }
 
 less_load : (t t' : LoadTable) (coflow : ℕ) → DropsCoflow t t' coflow → (c : ℕ) (port : Port) → c < t.coflows → port.number < t.ports → load_at t' c port ≤ load_at t c port
@@ -162,25 +164,25 @@ less_total t t' coflow drops port lp =
       sum_mono (λ c. load_at t' c port) (λ c. load_at t c port) (range_with_len 0 t.coflows) (λ c has. less_load t t' coflow drops c port (in_range t.coflows c has) lp),
     )
 
-pub ready_more : (t t' : LoadTable) (residuals residuals' : List ℕ) (waiting : List Bool) (x : Place) → IsReady t residuals waiting → IsChosen t residuals waiting x →
-    Pays t x.port x.y residuals residuals' → length residuals' ≡ length residuals →
-    DropsCoflow t t' x.coflow → IsReady t' residuals' (slice_set waiting x.coflow false)
-ready_more t t' residuals residuals' waiting x ready chosen pays len drops = record {
+pub ready_more : (t t' : LoadTable) (residuals residuals' : List ℕ) (waiting : List Bool) (e : Entry) → IsReady t residuals waiting →
+    Pays t e.port e.y residuals residuals' → length residuals' ≡ length residuals →
+    DropsCoflow t t' e.coflow → IsReady t' residuals' (slice_set waiting e.coflow false)
+ready_more t t' residuals residuals' waiting e ready pays len drops = record {
   coflows_limit = omega (arith, ready.coflows_limit, drops.size.coflows);
   residuals_len = len ∙ ready.residuals_len ∙ sym drops.size.coflows;
-  waiting_len = length-set waiting x.coflow false ∙ ready.waiting_len ∙ sym drops.size.coflows;
+  waiting_len = length-set waiting e.coflow false ∙ ready.waiting_len ∙ sym drops.size.coflows;
   residuals_fit = λ c lc.
       let lc' = subst (λ n. c < n) drops.size.coflows lc in
       omega (arith, pays c lc', ready.residuals_fit c lc');
   totals_fit = λ port lp.
       let lp' = subst (λ n. port.number < n) drops.size.ports lp in
-      omega (arith, less_total t t' x.coflow drops port lp', ready.totals_fit port lp');
+      omega (arith, less_total t t' e.coflow drops port lp', ready.totals_fit port lp');
   loads_wait = λ c port lc lp out.
       let lc' = subst (λ n. c < n) drops.size.coflows lc in
       let lp' = subst (λ n. port.number < n) drops.size.ports lp in
-      elim (cases_eq c x.coflow) [
-        | inl e ↦ ap (λ k. load_at t' k port) e ∙ drops.gone port lp'
-        | inr ne ↦ drops.others c port lc' ne lp' ∙ ready.loads_wait c port lc' lp' (sym (get_or-set_other waiting x.coflow c false false ne) ∙ out)
+      elim (cases_eq c e.coflow) [
+        | inl is ↦ ap (λ k. load_at t' k port) is ∙ drops.gone port lp'
+        | inr ne ↦ drops.others c port lc' ne lp' ∙ ready.loads_wait c port lc' lp' (sym (get_or-set_other waiting e.coflow c false false ne) ∙ out)
       ];
 }
 
@@ -205,7 +207,7 @@ told_more flows weight ports later coflows [] left x placed told rest_is load_is
 told_more flows weight ports later coflows (y ∷ l) left x placed told rest_is load_is =
     (told.0, told.1, told_more flows weight ports (entry_of y ∷ later) (without y.coflow coflows) l left x placed.2 told.2 rest_is load_is)
 
-after_more : (l : List Entry) (e : Entry) (later : List Entry) → after (l ++ e ∷ []) later ≡ e ∷ after l later
+pub after_more : (l : List Entry) (e : Entry) (later : List Entry) → after (l ++ e ∷ []) later ≡ e ∷ after l later
 after_more [] e later = refl
 after_more (x ∷ l) e later = after_more l e (x ∷ later)
 
@@ -224,7 +226,7 @@ run_more i l t t' residuals residuals' waiting x ready so_far chosen pays drops 
     let placed = place_more i.flows i.weight i.ports [] i.coflows (map entry_of l) so_far.left (entry_of x) so_far.placed has
     (is_placed i later so_far.left t residuals waiting x ready so_far.stands chosen) in
     let names = map-append entry_of l (x ∷ []) in
-    let stands = stands_more i later so_far.left t t' residuals residuals' waiting x ready so_far.stands chosen pays drops in
+    let stands = stands_more i later so_far.left t t' residuals residuals' waiting (entry_of x) so_far.stands chosen.waits chosen.port.in_range pays drops in
     let rest_is = chosen.rest ∙ ap (λ n. n - x.y * load_at t x.coflow x.port) (so_far.stands.residual x.coflow has) ∙
     ap (λ n. residual i.flows i.weight later x.coflow - x.y * n) (so_far.stands.load x.coflow x.port has chosen.port.in_range) in
     let load_is = chosen.load ∙ left_total i later so_far.left t residuals waiting ready so_far.stands x.port chosen.port.in_range in
@@ -243,7 +245,7 @@ marked_counts [] c here = absurd (true≢false (sym here))
 marked_counts (x ∷ xs) zero here = omega (arith, sum_by-cons (λ w. cond w 1 0) x xs, ap {B = ℕ} (λ w. cond w 1 0) here)
 marked_counts (x ∷ xs) (suc c) here = omega (arith, sum_by-cons (λ w. cond w 1 0) x xs, marked_counts xs c here)
 
-none_left : (left : List ℕ) (waiting : List Bool) → ((c : ℕ) → Contains left c → is_present waiting c ≡ true) → count_by (λ w. w) waiting ≡ 0 → left ≡ []
+pub none_left : (left : List ℕ) (waiting : List Bool) → ((c : ℕ) → Contains left c → is_present waiting c ≡ true) → count_by (λ w. w) waiting ≡ 0 → left ≡ []
 none_left [] waiting marked none = refl
 none_left (x ∷ xs) waiting marked none = absurd (omega (arith, none, marked_counts waiting x (marked x (in_first x xs))))
 
@@ -274,7 +276,7 @@ loads_told flows weight ports later coflows (x ∷ l) placed apart told =
       loads_told flows weight ports (entry_of x ∷ later) (without x.coflow coflows) l placed.2 (without_apart x.coflow coflows apart) told.2,
     )
 
-all_along : {X : Type 0} (P : X → Type 0) (xs : List X) → All P (reverse xs) → All P xs
+pub all_along : {X : Type 0} (P : X → Type 0) (xs : List X) → All P (reverse xs) → All P xs
 all_along P xs all k d lt =
     let j = length xs - 1 - k in
     let in' : j < length (reverse xs) = omega (arith, length-reverse xs) in
@@ -325,7 +327,7 @@ pub places_more : (t₀ t t' : LoadTable) (residuals₀ residuals residuals' : L
 places_more t₀ t t' residuals₀ residuals residuals' waiting₀ waiting waiting' places number x so_far lt chosen pays len marks drops =
     subst (λ w. PlacesSoFar t₀ t' residuals₀ residuals' waiting₀ w (slice_set places number x) number) (sym marks) record {
       size = record { coflows = drops.size.coflows ∙ so_far.size.coflows; ports = drops.size.ports ∙ so_far.size.ports };
-      ready = ready_more t t' residuals residuals' waiting x so_far.ready chosen pays len drops;
+      ready = ready_more t t' residuals residuals' waiting (entry_of x) so_far.ready pays len drops;
       waits = one_less waiting x.coflow number chosen.waits so_far.waits;
       run = λ i stands.
           let more = run_more i (reverse (drop (number + 1) places)) t t' residuals residuals' waiting x so_far.ready (so_far.run i stands) chosen pays drops in

@@ -137,13 +137,13 @@ least_load_fits t residuals port least least_load done most so_far fits = elim (
   | inr none ↦ omega arith
 ]
 
-either_way : (a b c k : ℕ) → a ≤ b → c ≤ k → (a < b) ⊎ ((a ≡ b) × (c ≤ k))
+pub either_way : (a b c k : ℕ) → a ≤ b → c ≤ k → (a < b) ⊎ ((a ≡ b) × (c ≤ k))
 either_way a b c k le lt = elim (cases_lt a b) [
   | inl less ↦ inl less
   | inr same ↦ inr (omega arith, lt)
 ]
 
-at_most_of : (a b c k : ℕ) → (a < b) ⊎ ((a ≡ b) × (c ≤ k)) → a ≤ b
+pub at_most_of : (a b c k : ℕ) → (a < b) ⊎ ((a ≡ b) × (c ≤ k)) → a ≤ b
 at_most_of a b c k (inl less) = omega arith
 at_most_of a b c k (inr same) = omega (arith, same.0)
 
@@ -191,7 +191,7 @@ least_keep t residuals port least least_load k load so_far is less =
       ];
     }
 
-seen_before : (f : ℕ → ℕ) (done next c : ℕ) → ((k : ℕ) → done ≤ k → k < next → f k ≡ 0) → c < next → 0 < f c → c < done
+pub seen_before : (f : ℕ → ℕ) (done next c : ℕ) → ((k : ℕ) → done ≤ k → k < next → f k ≡ 0) → c < next → 0 < f c → c < done
 seen_before f done next c none lt some = elim (cases_lt c done) [
   | inl old ↦ old
   | inr new ↦ absurd (omega (arith, some, none c new lt))

@@ -158,7 +158,8 @@ fn drop_absent(loads: &mut Loads, present: &[bool])
     }
 }
 
-fn give_budgets(residuals: &mut [u128], weights: &[u64])
+/// Sets each residual to the coflow's budget: its weight, at most 2^32, times 2^40. There are as many residuals as weights.
+pub fn give_budgets(residuals: &mut [u128], weights: &[u64])
     requires len { length residuals.old ≡ length weights.now }
     requires weights_fit { All (λ w. w ≤ MAX_WEIGHT) weights.now }
     ensures { (coflow : ℕ) → coflow < length weights.now →

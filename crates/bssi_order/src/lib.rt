@@ -4,4 +4,5 @@
 mod bssi;
 mod step;
 
-pub use bssi::Bssi;
+pub use bssi::{Bssi, give_budgets};
+pub use step::{choose, pay};

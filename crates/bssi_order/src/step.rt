@@ -43,7 +43,10 @@ fn next_place(loads: &mut Loads, residuals: &mut [u128], waiting: &mut [bool]) -
     place
 }
 
-fn choose(loads: &Loads, residuals: &[u128], waiting: &[bool]) -> Place
+/// The place that comes before those that are there: the first port with the greatest load, and there the coflow whose residual is used up first, with what it pays
+/// for each unit of load and what it keeps. Where nobody has load, the greatest number takes the place and pays nothing. The loads are those of the coflows that
+/// wait, with one residual and one mark for each coflow; some coflow waits.
+pub fn choose(loads: &Loads, residuals: &[u128], waiting: &[bool]) -> Place
     requires ready { IsReady loads.now residuals.now waiting.now }
     requires some { 0 < count_by (λ waits. waits) waiting.now }
     ensures chosen { IsChosen loads.now residuals.now waiting.now result }
@@ -91,14 +94,20 @@ fn greatest_port(loads: &Loads) -> Port
 fn greatest_on(loads: &Loads, side: Side) -> Port
     ensures { IsGreatestOn loads.now side result }
 {
-    let mut greatest = Port { side, number: 0 };
+    let totals = loads.totals(side);
+    let mut greatest = 0;
+    let mut most = totals[0];
     for number in 1..loads.ports() {
-        let port = Port { side, number };
-        if loads.total(port) > loads.total(greatest) {
-            greatest = port;
+        let total = totals[number as usize];
+        if total > most {
+            greatest = number;
+            most = total;
         }
     }
-    greatest
+    Port {
+        side,
+        number: greatest,
+    }
 }
 
 fn greatest_waiting(waiting: &[bool]) -> u32
@@ -142,7 +151,8 @@ fn least_ratio(loads: &Loads, residuals: &[u128], port: Port) -> u32
     least
 }
 
-fn pay(residuals: &mut [u128], loads: &Loads, port: Port, y: u128)
+/// Each coflow pays y for each unit of its load on the port; none has less left than that. There is one residual for each coflow.
+pub fn pay(residuals: &mut [u128], loads: &Loads, port: Port, y: u128)
     requires residuals_len { length residuals.old ≡ loads.now.coflows }
     requires port_in { port.number < loads.now.ports }
     requires affordable { (coflow : ℕ) → coflow < loads.now.coflows →

@@ -161,13 +161,13 @@ sum_of_same : (k : ℕ) (xs : List ℕ) → sum_by (λ x. k) xs ≡ length xs * 
 sum_of_same k [] = omega arith
 sum_of_same k (x ∷ xs) = omega (arith, sum_by-cons (λ y. k) x xs, sum_of_same k xs)
 
-weight_small : (weights : List ℕ) (most c : ℕ) → All (λ w. w ≤ most) weights → slice_index weights c ≤ most
+pub weight_small : (weights : List ℕ) (most c : ℕ) → All (λ w. w ≤ most) weights → slice_index weights c ≤ most
 weight_small weights most c all = elim (cases_lt c (length weights)) [
   | inl lt ↦ all c 0 lt
   | inr le ↦ omega (arith, get_or-eq_default weights 0 le)
 ]
 
-budgets_within : (t : LoadTable) (weight : ℕ → ℕ) (weights : List ℕ) (entries : List Entry) (most : ℕ) → IsCertificateOf t entries → HasWeightsOf weight weights entries →
+pub budgets_within : (t : LoadTable) (weight : ℕ → ℕ) (weights : List ℕ) (entries : List Entry) (most : ℕ) → IsCertificateOf t entries → HasWeightsOf weight weights entries →
     All (λ w. w ≤ most) weights →
     sum_by (budget weight) (front entries) ≤ t.coflows * (most * scale)
 budgets_within t weight weights entries most certificate has all =
@@ -179,7 +179,7 @@ budgets_within t weight weights entries most certificate has all =
     let four = ap (λ n. n * k) (length-range_with_len 0 t.coflows) in
     omega (arith, one, two, three, four)
 
-fronts_within : (t : LoadTable) (flows : List Flow) (entries : List Entry) (most : ℕ) → IsCertificateOf t entries → HasLoadsOf flows t entries →
+pub fronts_within : (t : LoadTable) (flows : List Flow) (entries : List Entry) (most : ℕ) → IsCertificateOf t entries → HasLoadsOf flows t entries →
     ((port : Port) → port.number < t.ports → total_at t port ≤ most) →
     (port : Port) → port.number < t.ports → load_of_all flows (front entries) port ≤ most
 fronts_within t flows entries most certificate has totals port lt =

@@ -36,7 +36,7 @@ pub fn infeasible(loads: &Loads, weights: &[u64], cert: &Cert) -> Option<u32>
 }
 
 /// What each coflow pays, by number: exact up to the greatest number of 128 bits, which stands for all that is above it.
-pub(crate) fn payments(loads: &Loads, charges: &[Charge], places: &[usize]) -> [u128; COFLOWS]
+pub fn payments(loads: &Loads, charges: &[Charge], places: &[usize]) -> [u128; COFLOWS]
     requires places { HasPlaces charges.now places.now }
     requires certificate { IsCertificateOf loads.now (all_entries charges.now) }
     ensures { (flows : List Flow) (coflow : ℕ) → HasLoadsOf flows loads.now (all_entries charges.now) →

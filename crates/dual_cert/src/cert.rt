@@ -9,10 +9,10 @@ use std::marker::Model;
 
 /// A place of a certificate: what each coflow up to this place pays for each unit of its load on the port.
 #[derive(Clone, Copy)]
-pub(crate) struct Charge {
-    pub(crate) coflow: u32,
-    pub(crate) port: Port,
-    pub(crate) y: u128,
+pub struct Charge {
+    pub coflow: u32,
+    pub port: Port,
+    pub y: u128,
 }
 
 /// A certificate: coflows in order, with the port that each place charges and the price of a unit of load there, in parts of 2^40 of a weight of 1.

@@ -8,10 +8,10 @@ use coflow_units::MAX_COFLOWS;
 use port_load::Loads;
 
 /// As many as there may be coflows.
-pub(crate) const COFLOWS: usize = MAX_COFLOWS as usize;
+pub const COFLOWS: usize = MAX_COFLOWS as usize;
 
 /// For each coflow of the loads the number of its place, counted from 0. The greatest number stands for no place.
-pub(crate) fn places_of(loads: &Loads, charges: &[Charge]) -> [usize; COFLOWS]
+pub fn places_of(loads: &Loads, charges: &[Charge]) -> [usize; COFLOWS]
     requires certificate { IsCertificateOf loads.now (all_entries charges.now) }
     ensures { HasPlaces charges.now result }
 {
@@ -24,7 +24,7 @@ pub(crate) fn places_of(loads: &Loads, charges: &[Charge]) -> [usize; COFLOWS]
 }
 
 /// The load of a coflow on the port of a place, where it is in the front of that place, and else 0. Places count from 0.
-pub(crate) fn load_in_front(
+pub fn load_in_front(
     loads: &Loads,
     charges: &[Charge],
     places: &[usize],

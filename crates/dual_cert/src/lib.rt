@@ -7,6 +7,7 @@ mod fronts;
 pub mod laws;
 mod value;
 
-pub use budgets::infeasible;
-pub use cert::Cert;
-pub use value::{bound, slack};
+pub use budgets::{infeasible, payments};
+pub use cert::{Cert, Charge};
+pub use fronts::{COFLOWS, load_in_front, places_of};
+pub use value::{bound, slack, squares, total};

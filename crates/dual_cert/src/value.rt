@@ -65,7 +65,7 @@ pub fn slack(loads: &Loads, weights: &[u64], cert: &Cert) -> u128
 }
 
 /// The load of a place's port over its front. Places count from 0.
-fn total(loads: &Loads, charges: &[Charge], places: &[usize], place: usize) -> u64
+pub fn total(loads: &Loads, charges: &[Charge], places: &[usize], place: usize) -> u64
     requires places { HasPlaces charges.now places.now }
     requires totals_fit { (port : Port) → port.number < loads.now.ports → total_at loads.now port ≤ MAX_UNITS }
     requires place_in { place < length charges.now }
@@ -86,15 +86,16 @@ fn total(loads: &Loads, charges: &[Charge], places: &[usize], place: usize) -> u
 }
 
 /// The square of the load of a place's port over its front, and the squares of its coflows' loads there. Places count from 0.
-fn squares(loads: &Loads, charges: &[Charge], places: &[usize], place: usize) -> u128
+pub fn squares(loads: &Loads, charges: &[Charge], places: &[usize], place: usize) -> u128
     requires places { HasPlaces charges.now places.now }
     requires totals_fit { (port : Port) → port.number < loads.now.ports → total_at loads.now port ≤ MAX_UNITS }
     requires place_in { place < length charges.now }
     requires certificate { IsCertificateOf loads.now (all_entries charges.now) }
-    ensures { (flows : List Flow) → HasLoadsOf flows loads.now (all_entries charges.now) →
+    ensures value { (flows : List Flow) → HasLoadsOf flows loads.now (all_entries charges.now) →
         result ≡ front_load flows (entries_to (place + 1) charges.now) * front_load flows
         (entries_to (place + 1) charges.now) +
         squares_of_loads flows (front (entries_to (place + 1) charges.now)) (port_at charges.now place) }
+    ensures fits { result ≤ 2 * (MAX_UNITS * MAX_UNITS) }
 {
     let port = charges[place].port;
     let coflows = loads.coflows();

@@ -1,5 +1,6 @@
 -- The flows before a coflow, an ingress and an egress, one step after another.
 use Rattle.std.proofs.Common.{◌≡◌, ℕ, ◌+◌, ◌<◌, ◌≤◌, ◌⊎◌, inl, inr, List, [], ◌∷◌, ◌++◌, get_or, length, refl, sym, ap, subst, ◌∙◌, arith}
+use Rattle.std.proofs.Common.{zero, suc}
 use Rattle.std.specs.Prelude.{All}
 use Rattle.std.proofs.lemmas.Bool.{cases_lt}
 use Rattle.std.proofs.lemmas.List.{get_or_append_left, get_or_push, length_push}
@@ -99,6 +100,15 @@ module _ (sends : ℕ → ℕ → ℕ → ℕ) (c i e : ℕ) (flows : List Flow)
   pub next_ingress : ((z : ℕ) → e ≤ z → sends c i z ≡ 0) → HaveUnitsBefore sends c (i + 1) 0 flows
   next_ingress none = skip c (i + 1) 0 (λ x y z lt. grind arith)
       (λ x y z lt from. let (p, q, low) = in_rest_of_row x y z c i e lt from in ap (λ n. sends n y z) p ∙ ap (λ n. sends c n z) q ∙ none z low)
+
+-- to a later ingress, where nothing is sent from those between
+pub later_ingress : (sends : ℕ → ℕ → ℕ → ℕ) (c i n : ℕ) (flows : List Flow) → HaveUnitsBefore sends c i 0 flows → ((y z : ℕ) → i ≤ y → y < i + n → sends c y z ≡ 0) →
+    HaveUnitsBefore sends c (i + n) 0 flows
+later_ingress sends c i zero flows h none = let e : i ≡ i + 0 = omega arith in subst (λ k. HaveUnitsBefore sends c k 0 flows) e h
+later_ingress sends c i (suc n) flows h none =
+    let e : i + n + 1 ≡ i + suc n = omega arith in
+    subst (λ k. HaveUnitsBefore sends c k 0 flows) e
+    (next_ingress sends c (i + n) 0 flows (later_ingress sends c i n flows h (λ y z low high. none y z low (omega (arith, high)))) (λ z _. none (i + n) z (omega arith) (omega arith)))
 
 -- to the next coflow, where nothing more is sent by this one
 pub next_coflow : (sends : ℕ → ℕ → ℕ → ℕ) (c i : ℕ) (flows : List Flow) → HaveUnitsBefore sends c i 0 flows → ((y z : ℕ) → i ≤ y → sends c y z ≡ 0) →

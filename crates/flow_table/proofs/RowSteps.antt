@@ -1,7 +1,8 @@
 -- The flows of a coflow from an ingress, target after target.
-use Rattle.std.proofs.Common.{◌≡◌, ◌≢◌, ℕ, ◌+◌, ◌-◌, ◌*◌, ◌^◌, ◌<◌, ◌≤◌, ◌⊎◌, inl, inr, List, [], ◌∷◌, ◌++◌, get_or, length, sym, ap, ◌∙◌, arith, zero, suc}
-use Rattle.std.specs.Prelude.{All}
-use Rattle.std.proofs.lemmas.Bool.{cases_eq, cases_lt}
+use Rattle.std.proofs.Common.{◌≡◌, ◌≢◌, ℕ, ◌+◌, ◌-◌, ◌*◌, ◌^◌, ◌<◌, ◌≤◌, ◌⊎◌, inl, inr, List, [], ◌∷◌, ◌++◌, get_or, length, sym, ap, subst, ◌∙◌, arith, zero, suc}
+use Rattle.std.specs.Prelude.{All, ◌==◌}
+use Rattle.std.specs.List.Sorted.{IsNonDecreasingBy}
+use Rattle.std.proofs.lemmas.Bool.{cases_eq, cases_lt, ne_eqb}
 use Rattle.std.proofs.lemmas.List.{get_or_default, length_push}
 use Rattle.std.proofs.lemmas.List.Elements.{All-cons}
 use Rattle.coflow_units.specs.declared.fabric.Flow.{Flow}
@@ -11,8 +12,9 @@ use Rattle.flow_table.specs.declared.targets.Target.{Target}
 use Rattle.flow_table.specs.FlowsOf.{HaveUnitsBefore, IsTooMany}
 use Rattle.flow_table.specs.Spots.{pairs, spots_at}
 use Rattle.flow_table.specs.Targets.{AreTargets, SendsTo, own_rests}
-use Rattle.flow_table.proofs.FlowSteps.{next_egress, next_ingress, push}
+use Rattle.flow_table.proofs.FlowSteps.{later_ingress, next_coflow, next_egress, next_ingress, push}
 use Rattle.flow_table.proofs.FlowsOne.{front_is_short}
+use Rattle.flow_table.proofs.SpotSteps.{StandsAt, none_between, none_past, none_pass, reaches}
 
 abbrev none : Target
 none = record { egress = 0; whole = 0; first = 0; end = 0 }
@@ -125,3 +127,26 @@ no_places row targets rests to e = elim (is_target targets e) [
       ap row (sym (found.2 none)) ∙ nought
   | inr other ↦ to.elsewhere e other
 ]
+
+-- the same of all mappers, where none is at the ingress
+pub nothing_from : (row : ℕ → ℕ) (places rests : List Spot) (targets : List Target) (i : ℕ) →
+    ((s : ℕ) (d : Spot) → s < length places → (get_or places s d).location ≡ i → ⊥) → SendsTo row (spots_at places i) targets rests → (e : ℕ) → row e ≡ 0
+nothing_from row places rests targets i out to e =
+    let empty : spots_at places i ≡ [] = none_pass (λ (s : Spot). s.location == i) places (λ s d lt. ne_eqb (get_or places s d).location i (out s d lt)) in
+    no_places row targets rests (subst (λ l. SendsTo row l targets rests) empty to) e
+
+-- to the ingress of the next mapper
+pub row_begins : (sends : ℕ → ℕ → ℕ → ℕ) (c i first : ℕ) (places rests : List Spot) (targets : List Target) (x : Spot) (flows : List Flow) →
+    IsNonDecreasingBy (λ (s : Spot). s.location) places → StandsAt places i first → first < length places → x ≡ get_or places first x →
+    ((k : ℕ) → SendsTo (sends c k) (spots_at places k) targets rests) → HaveUnitsBefore sends c i 0 flows → HaveUnitsBefore sends c x.location 0 flows
+row_begins sends c i first places rests targets x flows up at lt is to before =
+    let n = x.location - i in
+    let e : i + n ≡ x.location = omega (arith, reaches places i first x at lt is) in
+    subst (λ k. HaveUnitsBefore sends c k 0 flows) e (later_ingress sends c i n flows before
+    (λ k z low high. nothing_from (sends c k) places rests targets k (none_between places i first x up at lt is k low (omega (arith, high, e))) (to k) z))
+
+-- past the last mapper
+pub rows_end : (sends : ℕ → ℕ → ℕ → ℕ) (c i first : ℕ) (places rests : List Spot) (targets : List Target) (flows : List Flow) → StandsAt places i first → length places ≤ first →
+    ((k : ℕ) → SendsTo (sends c k) (spots_at places k) targets rests) → HaveUnitsBefore sends c i 0 flows → HaveUnitsBefore sends (c + 1) 0 0 flows
+rows_end sends c i first places rests targets flows at end to before =
+    next_coflow sends c i flows before (λ k z from. nothing_from (sends c k) places rests targets k (none_past places i first at end k from) (to k) z)

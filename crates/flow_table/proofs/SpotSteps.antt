@@ -3,8 +3,8 @@ use Rattle.std.proofs.Common.{◌≡◌, ℕ, ◌+◌, ◌-◌, ◌<◌, ◌≤�
 use Rattle.std.proofs.Common.{zero, suc}
 use Rattle.std.specs.Prelude.{AllPairs, filter, sum_by, ◌==◌}
 use Rattle.std.specs.List.Sorted.{IsNonDecreasingBy, IsPermutation}
-use Rattle.std.proofs.lemmas.Bool.{cases_order, eq-eqb, eqb-true, ne_eqb}
-use Rattle.std.proofs.lemmas.List.{append-nil, get_or-drop, get_or-take, length-drop, length-take, take-append-drop}
+use Rattle.std.proofs.lemmas.Bool.{cases_lt, cases_order, eq-eqb, eqb-true, ne_eqb}
+use Rattle.std.proofs.lemmas.List.{append-nil, get_or_read, get_or-drop, get_or-take, length-drop, length-take, take-append-drop}
 use Rattle.std.proofs.lemmas.List.Elements.{filter-append, filter_passes}
 use Rattle.std.proofs.lemmas.List.Kept.{AllPairs-filter}
 use Rattle.std.proofs.lemmas.List.Sorted.{sum_by-IsPermutation}
@@ -96,6 +96,40 @@ stands_next spots location first end up at ends = record {
       | inr (inl less) ↦ omega (arith, at.earlier s d less)
       | inr (inr more) ↦ omega (arith, ends.own s d (omega arith) lt)
     ]
+
+-- the place at its own location
+pub reaches : (spots : List Spot) (location first : ℕ) (x : Spot) → StandsAt spots location first → first < length spots → x ≡ get_or spots first x → location ≤ x.location
+reaches spots location first x at lt is = omega (arith, at.later first x (omega arith) lt, ap (λ (y : Spot). y.location) is)
+
+pub stands_here : (spots : List Spot) (location first : ℕ) (x : Spot) → IsNonDecreasingBy (λ (s : Spot). s.location) spots → StandsAt spots location first → first < length spots →
+    x ≡ get_or spots first x → StandsAt spots x.location first
+stands_here spots location first x up at lt is = record {
+  within = at.within;
+  earlier = λ s d low. omega (arith, at.earlier s d low, reaches spots location first x at lt is);
+  later = λ s d low high. omega (arith, ap (λ (y : Spot). y.location) (get_or_read spots first x lt is d), up first s d low high);
+}
+
+-- no spot is between a location and the place that stands there
+pub none_between : (spots : List Spot) (location first : ℕ) (x : Spot) → IsNonDecreasingBy (λ (s : Spot). s.location) spots → StandsAt spots location first → first < length spots →
+    x ≡ get_or spots first x → (e : ℕ) → location ≤ e → e < x.location → (s : ℕ) (d : Spot) → s < length spots → (get_or spots s d).location ≡ e → ⊥
+none_between spots location first x up at lt is e low high s d in' same = elim (cases_lt s first) [
+  | inl before ↦ omega (arith, at.earlier s d before, same, low)
+  | inr after ↦ omega (arith, ap (λ (y : Spot). y.location) (get_or_read spots first x lt is d), up first s d after in', same, high)
+]
+
+-- past the last place no spot has a location
+pub none_past : (spots : List Spot) (location first : ℕ) → StandsAt spots location first → length spots ≤ first → (e : ℕ) → location ≤ e → (s : ℕ) (d : Spot) → s < length spots →
+    (get_or spots s d).location ≡ e → ⊥
+none_past spots location first at end e low s d in' same = omega (arith, at.earlier s d (omega (arith, in', end)), same, low)
+
+-- the spot at the place is one of its location
+pub ends_later : (spots : List Spot) (first end : ℕ) (x : Spot) → first < length spots → x ≡ get_or spots first x → EndsAt spots x.location first end → first < end
+ends_later spots first end x lt is ends = elim (cases_lt first end) [
+  | inl less ↦ less
+  | inr more ↦
+      let same : end ≡ first = omega (arith, more, ends.bound.0) in
+      absurd (ends.last x (omega (arith, same, lt)) (ap (λ k. (get_or spots k x).location) same ∙ ap (λ (y : Spot). y.location) (sym is)))
+]
 
 all_pass : {X : Type 0} (p : X → Bool) (xs : List X) → ((k : ℕ) (d : X) → k < length xs → p (get_or xs k d) ≡ true) → filter p xs ≡ xs
 all_pass p [] h = refl

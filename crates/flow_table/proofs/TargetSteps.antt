@@ -15,7 +15,7 @@ use Rattle.flow_table.specs.Spots.{EndsAt, IsByLocation, spots_at}
 use Rattle.flow_table.specs.Targets.{AreTargets, own_rests, whole_to}
 use Rattle.flow_table.specs.Units.{units_of_line, units_of_reducer}
 use Rattle.flow_table.proofs.Shares.{picked}
-use Rattle.flow_table.proofs.SpotSteps.{StandsAt, part_at, stands_next}
+use Rattle.flow_table.proofs.SpotSteps.{StandsAt, none_between, none_past, part_at, reaches, stands_here, stands_next}
 
 -- ---- the wholes, reducer by reducer
 
@@ -103,6 +103,42 @@ module _ (rests : List Spot) (wholes : ℕ → ℕ) (egress first end : ℕ) (ta
       | inr (inr more) ↦ absurd (omega arith)
     ];
   }
+
+-- no rest was looked at
+pub targets_begin : (rests : List Spot) (wholes : ℕ → ℕ) → TargetsSoFar rests wholes 0 0 []
+targets_begin rests wholes = record {
+  at = record { within = omega arith; earlier = λ s d lt. absurd (omega (arith, lt)); later = λ s d low high. omega arith };
+  ascending = λ t d lt. absurd (omega (arith, lt));
+  below = λ t d lt. absurd (omega (arith, lt));
+  ranges = λ t d lt. absurd (omega (arith, lt));
+  own = λ t d lt. absurd (omega (arith, lt));
+  wholes_are = λ t d lt. absurd (omega (arith, lt));
+  all = λ e lt. absurd (omega (arith, lt));
+}
+
+-- on to the location of the next rest
+pub targets_reach : (rests : List Spot) (wholes : ℕ → ℕ) (egress first : ℕ) (targets : List Target) (x : Spot) → IsNonDecreasingBy (λ (s : Spot). s.location) rests →
+    TargetsSoFar rests wholes egress first targets → first < length rests → x ≡ get_or rests first x → TargetsSoFar rests wholes x.location first targets
+targets_reach rests wholes egress first targets x up h lt is = record {
+  at = stands_here rests egress first x up h.at lt is;
+  ascending = h.ascending;
+  below = All-weaker (λ (t : Target). t.egress < egress) (λ (t : Target). t.egress < x.location) (λ t low. omega (arith, low, reaches rests egress first x h.at lt is)) targets h.below;
+  ranges = h.ranges;
+  own = h.own;
+  wholes_are = h.wholes_are;
+  all = λ e low out. elim (cases_lt e egress) [
+    | inl less ↦ h.all e less out
+    | inr more ↦ none_between rests egress first x up h.at lt is e more low
+  ];
+}
+
+-- all rests were looked at
+pub targets_reach_all : (rests : List Spot) (wholes : ℕ → ℕ) (egress first : ℕ) (targets : List Target) → TargetsSoFar rests wholes egress first targets → length rests ≤ first →
+    (e : ℕ) → All (λ (t : Target). t.egress ≢ e) targets → All (λ (s : Spot). s.location ≢ e) rests
+targets_reach_all rests wholes egress first targets h end e out = elim (cases_lt e egress) [
+  | inl less ↦ h.all e less out
+  | inr more ↦ none_past rests egress first h.at end e more
+]
 
 -- all egress ports were looked at
 pub targets_all : (rests : List Spot) (wholes : ℕ → ℕ) (ports first : ℕ) (targets : List Target) → IsByLocation rests → ((e : ℕ) → wholes e ≤ 2 ^ 40) →

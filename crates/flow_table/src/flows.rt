@@ -59,7 +59,7 @@ fn push_coflow(
     let places = mapper_places(alloc, line)?;
     let rests = reducer_rests(alloc, line, unit)?;
     let targets = targets_of(alloc, line, unit, ports, &rests)?;
-    push_sources(flows, coflow, ports, &places, &targets, &rests)?;
+    push_sources(flows, coflow, &places, &targets, &rests)?;
     Ok(())
 }
 
@@ -67,7 +67,6 @@ fn push_coflow(
 fn push_sources(
     flows: &mut Vec<Flow>,
     coflow: u32,
-    ports: u32,
     places: &[Spot],
     targets: &[Target],
     rests: &[Spot],
@@ -76,7 +75,6 @@ fn push_sources(
     requires few_places { length places.now ≤ MAX_MAPPERS }
     requires few_rests { length rests.now ≤ MAX_MAPPERS }
     requires sorted { IsByLocation places.now }
-    requires within { All (λ (s : Spot). s.location < ports) places.now }
     requires targets { AreTargets rests.now targets.now }
     ensures few_still { OnOk result (length flows.new.items ≤ MAX_FLOWS) }
     ensures pushed { OnOk result ((sends : ℕ → ℕ → ℕ → ℕ) →
@@ -87,11 +85,9 @@ fn push_sources(
         HaveUnitsBefore sends coflow 0 0 flows.old.items → IsTooMany sends)) }
 {
     let mut first = 0;
-    for ingress in 0..ports {
+    'sources: while first < places.len() {
+        let ingress = places[first].location;
         let end = end_of(places, first, ingress);
-        if end == first {
-            continue;
-        }
         push_source(flows, coflow, ingress, &places[first..end], targets, rests)?;
         first = end;
     }

@@ -47,11 +47,9 @@ pub(crate) fn targets_of(
     let wholes = wholes_of(alloc, line, unit, ports)?;
     let mut targets = Vec::new(alloc);
     let mut first = 0;
-    for egress in 0..ports {
+    'targets: while first < rests.len() {
+        let egress = rests[first].location;
         let end = end_of(rests, first, egress);
-        if end == first {
-            continue;
-        }
         targets.push(Target {
             egress,
             whole: wholes[egress as usize],

@@ -209,3 +209,11 @@ pub none_at_port : (t : LoadTable) (coflows ports : ℕ) (cells totals : List �
     row ≡ port_place ports port → row < ports + ports → c < coflows → mark_at by_port row c ≡ 0 → load_at t c port ≡ 0
 none_at_port t coflows ports cells totals by_port by_coflow port row c kept view is lr lc none = sym (cell_is t coflows ports cells c row port view is) ∙
     kept.by_port_none c row lc lr none
+
+-- the total of a port is that of its row
+pub total_on : (t : LoadTable) (coflows ports : ℕ) (cells totals : List ℕ) (by_port by_coflow : MarkTable) (side : Side) (number : ℕ) →
+    IsKept coflows ports cells totals by_port by_coflow → table_of coflows ports cells ≡ t → number < ports →
+    slice_index totals (port_place_on side ports number) ≡ total_at t record { side = side; number = number }
+total_on t coflows ports cells totals by_port by_coflow side number k view lt =
+    subst (λ (x : LoadTable). slice_index totals (port_place_on side ports number) ≡ total_at x record { side = side; number = number }) view
+    (k.total (port_place_on side ports number) (place_on side ports number lt))

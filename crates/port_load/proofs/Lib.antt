@@ -5,3 +5,4 @@ pub mod ColumnSteps
 pub mod FlowSteps
 pub mod MarkSteps
 pub mod CellSteps
+pub mod GreatestSteps

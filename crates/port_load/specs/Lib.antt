@@ -2,3 +2,4 @@ pub mod LoadTable
 pub mod MarkTable
 pub mod Kept
 pub mod CellTable
+pub mod Bottleneck

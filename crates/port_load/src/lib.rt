@@ -2,8 +2,10 @@
 #![tactic(auto)]
 
 mod cells;
+mod greatest;
 pub mod laws;
 mod loads;
 mod marks;
 
+pub use greatest::bottleneck;
 pub use loads::Loads;

@@ -130,6 +130,20 @@ impl Loads {
         self.totals[row_of(port, self.ports)]
     }
 
+    /// The load of all coflows on each port of a side, in units, by number. They are kept, and not added up here.
+    pub fn totals(&self, side: Side) -> &[u64]
+        ensures count { length result.now ≡ self.now.ports }
+        ensures has_ports { 1 ≤ self.now.ports }
+        ensures totals { (number : ℕ) → number < self.now.ports →
+            slice_index result.now number ≡ total_at self.now record { side = side; number = number } }
+    {
+        let ports = self.ports as usize;
+        match side {
+            Side::Ingress => &self.totals[..ports],
+            Side::Egress => &self.totals[ports..],
+        }
+    }
+
     /// The first coflow, from a number on, that has load on the port, or the number of coflows where there is none. A walk along a port costs a step for 64
     /// coflows, and one for each that has load, or had it when it was dropped.
     pub fn next_loaded(&self, port: Port, from: u32) -> u32

@@ -6,7 +6,8 @@ use Rattle.dual_cert.proofs.ValueSteps.{IsPaidFor, div_ceil_is, value_fits_so_fa
 use Rattle.dual_cert.proofs.value.bound.Goals as goal
 
 pub loop-place-preserved : goal.loop-place-preserved
-loop-place-preserved c = value_step c.args.loads.now c.charges-charges.result.now c.loop-place.value c.loop-place.place c.squares.result c.loop-place.invariant c.squares.ensures
+loop-place-preserved c = value_step c.args.loads.now c.charges-charges.result.now c.loop-place.value c.loop-place.place c.squares.result c.loop-place.invariant
+    c.squares.ensures.value
     (omega arith)
 
 pub overflow_add-value : goal.overflow_add-value

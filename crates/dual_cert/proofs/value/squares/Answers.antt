@@ -74,8 +74,17 @@ overflow_add-result c =
     let within' = squares_small t charges c.args.place c.loaded.coflow c.requires.certificate c.requires.totals_fit c.requires.place_in le in
     omega (arith, square_fits c.loaded.total (omega (arith, c.loaded.invariant.total_is, within)), c.loaded.invariant.squares_are, within')
 
-pub returns : goal.returns
-returns c = λ flows has.
+pub returns-clause-fits : goal.returns-clause-fits
+returns-clause-fits c =
+    let t = c.args.loads.now in
+    let charges = c.args.charges.now in
+    let le : c.loaded.coflow ≤ t.coflows = omega (arith, c.loaded.invariant.within, c.coflows-coflows.ensures.coflows_are) in
+    let within = total_small t charges c.args.place c.loaded.coflow c.requires.certificate c.requires.totals_fit c.requires.place_in le in
+    let within' = squares_small t charges c.args.place c.loaded.coflow c.requires.certificate c.requires.totals_fit c.requires.place_in le in
+    omega (arith, square_fits c.loaded.total (omega (arith, c.loaded.invariant.total_is, within)), c.loaded.invariant.squares_are, within')
+
+pub returns-clause-value : goal.returns-clause-value
+returns-clause-value c = λ flows has.
     let t = c.args.loads.now in
     let charges = c.args.charges.now in
     let place = c.args.place in
