@@ -9,6 +9,7 @@ pub mod HeadSteps
 pub mod EndSteps
 pub mod RowSteps
 pub mod RankSteps
+pub mod SourceSteps
 pub mod ListSteps
 pub mod MatchingSteps
 pub mod RoomSteps

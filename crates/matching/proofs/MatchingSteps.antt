@@ -33,7 +33,7 @@ first_side ranks at k b = λ p lt.
     ]
 
 pub listed_told : (ranks : Ranks) (at told : List ℕ) → IsRanks ranks → IsBoard ranks.ports (graph_of ranks) at → IsStrictlyIncreasing told →
-    IsListing ranks (take ranks.ports at) (length (take ranks.ports at)) told → IsTold (number_of ranks) (Stands (graph_of ranks) at) told
+    IsListing ranks (take ranks.ports at) (λ p. p < length (take ranks.ports at)) told → IsTold (number_of ranks) (Stands (graph_of ranks) at) told
 listed_told ranks at told k b up l =
     let size : length (take ranks.ports at) ≡ ranks.ports = length-take-le ranks.ports at (omega (arith, b.size)) in
     record {
@@ -59,8 +59,8 @@ ranking_fits flows line left k n ranks r =
 
 pub ranking_made : (flows : List Flow) (line : List ℕ) (left : ℕ → ℕ) (k n : ℕ) (ranks : Ranks) → length flows < 2 ^ 32 → length flows ≤ length ranks.flows.items →
     All (λ (x : Flow). x.ingress < ranks.ports) flows → All (λ (x : Flow). x.egress < ranks.ports) flows →
-    IsRanking flows line left k n ranks → IsRanks ranks
-ranking_made flows line left k n ranks few room ins outs r = record {
+    ranks.sources.room ≡ ranks.ports → IsRanking flows line left k n ranks → IsRanks ranks
+ranking_made flows line left k n ranks few room ins outs sources r = record {
   fits = omega (arith, ranking_fits flows line left k n ranks r, room);
   graph = record {
     few = omega (arith, ranking_fits flows line left k n ranks r, few);
@@ -69,6 +69,8 @@ ranking_made flows line left k n ranks few room ins outs r = record {
     second = λ p lt. omega (arith, r.second_is p lt, outs (number_of ranks p) record { coflow = 0; ingress = 0; egress = 0; units = 0 } (r.flow p lt));
   };
   apart = λ p q less lt same. not_itself flows line (number_of ranks q) (subst (λ x. ComesBefore flows line x (number_of ranks q)) same (r.rises p q less lt));
+  source_room = sources;
+  sources = r.sources;
 }
 
 place_has : (line : List ℕ) (c : ℕ) → place_in line c < length line → Contains line c

@@ -1,5 +1,5 @@
 -- The ranking of the flows of a line, one flow after another.
-use Rattle.std.proofs.Common.{◌≡◌, ◌≢◌, ℕ, ◌+◌, ◌≤◌, ◌<◌, ◌⊎◌, inl, inr, List, length, get_or, set, map, sym, ap, subst, ◌∙◌, arith}
+use Rattle.std.proofs.Common.{◌≡◌, ◌≢◌, ℕ, ◌+◌, ◌≤◌, ◌<◌, ◌⊎◌, inl, inr, List, Contains, length, get_or, set, map, sym, ap, subst, ◌∙◌, arith}
 use Rattle.std.specs.Prelude.{All}
 use Rattle.std.specs.List.{range_with_len}
 use Rattle.std.proofs.Math.Dec.{eqb}
@@ -21,6 +21,7 @@ use Rattle.matching.specs.declared.ranks.Ranked.{Ranked}
 use Rattle.matching.specs.declared.ranks.Ranks.{Ranks}
 use Rattle.matching.specs.Board.{ranked_at}
 use Rattle.matching.specs.Ranking.{number_of, IsCoflowAt, IsRanking}
+use Rattle.matching.specs.Waits.{IsPushed}
 
 -- ---- different numbers below a bound are at most so many
 
@@ -82,6 +83,7 @@ skips flows line left k n ranks nothing so_far = record {
   ];
   first_is = so_far.first_is;
   second_is = so_far.second_is;
+  sources = so_far.sources;
 }
 
 pub record IsRanked (flows : List Flow) (n : ℕ) (old new : Ranks) (x : Ranked) : Type 0 where
@@ -92,6 +94,7 @@ pub record IsRanked (flows : List Flow) (n : ℕ) (old new : Ranks) (x : Ranked)
   pub count : new.count ≡ old.count + 1
   pub items : new.flows.items ≡ set old.flows.items old.count x
   pub room : old.count < length old.flows.items
+  pub source : IsPushed old.sources.ports new.sources.ports x.first
 
 pub ranks_next : (flows : List Flow) (line : List ℕ) (left : ℕ → ℕ) (k n : ℕ) (old new : Ranks) (x : Ranked) → IsRanked flows n old new x → n < length flows →
     place_in line (coflow_of flows n) ≡ k → 0 < left n → IsRanking flows line left k n old →
@@ -130,6 +133,10 @@ ranks_next flows line left k n old new x p lt here some so_far = record {
     | inl (low, e) ↦ subst (λ (y : Ranked). y.second ≡ new.ports + egress_of flows y.number) (sym e) (omega (arith, so_far.second_is r low, p.ports))
     | inr (_, e) ↦ subst (λ (y : Ranked). y.second ≡ new.ports + egress_of flows y.number) (sym e) (omega (arith, p.second_is, p.ports, ap (egress_of flows) p.number_is))
   ];
+  sources = λ r lr. elim (split r lr) [
+    | inl (low, e) ↦ subst (λ (y : Ranked). Contains new.sources.ports y.first) (sym e) (p.source.keeps (ranked_at old.flows.items r).first (so_far.sources r low))
+    | inr (_, e) ↦ subst (λ (y : Ranked). Contains new.sources.ports y.first) (sym e) p.source.has
+  ];
 } where
   last : ranked_at new.flows.items old.count ≡ x
   last = ap (λ (xs : List Ranked). ranked_at xs old.count) p.items ∙ get_or-set_at old.flows.items old.count old.count x record { first = 0; second = 0; number = 0 } (omega arith)
@@ -157,6 +164,7 @@ front_moves flows line left k n k' n' ranks there back so_far = record {
   all = λ f lt seen some. so_far.all f lt (back f lt seen) some;
   first_is = so_far.first_is;
   second_is = so_far.second_is;
+  sources = so_far.sources;
 }
 
 pub next_coflow : (flows : List Flow) (line starts : List ℕ) (k : ℕ) → IsStarts flows starts → IsDistinct line → k < length line → get_or line k 0 + 1 < length starts →

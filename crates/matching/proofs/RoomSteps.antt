@@ -34,6 +34,7 @@ whole_again old new w s within sound = record { sound = sound; room = room_stays
 -- no flow owes
 pub record IsEmpty (m : Tables) (flows : ℕ) : Type 0 where
   pub none : m.ranks.count ≡ 0
+  pub sources : m.ranks.sources.room ≡ m.ranks.ports
   pub granted : m.granted ≡ 0
   pub few_ports : m.ranks.ports + m.ranks.ports < 2 ^ 32
   pub few : flows < 2 ^ 32
@@ -64,6 +65,8 @@ empty_whole m flows e = record {
         second = λ r lt. absurd (omega (arith, lt, e.none));
       };
       apart = λ r s less lt. absurd (omega (arith, lt, e.none));
+      source_room = e.sources;
+      sources = λ r lt. absurd (omega (arith, lt, e.none));
     };
     lefts = omega (arith, e.none);
     heads = record {

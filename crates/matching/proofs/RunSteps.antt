@@ -14,6 +14,7 @@ use Rattle.matching.specs.Matching.{IsGrantedAt, IsLess, IsMatching, IsRankTaken
 use Rattle.matching.specs.Ranking.{number_of}
 use Rattle.matching.specs.Sound.{left_at, rank_at}
 use Rattle.matching.proofs.BoardSteps.{stands_at}
+use Rattle.matching.proofs.SourceSteps.{IsOneMore}
 
 -- ---- what is granted at an ingress
 
@@ -55,44 +56,43 @@ told_at flows line left m i f told k b l t = (
 -- ---- the least of the units left
 
 -- the least so far, and 0 as long as nothing stands
-pub record IsLeastUpto (g : Graph) (left : ℕ → ℕ) (at : List ℕ) (n least : ℕ) : Type 0 where
-  pub below : (r : ℕ) → Stands g at r → g.first r < n → least ≤ left r
-  pub some : (r : ℕ) → Stands g at r → g.first r < n → 0 < least
+pub record IsLeastUpto (g : Graph) (left : ℕ → ℕ) (at : List ℕ) (done : ℕ → Type 0) (least : ℕ) : Type 0 where
+  pub below : (r : ℕ) → Stands g at r → done (g.first r) → least ≤ left r
+  pub some : (r : ℕ) → Stands g at r → done (g.first r) → 0 < least
   pub reached : (least ≡ 0) ⊎ ((r : ℕ) × Stands g at r × (left r ≡ least))
 
-pub least_begins : (g : Graph) (left : ℕ → ℕ) (at : List ℕ) → IsLeastUpto g left at 0 0
-least_begins g left at = record {
-  below = λ r st lt. absurd (omega (arith, lt));
-  some = λ r st lt. absurd (omega (arith, lt));
+pub least_begins : (g : Graph) (left : ℕ → ℕ) (at : List ℕ) (done : ℕ → Type 0) → ((p : ℕ) → done p → ⊥) → IsLeastUpto g left at done 0
+least_begins g left at done none = record {
+  below = λ r st d. absurd (none (g.first r) d);
+  some = λ r st d. absurd (none (g.first r) d);
   reached = inl refl;
 }
 
-pub least_skips : (g : Graph) (left : ℕ → ℕ) (at : List ℕ) (n least : ℕ) → g.count ≤ no_rank → get_or at n 0 ≡ no_rank → IsLeastUpto g left at n least →
-    IsLeastUpto g left at (n + 1) least
-least_skips g left at n least few none s = record {
-  below = λ r st lt. s.below r st (before r st lt);
-  some = λ r st lt. s.some r st (before r st lt);
+pub least_skips : (g : Graph) (left : ℕ → ℕ) (at : List ℕ) (done more : ℕ → Type 0) (n least : ℕ) → IsOneMore done more n → g.count ≤ no_rank → get_or at n 0 ≡ no_rank →
+    IsLeastUpto g left at done least → IsLeastUpto g left at more least
+least_skips g left at done more n least one few none s = record {
+  below = λ r st m. s.below r st (before r st m);
+  some = λ r st m. s.some r st (before r st m);
   reached = s.reached;
 } where
-  before : (r : ℕ) → Stands g at r → g.first r < n + 1 → g.first r < n
-  before r st lt = elim (cases_eq (g.first r) n) [
+  before : (r : ℕ) → Stands g at r → more (g.first r) → done (g.first r)
+  before r st m = elim (one.from (g.first r) m) [
     | inl e ↦ absurd (omega (arith, st.0, few, st.1, ap (λ p. get_or at p 0) e, none))
-    | inr ne ↦ omega (arith, lt, ne)
+    | inr d ↦ d
   ]
 
 -- the first, or the lesser one
 abbrev pub IsLesser : ℕ → ℕ → ℕ → Type 0
 IsLesser least next new = ((least ≡ 0) × (next ≡ new)) ⊎ ((0 < least) × (next ≡ min least new))
 
-pub least_takes : (ports : ℕ) (g : Graph) (left : ℕ → ℕ) (at : List ℕ) (n least next r : ℕ) → IsBoard ports g at → n < ports → r ≢ no_rank → r ≡ get_or at n 0 → 0 < left r →
-    IsLesser least next (left r) → IsLeastUpto g left at n least →
-    IsLeastUpto g left at (n + 1) next
-least_takes ports g left at n least next r b low known e owes how s = record {
-  below = λ q st lt. elim (cases_eq (g.first q) n) [
-    | inl same ↦ let one : q ≡ r = sym st.1 ∙ ap (λ p. get_or at p 0) same ∙ sym e in omega (arith, at_most, ap left one)
-    | inr ne ↦ let lt' : g.first q < n = omega (arith, lt, ne) in omega (arith, within (s.some q st lt'), s.below q st lt')
+pub least_takes : (ports : ℕ) (g : Graph) (left : ℕ → ℕ) (at : List ℕ) (done more : ℕ → Type 0) (n least next r : ℕ) → IsOneMore done more n → IsBoard ports g at → n < ports →
+    r ≢ no_rank → r ≡ get_or at n 0 → 0 < left r → IsLesser least next (left r) → IsLeastUpto g left at done least → IsLeastUpto g left at more next
+least_takes ports g left at done more n least next r one b low known e owes how s = record {
+  below = λ q st m. elim (one.from (g.first q) m) [
+    | inl same ↦ let is : q ≡ r = sym st.1 ∙ ap (λ p. get_or at p 0) same ∙ sym e in omega (arith, at_most, ap left is)
+    | inr d ↦ omega (arith, within (s.some q st d), s.below q st d)
   ];
-  some = λ q st lt. elim how [
+  some = λ q st m. elim how [
     | inl (_, is) ↦ omega (arith, is, owes)
     | inr (some, is) ↦ omega (arith, is, some, owes)
   ];
@@ -100,9 +100,9 @@ least_takes ports g left at n least next r b low known e owes how s = record {
     | inl (_, is) ↦ inr (r, here, sym is)
     | inr (some, is) ↦ elim (cases_lt (left r) least) [
       | inl less ↦ inr (r, here, omega (arith, is, less))
-      | inr more ↦ elim s.reached [
+      | inr high ↦ elim s.reached [
         | inl zero ↦ absurd (omega (arith, zero, some))
-        | inr (q, st, at_q) ↦ inr (q, st, omega (arith, at_q, is, more))
+        | inr (q, st, at_q) ↦ inr (q, st, omega (arith, at_q, is, high))
       ]
     ]
   ];
@@ -120,10 +120,10 @@ first_of_some : (xs : List ℕ) → xs ≢ [] → (f : ℕ) × Contains xs f
 first_of_some [] ne = absurd (ne refl)
 first_of_some (x ∷ xs) ne = (x, in_first x xs)
 
-pub least_is : (flows : List Flow) (line : List ℕ) (left : ℕ → ℕ) (m : Tables) (n least : ℕ) → m.ranks.ports ≤ n → IsRanks m.ranks →
+pub least_is : (flows : List Flow) (line : List ℕ) (left : ℕ → ℕ) (m : Tables) (done : ℕ → Type 0) (least : ℕ) → ((r : ℕ) → r < m.ranks.count → done (first_of m.ranks r)) → IsRanks m.ranks →
     IsBoard m.ranks.ports (graph_of m.ranks) m.board.at.items → IsSettled flows line left m →
-    IsLeastUpto (graph_of m.ranks) (left_at m) m.board.at.items n least → IsLeastLeft left (listed_in m) least
-least_is flows line left m n least all k b s l = record {
+    IsLeastUpto (graph_of m.ranks) (left_at m) m.board.at.items done least → IsLeastLeft left (listed_in m) least
+least_is flows line left m done least all k b s l = record {
   none = λ e. elim l.reached [
     | inl zero ↦ zero
     | inr (r, st, _) ↦ absurd (nothing_in (number_of m.ranks r) (subst (λ (xs : List ℕ). Contains xs (number_of m.ranks r)) e (listed r st)))
@@ -143,11 +143,11 @@ least_is flows line left m n least all k b s l = record {
   listed : (r : ℕ) → Stands (graph_of m.ranks) m.board.at.items r → Contains (listed_in m) (number_of m.ranks r)
   listed r st = ((s.at (first_of m.ranks r) (number_of m.ranks r)).0 (stands_granted m r k st)).0
 
-  standing : (f : ℕ) → Contains (listed_in m) f → Stands (graph_of m.ranks) m.board.at.items (rank f) × (number_of m.ranks (rank f) ≡ f) × (first_of m.ranks (rank f) < n)
+  standing : (f : ℕ) → Contains (listed_in m) f → Stands (graph_of m.ranks) m.board.at.items (rank f) × (number_of m.ranks (rank f) ≡ f) × done (first_of m.ranks (rank f))
   standing f has =
       let granted = (s.at (ingress_of flows f) f).1 (has, refl) in
-      let (st, e) = granted_stands m (ingress_of flows f) f k b granted in
-      (st, granted.2, omega (arith, e, granted.0, all))
+      let (st, _) = granted_stands m (ingress_of flows f) f k b granted in
+      (st, granted.2, all (rank f) st.0)
 
 -- ---- one flow is taken
 
@@ -215,55 +215,55 @@ others_granted old new ingress units i f k b same t low some ne (li, known, is) 
 
 -- ---- a run is taken, port after port
 
--- the flows that are granted at ports from the bound on have lost their units
-pub record IsRunTaken (old new : Tables) (bound units : ℕ) : Type 0 where
-  pub before : (p : ℕ) → p < bound → rank_at new p ≡ rank_at old p
-  pub taken : (r : ℕ) → Stands (graph_of old.ranks) old.board.at.items r → bound ≤ first_of old.ranks r → left_at new r ≡ left_at old r - units
-  pub others : (r : ℕ) → (Stands (graph_of old.ranks) old.board.at.items r → bound ≤ first_of old.ranks r → ⊥) → left_at new r ≡ left_at old r
+-- the flows that are granted at the ports so far have lost their units
+pub record IsRunTaken (old new : Tables) (done : ℕ → Type 0) (units : ℕ) : Type 0 where
+  pub before : (p : ℕ) → p < old.ranks.ports → (done p → ⊥) → rank_at new p ≡ rank_at old p
+  pub taken : (r : ℕ) → Stands (graph_of old.ranks) old.board.at.items r → done (first_of old.ranks r) → left_at new r ≡ left_at old r - units
+  pub others : (r : ℕ) → (Stands (graph_of old.ranks) old.board.at.items r → done (first_of old.ranks r) → ⊥) → left_at new r ≡ left_at old r
 
-pub run_begins : (m : Tables) (units : ℕ) → IsRanks m.ranks → IsRunTaken m m m.ranks.ports units
-run_begins m units k = record {
-  before = λ p lt. refl;
-  taken = λ r st le. absurd (omega (arith, le, k.graph.first r st.0));
+pub run_begins : (m : Tables) (done : ℕ → Type 0) (units : ℕ) → ((p : ℕ) → done p → ⊥) → IsRunTaken m m done units
+run_begins m done units none = record {
+  before = λ p low out. refl;
+  taken = λ r st d. absurd (none (first_of m.ranks r) d);
   others = λ r out. refl;
 }
 
-pub run_skips : (old new : Tables) (n units : ℕ) → IsRanks old.ranks → rank_at new n ≡ no_rank → IsRunTaken old new (n + 1) units → IsRunTaken old new n units
-run_skips old new n units k none t = record {
-  before = λ p lt. t.before p (omega (arith, lt));
-  taken = λ r st le. t.taken r st (after r st le);
-  others = λ r out. t.others r (λ st le. out st (omega (arith, le)));
-} where
-  after : (r : ℕ) → Stands (graph_of old.ranks) old.board.at.items r → n ≤ first_of old.ranks r → n + 1 ≤ first_of old.ranks r
-  after r st le = elim (cases_eq (first_of old.ranks r) n) [
-    | inl e ↦ absurd (omega (arith, st.0, k.graph.few, st.1, ap (rank_at old) e, t.before n (omega arith), none))
-    | inr ne ↦ omega (arith, le, ne)
-  ]
+pub run_skips : (old new : Tables) (done more : ℕ → Type 0) (n units : ℕ) → IsOneMore done more n → n < old.ranks.ports → IsRanks old.ranks → rank_at new n ≡ no_rank →
+    IsRunTaken old new done units → IsRunTaken old new more units
+run_skips old new done more n units one low k none t = record {
+  before = λ p lt out. t.before p lt (λ d. out (one.keeps p d));
+  taken = λ r st m. elim (one.from (first_of old.ranks r) m) [
+    | inl e ↦ absurd (omega (arith, st.0, k.graph.few, st.1, ap (rank_at old) e, t.before n low one.fresh, none))
+    | inr d ↦ t.taken r st d
+  ];
+  others = λ r out. t.others r (λ st d. out st (one.keeps (first_of old.ranks r) d));
+}
 
-pub run_takes : (first old new : Tables) (n units : ℕ) → IsRanks first.ranks → IsBoard first.ranks.ports (graph_of first.ranks) first.board.at.items → old.ranks ≡ first.ranks →
-    n < first.ranks.ports → rank_at old n ≢ no_rank →
-    IsRankTaken old new (rank_at old n) units → IsRunTaken first old (n + 1) units → IsRunTaken first new n units
-run_takes first old new n units k b same low some t s = record {
-  before = λ p lt. t.others p (omega (arith, lt, low, ap (λ (x : Ranks). x.ports) same)) (λ e. omega (arith, lt, e, begins)) ∙ s.before p (omega (arith, lt));
-  taken = λ r st le. elim (cases_eq (first_of first.ranks r) n) [
+pub run_takes : (first old new : Tables) (done more : ℕ → Type 0) (n units : ℕ) → IsOneMore done more n → IsRanks first.ranks →
+    IsBoard first.ranks.ports (graph_of first.ranks) first.board.at.items → old.ranks ≡ first.ranks → n < first.ranks.ports → rank_at old n ≢ no_rank →
+    IsRankTaken old new (rank_at old n) units → IsRunTaken first old done units → IsRunTaken first new more units
+run_takes first old new done more n units one k b same low some t s = record {
+  before = λ p lt out. t.others p (omega (arith, lt, ap (λ (x : Ranks). x.ports) same)) (λ e. out (subst more (sym (e ∙ begins)) one.has))
+      ∙ s.before p lt (λ d. out (one.keeps p d));
+  taken = λ r st m. elim (one.from (first_of first.ranks r) m) [
     | inl e ↦
-        let one : r ≡ rank = sym st.1 ∙ ap (rank_at first) e ∙ sym here in
-        let before = s.others r (λ _ high. omega (arith, high, e)) in
-        omega (arith, ap (left_at new) one, taken_here old new rank units t, ap (left_at old) one, before)
-    | inr ne ↦
-        let other : r ≢ rank = λ one. ne (ap (first_of first.ranks) one ∙ begins_there) in
-        omega (arith, not_taken old new rank units r t other, s.taken r st (omega (arith, le, ne)))
+        let is : r ≡ rank = sym st.1 ∙ ap (rank_at first) e ∙ sym here in
+        let before = s.others r (λ _ d. one.fresh (subst done e d)) in
+        omega (arith, ap (left_at new) is, taken_here old new rank units t, ap (left_at old) is, before)
+    | inr d ↦
+        let other : r ≢ rank = λ is. one.fresh (subst done (ap (first_of first.ranks) is ∙ begins_there) d) in
+        omega (arith, not_taken old new rank units r t other, s.taken r st d)
   ];
   others = λ r out.
-      let other : r ≢ rank = λ one. out (subst (λ x. Stands (graph_of first.ranks) first.board.at.items x) (sym one) stands)
-      (omega (arith, ap (first_of first.ranks) one, begins_there)) in
-      not_taken old new rank units r t other ∙ s.others r (λ st le. out st (omega (arith, le)));
+      let other : r ≢ rank = λ is. out (subst (λ x. Stands (graph_of first.ranks) first.board.at.items x) (sym is) stands)
+      (subst more (sym (ap (first_of first.ranks) is ∙ begins_there)) one.has) in
+      not_taken old new rank units r t other ∙ s.others r (λ st d. out st (one.keeps (first_of first.ranks r) d));
 } where
   rank : ℕ
   rank = rank_at old n
 
   here : rank ≡ rank_at first n
-  here = s.before n (omega arith)
+  here = s.before n low one.fresh
 
   stood : Stands (graph_of first.ranks) first.board.at.items (rank_at first n) × (first_of first.ranks (rank_at first n) ≡ n)
   stood = begins_at first.ranks.ports (graph_of first.ranks) first.board.at.items n k.graph b low (λ e. some (here ∙ e))
@@ -278,10 +278,10 @@ run_takes first old new n units k b same low some t s = record {
   begins = ap (λ (x : Ranks). first_of x rank) same ∙ begins_there
 
 -- what is kept after the run
-pub run_matching : (flows : List Flow) (line : List ℕ) (left lower : ℕ → ℕ) (old new : Tables) (units : ℕ) → IsRanks old.ranks →
-    IsBoard old.ranks.ports (graph_of old.ranks) old.board.at.items → new.ranks ≡ old.ranks → IsRunTaken old new 0 units →
+pub run_matching : (flows : List Flow) (line : List ℕ) (left lower : ℕ → ℕ) (old new : Tables) (done : ℕ → Type 0) (units : ℕ) → ((r : ℕ) → r < old.ranks.count → done (first_of old.ranks r)) → IsRanks old.ranks →
+    IsBoard old.ranks.ports (graph_of old.ranks) old.board.at.items → new.ranks ≡ old.ranks → IsRunTaken old new done units →
     IsSettled flows line left old → IsRunLess left lower (listed_in old) units → IsMatching flows line lower new
-run_matching flows line left lower old new units k b same t s less = record {
+run_matching flows line left lower old new done units all k b same t s less = record {
   lined = subst (λ (x : Ranks). IsLined flows line lower x.ports (number_of x) (graph_of x)) (sym same) lined;
   units = subst (λ (x : Ranks). (r : ℕ) → r < x.count → left_at new r ≡ lower (number_of x r)) (sym same) each;
 } where
@@ -302,7 +302,7 @@ run_matching flows line left lower old new units k b same t s less = record {
         | inl here ↦
             let has = ((s.at (first_of old.ranks r) f).0 (stands_granted old r k (lt, here))).0 in
             let cut : lower f ≡ left f - units = less f ∙ ap (λ b. left f - (if b then units else 0)) (any_in (listed_in old) f has) in
-            omega (arith, t.taken r (lt, here) (omega arith), s.matching.units r lt, cut)
+            omega (arith, t.taken r (lt, here) (all r lt), s.matching.units r lt, cut)
         | inr ne ↦
             let kept : lower f ≡ left f - 0 = less f ∙ ap (λ b. left f - (if b then units else 0)) (any_not (listed_in old) f (λ has. ne (stands r lt has))) in
             omega (arith, t.others r (λ st _. ne st.1), s.matching.units r lt, kept)

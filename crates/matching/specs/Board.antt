@@ -38,6 +38,8 @@ pub record IsRanks (ranks : Ranks) : Type 0 where
   pub graph : IsGraph ranks.ports (graph_of ranks)
   pub apart : (r s : ℕ) → r < s → s < ranks.count →
       (ranked_at ranks.flows.items r).number ≢ (ranked_at ranks.flows.items s).number
+  pub source_room : ranks.sources.room ≡ ranks.ports
+  pub sources : (r : ℕ) → r < ranks.count → Contains ranks.sources.ports (first_of ranks r)
 
 -- the rank is granted
 abbrev pub Stands : Graph → List ℕ → ℕ → Type 0

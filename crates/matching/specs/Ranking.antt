@@ -1,5 +1,5 @@
 -- The ranks after some of the flows were looked at, in the order of the line.
-use Rattle.std.specs.Prelude.{◌≡◌, ℕ, ◌+◌, ◌<◌, ◌≤◌, List, length}
+use Rattle.std.specs.Prelude.{◌≡◌, ℕ, ◌+◌, ◌<◌, ◌≤◌, List, Contains, length}
 use Rattle.coflow_units.specs.declared.fabric.Flow.{Flow}
 use Rattle.coflow_units.specs.Flows.{coflow_of, ingress_of, egress_of}
 use Rattle.coflow_units.specs.Grants.{place_in, ComesBefore, IsLookedAt}
@@ -25,3 +25,4 @@ pub record IsRanking (flows : List Flow) (line : List ℕ) (left : ℕ → ℕ) 
       (r : ℕ) × (r < ranks.count) × (number_of ranks r ≡ f)
   pub first_is : (r : ℕ) → r < ranks.count → first_of ranks r ≡ ingress_of flows (number_of ranks r)
   pub second_is : (r : ℕ) → r < ranks.count → second_of ranks r ≡ ranks.ports + egress_of flows (number_of ranks r)
+  pub sources : (r : ℕ) → r < ranks.count → Contains ranks.sources.ports (first_of ranks r)

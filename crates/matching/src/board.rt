@@ -1,10 +1,12 @@
 //! What is granted at each port.
-ghost use Rattle.std.specs.Prelude.{◌≡◌, ℕ, ◌+◌, ◌<◌, ◌≤◌, ◌^◌, Contains, length, slice_index};
-ghost use Rattle.matching.specs.Board.{IsBoard, IsFreed, IsPlaced, IsRanks, first_of, graph_of, second_of};
+ghost use Rattle.std.specs.Prelude.{◌≡◌, ℕ, ◌+◌, ◌<◌, ◌≤◌, ◌^◌, Contains, IfOk, length, replicate, slice_index};
+ghost use Rattle.matching.specs.Board.{IsBoard, IsFreed, IsPlaced, IsRanks, first_of, graph_of, no_rank, second_of};
 ghost use Rattle.matching.specs.Pass.{IsKeptBelow};
 
 use crate::ranks::{NONE, Ranks};
 use crate::waiting::Waiting;
+use coflow_units::NoMemory;
+use std::alloc::Global;
 
 /// For each port the rank that is granted there, or `NONE`, and the ports that wait.
 #[derive(Drop)]
@@ -14,6 +16,17 @@ pub struct Board {
 }
 
 impl Board {
+    /// Takes the room for so many ports on each side. Nothing is granted, and no port waits. The error is want of memory.
+    pub fn with_room(alloc: Global, ports: u32) -> Result<Board, NoMemory>
+        requires { ports + ports < 2 ^ 32 }
+        ensures at { IfOk result (λ b. b.at.items ≡ replicate (ports + ports) no_rank) }
+        ensures waiting { IfOk result (λ b. b.waiting.room ≡ ports + ports) }
+    {
+        let at = vec![in alloc; NONE; ports as usize + ports as usize]?;
+        let waiting = Waiting::with_room(alloc, ports)?;
+        Ok(Board { at, waiting })
+    }
+
     /// Nothing is granted, and every port waits.
     pub fn clear(&mut self)
         requires few { length self.old.at.items < 2 ^ 32 }

@@ -1,11 +1,14 @@
 //! The flows that owe, in the order in which they are granted.
-ghost use Rattle.std.specs.Prelude.{◌≡◌, ℕ, ◌+◌, ◌<◌, ◌≤◌, ◌^◌, ◌==◌, if◌then◌else◌, List, All, length, slice_index, slice_set};
+ghost use Rattle.std.specs.Prelude.{◌≡◌, ℕ, ◌+◌, ◌<◌, ◌≤◌, ◌^◌, ◌==◌, if◌then◌else◌, List, All, IfOk, length, slice_index, slice_set};
 ghost use Rattle.coflow_units.specs.declared.fabric.Flow.{Flow};
 ghost use Rattle.coflow_units.specs.Flows.{IsDistinct};
 ghost use Rattle.coflow_units.specs.Starts.{IsStarts};
 ghost use Rattle.matching.specs.Ranking.{IsCoflowAt, IsRanking};
+ghost use Rattle.matching.specs.Waits.{IsPushed};
 
-use coflow_units::Flow;
+use crate::stack::Stack;
+use coflow_units::{Flow, NoMemory};
+use std::alloc::Global;
 
 /// In place of a rank: there is none.
 pub const NONE: u32 = u32::MAX;
@@ -27,6 +30,8 @@ pub struct Ranks {
     pub ports: u32,
     pub count: u32,
     pub flows: Vec<Ranked>,
+    /// The ports at which they begin.
+    pub sources: Stack,
 }
 
 impl Ranked {
@@ -43,6 +48,28 @@ impl Ranked {
 }
 
 impl Ranks {
+    /// Takes the room for so many flows and for so many ports on each side. No flow owes. The error is want of memory.
+    pub fn with_room(alloc: Global, flows: u32, ports: u32) -> Result<Ranks, NoMemory>
+        ensures ports { IfOk result (λ r. r.ports ≡ ports) }
+        ensures none { IfOk result (λ r. r.count ≡ 0) }
+        ensures flows { IfOk result (λ r. length r.flows.items ≡ flows) }
+        ensures sources { IfOk result (λ r. r.sources.room ≡ ports) }
+    {
+        let ranked = Ranked {
+            first: 0,
+            second: 0,
+            number: 0,
+        };
+        let flows = vec![in alloc; ranked; flows as usize]?;
+        let sources = Stack::with_room(alloc, ports)?;
+        Ok(Ranks {
+            ports,
+            count: 0,
+            flows,
+            sources,
+        })
+    }
+
     /// Ranks the flows of the line that owe.
     pub fn rank(&mut self, flows: &[Flow], starts: &[u32], line: &[u32], left: &[u64])
         requires starts { IsStarts flows.now starts.now }
@@ -52,12 +79,15 @@ impl Ranks {
         requires few { length flows.now < 2 ^ 32 }
         requires room { length flows.now ≤ length self.old.flows.items }
         requires ports { self.old.ports + self.old.ports < 2 ^ 32 }
+        requires ingress { All (λ (x : Flow). x.ingress < self.old.sources.room) flows.now }
         requires egress { All (λ (x : Flow). x.egress < self.old.ports) flows.now }
         ensures ports { self.new.ports ≡ self.old.ports }
+        ensures source_room { self.new.sources.room ≡ self.old.sources.room }
         ensures len { length self.new.flows.items ≡ length self.old.flows.items }
         ensures ranking { IsRanking flows.now line.now (λ f. slice_index left.now f) (length line.now) 0 self.new }
     {
         self.count = 0;
+        self.sources.clear();
         for coflow in line {
             let first = starts[*coflow as usize];
             let end = starts[*coflow as usize + 1];
@@ -72,10 +102,12 @@ impl Ranks {
         requires few { length flows.now < 2 ^ 32 }
         requires room { length flows.now ≤ length self.old.flows.items }
         requires ports { self.old.ports + self.old.ports < 2 ^ 32 }
+        requires ingress { All (λ (x : Flow). x.ingress < self.old.sources.room) flows.now }
         requires egress { All (λ (x : Flow). x.egress < self.old.ports) flows.now }
         requires ranking { (line : List ℕ) × (k : ℕ) × IsCoflowAt flows.now line k first end ×
             IsRanking flows.now line (λ f. slice_index left.now f) k 0 self.old }
         ensures ports { self.new.ports ≡ self.old.ports }
+        ensures source_room { self.new.sources.room ≡ self.old.sources.room }
         ensures len { length self.new.flows.items ≡ length self.old.flows.items }
         ensures ranking { (line : List ℕ) (k : ℕ) → IsCoflowAt flows.now line k first end →
             IsRanking flows.now line (λ f. slice_index left.now f) k 0 self.old →
@@ -93,8 +125,11 @@ impl Ranks {
     fn push(&mut self, flow: Flow, number: u32)
         requires room { self.old.count < length self.old.flows.items }
         requires count { self.old.count + 1 < 2 ^ 32 }
+        requires first { flow.ingress < self.old.sources.room }
         requires second { self.old.ports + flow.egress < 2 ^ 32 }
         ensures ports { self.new.ports ≡ self.old.ports }
+        ensures source_room { self.new.sources.room ≡ self.old.sources.room }
+        ensures source { IsPushed self.old.sources.ports self.new.sources.ports flow.ingress }
         ensures count { self.new.count ≡ self.old.count + 1 }
         ensures flows { self.new.flows.items ≡ slice_set self.old.flows.items self.old.count
             record { first = flow.ingress; second = self.old.ports + flow.egress; number = number } }
@@ -105,5 +140,6 @@ impl Ranks {
             number,
         };
         self.count += 1;
+        self.sources.push(flow.ingress);
     }
 }

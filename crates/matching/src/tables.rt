@@ -12,9 +12,7 @@ ghost use Rattle.matching.specs.Sound.{IsSound, budget, left_at, rank_at};
 use crate::board::Board;
 use crate::heads::Heads;
 use crate::listing::list_granted;
-use crate::ranks::{NONE, Ranked, Ranks};
-use crate::rows::Rows;
-use crate::waiting::Waiting;
+use crate::ranks::{NONE, Ranks};
 use coflow_units::{Flow, NoMemory};
 use std::alloc::Global;
 
@@ -42,28 +40,11 @@ impl Tables {
         ensures ports { IfOk result (λ m. ports_of m ≡ ports) }
         ensures none { IfOk result (λ m. listed_in m ≡ []) }
     {
-        let sides = ports as usize + ports as usize;
-        let ranked = Ranked {
-            first: 0,
-            second: 0,
-            number: 0,
-        };
-        let ranks = Ranks {
-            ports,
-            count: 0,
-            flows: vec![in alloc; ranked; flows as usize]?,
-        };
         let left = vec![in alloc; 0u64; flows as usize]?;
-        let heads = Heads {
-            least: vec![in alloc; NONE; sides * ports as usize]?,
-            next: vec![in alloc; NONE; flows as usize]?,
-            rows: Rows::with_room(alloc, flows, ports)?,
-        };
-        let board = Board {
-            at: vec![in alloc; NONE; sides]?,
-            waiting: Waiting::with_room(alloc, ports)?,
-        };
+        let board = Board::with_room(alloc, ports)?;
         let listed = vec![in alloc; 0u32; ports as usize]?;
+        let ranks = Ranks::with_room(alloc, flows, ports)?;
+        let heads = Heads::with_room(alloc, flows, ports)?;
         Ok(Tables {
             ranks,
             left,
@@ -170,8 +151,8 @@ impl Tables {
             IsLeastLeft left (listed_in self.now) result }
     {
         let mut least = 0;
-        for ingress in 0..self.ranks.ports as usize {
-            let rank = self.board.at[ingress];
+        for ingress in self.ranks.sources.list() {
+            let rank = self.board.at[*ingress as usize];
             if rank == NONE {
                 continue;
             }
@@ -210,9 +191,10 @@ impl Tables {
             IsSettled flows line left self.old → IsRunLess left lower (listed_in self.old) units →
             IsMatching flows line lower self.new }
     {
-        let mut ingress = self.ranks.ports;
-        while ingress > 0 {
-            ingress -= 1;
+        let mut source = self.ranks.sources.count();
+        while source > 0 {
+            source -= 1;
+            let ingress = self.ranks.sources.list()[source as usize];
             let rank = self.board.at[ingress as usize];
             if rank == NONE {
                 continue;

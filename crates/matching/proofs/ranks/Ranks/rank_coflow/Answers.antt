@@ -6,6 +6,7 @@ use Rattle.matching.proofs.ranks.Ranks.rank_coflow.Goals as goal
 pub loop-number-init : goal.loop-number-init
 loop-number-init c = record {
   ports = refl;
+  source_room = refl;
   len = refl;
   ranking = λ line k placed so_far. coflow_begins c.args.flows.now line (λ f. get_or c.args.left.now f 0) k c.args.first c.args.end c.args.self.now placed so_far;
 }
@@ -15,6 +16,7 @@ loop-number-preserved-then-left-number-eq0 c =
     let before = c.loop-number.invariant in
     record {
       ports = before.ports;
+      source_room = before.source_room;
       len = before.len;
       ranking = λ line k placed so_far. skips c.args.flows.now line (λ f. get_or c.args.left.now f 0) k c.loop-number.number c.loop-number.self c.if-left-number-eq0.true
           (before.ranking line k placed so_far);
@@ -54,6 +56,7 @@ loop-number-preserved c =
     let lt : n < length c.args.flows.now = omega (arith, c.requires.end, c.loop-number-test.true) in
     record {
       ports = c.push.ensures.ports ∙ before.ports;
+      source_room = c.push.ensures.source_room ∙ before.source_room;
       len = ap length c.push.ensures.flows ∙ length-set c.loop-number.self.flows.items c.loop-number.self.count record {
         first = ingress_of c.args.flows.now n;
         second = c.loop-number.self.ports + egress_of c.args.flows.now n;
@@ -74,6 +77,7 @@ loop-number-preserved c =
             count = c.push.ensures.count;
             items = c.push.ensures.flows;
             room = omega (arith, before.len, c.requires.room, has_room c.args.flows.now line (λ f. get_or c.args.left.now f 0) k n c.loop-number.self lt here old);
+            source = c.push.ensures.source;
           } in
           ranks_next c.args.flows.now line (λ f. get_or c.args.left.now f 0) k n c.loop-number.self c.push.new.self record {
             first = ingress_of c.args.flows.now n;

@@ -35,7 +35,8 @@ fill-requires-clause-ranks c =
     let ranks = ranking_made flows c.args.line.now (λ (f : ℕ). get_or c.args.left.now f 0) (length c.args.line.now) 0 made
     (omega (arith, c.requires.room, c.requires.whole.room.few)) (omega (arith, c.rank.ensures.len, c.requires.room, c.requires.whole.room.ranked))
     (subst (λ n. All (λ (x : Flow). x.ingress < n) flows) (sym c.rank.ensures.ports) c.requires.ingress)
-    (subst (λ n. All (λ (x : Flow). x.egress < n) flows) (sym c.rank.ensures.ports) c.requires.egress) c.rank.ensures.ranking in
+    (subst (λ n. All (λ (x : Flow). x.egress < n) flows) (sym c.rank.ensures.ports) c.requires.egress)
+    (omega (arith, c.rank.ensures.source_room, c.requires.whole.sound.ranks.source_room, c.rank.ensures.ports)) c.rank.ensures.ranking in
     subst (λ (x : Ranks). IsRanks x) (sym c.copy_left.ensures.ranks) ranks
 
 pub fill-requires-clause-room : goal.fill-requires-clause-room
@@ -66,7 +67,8 @@ returns-clause-begun c =
     let size : length copied.board.at.items ≡ copied.ranks.ports + copied.ranks.ports = omega (arith, board, c.requires.whole.sound.board.size, ports) in
     let ranks = ranking_made flows line left (length line) 0 made (omega (arith, c.requires.room, room.few)) (omega (arith, c.rank.ensures.len, c.requires.room, room.ranked))
     (subst (λ n. All (λ (x : Flow). x.ingress < n) flows) (sym c.rank.ensures.ports) c.requires.ingress)
-    (subst (λ n. All (λ (x : Flow). x.egress < n) flows) (sym c.rank.ensures.ports) c.requires.egress) c.rank.ensures.ranking in
+    (subst (λ n. All (λ (x : Flow). x.egress < n) flows) (sym c.rank.ensures.ports) c.requires.egress)
+    (omega (arith, c.rank.ensures.source_room, c.requires.whole.sound.ranks.source_room, c.rank.ensures.ports)) c.rank.ensures.ranking in
     record {
       ranking = subst (λ (x : Ranks). IsRanking flows line left (length line) 0 x) (sym e) c.rank.ensures.ranking;
       ranks = subst (λ (x : Ranks). IsRanks x) (sym e) ranks;

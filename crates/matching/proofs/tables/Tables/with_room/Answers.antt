@@ -1,4 +1,6 @@
-use Rattle.std.proofs.Common.{refl, arith}
+use Rattle.std.proofs.Common.{◌≡◌, ◌+◌, ◌*◌, ◌∙◌, ℕ, replicate, arith, refl, subst, sym}
+use Rattle.matching.specs.Board.{no_rank}
+use Rattle.matching.specs.Rows.{IsShaped}
 use Rattle.matching.specs.declared.tables.Tables.{Tables}
 use Rattle.matching.proofs.RoomSteps.{empty_whole}
 use Rattle.matching.proofs.tables.Tables.with_room.Goals as goal
@@ -6,28 +8,30 @@ use Rattle.matching.proofs.tables.Tables.with_room.Goals as goal
 pub returns-clause-whole : goal.returns-clause-whole
 returns-clause-whole c =
     let made : Tables = record {
-      ranks = record { ports = c.args.ports; count = 0; flows = c.in_ok-vec.field-0 };
+      ranks = c.in_ok-ranks.ranks;
       left = c.in_ok-left.left;
-      heads = record { least = c.in_ok-vec-2.field-0; next = c.in_ok-vec-3.field-0; rows = c.in_ok-with_room.field-0 };
-      board = record { at = c.in_ok-vec-4.field-0; waiting = c.in_ok-with_room-2.field-0 };
+      heads = c.in_ok-heads.heads;
+      board = c.in_ok-board.board;
       listed = c.in_ok-listed.listed;
       granted = 0;
       settled = 0;
     } in
+    let ports : c.in_ok-ranks.ranks.ports ≡ c.args.ports = c.in_ok-ranks.ensures.ports in
     empty_whole made c.args.flows (record {
-      none = refl;
+      none = c.in_ok-ranks.ensures.none;
+      sources = c.in_ok-ranks.ensures.sources ∙ sym ports;
       granted = refl;
-      few_ports = c.requires;
+      few_ports = omega (arith, c.requires, ports);
       few = c.ranges.flows.fits;
-      ranked = omega (arith, c.in_ok-vec.ensures.len);
+      ranked = c.in_ok-ranks.ensures.flows;
       lefts = omega (arith, c.in_ok-left.ensures.len);
-      nexts = omega (arith, c.in_ok-vec-3.ensures.len);
-      heads = c.in_ok-vec-2.ensures.items_if_clones_equal (λ y e. e);
-      board = c.in_ok-vec-4.ensures.items_if_clones_equal (λ y e. e);
-      waiting = c.in_ok-with_room-2.ensures.room;
-      listed = omega (arith, c.in_ok-listed.ensures.len);
-      shape = c.in_ok-with_room.ensures.shaped;
-      blank = c.in_ok-with_room.ensures.zeros;
-      rowless = c.in_ok-with_room.ensures.none.0;
-      rowless' = c.in_ok-with_room.ensures.none.1;
+      nexts = c.in_ok-heads.ensures.next;
+      heads = subst (λ (n : ℕ). c.in_ok-heads.heads.least.items ≡ replicate ((n + n) * n) no_rank) (sym ports) c.in_ok-heads.ensures.least;
+      board = subst (λ (n : ℕ). c.in_ok-board.board.at.items ≡ replicate (n + n) no_rank) (sym ports) c.in_ok-board.ensures.at;
+      waiting = omega (arith, c.in_ok-board.ensures.waiting, ports);
+      listed = omega (arith, c.in_ok-listed.ensures.len, ports);
+      shape = subst (λ (n : ℕ). IsShaped n c.in_ok-heads.heads.rows) (sym ports) c.in_ok-heads.ensures.shaped;
+      blank = c.in_ok-heads.ensures.zeros;
+      rowless = c.in_ok-heads.ensures.none.0;
+      rowless' = c.in_ok-heads.ensures.none.1;
     })
