@@ -6,6 +6,7 @@ pub mod NumberText
 pub mod TextLengths
 pub mod PartText
 pub mod DigitText
+pub mod FlowsText
 pub mod FlowText
 pub mod LineLists
 pub mod DraftText

@@ -76,7 +76,7 @@ pub both_lines : (xs ys : List (List ℕ)) → AreLines xs → AreLines ys → A
 both_lines [] ys hx hy = hy
 both_lines (x ∷ xs) ys hx hy = (hx.0, both_lines xs ys hx.1 hy)
 
-range_lines : (f : ℕ → List ℕ) (n : ℕ) → ((k : ℕ) → k < n → IsOneLine (f k)) → AreLines (map f (range_with_len 0 n))
+pub range_lines : (f : ℕ → List ℕ) (n : ℕ) → ((k : ℕ) → k < n → IsOneLine (f k)) → AreLines (map f (range_with_len 0 n))
 range_lines f zero h = tt
 range_lines f (suc n) h =
     let before : AreLines (map f (range_with_len 0 n)) = range_lines f n (λ k lt. h k (omega arith)) in

@@ -17,8 +17,8 @@ pub one_more : (text new : List ℕ) (lines more : List (List ℕ)) (line : List
 one_more text new lines more line old step grown = step ∙ (ap (λ x. x ++ ended line) old ∙ (sym (text_more lines line) ∙ ap text_of (sym grown)))
 
 -- one more line stands at the end of the text, of which some lines are told
-one_more_behind : (front text new : List ℕ) (lines more : List (List ℕ)) (line : List ℕ) → text ≡ front ++ text_of lines → new ≡ text ++ ended line → more ≡ lines ++ (line ∷ []) →
-    new ≡ front ++ text_of more
+pub one_more_behind : (front text new : List ℕ) (lines more : List (List ℕ)) (line : List ℕ) → text ≡ front ++ text_of lines → new ≡ text ++ ended line →
+    more ≡ lines ++ (line ∷ []) → new ≡ front ++ text_of more
 one_more_behind front text new lines more line old step grown =
     step ∙ (ap (λ x. x ++ ended line) old ∙ (append_assoc front (text_of lines) (ended line) ∙ ap (λ x. front ++ x) (sym (text_more lines line) ∙ ap text_of (sym grown))))
 

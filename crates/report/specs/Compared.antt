@@ -1,10 +1,16 @@
 -- The text of a comparison of rankers, line by line.
-use Rattle.std.specs.Prelude.{ℕ, ◌<◌, ◌≤◌, ◌^◌, ◌++◌, List, [], ◌∷◌, All, codes, map}
+use Rattle.std.specs.Prelude.{ℕ, ◌<◌, ◌≤◌, ◌^◌, ◌++◌, List, [], ◌∷◌, All, codes, length, map}
 use Rattle.report.specs.Text.{bound_line, spaced, text_of}
 use Rattle.report.specs.declared.compared.Compare.{Compare}
 use Rattle.report.specs.declared.compared.RowLine.{RowLine}
 use Rattle.report.specs.declared.compared.RowText.{RowText}
 use Rattle.report.specs.declared.compared.RowText.TheVariants.{Cost, Unfit}
+
+-- a name that a row may have: from 1 to 16 letters of a to z
+pub record IsName (name : List ℕ) : Type 0 where
+  pub some : 1 ≤ length name
+  pub few : length name ≤ 16
+  pub letter : All (λ b. (97 ≤ b) × (b ≤ 122)) name
 
 -- what an answer is worth, behind a space
 abbrev pub worth_words : RowText → List ℕ

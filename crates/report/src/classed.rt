@@ -65,8 +65,8 @@ fn push_member(text: &mut Vec<u8>, member: &Member) -> Result<(), NoMemory>
     Ok(())
 }
 
-/// The lines of the runs.
-fn push_served(text: &mut Vec<u8>, runs: &[Run]) -> Result<(), NoMemory>
+/// Writes the lines of the runs at the end of the text. The error is want of memory.
+pub fn push_served(text: &mut Vec<u8>, runs: &[Run]) -> Result<(), NoMemory>
     ensures { OnOk result (text.new.items ≡ text.old.items ++ text_of (map run_line runs.now)) }
 {
     for run in runs {

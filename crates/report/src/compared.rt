@@ -1,7 +1,8 @@
 //! The text of a comparison of rankers.
-ghost use Rattle.std.specs.Prelude.{◌≡◌, ◌++◌, IfOk, OnOk, map};
+ghost use Rattle.std.specs.Prelude.{◌≡◌, ◌++◌, All, IfOk, OnOk, map};
 ghost use Rattle.report.specs.Text.{ended, text_of};
-ghost use Rattle.report.specs.Compared.{compare_text, row_line, worth_words};
+ghost use Rattle.report.specs.Compared.{IsName, compare_text, row_line, worth_words};
+ghost use Rattle.report.specs.declared.compared.RowLine.{RowLine};
 
 use crate::numbers::{push_named, push_number};
 use coflow_units::{Items, NoMemory};
@@ -33,10 +34,11 @@ pub struct Compare {
 /// The text of a comparison.
 ///
 /// Words are separated by one space, each line ends with one line feed, and numbers are decimal without leading zeros. The lines are `sincronia compare 1`, `bound B`,
-/// for each row `row INDEX ROUND NAME cost C` or `row INDEX ROUND NAME unfit PLACE`, and `end`.
+/// for each row `row INDEX ROUND NAME cost C` or `row INDEX ROUND NAME unfit PLACE`, and `end`. A name has from 1 to 16 letters of a to z.
 ///
 /// The error is want of memory.
 pub fn write_compare(alloc: Global, compare: &Compare) -> Result<Vec<u8>, NoMemory>
+    requires names { All (λ (row : RowLine). IsName row.name) compare.now.rows }
     ensures text { IfOk result (λ bytes. bytes.items ≡ compare_text compare.now) }
 {
     let mut text = Vec::new(alloc);

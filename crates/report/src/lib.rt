@@ -15,10 +15,11 @@ mod reading;
 mod value;
 mod writing;
 
-pub use classed::{ClassText, Member, write_classes};
+pub use classed::{ClassText, Member, push_served, write_classes};
 pub use compared::{Compare, RowLine, RowText, write_compare};
 pub use fault::ReportFault;
 pub use made::{Made, write_made};
+pub use numbers::{push_named, push_number};
 pub use reading::read_report;
 pub use value::{PlaceLine, Report};
-pub use writing::write_report;
+pub use writing::{word_of, write_report};

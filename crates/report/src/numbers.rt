@@ -1,12 +1,13 @@
 //! Numbers in texts.
-ghost use Rattle.std.specs.Prelude.{◌≡◌, ◌++◌, OnOk, decimal, length};
-ghost use Rattle.report.specs.Text.{ended, spaced};
+ghost use Rattle.std.specs.Prelude.{◌≡◌, ℕ, ◌-◌, ◌^◌, ◌++◌, List, OnOk, decimal, length, min};
+ghost use Rattle.std.specs.List.{flat_map};
+ghost use Rattle.report.specs.Text.{HasSpaces, ended, spaced};
 
 use coflow_units::NoMemory;
 use itoa::{Buffer, write_digits};
 
-/// A number behind a space.
-pub(crate) fn push_number(text: &mut Vec<u8>, number: u128) -> Result<(), NoMemory>
+/// Writes a number behind a space at the end of the text. The error is want of memory.
+pub fn push_number(text: &mut Vec<u8>, number: u128) -> Result<(), NoMemory>
     ensures { OnOk result (text.new.items ≡ text.old.items ++ spaced number) }
 {
     let mut buffer = Buffer::new();
@@ -15,8 +16,8 @@ pub(crate) fn push_number(text: &mut Vec<u8>, number: u128) -> Result<(), NoMemo
     Ok(())
 }
 
-/// The line of a name and a number.
-pub(crate) fn push_named(text: &mut Vec<u8>, name: &[u8], number: u128) -> Result<(), NoMemory>
+/// Writes the line of a name and a number at the end of the text. The error is want of memory.
+pub fn push_named(text: &mut Vec<u8>, name: &[u8], number: u128) -> Result<(), NoMemory>
     ensures { OnOk result (text.new.items ≡ text.old.items ++ ended (name.now ++ spaced number)) }
 {
     text.extend_from_slice(name)?;
@@ -25,14 +26,40 @@ pub(crate) fn push_named(text: &mut Vec<u8>, name: &[u8], number: u128) -> Resul
     Ok(())
 }
 
-/// A flow's number behind a space, written where it stays.
-pub(crate) fn push_flow(text: &mut Vec<u8>, flow: u32) -> Result<(), NoMemory>
-    ensures { OnOk result (text.new.items ≡ text.old.items ++ spaced flow) }
+/// The numbers of flows, each behind a space, written where they stay: the text grows by spaces, and the digits are written into it from its end on.
+pub(crate) fn push_flows(text: &mut Vec<u8>, flows: &[u32]) -> Result<(), NoMemory>
+    ensures { OnOk result (text.new.items ≡ text.old.items ++ flat_map spaced flows.now) }
 {
-    let end = text.len() + 1 + width_of(flow);
+    let end = text.len().saturating_add(width_of_flows(flows));
     text.resize(end, b' ')?;
-    write_digits(u64::from(flow), text, end);
+    write_flows(flows, text);
     Ok(())
+}
+
+/// Writes the numbers of flows to the end of a text that has spaces there.
+fn write_flows(flows: &[u32], text: &mut [u8])
+    requires { (before : List ℕ) × HasSpaces before flows.now text.old }
+    ensures len { length text.new ≡ length text.old }
+    ensures text { (before : List ℕ) → HasSpaces before flows.now text.old →
+        text.new ≡ before ++ flat_map spaced flows.now }
+{
+    let mut end = text.len();
+    let mut left = flows.len();
+    'flows: while left > 0 {
+        left -= 1;
+        end = write_digits(u64::from(flows[left]), text, end) - 1;
+    }
+}
+
+/// How many bytes the numbers of flows take, each behind a space, or the greatest number where they take more.
+fn width_of_flows(flows: &[u32]) -> usize
+    ensures { result ≡ min (length (flat_map spaced flows.now)) (2 ^ 64 - 1) }
+{
+    let mut width = 0usize;
+    for flow in flows {
+        width = width.saturating_add(1 + width_of(*flow));
+    }
+    width
 }
 
 /// How many digits a number has.

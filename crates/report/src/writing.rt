@@ -3,7 +3,7 @@ ghost use Rattle.std.specs.Prelude.{◌≡◌, ◌<◌, ◌+◌, ◌++◌, IfOk,
 ghost use Rattle.report.specs.Text.{charge_words, ended, place_line_at, place_lines, report_text, run_line, side_word, text_of, total_lines, version_line, weight_at, weight_word};
 ghost use Rattle.report.specs.Report.{HasWeights};
 
-use crate::numbers::{push_flow, push_named, push_number, width_of};
+use crate::numbers::{push_flows, push_named, push_number, width_of};
 use crate::value::{PlaceLine, Report};
 use coflow_units::{NoMemory, Run, Side};
 use std::alloc::Global;
@@ -111,8 +111,8 @@ fn push_charge(text: &mut Vec<u8>, line: PlaceLine) -> Result<(), NoMemory>
     push_number(text, u128::from(line.done))
 }
 
-/// The word of a side.
-fn word_of(side: Side) -> &'static [u8]
+/// The word of a side: `in` or `out`.
+pub fn word_of(side: Side) -> &'static [u8]
     ensures { result.now ≡ side_word side }
 {
     match side {
@@ -146,9 +146,7 @@ pub(crate) fn push_run(text: &mut Vec<u8>, run: &Run) -> Result<(), NoMemory>
 {
     text.extend_from_slice(b"run")?;
     push_number(text, u128::from(run.length))?;
-    for flow in run.flows.as_slice() {
-        push_flow(text, *flow)?;
-    }
+    push_flows(text, run.flows.as_slice())?;
     text.extend_from_slice(b"\n")?;
     Ok(())
 }

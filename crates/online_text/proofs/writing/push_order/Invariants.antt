@@ -1,0 +1,9 @@
+-- the lines so far stand behind the text
+use Rattle.std.proofs.Common.{◌≡◌, ◌++◌, map}
+use Rattle.std.specs.List.{range_with_len}
+use Rattle.report.specs.Text.{text_of}
+use Rattle.online_text.specs.Text.{order_line_at}
+use Rattle.online_text.proofs.writing.push_order.Given as goal
+
+abbrev pub invariant-loop-place : goal.invariant-loop-place
+invariant-loop-place l = l.text.items ≡ l.fn.text.items ++ text_of (map (order_line_at l.places) (range_with_len 0 l.place))
