@@ -47,7 +47,7 @@ member_within_sums w (y ∷ ys) x has = elim (first_or_tail y ys x has) [
 -- ---- least and greatest numbers
 
 -- a number of a list is no less than its least one
-least_below : (xs : List ℕ) (n : ℕ) → Contains xs n → least_of xs ≤ n
+pub least_below : (xs : List ℕ) (n : ℕ) → Contains xs n → least_of xs ≤ n
 least_below [] n has = absurd (nothing_in n has)
 least_below (x ∷ []) n has = elim (first_or_tail x [] n has) [
   | inl e ↦ omega (arith, e)
@@ -58,7 +58,7 @@ least_below (x ∷ y ∷ ys) n has = elim (first_or_tail x (y ∷ ys) n has) [
   | inr later ↦ omega (arith, least_below (y ∷ ys) n later)
 ]
 
-in_map : (w : ℕ → ℕ) (xs : List ℕ) (c : ℕ) → Contains xs c → Contains (map w xs) (w c)
+pub in_map : {X Y : Type 0} (w : X → Y) (xs : List X) (c : X) → Contains xs c → Contains (map w xs) (w c)
 in_map w [] c has = absurd (nothing_in c has)
 in_map w (x ∷ xs) c has = elim (first_or_tail x xs c has) [
   | inl e ↦ subst (λ k. Contains (w x ∷ map w xs) (w k)) e (in_first (w x) (map w xs))

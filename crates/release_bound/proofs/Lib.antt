@@ -2,3 +2,9 @@ mod LateLaw
 mod LateSlots
 mod ReleasedLaw
 mod SizeLaw
+mod LatestSteps
+mod ReleaseSteps
+mod ChargeSteps
+mod ArrivalSteps
+mod TotalSteps
+mod LateRow

@@ -16,7 +16,8 @@ use Rattle.coflow_units.specs.Certificate.{Entry, budget, front, front_load, use
 use Rattle.coflow_units.proofs.Lists.{filter_in, number_below}
 use Rattle.coflow_units.proofs.Sums.{apart_from_pairs, in_first, in_tail, member_within_sum, sum_same}
 use Rattle.dual_cert.proofs.SizeLaws.{paid, paid_is_used, square_of_sum}
-use Rattle.release_bound.specs.Release.{IsReleasedCertificate, IsReleasedFeasible, Release, all_ports, bottleneck, earliest_end, entries_of, first_arrival, least_of, loaded}
+use Rattle.release_bound.specs.declared.place.ReleasePlace.{ReleasePlace}
+use Rattle.release_bound.specs.Release.{IsReleasedCertificate, IsReleasedFeasible, all_ports, bottleneck, earliest_end, entries_of, first_arrival, least_of, loaded}
 use Rattle.release_bound.specs.Release.{released_value}
 use Rattle.release_bound.proofs.LateLaw.{from_map, greatest_below}
 use Rattle.release_bound.proofs.ReleasedLaw.{within_budgets}
@@ -40,7 +41,7 @@ at_side side ports port has =
     let (n, inside, is) = from_map (λ (n : ℕ). record { side = side; number = n }) (range_with_len 0 ports) port has in
     subst (λ (p : Port). p.number < ports) is (omega (arith, number_below 0 ports n inside))
 
-in_range : (ports : ℕ) (port : Port) → Contains (all_ports ports) port → port.number < ports
+pub in_range : (ports : ℕ) (port : Port) → Contains (all_ports ports) port → port.number < ports
 in_range ports port has =
     elim (Contains-append_cases (map (λ n. record { side = Ingress; number = n }) (range_with_len 0 ports))
     (map (λ n. record { side = Egress; number = n }) (range_with_len 0 ports)) port has) [
@@ -67,10 +68,10 @@ term_fits y b q a h z k m squares load late end =
     let three : z * h ≤ z * (k + m) = mul-le-mul_left z end in
     omega (arith, one, two, three)
 
-value_within : (flows : List Flow) (arrival : ℕ → ℕ) (ports k m : ℕ) (places : List Release) → All (λ (e : Entry). e.port.number < ports) (entries_of places) →
+value_within : (flows : List Flow) (arrival : ℕ → ℕ) (ports k m : ℕ) (places : List ReleasePlace) → All (λ (e : Entry). e.port.number < ports) (entries_of places) →
     IsCapped flows ports k (front (entries_of places)) →
     ((c : ℕ) → Contains (front (entries_of places)) c → arrival c ≤ m) →
-    released_value flows arrival ports places ≤ 2 * ((k + m) * (paid flows (entries_of places) + sum_by (λ (r : Release). r.z) places))
+    released_value flows arrival ports places ≤ 2 * ((k + m) * (paid flows (entries_of places) + sum_by (λ (r : ReleasePlace). r.z) places))
 value_within flows arrival ports k m [] inside cap late = omega arith
 value_within flows arrival ports k m (r ∷ before) inside cap late =
     let entries = entries_of (r ∷ before) in
@@ -87,9 +88,9 @@ value_within flows arrival ports k m (r ∷ before) inside cap late =
     let term = term_fits r.y (front_load flows entries) (squares_of_loads flows cs r.port) (first_arrival flows arrival cs r.port) (earliest_end flows arrival ports r.coflow) r.z k
     m
     (square_of_sum (λ c. load flows c r.port) cs) here (arrival_within flows arrival cs r.port m late) end in
-    omega (arith, term, later, ap (λ n. (k + m) * n) (sum_by-cons (λ (x : Release). x.z) r before))
+    omega (arith, term, later, ap (λ n. (k + m) * n) (sum_by-cons (λ (x : ReleasePlace). x.z) r before))
 
-pub size_law : (i : Instance) (arrival : ℕ → ℕ) (places : List Release) (k m : ℕ) → IsReleasedCertificate i places → IsReleasedFeasible i.flows i.weight places →
+pub size_law : (i : Instance) (arrival : ℕ → ℕ) (places : List ReleasePlace) (k m : ℕ) → IsReleasedCertificate i places → IsReleasedFeasible i.flows i.weight places →
     IsCapped i.flows i.ports k (front (entries_of places)) → ((c : ℕ) → Contains (front (entries_of places)) c → arrival c ≤ m) →
     released_value i.flows arrival i.ports places ≤ 2 * ((k + m) * sum_by (budget i.weight) (front (entries_of places)))
 size_law i arrival places k m certificate feasible cap late =
@@ -98,8 +99,8 @@ size_law i arrival places k m certificate feasible cap late =
     let low = value_within i.flows arrival i.ports k m places certificate.port cap late in
     let spent = within_budgets i.flows i.weight (λ c. 1) places places feasible in
     let once_used = sum_same (λ c. used i.flows entries c * 1) (used i.flows entries) cs (λ c has. omega arith) in
-    let once_z = sum_same (λ (r : Release). r.z * 1) (λ (r : Release). r.z) places (λ r has. omega arith) in
+    let once_z = sum_same (λ (r : ReleasePlace). r.z * 1) (λ (r : ReleasePlace). r.z) places (λ r has. omega arith) in
     let once_budget = sum_same (λ c. budget i.weight c * 1) (budget i.weight) cs (λ c has. omega arith) in
     let paid_all = paid_is_used i.flows entries (apart_from_pairs cs certificate.once) in
-    let within : paid i.flows entries + sum_by (λ (r : Release). r.z) places ≤ sum_by (budget i.weight) cs = omega (arith, spent, once_used, once_z, once_budget, paid_all) in
+    let within : paid i.flows entries + sum_by (λ (r : ReleasePlace). r.z) places ≤ sum_by (budget i.weight) cs = omega (arith, spent, once_used, once_z, once_budget, paid_all) in
     omega (arith, low, mul-le-mul_left (k + m) within)

@@ -1,2 +1,5 @@
 pub mod Release
+pub mod ReleaseOrder
+pub mod ReleaseStep
+pub mod ReleaseTable
 pub mod Rows

@@ -12,6 +12,7 @@ use Rattle.coflow_units.specs.Flows.{Instance}
 use Rattle.coflow_units.specs.Load.{load, load_of_all, squares_of_loads}
 use Rattle.coflow_units.specs.Schedule.{IsValid}
 use Rattle.coflow_units.specs.Completion.{holds_coflow}
+use Rattle.release_bound.specs.declared.place.ReleasePlace.{ReleasePlace}
 use Rattle.coflow_units.specs.Certificate.{Entry, IsCertificate, budget, div_up, front, scale, used}
 
 -- the schedule serves all units, and none of the slots up to a coflow's arrival holds a flow of it: the slots are
@@ -20,29 +21,21 @@ pub record IsReleased (flows : List Flow) (arrival : ℕ → ℕ) (slots : List 
   pub valid : IsValid flows slots
   pub none_early : (coflow : ℕ) → All (λ slot. holds_coflow flows slot coflow ≡ false) (take (arrival coflow) slots)
 
--- a place of a released certificate: its coflow, its port, what each unit of the port's load costs there, and what the
--- coflow pays for each slot up to its earliest end
-pub record Release : Type 0 where
-  pub coflow : ℕ
-  pub port : Port
-  pub y : ℕ
-  pub z : ℕ
-
 -- the place without its z
-abbrev pub entry_of : Release → Entry
+abbrev pub entry_of : ReleasePlace → Entry
 entry_of r = record { coflow = r.coflow; port = r.port; y = r.y }
 
-abbrev pub entries_of : List Release → List Entry
+abbrev pub entries_of : List ReleasePlace → List Entry
 entries_of places = map entry_of places
 
 -- the places name each coflow of the instance once, and their ports are in range
-abbrev pub IsReleasedCertificate : Instance → List Release → Type 0
+abbrev pub IsReleasedCertificate : Instance → List ReleasePlace → Type 0
 IsReleasedCertificate i places = IsCertificate i (entries_of places)
 
 -- no coflow spends more than its budget, with its z
-abbrev pub IsReleasedFeasible : List Flow → (ℕ → ℕ) → List Release → Type 0
+abbrev pub IsReleasedFeasible : List Flow → (ℕ → ℕ) → List ReleasePlace → Type 0
 IsReleasedFeasible flows weight places =
-    All (λ (r : Release). used flows (entries_of places) r.coflow + r.z ≤ budget weight r.coflow) places
+    All (λ (r : ReleasePlace). used flows (entries_of places) r.coflow + r.z ≤ budget weight r.coflow) places
 
 -- the least number, or 0 where there is none
 abbrev pub least_of : List ℕ → ℕ
@@ -86,17 +79,17 @@ front_value flows arrival coflows port =
     + 2 * (first_arrival flows arrival coflows port * load_of_all flows coflows port)
 
 -- what the head's place adds: y times the value of its front, and twice z times the earliest end of its coflow
-abbrev pub place_value : List Flow → (ℕ → ℕ) → ℕ → Release → List Release → ℕ
+abbrev pub place_value : List Flow → (ℕ → ℕ) → ℕ → ReleasePlace → List ReleasePlace → ℕ
 place_value flows arrival ports r before =
     r.y * front_value flows arrival (front (entries_of (r ∷ before))) r.port
     + 2 * (r.z * earliest_end flows arrival ports r.coflow)
 
 -- 2 * scale times the value that the certificate proves
-abbrev pub released_value : List Flow → (ℕ → ℕ) → ℕ → List Release → ℕ
+abbrev pub released_value : List Flow → (ℕ → ℕ) → ℕ → List ReleasePlace → ℕ
 released_value flows arrival ports [] = 0
 released_value flows arrival ports (r ∷ before) =
     place_value flows arrival ports r before + released_value flows arrival ports before
 
 -- the lower bound that a feasible released certificate proves
-abbrev pub released_total : List Flow → (ℕ → ℕ) → ℕ → List Release → ℕ
+abbrev pub released_total : List Flow → (ℕ → ℕ) → ℕ → List ReleasePlace → ℕ
 released_total flows arrival ports places = div_up (released_value flows arrival ports places) (2 * scale)

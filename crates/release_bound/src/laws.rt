@@ -6,9 +6,11 @@ ghost use Rattle.coflow_units.specs.Flows.{Instance, IsDistinct};
 ghost use Rattle.coflow_units.specs.Load.{load, load_of_all};
 ghost use Rattle.coflow_units.specs.Completion.{completion, cost};
 ghost use Rattle.coflow_units.specs.Certificate.{budget, front, scale};
-ghost use Rattle.release_bound.specs.Release.{IsReleased, IsReleasedCertificate, IsReleasedFeasible, Release, earliest_end};
+ghost use Rattle.release_bound.specs.declared.place.ReleasePlace.{ReleasePlace};
+ghost use Rattle.release_bound.specs.Release.{IsReleased, IsReleasedCertificate, IsReleasedFeasible, earliest_end};
 ghost use Rattle.release_bound.specs.Release.{entries_of, front_value, released_total, released_value};
-ghost use Rattle.release_bound.specs.Rows.{long_after_short, long_and_short, short_is_late};
+ghost use Rattle.release_bound.specs.ReleaseOrder.{IsReleasedOrdering};
+ghost use Rattle.release_bound.specs.Rows.{both_are_late, long_after_short, long_and_short, long_and_short_alike, one_part_more, short_is_late};
 
 /// The parallel inequality with arrivals: where nobody is served before its arrival, twice the sum of load times completion
 /// is at least the square of the set's load, the squares of the coflows' loads, and twice the set's load times the first
@@ -29,10 +31,10 @@ pub fn late_completion()
 /// Weak duality with arrivals: no schedule that serves nobody before its arrival costs less than the total of a feasible
 /// released certificate.
 pub fn released_is_bound()
-    ensures value { (i : Instance) (arrival : ℕ → ℕ) (places : List Release) (slots : List (List ℕ)) →
+    ensures value { (i : Instance) (arrival : ℕ → ℕ) (places : List ReleasePlace) (slots : List (List ℕ)) →
         IsReleasedCertificate i places → IsReleasedFeasible i.flows i.weight places → IsReleased i.flows arrival slots →
         released_value i.flows arrival i.ports places ≤ 2 * scale * cost i.flows i.weight i.coflows slots }
-    ensures total { (i : Instance) (arrival : ℕ → ℕ) (places : List Release) (slots : List (List ℕ)) →
+    ensures total { (i : Instance) (arrival : ℕ → ℕ) (places : List ReleasePlace) (slots : List (List ℕ)) →
         IsReleasedCertificate i places → IsReleasedFeasible i.flows i.weight places → IsReleased i.flows arrival slots →
         released_total i.flows arrival i.ports places ≤ cost i.flows i.weight i.coflows slots }
 {}
@@ -40,7 +42,7 @@ pub fn released_is_bound()
 /// Where no port has more load than k and no coflow arrives later than m, the value of a feasible released certificate is at
 /// most 2 * (k + m) times the sum of the budgets. With loads up to 2^40, arrivals up to 2^32 and 4096 weights up to 2^32, that is below 2^126.
 pub fn released_values_fit()
-    ensures { (i : Instance) (arrival : ℕ → ℕ) (places : List Release) (k m : ℕ) → IsReleasedCertificate i places →
+    ensures { (i : Instance) (arrival : ℕ → ℕ) (places : List ReleasePlace) (k m : ℕ) → IsReleasedCertificate i places →
         IsReleasedFeasible i.flows i.weight places →
         ((port : Port) → port.number < i.ports → load_of_all i.flows (front (entries_of places)) port ≤ k) →
         ((c : ℕ) → Contains (front (entries_of places)) c → arrival c ≤ m) →
@@ -49,8 +51,24 @@ pub fn released_values_fit()
 {}
 
 /// Of a coflow of 6 units and one of 1 unit that arrives at time 2, each schedule costs at least 10.
-/// Were the arrival not known, the same certificate would show 8.
+/// Were the arrival not known, the same certificate would show 8. Where the long one arrives at time 3, it shows 12.
 pub fn late_row_has_total()
     ensures known { released_total long_and_short short_is_late 3 long_after_short ≡ 10 }
     ensures unknown { released_total long_and_short (λ c. 0) 3 long_after_short ≡ 8 }
+    ensures both { released_total long_and_short both_are_late 3 long_after_short ≡ 12 }
+{}
+
+/// That certificate is feasible where both have weight 1, and leaves nothing over: with one part more it is not. So each schedule costs at least 10.
+pub fn late_row_is_feasible()
+    ensures certificate { IsReleasedCertificate long_and_short_alike long_after_short }
+    ensures feasible { IsReleasedFeasible long_and_short long_and_short_alike.weight long_after_short }
+    ensures no_more { IsReleasedFeasible long_and_short long_and_short_alike.weight one_part_more → ⊥ }
+    ensures cost { (slots : List (List ℕ)) → IsReleased long_and_short short_is_late slots →
+        10 ≤ cost long_and_short long_and_short_alike.weight long_and_short_alike.coflows slots }
+{}
+
+/// The released certificate is feasible: no coflow pays more than its budget.
+pub fn released_ordering_is_feasible()
+    ensures { (i : Instance) (arrival : ℕ → ℕ) (places : List ReleasePlace) → IsReleasedOrdering i arrival places →
+        IsReleasedFeasible i.flows i.weight places }
 {}

@@ -1,4 +1,12 @@
 //! Lower bounds that know arrivals: certificates of the cost of schedules that serve nobody before its arrival.
 #![tactic(auto)]
 
+mod bssi;
+mod certificate;
 pub mod laws;
+mod place;
+mod step;
+
+pub use bssi::ReleaseBssi;
+pub use certificate::{released_infeasible, released_total};
+pub use place::ReleasePlace;

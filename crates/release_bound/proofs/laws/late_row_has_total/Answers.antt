@@ -6,3 +6,6 @@ returns-clause-known c = refl
 
 pub returns-clause-unknown : goal.returns-clause-unknown
 returns-clause-unknown c = refl
+
+pub returns-clause-both : goal.returns-clause-both
+returns-clause-both c = refl

@@ -1,0 +1,5 @@
+use Rattle.release_bound.proofs.ReleaseSteps.{PlacesSoFar}
+use Rattle.release_bound.proofs.step.place_all.Given as goal
+
+abbrev pub invariant-loop-number : goal.invariant-loop-number
+invariant-loop-number l = PlacesSoFar l.fn.loads l.loads l.arrivals l.fn.residuals l.residuals l.fn.waiting l.waiting l.places l.number
