@@ -1,6 +1,6 @@
 //! Command lines.
 use crate::rows::parts_of;
-use command_words::read_words;
+use command_words::{Job, read_words};
 use std::alloc::Global;
 use std::test::Fail;
 
@@ -14,15 +14,34 @@ fn cut(alloc: Global, line: &str) -> Result<Vec<String>, Fail> {
     Ok(words)
 }
 
-/// What a line says: the command, FIRST, SECOND and the weights, each `-` where there is none, and the values of `--unit`, `--agents`, `--epoch`, `--run` and `--slot-ms`;
+/// A job: its command, with the names or the number behind it, `-` where there is no second one.
+fn job_text(alloc: Global, job: Job<'_>) -> Result<String, Fail> {
+    let text = match job {
+        Job::Plan { trace } => format!(in alloc; "Plan {trace} -")?,
+        Job::Check { trace, report } => format!(in alloc; "Check {trace} {report}")?,
+        Job::Make { seed } => format!(in alloc; "Make {seed} -")?,
+        Job::Compare { trace } => format!(in alloc; "Compare {trace} -")?,
+        Job::Classes { trace } => format!(in alloc; "Classes {trace} -")?,
+    };
+    Ok(text)
+}
+
+/// What a line says: its job, the weights, `-` where there are none, and the values of `--unit`, `--agents`, `--epoch`, `--run`, `--slot-ms` and `--classes`;
 /// or its fault.
 fn answer(alloc: Global, words: &[String]) -> Result<String, Fail> {
     match read_words(alloc, words) {
         Ok(said) => {
-            let (second, weights) = (said.second.unwrap_or("-"), said.weights.unwrap_or("-"));
+            let job = job_text(alloc, said.job)?;
+            let options = said.options;
+            let weights = options.weights.unwrap_or("-");
             Ok(format!(in alloc;
-                "{:?} {} {second} {weights} {} {} {} {} {}",
-                said.command, said.first, said.unit, said.agents, said.epoch, said.run, said.slot_ms
+                "{job} {weights} {} {} {} {} {} {}",
+                options.unit,
+                options.agents,
+                options.epoch,
+                options.run,
+                options.slot_ms,
+                options.classes
             )?)
         }
         Err(fault) => Ok(format!(in alloc; "{fault}")?),
@@ -30,39 +49,44 @@ fn answer(alloc: Global, words: &[String]) -> Result<String, Fail> {
 }
 
 /// Lines and what they say.
-const READ: &str = "plan t => Plan t - - 1 4 1024 1 8
---weights w plan t => Plan t - w 1 4 1024 1 8
-plan --weights w t => Plan t - w 1 4 1024 1 8
-plan t --weights w => Plan t - w 1 4 1024 1 8
-plan t --weights=w => Plan t - w 1 4 1024 1 8
-plan t --weights=-x => Plan t - -x 1 4 1024 1 8
-plan t --weights=-- => Plan t - -- 1 4 1024 1 8
-plan t --weights=a=b => Plan t - a=b 1 4 1024 1 8
-plan t --weights a=b => Plan t - a=b 1 4 1024 1 8
-plan t --weights =b => Plan t - =b 1 4 1024 1 8
-plan t --weights==b => Plan t - =b 1 4 1024 1 8
-plan t --unit 01 => Plan t - - 1 4 1024 1 8
-plan t --unit 1048576 => Plan t - - 1048576 4 1024 1 8
-plan t --agents=1 => Plan t - - 1 1 1024 1 8
-plan t --agents 64 => Plan t - - 1 64 1024 1 8
-plan t --epoch 1099511627776 => Plan t - - 1 4 1099511627776 1 8
-plan t --run 1099511627776 => Plan t - - 1 4 1024 1099511627776 8
-plan t --slot-ms 1048576 => Plan t - - 1 4 1024 1 1048576
---slot-ms 6 plan --run 5 --epoch=4 t --agents 3 --weights=w --unit 2 => Plan t - w 2 3 4 5 6
-check t r => Check t r - 1 4 1024 1 8
-check --unit=1 t --run 1 r -- => Check t r - 1 4 1024 1 8
-check -- -t -- => Check -t -- - 1 4 1024 1 8
-check t -- --unit => Check t --unit - 1 4 1024 1 8
-make 007 => Make 007 - - 1 4 1024 1 8
-make 18446744073709551615 => Make 18446744073709551615 - - 1 4 1024 1 8
-make 0 --epoch 5 => Make 0 - - 1 4 5 1 8
-plan help => Plan help - - 1 4 1024 1 8
-plan plan => Plan plan - - 1 4 1024 1 8
-plan -- -x => Plan -x - - 1 4 1024 1 8
-plan -- -- => Plan -- - - 1 4 1024 1 8
--- plan t => Plan t - - 1 4 1024 1 8
-plan -- t => Plan t - - 1 4 1024 1 8
-plan t -- => Plan t - - 1 4 1024 1 8";
+const READ: &str = "plan t => Plan t - - 1 4 1024 1 8 8
+--weights w plan t => Plan t - w 1 4 1024 1 8 8
+plan --weights w t => Plan t - w 1 4 1024 1 8 8
+plan t --weights w => Plan t - w 1 4 1024 1 8 8
+plan t --weights=w => Plan t - w 1 4 1024 1 8 8
+plan t --weights=-x => Plan t - -x 1 4 1024 1 8 8
+plan t --weights=-- => Plan t - -- 1 4 1024 1 8 8
+plan t --weights=a=b => Plan t - a=b 1 4 1024 1 8 8
+plan t --weights a=b => Plan t - a=b 1 4 1024 1 8 8
+plan t --weights =b => Plan t - =b 1 4 1024 1 8 8
+plan t --weights==b => Plan t - =b 1 4 1024 1 8 8
+plan t --unit 01 => Plan t - - 1 4 1024 1 8 8
+plan t --unit 1048576 => Plan t - - 1048576 4 1024 1 8 8
+plan t --agents=1 => Plan t - - 1 1 1024 1 8 8
+plan t --agents 64 => Plan t - - 1 64 1024 1 8 8
+plan t --epoch 1099511627776 => Plan t - - 1 4 1099511627776 1 8 8
+plan t --run 1099511627776 => Plan t - - 1 4 1024 1099511627776 8 8
+plan t --slot-ms 1048576 => Plan t - - 1 4 1024 1 1048576 8
+--slot-ms 6 plan --run 5 --epoch=4 t --agents 3 --weights=w --unit 2 => Plan t - w 2 3 4 5 6 8
+check t r => Check t r - 1 4 1024 1 8 8
+check --unit=1 t --run 1 r -- => Check t r - 1 4 1024 1 8 8
+check -- -t -- => Check -t -- - 1 4 1024 1 8 8
+check t -- --unit => Check t --unit - 1 4 1024 1 8 8
+make 007 => Make 7 - - 1 4 1024 1 8 8
+make 18446744073709551615 => Make 18446744073709551615 - - 1 4 1024 1 8 8
+make 0 --epoch 5 => Make 0 - - 1 4 5 1 8 8
+plan help => Plan help - - 1 4 1024 1 8 8
+plan plan => Plan plan - - 1 4 1024 1 8 8
+plan -- -x => Plan -x - - 1 4 1024 1 8 8
+plan -- -- => Plan -- - - 1 4 1024 1 8 8
+-- plan t => Plan t - - 1 4 1024 1 8 8
+plan -- t => Plan t - - 1 4 1024 1 8 8
+plan t -- => Plan t - - 1 4 1024 1 8 8
+compare t => Compare t - - 1 4 1024 1 8 8
+classes t => Classes t - - 1 4 1024 1 8 8
+classes t --classes 1 => Classes t - - 1 4 1024 1 8 1
+--classes=64 classes t --weights w => Classes t - w 1 4 1024 1 8 64
+plan t --classes 02 => Plan t - - 1 4 1024 1 8 2";
 
 #[test]
 fn lines_that_are_read(rt: HostRuntime) -> Result<(), Fail> {
@@ -142,7 +166,17 @@ plan t --slot-ms 1048577
 plan t --slot_ms 8
 plan t ---unit 1
 make 1 --epoch 0
-make 1 --weights=";
+make 1 --weights=
+compare
+compare t r
+compare -
+classes
+classes t r
+classes t --classes
+classes t --classes 0
+classes t --classes 65
+classes t --classes 1 --classes 1
+plan t --classes 65";
 
 #[test]
 fn lines_that_are_refused(rt: HostRuntime) -> Result<(), Fail> {

@@ -3,8 +3,6 @@
 #![tactic(auto)]
 
 #[cfg(test)]
-mod benches;
-#[cfg(test)]
 mod command_lines;
 #[cfg(test)]
 mod made;
@@ -14,6 +12,8 @@ mod numbers;
 mod reports;
 #[cfg(test)]
 mod rows;
+#[cfg(test)]
+mod scripts;
 #[cfg(test)]
 mod traces;
 #[cfg(test)]

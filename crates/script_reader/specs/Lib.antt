@@ -1,0 +1,5 @@
+pub mod Words
+pub mod Operands
+pub mod Checks
+pub mod Script
+pub mod Draft
