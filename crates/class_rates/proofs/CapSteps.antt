@@ -1,10 +1,10 @@
 -- Loads of classes and caps of coflows, flow by flow.
 use Rattle.std.proofs.Common.{◌≡◌, ◌≢◌, ℕ, ◌+◌, ◌-◌, ◌*◌, ◌≤◌, ◌<◌, inl, inr, Bool, true, false, cond, max, List}
-use Rattle.std.proofs.Common.{[], ◌∷◌, ◌++◌, length, get_or, take, replicate, Contains, refl, sym, ap, subst, ◌∙◌, arith, le_trans, zero, suc}
+use Rattle.std.proofs.Common.{[], ◌∷◌, ◌++◌, length, get_or, take, replicate, Contains, refl, sym, ap, ◌∙◌, arith, zero, suc}
 use Rattle.std.specs.Prelude.{All, ◌==◌, ◌&&◌, nat_le, nat_lt, set, sum_by}
 use Rattle.std.specs.List.{filter, range_with_len}
 use Rattle.std.proofs.Math.Nat.{max_comm, mul-le-mul_left}
-use Rattle.std.proofs.lemmas.Bool.{both_ways, cases_Bool, cases_eq, cases_lt, eq-eqb, eqb-true, le-leb, le-ltb, lt-leb, lt-ltb, ne_eqb}
+use Rattle.std.proofs.lemmas.Bool.{both_ways, cases_Bool, cases_eq, cases_lt, eq-eqb, le-leb, le-ltb, lt-leb, lt-ltb, ne_eqb}
 use Rattle.std.proofs.lemmas.List.{get_or-set_other, get_or-set_same, get_or_default, get_or_past, length-set, take_all}
 use Rattle.std.proofs.lemmas.List.Elements.{All-contains}
 use Rattle.std.proofs.lemmas.List.Sums.{get_or-le-sum_by, sum_by-take-le, sum_by_more}

@@ -1,14 +1,14 @@
 -- Orders by class, and schedules that are patient for one.
-use Rattle.std.proofs.Common.{◌≡◌, ℕ, ◌≤◌, ◌<◌, ◌⊎◌, inl, inr, List, [], ◌∷◌, length, get_or, Contains, refl, sym, ap, subst, ◌∙◌, arith, suc}
+use Rattle.std.proofs.Common.{◌≡◌, ℕ, ◌≤◌, ◌<◌, inl, inr, List, [], ◌∷◌, length, get_or, Contains, refl, sym, ap, subst, ◌∙◌, arith, suc}
 use Rattle.std.specs.Prelude.{AllPairs}
 use Rattle.std.proofs.lemmas.Bool.{cases_lt}
 use Rattle.std.proofs.lemmas.List.{get_or_default}
 use Rattle.std.proofs.lemmas.List.Elements.{All-contains}
 use Rattle.coflow_units.specs.declared.fabric.Flow.{Flow}
-use Rattle.coflow_units.specs.Flows.{SharesPort, coflow_of, units_of}
+use Rattle.coflow_units.specs.Flows.{IsDistinct, coflow_of}
 use Rattle.coflow_units.specs.Grants.{place_in}
 use Rattle.coflow_units.specs.Patient.{IsPatient, IsServedOrWaits}
-use Rattle.coflow_units.specs.Schedule.{IsClear, IsValid, times}
+use Rattle.coflow_units.specs.Schedule.{IsClear, IsValid}
 use Rattle.coflow_units.specs.Served.{IsServed}
 use Rattle.coflow_units.proofs.LinePlaces.{at_place, place_of_member}
 use Rattle.coflow_units.proofs.ServedLaws.{served_patient, served_valid}
@@ -60,6 +60,10 @@ same_sorted class (x ∷ xs) (y ∷ ys) sa sb to from =
     (λ c has. into_tail class x y c xs ys sa e has (to c (in_tail x xs c has)))
     (λ c has. into_tail class y x c ys xs sb (sym e) has (from c (in_tail y ys c has))) in
     ap (λ z. z ∷ xs) e ∙ ap (λ zs. y ∷ zs) tails
+
+-- a class order repeats no coflow
+pub order_distinct : (class : ℕ → ℕ) (order : List ℕ) → AllPairs (ClassBefore class) order → IsDistinct order
+order_distinct class order sorted = λ i j d lt in' e. not_itself class _ _ e (sorted i j d lt in')
 
 pub order_is_one : (coflows : List ℕ) (class : ℕ → ℕ) (a b : List ℕ) → IsClassOrder coflows class a → IsClassOrder coflows class b → a ≡ b
 order_is_one coflows class a b oa ob = same_sorted class a b oa.sorted ob.sorted

@@ -1,5 +1,6 @@
+pub mod CapSame
 mod CapSteps
-mod ClassLaw
+pub mod ClassLaw
 pub mod ClassOrders
 mod ClassRows
 mod FoldSteps

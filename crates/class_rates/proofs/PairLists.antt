@@ -1,10 +1,9 @@
 -- Lists in which each element comes before those after it.
-use Rattle.std.proofs.Common.{◌≡◌, ℕ, ◌+◌, ◌≤◌, ◌<◌, inl, inr, Bool, true, false, List, [], ◌∷◌, ◌++◌, get_or, Contains, refl, sym, subst, ◌∙◌, arith, zero, suc}
+use Rattle.std.proofs.Common.{◌≡◌, ℕ, inl, inr, Bool, true, false, List, [], ◌∷◌, ◌++◌, get_or, Contains, refl, subst, arith, zero, suc}
 use Rattle.std.specs.Prelude.{AllPairs}
-use Rattle.std.specs.List.{filter, range_with_len}
+use Rattle.std.specs.List.{filter}
 use Rattle.std.proofs.lemmas.List.{get_or_default}
 use Rattle.std.proofs.lemmas.List.Elements.{Contains-append_cases}
-use Rattle.std.proofs.lemmas.Bool.{cases_Bool}
 use Rattle.coflow_units.proofs.Lists.{filter_in}
 use Rattle.coflow_units.proofs.Sums.{in_first, in_tail}
 

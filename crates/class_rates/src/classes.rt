@@ -1,5 +1,6 @@
 //! The classes of coflows.
 ghost use Rattle.std.specs.Prelude.{◌≡◌, ◌<◌, length};
+ghost use Rattle.coflow_units.specs.Flows.{IsDistinct};
 ghost use Rattle.class_rates.specs.Classes.{IsClasses, class_of};
 
 use std::marker::Model;
@@ -48,6 +49,7 @@ impl Classes {
     /// The coflows by class, and those of a class by number.
     pub fn class_order(&self) -> &[u32]
         ensures order { result.now ≡ self.now.order }
+        ensures distinct { IsDistinct result.now }
         ensures classes { IsClasses self.now }
     {
         &self.order

@@ -1,14 +1,15 @@
 //! Laws of classes: what class order there is, and what schedules that keep classes cost.
 ghost use Rattle.std.specs.Prelude.{◌≡◌, ℕ, ◌<◌, ◌≤◌, List, Contains, length};
+ghost use Rattle.std.specs.List.{range_with_len};
 ghost use Rattle.coflow_units.specs.declared.fabric.Flow.{Flow};
-ghost use Rattle.coflow_units.specs.Flows.{Instance, IsInstance, coflow_of};
+ghost use Rattle.coflow_units.specs.Flows.{Instance, IsDistinct, IsInstance, coflow_of};
 ghost use Rattle.coflow_units.specs.Completion.{completion, cost, end_of};
 ghost use Rattle.coflow_units.specs.Patient.{IsPatient};
 ghost use Rattle.coflow_units.specs.Schedule.{IsValid};
 ghost use Rattle.coflow_units.specs.Served.{IsServed};
 ghost use Rattle.class_rates.specs.Cap.{cap, cap_of_coflow, cap_of_flow};
 ghost use Rattle.class_rates.specs.ClassPatient.{IsClassPatient};
-ghost use Rattle.class_rates.specs.Classes.{IsClassOrder, RisesAlong, class_in};
+ghost use Rattle.class_rates.specs.Classes.{ClassFacts, IsClassOrder, IsFolded, IsPermutation, RisesAlong, class_in, class_of};
 ghost use Rattle.class_rates.specs.Rows.{Caps, ClassOrders, ClassesAlong, cap_of_two, folded};
 
 /// In a valid schedule that keeps classes and leaves no port idle that could serve, each flow ends no later than its cap: the loads of its two ports over the coflows of
@@ -29,10 +30,23 @@ pub fn class_is_short()
         cost i.flows i.weight i.coflows slots ≤ cap i.flows i.weight i.coflows class }
 {}
 
-/// Coflows have at most one class order.
+/// Coflows have at most one class order, and it has each of them once.
 pub fn class_order_is_one()
-    ensures { (coflows : List ℕ) (class : ℕ → ℕ) (a b : List ℕ) → IsClassOrder coflows class a →
+    ensures one { (coflows : List ℕ) (class : ℕ → ℕ) (a b : List ℕ) → IsClassOrder coflows class a →
         IsClassOrder coflows class b → a ≡ b }
+    ensures distinct { (coflows : List ℕ) (class : ℕ → ℕ) (order : List ℕ) → IsClassOrder coflows class order →
+        IsDistinct order }
+{}
+
+/// A cap depends on the classes of the coflows alone. So folded classes have the cap of the order that was folded, whose classes go by its places.
+pub fn cap_is_of_the_order()
+    ensures classes { (flows : List Flow) (weight : ℕ → ℕ) (coflows : List ℕ) (class other : ℕ → ℕ) →
+        ((c : ℕ) → Contains coflows c → class c ≡ other c) →
+        cap flows weight coflows class ≡ cap flows weight coflows other }
+    ensures folded { (flows : List Flow) (weight : ℕ → ℕ) (order : List ℕ) (classes : ℕ) (t : ClassFacts) →
+        IsPermutation order → IsFolded order classes t →
+        cap flows weight (range_with_len 0 (length order)) (class_of t) ≡
+        cap flows weight (range_with_len 0 (length order)) (class_in order classes) }
 {}
 
 /// Classes do not fall along the order that was folded.

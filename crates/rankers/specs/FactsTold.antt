@@ -1,14 +1,13 @@
 -- What a ranker is told of the coflows of a table.
 use Rattle.std.specs.Prelude.{◌≡◌, ℕ, ◌<◌, ◌≤◌, ◌^◌, List, All, length}
 use Rattle.std.specs.List.{slice_index_or}
-use Rattle.coflow_units.specs.declared.fabric.Port.{Port}
-use Rattle.coflow_units.specs.declared.fabric.Side.{Side}
 use Rattle.coflow_units.specs.declared.limits.TheConstants.{MAX_COFLOWS}
 use Rattle.coflow_units.specs.Certificate.{Entry, order_of}
 use Rattle.coflow_units.specs.Ordering.{IsOrdering}
 use Rattle.class_rates.specs.Classes.{IsPermutation}
 use Rattle.flow_table.specs.Table.{TableFacts, instance_of}
-use Rattle.port_load.specs.LoadTable.{HasLoads, LoadTable, load_at}
+use Rattle.port_load.specs.Bottleneck.{IsBottleneck}
+use Rattle.port_load.specs.LoadTable.{HasLoads, LoadTable}
 
 -- the weight, the arrival and the greatest load of each coflow by number, the loads of the ports, and the coflows in
 -- the order by bottleneck, select, scale, iterate
@@ -22,11 +21,6 @@ pub record FactsTold : Type 0 where
 -- how many coflows there are; they have the numbers from 0 on
 abbrev pub coflows_in : FactsTold → ℕ
 coflows_in f = length f.weights
-
--- the number is the greatest of the coflow's loads
-pub record IsBottleneck (t : LoadTable) (coflow number : ℕ) : Type 0 where
-  pub most : (port : Port) → port.number < t.ports → load_at t coflow port ≤ number
-  pub some : (port : Port) × (port.number < t.ports) × (load_at t coflow port ≡ number)
 
 -- there is one of each for each coflow, and the numbers are within their limits
 pub record IsFacts (f : FactsTold) : Type 0 where
@@ -52,8 +46,3 @@ pub record IsFactsOf (t : TableFacts) (weights : List ℕ) (f : FactsTold) : Typ
   pub ports_are : f.loads.ports ≡ t.ports
   pub loads_are : HasLoads t.flows f.loads
   pub order_is : IsBssiOrder t weights f.order
-
--- the number is the greatest of the coflow's loads on the first ports of the side
-pub record IsGreatestOn (t : LoadTable) (coflow : ℕ) (side : Side) (ports number : ℕ) : Type 0 where
-  pub most : (p : ℕ) → p < ports → load_at t coflow (record { side = side; number = p }) ≤ number
-  pub some : (p : ℕ) × (p < ports) × (load_at t coflow (record { side = side; number = p }) ≡ number)

@@ -1,5 +1,5 @@
 -- What a ranker means: a list of numbers that it holds, and what it makes of questions and notes.
-use Rattle.std.specs.Prelude.{ℕ, ◌≤◌, List, [], ◌∷◌, All, length}
+use Rattle.std.specs.Prelude.{ℕ, List, [], ◌∷◌}
 use Rattle.rankers.specs.FactsTold.{FactsTold}
 
 -- The name; the list held; the answer to a list held and the facts; the list held after a question; and the list held
@@ -10,12 +10,6 @@ pub record Meaning : Type 0 where
   pub answer : List ℕ → FactsTold → List ℕ
   pub asked : List ℕ → FactsTold → List ℕ
   pub noted : List ℕ → ℕ → ℕ → List ℕ
-
--- the name has from 1 to 16 letters of a to z
-pub record IsName (name : List ℕ) : Type 0 where
-  pub some : 1 ≤ length name
-  pub few : length name ≤ 16
-  pub letter : All (λ b. (97 ≤ b) × (b ≤ 122)) name
 
 -- the same ranker, holding another list
 abbrev pub holding : Meaning → List ℕ → Meaning

@@ -1,5 +1,5 @@
 //! Numbers by a key, and those of one key by number.
-ghost use Rattle.std.specs.Prelude.{◌≡◌, ◌≤◌, ◌<◌, ◌^◌, length};
+ghost use Rattle.std.specs.Prelude.{◌≡◌, ◌≤◌, ◌<◌, ◌^◌, All, length};
 ghost use Rattle.std.specs.List.{range_with_len};
 ghost use Rattle.std.specs.List.Sorted.{IsNonDecreasingBy, IsPermutation};
 ghost use Rattle.rankers.specs.ByKey.{by_key, key_in, key_then_number};
@@ -7,7 +7,8 @@ ghost use Rattle.rankers.specs.ByKey.{by_key, key_in, key_then_number};
 /// Fills `out` with the numbers from 0 on, by their keys, and those of one key by number. A number past the end of the keys has the key 0.
 pub(crate) fn fill_by_key(keys: &[u64], out: &mut [u32])
     requires { length out.old ≤ 2 ^ 32 }
-    ensures { out.new ≡ by_key (key_in keys.now) (length out.old) }
+    ensures order { out.new ≡ by_key (key_in keys.now) (length out.old) }
+    ensures known { All (λ c. c < length out.old) out.new }
 {
     number(out);
     sort_by_key(keys, out);

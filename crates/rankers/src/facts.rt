@@ -2,16 +2,16 @@
 ghost use Rattle.std.specs.Prelude.{◌≡◌, ◌-◌, ◌^◌, ◌<◌, ◌≤◌, ℕ, All, IfOk, OnOk, length};
 ghost use Rattle.std.specs.List.{slice_index_or};
 ghost use Rattle.coflow_units.specs.declared.fabric.Port.{Port};
-ghost use Rattle.coflow_units.specs.declared.fabric.Side.{Side};
 ghost use Rattle.coflow_units.specs.declared.limits.TheConstants.{MAX_WEIGHT};
 ghost use Rattle.flow_table.specs.Table.{IsTable};
 ghost use Rattle.port_load.specs.LoadTable.{load_at};
-ghost use Rattle.rankers.specs.FactsTold.{IsBottleneck, IsBssiOrder, IsFacts, IsFactsOf, IsGreatestOn, coflows_in};
+ghost use Rattle.port_load.specs.Bottleneck.{IsBottleneck};
+ghost use Rattle.rankers.specs.FactsTold.{IsBssiOrder, IsFacts, IsFactsOf, coflows_in};
 
 use crate::order::{coflows_of, loads_of, order_of};
-use coflow_units::{NoMemory, Port, Side};
+use coflow_units::{NoMemory, Port};
 use flow_table::Table;
-use port_load::Loads;
+use port_load::{Loads, bottleneck};
 use std::alloc::Global;
 use std::marker::Model;
 
@@ -176,31 +176,7 @@ fn bottlenecks_of(alloc: Global, loads: &Loads) -> Result<Vec<u64>, NoMemory>
 {
     let mut bottlenecks = Vec::new(alloc);
     for coflow in 0..loads.coflows() {
-        bottlenecks.push(bottleneck_of(loads, coflow))?;
+        bottlenecks.push(bottleneck(loads, coflow))?;
     }
     Ok(bottlenecks)
-}
-
-/// The greatest load of a coflow on a port.
-fn bottleneck_of(loads: &Loads, coflow: u32) -> u64
-    requires { coflow < loads.now.coflows }
-    ensures { IsBottleneck loads.now coflow result }
-{
-    let ingress = greatest_on(loads, coflow, Side::Ingress);
-    let egress = greatest_on(loads, coflow, Side::Egress);
-    ingress.max(egress)
-}
-
-/// The greatest load of a coflow on a port of the side.
-fn greatest_on(loads: &Loads, coflow: u32, side: Side) -> u64
-    requires { coflow < loads.now.coflows }
-    ensures { IsGreatestOn loads.now coflow side loads.now.ports result }
-{
-    let ports = loads.ports();
-    let mut greatest = loads.get(coflow, Port { side, number: 0 });
-    for number in 1..ports {
-        let port = Port { side, number };
-        greatest = greatest.max(loads.get(coflow, port));
-    }
-    greatest
 }

@@ -79,9 +79,11 @@ pub struct Attained {
 }
 
 impl Attained {
-    /// A ranker with room for the notes of the coflows below `room`; the slot of a coflow that was not noted, or for which there is no room, counts as 0. The error is want of memory.
+    /// A ranker with room for the notes of the coflows below `room`. It was told nothing; the slot of a coflow that was not noted, or for which there is no room, counts as 0. The error is want of
+    /// memory.
     pub fn new(alloc: Global, room: u32) -> Result<Attained, NoMemory>
-        ensures { IfOk result (λ ranker. ranker.slots.items ≡ replicate room 0) }
+        ensures slots { IfOk result (λ ranker. ranker.slots.items ≡ replicate room 0) }
+        ensures meaning { IfOk result (λ ranker. ⟦<Attained as Ranker>⟧.meaning ranker ≡ attained (replicate room 0)) }
     {
         let slots = vec![in alloc; 0u64; room as usize]?;
         Ok(Attained { slots })

@@ -40,14 +40,16 @@ pub(crate) fn rounds_of(
     requires weights { All (λ w. w ≤ MAX_WEIGHT) weights.now }
     requires facts { coflows_in facts.now ≡ length table.now.ids }
     requires order { length order.old ≡ length table.now.ids }
-    ensures { IfOk result (λ rounds.
+    ensures rounds { IfOk result (λ rounds.
         IsRounds (instance_of table.now weights.now) facts.now (meaning ranker) rounds.first rounds.second) }
+    ensures answered { answered ranker facts.now }
 {
     let mut ranker = ranker;
     ask(&mut ranker, facts, order);
+    let earlier = Vec::from_slice(alloc, order)?;
     let first = score_and_tell(alloc, table, weights, &mut ranker, order)?;
     ask(&mut ranker, facts, order);
-    let second = score(alloc, table, weights, order)?;
+    let second = score_after(alloc, table, weights, &earlier, first, order)?;
     Ok(Rounds { first, second })
 }
 
@@ -56,6 +58,7 @@ fn ask(ranker: &mut Box<dyn Ranker>, facts: &Facts, order: &mut [u32])
     requires { length order.old ≡ coflows_in facts.now }
     ensures answer { order.new ≡ answer_of (meaning ranker.old) facts.now }
     ensures asked { meaning ranker.new ≡ after_question (meaning ranker.old) facts.now }
+    ensures answered { answered ranker.old facts.now }
 {
     ranker.rank(facts, order);
 }
@@ -84,6 +87,28 @@ fn score_and_tell(
     }
 }
 
+/// What the answer in `order` is worth, where an earlier answer was worth so much: the same answer is not served again.
+fn score_after(
+    alloc: Global,
+    table: &Table,
+    weights: &[u64],
+    earlier: &[u32],
+    worth: Scored,
+    order: &[u32],
+) -> Result<Scored, NoMemory>
+    requires count { length weights.now ≡ length table.now.ids }
+    requires weights { All (λ w. w ≤ MAX_WEIGHT) weights.now }
+    requires order { length order.now ≡ length table.now.ids }
+    requires worth { IsScore (instance_of table.now weights.now) earlier.now worth }
+    ensures { IfOk result (λ scored. IsScore (instance_of table.now weights.now) order.now scored) }
+{
+    if order == earlier {
+        return Ok(worth);
+    }
+    let scored = score(alloc, table, weights, order)?;
+    Ok(scored)
+}
+
 /// Tells the ranker the completion of each coflow, by completion and then by number. `order` has one place for each coflow, for that order.
 fn tell(
     alloc: Global,
@@ -98,8 +123,9 @@ fn tell(
         after_completions table.now.flows (length table.now.ids) (meaning ranker.old) schedule.now) }
 {
     let ends = completions(alloc, table.flows(), table.coflows(), schedule)?;
-    fill_by_key(&ends, order);
-    tell_each(&ends, order, ranker);
+    let slots = ends.as_slice();
+    fill_by_key(slots, order);
+    tell_each(slots, order, ranker);
     Ok(())
 }
 

@@ -5,6 +5,6 @@ use Rattle.rankers.proofs.facts.bottlenecks_of.Goals as goal
 pub loop-coflow-preserved : goal.loop-coflow-preserved
 loop-coflow-preserved c = record {
   count = search rules;
-  greatest = one_more c.args.loads.now c.loop-coflow.bottlenecks.items c.push.new.self.items c.bottleneck_of.result c.loop-coflow.coflow c.in_ok-push.ensures.items
-      c.loop-coflow.invariant.count c.loop-coflow.invariant.greatest c.bottleneck_of.ensures;
+  greatest = one_more c.args.loads.now c.loop-coflow.bottlenecks.items c.push.new.self.items c.bottleneck.result c.loop-coflow.coflow c.in_ok-push.ensures.items
+      c.loop-coflow.invariant.count c.loop-coflow.invariant.greatest c.bottleneck.ensures;
 }

@@ -1,5 +1,5 @@
 use Rattle.std.proofs.Common.{◌≡◌, ℕ, ◌<◌, get_or, length}
-use Rattle.rankers.specs.FactsTold.{IsBottleneck}
+use Rattle.port_load.specs.Bottleneck.{IsBottleneck}
 use Rattle.rankers.proofs.facts.bottlenecks_of.Given as goal
 
 abbrev pub invariant-loop-coflow : goal.invariant-loop-coflow

@@ -1,0 +1,128 @@
+//! Benches of rankers, asked on small traces.
+use crate::counting::{Counting, Stutter, Tally};
+use crate::inputs::{LONG_FIRST, TWO, rows_of, shown};
+use rankers::{Attained, Bssi0, Fifo, Ranker, Sebf};
+use std::process::Abort;
+use std::rc::Rc;
+use std::test::Fail;
+
+/// The rankers of the program, one after another.
+#[test]
+fn rows_by_hand(rt: HostRuntime) -> Result<(), Fail> {
+    let alloc = rt.alloc();
+    let rows: [(&str, &[u64], &str); 4] = [
+        (
+            TWO,
+            &[1, 1],
+            "1 1 Cost(5); 1 2 Cost(5); 2 1 Cost(5); 2 2 Cost(5); 3 1 Cost(7); 3 2 Cost(7); 4 1 Cost(7); 4 2 Cost(7); ",
+        ),
+        // the second one is worth ten times as much by its weight, and its bottleneck is the greater one
+        (
+            "2 2\n1 1 1 0 1 1:1\n2 0 1 0 1 1:3\n",
+            &[1, 10],
+            "1 1 Cost(34); 1 2 Cost(34); 2 1 Cost(41); 2 2 Cost(41); 3 1 Cost(34); 3 2 Cost(34); 4 1 Cost(41); 4 2 Cost(41); ",
+        ),
+        // all five orders cost something else
+        (
+            "2 4\n1 20 2 1 2 1 2:6\n2 30 1 2 2 0:1 2:2\n3 10 1 0 1 2:2\n4 0 1 0 1 0:2\n",
+            &[1, 1, 1, 1],
+            "1 1 Cost(19); 1 2 Cost(19); 2 1 Cost(20); 2 2 Cost(20); 3 1 Cost(24); 3 2 Cost(24); 4 1 Cost(27); 4 2 Cost(26); ",
+        ),
+        (
+            "1 0\n",
+            &[],
+            "1 1 Cost(0); 1 2 Cost(0); 2 1 Cost(0); 2 2 Cost(0); 3 1 Cost(0); 3 2 Cost(0); 4 1 Cost(0); 4 2 Cost(0); ",
+        ),
+    ];
+    for (trace, weights, want) in rows {
+        let mut bench: Vec<Box<dyn Ranker>> = Vec::new(alloc);
+        bench.push(Box::new(alloc, Bssi0)?)?;
+        bench.push(Box::new(alloc, Sebf)?)?;
+        bench.push(Box::new(alloc, Fifo)?)?;
+        bench.push(Box::new(alloc, Attained::new(alloc, 4096)?)?)?;
+        let rows = rows_of(&rt, alloc, trace, weights, &mut bench)?;
+        assert_eq!(rt; shown(alloc, rows.as_slice())?.as_str(), want);
+        assert!(rt; bench.is_empty());
+    }
+    Ok(())
+}
+
+/// The coflow that ended first comes first in the second round, where there is room for the note of the other one.
+#[test]
+fn attained_learns(rt: HostRuntime) -> Result<(), Fail> {
+    let alloc = rt.alloc();
+    for (room, want) in [
+        (4096, "1 1 Cost(7); 1 2 Cost(6); "),
+        (1, "1 1 Cost(7); 1 2 Cost(6); "),
+        (0, "1 1 Cost(7); 1 2 Cost(7); "),
+    ] {
+        let mut bench: Vec<Box<dyn Ranker>> = Vec::new(alloc);
+        bench.push(Box::new(alloc, Attained::new(alloc, room)?)?)?;
+        let rows = rows_of(&rt, alloc, LONG_FIRST, &[1, 1], &mut bench)?;
+        assert_eq!(rt; shown(alloc, rows.as_slice())?.as_str(), want);
+    }
+    Ok(())
+}
+
+/// Two rankers exchange their places, and keep their rows but for the index. One of them answers no order.
+#[test]
+fn rows_go_with_their_rankers(rt: HostRuntime) -> Result<(), Fail> {
+    let alloc = rt.alloc();
+    for (stutter_first, want) in [
+        (
+            true,
+            "1 1 Unfit(2); 1 2 Unfit(2); 2 1 Cost(7); 2 2 Cost(6); ",
+        ),
+        (
+            false,
+            "1 1 Cost(7); 1 2 Cost(6); 2 1 Unfit(2); 2 2 Unfit(2); ",
+        ),
+    ] {
+        let mut bench: Vec<Box<dyn Ranker>> = Vec::new(alloc);
+        bench.push(Box::new(alloc, Stutter)?)?;
+        bench.push(Box::new(alloc, Attained::new(alloc, 2)?)?)?;
+        if !stutter_first {
+            bench.reverse();
+        }
+        let rows = rows_of(&rt, alloc, LONG_FIRST, &[1, 1], &mut bench)?;
+        assert_eq!(rt; shown(alloc, rows.as_slice())?.as_str(), want);
+    }
+    Ok(())
+}
+
+/// Rankers are asked twice, told of each coflow once, and dropped. Where memory is wanting in the middle, those that were asked are dropped, and the others are on the bench: `checks/refused_in_tests.py` refuses one
+/// allocation after another.
+#[test]
+fn rankers_are_counted(rt: HostRuntime) -> Result<(), Fail> {
+    let alloc = rt.alloc();
+    let mut tallies = Vec::new(alloc);
+    let mut bench: Vec<Box<dyn Ranker>> = Vec::new(alloc);
+    for _ in 0..3 {
+        let tally = Rc::new(alloc, Tally::new())?;
+        tallies.push(tally.clone()?)?;
+        bench.push(Box::new(alloc, Counting { tally })?)?;
+    }
+    let rows = rows_of(&rt, alloc, TWO, &[1, 1], &mut bench);
+    assert_eq!(rt; bench.len().saturating_add(reached(&rt, &tallies)), 3);
+    let _rows = rows?;
+    for tally in &tallies {
+        assert_eq!(rt; tally.asked.get(), 2);
+        assert_eq!(rt; tally.told.get(), 2);
+    }
+    assert!(rt; bench.is_empty());
+    Ok(())
+}
+
+/// How many rankers were asked. They are the first ones, and they alone were dropped, once each.
+fn reached(rt: &impl Abort, tallies: &[Rc<Tally>]) -> usize {
+    let mut count = 0usize;
+    let mut goes_on = true;
+    for tally in tallies {
+        let asked = tally.asked.get() > 0;
+        assert_eq!(rt; tally.dropped.get(), u32::from(asked));
+        assert!(rt; goes_on || !asked);
+        goes_on = asked;
+        count = count.saturating_add(usize::from(asked));
+    }
+    count
+}

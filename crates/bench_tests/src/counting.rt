@@ -1,0 +1,84 @@
+//! Rankers of the tests.
+use rankers::{Facts, Fifo, Ranker};
+use std::cell::Cell;
+use std::rc::Rc;
+
+/// What was done with rankers: how often they were asked, told and dropped.
+#[derive(Drop)]
+pub(crate) struct Tally {
+    pub(crate) asked: Cell<u32>,
+    pub(crate) told: Cell<u32>,
+    pub(crate) dropped: Cell<u32>,
+}
+
+impl Tally {
+    pub(crate) fn new() -> Tally {
+        Tally {
+            asked: Cell::new(0),
+            told: Cell::new(0),
+            dropped: Cell::new(0),
+        }
+    }
+}
+
+/// One more.
+fn raise(count: &Cell<u32>) {
+    count.set(count.get().saturating_add(1));
+}
+
+/// Answers as `Fifo` does, and counts what is done with it.
+pub(crate) struct Counting {
+    pub(crate) tally: Rc<Tally>,
+}
+
+impl Drop for Counting {
+    fn drop(self) {
+        let Counting { tally } = self;
+        raise(&tally.dropped);
+    }
+}
+
+impl Ranker for Counting {
+    ghost use Rattle.std.specs.Prelude.{codes};
+    ghost use Rattle.rankers.specs.ByKey.{by_key, key_in};
+    ghost use Rattle.rankers.specs.FactsTold.{coflows_in};
+    ghost use Rattle.rankers.specs.Kinds.{fixed};
+
+    ghost meaning = { λ s. fixed (codes "counting") (λ facts. by_key (key_in facts.arrivals) (coflows_in facts)) };
+
+    fn name(&self) -> &str {
+        "counting"
+    }
+
+    fn rank(&mut self, facts: &Facts, out: &mut [u32]) {
+        raise(&self.tally.asked);
+        let mut order = Fifo;
+        order.rank(facts, out);
+    }
+
+    fn note(&mut self, _coflow: u32, _slot: u64) {
+        raise(&self.tally.told);
+    }
+}
+
+/// Answers 0 at every place.
+#[derive(Drop)]
+pub(crate) struct Stutter;
+
+impl Ranker for Stutter {
+    ghost use Rattle.std.specs.Prelude.{codes, replicate};
+    ghost use Rattle.rankers.specs.FactsTold.{coflows_in};
+    ghost use Rattle.rankers.specs.Kinds.{fixed};
+
+    ghost meaning = { λ s. fixed (codes "stutter") (λ facts. replicate (coflows_in facts) 0) };
+
+    fn name(&self) -> &str {
+        "stutter"
+    }
+
+    fn rank(&mut self, _facts: &Facts, out: &mut [u32]) {
+        out.fill(0);
+    }
+
+    fn note(&mut self, _coflow: u32, _slot: u64) {}
+}

@@ -1,8 +1,0 @@
-use Rattle.std.proofs.Common.{subst, sym}
-use Rattle.rankers.specs.FactsTold.{IsBottleneck}
-use Rattle.rankers.proofs.Greatest.{both_sides}
-use Rattle.rankers.proofs.facts.bottleneck_of.Goals as goal
-
-pub returns : goal.returns
-returns c = subst (IsBottleneck c.args.loads.now c.args.coflow) (sym c.max.ensures)
-    (both_sides c.args.loads.now c.args.coflow c.greatest_on-ingress.result c.greatest_on-egress.result c.greatest_on-ingress.ensures c.greatest_on-egress.ensures)
