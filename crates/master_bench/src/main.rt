@@ -94,21 +94,43 @@ fn measured<H: Shelf>(alloc: Global, name: &str, unit: u64, shelf: &mut H) -> Re
     requires some { 1 ≤ unit }
     requires limit { unit ≤ MAX_UNIT }
 {
-    let trace = read_file(alloc, name, shelf)?;
-    let Ok(table) = Table::build(alloc, &trace, unit) else {
-        return Err(Stop::Table);
-    };
+    let table = table_of(alloc, name, unit, shelf)?;
     let Ok(mut master) = master_of(alloc, table) else {
         return Err(Stop::NoMemory);
     };
-    register_all(&mut master);
+    let end = play(&mut master);
+    summary_of(&master, end)
+}
+
+/// The table of a file's trace.
+fn table_of<H: Shelf>(alloc: Global, name: &str, unit: u64, shelf: &mut H) -> Result<Table, Stop>
+    requires some { 1 ≤ unit }
+    requires limit { unit ≤ MAX_UNIT }
+{
+    let trace = read_file(alloc, name, shelf)?;
+    match Table::build(alloc, &trace, unit) {
+        Ok(table) => Ok(table),
+        Err(_) => Err(Stop::Table),
+    }
+}
+
+/// All coflows join, an order is published, and then runs are opened and closed. Tells what the last opening was answered.
+fn play(master: &mut Master) -> Reply
+    ensures { IsLastAnswer master.new result }
+{
+    register_all(master);
     master.step(0, Command::Publish);
-    match serve(&mut master) {
+    serve(master)
+}
+
+/// What is printed of a master that answered the last opening so.
+fn summary_of(master: &Master, end: Reply) -> Result<Summary, Stop> {
+    match end {
         Reply::NothingLeft => Ok(Summary {
             slots: master.next_slot().saturating_sub(1),
             commands: master.journal().len(),
         }),
-        reply => Err(Stop::Refused(reply)),
+        _ => Err(Stop::Refused(end)),
     }
 }
 

@@ -1,12 +1,10 @@
 -- What the kept run tells of the open run, before and after a note.
-use Rattle.std.proofs.Common.{◌≡◌, ℕ, ◌<◌, ◌≤◌, Bool, List, [], ◌∷◌, length, min, Contains, inl, inr, Option, Some, None, refl, sym, ap, subst, ◌∙◌, arith, unwrap_or, true≢false}
-use Rattle.std.specs.Prelude.{◌==◌, if◌then◌else◌, slice_set}
-use Rattle.std.proofs.lemmas.Bool.{cases_Bool, cases_eq, cases_lt, eq-eqb, eqb-true, ne_eqb}
+use Rattle.std.proofs.Common.{◌≡◌, ℕ, ◌<◌, ◌≤◌, Bool, List, ◌∷◌, length, min, inl, inr, Option, Some, None, refl, sym, ap, subst, ◌∙◌, arith, unwrap_or}
+use Rattle.std.specs.Prelude.{if◌then◌else◌, slice_set}
+use Rattle.std.proofs.lemmas.Bool.{cases_eq, cases_lt, eq-eqb, ne_eqb}
 use Rattle.std.proofs.lemmas.List.{get_or-set_other, get_or-set_same, length-set}
 use Rattle.std.proofs.Math.ListN.{get_or-eq_default}
 use Rattle.coflow_units.specs.declared.fabric.Flow.{Flow}
-use Rattle.coflow_units.specs.Flows.{ingress_of}
-use Rattle.coflow_units.proofs.Sums.{first_or_tail, in_first, in_tail, nothing_in}
 use Rattle.greedy_rates.specs.Room.{TellsIngresses, flow_at_ingress}
 use Rattle.journal.specs.declared.command.Reply.{Reply}
 use Rattle.journal.specs.declared.command.Reply.TheVariants.{NotGranted, Noted}

@@ -53,9 +53,9 @@ impl Orders {
         ensures coflows_are { IfOk result (λ r. r.coflows ≡ coflows) }
         ensures ports_are { IfOk result (λ r. r.ports ≡ ports) }
     {
+        let ranks = vec![in alloc; 0; coflows as usize]?;
         let bssi = Bssi::with_room(alloc, coflows, ports)?;
         let loads = Loads::of(alloc, &[], coflows, ports)?;
-        let ranks = vec![in alloc; 0; coflows as usize]?;
         Ok(Orders {
             bssi,
             loads,

@@ -1,9 +1,12 @@
 //! What a master keeps beside its journal, so as not to read it again, and how each command is carried out on it.
-ghost use Rattle.std.specs.Prelude.{◌+◌, ◌^◌, ◌<◌, ◌≤◌, IfOk, length};
-ghost use Rattle.coflow_units.specs.declared.limits.TheConstants.{MAX_WEIGHT};
+ghost use Rattle.std.specs.Prelude.{◌≡◌, ℕ, ◌+◌, ◌^◌, ◌<◌, ◌≤◌, false, [], None, IfOk, length, map};
+ghost use Rattle.coflow_units.specs.declared.limits.TheConstants.{MAX_COFLOWS, MAX_PORTS, MAX_WEIGHT};
+ghost use Rattle.coflow_units.specs.declared.fabric.Flow.{Flow};
+ghost use Rattle.greedy_rates.specs.Owed.{IsOwed};
 ghost use Rattle.journal.specs.State.{IsOpening};
 ghost use Rattle.journal.specs.Fold.{start};
 ghost use Rattle.journal.specs.Answer.{IsInRange};
+ghost use Rattle.master_core.specs.Attendance.{marked};
 ghost use Rattle.master_core.specs.Standing.{Follows, IsFit, Tells};
 ghost use Rattle.journal.specs.declared.command.Command.TheVariants.{Register, Withdraw, Publish, Pull, Open, Short, Close, Skip, Reweigh};
 
@@ -13,6 +16,7 @@ use crate::roster::Roster;
 use crate::runs::Runs;
 use crate::search::first_owing;
 use coflow_units::{MAX_SLOT, NoMemory};
+use flow_table::Table;
 use grant_ledger::Ledger;
 use greedy_rates::Owing;
 use journal::{Command, Opening, Reply};
@@ -41,16 +45,33 @@ impl Standing {
         ensures tells { IfOk result (λ x. Tells opening.now (start opening.now) x) }
         ensures fit { IfOk result (λ x. IsFit opening.now x) }
     {
-        let coflows = opening.table.coflows();
-        let ports = opening.table.ports();
-        let roster = Roster::new(alloc, coflows)?;
+        let table = &opening.table;
         let weights = opening.weights.as_slice().to_vec(alloc)?;
-        let orders = Orders::new(alloc, coflows, ports)?;
-        let line = Line::new(alloc, coflows)?;
-        let ledger = Ledger::new(alloc, &opening.table)?;
-        let owing = Owing::of(alloc, opening.table.flows(), coflows, ports)?;
-        let runs = Runs::new(alloc, ports)?;
-        Ok(Standing {
+        let units = units_kept(alloc, table)?;
+        let coflows = coflows_kept(alloc, table.coflows(), table.ports())?;
+        Ok(Standing::of(coflows, weights, units))
+    }
+
+    /// What is kept of coflows, their weights, and what is kept of units, together. The next slot is the first.
+    fn of(
+        coflows: (Roster, Orders, Line),
+        weights: Vec<u64>,
+        units: (Ledger, Owing, Runs),
+    ) -> Standing
+        ensures { result ≡ record {
+          roster = coflows.0;
+          weights = weights;
+          orders = coflows.1;
+          line = coflows.2;
+          ledger = units.0;
+          owing = units.1;
+          runs = units.2;
+          next = 1;
+        } }
+    {
+        let (roster, orders, line) = coflows;
+        let (ledger, owing, runs) = units;
+        Standing {
             roster,
             weights,
             orders,
@@ -59,7 +80,7 @@ impl Standing {
             owing,
             runs,
             next: 1,
-        })
+        }
     }
 
     /// Carries out a command, and answers it. The journal has room for it.
@@ -214,4 +235,40 @@ impl Standing {
         self.weights[coflow as usize] = weight;
         Reply::Weighed(old)
     }
+}
+
+/// The room for so many coflows, over so many ports on each side: none has joined, and nothing is published. The error is want of memory.
+fn coflows_kept(alloc: Global, coflows: u32, ports: u32) -> Result<(Roster, Orders, Line), NoMemory>
+    requires coflows_limit { coflows ≤ MAX_COFLOWS }
+    requires has_ports { 1 ≤ ports }
+    requires ports_limit { ports ≤ MAX_PORTS + 1 }
+    ensures joined { IfOk result (λ x. x.0.joined ≡ []) }
+    ensures present { IfOk result (λ x. (coflow : ℕ) → marked x.0.present coflow ≡ false) }
+    ensures present_len { IfOk result (λ x. length x.0.present ≡ coflows) }
+    ensures version { IfOk result (λ x. x.1.version ≡ 0) }
+    ensures places { IfOk result (λ x. x.1.places ≡ []) }
+    ensures coflows_are { IfOk result (λ x. x.1.coflows ≡ coflows) }
+    ensures ports_are { IfOk result (λ x. x.1.ports ≡ ports) }
+    ensures room { IfOk result (λ x. coflows + coflows ≤ x.2.room) }
+{
+    let line = Line::new(alloc, coflows)?;
+    let roster = Roster::new(alloc, coflows)?;
+    let orders = Orders::new(alloc, coflows, ports)?;
+    Ok((roster, orders, line))
+}
+
+/// What the flows of a table owe, and the room for their runs: each owes all its units, and no run is open. The error is want of memory.
+fn units_kept(alloc: Global, table: &Table) -> Result<(Ledger, Owing, Runs), NoMemory>
+    ensures units { IfOk result (λ x. x.0.units ≡ map (λ (f : Flow). f.units) table.now.flows) }
+    ensures owed { IfOk result (λ x. x.0.owed ≡ x.0.units) }
+    ensures owing { IfOk result (λ x. IsOwed table.now.flows x.1) }
+    ensures left { IfOk result (λ x. x.1.left ≡ map (λ (f : Flow). f.units) table.now.flows) }
+    ensures sums { IfOk result (λ x. length x.1.of_coflow ≡ length table.now.ids) }
+    ensures ports { IfOk result (λ x. x.2.ports ≡ table.now.ports) }
+    ensures run { IfOk result (λ x. x.2.run ≡ None) }
+{
+    let ledger = Ledger::new(alloc, table)?;
+    let owing = Owing::of(alloc, table.flows(), table.coflows(), table.ports())?;
+    let runs = Runs::new(alloc, table.ports())?;
+    Ok((ledger, owing, runs))
 }

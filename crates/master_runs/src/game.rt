@@ -7,7 +7,7 @@ use journal::RunTally;
 use master_core::{Command, Master};
 use std::alloc::Global;
 use std::io;
-use text_fields::Lines;
+use text_fields::{Fields, Lines};
 use world_model::{Event, World};
 
 /// A master answers the commands of the lines.
@@ -19,15 +19,26 @@ pub fn play_master(
 ) -> Result<(), Stop> {
     let mut tally = RunTally::new(alloc);
     while let Some(mut fields) = lines.next() {
-        let line = fields.line();
-        let said = said_of(&mut fields)?;
-        let entries = master.journal().len();
-        answer(rt, master, line, said)?;
-        take_down(alloc, &mut tally, master, entries)?;
+        play_line(rt, alloc, master, &mut tally, &mut fields)?;
     }
     tell_master(rt, master)?;
     tell_closed(rt, tally.closed())?;
     Ok(tell_journal(rt, master)?)
+}
+
+/// A master answers what a line says, and the tally takes it down.
+fn play_line(
+    rt: &HostRuntime,
+    alloc: Global,
+    master: &mut Master,
+    tally: &mut RunTally,
+    fields: &mut Fields<'_>,
+) -> Result<(), Stop> {
+    let line = fields.line();
+    let said = said_of(fields)?;
+    let entries = master.journal().len();
+    answer(rt, master, line, said)?;
+    Ok(take_down(alloc, tally, master, entries)?)
 }
 
 /// The tally takes down the entry of the journal at this place, where there is one.

@@ -42,61 +42,72 @@ pub fn index(fields: &mut Fields<'_>) -> Option<u32> {
 /// What the first fields of the line say.
 fn said_first(fields: &mut Fields<'_>) -> Option<Said> {
     let first = fields.next();
-    match number_of(first) {
-        Some(who) => Some(Said::Step(Event::Ask {
-            who: u32::try_from(who).ok()?,
-            command: command(fields)?,
-        })),
-        None if first == b"tell".as_slice() => Some(Said::Tell),
-        None => Some(Said::Step(event(str::from_utf8(first).ok()?, fields)?)),
+    if let Some(who) = number_of(first) {
+        return asked(who, fields);
     }
+    match str::from_utf8(first).ok()? {
+        "tell" => Some(Said::Tell),
+        name => Some(Said::Step(event(name, fields)?)),
+    }
+}
+
+/// The caller with this number asks the command that the next fields spell.
+fn asked(who: u64, fields: &mut Fields<'_>) -> Option<Said> {
+    let who = u32::try_from(who).ok()?;
+    let command = command(fields)?;
+    Some(Said::Step(Event::Ask { who, command }))
 }
 
 /// The command that the next fields spell.
 fn command(fields: &mut Fields<'_>) -> Option<Command> {
-    Some(match word(fields) {
-        "register" => Command::Register(index(fields)?),
-        "withdraw" => Command::Withdraw(index(fields)?),
-        "publish" => Command::Publish,
-        "pull" => Command::Pull(index(fields)?),
-        "open" => Command::Open(number(fields)?),
-        "short" => Command::Short(index(fields)?, number(fields)?),
-        "close" => Command::Close,
-        "skip" => Command::Skip(number(fields)?),
-        "reweigh" => Command::Reweigh {
-            coflow: index(fields)?,
+    match word(fields) {
+        "publish" => Some(Command::Publish),
+        "close" => Some(Command::Close),
+        "open" => Some(Command::Open(number(fields)?)),
+        "skip" => Some(Command::Skip(number(fields)?)),
+        name => command_of(name, index(fields)?, fields),
+    }
+}
+
+/// The command with this name, of a coflow or of a port; the next field spells its other number.
+fn command_of(name: &str, of: u32, fields: &mut Fields<'_>) -> Option<Command> {
+    match name {
+        "register" => Some(Command::Register(of)),
+        "withdraw" => Some(Command::Withdraw(of)),
+        "pull" => Some(Command::Pull(of)),
+        "short" => Some(Command::Short(of, number(fields)?)),
+        "reweigh" => Some(Command::Reweigh {
+            coflow: of,
             weight: number(fields)?,
-        },
-        _ => return None,
-    })
+        }),
+        _ => None,
+    }
 }
 
 /// The step with this name, of an agent or of the driver of runs, whose numbers the next fields spell.
 fn event(name: &str, fields: &mut Fields<'_>) -> Option<Event> {
-    Some(match name {
-        "post" => Event::Post {
-            port: index(fields)?,
-        },
-        "draw" => Event::Draw {
-            agent: index(fields)?,
-            port: index(fields)?,
-        },
-        "send" => Event::Send {
-            agent: index(fields)?,
-            port: index(fields)?,
+    if name == "close" {
+        return Some(Event::Close);
+    }
+    let first = index(fields)?;
+    match name {
+        "post" => Some(Event::Post { port: first }),
+        "settle" => Some(Event::Settle { port: first }),
+        "note" => Some(Event::Note { port: first }),
+        _ => agents_event(name, first, index(fields)?, fields),
+    }
+}
+
+/// The step of an agent at a port with this name; the next field spells its units.
+fn agents_event(name: &str, agent: u32, port: u32, fields: &mut Fields<'_>) -> Option<Event> {
+    match name {
+        "draw" => Some(Event::Draw { agent, port }),
+        "report" => Some(Event::Report { agent, port }),
+        "send" => Some(Event::Send {
+            agent,
+            port,
             units: number(fields)?,
-        },
-        "report" => Event::Report {
-            agent: index(fields)?,
-            port: index(fields)?,
-        },
-        "settle" => Event::Settle {
-            port: index(fields)?,
-        },
-        "note" => Event::Note {
-            port: index(fields)?,
-        },
-        "close" => Event::Close,
-        _ => return None,
-    })
+        }),
+        _ => None,
+    }
 }

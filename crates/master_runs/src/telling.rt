@@ -6,18 +6,26 @@ use world_model::World;
 
 /// Prints what a master tells, but for its journal.
 pub fn tell_master(rt: &HostRuntime, master: &Master) -> io::Result<()> {
+    tell_order(rt, master)?;
+    tell_run(rt, master)?;
+    tell_coflows(rt, master)?;
+    tell_flows(rt, master)?;
+    tell_ports(rt, master)
+}
+
+fn tell_order(rt: &HostRuntime, master: &Master) -> io::Result<()> {
     println!(rt; "version {}", master.version())?;
     println!(rt; "places {:?}", master.places())?;
-    println!(rt; "ranks {:?}", master.ranks())?;
+    println!(rt; "ranks {:?}", master.ranks())
+}
+
+fn tell_run(rt: &HostRuntime, master: &Master) -> io::Result<()> {
     println!(rt;
         "next {} open {:?}",
         master.next_slot(),
         master.open_slots()
     )?;
-    println!(rt; "granted {:?}", master.granted_flows())?;
-    tell_coflows(rt, master)?;
-    tell_flows(rt, master)?;
-    tell_ports(rt, master)
+    println!(rt; "granted {:?}", master.granted_flows())
 }
 
 fn tell_coflows(rt: &HostRuntime, master: &Master) -> io::Result<()> {

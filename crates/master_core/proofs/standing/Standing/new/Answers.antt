@@ -1,43 +1,44 @@
 -- The state before the first entry.
-use Rattle.std.proofs.Common.{rules, ◌∙◌, List, ap, arith, map, refl, subst}
-use Rattle.coflow_units.specs.declared.fabric.Flow.{Flow}
-use Rattle.greedy_rates.specs.Owed.{IsOwed}
+use Rattle.std.proofs.Common.{rules, ◌≡◌, ◌∙◌, arith, refl, subst, sym}
+use Rattle.journal.specs.Fold.{start}
+use Rattle.master_core.specs.declared.standing.Standing.{Standing}
+use Rattle.master_core.specs.Standing.{IsFit, Tells}
 use Rattle.master_core.proofs.StartTells.{start_fits, start_told}
 use Rattle.master_core.proofs.standing.Standing.new.Goals as goal
 
 pub returns-clause-tells : goal.returns-clause-tells
 returns-clause-tells c =
-    start_told c.args.opening.now (record {
-      roster = c.in_ok-roster.roster;
+    let o = c.args.opening.now in
+    let x : Standing = record {
+      roster = c.in_ok-coflows.coflows.0;
       weights = c.in_ok-weights.weights;
-      orders = c.in_ok-orders.orders;
-      line = c.in_ok-line.line;
-      ledger = c.in_ok-ledger.ledger;
-      owing = c.in_ok-owing.owing;
-      runs = c.in_ok-runs.runs;
+      orders = c.in_ok-coflows.coflows.1;
+      line = c.in_ok-coflows.coflows.2;
+      ledger = c.in_ok-units.units.0;
+      owing = c.in_ok-units.units.1;
+      runs = c.in_ok-units.units.2;
       next = 1;
-    })
-    c.in_ok-roster.ensures.joined c.in_ok-roster.ensures.present (c.in_ok-weights.ensures.items_if_clones_equal (search rules) ∙ c.as_slice.ensures) c.in_ok-orders.ensures.version
-    c.in_ok-orders.ensures.places
-    (c.in_ok-ledger.ensures.owed ∙ c.in_ok-ledger.ensures.units) c.in_ok-runs.ensures.run refl
+    } in
+    let weights : c.in_ok-weights.weights.items ≡ o.weights = c.in_ok-weights.ensures.items_if_clones_equal (search rules) ∙ c.as_slice.ensures in
+    subst (Tells o (start o)) (sym c.of.ensures)
+    (start_told o x c.in_ok-coflows.ensures.joined c.in_ok-coflows.ensures.present weights c.in_ok-coflows.ensures.version c.in_ok-coflows.ensures.places
+    (c.in_ok-units.ensures.owed ∙ c.in_ok-units.ensures.units) c.in_ok-units.ensures.run refl)
 
 pub returns-clause-fit : goal.returns-clause-fit
 returns-clause-fit c =
-    start_fits c.args.opening.now (record {
-      roster = c.in_ok-roster.roster;
+    let o = c.args.opening.now in
+    let x : Standing = record {
+      roster = c.in_ok-coflows.coflows.0;
       weights = c.in_ok-weights.weights;
-      orders = c.in_ok-orders.orders;
-      line = c.in_ok-line.line;
-      ledger = c.in_ok-ledger.ledger;
-      owing = c.in_ok-owing.owing;
-      runs = c.in_ok-runs.runs;
+      orders = c.in_ok-coflows.coflows.1;
+      line = c.in_ok-coflows.coflows.2;
+      ledger = c.in_ok-units.units.0;
+      owing = c.in_ok-units.units.1;
+      runs = c.in_ok-units.units.2;
       next = 1;
-    })
-    c.requires (c.in_ok-roster.ensures.present_len ∙ c.coflows-coflows.ensures.coflows) (c.in_ok-weights.ensures.items_if_clones_equal (search rules) ∙ c.as_slice.ensures)
-    (c.in_ok-orders.ensures.coflows_are ∙ c.coflows-coflows.ensures.coflows)
-    (c.in_ok-orders.ensures.ports_are ∙ c.ports-ports.ensures.ports) (omega (arith, c.in_ok-line.ensures, c.coflows-coflows.ensures.coflows)) c.in_ok-ledger.ensures.units
-    c.in_ok-ledger.ensures.owed
-    (subst (λ (l : List Flow). IsOwed l c.in_ok-owing.owing) c.flows.ensures.flows c.in_ok-owing.ensures.owed)
-    (c.in_ok-owing.ensures.left ∙ ap (λ (l : List Flow). map (λ (f : Flow). f.units) l) c.flows.ensures.flows)
-    (c.in_ok-owing.ensures.coflows_are ∙ c.coflows-coflows.ensures.coflows) (c.in_ok-runs.ensures.ports ∙ c.ports-ports.ensures.ports)
-    c.in_ok-runs.ensures.run refl
+    } in
+    let weights : c.in_ok-weights.weights.items ≡ o.weights = c.in_ok-weights.ensures.items_if_clones_equal (search rules) ∙ c.as_slice.ensures in
+    subst (IsFit o) (sym c.of.ensures)
+    (start_fits o x c.requires (c.in_ok-coflows.ensures.present_len ∙ c.coflows.ensures.coflows) weights (c.in_ok-coflows.ensures.coflows_are ∙ c.coflows.ensures.coflows)
+    (c.in_ok-coflows.ensures.ports_are ∙ c.ports.ensures.ports) (omega (arith, c.in_ok-coflows.ensures.room, c.coflows.ensures.coflows)) c.in_ok-units.ensures.units
+    c.in_ok-units.ensures.owed c.in_ok-units.ensures.owing c.in_ok-units.ensures.left c.in_ok-units.ensures.sums c.in_ok-units.ensures.ports c.in_ok-units.ensures.run refl)
