@@ -1,5 +1,6 @@
 -- What the driver is after a turn.
-use Rattle.std.proofs.Common.{◌≡◌, ◌≢◌, ℕ, ◌+◌, ◌-◌, ◌<◌, ◌≤◌, inl, inr, true, false, List, [], ◌∷◌, ◌++◌, Option, Some, length, take, drop, refl, sym, ap, ◌∙◌, subst, arith, length-append, append_assoc, append-nil, Result, Ok, Err, true≢false}
+use Rattle.std.proofs.Common.{◌≡◌, ◌≢◌, ℕ, ◌+◌, ◌-◌, ◌<◌, ◌≤◌, inl, inr, true, false, List, [], ◌∷◌, ◌++◌, Option}
+use Rattle.std.proofs.Common.{Some, length, take, drop, refl, sym, ap, ◌∙◌, subst, arith, length-append, append_assoc, append-nil, Result, Ok, Err, true≢false}
 use Rattle.std.specs.Prelude.{All}
 use Rattle.std.proofs.lemmas.List.{drop_all, take_all, take-append-drop}
 use Rattle.std.proofs.lemmas.List.Elements.{All-append, All-head, All-nil, All-push, All-tail}
@@ -82,7 +83,8 @@ alone before after made grown above zero =
     grown.1 ∙ (ap (λ l. before ++ l) (none_made grown.0 (subst (λ m. NoneAbove who_of m grown.0) zero others) grown.2) ∙ append-nil before)
 
 module _ (root final : Roots) (rank : SeatModel) (left turned position new_position : ℕ) (granted : List (Option ℕ)) (journal after : List Entry)
-    (h : IsDriver root turned position granted) (final_is : final ≡ record root { in_turn = false; seen = after }) (goes : GoesOn who_of journal 0 root.seen) (ends : new_position ≡ length after)
+    (h : IsDriver root turned position granted) (final_is : final ≡ record root { in_turn = false; seen = after }) (goes : GoesOn who_of journal 0 root.seen)
+    (ends : new_position ≡ length after)
     (numbers : NoneAbove who_of root.made journal) where
   seen_is : take new_position final.seen ≡ after
   seen_is = ap (λ (t : Roots). take new_position t.seen) final_is ∙ take_all new_position after (omega (arith, ends))

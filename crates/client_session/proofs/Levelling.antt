@@ -1,5 +1,6 @@
 -- The driver meets the sessions in turn.
-use Rattle.std.proofs.Common.{◌≡◌, ◌≢◌, ℕ, ◌+◌, ◌<◌, ◌≤◌, inl, inr, Bool, true, false, cond, List, [], ◌∷◌, ◌++◌, Option, Some, length, get_or, set, map, take, drop, get_or-set_other, refl, sym, ap, ◌∙◌, subst, arith, length-append, append_assoc}
+use Rattle.std.proofs.Common.{◌≡◌, ◌≢◌, ℕ, ◌+◌, ◌<◌, ◌≤◌, inl, inr, Bool, true, false, cond, List, [], ◌∷◌, ◌++◌}
+use Rattle.std.proofs.Common.{Option, Some, length, get_or, set, map, take, drop, get_or-set_other, refl, sym, ap, ◌∙◌, subst, arith, length-append, append_assoc}
 use Rattle.std.specs.Prelude.{All, if◌then◌else◌, nat_lt}
 use Rattle.std.proofs.lemmas.Bool.{cases_Bool, ltb-false, ltb-true}
 use Rattle.std.proofs.lemmas.List.{drop-append-le, take_more, take_more_set, take-append-le}
@@ -108,7 +109,8 @@ met_more d0 d1 d2 h0 h1 h2 xs ys s t each one =
           let all : All (λ (x : SessionModel). x.position ≤ top) (xs ++ s ∷ []) = long.1 in
           one.within top (each.within top (long.0, all_left (λ (x : SessionModel). x.position ≤ top) xs (s ∷ []) all)) (all_last (λ (x : SessionModel). x.position ≤ top) xs s all);
       positions = All-push (λ (x : SessionModel). (d0.position ≤ x.position) × (x.position ≤ d2.position)) ys t
-          (All-weaker (λ (x : SessionModel). (d0.position ≤ x.position) × (x.position ≤ d1.position)) (λ (x : SessionModel). (d0.position ≤ x.position) × (x.position ≤ d2.position))
+          (All-weaker (λ (x : SessionModel). (d0.position ≤ x.position) × (x.position ≤ d1.position)) (λ (x : SessionModel).
+          (d0.position ≤ x.position) × (x.position ≤ d2.position))
           (λ x le. (le.0, omega (arith, le.1, later))) ys each.positions)
           (omega (arith, first, later, one.one), omega (arith, one.one));
       heard_all = (
@@ -121,7 +123,8 @@ met_more d0 d1 d2 h0 h1 h2 xs ys s t each one =
     }
 
 -- twice over, and all have seen the longest
-pub level_twice : (d0 d1 d2 : DriverModel) (h0 h1 h2 : SeatModel) (xs ys zs : List SessionModel) → IsMetByEach d0 d1 h0 h1 xs ys → IsMetByEach d1 d2 h1 h2 ys zs → IsLevel d0 d2 xs zs
+pub level_twice : (d0 d1 d2 : DriverModel) (h0 h1 h2 : SeatModel) (xs ys zs : List SessionModel) → IsMetByEach d0 d1 h0 h1 xs ys → IsMetByEach d1 d2 h1 h2 ys zs → IsLevel
+    d0 d2 xs zs
 level_twice d0 d1 d2 h0 h1 h2 xs ys zs first second =
     let later = second.longest.0 in
     let top : d2.position ≤ d1.position = second.within d1.position (
@@ -140,7 +143,8 @@ level_twice d0 d1 d2 h0 h1 h2 xs ys zs first second =
       one = All-weaker (λ (x : SessionModel). (d1.position ≤ x.position) × (x.position ≤ d2.position)) (λ (x : SessionModel). x.position ≡ d2.position)
           (λ x le. omega (arith, le.0, le.1, top)) zs second.positions;
       newest = All-weaker (λ (x : SessionModel). h1.seen ≤ x.rank.seen) (λ (x : SessionModel). IsNewest xs x.rank.seen)
-          (λ x le. All-weaker (λ (y : SessionModel). y.rank.seen ≤ h1.seen) (λ (y : SessionModel). y.rank.seen ≤ x.rank.seen) (λ y low. omega (arith, low, le)) xs all) zs second.versions;
+          (λ x le. All-weaker (λ (y : SessionModel). y.rank.seen ≤ h1.seen) (λ (y : SessionModel). y.rank.seen ≤ x.rank.seen) (λ y low. omega
+          (arith, low, le)) xs all) zs second.versions;
     }
 
 -- ---- one meeting
@@ -208,7 +212,8 @@ module _ (root new_root : Roots) (seat new_seat : Sits) (root_is : new_root ≡ 
       has_room = h.has_room;
       few = h.few;
       pass = subst (λ own. IsPass own new_rank.pulls new_rank.seen) (sym own_stays)
-          (subst (λ ps. IsPass (own_entries number seat.seen) ps new_rank.seen) (sym pulls_stay) (pass_later (own_entries number seat.seen) rank.pulls rank.seen new_rank.seen later h.pass));
+          (subst (λ ps. IsPass (own_entries number seat.seen) ps new_rank.seen) (sym pulls_stay) (pass_later
+          (own_entries number seat.seen) rank.pulls rank.seen new_rank.seen later h.pass));
       coflow = λ c e. subst (All (λ (p : Pull). p.coflow < c.board.coflows)) (sym pulls_stay) (h.coflow c (sym (ap (λ (s : Sits). s.setting) seat_is) ∙ e));
     }
 
@@ -234,9 +239,11 @@ length_met xs ys zs a b n is ea eb en =
 
 -- what one meeting makes of the driver and the session
 module _ (root new_root : Roots) (seat new_seat : Sits) (root_is : new_root ≡ record root { seen = longer root.seen seat.seen })
-    (seat_is : new_seat ≡ record seat { seen = longer root.seen seat.seen }) (same : new_seat.seen ≡ new_root.seen) (d_rank : SeatModel) (d_left turned d_position : ℕ) (granted : List (Option ℕ))
+    (seat_is : new_seat ≡ record seat { seen = longer root.seen seat.seen }) (same : new_seat.seen ≡ new_root.seen) (d_rank : SeatModel) (d_left turned d_position : ℕ)
+    (granted : List (Option ℕ))
     (rank new_rank heard new_heard : SeatModel) (number left s_position top : ℕ) (receipts : List Receipt) (room : ℕ) (d : IsDriver root turned d_position granted)
-    (s : IsSession seat rank number left s_position receipts room) (root_list : GoesOn who_of new_root.seen 0 root.seen) (seat_list : GoesOn who_of new_seat.seen seat.number seat.seen)
+    (s : IsSession seat rank number left s_position receipts room) (root_list : GoesOn who_of new_root.seen 0 root.seen)
+    (seat_list : GoesOn who_of new_seat.seen seat.number seat.seen)
     (numbers : NoneAbove who_of new_root.made new_root.seen) (top_is : top ≡ (if nat_lt d_position s_position then s_position else d_position)) where
   root_long : length new_root.seen ≡ top
   root_long = length_met root.seen seat.seen new_root.seen d_position s_position top (ap (λ (r : Roots). r.seen) root_is) d.position_is s.position_is top_is

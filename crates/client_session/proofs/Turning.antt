@@ -1,5 +1,6 @@
 -- What a session is after a turn.
-use Rattle.std.proofs.Common.{◌≡◌, ℕ, ◌+◌, ◌-◌, ◌<◌, ◌≤◌, inl, inr, Bool, true, false, List, [], ◌∷◌, ◌++◌, length, map, refl, sym, ap, ◌∙◌, subst, arith, length-append, Result, Ok, Err, true≢false}
+use Rattle.std.proofs.Common.{◌≡◌, ℕ, ◌+◌, ◌-◌, ◌<◌, ◌≤◌, inl, inr, Bool, true, false, List, [], ◌∷◌}
+use Rattle.std.proofs.Common.{◌++◌, length, map, refl, sym, ap, ◌∙◌, subst, arith, length-append, Result, Ok, Err, true≢false}
 use Rattle.std.specs.Prelude.{All}
 use Rattle.turnstile.specs.Histories.{AddsAtMostOne, GoesOn}
 use Rattle.turnstile.specs.Models.{SeatModel as TurnSeatModel}

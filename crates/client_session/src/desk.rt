@@ -4,6 +4,7 @@ ghost use Rattle.journal.specs.Answer.{IsInRange, reply_of, room};
 ghost use Rattle.journal.specs.Entries.{is_driving};
 ghost use Rattle.journal.specs.Fold.{state_of};
 ghost use Rattle.journal.specs.Journal.{journal_after, order_in, version_of};
+ghost use Rattle.journal.specs.State.{IsOpening};
 ghost use Rattle.master_core.specs.Published.{TellsPlaces, ranked};
 ghost use Rattle.rank_board.specs.Models.{saw_front};
 ghost use Rattle.client_session.specs.Own.{look_version};
@@ -79,9 +80,10 @@ impl Desk {
         Desk { master, publisher }
     }
 
-    /// How many entries the journal has. It is legal, its commands are in range, and runs in it are driven by the caller 0 alone.
+    /// How many entries the journal has. It is legal, its commands are in range, and runs in it are driven by the caller 0 alone. What the master began with is within its limits.
     pub fn position(&self) -> u32
         ensures position { result ≡ length self.now.journal }
+        ensures opening { IsOpening self.now.setting.opening }
         ensures seen { IsSeen self.now.setting.opening self.now.journal }
     {
         self.master.journal().len() as u32

@@ -1,5 +1,6 @@
 //! The hall, where clients take turns at one master and read its ranks.
 ghost use Rattle.std.specs.Prelude.{◌≡◌, ℕ, ◌+◌, ◌^◌, ◌<◌, ◌≤◌, if◌then◌else◌, All, length, nat_lt, [], IfOk, OnOk, OnErr, Some};
+ghost use Rattle.journal.specs.State.{IsOpening};
 ghost use Rattle.client_session.specs.Models.{IsDriverOf, IsSessionOf};
 ghost use Rattle.client_session.specs.Levels.{IsLevel, IsMetByEach, IsMetByOne};
 ghost use Rattle.client_session.specs.Halls.{IsFirstDriver, IsNewSession};
@@ -25,6 +26,7 @@ pub struct Hall {
 
 impl Model for Hall {
     ghost use Rattle.std.specs.Prelude.{◌≡◌, length};
+    ghost use Rattle.journal.specs.State.{IsOpening};
     ghost use Rattle.client_session.specs.Models.{HallModel};
 
     ghost Value = { HallModel };
@@ -32,7 +34,7 @@ impl Model for Hall {
     ghost view = { λ h. record { gate = h.gate.table; setting = h.gate.setting } };
 
     ghost invariant = { λ h. (h.gate.setting.board ≡ h.board) ×
-        (h.gate.setting.board.coflows ≡ length h.gate.setting.opening.table.ids) };
+        (h.gate.setting.board.coflows ≡ length h.gate.setting.opening.table.ids) × IsOpening h.gate.setting.opening };
 }
 
 impl Hall {
@@ -53,6 +55,7 @@ impl Hall {
         let (board, publisher, rank) = RankBoard::new(alloc, master.table().coflows())?;
         let desk = Desk::new(master, publisher);
         desk.tell_grants(&mut granted);
+        let _none = desk.position();
         let (gate, root) = Turnstile::new(alloc, desk)?;
         let hall = Hall { gate, board };
         let driver = Driver {
@@ -64,6 +67,14 @@ impl Hall {
             granted,
         };
         Ok((hall, driver))
+    }
+
+    /// How many coflows the table of the hall's master has. What that master began with is within its limits.
+    pub fn coflows(&self) -> u32
+        ensures coflows { result ≡ length self.now.setting.opening.table.ids }
+        ensures opening { IsOpening self.now.setting.opening }
+    {
+        self.board.coflows()
     }
 
     /// Makes a session with the next number, from 1 on, which may take so many turns. It has seen as long a journal as the driver has seen, and has no entries. A driver makes at most 2^16 sessions.

@@ -140,8 +140,9 @@ impl Session {
 
     /// Reads the coflow's place in the newest order from the board, without waiting and without memory. The session notes what it read, with the number of its receipts as the mark.
     ///
-    /// `Rank` and `Unranked` have the version that the front had in this call. `Moved` comes only where the rank word that was loaded in this call has a version at least two above
-    /// that of the front; nothing is noted then. What a noted pull says is told where the hall closes.
+    /// `Rank` and `Unranked` have the version that the front had in this call. `Unranked` comes exactly where that is 0, or the rank word that was loaded has that version and
+    /// rank 0. `Moved` comes only where the rank word that was loaded in this call has a version at least two above that of the front; nothing is noted then. What a noted pull says
+    /// is told where the hall closes.
     pub fn pull(&mut self, hall: &Hall, coflow: u32) -> Pulled
         requires own { IsSessionOf hall.now self.old }
         requires coflow { coflow < length hall.now.setting.opening.table.ids }

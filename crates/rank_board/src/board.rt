@@ -142,6 +142,13 @@ impl RankBoard {
         Ok((board, publisher, seat))
     }
 
+    /// How many coflows the board has ranks of.
+    pub fn coflows(&self) -> u32
+        ensures coflows { result ≡ self.now.coflows }
+    {
+        self.coflows
+    }
+
     /// Makes one more seat. It has seen what `from` has seen, and has neither pulls nor looks.
     pub fn seat(&self, from: &mut RankSeat) -> RankSeat
         requires own { from.old.table ≡ self.now.table }

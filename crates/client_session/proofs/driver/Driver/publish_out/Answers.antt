@@ -96,9 +96,11 @@ returns-clause-places g c =
     let told : makes_version result ≡ true → (ranked places ≡ order_in o after (version_of after)) × TellsPlaces (state_of o after).published places = λ yes.
     elim c.if-is_version.branch [
       | then-is_version w ↦ (
-        ap (λ (v : _). ranked v.items) w.places-is ∙ subst (λ (x : Setting). ranked w.hand_out.new.places.items ≡ order_in x.opening after (version_of after)) set w.hand_out.ensures.order,
+        ap (λ (v : _). ranked v.items) w.places-is ∙ subst (λ (x : Setting). ranked w.hand_out.new.places.items ≡ order_in x.opening after
+            (version_of after)) set w.hand_out.ensures.order,
         subst (λ (x : Setting). TellsPlaces (state_of x.opening after).published places) set
-            (subst (λ (l : List Place). TellsPlaces (state_of c.drive-answer.new.self.setting.opening after).published l) (sym (ap (λ (v : _). v.items) w.places-is)) w.hand_out.ensures.places),
+            (subst (λ (l : List Place). TellsPlaces (state_of c.drive-answer.new.self.setting.opening after).published l) (sym (ap (λ
+            (v : _). v.items) w.places-is)) w.hand_out.ensures.places),
       )
       | else-is_version w ↦ absurd (true≢false (sym yes ∙ (sym c.is_version.ensures ∙ w.if-is_version.false)))
     ] in

@@ -15,7 +15,8 @@ invariant_of-driver c =
     let s = c.session.inside in
     let m = c.meet.ensures in
     driver_after d.root c.meet.new.root s.seat c.meet.new.seat m.root m.seat m.same d.rank d.left d.turned d.position d.granted.items s.rank s.rank s.rank s.rank s.number s.left
-    s.position c.greater-position.result s.receipts.items (vec_capacity s.receipts) c.driver.invariant c.session.invariant m.root_list m.seat_list m.numbers c.greater-position.ensures
+    s.position c.greater-position.result s.receipts.items (vec_capacity s.receipts) c.driver.invariant c.session.invariant m.root_list m.seat_list m.numbers
+    c.greater-position.ensures
 
 pub invariant_of-session : goal.invariant_of-session
 invariant_of-session c =
@@ -26,7 +27,8 @@ invariant_of-session c =
     let rank = c.tell-2.new.to in
     let rank_is : rank ≡ saw_front rank.seen s.rank = c.tell-2.ensures.to ∙ ap (saw_front rank.seen) from in
     session_after d.root c.meet.new.root s.seat c.meet.new.seat m.root m.seat m.same d.rank d.left d.turned d.position d.granted.items s.rank rank s.rank s.rank s.number s.left
-    s.position c.greater-position.result s.receipts.items (vec_capacity s.receipts) c.driver.invariant c.session.invariant m.root_list m.seat_list m.numbers c.greater-position.ensures
+    s.position c.greater-position.result s.receipts.items (vec_capacity s.receipts) c.driver.invariant c.session.invariant m.root_list m.seat_list m.numbers
+    c.greater-position.ensures
     rank_is (omega (arith, c.tell-2.ensures.seen.1, ap (λ (x : SeatModel). x.seen) from))
 
 pub returns : goal.returns

@@ -1,0 +1,94 @@
+//! What the words of the call ask for.
+ghost use Rattle.std.specs.Prelude.{◌≤◌, IfOk};
+
+use crate::stop::Stop;
+use coflow_units::MAX_TEXT;
+use flow_table::Table;
+use outside::{DiskShelf, Place4, Shelf, read_all};
+use std::alloc::Global;
+use std::env;
+use trace_reader::read_trace;
+
+/// The greatest number of commands of a caller.
+const MAX_EACH: u32 = 1_000_000;
+
+/// What is printed.
+#[derive(Clone, Copy, Debug, PartialEq, Eq)]
+pub enum Mode {
+    Count,
+    Tell,
+    Time,
+    Mutex,
+}
+
+/// What is to be played.
+#[derive(Drop)]
+pub struct Game {
+    pub table: Table,
+    pub seed: u32,
+    pub commands: u32,
+    pub mode: Mode,
+}
+
+/// What the words ask for.
+pub fn game_of(rt: &HostRuntime) -> Result<Game, Stop>
+    ensures few { IfOk result (λ game. game.commands ≤ 1000000) }
+{
+    let alloc = rt.alloc();
+    let Ok(words) = env::args(rt) else {
+        return Err(Stop::Usage);
+    };
+    let Ok(words) = words.collect::<Vec<String>>(alloc) else {
+        return Err(Stop::NoMemory);
+    };
+    let Some(trace) = words.get(1) else {
+        return Err(Stop::Usage);
+    };
+    Ok(Game {
+        seed: number_of(words.get(2))?,
+        commands: number_of(words.get(3))?.min(MAX_EACH),
+        mode: mode_of(words.get(4))?,
+        table: table_of(alloc, &mut DiskShelf::new(*rt), trace)?,
+    })
+}
+
+/// The number that a word is.
+fn number_of(word: Option<&String>) -> Result<u32, Stop> {
+    let Some(word) = word else {
+        return Err(Stop::Usage);
+    };
+    match word.parse::<u32>() {
+        Ok(number) => Ok(number),
+        Err(_) => Err(Stop::Usage),
+    }
+}
+
+/// What is asked to be printed.
+fn mode_of(word: Option<&String>) -> Result<Mode, Stop> {
+    let Some(word) = word else {
+        return Ok(Mode::Count);
+    };
+    match word.as_str() {
+        "tell" => Ok(Mode::Tell),
+        "time" => Ok(Mode::Time),
+        "mutex" => Ok(Mode::Mutex),
+        _ => Err(Stop::Usage),
+    }
+}
+
+/// The table of a file's trace, in units of a megabyte. It has a coflow and a port.
+fn table_of<H: Shelf>(alloc: Global, shelf: &mut H, name: &str) -> Result<Table, Stop> {
+    let Ok(()) = shelf.start(Place4::Trace, name) else {
+        return Err(Stop::File);
+    };
+    let Ok(bytes) = read_all(alloc, shelf, Place4::Trace, MAX_TEXT) else {
+        return Err(Stop::File);
+    };
+    let Ok(trace) = read_trace(alloc, &bytes) else {
+        return Err(Stop::Trace);
+    };
+    match Table::build(alloc, &trace, 1) {
+        Ok(table) => Ok(table),
+        Err(_) => Err(Stop::Table),
+    }
+}
