@@ -1,0 +1,6 @@
+pub mod Attended
+pub mod Carried
+pub mod Models
+pub mod Posts
+pub mod Settling
+pub mod Slots
