@@ -1,1 +1,3 @@
 pub mod PictureFacts
+pub mod WordFacts
+pub mod AnswerFacts

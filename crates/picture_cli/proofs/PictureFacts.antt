@@ -1,14 +1,16 @@
 -- What a right report gives its picture, and the causes of the statuses of the program that draws.
-use Rattle.std.proofs.Common.{◌≡◌, ℕ, ◌^◌, ◌*◌, ◌≤◌, ◌<◌, List, Option, Some, None, Result, Ok, Err, length, map, min, sum_by, refl, sym, ap, subst, ◌∙◌, arith}
+use Rattle.std.proofs.Common.{◌≡◌, ℕ, ◌^◌, ◌*◌, ◌≤◌, ◌<◌, List, [], Option, Some, None, Result, Ok, Err, length, map, refl, sym, ap, subst, ◌∙◌, arith}
 use Rattle.std.specs.Prelude.{All, IfErr, IsErrAnd, slice_index}
-use Rattle.std.specs.List.{range_with_len}
+use Rattle.std.proofs.Math.Nat.{mul-le-mul_left}
+use Rattle.std.proofs.lemmas.Grind.{div_ceil_times}
+use Rattle.std.specs.List.{range_with_len, slice_index_or}
 use Rattle.std.proofs.lemmas.List.Elements.{All-weaker}
 use Rattle.coflow_units.specs.declared.fabric.Flow.{Flow}
 use Rattle.coflow_units.specs.declared.fabric.Side.{Side}
 use Rattle.coflow_units.specs.declared.fabric.Side.TheVariants.{Egress, Ingress}
 use Rattle.coflow_units.specs.declared.plan.Run.{Run}
 use Rattle.coflow_units.specs.Completion.{completion, cost}
-use Rattle.coflow_units.specs.Flows.{end_at}
+use Rattle.coflow_units.specs.Flows.{Instance, end_at}
 use Rattle.coflow_units.specs.Schedule.{IsClear}
 use Rattle.command_words.specs.Line.{Text}
 use Rattle.command_words.specs.Words.{IsSetting}
@@ -26,23 +28,24 @@ use Rattle.picture.specs.declared.value.BarsFault.{BarsFault}
 use Rattle.picture.specs.declared.value.BarsFault.TheVariants as bars_fault
 use Rattle.picture.specs.declared.value.Step.{Step}
 use Rattle.picture.specs.declared.value.Window.{Window}
-use Rattle.picture.specs.Bars.{IsBars, IsTooMany}
+use Rattle.picture.specs.Bars.{IsBar, IsBars, IsTooMany, Serves}
 use Rattle.picture.specs.Curve.{IsCurve}
 use Rattle.picture_text.specs.declared.value.Picture.{Picture}
+use Rattle.picture_text.specs.Layout.{IsInside}
 use Rattle.picture_text.specs.Svg.{picture_text}
+use Rattle.picture_text.specs.Title.{hundredths}
 use Rattle.report.specs.declared.value.Report.{Report}
 use Rattle.report.specs.Report.{IsReport}
 use Rattle.schedule_model.proofs.CostSums.{parts_small}
 use Rattle.schedule_model.specs.RunList.{NamesFlows, slots_in}
-use Rattle.sincronia_cli.proofs.CheckFacts.{from_input, from_report, report_named}
 use Rattle.sincronia_cli.specs.declared.status.Status.{Status}
 use Rattle.sincronia_cli.specs.declared.status.Status.TheVariants as status
 use Rattle.sincronia_cli.specs.Causes.{HasFilesCause}
 use Rattle.sincronia_cli.specs.Check.{IsReportOf}
+use Rattle.sincronia_cli.specs.Ends.{IsReadFault, IsWriteFault}
 use Rattle.sincronia_cli.specs.Inputs.{IsInput}
-use Rattle.sincronia_cli.specs.Shelves.{KeepsFiles}
-use Rattle.picture_cli.specs.Picture.{Draws, HasNoPicture, HasPictureCause, HasVerdictCause, IsPictureOf, Judged, check_of, window_of}
-use Rattle.picture_cli.specs.Status.{IsStatusOfBars}
+use Rattle.picture_cli.specs.Picture.{Draws, HasNoPicture, HasPictureCause, HasVerdictCause, IsNearBest, IsPictureOf, Judged, check_of, window_of}
+use Rattle.picture_cli.specs.Status.{IsStatusOfBars, as_check}
 use Rattle.picture_cli.specs.Words.{IsPictureWords, PictureSaid}
 use Rattle.picture_cli.specs.declared.status.PictureStatus.{PictureStatus}
 use Rattle.picture_cli.specs.declared.status.PictureStatus.TheVariants as drawn
@@ -78,44 +81,51 @@ cost_small t ws r table report small sound =
 
 -- ---- what was read and drawn
 
-judged_by : (old mid : Option Told) (said : PictureSaid) (t : TableFacts) (ws : List ℕ) (r : Report) (v : Verdict) → IsInput old said.trace said.weights said.unit t ws → KeepsFiles old mid →
-    IsReportOf mid said.report r → IsVerdict (instance_of t ws) t.ids r v → Judged old said v
-judged_by old mid said t ws r v input keeps report is = record {
-  table = t;
-  list = ws;
-  input = input;
-  report = r;
-  report_is = report_named old mid (Some said.report) said.report r refl keeps report;
-  verdict_is = is;
-}
+judged_by : (told : Option Told) (said : PictureSaid) (t : TableFacts) (ws : List ℕ) (r : Report) (v : Verdict) → IsInput told said.trace said.weights said.unit t ws →
+    IsReportOf told said.report r → IsVerdict (instance_of t ws) t.ids r v → Judged told said v
+judged_by told said t ws r v input report is = record { table = t; list = ws; input = input; report = r; report_is = report; verdict_is = is }
 
-pub draws_by : (old mid : Option Told) (said : PictureSaid) (t : TableFacts) (ws : List ℕ) (r : Report) (text : List ℕ) → IsInput old said.trace said.weights said.unit t ws →
-    KeepsFiles old mid → IsReportOf mid said.report r →
-    IsVerdict (instance_of t ws) t.ids r verdict.Yes × IsSound (instance_of t ws) t.ids r × (p : Picture) × IsPictureOf t ws r said p × (text ≡ picture_text p) → Draws old said text
+-- what the title says
+pub near_best : (i : Instance) (ids : List ℕ) (r : Report) → IsSound i ids r → IsNearBest i r
+near_best i ids r sound slots some valid =
+    let least : ℕ = cost i.flows i.weight i.coflows slots in
+    let low : r.bound ≤ least = omega (arith, sound.bound_is_low, bound_law i _ slots sound.certificate sound.feasible valid) in
+    omega (arith, (div_ceil_times (100 * r.cost) r.bound some).0, mul-le-mul_left (hundredths r.cost r.bound) low)
+
+pub draws_by : (told : Option Told) (said : PictureSaid) (t : TableFacts) (ws : List ℕ) (r : Report) (text : List ℕ) → IsInput told said.trace said.weights said.unit t ws →
+    IsReportOf told said.report r →
+    IsVerdict (instance_of t ws) t.ids r verdict.Yes × IsSound (instance_of t ws) t.ids r × (p : Picture) × IsPictureOf t ws r said p × (text ≡ picture_text p) →
+    Draws told said text
 unfolding judged_by
-draws_by old mid said t ws r text input keeps report (holds, sound, p, shows, same) = record {
-  judged = judged_by old mid said t ws r verdict.Yes input keeps report holds;
+draws_by told said t ws r text input report (holds, sound, p, shows, same) = record {
+  judged = judged_by told said t ws r verdict.Yes input report holds;
   right = sound;
   bounds = λ slots valid. omega (arith, sound.bound_is_low, bound_law (instance_of t ws) _ slots sound.certificate sound.feasible valid);
+  near = near_best (instance_of t ws) t.ids r sound;
   picture = p;
   shows = shows;
   text_is = same;
 }
 
-pub cause_by : (before now : ℕ) (old mid new : Option Told) (said : PictureSaid) (t : TableFacts) (ws : List ℕ) (r : Report) (s : PictureStatus) →
-    IsInput old said.trace said.weights said.unit t ws → KeepsFiles old mid → IsReportOf mid said.report r → HasVerdictCause t ws r said s → HasPictureCause before now old new said s
+pub cause_by : (before now : ℕ) (old new : Option Told) (said : PictureSaid) (t : TableFacts) (ws : List ℕ) (r : Report) (s : PictureStatus) →
+    IsInput old said.trace said.weights said.unit t ws → IsReportOf old said.report r → HasVerdictCause t ws r said s → HasPictureCause before now old new said s
 unfolding judged_by
-cause_by before now old mid new said t ws r drawn.No input keeps report (reason, is) = (reason, judged_by old mid said t ws r (verdict.No reason) input keeps report is)
-cause_by before now old mid new said t ws r (drawn.NoSlots first last) input keeps report (holds, cause) = (judged_by old mid said t ws r verdict.Yes input keeps report holds, cause)
-cause_by before now old mid new said t ws r (drawn.TooManyBars bars) input keeps report (holds, cause) = (judged_by old mid said t ws r verdict.Yes input keeps report holds, cause)
-cause_by before now old mid new said t ws r (drawn.Ended s) input keeps report is = subst (λ x. HasFilesCause before now old new (check_of said) x) (sym is) tt
-cause_by before now old mid new said t ws r drawn.Ok input keeps report (holds, cause) = absurd cause
-cause_by before now old mid new said t ws r drawn.Usage input keeps report (holds, cause) = absurd cause
+cause_by before now old new said t ws r drawn.No input report (reason, is) = (reason, judged_by old said t ws r (verdict.No reason) input report is)
+cause_by before now old new said t ws r (drawn.NoSlots first last) input report (holds, cause) = (judged_by old said t ws r verdict.Yes input report holds, cause)
+cause_by before now old new said t ws r (drawn.TooManyBars bars) input report (holds, cause) = (judged_by old said t ws r verdict.Yes input report holds, cause)
+cause_by before now old new said t ws r (drawn.Ended s) input report is = subst (λ x. HasFilesCause before now old new (check_of said) x) (sym is) tt
+cause_by before now old new said t ws r drawn.Ok input report (holds, cause) = absurd cause
+cause_by before now old new said t ws r drawn.Usage input report (holds, cause) = absurd cause
 
--- a fault that is handed on as a status
-pub handed : {T : Type 0} (r : Result T PictureStatus) (s : PictureStatus) (P : PictureStatus → Type 0) → IsErrAnd r (λ x. x ≡ s) → P s → IfErr r P
-handed (Ok x) s P is h = tt
-handed (Err x) s P is h = subst P (sym is) h
+-- no call to shelf or sink failed
+pub verdict_calls : (t : TableFacts) (ws : List ℕ) (r : Report) (said : PictureSaid) (s : PictureStatus) → HasVerdictCause t ws r said s →
+    (IsReadFault (as_check s) → ⊥) × (IsWriteFault (as_check s) → ⊥)
+verdict_calls t ws r said drawn.No cause = (λ f. f, λ f. f)
+verdict_calls t ws r said (drawn.NoSlots first last) cause = (λ f. f, λ f. f)
+verdict_calls t ws r said (drawn.TooManyBars bars) cause = (λ f. f, λ f. f)
+verdict_calls t ws r said (drawn.Ended s) is = (λ f. subst IsReadFault is f, λ f. subst IsWriteFault is f)
+verdict_calls t ws r said drawn.Ok cause = (λ f. f, λ f. f)
+verdict_calls t ws r said drawn.Usage cause = (λ f. f, λ f. f)
 
 -- ---- what was lent
 
@@ -129,7 +139,8 @@ pub clear_along : (flows lent : List Flow) (runs made : List Run) → lent ≡ f
 clear_along flows lent runs made f m clear =
     subst (λ (l : List Flow). All (IsClear l) (slots_in made)) (sym f) (subst (λ (l : List Run). All (IsClear flows) (slots_in l)) (sym m) clear)
 
-pub names_along : (flows lent : List Flow) (runs made : List Run) → lent ≡ flows → made ≡ runs → NamesFlows (length flows) (slots_in runs) → NamesFlows (length lent) (slots_in made)
+pub names_along : (flows lent : List Flow) (runs made : List Run) → lent ≡ flows → made ≡ runs → NamesFlows (length flows) (slots_in runs) →
+    NamesFlows (length lent) (slots_in made)
 names_along flows lent runs made f m names =
     subst (λ (l : List Flow). NamesFlows (length l) (slots_in made)) (sym f) (subst (λ (l : List Run). NamesFlows (length flows) (slots_in l)) (sym m) names)
 
@@ -139,6 +150,14 @@ bars_along flows lent runs made ports n w rows kept f m p k bars =
     subst (λ (l : List (List Bar)). IsBars flows (slots_in runs) ports w l) (sym k)
     (subst (λ x. IsBars flows (slots_in runs) x w rows) p
     (subst (λ (l : List Run). IsBars flows (slots_in l) n w rows) m (subst (λ (l : List Flow). IsBars l (slots_in made) n w rows) f bars)))
+
+-- the bars lie inside the window
+pub bars_inside : (flows : List Flow) (slots : List (List ℕ)) (ports : ℕ) (w : Window) (rows kept : List (List Bar)) → kept ≡ rows → IsBars flows slots ports w rows →
+    (port : ℕ) → port < length kept → All (IsInside w) (slice_index_or kept port [])
+bars_inside flows slots ports w rows kept k bars =
+    subst (λ (l : List (List Bar)). (port : ℕ) → port < length l → All (IsInside w) (slice_index_or l port [])) (sym k)
+    (λ port lt. All-weaker (IsBar (Serves flows slots w.side port) w.first w.last) (IsInside w) (λ b is. record { some = is.some; from = is.from; upto = is.upto })
+    (slice_index_or rows port []) (bars.row port (omega (arith, lt, bars.row_each))).bars)
 
 pub too_many_along : (flows lent : List Flow) (runs made : List Run) (ports n : ℕ) (w v : Window) (fault : BarsFault) → lent ≡ flows → made ≡ runs → n ≡ ports → w ≡ v →
     IsTooMany lent (slots_in made) n w fault → IsTooMany flows (slots_in runs) ports v fault
@@ -156,8 +175,8 @@ pub handed_as : {T : Type 0} (r : Result T PictureStatus) (Q P : PictureStatus �
 handed_as (Ok x) Q P is h = tt
 handed_as (Err x) Q P is h = h x is
 
-pub curve_along : (flows lent : List Flow) (runs made : List Run) (ends given : List ℕ) (n count : ℕ) (steps kept : List Step) → lent ≡ flows → made ≡ runs → count ≡ n → given ≡ ends →
-    ends ≡ map (λ c. completion lent (slots_in made) c) (range_with_len 0 count) → kept ≡ steps → IsCurve given steps →
+pub curve_along : (flows lent : List Flow) (runs made : List Run) (ends given : List ℕ) (n count : ℕ) (steps kept : List Step) → lent ≡ flows → made ≡ runs →
+    count ≡ n → given ≡ ends → ends ≡ map (λ c. completion lent (slots_in made) c) (range_with_len 0 count) → kept ≡ steps → IsCurve given steps →
     IsCurve (map (λ c. completion flows (slots_in runs) c) (range_with_len 0 n)) kept
 curve_along flows lent runs made ends given n count steps kept f m c g e k curve =
     subst (λ (l : List Step). IsCurve (map (λ c. completion flows (slots_in runs) c) (range_with_len 0 n)) l) (sym k)

@@ -2,4 +2,5 @@ pub mod Parser
 pub mod Words
 pub mod Status
 pub mod Picture
+pub mod Complete
 pub mod Written

@@ -1,8 +1,9 @@
 -- The picture of a report.
-use Rattle.std.specs.Prelude.{◌≡◌, ℕ, ◌<◌, List, Option, Some, None, IfSome, length, map, min}
+use Rattle.std.specs.Prelude.{◌≡◌, ℕ, ◌*◌, ◌<◌, ◌≤◌, List, Option, Some, length, map, min}
 use Rattle.std.specs.List.{range_with_len}
-use Rattle.coflow_units.specs.Completion.{completion}
+use Rattle.coflow_units.specs.Completion.{completion, cost}
 use Rattle.coflow_units.specs.Flows.{Instance}
+use Rattle.coflow_units.specs.Schedule.{IsValid}
 use Rattle.flow_table.specs.Table.{TableFacts, instance_of}
 use Rattle.outside.specs.Shelf.{Told}
 use Rattle.cert_check.specs.declared.verdict.Verdict.{Verdict}
@@ -11,12 +12,14 @@ use Rattle.cert_check.specs.declared.verdict.Reason.{Reason}
 use Rattle.cert_check.specs.Reasons.{IsVerdict}
 use Rattle.cert_check.specs.Sound.{IsSound}
 use Rattle.picture.specs.declared.value.BarsFault.TheVariants as bars_fault
+use Rattle.picture.specs.declared.value.TheConstants.{MAX_BARS}
 use Rattle.picture.specs.declared.value.Window.{Window}
-use Rattle.picture.specs.Bars.{IsBars, IsTooMany}
+use Rattle.picture.specs.Bars.{IsBars, IsTooMany, bar_count}
 use Rattle.picture.specs.Curve.{IsCurve}
 use Rattle.picture_text.specs.declared.value.Picture.{Picture}
 use Rattle.picture_text.specs.Heaviest.{IsHeaviest}
 use Rattle.picture_text.specs.Svg.{picture_text}
+use Rattle.picture_text.specs.Title.{hundredths}
 use Rattle.report.specs.declared.value.Report.{Report}
 use Rattle.schedule_model.specs.RunList.{slots_in}
 use Rattle.sincronia_cli.specs.Causes.{HasFilesCause}
@@ -26,8 +29,8 @@ use Rattle.sincronia_cli.specs.Inputs.{IsInput}
 use Rattle.sincronia_cli.specs.Plan.{BoundsEverySchedule}
 use Rattle.sincronia_cli.specs.declared.status.Status.{Status}
 use Rattle.sincronia_cli.specs.declared.status.Status.TheVariants as status
+use Rattle.command_words.specs.Jobs.Job.{check_job}
 use Rattle.command_words.specs.Words.{Said}
-use Rattle.command_words.specs.declared.command.Command.TheVariants as command
 use Rattle.picture_cli.specs.Words.{PictureSaid}
 use Rattle.picture_cli.specs.declared.status.PictureStatus.{PictureStatus}
 use Rattle.picture_cli.specs.declared.status.PictureStatus.TheVariants.{Ended, No, NoSlots, Ok, TooManyBars}
@@ -35,15 +38,14 @@ use Rattle.picture_cli.specs.declared.status.PictureStatus.TheVariants.{Ended, N
 -- what `sincronia check` would be said with the same files
 abbrev pub check_of : PictureSaid → Said
 check_of said = record {
-  command = command.Check;
-  first = said.trace;
-  second = Some said.report;
+  job = check_job said.trace said.report;
   weights = said.weights;
   unit = said.unit;
   agents = 4;
   epoch = 1024;
   run = 1;
   slot_ms = 8;
+  classes = 8;
 }
 
 -- the window that is drawn: its last slot is at most the last one of the schedule
@@ -54,12 +56,15 @@ window_of said r = record {
   last = min said.to (length (slots_in r.runs));
 }
 
--- The picture shows the report: the bars of its schedule in the window, the completions of all coflows of the table as a
--- curve, the ids and the weights, the coflows with the most weight, and the stated cost and bound.
+-- The picture shows the report: a window with a slot, the bars of its schedule in the window, which are no more than a
+-- picture may have, the completions of all coflows of the table as a curve, the ids and the weights, the coflows with the
+-- most weight, and the stated cost and bound.
 pub record IsPictureOf (t : TableFacts) (ws : List ℕ) (r : Report) (said : PictureSaid) (p : Picture) : Type 0
   where
     pub window_is : p.window ≡ window_of said r
+    pub some : p.window.first ≤ p.window.last
     pub bars : IsBars t.flows (slots_in r.runs) t.ports p.window p.rows
+    pub few : bar_count p.rows ≤ MAX_BARS
     pub curve : IsCurve (map (λ c. completion t.flows (slots_in r.runs) c) (range_with_len 0 (length t.ids))) p.steps
     pub ids_are : p.ids ≡ t.ids
     pub weights_are : p.weights ≡ ws
@@ -91,12 +96,19 @@ pub record Judged (told : Option Told) (said : PictureSaid) (answer : Verdict) :
   pub report_is : IsReportOf told said.report report
   pub verdict_is : IsVerdict (instance_of table list) table.ids report answer
 
+-- What the title says of a report: its cost is at most so many hundredths of the cost of any valid schedule.
+abbrev pub IsNearBest : Instance → Report → Type 0
+IsNearBest i r = (slots : List (List ℕ)) → 1 ≤ r.bound → IsValid i.flows slots →
+    100 * r.cost ≤ hundredths r.cost r.bound * cost i.flows i.weight i.coflows slots
+
 -- The report of the files is right, so its bound is at most the cost of every valid schedule of the instance that they
--- give. And this is the text of its picture.
+-- give, and where the bound is above 0, its cost is at most as many times that cost as the title says. And this is the
+-- text of its picture.
 pub record Draws (told : Option Told) (said : PictureSaid) (text : List ℕ) : Type 0 where
   pub judged : Judged told said verdict.Yes
   pub right : IsSound (instance_of judged.table judged.list) judged.table.ids judged.report
   pub bounds : BoundsEverySchedule (instance_of judged.table judged.list) judged.report
+  pub near : IsNearBest (instance_of judged.table judged.list) judged.report
   pub picture : Picture
   pub shows : IsPictureOf judged.table judged.list judged.report said picture
   pub text_is : text ≡ picture_text picture

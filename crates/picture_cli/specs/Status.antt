@@ -4,6 +4,7 @@ use Rattle.picture.specs.declared.value.BarsFault.{BarsFault}
 use Rattle.picture.specs.declared.value.BarsFault.TheVariants as bars_fault
 use Rattle.sincronia_cli.specs.Code.{code_of as code_of_status}
 use Rattle.sincronia_cli.specs.Messages.{status_text}
+use Rattle.sincronia_cli.specs.declared.status.Status.{Status}
 use Rattle.sincronia_cli.specs.declared.status.Status.TheVariants as status
 use Rattle.picture_cli.specs.declared.status.PictureStatus.{PictureStatus}
 use Rattle.picture_cli.specs.declared.status.PictureStatus.TheVariants.{Ok, No, Usage, NoSlots, TooManyBars, Ended}
@@ -21,6 +22,15 @@ code_of (Ended s) = code_of_status s
 abbrev pub IsStatusOfBars : BarsFault → PictureStatus → Type 0
 IsStatusOfBars (bars_fault.TooMany bars) s = s ≡ TooManyBars bars
 IsStatusOfBars bars_fault.NoMemory s = s ≡ Ended status.NoMemory
+
+-- the status of `sincronia check` after the same calls to shelf and sink: its own, or that of a verdict
+abbrev pub as_check : PictureStatus → Status
+as_check Ok = status.Ok
+as_check No = status.No
+as_check Usage = status.Usage
+as_check (NoSlots first last) = status.Ok
+as_check (TooManyBars bars) = status.Ok
+as_check (Ended s) = s
 
 -- what is printed on standard error behind the program's name
 abbrev pub line_of : PictureStatus → List ℕ

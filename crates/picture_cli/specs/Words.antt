@@ -1,10 +1,10 @@
 -- The words of a command line that asks for a picture.
-use Rattle.std.specs.Prelude.{◌≡◌, ℕ, ◌^◌, List, [], Option, Some, None, IfSome, codes, option_map}
+use Rattle.std.specs.Prelude.{◌≡◌, ℕ, List, [], Option, Some, None, IfSome, codes, option_map}
 use Rattle.clap.specs.Words.{fault_of, first_of, matches_of}
-use Rattle.coflow_units.specs.declared.limits.TheConstants.{MAX_SLOT}
+use Rattle.coflow_units.specs.declared.limits.TheConstants.{MAX_SLOT, MAX_UNIT}
 use Rattle.coflow_units.specs.declared.fabric.Side.{Side}
 use Rattle.coflow_units.specs.declared.fabric.Side.TheVariants.{Egress, Ingress}
-use Rattle.command_words.specs.Commands.{IsFileName}
+use Rattle.command_words.specs.Jobs.{IsFileName}
 use Rattle.command_words.specs.Line.{Text}
 use Rattle.command_words.specs.Words.{IsSetting}
 use Rattle.picture_cli.specs.Parser.{app}
@@ -43,7 +43,7 @@ pub record IsSaid (value : Text → Option Text) (said : PictureSaid) : Type 0 w
   pub trace : value (codes "TRACE") ≡ Some said.trace
   pub report : value (codes "REPORT") ≡ Some said.report
   pub weights : value (codes "weights") ≡ said.weights
-  pub unit : IsSetting (2 ^ 20) 1 (value (codes "unit")) said.unit
+  pub unit : IsSetting MAX_UNIT 1 (value (codes "unit")) said.unit
   pub from : IsSetting MAX_SLOT 1 (value (codes "from")) said.from
   pub to : IsSetting MAX_SLOT MAX_SLOT (value (codes "to")) said.to
   pub side : IsSide (value (codes "side")) said.side

@@ -1,17 +1,20 @@
 //! The job of drawing, from the words to the written picture.
-ghost use Rattle.std.specs.Prelude.{◌≡◌, ◌≢◌, ℕ};
-ghost use Rattle.cert_check.specs.declared.verdict.Reason.{Reason};
-ghost use Rattle.cert_check.specs.declared.verdict.Verdict.{Verdict};
+ghost use Rattle.std.specs.Prelude.{◌≡◌, ◌≢◌, ◌⊎◌, ℕ, IfSome, IsSomeAnd};
 ghost use Rattle.command_words.specs.Line.{texts};
-ghost use Rattle.outside.specs.Rose.{Rose};
-ghost use Rattle.sincronia_cli.specs.Ends.{IsWriteFault};
-ghost use Rattle.sincronia_cli.specs.Shelves.{KeepsFiles};
+ghost use Rattle.outside.specs.Rose.{Rose, RoseOnce};
+ghost use Rattle.sincronia_cli.specs.Complete.{IsStill};
+ghost use Rattle.sincronia_cli.specs.Ends.{IsReadFault, IsWriteFault};
+ghost use Rattle.sincronia_cli.specs.Shelves.{KeepsFiles, OfBoth, ReadsOut};
+ghost use Rattle.sincronia_cli.specs.Turns.{FilesInTurn};
 ghost use Rattle.sincronia_cli.specs.declared.status.Status.{Status};
-ghost use Rattle.picture_cli.specs.Picture.{HasPicture, HasPictureCause};
+ghost use Rattle.picture_cli.specs.Complete.{AreGoodFiles, CallFor, IsPastFiles};
+ghost use Rattle.picture_cli.specs.Picture.{HasPicture, HasPictureCause, check_of};
+ghost use Rattle.picture_cli.specs.Status.{as_check};
 ghost use Rattle.picture_cli.specs.Words.{IsPictureWords, PictureSaid};
 ghost use Rattle.picture_cli.specs.Written.{WritesFront, WritesPicture};
 
-use crate::drawing::draw;
+use crate::drawing::picture_of;
+use crate::files::read_files;
 use crate::status::PictureStatus;
 use crate::words::read_words;
 use command_words::WordsFault;
@@ -35,7 +38,10 @@ use std::alloc::Global;
 /// - `TooManyBars`: the report is right, and there would be so many bars.
 /// - `Ended`: as `sincronia check` ends before it writes, or at a fault of the sink, or where no memory was to be had.
 ///
-/// Nothing was written but at `Ok`, and at a fault of the sink, where a beginning of the picture was written. The files on the shelf are as before.
+/// Nothing was written but at `Ok`, and at a fault of the sink, where a beginning of the picture was written. The files on the shelf are as before, and at every status but
+/// `Usage`, those that come before the check and want of memory each of them was read to its end. Where they are told and good, the status is the one that their report calls for;
+/// only a fault of shelf or sink and want of memory may come in its place. The shelf's count of faults rises by one at a fault of the shelf, and the sink's at a fault of the sink,
+/// each up to 2^64 - 1, and neither does at any other status.
 pub fn sincronia_picture<H: Shelf, K: Sink>(
     alloc: Global,
     words: &[String],
@@ -44,6 +50,16 @@ pub fn sincronia_picture<H: Shelf, K: Sink>(
 ) -> PictureStatus
     ensures picture { result ≡ PictureStatus.Ok → (said : PictureSaid) × IsPictureWords (texts words.now) said ×
         WritesPicture (H.told shelf.old) said (K.taken out.old) (K.taken out.new) }
+    ensures complete { (said : PictureSaid) (answer : PictureStatus) → IsPictureWords (texts words.now) said →
+        IsSomeAnd (H.told shelf.old) (CallFor said answer) → IsStill (H.faults shelf.old) (H.faults shelf.new) →
+        IsStill (K.faults out.old) (K.faults out.new) →
+        (result ≡ answer) ⊎ (result ≡ PictureStatus.Ended Status.NoMemory) }
+    ensures good { IsPastFiles result → (said : PictureSaid) × IsPictureWords (texts words.now) said ×
+        IfSome (H.told shelf.old) (AreGoodFiles said) }
+    ensures read_out { (said : PictureSaid) → IsPictureWords (texts words.now) said → IsPastFiles result →
+        OfBoth (H.told shelf.old) (H.told shelf.new) (ReadsOut (check_of said).job (check_of said)) }
+    ensures in_turn { (said : PictureSaid) → IsPictureWords (texts words.now) said →
+        OfBoth (H.told shelf.old) (H.told shelf.new) (FilesInTurn (check_of said) (as_check result)) }
     ensures usage { result ≡ PictureStatus.Usage → (said : PictureSaid) → IsPictureWords (texts words.now) said → ⊥ }
     ensures cause { result ≢ PictureStatus.Usage → result ≢ PictureStatus.Ended Status.NoMemory →
         (HasPicture result → ⊥) → (said : PictureSaid) × IsPictureWords (texts words.now) said ×
@@ -53,6 +69,10 @@ pub fn sincronia_picture<H: Shelf, K: Sink>(
     ensures beginning { (count : ℕ) → result ≡ PictureStatus.Ended (Status.WriteFault count) →
         (said : PictureSaid) × IsPictureWords (texts words.now) said ×
         WritesFront (H.told shelf.old) said (K.taken out.old) (K.taken out.new) }
+    ensures still_shelf { (IsReadFault (as_check result) → ⊥) → H.faults shelf.new ≡ H.faults shelf.old }
+    ensures once_shelf { IsReadFault (as_check result) → RoseOnce (H.faults shelf.old) (H.faults shelf.new) }
+    ensures still_sink { (IsWriteFault (as_check result) → ⊥) → K.faults out.new ≡ K.faults out.old }
+    ensures once_sink { IsWriteFault (as_check result) → RoseOnce (K.faults out.old) (K.faults out.new) }
     ensures keeps { KeepsFiles (H.told shelf.old) (H.told shelf.new) }
     ensures unwritten { (HasPicture result → ⊥) → K.taken out.new ≡ K.taken out.old }
 {
@@ -61,7 +81,11 @@ pub fn sincronia_picture<H: Shelf, K: Sink>(
         Err(WordsFault::Usage) => return PictureStatus::Usage,
         Err(WordsFault::NoMemory) => return PictureStatus::Ended(Status::NoMemory),
     };
-    let text = match draw(alloc, words, shelf) {
+    let files = match read_files(alloc, words, shelf) {
+        Ok(files) => files,
+        Err(status) => return PictureStatus::Ended(status),
+    };
+    let text = match picture_of(alloc, words, &files.input, &files.report) {
         Ok(text) => text,
         Err(status) => return status,
     };

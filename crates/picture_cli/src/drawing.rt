@@ -1,8 +1,7 @@
 //! The picture of a report.
-ghost use Rattle.std.specs.Prelude.{◌≡◌, ◌≤◌, ◌^◌, All, IfErr, IfOk, length, min};
+ghost use Rattle.std.specs.Prelude.{◌≡◌, ◌≤◌, All, IfErr, IfOk, length, min};
 ghost use Rattle.coflow_units.specs.declared.limits.TheConstants.{MAX_SLOT, MAX_WEIGHT};
 ghost use Rattle.cert_check.specs.declared.verdict.Verdict.{Verdict};
-ghost use Rattle.cert_check.specs.declared.verdict.Reason.{Reason};
 ghost use Rattle.cert_check.specs.Reasons.{IsVerdict};
 ghost use Rattle.cert_check.specs.Sound.{IsSound};
 ghost use Rattle.flow_table.specs.Table.{instance_of};
@@ -11,8 +10,7 @@ ghost use Rattle.picture_text.specs.Layout.{IsDrawable};
 ghost use Rattle.picture_text.specs.Svg.{picture_text};
 ghost use Rattle.report.specs.Report.{IsReport};
 ghost use Rattle.schedule_model.specs.RunList.{slots_in};
-ghost use Rattle.sincronia_cli.specs.Shelves.{KeepsFiles};
-ghost use Rattle.picture_cli.specs.Picture.{Draws, HasNoPicture, HasPictureCause, HasVerdictCause, IsPictureOf, window_of};
+ghost use Rattle.picture_cli.specs.Picture.{HasNoPicture, HasVerdictCause, IsPictureOf};
 ghost use Rattle.picture_cli.specs.Words.{said_by};
 
 use crate::status::PictureStatus;
@@ -20,36 +18,15 @@ use crate::words::PictureWords;
 use cert_check::{Verdict, check};
 use coflow_units::{Items, NoMemory, Run};
 use flow_table::Table;
-use outside::Shelf;
 use picture::{Window, bars_of, curve_of};
 use picture_text::{Picture, heaviest, write_picture};
 use report::Report;
 use schedule_model::completions_of_runs;
-use sincronia_cli::{Input, loads_of, read_input, read_report_file};
+use sincronia_cli::{Input, loads_of};
 use std::alloc::Global;
 
-/// The picture that the words ask for as a text, or the status of why there is none.
-pub(crate) fn draw<'a, H: Shelf>(
-    alloc: Global,
-    words: PictureWords<'a>,
-    shelf: &mut H,
-) -> Result<Vec<u8>, PictureStatus>
-    requires some { 1 ≤ words.unit }
-    requires unit_limit { words.unit ≤ 2 ^ 20 }
-    requires from { 1 ≤ words.from }
-    ensures drawn { IfOk result (λ text. Draws (H.told shelf.old) (said_by words.entry) text.items) }
-    ensures cause { IfErr result (HasPictureCause (H.faults shelf.old) (H.faults shelf.new) (H.told shelf.old)
-        (H.told shelf.new) (said_by words.entry)) }
-    ensures keeps { KeepsFiles (H.told shelf.old) (H.told shelf.new) }
-{
-    let input = read_input(alloc, words.trace, words.weights, words.unit, shelf)?;
-    let report = read_report_file(alloc, words.report, shelf)?;
-    let text = picture_of(alloc, words, &input, &report)?;
-    Ok(text)
-}
-
 /// The text of the picture of a report, which is checked first.
-fn picture_of<'a>(
+pub(crate) fn picture_of<'a>(
     alloc: Global,
     words: PictureWords<'a>,
     input: &Input,

@@ -3,6 +3,8 @@
 
 mod command;
 mod drawing;
+mod files;
+pub mod laws;
 mod messages;
 mod parser;
 mod status;

@@ -1,5 +1,5 @@
 //! What a command line says.
-ghost use Rattle.std.specs.Prelude.{◌≡◌, Err, IfNone, IfOk, IfSome, MatchOption, option_map};
+ghost use Rattle.std.specs.Prelude.{◌≡◌, Err, IfNone, IfOk, IfSome, option_map};
 ghost use Rattle.clap.specs.Words.{first_value, found_of};
 ghost use Rattle.command_words.specs.Line.{texts};
 ghost use Rattle.command_words.specs.declared.words.WordsFault.TheVariants.{Usage};
@@ -8,7 +8,7 @@ ghost use Rattle.picture_cli.specs.Words.{IsPictureWords, IsSaid, IsSide, Pictur
 
 use crate::parser::matches_of;
 use clap::ArgMatches;
-use coflow_units::{MAX_SLOT, Side};
+use coflow_units::{MAX_SLOT, MAX_UNIT, Side};
 use command_words::{WordsFault, is_file_name, setting_of};
 use std::alloc::Global;
 
@@ -65,7 +65,7 @@ fn words_of<'a>(matches: &ArgMatches<'a>) -> Option<PictureWords<'a>>
             return None;
         }
     }
-    let unit = setting_of(matches.get_str("unit"), 1 << 20, 1)?;
+    let unit = setting_of(matches.get_str("unit"), MAX_UNIT, 1)?;
     let from = setting_of(matches.get_str("from"), MAX_SLOT, 1)?;
     let to = setting_of(matches.get_str("to"), MAX_SLOT, MAX_SLOT)?;
     let side = side_of(matches.get_str("side"))?;

@@ -10,7 +10,8 @@ pub more : (a : List ℕ) {b c : List ℕ} (x y : List ℕ) → b ≡ a ++ x →
 more a {b} {c} x y e f = f ∙ ap (λ t. t ++ y) e ∙ append_assoc a x y
 
 -- the piece of one element more
-one_more : {X : Type 0} (piece : X → List ℕ) (xs ys : List X) (x : X) (a b c : List ℕ) → ys ≡ xs ++ (x ∷ []) → b ≡ a ++ flat_map piece xs → c ≡ b ++ piece x → c ≡ a ++ flat_map piece ys
+one_more : {X : Type 0} (piece : X → List ℕ) (xs ys : List X) (x : X) (a b c : List ℕ) → ys ≡ xs ++ (x ∷ []) → b ≡ a ++ flat_map piece xs → c ≡ b ++ piece x →
+    c ≡ a ++ flat_map piece ys
 one_more piece xs ys x a b c grown old step =
     let whole = flat_map-append piece xs (x ∷ []) ∙ ap (λ t. flat_map piece xs ++ t) (append-nil (piece x)) in
     more a (flat_map piece xs) (piece x) old step ∙ ap (λ t. a ++ t) (sym whole ∙ ap (flat_map piece) (sym grown))
@@ -26,7 +27,8 @@ map_same [] = refl
 map_same (x ∷ xs) = ap (λ ys. x ∷ ys) (map_same xs)
 
 range_more : (first n k : ℕ) → first + n ≡ k → range_with_len first (n + 1) ≡ range_with_len first n ++ (k ∷ [])
-range_more first n k e = sym (map_same (range_with_len first (n + 1))) ∙ map-range_with_len_more (λ x. x) first n k e ∙ ap (λ xs. xs ++ (k ∷ [])) (map_same (range_with_len first n))
+range_more first n k e =
+    sym (map_same (range_with_len first (n + 1))) ∙ map-range_with_len_more (λ x. x) first n k e ∙ ap (λ xs. xs ++ (k ∷ [])) (map_same (range_with_len first n))
 
 -- the piece of one number more
 pub number_more : (piece : ℕ → List ℕ) (first n k : ℕ) (a b c : List ℕ) → first + n ≡ k → b ≡ a ++ flat_map piece (range_with_len first n) → c ≡ b ++ piece k →

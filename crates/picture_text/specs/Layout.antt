@@ -1,17 +1,28 @@
 -- Where the parts of a picture lie. All coordinates are whole numbers.
-use Rattle.std.specs.Prelude.{ℕ, ◌+◌, ◌*◌, ◌-◌, ◌/◌, ◌≤◌, ◌^◌, length, min}
+use Rattle.std.specs.Prelude.{ℕ, ◌+◌, ◌*◌, ◌-◌, ◌/◌, ◌<◌, ◌≤◌, ◌^◌, [], All, length, min}
+use Rattle.std.specs.List.{slice_index_or}
 use Rattle.coflow_units.specs.declared.limits.TheConstants.{MAX_PORTS, MAX_SLOT}
+use Rattle.picture.specs.declared.value.Bar.{Bar}
+use Rattle.picture.specs.declared.value.Window.{Window}
 use Rattle.picture_text.specs.declared.value.Picture.{Picture}
 use Rattle.picture_text.specs.declared.value.TheConstants.{LEGEND}
 
+-- the bar has a slot, and its slots are slots of the window
+pub record IsInside (w : Window) (b : Bar) : Type 0 where
+  pub some : b.first ≤ b.last
+  pub from : w.first ≤ b.first
+  pub upto : b.last ≤ w.last
+
 -- The window has a slot, and its last slot is one that a schedule may have. There is a port, and no more of them than a
--- side may have. The legend is no longer than it may be, and a hundred times the cost is a number of 128 bits.
+-- side may have. The bars lie inside the window. The legend is no longer than it may be, and a hundred times the cost is
+-- a number of 128 bits.
 pub record IsDrawable (p : Picture) : Type 0 where
   pub counted : 1 ≤ p.window.first
   pub some : p.window.first ≤ p.window.last
   pub short : p.window.last ≤ MAX_SLOT
   pub has_ports : 1 ≤ length p.rows
   pub few_ports : length p.rows ≤ MAX_PORTS + 1
+  pub inside : (port : ℕ) → port < length p.rows → All (IsInside p.window) (slice_index_or p.rows port [])
   pub few_coflows : length p.heavy ≤ LEGEND
   pub small_cost : p.cost ≤ 2 ^ 120
 

@@ -5,3 +5,4 @@ pub mod Heaviest
 pub mod Ticks
 pub mod Title
 pub mod Svg
+pub mod Told

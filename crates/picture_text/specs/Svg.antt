@@ -23,8 +23,8 @@ weight_of p coflow = slice_index_or p.weights coflow 0
 -- the beginning, with a white ground
 abbrev pub head_text : Picture → List ℕ
 head_text p =
-    numbered (codes "<svg xmlns='http://www.w3.org/2000/svg' version='1.1' width='1040' height='") (height p) ++
-    numbered (codes "' font-family='sans-serif' font-size='13'>\n<rect width='1040' height='") (height p) ++
+    numbered (codes "<svg xmlns='http://www.w3.org/2000/svg' version='1.1' width='1150' height='") (height p) ++
+    numbered (codes "' font-family='sans-serif' font-size='13'>\n<rect width='1150' height='") (height p) ++
     codes "' fill='#ffffff'/>\n"
 
 -- the title
@@ -139,9 +139,9 @@ axes_text p = frame_text 60 (bars_height p) ++ slot_axis p (bars_end p) ++ port_
 
 -- the square of a colour at a place of the legend, and the beginning of its words
 abbrev pub entry_head : ℕ → List ℕ → List ℕ
-entry_head place colour = numbered (codes "<rect x='810' y='") (20 * place + 60) ++
+entry_head place colour = numbered (codes "<rect x='850' y='") (20 * place + 60) ++
     codes "' width='12' height='12' fill='" ++ colour ++
-    numbered (codes "'/><text x='828' y='") (20 * place + 71) ++ codes "'>"
+    numbered (codes "'/><text x='868' y='") (20 * place + 71) ++ codes "'>"
 
 -- the entry of a coflow
 abbrev pub entry_text : Picture → ℕ → List ℕ
@@ -156,7 +156,7 @@ others_text p = if leb (length p.ids) (length p.heavy) then []
 
 -- the legend
 abbrev pub legend_text : Picture → List ℕ
-legend_text p = codes "<text x='810' y='50'>most weight</text>\n" ++
+legend_text p = codes "<text x='850' y='50'>most weight</text>\n" ++
     flat_map (entry_text p) (range_with_len 0 (length p.heavy)) ++ others_text p
 
 -- the text of a picture

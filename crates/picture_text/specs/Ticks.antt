@@ -3,15 +3,15 @@ use Rattle.std.specs.Prelude.{ℕ, ◌+◌, ◌*◌, ◌-◌, ◌/◌, leb, suc,
 use Rattle.std.specs.List.{range_with_len}
 use Rattle.std.specs.Int.{div_ceil}
 
--- The first of a power of ten, twice and five times it, and so on with ten times the power, of which eight are no fewer
+-- The first of a power of ten, twice and five times it, and so on with ten times the power, of which six are no fewer
 -- than `count`. The search ends after so many powers.
 unfoldable pub step_from : ℕ → ℕ → ℕ → ℕ
 step_from zero power count = power
-step_from (suc k) power count = if leb count (8 * power) then power
-    else (if leb count (16 * power) then 2 * power
-    else (if leb count (40 * power) then 5 * power else step_from k (power * 10) count))
+step_from (suc k) power count = if leb count (6 * power) then power
+    else (if leb count (12 * power) then 2 * power
+    else (if leb count (30 * power) then 5 * power else step_from k (power * 10) count))
 
--- the step of an axis with so many places: 1, 2 or 5 times a power of ten, so that at most eight steps are on it
+-- the step of an axis with so many places: 1, 2 or 5 times a power of ten, so that at most six steps are on it
 abbrev pub step_of : ℕ → ℕ
 step_of count = step_from 13 1 count
 

@@ -16,7 +16,7 @@ pub(crate) fn push_legend(text: &mut Vec<u8>, picture: &Picture) -> Result<(), N
     requires { IsDrawable picture.now }
     ensures { OnOk result (text.new.items ≡ text.old.items ++ legend_text picture.now) }
 {
-    text.extend_from_slice(b"<text x='810' y='50'>most weight</text>\n")?;
+    text.extend_from_slice(b"<text x='850' y='50'>most weight</text>\n")?;
     push_entries(text, picture)?;
     push_others(text, picture)?;
     Ok(())
@@ -53,10 +53,10 @@ fn push_entry_head(text: &mut Vec<u8>, place: usize, colour: &[u8]) -> Result<()
     requires { place ≤ LEGEND }
     ensures { OnOk result (text.new.items ≡ text.old.items ++ entry_head place colour.now) }
 {
-    push_number(text, b"<rect x='810' y='", 20 * place as u64 + 60)?;
+    push_number(text, b"<rect x='850' y='", 20 * place as u64 + 60)?;
     text.extend_from_slice(b"' width='12' height='12' fill='")?;
     text.extend_from_slice(colour)?;
-    push_number(text, b"'/><text x='828' y='", 20 * place as u64 + 71)?;
+    push_number(text, b"'/><text x='868' y='", 20 * place as u64 + 71)?;
     text.extend_from_slice(b"'>")?;
     Ok(())
 }

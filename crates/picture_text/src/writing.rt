@@ -19,7 +19,8 @@ use std::alloc::Global;
 /// It has a title with cost and bound and how many times the least cost the schedule costs at most, rounded up; the bars in a frame, a port a row, where each bar names its coflow;
 /// the curve of completed coflows in another; axes with round numbers; and a legend of the coflows with the most weight.
 ///
-/// The window has a slot, the ports are at most as many as a side may have, and from 1, and the legend has at most `LEGEND` coflows. The cost is at most 2^120.
+/// The window has a slot, and the bars lie inside it; the ports are at most as many as a side may have, and from 1; and the legend has at most `LEGEND` coflows. The cost is at
+/// most 2^120.
 /// The error is want of memory.
 pub fn write_picture(alloc: Global, picture: &Picture) -> Result<Vec<u8>, NoMemory>
     requires drawable { IsDrawable picture.now }
@@ -44,12 +45,12 @@ fn push_head(text: &mut Vec<u8>, picture: &Picture) -> Result<(), NoMemory>
     let height = curve_end(picture) + 50;
     push_number(
         text,
-        b"<svg xmlns='http://www.w3.org/2000/svg' version='1.1' width='1040' height='",
+        b"<svg xmlns='http://www.w3.org/2000/svg' version='1.1' width='1150' height='",
         height,
     )?;
     push_number(
         text,
-        b"' font-family='sans-serif' font-size='13'>\n<rect width='1040' height='",
+        b"' font-family='sans-serif' font-size='13'>\n<rect width='1150' height='",
         height,
     )?;
     text.extend_from_slice(b"' fill='#ffffff'/>\n")?;

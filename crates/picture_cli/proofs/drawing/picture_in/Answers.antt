@@ -3,10 +3,11 @@ use Rattle.coflow_units.specs.declared.plan.Run.{Run}
 use Rattle.cert_check.proofs.SlotSteps.{runs_kept}
 use Rattle.schedule_model.specs.RunList.{IsKept, slots_in}
 use Rattle.picture.specs.declared.value.Bar.{Bar}
+use Rattle.picture.specs.declared.value.TheConstants.{MAX_BARS}
+use Rattle.picture.specs.Bars.{bar_count}
 use Rattle.picture_text.specs.Heaviest.{IsHeaviest}
-use Rattle.picture_cli.specs.Picture.{window_of}
 use Rattle.picture_cli.specs.Words.{said_by}
-use Rattle.picture_cli.proofs.PictureFacts.{bars_along, clear_along, cost_small, curve_along, names_along, names_flows, slots_short, window_same}
+use Rattle.picture_cli.proofs.PictureFacts.{bars_along, bars_inside, clear_along, cost_small, curve_along, names_along, names_flows, slots_short, window_same}
 use Rattle.picture_cli.proofs.drawing.picture_in.Goals as goal
 
 pub window_in-window-requires : goal.window_in-window-requires
@@ -15,7 +16,8 @@ window_in-window-requires c =
 
 pub bars_of-requires-clause-clear : goal.bars_of-requires-clause-clear
 bars_of-requires-clause-clear c =
-    clear_along c.args.input.now.table.flows c.flows.result.now c.args.report.now.runs c.as_slice-runs.result.now c.flows.ensures.flows c.as_slice-runs.ensures c.requires.right.valid.clear
+    clear_along c.args.input.now.table.flows c.flows.result.now c.args.report.now.runs c.as_slice-runs.result.now c.flows.ensures.flows c.as_slice-runs.ensures
+    c.requires.right.valid.clear
 
 pub bars_of-requires-clause-short : goal.bars_of-requires-clause-short
 bars_of-requires-clause-short c =
@@ -38,8 +40,10 @@ returns-clause-shows c =
     record {
       window_is = window_same c.window_in-window.result said.side said.from (min said.to (length (slots_in runs))) c.window_in-window.ensures.side c.window_in-window.ensures.first
           (c.window_in-window.ensures.last ∙ ap (λ (rs : List Run). min said.to (length (slots_in rs))) c.as_slice-runs.ensures);
+      some = omega arith;
       bars = bars_along table.flows c.flows.result.now runs lent table.ports c.ports.result c.window_in-window.result c.in_ok-rows.rows.items c.from_vec.result
           c.flows.ensures.flows c.as_slice-runs.ensures c.ports.ensures.ports c.from_vec.ensures c.in_ok-rows.ensures.bars;
+      few = subst (λ (xs : List (List Bar)). bar_count xs ≤ MAX_BARS) (sym c.from_vec.ensures) c.in_ok-rows.ensures.few;
       curve = curve_along table.flows c.flows-2.result.now runs lent c.in_ok-ends.ends.items c.deref.result.now (length table.ids) c.coflows.result c.in_ok-steps.steps.items
           c.from_vec-2.result
           c.flows-2.ensures.flows c.as_slice-runs.ensures c.coflows.ensures.coflows c.deref.ensures.value c.in_ok-ends.ensures c.from_vec-2.ensures c.in_ok-steps.ensures;
@@ -65,6 +69,8 @@ returns-clause-drawable c =
       short = omega (arith, last, short);
       has_ports = omega (arith, rows, c.ports.ensures.table.has_ports);
       few_ports = omega (arith, rows, c.ports.ensures.table.few_ports);
+      inside = bars_inside c.flows.result.now (slots_in c.as_slice-runs.result.now) c.ports.result c.window_in-window.result c.in_ok-rows.rows.items c.from_vec.result
+          c.from_vec.ensures c.in_ok-rows.ensures.bars;
       few_coflows = omega (arith, heavy, c.in_ok-heavy.ensures.few);
       small_cost = cost_small table c.args.input.now.weights c.args.report.now c.ports.ensures.table c.requires.report c.requires.weights c.requires.right;
     }

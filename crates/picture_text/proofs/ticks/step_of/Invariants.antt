@@ -1,5 +1,5 @@
 -- the search goes on from the power
-use Rattle.std.proofs.Common.{◌≡◌, ◌≤◌, ◌<◌, ◌-◌, ◌*◌, ◌⊎◌}
+use Rattle.std.proofs.Common.{◌≡◌, ◌≤◌, ◌<◌, ◌-◌, ◌*◌, ◌^◌, ◌⊎◌}
 use Rattle.picture_text.specs.Ticks.{step_from, step_of}
 use Rattle.picture_text.proofs.ticks.step_of.Given as goal
 
@@ -7,5 +7,6 @@ abbrev pub invariant-loop : goal.invariant-loop
 invariant-loop l = record {
   same : step_from (13 - l.counter) l.power l.count ≡ step_of l.count;
   some : 1 ≤ l.power;
-  low : (l.power ≡ 1) ⊎ (4 * l.power < l.count);
+  power_is : l.power ≡ 10 ^ l.counter;
+  low : (l.power ≡ 1) ⊎ (3 * l.power < l.count);
 }

@@ -1,0 +1,236 @@
+-- What good files call for is one status, and the job ends by it.
+use Rattle.std.proofs.Common.{◌≡◌, ℕ, ◌<◌, ◌≤◌, ◌^◌, ◌-◌, ◌∙◌, inl, inr, List, [], ◌∷◌, Option, Some, None, get_or, length, min, refl, sym, ap, subst, suc, arith}
+use Rattle.std.specs.Prelude.{◌⊎◌, All, Err, IfSome, IsSomeAnd}
+use Rattle.std.proofs.lemmas.List.Sums.{sum_by-cons}
+use Rattle.cert_check.proofs.OneVerdict.{one_verdict}
+use Rattle.cert_check.specs.declared.verdict.Reason.{Reason}
+use Rattle.cert_check.specs.declared.verdict.Verdict.{Verdict}
+use Rattle.cert_check.specs.declared.verdict.Verdict.TheVariants as verdict
+use Rattle.cert_check.specs.Reasons.{IsVerdict}
+use Rattle.coflow_units.specs.declared.fabric.Flow.{Flow}
+use Rattle.coflow_units.specs.declared.trace.CoflowLine.{CoflowLine}
+use Rattle.flow_table.proofs.TablesOne.{tables_one}
+use Rattle.flow_table.specs.Table.{TableFacts, instance_of}
+use Rattle.outside.specs.Shelf.{Told}
+use Rattle.outside.specs.Sink.{TakesText}
+use Rattle.picture.proofs.RowLaws.{one_picture}
+use Rattle.picture.specs.declared.value.Bar.{Bar}
+use Rattle.picture.specs.declared.value.TheConstants.{MAX_BARS}
+use Rattle.picture.specs.declared.value.Window.{Window}
+use Rattle.picture.specs.Bars.{IsBar, IsBars, bar_count}
+use Rattle.report.proofs.TextLaws.{reports_are_one}
+use Rattle.report.specs.declared.value.Report.{Report}
+use Rattle.schedule_model.specs.RunList.{slots_in}
+use Rattle.sincronia_cli.proofs.CompleteFacts.{report_is_good, table_fits, trace_is_good, weights_are_good}
+use Rattle.sincronia_cli.proofs.ShelfFacts.{if_some, of_both}
+use Rattle.sincronia_cli.proofs.TurnFacts.{done_in_turn}
+use Rattle.sincronia_cli.specs.declared.status.Status.{Status}
+use Rattle.sincronia_cli.specs.declared.status.Status.TheVariants as status
+use Rattle.sincronia_cli.specs.Causes.{FilesGiveTable, HasFilesCause}
+use Rattle.sincronia_cli.specs.Check.{IsReportOf}
+use Rattle.sincronia_cli.specs.Complete.{IsStill}
+use Rattle.sincronia_cli.specs.Ends.{IsReadFault}
+use Rattle.sincronia_cli.specs.Inputs.{GiveWeights, IsInput, bytes_if}
+use Rattle.sincronia_cli.specs.Plan.{AppendsBeginning}
+use Rattle.sincronia_cli.specs.Shelves.{AreReadOut, OfBoth, ReadsOut}
+use Rattle.sincronia_cli.specs.Turns.{FilesInTurn}
+use Rattle.picture_cli.proofs.PictureFacts.{cause_by}
+use Rattle.picture_cli.specs.Complete.{AreGoodFiles, CallFor, CanBeDrawn, IsAnswer}
+use Rattle.picture_cli.specs.Picture.{Draws, HasNoPicture, HasPictureCause, HasVerdictCause, Judged, check_of, window_of}
+use Rattle.picture_cli.specs.Words.{PictureSaid}
+use Rattle.picture_cli.specs.declared.status.PictureStatus.{PictureStatus}
+use Rattle.picture_cli.specs.declared.status.PictureStatus.TheVariants.{Ended, No, NoSlots, Ok, TooManyBars, Usage}
+
+-- ---- files have one table, one report and one verdict
+
+one_weights : (file : Option (List ℕ)) (coflows : List CoflowLine) (a b : List ℕ) → GiveWeights file coflows a → GiveWeights file coflows b → a ≡ b
+one_weights None coflows a b p q = p ∙ sym q
+one_weights (Some text) coflows a b p q = p.2 ∙ sym q.2
+
+module _ (said : PictureSaid) (t : Told) (u v : Verdict) (a : Judged (Some t) said u) (b : Judged (Some t) said v) where
+  pub one_table : a.table ≡ b.table
+  one_table = tables_one _ said.unit a.table b.table a.input.table_fits b.input.table_fits a.input.gives.table_is b.input.gives.table_is
+
+  one_list : a.list ≡ b.list
+  one_list = one_weights (bytes_if t said.weights) _ a.list b.list a.input.gives.weights_are b.input.gives.weights_are
+
+  pub one_report : a.report ≡ b.report
+  one_report =
+      reports_are_one a.report b.report a.report_is.fits a.report_is.small b.report_is.fits b.report_is.small
+      (sym a.report_is.reads.1.text ∙ b.report_is.reads.1.text)
+
+  pub one_answer : u ≡ v
+  one_answer =
+      one_verdict a.table a.list a.report u v a.verdict_is
+      (subst (λ (x : TableFacts). IsVerdict (instance_of x a.list) x.ids a.report v) (sym one_table)
+      (subst (λ (x : List ℕ). IsVerdict (instance_of b.table x) b.table.ids a.report v) (sym one_list)
+      (subst (λ (x : Report). IsVerdict (instance_of b.table b.list) b.table.ids x v) (sym one_report) b.verdict_is)))
+
+yes_or_no : (said : PictureSaid) (t : Told) (reason : Reason) → Judged (Some t) said verdict.Yes → Judged (Some t) said (verdict.No reason) → ⊥
+yes_or_no said t reason a b = let e : verdict.Yes ≡ verdict.No reason = one_answer said t verdict.Yes (verdict.No reason) a b in cc
+
+module _ (said : PictureSaid) (t : Told) (a b : Judged (Some t) said verdict.Yes) where
+  report_is : a.report ≡ b.report
+  report_is = one_report said t verdict.Yes verdict.Yes a b
+
+  pub bars_of_both : (rows : List (List Bar)) → IsBars b.table.flows (slots_in b.report.runs) b.table.ports (window_of said b.report) rows →
+      IsBars a.table.flows (slots_in a.report.runs) a.table.ports (window_of said a.report) rows
+  bars_of_both rows is =
+      subst (λ (x : Report). IsBars a.table.flows (slots_in x.runs) a.table.ports (window_of said x) rows) (sym report_is)
+      (subst (λ (x : TableFacts). IsBars x.flows (slots_in b.report.runs) x.ports (window_of said b.report) rows)
+      (sym (one_table said t verdict.Yes verdict.Yes a b)) is)
+
+  pub last_is : (window_of said a.report).last ≡ (window_of said b.report).last
+  last_is = ap (λ (x : Report). (window_of said x).last) report_is
+
+  pub slots_one : (f g l m : ℕ) → HasNoPicture a.table a.report said (NoSlots f l) → HasNoPicture b.table b.report said (NoSlots g m) → NoSlots f l ≡ NoSlots g m
+  slots_one f g l m (fa, la, none) (fb, lb, empty) =
+      let first : f ≡ g = fa ∙ sym fb in
+      let last : l ≡ m = la ∙ last_is ∙ sym lb in
+      λ i. NoSlots (first i) (last i)
+
+  pub bars_one : (m n : ℕ) → HasNoPicture a.table a.report said (TooManyBars m) → HasNoPicture b.table b.report said (TooManyBars n) → TooManyBars m ≡ TooManyBars n
+  bars_one m n (rows, is, many, m_is) (others, are, more, n_is) =
+      let same : rows ≡ others = one_picture a.table.flows (slots_in a.report.runs) a.table.ports (window_of said a.report) rows others is (bars_of_both others are) in
+      ap TooManyBars (m_is ∙ (ap (λ (xs : List (List Bar)). min (bar_count xs) (2 ^ 64 - 1)) same ∙ sym n_is))
+
+-- ---- a window without slots has no bars
+
+no_bar : (served : ℕ → ℕ → Type 0) (first last : ℕ) (row : List Bar) → last < first → All (IsBar served first last) row → row ≡ []
+no_bar served first last [] lt all = refl
+no_bar served first last (b ∷ bs) lt all = let is = all 0 b (omega arith) in absurd (omega (arith, lt, is.some, is.from, is.upto))
+
+none_of_rows : (rows : List (List Bar)) → ((k : ℕ) → k < length rows → get_or rows k [] ≡ []) → bar_count rows ≡ 0
+none_of_rows [] each = refl
+none_of_rows (row ∷ rows) each =
+    let here : length row ≡ 0 = ap (λ (xs : List Bar). length xs) (each 0 (omega arith)) in
+    let others : bar_count rows ≡ 0 = none_of_rows rows (λ k lt. each (suc k) (omega arith)) in
+    omega (arith, sum_by-cons (λ (xs : List Bar). length xs) row rows, here, others)
+
+no_bars_at_all : (flows : List Flow) (slots : List (List ℕ)) (ports : ℕ) (w : Window) (rows : List (List Bar)) → w.last < w.first → IsBars flows slots ports w rows →
+    bar_count rows ≡ 0
+no_bars_at_all flows slots ports w rows lt is =
+    none_of_rows rows (λ k l. no_bar _ w.first w.last (get_or rows k []) lt (is.row k (omega (arith, l, is.row_each))).bars)
+
+-- ---- one status
+
+module _ (said : PictureSaid) (t : Told) where
+  slots_or_bars : (first last bars : ℕ) (a b : Judged (Some t) said verdict.Yes) → HasNoPicture a.table a.report said (NoSlots first last) →
+      HasNoPicture b.table b.report said (TooManyBars bars) → ⊥
+  slots_or_bars first last bars a b (f, l, none) (rows, is, many, bars_is) =
+      let empty : (window_of said a.report).last < said.from = omega (arith, f, l, none) in
+      let count = no_bars_at_all a.table.flows (slots_in a.report.runs) a.table.ports (window_of said a.report) rows empty (bars_of_both said t a b rows is) in
+      absurd (omega (arith, many, count))
+
+  drawn_or_slots : (first last : ℕ) (c : CanBeDrawn said t) (b : Judged (Some t) said verdict.Yes) → HasNoPicture b.table b.report said (NoSlots first last) → ⊥
+  drawn_or_slots first last c b (f, l, none) = absurd (omega (arith, c.some, last_is said t c.judged b, f, l, none))
+
+  drawn_or_bars : (bars : ℕ) (c : CanBeDrawn said t) (b : Judged (Some t) said verdict.Yes) → HasNoPicture b.table b.report said (TooManyBars bars) → ⊥
+  drawn_or_bars bars c b (rows, is, many, bars_is) = absurd (omega (arith, many, c.few rows (bars_of_both said t c.judged b rows is)))
+
+  pub answers_one : (a b : PictureStatus) → IsAnswer said t a → IsAnswer said t b → a ≡ b
+  answers_one Usage b x y = absurd x
+  answers_one (Ended s) b x y = absurd x
+  answers_one Ok Usage x y = absurd y
+  answers_one Ok (Ended s) x y = absurd y
+  answers_one Ok Ok x y = refl
+  answers_one Ok No x (reason, y) = absurd (yes_or_no said t reason x.judged y)
+  answers_one Ok (NoSlots first last) x (j, y) = absurd (drawn_or_slots first last x j y)
+  answers_one Ok (TooManyBars bars) x (j, y) = absurd (drawn_or_bars bars x j y)
+  answers_one No Usage x y = absurd y
+  answers_one No (Ended s) x y = absurd y
+  answers_one No Ok (reason, x) y = absurd (yes_or_no said t reason y.judged x)
+  answers_one No No x y = refl
+  answers_one No (NoSlots first last) (reason, x) (j, y) = absurd (yes_or_no said t reason j x)
+  answers_one No (TooManyBars bars) (reason, x) (j, y) = absurd (yes_or_no said t reason j x)
+  answers_one (NoSlots f l) Usage x y = absurd y
+  answers_one (NoSlots f l) (Ended s) x y = absurd y
+  answers_one (NoSlots f l) Ok (j, x) y = absurd (drawn_or_slots f l y j x)
+  answers_one (NoSlots f l) No (j, x) (reason, y) = absurd (yes_or_no said t reason j y)
+  answers_one (NoSlots f l) (NoSlots g m) (j, x) (k, y) = slots_one said t j k f g l m x y
+  answers_one (NoSlots f l) (TooManyBars n) (j, x) (k, y) = absurd (slots_or_bars f l n j k x y)
+  answers_one (TooManyBars m) Usage x y = absurd y
+  answers_one (TooManyBars m) (Ended s) x y = absurd y
+  answers_one (TooManyBars m) Ok (j, x) y = absurd (drawn_or_bars m y j x)
+  answers_one (TooManyBars m) No (j, x) (reason, y) = absurd (yes_or_no said t reason j y)
+  answers_one (TooManyBars m) (NoSlots f l) (j, x) (k, y) = absurd (slots_or_bars f l m k j y x)
+  answers_one (TooManyBars m) (TooManyBars n) (j, x) (k, y) = bars_one said t j k m n x y
+
+  -- a picture that was drawn could be drawn
+  pub drawn_by : (text : List ℕ) → Draws (Some t) said text → CanBeDrawn said t
+  drawn_by text d =
+      let flows = d.judged.table.flows in
+      let slots = slots_in d.judged.report.runs in
+      let ports = d.judged.table.ports in
+      let window : Window = window_of said d.judged.report in
+      record {
+        judged = d.judged;
+        some = subst (λ (w : Window). w.first ≤ w.last) d.shows.window_is d.shows.some;
+        few = λ rows is.
+            let same : rows ≡ d.picture.rows =
+            one_picture flows slots ports window rows d.picture.rows is (subst (λ (w : Window). IsBars flows slots ports w d.picture.rows) d.shows.window_is d.shows.bars) in
+            subst (λ (xs : List (List Bar)). bar_count xs ≤ MAX_BARS) (sym same) d.shows.few;
+      }
+
+-- ---- so the job ends by it
+
+files_end : (before now : ℕ) (t : Told) (new : Option Told) (said : PictureSaid) (s : Status) → HasFilesCause before now (Some t) new (check_of said) s → AreGoodFiles said t →
+    IsStill before now → s ≡ status.NoMemory
+files_end before now t new said (status.BadTrace fault) (form, bad) (table, report) still = absurd (trace_is_good _ fault table.gives.trace_text bad)
+files_end before now t new said (status.BadWeights fault) (form, (text, bad)) (table, report) still =
+    absurd (weights_are_good _ _ table.list fault table.gives.weights_are bad)
+files_end before now t new said (status.BadReport line) (given, (gives, bad)) (table, report) still = absurd ((report_is_good (bytes_if t (Some said.report)) report).line line bad)
+files_end before now t new said (status.Limit which count) (inl limit) (table, report) still = absurd (table_fits _ _ said.unit which count table limit)
+files_end before now t new said (status.Limit which count) (inr (gives, limit)) (table, report) still =
+    absurd ((report_is_good (bytes_if t (Some said.report)) report).fits which count limit)
+files_end before now t new said (status.ReadFault count) (one, rose, failed) good still = absurd (still rose)
+files_end before now t new said status.NoMemory cause good still = refl
+files_end before now t new said status.Ok cause good still = absurd cause
+files_end before now t new said status.No cause good still = absurd cause
+files_end before now t new said status.Usage cause good still = absurd cause
+files_end before now t new said (status.WriteFault count) cause good still = absurd cause
+
+pub ends_at_files : (before now : ℕ) (old new : Option Told) (by said : PictureSaid) (s : Status) (answer : PictureStatus) → by ≡ said →
+    HasFilesCause before now old new (check_of by) s → IsSomeAnd old (CallFor said answer) → IsStill before now → (Ended s ≡ answer) ⊎ (Ended s ≡ Ended status.NoMemory)
+ends_at_files before now None new by said s answer same cause call still = absurd call
+ends_at_files before now (Some t) new by said s answer same cause (good, is) still =
+    inr (ap Ended (files_end before now t new said s (subst (λ (x : PictureSaid). HasFilesCause before now (Some t) new (check_of x) s) same cause) good still))
+
+pub ends_at_verdict : (before now : ℕ) (old new : Option Told) (by said : PictureSaid) (table : TableFacts) (ws : List ℕ) (r : Report) (s answer : PictureStatus) → by ≡ said →
+    IsInput old by.trace by.weights by.unit table ws → IsReportOf old by.report r → HasVerdictCause table ws r by s →
+    IsSomeAnd old (CallFor said answer) → (s ≡ answer) ⊎ (s ≡ Ended status.NoMemory)
+ends_at_verdict before now None new by said table ws r s answer same input report cause call = absurd call
+ends_at_verdict before now (Some t) new by said table ws r s answer same input report cause (good, is) =
+    by_status s cause (cause_by before now (Some t) new by table ws r s input report cause)
+  where
+    answered : (x : PictureStatus) → IsAnswer by t x → x ≡ answer
+    answered x y = answers_one said t x answer (subst (λ (w : PictureSaid). IsAnswer w t x) same y) is
+
+    by_status : (x : PictureStatus) → HasVerdictCause table ws r by x → HasPictureCause before now (Some t) new by x → (x ≡ answer) ⊎ (x ≡ Ended status.NoMemory)
+    by_status No c why = inl (answered No why)
+    by_status (NoSlots first last) c why = inl (answered (NoSlots first last) why)
+    by_status (TooManyBars bars) c why = inl (answered (TooManyBars bars) why)
+    by_status (Ended x) c why = inr (ap Ended c)
+    by_status Ok c why = absurd why
+    by_status Usage c why = absurd why
+
+pub ends_drawn : (old : Option Told) (by said : PictureSaid) (text : List ℕ) (answer : PictureStatus) → by ≡ said → Draws old by text →
+    IsSomeAnd old (CallFor said answer) → Ok ≡ answer
+ends_drawn None by said text answer same draws call = absurd call
+ends_drawn (Some t) by said text answer same draws (good, is) =
+    answers_one said t Ok answer (subst (λ (w : PictureSaid). CanBeDrawn w t) same (drawn_by by t text draws)) is
+
+-- ---- how far the files were looked at, and what was written
+
+pub past_in_turn : (old new : Option Told) (said : PictureSaid) (s : Status) → (IsReadFault s → ⊥) → IfSome old (AreGoodFiles said) →
+    OfBoth old new (ReadsOut (check_of said).job (check_of said)) → OfBoth old new (FilesInTurn (check_of said) s)
+past_in_turn old new said s other good out =
+    done_in_turn old new (check_of said) s other
+    (if_some old (AreGoodFiles said) (FilesGiveTable (check_of said)) (λ t (gives, report). gives) good)
+    (of_both old new (ReadsOut (check_of said).job (check_of said)) (AreReadOut said.trace said.weights) (λ a b (both, report). both) out)
+
+-- a text that was not taken whole
+pub begun : (X E : Type 0) (old new : Option (List ℕ)) (text lent : List ℕ) (e : E) → lent ≡ text → TakesText {X = X} {E = E} old new lent (Err e) →
+    AppendsBeginning old new text
+begun X E None new text lent e same takes = tt
+begun X E (Some old) new text lent e same takes = subst (λ (t : List ℕ). AppendsBeginning (Some old) new t) same takes

@@ -1,0 +1,5 @@
+use Rattle.picture_cli.proofs.AnswerFacts.{answers_one}
+use Rattle.picture_cli.proofs.laws.answer_is_one.Goals as goal
+
+pub returns : goal.returns
+returns c = answers_one

@@ -1,0 +1,51 @@
+//! The files of a picture.
+ghost use Rattle.std.specs.Prelude.{◌≤◌, IfErr, IfOk, IfSome, OnOk};
+ghost use Rattle.coflow_units.specs.declared.limits.TheConstants.{MAX_UNIT};
+ghost use Rattle.sincronia_cli.specs.Causes.{HasFilesCause};
+ghost use Rattle.sincronia_cli.specs.Check.{IsReportOf};
+ghost use Rattle.sincronia_cli.specs.Ends.{CountsFault};
+ghost use Rattle.sincronia_cli.specs.Inputs.{IsInput};
+ghost use Rattle.sincronia_cli.specs.Shelves.{KeepsFiles, OfBoth, ReadsOut};
+ghost use Rattle.sincronia_cli.specs.Turns.{FilesInTurn};
+ghost use Rattle.picture_cli.specs.Complete.{AreGoodFiles};
+ghost use Rattle.picture_cli.specs.Picture.{check_of};
+ghost use Rattle.picture_cli.specs.Words.{said_by};
+
+use crate::words::PictureWords;
+use outside::Shelf;
+use report::Report;
+use sincronia_cli::{Input, Status, read_input, read_report_file};
+use std::alloc::Global;
+
+/// The flows of a trace with the weights of its coflows, and a report.
+#[derive(Drop)]
+pub(crate) struct Files {
+    pub(crate) input: Input,
+    pub(crate) report: Report,
+}
+
+/// Reads the files that the words name: the trace, the weights and the report, in this order. The error is the status of why they were not read.
+pub(crate) fn read_files<'a, H: Shelf>(
+    alloc: Global,
+    words: PictureWords<'a>,
+    shelf: &mut H,
+) -> Result<Files, Status>
+    requires some { 1 ≤ words.unit }
+    requires unit_limit { words.unit ≤ MAX_UNIT }
+    ensures input { IfOk result (λ f. IsInput (H.told shelf.old) (said_by words.entry).trace
+        (said_by words.entry).weights (said_by words.entry).unit f.input.table f.input.weights) }
+    ensures report { IfOk result (λ f. IsReportOf (H.told shelf.old) (said_by words.entry).report f.report) }
+    ensures good { OnOk result (IfSome (H.told shelf.old) (AreGoodFiles (said_by words.entry))) }
+    ensures read_out { OnOk result (OfBoth (H.told shelf.old) (H.told shelf.new)
+        (ReadsOut (check_of (said_by words.entry)).job (check_of (said_by words.entry)))) }
+    ensures in_turn { IfErr result (λ status. OfBoth (H.told shelf.old) (H.told shelf.new)
+        (FilesInTurn (check_of (said_by words.entry)) status)) }
+    ensures keeps { KeepsFiles (H.told shelf.old) (H.told shelf.new) }
+    ensures counts { CountsFault (H.faults shelf.old) (H.faults shelf.new) result }
+    ensures cause { IfErr result (HasFilesCause (H.faults shelf.old) (H.faults shelf.new) (H.told shelf.old)
+        (H.told shelf.new) (check_of (said_by words.entry))) }
+{
+    let input = read_input(alloc, words.trace, words.weights, words.unit, shelf)?;
+    let report = read_report_file(alloc, words.report, shelf)?;
+    Ok(Files { input, report })
+}
