@@ -49,6 +49,7 @@ pub(crate) fn job(
     }
     let mut out = MemSink::new(alloc, 4096, failing.after)?;
     let words = words(alloc, texts)?;
-    let status = sincronia(alloc, &words, &mut shelf, &mut out);
+    let mut bench = Vec::new(alloc);
+    let status = sincronia(alloc, &words, &mut shelf, &mut out, &mut bench);
     Ok((status, out))
 }

@@ -143,7 +143,8 @@ fn a_report_without_end_is_not_read_where_there_is_no_table(rt: HostRuntime) -> 
     let mut shelf = EndlessReport { files };
     let mut out = MemSink::new(alloc, 64, None)?;
     let words = words(alloc, &["sincronia", "check", "t", "r"])?;
-    let status = sincronia(alloc, &words, &mut shelf, &mut out);
+    let mut bench = Vec::new(alloc);
+    let status = sincronia(alloc, &words, &mut shelf, &mut out, &mut bench);
     assert_eq!(rt; status, TOO_HEAVY);
     assert_eq!(rt; out.bytes().len(), 0);
     Ok(())

@@ -1,4 +1,4 @@
 pub mod Line
-pub mod Commands
+pub mod Jobs
 pub mod Words
 pub mod Parser

@@ -1,12 +1,12 @@
-//! Reads the words of a command line: the command, the names behind it and the options.
+//! Reads the words of a command line: the job, which is a command with the names behind it, and the options.
 #![tactic(auto)]
 
-mod command;
+mod job;
 pub mod laws;
 mod parser;
 mod values;
 mod words;
 
-pub use command::Command;
+pub use job::Job;
 pub use values::{is_file_name, setting_of};
-pub use words::{Words, WordsFault, read_words};
+pub use words::{MAX_OPTION_CLASSES, Options, Words, WordsFault, read_words};

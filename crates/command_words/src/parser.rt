@@ -45,6 +45,7 @@ fn command<'a>(alloc: Global) -> Result<Command<'a>, AllocError>
     let command = with_arg(command, option_named(alloc, "epoch"))?;
     let command = with_arg(command, option_named(alloc, "run"))?;
     let command = with_arg(command, option_named(alloc, "slot-ms"))?;
+    let command = with_arg(command, option_named(alloc, "classes"))?;
     Ok(command)
 }
 

@@ -1,23 +1,35 @@
 //! The values of names and options.
-ghost use Rattle.std.specs.Prelude.{◌≡◌, ◌<◌, ◌-◌, ◌^◌, ◌↔◌, ℕ, IfNone, IfSome, IsTrue, true, option_map};
-ghost use Rattle.text_fields.specs.Numbers.{is_number as number_text, number};
-ghost use Rattle.command_words.specs.Commands.{IsFileName};
+ghost use Rattle.std.specs.Prelude.{◌≡◌, ◌<◌, ◌-◌, ◌^◌, ℕ, IfNone, IfSome, option_map};
+ghost use Rattle.command_words.specs.Jobs.{file_of, is_file_name, seed_of};
 ghost use Rattle.command_words.specs.Words.{IsSetting};
 
 use text_fields::{is_number, number_of};
 
 /// The name is not empty and is not `-`.
 pub fn is_file_name(name: &str) -> bool
-    ensures { IsTrue result ↔ IsFileName name.now }
+    ensures { result ≡ is_file_name name.now }
 {
     !name.is_empty() && name != "-"
 }
 
-/// The text is one or more decimal digits, and their number is below 2^64.
-pub fn is_seed(text: &str) -> bool
-    ensures { IsTrue result ↔ ((number_text text.now ≡ true) × (number text.now < 2 ^ 64)) }
+/// The name of a file, or `None` where the text is none.
+pub(crate) fn file_of(text: &str) -> Option<&str>
+    ensures { option_map (λ s. s.now) result ≡ file_of text.now }
 {
-    is_number(text.as_bytes()) && text.parse::<u64>().is_ok()
+    if is_file_name(text) {
+        return Some(text);
+    }
+    None
+}
+
+/// The number of one or more decimal digits, below 2^64, or `None` where the text is none.
+pub(crate) fn seed_of(text: &str) -> Option<u64>
+    ensures { result ≡ seed_of text.now }
+{
+    if !is_number(text.as_bytes()) {
+        return None;
+    }
+    text.parse::<u64>().ok()
 }
 
 /// The number that an option is given, which is one or more decimal digits and from 1 to `most`, or its default where the option is not used. `None` for another text.

@@ -1,12 +1,12 @@
 //! What a command line says.
 ghost use Rattle.std.specs.Prelude.{◌≡◌, ◌↔◌, Err, IfNone, IfOk, IfSome, IsTrue, option_map};
 ghost use Rattle.clap.specs.Words.{first_value, found_of};
-ghost use Rattle.command_words.specs.Commands.{IsFileName};
+ghost use Rattle.command_words.specs.Jobs.{IsFileName};
 ghost use Rattle.command_words.specs.Line.{texts};
 ghost use Rattle.command_words.specs.Words.{IsSaid, IsWords, Said, said_by};
 ghost use Rattle.command_words.specs.declared.words.WordsFault.TheVariants.{Usage};
 
-use crate::command::Command;
+use crate::job::{Job, job_of};
 use crate::parser::matches_of;
 use crate::values::{is_file_name, setting_of};
 use clap::ArgMatches;
@@ -14,14 +14,19 @@ use coflow_units::{MAX_OPTION_SLOTS, MAX_SLOT_MS, MAX_UNIT};
 use std::alloc::Global;
 use thiserror::Error;
 
-/// What a command line says: the command, the names behind it, and the value of each option or its default.
+/// The greatest value of the option `--classes`.
+pub const MAX_OPTION_CLASSES: u64 = 64;
+
+/// What a command line says: the job and the options.
 #[derive(Clone, Copy, Debug, PartialEq, Eq)]
 pub struct Words<'a> {
-    pub command: Command,
-    /// The name of a file, or the seed of `make`: one or more decimal digits, whose number is below 2^64.
-    pub first: &'a str,
-    /// The name of a second file, which `check` alone has.
-    pub second: Option<&'a str>,
+    pub job: Job<'a>,
+    pub options: Options<'a>,
+}
+
+/// The value of each option, or its default.
+#[derive(Clone, Copy, Debug, PartialEq, Eq)]
+pub struct Options<'a> {
     /// The name of a file of weights.
     pub weights: Option<&'a str>,
     /// The megabytes of a unit, from 1 to 2^20.
@@ -34,6 +39,8 @@ pub struct Words<'a> {
     pub run: u64,
     /// The milliseconds of a slot, from 1 to 2^20.
     pub slot_ms: u64,
+    /// The classes that an order is folded into, from 1 to 64.
+    pub classes: u64,
 }
 
 /// Why there are no words.
@@ -50,7 +57,7 @@ pub enum WordsFault {
 /// Reads the words of a command line, the first of which is the program's name.
 ///
 /// The others are `COMMAND FIRST` or `COMMAND FIRST SECOND`, as the command wants it, and options before, between or behind them: `--weights FILE`, `--unit MEGABYTES`,
-/// `--agents NUMBER`, `--epoch SLOTS`, `--run SLOTS` and `--slot-ms MILLISECONDS`, each at most once. An option's value is the next word, which may then not begin with a dash,
+/// `--agents NUMBER`, `--epoch SLOTS`, `--run SLOTS`, `--slot-ms MILLISECONDS` and `--classes NUMBER`, each at most once. An option's value is the next word, which may then not begin with a dash,
 /// or stands behind an equals sign. A word `--` ends the options. A name of a file is not empty and is not `-`, and a number is one or more decimal digits.
 /// An option that the command does not use is read and tested all the same.
 ///
@@ -74,15 +81,9 @@ fn words_of<'a>(matches: &ArgMatches<'a>) -> Option<Words<'a>>
     ensures some { IfSome result (λ w. IsSaid (first_value (found_of matches.now)) (said_by w)) }
     ensures none { IfNone result ((said : Said) → IsSaid (first_value (found_of matches.now)) said → ⊥) }
 {
-    let command = Command::named(matches.get_str("COMMAND")?)?;
+    let name = matches.get_str("COMMAND")?;
     let first = matches.get_str("FIRST")?;
-    if !command.takes_first(first) {
-        return None;
-    }
-    let second = matches.get_str("SECOND");
-    if !command.takes_second(second) {
-        return None;
-    }
+    let job = job_of(name, first, matches.get_str("SECOND"))?;
     let weights = matches.get_str("weights");
     if !is_optional_name(weights) {
         return None;
@@ -92,17 +93,17 @@ fn words_of<'a>(matches: &ArgMatches<'a>) -> Option<Words<'a>>
     let epoch = setting_of(matches.get_str("epoch"), MAX_OPTION_SLOTS, 1024)?;
     let run = setting_of(matches.get_str("run"), MAX_OPTION_SLOTS, 1)?;
     let slot_ms = setting_of(matches.get_str("slot-ms"), MAX_SLOT_MS, 8)?;
-    Some(Words {
-        command,
-        first,
-        second,
+    let classes = setting_of(matches.get_str("classes"), MAX_OPTION_CLASSES, 8)?;
+    let options = Options {
         weights,
         unit,
         agents,
         epoch,
         run,
         slot_ms,
-    })
+        classes,
+    };
+    Some(Words { job, options })
 }
 
 /// There is no name, or it is the name of a file.

@@ -1,19 +1,14 @@
-//! Tests of the crates that order coflows, plan and check plans. That their definitions give what was worked out by hand is said by laws for some rows; here are more
-//! of them, what the limits are, and that a call that may answer want of memory answers where memory is there. Flows are told by their traces.
+//! Tests of the crates that make tables, tell what schedules cost, choose the actions of online runs and check plans. That their definitions give what was worked out by hand is
+//! said by laws for some rows; here are more of them, what the limits are, and that a call that may answer want of memory answers where memory is there. Flows are told by
+//! their traces.
 #![tactic(auto)]
 
 #[cfg(test)]
 mod actions;
 #[cfg(test)]
-mod grants;
-#[cfg(test)]
 mod inputs;
 #[cfg(test)]
 mod limits;
-#[cfg(test)]
-mod loads;
-#[cfg(test)]
-mod orders;
 #[cfg(test)]
 mod schedules;
 #[cfg(test)]

@@ -1,9 +1,14 @@
 //! Verdicts on reports, which are told by their texts.
+ghost use Rattle.std.specs.Prelude.{◌≡◌, ◌≤◌, All, length};
+ghost use Rattle.coflow_units.specs.declared.limits.TheConstants.{MAX_WEIGHT};
+ghost use Rattle.report.specs.Report.{IsReport};
+
 use crate::inputs::{TWO, are_weights, table_of};
-use cert_check::check;
+use cert_check::{Verdict, check};
 use coflow_units::MAX_TEXT;
+use flow_table::Table;
 use port_load::Loads;
-use report::read_report;
+use report::{Report, read_report};
 use std::alloc::Global;
 use std::process::Abort;
 use std::test::Fail;
@@ -20,11 +25,35 @@ fn verdict_of(
     assert!(rt; weights.len() == table.coflows() as usize);
     let fit = are_weights(weights);
     assert!(rt; fit);
-    let loads = Loads::of(alloc, table.flows(), table.coflows(), table.ports())?;
-    assert!(rt; text.len() <= MAX_TEXT);
+    told(alloc, &table, weights, text)
+}
+
+/// The same of a table.
+fn told(alloc: Global, table: &Table, weights: &[u64], text: &str) -> Result<String, Fail>
+    requires count { length weights.now ≡ length table.now.ids }
+    requires fit { All (λ w. w ≤ MAX_WEIGHT) weights.now }
+{
+    if text.len() > MAX_TEXT {
+        return Err(Fail::new("a long text"));
+    }
     let report = read_report(alloc, text.as_bytes())?;
-    let verdict = check(alloc, &table, &loads, weights, &report)?;
+    let verdict = verdict_on(alloc, table, weights, &report)?;
     Ok(format!(in alloc; "{verdict:?}")?)
+}
+
+/// The verdict on a report of a table.
+fn verdict_on(
+    alloc: Global,
+    table: &Table,
+    weights: &[u64],
+    report: &Report,
+) -> Result<Verdict, Fail>
+    requires count { length weights.now ≡ length table.now.ids }
+    requires fit { All (λ w. w ≤ MAX_WEIGHT) weights.now }
+    requires report { IsReport report.now }
+{
+    let loads = Loads::of(alloc, table.flows(), table.coflows(), table.ports())?;
+    Ok(check(alloc, table, &loads, weights, report)?)
 }
 
 /// The places, the totals and the runs of the right report of two coflows.

@@ -1,7 +1,8 @@
 -- What a yes says, and the causes of the statuses of a command that reads files.
 use Rattle.std.proofs.Common.{◌≡◌, ℕ, ◌^◌, ◌≤◌, ◌<◌, inl, inr, List, Option, Some, None, length, sym, subst, ◌∙◌, arith}
 use Rattle.std.specs.Prelude.{IfSome}
-use Rattle.command_words.specs.declared.command.Command.TheVariants.{Check}
+use Rattle.command_words.specs.Jobs.{report_name, trace_name}
+use Rattle.command_words.specs.Jobs.Job.{check_job}
 use Rattle.command_words.specs.Words.{Said}
 use Rattle.coflow_units.specs.declared.quantity.Quantity.{Quantity}
 use Rattle.dual_cert.proofs.DualLaw.{bound_law}
@@ -38,14 +39,14 @@ sure_yes told said old new text checks written = record {
 
 -- ---- the causes of trace and weights
 
-pub from_input : (before now : ℕ) (old new : Option Told) (said : Said) (s : Status) → HasInputCause before now old new said.first said.weights said.unit s →
+pub from_input : (before now : ℕ) (old new : Option Told) (said : Said) (s : Status) → HasInputCause before now old new (trace_name said.job) said.weights said.unit s →
     HasFilesCause before now old new said s
 from_input before now old new said (status.BadTrace fault) h = h
 from_input before now old new said (status.BadWeights fault) h = h
 from_input before now old new said (status.Limit which count) h =
-    if_some old (λ t. LimitCause (bytes_of t said.first) (bytes_if t said.weights) said.unit which count) (FilesLimit said which count) (λ t l. inl l) h
+    if_some old (λ t. LimitCause (bytes_of t (trace_name said.job)) (bytes_if t said.weights) said.unit which count) (FilesLimit said which count) (λ t l. inl l) h
 from_input before now old new said (status.ReadFault count) (one, rose, failed) =
-    (one, rose, of_both old new (InputFailed said.first said.weights) (FileFailed said) (λ a b f. inl f) failed)
+    (one, rose, of_both old new (InputFailed (trace_name said.job) said.weights) (FileFailed said) (λ a b f. inl f) failed)
 from_input before now old new said status.NoMemory h = tt
 from_input before now old new said status.Ok h = absurd h
 from_input before now old new said status.No h = absurd h
@@ -100,10 +101,10 @@ pub report_named : (old mid : Option Told) (second : Option (List ℕ)) (name : 
 report_named old mid second name report is keeps of = subst (λ o. IsReportIfNamed old o report) (sym is) (report_before old mid name report keeps of)
 
 -- trace and weights are still read to their ends after the report is read
-pub still_both_out : (old mid new : Option Told) (said : Said) → OfBoth old mid (AreReadOut said.first said.weights) → OfBoth mid new (KeepsOthers place.Report) →
-    OfBoth old new (AreReadOut said.first said.weights)
+pub still_both_out : (old mid new : Option Told) (said : Said) → OfBoth old mid (AreReadOut (trace_name said.job) said.weights) → OfBoth mid new (KeepsOthers place.Report) →
+    OfBoth old new (AreReadOut (trace_name said.job) said.weights)
 still_both_out old mid new said out others =
-    both_through old mid new (AreReadOut said.first said.weights) (KeepsOthers place.Report) (AreReadOut said.first said.weights) still out others
+    both_through old mid new (AreReadOut (trace_name said.job) said.weights) (KeepsOthers place.Report) (AreReadOut (trace_name said.job) said.weights) still out others
   where
     trace_differs : place.Trace ≡ place.Report → ⊥
     trace_differs e = cc
@@ -115,23 +116,24 @@ still_both_out old mid new said out others =
     still_if None a b c out others = tt
     still_if (Some n) a b c (file, left) (files, lefts) = (files place.Weights weights_differ ∙ file, lefts place.Weights weights_differ ∙ left)
 
-    still : (a b c : Told) → AreReadOut said.first said.weights a b → KeepsOthers place.Report b c → AreReadOut said.first said.weights a c
+    still : (a b c : Told) → AreReadOut (trace_name said.job) said.weights a b → KeepsOthers place.Report b c → AreReadOut (trace_name said.job) said.weights a c
     still a b c ((file, left), weights) (files, lefts) =
         ((files place.Trace trace_differs ∙ file, lefts place.Trace trace_differs ∙ left), still_if said.weights a b c weights (files, lefts))
 
 -- every file of `check` is read to its end
-pub checked_out : (old mid new : Option Told) (said : Said) (name : List ℕ) → said.second ≡ Some name → KeepsFiles old mid → OfBoth old mid (AreReadOut said.first said.weights) →
+pub checked_out : (old mid new : Option Told) (said : Said) (trace name : List ℕ) → report_name said.job ≡ Some name → KeepsFiles old mid →
+    OfBoth old mid (AreReadOut (trace_name said.job) said.weights) →
     OfBoth mid new (KeepsOthers place.Report) → OfBoth mid new (IsReadOut place.Report name) →
-    OfBoth old new (ReadsOut Check said)
-checked_out old mid new said name is keeps out others report =
-    both_joined old new (AreReadOut said.first said.weights) (IsReadOutIf place.Report said.second)
+    OfBoth old new (ReadsOut (check_job trace name) said)
+checked_out old mid new said trace name is keeps out others report =
+    both_joined old new (AreReadOut (trace_name said.job) said.weights) (IsReadOutIf place.Report (report_name said.job))
     (still_both_out old mid new said out others)
     (subst (λ o. OfBoth old new (IsReadOutIf place.Report o)) (sym is)
     (later_out old mid new place.Report (Some name) keeps (of_both mid new (IsReadOut place.Report name) (IsReadOutIf place.Report (Some name)) (λ a b h. h) report)))
 
 module _ (before mid_count now : ℕ) (old mid new : Option Told) (said : Said) (name : List ℕ) where
-  bad_report : (line : ℕ) → said.second ≡ Some name → KeepsFiles old mid → IfSome old (FilesGiveTable said) → IfSome mid (λ t. IsBadReport (Some (bytes_of t name)) line) →
-      IsGiven said.second × IfSome old (FilesReportFault said line)
+  bad_report : (line : ℕ) → report_name said.job ≡ Some name → KeepsFiles old mid → IfSome old (FilesGiveTable said) → IfSome mid (λ t. IsBadReport (Some (bytes_of t name)) line) →
+      IsGiven (report_name said.job) × IfSome old (FilesReportFault said line)
   bad_report line is keeps table h = (
     subst IsGiven (sym is) tt,
     with_both old (FilesGiveTable said) (λ t. IsBadReport (bytes_if t (Some name)) line) (FilesReportFault said line)
@@ -139,20 +141,20 @@ module _ (before mid_count now : ℕ) (old mid new : Option Told) (said : Said) 
         (told_before old mid (Some name) (λ b. IsBadReport b line) keeps h),
   )
 
-  long_report : (which : Quantity) (count : ℕ) → said.second ≡ Some name → KeepsFiles old mid → IfSome old (FilesGiveTable said) →
+  long_report : (which : Quantity) (count : ℕ) → report_name said.job ≡ Some name → KeepsFiles old mid → IfSome old (FilesGiveTable said) →
       IfSome mid (λ t. ReportLimit (Some (bytes_of t name)) which count) → IfSome old (FilesLimit said which count)
   long_report which count is keeps table h =
       with_both old (FilesGiveTable said) (λ t. ReportLimit (bytes_if t (Some name)) which count) (FilesLimit said which count)
       (λ t gives long. inr (gives, subst (λ (o : Option (List ℕ)). ReportLimit (bytes_if t o) which count) (sym is) long)) table
       (told_before old mid (Some name) (λ b. ReportLimit b which count) keeps h)
 
-  report_failed : said.second ≡ Some name → KeepsFiles old mid → IfSome old (FilesGiveTable said) → OfBoth mid new (NameFailed name) → OfBoth old new (FileFailed said)
+  report_failed : report_name said.job ≡ Some name → KeepsFiles old mid → IfSome old (FilesGiveTable said) → OfBoth mid new (NameFailed name) → OfBoth old new (FileFailed said)
   report_failed is keeps table failed =
-      both_and old new (FilesGiveTable said) (NameFailedIf said.second) (FileFailed said) (λ a b gives f. inr (gives, f)) table
+      both_and old new (FilesGiveTable said) (NameFailedIf (report_name said.job)) (FileFailed said) (λ a b gives f. inr (gives, f)) table
       (subst (λ o. OfBoth old new (NameFailedIf o)) (sym is)
       (named_before old mid new (Some name) keeps (of_both mid new (NameFailed name) (NameFailedIf (Some name)) (λ a b h. h) failed)))
 
-  pub from_report : (s : Status) → said.second ≡ Some name → before ≤ mid_count → KeepsFiles old mid → IfSome old (FilesGiveTable said) →
+  pub from_report : (s : Status) → report_name said.job ≡ Some name → before ≤ mid_count → KeepsFiles old mid → IfSome old (FilesGiveTable said) →
       IsReportCause mid_count now mid new name s → HasFilesCause before now old new said s
   from_report (status.BadReport line) is le keeps table h = bad_report line is keeps table h
   from_report (status.Limit which count) is le keeps table h = long_report which count is keeps table h

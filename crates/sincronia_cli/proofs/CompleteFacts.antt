@@ -1,9 +1,8 @@
 -- A command whose files are good ends well, where no count rose and there is memory.
 use Rattle.std.proofs.Common.{◌≡◌, ℕ, inl, inr, List, Option, Some, None, refl, sym, subst, ◌∙◌, arith}
 use Rattle.std.specs.Prelude.{◌⊎◌}
-use Rattle.command_words.specs.declared.command.Command.{Command}
-use Rattle.command_words.specs.declared.command.Command.TheVariants.{Check, Make, Plan}
-use Rattle.command_words.specs.Commands.{IsSecond, row_of}
+use Rattle.command_words.specs.Jobs.{Job, report_name}
+use Rattle.command_words.specs.Jobs.Job.{check_job, classes_job, compare_job, make_job, plan_job}
 use Rattle.command_words.specs.Line.{Text}
 use Rattle.command_words.specs.Words.{IsWords, Said}
 use Rattle.command_words.proofs.OneMeaning.{words_one}
@@ -11,6 +10,7 @@ use Rattle.coflow_units.specs.declared.quantity.Quantity.{Quantity}
 use Rattle.coflow_units.specs.declared.trace.CoflowLine.{CoflowLine}
 use Rattle.cert_check.specs.declared.verdict.Verdict.{Verdict}
 use Rattle.cert_check.specs.declared.verdict.Verdict.TheVariants.{No, Yes}
+use Rattle.rankers.specs.Meaning.{Meaning}
 use Rattle.outside.specs.Shelf.{Told}
 use Rattle.weights.specs.declared.fault.WeightsFault.{WeightsFault}
 use Rattle.sincronia_cli.specs.declared.status.Status.{Status}
@@ -66,13 +66,16 @@ report_is_good (Some text) (short, report, is) = record {
   fits = λ which count (text_is, told, long). absurd (omega (arith, short, long));
 }
 
-pub no_report : HasGoodReport None
+no_report : HasGoodReport None
 no_report = record { line = λ n bad. bad; fits = λ which count (is, told, long). long }
+
+pub no_report_of : (t : Told) (name : Option (List ℕ)) → name ≡ None → HasGoodReport (bytes_if t name)
+no_report_of t name none = subst (λ (n : Option (List ℕ)). HasGoodReport (bytes_if t n)) (sym none) no_report
 
 -- ---- so a command does not end early
 
 files_end : (before now : ℕ) (t : Told) (new : Option Told) (said : Said) (s : Status) → HasFilesCause before now (Some t) new said s → FilesGiveTable said t →
-    HasGoodReport (bytes_if t said.second) → IsStill before now → s ≡ status.NoMemory
+    HasGoodReport (bytes_if t (report_name said.job)) → IsStill before now → s ≡ status.NoMemory
 files_end before now t new said (status.BadTrace fault) (form, bad) table report still = absurd (trace_is_good _ fault table.gives.trace_text bad)
 files_end before now t new said (status.BadWeights fault) (form, (text, bad)) table report still = absurd (weights_are_good _ _ table.list fault table.gives.weights_are bad)
 files_end before now t new said (status.BadReport line) (given, (gives, bad)) table report still = absurd (report.line line bad)
@@ -97,24 +100,27 @@ made_end (status.Limit which count) cause = absurd cause
 made_end (status.ReadFault count) cause = absurd cause
 made_end (status.WriteFault count) cause = absurd cause
 
-by_command : (k : Command) (before now : ℕ) (old new : Option Told) (said : Said) (s : Status) → IsSecond (row_of k).takes_second said.second →
+by_command : (k : Job) (before now : ℕ) (old new : Option Told) (said : Said) (s : Status) → report_name said.job ≡ report_name k →
     CauseBy k before now old new said s → AreGood k said old → IsStill before now → s ≡ status.NoMemory
-by_command Plan before now None new said s fits cause good still = absurd good
-by_command Plan before now (Some t) new said s fits cause good still =
-    files_end before now t new said s cause good (none said.second fits) still where
-      none : (second : Option Text) → IsSecond (row_of Plan).takes_second second → HasGoodReport (bytes_if t second)
-      none None fits = no_report
-      none (Some name) fits = absurd fits
-by_command Check before now None new said s fits cause good still = absurd good
-by_command Check before now (Some t) new said s fits cause (table, report) still =
-    files_end before now t new said s cause table (report_is_good (bytes_if t said.second) report) still
-by_command Make before now old new said s fits cause good still = made_end s cause
+by_command (plan_job trace) before now None new said s none cause good still = absurd good
+by_command (plan_job trace) before now (Some t) new said s none cause good still =
+    files_end before now t new said s cause good (no_report_of t (report_name said.job) none) still
+by_command (check_job trace report) before now None new said s some cause good still = absurd good
+by_command (check_job trace name) before now (Some t) new said s some cause (table, report) still =
+    files_end before now t new said s cause table (report_is_good (bytes_if t (report_name said.job)) report) still
+by_command (make_job seed) before now old new said s none cause good still = made_end s cause
+by_command (compare_job trace) before now None new said s none cause good still = absurd good
+by_command (compare_job trace) before now (Some t) new said s none cause good still =
+    files_end before now t new said s cause good (no_report_of t (report_name said.job) none) still
+by_command (classes_job trace) before now None new said s none cause good still = absurd good
+by_command (classes_job trace) before now (Some t) new said s none cause good still =
+    files_end before now t new said s cause good (no_report_of t (report_name said.job) none) still
 
 pub good_files_end : (words : List Text) (by said : Said) (before now : ℕ) (old new : Option Told) (s : Status) → IsWords words by → IsWords words said →
-    HasCauseOf before now old new by s → AreGood said.command said old → IsStill before now →
-    EndsWell said.command s ⊎ (s ≡ status.NoMemory)
+    HasCauseOf before now old new by s → AreGood said.job said old → IsStill before now →
+    EndsWell said.job s ⊎ (s ≡ status.NoMemory)
 good_files_end words by said before now old new s reads is cause good still =
-    inr (by_command said.command before now old new said s is.says.second_fits
+    inr (by_command said.job before now old new said s refl
     (subst (λ (x : Said). HasCauseOf before now old new x s) (words_one words by said reads is) cause) good still)
 
 -- ---- and where its text was written it ended well
@@ -123,12 +129,15 @@ verdict_ends : (verdict : Verdict) (s : Status) → s ≡ status_for verdict →
 verdict_ends Yes s is = inl is
 verdict_ends (No reason) s is = inr is
 
-pub written_by : (k : Command) (told : Option Told) (said : Said) (s : Status) (text : List ℕ) → OutcomeBy k told said s text → EndsWell k s
-written_by Plan told said s text outcome = outcome.0
-written_by Check told said s text (verdict, is, checks) = verdict_ends verdict s is
-written_by Make told said s text outcome = outcome.0
+pub written_by : (k : Job) (told : Option Told) (said : Said) (bench : List Meaning) (s : Status) (text : List ℕ) → OutcomeBy k told said bench s text → EndsWell k s
+written_by (plan_job trace) told said bench s text outcome = outcome.0
+written_by (check_job trace report) told said bench s text (verdict, is, checks) = verdict_ends verdict s is
+written_by (make_job seed) told said bench s text outcome = outcome.0
+written_by (compare_job trace) told said bench s text outcome = outcome.0
+written_by (classes_job trace) told said bench s text outcome = outcome.0
 
-pub written_ends : (words : List Text) (by said : Said) (told : Option Told) (s : Status) (text : List ℕ) → IsWords words by → IsWords words said → IsOutcome told by s text →
-    EndsWell said.command s ⊎ (s ≡ status.NoMemory)
-written_ends words by said told s text reads is outcome =
-    inl (written_by said.command told said s text (subst (λ (x : Said). IsOutcome told x s text) (words_one words by said reads is) outcome))
+pub written_ends : (words : List Text) (by said : Said) (told : Option Told) (bench : List Meaning) (s : Status) (text : List ℕ) → IsWords words by → IsWords words said →
+    IsOutcome told by bench s text →
+    EndsWell said.job s ⊎ (s ≡ status.NoMemory)
+written_ends words by said told bench s text reads is outcome =
+    inl (written_by said.job told said bench s text (subst (λ (x : Said). IsOutcome told x bench s text) (words_one words by said reads is) outcome))

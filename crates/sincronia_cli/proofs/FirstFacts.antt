@@ -6,14 +6,14 @@ use Rattle.coflow_units.specs.declared.quantity.Quantity.{Quantity}
 use Rattle.coflow_units.specs.declared.quantity.Quantity.TheVariants as quantity
 use Rattle.coflow_units.specs.declared.trace.CoflowLine.{CoflowLine}
 use Rattle.coflow_units.specs.declared.trace.Trace.{Trace}
-use Rattle.command_words.specs.declared.command.Command.{Command}
-use Rattle.command_words.specs.declared.command.Command.TheVariants.{Check, Make, Plan}
+use Rattle.command_words.specs.Jobs.{Job, report_name, trace_name}
+use Rattle.command_words.specs.Jobs.Job.{check_job, classes_job, compare_job, make_job, plan_job}
 use Rattle.command_words.specs.Line.{Text}
-use Rattle.command_words.specs.Commands.{IsSecond, row_of}
 use Rattle.command_words.specs.Words.{IsWords, Said}
 use Rattle.command_words.proofs.OneMeaning.{words_one}
 use Rattle.flow_table.specs.Causes.{ExceedsLimit}
 use Rattle.outside.specs.Shelf.{Told, bytes_of}
+use Rattle.rankers.specs.Meaning.{Meaning}
 use Rattle.report.specs.Reading.{IsBadAt}
 use Rattle.trace_reader.specs.Trace.{trace_of}
 use Rattle.trace_reader.specs.declared.fault.TraceFault.{TraceFault}
@@ -33,7 +33,7 @@ use Rattle.sincronia_cli.specs.Outcome.{IsOutcome}
 use Rattle.sincronia_cli.specs.ReportCauses.{IsBadReport, IsLongReport}
 use Rattle.sincronia_cli.specs.TraceCauses.{HasTraceFault, IsTooLong, IsTraceForm}
 use Rattle.sincronia_cli.specs.WeightsCauses.{AreTooLong, IsFaultOf, IsWeightsForm}
-use Rattle.sincronia_cli.proofs.CompleteFacts.{HasGoodReport, no_report, report_is_good, trace_is_good, weights_are_good, written_by}
+use Rattle.sincronia_cli.proofs.CompleteFacts.{HasGoodReport, no_report_of, report_is_good, trace_is_good, weights_are_good, written_by}
 
 -- ---- the status of a fault
 
@@ -198,24 +198,22 @@ by_limit trace file unit report which count (in_weights text (inl (is, told, lon
 by_limit trace file unit report which count (in_weights text (inr (line, bad))) = at_weights text (bad_weights _ bad refl)
 by_limit trace file unit report which count (in_table text list give cause) = at_table text list give (over which count cause refl)
 
-by_good : (k : Command) (said : Said) (t : Told) → ReadsFiles k → IsSecond (row_of k).takes_second said.second → HasGoodFiles k said t →
-    Stops (bytes_of t said.first) (bytes_if t said.weights) said.unit (bytes_if t said.second) status.Ok
-by_good Plan said t reads fits table = at_end table (none said.second fits) refl
-  where
-    none : (second : Option Text) → IsSecond (row_of Plan).takes_second second → HasGoodReport (bytes_if t second)
-    none None fits = no_report
-    none (Some name) fits = absurd fits
-by_good Check said t reads fits (table, report) = at_end table (report_is_good (bytes_if t said.second) report) refl
-by_good Make said t reads fits good = absurd reads
+by_good : (k : Job) (said : Said) (t : Told) → ReadsFiles k → report_name said.job ≡ report_name k → HasGoodFiles k said t →
+    Stops (bytes_of t (trace_name said.job)) (bytes_if t said.weights) said.unit (bytes_if t (report_name said.job)) status.Ok
+by_good (plan_job trace) said t reads none table = at_end table (no_report_of t (report_name said.job) none) refl
+by_good (check_job trace report) said t reads some (table, text) = at_end table (report_is_good (bytes_if t (report_name said.job)) text) refl
+by_good (make_job seed) said t reads none good = absurd reads
+by_good (compare_job trace) said t reads none table = at_end table (no_report_of t (report_name said.job) none) refl
+by_good (classes_job trace) said t reads none table = at_end table (no_report_of t (report_name said.job) none) refl
 
 stops_of : (words : List Text) (said : Said) (t : Told) (s : Status) → IsOfFiles words said → IsFirstCause said t s →
-    Stops (bytes_of t said.first) (bytes_if t said.weights) said.unit (bytes_if t said.second) s
+    Stops (bytes_of t (trace_name said.job)) (bytes_if t said.weights) said.unit (bytes_if t (report_name said.job)) s
 stops_of words said t (status.BadTrace f) is (form, bad) = at_trace (bad_trace f bad (sym (by_trace f form)))
 stops_of words said t (status.BadWeights f) is (form, (text, bad)) = at_weights text (bad_weights f bad (sym (by_weights f form)))
 stops_of words said t (status.BadReport line) is (table, bad) = at_report table (bad_report line bad refl)
 stops_of words said t (status.Limit which count) is (inl cause) = by_limit _ _ said.unit _ which count cause
 stops_of words said t (status.Limit which count) is (inr (table, (text, told, long))) = at_report table (long_report long (rw (text, told) refl))
-stops_of words said t status.Ok is good = by_good said.command said t is.reads is.words_say.says.second_fits good
+stops_of words said t status.Ok is good = by_good said.job said t is.reads refl good
 stops_of words said t status.No is cause = absurd cause
 stops_of words said t status.Usage is cause = absurd cause
 stops_of words said t (status.ReadFault count) is cause = absurd cause
@@ -228,11 +226,11 @@ first_cause_one words said t a b is x y = stops_one _ _ _ _ a b (stops_of words 
 -- ---- so a command that reads files ends by it
 
 by_cause : (words : List Text) (said : Said) (t : Told) (s cause : Status) → IsOfFiles words said → IsFirstCause said t s → IsFirstCause said t cause →
-    EndsBy said.command s s → EndsBy said.command cause s ⊎ IsInterrupted s
-by_cause words said t s cause is this x ends = inl (subst (λ (c : Status). EndsBy said.command c s) (first_cause_one words said t s cause is this x) ends)
+    EndsBy said.job s s → EndsBy said.job cause s ⊎ IsInterrupted s
+by_cause words said t s cause is this x ends = inl (subst (λ (c : Status). EndsBy said.job c s) (first_cause_one words said t s cause is this x) ends)
 
 files_end_by : (words : List Text) (said : Said) (before now : ℕ) (t : Told) (new : Option Told) (s cause : Status) → IsOfFiles words said →
-    HasFilesCause before now (Some t) new said s → IsFirstCause said t cause → EndsBy said.command cause s ⊎ IsInterrupted s
+    HasFilesCause before now (Some t) new said s → IsFirstCause said t cause → EndsBy said.job cause s ⊎ IsInterrupted s
 files_end_by words said before now t new (status.BadTrace f) cause is why x = by_cause words said t (status.BadTrace f) cause is why x refl
 files_end_by words said before now t new (status.BadWeights f) cause is why x = by_cause words said t (status.BadWeights f) cause is why x refl
 files_end_by words said before now t new (status.BadReport line) cause is why x = by_cause words said t (status.BadReport line) cause is why.1 x refl
@@ -244,37 +242,39 @@ files_end_by words said before now t new status.No cause is why x = absurd why
 files_end_by words said before now t new status.Usage cause is why x = absurd why
 files_end_by words said before now t new (status.WriteFault count) cause is why x = absurd why
 
-of_files : (k : Command) (before now : ℕ) (old new : Option Told) (said : Said) (s : Status) → ReadsFiles k → CauseBy k before now old new said s →
+of_files : (k : Job) (before now : ℕ) (old new : Option Told) (said : Said) (s : Status) → ReadsFiles k → CauseBy k before now old new said s →
     HasFilesCause before now old new said s
-of_files Plan before now old new said s reads why = why
-of_files Check before now old new said s reads why = why
-of_files Make before now old new said s reads why = absurd reads
+of_files (plan_job trace) before now old new said s reads why = why
+of_files (check_job trace report) before now old new said s reads why = why
+of_files (make_job seed) before now old new said s reads why = absurd reads
+of_files (compare_job trace) before now old new said s reads why = why
+of_files (classes_job trace) before now old new said s reads why = why
 
 pub first_ends : (words : List Text) (by said : Said) (before now : ℕ) (old new : Option Told) (s cause : Status) → IsWords words by → IsOfFiles words said →
-    HasCauseOf before now old new by s → IsSomeAnd old (λ t. IsFirstCause said t cause) → EndsBy said.command cause s ⊎ IsInterrupted s
+    HasCauseOf before now old new by s → IsSomeAnd old (λ t. IsFirstCause said t cause) → EndsBy said.job cause s ⊎ IsInterrupted s
 first_ends words by said before now old new s cause read is why x = go old here x
   where
     here : HasFilesCause before now old new said s
     here =
-        of_files said.command before now old new said s is.reads
+        of_files said.job before now old new said s is.reads
         (subst (λ (y : Said). HasCauseOf before now old new y s) (words_one words by said read is.words_say) why)
 
-    go : (told : Option Told) → HasFilesCause before now told new said s → IsSomeAnd told (λ t. IsFirstCause said t cause) → EndsBy said.command cause s ⊎ IsInterrupted s
+    go : (told : Option Told) → HasFilesCause before now told new said s → IsSomeAnd told (λ t. IsFirstCause said t cause) → EndsBy said.job cause s ⊎ IsInterrupted s
     go None why x = absurd x
     go (Some t) why x = files_end_by words said before now t new s cause is why x
 
-pub text_ends : (words : List Text) (by said : Said) (old : Option Told) (s cause : Status) (text : List ℕ) → IsWords words by → IsOfFiles words said →
-    IfSome old (HasGoodFiles by.command by) → IsOutcome old by s text → IsSomeAnd old (λ t. IsFirstCause said t cause) → EndsBy said.command cause s ⊎ IsInterrupted s
-text_ends words by said old s cause text read is good outcome x = go old (subst (λ (y : Said). IfSome old (HasGoodFiles y.command y)) same good) x
+pub text_ends : (words : List Text) (by said : Said) (old : Option Told) (bench : List Meaning) (s cause : Status) (text : List ℕ) → IsWords words by → IsOfFiles words said →
+    IfSome old (HasGoodFiles by.job by) → IsOutcome old by bench s text → IsSomeAnd old (λ t. IsFirstCause said t cause) → EndsBy said.job cause s ⊎ IsInterrupted s
+text_ends words by said old bench s cause text read is good outcome x = go old (subst (λ (y : Said). IfSome old (HasGoodFiles y.job y)) same good) x
   where
     same : by ≡ said
     same = words_one words by said read is.words_say
 
-    ends : EndsWell said.command s
-    ends = written_by said.command old said s text (subst (λ (y : Said). IsOutcome old y s text) same outcome)
+    ends : EndsWell said.job s
+    ends = written_by said.job old said bench s text (subst (λ (y : Said). IsOutcome old y bench s text) same outcome)
 
-    go : (told : Option Told) → IfSome told (HasGoodFiles said.command said) → IsSomeAnd told (λ t. IsFirstCause said t cause) → EndsBy said.command cause s ⊎ IsInterrupted s
+    go : (told : Option Told) → IfSome told (HasGoodFiles said.job said) → IsSomeAnd told (λ t. IsFirstCause said t cause) → EndsBy said.job cause s ⊎ IsInterrupted s
     go None good x = absurd x
     go (Some t) good x =
         let one : status.Ok ≡ cause = first_cause_one words said t status.Ok cause is good x in
-        inl (subst (λ (c : Status). EndsBy said.command c s) one ends)
+        inl (subst (λ (c : Status). EndsBy said.job c s) one ends)

@@ -5,6 +5,7 @@ pub mod PlanSteps
 pub mod PlanLaw
 pub mod PlanSlack
 pub mod PlanFacts
+pub mod CompareFacts
 pub mod NoPriceFacts
 pub mod ShelfFacts
 pub mod TraceFacts
@@ -12,6 +13,7 @@ pub mod WeightsFacts
 pub mod InputFacts
 pub mod WordFacts
 pub mod OutcomeFacts
+pub mod BenchFacts
 pub mod CheckFacts
 pub mod TurnFacts
 pub mod WrittenFacts

@@ -10,14 +10,9 @@ use Rattle.report.specs.Reading.{IsTextOf}
 use Rattle.report.specs.Report.{HasSmallNumbers, IsReport}
 use Rattle.report.specs.Text.{report_text}
 use Rattle.report.proofs.TextLaws.{reports_are_one}
-use Rattle.text_fields.specs.Numbers.{capped, number}
-use Rattle.command_words.specs.Words.{Said}
 use Rattle.sincronia_cli.specs.Make.{GivesMade, MadeOf, summary_of}
 use Rattle.sincronia_cli.specs.PlanReport.{IsPlanOf}
 use Rattle.sincronia_cli.proofs.PlanSound.{plan_is_sound}
-
-pub seed_is : (seed n : ℕ) → seed ≡ capped n → n < 2 ^ 64 → seed ≡ n
-seed_is seed n is small = omega (arith, is, small)
 
 pub read_is_planned : (planned read : Report) (text lent : List ℕ) → IsReport planned → HasSmallNumbers planned → text ≡ report_text planned → lent ≡ text → IsTextOf lent read →
     read ≡ planned
@@ -35,15 +30,15 @@ module _ (t : TableFacts) (weights lent : List ℕ) (planned read : Report) wher
       read ≡ planned → IsSound (instance_of t weights) t.ids read
   read_is_sound table once count least e plan same = subst (λ (r : Report). IsSound (instance_of t weights) t.ids r) (sym same) (planned_is_sound table once count least e plan)
 
-  pub made_of : (said : Said) (seed : ℕ) (text : List ℕ) → IsTable t → IsDistinct t.ids → length weights ≡ length t.ids → All (λ w. 1 ≤ w) weights → lent ≡ weights →
+  pub made_of : (seed unit : ℕ) (text : List ℕ) → IsTable t → IsDistinct t.ids → length weights ≡ length t.ids → All (λ w. 1 ≤ w) weights → lent ≡ weights →
       IsPlanOf (instance_of t lent) t.ids planned → read ≡ planned →
-      seed ≡ number said.first → GivesMade seed said.unit t weights → text ≡ made_text (summary_of seed t read) → MadeOf said text
-  made_of said seed text table once count least e plan same seed_said gives is = record {
+      GivesMade seed unit t weights → text ≡ made_text (summary_of seed t read) → MadeOf seed unit text
+  made_of seed unit text table once count least e plan same gives is = record {
     table = t;
     weights = weights;
-    gives = subst (λ (n : ℕ). GivesMade n said.unit t weights) seed_said gives;
+    gives = gives;
     report = planned;
     planned = planned_for e plan;
     sound = planned_is_sound table once count least e plan;
-    text_is = is ∙ ap (λ (r : Report). made_text (summary_of seed t r)) same ∙ ap (λ (n : ℕ). made_text (summary_of n t planned)) seed_said;
+    text_is = is ∙ ap (λ (r : Report). made_text (summary_of seed t r)) same;
   }

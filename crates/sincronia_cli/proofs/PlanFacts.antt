@@ -1,6 +1,6 @@
 -- What the laws say of a plan as a report.
-use Rattle.std.proofs.Common.{◌≡◌, ℕ, ◌≤◌, List, ◌++◌, reverse, sym, ap, subst, ◌∙◌, arith}
-use Rattle.std.specs.Prelude.{Option, Some, None, Ok}
+use Rattle.std.proofs.Common.{◌≡◌, ℕ, ◌≤◌, ◌<◌, List, ◌++◌, length, reverse, take, sym, ap, subst, ◌∙◌, arith}
+use Rattle.std.specs.Prelude.{Option, Some, None, Ok, Err}
 use Rattle.std.proofs.lemmas.List.{reverse-reverse}
 use Rattle.coflow_units.specs.declared.plan.Place.{Place}
 use Rattle.coflow_units.specs.Certificate.{order_of}
@@ -11,7 +11,7 @@ use Rattle.bssi_order.specs.Order.{entries_of}
 use Rattle.report.specs.declared.value.Report.{Report}
 use Rattle.outside.specs.Shelf.{Told}
 use Rattle.outside.specs.Sink.{TakesText}
-use Rattle.sincronia_cli.specs.Plan.{Appends, BoundsEverySchedule, IsWithinFour, PlanOf, WritesPlan}
+use Rattle.sincronia_cli.specs.Plan.{Appends, AppendsBeginning, BoundsEverySchedule, IsWithinFour, PlanOf, WritesPlan}
 use Rattle.sincronia_cli.specs.PlanReport.{IsPlanOf, coflows_of}
 use Rattle.sincronia_cli.proofs.CertificateFacts.{front_of_places}
 use Rattle.flow_table.specs.Table.{instance_of}
@@ -41,6 +41,12 @@ plan_within i ids report inst p =
 pub appended : {X : Type 0} (E : Type 0) (old new : Option (List ℕ)) (text lent : List ℕ) (x : X) → lent ≡ text → TakesText {E = E} old new lent (Ok x) → Appends old new text
 appended E None new text lent x e takes = tt
 appended E (Some old) new text lent x e takes = takes ∙ ap (λ t. Some (old ++ t)) e
+
+-- of a text that was not taken whole a beginning was appended
+pub begun : (X : Type 0) {E : Type 0} (old new : Option (List ℕ)) (text lent : List ℕ) (e : E) → lent ≡ text → TakesText {X = X} old new lent (Err e) →
+    AppendsBeginning old new text
+begun X None new text lent x e takes = tt
+begun X (Some old) new text lent x e takes = subst (λ (t : List ℕ). (n : ℕ) × (n < length t) × (new ≡ Some (old ++ take n t))) e takes
 
 pub writes_plan : (told : Option Told) (said : Said) (old new : Option (List ℕ)) (text : List ℕ) → PlanOf told said text → Appends old new text → WritesPlan told said old new
 writes_plan told said old new text plan written =

@@ -1,8 +1,8 @@
 -- How far a command came with its files, and that the shelf's count of faults stays.
 use Rattle.std.proofs.Common.{◌≡◌, ◌≢◌, IsErrAnd, IfErr, ℕ, List, Option, Some, Result, Ok, Err, refl, sym, subst, ◌∙◌}
 use Rattle.std.specs.Prelude.{IfSome}
-use Rattle.command_words.specs.declared.command.Command.{Command}
-use Rattle.command_words.specs.declared.command.Command.TheVariants.{Check, Make, Plan}
+use Rattle.command_words.specs.Jobs.{Job, report_name, trace_name}
+use Rattle.command_words.specs.Jobs.Job.{check_job, classes_job, compare_job, make_job, plan_job}
 use Rattle.command_words.specs.Line.{Text}
 use Rattle.command_words.specs.Words.{IsWords, Said}
 use Rattle.command_words.proofs.OneMeaning.{words_one}
@@ -14,6 +14,7 @@ use Rattle.flow_table.specs.declared.fault.TableFault.TheVariants as table_fault
 use Rattle.outside.specs.declared.shelf.Place4.{Place4}
 use Rattle.outside.specs.declared.shelf.Place4.TheVariants as place
 use Rattle.outside.specs.Rose.{RoseOnce}
+use Rattle.rankers.specs.Meaning.{Meaning}
 use Rattle.outside.specs.Shelf.{Told}
 use Rattle.sincronia_cli.specs.declared.status.Status.{Status}
 use Rattle.sincronia_cli.specs.declared.status.Status.TheVariants as status
@@ -141,48 +142,49 @@ table_in_turn old mid new name file trace fault s read out others is =
 
 -- ---- all files in turn
 
-pub input_in_turn : (old new : Option Told) (said : Said) (s : Status) → OfBoth old new (InputInTurn said.first said.weights s) → OfBoth old new (IsAsBefore place.Report) →
+pub input_in_turn : (old new : Option Told) (said : Said) (s : Status) → OfBoth old new (InputInTurn (trace_name said.job) said.weights s) →
+    OfBoth old new (IsAsBefore place.Report) →
     OfBoth old new (FilesInTurn said s)
 input_in_turn old new said s input report =
-    of_both old new (λ a b. InputInTurn said.first said.weights s a b × IsAsBefore place.Report a b) (FilesInTurn said s) (λ a b (i, r). at_input i r)
-    (both_joined old new (InputInTurn said.first said.weights s) (IsAsBefore place.Report) input report)
+    of_both old new (λ a b. InputInTurn (trace_name said.job) said.weights s a b × IsAsBefore place.Report a b) (FilesInTurn said s) (λ a b (i, r). at_input i r)
+    (both_joined old new (InputInTurn (trace_name said.job) said.weights s) (IsAsBefore place.Report) input report)
 
-past_input : (old new : Option Told) (said : Said) (s : Status) → IfSome old (FilesGiveTable said) → OfBoth old new (AreReadOut said.first said.weights) →
-    ((count : ℕ) → s ≡ status.ReadFault count → OfBoth old new (NameFailedIf said.second)) → OfBoth old new (FilesInTurn said s)
+past_input : (old new : Option Told) (said : Said) (s : Status) → IfSome old (FilesGiveTable said) → OfBoth old new (AreReadOut (trace_name said.job) said.weights) →
+    ((count : ℕ) → s ≡ status.ReadFault count → OfBoth old new (NameFailedIf (report_name said.job))) → OfBoth old new (FilesInTurn said s)
 past_input old new said s table out failed =
-    both_and old new (FilesGiveTable said) (λ a b. FailsAt said.second s a b × AreReadOut said.first said.weights a b) (FilesInTurn said s)
+    both_and old new (FilesGiveTable said) (λ a b. FailsAt (report_name said.job) s a b × AreReadOut (trace_name said.job) said.weights a b) (FilesInTurn said s)
     (λ a b gives (f, out). at_report gives out f) table
-    (fails_if old new said.second (AreReadOut said.first said.weights) s out failed)
+    (fails_if old new (report_name said.job) (AreReadOut (trace_name said.job) said.weights) s out failed)
 
 -- after all files no call to the shelf failed
 pub done_in_turn : (old new : Option Told) (said : Said) (s : Status) → (IsReadFault s → ⊥) → IfSome old (FilesGiveTable said) →
-    OfBoth old new (AreReadOut said.first said.weights) → OfBoth old new (FilesInTurn said s)
+    OfBoth old new (AreReadOut (trace_name said.job) said.weights) → OfBoth old new (FilesInTurn said s)
 done_in_turn old new said s other table out = past_input old new said s table out (λ count e. absurd (no_read s count other e))
 
 module _ (old mid new : Option Told) (said : Said) (name : List ℕ) (s : Status) where
-  pub report_in_turn : (mid_count now : ℕ) → said.second ≡ Some name → KeepsFiles old mid → IfSome old (FilesGiveTable said) →
-      OfBoth old mid (AreReadOut said.first said.weights) → OfBoth mid new (KeepsOthers place.Report) → IsReportCause mid_count now mid new name s →
+  pub report_in_turn : (mid_count now : ℕ) → report_name said.job ≡ Some name → KeepsFiles old mid → IfSome old (FilesGiveTable said) →
+      OfBoth old mid (AreReadOut (trace_name said.job) said.weights) → OfBoth mid new (KeepsOthers place.Report) → IsReportCause mid_count now mid new name s →
       OfBoth old new (FilesInTurn said s)
   report_in_turn mid_count now is keeps table out others cause =
       past_input old new said s table (still_both_out old mid new said out others)
       (λ count e. failed count (subst (λ (x : Status). IsReportCause mid_count now mid new name x) e cause))
     where
-      failed : (count : ℕ) → IsReportCause mid_count now mid new name (status.ReadFault count) → OfBoth old new (NameFailedIf said.second)
+      failed : (count : ℕ) → IsReportCause mid_count now mid new name (status.ReadFault count) → OfBoth old new (NameFailedIf (report_name said.job))
       failed count (one, rose, named) =
           subst (λ o. OfBoth old new (NameFailedIf o)) (sym is)
           (named_before old mid new (Some name) keeps (of_both mid new (NameFailed name) (NameFailedIf (Some name)) (λ a b h. h) named))
 
-  pub checked_in_turn : (IsReadFault s → ⊥) → IfSome old (FilesGiveTable said) → OfBoth old mid (AreReadOut said.first said.weights) →
+  pub checked_in_turn : (IsReadFault s → ⊥) → IfSome old (FilesGiveTable said) → OfBoth old mid (AreReadOut (trace_name said.job) said.weights) →
       OfBoth mid new (KeepsOthers place.Report) → OfBoth old new (FilesInTurn said s)
   checked_in_turn other table out others = done_in_turn old new said s other table (still_both_out old mid new said out others)
 
 -- where nothing is looked at
 pub untouched_in_turn : (told : Option Told) (said : Said) (s : Status) → (IsReadFault s → ⊥) → OfBoth told told (FilesInTurn said s)
 untouched_in_turn told said s other =
-    of_both told told (λ a b. FailsAt (Some said.first) s a b × (a ≡ b)) (FilesInTurn said s) (λ a b (f, same). of f same)
-    (fails_if told told (Some said.first) (λ a b. a ≡ b) s (both_same told (λ a b. a ≡ b) (λ t. refl)) (λ count e. absurd (no_read s count other e)))
+    of_both told told (λ a b. FailsAt (Some (trace_name said.job)) s a b × (a ≡ b)) (FilesInTurn said s) (λ a b (f, same). of f same)
+    (fails_if told told (Some (trace_name said.job)) (λ a b. a ≡ b) s (both_same told (λ a b. a ≡ b) (λ t. refl)) (λ count e. absurd (no_read s count other e)))
   where
-    of : {a b : Told} → FailsAt (Some said.first) s a b → a ≡ b → FilesInTurn said s a b
+    of : {a b : Told} → FailsAt (Some (trace_name said.job)) s a b → a ≡ b → FilesInTurn said s a b
     of {a = a} {b = b} f same =
         let weights : IsAsBefore place.Weights a b = subst (λ (t : Told). IsAsBefore place.Weights a t) same (refl, refl) in
         let report : IsAsBefore place.Report a b = subst (λ (t : Told). IsAsBefore place.Report a t) same (refl, refl) in
@@ -210,34 +212,43 @@ verdict_reads : (verdict : Verdict) (s : Status) → s ≡ status_for verdict �
 verdict_reads verdict.Yes s is read = subst IsReadFault is read
 verdict_reads (verdict.No reason) s is read = subst IsReadFault is read
 
-text_reads : (k : Command) (told : Option Told) (said : Said) (s : Status) (text : List ℕ) → OutcomeBy k told said s text → IsReadFault s → ⊥
-text_reads Plan told said s text (is, plan) read = subst IsReadFault is read
-text_reads Check told said s text (verdict, is, checks) read = verdict_reads verdict s is read
-text_reads Make told said s text (is, made) read = subst IsReadFault is read
+text_reads : (k : Job) (told : Option Told) (said : Said) (bench : List Meaning) (s : Status) (text : List ℕ) → OutcomeBy k told said bench s text → IsReadFault s → ⊥
+text_reads (plan_job trace) told said bench s text (is, plan) read = subst IsReadFault is read
+text_reads (check_job trace report) told said bench s text (verdict, is, checks) read = verdict_reads verdict s is read
+text_reads (make_job seed) told said bench s text (is, made) read = subst IsReadFault is read
+text_reads (compare_job trace) told said bench s text (is, compares) read = subst IsReadFault is read
+text_reads (classes_job trace) told said bench s text (is, classes) read = subst IsReadFault is read
 
 module _ (old new : Option Told) (said : Said) (s : Status) where
-  done_by : (k : Command) → (IsReadFault s → ⊥) → IfSome old (HasGoodFiles k said) → OfBoth old new (ReadsOut k said) → (k ≡ Make → new ≡ old) →
+  pub done_by : (k : Job) → (IsReadFault s → ⊥) → IfSome old (HasGoodFiles k said) → OfBoth old new (ReadsOut k said) → ((seed : ℕ) → k ≡ make_job seed → new ≡ old) →
       OfBoth old new (FilesInTurn said s)
-  done_by Plan other good out same = done_in_turn old new said s other good out
-  done_by Check other good out same =
-      done_in_turn old new said s other (if_some old (HasGoodFiles Check said) (FilesGiveTable said) (λ t (gives, report). gives) good)
-      (of_both old new (ReadsOut Check said) (AreReadOut said.first said.weights) (λ a b (both, report). both) out)
-  done_by Make other good out same = subst (λ n. OfBoth old n (FilesInTurn said s)) (sym (same refl)) (untouched_in_turn old said s other)
+  done_by (plan_job trace) other good out same = done_in_turn old new said s other good out
+  done_by (check_job trace report) other good out same =
+      done_in_turn old new said s other (if_some old (HasGoodFiles (check_job trace report) said) (FilesGiveTable said) (λ t (gives, report). gives) good)
+      (of_both old new (ReadsOut (check_job trace report) said) (AreReadOut (trace_name said.job) said.weights) (λ a b (both, report). both) out)
+  done_by (compare_job trace) other good out same = done_in_turn old new said s other good out
+  done_by (classes_job trace) other good out same = done_in_turn old new said s other good out
+  done_by (make_job seed) other good out same = subst (λ n. OfBoth old n (FilesInTurn said s)) (sym (same seed refl)) (untouched_in_turn old said s other)
 
-  pub text_in_turn : (text : List ℕ) → IsOutcome old said s text → IfSome old (HasGoodFiles said.command said) → OfBoth old new (ReadsOut said.command said) →
-      (said.command ≡ Make → new ≡ old) → OfBoth old new (FilesInTurn said s)
-  text_in_turn text outcome good out same = done_by said.command (text_reads said.command old said s text outcome) good out same
+  pub text_in_turn : (bench : List Meaning) (text : List ℕ) → IsOutcome old said bench s text → IfSome old (HasGoodFiles said.job said) → OfBoth old new (ReadsOut said.job said) →
+      ((seed : ℕ) → said.job ≡ make_job seed → new ≡ old) → OfBoth old new (FilesInTurn said s)
+  text_in_turn bench text outcome good out same = done_by said.job (text_reads said.job old said bench s text outcome) good out same
 
 -- what holds for the words holds for all that they say
 pub turn_for : (words : List Text) (by said : Said) (old new : Option Told) (s : Status) → IsWords words by → IsWords words said → OfBoth old new (FilesInTurn by s) →
     OfBoth old new (FilesInTurn said s)
 turn_for words by said old new s reads is turn = subst (λ (x : Said). OfBoth old new (FilesInTurn x s)) (words_one words by said reads is) turn
 
+pub out_for : (words : List Text) (by said : Said) (old new : Option Told) → IsWords words by → IsWords words said → OfBoth old new (ReadsOut by.job by) →
+    OfBoth old new (ReadsOut said.job said)
+out_for words by said old new reads is out = subst (λ (x : Said). OfBoth old new (ReadsOut x.job x)) (words_one words by said reads is) out
+
 -- ---- the report of a check is good
 
-pub report_good : (old mid : Option Told) (said : Said) (name : List ℕ) (report : _) → said.second ≡ Some name → KeepsFiles old mid → IfSome old (FilesGiveTable said) →
-    IsReportOf mid name report → IfSome old (HasGoodFiles Check said)
-report_good old mid said name report is keeps table of =
-    with_both old (FilesGiveTable said) (λ t. IsTextIf report (bytes_if t (Some name))) (HasGoodFiles Check said)
+pub report_good : (old mid : Option Told) (said : Said) (trace name : List ℕ) (report : _) → report_name said.job ≡ Some name → KeepsFiles old mid →
+    IfSome old (FilesGiveTable said) →
+    IsReportOf mid name report → IfSome old (HasGoodFiles (check_job trace name) said)
+report_good old mid said trace name report is keeps table of =
+    with_both old (FilesGiveTable said) (λ t. IsTextIf report (bytes_if t (Some name))) (HasGoodFiles (check_job trace name) said)
     (λ t gives text. (gives, subst (λ (o : Option (List ℕ)). IsReportText (bytes_if t o)) (sym is) (text.0, report, text.1))) table
     (told_before old mid (Some name) (IsTextIf report) keeps of.reads)

@@ -1,6 +1,7 @@
 -- What words say fits their command.
 use Rattle.std.proofs.Common.{ℕ, ◌≤◌, List, Option, Some, None, arith}
 use Rattle.coflow_units.specs.declared.limits.TheConstants.{MAX_UNIT}
+use Rattle.command_words.specs.declared.words.TheConstants.{MAX_OPTION_CLASSES}
 use Rattle.command_words.specs.Line.{Text}
 use Rattle.command_words.specs.Words.{IsSetting, IsWords, Said}
 use Rattle.sincronia_cli.specs.Command.{Fits}
@@ -12,5 +13,13 @@ setting_fits most default (Some text) n low high (_, least, greatest, is) = (ome
 pub unit_fits : (words : List Text) (said : Said) → IsWords words said → (1 ≤ said.unit) × (said.unit ≤ MAX_UNIT)
 unit_fits words said is = setting_fits (MAX_UNIT) 1 _ said.unit (omega arith) (omega arith) is.says.unit
 
+classes_fit : (words : List Text) (said : Said) → IsWords words said → (1 ≤ said.classes) × (said.classes ≤ MAX_OPTION_CLASSES)
+classes_fit words said is = setting_fits (MAX_OPTION_CLASSES) 8 _ said.classes (omega arith) (omega arith) is.says.classes
+
 pub words_fit : (words : List Text) (said : Said) → IsWords words said → Fits said
-words_fit words said is = record { some = (unit_fits words said is).0; unit_limit = (unit_fits words said is).1; first = is.says.first_fits; second = is.says.second_fits }
+words_fit words said is = record {
+  some = (unit_fits words said is).0;
+  unit_limit = (unit_fits words said is).1;
+  some_classes = (classes_fit words said is).0;
+  few_classes = (classes_fit words said is).1;
+}

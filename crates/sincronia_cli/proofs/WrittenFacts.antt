@@ -1,38 +1,77 @@
 -- What was written, by the command of the words.
-use Rattle.std.proofs.Common.{◌≡◌, ℕ, List, sym, subst, ◌∙◌}
+use Rattle.std.proofs.Common.{◌≡◌, ℕ, List, refl, sym, subst, ◌∙◌}
 use Rattle.std.specs.Prelude.{Option, Ok}
-use Rattle.command_words.specs.declared.command.Command.TheVariants.{Check, Make, Plan}
+use Rattle.command_words.specs.Jobs.{Job}
+use Rattle.command_words.specs.Jobs.Job.{check_job, classes_job, compare_job, make_job, plan_job}
 use Rattle.command_words.specs.Line.{Text}
 use Rattle.command_words.specs.Words.{IsWords, Said}
+use Rattle.cert_check.specs.declared.verdict.Reason.{Reason}
 use Rattle.cert_check.specs.declared.verdict.Verdict.{Verdict}
 use Rattle.cert_check.specs.declared.verdict.Verdict.TheVariants.{No, Yes}
 use Rattle.outside.specs.Shelf.{Told}
+use Rattle.rankers.specs.Meaning.{Meaning}
 use Rattle.outside.specs.Sink.{TakesText}
 use Rattle.sincronia_cli.specs.declared.status.Status.{Status}
 use Rattle.sincronia_cli.specs.declared.status.Status.TheVariants as status
-use Rattle.sincronia_cli.specs.Check.{CheckOf, WritesYes, status_for}
+use Rattle.sincronia_cli.specs.Check.{CheckOf, WritesVerdict, WritesYes, status_for}
 use Rattle.sincronia_cli.specs.Command.{IsCommand}
+use Rattle.sincronia_cli.specs.Classes.{WritesClasses}
+use Rattle.sincronia_cli.specs.Compare.{WritesComparison}
 use Rattle.sincronia_cli.specs.Make.{WritesMade}
-use Rattle.sincronia_cli.specs.Outcome.{IsOutcome}
+use Rattle.sincronia_cli.specs.Outcome.{IsOutcome, OutcomeBy}
 use Rattle.sincronia_cli.specs.Plan.{WritesPlan}
 use Rattle.sincronia_cli.proofs.CheckFacts.{sure_yes}
+use Rattle.sincronia_cli.proofs.CompareFacts.{writes_comparison}
 use Rattle.sincronia_cli.proofs.OutcomeFacts.{outcome_by}
 use Rattle.sincronia_cli.proofs.PlanFacts.{appended, writes_plan}
 
-module _ {X : Type 0} (E : Type 0) (words : List Text) (by said : Said) (told : Option Told) (s : Status) (text lent : List ℕ) (old new : Option (List ℕ)) (x : X) where
-  pub plan_written : IsWords words by → IsCommand Plan words said → IsOutcome told by s text → lent ≡ text → TakesText {E = E} old new lent (Ok x) → WritesPlan told said old new
-  plan_written reads is outcome e takes = writes_plan told said old new text (outcome_by words by said Plan told s text reads is outcome).1 (appended E old new text lent x e takes)
+module _ {X : Type 0} (E : Type 0) (words : List Text) (by said : Said) (told : Option Told) (bench : List Meaning) (s : Status)
+    (text lent : List ℕ) (old new : Option (List ℕ)) (x : X) where
+  pub plan_written : (trace : Text) → IsWords words by → IsCommand (plan_job trace) words said → IsOutcome told by bench s text → lent ≡ text →
+      TakesText {E = E} old new lent (Ok x) → WritesPlan told said old new
+  plan_written trace reads is outcome e takes =
+      writes_plan told said old new text (outcome_by words by said (plan_job trace) told bench s text reads is outcome).1 (appended E old new text lent x e takes)
 
-  pub made_written : IsWords words by → IsCommand Make words said → IsOutcome told by s text → lent ≡ text → TakesText {E = E} old new lent (Ok x) → WritesMade said old new
-  made_written reads is outcome e takes =
-      record { text = text; makes = (outcome_by words by said Make told s text reads is outcome).1; written = appended E old new text lent x e takes }
+  pub made_written : (seed : ℕ) → IsWords words by → IsCommand (make_job seed) words said → IsOutcome told by bench s text → lent ≡ text →
+      TakesText {E = E} old new lent (Ok x) → WritesMade seed said.unit old new
+  made_written seed reads is outcome e takes =
+      record { text = text; makes = (outcome_by words by said (make_job seed) told bench s text reads is outcome).1; written = appended E old new text lent x e takes }
+
+  pub comparison_written : (trace : Text) → IsWords words by → IsCommand (compare_job trace) words said → IsOutcome told by bench s text → lent ≡ text →
+      TakesText {E = E} old new lent (Ok x) → WritesComparison told said bench old new
+  comparison_written trace reads is outcome e takes =
+      writes_comparison told said bench old new text (outcome_by words by said (compare_job trace) told bench s text reads is outcome).1 (appended E old new text lent x e takes)
+
+  pub classes_written : (trace : Text) → IsWords words by → IsCommand (classes_job trace) words said → IsOutcome told by bench s text → lent ≡ text →
+      TakesText {E = E} old new lent (Ok x) → WritesClasses told said old new
+  classes_written trace reads is outcome e takes =
+      record { text = text; classes = (outcome_by words by said (classes_job trace) told bench s text reads is outcome).1; written = appended E old new text lent x e takes }
 
   yes_for : (verdict : Verdict) → s ≡ status_for verdict → s ≡ status.Ok → verdict ≡ Yes
   yes_for Yes is ok = λ i. Yes
   yes_for (No reason) is ok = let bad : status.Ok ≡ status.No = sym ok ∙ is in cc
 
-  pub yes_written : IsWords words by → IsCommand Check words said → IsOutcome told by s text → s ≡ status.Ok → lent ≡ text → TakesText {E = E} old new lent (Ok x) →
+  pub yes_written : (trace report : Text) → IsWords words by → IsCommand (check_job trace report) words said → IsOutcome told by bench s text → s ≡ status.Ok → lent ≡ text →
+      TakesText {E = E} old new lent (Ok x) →
       WritesYes told said old new
-  yes_written reads is outcome ok e takes =
-      let (verdict, status_is, checks) = outcome_by words by said Check told s text reads is outcome in
+  yes_written trace report reads is outcome ok e takes =
+      let (verdict, status_is, checks) = outcome_by words by said (check_job trace report) told bench s text reads is outcome in
       sure_yes told said old new text (subst (λ (v : Verdict). CheckOf told said v text) (yes_for verdict status_is ok) checks) (appended E old new text lent x e takes)
+
+  pub no_written : IsWords words by → IsOutcome told by bench s text → s ≡ status.No → lent ≡ text → TakesText {E = E} old new lent (Ok x) →
+      (said : Said) × (trace report : Text) × IsCommand (check_job trace report) words said × (reason : Reason) × WritesVerdict told said (No reason) old new
+  no_written reads outcome wrong e takes = by_job by.job refl outcome
+    where
+      by_verdict : (verdict : Verdict) → s ≡ status_for verdict → CheckOf told by verdict text → (reason : Reason) × WritesVerdict told by (No reason) old new
+      by_verdict Yes is checks = let bad : status.Ok ≡ status.No = sym is ∙ wrong in cc
+      by_verdict (No reason) is checks = (reason, record { text = text; checks = checks; written = appended E old new text lent x e takes })
+
+      by_job : (k : Job) → by.job ≡ k → OutcomeBy k told by bench s text →
+          (said : Said) × (trace report : Text) × IsCommand (check_job trace report) words said × (reason : Reason) × WritesVerdict told said (No reason) old new
+      by_job (plan_job trace) same (is, plan) = let bad : status.Ok ≡ status.No = sym is ∙ wrong in cc
+      by_job (check_job trace report) same (verdict, is, checks) =
+          let told_no = by_verdict verdict is checks in
+          (by, trace, report, record { words_say = reads; job_is = same }, told_no.0, told_no.1)
+      by_job (make_job seed) same (is, made) = let bad : status.Ok ≡ status.No = sym is ∙ wrong in cc
+      by_job (compare_job trace) same (is, compares) = let bad : status.Ok ≡ status.No = sym is ∙ wrong in cc
+      by_job (classes_job trace) same (is, classes) = let bad : status.Ok ≡ status.No = sym is ∙ wrong in cc

@@ -1,8 +1,8 @@
 -- Why a command wrote nothing: what is wrong with its files, looked at in this order:
 -- the trace, the weights, the table, the report.
 use Rattle.std.specs.Prelude.{ℕ, ◌⊎◌, List, Option, Some, None, IfSome}
-use Rattle.command_words.specs.declared.command.Command.{Command}
-use Rattle.command_words.specs.declared.command.Command.TheVariants as command
+use Rattle.command_words.specs.Jobs.{Job, report_name, trace_name}
+use Rattle.command_words.specs.Jobs.Job.{check_job, classes_job, compare_job, make_job, plan_job}
 use Rattle.command_words.specs.Words.{Said}
 use Rattle.coflow_units.specs.declared.quantity.Quantity.{Quantity}
 use Rattle.outside.specs.Shelf.{Told, bytes_of}
@@ -20,7 +20,7 @@ use Rattle.sincronia_cli.specs.WeightsCauses.{IsWeightsForm}
 
 -- the files that are named give a table within its limits
 abbrev pub FilesGiveTable : Said → Told → Type 0
-FilesGiveTable said t = GiveTable (bytes_of t said.first) (bytes_if t said.weights) said.unit
+FilesGiveTable said t = GiveTable (bytes_of t (trace_name said.job)) (bytes_if t said.weights) said.unit
 
 -- there is a name
 abbrev pub IsGiven : Option (List ℕ) → Type 0
@@ -29,27 +29,28 @@ IsGiven (Some name) = Unit {0}
 
 -- the trace has this fault, and it is the first
 abbrev pub FilesTraceFault : Said → TraceFault → Told → Type 0
-FilesTraceFault said fault t = HasTraceFault (bytes_of t said.first) fault
+FilesTraceFault said fault t = HasTraceFault (bytes_of t (trace_name said.job)) fault
 
 -- the trace has no fault, and this is the first fault of the weights
 abbrev pub FilesWeightsFault : Said → WeightsFault → Told → Type 0
-FilesWeightsFault said fault t = HasWeightsFault (bytes_of t said.first) (bytes_if t said.weights) fault
+FilesWeightsFault said fault t = HasWeightsFault (bytes_of t (trace_name said.job)) (bytes_if t said.weights) fault
 
 -- the files give a table, and this is the first line of the other file that no text of a report has
 abbrev pub FilesReportFault : Said → ℕ → Told → Type 0
-FilesReportFault said line t = FilesGiveTable said t × IsBadReport (bytes_if t said.second) line
+FilesReportFault said line t = FilesGiveTable said t × IsBadReport (bytes_if t (report_name said.job)) line
 
 -- A quantity of the files is outside its range, and nothing that is looked at before it is wrong:
 -- one of the trace, of the weights or of the table, or the bytes of a report where there is a table.
 abbrev pub FilesLimit : Said → Quantity → ℕ → Told → Type 0
-FilesLimit said which count t = LimitCause (bytes_of t said.first) (bytes_if t said.weights) said.unit which count
-    ⊎ (FilesGiveTable said t × ReportLimit (bytes_if t said.second) which count)
+FilesLimit said which count t =
+    LimitCause (bytes_of t (trace_name said.job)) (bytes_if t said.weights) said.unit which count
+    ⊎ (FilesGiveTable said t × ReportLimit (bytes_if t (report_name said.job)) which count)
 
 -- The file whose reading failed: the trace, the weights where the trace has no fault, or the report where there is a
 -- table.
 abbrev pub FileFailed : Said → Told → Told → Type 0
-FileFailed said old new = InputFailed said.first said.weights old new
-    ⊎ (FilesGiveTable said old × NameFailedIf said.second old new)
+FileFailed said old new = InputFailed (trace_name said.job) said.weights old new
+    ⊎ (FilesGiveTable said old × NameFailedIf (report_name said.job) old new)
 
 -- The cause of a status that comes before anything is written, in a command that reads files.
 -- The shelf had and has these counts of faults, and told and tells these files.
@@ -58,7 +59,7 @@ HasFilesCause before now old new said (BadTrace fault) = IsTraceForm fault × If
 HasFilesCause before now old new said (BadWeights fault) =
     IsWeightsForm fault × IfSome old (FilesWeightsFault said fault)
 HasFilesCause before now old new said (BadReport line) =
-    IsGiven said.second × IfSome old (FilesReportFault said line)
+    IsGiven (report_name said.job) × IfSome old (FilesReportFault said line)
 HasFilesCause before now old new said (Limit which count) = IfSome old (FilesLimit said which count)
 HasFilesCause before now old new said (ReadFault count) = ShelfFailed before now old new (FileFailed said) count
 HasFilesCause before now old new said NoMemory = Unit {0}
@@ -70,11 +71,13 @@ HasMadeCause NoMemory = Unit {0}
 HasMadeCause status = ⊥
 
 -- the cause of a status that comes before anything is written
-abbrev pub CauseBy : Command → ℕ → ℕ → Option Told → Option Told → Said → Status → Type 0
-CauseBy command.Plan before now old new said status = HasFilesCause before now old new said status
-CauseBy command.Check before now old new said status = HasFilesCause before now old new said status
-CauseBy command.Make before now old new said status = HasMadeCause status
+abbrev pub CauseBy : Job → ℕ → ℕ → Option Told → Option Told → Said → Status → Type 0
+CauseBy (plan_job trace) before now old new said status = HasFilesCause before now old new said status
+CauseBy (check_job trace report) before now old new said status = HasFilesCause before now old new said status
+CauseBy (make_job seed) before now old new said status = HasMadeCause status
+CauseBy (compare_job trace) before now old new said status = HasFilesCause before now old new said status
+CauseBy (classes_job trace) before now old new said status = HasFilesCause before now old new said status
 
 -- what is said has this cause of the status
 abbrev pub HasCauseOf : ℕ → ℕ → Option Told → Option Told → Said → Status → Type 0
-HasCauseOf before now old new said status = CauseBy said.command before now old new said status
+HasCauseOf before now old new said status = CauseBy said.job before now old new said status

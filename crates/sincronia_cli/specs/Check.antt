@@ -1,5 +1,6 @@
 -- What `check` reads and writes.
 use Rattle.std.specs.Prelude.{◌≡◌, ℕ, ◌≤◌, List, Option, Some, None, IfSome, length}
+use Rattle.command_words.specs.Jobs.{report_name, trace_name}
 use Rattle.command_words.specs.Words.{Said}
 use Rattle.cert_check.specs.declared.verdict.Verdict.{Verdict}
 use Rattle.cert_check.specs.declared.verdict.Verdict.TheVariants.{No, Yes}
@@ -32,9 +33,9 @@ IsReportIfNamed told (Some name) report = IsReportOf told name report
 pub record CheckOf (told : Option Told) (said : Said) (verdict : Verdict) (text : List ℕ) : Type 0 where
   pub table : TableFacts
   pub weights : List ℕ
-  pub input : IsInput told said.first said.weights said.unit table weights
+  pub input : IsInput told (trace_name said.job) said.weights said.unit table weights
   pub report : Report
-  pub report_is : IsReportIfNamed told said.second report
+  pub report_is : IsReportIfNamed told (report_name said.job) report
   pub verdict_is : IsVerdict (instance_of table weights) table.ids report verdict
   pub text_is : text ≡ verdict_text table.ids report verdict
 

@@ -1,7 +1,7 @@
 -- When a command ends well.
 use Rattle.std.specs.Prelude.{◌≡◌, ℕ, ◌≤◌, ◌⊎◌, List, Option, Some, None, IsSomeAnd, length}
-use Rattle.command_words.specs.declared.command.Command.{Command}
-use Rattle.command_words.specs.declared.command.Command.TheVariants as command
+use Rattle.command_words.specs.Jobs.{Job, report_name}
+use Rattle.command_words.specs.Jobs.Job.{check_job, classes_job, compare_job, make_job, plan_job}
 use Rattle.command_words.specs.Words.{Said}
 use Rattle.coflow_units.specs.declared.limits.TheConstants.{MAX_REPORT}
 use Rattle.outside.specs.Rose.{Rose}
@@ -19,22 +19,28 @@ IsReportText None = ⊥
 IsReportText (Some text) = (length text ≤ MAX_REPORT) × (report : Report) × IsTextOf text report
 
 -- the texts of all files that the command reads have no fault, and they are within the limits
-abbrev pub HasGoodFiles : Command → Said → Told → Type 0
-HasGoodFiles command.Plan said t = FilesGiveTable said t
-HasGoodFiles command.Check said t = FilesGiveTable said t × IsReportText (bytes_if t said.second)
-HasGoodFiles command.Make said t = Unit {0}
+abbrev pub HasGoodFiles : Job → Said → Told → Type 0
+HasGoodFiles (plan_job trace) said t = FilesGiveTable said t
+HasGoodFiles (check_job trace report) said t = FilesGiveTable said t × IsReportText (bytes_if t (report_name said.job))
+HasGoodFiles (make_job seed) said t = Unit {0}
+HasGoodFiles (compare_job trace) said t = FilesGiveTable said t
+HasGoodFiles (classes_job trace) said t = FilesGiveTable said t
 
 -- the files that the command reads are told, and they are good
-abbrev pub AreGood : Command → Said → Option Told → Type 0
-AreGood command.Plan said told = IsSomeAnd told (HasGoodFiles command.Plan said)
-AreGood command.Check said told = IsSomeAnd told (HasGoodFiles command.Check said)
-AreGood command.Make said told = Unit {0}
+abbrev pub AreGood : Job → Said → Option Told → Type 0
+AreGood (plan_job trace) said told = IsSomeAnd told (HasGoodFiles (plan_job trace) said)
+AreGood (check_job trace report) said told = IsSomeAnd told (HasGoodFiles (check_job trace report) said)
+AreGood (make_job seed) said told = Unit {0}
+AreGood (compare_job trace) said told = IsSomeAnd told (HasGoodFiles (compare_job trace) said)
+AreGood (classes_job trace) said told = IsSomeAnd told (HasGoodFiles (classes_job trace) said)
 
 -- the job of the command was done, and its text was written whole
-abbrev pub EndsWell : Command → Status → Type 0
-EndsWell command.Plan status = status ≡ Ok
-EndsWell command.Check status = (status ≡ Ok) ⊎ (status ≡ No)
-EndsWell command.Make status = status ≡ Ok
+abbrev pub EndsWell : Job → Status → Type 0
+EndsWell (plan_job trace) status = status ≡ Ok
+EndsWell (check_job trace report) status = (status ≡ Ok) ⊎ (status ≡ No)
+EndsWell (make_job seed) status = status ≡ Ok
+EndsWell (compare_job trace) status = status ≡ Ok
+EndsWell (classes_job trace) status = status ≡ Ok
 
 -- the count did not rise
 abbrev pub IsStill : ℕ → ℕ → Type 0

@@ -1,6 +1,6 @@
 -- What the files of a command call for.
 use Rattle.std.specs.Prelude.{◌≡◌}
-use Rattle.command_words.specs.declared.command.Command.{Command}
+use Rattle.command_words.specs.Jobs.{Job}
 use Rattle.command_words.specs.Words.{Said}
 use Rattle.outside.specs.Shelf.{Told}
 use Rattle.sincronia_cli.specs.declared.status.Status.{Status}
@@ -17,13 +17,13 @@ IsFirstCause said t (BadTrace fault) = IsTraceForm fault × FilesTraceFault said
 IsFirstCause said t (BadWeights fault) = IsWeightsForm fault × FilesWeightsFault said fault t
 IsFirstCause said t (Limit which count) = FilesLimit said which count t
 IsFirstCause said t (BadReport line) = FilesReportFault said line t
-IsFirstCause said t Ok = HasGoodFiles said.command said t
+IsFirstCause said t Ok = HasGoodFiles said.job said t
 IsFirstCause said t status = ⊥
 
 -- the status of a command whose files call for this one
-abbrev pub EndsBy : Command → Status → Status → Type 0
-EndsBy command Ok status = EndsWell command status
-EndsBy command cause status = status ≡ cause
+abbrev pub EndsBy : Job → Status → Status → Type 0
+EndsBy job Ok status = EndsWell job status
+EndsBy job cause status = status ≡ cause
 
 -- a call to the shelf or the sink failed, or no memory was to be had
 abbrev pub IsInterrupted : Status → Type 0

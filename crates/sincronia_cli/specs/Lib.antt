@@ -6,6 +6,8 @@ pub mod Plan
 pub mod VerdictLine
 pub mod Check
 pub mod Make
+pub mod Compare
+pub mod Classes
 pub mod Outcome
 pub mod Ends
 pub mod FileCauses

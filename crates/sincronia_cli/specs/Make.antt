@@ -1,13 +1,11 @@
 -- What `make` writes.
 use Rattle.std.specs.Prelude.{◌≡◌, ℕ, List, Option, Some, length, sum_by}
 use Rattle.coflow_units.specs.declared.fabric.Flow.{Flow}
-use Rattle.command_words.specs.Words.{Said}
 use Rattle.cert_check.specs.Sound.{IsSound}
 use Rattle.flow_table.specs.Table.{TableFacts, instance_of}
 use Rattle.report.specs.declared.made.Made.{Made}
 use Rattle.report.specs.declared.value.Report.{Report}
 use Rattle.report.specs.Made.{made_text}
-use Rattle.text_fields.specs.Numbers.{number}
 use Rattle.workload.specs.Coflows.{made_coflows}
 use Rattle.workload.specs.Text.{trace_text, weights_text}
 use Rattle.sincronia_cli.specs.Inputs.{Gives}
@@ -31,17 +29,17 @@ summary_of seed table r = record {
 }
 
 -- The instance that the texts of the seed give, the report of its plan, that it is right, and the text of the summary.
-pub record MadeOf (said : Said) (text : List ℕ) : Type 0 where
+pub record MadeOf (seed unit : ℕ) (text : List ℕ) : Type 0 where
   pub table : TableFacts
   pub weights : List ℕ
-  pub gives : GivesMade (number said.first) said.unit table weights
+  pub gives : GivesMade seed unit table weights
   pub report : Report
   pub planned : IsPlanOf (instance_of table weights) table.ids report
   pub sound : IsSound (instance_of table weights) table.ids report
-  pub text_is : text ≡ made_text (summary_of (number said.first) table report)
+  pub text_is : text ≡ made_text (summary_of seed table report)
 
 -- the summary was written
-pub record WritesMade (said : Said) (old new : Option (List ℕ)) : Type 0 where
+pub record WritesMade (seed unit : ℕ) (old new : Option (List ℕ)) : Type 0 where
   pub text : List ℕ
-  pub makes : MadeOf said text
+  pub makes : MadeOf seed unit text
   pub written : Appends old new text

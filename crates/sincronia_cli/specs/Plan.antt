@@ -1,5 +1,6 @@
 -- What `plan` reads and writes.
 use Rattle.std.specs.Prelude.{◌≡◌, ℕ, ◌+◌, ◌*◌, ◌<◌, ◌≤◌, ◌++◌, List, Option, Some, None, length, take}
+use Rattle.command_words.specs.Jobs.{trace_name}
 use Rattle.command_words.specs.Words.{Said}
 use Rattle.coflow_units.specs.Completion.{cost}
 use Rattle.coflow_units.specs.Flows.{Instance}
@@ -15,7 +16,7 @@ use Rattle.sincronia_cli.specs.PlanReport.{IsPlanOf}
 pub record PlanOf (told : Option Told) (said : Said) (text : List ℕ) : Type 0 where
   pub table : TableFacts
   pub weights : List ℕ
-  pub input : IsInput told said.first said.weights said.unit table weights
+  pub input : IsInput told (trace_name said.job) said.weights said.unit table weights
   pub report : Report
   pub planned : IsPlanOf (instance_of table weights) table.ids report
   pub text_is : text ≡ report_text report

@@ -1,7 +1,7 @@
 -- What a call does to a shelf that tells its files.
 use Rattle.std.specs.Prelude.{◌≡◌, ℕ, List, [], Option, Some, None, IfSome}
-use Rattle.command_words.specs.declared.command.Command.{Command}
-use Rattle.command_words.specs.declared.command.Command.TheVariants.{Check, Make, Plan}
+use Rattle.command_words.specs.Jobs.{Job, report_name, trace_name}
+use Rattle.command_words.specs.Jobs.Job.{check_job, classes_job, compare_job, make_job, plan_job}
 use Rattle.command_words.specs.Words.{Said}
 use Rattle.outside.specs.declared.shelf.Place4.{Place4}
 use Rattle.outside.specs.declared.shelf.Place4.TheVariants as place
@@ -39,7 +39,10 @@ abbrev pub AreReadOut : List ℕ → Option (List ℕ) → Told → Told → Typ
 AreReadOut trace weights old new = IsReadOut place.Trace trace old new × IsReadOutIf place.Weights weights old new
 
 -- every file that the command reads was read to its end
-abbrev pub ReadsOut : Command → Said → Told → Told → Type 0
-ReadsOut Plan said old new = AreReadOut said.first said.weights old new
-ReadsOut Check said old new = AreReadOut said.first said.weights old new × IsReadOutIf place.Report said.second old new
-ReadsOut Make said old new = Unit {0}
+abbrev pub ReadsOut : Job → Said → Told → Told → Type 0
+ReadsOut (plan_job trace) said old new = AreReadOut (trace_name said.job) said.weights old new
+ReadsOut (check_job trace report) said old new =
+    AreReadOut (trace_name said.job) said.weights old new × IsReadOutIf place.Report (report_name said.job) old new
+ReadsOut (make_job seed) said old new = Unit {0}
+ReadsOut (compare_job trace) said old new = AreReadOut (trace_name said.job) said.weights old new
+ReadsOut (classes_job trace) said old new = AreReadOut (trace_name said.job) said.weights old new

@@ -1,5 +1,6 @@
 -- In which order a command looks at its files: how far it came, by what the shelf tells of its places.
 use Rattle.std.specs.Prelude.{◌≡◌, ℕ, List, Option, Some}
+use Rattle.command_words.specs.Jobs.{report_name, trace_name}
 use Rattle.command_words.specs.Words.{Said}
 use Rattle.outside.specs.declared.shelf.Place4.{Place4}
 use Rattle.outside.specs.declared.shelf.Place4.TheVariants as place
@@ -31,7 +32,7 @@ pub data InputInTurn (trace : List ℕ) (weights : Option (List ℕ)) (status : 
 -- All files in turn. Either the report was not looked at, or trace and weights were read to their ends and give a table
 -- within its limits.
 pub data FilesInTurn (said : Said) (status : Status) (old new : Told) : Type 0 where
-  at_input : InputInTurn said.first said.weights status old new → IsAsBefore place.Report old new →
+  at_input : InputInTurn (trace_name said.job) said.weights status old new → IsAsBefore place.Report old new →
       FilesInTurn said status old new
-  at_report : FilesGiveTable said old → AreReadOut said.first said.weights old new →
-      FailsAt said.second status old new → FilesInTurn said status old new
+  at_report : FilesGiveTable said old → AreReadOut (trace_name said.job) said.weights old new →
+      FailsAt (report_name said.job) status old new → FilesInTurn said status old new

@@ -4,8 +4,8 @@ ghost use Rattle.coflow_units.specs.declared.limits.TheConstants.{MAX_UNIT, MAX_
 ghost use Rattle.cert_check.specs.declared.verdict.Verdict.{Verdict};
 ghost use Rattle.cert_check.specs.Reasons.{IsVerdict, NamesCoflowIfAny};
 ghost use Rattle.cert_check.specs.Sound.{IsSound};
-ghost use Rattle.command_words.specs.declared.command.Command.{Command};
-ghost use Rattle.command_words.specs.Words.{said_by};
+ghost use Rattle.command_words.specs.Jobs.Job.{check_job};
+ghost use Rattle.command_words.specs.Words.{said_with};
 ghost use Rattle.flow_table.specs.Table.{instance_of};
 ghost use Rattle.report.specs.Report.{IsReport};
 ghost use Rattle.sincronia_cli.specs.Causes.{HasFilesCause};
@@ -23,36 +23,38 @@ use crate::status::Status;
 use crate::verdict_line::verdict_text;
 use cert_check::{Verdict, check};
 use coflow_units::NoMemory;
-use command_words::Words;
+use command_words::Options;
 use outside::Shelf;
 use report::Report;
 use std::alloc::Global;
 
-/// The line of the verdict on the report of that name, for the coflows of the trace that the words name, or the status
-/// of why there is none.
+/// The line of the verdict on the report of that name, for the coflows of the trace of the other, or the status of why
+/// there is none.
 pub(crate) fn check_report<'a, H: Shelf>(
     alloc: Global,
-    words: Words<'a>,
-    name: &str,
+    trace: &str,
+    report: &str,
+    options: Options<'a>,
     shelf: &mut H,
 ) -> Result<Outcome, Status>
-    requires some { 1 ≤ words.unit }
-    requires unit_limit { words.unit ≤ MAX_UNIT }
-    requires second { (said_by words).second ≡ Some name.now }
+    requires some { 1 ≤ options.unit }
+    requires unit_limit { options.unit ≤ MAX_UNIT }
     ensures outcome { IfOk result (λ o. (verdict : Verdict) × (o.status ≡ status_for verdict) ×
-        CheckOf (H.told shelf.old) (said_by words.entry) verdict o.text.items) }
+        CheckOf (H.told shelf.old) (said_with (check_job trace.now report.now) options.entry) verdict o.text.items) }
     ensures read_out { OnOk result (OfBoth (H.told shelf.old) (H.told shelf.new)
-        (ReadsOut Command.Check (said_by words.entry))) }
-    ensures good { OnOk result (IfSome (H.told shelf.old) (HasGoodFiles Command.Check (said_by words.entry))) }
+        (ReadsOut (check_job trace.now report.now)
+        (said_with (check_job trace.now report.now) options.entry))) }
+    ensures good { OnOk result (IfSome (H.told shelf.old) (HasGoodFiles (check_job trace.now report.now)
+        (said_with (check_job trace.now report.now) options.entry))) }
     ensures in_turn { IfErr result (λ status. OfBoth (H.told shelf.old) (H.told shelf.new)
-        (FilesInTurn (said_by words.entry) status)) }
+        (FilesInTurn (said_with (check_job trace.now report.now) options.entry) status)) }
     ensures keeps { KeepsFiles (H.told shelf.old) (H.told shelf.new) }
     ensures counts { CountsFault (H.faults shelf.old) (H.faults shelf.new) result }
     ensures cause { IfErr result (λ status. HasFilesCause (H.faults shelf.old) (H.faults shelf.new) (H.told shelf.old)
-        (H.told shelf.new) (said_by words.entry) status) }
+        (H.told shelf.new) (said_with (check_job trace.now report.now) options.entry) status) }
 {
-    let input = read_input(alloc, words.first, words.weights, words.unit, shelf)?;
-    let report = read_report_file(alloc, name, shelf)?;
+    let input = read_input(alloc, trace, options.weights, options.unit, shelf)?;
+    let report = read_report_file(alloc, report, shelf)?;
     let outcome = outcome_of(alloc, &input, &report)?;
     Ok(outcome)
 }

@@ -1,16 +1,19 @@
 //! The program's job, from the words to the written text.
-ghost use Rattle.std.specs.Prelude.{◌≡◌, ◌≢◌, ◌≤◌, ◌⊎◌, ℕ, All, Err, IfErr, IfOk, IfSome, IsSomeAnd, OnOk, length};
+ghost use Rattle.std.specs.Prelude.{◌≡◌, ◌≢◌, ◌≤◌, ◌<◌, ◌^◌, ◌⊎◌, ℕ, [], All, Err, IfErr, IfOk, IfSome, IsSomeAnd, List, OnOk, drop, length, map, take};
 ghost use Rattle.coflow_units.specs.declared.quantity.Quantity.{Quantity};
-ghost use Rattle.command_words.specs.declared.command.Command.{Command};
+ghost use Rattle.command_words.specs.Jobs.Job.{check_job, classes_job, compare_job, make_job, plan_job};
 ghost use Rattle.command_words.specs.Line.{texts};
 ghost use Rattle.command_words.specs.Words.{IsWords, Said, said_by};
 ghost use Rattle.outside.specs.Rose.{Rose, RoseOnce};
+ghost use Rattle.rankers.specs.FactsTold.{FactsTold};
 ghost use Rattle.trace_reader.specs.declared.fault.TraceFault.{TraceFault};
 ghost use Rattle.weights.specs.declared.fault.WeightsFault.{WeightsFault};
 ghost use Rattle.cert_check.specs.declared.verdict.Reason.{Reason};
 ghost use Rattle.cert_check.specs.declared.verdict.Verdict.{Verdict};
 ghost use Rattle.sincronia_cli.specs.Causes.{FileFailed, FilesLimit, FilesReportFault, FilesTraceFault, FilesWeightsFault, HasCauseOf};
 ghost use Rattle.sincronia_cli.specs.Check.{WritesVerdict, WritesYes};
+ghost use Rattle.sincronia_cli.specs.Classes.{WritesClasses};
+ghost use Rattle.sincronia_cli.specs.Compare.{WritesComparison};
 ghost use Rattle.sincronia_cli.specs.Command.{Fits, IsCommand, IsOfFiles};
 ghost use Rattle.sincronia_cli.specs.Complete.{AreGood, EndsWell, HasGoodFiles, IsStill};
 ghost use Rattle.sincronia_cli.specs.Ends.{IsDone, IsReadFault, IsWriteFault, CountsFault};
@@ -25,12 +28,15 @@ ghost use Rattle.sincronia_cli.specs.Turns.{FilesInTurn};
 ghost use Rattle.sincronia_cli.specs.WeightsCauses.{IsWeightsForm};
 
 use crate::checking::check_report;
+use crate::classing::list_classes;
+use crate::comparing::compare_rankers;
 use crate::making::make_workload;
 use crate::outcome::Outcome;
 use crate::planning::plan_trace;
 use crate::status::Status;
-use command_words::{Command, Words, WordsFault, read_words};
+use command_words::{Job, Words, WordsFault, read_words};
 use outside::{Shelf, Sink, write_all};
+use rankers::Ranker;
 use std::alloc::Global;
 
 /// Does what the words ask for, and writes one text to the sink.
@@ -46,6 +52,16 @@ use std::alloc::Global;
 ///   `plan`. A yes says that the stated bound is at most the cost of every valid schedule.
 /// - `make SEED` makes a trace and weights from a number, plans them as `plan` does, and writes a summary of the plan,
 ///   whose report is right. It reads no file.
+/// - `compare TRACE` asks the rankers of the bench for orders of the trace's coflows, one ranker after another, and
+///   writes the bound of `plan` and two rows for each: what its first answer costs, and what its second one does, after
+///   it was told the slots in which the coflows ended. `--weights` and `--unit` are as for `plan`.
+/// - `classes TRACE` folds the order of `plan` into as many classes as `--classes` says, from 1 to 64, and else 8, and
+///   writes the class of each coflow, and the schedule that serves the class order with its cost, which is at most the
+///   cap. `--weights` and `--unit` are as for `plan`.
+///
+/// The bench has fewer than 2^32 rankers, and `compare` alone uses it. A ranker that was asked is dropped, so at `Ok`
+/// and `WriteFault` of `compare` the bench is empty; at its `NoMemory` those that were not reached are still there, as
+/// they were and in their order; at all other statuses the bench is as before.
 ///
 /// Files are looked at one after another, and the first fault ends the job: the trace is read, and then its grammar is
 /// tested; so are the weights; then the table of flows is made; then the report is read, and its grammar is tested. A
@@ -82,26 +98,41 @@ pub fn sincronia<H: Shelf, K: Sink>(
     words: &[String],
     shelf: &mut H,
     out: &mut K,
+    bench: &mut Vec<Box<dyn Ranker>>,
 ) -> Status
-    ensures plan { (said : Said) → IsCommand Command.Plan (texts words.now) said → result ≡ Status.Ok →
-        WritesPlan (H.told shelf.old) said (K.taken out.old) (K.taken out.new) }
-    ensures yes { (said : Said) → IsCommand Command.Check (texts words.now) said → result ≡ Status.Ok →
-        WritesYes (H.told shelf.old) said (K.taken out.old) (K.taken out.new) }
+    requires { length bench.old.items < 2 ^ 32 }
+    ensures plan { (said : Said) (trace : List ℕ) → IsCommand (plan_job trace) (texts words.now) said →
+        result ≡ Status.Ok → WritesPlan (H.told shelf.old) said (K.taken out.old) (K.taken out.new) }
+    ensures yes { (said : Said) (trace report : List ℕ) → IsCommand (check_job trace report) (texts words.now) said →
+        result ≡ Status.Ok → WritesYes (H.told shelf.old) said (K.taken out.old) (K.taken out.new) }
     ensures no { result ≡ Status.No →
-        (said : Said) × IsCommand Command.Check (texts words.now) said × (reason : Reason) ×
+        (said : Said) × (trace report : List ℕ) × IsCommand (check_job trace report) (texts words.now) said ×
+        (reason : Reason) ×
         WritesVerdict (H.told shelf.old) said (Verdict.No reason) (K.taken out.old) (K.taken out.new) }
-    ensures make { (said : Said) → IsCommand Command.Make (texts words.now) said → result ≡ Status.Ok →
-        WritesMade said (K.taken out.old) (K.taken out.new) }
+    ensures make { (said : Said) (seed : ℕ) → IsCommand (make_job seed) (texts words.now) said → result ≡ Status.Ok →
+        WritesMade seed said.unit (K.taken out.old) (K.taken out.new) }
+    ensures compare { (said : Said) (trace : List ℕ) → IsCommand (compare_job trace) (texts words.now) said →
+        result ≡ Status.Ok → WritesComparison (H.told shelf.old) said (map (λ b. meaning b) bench.old.items)
+        (K.taken out.old) (K.taken out.new) }
+    ensures empty { (said : Said) (trace : List ℕ) → IsCommand (compare_job trace) (texts words.now) said →
+        HasText result → bench.new.items ≡ [] }
+    ensures left { (reached : ℕ) × (bench.new.items ≡ drop reached bench.old.items) ×
+        All (λ b. (facts : FactsTold) × answered b facts) (take reached bench.old.items) }
+    ensures same_bench { (HasText result → ⊥) → result ≢ Status.NoMemory → bench.new.items ≡ bench.old.items }
+    ensures others_bench { ((said : Said) (trace : List ℕ) → IsCommand (compare_job trace) (texts words.now) said → ⊥) →
+        bench.new.items ≡ bench.old.items }
+    ensures classes { (said : Said) (trace : List ℕ) → IsCommand (classes_job trace) (texts words.now) said →
+        result ≡ Status.Ok → WritesClasses (H.told shelf.old) said (K.taken out.old) (K.taken out.new) }
     ensures complete { (said : Said) → IsWords (texts words.now) said →
-        AreGood said.command said (H.told shelf.old) → IsStill (H.faults shelf.old) (H.faults shelf.new) →
-        IsStill (K.faults out.old) (K.faults out.new) → EndsWell said.command result ⊎ (result ≡ Status.NoMemory) }
+        AreGood said.job said (H.told shelf.old) → IsStill (H.faults shelf.old) (H.faults shelf.new) →
+        IsStill (K.faults out.old) (K.faults out.new) → EndsWell said.job result ⊎ (result ≡ Status.NoMemory) }
     ensures first { (said : Said) (cause : Status) → IsOfFiles (texts words.now) said →
         IsSomeAnd (H.told shelf.old) (λ t. IsFirstCause said t cause) →
-        EndsBy said.command cause result ⊎ IsInterrupted result }
+        EndsBy said.job cause result ⊎ IsInterrupted result }
     ensures good { IsDone result → (said : Said) × IsWords (texts words.now) said ×
-        IfSome (H.told shelf.old) (HasGoodFiles said.command said) }
+        IfSome (H.told shelf.old) (HasGoodFiles said.job said) }
     ensures read_out { (said : Said) → IsWords (texts words.now) said → HasText result →
-        OfBoth (H.told shelf.old) (H.told shelf.new) (ReadsOut said.command said) }
+        OfBoth (H.told shelf.old) (H.told shelf.new) (ReadsOut said.job said) }
     ensures in_turn { (said : Said) → IsWords (texts words.now) said →
         OfBoth (H.told shelf.old) (H.told shelf.new) (FilesInTurn said result) }
     ensures usage { result ≡ Status.Usage → (said : Said) → IsWords (texts words.now) said → ⊥ }
@@ -113,7 +144,7 @@ pub fn sincronia<H: Shelf, K: Sink>(
         (said : Said) × IsOfFiles (texts words.now) said × IsWeightsForm fault ×
         IfSome (H.told shelf.old) (FilesWeightsFault said fault) }
     ensures bad_report { (line : ℕ) → result ≡ Status.BadReport line →
-        (said : Said) × IsCommand Command.Check (texts words.now) said ×
+        (said : Said) × (trace report : List ℕ) × IsCommand (check_job trace report) (texts words.now) said ×
         IfSome (H.told shelf.old) (FilesReportFault said line) }
     ensures limit { (which : Quantity) (count : ℕ) → result ≡ Status.Limit which count →
         (said : Said) × IsOfFiles (texts words.now) said × IfSome (H.told shelf.old) (FilesLimit said which count) }
@@ -124,13 +155,14 @@ pub fn sincronia<H: Shelf, K: Sink>(
         (count ≡ 1) × Rose (K.faults out.old) (K.faults out.new) }
     ensures beginning { (count : ℕ) → result ≡ Status.WriteFault count →
         (said : Said) × IsWords (texts words.now) said ×
-        WritesBeginning (H.told shelf.old) said (K.taken out.old) (K.taken out.new) }
+        WritesBeginning (H.told shelf.old) said (map (λ b. meaning b) bench.old.items) (K.taken out.old)
+        (K.taken out.new) }
     ensures still_shelf { (IsReadFault result → ⊥) → H.faults shelf.new ≡ H.faults shelf.old }
     ensures once_shelf { IsReadFault result → RoseOnce (H.faults shelf.old) (H.faults shelf.new) }
     ensures still_sink { (IsWriteFault result → ⊥) → K.faults out.new ≡ K.faults out.old }
     ensures once_sink { IsWriteFault result → RoseOnce (K.faults out.old) (K.faults out.new) }
     ensures keeps { KeepsFiles (H.told shelf.old) (H.told shelf.new) }
-    ensures untouched { (said : Said) → IsCommand Command.Make (texts words.now) said →
+    ensures untouched { (said : Said) (seed : ℕ) → IsCommand (make_job seed) (texts words.now) said →
         (H.told shelf.new ≡ H.told shelf.old) × (H.faults shelf.new ≡ H.faults shelf.old) }
     ensures unwritten { (HasText result → ⊥) → K.taken out.new ≡ K.taken out.old }
 {
@@ -139,7 +171,7 @@ pub fn sincronia<H: Shelf, K: Sink>(
         Err(WordsFault::Usage) => return Status::Usage,
         Err(WordsFault::NoMemory) => return Status::NoMemory,
     };
-    let outcome = match carry_out(alloc, words, shelf) {
+    let outcome = match carry_out(alloc, words, shelf, bench) {
         Ok(outcome) => outcome,
         Err(status) => return status,
     };
@@ -154,13 +186,23 @@ fn carry_out<'a, H: Shelf>(
     alloc: Global,
     words: Words<'a>,
     shelf: &mut H,
+    bench: &mut Vec<Box<dyn Ranker>>,
 ) -> Result<Outcome, Status>
-    requires { Fits (said_by words) }
-    ensures outcome { IfOk result (λ o. IsOutcome (H.told shelf.old) (said_by words.entry) o.status o.text.items) }
+    requires fits { Fits (said_by words) }
+    requires few { length bench.old.items < 2 ^ 32 }
+    ensures outcome { IfOk result (λ o. IsOutcome (H.told shelf.old) (said_by words.entry)
+        (map (λ b. meaning b) bench.old.items) o.status o.text.items) }
+    ensures empty { OnOk result ((trace : List ℕ) → (said_by words.entry).job ≡ compare_job trace →
+        bench.new.items ≡ []) }
+    ensures left { (reached : ℕ) × (bench.new.items ≡ drop reached bench.old.items) ×
+        All (λ b. (facts : FactsTold) × answered b facts) (take reached bench.old.items) }
+    ensures same_bench { IfErr result (λ status. status ≢ Status.NoMemory → bench.new.items ≡ bench.old.items) }
+    ensures others_bench { ((trace : List ℕ) → (said_by words.entry).job ≡ compare_job trace → ⊥) →
+        bench.new.items ≡ bench.old.items }
     ensures read_out { OnOk result (OfBoth (H.told shelf.old) (H.told shelf.new)
-        (ReadsOut (said_by words.entry).command (said_by words.entry))) }
+        (ReadsOut (said_by words.entry).job (said_by words.entry))) }
     ensures good { OnOk result (IfSome (H.told shelf.old)
-        (HasGoodFiles (said_by words.entry).command (said_by words.entry))) }
+        (HasGoodFiles (said_by words.entry).job (said_by words.entry))) }
     ensures in_turn { IfErr result (λ status. OfBoth (H.told shelf.old) (H.told shelf.new)
         (FilesInTurn (said_by words.entry) status)) }
     ensures cause { IfErr result
@@ -168,13 +210,14 @@ fn carry_out<'a, H: Shelf>(
         (said_by words.entry)) }
     ensures keeps { KeepsFiles (H.told shelf.old) (H.told shelf.new) }
     ensures counts { CountsFault (H.faults shelf.old) (H.faults shelf.new) result }
-    ensures untouched { (said_by words.entry).command ≡ Command.Make →
+    ensures untouched { (seed : ℕ) → (said_by words.entry).job ≡ make_job seed →
         (H.told shelf.new ≡ H.told shelf.old) × (H.faults shelf.new ≡ H.faults shelf.old) }
 {
-    match (words.command, words.second) {
-        (Command::Plan, _) => plan_trace(alloc, words, shelf),
-        (Command::Check, Some(report)) => check_report(alloc, words, report, shelf),
-        (Command::Check, None) => unreachable!(),
-        (Command::Make, _) => make_workload(alloc, words),
+    match words.job {
+        Job::Plan { trace } => plan_trace(alloc, trace, words.options, shelf),
+        Job::Check { trace, report } => check_report(alloc, trace, report, words.options, shelf),
+        Job::Make { seed } => make_workload(alloc, seed, words.options.unit),
+        Job::Compare { trace } => compare_rankers(alloc, trace, words.options, shelf, bench),
+        Job::Classes { trace } => list_classes(alloc, trace, words.options, shelf),
     }
 }

@@ -2,7 +2,9 @@
 #![tactic(auto)]
 
 mod checking;
+mod classing;
 mod command;
+mod comparing;
 mod inputs;
 pub mod laws;
 mod making;

@@ -1,8 +1,7 @@
 //! The command `make`: the plan of a made trace, read back and checked.
-ghost use Rattle.std.specs.Prelude.{◌≡◌, ◌≤◌, ◌<◌, ◌^◌, ℕ, All, IfErr, IfOk, None, length, sum_by, true};
+ghost use Rattle.std.specs.Prelude.{◌≡◌, ◌≤◌, ◌<◌, ◌^◌, ℕ, All, IfErr, IfOk, None, length, sum_by};
 ghost use Rattle.coflow_units.specs.declared.limits.TheConstants.{MAX_REPORT, MAX_TEXT, MAX_UNIT, MAX_UNITS, MAX_WEIGHT};
 ghost use Rattle.cert_check.specs.Sound.{IsSound};
-ghost use Rattle.command_words.specs.Words.{said_by};
 ghost use Rattle.coflow_units.specs.declared.fabric.Flow.{Flow};
 ghost use Rattle.coflow_units.specs.declared.quantity.Quantity.{Quantity};
 ghost use Rattle.coflow_units.specs.Flows.{IsDistinct};
@@ -14,7 +13,6 @@ ghost use Rattle.report.specs.declared.value.Report.{Report};
 ghost use Rattle.report.specs.Made.{made_text};
 ghost use Rattle.report.specs.Reading.{IsTextOf};
 ghost use Rattle.report.specs.Report.{IsReport};
-ghost use Rattle.text_fields.specs.Numbers.{is_number, number};
 ghost use Rattle.text_fields.specs.Checks.{first_fault};
 ghost use Rattle.trace_reader.specs.Trace.{trace_checks, trace_of};
 ghost use Rattle.weights.specs.Weights.{text_checks, weights_of};
@@ -28,28 +26,21 @@ use crate::planning::plan;
 use crate::status::Status;
 use cert_check::Verdict;
 use coflow_units::{Flow, Items, NoMemory, Trace};
-use command_words::Words;
 use flow_table::{Table, TableFault};
 use report::{Made, Report, ReportFault, read_report, write_made, write_report};
 use std::alloc::Global;
-use text_fields::number_of;
 use trace_reader::{TraceFault, read_trace};
 use weights::{WeightsFault, read_weights};
 use workload::made;
 
-/// The summary of the plan of the trace that is made from the seed of the words, whose report was read back and found right. There is one where there is memory.
-pub(crate) fn make_workload<'a>(alloc: Global, words: Words<'a>) -> Result<Outcome, Status>
-    requires some { 1 ≤ words.unit }
-    requires unit_limit { words.unit ≤ MAX_UNIT }
-    requires is_number { is_number words.first.now ≡ true }
-    requires small { number words.first.now < 2 ^ 64 }
-    ensures outcome { IfOk result (λ o. (o.status ≡ Status.Ok) × MadeOf (said_by words.entry) o.text.items) }
+/// The summary of the plan of the trace that is made from a seed, whose report was read back and found right. There is one where there is memory.
+pub(crate) fn make_workload(alloc: Global, seed: u64, unit: u64) -> Result<Outcome, Status>
+    requires some { 1 ≤ unit }
+    requires unit_limit { unit ≤ MAX_UNIT }
+    ensures outcome { IfOk result (λ o. (o.status ≡ Status.Ok) × MadeOf seed unit o.text.items) }
     ensures cause { IfErr result HasMadeCause }
 {
-    let Some(seed) = number_of(words.first.as_bytes()) else {
-        unreachable!();
-    };
-    let input = made_input(alloc, seed, words.unit)?;
+    let input = made_input(alloc, seed, unit)?;
     let planned = plan(alloc, &input.table, input.weights.as_slice())?;
     let text = write_report(alloc, &planned)?;
     let report = read_back(alloc, &text)?;

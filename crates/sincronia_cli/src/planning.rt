@@ -7,8 +7,8 @@ ghost use Rattle.coflow_units.specs.Served.{IsServed};
 ghost use Rattle.bssi_order.specs.Order.{IsOrder, entries_of};
 ghost use Rattle.flow_table.specs.Table.{instance_of};
 ghost use Rattle.report.specs.Report.{HasSmallNumbers, HasWeights, IsReport};
-ghost use Rattle.command_words.specs.declared.command.Command.{Command};
-ghost use Rattle.command_words.specs.Words.{said_by};
+ghost use Rattle.command_words.specs.Jobs.Job.{plan_job};
+ghost use Rattle.command_words.specs.Words.{said_with};
 ghost use Rattle.report.specs.declared.value.Report.{Report};
 ghost use Rattle.report.specs.Text.{report_text};
 ghost use Rattle.sincronia_cli.specs.Causes.{HasFilesCause};
@@ -25,7 +25,7 @@ use crate::outcome::Outcome;
 use crate::places::{place_lines, place_weights};
 use crate::status::Status;
 use coflow_units::{Items, NoMemory, Place};
-use command_words::Words;
+use command_words::Options;
 use dual_cert::{Cert, bound, slack};
 use flow_table::Table;
 use outside::Shelf;
@@ -34,28 +34,30 @@ use schedule_model::{Schedule, cost};
 use slot_switch::simulate;
 use std::alloc::Global;
 
-/// The text of the plan of the trace that the words name.
+/// The text of the plan of the trace of that name.
 pub(crate) fn plan_trace<'a, H: Shelf>(
     alloc: Global,
-    words: Words<'a>,
+    trace: &str,
+    options: Options<'a>,
     shelf: &mut H,
 ) -> Result<Outcome, Status>
-    requires some { 1 ≤ words.unit }
-    requires unit_limit { words.unit ≤ MAX_UNIT }
-    ensures outcome { IfOk result (λ o.
-        (o.status ≡ Status.Ok) × PlanOf (H.told shelf.old) (said_by words.entry) o.text.items) }
+    requires some { 1 ≤ options.unit }
+    requires unit_limit { options.unit ≤ MAX_UNIT }
+    ensures outcome { IfOk result (λ o. (o.status ≡ Status.Ok) ×
+        PlanOf (H.told shelf.old) (said_with (plan_job trace.now) options.entry) o.text.items) }
     ensures read_out { OnOk result (OfBoth (H.told shelf.old) (H.told shelf.new)
-        (ReadsOut Command.Plan (said_by words.entry))) }
-    ensures good { OnOk result (IfSome (H.told shelf.old) (HasGoodFiles Command.Plan (said_by words.entry))) }
+        (ReadsOut (plan_job trace.now) (said_with (plan_job trace.now) options.entry))) }
+    ensures good { OnOk result (IfSome (H.told shelf.old) (HasGoodFiles (plan_job trace.now)
+        (said_with (plan_job trace.now) options.entry))) }
     ensures in_turn { IfErr result (λ status. OfBoth (H.told shelf.old) (H.told shelf.new)
-        (FilesInTurn (said_by words.entry) status)) }
+        (FilesInTurn (said_with (plan_job trace.now) options.entry) status)) }
     ensures keeps { KeepsFiles (H.told shelf.old) (H.told shelf.new) }
     ensures counts { CountsFault (H.faults shelf.old) (H.faults shelf.new) result }
     ensures cause { IfErr result
         (HasFilesCause (H.faults shelf.old) (H.faults shelf.new) (H.told shelf.old) (H.told shelf.new)
-        (said_by words.entry)) }
+        (said_with (plan_job trace.now) options.entry)) }
 {
-    let input = read_input(alloc, words.first, words.weights, words.unit, shelf)?;
+    let input = read_input(alloc, trace, options.weights, options.unit, shelf)?;
     let text = report_text(alloc, &input)?;
     Ok(Outcome {
         text,
@@ -121,13 +123,13 @@ fn served(alloc: Global, table: &Table, places: &[Place]) -> Result<Schedule, No
 
 /// What the certificate of an order proves.
 #[derive(Drop)]
-struct Values {
-    bound: u128,
-    slack: u128,
+pub(crate) struct Values {
+    pub(crate) bound: u128,
+    pub(crate) slack: u128,
 }
 
 /// The bound and the slack of the certificate of the places.
-fn values_of(
+pub(crate) fn values_of(
     alloc: Global,
     table: &Table,
     weights: &[u64],

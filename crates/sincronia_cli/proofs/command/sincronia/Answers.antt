@@ -1,11 +1,17 @@
-use Rattle.std.proofs.Common.{ap, Err}
+use Rattle.std.proofs.Common.{◌≡◌, ap, refl, Err}
+use Rattle.std.proofs.lemmas.List.Elements.{All-nil}
+use Rattle.std.specs.Prelude.{map}
+use Rattle.command_words.specs.Jobs.Job.{compare_job}
 use Rattle.command_words.specs.Line.{texts}
-use Rattle.command_words.specs.Words.{said_by}
+use Rattle.command_words.specs.Words.{Said, said_by}
+use Rattle.sincronia_cli.specs.declared.status.Status.TheVariants.{WriteFault}
+use Rattle.sincronia_cli.proofs.BenchFacts.{cause_has_no_text, job_of, outcome_has_text}
 use Rattle.sincronia_cli.proofs.CompleteFacts.{good_files_end}
 use Rattle.sincronia_cli.proofs.FirstFacts.{first_ends, text_ends}
 use Rattle.sincronia_cli.proofs.OutcomeFacts.{bad_report_checked}
-use Rattle.sincronia_cli.proofs.TurnFacts.{text_in_turn, turn_for}
-use Rattle.sincronia_cli.proofs.WrittenFacts.{made_written, plan_written, yes_written}
+use Rattle.sincronia_cli.proofs.PlanFacts.{begun}
+use Rattle.sincronia_cli.proofs.TurnFacts.{done_by, out_for, text_in_turn, turn_for}
+use Rattle.sincronia_cli.proofs.WrittenFacts.{classes_written, comparison_written, made_written, no_written, plan_written, yes_written}
 use Rattle.sincronia_cli.proofs.command.sincronia.Goals as goal
 
 pub returns-in-Err-Usage-clause-usage : goal.returns-in-Err-Usage-clause-usage
@@ -15,24 +21,27 @@ pub returns-in-Err-clause-bad_report : goal.returns-in-Err-clause-bad_report
 returns-in-Err-clause-bad_report g c = λ line e.
     let checked = bad_report_checked (texts c.args.words.now) (said_by c.in-Ok.words) (g.H.Shelf.faults c.args.shelf.now) (g.H.Shelf.faults c.carry_out.new.shelf)
     (g.H.Shelf.told c.args.shelf.now) (g.H.Shelf.told c.carry_out.new.shelf) line c.in-Err.status c.in-Ok.ensures.said c.in-Err.ensures.cause e in
-    (said_by c.in-Ok.words, checked.0, checked.1)
+    (said_by c.in-Ok.words, checked.0, checked.1, checked.2, checked.3)
 
 pub returns-clause-plan : goal.returns-clause-plan
-returns-clause-plan g c = λ said is e.
-    plan_written _ (texts c.args.words.now) (said_by c.in-Ok.words) said (g.H.Shelf.told c.args.shelf.now) c.in-Ok-carry_out.outcome.status c.in-Ok-carry_out.outcome.text.items
-    c.deref.result.now (g.K.Sink.taken c.args.out.now) (g.K.Sink.taken c.write_all.new.sink) c.in-Ok-write_all.field-0
+returns-clause-plan g c = λ said trace is e.
+    plan_written _ (texts c.args.words.now) (said_by c.in-Ok.words) said (g.H.Shelf.told c.args.shelf.now)
+    (map (λ b. (goal.Ranker-dyn g (b.vtable, b.value)).meaning b.value) c.args.bench.now.items) c.in-Ok-carry_out.outcome.status c.in-Ok-carry_out.outcome.text.items
+    c.deref.result.now (g.K.Sink.taken c.args.out.now) (g.K.Sink.taken c.write_all.new.sink) c.in-Ok-write_all.field-0 trace
     c.in-Ok.ensures.said is c.in-Ok-carry_out.ensures.outcome c.deref.ensures.value c.in-Ok-write_all.ensures.taken
 
 pub returns-clause-yes : goal.returns-clause-yes
-returns-clause-yes g c = λ said is e.
-    yes_written _ (texts c.args.words.now) (said_by c.in-Ok.words) said (g.H.Shelf.told c.args.shelf.now) c.in-Ok-carry_out.outcome.status c.in-Ok-carry_out.outcome.text.items
-    c.deref.result.now (g.K.Sink.taken c.args.out.now) (g.K.Sink.taken c.write_all.new.sink) c.in-Ok-write_all.field-0
+returns-clause-yes g c = λ said trace report is e.
+    yes_written _ (texts c.args.words.now) (said_by c.in-Ok.words) said (g.H.Shelf.told c.args.shelf.now)
+    (map (λ b. (goal.Ranker-dyn g (b.vtable, b.value)).meaning b.value) c.args.bench.now.items) c.in-Ok-carry_out.outcome.status c.in-Ok-carry_out.outcome.text.items
+    c.deref.result.now (g.K.Sink.taken c.args.out.now) (g.K.Sink.taken c.write_all.new.sink) c.in-Ok-write_all.field-0 trace report
     c.in-Ok.ensures.said is c.in-Ok-carry_out.ensures.outcome e c.deref.ensures.value c.in-Ok-write_all.ensures.taken
 
 pub returns-clause-make : goal.returns-clause-make
-returns-clause-make g c = λ said is e.
-    made_written _ (texts c.args.words.now) (said_by c.in-Ok.words) said (g.H.Shelf.told c.args.shelf.now) c.in-Ok-carry_out.outcome.status c.in-Ok-carry_out.outcome.text.items
-    c.deref.result.now (g.K.Sink.taken c.args.out.now) (g.K.Sink.taken c.write_all.new.sink) c.in-Ok-write_all.field-0
+returns-clause-make g c = λ said seed is e.
+    made_written _ (texts c.args.words.now) (said_by c.in-Ok.words) said (g.H.Shelf.told c.args.shelf.now)
+    (map (λ b. (goal.Ranker-dyn g (b.vtable, b.value)).meaning b.value) c.args.bench.now.items) c.in-Ok-carry_out.outcome.status c.in-Ok-carry_out.outcome.text.items
+    c.deref.result.now (g.K.Sink.taken c.args.out.now) (g.K.Sink.taken c.write_all.new.sink) c.in-Ok-write_all.field-0 seed
     c.in-Ok.ensures.said is c.in-Ok-carry_out.ensures.outcome c.deref.ensures.value c.in-Ok-write_all.ensures.taken
 
 pub returns-in-Err-Usage-clause-complete : goal.returns-in-Err-Usage-clause-complete
@@ -54,7 +63,8 @@ returns-in-Err-clause-first g c = λ said cause is x.
 pub returns-clause-first : goal.returns-clause-first
 returns-clause-first g c = λ said cause is x.
     let outcome = c.in-Ok-carry_out.outcome in
-    text_ends (texts c.args.words.now) (said_by c.in-Ok.words) said (g.H.Shelf.told c.args.shelf.now) outcome.status cause outcome.text.items
+    text_ends (texts c.args.words.now) (said_by c.in-Ok.words) said (g.H.Shelf.told c.args.shelf.now)
+    (map (λ b. (goal.Ranker-dyn g (b.vtable, b.value)).meaning b.value) c.args.bench.now.items) outcome.status cause outcome.text.items
     c.in-Ok.ensures.said is c.in-Ok-carry_out.ensures.good c.in-Ok-carry_out.ensures.outcome x
 
 pub returns-in-Err-clause-in_turn : goal.returns-in-Err-clause-in_turn
@@ -69,4 +79,110 @@ returns-clause-in_turn g c = λ said is.
     let outcome = c.in-Ok-carry_out.outcome in
     let ensures = c.in-Ok-carry_out.ensures in
     turn_for (texts c.args.words.now) (said_by c.in-Ok.words) said old new outcome.status c.in-Ok.ensures.said is
-    (text_in_turn old new (said_by c.in-Ok.words) outcome.status outcome.text.items ensures.outcome ensures.good ensures.read_out (λ e. (ensures.untouched e).0))
+    (text_in_turn old new (said_by c.in-Ok.words) outcome.status
+    (map (λ b. (goal.Ranker-dyn g (b.vtable, b.value)).meaning b.value) c.args.bench.now.items)
+    outcome.text.items ensures.outcome ensures.good ensures.read_out (λ seed e. (ensures.untouched seed e).0))
+
+pub returns-clause-no : goal.returns-clause-no
+returns-clause-no g c = λ e.
+    no_written _ (texts c.args.words.now) (said_by c.in-Ok.words) (said_by c.in-Ok.words) (g.H.Shelf.told c.args.shelf.now)
+    (map (λ b. (goal.Ranker-dyn g (b.vtable, b.value)).meaning b.value) c.args.bench.now.items) c.in-Ok-carry_out.outcome.status
+    c.in-Ok-carry_out.outcome.text.items
+    c.deref.result.now (g.K.Sink.taken c.args.out.now) (g.K.Sink.taken c.write_all.new.sink) c.in-Ok-write_all.field-0
+    c.in-Ok.ensures.said c.in-Ok-carry_out.ensures.outcome e c.deref.ensures.value c.in-Ok-write_all.ensures.taken
+
+pub returns-clause-read_out : goal.returns-clause-read_out
+returns-clause-read_out g c = λ said is text.
+    out_for (texts c.args.words.now) (said_by c.in-Ok.words) said (g.H.Shelf.told c.args.shelf.now) (g.H.Shelf.told c.carry_out.new.shelf) c.in-Ok.ensures.said is
+    c.in-Ok-carry_out.ensures.read_out
+
+pub returns-in_default-clause-read_out : goal.returns-in_default-clause-read_out
+returns-in_default-clause-read_out g c = λ said is text.
+    out_for (texts c.args.words.now) (said_by c.in-Ok.words) said (g.H.Shelf.told c.args.shelf.now) (g.H.Shelf.told c.carry_out.new.shelf) c.in-Ok.ensures.said is
+    c.in-Ok-carry_out.ensures.read_out
+
+pub returns-in_default-clause-in_turn : goal.returns-in_default-clause-in_turn
+returns-in_default-clause-in_turn g c = λ said is.
+    let old = g.H.Shelf.told c.args.shelf.now in
+    let new = g.H.Shelf.told c.carry_out.new.shelf in
+    let by : Said = said_by c.in-Ok.words in
+    let ensures = c.in-Ok-carry_out.ensures in
+    turn_for (texts c.args.words.now) by said old new (WriteFault 1) c.in-Ok.ensures.said is
+    (done_by old new by (WriteFault 1) by.job (λ read. read) ensures.good ensures.read_out (λ seed e. (ensures.untouched seed e).0))
+
+pub returns-in_default-clause-beginning : goal.returns-in_default-clause-beginning
+returns-in_default-clause-beginning g c = λ count e. (
+  said_by c.in-Ok.words,
+  c.in-Ok.ensures.said,
+  record {
+    text = c.in-Ok-carry_out.outcome.text.items;
+    status = c.in-Ok-carry_out.outcome.status;
+    outcome = c.in-Ok-carry_out.ensures.outcome;
+    written = begun _ (g.K.Sink.taken c.args.out.now) (g.K.Sink.taken c.write_all.new.sink) c.in-Ok-carry_out.outcome.text.items c.deref.result.now _
+        c.deref.ensures.value c.in_default.ensures.taken;
+  },
+)
+
+pub returns-clause-compare : goal.returns-clause-compare
+returns-clause-compare g c = λ said trace is e.
+    comparison_written _ (texts c.args.words.now) (said_by c.in-Ok.words) said (g.H.Shelf.told c.args.shelf.now)
+    (map (λ b. (goal.Ranker-dyn g (b.vtable, b.value)).meaning b.value) c.args.bench.now.items) c.in-Ok-carry_out.outcome.status c.in-Ok-carry_out.outcome.text.items
+    c.deref.result.now (g.K.Sink.taken c.args.out.now) (g.K.Sink.taken c.write_all.new.sink) c.in-Ok-write_all.field-0 trace
+    c.in-Ok.ensures.said is c.in-Ok-carry_out.ensures.outcome c.deref.ensures.value c.in-Ok-write_all.ensures.taken
+
+pub returns-clause-classes : goal.returns-clause-classes
+returns-clause-classes g c = λ said trace is e.
+    classes_written _ (texts c.args.words.now) (said_by c.in-Ok.words) said (g.H.Shelf.told c.args.shelf.now)
+    (map (λ b. (goal.Ranker-dyn g (b.vtable, b.value)).meaning b.value) c.args.bench.now.items) c.in-Ok-carry_out.outcome.status c.in-Ok-carry_out.outcome.text.items
+    c.deref.result.now (g.K.Sink.taken c.args.out.now) (g.K.Sink.taken c.write_all.new.sink) c.in-Ok-write_all.field-0 trace
+    c.in-Ok.ensures.said is c.in-Ok-carry_out.ensures.outcome c.deref.ensures.value c.in-Ok-write_all.ensures.taken
+
+pub returns-in-Err-clause-empty : goal.returns-in-Err-clause-empty
+returns-in-Err-clause-empty g c = λ said trace is text.
+    absurd (cause_has_no_text (g.H.Shelf.faults c.args.shelf.now) (g.H.Shelf.faults c.carry_out.new.shelf) (g.H.Shelf.told c.args.shelf.now)
+    (g.H.Shelf.told c.carry_out.new.shelf) (said_by c.in-Ok.words) c.in-Err.status c.in-Err.ensures.cause text)
+
+pub returns-in_default-clause-empty : goal.returns-in_default-clause-empty
+returns-in_default-clause-empty g c = λ said trace is text.
+    c.in-Ok-carry_out.ensures.empty trace (job_of (texts c.args.words.now) (said_by c.in-Ok.words) said (compare_job trace) c.in-Ok.ensures.said is)
+
+pub returns-clause-empty : goal.returns-clause-empty
+returns-clause-empty g c = λ said trace is text.
+    c.in-Ok-carry_out.ensures.empty trace (job_of (texts c.args.words.now) (said_by c.in-Ok.words) said (compare_job trace) c.in-Ok.ensures.said is)
+
+pub returns-in-Err-Usage-clause-left : goal.returns-in-Err-Usage-clause-left
+returns-in-Err-Usage-clause-left g c = (0, refl, All-nil _)
+
+pub returns-in-Err-NoMemory-clause-left : goal.returns-in-Err-NoMemory-clause-left
+returns-in-Err-NoMemory-clause-left g c = (0, refl, All-nil _)
+
+pub returns-in-Err-clause-left : goal.returns-in-Err-clause-left
+returns-in-Err-clause-left g c = c.carry_out.ensures.left
+
+pub returns-in_default-clause-left : goal.returns-in_default-clause-left
+returns-in_default-clause-left g c = c.carry_out.ensures.left
+
+pub returns-clause-left : goal.returns-clause-left
+returns-clause-left g c = c.carry_out.ensures.left
+
+pub returns-in_default-clause-same_bench : goal.returns-in_default-clause-same_bench
+returns-in_default-clause-same_bench g c = λ none other. absurd (none tt)
+
+pub returns-clause-same_bench : goal.returns-clause-same_bench
+returns-clause-same_bench g c = λ none other.
+    absurd {A = c.carry_out.new.bench.items ≡ c.args.bench.now.items}
+    (none (outcome_has_text (g.H.Shelf.told c.args.shelf.now) (said_by c.in-Ok.words)
+    (map (λ b. (goal.Ranker-dyn g (b.vtable, b.value)).meaning b.value) c.args.bench.now.items)
+    c.in-Ok-carry_out.outcome.status c.in-Ok-carry_out.outcome.text.items c.in-Ok-carry_out.ensures.outcome))
+
+pub returns-in-Err-clause-others_bench : goal.returns-in-Err-clause-others_bench
+returns-in-Err-clause-others_bench g c = λ no.
+    c.carry_out.ensures.others_bench (λ trace e. no (said_by c.in-Ok.words) trace (record { words_say = c.in-Ok.ensures.said; job_is = e }))
+
+pub returns-in_default-clause-others_bench : goal.returns-in_default-clause-others_bench
+returns-in_default-clause-others_bench g c = λ no.
+    c.carry_out.ensures.others_bench (λ trace e. no (said_by c.in-Ok.words) trace (record { words_say = c.in-Ok.ensures.said; job_is = e }))
+
+pub returns-clause-others_bench : goal.returns-clause-others_bench
+returns-clause-others_bench g c = λ no.
+    c.carry_out.ensures.others_bench (λ trace e. no (said_by c.in-Ok.words) trace (record { words_say = c.in-Ok.ensures.said; job_is = e }))

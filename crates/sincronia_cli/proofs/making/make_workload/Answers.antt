@@ -1,7 +1,5 @@
-use Rattle.std.proofs.Common.{ℕ, ◌≡◌, ◌∙◌, List, ap, refl}
-use Rattle.text_fields.specs.Numbers.{capped, number}
-use Rattle.command_words.specs.Words.{said_by}
-use Rattle.sincronia_cli.proofs.MadePlan.{made_of, read_is_planned, read_is_sound, seed_is}
+use Rattle.std.proofs.Common.{◌∙◌, refl}
+use Rattle.sincronia_cli.proofs.MadePlan.{made_of, read_is_planned, read_is_sound}
 use Rattle.sincronia_cli.proofs.PlanLengths.{few_units_short}
 use Rattle.sincronia_cli.proofs.making.make_workload.Goals as goal
 
@@ -22,14 +20,12 @@ summary-requires-clause-sound c =
     c.in_ok-text.ensures.text c.deref.ensures.value c.in_ok-report.ensures)
 
 pub returns-clause-outcome : goal.returns-clause-outcome
-returns-clause-outcome c =
-    let seed : c.in-Some.seed ≡ number c.args.words.first.now =
-    seed_is c.in-Some.seed (number c.args.words.first.now) (c.in-Some.ensures.1 ∙ ap (λ (xs : List ℕ). capped (number xs)) c.as_bytes.ensures.value) c.requires.small in (
-      refl,
-      made_of c.in_ok-input.input.table c.in_ok-input.input.weights c.as_slice.result.now c.in_ok-planned.planned c.in_ok-report.report (said_by c.args.words) c.in-Some.seed
-          c.in_ok-text-2.text.items
-          c.in_ok-input.ensures.table c.in_ok-input.ensures.ids c.in_ok-input.ensures.count c.in_ok-input.ensures.least c.as_slice.ensures c.in_ok-planned.ensures.plan
-          (read_is_planned c.in_ok-planned.planned c.in_ok-report.report c.in_ok-text.text.items c.deref.result.now c.in_ok-planned.ensures.report c.in_ok-planned.ensures.small
-          c.in_ok-text.ensures.text c.deref.ensures.value c.in_ok-report.ensures)
-          seed c.in_ok-input.ensures.gives c.in_ok-text-2.ensures,
-    )
+returns-clause-outcome c = (
+  refl,
+  made_of c.in_ok-input.input.table c.in_ok-input.input.weights c.as_slice.result.now c.in_ok-planned.planned c.in_ok-report.report c.args.seed c.args.unit
+      c.in_ok-text-2.text.items
+      c.in_ok-input.ensures.table c.in_ok-input.ensures.ids c.in_ok-input.ensures.count c.in_ok-input.ensures.least c.as_slice.ensures c.in_ok-planned.ensures.plan
+      (read_is_planned c.in_ok-planned.planned c.in_ok-report.report c.in_ok-text.text.items c.deref.result.now c.in_ok-planned.ensures.report c.in_ok-planned.ensures.small
+      c.in_ok-text.ensures.text c.deref.ensures.value c.in_ok-report.ensures)
+      c.in_ok-input.ensures.gives c.in_ok-text-2.ensures,
+)

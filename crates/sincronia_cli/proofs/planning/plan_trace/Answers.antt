@@ -1,4 +1,5 @@
-use Rattle.command_words.specs.Words.{said_by}
+use Rattle.command_words.specs.Jobs.Job.{plan_job}
+use Rattle.command_words.specs.Words.{said_with}
 use Rattle.sincronia_cli.proofs.CheckFacts.{from_input}
 use Rattle.sincronia_cli.proofs.ShelfFacts.{passed_on}
 use Rattle.sincronia_cli.proofs.planning.plan_trace.Goals as goal
@@ -7,4 +8,4 @@ pub returns-in_err-input-clause-cause : goal.returns-in_err-input-clause-cause
 returns-in_err-input-clause-cause g c =
     passed_on c.from_residual.result c.in_err-input.field-0.0 _ c.from_residual.ensures.1
     (from_input (g.H.Shelf.faults c.args.shelf.now) (g.H.Shelf.faults c.read_input.new.shelf) (g.H.Shelf.told c.args.shelf.now) (g.H.Shelf.told c.read_input.new.shelf)
-    (said_by c.args.words) c.in_err-input.field-0.0 c.in_err-input.ensures.cause)
+    (said_with (plan_job c.args.trace.now) c.args.options) c.in_err-input.field-0.0 c.in_err-input.ensures.cause)

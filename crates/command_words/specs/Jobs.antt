@@ -1,0 +1,90 @@
+-- The jobs: each command with what it takes.
+use Rattle.std.specs.Prelude.{◌≡◌, ◌&&◌, ◌^◌, ℕ, Bool, true, Option, Some, None, codes, if◌then◌else◌, length, nat_lt, not}
+use Rattle.std.specs.Prelude.{[], option_map}
+use Rattle.std.specs.Str.{bytes_eq}
+use Rattle.text_fields.specs.Numbers.{is_number, number}
+use Rattle.command_words.specs.Line.{Text}
+use Rattle.command_words.specs.declared.job.Job.{Job as JobWords}
+use Rattle.command_words.specs.declared.job.Job.TheVariants.{Check, Classes, Compare, Make, Plan}
+
+-- What the program is asked to do: a command, with the names of files or the number behind it.
+pub data Job : Type 0 where
+  -- the name of a trace
+  plan_job : Text → Job
+  -- the names of a trace and of a report
+  check_job : Text → Text → Job
+  -- the number that a made trace begins with
+  make_job : ℕ → Job
+  -- the name of a trace
+  compare_job : Text → Job
+  -- the name of a trace
+  classes_job : Text → Job
+
+-- the job of words that were read
+abbrev pub job_by : JobWords → Job
+job_by (Plan trace) = plan_job trace.now
+job_by (Check trace report) = check_job trace.now report.now
+job_by (Make seed) = make_job seed
+job_by (Compare trace) = compare_job trace.now
+job_by (Classes trace) = classes_job trace.now
+
+-- The name of a file is not empty and is not `-`.
+abbrev pub is_file_name : Text → Bool
+is_file_name name = nat_lt 0 (length name) && not (bytes_eq name (codes "-"))
+
+abbrev pub IsFileName : Text → Type 0
+IsFileName name = is_file_name name ≡ true
+
+-- a text as the name of a file
+abbrev pub file_of : Text → Option Text
+file_of text = if is_file_name text then Some text else None
+
+-- a text as a number below 2^64, in decimal digits
+abbrev pub seed_of : Text → Option ℕ
+seed_of text = if is_number text && nat_lt (number text) (2 ^ 64) then Some (number text) else None
+
+-- SECOND as the name of a file
+abbrev pub file_in : Option Text → Option Text
+file_in None = None
+file_in (Some text) = file_of text
+
+-- what FIRST gives where there is no SECOND
+abbrev pub alone : {X : Type 0} → Option X → Option Text → Option X
+alone given None = given
+alone given (Some second) = None
+
+-- the check of a trace and a report, where both are given
+abbrev pub check_if : Option Text → Option Text → Option Job
+check_if (Some trace) (Some report) = Some (check_job trace report)
+check_if _ _ = None
+
+-- The job of a command's name, FIRST and SECOND: the table of commands. There is none where the name is no command's, or
+-- where the command does not take what stands behind it.
+abbrev pub job_of : Text → Text → Option Text → Option Job
+job_of name first second = if bytes_eq name (codes "plan") then option_map plan_job (alone (file_of first) second)
+    else (if bytes_eq name (codes "check") then check_if (file_of first) (file_in second)
+    else (if bytes_eq name (codes "make") then option_map make_job (alone (seed_of first) second)
+    else (if bytes_eq name (codes "compare") then option_map compare_job (alone (file_of first) second)
+    else (if bytes_eq name (codes "classes") then option_map classes_job (alone (file_of first) second)
+    else None))))
+
+-- the job of the names by their places, where COMMAND and FIRST stand
+abbrev pub job_in : Option Text → Option Text → Option Text → Option Job
+job_in (Some name) (Some first) second = job_of name first second
+job_in _ _ second = None
+
+-- the name of the trace that a job reads, and no name where it reads no file
+abbrev pub trace_name : Job → Text
+trace_name (plan_job trace) = trace
+trace_name (check_job trace report) = trace
+trace_name (make_job seed) = []
+trace_name (compare_job trace) = trace
+trace_name (classes_job trace) = trace
+
+-- the name of the report that a job reads, if it reads one
+abbrev pub report_name : Job → Option Text
+report_name (plan_job trace) = None
+report_name (check_job trace report) = Some report
+report_name (make_job seed) = None
+report_name (compare_job trace) = None
+report_name (classes_job trace) = None
