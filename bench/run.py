@@ -2,14 +2,22 @@
 """Times the built program on traces that `bench/traces.py` makes. It is a benchmark and no test.
 
 Use: bench/run.py [--peer 'PROGRAM WORD ..'] [SHAPE ..]
+     bench/run.py picture      draws windows of 1000 slots of a large plan alone; the exit code is 1 where one takes more than its bound
+     bench/run.py compare      times a comparison alone, beside the serving of one plan
 
 First, on each shape of load, the commands `plan` and `check`, output to /dev/null: seconds of the processor, the least of three runs, and the peak of memory. `--peer` names another program
 with the same commands, words behind it included; it runs in turn with ours, and the ratios to it are printed beside. Shapes on the command line are the only ones that run.
-Then, with no shape named, the limits of the text and of the table, and the benchmarks of parts of the program, one run each.
+At the end the figures stand as one table in Markdown, with the date, the machine and how busy it was, and beside it how `plan` grows with the units and with the coflows.
+Then, with no shape named, the limits of the text and of the table, the benchmarks of parts of the program, one run each, the windows of a large plan, and `compare` beside the serving of one plan, which `perf` tells
+apart where it is there.
 """
+import datetime
 import os
+import platform
+import re
 import resource
 import shlex
+import shutil
 import subprocess
 import sys
 import tempfile
@@ -20,22 +28,33 @@ import traces  # noqa: E402
 
 TOP = os.path.dirname(os.path.dirname(os.path.abspath(__file__)))
 PROGRAM = os.path.join(TOP, "crates", "sincronia", "out", "sincronia")
+PICTURE = os.path.join(TOP, "crates", "sincronia_picture", "out", "sincronia_picture")
 ORDER = os.path.join(TOP, "crates", "order_bench", "out", "order_bench")
 MASTER = os.path.join(TOP, "crates", "master_bench", "out", "master_bench")
 
 RUNS = 3
+
+# What `perf` calls the functions that serve the order of a plan. The loop over the runs stands within that of the plan, and so does the order, which takes a millisecond at most.
+SERVING = re.compile(r"matching::|slot_switch::|sincronia_cli::planning::plan\b")
 
 # shape: trace, words behind the files
 SHAPES = {
     "fb": (traces.hour, ["--unit", "1"]),
     "fb-16": (traces.hour, ["--unit", "16"]),
     "fb-scale-2": (lambda: traces.hour(2), ["--unit", "1"]),
+    "fb-half": (lambda: traces.hour(1, 263), ["--unit", "1"]),
     "wide": (traces.wide, []),
     "narrow": (traces.narrow, []),
     "deep": (lambda: traces.deep(1, 0), []),
     "deep-8-8": (lambda: traces.deep(8, 8), []),
     "staircase": (traces.staircase, []),
 }
+
+# what grows, the greater shape, the lesser one
+GROWTH = [
+    ("twice the units", "fb-scale-2", "fb"),
+    ("twice the coflows", "fb", "fb-half"),
+]
 
 # name, trace, words behind `plan t`, seconds that the run is to take at most
 LIMITS = [
@@ -54,6 +73,14 @@ PARTS = [
     ("loads and order, 4096 coflows over 1024 ports", ORDER, ["4096", "1024", "1"], 2),
     ("master, the shape of the public trace, unit 16", MASTER, ["t", "16"], 15),
 ]
+
+# windows of the plan of the trace of the shape of the public one, units of 1 MB: words behind `t r`
+WINDOWS = [
+    ["--from", "1", "--to", "1000"],
+    ["--from", "50001", "--to", "51000", "--side", "in"],
+    ["--from", "50001", "--to", "51000", "--side", "out"],
+]
+WINDOW_BOUND = 2  # seconds
 
 
 def put(folder, name, make):
@@ -90,7 +117,7 @@ def measured(command, folder):
 
 
 def phase(command, words, peer, folder):
-    """One line for a command: our least seconds and the peak of memory, and the ratios to the peer's."""
+    """One line for a command: our least seconds and the peak of memory, and the ratios to the peer's. Gives the seconds and the two ratios, which are None without a peer."""
     ours, theirs = [], []
     for _ in range(RUNS):
         ours.append(measured([PROGRAM, command, *words], folder))
@@ -98,20 +125,40 @@ def phase(command, words, peer, folder):
             theirs.append(measured([*peer, command, *words], folder))
     seconds, memory, code = min(ours)
     line = "  %-6s %8.3f s  %5d MiB  code %d" % (command, seconds, memory, code)
+    ratio, memory_ratio = None, None
     if peer:
         other, held, answer = min(theirs)
-        line += "   peer %8.3f s  %5d MiB  code %d   ratios %.2f, memory %.2f" % (other, held, answer, seconds / other, memory / held)
+        ratio, memory_ratio = seconds / other, memory / held
+        line += "   peer %8.3f s  %5d MiB  code %d   ratios %.2f, memory %.2f" % (other, held, answer, ratio, memory_ratio)
     print(line, flush=True)
+    return seconds, ratio, memory_ratio
 
 
 def shapes(names, peer, folder):
+    rows = {}
     for name in names:
         make, options = SHAPES[name]
         print(name, flush=True)
         put(folder, "t", make)
-        phase("plan", ["t", *options], peer, folder)
+        plan = phase("plan", ["t", *options], peer, folder)
         planned(folder, options)
-        phase("check", ["t", "r", *options], peer, folder)
+        rows[name] = (plan, phase("check", ["t", "r", *options], peer, folder))
+    table(rows)
+
+
+def cell(figure):
+    return "" if figure is None else "%.2f" % figure
+
+
+def table(rows):
+    """All figures once more, as one table, and how `plan` grows."""
+    print("\n%s, %s, %d processors, load %.1f" % (datetime.date.today(), platform.machine(), os.cpu_count(), os.getloadavg()[0]))
+    print("| trace | `plan` | ratio | memory, ratio | `check` | ratio | memory, ratio |\n|---|---|---|---|---|---|---|")
+    for name, phases in rows.items():
+        print("| `%s` | %s |" % (name, " | ".join("%.3f s | %s | %s" % (seconds, cell(ratio), cell(memory)) for seconds, ratio, memory in phases)))
+    for grown, greater, lesser in GROWTH:
+        if greater in rows and lesser in rows:
+            print("%s: `plan` takes %.2f times as long" % (grown, rows[greater][0][0] / rows[lesser][0][0]))
 
 
 def part(name, command, bound, folder):
@@ -136,6 +183,48 @@ def limits_and_parts(folder):
     part("check, a report of 2^20 runs", [PROGRAM, "check", "t", "r"], 5, folder)
 
 
+def windows(folder):
+    """Draws each window, and tells the least seconds of three runs. Answers how many took more than the bound or were not drawn."""
+    put(folder, "t", traces.hour)
+    planned(folder, ["--unit", "1"])
+    print("windows of 1000 slots, units of 1 MB, a report of %d MB" % (os.path.getsize(os.path.join(folder, "r")) // 10**6), flush=True)
+    over = 0
+    for words in WINDOWS:
+        seconds, memory, code = min(measured([PICTURE, "t", "r", "--unit", "1", *words], folder) for _ in range(RUNS))
+        print("  %-40s %8.2f s  %5d MiB  code %d  (bound %d s)" % (" ".join(words), seconds, memory, code, WINDOW_BOUND), flush=True)
+        over += code != 0 or seconds >= WINDOW_BOUND
+    return over
+
+
+def serving_share(words, folder):
+    """Which part of the time of `plan` goes into serving its order. None where `perf` does not tell."""
+    if shutil.which("perf") is None:
+        return None
+    record = ["perf", "record", "-q", "-F", "1999", "-o", "perf.data", PROGRAM, *words]
+    subprocess.run(record, cwd=folder, stdout=subprocess.DEVNULL, stderr=subprocess.DEVNULL, check=False)
+    report = ["perf", "report", "-i", "perf.data", "--stdio", "-q", "--no-children", "--sort", "symbol"]
+    lines = subprocess.run(report, cwd=folder, stdout=subprocess.PIPE, stderr=subprocess.DEVNULL, check=False, text=True).stdout.splitlines()
+    shares = [(float(share), symbol) for share, symbol in re.findall(r"^ *([0-9.]+)% +(\S.*)$", "\n".join(lines), re.M)]
+    served = sum(share for share, symbol in shares if SERVING.search(symbol))
+    return served / 100 if served else None
+
+
+def comparison(folder):
+    """The seconds of `compare`, which serves eight orders, and how many times those of serving the order of one plan they are."""
+    put(folder, "t", traces.hour)
+    words = ["t", "--unit", "16"]
+    plan = min(measured([PROGRAM, "plan", *words], folder)[0] for _ in range(RUNS))
+    whole, memory, code = min(measured([PROGRAM, "compare", *words], folder) for _ in range(RUNS))
+    if code != 0:
+        print("compare: code %d" % code, flush=True)
+        return
+    line = "compare, the shape of the public trace, --unit 16  %8.2f s  %5d MiB  code %d  %.1f times plan" % (whole, memory, code, whole / plan)
+    share = serving_share(["plan", *words], folder)
+    if share:
+        line += ", %.1f times its serving, which is %.0f %% of it (bound 9)" % (whole / (plan * share), 100 * share)
+    print(line, flush=True)
+
+
 def build(program):
     """Proves and builds a program anew, so that none of an earlier tree is timed."""
     if os.path.exists(program):
@@ -153,15 +242,22 @@ def main():
         if len(words) < 2:
             sys.exit(__doc__)
         peer, words = shlex.split(words[1]), words[2:]
-    if any(name not in SHAPES for name in words):
+    alone = words[0] if words in (["picture"], ["compare"]) else None
+    if not alone and any(name not in SHAPES for name in words):
         sys.exit("bench: the shapes are %s" % " ".join(SHAPES))
     build(PROGRAM)
     with tempfile.TemporaryDirectory() as folder:
-        shapes(words or SHAPES, peer, folder)
+        if not alone:
+            shapes(words or SHAPES, peer, folder)
         if not words:
             build(ORDER)
             build(MASTER)
             limits_and_parts(folder)
+        if alone == "compare" or not words:
+            comparison(folder)
+        if alone == "picture" or not words:
+            build(PICTURE)
+            sys.exit(1 if windows(folder) else 0)
 
 
 if __name__ == "__main__":

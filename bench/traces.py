@@ -57,15 +57,16 @@ def many_locations():
 # Shapes of load
 
 
-def hour(scale=1):
-    """A trace of the shape of the public one-hour trace: 150 ports and 526 coflows, most of them short or narrow, and nearly all bytes in the long and wide ones. Sizes are multiplied by the scale."""
+def hour(scale=1, count=526):
+    """A trace of the shape of the public one-hour trace: 150 ports and 526 coflows, most of them short or narrow, and nearly all bytes in the long and wide ones. Sizes are multiplied by the scale.
+    With a lesser count it has the first ones of these coflows."""
     r = random.Random(1)
 
     def between(low, high):
         return low * (high / low) ** r.random()
 
     coflows = []
-    for _ in range(526):
+    for _ in range(count):
         kind = r.random()
         if kind < 0.52:
             m, n, size = between(1, 8), between(1, 7), between(0.05, 4.9)

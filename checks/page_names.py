@@ -1,6 +1,6 @@
 #!/usr/bin/env python3
-"""Looks up each name that the pages cite: calls and clauses of docs/PROVED.md, edits of docs/PLANTED.md, functions of files, and the files that the pages link to. It also looks whether
-docs/PROVED.md has a section for each crate, and docs/ARCHITECTURE.md a row.
+"""Looks up each name that the pages cite: calls and clauses of docs/PROVED.md, calls, clauses and definitions of docs/HALL.md, edits of docs/PLANTED.md, functions of files, and the files that
+the pages link to. It also looks whether docs/PROVED.md has a section for each crate, and docs/ARCHITECTURE.md a row.
 
 Use: checks/page_names.py            The last line is 'N passed, M failed'; the exit code is 0 where none failed.
 
@@ -62,6 +62,35 @@ def proved_names():
                 yield f"docs/PROVED.md: {crate}: {name}", well
 
 
+def definitions_of(crate):
+    """The text of the crate's definitions."""
+    folder = os.path.join("crates", crate, "specs")
+    return "\n".join(read(folder, name) for name in sorted(os.listdir(os.path.join(TOP, folder))) if name.endswith(".antt"))
+
+
+def is_defined(name, text):
+    """Whether a definition stands in the text, with its field where one is named."""
+    name, _, field = name.partition(".")
+    record = re.search(rf"^\s*pub record {name}\b.*?(?=^\S)", text + "\n.", re.M | re.S)
+    if field:
+        return record is not None and re.search(rf"^\s*pub {field} :", record.group(0), re.M) is not None
+    return record is not None or re.search(rf"^\s*abbrev pub {name} :", text, re.M) is not None
+
+
+def hall_names():
+    """Each name in the last cells of docs/HALL.md, and whether it is there."""
+    crates = "turnstile", "rank_board", "client_session"
+    calls, text = {}, "\n".join(map(definitions_of, crates))
+    for crate in crates:
+        for call, clauses in clauses_of(crate).items():
+            calls.setdefault(call, set()).update(clauses)
+    for line in read("docs", "HALL.md").split("## What a hall promises on turns")[1].split("\n"):
+        before = None
+        for name in re.findall(r"`([^`]+)`", line.split(" | ")[-1]) if line.startswith("| ") else []:
+            well, before = is_there(name, before, calls) if "::" in name or name in calls.get(before, ()) else (is_defined(name, text), before)
+            yield f"docs/HALL.md: {name}", well
+
+
 def planted_names():
     """Each edit that docs/PLANTED.md cites, and whether it is there. An edit of another crate is cited with the name of the crate."""
     crate = None
@@ -103,7 +132,7 @@ def crates_told():
 
 
 def main():
-    results = [*proved_names(), *planted_names(), *file_names(), *linked_files(), *crates_told()]
+    results = [*proved_names(), *hall_names(), *planted_names(), *file_names(), *linked_files(), *crates_told()]
     for name, well in results:
         if not well:
             print(f"not there: {name}")

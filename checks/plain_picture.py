@@ -4,8 +4,9 @@
 Use: checks/plain_picture.py [REPORTS]     The last line is 'N passed, M failed'; the exit code is 0 where none failed.
      checks/plain_picture.py --write       writes docs/picture.svg, the picture of traces/shuffle-24x40.txt, anew.
 
-The bars, their coflows and their colours, the curve, the title and the legend are compared, as are refusals of windows and sides, and docs/picture.svg. Where `rsvg-convert` is there, each
-picture is rendered by it too.
+The bars, their coflows and their colours, the curve, the frames, the marks and numbers of the axes, the title and the legend are compared, no two labels overlap, and the bars of a worked
+schedule are those that were worked out by hand. Refusals of windows, sides and too many bars are tried, and docs/picture.svg is compared. Where `rsvg-convert` is there, each picture is rendered by it too.
+A drawn trace whose schedule has no slot has no picture: it is to be refused, and such traces are counted apart.
 """
 import os
 import random
@@ -15,6 +16,7 @@ import subprocess
 import sys
 import tempfile
 import xml.etree.ElementTree as tree
+from collections import namedtuple
 
 sys.dont_write_bytecode = True
 from plain_plan import KINDS, TOP, drawn, plan_of, trace_text, up, weights_text, write
@@ -26,29 +28,38 @@ RENDERER = shutil.which("rsvg-convert")
 SVG = "{http://www.w3.org/2000/svg}"
 COLOURS = ["#0072b2", "#e69f00", "#009e73", "#d55e00", "#56b4e9", "#cc79a7", "#f0e442", "#000000"]
 GREY = "#bbbbbb"
+DIGIT = 8.3  # how wide a digit of a label is at most
+OTHER = 7.0  # and another sign, where there are several
+
+# What a picture shows, each part as it is found in it. A bar is (port, first, last, id, colour), a step of the curve (x, completed), a box (x, y, width, height), a label (x, y, anchor, words).
+Shown = namedtuple("Shown", "title bars curve legend boxes labels")
 
 
-def slots_of(text):
-    """The flows of each slot of a report."""
-    slots = []
+def runs_of(text):
+    """The runs of a report, each with its first slot, its last slot and its flows."""
+    runs, slots = [], 0
     for line in text.split("\n"):
         if line.startswith("run "):
             length, *flows = map(int, line.split()[1:])
-            slots += [flows] * length
-    return slots
+            runs.append((slots + 1, slots + length, flows))
+            slots += length
+    return runs
 
 
-def bars_of(flows, slots, side, ports, first, last):
+def bars_of(flows, runs, side, ports, first, last):
     """For each port the stretches of the window in which it serves one coflow."""
     rows = [[] for _ in range(ports)]
-    for slot in range(first, last + 1):
-        for number in slots[slot - 1]:
+    for start, end, numbers in runs:
+        start, end = max(start, first), min(end, last)
+        if start > end:
+            continue
+        for number in numbers:
             flow = flows[number]
             row = rows[(flow.ingress, flow.egress)[side]]
-            if row and row[-1][0] == flow.coflow and row[-1][2] == slot - 1:
-                row[-1][2] = slot
+            if row and row[-1][0] == flow.coflow and row[-1][2] == start - 1:
+                row[-1][2] = end
             else:
-                row.append([flow.coflow, slot, slot])
+                row.append([flow.coflow, start, end])
     return rows
 
 
@@ -64,27 +75,65 @@ def title_of(cost, bound):
     return words + ", at most %d.%02d times the best" % divmod(up(100 * cost, bound), 100)
 
 
+def step_of(count):
+    """The least of 1, 2 and 5 times a power of ten of which six are no fewer than the count."""
+    power = 1
+    while True:
+        for step in (power, 2 * power, 5 * power):
+            if 6 * step >= count:
+                return step
+        power *= 10
+
+
+def slot_axis(first, last, end):
+    """The marks of round slots below where bars or curve end, and the labels of the axis."""
+    count = last - first + 1
+    step = step_of(count)
+    marks, labels = [], [(430, end + 36, "middle", "slot")]
+    for slot in range(up(first, step) * step, last + 1, step):
+        x = 70 + (2 * (slot - first) + 1) * 720 // (2 * count)
+        marks.append((x, end, 1, 5))
+        labels.append((x, end + 18, "middle", str(slot)))
+    return marks, labels
+
+
+def axes_of(ports, coflows, first, last):
+    """The frames and the marks, and the labels of all axes."""
+    high = min(16 * ports, 480)
+    top = 60 + high + 80
+    boxes, labels = [(70, 60, 720, high), (70, top, 720, 120)], [(62, top + 4, "end", str(coflows)), (62, top + 124, "end", "0")]
+    for end in (60 + high, top + 120):
+        marks, words = slot_axis(first, last, end)
+        boxes, labels = boxes + marks, labels + words
+    for port in range(0, ports, step_of(ports)):
+        y = 60 + (2 * port + 1) * high // (2 * ports)
+        boxes.append((65, y, 5, 1))
+        labels.append((62, y + 4, "end", str(port)))
+    return boxes, labels
+
+
 def expected(plan, coflows, ports, side, first, last):
-    """What the picture has: its title, its bars, its curve and its legend."""
-    slots = slots_of(plan.text)
+    """What the picture shows."""
+    runs = runs_of(plan.text)
     weights = [coflow.weight for coflow in coflows]
     heavy = legend_of(weights)
     fill = {c: COLOURS[place] for place, c in enumerate(heavy)}
     bars = [
         (port, start, end, coflows[c].ident, fill.get(c, GREY))
-        for port, row in enumerate(bars_of(plan.flows, slots, side, ports, first, last))
+        for port, row in enumerate(bars_of(plan.flows, runs, side, ports, first, last))
         for c, start, end in row
     ]
-    ends = [max([slot + 1 for slot in range(len(slots)) if any(plan.flows[f].coflow == c for f in slots[slot])], default=0) for c in range(len(coflows))]
+    ends = [max([end for _, end, numbers in runs if any(plan.flows[f].coflow == c for f in numbers)], default=0) for c in range(len(coflows))]
     curve = [(max(end - first + 1, 0), sum(it <= end for it in ends)) for end in sorted(set(ends))]
-    legend = ["coflow %d, weight %d" % (coflows[c].ident, coflows[c].weight) for c in heavy]
-    return title_of(plan.cost, plan.bound), bars, curve, legend + ["other coflows"] * (len(coflows) > 8)
+    legend = [(COLOURS[place], "coflow %d, weight %d" % (coflows[c].ident, coflows[c].weight)) for place, c in enumerate(heavy)]
+    legend += [(GREY, "other coflows")] * (len(coflows) > 8)
+    boxes, labels = axes_of(ports, len(coflows), first, last)
+    return Shown(title_of(plan.cost, plan.bound), bars, curve, legend, sorted(boxes), sorted(labels))
 
 
 def found(text, first):
     """The same, as the parser finds it in the picture."""
     root = tree.fromstring(text)
-    texts = [it.text for it in root.iter(SVG + "text")]
     bars, curve = root.findall(SVG + "svg")
     rects = [
         ((int(it.get("y")) - 1) // 10, int(it.get("x")) + first, int(it.get("x")) + first + int(it.get("width")) - 1, int(it[0].text.split()[1]), it.get("fill"))
@@ -92,7 +141,37 @@ def found(text, first):
     ]
     coflows = int(curve.get("viewBox").split()[3])
     steps = re.findall(r"H(\d+)V(\d+)", curve[0].get("d"))[:-1]
-    return texts[0], rects, [(int(x), coflows - int(y)) for x, y in steps], texts[texts.index("most weight") + 1 :]
+    # The first box is the ground. Those of the legend have a colour.
+    boxes = [(it.get("fill"), *(int(it.get(name)) for name in ("x", "y", "width", "height"))) for it in root.findall(SVG + "rect")[1:]]
+    squares = [box for box in boxes if box[0] not in (None, "none")]
+    others = [box[1:] for box in boxes if box[0] in (None, "none")]
+    words = [(int(it.get("x")), int(it.get("y")), it.get("text-anchor"), it.text) for it in root.findall(SVG + "text")]
+    labels = [label for label in words if label[2] is not None]
+    beside = [label for label in words if label[0] == 868]
+    legend = [(square[0], label[3]) for square, label in zip(squares, beside) if (square[1], square[2] + 11) == (850, label[1])]
+    return Shown(words[0][3], rects, [(int(x), coflows - int(y)) for x, y in steps], legend, sorted(others), sorted(labels))
+
+
+def wide(words):
+    """How wide a label is at most."""
+    return sum(DIGIT if it.isdigit() else OTHER for it in words)
+
+
+def crowded(text):
+    """Two labels that overlap, or one that is cut, or None."""
+    root = tree.fromstring(text)
+    places = []
+    for it in root.findall(SVG + "text")[1:]:
+        size, x, y = wide(it.text), int(it.get("x")), int(it.get("y"))
+        left = x - {None: 0, "middle": size / 2, "end": size}[it.get("text-anchor")]
+        places.append((left, left + size, y - 10, y + 3, it.text))
+    for k, (left, right, top, bottom, words) in enumerate(places):
+        if left < 0 or right > int(root.get("width")) or bottom > int(root.get("height")):
+            return "%s is cut" % words
+        for other in places[:k]:
+            if left < other[1] and other[0] < right and top < other[3] and other[2] < bottom:
+                return "%s and %s overlap" % (other[4], words)
+    return None
 
 
 def ran(folder, words, program=PROGRAM):
@@ -109,19 +188,20 @@ def renders(text):
     return made.returncode == 0 and made.stdout.startswith(b"\x89PNG")
 
 
+NO_SLOT = "no slot"
+
+
 def fault_of(folder, ports, coflows, unit, r):
-    """What is wrong with the picture of a trace's plan, or None."""
+    """What is wrong with the picture of a trace's plan, `NO_SLOT` where it has no slot and is refused, or None."""
     plan = plan_of(ports, coflows, unit)
     write(folder, "trace", trace_text(ports, coflows))
     write(folder, "weights", weights_text(coflows))
     write(folder, "report", plan.text)
-    slots = sum(int(line.split()[1]) for line in plan.text.split("\n") if line.startswith("run "))
+    slots = sum(end - start + 1 for start, end, _ in runs_of(plan.text))
     options = ["--weights", "weights", "--unit", str(unit)]
     if slots == 0:
         refused = (2, "", "sincronia_picture: window: no slot from 1 to 0\n")
-        return None if ran(folder, ["trace", "report", *options]) == refused else "a picture without slots"
-    if slots > 2000:
-        return None
+        return NO_SLOT if ran(folder, ["trace", "report", *options]) == refused else "a picture without slots"
     first = r.randint(1, slots)
     last = r.randint(first, slots + 2)
     side = r.randint(0, 1)
@@ -129,11 +209,75 @@ def fault_of(folder, ports, coflows, unit, r):
     code, text, line = ran(folder, ["trace", "report", *options, *window])
     if (code, line) != (0, ""):
         return "no picture: %d %s" % (code, line)
-    if found(text, first) != expected(plan, coflows, ports, side, first, min(last, slots)):
-        return "another picture"
+    have, want = found(text, first), expected(plan, coflows, ports, side, first, min(last, slots))
+    for part in Shown._fields:
+        if getattr(have, part) != getattr(want, part):
+            return "another %s: %r and not %r" % (part, getattr(have, part), getattr(want, part))
     if not renders(text):
         return "the renderer refuses the picture"
-    return None
+    return crowded(text)
+
+
+# A trace of three coflows on 151 locations, the runs of its plan, and the bars of its ports, worked out by hand: each with its side, the window, the bars as (port, first slot, last slot, id).
+WORKED_TRACE = "150 3\n1 0 1 20 1 93:1\n2 0 1 7 2 7:2 93:5\n3 0 3 20 64 110 2 38:7 93:1\n"
+WORKED_RUNS = ["run 1 0 1 5", "run 1 1 3", "run 2 2 3", "run 1 4 5", "run 2 2 6", "run 1 2"]
+WORKED = [
+    ("in", 1, 8, [(7, 1, 4, 2), (7, 6, 8, 2), (20, 1, 1, 1), (20, 2, 5, 3), (64, 1, 1, 3), (64, 5, 5, 3), (110, 6, 7, 3)]),
+    ("out", 1, 8, [(7, 1, 2, 2), (38, 1, 7, 3), (93, 1, 1, 1), (93, 3, 4, 2), (93, 5, 5, 3), (93, 6, 8, 2)]),
+    ("in", 3, 6, [(7, 3, 4, 2), (7, 6, 6, 2), (20, 3, 5, 3), (64, 5, 5, 3), (110, 6, 6, 3)]),
+    ("out", 2, 2, [(7, 2, 2, 2), (38, 2, 2, 3)]),
+    ("out", 8, 8, [(93, 8, 8, 2)]),
+]
+WORKED_CURVE = [(1, 1), (7, 2), (8, 3)]
+
+
+def worked(folder):
+    """How many worked rows there are, and how many of them are not as they were worked out."""
+    write(folder, "w", WORKED_TRACE)
+    plan = ran(folder, ["plan", "w"], PLANNER)[1]
+    write(folder, "p", plan)
+    if [line for line in plan.split("\n") if line.startswith("run ")] != WORKED_RUNS:
+        print("FAILED the worked schedule: %s" % plan)
+        return len(WORKED), len(WORKED)
+    wrong = 0
+    for side, first, last, bars in WORKED:
+        code, text, line = ran(folder, ["w", "p", "--side", side, "--from", str(first), "--to", str(last)])
+        have = found(text, first) if code == 0 else None
+        if have is None or [bar[:4] for bar in have.bars] != bars or (first == 1 and have.curve != WORKED_CURVE):
+            print("FAILED %s %d %d: %d %s%r" % (side, first, last, code, line, have))
+            wrong += 1
+    return len(WORKED), wrong
+
+
+MOST_BARS = 2**18
+
+
+def served_in_turn(folder, units):
+    """Writes a trace `m` of two coflows between one pair of ports, and a report `n` of it that serves them slot by slot in turn: it has a bar for each unit. Order and bound are those of the
+    program's own plan."""
+    write(folder, "m", "1 2\n1 0 1 0 1 1:%d\n2 0 1 0 1 1:%d\n" % (units, units))
+    plan = ran(folder, ["plan", "m"], PLANNER)[1].split("\n")
+    front = [line for line in plan if line.split(" ")[0] in ("sincronia", "bound", "slack")]
+    # A line has a place, an id, a port, a price, the slot in which the coflow is completed, and a weight.
+    places = [line.split(" ") for line in plan if line.startswith("place ")]
+    for place in places:
+        place[-2] = str(2 * units - 2 + int(place[2]))
+    front[1:1] = [" ".join(place) for place in places]
+    write(folder, "n", "\n".join([*front, "cost %d" % (4 * units - 1), *["run 1 0", "run 1 1"] * units, "end", ""]))
+
+
+def many_bars(folder):
+    """As many bars as a picture may have are drawn, and two more are not, unless a window has fewer. How many rows there are, and how many of them are wrong."""
+    limit = "sincronia_picture: limit: bars %d, at most %d are drawn; choose a window with --from and --to\n" % (MOST_BARS + 2, MOST_BARS)
+    rows = [(MOST_BARS, [], 0, MOST_BARS, ""), (MOST_BARS + 2, [], 7, 0, limit), (MOST_BARS + 2, ["--from", "3"], 0, MOST_BARS, "")]
+    wrong = 0
+    for bars, window, code, drawn_bars, line in rows:
+        served_in_turn(folder, bars // 2)
+        have = ran(folder, ["m", "n", *window])
+        if (have[0], have[1].count("<title>"), have[2]) != (code, drawn_bars, line):
+            print("FAILED %d bars %s: %d, %d drawn, %s" % (bars, " ".join(window), have[0], have[1].count("<title>"), have[2]))
+            wrong += 1
+    return len(rows), wrong
 
 
 def refusals(folder):
@@ -185,16 +329,20 @@ def main():
         if RENDERER is None:
             print("rsvg-convert is not there: no picture is rendered")
         count = int(sys.argv[1]) if len(sys.argv) > 1 else 300
-        passed = failed = 0
+        passed = failed = without = 0
         for seed in range(count):
             r = random.Random(seed)
             trace = drawn(KINDS[seed % len(KINDS)], r)
             fault = fault_of(folder, *trace, r)
+            if fault == NO_SLOT:
+                without += 1
+                continue
             failed += fault is not None
             passed += fault is None
             if fault:
                 print("trace %d: %s\n%s" % (seed, fault, trace_text(*trace[:2])))
-        rows, wrong = refusals(folder)
+        print("%d pictures of %d traces; %d without slots were refused" % (passed, count, without))
+        rows, wrong = (sum(pair) for pair in zip(refusals(folder), worked(folder), many_bars(folder)))
         with open(SHOWN, encoding="utf-8") as file:
             stale = file.read() != shown(folder)
         if stale:

@@ -48,7 +48,7 @@ ROWS = [
      b"sincronia 2\nplace 1 1 in 0 733007751850 3 5\nplace 2 2 in 0 1099511627776 4 1\nbound 19\nslack 1\ncost 19\nrun 3 0\nrun 1 1\nend\n", b""),
     ("two megabytes to a unit", TWO, None, ["--unit=2", "plan", "t"], 0,
      b"sincronia 2\nplace 1 2 in 0 549755813888 1 1\nplace 2 1 in 0 549755813888 3 1\nbound 4\nslack 0\ncost 4\nrun 1 1\nrun 2 0\nend\n", b""),
-    ("options that are not used", TWO, None, ["--agents", "64", "plan", "--epoch=1", "--run", "5", "t", "--slot-ms", "8"], 0, TWO_TEXT, b""),
+    ("options that are not used", TWO, None, ["--agents", "64", "plan", "--epoch=1", "--run", "5", "t", "--slot-ms", "8", "--classes=64"], 0, TWO_TEXT, b""),
     ("empty file", b"", None, ["plan", "t"], 3, b"", b"sincronia: trace: bad header\n"),
     ("location above the ports", b"1 1\n1 0 1 0 1 2:1\n", None, ["plan", "t"], 3, b"", b"sincronia: trace: line 2 port 2 out of range\n"),
     ("repeated id", TWO.replace(b"\n2 0 1", b"\n1 0 1"), None, ["plan", "t"], 3, b"", b"sincronia: trace: line 3 repeats id 1\n"),
@@ -77,6 +77,7 @@ ROWS = [
     ("another command", TWO, None, ["paln", "t"], 2, b"", USAGE),
     ("a unit of 0", TWO, None, ["plan", "t", "--unit", "0"], 2, b"", USAGE),
     ("an option twice", TWO, None, ["plan", "t", "--unit=1", "--unit", "1"], 2, b"", USAGE),
+    ("an option that is not used, out of its range", TWO, None, ["plan", "t", "--classes", "65"], 2, b"", USAGE),
     ("a word that is not UTF-8", TWO, None, ["plan", b"t\xff"], 2, b"", USAGE),
     ("no such file", None, None, ["plan", "t"], 8, b"", READ_FAULT),
     ("no such weights", TWO, None, WEIGHTED, 8, b"", READ_FAULT),
@@ -118,6 +119,93 @@ TOO_MANY = b"1 1\n1 0 1 0 2 1:1099511627776 1:1\n"
 TABLE_ROWS = [
     ("a bad report of too many units", TOO_MANY, b"", CHECK, 7, b"", b"sincronia: limit: units 1099511627777\n"),
     ("no report of too many units", TOO_MANY, None, CHECK, 7, b"", b"sincronia: limit: units 1099511627777\n"),
+]
+
+
+def comparison(bound, bssi, sebf, fifo, first, second):
+    """The text of a comparison. The answers of all rankers but the last are the same before and after they are told."""
+    costs = [(b"bssi", bssi, bssi), (b"sebf", sebf, sebf), (b"fifo", fifo, fifo), (b"attained", first, second)]
+    rows = [b"row %d %d %s cost %d\n" % (index, turn + 1, name, both[turn]) for index, (name, *both) in enumerate(costs, 1) for turn in range(2)]
+    return b"sincronia compare 1\nbound %d\n" % bound + b"".join(rows) + b"end\n"
+
+
+COMPARE = ["compare", "t"]
+CLASSES = ["classes", "t"]
+TWO_COMPARED = b"""sincronia compare 1
+bound 5
+row 1 1 bssi cost 5
+row 1 2 bssi cost 5
+row 2 1 sebf cost 5
+row 2 2 sebf cost 5
+row 3 1 fifo cost 7
+row 3 2 fifo cost 7
+row 4 1 attained cost 7
+row 4 2 attained cost 7
+end
+"""
+# Classes 1 and 2. Coflow 2, of 1 unit, comes first, and its cap is 1 + 1 - 1. That of coflow 1, of 3 units, is 4 + 4 - 3.
+TWO_CLASSES = b"""sincronia classes 1
+member 1 2
+member 2 1
+cap 6
+cost 5
+run 1 1
+run 3 0
+end
+"""
+# The first coflow ends in slot 5 in either order. The second one waits one slot for it where it comes later: both need egress port 1.
+FORK = b"2 2\n1 0 1 0 2 1:1 2:4\n2 0 1 1 1 1:1\n"
+# Ports 0 and 1, and a coflow on each: they do not meet. The last coflow has no units.
+APART = b"1 3\n5 0 1 0 1 0:2\n9 0 1 1 1 1:2\n7 0 1 0 0\n"
+
+# rows as above
+COMPARE_ROWS = [
+    ("two flows compared", TWO, None, COMPARE, 0, TWO_COMPARED, b""),
+    ("no coflow compared", b"2 0\n", None, COMPARE, 0, comparison(0, 0, 0, 0, 0, 0), b""),
+    ("weights compared", TWO, b"1 5\n2 1\n", COMPARE + ["--weights", "w"], 0, comparison(19, 19, 21, 19, 19, 19), b""),
+    ("two megabytes to a unit compared", TWO, None, COMPARE + ["--unit=2"], 0, comparison(4, 4, 4, 5, 5, 5), b""),
+    ("a later arrival compared", TWO.replace(b"1 0 1", b"1 16 1", 1), None, COMPARE, 0, comparison(5, 5, 5, 5, 7, 7), b""),
+    ("an order that is learned", FORK, None, COMPARE, 0, comparison(6, 6, 6, 7, 7, 6), b""),
+    ("options that compare does not use", TWO, None, ["--classes=1", "compare", "--agents", "64", "--", "t"], 0, TWO_COMPARED, b""),
+    ("two names compared", TWO, None, COMPARE + ["t"], 2, b"", USAGE),
+    ("no name compared", TWO, None, ["compare"], 2, b"", USAGE),
+    ("a dash compared", TWO, None, ["compare", "-"], 2, b"", USAGE),
+    ("compare with a unit of 0", TWO, None, COMPARE + ["--unit", "0"], 2, b"", USAGE),
+    ("an empty file compared", b"", None, COMPARE, 3, b"", b"sincronia: trace: bad header\n"),
+    ("a repeated id compared", TWO.replace(b"\n2 0 1", b"\n1 0 1"), None, COMPARE, 3, b"", b"sincronia: trace: line 3 repeats id 1\n"),
+    ("a bad trace and no such weights compared", b"", None, COMPARE + ["--weights", "w"], 3, b"", b"sincronia: trace: bad header\n"),
+    ("a weight of no coflow compared", TWO, b"9 1\n", COMPARE + ["--weights", "w"], 4, b"", b"sincronia: weights: line 1 unknown id 9\n"),
+    ("a weight of 0 compared", TWO, b"1 0\n", COMPARE + ["--weights", "w"], 7, b"", b"sincronia: limit: weight 0\n"),
+    ("no such file compared", None, None, COMPARE, 8, b"", READ_FAULT),
+    ("no such weights compared", TWO, None, COMPARE + ["--weights", "w"], 8, b"", READ_FAULT),
+]
+CLASS_ROWS = [
+    ("two classes", TWO, None, CLASSES + ["--classes", "2"], 0, TWO_CLASSES, b""),
+    ("one class", TWO, None, CLASSES + ["--classes", "1"], 0,
+     b"sincronia classes 1\nmember 1 1\nmember 1 2\ncap 12\ncost 7\nrun 3 0\nrun 1 1\nend\n", b""),
+    ("eight classes, as none are said", TWO, None, CLASSES, 0, TWO_CLASSES.replace(b"member 2 1", b"member 5 1"), b""),
+    ("as many classes as there may be", TWO, None, ["--classes=64"] + CLASSES, 0, TWO_CLASSES.replace(b"member 2 1", b"member 33 1"), b""),
+    ("classes with leading zeros", TWO, None, CLASSES + ["--classes", "002"], 0, TWO_CLASSES, b""),
+    ("classes of no coflow", b"2 0\n", None, CLASSES, 0, b"sincronia classes 1\ncap 0\ncost 0\nend\n", b""),
+    ("classes of coflows that do not meet", APART, None, CLASSES + ["--classes", "1"], 0,
+     b"sincronia classes 1\nmember 1 5\nmember 1 9\nmember 1 7\ncap 4\ncost 4\nrun 2 0 1\nend\n", b""),
+    ("classes of weights", TWO, b"1 5\n2 1\n", CLASSES + ["--weights", "w", "--classes", "2"], 0,
+     b"sincronia classes 1\nmember 1 1\nmember 2 2\ncap 22\ncost 19\nrun 3 0\nrun 1 1\nend\n", b""),
+    ("classes of two megabytes to a unit", TWO, None, CLASSES + ["--unit", "2", "--classes", "2"], 0,
+     b"sincronia classes 1\nmember 1 2\nmember 2 1\ncap 5\ncost 4\nrun 1 1\nrun 2 0\nend\n", b""),
+    ("no class", TWO, None, CLASSES + ["--classes", "0"], 2, b"", USAGE),
+    ("too many classes", TWO, None, CLASSES + ["--classes", "65"], 2, b"", USAGE),
+    ("classes that are no number", TWO, None, CLASSES + ["--classes", "x"], 2, b"", USAGE),
+    ("classes without a number", TWO, None, CLASSES + ["--classes"], 2, b"", USAGE),
+    ("classes twice", TWO, None, CLASSES + ["--classes=2", "--classes", "2"], 2, b"", USAGE),
+    ("an option of another name", TWO, None, CLASSES + ["--class", "2"], 2, b"", USAGE),
+    ("classes of two names", TWO, None, CLASSES + ["t"], 2, b"", USAGE),
+    ("classes of no name", TWO, None, ["classes"], 2, b"", USAGE),
+    ("classes of a line too few", b"3 3\n1 0 1 0 1 1:1\n2 0 1 0 1 1:1\n", None, CLASSES, 3, b"", b"sincronia: trace: have 2 lines, want 3\n"),
+    ("classes of two weights of a coflow", TWO, b"1 2\n1 3\n", CLASSES + ["--weights", "w"], 4, b"", b"sincronia: weights: line 2 repeats id 1\n"),
+    ("classes of too many units", TOO_MANY, None, CLASSES, 7, b"", b"sincronia: limit: units 1099511627777\n"),
+    ("classes of no such file", None, None, CLASSES, 8, b"", READ_FAULT),
+    ("classes of no such weights", TWO, None, CLASSES + ["--weights", "w"], 8, b"", READ_FAULT),
 ]
 
 
@@ -206,14 +294,15 @@ def main():
         print("the program could not be built")
         print("0 passed, 1 failed")
         return 1
-    results = [run(row) for row in ROWS] + [run_check(row) for row in CHECK_ROWS]
+    results = [run(row) for row in ROWS + COMPARE_ROWS + CLASS_ROWS] + [run_check(row) for row in CHECK_ROWS]
     results += [run_check((name, *rest), trace) for name, trace, *rest in TABLE_ROWS]
     results += [run_long_report("a long report", TWO, b"text 1073741825"),
                 run_long_report("a long report of too many units", TOO_MANY, b"units 1099511627777")]
     results += [run_shuffle(), run_made()]
     with open("/dev/full", "wb") as full:
-        results.append(run(("a full device", TWO, None, ["plan", "t"], 9, b"", WRITE_FAULT), full))
-    results.append(run(("no memory for the text", b"\n" * 2**26, None, ["plan", "t"], 11, b"", b"sincronia: no memory\n"), before=little_memory))
+        results += [run(("a full device for " + words[0], TWO, None, words, 9, b"", WRITE_FAULT), full) for words in (["plan", "t"], COMPARE, CLASSES)]
+    results += [run(("no memory for the text of " + words[0], b"\n" * 2**26, None, words, 11, b"", b"sincronia: no memory\n"), before=little_memory)
+                for words in (["plan", "t"], COMPARE, CLASSES)]
     print("%d passed, %d failed" % (results.count(True), results.count(False)))
     return 0 if all(results) else 1
 

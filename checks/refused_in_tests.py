@@ -1,5 +1,5 @@
 #!/usr/bin/env python3
-"""Refuses each allocation of each test of the crates in turn. It is no part of the gate, and wants the tests as `rt ci` or `rt test` built them.
+"""Refuses each allocation of each test of the crates in turn. It wants the tests as `rt ci` or `rt test` built them. The gate runs it on `bench_tests`.
 
 Use: checks/refused_in_tests.py [CRATE ...]        The last line is 'N passed, M failed'; the exit code is 0 where none failed.
 

@@ -49,6 +49,8 @@ SERIES = [
     ("plan", ["plan", "t", "--weights", "w"]),
     ("check", ["check", "t", "r"]),
     ("make", ["make", "7", "--unit", "64"]),
+    ("compare", ["compare", "t", "--weights", "w"]),
+    ("classes", ["classes", "t", "--weights", "w"]),
 ]
 # how many runs are started before their answers are looked at
 BATCH = 64
