@@ -223,8 +223,8 @@ fn push_weight(weights: &mut Vec<u64>, weight: Option<u64>) -> Result<(), NoMemo
     Ok(())
 }
 
-/// The flows are not those of the last run.
-fn differs(runs: &[Run], flows: &[u32]) -> bool
+/// Whether the flows differ from those of the last run, or there is no run.
+pub fn differs(runs: &[Run], flows: &[u32]) -> bool
     ensures { Differs runs.now flows.now result }
 {
     match runs.last() {

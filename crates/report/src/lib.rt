@@ -17,9 +17,12 @@ mod writing;
 
 pub use classed::{ClassText, Member, push_served, write_classes};
 pub use compared::{Compare, RowLine, RowText, write_compare};
+pub use draft::differs;
 pub use fault::ReportFault;
+pub use lines::{count_then, line_then, number_then, side_then};
 pub use made::{Made, write_made};
-pub use numbers::{push_named, push_number};
+pub use numbers::{push_flows, push_named, push_number};
+pub use parts::{is_end, run_of, total_of};
 pub use reading::read_report;
 pub use value::{PlaceLine, Report};
 pub use writing::{word_of, write_report};

@@ -9,7 +9,7 @@ use itoa::Buffer;
 use std::str;
 
 /// The line that the bytes begin with, without its line feed, and the bytes behind it.
-pub(crate) fn line_then(bytes: &[u8]) -> Option<(&[u8], &[u8])>
+pub fn line_then(bytes: &[u8]) -> Option<(&[u8], &[u8])>
     ensures { IsLineThen (λ x. (x.0.now, x.1.now)) bytes.now result }
 {
     let (line, behind) = bytes.split_at(line_length(bytes));
@@ -56,7 +56,7 @@ fn digits_length(bytes: &[u8]) -> usize
 }
 
 /// The number of at most `most` and without leading zeros that the bytes begin with behind a space, and the bytes behind it.
-pub(crate) fn number_then(bytes: &[u8], most: u128) -> Option<(u128, &[u8])>
+pub fn number_then(bytes: &[u8], most: u128) -> Option<(u128, &[u8])>
     ensures { IsNumberThen (λ x. (x.0, x.1.now)) most bytes.now result }
 {
     let Some(digits) = bytes.strip_prefix(b" ") else {
@@ -80,8 +80,8 @@ pub(crate) fn number_then(bytes: &[u8], most: u128) -> Option<(u128, &[u8])>
     }
 }
 
-/// As `number_then`, of a smaller number: each byte is looked at once.
-pub(crate) fn count_then(bytes: &[u8], most: u64) -> Option<(u64, &[u8])>
+/// As `number_then`, for a `most` below 2^60: each byte is looked at once.
+pub fn count_then(bytes: &[u8], most: u64) -> Option<(u64, &[u8])>
     requires { most < 2 ^ 60 }
     ensures { IsNumberThen (λ x. (x.0, x.1.now)) most bytes.now result }
 {
@@ -135,7 +135,7 @@ fn is_plain(digits: &[u8], count: usize) -> bool
 }
 
 /// The side that the bytes begin with behind a space, and the bytes behind it.
-pub(crate) fn side_then(bytes: &[u8]) -> Option<(Side, &[u8])>
+pub fn side_then(bytes: &[u8]) -> Option<(Side, &[u8])>
     ensures { IsSideThen (λ x. (x.0, x.1.now)) bytes.now result }
 {
     if let Some(rest) = bytes.strip_prefix(b" in") {

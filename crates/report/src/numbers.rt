@@ -26,8 +26,8 @@ pub fn push_named(text: &mut Vec<u8>, name: &[u8], number: u128) -> Result<(), N
     Ok(())
 }
 
-/// The numbers of flows, each behind a space, written where they stay: the text grows by spaces, and the digits are written into it from its end on.
-pub(crate) fn push_flows(text: &mut Vec<u8>, flows: &[u32]) -> Result<(), NoMemory>
+/// Writes the numbers of flows, each behind a space, at the end of the text. The error is want of memory. They are written where they stay: the text grows by spaces, and the digits are written into it from its end on.
+pub fn push_flows(text: &mut Vec<u8>, flows: &[u32]) -> Result<(), NoMemory>
     ensures { OnOk result (text.new.items ≡ text.old.items ++ flat_map spaced flows.now) }
 {
     let end = text.len().saturating_add(width_of_flows(flows));

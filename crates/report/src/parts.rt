@@ -20,8 +20,8 @@ pub(crate) fn version_of(line: &[u8]) -> Option<bool>
     None
 }
 
-/// The line is the last one.
-pub(crate) fn is_end(line: &[u8]) -> bool
+/// Whether the line is the last one of a text.
+pub fn is_end(line: &[u8]) -> bool
     ensures { IsTrue result ↔ (line.now ≡ codes "end") }
 {
     line == b"end".as_slice()
@@ -100,8 +100,8 @@ pub(crate) fn place_of(line: &[u8], number: u128, weighed: bool) -> Option<(Plac
     Some((place, weight))
 }
 
-/// The number behind the word that the line has.
-pub(crate) fn total_of(line: &[u8], word: &[u8]) -> Option<u128>
+/// The number behind the word, where the line is these two alone.
+pub fn total_of(line: &[u8], word: &[u8]) -> Option<u128>
     ensures { IsTotalOf word.now line.now result }
 {
     let Some(rest) = line.strip_prefix(word) else {
@@ -150,8 +150,8 @@ fn flows_of(alloc: Global, bytes: &[u8]) -> Result<Option<Items<u32>>, NoMemory>
     Ok(Some(Items::from_vec(flows)))
 }
 
-/// The run of the line.
-pub(crate) fn run_of(alloc: Global, line: &[u8]) -> Result<Option<Run>, NoMemory>
+/// The run of the line, or none where the line is that of no run. The error is want of memory.
+pub fn run_of(alloc: Global, line: &[u8]) -> Result<Option<Run>, NoMemory>
     ensures { IfOk result (λ v. IsRunOf line.now v) }
 {
     let Some(rest) = line.strip_prefix(b"run") else {
