@@ -10,4 +10,6 @@ mod stated;
 mod verdict;
 
 pub use checking::check;
+pub use places::{Named, coflows_of, out_of_range};
+pub use schedule::cost_of;
 pub use verdict::{Reason, Verdict};

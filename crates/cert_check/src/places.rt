@@ -15,14 +15,16 @@ use std::alloc::Global;
 
 /// The coflow of each place, or the first place whose id does not name a new coflow, counted from 1.
 #[derive(Drop)]
-pub(crate) enum Named {
+pub enum Named {
+    /// The coflows, place by place.
     Coflows(Vec<u32>),
+    /// The first wrong place.
     Wrong(u32),
 }
 
 /// Looks up the coflows of the places by their ids. The first wrong place is one whose id is no coflow's or stood at a place before,
-/// or the one past the last where some coflow has no place.
-pub(crate) fn coflows_of(
+/// or the one past the last where some coflow has no place. The error is want of memory.
+pub fn coflows_of(
     alloc: Global,
     table: &Table,
     places: &[PlaceLine],
@@ -55,8 +57,8 @@ fn coflows_by_id(alloc: Global, table: &Table) -> Result<IndexMap<u32, u32>, NoM
     Ok(coflows)
 }
 
-/// The first place, counted from 1, whose port has a number that is not below the number of ports, with that number.
-pub(crate) fn out_of_range(ports: u32, places: &[PlaceLine]) -> Option<(u32, u32)>
+/// The first place, counted from 1, whose port has a number that is not below the number of ports, with that number. There are at most 4096 places.
+pub fn out_of_range(ports: u32, places: &[PlaceLine]) -> Option<(u32, u32)>
     requires { length places.now ≤ MAX_COFLOWS }
     ensures { MatchOption result (All (λ (p : PlaceLine). p.port.number < ports) places.now)
         (λ w. IsFirstOutOfRange ports places.now w.0 w.1) }

@@ -78,8 +78,8 @@ fn reason_of(fault: ScheduleFault) -> Reason
     }
 }
 
-/// The sum of weight times completion over the coflows, which both lists have by number.
-fn cost_of(weights: &[u64], ends: &[u64]) -> u128
+/// The sum of weight times completion over the coflows, which both lists have by number. There are at most 4096, with weights of at most 2^32.
+pub fn cost_of(weights: &[u64], ends: &[u64]) -> u128
     requires each { length ends.now ≡ length weights.now }
     requires few { length weights.now ≤ MAX_COFLOWS }
     requires small { All (λ w. w ≤ MAX_WEIGHT) weights.now }
