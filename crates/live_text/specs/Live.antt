@@ -35,22 +35,19 @@ IsWord (Open most) = (1 ≤ most) × IsLong most
 IsWord Close = Unit {0}
 IsWord (Reweigh id weight) = IsSmall id × IsWeight weight
 
--- the command has such a reply, whose numbers are in their ranges
+-- the command may have the reply, whose numbers are in their ranges
 abbrev pub IsAnswerOf : Word → Said → Type 0
-IsAnswerOf (Register id) Joined = Unit {0}
-IsAnswerOf (Register id) Already = Unit {0}
-IsAnswerOf (Withdraw id) Left = Unit {0}
-IsAnswerOf (Withdraw id) NotHere = Unit {0}
-IsAnswerOf Publish (Version version) = IsSmall version
-IsAnswerOf Publish (StillOpen slot) = IsLong slot
-IsAnswerOf (Pull id) (Rank version rank) = IsSmall version × IsSmall rank
-IsAnswerOf (Pull id) (Unranked version) = IsSmall version
-IsAnswerOf (Open most) (Opened slot slots count) = IsLong slot × IsLong slots × IsSmall count
-IsAnswerOf (Open most) Nothing = Unit {0}
-IsAnswerOf Close (Closed slot) = IsLong slot
-IsAnswerOf (Reweigh id weight) (Weighed old) = IsWeight old
-IsAnswerOf (Reweigh id weight) NotHere = Unit {0}
-IsAnswerOf word said = ⊥
+IsAnswerOf (Register id) said = (said ≡ Joined) ⊎ (said ≡ Already)
+IsAnswerOf (Withdraw id) said = (said ≡ Left) ⊎ (said ≡ NotHere)
+IsAnswerOf Publish said = ((version : ℕ) × IsSmall version × (said ≡ Version version)) ⊎
+    ((slot : ℕ) × IsLong slot × (said ≡ StillOpen slot))
+IsAnswerOf (Pull id) said =
+    ((version : ℕ) × (rank : ℕ) × IsSmall version × IsSmall rank × (said ≡ Rank version rank)) ⊎
+    ((version : ℕ) × IsSmall version × (said ≡ Unranked version))
+IsAnswerOf (Open most) said = ((slot : ℕ) × (slots : ℕ) × (count : ℕ) × IsLong slot × IsLong slots × IsSmall count ×
+    (said ≡ Opened slot slots count)) ⊎ (said ≡ Nothing)
+IsAnswerOf Close said = (slot : ℕ) × IsLong slot × (said ≡ Closed slot)
+IsAnswerOf (Reweigh id weight) said = ((old : ℕ) × IsWeight old × (said ≡ Weighed old)) ⊎ (said ≡ NotHere)
 
 -- an entry of a client, or of the driver, who is number 0
 pub record IsEntry (e : EntryLine) : Type 0 where

@@ -3,6 +3,8 @@
 
 mod limits;
 mod value;
+mod writing;
 
 pub use limits::MAX_ENTRIES;
 pub use value::{EntryLine, Live, PullLine, Said, Word};
+pub use writing::write_live;
