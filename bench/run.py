@@ -35,7 +35,7 @@ MASTER = os.path.join(TOP, "crates", "master_bench", "out", "master_bench")
 RUNS = 3
 
 # What `perf` calls the functions that serve the order of a plan. The loop over the runs stands within that of the plan, and so does the order, which takes a millisecond at most.
-SERVING = re.compile(r"matching::|slot_switch::|sincronia_cli::planning::plan\b")
+SERVING = re.compile(r"matching::|slot_switch::|plans::planning::plan\b")
 
 # shape: trace, words behind the files
 SHAPES = {

@@ -26,7 +26,7 @@ use Rattle.sincronia_cli.specs.Causes.{HasFilesCause}
 use Rattle.sincronia_cli.specs.Check.{IsReportOf}
 use Rattle.sincronia_cli.specs.Ends.{IsWriteFault}
 use Rattle.sincronia_cli.specs.Inputs.{IsInput}
-use Rattle.sincronia_cli.specs.Plan.{BoundsEverySchedule}
+use Rattle.plans.specs.Totals.{BoundsEverySchedule}
 use Rattle.sincronia_cli.specs.declared.status.Status.{Status}
 use Rattle.sincronia_cli.specs.declared.status.Status.TheVariants as status
 use Rattle.command_words.specs.Jobs.Job.{check_job}

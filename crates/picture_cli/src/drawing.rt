@@ -20,9 +20,10 @@ use coflow_units::{Items, NoMemory, Run};
 use flow_table::Table;
 use picture::{Window, bars_of, curve_of};
 use picture_text::{Picture, heaviest, write_picture};
+use plans::loads_of;
 use report::Report;
 use schedule_model::completions_of_runs;
-use sincronia_cli::{Input, loads_of};
+use sincronia_cli::Input;
 use std::alloc::Global;
 
 /// The text of the picture of a report, which is checked first.

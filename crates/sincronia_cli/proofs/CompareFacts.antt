@@ -4,19 +4,14 @@ use Rattle.std.specs.Prelude.{All}
 use Rattle.coflow_units.specs.Completion.{cost}
 use Rattle.coflow_units.specs.Flows.{Instance}
 use Rattle.coflow_units.specs.Schedule.{IsValid}
-use Rattle.bssi_order.specs.Order.{entries_of}
 use Rattle.command_words.specs.Words.{Said}
 use Rattle.flow_table.specs.Table.{instance_of}
 use Rattle.order_reports.proofs.RowFacts.{costs_above}
 use Rattle.outside.specs.Shelf.{Told}
 use Rattle.rankers.specs.Meaning.{Meaning}
-use Rattle.sincronia_cli.specs.Compare.{ComparisonOf, IsPlanBound, WritesComparison}
+use Rattle.sincronia_cli.specs.Compare.{ComparisonOf, WritesComparison}
 use Rattle.sincronia_cli.specs.Plan.{Appends}
-use Rattle.sincronia_cli.proofs.PlanLaw.{plan_bound}
-
-bound_low : (i : Instance) (b : ℕ) → IsPlanBound i b → (slots : List (List ℕ)) → IsValid i.flows slots → b ≤ cost i.flows i.weight i.coflows slots
-bound_low i b is slots valid =
-    subst (λ n. n ≤ cost i.flows i.weight i.coflows slots) (sym is.bound_is) (plan_bound i (entries_of is.order) slots is.ordering.ordering valid)
+use Rattle.plans.proofs.PlanTotals.{bound_low}
 
 pub writes_comparison : (told : Option Told) (said : Said) (bench : List Meaning) (old new : Option (List ℕ)) (text : List ℕ) → ComparisonOf told said bench text →
     Appends old new text → WritesComparison told said bench old new

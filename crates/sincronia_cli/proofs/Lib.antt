@@ -1,12 +1,5 @@
-pub mod PlaceSteps
-pub mod OrderSteps
-pub mod CertificateFacts
-pub mod PlanSteps
-pub mod PlanLaw
-pub mod PlanSlack
 pub mod PlanFacts
 pub mod CompareFacts
-pub mod NoPriceFacts
 pub mod ShelfFacts
 pub mod TraceFacts
 pub mod WeightsFacts
@@ -20,9 +13,4 @@ pub mod WrittenFacts
 pub mod CompleteFacts
 pub mod FirstFacts
 pub mod MadeInput
-pub mod PlannedRuns
-pub mod PlannedPlaces
-pub mod PlanSound
-pub mod PlanReportFacts
-pub mod PlanLengths
 pub mod MadePlan

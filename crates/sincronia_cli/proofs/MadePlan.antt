@@ -11,8 +11,8 @@ use Rattle.report.specs.Report.{HasSmallNumbers, IsReport}
 use Rattle.report.specs.Text.{report_text}
 use Rattle.report.proofs.TextLaws.{reports_are_one}
 use Rattle.sincronia_cli.specs.Make.{GivesMade, MadeOf, summary_of}
-use Rattle.sincronia_cli.specs.PlanReport.{IsPlanOf}
-use Rattle.sincronia_cli.proofs.PlanSound.{plan_is_sound}
+use Rattle.plans.specs.PlanReport.{IsPlanOf}
+use Rattle.plans.proofs.PlanSound.{plan_is_sound}
 
 pub read_is_planned : (planned read : Report) (text lent : List ℕ) → IsReport planned → HasSmallNumbers planned → text ≡ report_text planned → lent ≡ text → IsTextOf lent read →
     read ≡ planned

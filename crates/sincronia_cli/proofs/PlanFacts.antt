@@ -1,41 +1,14 @@
--- What the laws say of a plan as a report.
-use Rattle.std.proofs.Common.{◌≡◌, ℕ, ◌≤◌, ◌<◌, List, ◌++◌, length, reverse, take, sym, ap, subst, ◌∙◌, arith}
+-- What the laws say of a plan whose text was written.
+use Rattle.std.proofs.Common.{◌≡◌, ℕ, ◌<◌, List, ◌++◌, length, take, ap, subst, ◌∙◌}
 use Rattle.std.specs.Prelude.{Option, Some, None, Ok, Err}
-use Rattle.std.proofs.lemmas.List.{reverse-reverse}
-use Rattle.coflow_units.specs.declared.plan.Place.{Place}
-use Rattle.coflow_units.specs.Certificate.{order_of}
-use Rattle.coflow_units.specs.Completion.{cost}
-use Rattle.coflow_units.specs.Flows.{Instance, IsInstance}
-use Rattle.coflow_units.specs.Served.{IsServed}
-use Rattle.bssi_order.specs.Order.{entries_of}
-use Rattle.report.specs.declared.value.Report.{Report}
-use Rattle.outside.specs.Shelf.{Told}
-use Rattle.outside.specs.Sink.{TakesText}
-use Rattle.sincronia_cli.specs.Plan.{Appends, AppendsBeginning, BoundsEverySchedule, IsWithinFour, PlanOf, WritesPlan}
-use Rattle.sincronia_cli.specs.PlanReport.{IsPlanOf, coflows_of}
-use Rattle.sincronia_cli.proofs.CertificateFacts.{front_of_places}
+use Rattle.command_words.specs.Words.{Said}
+use Rattle.coflow_units.specs.Flows.{Instance}
 use Rattle.flow_table.specs.Table.{instance_of}
 use Rattle.flow_table.proofs.Whole.{whole}
-use Rattle.command_words.specs.Words.{Said}
-use Rattle.sincronia_cli.proofs.PlanLaw.{plan_bound, plan_four}
-
-same_order : (places : List Place) → order_of (entries_of places) ≡ coflows_of places
-same_order places = ap reverse (front_of_places places) ∙ reverse-reverse (coflows_of places)
-
-pub plan_bounds : (i : Instance) (ids : List ℕ) (report : Report) → IsPlanOf i ids report → BoundsEverySchedule i report
-plan_bounds i ids report p =
-    λ slots valid. subst (λ n. n ≤ cost i.flows i.weight i.coflows slots) (sym p.bound_is) (plan_bound i (entries_of p.order) slots p.ordering.ordering valid)
-
-pub plan_within : (i : Instance) (ids : List ℕ) (report : Report) → IsInstance i → IsPlanOf i ids report → IsWithinFour report
-plan_within i ids report inst p =
-    omega (
-      arith,
-      p.bound_is,
-      p.slack_is,
-      p.cost_is,
-      plan_four i (entries_of p.order) p.slots inst p.ordering.ordering
-          (subst (λ l. IsServed i.flows l p.slots) (sym (same_order p.order)) p.served),
-    )
+use Rattle.outside.specs.Shelf.{Told}
+use Rattle.outside.specs.Sink.{TakesText}
+use Rattle.plans.proofs.PlanTotals.{plan_bounds, plan_within}
+use Rattle.sincronia_cli.specs.Plan.{Appends, AppendsBeginning, PlanOf, WritesPlan}
 
 -- a text that was taken whole was appended
 pub appended : {X : Type 0} (E : Type 0) (old new : Option (List ℕ)) (text lent : List ℕ) (x : X) → lent ≡ text → TakesText {E = E} old new lent (Ok x) → Appends old new text

@@ -9,13 +9,14 @@ use Rattle.cert_check.specs.Sound.{IsSound}
 use Rattle.flow_table.specs.Table.{TableFacts, instance_of}
 use Rattle.coflow_units.specs.declared.limits.TheConstants.{MAX_REPORT}
 use Rattle.outside.specs.Shelf.{Told, bytes_of}
+use Rattle.plans.specs.Totals.{BoundsEverySchedule}
 use Rattle.report.specs.declared.value.Report.{Report}
 use Rattle.report.specs.Reading.{IsTextOf}
 use Rattle.report.specs.Report.{HasSmallNumbers, IsReport}
 use Rattle.sincronia_cli.specs.declared.status.Status.{Status}
 use Rattle.sincronia_cli.specs.declared.status.Status.TheVariants as status
 use Rattle.sincronia_cli.specs.Inputs.{IsInput}
-use Rattle.sincronia_cli.specs.Plan.{Appends, BoundsEverySchedule}
+use Rattle.sincronia_cli.specs.Plan.{Appends}
 use Rattle.sincronia_cli.specs.VerdictLine.{verdict_text}
 
 -- a report that was read, where the bytes under its name are told: they are its text

@@ -1,27 +1,18 @@
 -- What `compare` reads and writes.
 use Rattle.std.specs.Prelude.{◌≡◌, ℕ, ◌≤◌, List, Option}
-use Rattle.bssi_order.specs.Order.{IsOrder, entries_of}
-use Rattle.coflow_units.specs.declared.plan.Place.{Place}
-use Rattle.coflow_units.specs.Certificate.{bound}
 use Rattle.coflow_units.specs.Completion.{cost}
-use Rattle.coflow_units.specs.Flows.{Instance}
 use Rattle.coflow_units.specs.Schedule.{IsValid}
 use Rattle.command_words.specs.Jobs.{trace_name}
 use Rattle.command_words.specs.Words.{Said}
 use Rattle.flow_table.specs.Table.{TableFacts, instance_of}
 use Rattle.order_reports.specs.Comparison.{IsBelowCosts, IsComparison}
 use Rattle.outside.specs.Shelf.{Told}
+use Rattle.plans.specs.Totals.{IsPlanBound}
 use Rattle.rankers.specs.Meaning.{Meaning}
 use Rattle.report.specs.declared.compared.Compare.{Compare}
 use Rattle.report.specs.Compared.{compare_text}
 use Rattle.sincronia_cli.specs.Inputs.{IsInput}
 use Rattle.sincronia_cli.specs.Plan.{Appends}
-
--- the number is the bound that the plan of the instance has: that of its ordering certificate
-pub record IsPlanBound (i : Instance) (b : ℕ) : Type 0 where
-  pub order : List Place
-  pub ordering : IsOrder i order
-  pub bound_is : b ≡ bound i.flows (entries_of order)
 
 -- the instance that the files give, the comparison of the rankers of the bench on it, and the text of the comparison
 pub record ComparisonOf (told : Option Told) (said : Said) (bench : List Meaning) (text : List ℕ) : Type 0 where

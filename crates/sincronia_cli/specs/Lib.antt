@@ -1,6 +1,5 @@
 pub mod Shelves
 pub mod Inputs
-pub mod PlanReport
 pub mod Command
 pub mod Plan
 pub mod VerdictLine
@@ -21,5 +20,3 @@ pub mod FirstCause
 pub mod Turns
 pub mod Code
 pub mod Messages
-pub mod NoPrices
-pub mod Weighed

@@ -3,6 +3,7 @@ use Rattle.std.specs.Prelude.{◌≡◌, ℕ, List, Option, Some, length, sum_by
 use Rattle.coflow_units.specs.declared.fabric.Flow.{Flow}
 use Rattle.cert_check.specs.Sound.{IsSound}
 use Rattle.flow_table.specs.Table.{TableFacts, instance_of}
+use Rattle.plans.specs.PlanReport.{IsPlanOf}
 use Rattle.report.specs.declared.made.Made.{Made}
 use Rattle.report.specs.declared.value.Report.{Report}
 use Rattle.report.specs.Made.{made_text}
@@ -10,7 +11,6 @@ use Rattle.workload.specs.Coflows.{made_coflows}
 use Rattle.workload.specs.Text.{trace_text, weights_text}
 use Rattle.sincronia_cli.specs.Inputs.{Gives}
 use Rattle.sincronia_cli.specs.Plan.{Appends}
-use Rattle.sincronia_cli.specs.PlanReport.{IsPlanOf}
 
 -- the texts of the seed give the table of flows and the weights
 abbrev pub GivesMade : ℕ → ℕ → TableFacts → List ℕ → Type 0

@@ -1,16 +1,14 @@
 -- What `plan` reads and writes.
-use Rattle.std.specs.Prelude.{◌≡◌, ℕ, ◌+◌, ◌*◌, ◌<◌, ◌≤◌, ◌++◌, List, Option, Some, None, length, take}
+use Rattle.std.specs.Prelude.{◌≡◌, ℕ, ◌<◌, ◌++◌, List, Option, Some, None, length, take}
 use Rattle.command_words.specs.Jobs.{trace_name}
 use Rattle.command_words.specs.Words.{Said}
-use Rattle.coflow_units.specs.Completion.{cost}
-use Rattle.coflow_units.specs.Flows.{Instance}
-use Rattle.coflow_units.specs.Schedule.{IsValid}
 use Rattle.flow_table.specs.Table.{TableFacts, instance_of}
 use Rattle.outside.specs.Shelf.{Told}
+use Rattle.plans.specs.PlanReport.{IsPlanOf}
+use Rattle.plans.specs.Totals.{BoundsEverySchedule, IsWithinFour}
 use Rattle.report.specs.declared.value.Report.{Report}
 use Rattle.report.specs.Text.{report_text}
 use Rattle.sincronia_cli.specs.Inputs.{IsInput}
-use Rattle.sincronia_cli.specs.PlanReport.{IsPlanOf}
 
 -- the instance that the files give, the report of its plan, and the text of the report
 pub record PlanOf (told : Option Told) (said : Said) (text : List ℕ) : Type 0 where
@@ -30,15 +28,6 @@ Appends (Some old) new text = new ≡ Some (old ++ text)
 abbrev pub AppendsBeginning : Option (List ℕ) → Option (List ℕ) → List ℕ → Type 0
 AppendsBeginning None new text = Unit {0}
 AppendsBeginning (Some old) new text = (n : ℕ) × (n < length text) × (new ≡ Some (old ++ take n text))
-
--- the bound is at most the cost of every valid schedule of the instance, patient or not
-abbrev pub BoundsEverySchedule : Instance → Report → Type 0
-BoundsEverySchedule i report =
-    (slots : List (List ℕ)) → IsValid i.flows slots → report.bound ≤ cost i.flows i.weight i.coflows slots
-
--- the cost is at most four times the bound, and the slack
-abbrev pub IsWithinFour : Report → Type 0
-IsWithinFour report = report.cost ≤ 4 * report.bound + report.slack
 
 -- The text of the plan was written. The plan's bound is at most the cost of every valid schedule of the instance that
 -- the files give, and its cost is at most four times that bound, and its slack.

@@ -17,7 +17,6 @@ ghost use Rattle.sincronia_cli.specs.Turns.{FilesInTurn};
 ghost use Rattle.sincronia_cli.specs.VerdictLine.{verdict_text};
 
 use crate::inputs::{Input, read_input, read_report_file};
-use crate::order::loads_of;
 use crate::outcome::Outcome;
 use crate::status::Status;
 use crate::verdict_line::verdict_text;
@@ -25,6 +24,7 @@ use cert_check::{Verdict, check};
 use coflow_units::NoMemory;
 use command_words::Options;
 use outside::Shelf;
+use plans::loads_of;
 use report::Report;
 use std::alloc::Global;
 

@@ -1,27 +1,23 @@
 //! The command `compare`: rankers side by side on a trace.
 ghost use Rattle.std.specs.Prelude.{◌≡◌, ◌≢◌, ◌≤◌, ◌<◌, ◌^◌, ℕ, [], All, IfErr, IfOk, IfSome, OnOk, drop, length, map, take};
-ghost use Rattle.coflow_units.specs.declared.limits.TheConstants.{MAX_UNIT, MAX_WEIGHT};
+ghost use Rattle.coflow_units.specs.declared.limits.TheConstants.{MAX_UNIT};
 ghost use Rattle.command_words.specs.Jobs.Job.{compare_job};
 ghost use Rattle.command_words.specs.Words.{said_with};
-ghost use Rattle.flow_table.specs.Table.{instance_of};
 ghost use Rattle.rankers.specs.FactsTold.{FactsTold};
 ghost use Rattle.sincronia_cli.specs.Causes.{HasFilesCause};
-ghost use Rattle.sincronia_cli.specs.Compare.{ComparisonOf, IsPlanBound};
+ghost use Rattle.sincronia_cli.specs.Compare.{ComparisonOf};
 ghost use Rattle.sincronia_cli.specs.Complete.{HasGoodFiles};
 ghost use Rattle.sincronia_cli.specs.Ends.{CountsFault};
 ghost use Rattle.sincronia_cli.specs.Shelves.{KeepsFiles, OfBoth, ReadsOut};
 ghost use Rattle.sincronia_cli.specs.Turns.{FilesInTurn};
 
 use crate::inputs::read_input;
-use crate::order::order_of;
 use crate::outcome::Outcome;
-use crate::planning::values_of;
 use crate::status::Status;
-use coflow_units::NoMemory;
 use command_words::Options;
-use flow_table::Table;
 use order_reports::comparison_text;
 use outside::Shelf;
+use plans::bound_of;
 use rankers::Ranker;
 use std::alloc::Global;
 
@@ -63,15 +59,4 @@ pub(crate) fn compare_rankers<'a, H: Shelf>(
         text,
         status: Status::Ok,
     })
-}
-
-/// The bound that the plan has.
-fn bound_of(alloc: Global, table: &Table, weights: &[u64]) -> Result<u128, NoMemory>
-    requires count { length weights.now ≡ length table.now.ids }
-    requires weights { All (λ w. w ≤ MAX_WEIGHT) weights.now }
-    ensures { IfOk result (IsPlanBound (instance_of table.now weights.now)) }
-{
-    let order = order_of(alloc, table, weights)?;
-    let values = values_of(alloc, table, weights, order.places())?;
-    Ok(values.bound)
 }

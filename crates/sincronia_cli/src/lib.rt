@@ -9,14 +9,11 @@ mod inputs;
 pub mod laws;
 mod making;
 mod messages;
-mod order;
 mod outcome;
-mod places;
 mod planning;
 mod status;
 mod verdict_line;
 
 pub use command::sincronia;
 pub use inputs::{Input, read_input, read_report_file};
-pub use order::loads_of;
 pub use status::Status;

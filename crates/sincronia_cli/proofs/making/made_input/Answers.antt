@@ -1,6 +1,6 @@
 use Rattle.std.proofs.Common.{◌∙◌}
 use Rattle.sincronia_cli.proofs.MadeInput.{few_flows, few_units, made_gives, made_range, short_trace, short_weights, trace_reads, weights_read}
-use Rattle.sincronia_cli.proofs.PlanSound.{ids_differ}
+use Rattle.plans.proofs.PlanSound.{ids_differ}
 use Rattle.sincronia_cli.proofs.making.made_input.Goals as goal
 
 pub trace_of_text-requires-clause-short : goal.trace_of_text-requires-clause-short

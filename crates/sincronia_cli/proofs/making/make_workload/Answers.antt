@@ -1,6 +1,6 @@
 use Rattle.std.proofs.Common.{◌∙◌, refl}
 use Rattle.sincronia_cli.proofs.MadePlan.{made_of, read_is_planned, read_is_sound}
-use Rattle.sincronia_cli.proofs.PlanLengths.{few_units_short}
+use Rattle.plans.proofs.PlanLengths.{few_units_short}
 use Rattle.sincronia_cli.proofs.making.make_workload.Goals as goal
 
 pub read_back-requires-clause-few : goal.read_back-requires-clause-few

@@ -1,0 +1,13 @@
+pub mod PlaceSteps
+pub mod OrderSteps
+pub mod CertificateFacts
+pub mod PlanSteps
+pub mod PlanLaw
+pub mod PlanSlack
+pub mod PlanTotals
+pub mod NoPriceFacts
+pub mod PlannedRuns
+pub mod PlannedPlaces
+pub mod PlanSound
+pub mod PlanReportFacts
+pub mod PlanLengths

@@ -1,0 +1,11 @@
+use Rattle.plans.proofs.PlanSlack.{plan_slack, twice_the_fronts, two_for_each}
+use Rattle.plans.proofs.laws.plan_slack_is_small.Goals as goal
+
+pub returns-clause-two_each : goal.returns-clause-two_each
+returns-clause-two_each c = two_for_each
+
+pub returns-clause-by_fronts : goal.returns-clause-by_fronts
+returns-clause-by_fronts c = twice_the_fronts
+
+pub returns-clause-plan : goal.returns-clause-plan
+returns-clause-plan c = plan_slack

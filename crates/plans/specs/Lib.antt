@@ -1,0 +1,4 @@
+pub mod PlanReport
+pub mod Totals
+pub mod NoPrices
+pub mod Weighed
