@@ -1,6 +1,7 @@
 //! The text of a printed journal: what clients and their driver asked a master and were answered, the orders that were published, what pulls were told, and the schedule.
 #![tactic(auto)]
 
+pub mod laws;
 mod limits;
 mod value;
 mod writing;
