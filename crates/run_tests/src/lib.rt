@@ -1,0 +1,12 @@
+//! Tests of a runner. Clauses say what each answer of a run means; here is that runs in small halls answer what was worked out by hand, and that the agents of a run are on threads
+//! at the same time.
+#![tactic(auto)]
+
+#[cfg(test)]
+mod meeting;
+#[cfg(test)]
+mod runs;
+#[cfg(test)]
+mod stage;
+#[cfg(test)]
+mod told;

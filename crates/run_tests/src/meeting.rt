@@ -1,0 +1,86 @@
+//! Wires that wait for each other.
+ghost use Rattle.std.specs.Prelude.{◌≤◌};
+
+use crate::stage::{CROSSED, stage_of};
+use outside::Wire;
+use slot_runner::Ran;
+use std::alloc::Global;
+use std::process::Abort;
+use std::sync::Wait;
+use std::sync::atomic::AtomicBool;
+use std::sync::atomic::Ordering::SeqCst;
+use std::test::*;
+use std::thread::Threads;
+
+/// How often a wire looks whether the other one is called, before it gives up.
+const LOOKS: u32 = 1 << 28;
+
+/// A wire that accepts units where another wire is called before it gives up. Else it accepts none.
+#[derive(Drop)]
+struct MeetingWire<'a> {
+    called: &'a AtomicBool,
+    other: &'a AtomicBool,
+    faults: u64,
+}
+
+impl Wire for MeetingWire<'_> {
+    ghost use Rattle.std.specs.Prelude.{None};
+
+    ghost faults = { λ w. w.faults };
+
+    ghost runs = { λ _. None };
+
+    /// Accepts all units where the other wire is called. Else it accepts none, and the count rises by one, up to 2^64 - 1.
+    fn send(&mut self, slot: u64, flow: u32, length: u64) -> u64 {
+        let _run = (slot, flow);
+        self.called.store(true, SeqCst);
+        for _ in 0..LOOKS {
+            if self.other.load(SeqCst) {
+                return length;
+            }
+        }
+        self.faults = self.faults.saturating_add(1);
+        0
+    }
+}
+
+/// The first run of a hall, with so many agents, on two wires that wait for each other.
+fn meet<R: Threads + Wait + Sync + Abort>(rt: &R, alloc: Global, agents: u32) -> Ran
+    requires some { 1 ≤ agents }
+{
+    let mut stage = stage_of(rt, alloc, CROSSED, 100, 20);
+    let (one, two) = (AtomicBool::new(false), AtomicBool::new(false));
+    let mut wires = [
+        MeetingWire {
+            called: &one,
+            other: &two,
+            faults: 0,
+        },
+        MeetingWire {
+            called: &two,
+            other: &one,
+            faults: 0,
+        },
+    ];
+    let hall = &stage.hall;
+    stage.runner.slot(alloc, rt, hall, 1, agents, &mut wires)
+}
+
+// No clause says that agents run beside each other. Where one of them ended before another began, the first wire would give up here, as it does where one agent has both.
+#[test]
+fn agents_of_a_run_are_on_threads_at_the_same_time(rt: HostRuntime) {
+    let whole = Ran::Ran {
+        slot: 1,
+        length: 1,
+        count: 2,
+    };
+    let gave_up = Ran::WireFault { port: 0, sent: 0 };
+    for (agents, want) in [(2, whole), (64, whole), (1, gave_up)] {
+        let ran = meet(&rt, rt.alloc(), agents);
+        assert_eq!(rt;
+            ran,
+            want,
+            "a wire gave up, or there was no memory for a thread"
+        );
+    }
+}

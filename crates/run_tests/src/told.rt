@@ -1,0 +1,87 @@
+//! What runs come to, as a text.
+ghost use Rattle.std.specs.Prelude.{◌≡◌, ◌≤◌};
+ghost use Rattle.client_session.specs.Models.{IsSessionOf};
+ghost use Rattle.slot_runner.specs.Models.{MayRun};
+
+use crate::stage::Stage;
+use client_session::Hall;
+use master_core::{Entry, Master};
+use outside::{MemWire, Wire};
+use slot_runner::Runner;
+use std::alloc::Global;
+use std::process::Abort;
+use std::sync::Wait;
+use std::thread::Threads;
+
+/// Makes one run, and tells what it came to, the flows of the runner's last run, and how many calls the driver has left.
+pub fn tell_run<R: Threads + Wait + Sync + Abort, W: Wire + Send>(
+    rt: &R,
+    alloc: Global,
+    hall: &Hall,
+    runner: &mut Runner,
+    most: u64,
+    agents: u32,
+    wires: &mut [W; 2],
+    text: &mut String,
+)
+    requires may { MayRun hall.now runner.old }
+    requires ports { hall.now.setting.opening.table.ports ≡ 2 }
+    requires some { (1 ≤ most) × (1 ≤ agents) }
+    ensures may { MayRun hall.entry.now runner.new }
+{
+    let ran = runner.slot(alloc, rt, hall, most, agents, wires);
+    let left = runner.driver().calls_left();
+    let flows = runner.granted();
+    let Ok(()) = write!(text, "{ran:?} {flows:?} {left}\n") else {
+        panic!(rt; "no memory");
+    };
+}
+
+/// Tells the driver's entries among these.
+fn tell_entries<R: Abort>(rt: &R, entries: &[Entry], text: &mut String) {
+    for entry in entries {
+        if entry.who > 0 {
+            continue;
+        }
+        let Ok(()) = write!(text, "{:?} {:?}\n", entry.command, entry.reply) else {
+            panic!(rt; "no memory");
+        };
+    }
+}
+
+/// Tells the runs that a wire accepted.
+pub fn tell_wire<R: Abort>(rt: &R, port: u32, wire: &MemWire, text: &mut String) {
+    for index in 0..wire.len() {
+        let Ok(()) = write!(text, "{port}: {:?}\n", wire.run(index)) else {
+            panic!(rt; "no memory");
+        };
+    }
+}
+
+/// Closes the hall, whose one session is given.
+fn closed<R: Abort>(rt: &R, alloc: Global, stage: Stage) -> Master
+    requires may { MayRun stage.hall stage.runner }
+    requires session { IsSessionOf stage.hall stage.session }
+{
+    let Stage {
+        hall,
+        runner,
+        session,
+    } = stage;
+    let Ok(sessions) = Vec::from_array(alloc, [session]) else {
+        panic!(rt; "no memory");
+    };
+    match hall.close(alloc, runner.into_driver(), sessions) {
+        Ok(master) => master,
+        Err(_) => panic!(rt; "no memory"),
+    }
+}
+
+/// Tells the driver's entries, once the hall is closed.
+pub fn tell_journal<R: Abort>(rt: &R, alloc: Global, stage: Stage, text: &mut String)
+    requires may { MayRun stage.hall stage.runner }
+    requires session { IsSessionOf stage.hall stage.session }
+{
+    let master = closed(rt, alloc, stage);
+    tell_entries(rt, master.journal(), text);
+}
