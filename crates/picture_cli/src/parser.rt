@@ -1,14 +1,12 @@
 //! The words as one simple command.
-ghost use Rattle.std.specs.Prelude.{◌≡◌, ◌≢◌, ◌↔◌, Err, IfOk, [], codes, false};
-ghost use Rattle.clap.specs.Words.{app_of, fault_of, found_of, rule_of, with_rule};
+ghost use Rattle.std.specs.Prelude.{◌≡◌, ◌≢◌, Err, IfOk, []};
+ghost use Rattle.clap.specs.Words.{app_of, fault_of, found_of};
 ghost use Rattle.command_words.specs.Line.{texts};
-ghost use Rattle.command_words.specs.Parser.{needed_rule, option_rule};
 ghost use Rattle.command_words.specs.declared.words.WordsFault.TheVariants.{Usage};
 ghost use Rattle.picture_cli.specs.Parser.{IsFound, app, app_with_names};
 
-use clap::error::ErrorKind;
-use clap::{Arg, ArgAction, ArgMatches, Command};
-use command_words::WordsFault;
+use clap::{ArgMatches, Command};
+use command_words::{WordsFault, fault_by, needed_name, option_named, with_arg};
 use std::alloc::{AllocError, Global};
 
 /// What the words give each argument. `Usage` comes where a word is refused, an argument is used twice, or TRACE or REPORT is missing.
@@ -25,16 +23,6 @@ pub(crate) fn matches_of<'a>(
     match command.try_get_matches_from(words) {
         Ok(matches) => Ok(matches),
         Err(error) => Err(fault_by(error.kind())),
-    }
-}
-
-/// The fault of an error of the parser. Each kind but want of memory is `Usage`.
-fn fault_by(kind: ErrorKind) -> WordsFault
-    ensures { result ≡ Usage ↔ kind ≢ ErrorKind.OutOfMemory }
-{
-    match kind {
-        ErrorKind::OutOfMemory => WordsFault::NoMemory,
-        _ => WordsFault::Usage,
     }
 }
 
@@ -60,25 +48,4 @@ fn command_with_names<'a>(alloc: Global) -> Result<Command<'a>, AllocError>
     let command = with_arg(command, needed_name(alloc, "TRACE"))?;
     let command = with_arg(command, needed_name(alloc, "REPORT"))?;
     Ok(command)
-}
-
-fn with_arg<'a>(command: Command<'a>, arg: Arg<'a>) -> Result<Command<'a>, AllocError>
-    requires { arg.global ≡ false }
-    ensures { IfOk result (λ c. app_of c ≡ with_rule (app_of command.entry) (rule_of arg.entry)) }
-{
-    command.arg(arg)
-}
-
-fn needed_name<'a>(alloc: Global, name: &'a str) -> Arg<'a>
-    ensures rule { rule_of result ≡ needed_rule name.entry.now }
-    ensures local { result.global ≡ false }
-{
-    Arg::new(alloc, name).action(ArgAction::Set).required(true)
-}
-
-fn option_named<'a>(alloc: Global, name: &'a str) -> Arg<'a>
-    ensures rule { rule_of result ≡ option_rule name.entry.now }
-    ensures local { result.global ≡ false }
-{
-    Arg::new(alloc, name).long(name).action(ArgAction::Set)
 }
