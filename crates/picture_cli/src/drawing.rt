@@ -15,16 +15,16 @@ ghost use Rattle.picture_cli.specs.Words.{said_by};
 
 use crate::status::PictureStatus;
 use crate::words::PictureWords;
-use cert_check::{Verdict, check};
+use cert_check::Verdict;
 use coflow_units::{Items, NoMemory, Run};
 use flow_table::Table;
 use picture::{Window, bars_of, curve_of};
 use picture_text::{Picture, heaviest, write_picture};
-use plans::loads_of;
 use report::Report;
 use schedule_model::completions_of_runs;
 use sincronia_cli::Input;
 use std::alloc::Global;
+use verdicts::verdict_on;
 
 /// The text of the picture of a report, which is checked first.
 pub(crate) fn picture_of<'a>(
@@ -44,15 +44,7 @@ pub(crate) fn picture_of<'a>(
         (text.items ≡ picture_text p)) }
     ensures cause { IfErr result (HasVerdictCause input.now.table input.now.weights report.now (said_by words.entry)) }
 {
-    let loads = loads_of(alloc, &input.table)?;
-    let verdict = check(
-        alloc,
-        &input.table,
-        &loads,
-        input.weights.as_slice(),
-        report,
-    )?;
-    match verdict {
+    match verdict_on(alloc, &input.table, input.weights.as_slice(), report)? {
         Verdict::Yes => draw_right(alloc, words, input, report),
         Verdict::No(_) => Err(PictureStatus::No),
     }

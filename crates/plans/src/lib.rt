@@ -6,5 +6,4 @@ mod order;
 mod places;
 mod planning;
 
-pub use order::loads_of;
 pub use planning::{bound_of, plan, plan_text};

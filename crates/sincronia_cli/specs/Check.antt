@@ -13,11 +13,11 @@ use Rattle.plans.specs.Totals.{BoundsEverySchedule}
 use Rattle.report.specs.declared.value.Report.{Report}
 use Rattle.report.specs.Reading.{IsTextOf}
 use Rattle.report.specs.Report.{HasSmallNumbers, IsReport}
+use Rattle.verdicts.specs.VerdictLine.{verdict_text}
 use Rattle.sincronia_cli.specs.declared.status.Status.{Status}
 use Rattle.sincronia_cli.specs.declared.status.Status.TheVariants as status
 use Rattle.sincronia_cli.specs.Inputs.{IsInput}
 use Rattle.sincronia_cli.specs.Plan.{Appends}
-use Rattle.sincronia_cli.specs.VerdictLine.{verdict_text}
 
 -- a report that was read, where the bytes under its name are told: they are its text
 pub record IsReportOf (told : Option Told) (name : List ℕ) (report : Report) : Type 0 where

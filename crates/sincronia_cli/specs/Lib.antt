@@ -2,7 +2,6 @@ pub mod Shelves
 pub mod Inputs
 pub mod Command
 pub mod Plan
-pub mod VerdictLine
 pub mod Check
 pub mod Make
 pub mod Compare

@@ -1,32 +1,30 @@
 //! The command `check`: the verdict on a report.
-ghost use Rattle.std.specs.Prelude.{◌≡◌, ◌↔◌, ◌≤◌, All, IfErr, IfOk, IfSome, OnOk, Some, length};
+ghost use Rattle.std.specs.Prelude.{◌≡◌, ◌≤◌, All, IfErr, IfOk, IfSome, OnOk, Some, length};
 ghost use Rattle.coflow_units.specs.declared.limits.TheConstants.{MAX_UNIT, MAX_WEIGHT};
 ghost use Rattle.cert_check.specs.declared.verdict.Verdict.{Verdict};
-ghost use Rattle.cert_check.specs.Reasons.{IsVerdict, NamesCoflowIfAny};
-ghost use Rattle.cert_check.specs.Sound.{IsSound};
+ghost use Rattle.cert_check.specs.Reasons.{IsVerdict};
 ghost use Rattle.command_words.specs.Jobs.Job.{check_job};
 ghost use Rattle.command_words.specs.Words.{said_with};
 ghost use Rattle.flow_table.specs.Table.{instance_of};
 ghost use Rattle.report.specs.Report.{IsReport};
+ghost use Rattle.verdicts.specs.VerdictLine.{verdict_text};
 ghost use Rattle.sincronia_cli.specs.Causes.{HasFilesCause};
 ghost use Rattle.sincronia_cli.specs.Check.{CheckOf, status_for};
 ghost use Rattle.sincronia_cli.specs.Complete.{HasGoodFiles};
 ghost use Rattle.sincronia_cli.specs.Ends.{CountsFault};
 ghost use Rattle.sincronia_cli.specs.Shelves.{KeepsFiles, OfBoth, ReadsOut};
 ghost use Rattle.sincronia_cli.specs.Turns.{FilesInTurn};
-ghost use Rattle.sincronia_cli.specs.VerdictLine.{verdict_text};
 
 use crate::inputs::{Input, read_input, read_report_file};
 use crate::outcome::Outcome;
 use crate::status::Status;
-use crate::verdict_line::verdict_text;
-use cert_check::{Verdict, check};
+use cert_check::Verdict;
 use coflow_units::NoMemory;
 use command_words::Options;
 use outside::Shelf;
-use plans::loads_of;
 use report::Report;
 use std::alloc::Global;
+use verdicts::{verdict_on, verdict_text};
 
 /// The line of the verdict on the report of that name, for the coflows of the trace of the other, or the status of why
 /// there is none.
@@ -68,34 +66,12 @@ fn outcome_of(alloc: Global, input: &Input, report: &Report) -> Result<Outcome, 
         IsVerdict (instance_of input.now.table input.now.weights) input.now.table.ids report.now verdict ×
         (o.text.items ≡ verdict_text input.now.table.ids report.now verdict)) }
 {
-    let verdict = verdict_of(alloc, input, report)?;
+    let verdict = verdict_on(alloc, &input.table, input.weights.as_slice(), report)?;
     let text = verdict_text(alloc, &input.table, report, verdict)?;
     Ok(Outcome {
         text,
         status: status_of(verdict),
     })
-}
-
-/// The verdict on a report.
-pub(crate) fn verdict_of(alloc: Global, input: &Input, report: &Report) -> Result<Verdict, NoMemory>
-    requires count { length input.now.weights ≡ length input.now.table.ids }
-    requires weights { All (λ w. w ≤ MAX_WEIGHT) input.now.weights }
-    requires report { IsReport report.now }
-    ensures verdict { IfOk result
-        (IsVerdict (instance_of input.now.table input.now.weights) input.now.table.ids report.now) }
-    ensures yes { IfOk result (λ verdict. (verdict ≡ Verdict.Yes) ↔
-        IsSound (instance_of input.now.table input.now.weights) input.now.table.ids report.now) }
-    ensures coflow { IfOk result (NamesCoflowIfAny (length input.now.table.ids)) }
-{
-    let loads = loads_of(alloc, &input.table)?;
-    let verdict = check(
-        alloc,
-        &input.table,
-        &loads,
-        input.weights.as_slice(),
-        report,
-    )?;
-    Ok(verdict)
 }
 
 /// The status of a verdict whose line was written.

@@ -12,7 +12,6 @@ mod messages;
 mod outcome;
 mod planning;
 mod status;
-mod verdict_line;
 
 pub use command::sincronia;
 pub use inputs::{Input, read_input, read_report_file};

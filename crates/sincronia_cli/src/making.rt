@@ -19,7 +19,6 @@ ghost use Rattle.weights.specs.Weights.{text_checks, weights_of};
 ghost use Rattle.sincronia_cli.specs.Causes.{HasMadeCause};
 ghost use Rattle.sincronia_cli.specs.Make.{GivesMade, MadeOf, summary_of};
 
-use crate::checking::verdict_of;
 use crate::inputs::Input;
 use crate::outcome::Outcome;
 use crate::status::Status;
@@ -30,6 +29,7 @@ use plans::plan;
 use report::{Made, Report, ReportFault, read_report, write_made, write_report};
 use std::alloc::Global;
 use trace_reader::{TraceFault, read_trace};
+use verdicts::verdict_on;
 use weights::{WeightsFault, read_weights};
 use workload::made;
 
@@ -138,7 +138,7 @@ fn summary(alloc: Global, seed: u64, input: &Input, report: &Report) -> Result<V
     requires sound { IsSound (instance_of input.now.table input.now.weights) input.now.table.ids report.now }
     ensures { IfOk result (λ text. text.items ≡ made_text (summary_of seed input.now.table report.now)) }
 {
-    match verdict_of(alloc, input, report)? {
+    match verdict_on(alloc, &input.table, input.weights.as_slice(), report)? {
         Verdict::Yes => {}
         Verdict::No(_) => unreachable!(),
     }

@@ -2,7 +2,7 @@
 ghost use Rattle.std.specs.Prelude.{◌≡◌, IfOk, length};
 ghost use Rattle.cert_check.specs.Reasons.{NamesCoflow, NamesCoflowIfAny};
 ghost use Rattle.report.specs.Text.{side_word};
-ghost use Rattle.sincronia_cli.specs.VerdictLine.{reason_text, verdict_text};
+ghost use Rattle.verdicts.specs.VerdictLine.{reason_text, verdict_text};
 
 use cert_check::{Reason, Verdict};
 use coflow_units::{NoMemory, Side};
@@ -10,8 +10,9 @@ use flow_table::Table;
 use report::Report;
 use std::alloc::Global;
 
-/// The line of a verdict on a report, with its line feed: `yes` and the stated totals, or `no` and the reason with its values. Coflows are told by their ids.
-pub(crate) fn verdict_text(
+/// The line of a verdict on a report, with its line feed: `yes` and the stated totals, or `no` and the reason with its values. Coflows are told by their ids. The
+/// error is want of memory.
+pub fn verdict_text(
     alloc: Global,
     table: &Table,
     report: &Report,
