@@ -1,0 +1,24 @@
+//! Tests of halls. Clauses say what each call may answer; here is that calls in a known order answer what was worked out by hand, that what threads were told stands in the closed journal, and
+//! that a hall from which a session is missing stays open.
+#![tactic(auto)]
+
+#[cfg(test)]
+mod asks;
+#[cfg(test)]
+mod begun;
+#[cfg(test)]
+mod closes;
+#[cfg(test)]
+mod example;
+#[cfg(test)]
+mod games;
+#[cfg(test)]
+mod orders;
+#[cfg(test)]
+mod rows;
+#[cfg(test)]
+mod threads;
+#[cfg(test)]
+mod told;
+#[cfg(test)]
+mod versions;

@@ -1,0 +1,218 @@
+//! Sessions on threads of their own. What they were told stands in the closed journal.
+ghost use Rattle.std.specs.Prelude.{◌≡◌, ◌≤◌, All, length};
+ghost use Rattle.client_session.specs.Models.{IsSessionOf};
+
+use crate::asks::{Ask, Said, answered};
+use crate::games::{Game, Size, agreed};
+use crate::told::Told;
+use crate::versions::{Note, is_true, versions_of};
+use client_session::{Entry, Hall, Pulled, Session};
+use std::alloc::Global;
+use std::process::Abort;
+use std::sync::{Mutex, Wait};
+use std::test::*;
+use std::thread;
+use std::thread::Threads;
+
+/// How many turns a session may take, and how many entries a journal has at most.
+const TURNS: u32 = 400;
+
+const LIMIT: u32 = 4000;
+
+/// Which calls they are.
+#[derive(Clone, Copy, Debug, PartialEq, Eq)]
+pub(crate) enum Mode {
+    /// Each session takes turns of all kinds.
+    Turns,
+    /// Session 1 publishes, and the others pull, mostly without a turn.
+    Pulls,
+}
+
+/// What was noted by sessions, and whether there was memory for all of it.
+#[derive(Drop)]
+pub(crate) struct Log {
+    notes: Vec<Note>,
+    whole: bool,
+}
+
+/// Which calls sessions make, on how many threads, and where they note what they pull.
+#[derive(Clone, Copy)]
+pub(crate) struct Crowd<'a> {
+    mode: Mode,
+    pub(crate) threads: usize,
+    log: &'a Mutex<Log>,
+}
+
+/// The call of a session.
+fn ask_of(mode: Mode, who: u32, call: u32) -> Ask {
+    match mode {
+        Mode::Turns => turn_of(who.wrapping_add(call)),
+        Mode::Pulls if who == 1 => publishing(call),
+        Mode::Pulls if call % 100 == 99 => Ask::PullTurn(call / 100),
+        Mode::Pulls => Ask::Pull(call),
+    }
+}
+
+/// How many calls a session makes. One that pulls takes a turn for each hundredth.
+fn calls_of(mode: Mode, who: u32) -> u32 {
+    match mode {
+        Mode::Pulls if who > 1 => 10 * TURNS,
+        _ => TURNS,
+    }
+}
+
+/// A turn of each kind.
+fn turn_of(kind: u32) -> Ask {
+    match kind % 7 {
+        0 => Ask::Register(kind / 7),
+        1 | 4 => Ask::PullTurn(kind),
+        2 => Ask::Reweigh(0, kind % 5),
+        3 => Ask::Reweigh(1, kind % 3),
+        5 if kind >= TURNS => Ask::Withdraw(kind),
+        _ => Ask::Publish,
+    }
+}
+
+/// Both coflows join, and then ranks change again and again.
+fn publishing(call: u32) -> Ask {
+    match call % 3 {
+        _ if call < 2 => Ask::Register(call),
+        0 => Ask::Reweigh(0, call % 7),
+        _ => Ask::Publish,
+    }
+}
+
+/// What is noted of an answer.
+fn note_of(session: &Session, ask: Ask, said: Said) -> Option<Note> {
+    let Ask::Pull(coflow) = ask else {
+        return None;
+    };
+    let (version, rank) = match said {
+        Said::Pull(Pulled::Rank { version, rank }) => (version, rank),
+        Said::Pull(Pulled::Unranked { version }) => (version, 0),
+        _ => return None,
+    };
+    Some(Note {
+        who: session.number(),
+        coflow: coflow % 2,
+        version,
+        rank,
+        mark: session.receipts().len(),
+    })
+}
+
+/// Makes the calls of a session, and keeps what it notes.
+fn play<R: Wait>(
+    rt: &R,
+    hall: &Hall,
+    session: &mut Session,
+    mode: Mode,
+    notes: &mut Vec<Note>,
+) -> bool
+    requires own { IsSessionOf hall.now session.old }
+    requires coflows { length hall.now.setting.opening.table.ids ≡ 2 }
+    ensures own { IsSessionOf hall.entry.now session.new }
+{
+    let who = session.number();
+    let mut whole = true;
+    for call in 0..calls_of(mode, who) {
+        let ask = ask_of(mode, who, call);
+        let said = answered(rt, hall, session, ask);
+        if let Some(note) = note_of(session, ask, said) {
+            whole = notes.push(note).is_ok() && whole;
+        }
+    }
+    whole
+}
+
+/// Makes the calls of a session, and adds its notes to the log.
+fn play_one<R: Wait>(
+    rt: &R,
+    alloc: Global,
+    hall: &Hall,
+    session: &mut Session,
+    mode: Mode,
+    log: &Mutex<Log>,
+)
+    requires own { IsSessionOf hall.now session.old }
+    requires coflows { length hall.now.setting.opening.table.ids ≡ 2 }
+    ensures own { IsSessionOf hall.entry.now session.new }
+{
+    let mut notes = Vec::new(alloc);
+    let whole = play(rt, hall, session, mode, &mut notes);
+    let mut log = log.lock(rt);
+    let added = log.notes.append(&mut notes).is_ok();
+    log.whole = log.whole && whole && added;
+}
+
+/// Makes the calls of all sessions, on the threads of the crowd.
+pub(crate) fn play_all<R: Threads + Wait + Sync + Abort>(
+    rt: &R,
+    alloc: Global,
+    hall: &Hall,
+    sessions: &mut [Session],
+    crowd: Crowd<'_>,
+)
+    requires own { All (IsSessionOf hall.now) sessions.old }
+    requires coflows { length hall.now.setting.opening.table.ids ≡ 2 }
+    ensures own { All (IsSessionOf hall.entry.now) sessions.new }
+{
+    let Crowd { mode, threads, log } = crowd;
+    assert!(rt; threads > 0);
+    thread::for_each_mut(
+        rt,
+        sessions,
+        threads,
+        &|_, session| { play_one(rt, alloc, hall, session, mode, log) },
+    );
+}
+
+/// All notes are true in a closed journal.
+fn are_true(rt: &impl Abort, alloc: Global, journal: &[Entry], told: &[Told], log: &Log) {
+    assert!(rt; log.whole, "no memory");
+    let versions = versions_of(rt, alloc, journal, LIMIT);
+    for note in log.notes.as_slice() {
+        assert!(rt; is_true(note, versions.as_slice(), told));
+    }
+}
+
+/// Plays a crowd in a new hall. What was told and noted is compared with the closed journal.
+fn compare<R: Threads + Wait + Sync + Abort>(
+    rt: &R,
+    alloc: Global,
+    mode: Mode,
+    sessions: u32,
+    threads: usize,
+)
+    requires few { sessions ≤ 64 }
+    requires some { 1 ≤ threads }
+{
+    let log = Mutex::new(Log {
+        notes: Vec::new(alloc),
+        whole: true,
+    });
+    let crowd = Crowd {
+        mode,
+        threads,
+        log: &log,
+    };
+    let size = Size {
+        sessions,
+        calls: TURNS,
+        limit: LIMIT,
+    };
+    let mut told = Vec::new(alloc);
+    let journal = agreed(rt, alloc, size, Game::Crowd(crowd), &mut told);
+    assert_eq!(rt; told.len(), journal.len());
+    are_true(rt, alloc, &journal, &told, &log.into_inner());
+}
+
+#[test]
+fn two_threads_have_two_sessions_each(rt: HostRuntime) {
+    compare(&rt, rt.alloc(), Mode::Turns, 4, 2);
+}
+
+#[test]
+fn four_threads_pull_what_another_publishes(rt: HostRuntime) {
+    compare(&rt, rt.alloc(), Mode::Pulls, 5, 5);
+}
