@@ -1,0 +1,5 @@
+pub mod ReleasedSteps
+pub mod WaitingSteps
+pub mod DoneSteps
+pub mod Firsts
+pub mod Verdicts

@@ -1,0 +1,7 @@
+pub mod Released
+pub mod Done
+pub mod Early
+pub mod Waiting
+pub mod Sound
+pub mod Reasons
+pub mod Parts

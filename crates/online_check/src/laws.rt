@@ -1,0 +1,24 @@
+//! What a yes says of an online run.
+ghost use Rattle.std.specs.Prelude.{◌≡◌, ℕ, ◌≤◌, List};
+ghost use Rattle.coflow_units.specs.Completion.{cost};
+ghost use Rattle.coflow_units.specs.Flows.{Instance};
+ghost use Rattle.online_text.specs.declared.value.Online.{Online};
+ghost use Rattle.release_bound.specs.Release.{IsReleased};
+ghost use Rattle.schedule_model.specs.RunList.{slots_in};
+ghost use Rattle.online_check.specs.Sound.{IsSoundOnline};
+
+use release_bound::laws::released_is_bound;
+
+/// No valid schedule that serves nobody before its arrival costs less than the total that a right online run states, whoever made its text; and its own schedule is one
+/// of these, with the cost that it states.
+pub fn yes_bounds_released_schedules()
+    ensures total { (i : Instance) (arrival : ℕ → ℕ) (ids : List ℕ) (o : Online) (slots : List (List ℕ)) →
+        IsSoundOnline i arrival ids o → IsReleased i.flows arrival slots →
+        o.total ≤ cost i.flows i.weight i.coflows slots }
+    ensures own { (i : Instance) (arrival : ℕ → ℕ) (ids : List ℕ) (o : Online) → IsSoundOnline i arrival ids o →
+        IsReleased i.flows arrival (slots_in o.runs) }
+    ensures cost { (i : Instance) (arrival : ℕ → ℕ) (ids : List ℕ) (o : Online) → IsSoundOnline i arrival ids o →
+        o.cost ≡ cost i.flows i.weight i.coflows (slots_in o.runs) }
+{
+    released_is_bound();
+}
