@@ -1,0 +1,7 @@
+pub mod InRanges
+pub mod KnownIds
+pub mod Partings
+pub mod RunPartings
+pub mod Refusals
+pub mod StatedSteps
+pub mod YesSteps

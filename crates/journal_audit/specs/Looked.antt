@@ -1,0 +1,27 @@
+-- What is known while a printed journal is looked through.
+use Rattle.std.specs.Prelude.{◌≡◌, ◌≢◌, ◌⊎◌, ℕ, min, false, List, All, map}
+use Rattle.coflow_units.specs.declared.plan.Run.{Run}
+use Rattle.journal.specs.declared.command.Entry.{Entry}
+use Rattle.journal.specs.Counts.{is_noting, is_skipping}
+use Rattle.live_text.specs.declared.value.EntryLine.{EntryLine}
+use Rattle.journal_audit.specs.declared.stated.Stated.{Stated}
+use Rattle.journal_audit.specs.declared.stated.Stated.TheVariants.{Commands, Unknown}
+use Rattle.journal_audit.specs.Reasons.{IsFirstUnknown}
+use Rattle.journal_audit.specs.Stated.{IsKnown, command_for}
+
+-- the commands are those of the entries, whose ids are coflows', or the first unknown id is told
+abbrev pub IsStated : List ℕ → List EntryLine → Stated → Type 0
+IsStated ids entries (Commands commands) =
+    (commands.items ≡ map (λ (e : EntryLine). command_for ids e.word) entries)
+    × All (λ (e : EntryLine). IsKnown ids e.word) entries
+IsStated ids entries (Unknown position) = IsFirstUnknown ids entries position
+
+-- no entry notes units or skips slots
+abbrev pub IsPlain : List Entry → Type 0
+IsPlain journal = All (λ (e : Entry). (is_noting e.command ≡ false) × (is_skipping e.command ≡ false)) journal
+
+-- two runs that are not the same have so many slots in common: none where their flows differ, and else all those of the
+-- shorter one
+abbrev pub HaveInCommon : Run → Run → ℕ → Type 0
+HaveInCommon a b n =
+    ((a.flows ≢ b.flows) × (n ≡ 0)) ⊎ ((a.flows ≡ b.flows) × (a.length ≢ b.length) × (n ≡ min a.length b.length))
