@@ -1,0 +1,88 @@
+//! What the words of the call ask for.
+ghost use Rattle.std.specs.Prelude.{◌≤◌, IfOk};
+
+use crate::stop::Stop;
+use coflow_units::MAX_TEXT;
+use flow_table::Table;
+use outside::{DiskShelf, Place4, Shelf, read_all};
+use std::alloc::Global;
+use std::env;
+use trace_reader::read_trace;
+
+/// The greatest number of runs.
+const MAX_RUNS: u32 = 1_000_000;
+
+/// The greatest number of agents.
+const MAX_AGENTS: u32 = 64;
+
+/// What is to be measured.
+#[derive(Drop)]
+pub struct Game {
+    pub table: Table,
+    pub agents: u32,
+    pub runs: u32,
+    /// The time is told, and else what was sent.
+    pub timed: bool,
+}
+
+/// What the words ask for.
+pub fn game_of(rt: &HostRuntime) -> Result<Game, Stop>
+    ensures agents { IfOk result (λ game. 1 ≤ game.agents) }
+    ensures runs { IfOk result (λ game. game.runs ≤ 1000000) }
+{
+    let alloc = rt.alloc();
+    let Ok(words) = env::args(rt) else {
+        return Err(Stop::Usage);
+    };
+    let Ok(words) = words.collect::<Vec<String>>(alloc) else {
+        return Err(Stop::NoMemory);
+    };
+    let Some(trace) = words.get(1) else {
+        return Err(Stop::Usage);
+    };
+    Ok(Game {
+        agents: number_of(words.get(2))?.clamp(1, MAX_AGENTS),
+        runs: number_of(words.get(3))?.min(MAX_RUNS),
+        timed: is_time(words.get(4))?,
+        table: table_of(alloc, &mut DiskShelf::new(*rt), trace)?,
+    })
+}
+
+/// The number that a word is.
+fn number_of(word: Option<&String>) -> Result<u32, Stop> {
+    let Some(word) = word else {
+        return Err(Stop::Usage);
+    };
+    match word.parse::<u32>() {
+        Ok(number) => Ok(number),
+        Err(_) => Err(Stop::Usage),
+    }
+}
+
+/// Whether the time is asked for.
+fn is_time(word: Option<&String>) -> Result<bool, Stop> {
+    let Some(word) = word else {
+        return Ok(false);
+    };
+    match word.as_str() {
+        "time" => Ok(true),
+        _ => Err(Stop::Usage),
+    }
+}
+
+/// The table of a file's trace, in units of a megabyte.
+fn table_of<H: Shelf>(alloc: Global, shelf: &mut H, name: &str) -> Result<Table, Stop> {
+    let Ok(()) = shelf.start(Place4::Trace, name) else {
+        return Err(Stop::File);
+    };
+    let Ok(bytes) = read_all(alloc, shelf, Place4::Trace, MAX_TEXT) else {
+        return Err(Stop::File);
+    };
+    let Ok(trace) = read_trace(alloc, &bytes) else {
+        return Err(Stop::Trace);
+    };
+    match Table::build(alloc, &trace, 1) {
+        Ok(table) => Ok(table),
+        Err(_) => Err(Stop::Table),
+    }
+}
