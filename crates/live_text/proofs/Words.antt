@@ -11,14 +11,11 @@ use Rattle.live_text.specs.declared.value.Said.TheVariants.{Unranked, Opened, No
 use Rattle.live_text.specs.declared.value.Word.{Word}
 use Rattle.live_text.specs.declared.value.Word.TheVariants.{Register, Withdraw, Publish, Pull, Open, Close, Reweigh}
 use Rattle.live_text.specs.Live.{IsAnswerOf, IsWord}
+use Rattle.live_text.specs.Readers.{mark}
 use Rattle.live_text.specs.Text.{command_words, reply_words}
 use Rattle.live_text.proofs.NumberLists.{AreWide, StopsBehind, numbers_unique, one_number, three_numbers, two_numbers}
 
 -- ---- commands
-
--- the fourth byte, which tells commands apart, and lines
-abbrev pub mark : List ℕ → ℕ
-mark bytes = get_or bytes 3 0
 
 -- the numbers of a command
 abbrev pub numbers_in : Word → List ℕ

@@ -1,2 +1,5 @@
 pub mod Text
 pub mod Live
+pub mod Readers
+pub mod Draft
+pub mod Reading
