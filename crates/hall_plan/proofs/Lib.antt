@@ -1,0 +1,7 @@
+pub mod PlanEntries
+pub mod Begun
+pub mod PlanRuns
+pub mod PlanParts
+pub mod WireSteps
+pub mod PlanTurns
+pub mod PlanSlots

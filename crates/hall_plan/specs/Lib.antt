@@ -1,0 +1,4 @@
+pub mod Journals
+pub mod Plans
+pub mod Wires
+pub mod Halls

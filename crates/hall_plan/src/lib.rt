@@ -1,0 +1,11 @@
+//! A plan served by a hall: one driver registers all coflows, publishes their order once, and runs until nothing is left.
+#![tactic(auto)]
+
+mod answer;
+mod beginning;
+pub mod laws;
+mod planning;
+mod serving;
+
+pub use answer::{HallPlan, PlanFault};
+pub use planning::plan;
