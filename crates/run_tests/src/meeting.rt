@@ -2,8 +2,8 @@
 ghost use Rattle.std.specs.Prelude.{◌≤◌};
 
 use crate::stage::{CROSSED, stage_of};
+use crate::told::{tell_journal, tell_run};
 use outside::Wire;
-use slot_runner::Ran;
 use std::alloc::Global;
 use std::process::Abort;
 use std::sync::Wait;
@@ -44,11 +44,11 @@ impl Wire for MeetingWire<'_> {
     }
 }
 
-/// The first run of a hall, with so many agents, on two wires that wait for each other.
-fn meet<R: Threads + Wait + Sync + Abort>(rt: &R, alloc: Global, agents: u32) -> Ran
+/// What the first run of a hall comes to, with so many agents, on two wires that wait for each other.
+fn met<R: Threads + Wait + Sync + Abort>(rt: &R, alloc: Global, agents: u32) -> String
     requires some { 1 ≤ agents }
 {
-    let mut stage = stage_of(rt, alloc, CROSSED, 100, 20);
+    let mut text = String::new(alloc);
     let (one, two) = (AtomicBool::new(false), AtomicBool::new(false));
     let mut wires = [
         MeetingWire {
@@ -62,23 +62,31 @@ fn meet<R: Threads + Wait + Sync + Abort>(rt: &R, alloc: Global, agents: u32) ->
             faults: 0,
         },
     ];
-    let hall = &stage.hall;
-    stage.runner.slot(alloc, rt, hall, 1, agents, &mut wires)
+    let mut stage = stage_of(rt, alloc, CROSSED, 100, 20);
+    let (hall, runner) = (&stage.hall, &mut stage.runner);
+    tell_run(rt, alloc, hall, runner, 1, agents, &mut wires, &mut text);
+    tell_journal(rt, alloc, stage, &mut text);
+    text
 }
 
 // No clause says that agents run beside each other. Where one of them ended before another began, the first wire would give up here, as it does where one agent has both.
 #[test]
 fn agents_of_a_run_are_on_threads_at_the_same_time(rt: HostRuntime) {
-    let whole = Ran::Ran {
-        slot: 1,
-        length: 1,
-        count: 2,
-    };
-    let gave_up = Ran::WireFault { port: 0, sent: 0 };
+    let whole = "\
+Ran { slot: 1, length: 1, count: 2 } [0, 3] 18
+Open(1) Opened(1, 1, 2)
+Close Closed(1)
+";
+    let gave_up = "\
+WireFault { port: 0, sent: 0 } [0, 3] 17
+Open(1) Opened(1, 1, 2)
+Short(0, 0) Noted(0)
+Close Closed(1)
+";
     for (agents, want) in [(2, whole), (64, whole), (1, gave_up)] {
-        let ran = meet(&rt, rt.alloc(), agents);
+        let text = met(&rt, rt.alloc(), agents);
         assert_eq!(rt;
-            ran,
+            text.as_str(),
             want,
             "a wire gave up, or there was no memory for a thread"
         );
