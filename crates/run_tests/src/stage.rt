@@ -25,7 +25,7 @@ pub struct Stage {
 }
 
 /// The table of a trace with two ports, where a unit has one megabyte.
-fn table_of(alloc: Global, trace: &str) -> Option<Table>
+pub fn table_of(alloc: Global, trace: &str) -> Option<Table>
     ensures ports { IfSome result (λ t. t.ports ≡ 2) }
 {
     if trace.len() > MAX_TEXT {
