@@ -205,6 +205,64 @@ Close Closed(7)
 }
 
 #[test]
+fn a_wire_fails_at_the_first_unit_of_a_run_or_later(rt: HostRuntime) {
+    let first = "\
+WireFault { port: 0, sent: 0 } [1] 17
+Open(2199023255551) Opened(1, 1, 1)
+Short(0, 0) Noted(0)
+Close Closed(1)
+";
+    let second = "\
+Ran { slot: 1, length: 1, count: 1 } [1] 18
+WireFault { port: 0, sent: 0 } [0] 15
+0: (1, 1, 1)
+Open(2199023255551) Opened(1, 1, 1)
+Close Closed(1)
+Open(2199023255551) Opened(2, 3, 1)
+Short(0, 0) Noted(0)
+Close Closed(2)
+";
+    let last = "\
+Ran { slot: 1, length: 1, count: 1 } [1] 18
+WireFault { port: 0, sent: 2 } [0] 15
+0: (1, 1, 1)
+0: (2, 0, 2)
+Open(2199023255551) Opened(1, 1, 1)
+Close Closed(1)
+Open(2199023255551) Opened(2, 3, 1)
+Short(0, 2) Noted(2)
+Close Closed(2)
+";
+    let one = Row {
+        trace: SAME,
+        limit: 100,
+        calls: 20,
+        fail_at: [1, 0],
+        agents: 1,
+        most: &[MAX_SLOT],
+        want: first,
+    };
+    let two = Row {
+        most: &[MAX_SLOT, MAX_SLOT],
+        ..one
+    };
+    let rows = [
+        one,
+        Row {
+            fail_at: [2, 0],
+            want: second,
+            ..two
+        },
+        Row {
+            fail_at: [4, 0],
+            want: last,
+            ..two
+        },
+    ];
+    play_all(&rt, rt.alloc(), &rows);
+}
+
+#[test]
 fn runs_go_on_until_nothing_is_left(rt: HostRuntime) {
     let same = "\
 Ran { slot: 1, length: 1, count: 1 } [1] 18
