@@ -1,12 +1,10 @@
 -- The commands of a text whose ids are known are in range, and none of them notes units or skips slots.
-use Rattle.std.proofs.Common.{◌≡◌, ℕ, ◌≤◌, ◌<◌, List, [], ◌∷◌, ◌++◌, Bool, true, false, get_or, length, map, refl, sym, ap, ◌∙◌, subst, suc, arith}
+use Rattle.std.proofs.Common.{◌≡◌, ℕ, List, [], ◌∷◌, true, false, length, refl, suc, arith}
 use Rattle.std.specs.Prelude.{◌&&◌, All, nat_le, nat_lt}
 use Rattle.std.proofs.lemmas.Bool.{and_from, le-leb, lt-ltb}
 use Rattle.std.proofs.lemmas.List.Elements.{All-cons}
 use Rattle.cert_check.specs.Places.{coflow_with}
 use Rattle.cert_check.proofs.NameSteps.{known_within}
-use Rattle.journal.specs.declared.command.Command.{Command}
-use Rattle.journal.specs.declared.command.Command.TheVariants as k
 use Rattle.journal.specs.declared.command.Entry.{Entry}
 use Rattle.journal.specs.declared.opening.Opening.{Opening}
 use Rattle.journal.specs.Answer.{IsInRange, in_range}

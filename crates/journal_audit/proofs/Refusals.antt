@@ -1,5 +1,5 @@
 -- No reason holds where its part of the text is right.
-use Rattle.std.proofs.Common.{◌≡◌, ◌≢◌, ℕ, ◌+◌, ◌-◌, ◌≤◌, ◌<◌, List, [], ◌∷◌, ◌++◌, get_or, drop, length, map, take, refl, sym, ap, ◌∙◌, subst, arith}
+use Rattle.std.proofs.Common.{◌≡◌, ℕ, ◌+◌, ◌-◌, ◌<◌, List, [], ◌∷◌, ◌++◌, get_or, drop, length, take, sym, ap, ◌∙◌, subst, arith}
 use Rattle.std.specs.Prelude.{All, None, Option, Some}
 use Rattle.std.proofs.lemmas.List.{drop_more, get_or-map, length-map, take-append-drop}
 use Rattle.std.proofs.lemmas.List.Elements.{All-get_or}
@@ -7,7 +7,6 @@ use Rattle.journal.specs.declared.command.Entry.{Entry}
 use Rattle.journal.specs.declared.command.Reply.{Reply}
 use Rattle.journal.specs.declared.opening.Opening.{Opening}
 use Rattle.journal.specs.State.{Run}
-use Rattle.journal.specs.Answer.{reply_of}
 use Rattle.journal.specs.Journal.{IsLegal}
 use Rattle.journal.proofs.Versions.{legal_there}
 use Rattle.live_text.specs.declared.value.EntryLine.{EntryLine}
@@ -20,7 +19,7 @@ use Rattle.journal_audit.specs.Parted.{IsFirstWrongOrder}
 use Rattle.journal_audit.specs.Pulls.{HasVersion, IsFirstWrongRank, IsFirstWrongVersion, pull_at, real_rank}
 use Rattle.journal_audit.specs.Reasons.{HasReasonFor, IsFirstUnknown, IsFirstWrongEntry, line_at}
 use Rattle.journal_audit.specs.Sound.{IsRightFor}
-use Rattle.journal_audit.specs.Stated.{IsKnown, command_for, entry_for, reply_for, stated_by}
+use Rattle.journal_audit.specs.Stated.{IsKnown, entry_for, reply_for, stated_by}
 use Rattle.journal_audit.proofs.Partings.{no_parting, none_is_not_some}
 
 pub no_unknown : (ids : List ℕ) (entries : List EntryLine) (position : ℕ) → All (λ (e : EntryLine). IsKnown ids e.word) entries → IsFirstUnknown ids entries position → ⊥

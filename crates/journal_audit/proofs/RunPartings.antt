@@ -1,11 +1,11 @@
 -- Where the schedules of two lists of runs part.
-use Rattle.std.proofs.Common.{◌≡◌, ◌≢◌, ℕ, ◌+◌, ◌-◌, ◌≤◌, ◌<◌, ◌⊎◌, inl, inr, zero, suc, List, [], ◌∷◌, ◌++◌, length, get_or, take, drop, replicate, refl, sym, ap, ◌∙◌, subst, arith}
-use Rattle.std.specs.Prelude.{All, None, Option, Some, min, slice_get}
+use Rattle.std.proofs.Common.{◌≡◌, ◌≢◌, ℕ, ◌+◌, ◌≤◌, ◌<◌, inl, inr, zero, suc, List, [], ◌∷◌, ◌++◌, length, get_or, take, drop, replicate, refl, sym, ap, ◌∙◌, subst, arith}
+use Rattle.std.specs.Prelude.{Some, min, slice_get}
 use Rattle.std.proofs.lemmas.Bool.{cases_lt}
 use Rattle.std.proofs.lemmas.List.{append-nil, drop_more, get_or-drop, get_or_default, length-drop}
 use Rattle.coflow_units.specs.declared.plan.Run.{Run}
 use Rattle.schedule_model.specs.RunList.{IsKept, slots_in}
-use Rattle.schedule_model.proofs.RunSlots.{all_runs, run_at, run_more, run_some, slots_parts}
+use Rattle.schedule_model.proofs.RunSlots.{all_runs, run_at, run_some, slots_parts}
 use Rattle.journal_audit.specs.Looked.{HaveInCommon}
 use Rattle.journal_audit.specs.Parted.{IsPartedAt}
 use Rattle.journal_audit.proofs.Partings.{end_parts, fewer_part, heads_part, none_is_not_some, parted_back, parted_behind, same_some}

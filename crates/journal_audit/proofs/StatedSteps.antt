@@ -1,7 +1,7 @@
 -- The commands of the entries, one after another.
-use Rattle.std.proofs.Common.{◌≡◌, ℕ, ◌+◌, ◌-◌, ◌≤◌, ◌<◌, List, [], ◌∷◌, ◌++◌, get_or, length, map, take, refl, sym, ap, ◌∙◌, subst, arith}
+use Rattle.std.proofs.Common.{◌≡◌, ℕ, ◌+◌, ◌-◌, ◌≤◌, ◌<◌, List, [], ◌∷◌, ◌++◌, get_or, length, map, take, sym, ap, ◌∙◌, subst, arith}
 use Rattle.std.specs.Prelude.{All, Option}
-use Rattle.std.proofs.lemmas.List.{get_or_default, length-append, get_or-take, map_push, take_all, take_more, length-map, length-take-le}
+use Rattle.std.proofs.lemmas.List.{get_or_default, length-append, get_or-take, map_push, take_all, take_more, length-take-le}
 use Rattle.std.proofs.lemmas.List.Elements.{All-get_or, All-push}
 use Rattle.journal.specs.declared.command.Command.{Command}
 use Rattle.live_text.specs.declared.value.EntryLine.{EntryLine}

@@ -1,11 +1,10 @@
 -- What a right text says of its runs.
-use Rattle.std.proofs.Common.{◌≡◌, ℕ, ◌≤◌, ◌<◌, List, Contains, length, map, refl, sym, ap, ◌∙◌, subst, arith}
+use Rattle.std.proofs.Common.{◌≡◌, ℕ, ◌≤◌, List, map, sym, ap, ◌∙◌, subst, arith}
 use Rattle.std.specs.Prelude.{All}
-use Rattle.coflow_units.specs.Flows.{coflow_of, units_of}
-use Rattle.coflow_units.specs.Patient.{IsServedOrWaits}
+use Rattle.coflow_units.specs.Flows.{units_of}
 use Rattle.coflow_units.specs.Schedule.{IsClear, slots_of, times}
 use Rattle.flow_table.specs.Table.{TableFacts}
-use Rattle.journal.specs.Closed.{closed_runs, schedule_of}
+use Rattle.journal.specs.Closed.{closed_runs}
 use Rattle.journal.specs.Counts.{run_line}
 use Rattle.journal.specs.Sound.{InRange}
 use Rattle.journal.proofs.ScheduleTimes.{slots_clear, times_is_sent}

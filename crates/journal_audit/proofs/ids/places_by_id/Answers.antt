@@ -1,4 +1,4 @@
-use Rattle.std.proofs.Common.{◌<◌, length, slice_index, arith}
+use Rattle.std.proofs.Common.{slice_index, arith}
 use Rattle.std.proofs.lemmas.Grind.{common_steps}
 use Rattle.cert_check.proofs.IdSteps.{found_more}
 use Rattle.journal_audit.proofs.ids.places_by_id.Goals as goal

@@ -1,4 +1,4 @@
-use Rattle.std.proofs.Common.{◌≡◌, ◌+◌, ◌-◌, ◌≤◌, ◌<◌, List, ℕ, length, min, arith, subst, sym, take}
+use Rattle.std.proofs.Common.{◌≡◌, ◌+◌, ◌-◌, ◌<◌, ℕ, length, min, arith, subst, take}
 use Rattle.schedule_model.specs.RunList.{slots_in}
 use Rattle.schedule_model.proofs.RunSlots.{count_more, count_within, run_fits}
 use Rattle.journal_audit.specs.Parted.{IsPartedAt}

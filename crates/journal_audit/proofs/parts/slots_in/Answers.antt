@@ -1,4 +1,4 @@
-use Rattle.std.proofs.Common.{◌≤◌, ◌+◌, arith, length}
+use Rattle.std.proofs.Common.{◌+◌, arith}
 use Rattle.schedule_model.proofs.RunSlots.{count_within, run_count}
 use Rattle.journal_audit.proofs.parts.slots_in.Goals as goal
 

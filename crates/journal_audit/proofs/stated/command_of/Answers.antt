@@ -1,6 +1,5 @@
-use Rattle.std.proofs.Common.{◌≡◌, ap, sym}
+use Rattle.std.proofs.Common.{ap}
 use Rattle.journal.specs.declared.command.Command.TheVariants.{Pull, Register, Reweigh, Withdraw}
-use Rattle.journal_audit.specs.Stated.{IsKnown, command_for}
 use Rattle.journal_audit.proofs.stated.command_of.Goals as goal
 
 pub returns-in_ok-coflow_of-in-Register : goal.returns-in_ok-coflow_of-in-Register

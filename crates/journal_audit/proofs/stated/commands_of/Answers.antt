@@ -1,4 +1,4 @@
-use Rattle.std.proofs.Common.{◌≡◌, ◌≤◌, ◌+◌, List, ℕ, ap, arith, length, nat_eq, refl, subst, sym}
+use Rattle.std.proofs.Common.{◌≡◌, ◌+◌, List, ℕ, arith, length, nat_eq, subst, sym}
 use Rattle.indexmap.specs.IndexMap.{get}
 use Rattle.journal.specs.declared.command.Command.{Command}
 use Rattle.journal_audit.specs.Reasons.{IsFirstUnknown}

@@ -1,5 +1,5 @@
 -- the commands so far, and that their ids are coflows'
-use Rattle.std.proofs.Common.{nat_eq, take, length, ◌≡◌}
+use Rattle.std.proofs.Common.{nat_eq}
 use Rattle.indexmap.specs.IndexMap.{get}
 use Rattle.journal_audit.proofs.StatedSteps.{CommandsSoFar}
 use Rattle.journal_audit.proofs.stated.commands_of.Given as goal
