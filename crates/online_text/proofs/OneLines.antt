@@ -82,19 +82,19 @@ epochs_are_lines (e ∷ es) small =
 words_regroup : (a b c d e r : List ℕ) → (a ++ b ++ c ++ d ++ e) ++ r ≡ a ++ (b ++ c ++ (d ++ (e ++ r)))
 words_regroup a b c d e r = simp append_assoc
 
-abbrev behind_number : ℕ → List ℕ → List ℕ
+abbrev pub behind_number : ℕ → List ℕ → List ℕ
 behind_number y rest = spaced y ++ rest
 
-abbrev behind_side : Port → ℕ → List ℕ → List ℕ
+abbrev pub behind_side : Port → ℕ → List ℕ → List ℕ
 behind_side port y rest = spaced port.number ++ behind_number y rest
 
-abbrev behind_id : Port → ℕ → List ℕ → List ℕ
+abbrev pub behind_id : Port → ℕ → List ℕ → List ℕ
 behind_id port y rest = codes " " ++ side_word port.side ++ behind_side port y rest
 
-words_parts : (id : ℕ) (port : Port) (y : ℕ) (rest : List ℕ) → charge_words id port y ++ rest ≡ spaced id ++ behind_id port y rest
+pub words_parts : (id : ℕ) (port : Port) (y : ℕ) (rest : List ℕ) → charge_words id port y ++ rest ≡ spaced id ++ behind_id port y rest
 words_parts id port y rest = words_regroup (spaced id) (codes " ") (side_word port.side) (spaced port.number) (spaced y) rest
 
-words_unique : (id id' : ℕ) (port port' : Port) (y y' : ℕ) (x x' : List ℕ) → IsSmallCharge id port y → IsSmallCharge id' port' y' → Stops x → Stops x' →
+pub words_unique : (id id' : ℕ) (port port' : Port) (y y' : ℕ) (x x' : List ℕ) → IsSmallCharge id port y → IsSmallCharge id' port' y' → Stops x → Stops x' →
     charge_words id port y ++ x ≡ charge_words id' port' y' ++ x' → (id ≡ id') × (port ≡ port') × (y ≡ y') × (x ≡ x')
 words_unique id id' port port' y y' x x' small small' stops stops' e =
     let a = spaced_unique (behind_id port y x) (behind_id port' y' x') id id' (omega (arith, small.id_fits)) (omega (arith, small'.id_fits)) refl refl
@@ -104,7 +104,7 @@ words_unique id id' port port' y y' x x' small small' stops stops' e =
     let d = spaced_unique x x' y y' small.y_fits small'.y_fits stops stops' c.1 in
     (a.0, (λ i. record { side = b.0 i; number = c.0 i }), d.0, d.1)
 
-order_unique : (k : ℕ) (p q : OnlinePlace) → IsSmallCharge p.id p.port p.y → IsSmallCharge q.id q.port q.y → order_line k p ≡ order_line k q → p ≡ q
+pub order_unique : (k : ℕ) (p q : OnlinePlace) → IsSmallCharge p.id p.port p.y → IsSmallCharge q.id q.port q.y → order_line k p ≡ order_line k q → p ≡ q
 order_unique k p q sp sq e =
     let parts = λ (r : OnlinePlace). append_assoc (codes "place") (spaced k) (charge_words r.id r.port r.y) in
     let behind : spaced k ++ charge_words p.id p.port p.y ≡ spaced k ++ charge_words q.id q.port q.y = ap (drop 5) (sym (parts p) ∙ (e ∙ parts q)) in
@@ -113,7 +113,7 @@ order_unique k p q sp sq e =
     (append-nil (charge_words p.id p.port p.y) ∙ (words ∙ sym (append-nil (charge_words q.id q.port q.y)))) in
     λ i. record { id = id i; port = port i; y = y i }
 
-release_unique : (k : ℕ) (p q : ReleaseLine) → IsSmallRelease p → IsSmallRelease q → release_line k p ≡ release_line k q → p ≡ q
+pub release_unique : (k : ℕ) (p q : ReleaseLine) → IsSmallRelease p → IsSmallRelease q → release_line k p ≡ release_line k q → p ≡ q
 release_unique k p q sp sq e =
     let parts = λ (r : ReleaseLine). append_assoc (codes "release" ++ spaced k) (charge_words r.id r.port r.y) (spaced r.z) ∙
     append_assoc (codes "release") (spaced k) (charge_words r.id r.port r.y ++ spaced r.z) in
@@ -124,7 +124,7 @@ release_unique k p q sp sq e =
     let z = decimal_one p.z q.z sp.z sq.z (ap (drop 1) rest) in
     λ i. record { id = id i; port = port i; y = y i; z = z i }
 
-done_unique : (a b : DoneLine) → IsSmallDone a → IsSmallDone b → done_line a ≡ done_line b → a ≡ b
+pub done_unique : (a b : DoneLine) → IsSmallDone a → IsSmallDone b → done_line a ≡ done_line b → a ≡ b
 done_unique a b sa sb e =
     let parts = λ (d : DoneLine). append_assoc (codes "done") (spaced d.id) (spaced d.slot) in
     let (id, rest) = spaced_unique (spaced a.slot) (spaced b.slot) a.id b.id (omega (arith, sa.id)) (omega (arith, sb.id)) refl refl

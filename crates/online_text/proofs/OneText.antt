@@ -17,20 +17,21 @@ use Rattle.online_text.specs.declared.value.Online.{Online}
 use Rattle.online_text.specs.declared.value.OnlinePlace.{OnlinePlace}
 use Rattle.online_text.specs.declared.value.ReleaseLine.{ReleaseLine}
 use Rattle.online_text.specs.Online.{HasSmallNumbers, IsOnline, IsSmallEpoch}
-use Rattle.online_text.specs.Text.{certificate_lines, done_line, epoch_lines, online_lines, online_text, order_line_at, order_lines, release_line_at, time_line, total_line}
+use Rattle.online_text.specs.Text.{certificate_lines, done_line, epoch_lines, lines_from_done, lines_from_release, lines_from_runs, online_lines, online_text, order_line_at, order_lines}
+use Rattle.online_text.specs.Text.{release_line_at, time_line, total_line}
 use Rattle.online_text.proofs.OneLines.{done_are_lines, done_one, epochs_are_lines, order_one, release_are_lines, release_one}
 
 -- ---- the publishings
 
 -- the first of the lines, if there is one, does not begin with the byte
-abbrev BeginsOther : ℕ → List (List ℕ) → Type 0
+abbrev pub BeginsOther : ℕ → List (List ℕ) → Type 0
 BeginsOther p [] = Unit {0}
 BeginsOther p (l ∷ ls) = first l ≡ p → ⊥
 
 order_first : (places : List OnlinePlace) → AllFirst 112 (order_lines places)
 order_first places = all_first 112 (order_line_at places) (λ k. refl) (range_with_len 0 (length places))
 
-block_parts : (e : Epoch) (rest : List (List ℕ)) → epoch_lines e ++ rest ≡ time_line e.time ∷ (order_lines e.places ++ (bound_line e.bound ∷ rest))
+pub block_parts : (e : Epoch) (rest : List (List ℕ)) → epoch_lines e ++ rest ≡ time_line e.time ∷ (order_lines e.places ++ (bound_line e.bound ∷ rest))
 block_parts e rest = ap (λ ls. time_line e.time ∷ ls) (append_assoc (order_lines e.places) (bound_line e.bound ∷ []) rest)
 
 epochs_one : (xs ys : List Epoch) → All IsSmallEpoch xs → All IsSmallEpoch ys → (a b : List (List ℕ)) → BeginsOther 101 a → BeginsOther 101 b →
@@ -62,37 +63,32 @@ epochs_one (x ∷ xs) (y ∷ ys) hx hy a b oa ob e =
 
 -- ---- the whole
 
-abbrev from_runs : Online → List (List ℕ)
-from_runs o = map run_line o.runs ++ (codes "end" ∷ [])
-
-abbrev from_certificate : Online → List (List ℕ)
-from_certificate o = certificate_lines o.release ++ (total_line o.total ∷ from_runs o)
-
-abbrev from_done : Online → List (List ℕ)
-from_done o = map done_line o.done ++ (cost_line o.cost ∷ from_certificate o)
-
-abbrev nested : Online → List (List ℕ)
-nested o = codes "sincronia online 2" ∷ (flat_map epoch_lines o.epochs ++ from_done o)
+abbrev pub nested : Online → List (List ℕ)
+nested o = codes "sincronia online 2" ∷ (flat_map epoch_lines o.epochs ++ lines_from_done o)
 
 regroup : (a b c d e f g : List (List ℕ)) → a ++ b ++ c ++ d ++ e ++ f ++ g ≡ a ++ (b ++ (c ++ (d ++ (e ++ (f ++ g)))))
 regroup a b c d e f g = simp append_assoc
 
-online_nested : (o : Online) → online_lines o ≡ nested o
+pub online_nested : (o : Online) → online_lines o ≡ nested o
 online_nested o = ap (λ ls. codes "sincronia online 2" ∷ ls)
     (regroup (flat_map epoch_lines o.epochs) (map done_line o.done) (cost_line o.cost ∷ []) (certificate_lines o.release) (total_line o.total ∷ []) (map run_line o.runs)
     (codes "end" ∷ []))
 
 nested_are_lines : (o : Online) → IsOnline o → HasSmallNumbers o → AreLines (nested o)
 nested_are_lines o h small =
-    let runs : AreLines (from_runs o) = both_lines (map run_line o.runs) (codes "end" ∷ []) (runs_lines o.runs h.run) (front_is_line (codes "end"), tt) in
-    let certificate : AreLines (from_certificate o) = both_lines (certificate_lines o.release) (total_line o.total ∷ from_runs o)
+    let runs : AreLines (lines_from_runs o) = both_lines (map run_line o.runs) (codes "end" ∷ []) (runs_lines o.runs h.run) (front_is_line (codes "end"), tt) in
+    let certificate : AreLines (lines_from_release o) = both_lines (certificate_lines o.release) (total_line o.total ∷ lines_from_runs o)
     (release_are_lines o.release small.count small.release)
     (total_one (codes "total") o.total (front_is_line (codes "total")) small.total, runs) in
-    let done : AreLines (from_done o) = both_lines (map done_line o.done) (cost_line o.cost ∷ from_certificate o) (done_are_lines o.done small.done)
+    let done : AreLines (lines_from_done o) = both_lines (map done_line o.done) (cost_line o.cost ∷ lines_from_release o) (done_are_lines o.done small.done)
     (total_one (codes "cost") o.cost (front_is_line (codes "cost")) small.cost, certificate) in
-    (front_is_line (codes "sincronia online 2"), both_lines (flat_map epoch_lines o.epochs) (from_done o) (epochs_are_lines o.epochs small.epochs) done)
+    (front_is_line (codes "sincronia online 2"), both_lines (flat_map epoch_lines o.epochs) (lines_from_done o) (epochs_are_lines o.epochs small.epochs) done)
 
-done_begins : (ds : List DoneLine) (cost : ℕ) (more : List (List ℕ)) → BeginsOther 101 (map done_line ds ++ (cost_line cost ∷ more))
+-- each line of an online run is one line
+pub online_are_lines : (o : Online) → IsOnline o → HasSmallNumbers o → AreLines (online_lines o)
+online_are_lines o h small = subst AreLines (sym (online_nested o)) (nested_are_lines o h small)
+
+pub done_begins : (ds : List DoneLine) (cost : ℕ) (more : List (List ℕ)) → BeginsOther 101 (map done_line ds ++ (cost_line cost ∷ more))
 done_begins [] cost more = λ bad. omega (arith, bad)
 done_begins (d ∷ ds) cost more = λ bad. omega (arith, bad)
 
@@ -102,18 +98,15 @@ release_first places = all_first 114 (release_line_at places) (λ k. refl) (rang
 pub online_one : (a b : Online) → IsOnline a → HasSmallNumbers a → IsOnline b → HasSmallNumbers b → online_text a ≡ online_text b → a ≡ b
 online_one a b ha sa hb sb e = λ i. record { epochs = split.0 i; done = done i; cost = cost i; release = release i; total = total i; runs = runs i }
   where
-    is_lines : (o : Online) → IsOnline o → HasSmallNumbers o → AreLines (online_lines o)
-    is_lines o h small = subst AreLines (sym (online_nested o)) (nested_are_lines o h small)
-
     whole : nested a ≡ nested b
-    whole = sym (online_nested a) ∙ (lines_one (online_lines a) (online_lines b) (is_lines a ha sa) (is_lines b hb sb) e ∙ online_nested b)
+    whole = sym (online_nested a) ∙ (lines_one (online_lines a) (online_lines b) (online_are_lines a ha sa) (online_are_lines b hb sb) e ∙ online_nested b)
 
-    split : (a.epochs ≡ b.epochs) × (from_done a ≡ from_done b)
-    split = epochs_one a.epochs b.epochs sa.epochs sb.epochs (from_done a) (from_done b) (done_begins a.done a.cost (from_certificate a))
-        (done_begins b.done b.cost (from_certificate b)) (ap (drop 1) whole)
+    split : (a.epochs ≡ b.epochs) × (lines_from_done a ≡ lines_from_done b)
+    split = epochs_one a.epochs b.epochs sa.epochs sb.epochs (lines_from_done a) (lines_from_done b) (done_begins a.done a.cost (lines_from_release a))
+        (done_begins b.done b.cost (lines_from_release b)) (ap (drop 1) whole)
 
-    parts : (map done_line a.done ≡ map done_line b.done) × (cost_line a.cost ≡ cost_line b.cost) × (from_certificate a ≡ from_certificate b)
-    parts = both_ended 100 (map done_line a.done) (map done_line b.done) (cost_line a.cost) (cost_line b.cost) (from_certificate a) (from_certificate b)
+    parts : (map done_line a.done ≡ map done_line b.done) × (cost_line a.cost ≡ cost_line b.cost) × (lines_from_release a ≡ lines_from_release b)
+    parts = both_ended 100 (map done_line a.done) (map done_line b.done) (cost_line a.cost) (cost_line b.cost) (lines_from_release a) (lines_from_release b)
         (all_first 100 done_line (λ d. refl) a.done) (all_first 100 done_line (λ d. refl) b.done) (λ bad. omega (arith, bad)) (λ bad. omega (arith, bad)) split.1
 
     done : a.done ≡ b.done
@@ -122,8 +115,8 @@ online_one a b ha sa hb sb e = λ i. record { epochs = split.0 i; done = done i;
     cost : a.cost ≡ b.cost
     cost = decimal_one a.cost b.cost sa.cost sb.cost (ap (drop 5) parts.1)
 
-    rest : (certificate_lines a.release ≡ certificate_lines b.release) × (total_line a.total ≡ total_line b.total) × (from_runs a ≡ from_runs b)
-    rest = both_ended 114 (certificate_lines a.release) (certificate_lines b.release) (total_line a.total) (total_line b.total) (from_runs a) (from_runs b)
+    rest : (certificate_lines a.release ≡ certificate_lines b.release) × (total_line a.total ≡ total_line b.total) × (lines_from_runs a ≡ lines_from_runs b)
+    rest = both_ended 114 (certificate_lines a.release) (certificate_lines b.release) (total_line a.total) (total_line b.total) (lines_from_runs a) (lines_from_runs b)
         (release_first a.release) (release_first b.release) (λ bad. omega (arith, bad)) (λ bad. omega (arith, bad)) parts.2
 
     release : a.release ≡ b.release

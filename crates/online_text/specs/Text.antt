@@ -57,6 +57,18 @@ certificate_lines places = map (release_line_at places) (range_with_len 0 (lengt
 abbrev pub total_line : ℕ → List ℕ
 total_line total = codes "total" ++ spaced total
 
+-- the lines from the first run on
+abbrev pub lines_from_runs : Online → List (List ℕ)
+lines_from_runs o = map run_line o.runs ++ (codes "end" ∷ [])
+
+-- the lines from the released certificate on
+abbrev pub lines_from_release : Online → List (List ℕ)
+lines_from_release o = certificate_lines o.release ++ (total_line o.total ∷ lines_from_runs o)
+
+-- the lines from the first completion on
+abbrev pub lines_from_done : Online → List (List ℕ)
+lines_from_done o = map done_line o.done ++ (cost_line o.cost ∷ lines_from_release o)
+
 -- the lines of an online run
 abbrev pub online_lines : Online → List (List ℕ)
 online_lines o = (codes "sincronia online 2" ∷ []) ++ flat_map epoch_lines o.epochs ++ map done_line o.done ++
