@@ -24,11 +24,7 @@ pub enum Named {
 
 /// Looks up the coflows of the places by their ids. The first wrong place is one whose id is no coflow's or stood at a place before,
 /// or the one past the last where some coflow has no place. The error is want of memory.
-pub fn coflows_of(
-    alloc: Global,
-    table: &Table,
-    places: &[PlaceLine],
-) -> Result<Named, NoMemory>
+pub fn coflows_of(alloc: Global, table: &Table, places: &[PlaceLine]) -> Result<Named, NoMemory>
     ensures { IfOk result (λ named. IsNamed table.now.ids places.now named) }
 {
     let count = table.coflows() as usize;
