@@ -1,5 +1,6 @@
 //! What the words of the call ask for.
 ghost use Rattle.std.specs.Prelude.{◌≤◌, IfOk};
+ghost use Rattle.hall_runs.specs.declared.game.TheConstants.{MAX_EACH};
 
 use crate::stop::Stop;
 use coflow_units::MAX_TEXT;
@@ -10,7 +11,7 @@ use std::env;
 use trace_reader::read_trace;
 
 /// The greatest number of commands of a caller.
-const MAX_EACH: u32 = 1_000_000;
+pub const MAX_EACH: u32 = 1_000_000;
 
 /// What is printed.
 #[derive(Clone, Copy, Debug, PartialEq, Eq)]
@@ -32,7 +33,7 @@ pub struct Game {
 
 /// What the words ask for.
 pub fn game_of(rt: &HostRuntime) -> Result<Game, Stop>
-    ensures few { IfOk result (λ game. game.commands ≤ 1000000) }
+    ensures few { IfOk result (λ game. game.commands ≤ MAX_EACH) }
 {
     let alloc = rt.alloc();
     let Ok(words) = env::args(rt) else {

@@ -17,6 +17,7 @@ ghost use denote.Param.Send.{IsSync};
 ghost use Rattle.std.specs.Prelude.{◌≡◌, ◌+◌, ◌<◌, ◌≤◌, [], All, IfOk, OnOk, length};
 ghost use Rattle.client_session.specs.Models.{IsDriverOf, IsSessionOf};
 ghost use Rattle.hall_runs.specs.Callers.{IsClientOf, IsPilotOf};
+ghost use Rattle.hall_runs.specs.declared.game.TheConstants.{MAX_EACH};
 
 use crate::callers::{Client, Pilot, Said, Size, play_all};
 use crate::draw::Draw;
@@ -55,7 +56,7 @@ fn main(rt: HostRuntime) -> ExitCode {
 
 /// Plays it.
 fn run<R: Runtime + Threads + Wait + Sync>(rt: &R, alloc: Global, game: Game) -> Result<(), Stop>
-    requires few { game.commands ≤ 1000000 }
+    requires few { game.commands ≤ MAX_EACH }
 {
     let Game {
         table,
@@ -72,7 +73,7 @@ fn run<R: Runtime + Threads + Wait + Sync>(rt: &R, alloc: Global, game: Game) ->
 
 /// A master of the table's coflows, each of weight 1, with room in its journal for all commands.
 fn master_of(alloc: Global, table: Table, commands: u32) -> Result<Master, NoMemory>
-    requires few { commands ≤ 1000000 }
+    requires few { commands ≤ MAX_EACH }
     ensures table { IfOk result (λ m. m.opening.table ≡ table) }
     ensures journal { IfOk result (λ m. m.journal ≡ []) }
 {
@@ -90,7 +91,7 @@ fn play<R: Runtime + Threads + Wait + Sync>(
     size: Size,
     mode: Mode,
 ) -> Result<(), Stop>
-    requires few { size.commands ≤ 1000000 }
+    requires few { size.commands ≤ MAX_EACH }
     requires coflows { (size.coflows ≡ length table.ids) × (1 ≤ size.coflows) }
     requires ports { (size.ports ≡ table.ports) × (1 ≤ size.ports) }
 {
@@ -101,7 +102,7 @@ fn play<R: Runtime + Threads + Wait + Sync>(
 
 /// A hall over a table, and its driver, which has made no session.
 fn begun(alloc: Global, table: Table, size: Size) -> Result<(Hall, Driver), NoMemory>
-    requires few { size.commands ≤ 1000000 }
+    requires few { size.commands ≤ MAX_EACH }
     requires ports { size.ports ≡ table.ports }
     ensures table { IfOk result (λ made. made.0.setting.opening.table ≡ table) }
     ensures driver { IfOk result (λ made. IsDriverOf made.0 made.1 × (made.1.made ≡ 0)) }
@@ -332,7 +333,7 @@ fn contend<R: Runtime + Threads + Wait + Sync>(
     seed: u32,
     size: Size,
 ) -> Result<(), Stop>
-    requires few { size.commands ≤ 1000000 }
+    requires few { size.commands ≤ MAX_EACH }
     requires some { (1 ≤ size.coflows) × (1 ≤ size.ports) }
 {
     let master = Mutex::new(master_of(alloc, table, size.commands)?);
