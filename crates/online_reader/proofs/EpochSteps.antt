@@ -1,5 +1,6 @@
 -- A draft that takes the lines of a publishing.
-use Rattle.std.proofs.Common.{◌≡◌, ℕ, ◌+◌, ◌<◌, ◌^◌, List, [], ◌∷◌, ◌++◌, Bool, true, false, append_assoc, append-nil, length, length-append, map, drop, refl, sym, ap, subst, ◌∙◌, arith}
+use Rattle.std.proofs.Common.{◌≡◌, ℕ, ◌+◌, ◌<◌, ◌^◌, List, [], ◌∷◌, ◌++◌, Bool, true, false}
+use Rattle.std.proofs.Common.{append_assoc, append-nil, length, length-append, map, drop, refl, sym, ap, subst, ◌∙◌, arith}
 use Rattle.std.specs.Prelude.{◌↔◌, All, Err, IfOk, None, Ok, Result, codes}
 use Rattle.std.specs.List.{flat_map}
 use Rattle.std.specs.List.Sorted.{IsStrictlyIncreasing}
@@ -61,7 +62,8 @@ next_block o x es line more e =
     let rest = flat_map epoch_lines es ++ lines_from_done o in
     let blocks : line ∷ more ≡ time_line x.time ∷ (order_lines x.places ++ behind_order o x es) =
     e ∙ (append_assoc (epoch_lines x) (flat_map epoch_lines es) (lines_from_done o) ∙ block_parts x rest) in
-    (head_of line (time_line x.time) more (order_lines x.places ++ behind_order o x es) blocks, tail_is line (time_line x.time) more (order_lines x.places ++ behind_order o x es) blocks)
+    let tail = order_lines x.places ++ behind_order o x es in
+    (head_of line (time_line x.time) more tail blocks, tail_is line (time_line x.time) more tail blocks)
 
 next_epoch : (d : Draft) (o : Online) (line : List ℕ) (more : List (List ℕ)) (time : ℕ) → line ≡ time_line time → time < 2 ^ 64 → HasSmallNumbers o →
     IsLeft Epochs d o (line ∷ more) →
@@ -194,7 +196,8 @@ over_draft d h stage =
     let at : IsDraftAt Epochs d = draft_at d Epochs stage h in
     record { online = at.online; small = at.small; slots = at.slots; later = let (places, done, release, runs) = at.later in (release, runs) }
 
-pub over_takes : (d new : Draft) (line : List ℕ) (taken : Bool) → IsDraft d → d.stage ≡ Epochs → IsTimeOf line None → Takes (at_stage d Done) new line taken → Takes d new line taken
+pub over_takes : (d new : Draft) (line : List ℕ) (taken : Bool) → IsDraft d → d.stage ≡ Epochs → IsTimeOf line None → Takes (at_stage d Done) new line taken →
+    Takes d new line taken
 over_takes d new line true h stage none (draft, goes_on) =
     let both = over_both d line (draft_at d Epochs stage h) none in (
       draft,

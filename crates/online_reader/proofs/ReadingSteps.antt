@@ -65,12 +65,12 @@ one_more bytes rest behind line d new n r h follows one e = record {
 -- ---- where no online run goes on
 
 -- no online run has, behind the lines that were read, a line with which the rest begins
-abbrev pub Stuck : List ℕ → Draft → Type 0
+abbrev Stuck : List ℕ → Draft → Type 0
 Stuck rest d = (line behind : List ℕ) (o : Online) (more : List (List ℕ)) → IsOnline o → HasSmallNumbers o → IsOneLine line → GoesOn d o (line ∷ more) →
     rest ≡ ended line ++ behind → ⊥
 
 -- no online run has just the lines that were read, where the rest is empty
-abbrev pub Open : List ℕ → Draft → Type 0
+abbrev Open : List ℕ → Draft → Type 0
 Open rest d = (o : Online) → IsOnline o → HasSmallNumbers o → GoesOn d o [] → rest ≡ [] → ⊥
 
 -- the online run with what was read goes on
@@ -125,7 +125,7 @@ beginning bytes rest d n k r lt =
       text = r.text ∙ (ap (λ x. x ++ rest) text ∙ append_assoc (text_of (take k ls)) (text_of (drop k ls)) rest);
     }
 
-pub bad_at : (bytes rest : List ℕ) (d : Draft) (n : ℕ) → ReadSoFar bytes rest d n → Stuck rest d → Open rest d → IsBadAt bytes n
+bad_at : (bytes rest : List ℕ) (d : Draft) (n : ℕ) → ReadSoFar bytes rest d n → Stuck rest d → Open rest d → IsBadAt bytes n
 bad_at bytes rest d n r stuck early = record { no_text = no_text; counted = omega (arith, r.count); before = λ k lt. beginning bytes rest d n k r lt; here = here }
   where
     no_text : (o : Online) → IsTextOf bytes o → ⊥
@@ -146,25 +146,26 @@ bad_at bytes rest d n r stuck early = record { no_text = no_text; counted = omeg
         stuck split.0 b.rest b.whole b.others b.online b.small split.3 ((r.goes_on b.whole (split.0 ∷ b.others) b.online b.small).0 whole) split.2
 
 -- the rest begins with no whole line
-pub stuck_cut : (rest : List ℕ) (d : Draft) → ((line behind : List ℕ) → rest ≡ ended line ++ behind → ⊥) → Stuck rest d
-stuck_cut rest d none line behind o more online small one g e = none line behind e
+pub cut_at : (bytes rest : List ℕ) (d : Draft) (n : ℕ) → ReadSoFar bytes rest d n → (rest ≡ [] → ⊥) → ((line behind : List ℕ) → rest ≡ ended line ++ behind → ⊥) →
+    IsBadAt bytes n
+cut_at bytes rest d n r some none =
+    bad_at bytes rest d n r (λ line behind o more online small one g e. none line behind e) (λ o online small g empty. some empty)
 
 -- the next line is refused
-pub stuck_refused : (rest line behind : List ℕ) (d : Draft) → IsOneLine line → rest ≡ ended line ++ behind → Refuses d line → Stuck rest d
-stuck_refused rest line behind d one e refused other after o more online small other_one g f =
-    let same = line_unique other line after behind other_one one (sym f ∙ e) in
-    refused o more online small (subst (λ x. GoesOn d o (x ∷ more)) same.0 g)
+pub refused_at : (bytes rest line behind : List ℕ) (d : Draft) (n : ℕ) → ReadSoFar bytes rest d n → (rest ≡ [] → ⊥) → IsOneLine line → rest ≡ ended line ++ behind →
+    Refuses d line → IsBadAt bytes n
+refused_at bytes rest line behind d n r some one e refused = bad_at bytes rest d n r stuck (λ o online small g empty. some empty)
+  where
+    stuck : Stuck rest d
+    stuck other after o more online small other_one g f =
+        let same = line_unique other line after behind other_one one (sym f ∙ e) in
+        refused o more online small (subst (λ x. GoesOn d o (x ∷ more)) same.0 g)
 
--- nothing is left
-pub stuck_empty : (rest : List ℕ) (d : Draft) → rest ≡ [] → Stuck rest d
-stuck_empty rest d none line behind o more online small one g e =
-    absurd (omega (arith, ap length none, shorter rest behind line e))
-
-pub open_some : (rest : List ℕ) (d : Draft) → (rest ≡ [] → ⊥) → Open rest d
-open_some rest d some o online small g none = some none
-
-pub open_early : (rest : List ℕ) (d : Draft) → d.stage ≢ Ended → Open rest d
-open_early rest d early o online small g none = goes_to_end d.stage d o early g
+-- nothing is left, and the last line was not read
+pub early_at : (bytes rest : List ℕ) (d : Draft) (n : ℕ) → ReadSoFar bytes rest d n → rest ≡ [] → d.stage ≢ Ended → IsBadAt bytes n
+early_at bytes rest d n r none early = bad_at bytes rest d n r
+    (λ line behind o more online small one g e. absurd (omega (arith, ap length none, shorter rest behind line e)))
+    (λ o online small g empty. goes_to_end d.stage d o early g)
 
 -- all was read
 pub all_read : (bytes rest : List ℕ) (d : Draft) (n : ℕ) (o : Online) → ReadSoFar bytes rest d n → rest ≡ [] → d.stage ≡ Ended → o ≡ online_of d → IsTextOf bytes o

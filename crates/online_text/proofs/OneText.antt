@@ -17,8 +17,8 @@ use Rattle.online_text.specs.declared.value.Online.{Online}
 use Rattle.online_text.specs.declared.value.OnlinePlace.{OnlinePlace}
 use Rattle.online_text.specs.declared.value.ReleaseLine.{ReleaseLine}
 use Rattle.online_text.specs.Online.{HasSmallNumbers, IsOnline, IsSmallEpoch}
-use Rattle.online_text.specs.Text.{certificate_lines, done_line, epoch_lines, lines_from_done, lines_from_release, lines_from_runs, online_lines, online_text, order_line_at, order_lines}
-use Rattle.online_text.specs.Text.{release_line_at, time_line, total_line}
+use Rattle.online_text.specs.Text.{certificate_lines, done_line, epoch_lines, lines_from_done, lines_from_release, lines_from_runs, online_lines}
+use Rattle.online_text.specs.Text.{online_text, order_line_at, order_lines, release_line_at, time_line, total_line}
 use Rattle.online_text.proofs.OneLines.{done_are_lines, done_one, epochs_are_lines, order_one, release_are_lines, release_one}
 
 -- ---- the publishings

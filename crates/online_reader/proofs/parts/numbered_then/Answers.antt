@@ -27,7 +27,7 @@ pub returns-else-read-number : goal.returns-else-read-number
 returns-else-read-number c = λ rest stops e.
     let word : c.args.line.now ≡ c.args.word.now ++ c.in-Some.rest.now =
     prefix_found c.args.word.now c.args.line.now c.in-Some.rest.now c.in-Some.ensures.cases.0 c.in-Some.ensures.cases.1 in
-    let same = same_number c.in-Some.rest.now c.in-Some-number_then.rest.now rest c.in-Some-number_then.read c.args.number (omega (arith, c.in-Some-number_then.ensures.0)) (omega arith)
-    c.in-Some-number_then.ensures.2 stops c.in-Some-number_then.ensures.1
+    let same = same_number c.in-Some.rest.now c.in-Some-number_then.rest.now rest c.in-Some-number_then.read c.args.number (omega (arith, c.in-Some-number_then.ensures.0))
+    (omega arith) c.in-Some-number_then.ensures.2 stops c.in-Some-number_then.ensures.1
     (append_cancel_left c.args.word.now c.in-Some.rest.now (spaced c.args.number ++ rest) (sym word ∙ e)) in
     c.if-read-number.false same.0

@@ -1,7 +1,7 @@
 use Rattle.std.proofs.Common.{arith}
 use Rattle.online_reader.specs.Draft.{Follows, IsDraft, Refuses}
 use Rattle.report.proofs.PartText.{empty_is, not_empty}
-use Rattle.online_reader.proofs.ReadingSteps.{all_read, bad_at, none_yet, one_more, open_early, open_some, stuck_cut, stuck_empty, stuck_refused}
+use Rattle.online_reader.proofs.ReadingSteps.{all_read, cut_at, early_at, none_yet, one_more, refused_at}
 use Rattle.online_reader.proofs.reading.read_online.Goals as goal
 
 pub loop-rest-init : goal.loop-rest-init
@@ -9,18 +9,16 @@ loop-rest-init c = none_yet c.args.bytes.now c.new-draft.result c.new-draft.ensu
 
 pub returns-in_default : goal.returns-in_default
 returns-in_default c = record {
-  report = bad_at c.args.bytes.now c.loop-rest.rest.now c.loop-rest.draft c.loop-rest.line_number c.loop-rest.invariant
-      (stuck_cut c.loop-rest.rest.now c.loop-rest.draft c.in_default.ensures)
-      (open_some c.loop-rest.rest.now c.loop-rest.draft (not_empty c.loop-rest.rest.now c.loop-rest-test.ensures));
+  report = cut_at c.args.bytes.now c.loop-rest.rest.now c.loop-rest.draft c.loop-rest.line_number c.loop-rest.invariant
+      (not_empty c.loop-rest.rest.now c.loop-rest-test.ensures) c.in_default.ensures;
 }
 
 pub returns-then-not-branch : goal.returns-then-not-branch
 returns-then-not-branch c =
     let refused : Refuses c.loop-rest.draft c.in-Some.line.now = rw c.if-not-branch.true at c.in_ok-accept.ensures in
     record {
-      report = bad_at c.args.bytes.now c.loop-rest.rest.now c.loop-rest.draft c.loop-rest.line_number c.loop-rest.invariant
-          (stuck_refused c.loop-rest.rest.now c.in-Some.line.now c.in-Some.behind.now c.loop-rest.draft c.in-Some.ensures.0 c.in-Some.ensures.1 refused)
-          (open_some c.loop-rest.rest.now c.loop-rest.draft (not_empty c.loop-rest.rest.now c.loop-rest-test.ensures));
+      report = refused_at c.args.bytes.now c.loop-rest.rest.now c.in-Some.line.now c.in-Some.behind.now c.loop-rest.draft c.loop-rest.line_number c.loop-rest.invariant
+          (not_empty c.loop-rest.rest.now c.loop-rest-test.ensures) c.in-Some.ensures.0 c.in-Some.ensures.1 refused;
     }
 
 pub overflow_add-line_number : goal.overflow_add-line_number
@@ -34,9 +32,8 @@ loop-rest-preserved c =
 
 pub returns-in-None : goal.returns-in-None
 returns-in-None c = record {
-  report = bad_at c.args.bytes.now c.loop-rest.rest.now c.loop-rest.draft c.loop-rest.line_number c.loop-rest.invariant
-      (stuck_empty c.loop-rest.rest.now c.loop-rest.draft (empty_is c.loop-rest.rest.now c.loop-rest-test.ensures))
-      (open_early c.loop-rest.rest.now c.loop-rest.draft c.in-None.ensures);
+  report = early_at c.args.bytes.now c.loop-rest.rest.now c.loop-rest.draft c.loop-rest.line_number c.loop-rest.invariant
+      (empty_is c.loop-rest.rest.now c.loop-rest-test.ensures) c.in-None.ensures;
 }
 
 pub returns-in-Some-into_online : goal.returns-in-Some-into_online
