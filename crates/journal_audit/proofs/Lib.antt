@@ -1,5 +1,6 @@
 pub mod InRanges
 pub mod KnownIds
+pub mod OrderSteps
 pub mod Partings
 pub mod RunPartings
 pub mod Refusals

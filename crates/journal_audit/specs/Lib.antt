@@ -4,3 +4,4 @@ pub mod Pulls
 pub mod Sound
 pub mod Reasons
 pub mod Looked
+pub mod Orders
