@@ -5,9 +5,13 @@
 #[cfg(test)]
 mod command_lines;
 #[cfg(test)]
+mod journals;
+#[cfg(test)]
 mod made;
 #[cfg(test)]
 mod numbers;
+#[cfg(test)]
+mod online_runs;
 #[cfg(test)]
 mod reports;
 #[cfg(test)]

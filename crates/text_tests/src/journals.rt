@@ -1,0 +1,124 @@
+//! Texts of printed journals.
+use crate::rows::parts_of;
+use coflow_units::MAX_TEXT;
+use live_text::{EntryLine, PullLine, Said, Word, read_live, write_live};
+use std::alloc::Global;
+use std::test::Fail;
+
+/// A text that is read and written as it was tells `read`, and another one the first line that is wrong.
+fn answer(alloc: Global, bytes: &[u8]) -> Result<String, Fail> {
+    if bytes.len() > MAX_TEXT {
+        return Err(Fail::new("a long text"));
+    }
+    match read_live(alloc, bytes) {
+        Ok(live) => {
+            let again = write_live(alloc, &live)?;
+            let same = again.as_slice() == bytes;
+            Ok(format!(in alloc; "{}", if same { "read" } else { "written otherwise" })?)
+        }
+        Err(fault) => Ok(format!(in alloc; "{fault}")?),
+    }
+}
+
+/// Two clients register two coflows and publish an order, and the driver opens three runs, of which the last has nothing to send.
+const WORKED: &[u8] = b"sincronia live 1
+entry 1 1 register 1 joined
+entry 2 1 register 2 joined
+entry 3 1 publish version 1
+entry 4 0 open 4 opened 1 1 1
+entry 5 0 close closed 1
+entry 6 0 open 4 opened 2 3 1
+entry 7 0 close closed 2
+entry 8 0 open 4 nothing
+order 1 2 1
+pull 1 4 2 1 1
+run 1 1
+run 3 0
+end
+";
+
+#[test]
+fn the_worked_text_is_read(rt: HostRuntime) -> Result<(), Fail> {
+    assert_eq!(rt; answer(rt.alloc(), WORKED)?.as_str(), "read");
+    let live = read_live(rt.alloc(), WORKED)?;
+    let opened = EntryLine {
+        who: 0,
+        word: Word::Open(4),
+        said: Said::Opened(2, 3, 1),
+    };
+    let pull = PullLine {
+        client: 1,
+        line: 4,
+        id: 2,
+        version: 1,
+        rank: 1,
+    };
+    assert_eq!(rt; live.entries.as_slice().len(), 8);
+    assert_eq!(rt; live.entries.as_slice().get(5), Some(&opened));
+    assert_eq!(rt; live.pulls.as_slice(), [pull].as_slice());
+    for order in live.orders.as_slice() {
+        assert_eq!(rt; order.as_slice(), [2, 1].as_slice());
+    }
+    assert_eq!(rt; live.runs.as_slice().len(), 2);
+    Ok(())
+}
+
+/// What stands behind the first line, and how it is read. A `/` stands for a line end.
+const ROWS: &str = "end/ => read
+ => line 2
+end => line 2
+end// => line 3
+end/end/ => line 3
+entry 1 1 register 7 joined/entry 2 64 withdraw 7 nothere/end/ => read
+entry 1 65 register 7 joined/ => line 2
+entry 2 1 register 7 joined/ => line 2
+entry 1 1 register 7 left/ => line 2
+entry 1 1 register 07 joined/ => line 2
+entry 1 1 register 4294967296 joined/ => line 2
+entry 1 1 register 7 joined / => line 2
+entry 1 1 register 7 joined/entry 1 1 register 7 already/ => line 3
+entry 1 0 open 18446744073709551615 opened 18446744073709551615 1 4294967295/end/ => read
+entry 1 0 open 0 nothing/ => line 2
+entry 1 0 open 18446744073709551616 nothing/ => line 2
+entry 1 1 publish version 4294967295/entry 2 1 publish stillopen 3/end/ => read
+entry 1 1 publish version/ => line 2
+entry 1 1 pull 7 rank 1 2/entry 2 1 pull 7 unranked 0/end/ => read
+entry 1 1 pull 7 rank 1/ => line 2
+entry 1 1 reweigh 7 4294967296 weighed 1/end/ => read
+entry 1 1 reweigh 7 0 nothere/ => line 2
+entry 1 1 reweigh 7 1 weighed 4294967297/ => line 2
+entry 1 0 close closed 0/end/ => read
+entry 1 0 close/ => line 2
+order 1/order 2 7 7/end/ => read
+order 1 /end/ => line 2
+order 2 7/ => line 2
+order 1 7/order 1 7/ => line 3
+order 1 7/entry 1 0 close closed 1/ => line 3
+pull 1 4 7 0 0/pull 1 5 7 1 1/pull 2 1 7 1 1/end/ => read
+pull 1 4 7 0 0/pull 1 4 7 0 0/ => line 3
+pull 2 1 7 0 0/pull 1 2 7 0 0/ => line 3
+pull 0 4 7 0 0/ => line 2
+pull 65 4 7 0 0/ => line 2
+pull 1 4 7 0/ => line 2
+run 1/run 2199023255550 0/end/ => read
+run 1/run 2199023255551 0/ => line 3
+run 1 0/run 2 0/ => line 3
+run 1 0/pull 1 4 7 0 0/ => line 3";
+
+#[test]
+fn texts_and_their_first_bad_lines(rt: HostRuntime) -> Result<(), Fail> {
+    for row in ROWS.split('\n') {
+        let (behind, want) = parts_of(rt.alloc(), row)?;
+        let text = format!(in rt.alloc(); "sincronia live 1\n{behind}")?;
+        assert_eq!(rt;
+            answer(rt.alloc(), text.as_bytes())?.as_str(),
+            want,
+            "{row}"
+        );
+    }
+    assert_eq!(rt;
+        answer(rt.alloc(), b"sincronia live 2\nend\n")?.as_str(),
+        "line 1"
+    );
+    Ok(())
+}
