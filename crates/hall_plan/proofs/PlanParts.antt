@@ -93,20 +93,47 @@ pub runs_are_parts : (o : Opening) (runs : List (ℕ × ℕ × ℕ)) (slots : Li
     IsServed o.table.flows (plan_order o) slots → IsPartOf (schedule_of o (plan_journal o runs)) slots
 runs_are_parts o runs slots ok legal served = part_of_served o.table.flows (plan_order o) (schedule_of o (plan_journal o runs)) slots (serves o runs ok legal) served
 
-pub next_is_part : (o : Opening) (runs : List (ℕ × ℕ × ℕ)) (after : List Entry) (d : Drive) (slots : List (List ℕ)) → IsOpening o → IsLegal o after → InRange o after →
-    IsDriven o (plan_journal o runs) after d → d.earlier ≡ [] →
-    IsServed o.table.flows (plan_order o) slots → IsPartOf (schedule_of o after) slots
-next_is_part o runs after d slots ok legal fit h alone served =
+-- in the slots of a front the served schedule is the front
+pub front_is : (flows : List Flow) (line : List ℕ) (a b : List (List ℕ)) → IsServedSoFar flows line a → IsServed flows line b → (k : ℕ) → k < length a →
+    get_or b k [] ≡ get_or a k []
+front_is flows line a b sa sb k lt = elim (cases_lt (length b) (length a)) [
+  | inl past ↦ absurd (not_past flows line a b sa sb past)
+  | inr le ↦
+      let front : a ≡ take (length a) b = sym (take_all (length a) a (omega arith)) ∙ same_front flows line a b sa sb.so_far (length a) (omega arith) le in
+      sym (ap (λ l. get_or l k []) front ∙ get_or-take (length a) b k [] lt)
+]
+
+-- a run after the runs of a plan
+pub record IsNextRun (o : Opening) (runs : List (ℕ × ℕ × ℕ)) (after : List Entry) (d : Drive) : Type 0 where
+  pub opening : IsOpening o
+  pub legal : IsLegal o after
+  pub in_range : InRange o after
+  pub driven_is : IsDriven o (plan_journal o runs) after d
+  pub alone : d.earlier ≡ []
+
+pub legal_before : (o : Opening) (runs : List (ℕ × ℕ × ℕ)) (after : List Entry) (d : Drive) → IsNextRun o runs after d → IsLegal o (plan_journal o runs)
+legal_before o runs after d h =
+    let j = plan_journal o runs in
+    let e : opened_in j d ≡ j = ap (λ l. j ++ l) h.alone ∙ append-nil j in
+    subst (IsLegal o) e
+    (legal_front o [] (opened_in j d) (opening d ∷ (d.between ++ closing d ∷ []))
+    (legal_open o j (closing d ∷ []) d (subst (IsLegal o) h.driven_is.goes_on h.legal)))
+
+-- sent whole it would serve the order too
+pub whole_serves : (o : Opening) (runs : List (ℕ × ℕ × ℕ)) (after : List Entry) (d : Drive) → IsNextRun o runs after d →
+    IsServedSoFar o.table.flows (plan_order o) (schedule_of o (plan_journal o runs) ++ replicate d.slots (driven o (plan_journal o runs) d))
+whole_serves o runs after d n =
     let flows = o.table.flows in
+    let h = n.driven_is in
     let j = plan_journal o runs in
     let j1 = opened_in j d in
     let a = schedule_of o j in
     let gs = driven o j d in
-    let e : j1 ≡ j = ap (λ l. j ++ l) alone ∙ append-nil j in
-    let x = driven_goes_on o j after d legal fit h in
-    let legal1 = legal_open o j (closing d ∷ []) d (subst (IsLegal o) h.goes_on legal) in
-    let legal0 : IsLegal o j = subst (IsLegal o) e (legal_front o [] j1 (opening d ∷ (d.between ++ closing d ∷ [])) legal1) in
-    let line : line_of o j1 ≡ plan_order o = ap (line_of o) e ∙ line_is o runs ok in
+    let e : j1 ≡ j = ap (λ l. j ++ l) n.alone ∙ append-nil j in
+    let x = driven_goes_on o j after d n.legal n.in_range h in
+    let legal1 = legal_open o j (closing d ∷ []) d (subst (IsLegal o) h.goes_on n.legal) in
+    let legal0 = legal_before o runs after d n in
+    let line : line_of o j1 ≡ plan_order o = ap (line_of o) e ∙ line_is o runs n.opening in
     let same : (f : ℕ) → left_after flows a f ≡ owed o (state_of o j1) f =
     λ f. omega (arith, times_is_sent o j f legal0 (commands_fit o runs), ap (λ l. (state_of o l).sent f) e) in
     let grants : IsGrants flows (plan_order o) (left_after flows a) gs =
@@ -114,8 +141,19 @@ next_is_part o runs after d slots ok legal fit h alone served =
     (λ f lt some. omega (arith, some, same f)) (subst (λ l. IsGrants flows l (owed o (state_of o j1)) gs) line x.grants) in
     let tells = entry_tells o j1 (d.between ++ closing d ∷ []) (opening d) legal1 in
     let (f, in') = opened_grant o (state_of o j1) tells.3 in
-    let long = as_long o j after d legal h in
-    let whole = run_goes_on flows (plan_order o) a gs d.slots f (serves o runs ok legal0) grants in' (λ g has'. omega (arith, long.owed g has', same g)) in
+    let long = as_long o j after d n.legal h in
+    run_goes_on flows (plan_order o) a gs d.slots f (serves o runs n.opening legal0) grants in' (λ g has'. omega (arith, long.owed g has', same g))
+
+pub next_is_part : (o : Opening) (runs : List (ℕ × ℕ × ℕ)) (after : List Entry) (d : Drive) (slots : List (List ℕ)) → IsOpening o → IsLegal o after → InRange o after →
+    IsDriven o (plan_journal o runs) after d → d.earlier ≡ [] →
+    IsServed o.table.flows (plan_order o) slots → IsPartOf (schedule_of o after) slots
+next_is_part o runs after d slots ok legal fit h alone served =
+    let flows = o.table.flows in
+    let j = plan_journal o runs in
+    let a = schedule_of o j in
+    let gs = driven o j d in
+    let x = driven_goes_on o j after d legal fit h in
+    let whole = whole_serves o runs after d (record { opening = ok; legal = legal; in_range = fit; driven_is = h; alone = alone }) in
     let part = part_of_served flows (plan_order o) (a ++ replicate d.slots gs) slots whole served in
     λ k g there.
     part k g

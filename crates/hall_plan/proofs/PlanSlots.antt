@@ -1,5 +1,5 @@
 -- What a slot of the runner comes to in a plan: a driver that is alone goes on by whole runs, until nothing is left.
-use Rattle.std.proofs.Common.{◌≡◌, ℕ, ◌+◌, ◌-◌, ◌≤◌, ◌<◌, inl, inr, Bool, true, false, true≢false, List, [], ◌∷◌, ◌++◌, length, refl, sym, ap, subst, ◌∙◌, arith, suc, cond, append_assoc, append-nil}
+use Rattle.std.proofs.Common.{Some, ◌≡◌, ℕ, ◌+◌, ◌-◌, ◌≤◌, ◌<◌, inl, inr, Bool, true, false, true≢false, List, [], ◌∷◌, ◌++◌, length, refl, sym, ap, subst, ◌∙◌, arith, suc, cond, append_assoc, append-nil}
 use Rattle.std.proofs.Common.{Option, replicate}
 use Rattle.std.specs.Prelude.{All, Contains, flat_map, nat_lt, not}
 use Rattle.std.specs.List.{slice_index_or}
@@ -17,12 +17,12 @@ use Rattle.journal.specs.declared.command.Entry.{Entry}
 use Rattle.journal.specs.declared.command.Reply.{Reply}
 use Rattle.journal.specs.declared.command.Reply.TheVariants.{Late, NothingLeft, Opened}
 use Rattle.journal.specs.declared.opening.Opening.{Opening}
-use Rattle.journal.specs.State.{IsOpening, Run, slot_end}
+use Rattle.journal.specs.State.{IsOpening, owed, Run, slot_end}
 use Rattle.journal.specs.Closed.{closed_runs, IsClosedRun, schedule_of, sent_at, wire_of}
-use Rattle.journal.specs.Driven.{closed_in, closing, Drive, driven_run, driver_entries, is_other, IsDriven, IsSentWhole, opened_in, opening}
+use Rattle.journal.specs.Driven.{closed_in, closing, Drive, driven, driven_run, driver_entries, is_other, IsDriven, IsSentWhole, opened_in, opening}
 use Rattle.journal.specs.Entries.{is_driving}
 use Rattle.journal.specs.Fold.{state_of}
-use Rattle.journal.specs.Journal.{entry, IsLegal}
+use Rattle.journal.specs.Journal.{entry, IsLegal, line_of}
 use Rattle.journal.specs.Runs.{grant_in}
 use Rattle.journal.specs.Sound.{InRange}
 use Rattle.journal.proofs.Along.{all_front}
@@ -36,13 +36,16 @@ use Rattle.client_session.specs.Desk.{IsSeen}
 use Rattle.client_session.specs.Models.{HallModel}
 use Rattle.slot_runner.specs.Models.{MayRun, RunnerModel}
 use Rattle.slot_runner.specs.Slots.{AreSent, HasRun, IsAnswered, IsFaulted, IsFullAt, IsRan}
+use Rattle.hall_plan.proofs.FirstShort.{stops}
+use Rattle.coflow_units.proofs.ServedLaws.{grants_clear}
+use Rattle.coflow_units.specs.Schedule.{IsClear}
 use Rattle.hall_plan.specs.Halls.{IsServedBy, MayPlan, NoneFell}
 use Rattle.hall_plan.specs.Journals.{plan_journal, plan_order, run_entries}
 use Rattle.hall_plan.specs.Plans.{IsPartOf, IsPlanned}
-use Rattle.hall_plan.specs.Wires.{AreAllUnits, AreUnits, HaveMore}
+use Rattle.hall_plan.specs.Wires.{AreAllUnits, AreUnits, HaveMore, StopsAt}
 use Rattle.hall_plan.proofs.Begun.{planned_serves}
 use Rattle.hall_plan.proofs.PlanEntries.{closings_are_runs}
-use Rattle.hall_plan.proofs.PlanParts.{next_is_part, runs_are_parts}
+use Rattle.hall_plan.proofs.PlanParts.{IsNextRun, next_is_part, runs_are_parts}
 use Rattle.hall_plan.proofs.PlanRuns.{few_entries, few_slots, nothing_yet, serves_all, split}
 use Rattle.hall_plan.proofs.PlanTurns.{added, not_stopped}
 use Rattle.hall_plan.proofs.WireSteps.{all_units, are_units, fell_next, have_next, have_none, have_so, none_fell}
@@ -332,6 +335,30 @@ module _ {W : Type 0} (faults : W → ℕ) (wruns : W → Option (List (ℕ × �
       let low : port < o'.table.ports = omega (arith, x.in_range, h.may.may.ports) in
       (low, λ b a. omega (arith, x.rose b a, h.none_fell port b b low))
 
+  pub stops_first : (new : RunnerModel) (after : List W) (port units : ℕ) → IsFaulted faults wruns o' MAX_SLOT old new mid after port units → (slots : List (List ℕ)) →
+      IsServed o'.table.flows (plan_order o') slots → (end : ℕ) × HaveMore wruns (StopsAt o'.table.flows slots port end) o'.table.ports before after
+  stops_first new after port units x slots served =
+      let d = x.drive in
+      let gs = driven o' old.driver.journal d in
+      let g = x.run.granted in
+      let driven_is = is_driven hall old new h.made d h.may x.run in
+      let next : IsNextRun o' h.made new.driver.journal d = record {
+        opening = h.may.alone.opening;
+        legal = x.run.seen.legal;
+        in_range = x.run.seen.in_range;
+        driven_is = driven_is;
+        alone = none_earlier hall old new h.made d h.may x.run;
+      } in
+      let same : driven o' old.driver.journal d ≡ driven o' last d = ap (λ l. driven o' l d) h.may.alone.journal_is in
+      let is : new.granted ≡ driven o' last d = g ∙ same in
+      let clear = subst (IsClear o'.table.flows) same (grants_clear o'.table.flows (line_of o' (opened_in old.driver.journal d)) (owed o' (state_of o' (opened_in old.driver.journal d))) gs x.run.goes_on.grants) in
+      let stops' = stops o' h.made new.driver.journal d next slots served clear port x.flow units (subst (λ l. grant_in o'.table.flows l port ≡ Some x.flow) is x.granted) x.units_is
+      x.short (λ p f lt at. x.least p f lt (subst (λ l. grant_in o'.table.flows l p ≡ Some f) (sym is) at)) in (
+        d.first + units,
+        have_so faults wruns (λ p s. s ≡ wire_of o' new.driver.journal p) (StopsAt o'.table.flows slots port (d.first + units)) o'.table.ports before after
+            (λ p s e. subst (StopsAt o'.table.flows slots port (d.first + units) p) (sym e) (stops' p)) (wires_now new after d x.run x.wires),
+      )
+
 -- ---- the start
 
 no_runs : (l : List Run) → length l ≡ 0 → l ≡ []
@@ -357,11 +384,13 @@ module _ {W : Type 0} (faults : W → ℕ) (wruns : W → Option (List (ℕ × �
 
 -- ---- by the opening of the master
 
-abbrev pub UnitsAre : {W : Type 0} → (W → Option (List (ℕ × ℕ × ℕ))) → Opening → List W → List W → List (List ℕ) → Type 0
-UnitsAre wruns o before after slots = HaveMore wruns (AreUnits o.table.flows slots) o.table.ports before after
+abbrev pub UnitsAre : {W : Type 0} → (W → Option (List (ℕ × ℕ × ℕ))) → List W → List W → Opening → List (List ℕ) → Type 0
+UnitsAre wruns before after o slots = HaveMore wruns (AreUnits o.table.flows slots) o.table.ports before after
 
-pub planned_units : {W : Type 0} (wruns : W → Option (List (ℕ × ℕ × ℕ))) (o p : Opening) (before after : List W) → o ≡ p → IsOpening o →
-    ((slots : List (List ℕ)) → IsServed o.table.flows (plan_order o) slots → UnitsAre wruns o before after slots) → (slots : List (List ℕ)) → IsPlanned p.table p.weights slots →
-    UnitsAre wruns p before after slots
-planned_units wruns o p before after e ok h =
-    subst (λ q. (slots : List (List ℕ)) → IsPlanned q.table q.weights slots → UnitsAre wruns q before after slots) e (λ slots planned. h slots (planned_serves o slots ok planned))
+pub planned_so : (K : Opening → List (List ℕ) → Type 0) (o p : Opening) → o ≡ p → IsOpening o → ((slots : List (List ℕ)) → IsServed o.table.flows (plan_order o) slots → K o slots) →
+    (slots : List (List ℕ)) → IsPlanned p.table p.weights slots → K p slots
+planned_so K o p e ok h =
+    subst (λ q. (slots : List (List ℕ)) → IsPlanned q.table q.weights slots → K q slots) e (λ slots planned. h slots (planned_serves o slots ok planned))
+
+abbrev pub Stops : {W : Type 0} → (W → Option (List (ℕ × ℕ × ℕ))) → ℕ → List W → List W → Opening → List (List ℕ) → Type 0
+Stops wruns port before after o slots = (end : ℕ) × HaveMore wruns (StopsAt o.table.flows slots port end) o.table.ports before after

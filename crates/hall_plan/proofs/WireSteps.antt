@@ -22,7 +22,7 @@ use Rattle.hall_plan.specs.Wires.{AreAllUnits, AreUnits, HasMore, HaveMore, unit
 
 -- ---- what was sent on a wire is of the schedule
 
-unit_there : (flows : List Flow) (slots : List (List ℕ)) (port k f : ℕ) →
+pub unit_there : (flows : List Flow) (slots : List (List ℕ)) (port k f : ℕ) →
     units_at flows slots port (k + 1) f ≡ cond {A = ℕ} ((ingress_of flows f == port) && holds (get_or slots k []) f) 1 0
 unit_there flows slots port k f =
     let e : k + 1 - 1 ≡ k = omega arith in

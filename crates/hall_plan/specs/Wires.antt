@@ -20,6 +20,13 @@ AreAllUnits flows slots port sent = (slot f : ℕ) → times_on sent slot f ≡ 
 abbrev pub AreUnits : List Flow → List (List ℕ) → ℕ → List (ℕ × ℕ × ℕ) → Type 0
 AreUnits flows slots port sent = (slot f : ℕ) → times_on sent slot f ≤ units_at flows slots port slot f
 
+-- Of the schedule's units at the lesser ports, in the slots up to this one, none is missing among the sent runs. Of those
+-- at the port one is missing in this slot.
+abbrev pub StopsAt : List Flow → List (List ℕ) → ℕ → ℕ → ℕ → List (ℕ × ℕ × ℕ) → Type 0
+StopsAt flows slots port last p sent =
+    (p < port → (slot f : ℕ) → slot ≤ last → times_on sent slot f ≡ units_at flows slots p slot f)
+    × (p ≡ port → (f : ℕ) × (units_at flows slots p last f ≡ 1) × (times_on sent last f ≡ 0))
+
 -- where a wire tells its runs, it has those that it had, and then some of which this holds
 abbrev pub HasMore : (List (ℕ × ℕ × ℕ) → Type 0) → Option (List (ℕ × ℕ × ℕ)) → Option (List (ℕ × ℕ × ℕ)) → Type 0
 HasMore P None after = after ≡ None

@@ -8,7 +8,7 @@ ghost use Rattle.master_core.specs.Published.{ranked};
 ghost use Rattle.hall_plan.specs.declared.answer.PlanFault.TheVariants.{WireFault};
 ghost use Rattle.hall_plan.specs.Journals.{HasRoom};
 ghost use Rattle.hall_plan.specs.Plans.{IsPlanned};
-ghost use Rattle.hall_plan.specs.Wires.{AreAllUnits, AreUnits, HaveMore};
+ghost use Rattle.hall_plan.specs.Wires.{AreAllUnits, AreUnits, HaveMore, StopsAt};
 
 use crate::answer::{HallPlan, PlanFault};
 use crate::beginning::begin;
@@ -25,7 +25,8 @@ use std::thread::Threads;
 /// coflow, two for each flow, and two.
 ///
 /// The places are those of the ordering certificate of the table (Sincronia: Agarwal, Rajakrishnan, Narayan, Agarwal, Shmoys and Vahdat, SIGCOMM 2018), and the schedule is the one that serves
-/// their order. `WireFault` comes only where the count of that port's wire rose in this call, and no further run is opened after it. `NoMemory` is want of memory. At every answer what was sent are units
+/// their order. `WireFault` comes only where the count of that port's wire rose in this call. It is the least port at which
+/// a unit of the last run is missing, and no further run is opened after it. `NoMemory` is want of memory. At every answer what was sent are units
 /// of that schedule, none twice.
 pub fn plan<R: Threads + Wait + Sync, W: Wire + Send>(
     alloc: Global,
@@ -47,6 +48,10 @@ pub fn plan<R: Threads + Wait + Sync, W: Wire + Send>(
         HaveMore W.runs (AreUnits master.opening.table.flows slots) master.opening.table.ports wires.old wires.new }
     ensures fault { (port : ℕ) → result ≡ Err (WireFault port) → (port < master.opening.table.ports) ×
         ((b a : W) → Rose (W.faults (slice_index_or wires.old port b)) (W.faults (slice_index_or wires.new port a))) }
+    ensures least { (port : ℕ) (slots : List (List ℕ)) → result ≡ Err (WireFault port) →
+        IsPlanned master.opening.table master.opening.weights slots →
+        (end : ℕ) × HaveMore W.runs (StopsAt master.opening.table.flows slots port end)
+        master.opening.table.ports wires.old wires.new }
 {
     let (hall, mut runner, places) = begin(alloc, rt, master)?;
     let schedule = serve(alloc, rt, &hall, &mut runner, agents, wires)?;

@@ -5,7 +5,7 @@ ghost use Rattle.coflow_units.specs.Served.{IsServed};
 ghost use Rattle.hall_plan.specs.declared.answer.PlanFault.TheVariants.{WireFault};
 ghost use Rattle.hall_plan.specs.Halls.{MayPlan};
 ghost use Rattle.hall_plan.specs.Journals.{plan_order};
-ghost use Rattle.hall_plan.specs.Wires.{AreAllUnits, AreUnits, HaveMore};
+ghost use Rattle.hall_plan.specs.Wires.{AreAllUnits, AreUnits, HaveMore, StopsAt};
 
 use crate::answer::PlanFault;
 use client_session::Hall;
@@ -40,6 +40,10 @@ pub(crate) fn serve<R: Threads + Wait + Sync, W: Wire + Send>(
     ensures fault { (port : ℕ) → result ≡ Err (WireFault port) →
         (port < hall.now.setting.opening.table.ports) ×
         ((b a : W) → Rose (W.faults (slice_index_or wires.old port b)) (W.faults (slice_index_or wires.new port a))) }
+    ensures least { (port : ℕ) (slots : List (List ℕ)) → result ≡ Err (WireFault port) →
+        IsServed hall.now.setting.opening.table.flows (plan_order hall.now.setting.opening) slots →
+        (end : ℕ) × HaveMore W.runs (StopsAt hall.now.setting.opening.table.flows slots port end)
+        hall.now.setting.opening.table.ports wires.old wires.new }
 {
     let mut schedule = Schedule::new(alloc);
     loop {

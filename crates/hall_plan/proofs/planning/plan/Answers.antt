@@ -4,7 +4,7 @@ use Rattle.outside.specs.Rose.{Rose}
 use Rattle.journal.specs.declared.opening.Opening.{Opening}
 use Rattle.hall_plan.specs.declared.answer.PlanFault.{PlanFault}
 use Rattle.hall_plan.specs.declared.answer.PlanFault.TheVariants.{WireFault}
-use Rattle.hall_plan.proofs.PlanSlots.{planned_units}
+use Rattle.hall_plan.proofs.PlanSlots.{planned_so, Stops, UnitsAre}
 use Rattle.hall_plan.proofs.WireSteps.{untouched}
 use Rattle.hall_plan.proofs.planning.plan.Goals as goal
 
@@ -18,7 +18,7 @@ returns-in_err-hall-clause-wires g c = λ slots planned.
 
 pub returns-in_err-schedule-clause-wires : goal.returns-in_err-schedule-clause-wires
 returns-in_err-schedule-clause-wires g c =
-    planned_units g.W.Wire.runs c.in_ok-hall.hall.setting.opening c.args.master.opening c.args.wires.now c.serve.new.wires c.in_ok-hall.ensures.opening
+    planned_so (UnitsAre g.W.Wire.runs c.args.wires.now c.serve.new.wires) c.in_ok-hall.hall.setting.opening c.args.master.opening c.in_ok-hall.ensures.opening
     c.in_ok-hall.ensures.runner.alone.opening c.serve.ensures.wires
 
 pub returns-in_err-schedule-clause-fault : goal.returns-in_err-schedule-clause-fault
@@ -29,5 +29,11 @@ returns-in_err-schedule-clause-fault g c = λ port e.
 
 pub returns-clause-wires : goal.returns-clause-wires
 returns-clause-wires g c =
-    planned_units g.W.Wire.runs c.in_ok-hall.hall.setting.opening c.args.master.opening c.args.wires.now c.serve.new.wires c.in_ok-hall.ensures.opening
+    planned_so (UnitsAre g.W.Wire.runs c.args.wires.now c.serve.new.wires) c.in_ok-hall.hall.setting.opening c.args.master.opening c.in_ok-hall.ensures.opening
     c.in_ok-hall.ensures.runner.alone.opening c.serve.ensures.wires
+
+pub returns-in_err-schedule-clause-least : goal.returns-in_err-schedule-clause-least
+returns-in_err-schedule-clause-least g c = λ port slots e planned.
+    let came : WireFault port ≡ c.in_err-schedule.field-0.0 = carried _ _ (WireFault port) c.from_residual-in_err-schedule.ensures.1 e in
+    planned_so (Stops g.W.Wire.runs port c.args.wires.now c.serve.new.wires) c.in_ok-hall.hall.setting.opening c.args.master.opening c.in_ok-hall.ensures.opening
+    c.in_ok-hall.ensures.runner.alone.opening (λ l served. c.in_err-schedule.ensures.least port l (ap Err (sym came)) served) slots planned

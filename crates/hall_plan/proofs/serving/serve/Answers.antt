@@ -5,7 +5,7 @@ use Rattle.hall_plan.specs.declared.answer.PlanFault.{PlanFault}
 use Rattle.hall_plan.specs.declared.answer.PlanFault.TheVariants.{WireFault}
 use Rattle.hall_plan.specs.Halls.{IsServedBy}
 use Rattle.hall_plan.specs.Wires.{AreAllUnits, AreUnits, HaveMore}
-use Rattle.hall_plan.proofs.PlanSlots.{ends_served, never_full, never_late, never_spent, no_run_parts, ran_falls, ran_fits, ran_on, ran_parts, ran_rises, ran_some, rose_since, run_parts, sends_all, starts}
+use Rattle.hall_plan.proofs.PlanSlots.{Stops, stops_first, ends_served, never_full, never_late, never_spent, no_run_parts, ran_falls, ran_fits, ran_on, ran_parts, ran_rises, ran_some, rose_since, run_parts, sends_all, starts}
 use Rattle.hall_plan.proofs.serving.serve.Goals as goal
 
 abbrev port_of : {S : Type 0} → Result S PlanFault → ℕ
@@ -88,3 +88,10 @@ unreachable-requires g c =
     ⊎_elim (λ late. never_late g.W.Wire.faults g.W.Wire.runs c.args.hall.now c.loop-length.runner c.loop-length.schedule c.args.wires.now c.loop-length.wires c.loop-length.invariant.served c.slot.new.self late.0 (c.slot.ensures.late late.0 late.1))
     (λ more. ⊎_elim (λ full. never_full g.W.Wire.faults g.W.Wire.runs c.args.hall.now c.loop-length.runner c.loop-length.schedule c.args.wires.now c.loop-length.wires c.loop-length.invariant.served c.slot.new.self full.0 (c.slot.ensures.full full.0 full.1))
     (λ spent. never_spent g.W.Wire.faults g.W.Wire.runs c.args.hall.now c.loop-length.runner c.loop-length.schedule c.args.wires.now c.loop-length.wires c.loop-length.invariant.served (c.slot.ensures.spent spent).0) more) c.in-Late.is
+
+pub returns-in-WireFault-clause-least : goal.returns-in-WireFault-clause-least
+returns-in-WireFault-clause-least g c = λ port slots e served.
+    let x = c.slot.ensures.wire_fault c.in-WireFault.port c.in-WireFault.sent c.in-WireFault.is in
+    subst (λ p. Stops g.W.Wire.runs p c.args.wires.now c.slot.new.wires c.args.hall.now.setting.opening slots) (ap port_of e)
+    (stops_first g.W.Wire.faults g.W.Wire.runs c.args.hall.now c.loop-length.runner c.loop-length.schedule c.args.wires.now c.loop-length.wires c.loop-length.invariant.served c.slot.new.self c.slot.new.wires c.in-WireFault.port
+    c.in-WireFault.sent x slots served)
