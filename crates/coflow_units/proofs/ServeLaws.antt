@@ -7,7 +7,8 @@ use Rattle.coflow_units.specs.Grants.{IsGrants}
 use Rattle.coflow_units.specs.Served.{IsServed, IsServedSoFar, left_after}
 use Rattle.coflow_units.proofs.GrantLaws.{one_grants}
 
-same_front : (flows : List Flow) (line : List ℕ) (a b : List (List ℕ)) → IsServedSoFar flows line a → IsServedSoFar flows line b → (t : ℕ) → t ≤ length a → t ≤ length b →
+-- two schedules that serve one line so far are the same as far as both go
+pub same_front : (flows : List Flow) (line : List ℕ) (a b : List (List ℕ)) → IsServedSoFar flows line a → IsServedSoFar flows line b → (t : ℕ) → t ≤ length a → t ≤ length b →
     take t a ≡ take t b
 same_front flows line a b sa sb zero la lb = refl
 same_front flows line a b sa sb (suc t) la lb =

@@ -108,7 +108,8 @@ later_ingress sends c i zero flows h none = let e : i ≡ i + 0 = omega arith in
 later_ingress sends c i (suc n) flows h none =
     let e : i + n + 1 ≡ i + suc n = omega arith in
     subst (λ k. HaveUnitsBefore sends c k 0 flows) e
-    (next_ingress sends c (i + n) 0 flows (later_ingress sends c i n flows h (λ y z low high. none y z low (omega (arith, high)))) (λ z _. none (i + n) z (omega arith) (omega arith)))
+    (next_ingress sends c (i + n) 0 flows (later_ingress sends c i n flows h (λ y z low high. none y z low (omega (arith, high))))
+    (λ z _. none (i + n) z (omega arith) (omega arith)))
 
 -- to the next coflow, where nothing more is sent by this one
 pub next_coflow : (sends : ℕ → ℕ → ℕ → ℕ) (c i : ℕ) (flows : List Flow) → HaveUnitsBefore sends c i 0 flows → ((y z : ℕ) → i ≤ y → sends c y z ≡ 0) →

@@ -122,7 +122,8 @@ pub targets_reach : (rests : List Spot) (wholes : ℕ → ℕ) (egress first : �
 targets_reach rests wholes egress first targets x up h lt is = record {
   at = stands_here rests egress first x up h.at lt is;
   ascending = h.ascending;
-  below = All-weaker (λ (t : Target). t.egress < egress) (λ (t : Target). t.egress < x.location) (λ t low. omega (arith, low, reaches rests egress first x h.at lt is)) targets h.below;
+  below = All-weaker (λ (t : Target). t.egress < egress) (λ (t : Target). t.egress < x.location)
+      (λ t low. omega (arith, low, reaches rests egress first x h.at lt is)) targets h.below;
   ranges = h.ranges;
   own = h.own;
   wholes_are = h.wholes_are;

@@ -3,14 +3,14 @@ use Rattle.std.proofs.Common.{◌≡◌, ℕ, ◌+◌, ◌-◌, ◌≤◌, ◌<�
 use Rattle.std.specs.Prelude.{map, nat_lt, replicate}
 use Rattle.std.specs.List.{filter, range_with_len}
 use Rattle.std.proofs.lemmas.Bool.{cases_lt}
-use Rattle.std.proofs.lemmas.List.{get_or-append-add, get_or_append_left, get_or_past, get_or-replicate, get_or-take, take_all, take_more}
+use Rattle.std.proofs.lemmas.List.{get_or-append-add, get_or_append_left, get_or_past, get_or-replicate, get_or-take, take_all}
 use Rattle.std.proofs.lemmas.List.FromFn.{get_or-map-range_with_len, length-map-range_with_len}
 use Rattle.coflow_units.specs.declared.fabric.Flow.{Flow}
 use Rattle.coflow_units.specs.Grants.{IsGrants}
 use Rattle.coflow_units.specs.Schedule.{holds}
 use Rattle.coflow_units.specs.Served.{IsServed, IsServedSoFar, left_after}
-use Rattle.coflow_units.proofs.GrantLaws.{one_grants}
 use Rattle.coflow_units.proofs.Lists.{filter_in}
+use Rattle.coflow_units.proofs.ServeLaws.{same_front}
 use Rattle.coflow_units.proofs.ServedRuns.{run_goes_on, same_grants}
 use Rattle.coflow_units.proofs.Sums.{any_has, any_in}
 use Rattle.journal.specs.declared.command.Entry.{Entry}
@@ -34,18 +34,6 @@ use Rattle.hall_plan.proofs.PlanEntries.{commands_fit}
 use Rattle.hall_plan.proofs.PlanRuns.{serves}
 
 -- ---- a schedule that serves an order so far is a front of the served one
-
-same_front : (flows : List Flow) (line : List ℕ) (a b : List (List ℕ)) → IsServedSoFar flows line a → IsServedSoFar flows line b → (t : ℕ) → t ≤ length a → t ≤ length b →
-    take t a ≡ take t b
-same_front flows line a b sa sb zero la lb = refl
-same_front flows line a b sa sb (suc t) la lb =
-    let before = same_front flows line a b sa sb t (omega arith) (omega arith) in
-    let one : get_or a t [] ≡ get_or b t [] =
-    one_grants flows line (left_after flows (take t b)) _ _ (subst (λ x. IsGrants flows line (left_after flows x) (get_or a t [])) before (sa.grants t (omega arith)))
-    (sb.grants t (omega arith)) in
-    let next : suc t ≡ t + 1 = omega arith in
-    ap (λ n. take n a) next ∙ take_more a t [] (omega arith) ∙ ap (λ x. x ++ get_or a t [] ∷ []) before ∙ ap (λ x. take t b ++ x ∷ []) one ∙
-    sym (ap (λ n. take n b) next ∙ take_more b t [] (omega arith))
 
 not_past : (flows : List Flow) (line : List ℕ) (a b : List (List ℕ)) → IsServedSoFar flows line a → IsServed flows line b → length b < length a → ⊥
 not_past flows line a b sa sb lt =
