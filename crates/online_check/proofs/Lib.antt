@@ -3,3 +3,4 @@ pub mod WaitingSteps
 pub mod DoneSteps
 pub mod Firsts
 pub mod Verdicts
+pub mod OneOnline

@@ -5,3 +5,4 @@ pub mod Waiting
 pub mod Sound
 pub mod Reasons
 pub mod Parts
+pub mod Arrivals

@@ -20,3 +20,8 @@ pub record IsSoundOnline (i : Instance) (arrival : ℕ → ℕ) (ids : List ℕ)
   pub listed : ids_done o.done ≡ ids
   pub ends : (c : ℕ) → c < length ids → slice_index (slots_done o.done) c ≡ completion i.flows (slots_in o.runs) c
   pub cost_is : o.cost ≡ cost i.flows i.weight i.coflows (slots_in o.runs)
+
+-- the total is at most the cost of every valid schedule that serves nobody before its arrival
+abbrev pub BoundsReleasedSchedules : Instance → (ℕ → ℕ) → Online → Type 0
+BoundsReleasedSchedules i arrival o = (slots : List (List ℕ)) → IsReleased i.flows arrival slots →
+    o.total ≤ cost i.flows i.weight i.coflows slots

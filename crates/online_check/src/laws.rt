@@ -1,10 +1,13 @@
-//! What a yes says of an online run.
+//! What a yes says of an online run, and that a verdict is told by its definition alone.
 ghost use Rattle.std.specs.Prelude.{◌≡◌, ℕ, ◌≤◌, List};
 ghost use Rattle.coflow_units.specs.Completion.{cost};
 ghost use Rattle.coflow_units.specs.Flows.{Instance};
+ghost use Rattle.flow_table.specs.Table.{TableFacts, instance_of};
 ghost use Rattle.online_text.specs.declared.value.Online.{Online};
 ghost use Rattle.release_bound.specs.Release.{IsReleased};
 ghost use Rattle.schedule_model.specs.RunList.{slots_in};
+ghost use Rattle.online_check.specs.declared.verdict.OnlineVerdict.{OnlineVerdict};
+ghost use Rattle.online_check.specs.Reasons.{IsOnlineVerdict};
 ghost use Rattle.online_check.specs.Sound.{IsSoundOnline};
 
 use release_bound::laws::released_is_bound;
@@ -22,3 +25,10 @@ pub fn yes_bounds_released_schedules()
 {
     released_is_bound();
 }
+
+/// An online run has one verdict.
+pub fn online_verdict_is_one()
+    ensures { (t : TableFacts) (weights : List ℕ) (arrival : ℕ → ℕ) (o : Online) (a b : OnlineVerdict) →
+        IsOnlineVerdict (instance_of t weights) arrival t.ids o a →
+        IsOnlineVerdict (instance_of t weights) arrival t.ids o b → a ≡ b }
+{}
