@@ -1,11 +1,11 @@
 -- The words of a command and of its reply, read part by part.
-use Rattle.std.proofs.Common.{◌≡◌, ◌⊎◌, inl, inr, ℕ, ◌-◌, ◌<◌, ◌≤◌, ◌^◌, List, ◌++◌, get_or, refl, sym, ap, subst, ◌∙◌, arith}
+use Rattle.std.proofs.Common.{◌≡◌, inl, inr, ℕ, ◌-◌, ◌<◌, ◌≤◌, ◌^◌, List, ◌++◌, get_or, refl, sym, ap, subst, ◌∙◌, arith}
 use Rattle.std.specs.Prelude.{codes}
 use Rattle.report.specs.Readers.{Stops}
 use Rattle.report.specs.Text.{spaced}
 use Rattle.live_text.specs.declared.value.Said.{Said}
 use Rattle.live_text.specs.declared.value.Word.{Word}
-use Rattle.live_text.specs.declared.value.Word.TheVariants.{Register, Withdraw, Publish, Pull, Open, Close, Reweigh}
+use Rattle.live_text.specs.declared.value.Word.TheVariants.{Register, Withdraw, Pull, Open, Reweigh}
 use Rattle.live_text.specs.Live.{IsAnswerOf, IsLong, IsSmall, IsWeight, IsWord}
 use Rattle.live_text.specs.Readers.{mark}
 use Rattle.live_text.specs.Text.{command_words, reply_words}
@@ -29,7 +29,8 @@ behind_number word bytes rest reply m n hm hn stops reply_stop f e = (field_uniq
 pub register_second : (bytes rest : List ℕ) (m : ℕ) → mark bytes ≡ 103 → m < 2 ^ 64 → Stops rest → bytes ≡ codes " register" ++ (spaced m ++ rest) →
     ((n : ℕ) (s : Said) → IsAnswerOf (Register n) s → rest ≡ reply_words s → ⊥) → (w : Word) (s : Said) → IsWord w → IsAnswerOf w s →
     bytes ≡ command_words w ++ reply_words s → ⊥
-register_second bytes rest m at few stops f none w s fits answers e = go (get_or (numbers_in w) 0 0) (command_is w bytes (reply_words s) e ∙ ap (λ k. command_by k (numbers_in w)) at)
+register_second bytes rest m at few stops f none w s fits answers e =
+    go (get_or (numbers_in w) 0 0) (command_is w bytes (reply_words s) e ∙ ap (λ k. command_by k (numbers_in w)) at)
   where
     go : (n : ℕ) → w ≡ Register n → ⊥
     go n is =
@@ -41,7 +42,8 @@ register_second bytes rest m at few stops f none w s fits answers e = go (get_or
 pub withdraw_second : (bytes rest : List ℕ) (m : ℕ) → mark bytes ≡ 116 → m < 2 ^ 64 → Stops rest → bytes ≡ codes " withdraw" ++ (spaced m ++ rest) →
     ((n : ℕ) (s : Said) → IsAnswerOf (Withdraw n) s → rest ≡ reply_words s → ⊥) → (w : Word) (s : Said) → IsWord w → IsAnswerOf w s →
     bytes ≡ command_words w ++ reply_words s → ⊥
-withdraw_second bytes rest m at few stops f none w s fits answers e = go (get_or (numbers_in w) 0 0) (command_is w bytes (reply_words s) e ∙ ap (λ k. command_by k (numbers_in w)) at)
+withdraw_second bytes rest m at few stops f none w s fits answers e =
+    go (get_or (numbers_in w) 0 0) (command_is w bytes (reply_words s) e ∙ ap (λ k. command_by k (numbers_in w)) at)
   where
     go : (n : ℕ) → w ≡ Withdraw n → ⊥
     go n is =
@@ -94,9 +96,9 @@ reweigh_second bytes rest m at few stops f none w s fits e =
     let (id, weight, is, small, here) = reweigh_rest bytes rest m at few stops f w s fits e in
     none weight (reply_words s) small.0 small.1 (reply_stops s) here
 
-pub reweigh_third : (bytes rest behind : List ℕ) (m n : ℕ) → mark bytes ≡ 119 → m < 2 ^ 64 → Stops rest → bytes ≡ codes " reweigh" ++ (spaced m ++ rest) → n < 2 ^ 64 → Stops behind →
-    rest ≡ spaced n ++ behind → ((id weight : ℕ) (s : Said) → IsAnswerOf (Reweigh id weight) s → behind ≡ reply_words s → ⊥) → (w : Word) (s : Said) → IsWord w → IsAnswerOf w s →
-    bytes ≡ command_words w ++ reply_words s → ⊥
+pub reweigh_third : (bytes rest behind : List ℕ) (m n : ℕ) → mark bytes ≡ 119 → m < 2 ^ 64 → Stops rest → bytes ≡ codes " reweigh" ++ (spaced m ++ rest) →
+    n < 2 ^ 64 → Stops behind → rest ≡ spaced n ++ behind → ((id weight : ℕ) (s : Said) → IsAnswerOf (Reweigh id weight) s → behind ≡ reply_words s → ⊥) →
+    (w : Word) (s : Said) → IsWord w → IsAnswerOf w s → bytes ≡ command_words w ++ reply_words s → ⊥
 reweigh_third bytes rest behind m n at few stops f fewer ends g none w s fits answers e =
     let (id, weight, is, small, here) = reweigh_rest bytes rest m at few stops f w s fits e in
     let same = field_unique (codes "") rest behind (reply_words s) n weight (omega (arith, fewer)) (omega (arith, small.1)) ends (reply_stops s) g here in

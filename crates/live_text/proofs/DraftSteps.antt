@@ -1,7 +1,7 @@
 -- A draft that takes a line.
-use Rattle.std.proofs.Common.{◌≡◌, ◌≢◌, inl, inr, ℕ, ◌+◌, ◌-◌, ◌<◌, ◌≤◌, ◌^◌, List, [], ◌∷◌, ◌++◌, Bool, true, false, append_assoc, append-nil, length, length-append, map, get_or}
+use Rattle.std.proofs.Common.{◌≡◌, ◌≢◌, ℕ, ◌+◌, ◌-◌, ◌<◌, ◌≤◌, ◌^◌, List, [], ◌∷◌, ◌++◌, Bool, true, false, append_assoc, append-nil, length, length-append, map, get_or}
 use Rattle.std.proofs.Common.{refl, sym, ap, subst, ◌∙◌, ltb, arith}
-use Rattle.std.specs.Prelude.{◌==◌, All, codes, sum_by}
+use Rattle.std.specs.Prelude.{All, codes, sum_by}
 use Rattle.std.proofs.lemmas.Bool.Decides.{nat_tests}
 use Rattle.std.proofs.lemmas.List.{get_or_append_left, get_or_push, map-append}
 use Rattle.std.proofs.lemmas.List.Elements.{All-push}
@@ -11,6 +11,7 @@ use Rattle.std.specs.declared.alloc.Global.{Global}
 use Rattle.coflow_units.specs.declared.plan.Run.{Run}
 use Rattle.report.specs.Draft.{Differs}
 use Rattle.report.specs.Readers.{IsRun}
+use Rattle.report.proofs.DraftText.{slots_in}
 use Rattle.report.specs.Text.{run_line}
 use Rattle.live_text.specs.declared.draft.Draft.{Draft}
 use Rattle.live_text.specs.declared.draft.Stage.TheVariants.{First, Lines}
@@ -18,7 +19,7 @@ use Rattle.live_text.specs.declared.value.EntryLine.{EntryLine}
 use Rattle.live_text.specs.declared.value.Live.{Live}
 use Rattle.live_text.specs.declared.value.PullLine.{PullLine}
 use Rattle.live_text.specs.Draft.{ComesBehind, HasNothing, IsDraft, draft_lines, live_of}
-use Rattle.live_text.specs.Live.{ForNeighbours, IsBefore, IsEntry, IsLive, IsPull, IsSmall}
+use Rattle.live_text.specs.Live.{ForNeighbours, IsBefore, IsEntry, IsPull, IsSmall}
 use Rattle.live_text.specs.Text.{body_lines, entry_line, numbered, order_line, pull_line}
 use Rattle.live_text.proofs.TextSteps.{numbered_more}
 
@@ -177,9 +178,6 @@ pull_taken d pulls p line h stage no_runs ps is_pull is behind = (draft, lines)
 
     lines : draft_lines (with_pulls d pulls) ≡ draft_lines d ++ (line ∷ [])
     lines = rw (stage, ps, is) (pull_body d.entries.items d.orders.items d.pulls.items d.runs.items p no_runs)
-
-abbrev pub slots_in : Run → ℕ
-slots_in run = run.length
 
 abbrev differ_in_flows : Run → Run → Type 0
 differ_in_flows a b = a.flows ≢ b.flows

@@ -1,5 +1,6 @@
 -- Each line of a printed journal is one line, and says one thing alone.
-use Rattle.std.proofs.Common.{◌≡◌, inl, inr, ℕ, suc, ◌+◌, ◌<◌, ◌^◌, List, [], ◌∷◌, ◌++◌, append_assoc, append-nil, length, map, drop, get_or, refl, sym, ap, subst, ◌∙◌, arith, add-zero}
+use Rattle.std.proofs.Common.{◌≡◌, inl, inr, ℕ, suc, ◌+◌, ◌<◌, ◌^◌, List, [], ◌∷◌, ◌++◌, append_assoc, append-nil}
+use Rattle.std.proofs.Common.{length, map, drop, get_or, refl, sym, ap, subst, ◌∙◌, arith, add-zero}
 use Rattle.std.specs.Prelude.{All, codes}
 use Rattle.std.specs.List.{flat_map}
 use Rattle.std.proofs.lemmas.List.{append_cancel_left}
@@ -112,7 +113,8 @@ ids_unique [] [] hx hy e = refl
 ids_unique [] (y ∷ ys) hx hy e = absurd cc
 ids_unique (x ∷ xs) [] hx hy e = absurd cc
 ids_unique (x ∷ xs) (y ∷ ys) hx hy e =
-    let one = spaced_unique (flat_map spaced xs) (flat_map spaced ys) x y (omega (arith, hx 0 x (omega arith))) (omega (arith, hy 0 y (omega arith))) (stops_flows xs) (stops_flows ys) e
+    let one = spaced_unique (flat_map spaced xs) (flat_map spaced ys) x y (omega (arith, hx 0 x (omega arith))) (omega (arith, hy 0 y (omega arith)))
+    (stops_flows xs) (stops_flows ys) e
     in
     let more = ids_unique xs ys (λ k d lt. hx (suc k) d (omega (arith, lt))) (λ k d lt. hy (suc k) d (omega (arith, lt))) one.1 in
     λ i. one.0 i ∷ more i

@@ -1,5 +1,5 @@
 -- The line of an entry, of an order and of a pull, read part by part.
-use Rattle.std.proofs.Common.{◌≡◌, ℕ, suc, ◌+◌, ◌<◌, ◌≤◌, ◌^◌, List, [], ◌∷◌, ◌++◌, append_assoc, append-nil, length, length-append, refl, sym, ap, ◌∙◌, arith}
+use Rattle.std.proofs.Common.{◌≡◌, ℕ, suc, ◌<◌, ◌^◌, List, [], ◌∷◌, ◌++◌, append_assoc, append-nil, refl, sym, ap, ◌∙◌, arith}
 use Rattle.std.specs.Prelude.{All, codes}
 use Rattle.std.specs.List.{flat_map}
 use Rattle.std.proofs.lemmas.Grind.{flat_map-append}
@@ -75,7 +75,8 @@ next_id bytes rest ids ys r h e some =
     go [] whole here = absurd (some here)
     go (z ∷ zs) whole here = (z, zs, at ids zs z (rw whole at h), here)
 
-pub one_id : (bytes rest ids behind : List ℕ) (id : ℕ) → IdsSoFar bytes rest ids → id < 2 ^ 32 → rest ≡ spaced id ++ behind → Stops behind → IdsSoFar bytes behind (ids ++ (id ∷ []))
+pub one_id : (bytes rest ids behind : List ℕ) (id : ℕ) → IdsSoFar bytes rest ids → id < 2 ^ 32 → rest ≡ spaced id ++ behind → Stops behind →
+    IdsSoFar bytes behind (ids ++ (id ∷ []))
 one_id bytes rest ids behind id r small e stops =
     let flat : flat_map spaced (ids ++ (id ∷ [])) ≡ flat_map spaced ids ++ spaced id = flat_map-append spaced ids (id ∷ []) ∙
     ap (λ x. flat_map spaced ids ++ x) (append-nil (spaced id)) in
@@ -84,9 +85,6 @@ one_id bytes rest ids behind id r small e stops =
       small = All-push IsSmall ids id r.small small;
       stops = stops;
     }
-
-pub fewer_bytes : (rest behind : List ℕ) (id : ℕ) → rest ≡ spaced id ++ behind → length behind < length rest
-fewer_bytes rest behind id e = omega (arith, ap length e, length-append (spaced id) behind)
 
 -- ---- pulls
 
@@ -109,7 +107,8 @@ five_parts w a b c d e = simp append_assoc
 pub pull_front : (p : PullLine) → pull_line p ≡ codes "pull" ++ (spaced p.client ++ after_client p)
 pull_front p = five_parts (codes "pull") (spaced p.client) (spaced p.line) (spaced p.id) (spaced p.version) (spaced p.rank)
 
-pub client_rest : (line rest : List ℕ) (n : ℕ) (p : PullLine) → n < 2 ^ 64 → Stops rest → line ≡ codes "pull" ++ (spaced n ++ rest) → IsPull p → line ≡ pull_line p → rest ≡ after_client p
+pub client_rest : (line rest : List ℕ) (n : ℕ) (p : PullLine) → n < 2 ^ 64 → Stops rest → line ≡ codes "pull" ++ (spaced n ++ rest) → IsPull p → line ≡ pull_line p →
+    rest ≡ after_client p
 client_rest line rest n p hn stops f h e =
     (field_unique (codes "pull") line rest (after_client p) n p.client (omega (arith, hn)) (omega (arith, h.client_to)) stops refl f (e ∙ pull_front p)).1
 
@@ -120,10 +119,11 @@ pub id_rest : (rest behind : List ℕ) (n : ℕ) (p : PullLine) → n < 2 ^ 64 �
 id_rest rest behind n p hn stops f h e = (field_unique (codes "") rest behind (after_id p) n p.id (omega (arith, hn)) (omega (arith, h.id_fits)) stops refl f e).1
 
 pub version_rest : (rest behind : List ℕ) (n : ℕ) (p : PullLine) → n < 2 ^ 64 → Stops behind → rest ≡ spaced n ++ behind → IsPull p → rest ≡ after_id p → behind ≡ after_version p
-version_rest rest behind n p hn stops f h e = (field_unique (codes "") rest behind (after_version p) n p.version (omega (arith, hn)) (omega (arith, h.version_fits)) stops refl f e).1
+version_rest rest behind n p hn stops f h e =
+    (field_unique (codes "") rest behind (after_version p) n p.version (omega (arith, hn)) (omega (arith, h.version_fits)) stops refl f e).1
 
-pub pull_built : (line a b c d : List ℕ) (p : PullLine) → line ≡ codes "pull" ++ (spaced p.client ++ a) → a ≡ spaced p.line ++ b → b ≡ spaced p.id ++ c → c ≡ spaced p.version ++ d →
-    d ≡ spaced p.rank → line ≡ pull_line p
+pub pull_built : (line a b c d : List ℕ) (p : PullLine) → line ≡ codes "pull" ++ (spaced p.client ++ a) → a ≡ spaced p.line ++ b → b ≡ spaced p.id ++ c →
+    c ≡ spaced p.version ++ d → d ≡ spaced p.rank → line ≡ pull_line p
 pull_built line a b c d p e f g h i =
     let c_is = h ∙ ap (λ x. spaced p.version ++ x) i in
     let b_is = g ∙ ap (λ x. spaced p.id ++ x) c_is in

@@ -112,7 +112,8 @@ abbrev end_line : List (List ℕ)
 end_line = codes "end" ∷ []
 
 pub next_of : (d l : Live) (a : List (List ℕ)) → IsLive d → IsLive l → live_lines l ≡ body_lines d ++ a → Next d l a
-next_of d l a hd hl e = by_entries (goes_on IsEntry entry_line 114 (λ k x. refl) entry_unique 1 d.entries l.entries hd.entry hl.entry (from_orders d a) (from_orders l end_line) after_entries whole)
+next_of d l a hd hl e =
+    by_entries (goes_on IsEntry entry_line 114 (λ k x. refl) entry_unique 1 d.entries l.entries hd.entry hl.entry (from_orders d a) (from_orders l end_line) after_entries whole)
   where
     whole : from_entries d a ≡ from_entries l end_line
     whole = ap (drop 1) (sym (body_nested d a) ∙ (sym e ∙ body_nested l end_line))

@@ -1,16 +1,15 @@
 -- A line that no text has after the lines that were read.
-use Rattle.std.proofs.Common.{◌≡◌, ◌≢◌, ℕ, suc, ◌+◌, ◌-◌, ◌<◌, ◌≤◌, ◌^◌, List, [], ◌∷◌, ◌++◌, Bool, true, false, Option, Some, None, append-nil, append_assoc, drop, length, length-append, get_or}
-use Rattle.std.proofs.Common.{refl, sym, ap, subst, ◌∙◌, arith}
-use Rattle.std.specs.Prelude.{All, codes, sum_by}
+use Rattle.std.proofs.Common.{◌≡◌, ◌≢◌, ℕ, suc, ◌+◌, ◌-◌, ◌<◌, ◌^◌, List, [], ◌∷◌, ◌++◌, false, None}
+use Rattle.std.proofs.Common.{append-nil, append_assoc, drop, length, length-append, get_or, refl, sym, ap, subst, ◌∙◌, arith}
+use Rattle.std.specs.Prelude.{All, codes}
 use Rattle.std.proofs.Math.Seq.{get_or-append_seam}
 use Rattle.std.proofs.lemmas.List.{get_or_append_left}
-use Rattle.std.proofs.lemmas.List.Sums.{sum_by-append, sum_by-cons}
 use Rattle.coflow_units.specs.declared.plan.Run.{Run}
 use Rattle.coflow_units.proofs.Fronts.{head_of}
 use Rattle.report.specs.Draft.{Differs}
 use Rattle.report.specs.Readers.{IsRun, IsRunOf}
 use Rattle.report.specs.Text.{run_line}
-use Rattle.report.proofs.DraftText.{run_unique}
+use Rattle.report.proofs.DraftText.{run_unique, slots_grow}
 use Rattle.report.proofs.LineLists.{tail_is}
 use Rattle.live_text.specs.declared.draft.Draft.{Draft}
 use Rattle.live_text.specs.declared.draft.Stage.{Stage}
@@ -22,7 +21,6 @@ use Rattle.live_text.specs.Draft.{ComesBehind, IsDraft, Refuses, draft_lines, li
 use Rattle.live_text.specs.Live.{IsBefore, IsEntry, IsLive, IsPull, IsSmall}
 use Rattle.live_text.specs.Readers.{IsEntryOf, IsOrderOf, IsPullOf, mark}
 use Rattle.live_text.specs.Text.{body_lines, entry_line, live_lines, order_line, pull_line}
-use Rattle.live_text.proofs.DraftSteps.{slots_in}
 use Rattle.live_text.proofs.LineParts.{pull_unique}
 use Rattle.live_text.proofs.NextLine.{Next, next_end, next_entry, next_of, next_order, next_pull, next_run}
 
@@ -68,7 +66,8 @@ refuse_entry d line h stage m none l more hl e =
     none next.entry (omega arith) (omega (arith, hl.few_entries, ap length next.whole, length-append d.entries.items (next.entry ∷ next.more)))
     (all_middle IsEntry d.entries.items next.entry next.more (subst (All IsEntry) next.whole hl.entry)) next.here
 
-pub refuse_late_entry : (d : Draft) (line : List ℕ) → IsDraft d → d.stage ≡ Lines → mark line ≡ 114 → (d.orders.items ≡ [] → d.pulls.items ≡ [] → d.runs.items ≡ [] → ⊥) → Refuses d line
+pub refuse_late_entry : (d : Draft) (line : List ℕ) → IsDraft d → d.stage ≡ Lines → mark line ≡ 114 → (d.orders.items ≡ [] → d.pulls.items ≡ [] → d.runs.items ≡ [] → ⊥) →
+    Refuses d line
 refuse_late_entry d line h stage m late l more hl e =
     let next = next_entry_of d line l more h stage m hl e in
     late next.no_orders next.no_pulls next.no_runs
@@ -192,9 +191,7 @@ pub refuse_long : (d : Draft) (line : List ℕ) (run : Run) → IsDraft d → d.
     Refuses d line
 refuse_long d line run h stage m is_run is long l more hl e =
     let next = run_next d run line l more h stage m is_run is hl e in
-    let total : sum_by slots_in l.runs ≡ sum_by slots_in d.runs.items + (run.length + sum_by slots_in next.0) =
-    ap (sum_by slots_in) next.1 ∙ (sum_by-append slots_in d.runs.items (run ∷ next.0) ∙ ap (λ n. sum_by slots_in d.runs.items + n) (sum_by-cons slots_in run next.0)) in
-    absurd (omega (arith, total, h.slots, hl.few_slots, long))
+    absurd (omega (arith, slots_grow d.runs.items l.runs next.0 run next.1, h.slots, hl.few_slots, long))
 
 pub refuse_same : (d : Draft) (line : List ℕ) (run : Run) → IsDraft d → d.stage ≡ Lines → mark line ≡ 32 → IsRun run → line ≡ run_line run → Differs d.runs.items run.flows false →
     Refuses d line

@@ -14,5 +14,6 @@ pub fn live_texts_are_one()
 /// A reader gives back the printed journal that was written, where there is memory.
 pub fn written_is_read()
     ensures same { (written read : Live) → IsLive written → GivesLive (live_text written) (Ok read) → read ≡ written }
-    ensures taken { (written : Live) (line : ℕ) → IsLive written → GivesLive (live_text written) (Err (BadText line)) → ⊥ }
+    ensures taken { (written : Live) (line : ℕ) → IsLive written →
+        GivesLive (live_text written) (Err (BadText line)) → ⊥ }
 {}

@@ -13,7 +13,7 @@ use Rattle.coflow_units.specs.declared.plan.Run.{Run}
 use Rattle.report.specs.Draft.{Differs}
 use Rattle.report.specs.Readers.{IsRun, IsRunOf}
 use Rattle.report.specs.Text.{run_line}
-use Rattle.report.proofs.DraftText.{run_unique}
+use Rattle.report.proofs.DraftText.{run_unique, slots_grow, slots_in}
 use Rattle.report.proofs.LineLists.{first}
 use Rattle.online_text.specs.declared.value.Online.{Online}
 use Rattle.online_text.specs.Online.{IsOnline}
@@ -42,9 +42,6 @@ apart_push {X} part xs x h other k d lt = go (ltb (k + 1) (length xs)) refl
         let index : length xs - 1 ≡ k = omega arith in
         let last : part (get_or xs (length xs - 1) d) ≡ at (xs ++ (x ∷ [])) k = rw index (sym (ap part (get_or_append_left xs (x ∷ []) d k (omega arith)))) in
         other d (omega arith) (last ∙ (same ∙ ap part (get_or_push xs x d (k + 1) here)))
-
-abbrev slots_in : Run → ℕ
-slots_in run = run.length
 
 -- the line of a run is taken, and the online run has the run
 run_both : (runs new : List Run) (run : Run) (line : List ℕ) (o : Online) (more : List (List ℕ)) → IsOnline o → new ≡ runs ++ (run ∷ []) → IsRun run → line ≡ run_line run →
@@ -113,12 +110,11 @@ run_taken d runs run line h stage grown is_run is few other = (
         AreLeft (λ k. run_line) d.runs.items o.runs (codes "end" ∷ []) (line ∷ more) ↔ AreLeft (λ k. run_line) runs.items o.runs (codes "end" ∷ []) more
     both o more online = run_both d.runs.items runs.items run line o more online grown is_run is
 
-pub long_refused : (d : Draft) (run : Run) (line : List ℕ) → IsDraft d → d.stage ≡ Runs → IsRun run → line ≡ run_line run → 2 ^ 41 - 1 < d.slots + run.length → Refuses d line
-long_refused d run line h stage is_run is long = refuses d Runs line stage (λ o more online small g.
+pub long_refused : (d : Draft) (run : Run) (line : List ℕ) → d.slots ≡ sum_by slots_in d.runs.items → d.stage ≡ Runs → IsRun run → line ≡ run_line run →
+    2 ^ 41 - 1 < d.slots + run.length → Refuses d line
+long_refused d run line slots stage is_run is long = refuses d Runs line stage (λ o more online small g.
     let next = run_next d.runs.items run line o more online is_run is g.1 in
-    let total : sum_by slots_in o.runs ≡ sum_by slots_in d.runs.items + (run.length + sum_by slots_in next.0) =
-    ap (sum_by slots_in) next.1 ∙ (sum_by-append slots_in d.runs.items (run ∷ next.0) ∙ ap (λ n. sum_by slots_in d.runs.items + n) (sum_by-cons slots_in run next.0)) in
-    absurd (omega (arith, total, h.slots, online.few_slots)))
+    absurd (omega (arith, slots_grow d.runs.items o.runs next.0 run next.1, slots, online.few_slots)))
 
 pub same_refused : (d : Draft) (run : Run) (line : List ℕ) → d.stage ≡ Runs → IsRun run → line ≡ run_line run → Differs d.runs.items run.flows false → Refuses d line
 same_refused d run line stage is_run is same = refuses d Runs line stage (λ o more online small g.

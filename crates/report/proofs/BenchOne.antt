@@ -180,8 +180,10 @@ class_one a b sa sb e = λ i. record { members = members i; cap = cap i; cost = 
     whole = sym (class_nested a) ∙ (lines_one (class_lines a) (class_lines b) (is_lines a sa) (is_lines b sb) e ∙ class_nested b)
 
     parts : (map member_line a.members ≡ map member_line b.members) × (cap_line a.cap ≡ cap_line b.cap) × (cost_line a.cost ∷ last_lines a ≡ cost_line b.cost ∷ last_lines b)
-    parts = both_ended 109 (map member_line a.members) (map member_line b.members) (cap_line a.cap) (cap_line b.cap) (cost_line a.cost ∷ last_lines a) (cost_line b.cost ∷ last_lines b)
-        (all_first 109 member_line (λ m. refl) a.members) (all_first 109 member_line (λ m. refl) b.members) (λ bad. absurd (omega (arith, bad))) (λ bad. absurd (omega (arith, bad)))
+    parts = both_ended 109 (map member_line a.members) (map member_line b.members) (cap_line a.cap) (cap_line b.cap)
+        (cost_line a.cost ∷ last_lines a) (cost_line b.cost ∷ last_lines b)
+        (all_first 109 member_line (λ m. refl) a.members) (all_first 109 member_line (λ m. refl) b.members)
+        (λ bad. absurd (omega (arith, bad))) (λ bad. absurd (omega (arith, bad)))
         (ap (drop 1) whole)
 
     members : a.members ≡ b.members

@@ -20,6 +20,7 @@ use Rattle.report.specs.Report.{ForEach, IsSmallPlace}
 use Rattle.report.specs.Text.{place_at, place_line, place_line_at, place_lines, run_line, total_lines, version_line, weight_at}
 use Rattle.report.specs.Readers.{IsRun, IsWeight, weights_if, weights_list}
 use Rattle.report.specs.Draft.{Differs, HasNothingLater, IsDraft, draft_lines, report_of}
+use Rattle.report.proofs.DraftText.{slots_in}
 use Rattle.report.proofs.LineLists.{same_lines}
 
 -- one more weight for one more place
@@ -140,9 +141,6 @@ with_run d runs slots = record {
   runs = runs;
   slots = slots;
 }
-
-abbrev slots_in : Run → ℕ
-slots_in run = run.length
 
 maximal_push : (runs : List Run) (run : Run) → ((k : ℕ) (d : Run) → k + 1 < length runs → (get_or runs k d).flows ≢ (get_or runs (k + 1) d).flows) → Differs runs run.flows true →
     (k : ℕ) (d : Run) → k + 1 < length (runs ++ (run ∷ [])) → (get_or (runs ++ (run ∷ [])) k d).flows ≢ (get_or (runs ++ (run ∷ [])) (k + 1) d).flows

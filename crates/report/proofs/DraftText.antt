@@ -20,7 +20,7 @@ use Rattle.report.proofs.FlowText.{goes_on, stops_flows}
 use Rattle.report.proofs.NumberText.{spaced_unique}
 use Rattle.report.proofs.LineLists.{AllFirst, all_first, both_ended, first, last_lines, lines_behind, lines_nested, next_after, next_place, places_first, regroup, tail_is}
 
-abbrev slots_in : Run → ℕ
+abbrev pub slots_in : Run → ℕ
 slots_in run = run.length
 
 -- the lines of a report that begins as the draft does
@@ -161,12 +161,17 @@ run_next d run line r more h stage is_run is report small e =
         (next.1, next.2 ∙ ap (λ x. d.runs.items ++ (x ∷ next.1)) same)
     go (inr (same, here, none)) = absurd (let bad : 114 ≡ 101 = ap first (sym is ∙ here) in omega (arith, bad))
 
+-- runs that go on with one more have at least the slots of both
+pub slots_grow : (runs whole others : List Run) (run : Run) → whole ≡ runs ++ (run ∷ others) → sum_by slots_in runs + run.length ≤ sum_by slots_in whole
+slots_grow runs whole others run is =
+    let total : sum_by slots_in whole ≡ sum_by slots_in runs + (run.length + sum_by slots_in others) =
+    ap (sum_by slots_in) is ∙ (sum_by-append slots_in runs (run ∷ others) ∙ ap (λ n. sum_by slots_in runs + n) (sum_by-cons slots_in run others)) in
+    omega (arith, total)
+
 pub refuse_long : (d : Draft) (run : Run) (line : List ℕ) → IsDraft d → d.stage ≡ Runs → IsRun run → line ≡ run_line run → 2 ^ 41 - 1 < d.slots + run.length → Refuses d line
 refuse_long d run line h stage is_run is long r more report small e =
     let next = run_next d run line r more h stage is_run is report small e in
-    let total : sum_by slots_in r.runs ≡ sum_by slots_in d.runs.items + (run.length + sum_by slots_in next.0) =
-    ap (sum_by slots_in) next.1 ∙ (sum_by-append slots_in d.runs.items (run ∷ next.0) ∙ ap (λ n. sum_by slots_in d.runs.items + n) (sum_by-cons slots_in run next.0)) in
-    absurd (omega (arith, total, h.slots, report.few_slots))
+    absurd (omega (arith, slots_grow d.runs.items r.runs next.0 run next.1, h.slots, report.few_slots))
 
 pub refuse_same : (d : Draft) (run : Run) (line : List ℕ) → IsDraft d → d.stage ≡ Runs → IsRun run → line ≡ run_line run → Differs d.runs.items run.flows false → Refuses d line
 refuse_same d run line h stage is_run is same r more report small e =

@@ -89,7 +89,8 @@ flows_step before flows first left end start text buf has lt so_far len start_is
       front = sym (take-take at start buf (omega (arith, next))) ∙ ap (take at) kept ∙ take-take at start text (omega (arith, next))
           ∙ sym (take-take at end text (omega (arith, next, start_is))) ∙ ap (take at) so_far.front ∙ take-take at end first (omega (arith, next, start_is));
       back = drop-cons buf at 0 inside ∙ ap (λ x. x ∷ drop (suc at) buf) space ∙ ap (λ k. 32 ∷ drop k buf) follows ∙ ap (λ xs. 32 ∷ xs) written
-          ∙ ap (λ xs. 32 ∷ (decimal n ++ xs)) so_far.back ∙ ap (λ k. 32 ∷ (decimal n ++ flat_map spaced (drop k flows))) (sym flow) ∙ sym (ap (flat_map spaced) (drop-cons flows left 0 lt));
+          ∙ ap (λ xs. 32 ∷ (decimal n ++ xs)) so_far.back
+          ∙ ap (λ k. 32 ∷ (decimal n ++ flat_map spaced (drop k flows))) (sym flow) ∙ sym (ap (flat_map spaced) (drop-cons flows left 0 lt));
     }
 
 -- room for one more number
@@ -97,7 +98,8 @@ pub flows_room : (before flows first : List ℕ) (left end : ℕ) (text : List �
     length (decimal (get_or flows left 0)) + 1 ≤ end
 flows_room before flows first left end text lt so_far = omega (arith, so_far.end_is, width_more flows left lt)
 
-pub flows_all : (before flows first : List ℕ) (end : ℕ) (text : List ℕ) → HasSpaces before flows first → FlowsFrom before flows first 0 end text → text ≡ before ++ flat_map spaced flows
+pub flows_all : (before flows first : List ℕ) (end : ℕ) (text : List ℕ) → HasSpaces before flows first → FlowsFrom before flows first 0 end text →
+    text ≡ before ++ flat_map spaced flows
 flows_all before flows first end text has so_far =
     let place : end ≡ length before = omega (arith, so_far.end_is) in
     sym (take-append-drop end text) ∙ ap (λ xs. xs ++ drop end text) (so_far.front ∙ ap (λ k. take k first) place ∙ ap (take (length before)) has

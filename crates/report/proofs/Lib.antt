@@ -14,6 +14,7 @@ pub mod DraftSteps
 pub mod ReadingText
 pub mod OneLine
 pub mod LastLine
+pub mod WholeLines
 pub mod ReadingSteps
 pub mod TextLaws
 pub mod MadeOne

@@ -1,120 +1,58 @@
--- What was read of the bytes, and where no report goes on.
-use Rattle.std.proofs.Common.{◌≡◌, ◌≢◌, ℕ, ◌+◌, ◌<◌, ◌≤◌, List, [], ◌∷◌, ◌++◌, append_assoc, append-nil, length, length-append, take, drop, refl, sym, ap, subst, ◌∙◌, arith}
-use Rattle.std.proofs.lemmas.Grind.{flat_map-append}
-use Rattle.std.proofs.lemmas.List.{length-take-le, take-append-drop}
+-- What was read of the bytes begins a report, and where no report goes on the line is wrong.
+use Rattle.std.proofs.Common.{◌≡◌, ◌≢◌, ℕ, ◌<◌, List, ◌∷◌, ◌++◌, refl, subst, arith}
 use Rattle.report.specs.declared.draft.Draft.{Draft}
 use Rattle.report.specs.declared.draft.Stage.TheVariants.{Done}
 use Rattle.report.specs.declared.value.Report.{Report}
 use Rattle.report.specs.Report.{HasSmallNumbers, IsReport}
-use Rattle.report.specs.Text.{ended, report_lines, text_of}
-use Rattle.report.specs.Readers.{IsOneLine}
+use Rattle.report.specs.Text.{report_lines}
 use Rattle.report.specs.Draft.{IsDraft, Refuses, draft_lines, report_of}
-use Rattle.report.specs.Reading.{IsBadAt, IsBeginning, IsTextOf}
-use Rattle.report.proofs.LineText.{line_unique}
+use Rattle.report.specs.Reading.{IsBadAt, IsBeginning}
 use Rattle.report.proofs.OneLine.{report_is_lines}
 use Rattle.report.proofs.LastLine.{lines_after, lines_parted, unfinished}
-use Rattle.report.proofs.ReadingText.{AreLines, front_lines, more_lines, text_goes_on, text_splits}
+use Rattle.report.proofs.ReadingText.{AreLines}
+use Rattle.report.proofs.WholeLines.{IsBegun, IsStopped}
 
--- what the loop over the lines has read
-pub record ReadSoFar (bytes rest : List ℕ) (d : Draft) (n : ℕ) : Type 0 where
-  pub draft : IsDraft d
-  pub are_lines : AreLines (draft_lines d)
-  pub count : length (draft_lines d) + 1 ≡ n
-  pub text : bytes ≡ text_of (draft_lines d) ++ rest
+-- the lines of a report
+abbrev pub IsReportText : List (List ℕ) → Type 0
+IsReportText ls = (r : Report) × IsReport r × HasSmallNumbers r × (report_lines r ≡ ls)
 
-pub none_yet : (bytes : List ℕ) (d : Draft) → IsDraft d → draft_lines d ≡ [] → ReadSoFar bytes bytes d 1
-none_yet bytes d h none = record { draft = h; are_lines = rw none tt; count = rw none refl; text = rw none refl }
+pub are_lines : (ls : List (List ℕ)) → IsReportText ls → AreLines ls
+are_lines ls (r, report, small, is) = subst AreLines is (report_is_lines r report small)
 
-pub one_more : (bytes rest behind line : List ℕ) (d new : Draft) (n : ℕ) → ReadSoFar bytes rest d n → IsDraft new → draft_lines new ≡ draft_lines d ++ (line ∷ []) →
-    IsOneLine line → rest ≡ ended line ++ behind → ReadSoFar bytes behind new (n + 1)
-one_more bytes rest behind line d new n r h grown one e =
-    let flat : text_of (draft_lines d ++ (line ∷ [])) ≡ text_of (draft_lines d) ++ ended line = flat_map-append ended (draft_lines d) (line ∷ []) ∙
-    ap (λ x. text_of (draft_lines d) ++ x) (append-nil (ended line)) in
-    let whole : text_of (draft_lines d) ++ rest ≡ text_of (draft_lines new) ++ behind = ap (λ x. text_of (draft_lines d) ++ x) e ∙
-    (sym (append_assoc (text_of (draft_lines d)) (ended line) behind) ∙ ap (λ x. x ++ behind) (sym flat ∙ ap text_of (sym grown))) in
-    record {
-      draft = h;
-      are_lines = rw grown (more_lines (draft_lines d) line r.are_lines one);
-      count = omega (arith, ap length grown, length-append (draft_lines d) (line ∷ []), r.count);
-      text = r.text ∙ whole;
-    }
+-- what was read begins a report
+pub draft_begins : (d : Draft) → IsDraft d → IsReportText (draft_lines d ++ lines_after d.stage (report_of d))
+draft_begins d h = (report_of d, h.report, h.small, lines_parted d.stage (report_of d))
 
--- a list of lines is no longer than its text
-few_lines : (xs : List (List ℕ)) → length xs ≤ length (text_of xs)
-few_lines [] = omega arith
-few_lines (x ∷ xs) = omega (arith, few_lines xs, length-append (ended x) (text_of xs), length-append x (10 ∷ []))
+pub refused : (d : Draft) (line : List ℕ) → Refuses d line → (more : List (List ℕ)) → IsReportText (draft_lines d ++ (line ∷ more)) → ⊥
+refused d line refuses more (r, report, small, is) = refuses r more report small is
 
-pub few_read : (bytes rest : List ℕ) (d : Draft) (n : ℕ) → ReadSoFar bytes rest d n → n ≤ length bytes + 1
-few_read bytes rest d n r = omega (arith, few_lines (draft_lines d), ap length r.text, length-append (text_of (draft_lines d)) rest, r.count)
+pub no_whole : (d : Draft) → d.stage ≢ Done → IsReportText (draft_lines d) → ⊥
+no_whole d early (r, report, small, is) = unfinished d.stage (report_of d) r early is
 
-pub shorter : (rest behind line : List ℕ) → rest ≡ ended line ++ behind → length behind < length rest
-shorter rest behind line e = omega (arith, ap length e, length-append (ended line) behind, length-append line (10 ∷ []))
-
--- no report has, behind the lines that were read, a line with which the rest begins
-abbrev pub Stuck : List ℕ → Draft → Type 0
-Stuck rest d = (line behind : List ℕ) (r : Report) (more : List (List ℕ)) → IsReport r → HasSmallNumbers r → IsOneLine line → report_lines r ≡ draft_lines d ++ (line ∷ more) →
-    rest ≡ ended line ++ behind → ⊥
-
--- no report has just the lines that were read, where the rest is empty
-abbrev pub Open : List ℕ → Draft → Type 0
-Open rest d = (r : Report) → IsReport r → HasSmallNumbers r → report_lines r ≡ draft_lines d → rest ≡ [] → ⊥
-
--- the lines that were read begin the text of a report
-beginning : (bytes rest : List ℕ) (d : Draft) (n k : ℕ) → ReadSoFar bytes rest d n → k < n → IsBeginning bytes k
-beginning bytes rest d n k r lt =
-    let ls : List (List ℕ) = draft_lines d in
-    let parted : ls ≡ take k ls ++ drop k ls = sym (take-append-drop k ls) in
-    let text : text_of ls ≡ text_of (take k ls) ++ text_of (drop k ls) = ap text_of parted ∙ flat_map-append ended (take k ls) (drop k ls) in
-    record {
-      whole = report_of d;
-      report = r.draft.report;
-      small = r.draft.small;
-      front = take k ls;
-      others = drop k ls ++ lines_after d.stage (report_of d);
-      lines = lines_parted d.stage (report_of d) ∙
-          (ap (λ x. x ++ lines_after d.stage (report_of d)) parted ∙ append_assoc (take k ls) (drop k ls) (lines_after d.stage (report_of d)));
-      count = length-take-le k ls (omega (arith, r.count));
-      rest = text_of (drop k ls) ++ rest;
-      text = r.text ∙ (ap (λ x. x ++ rest) text ∙ append_assoc (text_of (take k ls)) (text_of (drop k ls)) rest);
-    }
-
-pub bad_at : (bytes rest : List ℕ) (d : Draft) (n : ℕ) → ReadSoFar bytes rest d n → Stuck rest d → Open rest d → IsBadAt bytes n
-bad_at bytes rest d n r stuck early = record { no_text = no_text; counted = omega (arith, r.count); before = λ k lt. beginning bytes rest d n k r lt; here = here }
+pub bad_at : (bytes : List ℕ) (n : ℕ) → IsStopped IsReportText bytes n → IsBadAt bytes n
+bad_at bytes n stopped = record {
+  no_text = λ r t. stopped.no_text (report_lines r) (r, t.report, t.small, refl) t.text;
+  counted = stopped.counted;
+  before = λ k lt. there k (stopped.before k lt);
+  here = λ b. stopped.here (record {
+    front = b.front;
+    others = b.others;
+    lines = (b.whole, b.report, b.small, b.lines);
+    count = b.count;
+    rest = b.rest;
+    text = b.text;
+  });
+}
   where
-    no_text : (q : Report) → IsTextOf bytes q → ⊥
-    no_text q t =
-        let more = text_goes_on (draft_lines d) (report_lines q) rest r.are_lines (report_is_lines q t.report t.small) (sym r.text ∙ t.text) in
-        go more.0 more.1 more.2 more.3
-      where
-        go : (ms : List (List ℕ)) → report_lines q ≡ draft_lines d ++ ms → rest ≡ text_of ms → AreLines ms → ⊥
-        go [] whole none ones = early q t.report t.small (whole ∙ append-nil (draft_lines d)) none
-        go (m ∷ ms) whole some ones = stuck m (text_of ms) q ms t.report t.small ones.0 whole some
+    there : (k : ℕ) → IsBegun IsReportText bytes k → IsBeginning bytes k
+    there k b =
+        let (r, report, small, is) = b.lines in
+        record { whole = r; report = report; small = small; front = b.front; others = b.others; lines = is; count = b.count; rest = b.rest; text = b.text }
 
-    here : IsBeginning bytes n → ⊥
-    here b =
-        let fronts : AreLines b.front = front_lines b.front b.others (subst AreLines b.lines (report_is_lines b.whole b.report b.small)) in
-        let split = text_splits (draft_lines d) b.front rest b.rest r.are_lines fronts (b.count ∙ sym r.count) (sym r.text ∙ b.text) in
-        let whole : report_lines b.whole ≡ draft_lines d ++ (split.0 ∷ b.others) =
-        b.lines ∙ (ap (λ x. x ++ b.others) split.1 ∙ append_assoc (draft_lines d) (split.0 ∷ []) b.others) in
-        stuck split.0 b.rest b.whole b.others b.report b.small split.3 whole split.2
+-- ---- one line is the first that is wrong
 
--- the rest begins with no whole line
-pub stuck_cut : (rest : List ℕ) (d : Draft) → ((line behind : List ℕ) → rest ≡ ended line ++ behind → ⊥) → Stuck rest d
-stuck_cut rest d none line behind r more report small one whole e = none line behind e
+not_before : (bytes : List ℕ) (a b : ℕ) → IsBadAt bytes a → IsBadAt bytes b → a < b → ⊥
+not_before bytes a b ha hb less = ha.here (hb.before a less)
 
--- the next line is refused
-pub stuck_refused : (rest line behind : List ℕ) (d : Draft) → IsOneLine line → rest ≡ ended line ++ behind → Refuses d line → Stuck rest d
-stuck_refused rest line behind d one e refuses other after r more report small other_one whole f =
-    let same = line_unique other line after behind other_one one (sym f ∙ e) in
-    refuses r more report small (whole ∙ ap (λ x. draft_lines d ++ (x ∷ more)) same.0)
-
--- nothing is left
-pub stuck_empty : (rest : List ℕ) (d : Draft) → rest ≡ [] → Stuck rest d
-stuck_empty rest d none line behind r more report small one whole e =
-    absurd (omega (arith, ap length none, shorter rest behind line e))
-
-pub open_some : (rest : List ℕ) (d : Draft) → (rest ≡ [] → ⊥) → Open rest d
-open_some rest d some r report small whole none = some none
-
-pub open_early : (rest : List ℕ) (d : Draft) → d.stage ≢ Done → Open rest d
-open_early rest d early r report small whole none = unfinished d.stage (report_of d) r early whole
+pub line_is_one : (bytes : List ℕ) (a b : ℕ) → IsBadAt bytes a → IsBadAt bytes b → a ≡ b
+line_is_one bytes a b ha hb = grind (arith, not_before bytes a b ha hb, not_before bytes b a hb ha)

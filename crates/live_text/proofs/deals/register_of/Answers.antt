@@ -5,8 +5,8 @@ use Rattle.live_text.proofs.DealText.{one_deal, register_second}
 use Rattle.live_text.proofs.deals.register_of.Goals as goal
 
 pub returns-in_default-registered : goal.returns-in_default-registered
-returns-in_default-registered c = register_second c.args.bytes.now c.in-Some.rest.now c.in-Some.id c.requires (omega (arith, c.in-Some.ensures.1)) c.in-Some.ensures.3 c.in-Some.ensures.2
-    c.in_default-registered.ensures
+returns-in_default-registered c = register_second c.args.bytes.now c.in-Some.rest.now c.in-Some.id c.requires (omega (arith, c.in-Some.ensures.1))
+    c.in-Some.ensures.3 c.in-Some.ensures.2 c.in_default-registered.ensures
 
 pub returns : goal.returns
 returns c =

@@ -5,8 +5,8 @@ use Rattle.live_text.proofs.DealText.{one_deal, withdraw_second}
 use Rattle.live_text.proofs.deals.withdraw_of.Goals as goal
 
 pub returns-in_default-withdrawn : goal.returns-in_default-withdrawn
-returns-in_default-withdrawn c = withdraw_second c.args.bytes.now c.in-Some.rest.now c.in-Some.id c.requires (omega (arith, c.in-Some.ensures.1)) c.in-Some.ensures.3 c.in-Some.ensures.2
-    c.in_default-withdrawn.ensures
+returns-in_default-withdrawn c = withdraw_second c.args.bytes.now c.in-Some.rest.now c.in-Some.id c.requires (omega (arith, c.in-Some.ensures.1))
+    c.in-Some.ensures.3 c.in-Some.ensures.2 c.in_default-withdrawn.ensures
 
 pub returns : goal.returns
 returns c =

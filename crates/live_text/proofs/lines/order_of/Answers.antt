@@ -1,9 +1,6 @@
 use Rattle.std.proofs.Common.{◌≡◌, ◌++◌, arith, ap, ◌∙◌}
 use Rattle.std.specs.Prelude.{codes}
-use Rattle.std.specs.List.{flat_map}
 use Rattle.report.specs.Text.{spaced}
-use Rattle.report.proofs.FlowText.{stops_flows}
-use Rattle.live_text.proofs.FieldText.{one_front}
 use Rattle.live_text.proofs.LineReading.{order_built, order_rest}
 use Rattle.live_text.proofs.lines.order_of.Goals as goal
 

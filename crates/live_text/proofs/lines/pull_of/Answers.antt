@@ -1,5 +1,5 @@
 use Rattle.std.proofs.Common.{arith, refl}
-use Rattle.live_text.proofs.LineReading.{after_id, after_line, after_version, client_rest, id_rest, line_rest, pull_built, pull_front, version_rest}
+use Rattle.live_text.proofs.LineReading.{after_id, after_line, after_version, client_rest, id_rest, line_rest, version_rest}
 use Rattle.live_text.proofs.lines.pull_of.Goals as goal
 
 pub returns-in_default-field_then : goal.returns-in_default-field_then

@@ -1,5 +1,5 @@
 -- the numbers from here on are written
-use Rattle.std.proofs.Common.{◌≡◌, ◌≤◌, ℕ, List, length}
+use Rattle.std.proofs.Common.{◌≡◌, ℕ, List, length}
 use Rattle.report.specs.Text.{HasSpaces}
 use Rattle.report.proofs.FlowsText.{FlowsFrom}
 use Rattle.report.proofs.numbers.write_flows.Given as goal

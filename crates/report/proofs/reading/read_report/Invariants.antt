@@ -1,10 +1,12 @@
 -- what was read so far is the front of the bytes
 use Rattle.std.proofs.Common.{length}
-use Rattle.report.proofs.ReadingSteps.{ReadSoFar}
+use Rattle.report.specs.Draft.{IsDraft, draft_lines}
+use Rattle.report.proofs.ReadingSteps.{IsReportText}
+use Rattle.report.proofs.WholeLines.{IsRead}
 use Rattle.report.proofs.reading.read_report.Given as goal
 
 abbrev pub invariant-loop-rest : goal.invariant-loop-rest
-invariant-loop-rest l = ReadSoFar l.bytes l.rest l.draft l.line_number
+invariant-loop-rest l = IsDraft l.draft × IsRead IsReportText l.bytes l.rest (draft_lines l.draft) l.line_number
 
 abbrev pub decreases-loop-rest : goal.decreases-loop-rest
 decreases-loop-rest l = length l.rest

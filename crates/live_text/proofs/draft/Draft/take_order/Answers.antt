@@ -1,4 +1,4 @@
-use Rattle.std.proofs.Common.{◌≡◌, ◌+◌, None, Some, false, true, length, refl, arith, rules}
+use Rattle.std.proofs.Common.{◌≡◌, ◌+◌, None, Some, false, true, length, refl, rules}
 use Rattle.live_text.specs.Readers.{IsOrderOf}
 use Rattle.live_text.proofs.DraftSteps.{order_taken}
 use Rattle.live_text.proofs.Refusals.{refuse_late_order, refuse_order}

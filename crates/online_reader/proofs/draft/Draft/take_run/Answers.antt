@@ -5,7 +5,7 @@ use Rattle.online_reader.proofs.draft.Draft.take_run.Goals as goal
 pub returns-then-run-self : goal.returns-then-run-self
 returns-then-run-self c =
     let run = rw c.in-Some.is at c.in_ok-run.ensures in
-    long_refused c.args.self.now c.in-Some.run' c.args.line.now c.requires.draft c.requires.stage run.0 run.1 (omega arith)
+    long_refused c.args.self.now c.in-Some.run' c.args.line.now c.requires.draft.slots c.requires.stage run.0 run.1 (omega arith)
 
 pub returns-then-not-differs : goal.returns-then-not-differs
 returns-then-not-differs c =
