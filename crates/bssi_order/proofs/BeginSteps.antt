@@ -1,5 +1,5 @@
 -- The table of loads before the first place.
-use Rattle.std.proofs.Common.{◌≡◌, ℕ, ◌+◌, ◌-◌, ◌*◌, ◌^◌, ◌<◌, ◌≤◌, inl, inr, Bool, true, false, cond, List, [], ◌∷◌, ◌++◌, length, take, Contains}
+use Rattle.std.proofs.Common.{◌≡◌, ℕ, ◌*◌, ◌^◌, ◌<◌, ◌≤◌, inl, inr, Bool, true, false, cond, List, [], ◌∷◌, ◌++◌, length, take, Contains}
 use Rattle.std.proofs.Common.{sym, ap, subst, ◌∙◌, arith, length-take-le}
 use Rattle.std.specs.Prelude.{filter, sum_by, slice_index}
 use Rattle.std.specs.List.{range_with_len}
@@ -7,8 +7,6 @@ use Rattle.std.proofs.lemmas.Bool.{cases_Bool}
 use Rattle.std.proofs.Math.Seq.{take-append_seam}
 use Rattle.coflow_units.specs.declared.fabric.Port.{Port}
 use Rattle.coflow_units.specs.Flows.{Instance, IsDistinct}
-use Rattle.coflow_units.specs.Load.{load}
-use Rattle.coflow_units.specs.Ordering.{residual}
 use Rattle.coflow_units.proofs.Sums.{Apart, pairs_from_apart, sum_mono}
 use Rattle.coflow_units.proofs.Ranges.{in_range}
 use Rattle.coflow_units.proofs.Lists.{filter_in, keeps}

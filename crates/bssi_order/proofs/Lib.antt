@@ -2,3 +2,4 @@ pub mod OrderingSteps
 pub mod TableSteps
 pub mod StandSteps
 pub mod BeginSteps
+pub mod AllCoflows

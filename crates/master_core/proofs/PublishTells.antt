@@ -86,7 +86,7 @@ left_told o s x fit t =
 
 -- ---- the new version
 
-last_is : (j : Instance) (js : List Instance) (i : Instance) → last_of j (js ++ i ∷ []) ≡ i
+pub last_is : (j : Instance) (js : List Instance) (i : Instance) → last_of j (js ++ i ∷ []) ≡ i
 last_is j [] i = refl
 last_is j (k ∷ ks) i = last_is k ks i
 

@@ -1,5 +1,5 @@
 -- the first greatest of the totals so far
-use Rattle.std.proofs.Common.{◌≡◌, get_or}
+use Rattle.std.proofs.Common.{◌≡◌}
 use Rattle.port_load.specs.LoadTable.{total_at}
 use Rattle.bssi_order.proofs.TableSteps.{FirstSoFar}
 use Rattle.bssi_order.proofs.step.greatest_on.Given as goal
