@@ -156,7 +156,7 @@ less_load t t' coflow drops c port lc lp = elim (cases_eq c coflow) [
   | inr ne ↦ omega (arith, drops.others c port lc ne lp)
 ]
 
-less_total : (t t' : LoadTable) (coflow : ℕ) → DropsCoflow t t' coflow → (port : Port) → port.number < t.ports → total_at t' port ≤ total_at t port
+pub less_total : (t t' : LoadTable) (coflow : ℕ) → DropsCoflow t t' coflow → (port : Port) → port.number < t.ports → total_at t' port ≤ total_at t port
 less_total t t' coflow drops port lp =
     omega (
       arith,

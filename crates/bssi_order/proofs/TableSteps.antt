@@ -246,7 +246,7 @@ affordable t residuals port least is c lt = elim (cases_lt 0 (load_at t c port))
 abbrev pub port_of : Side → ℕ → Port
 port_of s n = record { side = s; number = n }
 
-same_total : (t : LoadTable) (s : Side) (n : ℕ) (other : Port) → other.side ≡ s → other.number ≡ n → total_at t other ≡ total_at t (port_of s n)
+pub same_total : (t : LoadTable) (s : Side) (n : ℕ) (other : Port) → other.side ≡ s → other.number ≡ n → total_at t other ≡ total_at t (port_of s n)
 same_total t s n other es en = ap (λ k. total_at t (port_of k other.number)) es ∙ ap (λ k. total_at t (port_of s k)) en
 
 pub first_none : (t : LoadTable) (s : Side) → 1 ≤ t.ports → FirstSoFar t s (port_of s 0) 1

@@ -2,6 +2,7 @@
 #![tactic(auto)]
 
 mod bssi;
+mod greatest;
 mod step;
 
 pub use bssi::{Bssi, give_budgets};

@@ -5,9 +5,12 @@ ghost use Rattle.coflow_units.specs.declared.fabric.Port.{Port};
 ghost use Rattle.coflow_units.specs.Flows.{Instance};
 ghost use Rattle.port_load.specs.LoadTable.{DropsCoflow, IsSameSize, is_present, load_at, total_at};
 ghost use Rattle.bssi_order.specs.Order.{IsOrder};
-ghost use Rattle.bssi_order.specs.Step.{IsChosen, IsGreatestOn, IsGreatestPort, IsGreatestWaiting, IsLeastRatio, IsReady, Pays, Stands};
+ghost use Rattle.coflow_units.specs.declared.fabric.Side.TheVariants.{Egress, Ingress};
+ghost use Rattle.bssi_order.specs.Bounds.{IsBounded};
+ghost use Rattle.bssi_order.specs.Step.{IsChosen, IsGreatestPort, IsGreatestWaiting, IsLeastRatio, IsReady, Pays, Stands};
 
-use coflow_units::{Place, Port, Side};
+use crate::greatest::{BLOCKS, greatest_port};
+use coflow_units::{Place, Port};
 use port_load::Loads;
 
 /// Fills the places from the last one on; each waiting coflow has one.
@@ -22,21 +25,36 @@ pub fn place_all(
     ensures order { (i : Instance) → Stands i [] i.coflows loads.old residuals.old waiting.old → IsOrder i places.new }
     ensures size { IsSameSize loads.old loads.new }
 {
+    let mut ingress = [u64::MAX; BLOCKS];
+    let mut egress = [u64::MAX; BLOCKS];
     for number in (0..places.len()).rev() {
-        places[number] = next_place(loads, residuals, waiting);
+        places[number] = next_place(loads, residuals, waiting, &mut ingress, &mut egress);
     }
 }
 
-/// The place before those that are there. Each coflow pays for it, and the one placed goes.
-fn next_place(loads: &mut Loads, residuals: &mut [u128], waiting: &mut [bool]) -> Place
+/// The place before those that are there. Each coflow pays for it, and the one placed goes. The bounds are those of the loads of the two sides.
+fn next_place(
+    loads: &mut Loads,
+    residuals: &mut [u128],
+    waiting: &mut [bool],
+    ingress: &mut [u64],
+    egress: &mut [u64],
+) -> Place
     requires ready { IsReady loads.old residuals.old waiting.old }
     requires some { 0 < count_by (λ waits. waits) waiting.old }
+    requires ingress_len { length ingress.old ≡ BLOCKS }
+    requires egress_len { length egress.old ≡ BLOCKS }
+    requires ingress_bounded { IsBounded loads.old Ingress ingress.old }
+    requires egress_bounded { IsBounded loads.old Egress egress.old }
+    ensures ingress_bounded { IsBounded loads.new Ingress ingress.new }
+    ensures egress_bounded { IsBounded loads.new Egress egress.new }
     ensures chosen { IsChosen loads.old residuals.old waiting.old result }
     ensures pays { Pays loads.old result.port result.y residuals.old residuals.new }
     ensures placed { waiting.new ≡ slice_set waiting.old result.coflow false }
     ensures dropped { DropsCoflow loads.old loads.new result.coflow }
 {
-    let place = choose(loads, residuals, waiting);
+    let port = greatest_port(loads, ingress, egress);
+    let place = choose_at(loads, residuals, waiting, port);
     pay(residuals, loads, place.port, place.y);
     waiting[place.coflow as usize] = false;
     loads.drop_coflow(place.coflow);
@@ -54,7 +72,23 @@ pub fn choose(loads: &Loads, residuals: &[u128], waiting: &[bool]) -> Place
     ensures affordable { (coflow : ℕ) → coflow < loads.now.coflows →
         result.y * load_at loads.now coflow result.port ≤ slice_index residuals.now coflow }
 {
-    let port = greatest_port(loads);
+    let mut ingress = [u64::MAX; BLOCKS];
+    let mut egress = [u64::MAX; BLOCKS];
+    let port = greatest_port(loads, &mut ingress, &mut egress);
+    let place = choose_at(loads, residuals, waiting, port);
+    place
+}
+
+/// The place that comes before those that are there, where the port is the first one with the greatest load.
+fn choose_at(loads: &Loads, residuals: &[u128], waiting: &[bool], port: Port) -> Place
+    requires ready { IsReady loads.now residuals.now waiting.now }
+    requires some { 0 < count_by (λ waits. waits) waiting.now }
+    requires port { IsGreatestPort loads.now port }
+    ensures chosen { IsChosen loads.now residuals.now waiting.now result }
+    ensures within { result.coflow < loads.now.coflows }
+    ensures affordable { (coflow : ℕ) → coflow < loads.now.coflows →
+        result.y * load_at loads.now coflow result.port ≤ slice_index residuals.now coflow }
+{
     let load = loads.total(port);
     if load == 0 {
         let coflow = greatest_waiting(waiting);
@@ -76,37 +110,6 @@ pub fn choose(loads: &Loads, residuals: &[u128], waiting: &[bool]) -> Place
         y,
         rest: residual - y * own,
         load,
-    }
-}
-
-fn greatest_port(loads: &Loads) -> Port
-    ensures { IsGreatestPort loads.now result }
-{
-    let ingress = greatest_on(loads, Side::Ingress);
-    let egress = greatest_on(loads, Side::Egress);
-    if loads.total(egress) > loads.total(ingress) {
-        egress
-    } else {
-        ingress
-    }
-}
-
-fn greatest_on(loads: &Loads, side: Side) -> Port
-    ensures { IsGreatestOn loads.now side result }
-{
-    let totals = loads.totals(side);
-    let mut greatest = 0;
-    let mut most = totals[0];
-    for number in 1..loads.ports() {
-        let total = totals[number as usize];
-        if total > most {
-            greatest = number;
-            most = total;
-        }
-    }
-    Port {
-        side,
-        number: greatest,
     }
 }
 

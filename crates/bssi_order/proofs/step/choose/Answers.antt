@@ -1,10 +1,9 @@
-use Rattle.std.proofs.Common.{◌*◌, ◌/◌, ◌≤◌, slice_index, subst, sym}
-use Rattle.port_load.specs.LoadTable.{load_at}
-use Rattle.bssi_order.proofs.TableSteps.{affordable}
+use Rattle.coflow_units.specs.declared.fabric.Side.TheVariants.{Egress, Ingress}
+use Rattle.bssi_order.proofs.BoundSteps.{no_bound}
 use Rattle.bssi_order.proofs.step.choose.Goals as goal
 
-pub returns-clause-affordable : goal.returns-clause-affordable
-returns-clause-affordable c = λ coflow lt.
-    subst (λ n. (slice_index c.args.residuals.now c.least_ratio-coflow.result / n) * load_at c.args.loads.now coflow c.greatest_port-port.result ≤
-    slice_index c.args.residuals.now coflow) (sym c.get-own.ensures)
-    (affordable c.args.loads.now c.args.residuals.now c.greatest_port-port.result c.least_ratio-coflow.result c.least_ratio-coflow.ensures coflow lt)
+pub greatest_port-port-requires-clause-ingress_bounded : goal.greatest_port-port-requires-clause-ingress_bounded
+greatest_port-port-requires-clause-ingress_bounded c = no_bound c.args.loads.now Ingress c.requires.ready.totals_fit
+
+pub greatest_port-port-requires-clause-egress_bounded : goal.greatest_port-port-requires-clause-egress_bounded
+greatest_port-port-requires-clause-egress_bounded c = no_bound c.args.loads.now Egress c.requires.ready.totals_fit
