@@ -64,7 +64,8 @@ so_far_keep totals best block most so_far le all = record {
   within = so_far.within;
   greatest = λ k lt within. elim (cases_lt k (64 * block)) [
     | inl before ↦ so_far.greatest k before within
-    | inr after ↦ either_way (slice_index totals k) (slice_index totals best) best k (omega (arith, le, all k after (omega (arith, lt)) within)) (omega (arith, after, so_far.small))
+    | inr after ↦ either_way (slice_index totals k) (slice_index totals best) best k (omega (arith, le, all k after (omega (arith, lt)) within))
+        (omega (arith, after, so_far.small))
   ];
 }
 

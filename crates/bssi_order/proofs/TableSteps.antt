@@ -80,15 +80,6 @@ paid_more t port y old new done v so_far lt is = record {
   later = λ c le. get_or-set_other new done c v 0 (λ e. omega (arith, le, e)) ∙ so_far.later c (omega (arith, le));
 }
 
--- ---- the first greatest port of a side
-
-pub record FirstSoFar (t : LoadTable) (side : Side) (port : Port) (done : ℕ) : Type 0 where
-  pub on_side : port.side ≡ side
-  pub in_range : port.number < t.ports
-  pub below : port.number < done
-  pub greatest : (other : Port) → other.side ≡ side → other.number < done →
-      (total_at t other < total_at t port) ⊎ ((total_at t other ≡ total_at t port) × (port.number ≤ other.number))
-
 -- ---- marks
 
 pub present_below : (xs : List Bool) (c : ℕ) → is_present xs c ≡ true → c < length xs
@@ -248,34 +239,3 @@ port_of s n = record { side = s; number = n }
 
 pub same_total : (t : LoadTable) (s : Side) (n : ℕ) (other : Port) → other.side ≡ s → other.number ≡ n → total_at t other ≡ total_at t (port_of s n)
 same_total t s n other es en = ap (λ k. total_at t (port_of k other.number)) es ∙ ap (λ k. total_at t (port_of s k)) en
-
-pub first_none : (t : LoadTable) (s : Side) → 1 ≤ t.ports → FirstSoFar t s (port_of s 0) 1
-first_none t s some = record {
-  on_side = refl;
-  in_range = omega arith;
-  below = omega arith;
-  greatest = λ other es lt. inr (same_total t s 0 other es (omega arith), omega arith);
-}
-
-pub first_take : (t : LoadTable) (s : Side) (port : Port) (k : ℕ) → FirstSoFar t s port k → k < t.ports → total_at t port < total_at t (port_of s k) →
-    FirstSoFar t s (port_of s k) (k + 1)
-first_take t s port k so_far lt more = record {
-  on_side = refl;
-  in_range = lt;
-  below = omega arith;
-  greatest = λ other es lo. elim (cases_eq other.number k) [
-    | inl e ↦ inr (same_total t s k other es e, omega (arith, e))
-    | inr ne ↦ inl (omega (arith, more, at_most_of (total_at t other) (total_at t port) port.number other.number (so_far.greatest other es (omega (arith, ne)))))
-  ];
-}
-
-pub first_keep : (t : LoadTable) (s : Side) (port : Port) (k : ℕ) → FirstSoFar t s port k → total_at t (port_of s k) ≤ total_at t port → FirstSoFar t s port (k + 1)
-first_keep t s port k so_far less = record {
-  on_side = so_far.on_side;
-  in_range = so_far.in_range;
-  below = omega (arith, so_far.below);
-  greatest = λ other es lo. elim (cases_eq other.number k) [
-    | inl e ↦ either_way (total_at t other) (total_at t port) port.number other.number (omega (arith, less, same_total t s k other es e)) (omega (arith, e, so_far.below))
-    | inr ne ↦ so_far.greatest other es (omega (arith, ne))
-  ];
-}

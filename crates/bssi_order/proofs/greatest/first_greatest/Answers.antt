@@ -13,7 +13,8 @@ pub loop-block-preserved-then-bound-most : goal.loop-block-preserved-then-bound-
 loop-block-preserved-then-bound-most c =
     let i = c.loop-block.invariant in
     record {
-      so_far = so_far_keep c.args.totals.now c.loop-block.best c.loop-block.block (slice_index c.loop-block.bounds c.loop-block.block) i.so_far (omega (arith, c.if-bound-most.true))
+      so_far = so_far_keep c.args.totals.now c.loop-block.best c.loop-block.block (slice_index c.loop-block.bounds c.loop-block.block) i.so_far
+          (omega (arith, c.if-bound-most.true))
           (within_bound c.args.totals.now c.loop-block.bounds c.loop-block.block i.bounds (omega (arith, c.loop-block-test.true, c.requires.room, c.loop-block.auto.bounds)));
       bounds = i.bounds;
     }
@@ -40,4 +41,5 @@ loop-block-preserved c =
     ]
 
 pub returns-clause-greatest : goal.returns-clause-greatest
-returns-clause-greatest c = first_of_all c.args.totals.now c.loop-block.best c.loop-block.block c.loop-block.invariant.so_far (omega (arith, c.loop-block-test.false, c.requires.all))
+returns-clause-greatest c = first_of_all c.args.totals.now c.loop-block.best c.loop-block.block c.loop-block.invariant.so_far
+    (omega (arith, c.loop-block-test.false, c.requires.all))

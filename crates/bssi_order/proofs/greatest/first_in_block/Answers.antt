@@ -23,7 +23,8 @@ loop-place-preserved c =
         most = w.most-is ∙ ap (λ n. slice_index totals n) (sym w.best-is);
       }
       | else-total-most w ↦ record {
-        first = subst (λ n. IsFirstGreatest totals start (k + 1) n) (sym w.best-is) (best_keep totals start k best before.first (omega (arith, w.if-total-most.false, before.most)));
+        first = subst (λ n. IsFirstGreatest totals start (k + 1) n) (sym w.best-is)
+            (best_keep totals start k best before.first (omega (arith, w.if-total-most.false, before.most)));
         most = w.most-is ∙ before.most ∙ ap (λ n. slice_index totals n) (sym w.best-is);
       }
     ]

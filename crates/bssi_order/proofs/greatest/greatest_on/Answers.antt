@@ -21,5 +21,5 @@ returns-clause-bounded c = λ number lt inside.
     omega (arith, c.totals-totals.ensures.totals number lt, c.first_greatest-best.ensures.bounded number (omega (arith, lt, c.totals-totals.ensures.count)) inside)
 
 pub returns-clause-greatest : goal.returns-clause-greatest
-returns-clause-greatest c = first_port c.args.loads.now c.args.side c.totals-totals.result.now c.first_greatest-best.result c.totals-totals.ensures.count c.totals-totals.ensures.totals
-    c.first_greatest-best.ensures.greatest
+returns-clause-greatest c = first_port c.args.loads.now c.args.side c.totals-totals.result.now c.first_greatest-best.result c.totals-totals.ensures.count
+    c.totals-totals.ensures.totals c.first_greatest-best.ensures.greatest
