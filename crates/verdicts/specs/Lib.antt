@@ -1,1 +1,4 @@
 pub mod VerdictLine
+pub mod OnlineLine
+pub mod AnyReport
+pub mod Judged

@@ -32,7 +32,7 @@ pub fn verdict_text(
 }
 
 /// The line of a reason.
-fn reason_text(alloc: Global, table: &Table, reason: Reason) -> Result<String, NoMemory>
+pub(crate) fn reason_text(alloc: Global, table: &Table, reason: Reason) -> Result<String, NoMemory>
     requires { NamesCoflow (length table.now.ids) reason }
     ensures { IfOk result (λ line. line.bytes.items ≡ reason_text table.now.ids reason) }
 {
