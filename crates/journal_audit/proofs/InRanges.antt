@@ -47,7 +47,8 @@ plain_for ids (Open most) = (refl, refl)
 plain_for ids Close = (refl, refl)
 plain_for ids (Reweigh id weight) = (refl, refl)
 
-pub stated_in_range : (o : Opening) (entries : List EntryLine) → All (λ (e : EntryLine). IsKnown o.table.ids e.word) entries → All IsEntry entries → InRange o (stated_by o.table.ids entries)
+pub stated_in_range : (o : Opening) (entries : List EntryLine) → All (λ (e : EntryLine). IsKnown o.table.ids e.word) entries → All IsEntry entries →
+    InRange o (stated_by o.table.ids entries)
 stated_in_range o [] known all = λ j d lt. absurd (omega arith)
 stated_in_range o (e ∷ es) known all = All-cons (λ (x : Entry). in_range o x.command ≡ true) (entry_for o.table.ids e) (stated_by o.table.ids es)
     (in_range_for o e.word (known 0 e (omega arith)) (all 0 e (omega arith)).command)
@@ -55,4 +56,5 @@ stated_in_range o (e ∷ es) known all = All-cons (λ (x : Entry). in_range o x.
 
 pub stated_plain : (ids : List ℕ) (entries : List EntryLine) → IsPlain (stated_by ids entries)
 stated_plain ids [] = λ j d lt. absurd (omega arith)
-stated_plain ids (e ∷ es) = All-cons (λ (x : Entry). (is_noting x.command ≡ false) × (is_skipping x.command ≡ false)) (entry_for ids e) (stated_by ids es) (plain_for ids e.word) (stated_plain ids es)
+stated_plain ids (e ∷ es) =
+    All-cons (λ (x : Entry). (is_noting x.command ≡ false) × (is_skipping x.command ≡ false)) (entry_for ids e) (stated_by ids es) (plain_for ids e.word) (stated_plain ids es)

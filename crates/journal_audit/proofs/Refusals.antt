@@ -27,7 +27,8 @@ no_unknown ids entries position known h =
     h.unknown (All-get_or (λ (e : EntryLine). IsKnown ids e.word) entries (position - 1) (line_at [] 0) (omega (arith, h.counted, h.inside)) known)
 
 -- the entry of a line
-pub entry_at : (ids : List ℕ) (entries : List EntryLine) (k : ℕ) → k < length entries → get_or (stated_by ids entries) k (entry_for ids (line_at [] 0)) ≡ entry_for ids (line_at entries k)
+pub entry_at : (ids : List ℕ) (entries : List EntryLine) (k : ℕ) → k < length entries →
+    get_or (stated_by ids entries) k (entry_for ids (line_at [] 0)) ≡ entry_for ids (line_at entries k)
 entry_at ids entries k lt = get_or-map (entry_for ids) entries k (line_at [] 0) (entry_for ids (line_at [] 0)) lt
 
 pub stands : (ids : List ℕ) (entries : List EntryLine) (k : ℕ) → k < length entries →

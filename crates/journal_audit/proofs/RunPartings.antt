@@ -95,7 +95,8 @@ runs_part stated real k a b n kept_s kept_r in_s in_r is_a is_b same common =
 ended_part : (a : List (List ℕ)) (f : List ℕ) (rest : List (List ℕ)) → IsPartedAt a (a ++ (f ∷ rest)) (length a + 0)
 ended_part a f rest = subst (λ l. IsPartedAt l (a ++ (f ∷ rest)) (length a + 0)) (append-nil a) (parted_behind a [] (f ∷ rest) 0 (end_parts f rest))
 
-ends : (xs ys : List Run) (k : ℕ) → IsKept ys → length xs ≤ k → k < length ys → slots_in (take k ys) ≡ slots_in (take k xs) → IsPartedAt (slots_in xs) (slots_in ys) (length (slots_in (take k ys)))
+ends : (xs ys : List Run) (k : ℕ) → IsKept ys → length xs ≤ k → k < length ys → slots_in (take k ys) ≡ slots_in (take k xs) →
+    IsPartedAt (slots_in xs) (slots_in ys) (length (slots_in (take k ys)))
 ends xs [] k kept all more same = absurd (omega arith)
 ends xs (y ∷ ys) k kept all more same =
     let n : length (slots_in (take k (y ∷ ys))) + 0 ≡ length (slots_in (take k (y ∷ ys))) = omega arith in

@@ -40,7 +40,8 @@ one_command_more entries k find commands d command sofar lt known = record {
       ∙ ap (λ c. commands_for ids (take k entries) ++ c ∷ []) (known ids finds).1
       ∙ sym (map_push (λ (e : EntryLine). command_for ids e.word) (take k entries) (get_or entries k d))
       ∙ ap (commands_for ids) (sym more);
-  known = λ ids finds. subst (AreKnown ids) (sym more) (All-push (λ (e : EntryLine). IsKnown ids e.word) (take k entries) (get_or entries k d) (sofar.known ids finds) (known ids finds).0);
+  known = λ ids finds. subst (AreKnown ids) (sym more)
+      (All-push (λ (e : EntryLine). IsKnown ids e.word) (take k entries) (get_or entries k d) (sofar.known ids finds) (known ids finds).0);
 }
   where
     more : take (k + 1) entries ≡ take k entries ++ get_or entries k d ∷ []
@@ -54,7 +55,8 @@ first_unknown entries k find commands d ids sofar finds lt unknown = record {
   inside = omega (arith, lt, sofar.count);
   unknown = λ h. unknown (subst (λ (e : EntryLine). IsKnown ids e.word) here h);
   before = λ j less. subst (λ (e : EntryLine). IsKnown ids e.word) (front j (omega (arith, less, sofar.count)))
-      (All-get_or (λ (e : EntryLine). IsKnown ids e.word) (take k entries) j (line_at [] 0) (omega (arith, less, sofar.count, length-take-le k entries (omega (arith, lt)))) (sofar.known ids finds));
+      (All-get_or (λ (e : EntryLine). IsKnown ids e.word) (take k entries) j (line_at [] 0)
+      (omega (arith, less, sofar.count, length-take-le k entries (omega (arith, lt)))) (sofar.known ids finds));
 }
   where
     here : line_at entries (length commands + 1 - 1) ≡ get_or entries k d

@@ -15,7 +15,8 @@ returns-clause-opened c = λ t weights l right. (were_opened (opening_for t weig
 
 pub returns-clause-patient : goal.returns-clause-patient
 returns-clause-patient c = λ t weights l r f x lt in_line owes.
-    grants_patient t.flows (line_of (opening_for t weights l) x.before) (owed (opening_for t weights l) (state_of (opening_for t weights l) x.before)) r.granted f x.grants lt in_line owes
+    let o = opening_for t weights l in
+    grants_patient t.flows (line_of o x.before) (owed o (state_of o x.before)) r.granted f x.grants lt in_line owes
 
 pub returns-clause-once : goal.returns-clause-once
 returns-clause-once c = λ t weights l live right. yes_clear t weights l live right

@@ -24,23 +24,27 @@ parted_place-requires-clause-few c = omega (arith, c.requires.few, c.places.ensu
 
 pub returns-in_default : goal.returns-in_default
 returns-in_default c =
+    let o = c.args.master.now.opening in
+    let journal = c.args.master.now.journal in
     let within : c.args.version - 1 < length c.args.orders.now = omega (arith, c.if-index-orders.false) in
-    let same : slice_index_or c.args.orders.now (c.args.version - 1) [] ≡ order_ids c.args.master.now.opening c.args.master.now.journal c.args.version =
+    let same : slice_index_or c.args.orders.now (c.args.version - 1) [] ≡ order_ids o journal c.args.version =
     get_or_default c.args.orders.now (c.args.version - 1) [] _ within ∙ sym c.index-orders-index.is ∙ sym c.as_slice.ensures ∙ c.in_default.ensures
     ∙ ap (λ (t : TableFacts). map (λ coflow. slice_index t.ids coflow) (ranked c.places.result.now)) c.table.ensures
-    ∙ ap (map (λ coflow. slice_index c.args.master.now.opening.table.ids coflow)) (c.places.ensures.order ∙ ap (order_in c.args.master.now.opening c.args.master.now.journal) (sym c.requires.newest)) in
-    has_order c.args.master.now.opening c.args.master.now.journal c.args.orders.now c.args.version c.requires.some within same
+    ∙ ap (map (λ coflow. slice_index o.table.ids coflow)) (c.places.ensures.order ∙ ap (order_in o journal) (sym c.requires.newest)) in
+    has_order o journal c.args.orders.now c.args.version c.requires.some within same
 
 pub returns : goal.returns
 returns c =
+    let o = c.args.master.now.opening in
+    let journal = c.args.master.now.journal in
     let within : c.args.version - 1 < length c.args.orders.now = omega (arith, c.if-index-orders.false) in
     let stated : slice_index_or c.args.orders.now (c.args.version - 1) [] ≡ c.as_slice.result.now =
     get_or_default c.args.orders.now (c.args.version - 1) [] _ within ∙ sym c.index-orders-index.is ∙ sym c.as_slice.ensures in
-    let real : map (λ coflow. slice_index c.table.result.now.ids coflow) (ranked c.places.result.now) ≡ order_ids c.args.master.now.opening c.args.master.now.journal c.args.version =
+    let real : map (λ coflow. slice_index c.table.result.now.ids coflow) (ranked c.places.result.now) ≡ order_ids o journal c.args.version =
     ap (λ (t : TableFacts). map (λ coflow. slice_index t.ids coflow) (ranked c.places.result.now)) c.table.ensures
-    ∙ ap (map (λ coflow. slice_index c.args.master.now.opening.table.ids coflow)) (c.places.ensures.order ∙ ap (order_in c.args.master.now.opening c.args.master.now.journal) (sym c.requires.newest)) in (
+    ∙ ap (map (λ coflow. slice_index o.table.ids coflow)) (c.places.ensures.order ∙ ap (order_in o journal) (sym c.requires.newest)) in (
       refl,
-      has_no_order c.args.master.now.opening c.args.master.now.journal c.args.orders.now c.args.version c.requires.some within (λ e. c.in-Some.ensures.0 (sym stated ∙ e ∙ sym real)),
-      subst (λ (l : List ℕ). IsFirstPlace l (order_ids c.args.master.now.opening c.args.master.now.journal c.args.version) c.in-Some.place) (sym stated)
+      has_no_order o journal c.args.orders.now c.args.version c.requires.some within (λ e. c.in-Some.ensures.0 (sym stated ∙ e ∙ sym real)),
+      subst (λ (l : List ℕ). IsFirstPlace l (order_ids o journal c.args.version) c.in-Some.place) (sym stated)
           (subst (λ (l : List ℕ). IsFirstPlace c.as_slice.result.now l c.in-Some.place) real c.in-Some.ensures.1),
     )

@@ -29,11 +29,12 @@ pub returns-in-Some : goal.returns-in-Some
 returns-in-Some c =
     let in_s : c.loop-index.index < length c.args.stated.now = omega (arith, c.loop-index-test.true, c.min-few.ensures) in
     let in_r : c.loop-index.index < length c.args.real.now = omega (arith, c.loop-index-test.true, c.min-few.ensures) in
-    let at : length (slots_in (take c.loop-index.index c.args.stated.now)) + c.in-Some.common ≡ c.loop-index.passed + c.in-Some.common + 1 - 1 = omega (arith, c.loop-index.invariant.0) in (
+    let at : length (slots_in (take c.loop-index.index c.args.stated.now)) + c.in-Some.common ≡ c.loop-index.passed + c.in-Some.common + 1 - 1 =
+    omega (arith, c.loop-index.invariant.0) in (
       omega arith,
       subst (λ (n : ℕ). IsPartedAt (slots_in c.args.stated.now) (slots_in c.args.real.now) n) at
-          (runs_part c.args.stated.now c.args.real.now c.loop-index.index c.index-stated-index.result c.index-real-index.result c.in-Some.common c.requires.stated c.requires.real in_s in_r
-          c.index-stated-index.is c.index-real-index.is c.loop-index.invariant.1 c.in-Some.ensures),
+          (runs_part c.args.stated.now c.args.real.now c.loop-index.index c.index-stated-index.result c.index-real-index.result c.in-Some.common
+          c.requires.stated c.requires.real in_s in_r c.index-stated-index.is c.index-real-index.is c.loop-index.invariant.1 c.in-Some.ensures),
     )
 
 pub overflow_add-passed : goal.overflow_add-passed
@@ -49,7 +50,8 @@ overflow_add-passed c =
 
 pub returns : goal.returns
 returns c =
-    let few : c.loop-index.index ≡ min (length c.args.stated.now) (length c.args.real.now) = omega (arith, c.loop-index-test.false, c.loop-index.auto.index-end, c.min-few.ensures) in
+    let few : c.loop-index.index ≡ min (length c.args.stated.now) (length c.args.real.now) =
+    omega (arith, c.loop-index-test.false, c.loop-index.auto.index-end, c.min-few.ensures) in
     let at : length (slots_in (take c.loop-index.index c.args.stated.now)) ≡ c.loop-index.passed + 1 - 1 = omega (arith, c.loop-index.invariant.0) in (
       omega arith,
       subst (λ (n : ℕ). IsPartedAt (slots_in c.args.stated.now) (slots_in c.args.real.now) n) at
