@@ -1,0 +1,12 @@
+pub mod Given
+pub mod Courses
+pub mod AloneRow
+pub mod BothRow
+pub mod Damaged
+pub mod OwnStands
+pub mod LevelSteps
+pub mod DriverSteps
+pub mod Translated
+pub mod HiddenRow
+pub mod DamagedTexts
+pub mod DamagedPlaces
