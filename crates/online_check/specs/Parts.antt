@@ -21,8 +21,8 @@ use Rattle.online_check.specs.Released.{plain_lines, released_for, released_in}
 pub record IsFirstFrom (i : Instance) (arrival : ℕ → ℕ) (ids : List ℕ) (o : Online) (from : ℕ) (reason : OnlineReason) :
     Type 0 where
   pub holds : HasOnlineReason i arrival ids o reason
-  pub first : (other : OnlineReason) → from ≤ online_kind other → online_kind other < online_kind reason → HasOnlineReason i arrival ids o other →
-      ⊥
+  pub first : (other : OnlineReason) → from ≤ online_kind other → online_kind other < online_kind reason →
+      HasOnlineReason i arrival ids o other → ⊥
   pub coflow : NamesOneOf (length ids) reason
 
 -- the release lines name the coflows, each once, and their ports are in range

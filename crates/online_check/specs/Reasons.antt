@@ -23,7 +23,8 @@ use Rattle.online_check.specs.Sound.{IsSoundOnline}
 -- line
 abbrev pub HasOnlineReason : Instance → (ℕ → ℕ) → List ℕ → Online → OnlineReason → Type 0
 HasOnlineReason i arrival ids o (NotPermutation place) = IsFirstWrong ids (ids_in (plain_lines o.release)) place
-HasOnlineReason i arrival ids o (PortRange place number) = IsFirstOutOfRange i.ports (plain_lines o.release) place number
+HasOnlineReason i arrival ids o (PortRange place number) =
+    IsFirstOutOfRange i.ports (plain_lines o.release) place number
 HasOnlineReason i arrival ids o (Infeasible coflow) =
     IsLeastReleasedInfeasible i.flows i.weight (released_in ids o.release) coflow
 HasOnlineReason i arrival ids o (TotalTooHigh stated real) = (stated ≡ o.total) ×
@@ -65,10 +66,11 @@ abbrev pub ends_kind : ℕ
 ends_kind = online_kind (Listed 0)
 
 -- the reason holds, and none of an earlier kind does
-pub record IsFirstOnlineReason (i : Instance) (arrival : ℕ → ℕ) (ids : List ℕ) (o : Online) (reason : OnlineReason) : Type 0
-  where
-    pub holds : HasOnlineReason i arrival ids o reason
-    pub first : (other : OnlineReason) → online_kind other < online_kind reason → HasOnlineReason i arrival ids o other → ⊥
+pub record IsFirstOnlineReason (i : Instance) (arrival : ℕ → ℕ) (ids : List ℕ) (o : Online) (reason : OnlineReason)
+    : Type 0 where
+  pub holds : HasOnlineReason i arrival ids o reason
+  pub first : (other : OnlineReason) → online_kind other < online_kind reason →
+      HasOnlineReason i arrival ids o other → ⊥
 
 -- the verdict is yes on a right online run, and else it tells the first reason
 abbrev pub IsOnlineVerdict : Instance → (ℕ → ℕ) → List ℕ → Online → OnlineVerdict → Type 0

@@ -28,7 +28,8 @@ pub(crate) fn wrong_schedule(
     requires online { IsOnline online.now }
     ensures { IfOk result (λ found. (weights : List ℕ) →
         MatchOption found (IsReleased table.now.flows (slice_index arrivals.now) (slots_in online.now.runs))
-        (IsFirstFrom (instance_of table.now weights) (slice_index arrivals.now) table.now.ids online.now schedule_kind)) }
+        (IsFirstFrom (instance_of table.now weights) (slice_index arrivals.now) table.now.ids online.now
+        schedule_kind)) }
 {
     let flows = table.flows();
     let runs = online.runs.as_slice();

@@ -55,7 +55,16 @@ index-requires c =
     (length t.ids) c.coflows.result c.flows.ensures.flows slots c.coflows.ensures.coflows c.deref.ensures.value c.in_ok-ends.ensures in
     let real = completion t.flows (slots_in o.runs) in
     let inside = c.in-Some-first_wrong_end.ensures.line in
-    omega (arith, inside, count_slots c.as_slice-done.result.now, ap length done, count_slots o.done, count, count_of c.deref.result.now real (length t.ids) of, c.deref.ensures.len)
+    omega (
+      arith,
+      inside,
+      count_slots c.as_slice-done.result.now,
+      ap length done,
+      count_slots o.done,
+      count,
+      count_of c.deref.result.now real (length t.ids) of,
+      c.deref.ensures.len,
+    )
 
 pub returns-in-Some-first_wrong_end : goal.returns-in-Some-first_wrong_end
 returns-in-Some-first_wrong_end c = λ arrival.
@@ -69,8 +78,8 @@ returns-in-Some-first_wrong_end c = λ arrival.
     (length t.ids) c.coflows.result c.flows.ensures.flows slots c.coflows.ensures.coflows c.deref.ensures.value c.in_ok-ends.ensures in
     let real = completion t.flows (slots_in o.runs) in
     let coflow = c.in-Some-first_wrong_end.coflow in
-    let told = told_end o.done c.as_slice-done.result.now c.deref.result.now c.in_ok-ends.ends.items real (length t.ids) coflow c.index.result.now done c.deref.ensures.value of count
-    c.in-Some-first_wrong_end.ensures c.index.ensures in
+    let told = told_end o.done c.as_slice-done.result.now c.deref.result.now c.in_ok-ends.ends.items real (length t.ids) coflow c.index.result.now done
+    c.deref.ensures.value of count c.in-Some-first_wrong_end.ensures c.index.ensures in
     first_wrong_end (instance_of t c.args.weights.now) arrival t.ids o coflow (done_at c.as_slice-done.result.now coflow).slot c.index.result.now listed
     (omega (arith, told.line, count)) told
 
