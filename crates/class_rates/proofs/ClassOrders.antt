@@ -16,10 +16,10 @@ use Rattle.coflow_units.proofs.Sums.{first_or_tail, in_first, in_tail, nothing_i
 use Rattle.class_rates.specs.Classes.{ClassBefore, IsClassOrder, RisesAlong}
 use Rattle.class_rates.specs.ClassPatient.{IsClassPatient, IsServedOrWaitsByClass}
 
-head_before : (class : ℕ → ℕ) (x c : ℕ) (xs : List ℕ) → AllPairs (ClassBefore class) (x ∷ xs) → Contains xs c → ClassBefore class x c
+pub head_before : (class : ℕ → ℕ) (x c : ℕ) (xs : List ℕ) → AllPairs (ClassBefore class) (x ∷ xs) → Contains xs c → ClassBefore class x c
 head_before class x c xs sorted (k, lt, at) = subst (ClassBefore class x) at (sorted 0 (suc k) c (omega arith) (omega arith))
 
-tail_sorted : (class : ℕ → ℕ) (x : ℕ) (xs : List ℕ) → AllPairs (ClassBefore class) (x ∷ xs) → AllPairs (ClassBefore class) xs
+pub tail_sorted : (class : ℕ → ℕ) (x : ℕ) (xs : List ℕ) → AllPairs (ClassBefore class) (x ∷ xs) → AllPairs (ClassBefore class) xs
 tail_sorted class x xs sorted = λ i j d lt in'. sorted (suc i) (suc j) d (omega arith) (omega arith)
 
 not_both : (class : ℕ → ℕ) (x y : ℕ) → ClassBefore class x y → ClassBefore class y x → ⊥
@@ -70,9 +70,14 @@ order_is_one coflows class a b oa ob = same_sorted class a b oa.sorted ob.sorted
     (λ c has. ob.all c (All-contains (Contains coflows) a c oa.coflow has))
     (λ c has. oa.all c (All-contains (Contains coflows) b c ob.coflow has))
 
-no_later : (class : ℕ → ℕ) (c d : ℕ) → ClassBefore class c d → class c ≤ class d
+pub no_later : (class : ℕ → ℕ) (c d : ℕ) → ClassBefore class c d → class c ≤ class d
 no_later class c d (inl a) = omega arith
 no_later class c d (inr (e, a)) = omega (arith, e)
+
+-- classes that agree order alike
+pub before_as : (f g : ℕ → ℕ) (x y : ℕ) → f x ≡ g x → f y ≡ g y → ClassBefore f x y → ClassBefore g x y
+before_as f g x y ex ey (inl a) = inl (omega (arith, ex, ey, a))
+before_as f g x y ex ey (inr (e, a)) = inr (sym ex ∙ e ∙ ey, a)
 
 -- classes rise along a class order
 classes_rise : (class : ℕ → ℕ) (order : List ℕ) (c d : ℕ) → AllPairs (ClassBefore class) order → Contains order c → Contains order d →

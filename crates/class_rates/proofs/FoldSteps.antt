@@ -14,6 +14,7 @@ use Rattle.coflow_units.proofs.Lists.{filter_in, keeps, number_below, number_in}
 use Rattle.coflow_units.proofs.Sums.{all_of_members, nothing_in}
 use Rattle.slot_switch.proofs.Ranges.{range_more}
 use Rattle.class_rates.specs.Classes.{ClassBefore, IsClassOrder, IsPermutation, class_at, class_in}
+use Rattle.class_rates.proofs.ClassOrders.{before_as}
 use Rattle.class_rates.proofs.PairLists.{filter_pairs, pairs_append, pairs_weaker}
 
 -- the class of a place is one of the classes
@@ -140,10 +141,6 @@ all_ordered numbers order n classes within le done = record {
       let lt : c < length numbers = omega (arith, number_below 0 (length numbers) c has) in
       done.all c lt (omega (arith, le, (within c 0 lt).1));
 }
-
-before_as : (f g : ℕ → ℕ) (x y : ℕ) → f x ≡ g x → f y ≡ g y → ClassBefore f x y → ClassBefore g x y
-before_as f g x y ex ey (inl a) = inl (omega (arith, ex, ey, a))
-before_as f g x y ex ey (inr (e, a)) = inr (sym ex ∙ e ∙ ey, a)
 
 -- the class order by numbers is that of the order
 pub order_folded : (order numbers by : List ℕ) (classes : ℕ) → IsPermutation order → length numbers ≡ length order → HasClassesUpTo order classes numbers (length order) →

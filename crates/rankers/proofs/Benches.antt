@@ -38,8 +38,8 @@ rows_pushed : (rows once twice tail : List Row) (r s : Row) → once ≡ rows ++
 rows_pushed rows once twice tail r s e f =
     ap (λ xs. xs ++ tail) (f ∙ ap (λ xs. xs ++ s ∷ []) e) ∙ append_assoc (rows ++ r ∷ []) (s ∷ []) tail ∙ append_assoc rows (r ∷ []) (s ∷ tail)
 
-pub bench_step : {X : Type 0} (meaning : X → Meaning) (i : Instance) (facts : FactsTold) (index : ℕ) (all now new : List X) (x : X) (rows once twice : List Row) (first second : Scored) →
-    now ≡ x ∷ new → IsRounds i facts (meaning x) first second →
+pub bench_step : {X : Type 0} (meaning : X → Meaning) (i : Instance) (facts : FactsTold) (index : ℕ) (all now new : List X) (x : X)
+    (rows once twice : List Row) (first second : Scored) → now ≡ x ∷ new → IsRounds i facts (meaning x) first second →
     ((tail : List Row) → IsRowsFrom i facts index (map meaning now) tail → IsRowsFrom i facts 1 (map meaning all) (rows ++ tail)) →
     once ≡ rows ++ record { index = index; round = 1; result = first } ∷ [] → twice ≡ once ++ record { index = index; round = 2; result = second } ∷ [] →
     (tail : List Row) → IsRowsFrom i facts (index + 1) (map meaning new) tail → IsRowsFrom i facts 1 (map meaning all) (twice ++ tail)

@@ -17,7 +17,7 @@ use Rattle.coflow_units.proofs.Bools.{flips}
 use Rattle.coflow_units.proofs.Lists.{number_below, number_in, numbers_apart}
 use Rattle.coflow_units.proofs.Sums.{all_of_members, first_or_tail, in_first, in_tail, nothing_in, pairs_from_apart}
 use Rattle.class_rates.specs.Classes.{ClassBefore}
-use Rattle.class_rates.proofs.ClassOrders.{order_is_one}
+use Rattle.class_rates.proofs.ClassOrders.{before_as, head_before, no_later, order_is_one, tail_sorted}
 use Rattle.rankers.specs.ByKey.{IsByKey, by_key, key_then_number, put_by_key}
 
 -- ---- sorted by a number that holds the key and the number
@@ -94,16 +94,6 @@ put_keeps : (key : ℕ → ℕ) (c y : ℕ) (xs : List ℕ) → Contains xs y �
 put_keeps key c y [] has = absurd (nothing_in y has)
 put_keeps key c y (x ∷ xs) has = put_old key c x y xs (nat_lt (key c) (key x)) (put_keeps key c y xs) has
 
-head_before : (key : ℕ → ℕ) (x y : ℕ) (xs : List ℕ) → AllPairs (ClassBefore key) (x ∷ xs) → Contains xs y → ClassBefore key x y
-head_before key x y xs sorted (k, lt, at) = subst (ClassBefore key x) at (sorted 0 (suc k) y (omega arith) (omega arith))
-
-rest_sorted : (key : ℕ → ℕ) (x : ℕ) (xs : List ℕ) → AllPairs (ClassBefore key) (x ∷ xs) → AllPairs (ClassBefore key) xs
-rest_sorted key x xs sorted = λ i j d lt in'. sorted (suc i) (suc j) d (omega arith) (omega arith)
-
-no_later : (key : ℕ → ℕ) (x y : ℕ) → ClassBefore key x y → key x ≤ key y
-no_later key x y (inl a) = omega arith
-no_later key x y (inr (e, a)) = omega (arith, e)
-
 put_behind : (key : ℕ → ℕ) (c x : ℕ) (xs : List ℕ) → AllPairs (ClassBefore key) (x ∷ xs) → x < c → (b : Bool) → nat_lt (key c) (key x) ≡ b →
     AllPairs (ClassBefore key) (put_by_key key c xs) → AllPairs (ClassBefore key) (if b then c ∷ x ∷ xs else x ∷ put_by_key key c xs)
 put_behind key c x xs sorted low true is before =
@@ -125,9 +115,9 @@ put_behind key c x xs sorted low false is before =
 put_sorted : (key : ℕ → ℕ) (c : ℕ) (xs : List ℕ) → AllPairs (ClassBefore key) xs → ((y : ℕ) → Contains xs y → y < c) → AllPairs (ClassBefore key) (put_by_key key c xs)
 put_sorted key c [] sorted low = λ i j d lt in'. absurd (omega (arith, lt, in'))
 put_sorted key c (x ∷ xs) sorted low = put_behind key c x xs sorted (low x (in_first x xs)) (nat_lt (key c) (key x)) refl
-    (put_sorted key c xs (rest_sorted key x xs sorted) (λ y has. low y (in_tail x xs y has)))
+    (put_sorted key c xs (tail_sorted key x xs sorted) (λ y has. low y (in_tail x xs y has)))
 
-by_key_low : (key : ℕ → ℕ) (n y : ℕ) → Contains (by_key key n) y → y < n
+pub by_key_low : (key : ℕ → ℕ) (n y : ℕ) → Contains (by_key key n) y → y < n
 by_key_low key zero y has = absurd (nothing_in y has)
 by_key_low key (suc n) y has = elim (put_in key n y (by_key key n) has) [
   | inl e ↦ omega (arith, e)
@@ -161,21 +151,14 @@ pub by_key_below : (key : ℕ → ℕ) (n most : ℕ) (order : List ℕ) → ord
 by_key_below key n most order is le =
     subst (All (λ c. c < most)) (sym is) (all_of_members (λ c. c < most) (by_key key n) (λ c has. omega (arith, le, by_key_low key n c has)))
 
-pub by_key_members : (key : ℕ → ℕ) (n c : ℕ) → Contains (by_key key n) c → c < n
-by_key_members = by_key_low
-
 -- ---- keys that agree
-
-same_before : (key other : ℕ → ℕ) (x y : ℕ) → key x ≡ other x → key y ≡ other y → ClassBefore key x y → ClassBefore other x y
-same_before key other x y ex ey (inl a) = inl (omega (arith, a, ex, ey))
-same_before key other x y ex ey (inr (e, a)) = inr (omega (arith, e, ex, ey), a)
 
 pub keys_agree : (key other : ℕ → ℕ) (n : ℕ) → ((c : ℕ) → c < n → key c ≡ other c) → by_key key n ≡ by_key other n
 keys_agree key other n same =
     let is = by_key_is key n in
     let low = λ (k d : ℕ) (lt : k < length (by_key key n)). by_key_low key n (get_or (by_key key n) k d) (Contains-get_or (by_key key n) k d lt) in
     by_key_one other n (by_key key n) (record {
-      sorted = λ i j d lt in'. same_before key other (get_or (by_key key n) i d) (get_or (by_key key n) j d) (same _ (low i d (omega (arith, lt, in')))) (same _ (low j d in'))
+      sorted = λ i j d lt in'. before_as key other (get_or (by_key key n) i d) (get_or (by_key key n) j d) (same _ (low i d (omega (arith, lt, in')))) (same _ (low j d in'))
           (is.sorted i j d lt in');
       coflow = is.coflow;
       all = is.all;

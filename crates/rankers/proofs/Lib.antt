@@ -1,6 +1,6 @@
 pub mod KeyOrders
 pub mod Permutations
-pub mod AllCoflows
+pub mod PlaceOrders
 pub mod Greatest
 pub mod Noted
 pub mod OneRow

@@ -10,7 +10,7 @@ use Rattle.coflow_units.proofs.Sums.{in_first, in_tail}
 use Rattle.rankers.specs.ByKey.{by_key, key_in}
 use Rattle.rankers.specs.Meaning.{Meaning, after_note, after_notes}
 use Rattle.rankers.specs.Rounds.{after_completions}
-use Rattle.rankers.proofs.KeyOrders.{by_key_members, keys_agree}
+use Rattle.rankers.proofs.KeyOrders.{by_key_low, keys_agree}
 
 ends_agree : (m : Meaning) (end other : ℕ → ℕ) (cs : List ℕ) → ((c : ℕ) → Contains cs c → end c ≡ other c) → after_notes m end cs ≡ after_notes m other cs
 ends_agree m end other [] same = refl
@@ -32,4 +32,4 @@ pub told_completions : (flows : List Flow) (n : ℕ) (m : Meaning) (slots : List
 told_completions flows n m slots ends order is by =
     let at = end_at (completion flows slots) n ends is in
     ap (after_notes m (key_in ends)) (by ∙ keys_agree (key_in ends) (completion flows slots) n at) ∙
-    ends_agree m (key_in ends) (completion flows slots) (by_key (completion flows slots) n) (λ c has. at c (by_key_members (completion flows slots) n c has))
+    ends_agree m (key_in ends) (completion flows slots) (by_key (completion flows slots) n) (λ c has. at c (by_key_low (completion flows slots) n c has))

@@ -2,7 +2,7 @@ use Rattle.std.proofs.Common.{List, ap, ◌∙◌}
 use Rattle.std.specs.Prelude.{map}
 use Rattle.coflow_units.specs.declared.plan.Place.{Place}
 use Rattle.bssi_order.specs.Order.{entries_of}
-use Rattle.rankers.proofs.AllCoflows.{order_of_places}
+use Rattle.rankers.proofs.PlaceOrders.{order_of_places}
 use Rattle.rankers.proofs.facts.order_in.Goals as goal
 
 pub returns : goal.returns

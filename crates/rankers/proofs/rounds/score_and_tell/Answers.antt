@@ -7,8 +7,8 @@ tell-requires-clause-names g c = judged_names c.args.table.now c.args.order.now 
     c.in_ok-schedule.ensures
 
 pub cost-requires-clause-names : goal.cost-requires-clause-names
-cost-requires-clause-names g c = judged_names c.args.table.now c.args.order.now c.in_ok-schedule.field-0 c.in-Served.schedule c.flows.result.now c.flows.ensures.flows c.in-Served.is
-    c.in_ok-schedule.ensures
+cost-requires-clause-names g c = judged_names c.args.table.now c.args.order.now c.in_ok-schedule.field-0 c.in-Served.schedule c.flows.result.now
+    c.flows.ensures.flows c.in-Served.is c.in_ok-schedule.ensures
 
 pub returns-in_ok-tell-in-Served-clause-score : goal.returns-in_ok-tell-in-Served-clause-score
 returns-in_ok-tell-in-Served-clause-score g c = judged_score c.args.table.now c.args.weights.now c.args.order.now c.in_ok-schedule.field-0 c.in-Served.schedule c.flows.result.now
