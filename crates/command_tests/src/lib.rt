@@ -1,4 +1,4 @@
-//! Tests of the top call and its commands on worked rows, over shelves and sinks in memory, and of what it stands on outside. The crate has tests alone.
+//! Tests of the top call and its commands on worked rows, over shelves and sinks in memory. The crate has tests alone.
 #![tactic(auto)]
 
 #[cfg(test)]
@@ -9,8 +9,6 @@ mod endless;
 mod jobs;
 #[cfg(test)]
 mod make_tests;
-#[cfg(test)]
-mod outside_tests;
 #[cfg(test)]
 mod plan_tests;
 #[cfg(test)]

@@ -58,8 +58,10 @@ fn pulls_agree(board: &RankBoard, seat: &mut RankSeat) -> bool
 }
 
 #[test]
-fn readers_agree_with_what_a_thread_publishes(rt: HostRuntime) -> Result<(), Fail> {
-    let (board, mut publisher, mut one) = RankBoard::new(rt.alloc(), 3)?;
+fn readers_agree_with_what_a_thread_publishes(rt: HostRuntime) {
+    let Ok((board, mut publisher, mut one)) = RankBoard::new(rt.alloc(), 3) else {
+        panic!(&rt; "no memory");
+    };
     let mut two = board.seat(&mut one);
     let shared = &board;
     let (_, agrees) = join_mut(
@@ -76,5 +78,4 @@ fn readers_agree_with_what_a_thread_publishes(rt: HostRuntime) -> Result<(), Fai
     assert_eq!(rt; agree, (true, true));
     board.meet(&mut publisher, &mut one);
     assert_eq!(rt; (one.seen(), publisher.version()), (VERSIONS, VERSIONS));
-    Ok(())
 }

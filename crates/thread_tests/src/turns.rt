@@ -131,8 +131,10 @@ fn empty(rt: &impl Alloc<A = Global>) -> Log
 // No clause says that a thread that sleeps is woken. Where the end of a turn wakes at another word, or wakes one thread alone, or a wait sleeps past
 // its turn, some thread sleeps for ever here.
 #[test]
-fn the_root_and_two_seats_take_many_turns(rt: HostRuntime) -> Result<(), Fail> {
-    let (gate, mut root) = Turnstile::new(rt.alloc(), empty(&rt))?;
+fn the_root_and_two_seats_take_many_turns(rt: HostRuntime) {
+    let Ok((gate, mut root)) = Turnstile::new(rt.alloc(), empty(&rt)) else {
+        panic!(&rt; "no memory");
+    };
     let mut one = gate.seat(&mut root);
     let mut two = gate.seat(&mut root);
     let (handle, shared) = (&rt, &gate);
@@ -149,5 +151,4 @@ fn the_root_and_two_seats_take_many_turns(rt: HostRuntime) -> Result<(), Fail> {
     for who in 0..3 {
         assert_eq!(rt; lines_in_order(&log, who), Some(TURNS));
     }
-    Ok(())
 }

@@ -4,7 +4,7 @@ use Rattle.port_board.specs.declared.view.Grant.{Grant}
 use Rattle.port_board.specs.declared.view.View.{View}
 use Rattle.port_board.specs.Views.{grant, last_at}
 use Rattle.port_board.proofs.Lists.{last_pushed}
-use Rattle.thread_tests.proofs.agents.post_all.Goals as goal
+use Rattle.agent_tests.proofs.agents.post_all.Goals as goal
 
 pub loop-port-preserved : goal.loop-port-preserved
 loop-port-preserved c =

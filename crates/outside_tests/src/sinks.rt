@@ -4,12 +4,20 @@ use outside::{
     read_all, write_all,
 };
 use std::fs;
-use std::test::Fail;
+use std::process::Abort;
+
+/// The value of an answer, where nothing failed.
+fn had<T, E: Drop>(rt: &impl Abort, answer: Result<T, E>) -> T {
+    match answer {
+        Ok(value) => value,
+        Err(_) => panic!(rt; "no memory, or a call that failed"),
+    }
+}
 
 const REPORT: &[u8] = b"sincronia 0\ncost 7\nrun 3 0\nrun 1 1\nend\n";
 
 #[test]
-fn sinks_take_a_beginning_of_the_text(rt: HostRuntime) -> Result<(), Fail> {
+fn sinks_take_a_beginning_of_the_text(rt: HostRuntime) {
     let alloc = rt.alloc();
     for (room, fail_after, taken) in [
         (64, Some(10), b"sincronia ".as_slice()),
@@ -18,45 +26,44 @@ fn sinks_take_a_beginning_of_the_text(rt: HostRuntime) -> Result<(), Fail> {
         (39, Some(39), REPORT),
         (64, None, REPORT),
     ] {
-        let mut sink = MemSink::new(alloc, room, fail_after)?;
+        let mut sink = had(&rt, MemSink::new(alloc, room, fail_after));
         let written = write_all(&mut sink, REPORT);
         assert_eq!(rt; written.is_ok(), taken.len() == REPORT.len());
         assert_eq!(rt; sink.bytes(), taken);
     }
     let mut sure = SureSink::new();
-    write_all(&mut sure, REPORT)?;
-    assert_eq!(rt; sure.write(b"")?, 0);
+    had(&rt, write_all(&mut sure, REPORT));
+    assert_eq!(rt; had(&rt, sure.write(b"")), 0);
     assert_eq!(rt; sure.length(), 39);
-    Ok(())
 }
 
 #[test]
-fn files_of_the_system_are_read(rt: HostRuntime) -> Result<(), Fail> {
+fn files_of_the_system_are_read(rt: HostRuntime) {
     let alloc = rt.alloc();
-    let mut shelf = DiskShelf::new(rt.clone()?);
-    fs::write(&rt, "outside-shelf.txt", REPORT)?;
+    let mut shelf = DiskShelf::new(had(&rt, rt.clone()));
+    had(&rt, fs::write(&rt, "outside-shelf.txt", REPORT));
     let started = shelf.start(Place4::Trace, "outside-shelf.txt");
-    fs::remove_file(&rt, "outside-shelf.txt")?;
-    started?;
-    let read = read_all(alloc, &mut shelf, Place4::Trace, 64)?;
+    had(&rt, fs::remove_file(&rt, "outside-shelf.txt"));
+    let Ok(()) = started else {
+        panic!(&rt; "a file is not read");
+    };
+    let read = had(&rt, read_all(alloc, &mut shelf, Place4::Trace, 64));
     assert_eq!(rt; read.as_slice(), REPORT);
     assert_eq!(rt;
         shelf.start(Place4::Trace, "outside-shelf.txt"),
         Err(Failed)
     );
-    Ok(())
 }
 
 #[test]
-fn the_standard_output_takes_a_text(rt: HostRuntime) -> Result<(), Fail> {
+fn the_standard_output_takes_a_text(rt: HostRuntime) {
     // No clause refuses a write that fails without asking the output. What stands in the output is not looked at.
     let mut sink = StdSink::new(rt.stdout());
-    write_all(&mut sink, REPORT)?;
-    Ok(())
+    had(&rt, write_all(&mut sink, REPORT));
 }
 
 #[test]
-fn wires_refuse_one_unit(rt: HostRuntime) -> Result<(), Fail> {
+fn wires_refuse_one_unit(rt: HostRuntime) {
     // Two sends, of 4 units in slot 1 and of 3 in slot 5.
     let alloc = rt.alloc();
     for (room, fail_at, first, second, runs, begins) in [
@@ -66,7 +73,7 @@ fn wires_refuse_one_unit(rt: HostRuntime) -> Result<(), Fail> {
         (2, Some(8), 4, 3, 2, (1, 7, 4)),
         (1, None, 4, 0, 1, (1, 7, 4)),
     ] {
-        let mut wire = MemWire::new(alloc, room, fail_at)?;
+        let mut wire = had(&rt, MemWire::new(alloc, room, fail_at));
         assert_eq!(rt; wire.send(1, 7, 4), first);
         assert_eq!(rt; wire.send(5, 7, 3), second);
         assert_eq!(rt; wire.len(), runs);
@@ -76,5 +83,4 @@ fn wires_refuse_one_unit(rt: HostRuntime) -> Result<(), Fail> {
     let mut wire = CountWire { sent: u64::MAX - 5 };
     assert_eq!(rt; (wire.send(1, 0, 5), wire.send(6, 0, 3)), (5, 3));
     assert_eq!(rt; wire.sent, u64::MAX);
-    Ok(())
 }

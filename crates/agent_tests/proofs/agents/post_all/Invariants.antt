@@ -1,6 +1,6 @@
 use Rattle.std.proofs.Common.{◌≡◌, ◌≤◌, ℕ, None}
 use Rattle.port_board.specs.Views.{last_at}
-use Rattle.thread_tests.proofs.agents.post_all.Given as goal
+use Rattle.agent_tests.proofs.agents.post_all.Given as goal
 
 abbrev pub invariant-loop-port : goal.invariant-loop-port
 invariant-loop-port l = record {
