@@ -1,0 +1,13 @@
+pub mod Searching
+pub mod Actions
+pub mod Shapes
+pub mod Marks
+pub mod Owed
+pub mod Standing
+pub mod Times
+pub mod Counts
+pub mod Rising
+pub mod Along
+pub mod AtTheEnd
+pub mod Right
+pub mod OneRun
