@@ -1,0 +1,5 @@
+pub mod Acts
+pub mod Stops
+pub mod Lines
+pub mod Parts
+pub mod Rounds
