@@ -1,0 +1,42 @@
+//! From sessions and rounds to deeds.
+ghost use Rattle.std.specs.Prelude.{◌≡◌, ℕ, ◌++◌, [], All, Contains, List};
+ghost use Rattle.journal.specs.declared.command.Entry.{Entry};
+ghost use Rattle.journal.specs.declared.opening.Opening.{Opening};
+ghost use Rattle.script_reader.specs.declared.script.Script.{Script};
+ghost use Rattle.client_session.specs.Closes.{HasEnded};
+ghost use Rattle.client_session.specs.Levels.{IsRaised};
+ghost use Rattle.client_session.specs.Models.{SessionModel};
+ghost use Rattle.live_model.specs.Levels.{IsBetween, IsSession, Levels};
+ghost use Rattle.live_model.specs.Script.{lines_by};
+ghost use Rattle.live_rounds.specs.Acts.{Act, entries_in, HasActed};
+ghost use Rattle.live_course.specs.Told.{acts_of, deeds_of, IsNew, IsRoundBetween, LiesBetween, lines_of};
+
+/// How sessions go on: a levelling carries out no line, and rounds follow each other.
+pub fn sessions_go_on()
+    ensures level { (old new : SessionModel) → IsRaised old new → HasActed old new [] }
+    ensures rounds { (first mid last : SessionModel) (acts more : List Act) → HasActed first mid acts →
+        HasActed mid last more → HasActed first last (acts ++ more) }
+{}
+
+/// A session that was new, and that carried out the lines of its client in all rounds, did so as a course asks, once
+/// the hall is closed.
+pub fn sessions_carry_out_scripts()
+    ensures { (o : Opening) (journal : List Entry) (script : Script) (first last : SessionModel)
+        (told : List (ℕ × Act)) →
+        IsNew first → HasActed first last (acts_of told) → HasEnded o journal last →
+        lines_of told ≡ lines_by script last.number →
+        IsSession script journal last.number last.own (deeds_of told) }
+{}
+
+/// What the lines of a round came to lies between what was levelled before and behind the round.
+pub fn rounds_lie_between_levels()
+    ensures { (levels : Levels) (round : ℕ) (old new : SessionModel) (acts : List Act) → HasActed old new acts →
+        IsRoundBetween levels round old new → All (LiesBetween levels round) acts }
+{}
+
+/// Lines that lie between the levels of their rounds do so as a course asks, once the hall is closed.
+pub fn lines_keep_levels()
+    ensures { (o : Opening) (journal : List Entry) (levels : Levels) (last : SessionModel) (told : List (ℕ × Act)) →
+        HasEnded o journal last → All (Contains last.own) (entries_in (acts_of told)) →
+        All (λ (x : ℕ × Act). LiesBetween levels x.0 x.1) told → All (IsBetween journal levels) (deeds_of told) }
+{}
