@@ -135,6 +135,19 @@ impl Pilot {
         })
     }
 
+    /// The driver alone.
+    pub fn into_driver(self) -> Driver
+        ensures { result ≡ self.driver }
+    {
+        let Pilot {
+            driver,
+            draw: _,
+            places: _,
+            said: _,
+        } = self;
+        driver
+    }
+
     /// Asks drawn commands of the driver.
     pub fn play<R: Wait>(&mut self, rt: &R, hall: &Hall, size: Size)
         requires pilot { IsPilotOf hall.now size.commands self.old }

@@ -1,5 +1,5 @@
 //! Numbers that are drawn, the same for the same seed, and the commands that they make.
-ghost use Rattle.std.specs.Prelude.{ℕ, ◌<◌, ◌≤◌};
+ghost use Rattle.std.specs.Prelude.{◌≡◌, ℕ, ◌+◌, ◌*◌, ◌^◌, ◌<◌, ◌≤◌};
 ghost use Rattle.hall_runs.specs.Asked.{IsAskOf, IsOrderOf};
 
 /// A generator of drawn numbers: the linear congruential one of Knuth's MMIX (The Art of Computer Programming, volume 2, section 3.3.4).
@@ -33,7 +33,9 @@ pub enum Order {
 
 impl Draw {
     /// The generator of a caller: the seed, and 2^32 for each number.
-    pub fn of(seed: u32, caller: u32) -> Draw {
+    pub fn of(seed: u32, caller: u32) -> Draw
+        ensures state { result.state ≡ seed + caller * 2 ^ 32 }
+    {
         Draw {
             state: u64::from(seed) + (u64::from(caller) << 32),
         }

@@ -1,9 +1,11 @@
 //! What the words of the call ask for.
-ghost use Rattle.std.specs.Prelude.{◌≤◌, IfOk};
+ghost use Rattle.std.specs.Prelude.{◌≤◌, IfOk, vec_len};
+ghost use Rattle.coflow_units.specs.Trace.{IsTrace};
+ghost use Rattle.coflow_units.specs.declared.limits.TheConstants.{MAX_TEXT};
 ghost use Rattle.hall_runs.specs.declared.game.TheConstants.{MAX_EACH};
 
 use crate::stop::Stop;
-use coflow_units::MAX_TEXT;
+use coflow_units::{MAX_TEXT, Trace};
 use flow_table::Table;
 use outside::{DiskShelf, Place4, Shelf, read_all};
 use std::alloc::Global;
@@ -42,6 +44,13 @@ pub fn game_of(rt: &HostRuntime) -> Result<Game, Stop>
     let Ok(words) = words.collect::<Vec<String>>(alloc) else {
         return Err(Stop::NoMemory);
     };
+    game_in(alloc, &mut DiskShelf::new(*rt), &words)
+}
+
+/// The same, where the file stands on a shelf.
+fn game_in<H: Shelf>(alloc: Global, shelf: &mut H, words: &[String]) -> Result<Game, Stop>
+    ensures few { IfOk result (λ game. game.commands ≤ MAX_EACH) }
+{
     let Some(trace) = words.get(1) else {
         return Err(Stop::Usage);
     };
@@ -49,7 +58,7 @@ pub fn game_of(rt: &HostRuntime) -> Result<Game, Stop>
         seed: number_of(words.get(2))?,
         commands: number_of(words.get(3))?.min(MAX_EACH),
         mode: mode_of(words.get(4))?,
-        table: table_of(alloc, &mut DiskShelf::new(*rt), trace)?,
+        table: table_of(alloc, shelf, trace)?,
     })
 }
 
@@ -79,17 +88,33 @@ fn mode_of(word: Option<&String>) -> Result<Mode, Stop> {
 
 /// The table of a file's trace, in units of a megabyte. It has a coflow and a port.
 fn table_of<H: Shelf>(alloc: Global, shelf: &mut H, name: &str) -> Result<Table, Stop> {
-    let Ok(()) = shelf.start(Place4::Trace, name) else {
-        return Err(Stop::File);
-    };
-    let Ok(bytes) = read_all(alloc, shelf, Place4::Trace, MAX_TEXT) else {
-        return Err(Stop::File);
-    };
-    let Ok(trace) = read_trace(alloc, &bytes) else {
-        return Err(Stop::Trace);
-    };
+    let trace = trace_of(alloc, shelf, name)?;
     match Table::build(alloc, &trace, 1) {
         Ok(table) => Ok(table),
         Err(_) => Err(Stop::Table),
+    }
+}
+
+/// The trace of a file.
+fn trace_of<H: Shelf>(alloc: Global, shelf: &mut H, name: &str) -> Result<Trace, Stop>
+    ensures limits { IfOk result IsTrace }
+{
+    let bytes = bytes_of(alloc, shelf, name)?;
+    match read_trace(alloc, &bytes) {
+        Ok(trace) => Ok(trace),
+        Err(_) => Err(Stop::Trace),
+    }
+}
+
+/// The bytes of a file, at most 2^26.
+fn bytes_of<H: Shelf>(alloc: Global, shelf: &mut H, name: &str) -> Result<Vec<u8>, Stop>
+    ensures { IfOk result (λ bytes. vec_len bytes ≤ MAX_TEXT) }
+{
+    let Ok(()) = shelf.start(Place4::Trace, name) else {
+        return Err(Stop::File);
+    };
+    match read_all(alloc, shelf, Place4::Trace, MAX_TEXT) {
+        Ok(bytes) => Ok(bytes),
+        Err(_) => Err(Stop::File),
     }
 }

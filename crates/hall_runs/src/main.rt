@@ -22,7 +22,7 @@ ghost use Rattle.hall_runs.specs.declared.game.TheConstants.{MAX_EACH};
 use crate::callers::{Client, Pilot, Said, Size, play_all};
 use crate::draw::Draw;
 use crate::game::{Game, Mode, game_of};
-use crate::locked::{Caller, lock_all};
+use crate::locked::contend;
 use crate::stop::Stop;
 use client_session::{CloseFault, Driver, Hall, Session};
 use coflow_units::{Items, NoMemory};
@@ -32,12 +32,12 @@ use std::alloc::Global;
 use std::io;
 use std::process::ExitCode;
 use std::rt::Runtime;
-use std::sync::{Mutex, Wait};
+use std::sync::Wait;
 use std::thread::{Threads, join_mut};
 use std::time::{Duration, Instant};
 
 /// How many clients a hall has beside its driver.
-const CLIENTS: u32 = 7;
+pub(crate) const CLIENTS: u32 = 7;
 
 fn main(rt: HostRuntime) -> ExitCode {
     let ended = match game_of(&rt) {
@@ -66,7 +66,7 @@ fn run<R: Runtime + Threads + Wait + Sync>(rt: &R, alloc: Global, game: Game) ->
     } = game;
     let size = size_of(&table, commands)?;
     match mode {
-        Mode::Mutex => contend(rt, alloc, table, seed, size),
+        Mode::Mutex => contend(rt, alloc, master_of(alloc, table, commands)?, seed, size),
         _ => play(rt, alloc, table, seed, size, mode),
     }
 }
@@ -147,12 +147,33 @@ fn host<R: Runtime + Threads + Wait + Sync>(
     requires coflows { size.coflows ≡ length hall.setting.opening.table.ids }
     requires ports { size.ports ≡ hall.setting.opening.table.ports }
 {
-    let took = timed(rt, &hall, &mut pilot, &mut clients, size)?;
-    if mode == Mode::Tell {
-        tell_said(rt, &pilot.said, &clients)?;
-    }
-    let master = closed(alloc, hall, pilot.driver, clients)?;
+    let took = asked(rt, &hall, &mut pilot, &mut clients, size, mode);
+    let master = closed(alloc, hall, pilot.into_driver(), clients)?;
     tell_end(rt, &master, size, mode, took)
+}
+
+/// The driver and the clients ask their commands, and what they were told is printed where the mode asks for it. It answers how long the asking took.
+fn asked<R: Runtime + Threads + Wait + Sync>(
+    rt: &R,
+    hall: &Hall,
+    pilot: &mut Pilot,
+    clients: &mut [Client],
+    size: Size,
+    mode: Mode,
+) -> io::Result<Duration>
+    requires pilot { IsPilotOf hall.now size.commands pilot.old }
+    requires clients { All (IsClientOf hall.now size.commands) clients.old }
+    requires some { (1 ≤ size.coflows) × (1 ≤ size.ports) }
+    requires coflows { size.coflows ≡ length hall.now.setting.opening.table.ids }
+    requires ports { size.ports ≡ hall.now.setting.opening.table.ports }
+    ensures pilot { IsDriverOf hall.entry.now pilot.new.driver }
+    ensures clients { All (λ c. IsSessionOf hall.entry.now c.session) clients.new }
+{
+    let took = timed(rt, hall, pilot, clients, size)?;
+    if mode == Mode::Tell {
+        tell_said(rt, &pilot.said, clients)?;
+    }
+    Ok(took)
 }
 
 /// The driver and the clients ask their commands. It answers how long that took.
@@ -168,12 +189,12 @@ fn timed<R: Runtime + Threads + Wait + Sync>(
     requires some { (1 ≤ size.coflows) × (1 ≤ size.ports) }
     requires coflows { size.coflows ≡ length hall.now.setting.opening.table.ids }
     requires ports { size.ports ≡ hall.now.setting.opening.table.ports }
-    ensures pilot { OnOk result (IsDriverOf hall.entry.now pilot.new.driver) }
-    ensures clients { OnOk result (All (λ c. IsSessionOf hall.entry.now c.session) clients.new) }
+    ensures pilot { IsDriverOf hall.entry.now pilot.new.driver }
+    ensures clients { All (λ c. IsSessionOf hall.entry.now c.session) clients.new }
 {
-    let start = Instant::now(rt)?;
+    let start = Instant::now(rt);
     play_both(rt, hall, pilot, clients, size);
-    start.elapsed(rt)
+    start?.elapsed(rt)
 }
 
 /// Prints what the mode asks of a closed hall: its journal, how long its callers took, or how many entries it has.
@@ -182,8 +203,9 @@ fn tell_end(
     master: &Master,
     size: Size,
     mode: Mode,
-    took: Duration,
+    took: io::Result<Duration>,
 ) -> Result<(), Stop> {
+    let took = took?;
     match mode {
         Mode::Tell => tell_journal(rt, master)?,
         Mode::Time => println!(rt; "nanoseconds {}", took.as_nanos())?,
@@ -229,11 +251,10 @@ fn clients_of(
     ensures clients { IfOk result (λ v. All (IsClientOf hall.now commands) v.items) }
     ensures driver { OnOk result (IsDriverOf hall.now driver.new) }
 {
-    let mut clients = Vec::new(alloc);
+    let mut clients = Vec::with_capacity(alloc, CLIENTS as usize)?;
     for before in 0..CLIENTS {
         let draw = Draw::of(seed, before + 1);
-        let client = Client::new(alloc, hall, driver, draw, commands)?;
-        clients.push(client)?;
+        clients.push_reserved(Client::new(alloc, hall, driver, draw, commands)?);
     }
     Ok(clients)
 }
@@ -275,14 +296,9 @@ fn sessions_of(alloc: Global, _hall: &Hall, clients: Vec<Client>) -> Result<Vec<
     requires clients { All (λ c. IsSessionOf _hall.now c.session) clients.items }
     ensures sessions { IfOk result (λ v. All (IsSessionOf _hall.now) v.items) }
 {
-    let mut sessions = Vec::new(alloc);
+    let mut sessions = Vec::with_capacity(alloc, clients.len())?;
     for client in clients {
-        let Client {
-            session,
-            draw: _,
-            said: _,
-        } = client;
-        sessions.push(session)?;
+        sessions.push_reserved(client.session);
     }
     Ok(sessions)
 }
@@ -295,8 +311,15 @@ fn closed(alloc: Global, hall: Hall, driver: Driver, clients: Vec<Client>) -> Re
     let sessions = sessions_of(alloc, &hall, clients)?;
     match hall.close(alloc, driver, sessions) {
         Ok(master) => Ok(master),
-        Err(CloseFault::NoMemory(_)) => Err(Stop::NoMemory),
-        Err(CloseFault::Missing { .. }) => Err(Stop::Missing),
+        Err(fault) => Err(stop_of(&fault)),
+    }
+}
+
+/// Why a hall is not closed.
+fn stop_of(fault: &CloseFault) -> Stop {
+    match fault {
+        CloseFault::NoMemory(_) => Stop::NoMemory,
+        CloseFault::Missing { .. } => Stop::Missing,
     }
 }
 
@@ -323,41 +346,4 @@ fn tell_journal(rt: &impl Print, master: &Master) -> io::Result<()> {
         println!(rt; "entry {} {:?} {:?}", entry.who, entry.command, entry.reply)?;
     }
     Ok(())
-}
-
-/// Asks the same commands of a master behind a mutex, and prints how long it took.
-fn contend<R: Runtime + Threads + Wait + Sync>(
-    rt: &R,
-    alloc: Global,
-    table: Table,
-    seed: u32,
-    size: Size,
-) -> Result<(), Stop>
-    requires few { size.commands ≤ MAX_EACH }
-    requires some { (1 ≤ size.coflows) × (1 ≤ size.ports) }
-{
-    let master = Mutex::new(master_of(alloc, table, size.commands)?);
-    let mut callers = callers_of(alloc, seed)?;
-    let start = Instant::now(rt)?;
-    lock_all(rt, &master, &mut callers, size);
-    let took = start.elapsed(rt)?;
-    for caller in callers.as_slice() {
-        if caller.answered != size.commands {
-            return Err(Stop::Missing);
-        }
-    }
-    Ok(println!(rt; "nanoseconds {}", took.as_nanos())?)
-}
-
-/// The driver and the clients, which draw from the seed.
-fn callers_of(alloc: Global, seed: u32) -> Result<Vec<Caller>, NoMemory> {
-    let mut callers = Vec::new(alloc);
-    for number in 0..CLIENTS + 1 {
-        callers.push(Caller {
-            number,
-            draw: Draw::of(seed, number),
-            answered: 0,
-        })?;
-    }
-    Ok(callers)
 }

@@ -1,6 +1,6 @@
--- so many sessions were made, and their clients are ready
-use Rattle.std.proofs.Common.{◌≡◌}
-use Rattle.std.specs.Prelude.{All}
+-- so many sessions were made, their clients are ready, and there is room for the others
+use Rattle.std.proofs.Common.{◌≡◌, ◌≤◌, length}
+use Rattle.std.specs.Prelude.{All, vec_capacity}
 use Rattle.client_session.specs.Models.{IsDriverOf}
 use Rattle.hall_runs.specs.Callers.{IsClientOf}
 use Rattle.hall_runs.proofs.clients_of.Given as goal
@@ -10,4 +10,6 @@ invariant-loop-before l = record {
   own : IsDriverOf l.hall l.driver;
   made : l.driver.made ≡ l.before;
   clients : All (IsClientOf l.hall l.commands) l.clients.items;
+  count : length l.clients.items ≡ l.before;
+  room : 7 ≤ vec_capacity l.clients;
 }

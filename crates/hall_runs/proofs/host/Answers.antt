@@ -13,10 +13,10 @@ OfHall hall c = IsSessionOf hall c.session
 pub closed-requires-clause-clients : goal.closed-requires-clause-clients
 closed-requires-clause-clients g c =
     let hall : HallModel = c.args.hall in
-    let new : List Client = c.timed.new.clients in
+    let new : List Client = c.asked-took.new.clients in
     let old : List Client = c.args.clients.items in
     let ready : All (IsClientOf hall c.args.size.commands) old = c.requires.clients in
     let were : All (OfHall hall) old = All-weaker (IsClientOf hall c.args.size.commands) (OfHall hall) (λ x is. is.own) old ready in
-    let are : All (OfHall hall) new = c.in_ok-took.ensures.clients in
+    let are : All (OfHall hall) new = c.asked-took.ensures.clients in
     let behind : All (OfHall hall) (drop (length new) old) = All-drop (OfHall hall) (length new) old were in
     All-take (OfHall hall) c.args.clients.len (new ++ drop (length new) old) (All-append (OfHall hall) new (drop (length new) old) are behind)

@@ -1,5 +1,5 @@
 -- The session that is taken is of the hall, and so are those that are left.
-use Rattle.std.proofs.Common.{◌≡◌, ◌∷◌, ◌++◌, [], subst, List}
+use Rattle.std.proofs.Common.{◌≡◌, ◌∷◌, ◌++◌, [], ap, arith, length, subst, List}
 use Rattle.std.specs.Prelude.{All}
 use Rattle.std.specs.Vec.Iter.{into_iter_items}
 use Rattle.std.proofs.lemmas.List.Elements.{All-head, All-push, All-same, All-tail}
@@ -20,6 +20,10 @@ loop-client-preserved c =
     let left : All (OfHall hall) (x ∷ rest) = subst (All (OfHall hall)) steps at.invariant.left in
     record {
       left = All-tail (OfHall hall) x rest left;
-      taken = All-same (IsSessionOf hall) c.push.new.self.items (at.sessions.items ++ x.session ∷ []) c.in_ok-push.ensures.items
+      taken = All-same (IsSessionOf hall) c.push_reserved.new.self.items (at.sessions.items ++ x.session ∷ []) c.push_reserved.ensures.items
           (All-push (IsSessionOf hall) at.sessions.items x.session at.invariant.taken (All-head (OfHall hall) x rest left));
+      room = omega (arith, at.invariant.room, ap (λ xs. length xs) steps, c.push_reserved.ensures.len, c.push_reserved.ensures.capacity);
     }
+
+pub push_reserved-requires : goal.push_reserved-requires
+push_reserved-requires c = omega (arith, c.loop-client.invariant.room, ap (λ xs. length xs) c.in-Some.ensures.steps.0)
