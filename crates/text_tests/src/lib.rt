@@ -1,19 +1,9 @@
-//! Tests of the crates that read and write texts. A clause says of each text what its definitions say; that the definitions mean the rules of the formats is
+//! Tests of the crates that read texts of inputs. A clause says of each text what its definitions say; that the definitions mean the rules of the formats is
 //! what no clause says. Each row was worked out by hand from those rules, and an answer that is no value is told by the text of its fault.
 #![tactic(auto)]
 
 #[cfg(test)]
-mod command_lines;
-#[cfg(test)]
-mod journals;
-#[cfg(test)]
-mod made;
-#[cfg(test)]
 mod numbers;
-#[cfg(test)]
-mod online_runs;
-#[cfg(test)]
-mod reports;
 #[cfg(test)]
 mod rows;
 #[cfg(test)]

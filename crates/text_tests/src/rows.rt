@@ -1,20 +1,29 @@
-//! Rows of tables, each of them a line.
+//! Rows of tables, each of them a line, and values that were had. A test that finds no memory stops at once.
 use std::alloc::Global;
-use std::test::Fail;
+use std::fmt::Debug;
+use std::process::Abort;
+
+/// The value of an answer.
+pub(crate) fn had<T, E: Debug + Drop>(rt: &impl Abort, answer: Result<T, E>) -> T {
+    match answer {
+        Ok(value) => value,
+        Err(fault) => panic!(rt; "{fault:?}"),
+    }
+}
 
 /// The text of a row, in which a `/` stands for a line end, and what stands behind the arrow.
-pub(crate) fn parts_of(alloc: Global, row: &str) -> Result<(String, &str), Fail> {
+pub(crate) fn parts_of<'a>(rt: &impl Abort, alloc: Global, row: &'a str) -> (String, &'a str) {
     let Some((short, want)) = row.split_once(" => ") else {
-        return Err(Fail::new("a row without an arrow"));
+        panic!(rt; "a row without an arrow");
     };
     let mut text = String::new(alloc);
     let mut pieces = short.split('/');
     if let Some(first) = pieces.next() {
-        text.push_str(first)?;
+        had(rt, text.push_str(first));
     }
     for piece in pieces {
-        text.push_str("\n")?;
-        text.push_str(piece)?;
+        had(rt, text.push_str("\n"));
+        had(rt, text.push_str(piece));
     }
-    Ok((text, want))
+    (text, want)
 }

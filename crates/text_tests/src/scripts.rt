@@ -1,37 +1,46 @@
 //! Texts of scripts, over a trace with the coflows 1 and 2.
-use crate::rows::parts_of;
+use crate::rows::{had, parts_of};
 use coflow_units::MAX_TEXT;
 use flow_table::Table;
 use script_reader::{Script, read_script};
 use std::alloc::Global;
-use std::test::Fail;
+use std::process::Abort;
 use trace_reader::read_trace;
 
 const TWO_COFLOWS: &[u8] = b"1 2\n1 0 1 0 0\n2 0 1 0 0\n";
 
 /// A script as a text: its clients, and then its rounds with line, client and command.
-fn told(alloc: Global, script: &Script) -> Result<String, Fail> {
-    let mut text = format!(in alloc; "script {}", script.clients)?;
+fn told(rt: &impl Abort, alloc: Global, script: &Script) -> String {
+    let mut text = had(rt, format!(in alloc; "script {}", script.clients));
     for round in script.rounds.as_slice() {
         for line in round.lines.as_slice() {
-            write!(text, " {}:{} {:?}", line.line, line.client, line.asked)?;
+            let (number, client) = (line.line, line.client);
+            had(rt, write!(text, " {number}:{client} {:?}", line.asked));
         }
-        text.push_str(if round.runs { " slot" } else { " wait" })?;
+        had(
+            rt,
+            text.push_str(if round.runs { " slot" } else { " wait" }),
+        );
     }
-    Ok(text)
+    text
 }
 
 /// The script that a text gives, or its first fault.
-fn answer(alloc: Global, bytes: &[u8]) -> Result<String, Fail> {
-    if bytes.len() > MAX_TEXT {
-        return Err(Fail::new("a long text"));
-    }
-    let trace = read_trace(alloc, TWO_COFLOWS)?;
-    let table = Table::build(alloc, &trace, 1)?;
+fn answer(rt: &impl Abort, alloc: Global, bytes: &[u8]) -> String {
+    assert!(rt; bytes.len() <= MAX_TEXT);
+    let table = table_of_two(rt, alloc);
     match read_script(alloc, bytes, &table) {
-        Ok(script) => told(alloc, &script),
-        Err(fault) => Ok(format!(in alloc; "{fault}")?),
+        Ok(script) => told(rt, alloc, &script),
+        Err(fault) => had(rt, format!(in alloc; "{fault}")),
     }
+}
+
+/// The table of the trace.
+fn table_of_two(rt: &impl Abort, alloc: Global) -> Table {
+    let Ok(trace) = read_trace(alloc, TWO_COFLOWS) else {
+        panic!(rt; "no memory");
+    };
+    had(rt, Table::build(alloc, &trace, 1))
 }
 
 /// Texts, and their scripts or first faults. A `/` stands for a line end. Coflow 1 has the number 0, and coflow 2 the number 1.
@@ -66,32 +75,27 @@ wait/1 pull => line 2: field 3 is not as it should be
 1 register 1/x/65 publish => line 2: field 1 is not as it should be";
 
 #[test]
-fn scripts_and_first_faults(rt: HostRuntime) -> Result<(), Fail> {
+fn scripts_and_first_faults(rt: HostRuntime) {
     for row in ROWS.split('\n') {
-        let (text, want) = parts_of(rt.alloc(), row)?;
-        assert_eq!(rt;
-            answer(rt.alloc(), text.as_bytes())?.as_str(),
-            want,
-            "{row}"
-        );
+        let (text, want) = parts_of(&rt, rt.alloc(), row);
+        let have = answer(&rt, rt.alloc(), text.as_bytes());
+        assert_eq!(rt; have.as_str(), want, "{row}");
     }
-    Ok(())
 }
 
-/// So many lines `wait`.
-fn waits(alloc: Global, count: u32) -> Result<String, Fail> {
+/// What so many lines `wait` give.
+fn waits(rt: &impl Abort, alloc: Global, count: u32) -> String {
     let mut text = String::new(alloc);
     for _ in 0..count {
-        text.push_str("wait\n")?;
+        had(rt, text.push_str("wait\n"));
     }
-    Ok(text)
+    answer(rt, alloc, text.as_bytes())
 }
 
 #[test]
-fn a_script_has_65536_lines(rt: HostRuntime) -> Result<(), Fail> {
-    let whole = answer(rt.alloc(), waits(rt.alloc(), 65_536)?.as_bytes())?;
+fn a_script_has_65536_lines(rt: HostRuntime) {
+    let whole = waits(&rt, rt.alloc(), 65_536);
     assert!(rt; whole.starts_with("script 0 wait"));
-    let long = answer(rt.alloc(), waits(rt.alloc(), 65_537)?.as_bytes())?;
+    let long = waits(&rt, rt.alloc(), 65_537);
     assert_eq!(rt; long.as_str(), "Commands of 65537 is outside its range");
-    Ok(())
 }

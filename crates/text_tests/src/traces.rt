@@ -1,38 +1,39 @@
 //! Texts of traces.
-use crate::rows::parts_of;
-use coflow_units::{CoflowLine, MAX_TEXT};
+use crate::rows::{had, parts_of};
+use coflow_units::{CoflowLine, MAX_TEXT, Trace};
 use std::alloc::Global;
-use std::test::Fail;
+use std::process::Abort;
 use trace_reader::read_trace;
 
-/// What a trace says of a coflow: its id, its arrival, its mappers, and for each reducer the location and the millionths.
-fn shown(alloc: Global, coflow: &CoflowLine) -> Result<String, Fail> {
-    let mut text = format!(in alloc; "{} {},", coflow.id, coflow.arrival)?;
+/// Adds what a trace says of a coflow: its id, its arrival, its mappers, and for each reducer the location and the millionths.
+fn tell_coflow(rt: &impl Abort, text: &mut String, coflow: &CoflowLine) {
+    had(rt, write!(text, "; {} {},", coflow.id, coflow.arrival));
     for mapper in coflow.mappers.as_slice() {
-        write!(text, " {mapper}")?;
+        had(rt, write!(text, " {mapper}"));
     }
-    text.push_str(",")?;
+    had(rt, text.push_str(","));
     for reducer in coflow.reducers.as_slice() {
-        write!(text, " {}:{}", reducer.location, reducer.millionths)?;
+        let (location, millionths) = (reducer.location, reducer.millionths);
+        had(rt, write!(text, " {location}:{millionths}"));
     }
-    Ok(text)
+}
+
+/// The ports and the coflows of a trace.
+fn told(rt: &impl Abort, alloc: Global, trace: &Trace) -> String {
+    let mut text = had(rt, format!(in alloc; "{}", trace.number));
+    for coflow in trace.coflows.as_slice() {
+        tell_coflow(rt, &mut text, coflow);
+    }
+    text
 }
 
 /// The ports and the coflows that a text says, or its first fault.
-fn answer(alloc: Global, bytes: &[u8]) -> Result<String, Fail> {
-    if bytes.len() > MAX_TEXT {
-        return Err(Fail::new("a long text"));
+fn answer(rt: &impl Abort, alloc: Global, bytes: &[u8]) -> String {
+    assert!(rt; bytes.len() <= MAX_TEXT);
+    match read_trace(alloc, bytes) {
+        Ok(trace) => told(rt, alloc, &trace),
+        Err(fault) => had(rt, format!(in alloc; "{fault}")),
     }
-    let trace = match read_trace(alloc, bytes) {
-        Ok(trace) => trace,
-        Err(fault) => return Ok(format!(in alloc; "{fault}")?),
-    };
-    let mut text = format!(in alloc; "{}", trace.number)?;
-    for coflow in trace.coflows.as_slice() {
-        let line = shown(alloc, coflow)?;
-        write!(text, "; {}", line.as_str())?;
-    }
-    Ok(text)
 }
 
 /// Texts and what they say. A `/` stands for a line end.
@@ -108,16 +109,12 @@ const FAULTS: &str = " => bad header
 1 2/1 0 1 0 0/2 x/3 => line 3 field 2";
 
 #[test]
-fn texts_of_traces(rt: HostRuntime) -> Result<(), Fail> {
+fn texts_of_traces(rt: HostRuntime) {
     for row in VALUES.split('\n').chain(FAULTS.split('\n')) {
-        let (text, want) = parts_of(rt.alloc(), row)?;
-        assert_eq!(rt;
-            answer(rt.alloc(), text.as_bytes())?.as_str(),
-            want,
-            "{row}"
-        );
+        let (text, want) = parts_of(&rt, rt.alloc(), row);
+        let have = answer(&rt, rt.alloc(), text.as_bytes());
+        assert_eq!(rt; have.as_str(), want, "{row}");
     }
-    let no_text = b"1 1\n\xff 0 1 0 1 1:1";
-    assert_eq!(rt; answer(rt.alloc(), no_text)?.as_str(), "line 2 field 1");
-    Ok(())
+    let have = answer(&rt, rt.alloc(), b"1 1\n\xff 0 1 0 1 1:1");
+    assert_eq!(rt; have.as_str(), "line 2 field 1");
 }

@@ -1,28 +1,30 @@
 //! Texts of weights, for a trace with the coflows 1 and 2.
-use crate::rows::parts_of;
+use crate::rows::{had, parts_of};
 use coflow_units::MAX_TEXT;
 use std::alloc::Global;
-use std::test::Fail;
+use std::process::Abort;
 use trace_reader::read_trace;
 use weights::read_weights;
 
 const TWO_COFLOWS: &[u8] = b"1 2\n1 0 1 0 0\n2 0 1 0 0\n";
 
 /// The weights that a text gives, or its first fault.
-fn answer(alloc: Global, bytes: &[u8]) -> Result<String, Fail> {
-    if bytes.len() > MAX_TEXT {
-        return Err(Fail::new("a long text"));
+fn answer(rt: &impl Abort, alloc: Global, bytes: &[u8]) -> String {
+    assert!(rt; bytes.len() <= MAX_TEXT);
+    let trace = had(rt, read_trace(alloc, TWO_COFLOWS));
+    match read_weights(alloc, bytes, &trace) {
+        Ok(weights) => told(rt, alloc, weights.as_slice()),
+        Err(fault) => had(rt, format!(in alloc; "{fault}")),
     }
-    let trace = read_trace(alloc, TWO_COFLOWS)?;
-    let weights = match read_weights(alloc, bytes, &trace) {
-        Ok(weights) => weights,
-        Err(fault) => return Ok(format!(in alloc; "{fault}")?),
-    };
-    let mut text = String::from_str(alloc, "weights")?;
-    for weight in weights.as_slice() {
-        write!(text, " {weight}")?;
+}
+
+/// Weights, one behind another.
+fn told(rt: &impl Abort, alloc: Global, weights: &[u64]) -> String {
+    let mut text = had(rt, String::from_str(alloc, "weights"));
+    for weight in weights {
+        had(rt, write!(text, " {weight}"));
     }
-    Ok(text)
+    text
 }
 
 /// Texts, and their weights or first faults. A `/` stands for a line end.
@@ -53,14 +55,10 @@ x 1 => line 1: field 1 is not as it should be
 1 2/2 2 x/9 1 => line 2: field 3 is not as it should be";
 
 #[test]
-fn weights_and_first_faults(rt: HostRuntime) -> Result<(), Fail> {
+fn weights_and_first_faults(rt: HostRuntime) {
     for row in ROWS.split('\n') {
-        let (text, want) = parts_of(rt.alloc(), row)?;
-        assert_eq!(rt;
-            answer(rt.alloc(), text.as_bytes())?.as_str(),
-            want,
-            "{row}"
-        );
+        let (text, want) = parts_of(&rt, rt.alloc(), row);
+        let have = answer(&rt, rt.alloc(), text.as_bytes());
+        assert_eq!(rt; have.as_str(), want, "{row}");
     }
-    Ok(())
 }

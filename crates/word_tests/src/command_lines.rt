@@ -1,50 +1,73 @@
 //! Command lines.
-use crate::rows::parts_of;
-use command_words::{Job, read_words};
+use command_words::{Job, Options, read_words};
 use std::alloc::Global;
-use std::test::Fail;
+use std::fmt::Debug;
+use std::process::Abort;
 
-/// The program's name, and the words between the spaces of a line.
-fn cut(alloc: Global, line: &str) -> Result<Vec<String>, Fail> {
-    let mut words: Vec<String> = Vec::new(alloc);
-    words.push(String::from_str(alloc, "sincronia")?)?;
-    for word in line.split(' ') {
-        words.push(String::from_str(alloc, word)?)?;
+/// The value of an answer. A test that finds no memory stops at once.
+fn had<T, E: Debug + Drop>(rt: &impl Abort, answer: Result<T, E>) -> T {
+    match answer {
+        Ok(value) => value,
+        Err(fault) => panic!(rt; "{fault:?}"),
     }
-    Ok(words)
+}
+
+/// What the program's name and the words between the spaces of a line say.
+fn answer(rt: &impl Abort, alloc: Global, line: &str) -> String {
+    let mut words: Vec<String> = Vec::new(alloc);
+    push_word(rt, alloc, &mut words, "sincronia");
+    for word in line.split(' ') {
+        push_word(rt, alloc, &mut words, word);
+    }
+    said(rt, alloc, &words)
+}
+
+/// Appends a word.
+fn push_word(rt: &impl Abort, alloc: Global, words: &mut Vec<String>, word: &str) {
+    let word = had(rt, String::from_str(alloc, word));
+    let Ok(()) = words.push(word) else {
+        panic!(rt; "no memory");
+    };
+}
+
+/// What words say: the job, and the options behind it; or their fault.
+fn said(rt: &impl Abort, alloc: Global, words: &[String]) -> String {
+    match read_words(alloc, words) {
+        Ok(said) => {
+            let mut text = job_text(rt, alloc, said.job);
+            tell_options(rt, &mut text, said.options);
+            text
+        }
+        Err(fault) => had(rt, format!(in alloc; "{fault}")),
+    }
 }
 
 /// A job: its command, with the names or the number behind it, `-` where there is no second one.
-fn job_text(alloc: Global, job: Job<'_>) -> Result<String, Fail> {
+fn job_text(rt: &impl Abort, alloc: Global, job: Job<'_>) -> String {
     let text = match job {
-        Job::Plan { trace } => format!(in alloc; "Plan {trace} -")?,
-        Job::Check { trace, report } => format!(in alloc; "Check {trace} {report}")?,
-        Job::Make { seed } => format!(in alloc; "Make {seed} -")?,
-        Job::Compare { trace } => format!(in alloc; "Compare {trace} -")?,
-        Job::Classes { trace } => format!(in alloc; "Classes {trace} -")?,
+        Job::Plan { trace } => format!(in alloc; "Plan {trace} -"),
+        Job::Check { trace, report } => format!(in alloc; "Check {trace} {report}"),
+        Job::Make { seed } => format!(in alloc; "Make {seed} -"),
+        Job::Compare { trace } => format!(in alloc; "Compare {trace} -"),
+        Job::Classes { trace } => format!(in alloc; "Classes {trace} -"),
     };
-    Ok(text)
+    had(rt, text)
 }
 
-/// What a line says: its job, the weights, `-` where there are none, and the values of `--unit`, `--agents`, `--epoch`, `--run`, `--slot-ms` and `--classes`;
-/// or its fault.
-fn answer(alloc: Global, words: &[String]) -> Result<String, Fail> {
-    match read_words(alloc, words) {
-        Ok(said) => {
-            let job = job_text(alloc, said.job)?;
-            let options = said.options;
-            let weights = options.weights.unwrap_or("-");
-            Ok(format!(in alloc;
-                "{job} {weights} {} {} {} {} {} {}",
-                options.unit,
-                options.agents,
-                options.epoch,
-                options.run,
-                options.slot_ms,
-                options.classes
-            )?)
-        }
-        Err(fault) => Ok(format!(in alloc; "{fault}")?),
+/// Adds the weights, `-` where there are none, and the values of `--unit`, `--agents`, `--epoch`, `--run`, `--slot-ms` and `--classes`.
+fn tell_options(rt: &impl Abort, text: &mut String, options: Options<'_>) {
+    let weights = options.weights.unwrap_or("-");
+    let values = [
+        options.unit,
+        options.agents,
+        options.epoch,
+        options.run,
+        options.slot_ms,
+        options.classes,
+    ];
+    had(rt, write!(text, " {weights}"));
+    for value in values {
+        had(rt, write!(text, " {value}"));
     }
 }
 
@@ -89,13 +112,14 @@ classes t --classes 1 => Classes t - - 1 4 1024 1 8 1
 plan t --classes 02 => Plan t - - 1 4 1024 1 8 2";
 
 #[test]
-fn lines_that_are_read(rt: HostRuntime) -> Result<(), Fail> {
+fn lines_that_are_read(rt: HostRuntime) {
     for row in READ.split('\n') {
-        let (line, want) = parts_of(rt.alloc(), row)?;
-        let words = cut(rt.alloc(), line.as_str())?;
-        assert_eq!(rt; answer(rt.alloc(), &words)?.as_str(), want, "{row}");
+        let Some((line, want)) = row.split_once(" => ") else {
+            panic!(&rt; "a row without an arrow");
+        };
+        let have = answer(&rt, rt.alloc(), line);
+        assert_eq!(rt; have.as_str(), want, "{row}");
     }
-    Ok(())
 }
 
 /// Lines that are refused, one behind another.
@@ -179,26 +203,14 @@ classes t --classes 1 --classes 1
 plan t --classes 65";
 
 #[test]
-fn lines_that_are_refused(rt: HostRuntime) -> Result<(), Fail> {
-    for line in REFUSED.split('\n') {
-        let words = cut(rt.alloc(), line)?;
-        assert_eq!(rt;
-            answer(rt.alloc(), &words)?.as_str(),
-            "the words are no command line",
-            "{line}"
-        );
-    }
+fn lines_that_are_refused(rt: HostRuntime) {
+    let want = "the words are no command line";
     // a word that is empty, and no words at all
-    for line in ["", " ", "plan t -- ", "plan t --weights "] {
-        let words = cut(rt.alloc(), line)?;
-        assert_eq!(rt;
-            answer(rt.alloc(), &words)?.as_str(),
-            "the words are no command line"
-        );
+    let empty = ["", " ", "plan t -- ", "plan t --weights "];
+    for line in REFUSED.split('\n').chain(empty) {
+        let have = answer(&rt, rt.alloc(), line);
+        assert_eq!(rt; have.as_str(), want, "{line}");
     }
-    assert_eq!(rt;
-        answer(rt.alloc(), &[])?.as_str(),
-        "the words are no command line"
-    );
-    Ok(())
+    let have = said(&rt, rt.alloc(), &[]);
+    assert_eq!(rt; have.as_str(), want);
 }

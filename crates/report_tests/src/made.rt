@@ -1,11 +1,11 @@
 //! Made workloads and their summary.
+use crate::rows::had;
 use report::{Made, write_made};
-use std::test::Fail;
 use workload::made;
 
 /// How the trace and the weights of some seeds begin and end, by the rule.
 #[test]
-fn texts_of_seeds(rt: HostRuntime) -> Result<(), Fail> {
+fn texts_of_seeds(rt: HostRuntime) {
     for (seed, trace_start, trace_end, weights_start, weights_end) in [
         (
             0,
@@ -29,18 +29,19 @@ fn texts_of_seeds(rt: HostRuntime) -> Result<(), Fail> {
             "\n200 6\n",
         ),
     ] {
-        let made = made(rt.alloc(), seed)?;
+        let Ok(made) = made(rt.alloc(), seed) else {
+            panic!(&rt; "no memory");
+        };
         let (trace, weights) = (made.trace.as_slice(), made.weights.as_slice());
         assert!(rt; trace.starts_with(trace_start.as_bytes()));
         assert!(rt; trace.ends_with(trace_end.as_bytes()));
         assert!(rt; weights.starts_with(weights_start.as_bytes()));
         assert!(rt; weights.ends_with(weights_end.as_bytes()));
     }
-    Ok(())
 }
 
 #[test]
-fn summary(rt: HostRuntime) -> Result<(), Fail> {
+fn summary(rt: HostRuntime) {
     let made = Made {
         seed: 7,
         flows: 1_200,
@@ -51,7 +52,6 @@ fn summary(rt: HostRuntime) -> Result<(), Fail> {
     };
     let want =
         b"sincronia make 7\ncoflows 200 flows 1200 units 10305\nbound 908070\nslack 16\ncost 340282366920938463463374607431768211455\ncheck yes\nend\n";
-    let text = write_made(rt.alloc(), &made)?;
+    let text = had(&rt, write_made(rt.alloc(), &made));
     assert!(rt; text.as_slice() == want.as_slice());
-    Ok(())
 }

@@ -1,22 +1,20 @@
 //! Texts of printed journals.
-use crate::rows::parts_of;
+use crate::rows::{had, parts_of};
 use coflow_units::MAX_TEXT;
 use live_text::{EntryLine, PullLine, Said, Word, read_live, write_live};
 use std::alloc::Global;
-use std::test::Fail;
+use std::process::Abort;
 
 /// A text that is read and written as it was tells `read`, and another one the first line that is wrong.
-fn answer(alloc: Global, bytes: &[u8]) -> Result<String, Fail> {
-    if bytes.len() > MAX_TEXT {
-        return Err(Fail::new("a long text"));
-    }
+fn answer(rt: &impl Abort, alloc: Global, bytes: &[u8]) -> String {
+    assert!(rt; bytes.len() <= MAX_TEXT);
     match read_live(alloc, bytes) {
         Ok(live) => {
-            let again = write_live(alloc, &live)?;
-            let same = again.as_slice() == bytes;
-            Ok(format!(in alloc; "{}", if same { "read" } else { "written otherwise" })?)
+            let again = had(rt, write_live(alloc, &live));
+            assert!(rt; again.as_slice() == bytes);
+            had(rt, String::from_str(alloc, "read"))
         }
-        Err(fault) => Ok(format!(in alloc; "{fault}")?),
+        Err(fault) => had(rt, format!(in alloc; "{fault}")),
     }
 }
 
@@ -38,9 +36,9 @@ end
 ";
 
 #[test]
-fn the_worked_text_is_read(rt: HostRuntime) -> Result<(), Fail> {
-    assert_eq!(rt; answer(rt.alloc(), WORKED)?.as_str(), "read");
-    let live = read_live(rt.alloc(), WORKED)?;
+fn the_worked_text_is_read(rt: HostRuntime) {
+    assert_eq!(rt; answer(&rt, rt.alloc(), WORKED).as_str(), "read");
+    let live = had(&rt, read_live(rt.alloc(), WORKED));
     let opened = EntryLine {
         who: 0,
         word: Word::Open(4),
@@ -60,7 +58,6 @@ fn the_worked_text_is_read(rt: HostRuntime) -> Result<(), Fail> {
         assert_eq!(rt; order.as_slice(), [2, 1].as_slice());
     }
     assert_eq!(rt; live.runs.as_slice().len(), 2);
-    Ok(())
 }
 
 /// What stands behind the first line, and how it is read. A `/` stands for a line end.
@@ -106,19 +103,13 @@ run 1 0/run 2 0/ => line 3
 run 1 0/pull 1 4 7 0 0/ => line 3";
 
 #[test]
-fn texts_and_their_first_bad_lines(rt: HostRuntime) -> Result<(), Fail> {
+fn texts_and_their_first_bad_lines(rt: HostRuntime) {
     for row in ROWS.split('\n') {
-        let (behind, want) = parts_of(rt.alloc(), row)?;
-        let text = format!(in rt.alloc(); "sincronia live 1\n{behind}")?;
-        assert_eq!(rt;
-            answer(rt.alloc(), text.as_bytes())?.as_str(),
-            want,
-            "{row}"
-        );
+        let (behind, want) = parts_of(&rt, rt.alloc(), row);
+        let text = had(&rt, format!(in rt.alloc(); "sincronia live 1\n{behind}"));
+        let have = answer(&rt, rt.alloc(), text.as_bytes());
+        assert_eq!(rt; have.as_str(), want, "{row}");
     }
-    assert_eq!(rt;
-        answer(rt.alloc(), b"sincronia live 2\nend\n")?.as_str(),
-        "line 1"
-    );
-    Ok(())
+    let have = answer(&rt, rt.alloc(), b"sincronia live 2\nend\n");
+    assert_eq!(rt; have.as_str(), "line 1");
 }

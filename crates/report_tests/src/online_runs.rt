@@ -1,27 +1,21 @@
 //! Texts of online runs.
-use crate::rows::parts_of;
+use crate::rows::{had, parts_of};
 use coflow_units::MAX_TEXT;
 use online_reader::{is_online, read_online};
 use online_text::write_online;
-use report::ReportFault;
 use std::alloc::Global;
-use std::test::Fail;
+use std::process::Abort;
 
-/// What a reader answers: the text as it is written again, or the first bad line.
-fn answer(alloc: Global, bytes: &[u8]) -> Result<String, Fail> {
-    if bytes.len() > MAX_TEXT {
-        return Err(Fail::new("a long text"));
-    }
+/// A text that is read and written as it was tells `read`, and another one the first line that is wrong.
+fn answer(rt: &impl Abort, alloc: Global, bytes: &[u8]) -> String {
+    assert!(rt; bytes.len() <= MAX_TEXT);
     match read_online(alloc, bytes) {
         Ok(online) => {
-            let again = write_online(alloc, &online)?;
-            if again.as_slice() == bytes {
-                Ok(String::from_str(alloc, "read")?)
-            } else {
-                Ok(String::from_str(alloc, "written otherwise")?)
-            }
+            let again = had(rt, write_online(alloc, &online));
+            assert!(rt; again.as_slice() == bytes);
+            had(rt, String::from_str(alloc, "read"))
         }
-        Err(fault) => Ok(format!(in alloc; "{fault}")?),
+        Err(fault) => had(rt, format!(in alloc; "{fault}")),
     }
 }
 
@@ -46,18 +40,19 @@ run 2 0
 end
 ";
 
-/// The run of two coflows with other words in place of its line with this number.
-fn edited(alloc: Global, number: &str, put: &str) -> Result<String, Fail> {
+/// The answer to the run of two coflows with other words in place of its line with this number.
+fn edited(rt: &impl Abort, alloc: Global, number: &str, put: &str) -> String {
     let mut text = String::new(alloc);
     for (this, line) in (1..100).zip(TWO_COFLOWS.lines()) {
-        if format!(in alloc; "{this}")?.as_str() == number {
-            text.push_str(put)?;
+        let this = had(rt, format!(in alloc; "{this}"));
+        if this.as_str() == number {
+            had(rt, text.push_str(put));
         } else {
-            text.push_str(line)?;
-            text.push_str("\n")?;
+            had(rt, text.push_str(line));
+            had(rt, text.push_str("\n"));
         }
     }
-    Ok(text)
+    answer(rt, alloc, text.as_bytes())
 }
 
 /// A line's number, what is put in its place, in which a `/` stands for a line end, and the answer to the text.
@@ -117,25 +112,20 @@ const EDITS: &str = "1: => line 1
 18:end/end/ => line 19";
 
 #[test]
-fn edited_texts(rt: HostRuntime) -> Result<(), Fail> {
+fn edited_texts(rt: HostRuntime) {
     for row in EDITS.split('\n') {
-        let (edit, want) = parts_of(rt.alloc(), row)?;
+        let (edit, want) = parts_of(&rt, rt.alloc(), row);
         let Some((number, put)) = edit.split_once(':') else {
-            return Err(Fail::new("an edit without a line"));
+            panic!(&rt; "an edit without a line");
         };
-        let text = edited(rt.alloc(), number, put)?;
-        assert_eq!(rt;
-            answer(rt.alloc(), text.as_bytes())?.as_str(),
-            want,
-            "{row}"
-        );
+        let have = edited(&rt, rt.alloc(), number, put);
+        assert_eq!(rt; have.as_str(), want, "{row}");
     }
-    Ok(())
 }
 
 /// Whole texts, whether each begins as that of an online run does, and the answers. The third is that of a trace without coflows.
 #[test]
-fn whole_texts(rt: HostRuntime) -> Result<(), Fail> {
+fn whole_texts(rt: HostRuntime) {
     for (text, begins, want) in [
         ("", false, "line 1"),
         ("sincronia online 2", false, "line 1"),
@@ -153,11 +143,7 @@ fn whole_texts(rt: HostRuntime) -> Result<(), Fail> {
         (TWO_COFLOWS, true, "read"),
     ] {
         assert_eq!(rt; is_online(text.as_bytes()), begins, "{text}");
-        assert_eq!(rt;
-            answer(rt.alloc(), text.as_bytes())?.as_str(),
-            want,
-            "{text}"
-        );
+        let have = answer(&rt, rt.alloc(), text.as_bytes());
+        assert_eq!(rt; have.as_str(), want, "{text}");
     }
-    Ok(())
 }

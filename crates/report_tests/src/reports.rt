@@ -1,22 +1,21 @@
 //! Texts of reports, of both versions.
-ghost use Rattle.std.specs.Prelude.{IfOk};
 ghost use Rattle.report.specs.Report.{HasWeights};
 
+use crate::rows::had;
 use coflow_units::{Items, MAX_TEXT, Port, Run, Side};
 use report::{PlaceLine, Report, ReportFault, read_report, write_report};
-use std::alloc::{AllocError, Global};
-use std::test::Fail;
+use std::alloc::Global;
+use std::process::Abort;
 
-/// A place of each side with the greatest numbers, slots that are idle, and slots that are not.
-fn greatest(alloc: Global) -> Result<Report, AllocError>
-    ensures { IfOk result (λ report. HasWeights report) }
-{
+/// A place of each side with the greatest numbers.
+fn greatest_places() -> [PlaceLine; 2] {
+    let port = Port {
+        side: Side::Egress,
+        number: 1024,
+    };
     let place = PlaceLine {
         id: u32::MAX,
-        port: Port {
-            side: Side::Egress,
-            number: 1024,
-        },
+        port,
         y: u128::MAX,
         done: u64::MAX,
     };
@@ -24,22 +23,44 @@ fn greatest(alloc: Global) -> Result<Report, AllocError>
         side: Side::Ingress,
         number: 0,
     };
+    [place, PlaceLine { port, ..place }]
+}
+
+/// Slots that are idle, and slots that are not.
+fn greatest_runs(rt: &impl Abort, alloc: Global) -> Items<Run> {
     let idle = Run {
         length: 3,
         flows: Items::from_vec(Vec::new(alloc)),
     };
     let busy = Run {
         length: 2_199_023_255_548,
-        flows: Items::from_vec(Vec::from_slice(alloc, &[0, 7])?),
+        flows: Items::from_vec(had(rt, Vec::from_slice(alloc, &[0, 7]))),
     };
-    Ok(Report {
-        places: Items::from_vec(Vec::from_slice(alloc, &[place, PlaceLine { port, ..place }])?),
-        weights: Some(Items::from_vec(Vec::from_slice(alloc, &[4_294_967_296, 1])?)),
+    let Ok(runs) = vec![in alloc; idle, busy] else {
+        panic!(rt; "no memory");
+    };
+    Items::from_vec(runs)
+}
+
+/// A report with the greatest numbers.
+fn greatest(rt: &impl Abort, alloc: Global) -> Report
+    ensures { HasWeights result }
+{
+    let runs = greatest_runs(rt, alloc);
+    let Ok(places) = Vec::from_slice(alloc, &greatest_places()) else {
+        panic!(rt; "no memory");
+    };
+    let Ok(weights) = Vec::from_slice(alloc, &[4_294_967_296, 1]) else {
+        panic!(rt; "no memory");
+    };
+    Report {
+        places: Items::from_vec(places),
+        weights: Some(Items::from_vec(weights)),
         bound: 1,
         slack: u128::MAX,
         cost: 3,
-        runs: Items::from_vec(vec![in alloc; idle, busy]?),
-    })
+        runs,
+    }
 }
 
 const GREATEST: &str = "sincronia 2
@@ -54,36 +75,30 @@ end
 ";
 
 #[test]
-fn writes_and_reads_the_greatest_numbers(rt: HostRuntime) -> Result<(), Fail> {
-    let report = greatest(rt.alloc())?;
-    let text = write_report(rt.alloc(), &report)?;
+fn writes_and_reads_the_greatest_numbers(rt: HostRuntime) {
+    let report = greatest(&rt, rt.alloc());
+    let text = had(&rt, write_report(rt.alloc(), &report));
     assert!(rt; text.as_slice() == GREATEST.as_bytes());
-    assert_eq!(rt; refused_at(rt.alloc(), GREATEST)?, 0);
-    Ok(())
+    assert_eq!(rt; refused_at(&rt, rt.alloc(), GREATEST), 0);
 }
 
 /// The line at which a text is refused, or 0 where it is read and written as it was.
-fn refused_at(alloc: Global, text: &str) -> Result<u32, Fail> {
-    if text.len() > MAX_TEXT {
-        return Err(Fail::new("a long text"));
-    }
+fn refused_at(rt: &impl Abort, alloc: Global, text: &str) -> u32 {
+    assert!(rt; text.len() <= MAX_TEXT);
     match read_report(alloc, text.as_bytes()) {
         Ok(report) => {
-            let again = write_report(alloc, &report)?;
-            if again.as_slice() == text.as_bytes() {
-                Ok(0)
-            } else {
-                Err(Fail::new("written otherwise"))
-            }
+            let again = had(rt, write_report(alloc, &report));
+            assert!(rt; again.as_slice() == text.as_bytes());
+            0
         }
-        Err(ReportFault::BadText { line }) => Ok(line),
-        Err(fault) => Err(fault.into()),
+        Err(ReportFault::BadText { line }) => line,
+        Err(fault) => panic!(rt; "{fault:?}"),
     }
 }
 
 /// Short texts, with the line at which each is refused. The last lines are those of a report without places.
 #[test]
-fn texts_and_their_first_bad_lines(rt: HostRuntime) -> Result<(), Fail> {
+fn texts_and_their_first_bad_lines(rt: HostRuntime) {
     let starts = [
         ("\n", 1),
         ("sincronia 3\n", 1),
@@ -105,7 +120,7 @@ fn texts_and_their_first_bad_lines(rt: HostRuntime) -> Result<(), Fail> {
         ("sincronia 1\nbound 0\nslack 0\ncost +0\n", 4),
     ];
     for (text, line) in starts {
-        assert_eq!(rt; refused_at(rt.alloc(), text)?, line, "{text}");
+        assert_eq!(rt; refused_at(&rt, rt.alloc(), text), line, "{text}");
     }
     let ends = [
         ("end\n", 0),
@@ -123,34 +138,35 @@ fn texts_and_their_first_bad_lines(rt: HostRuntime) -> Result<(), Fail> {
         ("run 1 0\nrun 2 0\nend\n", 6),
     ];
     for (text, line) in ends {
-        let text = format!(in rt.alloc(); "sincronia 1\nbound 0\nslack 0\ncost 0\n{text}")?;
-        assert_eq!(rt; refused_at(rt.alloc(), text.as_str())?, line, "{text}");
+        let text = format!(in rt.alloc(); "sincronia 1\nbound 0\nslack 0\ncost 0\n{text}");
+        let text = had(&rt, text);
+        let have = refused_at(&rt, rt.alloc(), text.as_str());
+        assert_eq!(rt; have, line, "{text}");
     }
-    Ok(())
 }
 
 /// The plan of two coflows that share both ports, of 3 units and of 1 unit.
 const TWO_COFLOWS: &str =
     "sincronia 1\nplace 1 2 in 0 733007751851 1\nplace 2 1 in 0 366503875925 4\nbound 5\nslack 1\ncost 5\nrun 1 1\nrun 3 0\nend\n";
 
-/// The plan of two coflows with other words in place of its line with this number.
-fn edited(alloc: Global, number: u32, put: &str) -> Result<String, Fail> {
+/// The line at which the plan of two coflows is refused that has other words in place of its line with this number.
+fn edited(rt: &impl Abort, alloc: Global, number: u32, put: &str) -> u32 {
     let mut text = String::new(alloc);
     for (line, this) in TWO_COFLOWS.lines().zip(1..10) {
         if this == number {
-            text.push_str(put)?;
+            had(rt, text.push_str(put));
         } else {
-            text.push_str(line)?;
-            text.push_str("\n")?;
+            had(rt, text.push_str(line));
+            had(rt, text.push_str("\n"));
         }
     }
-    Ok(text)
+    refused_at(rt, alloc, text.as_str())
 }
 
 /// Lines left out, doubled or cut, and numbers with a leading zero or past their limits, with the line at which the text is refused.
 #[test]
-fn edited_texts(rt: HostRuntime) -> Result<(), Fail> {
-    assert_eq!(rt; refused_at(rt.alloc(), TWO_COFLOWS)?, 0);
+fn edited_texts(rt: HostRuntime) {
+    assert_eq!(rt; refused_at(&rt, rt.alloc(), TWO_COFLOWS), 0);
     for (number, put, line) in [
         (2, "", 2),
         (3, "", 0),
@@ -183,12 +199,7 @@ fn edited_texts(rt: HostRuntime) -> Result<(), Fail> {
         (5, "slack 340282366920938463463374607431768211456\n", 5),
         (6, "cost 340282366920938463463374607431768211456\n", 6),
     ] {
-        let text = edited(rt.alloc(), number, put)?;
-        assert_eq!(rt;
-            refused_at(rt.alloc(), text.as_str())?,
-            line,
-            "line {number}: {put}"
-        );
+        let have = edited(&rt, rt.alloc(), number, put);
+        assert_eq!(rt; have, line, "line {number}: {put}");
     }
-    Ok(())
 }
