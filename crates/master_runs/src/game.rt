@@ -1,4 +1,6 @@
 //! Masters and worlds that play the lines of a list.
+ghost use Rattle.std.specs.Prelude.{◌≡◌};
+
 use crate::line::{Said, said_of};
 use crate::stop::Stop;
 use crate::telling::{tell_closed, tell_journal, tell_master, tell_sent, tell_world};
@@ -16,14 +18,34 @@ pub fn play_master(
     alloc: Global,
     master: &mut Master,
     lines: &mut Lines<'_>,
-) -> Result<(), Stop> {
+) -> Result<(), Stop>
+    ensures opening { master.new.opening ≡ master.old.opening }
+{
     let mut tally = RunTally::new(alloc);
+    play_lines(rt, alloc, master, &mut tally, lines)
+}
+
+/// A master answers the commands of the lines, and the tally takes them down. Then what they tell is printed.
+fn play_lines(
+    rt: &HostRuntime,
+    alloc: Global,
+    master: &mut Master,
+    tally: &mut RunTally,
+    lines: &mut Lines<'_>,
+) -> Result<(), Stop>
+    ensures opening { master.new.opening ≡ master.old.opening }
+{
     while let Some(mut fields) = lines.next() {
-        play_line(rt, alloc, master, &mut tally, &mut fields)?;
+        play_line(rt, alloc, master, tally, &mut fields)?;
     }
+    Ok(tell_played(rt, master, tally)?)
+}
+
+/// Prints what a master and its tally tell.
+fn tell_played(rt: &HostRuntime, master: &Master, tally: &RunTally) -> io::Result<()> {
     tell_master(rt, master)?;
     tell_closed(rt, tally.closed())?;
-    Ok(tell_journal(rt, master)?)
+    tell_journal(rt, master)
 }
 
 /// A master answers what a line says, and the tally takes it down.
@@ -33,7 +55,9 @@ fn play_line(
     master: &mut Master,
     tally: &mut RunTally,
     fields: &mut Fields<'_>,
-) -> Result<(), Stop> {
+) -> Result<(), Stop>
+    ensures opening { master.new.opening ≡ master.old.opening }
+{
     let line = fields.line();
     let said = said_of(fields)?;
     let entries = master.journal().len();
@@ -60,7 +84,9 @@ fn take_down(
 }
 
 /// A master answers what the line with this number says.
-fn answer(rt: &HostRuntime, master: &mut Master, line: u32, said: Said) -> Result<(), Stop> {
+fn answer(rt: &HostRuntime, master: &mut Master, line: u32, said: Said) -> Result<(), Stop>
+    ensures opening { master.new.opening ≡ master.old.opening }
+{
     match said {
         Said::Tell => Ok(tell_master(rt, master)?),
         Said::Step(Event::Ask { who, command }) => Ok(ask(rt, master, who, command)?),
@@ -69,7 +95,9 @@ fn answer(rt: &HostRuntime, master: &mut Master, line: u32, said: Said) -> Resul
 }
 
 /// Asks a command that is in range, and prints the reply.
-fn ask(rt: &HostRuntime, master: &mut Master, who: u32, command: Command) -> io::Result<()> {
+fn ask(rt: &HostRuntime, master: &mut Master, who: u32, command: Command) -> io::Result<()>
+    ensures opening { master.new.opening ≡ master.old.opening }
+{
     if !master.is_in_range(command) {
         return println!(rt; "out of range");
     }
@@ -78,7 +106,11 @@ fn ask(rt: &HostRuntime, master: &mut Master, who: u32, command: Command) -> io:
 }
 
 /// A world takes the steps of the lines.
-pub fn play_world(rt: &HostRuntime, world: &mut World, lines: &mut Lines<'_>) -> Result<(), Stop> {
+pub(crate) fn play_world(
+    rt: &HostRuntime,
+    world: &mut World,
+    lines: &mut Lines<'_>,
+) -> Result<(), Stop> {
     while let Some(mut fields) = lines.next() {
         let said = said_of(&mut fields)?;
         take(rt, world, said)?;

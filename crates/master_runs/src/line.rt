@@ -1,4 +1,9 @@
 //! What a line of a list says.
+ghost use Rattle.std.specs.Prelude.{◌≡◌, OnOk, length};
+ghost use Rattle.text_fields.specs.Fields.{field_at};
+ghost use Rattle.text_fields.specs.Lines.{without_first};
+ghost use Rattle.text_fields.specs.Numbers.{IsNumberOf};
+
 use crate::stop::Stop;
 use master_core::Command;
 use std::str;
@@ -15,7 +20,9 @@ pub enum Said {
 }
 
 /// What the line says. The error is the number of a line that says nothing.
-pub fn said_of(fields: &mut Fields<'_>) -> Result<Said, Stop> {
+pub fn said_of(fields: &mut Fields<'_>) -> Result<Said, Stop>
+    ensures end { OnOk result (length fields.new.texts ≡ 0) }
+{
     let line = fields.line();
     let said = said_first(fields);
     match said {
@@ -25,17 +32,24 @@ pub fn said_of(fields: &mut Fields<'_>) -> Result<Said, Stop> {
 }
 
 /// The word of the next field. It is empty where no field is left, or where it is not UTF-8.
-pub fn word<'a>(fields: &mut Fields<'a>) -> &'a str {
+pub fn word<'a>(fields: &mut Fields<'a>) -> &'a str
+    ensures left { fields.new ≡ without_first fields.old }
+{
     str::from_utf8(fields.next()).unwrap_or("")
 }
 
 /// The number of the next field. A greater one than 2^64 - 1 is read as that.
-pub fn number(fields: &mut Fields<'_>) -> Option<u64> {
+pub fn number(fields: &mut Fields<'_>) -> Option<u64>
+    ensures number { IsNumberOf (field_at fields.old.texts 0) result }
+    ensures left { fields.new ≡ without_first fields.old }
+{
     number_of(fields.next())
 }
 
 /// The number of the next field, below 2^32.
-pub fn index(fields: &mut Fields<'_>) -> Option<u32> {
+pub fn index(fields: &mut Fields<'_>) -> Option<u32>
+    ensures left { fields.new ≡ without_first fields.old }
+{
     u32::try_from(number(fields)?).ok()
 }
 

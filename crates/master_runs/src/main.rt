@@ -11,16 +11,20 @@
 
 mod game;
 mod line;
+mod setting;
 mod stop;
 mod telling;
 
-ghost use Rattle.std.specs.Prelude.{◌≡◌, ◌≤◌, [], All, IfOk, IfSome, vec_len};
+ghost use Rattle.std.specs.Prelude.{◌≡◌, ◌≤◌, [], All, IfOk, length, vec_len};
+ghost use Rattle.coflow_units.specs.Trace.{IsTrace};
+ghost use Rattle.master_runs.specs.declared.setting.TheConstants.{MAX_LIMIT};
 ghost use Rattle.coflow_units.specs.declared.limits.TheConstants.{MAX_TEXT, MAX_WEIGHT};
 
 use crate::game::{play_master, play_world};
-use crate::line::{index, number, word};
+use crate::line::{index, word};
+use crate::setting::{Setting, setting_of};
 use crate::stop::Stop;
-use coflow_units::{Items, MAX_TEXT, MAX_WEIGHT};
+use coflow_units::{Items, MAX_TEXT, NoMemory, Trace};
 use flow_table::Table;
 use master_core::Master;
 use outside::{DiskShelf, Place4, Shelf, read_all};
@@ -30,9 +34,6 @@ use std::process::ExitCode;
 use text_fields::{Fields, Lines};
 use trace_reader::read_trace;
 use world_model::World;
-
-/// The greatest limit of a journal.
-const MAX_LIMIT: u32 = 8_388_608;
 
 fn main(rt: HostRuntime) -> ExitCode {
     match run(&rt) {
@@ -54,16 +55,27 @@ fn run(rt: &HostRuntime) -> Result<(), Stop> {
     let Ok(words) = words.collect::<Vec<String>>(alloc) else {
         return Err(Stop::NoMemory);
     };
+    let (text, table) = files_of(alloc, &mut DiskShelf::new(*rt), &words)?;
+    play(rt, alloc, table, &mut Lines::new(&text))
+}
+
+/// The bytes of the list, and the table of the trace, whose files the words name.
+fn files_of<H: Shelf>(
+    alloc: Global,
+    shelf: &mut H,
+    words: &[String],
+) -> Result<(Vec<u8>, Table), Stop>
+    ensures { IfOk result (λ files. vec_len files.0 ≤ MAX_TEXT) }
+{
     let Some(trace) = words.get(1) else {
         return Err(Stop::Usage);
     };
     let Some(list) = words.get(2) else {
         return Err(Stop::Usage);
     };
-    let mut shelf = DiskShelf::new(*rt);
-    let table = table_of(alloc, &mut shelf, trace)?;
-    let text = bytes_of(alloc, &mut shelf, Place4::Script, list)?;
-    play(rt, alloc, table, &mut Lines::new(&text))
+    let text = bytes_of(alloc, shelf, Place4::Script, list)?;
+    let table = table_of(alloc, shelf, trace)?;
+    Ok((text, table))
 }
 
 /// The bytes of a file, at most 2^26.
@@ -86,13 +98,21 @@ fn bytes_of<H: Shelf>(
 
 /// The table of a file's trace, in units of a megabyte.
 fn table_of<H: Shelf>(alloc: Global, shelf: &mut H, name: &str) -> Result<Table, Stop> {
-    let bytes = bytes_of(alloc, shelf, Place4::Trace, name)?;
-    let Ok(trace) = read_trace(alloc, &bytes) else {
-        return Err(Stop::Trace);
-    };
+    let trace = trace_of(alloc, shelf, name)?;
     match Table::build(alloc, &trace, 1) {
         Ok(table) => Ok(table),
         Err(_) => Err(Stop::Table),
+    }
+}
+
+/// The trace of a file.
+fn trace_of<H: Shelf>(alloc: Global, shelf: &mut H, name: &str) -> Result<Trace, Stop>
+    ensures limits { IfOk result IsTrace }
+{
+    let bytes = bytes_of(alloc, shelf, Place4::Trace, name)?;
+    match read_trace(alloc, &bytes) {
+        Ok(trace) => Ok(trace),
+        Err(_) => Err(Stop::Trace),
     }
 }
 
@@ -116,56 +136,27 @@ fn play(rt: &HostRuntime, alloc: Global, table: Table, lines: &mut Lines<'_>) ->
 
 /// A new world of the master that comes next, and of the agents behind it.
 fn world_of(alloc: Global, table: Table, fields: &mut Fields<'_>) -> Result<World, Stop> {
-    let master = master_of(alloc, table, fields)?;
-    match index(fields) {
-        Some(agents) => Ok(World::new(alloc, master, agents)?),
-        None => Err(Stop::Line(1)),
-    }
+    let setting = setting_of(alloc, table.coflows(), fields)?;
+    let Some(agents) = index(fields) else {
+        return Err(Stop::Line(1));
+    };
+    let master = master_with(alloc, table, setting)?;
+    Ok(World::new(alloc, master, agents)?)
 }
 
 /// A master of the table with the limit and the weights that come next.
-fn master_of(alloc: Global, table: Table, fields: &mut Fields<'_>) -> Result<Master, Stop>
+fn master_of(alloc: Global, table: Table, fields: &mut Fields<'_>) -> Result<Master, Stop> {
+    let setting = setting_of(alloc, table.coflows(), fields)?;
+    Ok(master_with(alloc, table, setting)?)
+}
+
+/// A master of the table with this limit and these weights.
+fn master_with(alloc: Global, table: Table, setting: Setting) -> Result<Master, NoMemory>
+    requires limit { (1 ≤ setting.limit) × (setting.limit ≤ MAX_LIMIT) }
+    requires count { vec_len setting.weights ≡ length table.ids }
+    requires weights { All (λ w. (1 ≤ w) × (w ≤ MAX_WEIGHT)) setting.weights.items }
     ensures { IfOk result (λ m. m.journal ≡ []) }
 {
-    let Some(limit) = index(fields) else {
-        return Err(Stop::Line(1));
-    };
-    if limit < 1 {
-        return Err(Stop::Line(1));
-    }
-    if limit > MAX_LIMIT {
-        return Err(Stop::Line(1));
-    }
-    let weights = weights_of(alloc, table.coflows(), fields)?;
-    Ok(Master::new(alloc, table, Items::from_vec(weights), limit)?)
-}
-
-/// So many weights, which come next.
-fn weights_of(alloc: Global, coflows: u32, fields: &mut Fields<'_>) -> Result<Vec<u64>, Stop>
-    ensures len { IfOk result (λ weights. vec_len weights ≡ coflows) }
-    ensures fit { IfOk result (λ weights. All (λ w. (1 ≤ w) × (w ≤ MAX_WEIGHT)) weights.items) }
-{
-    let mut weights = Vec::new(alloc);
-    for coflow in 0..coflows {
-        let Some(weight) = weight(fields) else {
-            return Err(Stop::Weight(coflow));
-        };
-        weights.push(weight)?;
-    }
-    Ok(weights)
-}
-
-/// The weight that comes next, from 1 to 2^32.
-fn weight(fields: &mut Fields<'_>) -> Option<u64>
-    ensures some { IfSome result (λ w. 1 ≤ w) }
-    ensures most { IfSome result (λ w. w ≤ MAX_WEIGHT) }
-{
-    let weight = number(fields)?;
-    if weight < 1 {
-        return None;
-    }
-    if weight > MAX_WEIGHT {
-        return None;
-    }
-    Some(weight)
+    let Setting { limit, weights } = setting;
+    Master::new(alloc, table, Items::from_vec(weights), limit)
 }

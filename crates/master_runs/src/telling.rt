@@ -5,7 +5,7 @@ use std::io;
 use world_model::World;
 
 /// Prints what a master tells, but for its journal.
-pub fn tell_master(rt: &HostRuntime, master: &Master) -> io::Result<()> {
+pub(crate) fn tell_master(rt: &HostRuntime, master: &Master) -> io::Result<()> {
     tell_order(rt, master)?;
     tell_run(rt, master)?;
     tell_coflows(rt, master)?;
@@ -60,7 +60,7 @@ fn tell_ports(rt: &HostRuntime, master: &Master) -> io::Result<()> {
 }
 
 /// Prints closed runs: the first slot and the number of slots of each, and what it credits to each flow that it granted.
-pub fn tell_closed(rt: &HostRuntime, runs: &[CreditedRun]) -> io::Result<()> {
+pub(crate) fn tell_closed(rt: &HostRuntime, runs: &[CreditedRun]) -> io::Result<()> {
     for run in runs {
         println!(rt; "closed {} {}", run.first, run.slots)?;
         tell_credits(rt, run.credits.as_slice())?;
@@ -79,7 +79,7 @@ fn tell_credits(rt: &HostRuntime, credits: &[Credit]) -> io::Result<()> {
 }
 
 /// Prints the entries of a master's journal.
-pub fn tell_journal(rt: &HostRuntime, master: &Master) -> io::Result<()> {
+pub(crate) fn tell_journal(rt: &HostRuntime, master: &Master) -> io::Result<()> {
     for entry in master.journal() {
         println!(rt; "entry {} {:?} {:?}", entry.who, entry.command, entry.reply)?;
     }
@@ -87,7 +87,7 @@ pub fn tell_journal(rt: &HostRuntime, master: &Master) -> io::Result<()> {
 }
 
 /// Prints what a world tells, but for the journal and the runs that were sent.
-pub fn tell_world(rt: &HostRuntime, world: &World) -> io::Result<()> {
+pub(crate) fn tell_world(rt: &HostRuntime, world: &World) -> io::Result<()> {
     tell_master(rt, world.master())?;
     println!(rt; "agents {}", world.agents())?;
     for port in 0..world.master().table().ports() {
@@ -97,7 +97,7 @@ pub fn tell_world(rt: &HostRuntime, world: &World) -> io::Result<()> {
 }
 
 /// Prints the runs that the agents of a world sent.
-pub fn tell_sent(rt: &HostRuntime, world: &World) -> io::Result<()> {
+pub(crate) fn tell_sent(rt: &HostRuntime, world: &World) -> io::Result<()> {
     for run in world.sent() {
         println!(rt; "{:?}", run)?;
     }
