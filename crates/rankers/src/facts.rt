@@ -4,7 +4,7 @@ ghost use Rattle.std.specs.List.{slice_index_or};
 ghost use Rattle.coflow_units.specs.declared.fabric.Port.{Port};
 ghost use Rattle.coflow_units.specs.declared.limits.TheConstants.{MAX_WEIGHT};
 ghost use Rattle.flow_table.specs.Table.{IsTable};
-ghost use Rattle.port_load.specs.LoadTable.{load_at};
+ghost use Rattle.port_load.specs.LoadTable.{HasLoads, load_at};
 ghost use Rattle.port_load.specs.Bottleneck.{IsBottleneck};
 ghost use Rattle.rankers.specs.FactsTold.{IsBssiOrder, IsFacts, IsFactsOf, coflows_in};
 
@@ -56,10 +56,9 @@ impl Facts {
         ensures { IfOk result (λ facts. IsFactsOf table.now weights.now facts) }
     {
         let order = order_in(alloc, table, weights)?;
-        let loads = loads_of(alloc, table)?;
-        let bottlenecks = bottlenecks_of(alloc, &loads)?;
         let arrivals = arrivals_of(alloc, table)?;
         let weights = Vec::from_slice(alloc, weights)?;
+        let (loads, bottlenecks) = measured(alloc, table)?;
         Ok(Facts {
             weights,
             arrivals,
@@ -153,6 +152,20 @@ fn order_in(alloc: Global, table: &Table, weights: &[u64]) -> Result<Vec<u32>, N
     let order = order_of(alloc, table, weights)?;
     let coflows = coflows_of(alloc, order.places())?;
     Ok(coflows)
+}
+
+/// The loads of the coflows of a table on its ports, and the greatest load of each coflow, by number.
+fn measured(alloc: Global, table: &Table) -> Result<(Loads, Vec<u64>), NoMemory>
+    ensures coflows_are { IfOk result (λ m. m.0.coflows ≡ length table.now.ids) }
+    ensures ports_are { IfOk result (λ m. m.0.ports ≡ table.now.ports) }
+    ensures loads_are { IfOk result (λ m. HasLoads table.now.flows m.0) }
+    ensures length { IfOk result (λ m. length m.1.items ≡ length table.now.ids) }
+    ensures greatest { IfOk result (λ m. (c : ℕ) → c < length table.now.ids →
+        IsBottleneck m.0 c (slice_index_or m.1.items c 0)) }
+{
+    let loads = loads_of(alloc, table)?;
+    let bottlenecks = bottlenecks_of(alloc, &loads)?;
+    Ok((loads, bottlenecks))
 }
 
 /// The arrivals of the coflows of a table, by number, each below 2^32.

@@ -12,8 +12,8 @@ invariant_of-result c =
       arrivals_len = ap (λ xs. length xs) c.in_ok-arrivals.ensures.arrivals ∙ table.arrivals ∙ sym weights;
       arrival = c.in_ok-arrivals.ensures.small;
       coflows = c.in_ok-loads.ensures.coflows_are ∙ sym weights;
-      bottlenecks_len = c.in_ok-bottlenecks.ensures.length ∙ c.in_ok-loads.ensures.coflows_are ∙ sym weights;
-      bottleneck = λ k lt. c.in_ok-bottlenecks.ensures.greatest k (omega (arith, lt, weights, c.in_ok-loads.ensures.coflows_are));
+      bottlenecks_len = c.in_ok-loads.ensures.length ∙ sym weights;
+      bottleneck = λ k lt. c.in_ok-loads.ensures.greatest k (omega (arith, lt, weights));
       order_len = count ∙ sym weights;
       order_is = whole;
     }
