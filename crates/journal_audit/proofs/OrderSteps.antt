@@ -104,7 +104,7 @@ module _ (o : Opening) (before : List Entry) (e : Entry) (orders : List (List �
   stays_back : (k : ℕ) → k < version_of before → HasOrder o (before ++ e ∷ []) orders k → HasOrder o before orders k
   stays_back k lt has = has ∙ ap Some (order_stays (k + 1) (omega (arith, lt)))
 
-  one_more : (b : Bool) → is_version e.reply ≡ b → version_of (before ++ e ∷ []) ≡ version_of before + (if b then 1 else 0)
+  pub one_more : (b : Bool) → is_version e.reply ≡ b → version_of (before ++ e ∷ []) ≡ version_of before + (if b then 1 else 0)
   one_more b is = version_append before (e ∷ []) ∙ ap (λ (b : Bool). version_of before + ((if b then 1 else 0) + 0)) is ∙ omega arith
 
   pub wrong_stays : (w : WrongOrder) → IsWrongOrder o before orders w → IsWrongOrder o (before ++ e ∷ []) orders w

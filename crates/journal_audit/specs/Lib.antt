@@ -5,3 +5,4 @@ pub mod Sound
 pub mod Reasons
 pub mod Looked
 pub mod Orders
+pub mod Replayed

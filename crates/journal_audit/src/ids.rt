@@ -1,14 +1,24 @@
-//! Ids and their places.
-ghost use Rattle.std.specs.Prelude.{◌≡◌, ◌≤◌, ◌==◌, ◌^◌, ℕ, IfOk, length, map, nat_eq, position};
+//! Coflows by their ids.
+ghost use Rattle.std.specs.Prelude.{◌≡◌, ◌≤◌, ◌==◌, ◌^◌, ℕ, IfOk, length, nat_eq, position};
 ghost use Rattle.indexmap.specs.IndexMap.{get};
+ghost use Rattle.coflow_units.specs.declared.limits.TheConstants.{MAX_COFLOWS};
+ghost use Rattle.journal_audit.specs.Stated.{Finds};
 
 use coflow_units::NoMemory;
 use flow_table::Table;
 use indexmap::IndexMap;
 use std::alloc::Global;
 
+/// The number of the coflow with each id. The error is want of memory.
+pub(crate) fn coflows_by_id(alloc: Global, table: &Table) -> Result<IndexMap<u32, u32>, NoMemory>
+    ensures { IfOk result (λ coflows. Finds table.now.ids (get nat_eq coflows)) }
+{
+    let ids = ids_of(alloc, table)?;
+    places_by_id(alloc, &ids)
+}
+
 /// The first place of each id in a list, counted from 0.
-pub(crate) fn places_by_id(alloc: Global, ids: &[u32]) -> Result<IndexMap<u32, u32>, NoMemory>
+fn places_by_id(alloc: Global, ids: &[u32]) -> Result<IndexMap<u32, u32>, NoMemory>
     requires { length ids.now ≤ 2 ^ 32 }
     ensures { IfOk result (λ places. (id : ℕ) → get nat_eq places id ≡ position (λ x. x == id) ids.now) }
 {
@@ -20,11 +30,13 @@ pub(crate) fn places_by_id(alloc: Global, ids: &[u32]) -> Result<IndexMap<u32, u
 }
 
 /// The ids of the coflows, by number.
-pub(crate) fn ids_of(alloc: Global, table: &Table) -> Result<Vec<u32>, NoMemory>
-    ensures { IfOk result (λ ids. ids.items ≡ table.now.ids) }
+fn ids_of(alloc: Global, table: &Table) -> Result<Vec<u32>, NoMemory>
+    ensures ids { IfOk result (λ ids. ids.items ≡ table.now.ids) }
+    ensures few { length table.now.ids ≤ MAX_COFLOWS }
 {
+    let coflows = table.coflows();
     let mut ids = Vec::new(alloc);
-    for coflow in 0..table.coflows() {
+    for coflow in 0..coflows {
         ids.push(table.id(coflow))?;
     }
     Ok(ids)

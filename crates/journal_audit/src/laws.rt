@@ -12,8 +12,9 @@ ghost use Rattle.journal.specs.Journal.{line_of};
 ghost use Rattle.live_text.specs.declared.value.Live.{Live};
 ghost use Rattle.live_text.specs.Live.{IsLive};
 ghost use Rattle.schedule_model.specs.RunList.{slots_in};
+ghost use Rattle.journal_audit.specs.declared.verdict.Audit.{Audit};
 ghost use Rattle.journal_audit.specs.declared.verdict.AuditReason.{AuditReason};
-ghost use Rattle.journal_audit.specs.Reasons.{HasReasonFor};
+ghost use Rattle.journal_audit.specs.Reasons.{HasReasonFor, IsAudit};
 ghost use Rattle.journal_audit.specs.Sound.{IsSoundLive};
 ghost use Rattle.journal_audit.specs.Stated.{journal_in, opening_for};
 
@@ -21,6 +22,12 @@ ghost use Rattle.journal_audit.specs.Stated.{journal_in, opening_for};
 pub fn right_journals_have_no_reason()
     ensures { (t : TableFacts) (weights : List ℕ) (l : Live) (reason : AuditReason) → IsSoundLive t weights l →
         HasReasonFor (opening_for t weights l) (journal_in t l) l reason → ⊥ }
+{}
+
+/// A printed journal has one verdict at most.
+pub fn verdict_is_one()
+    ensures { (t : TableFacts) (weights : List ℕ) (l : Live) (a b : Audit) → IsAudit t weights l a →
+        IsAudit t weights l b → a ≡ b }
 {}
 
 /// What a yes says of the runs of a printed journal, whoever made it. Its slots are those of the closed runs, one after another, each with all flows that its run grants. Each of

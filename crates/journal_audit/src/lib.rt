@@ -1,12 +1,17 @@
-//! Printed journals, by whomever made: what makes one right, which reason comes first where one is not, what a right one says, and the parts of a check that look at ids, at the
-//! commands of entries, at orders and at runs.
+//! Printed journals, by whomever made: what makes one right, which reason comes first where one is not, what a right one says, and the audit that tells.
 #![tactic(auto)]
 
+mod auditing;
 mod ids;
 pub mod laws;
 mod orders;
 mod parts;
+mod pulls;
+mod ranks;
+mod reasons;
+mod replay;
 mod stated;
 mod verdict;
 
+pub use auditing::audit;
 pub use verdict::{Audit, AuditReason};

@@ -44,7 +44,7 @@ pub(crate) fn wrong_order_after(
     wrong_newest(master, orders, master.version())
 }
 
-fn is_version(reply: Reply) -> bool
+pub(crate) fn is_version(reply: Reply) -> bool
     ensures { result ≡ is_version reply }
 {
     match reply {

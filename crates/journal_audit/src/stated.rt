@@ -67,7 +67,7 @@ fn coflow_of(coflows: &IndexMap<u32, u32>, id: u32) -> Option<u32>
 }
 
 /// What is found under the id.
-fn found(coflows: &IndexMap<u32, u32>, id: u32) -> Option<u32>
+pub(crate) fn found(coflows: &IndexMap<u32, u32>, id: u32) -> Option<u32>
     ensures { result ≡ get nat_eq coflows.now id }
 {
     match coflows.get(&id) {
