@@ -84,7 +84,8 @@ pub in_order : (o : Opening) → IsOpening o → (c : ℕ) → c < length o.tabl
 in_order o ok c lt =
     let entries = the_ordering (instance_of o.table o.weights) in
     into_reverse (front entries) c
-    (All-contains (Contains (front entries)) (range_with_len 0 (length o.table.ids)) c (plan_ordering o ok).certificate.all (number_in 0 (length o.table.ids) c (omega arith) (omega (arith, lt))))
+    (All-contains (Contains (front entries)) (range_with_len 0 (length o.table.ids)) c (plan_ordering o ok).certificate.all
+    (number_in 0 (length o.table.ids) c (omega arith) (omega (arith, lt))))
 
 line_begun : (o : Opening) → IsOpening o → line (begun o) ≡ plan_order o
 line_begun o ok =

@@ -1,6 +1,6 @@
 -- Where a run was not sent whole, the port that stopped it: what the wires of the lesser ports have, and what its own lacks.
-use Rattle.std.proofs.Common.{◌≡◌, ℕ, ◌+◌, ◌-◌, ◌≤◌, ◌<◌, inl, inr, Bool, true, false, true≢false, List, [], ◌∷◌, ◌++◌, get_or, length, refl, sym, ap, subst, ◌∙◌, arith, suc, zero, cond}
-use Rattle.std.proofs.Common.{Some, replicate}
+use Rattle.std.proofs.Common.{◌≡◌, ℕ, ◌+◌, ◌-◌, ◌≤◌, ◌<◌, inl, inr, Bool, true, false, true≢false}
+use Rattle.std.proofs.Common.{List, [], ◌∷◌, ◌++◌, Some, get_or, length, refl, replicate, sym, ap, subst, ◌∙◌, arith, suc, zero, cond}
 use Rattle.std.specs.Prelude.{Contains, map, nat_lt, ◌==◌, ◌&&◌}
 use Rattle.std.specs.List.{filter, range_with_len}
 use Rattle.std.proofs.lemmas.Bool.{cases_Bool, cases_lt, eq-eqb, eqb-true, lt-ltb, ltb-true}

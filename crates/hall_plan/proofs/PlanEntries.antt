@@ -24,7 +24,8 @@ joining c = entry 0 (Register c) Joined
 all_joins : (P : Entry → Type 0) (a n : ℕ) → ((c : ℕ) → a ≤ c → c < a + n → P (joining c)) → All P (map joining (range_with_len a n))
 all_joins P a zero each = All-nil P
 all_joins P a (suc n) each =
-    All-cons P (joining a) (map joining (range_with_len (a + 1) n)) (each a (omega arith) (omega arith)) (all_joins P (a + 1) n (λ c low high. each c (omega (arith, low)) (omega (arith, high))))
+    All-cons P (joining a) (map joining (range_with_len (a + 1) n)) (each a (omega arith) (omega arith))
+    (all_joins P (a + 1) n (λ c low high. each c (omega (arith, low)) (omega (arith, high))))
 
 all_runs : (P : Entry → Type 0) (runs : List (ℕ × ℕ × ℕ)) → ((r : ℕ × ℕ × ℕ) → P (entry 0 (Open MAX_SLOT) (Opened r.0 r.1 r.2)) × P (entry 0 Close (Closed r.0))) →
     All P (flat_map run_entries runs)

@@ -1,6 +1,6 @@
 -- What a slot of the runner comes to in a plan: a driver that is alone goes on by whole runs, until nothing is left.
-use Rattle.std.proofs.Common.{Some, ◌≡◌, ℕ, ◌+◌, ◌-◌, ◌≤◌, ◌<◌, inl, inr, Bool, true, false, true≢false, List, [], ◌∷◌, ◌++◌, length, refl, sym, ap, subst, ◌∙◌, arith, suc, cond, append_assoc, append-nil}
-use Rattle.std.proofs.Common.{Option, replicate}
+use Rattle.std.proofs.Common.{Some, ◌≡◌, ℕ, ◌+◌, ◌-◌, ◌≤◌, ◌<◌, inl, inr, Bool, true, false, true≢false}
+use Rattle.std.proofs.Common.{List, [], ◌∷◌, ◌++◌, Option, length, refl, replicate, sym, ap, subst, ◌∙◌, arith, suc, cond, append_assoc, append-nil}
 use Rattle.std.specs.Prelude.{All, Contains, flat_map, nat_lt, not}
 use Rattle.std.specs.List.{slice_index_or}
 use Rattle.std.specs.List.Sorted.{IsStrictlyIncreasing}
@@ -190,7 +190,7 @@ module _ (hall : HallModel) (old new : RunnerModel) (runs : List (ℕ × ℕ × 
 
 -- ---- the answers
 
-module _ {W : Type 0} (faults : W → ℕ) (wruns : W → Option (List (ℕ × ℕ × ℕ))) (hall : HallModel) (old : RunnerModel) (schedule : List (List ℕ)) (before mid : List W)
+module _ {W : Type 0} {faults : W → ℕ} {wruns : W → Option (List (ℕ × ℕ × ℕ))} {hall : HallModel} {old : RunnerModel} {schedule : List (List ℕ)} {before mid : List W}
     (h : IsServedBy faults wruns hall old schedule before mid) where
   abbrev o' : Opening
   o' = hall.setting.opening
@@ -351,8 +351,10 @@ module _ {W : Type 0} (faults : W → ℕ) (wruns : W → Option (List (ℕ × �
       } in
       let same : driven o' old.driver.journal d ≡ driven o' last d = ap (λ l. driven o' l d) h.may.alone.journal_is in
       let is : new.granted ≡ driven o' last d = g ∙ same in
-      let clear = subst (IsClear o'.table.flows) same (grants_clear o'.table.flows (line_of o' (opened_in old.driver.journal d)) (owed o' (state_of o' (opened_in old.driver.journal d))) gs x.run.goes_on.grants) in
-      let stops' = stops o' h.made new.driver.journal d next slots served clear port x.flow units (subst (λ l. grant_in o'.table.flows l port ≡ Some x.flow) is x.granted) x.units_is
+      let opened = opened_in old.driver.journal d in
+      let clear = subst (IsClear o'.table.flows) same (grants_clear o'.table.flows (line_of o' opened) (owed o' (state_of o' opened)) gs x.run.goes_on.grants) in
+      let granted = subst (λ l. grant_in o'.table.flows l port ≡ Some x.flow) is x.granted in
+      let stops' = stops o' h.made new.driver.journal d next slots served clear port x.flow units granted x.units_is
       x.short (λ p f lt at. x.least p f lt (subst (λ l. grant_in o'.table.flows l p ≡ Some f) (sym is) at)) in (
         d.first + units,
         have_so faults wruns (λ p s. s ≡ wire_of o' new.driver.journal p) (StopsAt o'.table.flows slots port (d.first + units)) o'.table.ports before after
@@ -387,8 +389,8 @@ module _ {W : Type 0} (faults : W → ℕ) (wruns : W → Option (List (ℕ × �
 abbrev pub UnitsAre : {W : Type 0} → (W → Option (List (ℕ × ℕ × ℕ))) → List W → List W → Opening → List (List ℕ) → Type 0
 UnitsAre wruns before after o slots = HaveMore wruns (AreUnits o.table.flows slots) o.table.ports before after
 
-pub planned_so : (K : Opening → List (List ℕ) → Type 0) (o p : Opening) → o ≡ p → IsOpening o → ((slots : List (List ℕ)) → IsServed o.table.flows (plan_order o) slots → K o slots) →
-    (slots : List (List ℕ)) → IsPlanned p.table p.weights slots → K p slots
+pub planned_so : (K : Opening → List (List ℕ) → Type 0) (o p : Opening) → o ≡ p → IsOpening o →
+    ((slots : List (List ℕ)) → IsServed o.table.flows (plan_order o) slots → K o slots) → (slots : List (List ℕ)) → IsPlanned p.table p.weights slots → K p slots
 planned_so K o p e ok h =
     subst (λ q. (slots : List (List ℕ)) → IsPlanned q.table q.weights slots → K q slots) e (λ slots planned. h slots (planned_serves o slots ok planned))
 

@@ -50,8 +50,8 @@ added hall k old new journal r h place on =
       calls = omega (arith, h.calls, on.left, length-append journal (entry 0 k r.reply ∷ []));
     }
 
-pub not_stopped : (hall : HallModel) (k : Command) (old new : DriverModel) (journal : List Entry) (count : ℕ) → IsAlone hall old journal → length journal < room hall.setting.opening k →
-    IsStopped hall.setting.opening k old new count → ⊥
+pub not_stopped : (hall : HallModel) (k : Command) (old new : DriverModel) (journal : List Entry) (count : ℕ) → IsAlone hall old journal →
+    length journal < room hall.setting.opening k → IsStopped hall.setting.opening k old new count → ⊥
 not_stopped hall k old new journal count h lt on =
     let is : new.journal ≡ journal = on.alone h.made ∙ h.journal_is in
     omega (arith, lt, on.limit, on.length_is, ap (λ (l : List Entry). length l) is)
@@ -63,8 +63,8 @@ record IsAdded (hall : HallModel) (k : Command) (new : DriverModel) (journal : L
   pub alone : IsAlone hall new (journal ++ entry 0 k receipt.reply ∷ [])
   pub reply : receipt.reply ≡ answer hall.setting.opening (state_of hall.setting.opening journal) k
 
-one_turn : (hall : HallModel) (k : Command) (old new : DriverModel) (journal : List Entry) (a : Answer) → IsAlone hall old journal → length journal < room hall.setting.opening k → 1 ≤ old.left →
-    IsDriverTurn hall.setting.opening k 1 old new a → IsAdded hall k new journal a
+one_turn : (hall : HallModel) (k : Command) (old new : DriverModel) (journal : List Entry) (a : Answer) → IsAlone hall old journal →
+    length journal < room hall.setting.opening k → 1 ≤ old.left → IsDriverTurn hall.setting.opening k 1 old new a → IsAdded hall k new journal a
 one_turn hall k old new journal (Done r) h lt some turn =
     let next = added hall k old new journal r h turn.place (turn.done r refl) in
     record { receipt = r; is = refl; alone = next; reply = answered hall.setting.opening journal [] (entry 0 k r.reply) next.seen.legal }

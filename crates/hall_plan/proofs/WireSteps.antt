@@ -107,7 +107,8 @@ module _ {W : Type 0} (faults : W → ℕ) (runs : W → Option Sent) where
   pub have_none : (ports : ℕ) (ws : List W) → ports ≤ length ws → HaveMore runs (λ port s. s ≡ []) ports ws ws
   have_none ports ws long = record {
     as_many = refl;
-    each = λ port b a lt. subst (λ w. HasMore (λ s. s ≡ []) (runs (get_or ws port b)) (runs w)) (get_or_default ws port b a (omega (arith, lt, long))) (none_more (runs (get_or ws port b)));
+    each = λ port b a lt. subst (λ w. HasMore (λ s. s ≡ []) (runs (get_or ws port b)) (runs w))
+        (get_or_default ws port b a (omega (arith, lt, long))) (none_more (runs (get_or ws port b)));
     further = λ i w le. refl;
   }
 

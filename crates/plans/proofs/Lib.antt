@@ -1,5 +1,4 @@
 pub mod PlaceSteps
-pub mod OrderSteps
 pub mod CertificateFacts
 pub mod PlanSteps
 pub mod PlanLaw
