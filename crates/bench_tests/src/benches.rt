@@ -1,14 +1,13 @@
 //! Benches of rankers, asked on small traces.
 use crate::counting::{Counting, Stutter, Tally};
-use crate::inputs::{LONG_FIRST, TWO, rows_of, shown};
+use crate::inputs::{LONG_FIRST, TWO, had, rows_on, shown, table_of};
 use rankers::{Attained, Bssi0, Fifo, Ranker, Sebf};
 use std::process::Abort;
 use std::rc::Rc;
-use std::test::Fail;
 
 /// The rankers of the program, one after another.
 #[test]
-fn rows_by_hand(rt: HostRuntime) -> Result<(), Fail> {
+fn rows_by_hand(rt: HostRuntime) {
     let alloc = rt.alloc();
     let rows: [(&str, &[u64], &str); 4] = [
         (
@@ -36,20 +35,24 @@ fn rows_by_hand(rt: HostRuntime) -> Result<(), Fail> {
     ];
     for (trace, weights, want) in rows {
         let mut bench: Vec<Box<dyn Ranker>> = Vec::new(alloc);
-        bench.push(Box::new(alloc, Bssi0)?)?;
-        bench.push(Box::new(alloc, Sebf)?)?;
-        bench.push(Box::new(alloc, Fifo)?)?;
-        bench.push(Box::new(alloc, Attained::new(alloc, 4096)?)?)?;
-        let rows = rows_of(&rt, alloc, trace, weights, &mut bench)?;
-        assert_eq!(rt; shown(alloc, rows.as_slice())?.as_str(), want);
+        let bssi = had(&rt, Box::new(alloc, Bssi0));
+        had(&rt, bench.push(bssi));
+        let sebf = had(&rt, Box::new(alloc, Sebf));
+        had(&rt, bench.push(sebf));
+        let fifo = had(&rt, Box::new(alloc, Fifo));
+        had(&rt, bench.push(fifo));
+        let attained = had(&rt, Attained::new(alloc, 4096));
+        let attained = had(&rt, Box::new(alloc, attained));
+        had(&rt, bench.push(attained));
+        let have = shown(&rt, alloc, trace, weights, &mut bench);
+        assert_eq!(rt; have.as_str(), want);
         assert!(rt; bench.is_empty());
     }
-    Ok(())
 }
 
 /// The coflow that ended first comes first in the second round, where there is room for the note of the other one.
 #[test]
-fn attained_learns(rt: HostRuntime) -> Result<(), Fail> {
+fn attained_learns(rt: HostRuntime) {
     let alloc = rt.alloc();
     for (room, want) in [
         (4096, "1 1 Cost(7); 1 2 Cost(6); "),
@@ -57,16 +60,17 @@ fn attained_learns(rt: HostRuntime) -> Result<(), Fail> {
         (0, "1 1 Cost(7); 1 2 Cost(7); "),
     ] {
         let mut bench: Vec<Box<dyn Ranker>> = Vec::new(alloc);
-        bench.push(Box::new(alloc, Attained::new(alloc, room)?)?)?;
-        let rows = rows_of(&rt, alloc, LONG_FIRST, &[1, 1], &mut bench)?;
-        assert_eq!(rt; shown(alloc, rows.as_slice())?.as_str(), want);
+        let attained = had(&rt, Attained::new(alloc, room));
+        let attained = had(&rt, Box::new(alloc, attained));
+        had(&rt, bench.push(attained));
+        let have = shown(&rt, alloc, LONG_FIRST, &[1, 1], &mut bench);
+        assert_eq!(rt; have.as_str(), want);
     }
-    Ok(())
 }
 
 /// Two rankers exchange their places, and keep their rows but for the index. One of them answers no order.
 #[test]
-fn rows_go_with_their_rankers(rt: HostRuntime) -> Result<(), Fail> {
+fn rows_go_with_their_rankers(rt: HostRuntime) {
     let alloc = rt.alloc();
     for (stutter_first, want) in [
         (
@@ -79,38 +83,41 @@ fn rows_go_with_their_rankers(rt: HostRuntime) -> Result<(), Fail> {
         ),
     ] {
         let mut bench: Vec<Box<dyn Ranker>> = Vec::new(alloc);
-        bench.push(Box::new(alloc, Stutter)?)?;
-        bench.push(Box::new(alloc, Attained::new(alloc, 2)?)?)?;
+        let stutter = had(&rt, Box::new(alloc, Stutter));
+        had(&rt, bench.push(stutter));
+        let attained = had(&rt, Attained::new(alloc, 2));
+        let attained = had(&rt, Box::new(alloc, attained));
+        had(&rt, bench.push(attained));
         if !stutter_first {
             bench.reverse();
         }
-        let rows = rows_of(&rt, alloc, LONG_FIRST, &[1, 1], &mut bench)?;
-        assert_eq!(rt; shown(alloc, rows.as_slice())?.as_str(), want);
+        let have = shown(&rt, alloc, LONG_FIRST, &[1, 1], &mut bench);
+        assert_eq!(rt; have.as_str(), want);
     }
-    Ok(())
 }
 
 /// Rankers are asked twice, told of each coflow once, and dropped. Where memory is wanting in the middle, those that were asked are dropped, and the others are on the bench: `checks/refused_in_tests.py` refuses one
 /// allocation after another.
 #[test]
-fn rankers_are_counted(rt: HostRuntime) -> Result<(), Fail> {
+fn rankers_are_counted(rt: HostRuntime) {
     let alloc = rt.alloc();
     let mut tallies = Vec::new(alloc);
     let mut bench: Vec<Box<dyn Ranker>> = Vec::new(alloc);
     for _ in 0..3 {
-        let tally = Rc::new(alloc, Tally::new())?;
-        tallies.push(tally.clone()?)?;
-        bench.push(Box::new(alloc, Counting { tally })?)?;
+        let tally = had(&rt, Rc::new(alloc, Tally::new()));
+        had(&rt, tallies.push(had(&rt, tally.clone())));
+        let counting = had(&rt, Box::new(alloc, Counting { tally }));
+        had(&rt, bench.push(counting));
     }
-    let rows = rows_of(&rt, alloc, TWO, &[1, 1], &mut bench);
+    let table = table_of(&rt, alloc, TWO);
+    let rows = rows_on(&rt, alloc, &table, &[1, 1], &mut bench);
     assert_eq!(rt; bench.len().saturating_add(reached(&rt, &tallies)), 3);
-    let _rows = rows?;
+    had(&rt, rows);
     for tally in &tallies {
         assert_eq!(rt; tally.asked.get(), 2);
         assert_eq!(rt; tally.told.get(), 2);
     }
     assert!(rt; bench.is_empty());
-    Ok(())
 }
 
 /// How many rankers were asked. They are the first ones, and they alone were dropped, once each.

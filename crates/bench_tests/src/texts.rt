@@ -3,9 +3,9 @@ ghost use Rattle.std.specs.Prelude.{All, IsTrue};
 ghost use Rattle.report.specs.Compared.{IsName};
 ghost use Rattle.report.specs.declared.compared.RowLine.{RowLine};
 
+use crate::inputs::had;
 use coflow_units::{Items, Run};
 use report::{ClassText, Compare, Member, RowLine, RowText, write_classes, write_compare};
-use std::test::Fail;
 
 /// Tests what the text of a comparison requires of names.
 fn have_names(rows: &[RowLine]) -> bool
@@ -22,7 +22,7 @@ fn is_name(name: &[u8]) -> bool
 }
 
 #[test]
-fn texts_of_comparisons(rt: HostRuntime) -> Result<(), Fail> {
+fn texts_of_comparisons(rt: HostRuntime) {
     let alloc = rt.alloc();
     let mut rows = Vec::new(alloc);
     for (index, round, name, scored) in [
@@ -31,13 +31,14 @@ fn texts_of_comparisons(rt: HostRuntime) -> Result<(), Fail> {
         (2, 1, "a", RowText::Cost(7)),
         (u32::MAX, 2, "abcdefghijklmnop", RowText::Cost(u128::MAX)),
     ] {
-        let name = Items::from_vec(Vec::from_slice(alloc, name.as_bytes())?);
-        rows.push(RowLine {
+        let name = Items::from_vec(had(&rt, Vec::from_slice(alloc, name.as_bytes())));
+        let row = RowLine {
             index,
             round,
             name,
             scored,
-        })?;
+        };
+        had(&rt, rows.push(row));
     }
     let named = have_names(rows.as_slice());
     assert!(rt; named);
@@ -45,24 +46,25 @@ fn texts_of_comparisons(rt: HostRuntime) -> Result<(), Fail> {
         bound: 5,
         rows: Items::from_vec(rows),
     };
-    let text = write_compare(alloc, &compare)?;
+    let Ok(text) = write_compare(alloc, &compare) else {
+        panic!(&rt; "no memory");
+    };
     let want =
         b"sincronia compare 1\nbound 5\nrow 1 1 stutter unfit 2\nrow 1 2 stutter unfit 4294967295\nrow 2 1 a cost 7\nrow 4294967295 2 abcdefghijklmnop cost 340282366920938463463374607431768211455\nend\n";
     assert!(rt; text.as_slice() == want.as_slice());
-    Ok(())
 }
 
 #[test]
-fn texts_of_classes(rt: HostRuntime) -> Result<(), Fail> {
+fn texts_of_classes(rt: HostRuntime) {
     let alloc = rt.alloc();
     let mut members = Vec::new(alloc);
     for (class_number, id) in [(1, 2), (2, 1)] {
-        members.push(Member { class_number, id })?;
+        had(&rt, members.push(Member { class_number, id }));
     }
     let mut runs = Vec::new(alloc);
     for (length, flow) in [(1u64, 1u32), (3, 0)] {
-        let flows = Items::from_vec(Vec::from_slice(alloc, &[flow])?);
-        runs.push(Run { length, flows })?;
+        let flows = Items::from_vec(had(&rt, Vec::from_slice(alloc, &[flow])));
+        had(&rt, runs.push(Run { length, flows }));
     }
     let classes = ClassText {
         members: Items::from_vec(members),
@@ -70,9 +72,8 @@ fn texts_of_classes(rt: HostRuntime) -> Result<(), Fail> {
         cost: 5,
         runs: Items::from_vec(runs),
     };
-    let text = write_classes(alloc, &classes)?;
+    let text = had(&rt, write_classes(alloc, &classes));
     let want =
         b"sincronia classes 1\nmember 1 2\nmember 2 1\ncap 6\ncost 5\nrun 1 1\nrun 3 0\nend\n";
     assert!(rt; text.as_slice() == want.as_slice());
-    Ok(())
 }

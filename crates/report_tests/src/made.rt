@@ -1,5 +1,5 @@
 //! Made workloads and their summary.
-use crate::rows::had;
+use crate::reports::had;
 use report::{Made, write_made};
 use workload::made;
 

@@ -1,11 +1,19 @@
 //! Texts of reports, of both versions.
 ghost use Rattle.report.specs.Report.{HasWeights};
 
-use crate::rows::had;
 use coflow_units::{Items, MAX_TEXT, Port, Run, Side};
 use report::{PlaceLine, Report, ReportFault, read_report, write_report};
 use std::alloc::Global;
+use std::fmt::Debug;
 use std::process::Abort;
+
+/// The value of an answer. A test that finds no memory stops at once.
+pub(crate) fn had<T, E: Debug + Drop>(rt: &impl Abort, answer: Result<T, E>) -> T {
+    match answer {
+        Ok(value) => value,
+        Err(fault) => panic!(rt; "{fault:?}"),
+    }
+}
 
 /// A place of each side with the greatest numbers.
 fn greatest_places() -> [PlaceLine; 2] {

@@ -1,0 +1,10 @@
+//! Tests of the crates that write online runs and printed journals, and read them again. A clause says of each text what its definitions say; that the definitions mean the rules of the
+//! formats is what no clause says. Each row was worked out by hand from those rules, and an answer that is no value is told by the text of its fault.
+#![tactic(auto)]
+
+#[cfg(test)]
+mod journals;
+#[cfg(test)]
+mod online_runs;
+#[cfg(test)]
+mod rows;
