@@ -12,8 +12,6 @@ mod make_tests;
 #[cfg(test)]
 mod plan_tests;
 #[cfg(test)]
-mod schedule_tests;
-#[cfg(test)]
 mod status_tests;
 #[cfg(test)]
 mod turn_tests;

@@ -1,11 +1,12 @@
-//! What tests begin with.
+//! What tests begin with. A test that finds no memory stops at once.
 ghost use Rattle.std.specs.Prelude.{◌≤◌, All, IsTrue};
 ghost use Rattle.coflow_units.specs.declared.limits.TheConstants.{MAX_WEIGHT};
 
 use coflow_units::{MAX_TEXT, MAX_WEIGHT};
-use flow_table::Table;
+use flow_table::{Table, TableFault};
 use std::alloc::Global;
-use std::test::Fail;
+use std::fmt::Debug;
+use std::process::Abort;
 use trace_reader::read_trace;
 
 /// Two coflows that share both ports, of 3 units and of 1 unit.
@@ -15,13 +16,33 @@ pub(crate) const TWO: &str = "2 2\n1 0 1 0 1 1:3\n2 0 1 0 1 1:1\n";
 pub(crate) const THREE: &str =
     "150 3\n1 0 2 20 38 1 93:1.0\n2 120 1 7 2 93:4.5 7:2\n3 250 3 20 64 110 2 38:6.25 93:1\n";
 
-/// The flows of a trace, where a unit has one megabyte.
-pub(crate) fn table_of(alloc: Global, trace: &str) -> Result<Table, Fail> {
-    if trace.len() > MAX_TEXT {
-        return Err(Fail::new("a long trace"));
+/// The value of an answer.
+pub(crate) fn had<T, E: Debug + Drop>(rt: &impl Abort, answer: Result<T, E>) -> T {
+    match answer {
+        Ok(value) => value,
+        Err(fault) => panic!(rt; "{fault:?}"),
     }
-    let trace = read_trace(alloc, trace.as_bytes())?;
-    Ok(Table::build(alloc, &trace, 1)?)
+}
+
+/// The flows of a trace, where a unit has so many megabytes, or the fault.
+pub(crate) fn built(
+    rt: &impl Abort,
+    alloc: Global,
+    trace: &str,
+    unit: u64,
+) -> Result<Table, TableFault> {
+    assert!(rt; trace.len() <= MAX_TEXT);
+    assert!(rt; unit >= 1);
+    assert!(rt; unit <= 1 << 20);
+    let Ok(trace) = read_trace(alloc, trace.as_bytes()) else {
+        panic!(rt; "no table");
+    };
+    Table::build(alloc, &trace, unit)
+}
+
+/// The flows of a trace, where a unit has so many megabytes.
+pub(crate) fn table_of(rt: &impl Abort, alloc: Global, trace: &str, unit: u64) -> Table {
+    had(rt, built(rt, alloc, trace, unit))
 }
 
 /// Tests what calls require of weights.

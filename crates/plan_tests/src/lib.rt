@@ -1,10 +1,7 @@
-//! Tests of the crates that make tables, tell what schedules cost, choose the actions of online runs and check plans. That their definitions give what was worked out by hand is
-//! said by laws for some rows; here are more of them, what the limits are, and that a call that may answer want of memory answers where memory is there. Flows are told by
-//! their traces.
+//! Tests of the crates that make tables, serve orders and tell what schedules cost. That their definitions give what was worked out by hand is said by laws for some rows; here are more of them, what
+//! the limits are, and that a call that may answer want of memory answers where memory is there. Flows are told by their traces.
 #![tactic(auto)]
 
-#[cfg(test)]
-mod actions;
 #[cfg(test)]
 mod inputs;
 #[cfg(test)]
@@ -12,6 +9,6 @@ mod limits;
 #[cfg(test)]
 mod schedules;
 #[cfg(test)]
-mod tables;
+mod served;
 #[cfg(test)]
-mod verdicts;
+mod tables;

@@ -2,12 +2,11 @@
 ghost use Rattle.std.specs.Prelude.{◌≤◌, ◌^◌, All, length};
 ghost use Rattle.coflow_units.specs.declared.limits.TheConstants.{MAX_WEIGHT};
 
-use crate::inputs::{THREE, TWO, are_weights, table_of};
+use crate::inputs::{THREE, TWO, are_weights, had, table_of};
 use coflow_units::{Flow, NoMemory};
 use schedule_model::{Schedule, completions, cost, find_fault, is_patient};
 use std::alloc::Global;
 use std::process::Abort;
-use std::test::Fail;
 
 /// The schedule that serves three coflows in the order 0, 2, 1. Its run of two slots is appended in two parts.
 fn worked(alloc: Global) -> Result<Schedule, NoMemory> {
@@ -35,28 +34,31 @@ fn shorter_first(alloc: Global, idle: bool) -> Result<Schedule, NoMemory> {
 
 /// The cost of a valid schedule, whether it is patient for the order, and its completions.
 fn told(
+    rt: &impl Abort,
     alloc: Global,
     flows: &[Flow],
     coflows: u32,
     weights: &[u64],
     order: &[u32],
     schedule: &Schedule,
-) -> Result<String, Fail>
+) -> String
     requires flows { length flows.now ≤ 2 ^ 32 }
     requires small { All (λ w. w ≤ MAX_WEIGHT) weights.now }
     requires few { length weights.now ≤ 2 ^ 32 }
 {
-    let None = find_fault(alloc, flows, schedule)? else {
-        return Err(Fail::new("a fault"));
+    let Ok(fault) = find_fault(alloc, flows, schedule) else {
+        panic!(rt; "no memory");
     };
-    let patient = is_patient(alloc, flows, order, schedule)?;
+    let None = fault else {
+        panic!(rt; "a fault");
+    };
     let cost = cost(flows, weights, schedule);
-    let mut text = format!(in alloc; "{cost} {patient}")?;
-    let ends = completions(alloc, flows, coflows, schedule)?;
-    for end in ends.as_slice() {
-        write!(text, " {end}")?;
-    }
-    Ok(text)
+    let patient = had(rt, is_patient(alloc, flows, order, schedule));
+    let ends = had(rt, completions(alloc, flows, coflows, schedule));
+    had(
+        rt,
+        format!(in alloc; "{cost} {patient} {:?}", ends.as_slice()),
+    )
 }
 
 /// The same of a schedule of a trace.
@@ -67,34 +69,36 @@ fn worth(
     weights: &[u64],
     order: &[u32],
     schedule: &Schedule,
-) -> Result<String, Fail> {
-    let table = table_of(alloc, trace)?;
+) -> String {
+    let table = table_of(rt, alloc, trace, 1);
     assert!(rt; weights.len() == table.coflows() as usize);
     let fit = are_weights(weights);
     assert!(rt; fit);
     let coflows = table.coflows();
-    told(alloc, table.flows(), coflows, weights, order, schedule)
+    told(rt, alloc, table.flows(), coflows, weights, order, schedule)
 }
 
 #[test]
-fn cost_patience_and_completions(rt: HostRuntime) -> Result<(), Fail> {
-    let schedule = worked(rt.alloc())?;
+fn cost_patience_and_completions(rt: HostRuntime) {
+    let schedule = had(&rt, worked(rt.alloc()));
     let runs = schedule.runs();
     assert_eq!(rt; runs.len(), 6);
     assert_eq!(rt; runs[2].length, 2);
-    for (order, want) in [([0, 2, 1], "16 true 1 8 7"), ([0, 1, 2], "16 false 1 8 7")] {
-        let have = worth(&rt, rt.alloc(), THREE, &[1, 1, 1], &order, &schedule)?;
+    for (order, want) in [
+        ([0, 2, 1], "16 true [1, 8, 7]"),
+        ([0, 1, 2], "16 false [1, 8, 7]"),
+    ] {
+        let have = worth(&rt, rt.alloc(), THREE, &[1, 1, 1], &order, &schedule);
         assert_eq!(rt; have.as_str(), want);
     }
     for (weights, order, idle, want) in [
-        ([1, 1], [1, 0], false, "5 true 4 1"),
-        ([1, 1], [0, 1], false, "5 false 4 1"),
-        ([5, 1], [1, 0], false, "21 true 4 1"),
-        ([1, 1], [1, 0], true, "7 false 5 2"),
+        ([1, 1], [1, 0], false, "5 true [4, 1]"),
+        ([1, 1], [0, 1], false, "5 false [4, 1]"),
+        ([5, 1], [1, 0], false, "21 true [4, 1]"),
+        ([1, 1], [1, 0], true, "7 false [5, 2]"),
     ] {
-        let schedule = shorter_first(rt.alloc(), idle)?;
-        let have = worth(&rt, rt.alloc(), TWO, &weights, &order, &schedule)?;
+        let schedule = had(&rt, shorter_first(rt.alloc(), idle));
+        let have = worth(&rt, rt.alloc(), TWO, &weights, &order, &schedule);
         assert_eq!(rt; have.as_str(), want);
     }
-    Ok(())
 }

@@ -1,40 +1,43 @@
 //! Tables of flows, which are told by their traces.
-use crate::inputs::{THREE, table_of};
-use coflow_units::{Flow, MAX_TEXT};
-use flow_table::{Table, TableFault};
+use crate::inputs::{THREE, built, had, table_of};
+use coflow_units::Flow;
+use flow_table::Table;
 use std::alloc::Global;
-use std::test::Fail;
-use trace_reader::read_trace;
+use std::process::Abort;
 
-/// The table of a trace, where a unit has so many megabytes.
-fn built(alloc: Global, trace: &str, unit: u64) -> Result<Result<Table, TableFault>, Fail> {
-    if trace.len() > MAX_TEXT || unit < 1 || unit > 1 << 20 {
-        return Err(Fail::new("not within the limits"));
+/// The fault of a trace, where a unit has so many megabytes, or its coflows and flows, as a copy of the table tells them.
+fn told(rt: &impl Abort, alloc: Global, trace: &str, unit: u64) -> String {
+    match built(rt, alloc, trace, unit) {
+        Ok(table) => shown(rt, alloc, &had(rt, table.copy(alloc))),
+        Err(fault) => had(rt, format!(in alloc; "{fault}")),
     }
-    let trace = read_trace(alloc, trace.as_bytes())?;
-    Ok(Table::build(alloc, &trace, unit))
 }
 
-/// The fault of a trace, or for each coflow its id, its arrival, and its flows with their ports and units, as a copy of the table tells them.
-fn told(alloc: Global, trace: &str, unit: u64) -> Result<String, Fail> {
-    let table = match built(alloc, trace, unit)? {
-        Ok(table) => table.copy(alloc)?,
-        Err(fault) => return Ok(format!(in alloc; "{fault}")?),
-    };
+/// For each coflow its id, its arrival, and its flows with their ports and units.
+fn shown(rt: &impl Abort, alloc: Global, table: &Table) -> String {
     let mut text = String::new(alloc);
     for coflow in 0..table.coflows() {
-        write!(text, "{} {}", table.id(coflow), table.arrival(coflow))?;
-        for flow in table.of_coflow(coflow) {
-            write!(text, ", {} {} {}", flow.ingress, flow.egress, flow.units)?;
-        }
-        text.push_str("; ")?;
+        let (id, arrival) = (table.id(coflow), table.arrival(coflow));
+        had(rt, write!(text, "{id} {arrival}"));
+        tell_flows(rt, &mut text, table.of_coflow(coflow));
     }
-    Ok(text)
+    text
+}
+
+/// Adds flows with their ports and units.
+fn tell_flows(rt: &impl Abort, text: &mut String, flows: &[Flow]) {
+    for flow in flows {
+        had(
+            rt,
+            write!(text, ", {} {} {}", flow.ingress, flow.egress, flow.units),
+        );
+    }
+    had(rt, text.push_str("; "));
 }
 
 /// Units are rounded up, and have a limit.
 #[test]
-fn units_of_megabytes(rt: HostRuntime) -> Result<(), Fail> {
+fn units_of_megabytes(rt: HostRuntime) {
     let rows = [
         ("1:0.000001", 1, "7 0, 0 1 1; "),
         ("1:1", 1, "7 0, 0 1 1; "),
@@ -52,10 +55,10 @@ fn units_of_megabytes(rt: HostRuntime) -> Result<(), Fail> {
     ];
     for (reducers, unit, want) in rows {
         let count = reducers.split(' ').count();
-        let trace = format!(in rt.alloc(); "1 1\n7 0 1 0 {count} {reducers}\n")?;
-        assert_eq!(rt; told(rt.alloc(), trace.as_str(), unit)?.as_str(), want);
+        let trace = format!(in rt.alloc(); "1 1\n7 0 1 0 {count} {reducers}\n");
+        let have = told(&rt, rt.alloc(), had(&rt, trace).as_str(), unit);
+        assert_eq!(rt; have.as_str(), want);
     }
-    Ok(())
 }
 
 /// The mappers and the reducers of a coflow, and its flows: the first mappers send what is left over, a location that stands again sends again, each reducer is shared by
@@ -72,36 +75,39 @@ const SHARES: &str = "2 0 1 1 1:1 => , 0 1 1
 1 1 0 => ";
 
 #[test]
-fn mappers_share_units(rt: HostRuntime) -> Result<(), Fail> {
+fn mappers_share_units(rt: HostRuntime) {
     for row in SHARES.split('\n') {
         let Some((line, want)) = row.split_once(" => ") else {
-            return Err(Fail::new("a row without an arrow"));
+            panic!(&rt; "a row without an arrow");
         };
-        let trace = format!(in rt.alloc(); "1 3\n3 5 {line}\n9 0 1 1 0\n4 8 {line}\n")?;
-        let want = format!(in rt.alloc(); "3 5{want}; 9 0; 4 8{want}; ")?;
-        assert_eq!(rt;
-            told(rt.alloc(), trace.as_str(), 1)?.as_str(),
-            want.as_str()
-        );
+        let trace = format!(in rt.alloc(); "1 3\n3 5 {line}\n9 0 1 1 0\n4 8 {line}\n");
+        let want = had(&rt, format!(in rt.alloc(); "3 5{want}; 9 0; 4 8{want}; "));
+        let have = told(&rt, rt.alloc(), had(&rt, trace).as_str(), 1);
+        assert_eq!(rt; have.as_str(), want.as_str());
     }
     let want = "1 0, 20 93 1; 2 120, 7 7 2, 7 93 5; 3 250, 20 38 3, 20 93 1, 64 38 2, 110 38 2; ";
-    assert_eq!(rt; told(rt.alloc(), THREE, 1)?.as_str(), want);
-    Ok(())
+    assert_eq!(rt; told(&rt, rt.alloc(), THREE, 1).as_str(), want);
 }
 
-/// From each of 1024 locations one unit to each of them: as many flows as there may be. The second coflow has no flow, or one too many.
+/// A trace in which from each of 1024 locations goes one unit to each of them, and what is said of a second coflow.
+fn crowded(rt: &impl Abort, alloc: Global, second: &str) -> String {
+    let mut trace = had(rt, String::from_str(alloc, "1024 2\n1 0 1024"));
+    for location in 0..1024 {
+        had(rt, write!(trace, " {location}"));
+    }
+    had(rt, trace.push_str(" 1024"));
+    for location in 0..1024 {
+        had(rt, write!(trace, " {location}:1024"));
+    }
+    had(rt, write!(trace, "\n{second}\n"));
+    trace
+}
+
+/// As many flows as there may be, where the second coflow has none, and one too many.
 #[test]
-fn flows_have_a_limit(rt: HostRuntime) -> Result<(), Fail> {
-    let mut trace = String::from_str(rt.alloc(), "1024 2\n1 0 1024")?;
-    for location in 0..1024 {
-        write!(trace, " {location}")?;
-    }
-    trace.push_str(" 1024")?;
-    for location in 0..1024 {
-        write!(trace, " {location}:1024")?;
-    }
-    let most = format!(in rt.alloc(); "{trace}\n2 0 1 0 0\n")?;
-    let table = table_of(rt.alloc(), most.as_str())?;
+fn flows_have_a_limit(rt: HostRuntime) {
+    let most = crowded(&rt, rt.alloc(), "2 0 1 0 0");
+    let table = table_of(&rt, rt.alloc(), most.as_str(), 1);
     let flows = table.flows();
     assert!(rt; flows.len() == 1 << 20);
     let second = Flow {
@@ -111,8 +117,7 @@ fn flows_have_a_limit(rt: HostRuntime) -> Result<(), Fail> {
         units: 1,
     };
     assert_eq!(rt; flows[1024], second);
-    let more = format!(in rt.alloc(); "{trace}\n2 0 1 0 1 1024:1\n")?;
-    let fault = told(rt.alloc(), more.as_str(), 1)?;
+    let more = crowded(&rt, rt.alloc(), "2 0 1 0 1 1024:1");
+    let fault = told(&rt, rt.alloc(), more.as_str(), 1);
     assert_eq!(rt; fault.as_str(), "Flows of 1048577 are too many");
-    Ok(())
 }

@@ -2,7 +2,7 @@
 use Rattle.std.proofs.Common.{ℕ, inl, inr, Contains, subst, sym, ◌∙◌, arith}
 use Rattle.std.proofs.lemmas.Bool.{cases_eq}
 use Rattle.coflow_units.proofs.Sums.{any_has}
-use Rattle.command_tests.proofs.schedule_tests.has_all_below.Goals as goal
+use Rattle.plan_tests.proofs.served.has_all_below.Goals as goal
 
 pub loop-coflow-preserved : goal.loop-coflow-preserved
 loop-coflow-preserved c = λ d lt. elim (cases_eq d c.loop-coflow.coflow-counter) [

@@ -3,7 +3,7 @@ ghost use Rattle.std.specs.Prelude.{◌≡◌, ◌≤◌, All, length};
 ghost use Rattle.coflow_units.specs.declared.limits.TheConstants.{MAX_WEIGHT};
 ghost use Rattle.report.specs.Report.{IsReport};
 
-use crate::inputs::{TWO, are_weights, table_of};
+use crate::inputs::{TWO, are_weights, had, table_of};
 use cert_check::{Verdict, check};
 use coflow_units::MAX_TEXT;
 use flow_table::Table;
@@ -11,49 +11,43 @@ use port_load::Loads;
 use report::{Report, read_report};
 use std::alloc::Global;
 use std::process::Abort;
-use std::test::Fail;
 
 /// The verdict on the report with this text.
-fn verdict_of(
-    rt: &impl Abort,
-    alloc: Global,
-    trace: &str,
-    weights: &[u64],
-    text: &str,
-) -> Result<String, Fail> {
-    let table = table_of(alloc, trace)?;
+fn verdict_of(rt: &impl Abort, alloc: Global, trace: &str, weights: &[u64], text: &str) -> Verdict {
+    let table = table_of(rt, alloc, trace);
     assert!(rt; weights.len() == table.coflows() as usize);
     let fit = are_weights(weights);
     assert!(rt; fit);
-    told(alloc, &table, weights, text)
-}
-
-/// The same of a table.
-fn told(alloc: Global, table: &Table, weights: &[u64], text: &str) -> Result<String, Fail>
-    requires count { length weights.now ≡ length table.now.ids }
-    requires fit { All (λ w. w ≤ MAX_WEIGHT) weights.now }
-{
-    if text.len() > MAX_TEXT {
-        return Err(Fail::new("a long text"));
-    }
-    let report = read_report(alloc, text.as_bytes())?;
-    let verdict = verdict_on(alloc, table, weights, &report)?;
-    Ok(format!(in alloc; "{verdict:?}")?)
+    assert!(rt; text.len() <= MAX_TEXT);
+    let Ok(report) = read_report(alloc, text.as_bytes()) else {
+        panic!(rt; "no memory");
+    };
+    verdict_on(rt, alloc, &table, weights, &report)
 }
 
 /// The verdict on a report of a table.
 fn verdict_on(
+    rt: &impl Abort,
     alloc: Global,
     table: &Table,
     weights: &[u64],
     report: &Report,
-) -> Result<Verdict, Fail>
+) -> Verdict
     requires count { length weights.now ≡ length table.now.ids }
     requires fit { All (λ w. w ≤ MAX_WEIGHT) weights.now }
     requires report { IsReport report.now }
 {
-    let loads = Loads::of(alloc, table.flows(), table.coflows(), table.ports())?;
-    Ok(check(alloc, table, &loads, weights, report)?)
+    let loads = Loads::of(alloc, table.flows(), table.coflows(), table.ports());
+    let Ok(loads) = loads else {
+        panic!(rt; "no memory");
+    };
+    had(rt, check(alloc, table, &loads, weights, report))
+}
+
+/// Compares the text of a verdict.
+fn compare(rt: &impl Abort, alloc: Global, have: Verdict, want: &str) {
+    let have = had(rt, format!(in alloc; "{have:?}"));
+    assert_eq!(rt; have.as_str(), want);
 }
 
 /// The places, the totals and the runs of the right report of two coflows.
@@ -96,46 +90,44 @@ place 1 2 in 0 733007751851 2/place 2 1 in 0 366503875925 6/ | bound 5/slack 1/c
 place 1 2 in 0 733007751851 2199023255548/place 2 1 in 0 366503875925 2199023255551/ | bound 5/slack 1/cost 4398046511099/ | run 2199023255547/run 1 1/run 3 0/ => No(RatioBroken { cost: 4398046511099, most: 21 })";
 
 /// The text of the report that a row of the edits tells.
-fn edited(alloc: Global, row: &str) -> Result<String, Fail> {
-    let mut text = String::from_str(alloc, "sincronia 1\n")?;
+fn edited(rt: &impl Abort, alloc: Global, row: &str) -> String {
+    let mut text = had(rt, String::from_str(alloc, "sincronia 1\n"));
     for (part, right) in row.split(" | ").zip(RIGHT) {
         let part = if part == "-" { right } else { part };
-        push_lines(&mut text, part)?;
+        push_lines(rt, &mut text, part);
     }
-    text.push_str("end\n")?;
-    Ok(text)
+    had(rt, text.push_str("end\n"));
+    text
 }
 
 /// Appends a text, in which a `/` stands for a line end.
-fn push_lines(text: &mut String, short: &str) -> Result<(), Fail> {
+fn push_lines(rt: &impl Abort, text: &mut String, short: &str) {
     let mut pieces = short.split('/');
     if let Some(first) = pieces.next() {
-        text.push_str(first)?;
+        had(rt, text.push_str(first));
     }
     for piece in pieces {
-        text.push_str("\n")?;
-        text.push_str(piece)?;
+        had(rt, text.push_str("\n"));
+        had(rt, text.push_str(piece));
     }
-    Ok(())
 }
 
 #[test]
-fn edits_of_a_right_report(rt: HostRuntime) -> Result<(), Fail> {
+fn edits_of_a_right_report(rt: HostRuntime) {
     for row in EDITS.split('\n') {
         let Some((parts, want)) = row.split_once(" => ") else {
-            return Err(Fail::new("a row without an arrow"));
+            panic!(&rt; "a row without an arrow");
         };
-        let text = edited(rt.alloc(), parts)?;
-        let have = verdict_of(&rt, rt.alloc(), TWO, &[1, 1], text.as_str())?;
-        assert_eq!(rt; have.as_str(), want, "{row}");
+        let text = edited(&rt, rt.alloc(), parts);
+        let have = verdict_of(&rt, rt.alloc(), TWO, &[1, 1], text.as_str());
+        compare(&rt, rt.alloc(), have, want);
     }
-    Ok(())
 }
 
 /// Weights that are stated, and other coflows: of the first two rows without weights one flow meets another at its egress, and one coflow pays too much at a port where the
 /// last place has no load. The slack is more than 2 where a port has more than 2^20 units.
 #[test]
-fn other_weights_and_coflows(rt: HostRuntime) -> Result<(), Fail> {
+fn other_weights_and_coflows(rt: HostRuntime) {
     let weighted =
         "2/place 1 1 in 0 733007751850 3 5/place 2 2 in 0 1099511627776 4 1/bound 19/slack 1/cost 19/run 3 0/run 1 1/";
     let rows: [(&str, &[u64], &str, &str); 10] = [
@@ -191,11 +183,10 @@ fn other_weights_and_coflows(rt: HostRuntime) -> Result<(), Fail> {
         ),
     ];
     for (trace, weights, short, want) in rows {
-        let mut text = String::from_str(rt.alloc(), "sincronia ")?;
-        push_lines(&mut text, short)?;
-        text.push_str("end\n")?;
-        let have = verdict_of(&rt, rt.alloc(), trace, weights, text.as_str())?;
-        assert_eq!(rt; have.as_str(), want, "{text}");
+        let mut text = had(&rt, String::from_str(rt.alloc(), "sincronia "));
+        push_lines(&rt, &mut text, short);
+        had(&rt, text.push_str("end\n"));
+        let have = verdict_of(&rt, rt.alloc(), trace, weights, text.as_str());
+        compare(&rt, rt.alloc(), have, want);
     }
-    Ok(())
 }

@@ -2,7 +2,7 @@ use Rattle.std.proofs.Common.{ℕ, List, get_or, take, take_all, true≢false, s
 use Rattle.coflow_units.specs.Flows.{IsDistinct}
 use Rattle.coflow_units.proofs.Sums.{any_in}
 use Rattle.greedy_rates.proofs.TestSteps.{distinct_more}
-use Rattle.command_tests.proofs.schedule_tests.is_distinct.Goals as goal
+use Rattle.plan_tests.proofs.served.is_distinct.Goals as goal
 
 pub loop-place-preserved : goal.loop-place-preserved
 loop-place-preserved c =
