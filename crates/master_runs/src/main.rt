@@ -122,16 +122,34 @@ fn play(rt: &HostRuntime, alloc: Global, table: Table, lines: &mut Lines<'_>) ->
         return Err(Stop::Line(1));
     };
     match word(&mut first) {
-        "master" => {
-            let mut master = master_of(alloc, table, &mut first)?;
-            play_master(rt, alloc, &mut master, lines)
-        }
-        "world" => {
-            let mut world = world_of(alloc, table, &mut first)?;
-            play_world(rt, &mut world, lines)
-        }
+        "master" => with_master(rt, alloc, table, &mut first, lines),
+        "world" => with_world(rt, alloc, table, &mut first, lines),
         _ => Err(Stop::Line(1)),
     }
+}
+
+/// A master plays the lines behind the first one, whose next fields are these.
+fn with_master(
+    rt: &HostRuntime,
+    alloc: Global,
+    table: Table,
+    fields: &mut Fields<'_>,
+    lines: &mut Lines<'_>,
+) -> Result<(), Stop> {
+    let mut master = master_of(alloc, table, fields)?;
+    play_master(rt, alloc, &mut master, lines)
+}
+
+/// A world plays the lines behind the first one, whose next fields are these.
+fn with_world(
+    rt: &HostRuntime,
+    alloc: Global,
+    table: Table,
+    fields: &mut Fields<'_>,
+    lines: &mut Lines<'_>,
+) -> Result<(), Stop> {
+    let mut world = world_of(alloc, table, fields)?;
+    play_world(rt, &mut world, lines)
 }
 
 /// A new world of the master that comes next, and of the agents behind it.
