@@ -1,1 +1,2 @@
 pub mod ActsTold
+pub mod ClientsTold

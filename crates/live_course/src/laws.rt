@@ -6,9 +6,11 @@ ghost use Rattle.script_reader.specs.declared.script.Script.{Script};
 ghost use Rattle.client_session.specs.Closes.{HasEnded};
 ghost use Rattle.client_session.specs.Levels.{IsRaised};
 ghost use Rattle.client_session.specs.Models.{SessionModel};
-ghost use Rattle.live_model.specs.Levels.{IsBetween, IsSession, Levels};
+ghost use Rattle.client_session.specs.Own.{own_entries};
+ghost use Rattle.live_model.specs.Levels.{AreSessions, IsBetween, IsSession, Levels};
 ghost use Rattle.live_model.specs.Script.{lines_by};
 ghost use Rattle.live_rounds.specs.Acts.{Act, entries_in, HasActed};
+ghost use Rattle.live_course.specs.Clients.{AreClients};
 ghost use Rattle.live_course.specs.Told.{acts_of, deeds_of, IsNew, IsRoundBetween, LiesBetween, lines_of};
 
 /// How sessions go on: a levelling carries out no line, and rounds follow each other.
@@ -39,4 +41,14 @@ pub fn lines_keep_levels()
     ensures { (o : Opening) (journal : List Entry) (levels : Levels) (last : SessionModel) (told : List (ℕ × Act)) →
         HasEnded o journal last → All (Contains last.own) (entries_in (acts_of told)) →
         All (λ (x : ℕ × Act). LiesBetween levels x.0 x.1) told → All (IsBetween journal levels) (deeds_of told) }
+{}
+
+/// The clients of a script, whose lines lie between the levels of their rounds, did the script as a course asks.
+pub fn clients_do_their_scripts()
+    ensures sessions { (o : Opening) (journal : List Entry) (script : Script) (levels : Levels) (clients : ℕ)
+        (told : ℕ → List (ℕ × Act)) → AreClients o journal script levels clients told →
+        AreSessions script journal (λ k. own_entries k journal) (λ k. deeds_of (told k)) }
+    ensures levels { (o : Opening) (journal : List Entry) (script : Script) (levels : Levels) (clients : ℕ)
+        (told : ℕ → List (ℕ × Act)) → AreClients o journal script levels clients told →
+        (k : ℕ) → All (IsBetween journal levels) (deeds_of (told k)) }
 {}
