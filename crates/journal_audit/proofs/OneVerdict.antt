@@ -1,7 +1,6 @@
 -- A text has one verdict.
-use Rattle.std.proofs.Common.{◌≡◌, ℕ, ◌+◌, ◌-◌, ◌≤◌, ◌<◌, inl, inr, List, [], ◌∷◌, ◌++◌, drop, get_or, length, take, sym, ap, ◌∙◌, subst, arith}
+use Rattle.std.proofs.Common.{◌≡◌, ℕ, ◌+◌, ◌-◌, ◌<◌, List, [], ◌∷◌, ◌++◌, drop, get_or, length, take, sym, ap, ◌∙◌, subst, arith}
 use Rattle.std.specs.List.{slice_index_or}
-use Rattle.std.proofs.lemmas.Bool.{cases_lt}
 use Rattle.std.proofs.lemmas.List.{drop_more, get_or-take, length-map, length-take-le, take-append-drop, take-take}
 use Rattle.flow_table.specs.Table.{TableFacts}
 use Rattle.journal.specs.declared.command.Entry.{Entry}
@@ -9,7 +8,7 @@ use Rattle.journal.specs.declared.command.Reply.{Reply}
 use Rattle.journal.specs.declared.opening.Opening.{Opening}
 use Rattle.journal.specs.State.{Run}
 use Rattle.journal.specs.Answer.{reply_of}
-use Rattle.journal.specs.Journal.{IsLegal}
+use Rattle.journal.specs.Journal.{IsLegal, version_of}
 use Rattle.journal.proofs.Versions.{legal_there}
 use Rattle.live_text.specs.declared.value.EntryLine.{EntryLine}
 use Rattle.live_text.specs.declared.value.Live.{Live}
@@ -27,27 +26,20 @@ use Rattle.journal_audit.specs.Stated.{command_for, entry_for, opening_for, repl
 use Rattle.journal_audit.proofs.Partings.{same_some}
 use Rattle.journal_audit.proofs.Refusals.{entry_at, none_of_right}
 
--- the least number of which something holds
-least_is_one : (m n : ℕ) → (m < n → ⊥) → (n < m → ⊥) → m ≡ n
-least_is_one m n less more = elim (cases_lt m n) [
-  | inl lt ↦ absurd (less lt)
-  | inr le ↦ elim (cases_lt n m) [
-    | inl gt ↦ absurd (more gt)
-    | inr ge ↦ omega (arith, le, ge)
-  ]
-]
-
 -- ---- of each kind the first is one
 
 apart_is_one : {X : Type 0} (a b : List X) (m n : ℕ) → IsPartedAt a b m → IsPartedAt a b n → m ≡ n
-apart_is_one a b m n here there = least_is_one m n (λ lt. here.parted (there.before m lt)) (λ lt. there.parted (here.before n lt))
+apart_is_one a b m n here there =
+    let less : m < n → ⊥ = λ lt. here.parted (there.before m lt) in
+    let more : n < m → ⊥ = λ lt. there.parted (here.before n lt) in
+    omega (arith, less, more)
 
 place_earlier : (a b : List ℕ) (m n : ℕ) → IsFirstPlace a b m → IsFirstPlace a b n → m < n → ⊥
 place_earlier a b m n here there lt =
     here.parted (omega (arith, lt, there.in_stated)) (omega (arith, lt, there.in_real)) (there.before (m - 1) (omega (arith, lt, here.counted)))
 
 place_is_one : (a b : List ℕ) (m n : ℕ) → IsFirstPlace a b m → IsFirstPlace a b n → m ≡ n
-place_is_one a b m n here there = least_is_one m n (place_earlier a b m n here there) (place_earlier a b n m there here)
+place_is_one a b m n here there = omega (arith, place_earlier a b m n here there, place_earlier a b n m there here)
 
 unknown_earlier : (ids : List ℕ) (entries : List EntryLine) (m n : ℕ) → IsFirstUnknown ids entries m → IsFirstUnknown ids entries n → m < n → ⊥
 unknown_earlier ids entries m n here there lt = here.unknown (there.before (m - 1) (omega (arith, lt, here.counted)))
@@ -60,6 +52,9 @@ entry_earlier o entries m n s s' r r' here there lt =
     J : List Entry
     J = stated_by o.table.ids entries
 
+    count : length J ≡ length entries
+    count = length-map entries (entry_for o.table.ids)
+
     front : List Entry
     front = take (n - 1) J
 
@@ -67,7 +62,7 @@ entry_earlier o entries m n s s' r r' here there lt =
     inside = omega (arith, here.counted, here.inside)
 
     within : m - 1 < length front
-    within = omega (arith, lt, here.counted, there.inside, length-take-le (n - 1) J (omega (arith, there.inside, length-map entries (entry_for o.table.ids))), length-map entries (entry_for o.table.ids))
+    within = omega (arith, lt, here.counted, there.inside, length-take-le (n - 1) J (omega (arith, there.inside, count)), count)
 
     at : get_or front (m - 1) (entry_for o.table.ids (line_at [] 0)) ≡ entry_for o.table.ids (line_at entries (m - 1))
     at = get_or-take (n - 1) J (m - 1) (entry_for o.table.ids (line_at [] 0)) (omega (arith, lt, here.counted)) ∙ entry_at o.table.ids entries (m - 1) inside
@@ -87,8 +82,8 @@ rank_earlier : (o : Opening) (journal : List Entry) (pulls : List PullLine) (k l
     (there : IsFirstWrongRank o journal pulls k' l' s' r') → here.index < there.index → ⊥
 rank_earlier o journal pulls k l s r k' l' s' r' here there lt = here.differ (sym here.says ∙ there.before here.index lt ∙ here.should)
 
-version_earlier : (ids : List ℕ) (newest : ℕ) (pulls : List PullLine) (k l k' l' : ℕ) (here : IsFirstWrongVersion ids newest pulls k l) (there : IsFirstWrongVersion ids newest pulls k' l') →
-    here.index < there.index → ⊥
+version_earlier : (ids : List ℕ) (newest : ℕ) (pulls : List PullLine) (k l k' l' : ℕ) (here : IsFirstWrongVersion ids newest pulls k l)
+    (there : IsFirstWrongVersion ids newest pulls k' l') → here.index < there.index → ⊥
 version_earlier ids newest pulls k l k' l' here there lt = here.wrong (there.before here.index lt)
 
 -- ---- reasons
@@ -98,24 +93,28 @@ module _ (o : Opening) (l : Live) where
   J = stated_by o.table.ids l.entries
 
   same_kind : (a b : AuditReason) → kind a ≡ kind b → HasReasonFor o J l a → HasReasonFor o J l b → a ≡ b
-  same_kind (NoId m) (NoId n) e x y = ap NoId (least_is_one m n (unknown_earlier o.table.ids l.entries m n x y) (unknown_earlier o.table.ids l.entries n m y x))
+  same_kind (NoId m) (NoId n) e x y =
+      let one : m ≡ n = omega (arith, unknown_earlier o.table.ids l.entries m n x y, unknown_earlier o.table.ids l.entries n m y x) in
+      ap NoId one
   same_kind (NoEntry m s r) (NoEntry n s' r') e x y =
-      let one : m ≡ n = least_is_one m n (entry_earlier o l.entries m n s s' r r' x y) (entry_earlier o l.entries n m s' s r' r y x) in
+      let one : m ≡ n = omega (arith, entry_earlier o l.entries m n s s' r r' x y, entry_earlier o l.entries n m s' s r' r y x) in
       ap (λ i. NoEntry i s r) one
       ∙ ap (λ t. NoEntry n t r) (sym x.says ∙ ap (λ i. (line_at l.entries (i - 1)).said) one ∙ y.says)
       ∙ ap (NoEntry n s') (sym x.should ∙ ap (λ i. reply_of o (take (i - 1) J) (command_for o.table.ids (line_at l.entries (i - 1)).word)) one ∙ y.should)
   same_kind (NoClose m) (NoClose n) e x y = ap NoClose (sym x.2 ∙ ap (λ (r : Run). r.first) (same_some x.0 y.0 (sym x.1 ∙ y.1)) ∙ y.2)
   same_kind (NoOrder v p) (NoOrder w q) e x y =
       let one : v ≡ w = omega (arith, x.counted, y.counted, apart_is_one _ _ (v - 1) (w - 1) x.parted y.parted) in
-      ap (λ i. NoOrder i p) one ∙ ap (NoOrder w) (place_is_one _ _ p q (subst (λ i. IsFirstPlace (slice_index_or l.orders (i - 1) []) (slice_index_or (orders_of o J) (i - 1) []) p) one x.first) y.first)
+      ap (λ i. NoOrder i p) one ∙ ap (NoOrder w) (place_is_one _ _ p q
+      (subst (λ i. IsFirstPlace (slice_index_or l.orders (i - 1) []) (slice_index_or (orders_of o J) (i - 1) []) p) one x.first) y.first)
   same_kind (NoPull k n s r) (NoPull k' n' s' r') e x y =
-      let one : x.index ≡ y.index = least_is_one x.index y.index (rank_earlier o J l.pulls k n s r k' n' s' r' x y) (rank_earlier o J l.pulls k' n' s' r' k n s r y x) in
+      let one : x.index ≡ y.index = omega (arith, rank_earlier o J l.pulls k n s r k' n' s' r' x y, rank_earlier o J l.pulls k' n' s' r' k n s r y x) in
       ap (λ i. NoPull i n s r) (sym x.client_is ∙ ap (λ i. (pull_at l.pulls i).client) one ∙ y.client_is)
       ∙ ap (λ i. NoPull k' i s r) (sym x.line_is ∙ ap (λ i. (pull_at l.pulls i).line) one ∙ y.line_is)
       ∙ ap (λ i. NoPull k' n' i r) (sym x.says ∙ ap (λ i. (pull_at l.pulls i).rank) one ∙ y.says)
       ∙ ap (NoPull k' n' s') (sym x.should ∙ ap (λ i. real_rank o J (pull_at l.pulls i)) one ∙ y.should)
   same_kind (NoVersion k n) (NoVersion k' n') e x y =
-      let one : x.index ≡ y.index = least_is_one x.index y.index (version_earlier o.table.ids _ l.pulls k n k' n' x y) (version_earlier o.table.ids _ l.pulls k' n' k n y x) in
+      let one : x.index ≡ y.index =
+      omega (arith, version_earlier o.table.ids (version_of J) l.pulls k n k' n' x y, version_earlier o.table.ids (version_of J) l.pulls k' n' k n y x) in
       ap (λ i. NoVersion i n) (sym x.client_is ∙ ap (λ i. (pull_at l.pulls i).client) one ∙ y.client_is)
       ∙ ap (NoVersion k') (sym x.line_is ∙ ap (λ i. (pull_at l.pulls i).line) one ∙ y.line_is)
   same_kind (NoRun m) (NoRun n) e x y = ap NoRun (omega (arith, x.0, y.0, apart_is_one _ _ (m - 1) (n - 1) x.1 y.1))
@@ -123,7 +122,9 @@ module _ (o : Opening) (l : Live) where
 
   one_reason : (a b : AuditReason) → IsFirstReasonFor o J l a → IsFirstReasonFor o J l b → a ≡ b
   one_reason a b x y =
-      same_kind a b (least_is_one (kind a) (kind b) (λ lt. y.first a lt x.holds) (λ lt. x.first b lt y.holds)) x.holds y.holds
+      let less : kind a < kind b → ⊥ = λ lt. y.first a lt x.holds in
+      let more : kind b < kind a → ⊥ = λ lt. x.first b lt y.holds in
+      same_kind a b (omega (arith, less, more)) x.holds y.holds
 
 pub one_verdict : (t : TableFacts) (weights : List ℕ) (l : Live) (a b : Audit) → IsAudit t weights l a → IsAudit t weights l b → a ≡ b
 one_verdict t weights l (Yes e v s) (Yes e' v' s') x y =

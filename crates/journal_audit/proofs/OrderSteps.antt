@@ -1,15 +1,14 @@
 -- Orders beside one another, place by place and version by version.
-use Rattle.std.proofs.Common.{◌≡◌, ◌≢◌, ℕ, ◌+◌, ◌-◌, ◌≤◌, ◌<◌, inl, inr, Bool, true, false, List, [], ◌∷◌, ◌++◌, get_or, length, map, min, refl, sym, ap, ◌∙◌, subst, arith}
-use Rattle.std.specs.Prelude.{MatchOption, None, Option, Some, if◌then◌else◌, is_some, slice_get, slice_index}
-use Rattle.std.specs.List.{range_with_len, slice_index_or}
+use Rattle.std.proofs.Common.{◌≡◌, ◌≢◌, ℕ, ◌+◌, ◌-◌, ◌≤◌, ◌<◌, inl, inr, Bool, true, false, List, [], ◌∷◌, ◌++◌, get_or, length, map, min, sym, ap, ◌∙◌, subst, arith}
+use Rattle.std.specs.Prelude.{MatchOption, None, Option, Some, if◌then◌else◌, is_some, slice_index}
+use Rattle.std.specs.List.{slice_index_or}
 use Rattle.std.proofs.lemmas.Bool.{cases_lt, false≢true}
-use Rattle.std.proofs.lemmas.List.{ext_get_or, get_or_default, get_or-map, length-map}
-use Rattle.std.proofs.lemmas.List.FromFn.{get_or-range_with_len, length-range_with_len}
-use Rattle.std.proofs.lemmas.Option.{slice_get-get_or, slice_get_past, slice_get_within}
+use Rattle.std.proofs.lemmas.List.{ext_get_or, get_or-map, length-map}
+use Rattle.std.proofs.lemmas.Option.{slice_get-get_or, slice_get_past}
 use Rattle.coflow_units.specs.declared.plan.Place.{Place}
 use Rattle.journal.specs.declared.command.Entry.{Entry}
 use Rattle.journal.specs.declared.opening.Opening.{Opening}
-use Rattle.journal.specs.Journal.{is_version, order_in, version_of}
+use Rattle.journal.specs.Journal.{is_version, version_of}
 use Rattle.journal.proofs.Growth.{order_kept, version_append}
 use Rattle.master_core.specs.Published.{ranked}
 use Rattle.journal_audit.specs.declared.orders.WrongOrder.{WrongOrder}

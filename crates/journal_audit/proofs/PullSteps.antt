@@ -1,5 +1,5 @@
 -- Pulls, one after another.
-use Rattle.std.proofs.Common.{◌≡◌, ◌≢◌, ℕ, ◌+◌, ◌-◌, ◌≤◌, ◌<◌, inl, inr, zero, suc, Bool, true, false, List, [], get_or, length, refl, sym, ap, ◌∙◌, subst, arith}
+use Rattle.std.proofs.Common.{◌≡◌, ◌≢◌, ℕ, ◌+◌, ◌-◌, ◌≤◌, ◌<◌, inl, inr, zero, suc, Bool, true, false, List, [], length, refl, sym, ap, ◌∙◌, subst, arith}
 use Rattle.std.specs.Prelude.{◌&&◌, All, Contains, if◌then◌else◌, nat_le}
 use Rattle.std.proofs.lemmas.Bool.{cases_lt, le-leb}
 use Rattle.std.proofs.lemmas.List.{get_or_default}
@@ -13,7 +13,6 @@ use Rattle.live_text.specs.declared.value.PullLine.{PullLine}
 use Rattle.live_text.specs.Live.{ForNeighbours, IsBefore}
 use Rattle.journal_audit.specs.Looked.{IsNextPull}
 use Rattle.journal_audit.specs.Pulls.{HasVersion, IsFirstWrongRank, IsFirstWrongVersion, pull_at, real_rank}
-use Rattle.journal_audit.specs.Replayed.{told}
 
 -- ---- the rank that a pull should be told
 
@@ -45,7 +44,8 @@ rank_one_more o journal pulls k p is same before j lt = elim (cases_lt j k) [
       subst (λ (i : ℕ). (pull_at pulls i).rank ≡ real_rank o journal (pull_at pulls i)) here (subst (λ (q : PullLine). q.rank ≡ real_rank o journal q) (sym is) same)
 ]
 
-pub rank_wrong_at : (o : Opening) (journal : List Entry) (pulls : List PullLine) (k : ℕ) (p : PullLine) (real : ℕ) → k < length pulls → pull_at pulls k ≡ p → real ≡ real_rank o journal p →
+pub rank_wrong_at : (o : Opening) (journal : List Entry) (pulls : List PullLine) (k : ℕ) (p : PullLine) (real : ℕ) → k < length pulls → pull_at pulls k ≡ p →
+    real ≡ real_rank o journal p →
     p.rank ≢ real → ((j : ℕ) → j < k → (pull_at pulls j).rank ≡ real_rank o journal (pull_at pulls j)) →
     IsFirstWrongRank o journal pulls p.client p.line p.rank real
 rank_wrong_at o journal pulls k p real lt is should differ before = record {
@@ -113,7 +113,8 @@ version_one_more ids newest pulls k rising lt before next j less = elim (cases_l
   | inr le ↦ let here : k ≡ j = omega (arith, le, less) in subst (HasVersion ids newest pulls) here (has_version ids newest pulls k rising lt before next)
 ]
 
-pub version_wrong_at : (ids : List ℕ) (newest : ℕ) (pulls : List PullLine) (k client line : ℕ) → k < length pulls → (pull_at pulls k).client ≡ client → (pull_at pulls k).line ≡ line →
+pub version_wrong_at : (ids : List ℕ) (newest : ℕ) (pulls : List PullLine) (k client line : ℕ) → k < length pulls → (pull_at pulls k).client ≡ client →
+    (pull_at pulls k).line ≡ line →
     (IsNextPull ids newest pulls k → ⊥) → AllHave ids newest pulls k → IsFirstWrongVersion ids newest pulls client line
 version_wrong_at ids newest pulls k client line lt client_is line_is wrong before = record {
   index = k;

@@ -1,5 +1,6 @@
 -- A master that answers the entries, one after another.
-use Rattle.std.proofs.Common.{◌≡◌, ◌≢◌, ℕ, ◌+◌, ◌-◌, ◌≤◌, ◌<◌, Bool, true, false, List, [], ◌∷◌, ◌++◌, get_or, length, map, replicate, take, refl, sym, ap, ◌∙◌, subst, arith, true≢false, append-nil}
+use Rattle.std.proofs.Common.{◌≡◌, ◌≢◌, ℕ, ◌+◌, ◌-◌, ◌≤◌, ◌<◌, Bool, true, false, List, [], ◌∷◌, ◌++◌, get_or, length, map, replicate}
+use Rattle.std.proofs.Common.{take, refl, sym, ap, ◌∙◌, subst, arith, true≢false, append-nil}
 use Rattle.std.specs.Prelude.{All, None, Option, Some, if◌then◌else◌, is_some, nat_eq, nat_le, option_to_list}
 use Rattle.std.specs.List.{flat_map}
 use Rattle.std.specs.List.Sorted.{IsStrictlyIncreasing}
@@ -86,7 +87,9 @@ closing_is o journal k lt = closes_none o (state_of o journal) k (reply_of o jou
 -- ---- its slots
 
 pub even_push : (runs more : List Run) → even_slots (runs ++ more) ≡ even_slots runs ++ even_slots more
-even_push runs more = ap (flat_map (λ (r : ℕ × List ℕ). replicate r.0 r.1)) (map-append run_line runs more) ∙ flat_map-append (λ (r : ℕ × List ℕ). replicate r.0 r.1) (map run_line runs) (map run_line more)
+even_push runs more =
+    ap (flat_map (λ (r : ℕ × List ℕ). replicate r.0 r.1)) (map-append run_line runs more)
+    ∙ flat_map-append (λ (r : ℕ × List ℕ). replicate r.0 r.1) (map run_line runs) (map run_line more)
 
 -- what a schedule needs for the open run
 pub record Pushable (next slots : ℕ) (run : Option Run) : Type 0 where
@@ -117,7 +120,8 @@ none_open xs k (Some r) is = absurd (false≢true (sym (ap is_some is)))
 
 -- ---- one entry more
 
-pub one_entry : (o : Opening) (journal : List Entry) (who : ℕ) (k : Command) → length journal < o.limit → journal_after o journal who k ≡ journal ++ entry who k (reply_of o journal k) ∷ []
+pub one_entry : (o : Opening) (journal : List Entry) (who : ℕ) (k : Command) → length journal < o.limit →
+    journal_after o journal who k ≡ journal ++ entry who k (reply_of o journal k) ∷ []
 one_entry o journal who k lt = ap (λ (b : Bool). journal ++ (if b then [] else entry who k (reply_of o journal k) ∷ [])) (has_room o journal k lt)
 
 pub passed : (o : Opening) (journal : List Entry) (orders : List (List ℕ)) (x : Replayed) → IsReplayed o journal orders x → length x.schedule + 1 ≡ (state_of o journal).next
@@ -125,7 +129,8 @@ passed o journal orders x h =
     ap (λ l. length l + 1) (h.slots ∙ sym (schedule_by_runs o journal h.legal h.in_range h.plain))
     ∙ schedule_length o journal h.legal h.in_range
 
-pub entry_more : (o : Opening) (journal : List Entry) (orders : List (List ℕ)) (old new : Replayed) (who : ℕ) (k : Command) → IsReplayed o journal orders old → length journal < o.limit →
+pub entry_more : (o : Opening) (journal : List Entry) (orders : List (List ℕ)) (old new : Replayed) (who : ℕ) (k : Command) → IsReplayed o journal orders old →
+    length journal < o.limit →
     IsInRange o k → (is_noting k ≡ false) × (is_skipping k ≡ false) → new.schedule ≡ old.schedule ++ even_slots (closing_run k (state_of o journal).run) →
     AreRanks (get nat_eq) o (journal_after o journal who k) new.ranks.items → AreOrders o (journal_after o journal who k) orders new.wrong →
     IsReplayed o (journal_after o journal who k) orders new
@@ -133,8 +138,10 @@ entry_more o journal orders old new who k h lt range plain slots ranks orders_ar
     let after = one_entry o journal who k lt in
     record {
       legal = legal_after o journal who k h.legal;
-      in_range = subst (InRange o) (sym after) (All-push (λ (e : Entry). in_range o e.command ≡ true) journal (entry who k (reply_of o journal k)) h.in_range (range_told o k range));
-      plain = subst IsPlain (sym after) (All-push (λ (e : Entry). (is_noting e.command ≡ false) × (is_skipping e.command ≡ false)) journal (entry who k (reply_of o journal k)) h.plain plain);
+      in_range = subst (InRange o) (sym after)
+          (All-push (λ (e : Entry). in_range o e.command ≡ true) journal (entry who k (reply_of o journal k)) h.in_range (range_told o k range));
+      plain = subst IsPlain (sym after)
+          (All-push (λ (e : Entry). (is_noting e.command ≡ false) × (is_skipping e.command ≡ false)) journal (entry who k (reply_of o journal k)) h.plain plain);
       slots =
           slots ∙ ap (λ l. l ++ even_slots (closing_run k (state_of o journal).run)) h.slots
           ∙ ap (λ l. even_slots (closed_runs o journal) ++ even_slots l) (sym (closing_is o journal k lt))
@@ -163,7 +170,8 @@ before_all o kept entries orders journal x same none h = record {
   replayed = subst (λ j. IsReplayed o j orders x) (sym none) h;
 }
 
-pub count_so_far : (o kept : Opening) (entries : List EntryLine) (orders : List (List ℕ)) (k : ℕ) (journal : List Entry) (x : Replayed) → AnsweredSoFar o entries orders k kept journal x →
+pub count_so_far : (o kept : Opening) (entries : List EntryLine) (orders : List (List ℕ)) (k : ℕ) (journal : List Entry) (x : Replayed) →
+    AnsweredSoFar o entries orders k kept journal x →
     length journal ≡ k
 count_so_far o kept entries orders k journal x h =
     ap length h.journal_is ∙ length-take-le k (stated_by o.table.ids entries) (omega (arith, h.within, length-map entries (entry_for o.table.ids)))
@@ -173,7 +181,8 @@ module _ (o : Opening) (entries : List EntryLine) (k : ℕ) (line : EntryLine) (
   line_is : line_at entries k ≡ line
   line_is = get_or_default entries k (line_at [] 0) line lt ∙ sym is
 
-  pub command_is : (commands : List Command) (command : Command) → commands ≡ map (λ (e : EntryLine). command_for o.table.ids e.word) entries → command ≡ get_or commands k command →
+  pub command_is : (commands : List Command) (command : Command) → commands ≡ map (λ (e : EntryLine). command_for o.table.ids e.word) entries →
+      command ≡ get_or commands k command →
       command ≡ command_for o.table.ids line.word
   command_is commands command same at =
       at ∙ ap (λ l. get_or l k command) same ∙ get_or-map (λ (e : EntryLine). command_for o.table.ids e.word) entries k line command lt
@@ -226,7 +235,8 @@ module _ (o : Opening) (entries : List EntryLine) (k : ℕ) (line : EntryLine) (
       here : line_at entries (position - 1) ≡ line
       here = ap (line_at entries) index ∙ line_is
 
-pub all_answered : (o kept : Opening) (entries : List EntryLine) (orders : List (List ℕ)) (k : ℕ) (journal : List Entry) (x : Replayed) → AnsweredSoFar o entries orders k kept journal x →
+pub all_answered : (o kept : Opening) (entries : List EntryLine) (orders : List (List ℕ)) (k : ℕ) (journal : List Entry) (x : Replayed) →
+    AnsweredSoFar o entries orders k kept journal x →
     length entries ≤ k → journal ≡ stated_by o.table.ids entries
 all_answered o kept entries orders k journal x h all = h.journal_is ∙ take_all k (stated_by o.table.ids entries) (omega (arith, all, length-map entries (entry_for o.table.ids)))
 
@@ -241,10 +251,12 @@ version_made o journal who k lt is =
           ∙ ap (λ (b : Bool). version_of journal + ((if b then 1 else 0) + 0)) is,
     )
 
-pub entry_taken : (o kept : Opening) (journal after : List Entry) (orders : List (List ℕ)) (old new : Replayed) (who : ℕ) (k : Command) (reply : Reply) → IsReplayed o journal orders old →
+pub entry_taken : (o kept : Opening) (journal after : List Entry) (orders : List (List ℕ)) (old new : Replayed) (who : ℕ) (k : Command) (reply : Reply) →
+    IsReplayed o journal orders old →
     length journal < o.limit → IsInRange o k → (is_noting k ≡ false) × (is_skipping k ≡ false) → kept ≡ o → reply ≡ reply_of o journal k → after ≡ journal_after o journal who k →
     new.schedule ≡ old.schedule ++ even_slots (closing_run k (state_of o journal).run) →
-    ((before : List Entry) (e : Entry) → after ≡ before ++ e ∷ [] → e.reply ≡ reply → AreRanks (get nat_eq) kept before old.ranks.items → AreRanks (get nat_eq) kept after new.ranks.items) →
+    ((before : List Entry) (e : Entry) → after ≡ before ++ e ∷ [] → e.reply ≡ reply → AreRanks (get nat_eq) kept before old.ranks.items →
+    AreRanks (get nat_eq) kept after new.ranks.items) →
     ((before : List Entry) (e : Entry) → after ≡ before ++ e ∷ [] → e.reply ≡ reply → AreOrders kept before orders old.wrong → AreOrders kept after orders new.wrong) →
     IsReplayed o after orders new
 entry_taken o kept journal after orders old new who k reply h lt range plain same reply_is adds slots ranks orders_are =
@@ -266,18 +278,21 @@ pub count_commands : (ids : List ℕ) (entries : List EntryLine) (commands : Lis
     length commands ≡ length entries
 count_commands ids entries commands is = ap length is ∙ length-map entries (λ (e : EntryLine). command_for ids e.word)
 
-pub command_at : (ids : List ℕ) (entries : List EntryLine) (commands : List Command) (k : ℕ) → commands ≡ map (λ (e : EntryLine). command_for ids e.word) entries → k < length entries →
+pub command_at : (ids : List ℕ) (entries : List EntryLine) (commands : List Command) (k : ℕ) → commands ≡ map (λ (e : EntryLine). command_for ids e.word) entries →
+    k < length entries →
     get_or commands k (Register 0) ≡ command_for ids (line_at entries k).word
 command_at ids entries commands k is lt = ap (λ l. get_or l k (Register 0)) is ∙ get_or-map (λ (e : EntryLine). command_for ids e.word) entries k (line_at [] 0) (Register 0) lt
 
-pub range_at : (o kept : Opening) (entries : List EntryLine) (commands : List Command) (k : ℕ) → kept ≡ o → commands ≡ map (λ (e : EntryLine). command_for o.table.ids e.word) entries →
+pub range_at : (o kept : Opening) (entries : List EntryLine) (commands : List Command) (k : ℕ) → kept ≡ o →
+    commands ≡ map (λ (e : EntryLine). command_for o.table.ids e.word) entries →
     k < length entries → All (λ (e : EntryLine). IsKnown o.table.ids e.word) entries → All IsEntry entries → IsInRange kept (get_or commands k (Register 0))
 range_at o kept entries commands k same is lt known entry_is =
     subst (λ x. IsInRange x (get_or commands k (Register 0))) (sym same)
     (subst (IsInRange o) (sym (command_at o.table.ids entries commands k is lt))
     (range_for o (line_at entries k).word (known k (line_at [] 0) lt) (entry_is k (line_at [] 0) lt).command))
 
-pub plain_at : (ids : List ℕ) (entries : List EntryLine) (commands : List Command) (k : ℕ) → commands ≡ map (λ (e : EntryLine). command_for ids e.word) entries → k < length entries →
+pub plain_at : (ids : List ℕ) (entries : List EntryLine) (commands : List Command) (k : ℕ) → commands ≡ map (λ (e : EntryLine). command_for ids e.word) entries →
+    k < length entries →
     (is_noting (get_or commands k (Register 0)) ≡ false) × (is_skipping (get_or commands k (Register 0)) ≡ false)
 plain_at ids entries commands k is lt =
     subst (λ (x : Command). (is_noting x ≡ false) × (is_skipping x ≡ false)) (sym (command_at ids entries commands k is lt)) (plain_for ids (line_at entries k).word)

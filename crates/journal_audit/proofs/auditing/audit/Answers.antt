@@ -1,4 +1,4 @@
-use Rattle.std.proofs.Common.{◌≡◌, ℕ, List, refl, subst}
+use Rattle.std.proofs.Common.{List, refl, subst}
 use Rattle.live_text.specs.declared.value.EntryLine.{EntryLine}
 use Rattle.journal_audit.specs.declared.verdict.AuditReason.TheVariants.{NoId}
 use Rattle.journal_audit.specs.Reasons.{IsFirstUnknown}

@@ -1,4 +1,4 @@
-use Rattle.std.proofs.Common.{◌≡◌, ◌<◌, ℕ, List, length, refl, sym, ap, ◌∙◌, subst}
+use Rattle.std.proofs.Common.{◌≡◌, ℕ, List, length, refl, sym, ap, ◌∙◌, subst}
 use Rattle.std.specs.Prelude.{All, max}
 use Rattle.journal.specs.declared.opening.Opening.{Opening}
 use Rattle.live_text.specs.declared.value.EntryLine.{EntryLine}

@@ -1,4 +1,4 @@
-use Rattle.std.proofs.Common.{◌≡◌, ◌≤◌, ℕ, List, length, arith, subst, sym, ◌∙◌}
+use Rattle.std.proofs.Common.{◌≤◌, List, length, arith, subst, sym}
 use Rattle.coflow_units.specs.declared.plan.Run.{Run}
 use Rattle.cert_check.proofs.SlotSteps.{slots_count}
 use Rattle.schedule_model.specs.RunList.{slots_in}

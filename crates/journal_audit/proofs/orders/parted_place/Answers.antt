@@ -1,4 +1,4 @@
-use Rattle.std.proofs.Common.{◌≡◌, ◌+◌, ◌<◌, ℕ, inl, inr, length, map, min, slice_index, arith, subst, sym, ◌∙◌}
+use Rattle.std.proofs.Common.{◌≡◌, ◌<◌, ℕ, inl, inr, length, map, min, slice_index, arith, subst, sym, ◌∙◌}
 use Rattle.std.proofs.lemmas.Bool.{cases_lt}
 use Rattle.master_core.specs.Published.{ranked}
 use Rattle.journal_audit.proofs.OrderSteps.{count_places, id_at, place_apart, same_order}

@@ -1,4 +1,4 @@
-use Rattle.std.proofs.Common.{◌≡◌, ◌<◌, ℕ, List, [], ◌∷◌, ◌++◌, false, true, subst, sym, ap, ◌∙◌}
+use Rattle.std.proofs.Common.{◌≡◌, ◌<◌, ℕ, List, true, subst, sym, ap, ◌∙◌}
 use Rattle.journal.specs.declared.command.Entry.{Entry}
 use Rattle.journal.specs.Journal.{is_version, version_of}
 use Rattle.journal_audit.specs.Orders.{AreOrders, HasOrder}

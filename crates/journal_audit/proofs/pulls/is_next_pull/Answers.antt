@@ -1,4 +1,4 @@
-use Rattle.std.proofs.Common.{◌≡◌, ◌<◌, ◌≤◌, ℕ, nat_eq, refl, sym, ◌∙◌, arith}
+use Rattle.std.proofs.Common.{nat_eq, refl, sym, ◌∙◌, arith}
 use Rattle.std.proofs.lemmas.Bool.{false≢true, le-leb, leb-true}
 use Rattle.indexmap.specs.IndexMap.{get}
 use Rattle.journal_audit.specs.Pulls.{pull_at}

@@ -1,4 +1,4 @@
-use Rattle.std.proofs.Common.{◌≡◌, ◌<◌, ℕ, refl, sym, ◌∙◌, arith}
+use Rattle.std.proofs.Common.{refl, sym, ◌∙◌, arith}
 use Rattle.std.proofs.lemmas.Bool.{false≢true}
 use Rattle.journal_audit.proofs.PullSteps.{version_one_more, version_wrong_at}
 use Rattle.journal_audit.proofs.pulls.wrong_version.Goals as goal

@@ -1,4 +1,4 @@
-use Rattle.std.proofs.Common.{◌≡◌, ◌+◌, ◌<◌, ◌≤◌, ℕ, length, slice_index, slice_index_or, arith, ap, ◌∙◌}
+use Rattle.std.proofs.Common.{◌≡◌, ◌≤◌, length, slice_index, slice_index_or, arith, ap, ◌∙◌}
 use Rattle.std.proofs.lemmas.Grind.{common_steps}
 use Rattle.std.proofs.lemmas.List.{take_all}
 use Rattle.coflow_units.specs.declared.fabric.Side.TheVariants.{Ingress}
@@ -15,7 +15,8 @@ no_place = record { coflow = 0; port = record { side = Ingress; number = 0 }; y 
 pub loop-index-preserved : goal.loop-index-preserved
 loop-index-preserved c = λ coflow.
     let xs = ranked c.args.places.now in
-    let at : slice_index xs c.loop-index.index ≡ (slice_index_or c.args.places.now c.loop-index.index no_place).coflow = place_at c.args.places.now c.loop-index.index no_place c.loop-index-test.true in
+    let at : slice_index xs c.loop-index.index ≡ (slice_index_or c.args.places.now c.loop-index.index no_place).coflow =
+    place_at c.args.places.now c.loop-index.index no_place c.loop-index-test.true in
     let more = rank_more xs c.loop-index.index coflow (omega (arith, c.loop-index-test.true, ranked_len c.args.places.now)) in
     let here = c.loop-index.invariant coflow in
     let there = c.loop-index.invariant (slice_index xs c.loop-index.index) in

@@ -1,4 +1,4 @@
-use Rattle.std.proofs.Common.{◌≡◌, ◌-◌, ◌<◌, ◌≤◌, ℕ, List, length, nat_eq, sym, ap, ◌∙◌, subst, true}
+use Rattle.std.proofs.Common.{◌≡◌, ◌-◌, ◌<◌, ℕ, List, length, nat_eq, sym, ap, ◌∙◌, subst, true}
 use Rattle.std.specs.Prelude.{All, is_some}
 use Rattle.indexmap.specs.IndexMap.{get}
 use Rattle.journal.specs.Closed.{schedule_of}
@@ -61,7 +61,8 @@ returns-in-Some-wrong_version c =
     first_at o c.args.live.now journal (NoVersion w.client w.line) c.requires.journal
     (before_versions o c.args.live.now journal c.requires.known c.requires.replayed.legal closed orders ranks)
     (subst (λ (l : List PullLine). IsFirstWrongVersion o.table.ids (version_of journal) l w.client w.line) c.as_slice-pulls.ensures
-    (subst (λ (n : ℕ). IsFirstWrongVersion o.table.ids n c.as_slice-pulls.result.now w.client w.line) c.version-newest.ensures (c.in-Some-wrong_version.ensures o.table.ids c.requires.coflows)))
+    (subst (λ (n : ℕ). IsFirstWrongVersion o.table.ids n c.as_slice-pulls.result.now w.client w.line) c.version-newest.ensures
+    (c.in-Some-wrong_version.ensures o.table.ids c.requires.coflows)))
 
 pub first_parted_slot-requires-clause-stated : goal.first_parted_slot-requires-clause-stated
 first_parted_slot-requires-clause-stated c = subst IsKept (sym c.as_slice-stated.ensures) (live_kept c.args.live.now c.requires.live)

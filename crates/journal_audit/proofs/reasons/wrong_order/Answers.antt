@@ -1,4 +1,4 @@
-use Rattle.std.proofs.Common.{◌≡◌, ◌+◌, ◌<◌, ℕ, length, arith, subst, sym, ◌∙◌}
+use Rattle.std.proofs.Common.{◌+◌, ◌<◌, ℕ, length, arith, subst, sym, ◌∙◌}
 use Rattle.journal.specs.Journal.{version_of}
 use Rattle.journal_audit.specs.Parted.{IsFirstWrongOrder}
 use Rattle.journal_audit.specs.Sound.{orders_of}

@@ -1,4 +1,4 @@
-use Rattle.std.proofs.Common.{◌≡◌, ◌≤◌, ℕ, sym, ap, ◌∙◌, subst}
+use Rattle.std.proofs.Common.{◌≤◌, sym, ap, ◌∙◌, subst}
 use Rattle.journal.specs.Journal.{is_version, version_of}
 use Rattle.journal.proofs.Sound.{legal_sound}
 use Rattle.journal_audit.proofs.ReplaySteps.{entry_taken, passed, version_made}
