@@ -5,13 +5,11 @@ ghost use Rattle.client_session.specs.Models.{IsDriverOf, IsSessionOf};
 use crate::begun::{hall_of_two, journal_of, seat};
 use crate::example::show;
 use crate::rows::{Case, play_rows};
-use crate::threads::{Crowd, play_all};
 use crate::told::{Told, tell, tell_entries};
 use client_session::{Driver, Entry, Hall, Session};
 use std::alloc::Global;
 use std::process::Abort;
 use std::sync::Wait;
-use std::thread::Threads;
 
 /// How many sessions a game has, how many turns each of them may take, and how many entries the journal has at most.
 #[derive(Clone, Copy, Debug)]
@@ -28,12 +26,10 @@ pub(crate) enum Game<'a> {
     Example,
     /// Rows of calls and of what they answer.
     Rows(&'a [Case<'a>]),
-    /// Many calls, on threads.
-    Crowd(Crowd<'a>),
 }
 
 /// Makes the calls of a game.
-fn play<R: Threads + Wait + Sync + Abort>(
+fn play<R: Wait + Abort>(
     rt: &R,
     alloc: Global,
     hall: &Hall,
@@ -51,12 +47,11 @@ fn play<R: Threads + Wait + Sync + Abort>(
     match game {
         Game::Example => show(rt, hall, driver, sessions),
         Game::Rows(rows) => play_rows(rt, alloc, hall, driver, sessions, rows),
-        Game::Crowd(crowd) => play_all(rt, alloc, hall, sessions, crowd),
     }
 }
 
 /// Plays a game in a new hall, and closes it. The receipts are told, and the journal is answered.
-fn played<R: Threads + Wait + Sync + Abort>(
+fn played<R: Wait + Abort>(
     rt: &R,
     alloc: Global,
     size: Size,
@@ -83,7 +78,7 @@ fn played<R: Threads + Wait + Sync + Abort>(
 }
 
 /// Plays a game in a new hall. The receipts are told, and are those of the closed journal, which is answered.
-pub(crate) fn agreed<R: Threads + Wait + Sync + Abort>(
+pub(crate) fn agreed<R: Wait + Abort>(
     rt: &R,
     alloc: Global,
     size: Size,

@@ -1,4 +1,4 @@
-//! Tests of halls. Clauses say what each call may answer; here is that calls in a known order answer what was worked out by hand, that what threads were told stands in the closed journal, and
+//! Tests of halls. Clauses say what each call may answer; here is that calls in a known order answer what was worked out by hand, that what sessions were told stands in the closed journal, and
 //! that a hall from which a session is missing stays open.
 #![tactic(auto)]
 
@@ -17,8 +17,4 @@ mod orders;
 #[cfg(test)]
 mod rows;
 #[cfg(test)]
-mod threads;
-#[cfg(test)]
 mod told;
-#[cfg(test)]
-mod versions;

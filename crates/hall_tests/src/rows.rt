@@ -12,7 +12,6 @@ use std::fmt::Debug;
 use std::process::Abort;
 use std::sync::Wait;
 use std::test::*;
-use std::thread::Threads;
 
 /// A call of a row: of the driver, of a session by its place, or of the hall. `Seen` asks nothing of a session.
 #[derive(Clone, Copy)]
@@ -151,13 +150,7 @@ pub(crate) fn play_rows<R: Wait + Abort>(
 }
 
 /// Makes the calls of the rows in a new hall of two sessions, and closes it. The receipts are those of the closed journal.
-fn play<R: Threads + Wait + Sync + Abort>(
-    rt: &R,
-    alloc: Global,
-    limit: u32,
-    calls: u32,
-    rows: &[Case<'_>],
-)
+fn play<R: Wait + Abort>(rt: &R, alloc: Global, limit: u32, calls: u32, rows: &[Case<'_>])
     requires some { 1 ≤ limit }
     requires few { limit ≤ 2 ^ 23 }
 {

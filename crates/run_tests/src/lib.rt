@@ -1,9 +1,7 @@
-//! Tests of a runner, and of plans that a hall serves. Clauses say what each answer means; here is that runs and plans in small halls answer what was worked out by hand, and that the agents
+//! Tests of a runner. Clauses say what each answer means; here is that runs in small halls answer what was worked out by hand, and that the agents
 //! of a run are on threads at the same time.
 #![tactic(auto)]
 
-#[cfg(test)]
-mod hall_plans;
 #[cfg(test)]
 mod meeting;
 #[cfg(test)]

@@ -2,9 +2,8 @@
 ghost use Rattle.std.specs.Prelude.{◌≡◌, ◌≤◌, []};
 ghost use Rattle.hall_plan.specs.Journals.{HasRoom};
 
-use crate::stage::{CROSSED, table_of};
-use crate::told::tell_wire;
-use coflow_units::Items;
+use coflow_units::{Items, MAX_TEXT};
+use flow_table::Table;
 use hall_plan::{HallPlan, plan};
 use master_core::Master;
 use outside::MemWire;
@@ -13,6 +12,25 @@ use std::process::Abort;
 use std::sync::Wait;
 use std::test::*;
 use std::thread::Threads;
+use trace_reader::read_trace;
+
+/// Two coflows, each of a unit from both ingress ports to one egress port. Each slot grants both ports.
+const CROSSED: &str = "1 2\n1 0 2 0 1 1 0:2\n2 0 2 0 1 1 1:2\n";
+
+/// The table of a trace with two ports, where a unit has one megabyte.
+fn table_of<R: Abort>(rt: &R, alloc: Global, trace: &str) -> Table
+    ensures ports { result.ports ≡ 2 }
+{
+    assert!(rt; trace.len() <= MAX_TEXT);
+    let Ok(trace) = read_trace(alloc, trace.as_bytes()) else {
+        panic!(rt; "no table");
+    };
+    let Ok(table) = Table::build(alloc, &trace, 1) else {
+        panic!(rt; "no table");
+    };
+    assert!(rt; table.ports() == 2);
+    table
+}
 
 /// A master of the trace's coflows, each of weight 1, with room for a plan.
 fn roomy_master<R: Abort>(rt: &R, alloc: Global, trace: &str) -> Master
@@ -20,9 +38,7 @@ fn roomy_master<R: Abort>(rt: &R, alloc: Global, trace: &str) -> Master
     ensures journal { result.journal ≡ [] }
     ensures room { HasRoom result.opening }
 {
-    let Some(table) = table_of(alloc, trace) else {
-        panic!(rt; "no table");
-    };
+    let table = table_of(rt, alloc, trace);
     let coflows = table.coflows();
     let flows = table.flows().len() as u32;
     let limit = coflows + 2 * flows + 2;
@@ -44,6 +60,15 @@ fn tell_plan<R: Abort>(rt: &R, made: &HallPlan, text: &mut String) {
     }
     for run in made.schedule.runs() {
         let Ok(()) = write!(text, "run {} {:?}\n", run.length, run.flows.as_slice()) else {
+            panic!(rt; "no memory");
+        };
+    }
+}
+
+/// Tells the runs that a wire accepted.
+fn tell_wire<R: Abort>(rt: &R, port: u32, wire: &MemWire, text: &mut String) {
+    for index in 0..wire.len() {
+        let Ok(()) = write!(text, "{port}: {:?}\n", wire.run(index)) else {
             panic!(rt; "no memory");
         };
     }

@@ -3,8 +3,8 @@ ghost use Rattle.std.specs.Prelude.{◌≡◌, ◌≤◌, All, length};
 ghost use Rattle.client_session.specs.Models.{IsSessionOf};
 
 use crate::asks::{Ask, Said, answered};
-use crate::games::{Game, Size, agreed};
-use crate::told::Told;
+use crate::begun::{hall_of_two, journal_of, seat};
+use crate::told::{Told, tell, tell_entries};
 use crate::versions::{Note, is_true, versions_of};
 use client_session::{Entry, Hall, Pulled, Session};
 use std::alloc::Global;
@@ -176,15 +176,41 @@ fn are_true(rt: &impl Abort, alloc: Global, journal: &[Entry], told: &[Told], lo
     }
 }
 
+/// Makes the calls of a crowd in a new hall, and closes it. The receipts are told, and the journal is answered.
+fn played<R: Threads + Wait + Sync + Abort>(
+    rt: &R,
+    alloc: Global,
+    count: u32,
+    crowd: Crowd<'_>,
+    told: &mut Vec<Told>,
+) -> Vec<Entry>
+    requires few { count ≤ 64 }
+{
+    let mut sessions = Vec::new(alloc);
+    let (hall, mut driver) = hall_of_two(rt, alloc, LIMIT);
+    seat(rt, alloc, &hall, &mut driver, &mut sessions, count, TURNS);
+    play_all(rt, alloc, &hall, &mut sessions, crowd);
+    tell(rt, &sessions, told);
+    journal_of(rt, alloc, hall, driver, sessions)
+}
+
+/// The receipts are those of the entries of so many sessions in the journal.
+fn are_entries(rt: &impl Abort, alloc: Global, journal: &[Entry], count: u32, told: &[Told]) {
+    let mut entries = Vec::new(alloc);
+    tell_entries(rt, journal, count, &mut entries);
+    assert!(rt; told == entries.as_slice());
+    assert_eq!(rt; told.len(), journal.len());
+}
+
 /// Plays a crowd in a new hall. What was told and noted is compared with the closed journal.
 fn compare<R: Threads + Wait + Sync + Abort>(
     rt: &R,
     alloc: Global,
     mode: Mode,
-    sessions: u32,
+    count: u32,
     threads: usize,
 )
-    requires few { sessions ≤ 64 }
+    requires few { count ≤ 64 }
     requires some { 1 ≤ threads }
 {
     let log = Mutex::new(Log {
@@ -196,14 +222,9 @@ fn compare<R: Threads + Wait + Sync + Abort>(
         threads,
         log: &log,
     };
-    let size = Size {
-        sessions,
-        calls: TURNS,
-        limit: LIMIT,
-    };
     let mut told = Vec::new(alloc);
-    let journal = agreed(rt, alloc, size, Game::Crowd(crowd), &mut told);
-    assert_eq!(rt; told.len(), journal.len());
+    let journal = played(rt, alloc, count, crowd, &mut told);
+    are_entries(rt, alloc, &journal, count, &told);
     are_true(rt, alloc, &journal, &told, &log.into_inner());
 }
 
