@@ -1,2 +1,3 @@
 pub mod ActsTold
 pub mod ClientsTold
+pub mod DriversTold

@@ -1,16 +1,23 @@
 //! From sessions and rounds to deeds.
-ghost use Rattle.std.specs.Prelude.{◌≡◌, ℕ, ◌++◌, [], All, Contains, List};
+ghost use Rattle.std.specs.Prelude.{◌≡◌, ℕ, ◌++◌, true, [], ◌∷◌, All, Contains, List};
+ghost use Rattle.journal.specs.declared.command.Command.TheVariants.{Open};
 ghost use Rattle.journal.specs.declared.command.Entry.{Entry};
+ghost use Rattle.journal.specs.declared.command.Reply.TheVariants.{NothingLeft};
 ghost use Rattle.journal.specs.declared.opening.Opening.{Opening};
+ghost use Rattle.journal.specs.Driven.{Drive, IsDriven, is_other, IsSentWhole};
+ghost use Rattle.journal.specs.Journal.{entry, IsLegal};
 ghost use Rattle.script_reader.specs.declared.script.Script.{Script};
 ghost use Rattle.client_session.specs.Closes.{HasEnded};
+ghost use Rattle.client_session.specs.Drivers.{GrownByOthers};
 ghost use Rattle.client_session.specs.Levels.{IsRaised};
 ghost use Rattle.client_session.specs.Models.{SessionModel};
 ghost use Rattle.client_session.specs.Own.{own_entries};
-ghost use Rattle.live_model.specs.Levels.{AreSessions, IsBetween, IsSession, Levels};
+ghost use Rattle.live_model.specs.Levels.{AreSessions, IsBetween, IsSession, Levels, spell_driven, spell_for_nothing};
+ghost use Rattle.live_model.specs.Rounds.{Spell};
 ghost use Rattle.live_model.specs.Script.{lines_by};
 ghost use Rattle.live_rounds.specs.Acts.{Act, entries_in, HasActed};
 ghost use Rattle.live_course.specs.Clients.{AreClients};
+ghost use Rattle.live_course.specs.Drivers.{AreOpenings};
 ghost use Rattle.live_course.specs.Told.{acts_of, deeds_of, IsNew, IsRoundBetween, LiesBetween, lines_of};
 
 /// How sessions go on: a levelling carries out no line, and rounds follow each other.
@@ -51,4 +58,19 @@ pub fn clients_do_their_scripts()
     ensures levels { (o : Opening) (journal : List Entry) (script : Script) (levels : Levels) (clients : ℕ)
         (told : ℕ → List (ℕ × Act)) → AreClients o journal script levels clients told →
         (k : ℕ) → All (IsBetween journal levels) (deeds_of (told k)) }
+{}
+
+/// The driver's entries are openings, one after the other: none at first, one more by a run that was sent whole and by an
+/// opening that finds nothing left, and none by entries of others.
+pub fn drivers_open_runs()
+    ensures first { (most : ℕ) → AreOpenings most [] [] }
+    ensures run { (o : Opening) (round most : ℕ) (before after : List Entry) (d : Drive) (spells : List Spell) →
+        IsLegal o after → IsDriven o before after d → IsSentWhole o before d → d.most ≡ most →
+        AreOpenings most before spells → AreOpenings most after (spells ++ spell_driven round before d ∷ []) }
+    ensures nothing { (round most : ℕ) (before earlier : List Entry) (spells : List Spell) →
+        All (λ (e : Entry). is_other e ≡ true) earlier → AreOpenings most before spells →
+        AreOpenings most (before ++ earlier ++ entry 0 (Open most) NothingLeft ∷ [])
+        (spells ++ spell_for_nothing round before earlier ∷ []) }
+    ensures others { (most : ℕ) (before after : List Entry) (spells : List Spell) → GrownByOthers before after →
+        AreOpenings most before spells → AreOpenings most after spells }
 {}
