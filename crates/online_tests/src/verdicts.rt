@@ -19,7 +19,7 @@ use trace_reader::read_trace;
 const LATE: &str = "2 2\n1 0 1 0 1 1:6\n2 16 1 0 1 1:1\n";
 
 /// The flows of a trace, where a unit has one megabyte.
-fn table_of(alloc: Global, trace: &str) -> Result<Table, Fail> {
+pub(crate) fn table_of(alloc: Global, trace: &str) -> Result<Table, Fail> {
     if trace.len() > MAX_TEXT {
         return Err(Fail::new("a long trace"));
     }
@@ -28,14 +28,14 @@ fn table_of(alloc: Global, trace: &str) -> Result<Table, Fail> {
 }
 
 /// Tests what the check requires of weights.
-fn are_weights(weights: &[u64]) -> bool
+pub(crate) fn are_weights(weights: &[u64]) -> bool
     ensures { IsTrue result → All (λ w. w ≤ MAX_WEIGHT) weights.now }
 {
     weights.iter().all(|weight| *weight <= MAX_WEIGHT)
 }
 
 /// Tests what the check requires of arrivals.
-fn are_arrivals(arrivals: &[u64]) -> bool
+pub(crate) fn are_arrivals(arrivals: &[u64]) -> bool
     ensures { IsTrue result → All (λ a. a ≤ MAX_ARRIVAL + 1) arrivals.now }
 {
     arrivals
@@ -46,7 +46,7 @@ fn are_arrivals(arrivals: &[u64]) -> bool
 /// What a row states: id, port number, y and z of each release line, at ingress ports; the total; id and slot of each completion; the cost; and the runs, with a `/` between
 /// lines.
 #[derive(Clone, Copy)]
-struct Stated<'a> {
+pub(crate) struct Stated<'a> {
     release: &'a [(u32, u32, u128, u128)],
     total: u128,
     done: &'a [(u32, u64)],
@@ -54,8 +54,20 @@ struct Stated<'a> {
     runs: &'a str,
 }
 
-/// The online run that a row states, with one publishing of which nothing is right.
+/// The online run that a row states.
 fn online_of(alloc: Global, stated: Stated) -> Result<Online, Fail>
+    ensures { IfOk result IsOnline }
+{
+    let release = release_lines(alloc, stated.release)?;
+    online_with(alloc, release, stated)
+}
+
+/// The online run that a row states, with this certificate and one publishing of which nothing is right.
+pub(crate) fn online_with(
+    alloc: Global,
+    release: Items<ReleaseLine>,
+    stated: Stated,
+) -> Result<Online, Fail>
     ensures { IfOk result IsOnline }
 {
     let Report { runs, .. } = report_of(alloc, stated.runs)?;
@@ -70,7 +82,7 @@ fn online_of(alloc: Global, stated: Stated) -> Result<Online, Fail>
         epochs: Items::from_vec(epochs),
         done: lines_done(alloc, stated.done)?,
         cost: stated.cost,
-        release: release_lines(alloc, stated.release)?,
+        release,
         total: stated.total,
         runs,
     })
@@ -149,7 +161,7 @@ const RIGHT: Stated<'static> = Stated {
 };
 
 /// The same where nothing behind the certificate is right.
-const LATER_WRONG: Stated<'static> = Stated {
+pub(crate) const LATER_WRONG: Stated<'static> = Stated {
     total: 99,
     done: &[],
     cost: 99,
