@@ -1,5 +1,5 @@
 -- The driver's openings go on.
-use Rattle.std.proofs.Common.{◌≡◌, ℕ, List, [], ◌∷◌, ◌++◌, map, refl, sym, ap, ◌∙◌, arith, ⊎_elim, append-nil, flat_map}
+use Rattle.std.proofs.Common.{◌≡◌, ℕ, ◌+◌, ◌≤◌, length, length-append, List, [], ◌∷◌, ◌++◌, map, refl, sym, ap, ◌∙◌, arith, ⊎_elim, append-nil, flat_map}
 use Rattle.std.specs.Prelude.{true, All}
 use Rattle.std.proofs.lemmas.Grind.{flat_map-append}
 use Rattle.std.proofs.lemmas.List.Elements.{All-nil, All-push}
@@ -8,12 +8,12 @@ use Rattle.journal.specs.declared.command.Entry.{Entry}
 use Rattle.journal.specs.declared.command.Reply.TheVariants.{NothingLeft}
 use Rattle.journal.specs.declared.opening.Opening.{Opening}
 use Rattle.journal.specs.Journal.{entry, IsLegal}
-use Rattle.journal.specs.Driven.{Drive, IsDriven, is_other, IsSentWhole}
+use Rattle.journal.specs.Driven.{closed_in, closing, Drive, IsDriven, is_other, IsSentWhole, opened_in, opening}
 use Rattle.journal.proofs.OwnEntries.{own_close}
 use Rattle.client_session.specs.Drivers.{GrownByOthers}
 use Rattle.client_session.specs.Own.{OwnEntry}
 use Rattle.client_session.proofs.OwnSteps.{own_same}
-use Rattle.live_model.specs.Levels.{spell_driven, spell_for_nothing}
+use Rattle.live_model.specs.Levels.{IsSpellBetween, Levels, spell_driven, spell_for_nothing}
 use Rattle.live_model.specs.Rounds.{FitsAnswer, Spell, spell_entries}
 use Rattle.live_model.proofs.DriverSteps.{driven_is_spell, nothing_is_spell}
 use Rattle.live_model.proofs.OwnStands.{own_have}
@@ -57,3 +57,22 @@ others_open_none most before after spells grown i = record {
       ∙ (sym (own_have before 0).entries ∙ i.entries));
   answers = i.answers;
 }
+
+-- ---- openings between levels
+
+pub run_lies_between : (o : Opening) (levels : Levels) (round : ℕ) (before after : List Entry) (d : Drive) → IsDriven o before after d → levels.position round ≤ length
+    (opened_in before d) →
+    length after ≤ levels.position (round + 1) → IsSpellBetween levels (spell_driven round before d)
+run_lies_between o levels round before after d h low high =
+    let whole = ap (λ (l : List Entry). length l) h.goes_on in
+    let closed = length-append (closed_in before d) (closing d ∷ []) in
+    let between = length-append (opened_in before d ++ opening d ∷ []) d.between in
+    let opened = length-append (opened_in before d) (opening d ∷ []) in
+    let earlier = length-append before d.earlier in
+    record { above = omega (arith, low, earlier); within = omega (arith, high, whole, closed, between, opened, earlier) }
+
+pub nothing_lies_between : (levels : Levels) (round : ℕ) (before earlier : List Entry) → levels.position round ≤ length (before ++ earlier) →
+    length (before ++ earlier) + 1 ≤ levels.position (round + 1) → IsSpellBetween levels (spell_for_nothing round before earlier)
+nothing_lies_between levels round before earlier low high =
+    let long = length-append before earlier in
+    record { above = omega (arith, low, long); within = omega (arith, high, long) }

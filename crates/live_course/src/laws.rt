@@ -1,10 +1,10 @@
 //! From sessions and rounds to deeds.
-ghost use Rattle.std.specs.Prelude.{◌≡◌, ℕ, ◌++◌, true, [], ◌∷◌, All, Contains, List};
+ghost use Rattle.std.specs.Prelude.{◌≡◌, ℕ, ◌+◌, ◌≤◌, ◌++◌, true, [], ◌∷◌, All, Contains, length, List};
 ghost use Rattle.journal.specs.declared.command.Command.TheVariants.{Open};
 ghost use Rattle.journal.specs.declared.command.Entry.{Entry};
 ghost use Rattle.journal.specs.declared.command.Reply.TheVariants.{NothingLeft};
 ghost use Rattle.journal.specs.declared.opening.Opening.{Opening};
-ghost use Rattle.journal.specs.Driven.{Drive, IsDriven, is_other, IsSentWhole};
+ghost use Rattle.journal.specs.Driven.{Drive, IsDriven, is_other, IsSentWhole, opened_in};
 ghost use Rattle.journal.specs.Journal.{entry, IsLegal};
 ghost use Rattle.script_reader.specs.declared.script.Script.{Script};
 ghost use Rattle.client_session.specs.Closes.{HasEnded};
@@ -12,7 +12,7 @@ ghost use Rattle.client_session.specs.Drivers.{GrownByOthers};
 ghost use Rattle.client_session.specs.Levels.{IsRaised};
 ghost use Rattle.client_session.specs.Models.{SessionModel};
 ghost use Rattle.client_session.specs.Own.{own_entries};
-ghost use Rattle.live_model.specs.Levels.{AreSessions, IsBetween, IsSession, Levels, spell_driven, spell_for_nothing};
+ghost use Rattle.live_model.specs.Levels.{AreSessions, IsBetween, IsSession, IsSpellBetween, Levels, spell_driven, spell_for_nothing};
 ghost use Rattle.live_model.specs.Rounds.{Spell};
 ghost use Rattle.live_model.specs.Script.{lines_by};
 ghost use Rattle.live_rounds.specs.Acts.{Act, entries_in, HasActed};
@@ -73,4 +73,16 @@ pub fn drivers_open_runs()
         (spells ++ spell_for_nothing round before earlier ∷ []) }
     ensures others { (most : ℕ) (before after : List Entry) (spells : List Spell) → GrownByOthers before after →
         AreOpenings most before spells → AreOpenings most after spells }
+{}
+
+/// An opening that stands behind the level before its round, and ends no later than the level behind it, lies between
+/// them.
+pub fn openings_lie_between_levels()
+    ensures run { (o : Opening) (levels : Levels) (round : ℕ) (before after : List Entry) (d : Drive) →
+        IsDriven o before after d → levels.position round ≤ length (opened_in before d) →
+        length after ≤ levels.position (round + 1) → IsSpellBetween levels (spell_driven round before d) }
+    ensures nothing { (levels : Levels) (round : ℕ) (before earlier : List Entry) →
+        levels.position round ≤ length (before ++ earlier) →
+        length (before ++ earlier) + 1 ≤ levels.position (round + 1) →
+        IsSpellBetween levels (spell_for_nothing round before earlier) }
 {}
