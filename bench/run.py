@@ -3,12 +3,12 @@
 
 Use: bench/run.py [--peer 'PROGRAM WORD ..'] [SHAPE ..]
      bench/run.py picture      draws windows of 1000 slots of a large plan alone; the exit code is 1 where one takes more than its bound
-     bench/run.py compare      times a comparison alone, beside the serving of one plan
+     bench/run.py compare      times a comparison alone, beside the serving of one order
 
 First, on each shape of load, the commands `plan` and `check`, output to /dev/null: seconds of the processor, the least of three runs, and the peak of memory. `--peer` names another program
 with the same commands, words behind it included; it runs in turn with ours, and the ratios to it are printed beside. Shapes on the command line are the only ones that run.
 At the end the figures stand as one table in Markdown, with the date, the machine and how busy it was, and beside it how `plan` grows with the units and with the coflows.
-Then, with no shape named, the limits of the text and of the table, the benchmarks of parts of the program, one run each, the windows of a large plan, and `compare` beside the serving of one plan, which `perf` tells
+Then, with no shape named, the limits of the text and of the table, the benchmarks of parts of the program, one run each, the windows of a large plan, and `compare` beside the serving of one order, which `perf` tells
 apart where it is there.
 """
 import datetime
@@ -34,8 +34,8 @@ MASTER = os.path.join(TOP, "crates", "master_bench", "out", "master_bench")
 
 RUNS = 3
 
-# What `perf` calls the functions that serve the order of a plan. The loop over the runs stands within that of the plan, and so does the order, which takes a millisecond at most.
-SERVING = re.compile(r"matching::|slot_switch::|plans::planning::plan\b")
+# What `perf` calls the functions that serve an order without a hall.
+SERVING = re.compile(r"matching::|slot_switch::")
 
 # shape: trace, words behind the files
 SHAPES = {
@@ -197,7 +197,7 @@ def windows(folder):
 
 
 def serving_share(words, folder):
-    """Which part of the time of `plan` goes into serving its order. None where `perf` does not tell."""
+    """Which part of the time of `classes` goes into serving its order. None where `perf` does not tell."""
     if shutil.which("perf") is None:
         return None
     record = ["perf", "record", "-q", "-F", "1999", "-o", "perf.data", PROGRAM, *words]
@@ -210,18 +210,19 @@ def serving_share(words, folder):
 
 
 def comparison(folder):
-    """The seconds of `compare`, which serves eight orders, and how many times those of serving the order of one plan they are."""
+    """The seconds of `compare`, which serves eight orders, and how many times those of serving one order they are."""
     put(folder, "t", traces.hour)
     words = ["t", "--unit", "16"]
     plan = min(measured([PROGRAM, "plan", *words], folder)[0] for _ in range(RUNS))
+    classes = min(measured([PROGRAM, "classes", *words], folder)[0] for _ in range(RUNS))
     whole, memory, code = min(measured([PROGRAM, "compare", *words], folder) for _ in range(RUNS))
     if code != 0:
         print("compare: code %d" % code, flush=True)
         return
     line = "compare, the shape of the public trace, --unit 16  %8.2f s  %5d MiB  code %d  %.1f times plan" % (whole, memory, code, whole / plan)
-    share = serving_share(["plan", *words], folder)
+    share = serving_share(["classes", *words], folder)
     if share:
-        line += ", %.1f times its serving, which is %.0f %% of it (bound 9)" % (whole / (plan * share), 100 * share)
+        line += ", %.1f times the serving of one order, which is %.0f %% of classes (bound 9)" % (whole / (classes * share), 100 * share)
     print(line, flush=True)
 
 

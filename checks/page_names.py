@@ -79,7 +79,7 @@ def is_defined(name, text):
 
 def hall_names():
     """Each name in the last cells of docs/HALL.md, and whether it is there."""
-    crates = "turnstile", "rank_board", "client_session"
+    crates = "turnstile", "rank_board", "client_session", "hall_plan", "served_plans", "sincronia_cli"
     calls, text = {}, "\n".join(map(definitions_of, crates))
     for crate in crates:
         for call, clauses in clauses_of(crate).items():
@@ -87,7 +87,7 @@ def hall_names():
     for line in read("docs", "HALL.md").split("## What a hall promises on turns")[1].split("\n"):
         before = None
         for name in re.findall(r"`([^`]+)`", line.split(" | ")[-1]) if line.startswith("| ") else []:
-            well, before = is_there(name, before, calls) if "::" in name or name in calls.get(before, ()) else (is_defined(name, text), before)
+            well, before = is_there(name, before, calls) if "::" in name or name.split(":")[0] in calls or name in calls.get(before, ()) else (is_defined(name, text), before)
             yield f"docs/HALL.md: {name}", well
 
 

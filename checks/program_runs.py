@@ -23,6 +23,18 @@ run 1 1
 run 3 0
 end
 """
+# Each of two coflows has a unit from both ingress ports to one egress port.
+CROSSED = b"1 2\n1 0 2 0 1 1 0:2\n2 0 2 0 1 1 1:2\n"
+CROSSED_TEXT = b"""sincronia 2
+place 1 1 out 0 0 2 1
+place 2 2 in 0 1099511627776 2 1
+bound 3
+slack 0
+cost 4
+run 1 0 3
+run 1 1 2
+end
+"""
 USAGE = b"sincronia: usage: sincronia COMMAND FIRST [SECOND] [options]\n"
 READ_FAULT = b"sincronia: read fault\n"
 WRITE_FAULT = b"sincronia: write fault\n"
@@ -49,6 +61,11 @@ ROWS = [
     ("two megabytes to a unit", TWO, None, ["--unit=2", "plan", "t"], 0,
      b"sincronia 2\nplace 1 2 in 0 549755813888 1 1\nplace 2 1 in 0 549755813888 3 1\nbound 4\nslack 0\ncost 4\nrun 1 1\nrun 2 0\nend\n", b""),
     ("options that are not used", TWO, None, ["--agents", "64", "plan", "--epoch=1", "--run", "5", "t", "--slot-ms", "8", "--classes=64"], 0, TWO_TEXT, b""),
+    ("one agent", CROSSED, None, ["plan", "t", "--agents", "1"], 0, CROSSED_TEXT, b""),
+    ("four agents, as none are said", CROSSED, None, ["plan", "t"], 0, CROSSED_TEXT, b""),
+    ("as many agents as there may be", CROSSED, None, ["plan", "t", "--agents=64"], 0, CROSSED_TEXT, b""),
+    ("no agent", TWO, None, ["plan", "t", "--agents", "0"], 2, b"", USAGE),
+    ("too many agents", TWO, None, ["plan", "t", "--agents", "65"], 2, b"", USAGE),
     ("empty file", b"", None, ["plan", "t"], 3, b"", b"sincronia: trace: bad header\n"),
     ("location above the ports", b"1 1\n1 0 1 0 1 2:1\n", None, ["plan", "t"], 3, b"", b"sincronia: trace: line 2 port 2 out of range\n"),
     ("repeated id", TWO.replace(b"\n2 0 1", b"\n1 0 1"), None, ["plan", "t"], 3, b"", b"sincronia: trace: line 3 repeats id 1\n"),
@@ -266,6 +283,7 @@ def run_shuffle():
         trace = file.read()
     with tempfile.TemporaryDirectory() as folder:
         code, report, err = started(folder, {"t": trace}, ["plan", "t"])
+        alone = started(folder, {}, ["plan", "--agents", "1", "t"])
         lines = report.split(b"\n")
         totals = [line.split() for line in lines if line.split(b" ")[0] in (b"bound", b"slack", b"cost")]
         good = same("a shuffle is planned", (code, [total[0] for total in totals], lines[-2:], err), (0, [b"bound", b"slack", b"cost"], [b"end", b""], b""))
@@ -275,7 +293,8 @@ def run_shuffle():
         yes = b"yes bound %d slack %d cost %d\n" % (bound, slack, cost)
         no = b"no bound %d %d\n" % (bound + 1, bound)
         edited = report.replace(b"\nbound %d\n" % bound, b"\nbound %d\n" % (bound + 1))
-        return all([same("a shuffle is within four", cost <= 4 * bound + slack, True),
+        return all([same("a shuffle is planned by one agent", alone, (code, report, err)),
+                    same("a shuffle is within four", cost <= 4 * bound + slack, True),
                     same("a shuffle is checked", started(folder, {"r": report}, CHECK), (0, yes, b"")),
                     same("a shuffle is edited", started(folder, {"r": edited}, CHECK), (1, no, b""))])
 
@@ -286,7 +305,7 @@ def run_made():
         code, out, err = started(folder, {}, ["make", "7"])
         lines = out.split(b"\n")
         good = same("a seed is made", (code, lines[0], lines[-3:], err), (0, b"sincronia make 7", [b"check yes", b"end", b""], b""))
-        return good and same("a seed is made again", started(folder, {}, ["make", "--agents", "1", "007"]), (0, out, b""))
+        return good and all([same("a seed is made again by %s agents" % agents, started(folder, {}, ["make", "--agents", agents, "007"]), (0, out, b"")) for agents in ("1", "64")])
 
 
 def main():

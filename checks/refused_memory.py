@@ -5,7 +5,7 @@ Use: checks/refused_memory.py            The last line is 'N passed, M failed'; 
 
 Each run in which an allocation was refused must end with code 11 and its line and write nothing to standard output, or end with code 0 and write the whole text:
 then the library got over the refusal. The run in which no allocation was refused ends a series. A library that is loaded before the program's own
-counts and refuses calls of `malloc` and `realloc`; it is made by the C compiler `cc`.
+counts and refuses calls of `malloc` and `realloc`, whichever thread makes them; it is made by the C compiler `cc`.
 """
 import os
 import subprocess
@@ -33,8 +33,8 @@ __attribute__((constructor)) static void start(void) {
     calls = 0;
 }
 static int refused(void) {
-    calls++;
-    if (first == 0 || calls < first || calls > last) return 0;
+    long call = __atomic_add_fetch(&calls, 1, __ATOMIC_RELAXED);
+    if (first == 0 || call < first || call > last) return 0;
     if (write((int)teller, "x", 1) != 1) _exit(99);
     return 1;
 }
@@ -47,6 +47,7 @@ NO_MEMORY = (11, b"", b"sincronia: no memory\n")
 # name and words
 SERIES = [
     ("plan", ["plan", "t", "--weights", "w"]),
+    ("plan by one agent", ["plan", "t", "--agents", "1"]),
     ("check", ["check", "t", "r"]),
     ("make", ["make", "7", "--unit", "64"]),
     ("compare", ["compare", "t", "--weights", "w"]),

@@ -3,7 +3,9 @@ use crate::jobs::{NEVER, NONE, TWO, job};
 use sincronia_cli::Status;
 use std::alloc::Global;
 use std::process::Abort;
+use std::sync::Wait;
 use std::test::Fail;
+use std::thread::Threads;
 
 /// Two coflows that share their egress port alone, of one unit each.
 const ONE_EGRESS: &[u8] = b"2 2\n1 0 1 0 1 1:1\n2 0 1 2 1 1:1\n";
@@ -20,10 +22,15 @@ const CHECK: [&str; 4] = ["sincronia", "check", "t", "r"];
 type Row<'a> = (&'a str, &'a str, &'a str, &'a str);
 
 /// Tests the line and the status of the verdicts on reports of version 1 for a trace.
-fn expect(rt: &impl Abort, alloc: Global, trace: &[u8], rows: &[Row<'_>]) -> Result<(), Fail> {
+fn expect<R: Threads + Wait + Sync + Abort>(
+    rt: &R,
+    alloc: Global,
+    trace: &[u8],
+    rows: &[Row<'_>],
+) -> Result<(), Fail> {
     for (places, totals, runs, line) in rows {
         let text = format!(in alloc; "sincronia 1\n{places}{totals}{runs}end\n")?;
-        let (status, out) = job(alloc, &CHECK, [trace, NONE, text.as_bytes()], NEVER)?;
+        let (status, out) = job(rt, alloc, &CHECK, [trace, NONE, text.as_bytes()], NEVER)?;
         let yes = line.starts_with("yes");
         assert_eq!(rt;
             status,
@@ -99,7 +106,7 @@ fn stated_weights_are_compared(rt: HostRuntime) -> Result<(), Fail> {
         (&CHECK, Status::No, b"no weight 1 5 1\n"),
     ];
     for (words, status, line) in rows {
-        let (have, out) = job(rt.alloc(), words, files, NEVER)?;
+        let (have, out) = job(&rt, rt.alloc(), words, files, NEVER)?;
         assert_eq!(rt; have, status);
         assert_eq!(rt; out.bytes(), line);
     }

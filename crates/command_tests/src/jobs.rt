@@ -1,8 +1,14 @@
 //! Jobs over files in memory.
-use outside::{MemShelf, MemSink};
+ghost use Rattle.std.specs.Prelude.{◌<◌, IfOk, length};
+ghost use Rattle.coflow_units.specs.declared.limits.TheConstants.{MAX_PORTS};
+
+use coflow_units::{MAX_PORTS, NoMemory};
+use outside::{CountWire, MemShelf, MemSink};
 use sincronia_cli::{Status, sincronia};
 use std::alloc::Global;
+use std::sync::Wait;
 use std::test::Fail;
+use std::thread::Threads;
 
 pub(crate) const TWO: &[u8] = b"2 2\n1 0 1 0 1 1:3\n2 0 1 0 1 1:1\n";
 
@@ -33,9 +39,18 @@ pub(crate) const NEVER: Failing = Failing {
     after: None,
 };
 
+/// A wire for each ingress port, which counts what it accepts.
+pub(crate) fn count_wires(alloc: Global) -> Result<Vec<CountWire>, NoMemory>
+    ensures { IfOk result (λ wires. MAX_PORTS < length wires.items) }
+{
+    let wires = vec![in alloc; CountWire { sent: 0 }; MAX_PORTS as usize + 1]?;
+    Ok(wires)
+}
+
 /// The status and the bytes taken, of these words over the trace `t`, the weights `w` and the report `r`, of which a byte
 /// is read at a time.
-pub(crate) fn job(
+pub(crate) fn job<R: Threads + Wait + Sync>(
+    rt: &R,
     alloc: Global,
     texts: &[&str],
     files: [&[u8]; 3],
@@ -49,7 +64,10 @@ pub(crate) fn job(
     }
     let mut out = MemSink::new(alloc, 4096, failing.after)?;
     let words = words(alloc, texts)?;
+    let mut wires = count_wires(alloc)?;
     let mut bench = Vec::new(alloc);
-    let status = sincronia(alloc, &words, &mut shelf, &mut out, &mut bench);
+    let status = sincronia(
+        rt, alloc, &words, &mut shelf, &mut out, &mut wires, &mut bench,
+    );
     Ok((status, out))
 }

@@ -7,6 +7,7 @@ use std::test::Fail;
 fn made_plans_are_right_and_the_same_each_time(rt: HostRuntime) -> Result<(), Fail> {
     let alloc = rt.alloc();
     let (status, first) = job(
+        &rt,
         alloc,
         &["sincronia", "make", "7", "--unit=1"],
         [NONE, NONE, NONE],
@@ -22,6 +23,7 @@ fn made_plans_are_right_and_the_same_each_time(rt: HostRuntime) -> Result<(), Fa
     // leading zeros count nothing, weights are not looked at, and agents change nothing
     for (seed, option) in [("7", "--agents=1"), ("007", "--weights=none")] {
         let (status, again) = job(
+            &rt,
             alloc,
             &["sincronia", "make", seed, option],
             [NONE, NONE, NONE],
@@ -31,6 +33,7 @@ fn made_plans_are_right_and_the_same_each_time(rt: HostRuntime) -> Result<(), Fa
         assert_eq!(rt; again.bytes(), first.bytes());
     }
     let (status, other) = job(
+        &rt,
         alloc,
         &["sincronia", "make", "18446744073709551615", "--unit=64"],
         [NONE, NONE, NONE],

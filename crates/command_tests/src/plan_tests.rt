@@ -14,6 +14,20 @@ run 3 0
 end
 ";
 
+/// Two coflows, each of a unit from both ingress ports to one egress port.
+pub(crate) const CROSSED: &[u8] = b"1 2\n1 0 2 0 1 1 0:2\n2 0 2 0 1 1 1:2\n";
+
+pub(crate) const CROSSED_TEXT: &[u8] = b"sincronia 2
+place 1 1 out 0 0 2 1
+place 2 2 in 0 1099511627776 2 1
+bound 3
+slack 0
+cost 4
+run 1 0 3
+run 1 1 2
+end
+";
+
 const ONE_TEXT: &[u8] = b"sincronia 2
 place 1 7 in 0 1099511627776 1 1
 bound 1
@@ -49,10 +63,7 @@ fn traces_are_planned(rt: HostRuntime) -> Result<(), Fail> {
             THREE,
             b"sincronia 2\nplace 1 1 in 20 1099511627776 1 1\nplace 2 3 out 38 157073089682 7 1\nplace 3 2 in 7 157073089682 8 1\nbound 15\nslack 1\ncost 16\nrun 1 0 1 5\nrun 1 1 3\nrun 2 2 3\nrun 1 4 5\nrun 2 2 6\nrun 1 2\nend\n",
         ),
-        (
-            b"1 2\n1 0 2 0 1 1 0:2\n2 0 2 0 1 1 1:2\n",
-            b"sincronia 2\nplace 1 1 out 0 0 2 1\nplace 2 2 in 0 1099511627776 2 1\nbound 3\nslack 0\ncost 4\nrun 1 0 3\nrun 1 1 2\nend\n",
-        ),
+        (CROSSED, CROSSED_TEXT),
         // a port with more than 2^20 units
         (
             b"1 1\n1 0 1 0 1 1:1099511627776\n",
@@ -61,7 +72,7 @@ fn traces_are_planned(rt: HostRuntime) -> Result<(), Fail> {
     ];
     for (trace, text) in rows {
         let words = ["sincronia", "plan", "t"];
-        let (status, out) = job(rt.alloc(), &words, [trace, NONE, NONE], NEVER)?;
+        let (status, out) = job(&rt, rt.alloc(), &words, [trace, NONE, NONE], NEVER)?;
         assert_eq!(rt; status, Status::Ok);
         assert_eq!(rt; out.bytes(), text);
     }
@@ -104,7 +115,7 @@ fn weights_and_units_are_used(rt: HostRuntime) -> Result<(), Fail> {
     ];
     for (option, trace, weights, text) in rows {
         let words = ["sincronia", option, "plan", "t"];
-        let (status, out) = job(rt.alloc(), &words, [trace, weights, NONE], NEVER)?;
+        let (status, out) = job(&rt, rt.alloc(), &words, [trace, weights, NONE], NEVER)?;
         assert_eq!(rt; status, Status::Ok);
         assert_eq!(rt; out.bytes(), text);
     }

@@ -24,7 +24,7 @@ fn other_words_are_refused(rt: HostRuntime) -> Result<(), Fail> {
         &["sincronia", "paln", "t"],
     ];
     for row in rows {
-        let (status, out) = job(alloc, row, [TWO, NONE, NONE], NEVER)?;
+        let (status, out) = job(&rt, alloc, row, [TWO, NONE, NONE], NEVER)?;
         assert_eq!(rt; status, Status::Usage);
         assert_eq!(rt; out.bytes().len(), 0);
     }
@@ -98,6 +98,14 @@ fn statuses_have_their_codes_and_lines(rt: HostRuntime) -> Result<(), Fail> {
         ),
         (Status::ReadFault { count: 1 }, 8, "read fault"),
         (Status::WriteFault { count: 1 }, 9, "write fault"),
+        (
+            Status::WireFault {
+                port: 1024,
+                count: 1,
+            },
+            10,
+            "wire fault at port 1024",
+        ),
         (Status::NoMemory, 11, "no memory"),
     ];
     for (status, code, line) in rows {

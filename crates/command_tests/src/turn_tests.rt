@@ -1,9 +1,9 @@
 //! Files are looked at in turn, and the first fault ends the job.
 use crate::check_tests::{PLACES, RUNS, TOTALS};
 use crate::endless::EndlessReport;
-use crate::jobs::{Failing, NEVER, NONE, TWO, job, words};
+use crate::jobs::{Failing, NEVER, NONE, TWO, count_wires, job, words};
 use crate::plan_tests::TWO_TEXT;
-use coflow_units::Quantity;
+use coflow_units::{MAX_TEXT, Quantity};
 use outside::{MemSink, SureShelf};
 use sincronia_cli::{Status, sincronia};
 use std::test::Fail;
@@ -95,7 +95,7 @@ fn bad_files_have_their_first_fault(rt: HostRuntime) -> Result<(), Fail> {
     ];
     for (trace, weights, status) in rows {
         let words = ["sincronia", "plan", "t", "--weights=w"];
-        let (have, out) = job(rt.alloc(), &words, [trace, weights, NONE], NEVER)?;
+        let (have, out) = job(&rt, rt.alloc(), &words, [trace, weights, NONE], NEVER)?;
         assert_eq!(rt; have, status);
         assert_eq!(rt; out.bytes().len(), 0);
     }
@@ -128,7 +128,7 @@ fn files_are_looked_at_in_turn(rt: HostRuntime) -> Result<(), Fail> {
         (plan, [TWO, NONE, NONE], missing),
     ];
     for (texts, files, status) in rows {
-        let (have, out) = job(rt.alloc(), texts, files, NEVER)?;
+        let (have, out) = job(&rt, rt.alloc(), texts, files, NEVER)?;
         assert_eq!(rt; have, status);
         assert_eq!(rt; out.bytes().len(), 0);
     }
@@ -143,9 +143,34 @@ fn a_report_without_end_is_not_read_where_there_is_no_table(rt: HostRuntime) -> 
     let mut shelf = EndlessReport { files };
     let mut out = MemSink::new(alloc, 64, None)?;
     let words = words(alloc, &["sincronia", "check", "t", "r"])?;
+    let mut wires = count_wires(alloc)?;
     let mut bench = Vec::new(alloc);
-    let status = sincronia(alloc, &words, &mut shelf, &mut out, &mut bench);
+    let status = sincronia(
+        &rt, alloc, &words, &mut shelf, &mut out, &mut wires, &mut bench,
+    );
     assert_eq!(rt; status, TOO_HEAVY);
+    assert_eq!(rt; out.bytes().len(), 0);
+    Ok(())
+}
+
+#[test]
+fn a_text_above_its_limit_is_told(rt: HostRuntime) -> Result<(), Fail> {
+    let alloc = rt.alloc();
+    let mut shelf = SureShelf::new(alloc, MAX_TEXT)?;
+    let digits = vec![in alloc; b'1'; MAX_TEXT + 1]?;
+    shelf.put("t", &digits)?;
+    let mut out = MemSink::new(alloc, 64, None)?;
+    let words = words(alloc, &["sincronia", "plan", "t"])?;
+    let mut wires = count_wires(alloc)?;
+    let mut bench = Vec::new(alloc);
+    let status = sincronia(
+        &rt, alloc, &words, &mut shelf, &mut out, &mut wires, &mut bench,
+    );
+    let long = Status::Limit {
+        which: Quantity::Text,
+        count: 67_108_865,
+    };
+    assert_eq!(rt; status, long);
     assert_eq!(rt; out.bytes().len(), 0);
     Ok(())
 }
@@ -161,7 +186,7 @@ fn each_call_of_the_shelf_fails_in_turn(rt: HostRuntime) -> Result<(), Fail> {
     for (words, calls) in [(plan, 34), (check, 34 + 1 + report.len() as u32 + 1)] {
         for call in 1..=calls + 1 {
             let failing = Failing { call, after: None };
-            let (status, out) = job(alloc, words, files, failing)?;
+            let (status, out) = job(&rt, alloc, words, files, failing)?;
             if call <= calls {
                 assert_eq!(rt; status, Status::ReadFault { count: 1 }, "at {call}");
                 assert_eq!(rt; out.bytes().len(), 0, "at {call}");
@@ -181,7 +206,7 @@ fn the_sink_fails_after_each_number_of_bytes(rt: HostRuntime) -> Result<(), Fail
             after: Some(taken as u64),
         };
         let words = ["sincronia", "plan", "t"];
-        let (status, out) = job(rt.alloc(), &words, [TWO, NONE, NONE], failing)?;
+        let (status, out) = job(&rt, rt.alloc(), &words, [TWO, NONE, NONE], failing)?;
         assert_eq!(rt; status, Status::WriteFault { count: 1 }, "after {taken}");
         assert_eq!(rt; out.bytes(), &TWO_TEXT[..taken], "after {taken}");
     }

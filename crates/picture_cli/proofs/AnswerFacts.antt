@@ -189,6 +189,7 @@ files_end before now t new said status.Ok cause good still = absurd cause
 files_end before now t new said status.No cause good still = absurd cause
 files_end before now t new said status.Usage cause good still = absurd cause
 files_end before now t new said (status.WriteFault count) cause good still = absurd cause
+files_end before now t new said (status.WireFault port count) cause good still = absurd cause
 
 pub ends_at_files : (before now : ℕ) (old new : Option Told) (by said : PictureSaid) (s : Status) (answer : PictureStatus) → by ≡ said →
     HasFilesCause before now old new (check_of by) s → IsSomeAnd old (CallFor said answer) → IsStill before now → (Ended s ≡ answer) ⊎ (Ended s ≡ Ended status.NoMemory)

@@ -6,4 +6,4 @@ mod order;
 mod places;
 mod planning;
 
-pub use planning::{bound_of, plan, plan_text};
+pub use planning::{bound_of, report_of};

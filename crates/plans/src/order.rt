@@ -5,10 +5,9 @@ ghost use Rattle.coflow_units.specs.declared.fabric.Port.{Port};
 ghost use Rattle.flow_table.specs.Table.{instance_of};
 ghost use Rattle.port_load.specs.LoadTable.{HasLoads, total_at};
 ghost use Rattle.bssi_order.specs.Order.{IsOrder};
-ghost use Rattle.plans.specs.PlanReport.{coflows_of};
 
 use bssi_order::Bssi;
-use coflow_units::{NoMemory, Place};
+use coflow_units::NoMemory;
 use flow_table::Table;
 use port_load::Loads;
 use std::alloc::Global;
@@ -36,15 +35,4 @@ pub fn loads_of(alloc: Global, table: &Table) -> Result<Loads, NoMemory>
 {
     let loads = Loads::of(alloc, table.flows(), table.coflows(), table.ports())?;
     Ok(loads)
-}
-
-/// The coflows of the places.
-pub fn coflows_in(alloc: Global, places: &[Place]) -> Result<Vec<u32>, NoMemory>
-    ensures { IfOk result (λ coflows. coflows.items ≡ coflows_of places.now) }
-{
-    let mut coflows = Vec::new(alloc);
-    for place in places {
-        coflows.push(place.coflow)?;
-    }
-    Ok(coflows)
 }

@@ -1,57 +1,45 @@
-//! Plans: the order of a table, the schedule that serves it, and what the order's certificate proves.
-ghost use Rattle.std.specs.Prelude.{◌≡◌, ◌<◌, ◌≤◌, ℕ, All, Contains, IfOk, length};
+//! The report of a plan, and what the certificate of its order proves.
+ghost use Rattle.std.specs.Prelude.{◌≡◌, ◌≤◌, All, IfOk, length};
 ghost use Rattle.coflow_units.specs.declared.limits.TheConstants.{MAX_WEIGHT};
 ghost use Rattle.coflow_units.specs.Certificate.{bound, slack};
-ghost use Rattle.coflow_units.specs.Flows.{IsDistinct};
 ghost use Rattle.coflow_units.specs.Served.{IsServed};
 ghost use Rattle.bssi_order.specs.Order.{IsOrder, entries_of};
 ghost use Rattle.flow_table.specs.Table.{instance_of};
 ghost use Rattle.report.specs.Report.{HasSmallNumbers, HasWeights, IsReport};
-ghost use Rattle.report.specs.declared.value.Report.{Report};
-ghost use Rattle.report.specs.Text.{report_text};
 ghost use Rattle.plans.specs.PlanReport.{IsPlanOf, coflows_of};
 ghost use Rattle.plans.specs.Totals.{IsPlanBound};
 
-use crate::order::{coflows_in, loads_of, order_of};
+use crate::order::{loads_of, order_of};
 use crate::places::{place_lines, place_weights};
 use coflow_units::{Items, NoMemory, Place};
 use dual_cert::{Cert, bound, slack};
 use flow_table::Table;
-use report::{Report, write_report};
+use report::Report;
 use schedule_model::{Schedule, cost};
-use slot_switch::simulate;
 use std::alloc::Global;
 
-/// The text of the report of the plan of the coflows of a table. `weights` has the weight of each coflow, from 1 to 2^32. The error is
-/// want of memory.
-pub fn plan_text(alloc: Global, table: &Table, weights: &[u64]) -> Result<Vec<u8>, NoMemory>
+/// The report of the plan of the coflows of a table, from the places of the order by bottleneck, select, scale, iterate and the schedule
+/// that serves it: the places with their completions, the bound and slack of the order's certificate, the cost, and the
+/// runs of the schedule. A text can have the report, so it may be written and read back. `weights` has the weight of each
+/// coflow, from 1 to 2^32. The error is want of memory.
+pub fn report_of(
+    alloc: Global,
+    table: &Table,
+    weights: &[u64],
+    places: &[Place],
+    schedule: Schedule,
+) -> Result<Report, NoMemory>
     requires count { length weights.now ≡ length table.now.ids }
     requires least { All (λ w. 1 ≤ w) weights.now }
     requires weights { All (λ w. w ≤ MAX_WEIGHT) weights.now }
-    ensures { IfOk result (λ text. (report : Report) ×
-        IsPlanOf (instance_of table.now weights.now) table.now.ids report × (text.items ≡ report_text report)) }
-{
-    let report = plan(alloc, table, weights)?;
-    let text = write_report(alloc, &report)?;
-    Ok(text)
-}
-
-/// The plan of the coflows of a table: the order by bottleneck, select, scale, iterate, the schedule that serves it,
-/// the bound and slack of its certificate, and the cost.
-/// A text can have the report, so it may be written and read back. `weights` has the weight of each coflow, from 1 to
-/// 2^32. The error is want of memory.
-pub fn plan(alloc: Global, table: &Table, weights: &[u64]) -> Result<Report, NoMemory>
-    requires count { length weights.now ≡ length table.now.ids }
-    requires least { All (λ w. 1 ≤ w) weights.now }
-    requires weights { All (λ w. w ≤ MAX_WEIGHT) weights.now }
-    ensures plan { IfOk result (λ report. IsPlanOf (instance_of table.now weights.now) table.now.ids report) }
+    requires order { IsOrder (instance_of table.now weights.now) places.now }
+    requires served { IsServed table.now.flows (coflows_of places.now) schedule }
+    ensures plan { IfOk result (λ report.
+        (planned : IsPlanOf (instance_of table.now weights.now) table.now.ids report) × (planned.slots ≡ schedule)) }
     ensures weights { IfOk result HasWeights }
     ensures report { IfOk result IsReport }
     ensures small { IfOk result HasSmallNumbers }
 {
-    let order = order_of(alloc, table, weights)?;
-    let places = order.places();
-    let schedule = served(alloc, table, places)?;
     let lines = place_lines(alloc, table, places, &schedule)?;
     let list = place_weights(alloc, weights, places)?;
     let values = values_of(alloc, table, weights, places)?;
@@ -64,18 +52,6 @@ pub fn plan(alloc: Global, table: &Table, weights: &[u64]) -> Result<Report, NoM
         cost,
         runs: Items::from_vec(schedule.into_runs()),
     })
-}
-
-/// The schedule that serves the order of the places.
-fn served(alloc: Global, table: &Table, places: &[Place]) -> Result<Schedule, NoMemory>
-    requires distinct { IsDistinct (coflows_of places.now) }
-    requires known { All (λ c. c < length table.now.ids) (coflows_of places.now) }
-    requires all { (c : ℕ) → c < length table.now.ids → Contains (coflows_of places.now) c }
-    ensures { IfOk result (λ schedule. IsServed table.now.flows (coflows_of places.now) schedule) }
-{
-    let coflows = coflows_in(alloc, places)?;
-    let schedule = simulate(alloc, table, &coflows)?;
-    Ok(schedule)
 }
 
 /// What the certificate of an order proves.

@@ -1,16 +1,29 @@
-//! The program: hands its words, the files and the standard output to the library's one call, and ends with its code.
+//! The program: hands its words, the files, the standard output and wires that count to the library's one call, and ends with its code.
 #![tactic(auto)]
 
-use coflow_units::{MAX_COFLOWS, NoMemory};
-use outside::{DiskShelf, StdSink};
+ghost use Rattle.std.specs.Prelude.{◌<◌, IfOk, length};
+ghost use Rattle.coflow_units.specs.declared.limits.TheConstants.{MAX_PORTS};
+
+use coflow_units::{MAX_COFLOWS, MAX_PORTS, NoMemory};
+use outside::{CountWire, DiskShelf, Shelf, Sink, StdSink};
 use rankers::{Attained, Bssi0, Fifo, Ranker, Sebf};
 use sincronia_cli::{Status, sincronia};
+use std::alloc::Global;
 use std::env;
 use std::io::ErrorKind;
 use std::process::ExitCode;
+use std::sync::Wait;
+use std::thread::Threads;
 
 fn main(rt: HostRuntime) -> ExitCode {
-    let status = run(&rt);
+    let status = match words_of(&rt) {
+        Ok(words) => {
+            let mut shelf = DiskShelf::new(rt);
+            let mut out = StdSink::new(rt.stdout());
+            run(&rt, rt.alloc(), &words, &mut shelf, &mut out)
+        }
+        Err(status) => status,
+    };
     if status.code() > 1 {
         // A line that cannot be written changes nothing.
         let _ = eprintln!(rt; "sincronia: {status}");
@@ -18,33 +31,56 @@ fn main(rt: HostRuntime) -> ExitCode {
     ExitCode::from(status.code())
 }
 
-/// Does what the words ask for. A word that is not UTF-8 is refused as the words are.
-fn run(rt: &HostRuntime) -> Status {
-    let alloc = rt.alloc();
+/// The words of the command line. One that is not UTF-8 is refused as the words are.
+fn words_of(rt: &HostRuntime) -> Result<Vec<String>, Status> {
     let words = match env::args(rt) {
         Ok(words) => words,
-        Err(error) if error.kind() == ErrorKind::OutOfMemory => return Status::NoMemory,
-        Err(_) => return Status::Usage,
+        Err(error) if error.kind() == ErrorKind::OutOfMemory => return Err(Status::NoMemory),
+        Err(_) => return Err(Status::Usage),
     };
-    let Ok(words) = words.collect::<Vec<String>>(alloc) else {
-        return Status::NoMemory;
-    };
-    match with_bench(rt, &words) {
+    match words.collect::<Vec<String>>(rt.alloc()) {
+        Ok(words) => Ok(words),
+        Err(_) => Err(Status::NoMemory),
+    }
+}
+
+/// Does what the words ask for.
+fn run<R: Threads + Wait + Sync, H: Shelf, K: Sink>(
+    rt: &R,
+    alloc: Global,
+    words: &[String],
+    shelf: &mut H,
+    out: &mut K,
+) -> Status {
+    match with_bench(rt, alloc, words, shelf, out) {
         Ok(status) => status,
         Err(NoMemory) => Status::NoMemory,
     }
 }
 
-/// Does what the words ask for, with the rankers of `compare` on the bench. The error is want of memory for the bench.
-fn with_bench(rt: &HostRuntime, words: &[String]) -> Result<Status, NoMemory> {
-    let alloc = rt.alloc();
+/// Does what the words ask for, with the rankers of `compare` on the bench. The error is want of memory for the bench or the
+/// wires.
+fn with_bench<R: Threads + Wait + Sync, H: Shelf, K: Sink>(
+    rt: &R,
+    alloc: Global,
+    words: &[String],
+    shelf: &mut H,
+    out: &mut K,
+) -> Result<Status, NoMemory> {
     let mut bench: Vec<Box<dyn Ranker>> = Vec::new(alloc);
     bench.push(Box::new(alloc, Bssi0)?)?;
     bench.push(Box::new(alloc, Sebf)?)?;
     bench.push(Box::new(alloc, Fifo)?)?;
     bench.push(Box::new(alloc, Attained::new(alloc, MAX_COFLOWS)?)?)?;
-    let mut shelf = DiskShelf::new(*rt);
-    let mut out = StdSink::new(rt.stdout());
-    let status = sincronia(alloc, words, &mut shelf, &mut out, &mut bench);
+    let mut wires = wires(alloc)?;
+    let status = sincronia(rt, alloc, words, shelf, out, &mut wires, &mut bench);
     Ok(status)
+}
+
+/// A wire for each ingress port that a trace may have.
+fn wires(alloc: Global) -> Result<Vec<CountWire>, NoMemory>
+    ensures { IfOk result (λ wires. MAX_PORTS < length wires.items) }
+{
+    let wires = vec![in alloc; CountWire { sent: 0 }; MAX_PORTS as usize + 1]?;
+    Ok(wires)
 }

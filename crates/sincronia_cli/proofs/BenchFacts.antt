@@ -1,5 +1,5 @@
 -- What a command does to the bench: whether there is a text decides it, and the job of the words.
-use Rattle.std.proofs.Common.{◌≡◌, ℕ, List, Option, ap, subst, sym, ◌∙◌}
+use Rattle.std.proofs.Common.{◌≡◌, ℕ, inl, inr, List, Option, ap, subst, sym, ◌∙◌}
 use Rattle.command_words.specs.Jobs.{Job}
 use Rattle.command_words.specs.Jobs.Job.{check_job, classes_job, compare_job, make_job, plan_job}
 use Rattle.command_words.specs.Line.{Text}
@@ -7,14 +7,17 @@ use Rattle.command_words.specs.Words.{IsWords, Said}
 use Rattle.command_words.proofs.OneMeaning.{words_one}
 use Rattle.cert_check.specs.declared.verdict.Verdict.{Verdict}
 use Rattle.cert_check.specs.declared.verdict.Verdict.TheVariants.{No, Yes}
+use Rattle.flow_table.specs.Table.{TableFacts}
 use Rattle.outside.specs.Shelf.{Told}
 use Rattle.rankers.specs.Meaning.{Meaning}
 use Rattle.sincronia_cli.specs.declared.status.Status.{Status}
 use Rattle.sincronia_cli.specs.declared.status.Status.TheVariants as status
-use Rattle.sincronia_cli.specs.Causes.{CauseBy, HasCauseOf, HasFilesCause, HasMadeCause}
+use Rattle.sincronia_cli.specs.Causes.{CauseBy, HasCauseOf, HasFilesCause}
 use Rattle.sincronia_cli.specs.Check.{status_for}
 use Rattle.sincronia_cli.specs.Command.{IsCommand}
 use Rattle.sincronia_cli.specs.Outcome.{HasText, IsOutcome, OutcomeBy}
+use Rattle.sincronia_cli.specs.Serving.{Serves}
+use Rattle.sincronia_cli.proofs.EndCauses.{by_wire, of_served}
 
 -- the words are one command
 pub job_of : (words : List Text) (by said : Said) (k : Job) → IsWords words by → IsCommand k words said → by.job ≡ k
@@ -26,15 +29,17 @@ of_verdict : (verdict : Verdict) (s : Status) → s ≡ status_for verdict → H
 of_verdict Yes s is = subst HasText (sym is) tt
 of_verdict (No reason) s is = subst HasText (sym is) tt
 
-text_by : (k : Job) (told : Option Told) (said : Said) (bench : List Meaning) (s : Status) (text : List ℕ) → OutcomeBy k told said bench s text → HasText s
-text_by (plan_job trace) told said bench s text outcome = subst HasText (sym outcome.0) tt
-text_by (check_job trace report) told said bench s text (verdict, is, checks) = of_verdict verdict s is
-text_by (make_job seed) told said bench s text outcome = subst HasText (sym outcome.0) tt
-text_by (compare_job trace) told said bench s text outcome = subst HasText (sym outcome.0) tt
-text_by (classes_job trace) told said bench s text outcome = subst HasText (sym outcome.0) tt
+text_by : (S : TableFacts → List (List ℕ) → Type 0) (k : Job) (told : Option Told) (said : Said) (bench : List Meaning) (s : Status) (text : List ℕ) →
+    OutcomeBy S k told said bench s text → HasText s
+text_by S (plan_job trace) told said bench s text outcome = subst HasText (sym outcome.0) tt
+text_by S (check_job trace report) told said bench s text (verdict, is, checks) = of_verdict verdict s is
+text_by S (make_job seed) told said bench s text outcome = subst HasText (sym outcome.0) tt
+text_by S (compare_job trace) told said bench s text outcome = subst HasText (sym outcome.0) tt
+text_by S (classes_job trace) told said bench s text outcome = subst HasText (sym outcome.0) tt
 
-pub outcome_has_text : (told : Option Told) (said : Said) (bench : List Meaning) (s : Status) (text : List ℕ) → IsOutcome told said bench s text → HasText s
-outcome_has_text told said bench s text outcome = text_by said.job told said bench s text outcome
+pub outcome_has_text : (S : TableFacts → List (List ℕ) → Type 0) (told : Option Told) (said : Said) (bench : List Meaning) (s : Status) (text : List ℕ) →
+    IsOutcome S told said bench s text → HasText s
+outcome_has_text S told said bench s text outcome = text_by S said.job told said bench s text outcome
 
 -- ---- where nothing is to be written there is none
 
@@ -48,26 +53,21 @@ no_text before now old new said (status.BadReport line) cause text = text
 no_text before now old new said (status.Limit which count) cause text = text
 no_text before now old new said (status.ReadFault count) cause text = text
 no_text before now old new said (status.WriteFault count) cause text = cause
+no_text before now old new said (status.WireFault port count) cause text = cause
 no_text before now old new said status.NoMemory cause text = text
 
-none_made : (s : Status) → HasMadeCause s → HasText s → ⊥
-none_made status.Ok cause text = cause
-none_made status.No cause text = cause
-none_made status.Usage cause text = text
-none_made (status.BadTrace fault) cause text = text
-none_made (status.BadWeights fault) cause text = text
-none_made (status.BadReport line) cause text = text
-none_made (status.Limit which count) cause text = text
-none_made (status.ReadFault count) cause text = text
-none_made (status.WriteFault count) cause text = cause
-none_made status.NoMemory cause text = text
+none_by : (F : ℕ → TableFacts → List ℕ → Type 0) (k : Job) (before now : ℕ) (old new : Option Told) (said : Said) (s : Status) → CauseBy F k before now old new said s →
+    HasText s → ⊥
+none_by F (plan_job trace) before now old new said s (inl cause) text = no_text before now old new said s cause text
+none_by F (plan_job trace) before now old new said s (inr cause) text =
+    let (port, count, is, p) = by_wire (λ port. Serves (F port) (plan_job trace) old said) s cause in
+    subst HasText is text
+none_by F (check_job trace report) before now old new said s cause text = no_text before now old new said s cause text
+none_by F (make_job seed) before now old new said s cause text =
+    of_served (λ port. Serves (F port) (make_job seed) old said) (λ (x : Status). HasText x → ⊥) s (λ t. t) (λ port count t. t) cause text
+none_by F (compare_job trace) before now old new said s cause text = no_text before now old new said s cause text
+none_by F (classes_job trace) before now old new said s cause text = no_text before now old new said s cause text
 
-none_by : (k : Job) (before now : ℕ) (old new : Option Told) (said : Said) (s : Status) → CauseBy k before now old new said s → HasText s → ⊥
-none_by (plan_job trace) before now old new said s cause text = no_text before now old new said s cause text
-none_by (check_job trace report) before now old new said s cause text = no_text before now old new said s cause text
-none_by (make_job seed) before now old new said s cause text = none_made s cause text
-none_by (compare_job trace) before now old new said s cause text = no_text before now old new said s cause text
-none_by (classes_job trace) before now old new said s cause text = no_text before now old new said s cause text
-
-pub cause_has_no_text : (before now : ℕ) (old new : Option Told) (said : Said) (s : Status) → HasCauseOf before now old new said s → HasText s → ⊥
-cause_has_no_text before now old new said s cause text = none_by said.job before now old new said s cause text
+pub cause_has_no_text : (F : ℕ → TableFacts → List ℕ → Type 0) (before now : ℕ) (old new : Option Told) (said : Said) (s : Status) → HasCauseOf F before now old new said s →
+    HasText s → ⊥
+cause_has_no_text F before now old new said s cause text = none_by F said.job before now old new said s cause text

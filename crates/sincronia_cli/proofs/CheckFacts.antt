@@ -53,6 +53,7 @@ from_input before now old new said status.No h = absurd h
 from_input before now old new said status.Usage h = absurd h
 from_input before now old new said (status.BadReport line) h = absurd h
 from_input before now old new said (status.WriteFault count) h = absurd h
+from_input before now old new said (status.WireFault port count) h = absurd h
 
 -- ---- a report
 
@@ -85,6 +86,7 @@ file_to_report before now old new name (status.BadTrace fault) h = absurd h
 file_to_report before now old new name (status.BadWeights fault) h = absurd h
 file_to_report before now old new name (status.BadReport line) h = absurd h
 file_to_report before now old new name (status.WriteFault count) h = absurd h
+file_to_report before now old new name (status.WireFault port count) h = absurd h
 
 -- ---- a report that is read after the trace and the weights
 
@@ -166,3 +168,4 @@ module _ (before mid_count now : ℕ) (old mid new : Option Told) (said : Said) 
   from_report (status.BadTrace fault) is le keeps table h = absurd h
   from_report (status.BadWeights fault) is le keeps table h = absurd h
   from_report (status.WriteFault count) is le keeps table h = absurd h
+  from_report (status.WireFault port count) is le keeps table h = absurd h

@@ -10,12 +10,13 @@ use Rattle.coflow_units.specs.declared.quantity.Quantity.{Quantity}
 use Rattle.coflow_units.specs.declared.trace.CoflowLine.{CoflowLine}
 use Rattle.cert_check.specs.declared.verdict.Verdict.{Verdict}
 use Rattle.cert_check.specs.declared.verdict.Verdict.TheVariants.{No, Yes}
+use Rattle.flow_table.specs.Table.{TableFacts}
 use Rattle.rankers.specs.Meaning.{Meaning}
 use Rattle.outside.specs.Shelf.{Told}
 use Rattle.weights.specs.declared.fault.WeightsFault.{WeightsFault}
 use Rattle.sincronia_cli.specs.declared.status.Status.{Status}
 use Rattle.sincronia_cli.specs.declared.status.Status.TheVariants as status
-use Rattle.sincronia_cli.specs.Causes.{CauseBy, FilesGiveTable, HasCauseOf, HasFilesCause, HasMadeCause}
+use Rattle.sincronia_cli.specs.Causes.{CauseBy, FilesGiveTable, HasCauseOf, HasFilesCause}
 use Rattle.sincronia_cli.specs.Check.{status_for}
 use Rattle.sincronia_cli.specs.Complete.{AreGood, EndsWell, IsReportText, IsStill}
 use Rattle.sincronia_cli.specs.InputCauses.{GiveTable, LimitCause}
@@ -23,9 +24,11 @@ use Rattle.sincronia_cli.specs.InputCauses.LimitCause.{in_table, in_trace, in_we
 use Rattle.sincronia_cli.specs.Inputs.{GiveWeights, IsTraceText, bytes_if}
 use Rattle.sincronia_cli.specs.Outcome.{IsOutcome, OutcomeBy}
 use Rattle.sincronia_cli.specs.ReportCauses.{IsBadReport, ReportLimit}
+use Rattle.sincronia_cli.specs.Serving.{Serves}
 use Rattle.sincronia_cli.specs.TraceCauses.{HasTraceFault, TraceLimit}
 use Rattle.sincronia_cli.specs.WeightsCauses.{IsFaultOf, WeightsLimit}
 use Rattle.trace_reader.specs.declared.fault.TraceFault.{TraceFault}
+use Rattle.sincronia_cli.proofs.EndCauses.{by_made, by_wire}
 
 -- ---- a text that reads has no fault
 
@@ -87,41 +90,42 @@ files_end before now t new said status.Ok cause table report still = absurd caus
 files_end before now t new said status.No cause table report still = absurd cause
 files_end before now t new said status.Usage cause table report still = absurd cause
 files_end before now t new said (status.WriteFault count) cause table report still = absurd cause
+files_end before now t new said (status.WireFault port count) cause table report still = absurd cause
 
-made_end : (s : Status) → HasMadeCause s → s ≡ status.NoMemory
-made_end status.NoMemory cause = refl
-made_end status.Ok cause = absurd cause
-made_end status.No cause = absurd cause
-made_end status.Usage cause = absurd cause
-made_end (status.BadTrace fault) cause = absurd cause
-made_end (status.BadWeights fault) cause = absurd cause
-made_end (status.BadReport line) cause = absurd cause
-made_end (status.Limit which count) cause = absurd cause
-made_end (status.ReadFault count) cause = absurd cause
-made_end (status.WriteFault count) cause = absurd cause
+-- no wire failed, whatever was sent
+abbrev pub NoneFailed : (ℕ → TableFacts → List ℕ → Type 0) → Type 0
+NoneFailed F = (port : ℕ) (t : TableFacts) (ws : List ℕ) → F port t ws → ⊥
 
-by_command : (k : Job) (before now : ℕ) (old new : Option Told) (said : Said) (s : Status) → report_name said.job ≡ report_name k →
-    CauseBy k before now old new said s → AreGood k said old → IsStill before now → s ≡ status.NoMemory
-by_command (plan_job trace) before now None new said s none cause good still = absurd good
-by_command (plan_job trace) before now (Some t) new said s none cause good still =
+by_command : (F : ℕ → TableFacts → List ℕ → Type 0) (k : Job) (before now : ℕ) (old new : Option Told) (said : Said) (s : Status) → report_name said.job ≡ report_name k →
+    CauseBy F k before now old new said s → AreGood k said old → IsStill before now → NoneFailed F → s ≡ status.NoMemory
+by_command F (plan_job trace) before now None new said s none cause good still wires = absurd good
+by_command F (plan_job trace) before now (Some t) new said s none (inl cause) good still wires =
     files_end before now t new said s cause good (no_report_of t (report_name said.job) none) still
-by_command (check_job trace report) before now None new said s some cause good still = absurd good
-by_command (check_job trace name) before now (Some t) new said s some cause (table, report) still =
+by_command F (plan_job trace) before now (Some t) new said s none (inr cause) good still wires =
+    let (port, count, is, serves) = by_wire (λ port. Serves (F port) (plan_job trace) (Some t) said) s cause in
+    let (table, list, input, f) = serves in
+    absurd (wires port table list f)
+by_command F (check_job trace report) before now None new said s some cause good still wires = absurd good
+by_command F (check_job trace name) before now (Some t) new said s some cause (table, report) still wires =
     files_end before now t new said s cause table (report_is_good (bytes_if t (report_name said.job)) report) still
-by_command (make_job seed) before now old new said s none cause good still = made_end s cause
-by_command (compare_job trace) before now None new said s none cause good still = absurd good
-by_command (compare_job trace) before now (Some t) new said s none cause good still =
+by_command F (make_job seed) before now old new said s none (inl cause) good still wires = by_made s cause
+by_command F (make_job seed) before now old new said s none (inr cause) good still wires =
+    let (port, count, is, serves) = by_wire (λ port. Serves (F port) (make_job seed) old said) s cause in
+    let (table, list, gives, f) = serves in
+    absurd (wires port table list f)
+by_command F (compare_job trace) before now None new said s none cause good still wires = absurd good
+by_command F (compare_job trace) before now (Some t) new said s none cause good still wires =
     files_end before now t new said s cause good (no_report_of t (report_name said.job) none) still
-by_command (classes_job trace) before now None new said s none cause good still = absurd good
-by_command (classes_job trace) before now (Some t) new said s none cause good still =
+by_command F (classes_job trace) before now None new said s none cause good still wires = absurd good
+by_command F (classes_job trace) before now (Some t) new said s none cause good still wires =
     files_end before now t new said s cause good (no_report_of t (report_name said.job) none) still
 
-pub good_files_end : (words : List Text) (by said : Said) (before now : ℕ) (old new : Option Told) (s : Status) → IsWords words by → IsWords words said →
-    HasCauseOf before now old new by s → AreGood said.job said old → IsStill before now →
+pub good_files_end : (F : ℕ → TableFacts → List ℕ → Type 0) (words : List Text) (by said : Said) (before now : ℕ) (old new : Option Told) (s : Status) → IsWords words by →
+    IsWords words said → HasCauseOf F before now old new by s → AreGood said.job said old → IsStill before now → NoneFailed F →
     EndsWell said.job s ⊎ (s ≡ status.NoMemory)
-good_files_end words by said before now old new s reads is cause good still =
-    inr (by_command said.job before now old new said s refl
-    (subst (λ (x : Said). HasCauseOf before now old new x s) (words_one words by said reads is) cause) good still)
+good_files_end F words by said before now old new s reads is cause good still wires =
+    inr (by_command F said.job before now old new said s refl
+    (subst (λ (x : Said). HasCauseOf F before now old new x s) (words_one words by said reads is) cause) good still wires)
 
 -- ---- and where its text was written it ended well
 
@@ -129,15 +133,16 @@ verdict_ends : (verdict : Verdict) (s : Status) → s ≡ status_for verdict →
 verdict_ends Yes s is = inl is
 verdict_ends (No reason) s is = inr is
 
-pub written_by : (k : Job) (told : Option Told) (said : Said) (bench : List Meaning) (s : Status) (text : List ℕ) → OutcomeBy k told said bench s text → EndsWell k s
-written_by (plan_job trace) told said bench s text outcome = outcome.0
-written_by (check_job trace report) told said bench s text (verdict, is, checks) = verdict_ends verdict s is
-written_by (make_job seed) told said bench s text outcome = outcome.0
-written_by (compare_job trace) told said bench s text outcome = outcome.0
-written_by (classes_job trace) told said bench s text outcome = outcome.0
+pub written_by : (S : TableFacts → List (List ℕ) → Type 0) (k : Job) (told : Option Told) (said : Said) (bench : List Meaning) (s : Status) (text : List ℕ) →
+    OutcomeBy S k told said bench s text → EndsWell k s
+written_by S (plan_job trace) told said bench s text outcome = outcome.0
+written_by S (check_job trace report) told said bench s text (verdict, is, checks) = verdict_ends verdict s is
+written_by S (make_job seed) told said bench s text outcome = outcome.0
+written_by S (compare_job trace) told said bench s text outcome = outcome.0
+written_by S (classes_job trace) told said bench s text outcome = outcome.0
 
-pub written_ends : (words : List Text) (by said : Said) (told : Option Told) (bench : List Meaning) (s : Status) (text : List ℕ) → IsWords words by → IsWords words said →
-    IsOutcome told by bench s text →
+pub written_ends : (S : TableFacts → List (List ℕ) → Type 0) (words : List Text) (by said : Said) (told : Option Told) (bench : List Meaning) (s : Status) (text : List ℕ) →
+    IsWords words by → IsWords words said → IsOutcome S told by bench s text →
     EndsWell said.job s ⊎ (s ≡ status.NoMemory)
-written_ends words by said told bench s text reads is outcome =
-    inl (written_by said.job told said bench s text (subst (λ (x : Said). IsOutcome told x bench s text) (words_one words by said reads is) outcome))
+written_ends S words by said told bench s text reads is outcome =
+    inl (written_by S said.job told said bench s text (subst (λ (x : Said). IsOutcome S told x bench s text) (words_one words by said reads is) outcome))

@@ -12,6 +12,7 @@ use Rattle.command_words.specs.Line.{Text}
 use Rattle.command_words.specs.Words.{IsWords, Said}
 use Rattle.command_words.proofs.OneMeaning.{words_one}
 use Rattle.flow_table.specs.Causes.{ExceedsLimit}
+use Rattle.flow_table.specs.Table.{TableFacts}
 use Rattle.outside.specs.Shelf.{Told, bytes_of}
 use Rattle.rankers.specs.Meaning.{Meaning}
 use Rattle.report.specs.Reading.{IsBadAt}
@@ -31,8 +32,10 @@ use Rattle.sincronia_cli.specs.InputCauses.LimitCause.{in_table, in_trace, in_we
 use Rattle.sincronia_cli.specs.Inputs.{GiveWeights, IsTraceText, bytes_if}
 use Rattle.sincronia_cli.specs.Outcome.{IsOutcome}
 use Rattle.sincronia_cli.specs.ReportCauses.{IsBadReport, IsLongReport}
+use Rattle.sincronia_cli.specs.Serving.{Serves}
 use Rattle.sincronia_cli.specs.TraceCauses.{HasTraceFault, IsTooLong, IsTraceForm}
 use Rattle.sincronia_cli.specs.WeightsCauses.{AreTooLong, IsFaultOf, IsWeightsForm}
+use Rattle.sincronia_cli.proofs.EndCauses.{by_wire}
 use Rattle.sincronia_cli.proofs.CompleteFacts.{HasGoodReport, no_report_of, report_is_good, trace_is_good, weights_are_good, written_by}
 
 -- ---- the status of a fault
@@ -218,6 +221,7 @@ stops_of words said t status.No is cause = absurd cause
 stops_of words said t status.Usage is cause = absurd cause
 stops_of words said t (status.ReadFault count) is cause = absurd cause
 stops_of words said t (status.WriteFault count) is cause = absurd cause
+stops_of words said t (status.WireFault port count) is cause = absurd cause
 stops_of words said t status.NoMemory is cause = absurd cause
 
 pub first_cause_one : (words : List Text) (said : Said) (t : Told) (a b : Status) → IsOfFiles words said → IsFirstCause said t a → IsFirstCause said t b → a ≡ b
@@ -241,37 +245,44 @@ files_end_by words said before now t new status.Ok cause is why x = absurd why
 files_end_by words said before now t new status.No cause is why x = absurd why
 files_end_by words said before now t new status.Usage cause is why x = absurd why
 files_end_by words said before now t new (status.WriteFault count) cause is why x = absurd why
+files_end_by words said before now t new (status.WireFault port count) cause is why x = absurd why
 
-of_files : (k : Job) (before now : ℕ) (old new : Option Told) (said : Said) (s : Status) → ReadsFiles k → CauseBy k before now old new said s →
-    HasFilesCause before now old new said s
-of_files (plan_job trace) before now old new said s reads why = why
-of_files (check_job trace report) before now old new said s reads why = why
-of_files (make_job seed) before now old new said s reads why = absurd reads
-of_files (compare_job trace) before now old new said s reads why = why
-of_files (classes_job trace) before now old new said s reads why = why
+of_files : (F : ℕ → TableFacts → List ℕ → Type 0) (k : Job) (before now : ℕ) (old new : Option Told) (said : Said) (s : Status) → ReadsFiles k →
+    CauseBy F k before now old new said s → HasFilesCause before now old new said s ⊎ IsInterrupted s
+of_files F (plan_job trace) before now old new said s reads (inl why) = inl why
+of_files F (plan_job trace) before now old new said s reads (inr why) =
+    let (port, count, is, p) = by_wire (λ port. Serves (F port) (plan_job trace) old said) s why in
+    inr (subst IsInterrupted (sym is) tt)
+of_files F (check_job trace report) before now old new said s reads why = inl why
+of_files F (make_job seed) before now old new said s reads why = absurd reads
+of_files F (compare_job trace) before now old new said s reads why = inl why
+of_files F (classes_job trace) before now old new said s reads why = inl why
 
-pub first_ends : (words : List Text) (by said : Said) (before now : ℕ) (old new : Option Told) (s cause : Status) → IsWords words by → IsOfFiles words said →
-    HasCauseOf before now old new by s → IsSomeAnd old (λ t. IsFirstCause said t cause) → EndsBy said.job cause s ⊎ IsInterrupted s
-first_ends words by said before now old new s cause read is why x = go old here x
+pub first_ends : (F : ℕ → TableFacts → List ℕ → Type 0) (words : List Text) (by said : Said) (before now : ℕ) (old new : Option Told) (s cause : Status) → IsWords words by →
+    IsOfFiles words said → HasCauseOf F before now old new by s → IsSomeAnd old (λ t. IsFirstCause said t cause) → EndsBy said.job cause s ⊎ IsInterrupted s
+first_ends F words by said before now old new s cause read is why x = go old here x
   where
-    here : HasFilesCause before now old new said s
+    here : HasFilesCause before now old new said s ⊎ IsInterrupted s
     here =
-        of_files said.job before now old new said s is.reads
-        (subst (λ (y : Said). HasCauseOf before now old new y s) (words_one words by said read is.words_say) why)
+        of_files F said.job before now old new said s is.reads
+        (subst (λ (y : Said). HasCauseOf F before now old new y s) (words_one words by said read is.words_say) why)
 
-    go : (told : Option Told) → HasFilesCause before now told new said s → IsSomeAnd told (λ t. IsFirstCause said t cause) → EndsBy said.job cause s ⊎ IsInterrupted s
+    go : (told : Option Told) → HasFilesCause before now told new said s ⊎ IsInterrupted s → IsSomeAnd told (λ t. IsFirstCause said t cause) →
+        EndsBy said.job cause s ⊎ IsInterrupted s
     go None why x = absurd x
-    go (Some t) why x = files_end_by words said before now t new s cause is why x
+    go (Some t) (inl why) x = files_end_by words said before now t new s cause is why x
+    go (Some t) (inr by_wire) x = inr by_wire
 
-pub text_ends : (words : List Text) (by said : Said) (old : Option Told) (bench : List Meaning) (s cause : Status) (text : List ℕ) → IsWords words by → IsOfFiles words said →
-    IfSome old (HasGoodFiles by.job by) → IsOutcome old by bench s text → IsSomeAnd old (λ t. IsFirstCause said t cause) → EndsBy said.job cause s ⊎ IsInterrupted s
-text_ends words by said old bench s cause text read is good outcome x = go old (subst (λ (y : Said). IfSome old (HasGoodFiles y.job y)) same good) x
+pub text_ends : (S : TableFacts → List (List ℕ) → Type 0) (words : List Text) (by said : Said) (old : Option Told) (bench : List Meaning) (s cause : Status) (text : List ℕ) →
+    IsWords words by → IsOfFiles words said → IfSome old (HasGoodFiles by.job by) → IsOutcome S old by bench s text → IsSomeAnd old (λ t. IsFirstCause said t cause) →
+    EndsBy said.job cause s ⊎ IsInterrupted s
+text_ends S words by said old bench s cause text read is good outcome x = go old (subst (λ (y : Said). IfSome old (HasGoodFiles y.job y)) same good) x
   where
     same : by ≡ said
     same = words_one words by said read is.words_say
 
     ends : EndsWell said.job s
-    ends = written_by said.job old said bench s text (subst (λ (y : Said). IsOutcome old y bench s text) same outcome)
+    ends = written_by S said.job old said bench s text (subst (λ (y : Said). IsOutcome S old y bench s text) same outcome)
 
     go : (told : Option Told) → IfSome told (HasGoodFiles said.job said) → IsSomeAnd told (λ t. IsFirstCause said t cause) → EndsBy said.job cause s ⊎ IsInterrupted s
     go None good x = absurd x

@@ -94,6 +94,7 @@ from_trace before now old new name file unit status.No cause = absurd cause
 from_trace before now old new name file unit (status.BadReport line) cause = absurd cause
 from_trace before now old new name file unit (status.BadWeights fault) cause = absurd cause
 from_trace before now old new name file unit (status.WriteFault count) cause = absurd cause
+from_trace before now old new name file unit (status.WireFault port count) cause = absurd cause
 
 module _ (before mid_count now : ℕ) (old mid new : Option Told) (name : List ℕ) (file : Option (List ℕ)) (unit : ℕ) (trace : Trace) where
   weights_failed : KeepsFiles old mid → IsTraceOf old name trace → OfBoth mid new (NameFailedIf file) → OfBoth old new (InputFailed name file)
@@ -128,6 +129,7 @@ module _ (before mid_count now : ℕ) (old mid new : Option Told) (name : List �
   from_weights (status.BadReport line) le keeps read h = absurd h
   from_weights (status.BadTrace fault) le keeps read h = absurd h
   from_weights (status.WriteFault count) le keeps read h = absurd h
+  from_weights (status.WireFault port count) le keeps read h = absurd h
 
 pub from_table : (before now : ℕ) (old mid new : Option Told) (name : List ℕ) (file : Option (List ℕ)) (unit : ℕ) (trace : Trace) (weights : List ℕ) (fault : TableFault)
     (s : Status) →

@@ -5,12 +5,15 @@ pub mod TraceFacts
 pub mod WeightsFacts
 pub mod InputFacts
 pub mod WordFacts
+pub mod EndCauses
 pub mod OutcomeFacts
 pub mod BenchFacts
 pub mod CheckFacts
 pub mod TurnFacts
 pub mod WrittenFacts
 pub mod CompleteFacts
+pub mod ServingFacts
+pub mod WireFacts
 pub mod FirstFacts
 pub mod MadeInput
 pub mod MadePlan

@@ -18,27 +18,22 @@ pub read_is_planned : (planned read : Report) (text lent : List ℕ) → IsRepor
     read ≡ planned
 read_is_planned planned read text lent fits small written e back = reports_are_one read planned back.report back.small fits small (sym back.text ∙ e ∙ written)
 
-module _ (t : TableFacts) (weights lent : List ℕ) (planned read : Report) where
-  pub planned_for : lent ≡ weights → IsPlanOf (instance_of t lent) t.ids planned → IsPlanOf (instance_of t weights) t.ids planned
-  planned_for e plan = subst (λ (w : List ℕ). IsPlanOf (instance_of t w) t.ids planned) e plan
-
-  pub planned_is_sound : IsTable t → IsDistinct t.ids → length weights ≡ length t.ids → All (λ w. 1 ≤ w) weights → lent ≡ weights → IsPlanOf (instance_of t lent) t.ids planned →
-      IsSound (instance_of t weights) t.ids planned
-  planned_is_sound table once count least e plan = plan_is_sound t weights planned table once count least (planned_for e plan)
-
-  pub read_is_sound : IsTable t → IsDistinct t.ids → length weights ≡ length t.ids → All (λ w. 1 ≤ w) weights → lent ≡ weights → IsPlanOf (instance_of t lent) t.ids planned →
+module _ (t : TableFacts) (weights : List ℕ) (planned read : Report) where
+  pub read_is_sound : IsTable t → IsDistinct t.ids → length weights ≡ length t.ids → All (λ w. 1 ≤ w) weights → IsPlanOf (instance_of t weights) t.ids planned →
       read ≡ planned → IsSound (instance_of t weights) t.ids read
-  read_is_sound table once count least e plan same = subst (λ (r : Report). IsSound (instance_of t weights) t.ids r) (sym same) (planned_is_sound table once count least e plan)
+  read_is_sound table once count least plan same =
+      subst (λ (r : Report). IsSound (instance_of t weights) t.ids r) (sym same) (plan_is_sound t weights planned table once count least plan)
 
-  pub made_of : (seed unit : ℕ) (text : List ℕ) → IsTable t → IsDistinct t.ids → length weights ≡ length t.ids → All (λ w. 1 ≤ w) weights → lent ≡ weights →
-      IsPlanOf (instance_of t lent) t.ids planned → read ≡ planned →
-      GivesMade seed unit t weights → text ≡ made_text (summary_of seed t read) → MadeOf seed unit text
-  made_of seed unit text table once count least e plan same gives is = record {
+  pub made_of : (S : TableFacts → List (List ℕ) → Type 0) (seed unit : ℕ) (text : List ℕ) → IsTable t → IsDistinct t.ids → length weights ≡ length t.ids →
+      All (λ w. 1 ≤ w) weights → (plan : IsPlanOf (instance_of t weights) t.ids planned) → S t plan.slots → read ≡ planned →
+      GivesMade seed unit t weights → text ≡ made_text (summary_of seed t read) → MadeOf S seed unit text
+  made_of S seed unit text table once count least plan sent same gives is = record {
     table = t;
     weights = weights;
     gives = gives;
     report = planned;
-    planned = planned_for e plan;
-    sound = planned_is_sound table once count least e plan;
+    planned = plan;
+    sent = sent;
+    sound = plan_is_sound t weights planned table once count least plan;
     text_is = is ∙ ap (λ (r : Report). made_text (summary_of seed t r)) same;
   }

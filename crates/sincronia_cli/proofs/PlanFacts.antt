@@ -3,7 +3,7 @@ use Rattle.std.proofs.Common.{◌≡◌, ℕ, ◌<◌, List, ◌++◌, length, t
 use Rattle.std.specs.Prelude.{Option, Some, None, Ok, Err}
 use Rattle.command_words.specs.Words.{Said}
 use Rattle.coflow_units.specs.Flows.{Instance}
-use Rattle.flow_table.specs.Table.{instance_of}
+use Rattle.flow_table.specs.Table.{TableFacts, instance_of}
 use Rattle.flow_table.proofs.Whole.{whole}
 use Rattle.outside.specs.Shelf.{Told}
 use Rattle.outside.specs.Sink.{TakesText}
@@ -21,8 +21,9 @@ pub begun : (X : Type 0) {E : Type 0} (old new : Option (List ℕ)) (text lent :
 begun X None new text lent x e takes = tt
 begun X (Some old) new text lent x e takes = subst (λ (t : List ℕ). (n : ℕ) × (n < length t) × (new ≡ Some (old ++ take n t))) e takes
 
-pub writes_plan : (told : Option Told) (said : Said) (old new : Option (List ℕ)) (text : List ℕ) → PlanOf told said text → Appends old new text → WritesPlan told said old new
-writes_plan told said old new text plan written =
+pub writes_plan : (S : TableFacts → List (List ℕ) → Type 0) (told : Option Told) (said : Said) (old new : Option (List ℕ)) (text : List ℕ) → PlanOf S told said text →
+    Appends old new text → WritesPlan S told said old new
+writes_plan S told said old new text plan written =
     let i : Instance = instance_of plan.table plan.weights in
     record {
       text = text;

@@ -69,6 +69,7 @@ file_to_trace before now old new name (status.BadReport line) cause = absurd cau
 file_to_trace before now old new name (status.BadTrace fault) cause = absurd cause
 file_to_trace before now old new name (status.BadWeights fault) cause = absurd cause
 file_to_trace before now old new name (status.WriteFault count) cause = absurd cause
+file_to_trace before now old new name (status.WireFault port count) cause = absurd cause
 
 pub trace_read : (old : Option Told) (name bytes lent : List ℕ) (P : Trace → Type 0) (trace : Trace) → HasBytes old name bytes → lent ≡ bytes → length bytes ≤ 2 ^ 26 →
     first_fault (trace_checks lent) ≡ None → trace ≡ trace_of lent →

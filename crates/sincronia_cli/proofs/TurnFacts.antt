@@ -1,6 +1,6 @@
 -- How far a command came with its files, and that the shelf's count of faults stays.
-use Rattle.std.proofs.Common.{◌≡◌, ◌≢◌, IsErrAnd, IfErr, ℕ, List, Option, Some, Result, Ok, Err, refl, sym, subst, ◌∙◌}
-use Rattle.std.specs.Prelude.{IfSome}
+use Rattle.std.proofs.Common.{◌≡◌, ◌≢◌, IsErrAnd, IfErr, ℕ, inl, inr, List, Option, Some, Result, Ok, Err, refl, sym, subst, ◌∙◌}
+use Rattle.std.specs.Prelude.{◌⊎◌, IfSome}
 use Rattle.command_words.specs.Jobs.{Job, report_name, trace_name}
 use Rattle.command_words.specs.Jobs.Job.{check_job, classes_job, compare_job, make_job, plan_job}
 use Rattle.command_words.specs.Line.{Text}
@@ -9,6 +9,7 @@ use Rattle.command_words.proofs.OneMeaning.{words_one}
 use Rattle.cert_check.specs.declared.verdict.Verdict.{Verdict}
 use Rattle.cert_check.specs.declared.verdict.Verdict.TheVariants as verdict
 use Rattle.coflow_units.specs.declared.trace.Trace.{Trace}
+use Rattle.flow_table.specs.Table.{TableFacts}
 use Rattle.flow_table.specs.declared.fault.TableFault.{TableFault}
 use Rattle.flow_table.specs.declared.fault.TableFault.TheVariants as table_fault
 use Rattle.outside.specs.declared.shelf.Place4.{Place4}
@@ -27,12 +28,14 @@ use Rattle.sincronia_cli.specs.InputCauses.{IsStatusOfTable}
 use Rattle.sincronia_cli.specs.Inputs.{IsTraceOf, bytes_if}
 use Rattle.sincronia_cli.specs.Outcome.{IsOutcome, OutcomeBy}
 use Rattle.sincronia_cli.specs.ReportCauses.{IsReportCause}
+use Rattle.sincronia_cli.specs.Serving.{IsWireCause}
 use Rattle.sincronia_cli.specs.Shelves.{AreReadOut, IsReadOut, KeepsFiles, KeepsOthers, OfBoth, ReadsOut}
 use Rattle.sincronia_cli.specs.TraceCauses.{IsTraceCause}
 use Rattle.sincronia_cli.specs.Turns.{FailsAt, FilesInTurn, InputInTurn, IsAsBefore}
 use Rattle.sincronia_cli.specs.Turns.FilesInTurn.{at_input, at_report}
 use Rattle.sincronia_cli.specs.Turns.InputInTurn.{at_trace, at_weights}
 use Rattle.sincronia_cli.specs.WeightsCauses.{IsWeightsCause}
+use Rattle.sincronia_cli.proofs.EndCauses.{of_served}
 use Rattle.sincronia_cli.proofs.CheckFacts.{IsTextIf, still_both_out}
 use Rattle.sincronia_cli.proofs.InputFacts.{ReadAs, by_name}
 use Rattle.sincronia_cli.proofs.ShelfFacts.{both_and, both_joined, both_same, both_through, if_some, named_before, of_both, still_out, told_before, with_both}
@@ -96,6 +99,7 @@ fails_if old new name Q (status.BadWeights fault) q h = of_both old new Q (λ a 
 fails_if old new name Q (status.BadReport line) q h = of_both old new Q (λ a b. FailsAt name (status.BadReport line) a b × Q a b) (λ a b x. (tt, x)) q
 fails_if old new name Q (status.Limit which count) q h = of_both old new Q (λ a b. FailsAt name (status.Limit which count) a b × Q a b) (λ a b x. (tt, x)) q
 fails_if old new name Q (status.WriteFault count) q h = of_both old new Q (λ a b. FailsAt name (status.WriteFault count) a b × Q a b) (λ a b x. (tt, x)) q
+fails_if old new name Q (status.WireFault port count) q h = of_both old new Q (λ a b. FailsAt name (status.WireFault port count) a b × Q a b) (λ a b x. (tt, x)) q
 fails_if old new name Q status.NoMemory q h = of_both old new Q (λ a b. FailsAt name status.NoMemory a b × Q a b) (λ a b x. (tt, x)) q
 
 table_reads : (fault : TableFault) (s : Status) → IsStatusOfTable fault s → IsReadFault s → ⊥
@@ -190,21 +194,17 @@ untouched_in_turn told said s other =
         let report : IsAsBefore place.Report a b = subst (λ (t : Told). IsAsBefore place.Report a t) same (refl, refl) in
         at_input (at_trace f weights) report
 
-made_reads : (s : Status) → HasMadeCause s → IsReadFault s → ⊥
-made_reads (status.ReadFault count) cause read = cause
-made_reads status.NoMemory cause read = read
-made_reads status.Ok cause read = cause
-made_reads status.No cause read = cause
-made_reads status.Usage cause read = cause
-made_reads (status.BadTrace fault) cause read = cause
-made_reads (status.BadWeights fault) cause read = cause
-made_reads (status.BadReport line) cause read = cause
-made_reads (status.Limit which count) cause read = cause
-made_reads (status.WriteFault count) cause read = cause
+served_reads : (P : ℕ → Type 0) (s : Status) → HasMadeCause s ⊎ IsWireCause P s → IsReadFault s → ⊥
+served_reads P s cause read = of_served P (λ (x : Status). IsReadFault x → ⊥) s (λ r. r) (λ port count r. r) cause read
 
-pub made_in_turn : {T : Type 0} (told : Option Told) (said : Said) (r : Result T Status) → IfErr r HasMadeCause → IfErr r (λ s. OfBoth told told (FilesInTurn said s))
-made_in_turn told said (Ok x) cause = tt
-made_in_turn told said (Err s) cause = untouched_in_turn told said s (made_reads s cause)
+pub made_in_turn : {T : Type 0} (P : ℕ → Type 0) (told : Option Told) (said : Said) (r : Result T Status) → IfErr r (λ s. HasMadeCause s ⊎ IsWireCause P s) →
+    IfErr r (λ s. OfBoth told told (FilesInTurn said s))
+made_in_turn P told said (Ok x) cause = tt
+made_in_turn P told said (Err s) cause = untouched_in_turn told said s (served_reads P s cause)
+
+pub made_counts : {T : Type 0} (P : ℕ → Type 0) (n : ℕ) (r : Result T Status) → IfErr r (λ s. HasMadeCause s ⊎ IsWireCause P s) → CountsFault n n r
+made_counts P n (Ok x) cause = refl
+made_counts P n (Err s) cause = (λ other. refl, λ read. absurd (served_reads P s cause read))
 
 -- ---- a job whose text was made
 
@@ -212,12 +212,13 @@ verdict_reads : (verdict : Verdict) (s : Status) → s ≡ status_for verdict �
 verdict_reads verdict.Yes s is read = subst IsReadFault is read
 verdict_reads (verdict.No reason) s is read = subst IsReadFault is read
 
-text_reads : (k : Job) (told : Option Told) (said : Said) (bench : List Meaning) (s : Status) (text : List ℕ) → OutcomeBy k told said bench s text → IsReadFault s → ⊥
-text_reads (plan_job trace) told said bench s text (is, plan) read = subst IsReadFault is read
-text_reads (check_job trace report) told said bench s text (verdict, is, checks) read = verdict_reads verdict s is read
-text_reads (make_job seed) told said bench s text (is, made) read = subst IsReadFault is read
-text_reads (compare_job trace) told said bench s text (is, compares) read = subst IsReadFault is read
-text_reads (classes_job trace) told said bench s text (is, classes) read = subst IsReadFault is read
+text_reads : (S : TableFacts → List (List ℕ) → Type 0) (k : Job) (told : Option Told) (said : Said) (bench : List Meaning) (s : Status) (text : List ℕ) →
+    OutcomeBy S k told said bench s text → IsReadFault s → ⊥
+text_reads S (plan_job trace) told said bench s text (is, plan) read = subst IsReadFault is read
+text_reads S (check_job trace report) told said bench s text (verdict, is, checks) read = verdict_reads verdict s is read
+text_reads S (make_job seed) told said bench s text (is, made) read = subst IsReadFault is read
+text_reads S (compare_job trace) told said bench s text (is, compares) read = subst IsReadFault is read
+text_reads S (classes_job trace) told said bench s text (is, classes) read = subst IsReadFault is read
 
 module _ (old new : Option Told) (said : Said) (s : Status) where
   pub done_by : (k : Job) → (IsReadFault s → ⊥) → IfSome old (HasGoodFiles k said) → OfBoth old new (ReadsOut k said) → ((seed : ℕ) → k ≡ make_job seed → new ≡ old) →
@@ -230,9 +231,10 @@ module _ (old new : Option Told) (said : Said) (s : Status) where
   done_by (classes_job trace) other good out same = done_in_turn old new said s other good out
   done_by (make_job seed) other good out same = subst (λ n. OfBoth old n (FilesInTurn said s)) (sym (same seed refl)) (untouched_in_turn old said s other)
 
-  pub text_in_turn : (bench : List Meaning) (text : List ℕ) → IsOutcome old said bench s text → IfSome old (HasGoodFiles said.job said) → OfBoth old new (ReadsOut said.job said) →
+  pub text_in_turn : (S : TableFacts → List (List ℕ) → Type 0) (bench : List Meaning) (text : List ℕ) → IsOutcome S old said bench s text →
+      IfSome old (HasGoodFiles said.job said) → OfBoth old new (ReadsOut said.job said) →
       ((seed : ℕ) → said.job ≡ make_job seed → new ≡ old) → OfBoth old new (FilesInTurn said s)
-  text_in_turn bench text outcome good out same = done_by said.job (text_reads said.job old said bench s text outcome) good out same
+  text_in_turn S bench text outcome good out same = done_by said.job (text_reads S said.job old said bench s text outcome) good out same
 
 -- what holds for the words holds for all that they say
 pub turn_for : (words : List Text) (by said : Said) (old new : Option Told) (s : Status) → IsWords words by → IsWords words said → OfBoth old new (FilesInTurn by s) →

@@ -67,6 +67,7 @@ file_to_weights before now old new name coflows (status.BadReport line) cause = 
 file_to_weights before now old new name coflows (status.BadTrace fault) cause = absurd cause
 file_to_weights before now old new name coflows (status.BadWeights fault) cause = absurd cause
 file_to_weights before now old new name coflows (status.WriteFault count) cause = absurd cause
+file_to_weights before now old new name coflows (status.WireFault port count) cause = absurd cause
 
 given_by : (old : Option Told) (name bytes lent : List ℕ) (coflows : List CoflowLine) (weights : List ℕ) → HasBytes old name bytes → lent ≡ bytes → length bytes ≤ 2 ^ 26 →
     first_fault (text_checks lent coflows) ≡ None → weights ≡ weights_of lent coflows →

@@ -16,10 +16,15 @@ unit_fits words said is = setting_fits (MAX_UNIT) 1 _ said.unit (omega arith) (o
 classes_fit : (words : List Text) (said : Said) → IsWords words said → (1 ≤ said.classes) × (said.classes ≤ MAX_OPTION_CLASSES)
 classes_fit words said is = setting_fits (MAX_OPTION_CLASSES) 8 _ said.classes (omega arith) (omega arith) is.says.classes
 
+agents_fit : (words : List Text) (said : Said) → IsWords words said → (1 ≤ said.agents) × (said.agents ≤ 64)
+agents_fit words said is = setting_fits 64 4 _ said.agents (omega arith) (omega arith) is.says.agents
+
 pub words_fit : (words : List Text) (said : Said) → IsWords words said → Fits said
 words_fit words said is = record {
   some = (unit_fits words said is).0;
   unit_limit = (unit_fits words said is).1;
+  some_agents = (agents_fit words said is).0;
+  few_agents = omega (arith, (agents_fit words said is).1);
   some_classes = (classes_fit words said is).0;
   few_classes = (classes_fit words said is).1;
 }

@@ -8,6 +8,7 @@ use Rattle.command_words.specs.Words.{IsWords, Said}
 use Rattle.cert_check.specs.declared.verdict.Reason.{Reason}
 use Rattle.cert_check.specs.declared.verdict.Verdict.{Verdict}
 use Rattle.cert_check.specs.declared.verdict.Verdict.TheVariants.{No, Yes}
+use Rattle.flow_table.specs.Table.{TableFacts}
 use Rattle.outside.specs.Shelf.{Told}
 use Rattle.rankers.specs.Meaning.{Meaning}
 use Rattle.outside.specs.Sink.{TakesText}
@@ -25,40 +26,40 @@ use Rattle.sincronia_cli.proofs.CompareFacts.{writes_comparison}
 use Rattle.sincronia_cli.proofs.OutcomeFacts.{outcome_by}
 use Rattle.sincronia_cli.proofs.PlanFacts.{appended, writes_plan}
 
-module _ {X : Type 0} (E : Type 0) (words : List Text) (by said : Said) (told : Option Told) (bench : List Meaning) (s : Status)
+module _ {X : Type 0} (E : Type 0) (S : TableFacts → List (List ℕ) → Type 0) (words : List Text) (by said : Said) (told : Option Told) (bench : List Meaning) (s : Status)
     (text lent : List ℕ) (old new : Option (List ℕ)) (x : X) where
-  pub plan_written : (trace : Text) → IsWords words by → IsCommand (plan_job trace) words said → IsOutcome told by bench s text → lent ≡ text →
-      TakesText {E = E} old new lent (Ok x) → WritesPlan told said old new
+  pub plan_written : (trace : Text) → IsWords words by → IsCommand (plan_job trace) words said → IsOutcome S told by bench s text → lent ≡ text →
+      TakesText {E = E} old new lent (Ok x) → WritesPlan S told said old new
   plan_written trace reads is outcome e takes =
-      writes_plan told said old new text (outcome_by words by said (plan_job trace) told bench s text reads is outcome).1 (appended E old new text lent x e takes)
+      writes_plan S told said old new text (outcome_by S words by said (plan_job trace) told bench s text reads is outcome).1 (appended E old new text lent x e takes)
 
-  pub made_written : (seed : ℕ) → IsWords words by → IsCommand (make_job seed) words said → IsOutcome told by bench s text → lent ≡ text →
-      TakesText {E = E} old new lent (Ok x) → WritesMade seed said.unit old new
+  pub made_written : (seed : ℕ) → IsWords words by → IsCommand (make_job seed) words said → IsOutcome S told by bench s text → lent ≡ text →
+      TakesText {E = E} old new lent (Ok x) → WritesMade S seed said.unit old new
   made_written seed reads is outcome e takes =
-      record { text = text; makes = (outcome_by words by said (make_job seed) told bench s text reads is outcome).1; written = appended E old new text lent x e takes }
+      record { text = text; makes = (outcome_by S words by said (make_job seed) told bench s text reads is outcome).1; written = appended E old new text lent x e takes }
 
-  pub comparison_written : (trace : Text) → IsWords words by → IsCommand (compare_job trace) words said → IsOutcome told by bench s text → lent ≡ text →
+  pub comparison_written : (trace : Text) → IsWords words by → IsCommand (compare_job trace) words said → IsOutcome S told by bench s text → lent ≡ text →
       TakesText {E = E} old new lent (Ok x) → WritesComparison told said bench old new
   comparison_written trace reads is outcome e takes =
-      writes_comparison told said bench old new text (outcome_by words by said (compare_job trace) told bench s text reads is outcome).1 (appended E old new text lent x e takes)
+      writes_comparison told said bench old new text (outcome_by S words by said (compare_job trace) told bench s text reads is outcome).1 (appended E old new text lent x e takes)
 
-  pub classes_written : (trace : Text) → IsWords words by → IsCommand (classes_job trace) words said → IsOutcome told by bench s text → lent ≡ text →
+  pub classes_written : (trace : Text) → IsWords words by → IsCommand (classes_job trace) words said → IsOutcome S told by bench s text → lent ≡ text →
       TakesText {E = E} old new lent (Ok x) → WritesClasses told said old new
   classes_written trace reads is outcome e takes =
-      record { text = text; classes = (outcome_by words by said (classes_job trace) told bench s text reads is outcome).1; written = appended E old new text lent x e takes }
+      record { text = text; classes = (outcome_by S words by said (classes_job trace) told bench s text reads is outcome).1; written = appended E old new text lent x e takes }
 
   yes_for : (verdict : Verdict) → s ≡ status_for verdict → s ≡ status.Ok → verdict ≡ Yes
   yes_for Yes is ok = λ i. Yes
   yes_for (No reason) is ok = let bad : status.Ok ≡ status.No = sym ok ∙ is in cc
 
-  pub yes_written : (trace report : Text) → IsWords words by → IsCommand (check_job trace report) words said → IsOutcome told by bench s text → s ≡ status.Ok → lent ≡ text →
+  pub yes_written : (trace report : Text) → IsWords words by → IsCommand (check_job trace report) words said → IsOutcome S told by bench s text → s ≡ status.Ok → lent ≡ text →
       TakesText {E = E} old new lent (Ok x) →
       WritesYes told said old new
   yes_written trace report reads is outcome ok e takes =
-      let (verdict, status_is, checks) = outcome_by words by said (check_job trace report) told bench s text reads is outcome in
+      let (verdict, status_is, checks) = outcome_by S words by said (check_job trace report) told bench s text reads is outcome in
       sure_yes told said old new text (subst (λ (v : Verdict). CheckOf told said v text) (yes_for verdict status_is ok) checks) (appended E old new text lent x e takes)
 
-  pub no_written : IsWords words by → IsOutcome told by bench s text → s ≡ status.No → lent ≡ text → TakesText {E = E} old new lent (Ok x) →
+  pub no_written : IsWords words by → IsOutcome S told by bench s text → s ≡ status.No → lent ≡ text → TakesText {E = E} old new lent (Ok x) →
       (said : Said) × (trace report : Text) × IsCommand (check_job trace report) words said × (reason : Reason) × WritesVerdict told said (No reason) old new
   no_written reads outcome wrong e takes = by_job by.job refl outcome
     where
@@ -66,7 +67,7 @@ module _ {X : Type 0} (E : Type 0) (words : List Text) (by said : Said) (told : 
       by_verdict Yes is checks = let bad : status.Ok ≡ status.No = sym is ∙ wrong in cc
       by_verdict (No reason) is checks = (reason, record { text = text; checks = checks; written = appended E old new text lent x e takes })
 
-      by_job : (k : Job) → by.job ≡ k → OutcomeBy k told by bench s text →
+      by_job : (k : Job) → by.job ≡ k → OutcomeBy S k told by bench s text →
           (said : Said) × (trace report : Text) × IsCommand (check_job trace report) words said × (reason : Reason) × WritesVerdict told said (No reason) old new
       by_job (plan_job trace) same (is, plan) = let bad : status.Ok ≡ status.No = sym is ∙ wrong in cc
       by_job (check_job trace report) same (verdict, is, checks) =

@@ -5,6 +5,7 @@ use Rattle.command_words.specs.Jobs.{Job, report_name, trace_name}
 use Rattle.command_words.specs.Jobs.Job.{check_job, classes_job, compare_job, make_job, plan_job}
 use Rattle.command_words.specs.Words.{Said}
 use Rattle.coflow_units.specs.declared.quantity.Quantity.{Quantity}
+use Rattle.flow_table.specs.Table.{TableFacts}
 use Rattle.outside.specs.Shelf.{Told, bytes_of}
 use Rattle.trace_reader.specs.declared.fault.TraceFault.{TraceFault}
 use Rattle.weights.specs.declared.fault.WeightsFault.{WeightsFault}
@@ -15,6 +16,7 @@ use Rattle.sincronia_cli.specs.FileCauses.{NameFailedIf, ShelfFailed}
 use Rattle.sincronia_cli.specs.Inputs.{bytes_if}
 use Rattle.sincronia_cli.specs.InputCauses.{GiveTable, HasWeightsFault, InputFailed, LimitCause}
 use Rattle.sincronia_cli.specs.ReportCauses.{IsBadReport, ReportLimit}
+use Rattle.sincronia_cli.specs.Serving.{IsWireCause, Serves}
 use Rattle.sincronia_cli.specs.TraceCauses.{HasTraceFault, IsTraceForm}
 use Rattle.sincronia_cli.specs.WeightsCauses.{IsWeightsForm}
 
@@ -70,14 +72,19 @@ abbrev pub HasMadeCause : Status → Type 0
 HasMadeCause NoMemory = Unit {0}
 HasMadeCause status = ⊥
 
--- the cause of a status that comes before anything is written
-abbrev pub CauseBy : Job → ℕ → ℕ → Option Told → Option Told → Said → Status → Type 0
-CauseBy (plan_job trace) before now old new said status = HasFilesCause before now old new said status
-CauseBy (check_job trace report) before now old new said status = HasFilesCause before now old new said status
-CauseBy (make_job seed) before now old new said status = HasMadeCause status
-CauseBy (compare_job trace) before now old new said status = HasFilesCause before now old new said status
-CauseBy (classes_job trace) before now old new said status = HasFilesCause before now old new said status
+-- The cause of a status that comes before anything is written. At a wire fault this holds of the port and of the table
+-- and the weights of the plan that was served.
+abbrev pub CauseBy : (ℕ → TableFacts → List ℕ → Type 0) → Job → ℕ → ℕ → Option Told → Option Told → Said → Status →
+    Type 0
+CauseBy F (plan_job trace) before now old new said status =
+    HasFilesCause before now old new said status
+    ⊎ IsWireCause (λ port. Serves (F port) (plan_job trace) old said) status
+CauseBy F (check_job trace report) before now old new said status = HasFilesCause before now old new said status
+CauseBy F (make_job seed) before now old new said status =
+    HasMadeCause status ⊎ IsWireCause (λ port. Serves (F port) (make_job seed) old said) status
+CauseBy F (compare_job trace) before now old new said status = HasFilesCause before now old new said status
+CauseBy F (classes_job trace) before now old new said status = HasFilesCause before now old new said status
 
 -- what is said has this cause of the status
-abbrev pub HasCauseOf : ℕ → ℕ → Option Told → Option Told → Said → Status → Type 0
-HasCauseOf before now old new said status = CauseBy said.job before now old new said status
+abbrev pub HasCauseOf : (ℕ → TableFacts → List ℕ → Type 0) → ℕ → ℕ → Option Told → Option Told → Said → Status → Type 0
+HasCauseOf F before now old new said status = CauseBy F said.job before now old new said status

@@ -2,7 +2,7 @@
 use Rattle.std.specs.Prelude.{ℕ}
 use Rattle.sincronia_cli.specs.declared.status.Status.{Status}
 use Rattle.sincronia_cli.specs.declared.status.Status.TheVariants.{Ok, No, Usage, BadTrace, BadWeights, BadReport}
-use Rattle.sincronia_cli.specs.declared.status.Status.TheVariants.{Limit, ReadFault, WriteFault, NoMemory}
+use Rattle.sincronia_cli.specs.declared.status.Status.TheVariants.{Limit, ReadFault, WriteFault, WireFault, NoMemory}
 
 -- the exit code of a status
 abbrev pub code_of : Status → ℕ
@@ -15,4 +15,5 @@ code_of (BadReport line) = 5
 code_of (Limit which count) = 7
 code_of (ReadFault count) = 8
 code_of (WriteFault count) = 9
+code_of (WireFault port count) = 10
 code_of NoMemory = 11

@@ -1,5 +1,5 @@
 -- The words of each command.
-use Rattle.std.specs.Prelude.{◌≡◌, ◌≤◌, List}
+use Rattle.std.specs.Prelude.{◌≡◌, ◌<◌, ◌≤◌, ◌^◌, List}
 use Rattle.coflow_units.specs.declared.limits.TheConstants.{MAX_UNIT}
 use Rattle.command_words.specs.Jobs.{Job}
 use Rattle.command_words.specs.Jobs.Job.{check_job, classes_job, compare_job, make_job, plan_job}
@@ -25,9 +25,11 @@ pub record IsOfFiles (words : List Text) (said : Said) : Type 0 where
   pub words_say : IsWords words said
   pub reads : ReadsFiles said.job
 
--- the unit and the classes of what is said are in their ranges
+-- the unit, the agents and the classes of what is said are in their ranges
 pub record Fits (said : Said) : Type 0 where
   pub some : 1 ≤ said.unit
   pub unit_limit : said.unit ≤ MAX_UNIT
+  pub some_agents : 1 ≤ said.agents
+  pub few_agents : said.agents < 2 ^ 32
   pub some_classes : 1 ≤ said.classes
   pub few_classes : said.classes ≤ MAX_OPTION_CLASSES

@@ -1,4 +1,4 @@
--- How a job ended: done, at a fault of the shelf, or at a fault of the sink.
+-- How a job ended: done, or at a fault of the shelf, of the sink or of a wire.
 use Rattle.std.specs.Prelude.{◌≡◌, ℕ, Result, Ok, Err}
 use Rattle.outside.specs.Rose.{RoseOnce}
 use Rattle.sincronia_cli.specs.declared.status.Status.{Status}
@@ -19,6 +19,24 @@ IsReadFault other = ⊥
 abbrev pub IsWriteFault : Status → Type 0
 IsWriteFault (status.WriteFault count) = Unit {0}
 IsWriteFault other = ⊥
+
+-- a wire did not accept a unit
+abbrev pub IsWireFault : Status → Type 0
+IsWireFault (status.WireFault port count) = Unit {0}
+IsWireFault other = ⊥
+
+-- All files were read: the text was there, whole or not, or a plan was being served when a wire failed.
+abbrev pub IsPastFiles : Status → Type 0
+IsPastFiles status.Ok = Unit {0}
+IsPastFiles status.No = Unit {0}
+IsPastFiles (status.WriteFault count) = Unit {0}
+IsPastFiles (status.WireFault port count) = Unit {0}
+IsPastFiles other = ⊥
+
+-- this holds where there is a text, and where a wire failed
+abbrev pub IfPastFiles : {X : Type 0} → Result X Status → Type 0 → Type 0
+IfPastFiles (Ok x) P = P
+IfPastFiles (Err s) P = IsWireFault s → P
 
 -- the shelf's count of faults is greater by one at a read fault, and else as before
 abbrev pub CountsFault : {X : Type 0} → ℕ → ℕ → Result X Status → Type 0

@@ -5,7 +5,7 @@ use Rattle.command_words.specs.Words.{Said}
 use Rattle.outside.specs.Shelf.{Told}
 use Rattle.sincronia_cli.specs.declared.status.Status.{Status}
 use Rattle.sincronia_cli.specs.declared.status.Status.TheVariants.{BadTrace, BadWeights, BadReport, Limit, Ok}
-use Rattle.sincronia_cli.specs.declared.status.Status.TheVariants.{NoMemory, ReadFault, WriteFault}
+use Rattle.sincronia_cli.specs.declared.status.Status.TheVariants.{NoMemory, ReadFault, WireFault, WriteFault}
 use Rattle.sincronia_cli.specs.Causes.{FilesLimit, FilesReportFault, FilesTraceFault, FilesWeightsFault}
 use Rattle.sincronia_cli.specs.Complete.{EndsWell, HasGoodFiles}
 use Rattle.sincronia_cli.specs.TraceCauses.{IsTraceForm}
@@ -25,9 +25,10 @@ abbrev pub EndsBy : Job → Status → Status → Type 0
 EndsBy job Ok status = EndsWell job status
 EndsBy job cause status = status ≡ cause
 
--- a call to the shelf or the sink failed, or no memory was to be had
+-- a call to the shelf or the sink failed, a wire did not accept a unit, or no memory was to be had
 abbrev pub IsInterrupted : Status → Type 0
 IsInterrupted (ReadFault count) = Unit {0}
 IsInterrupted (WriteFault count) = Unit {0}
+IsInterrupted (WireFault port count) = Unit {0}
 IsInterrupted NoMemory = Unit {0}
 IsInterrupted status = ⊥

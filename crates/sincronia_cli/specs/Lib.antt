@@ -13,6 +13,7 @@ pub mod TraceCauses
 pub mod WeightsCauses
 pub mod InputCauses
 pub mod ReportCauses
+pub mod Serving
 pub mod Causes
 pub mod Complete
 pub mod FirstCause

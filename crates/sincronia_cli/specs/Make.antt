@@ -29,17 +29,20 @@ summary_of seed table r = record {
 }
 
 -- The instance that the texts of the seed give, the report of its plan, that it is right, and the text of the summary.
-pub record MadeOf (seed unit : ℕ) (text : List ℕ) : Type 0 where
+-- Of the table and the report's schedule this holds: it is what was sent.
+pub record MadeOf (Sent : TableFacts → List (List ℕ) → Type 0) (seed unit : ℕ) (text : List ℕ) : Type 0 where
   pub table : TableFacts
   pub weights : List ℕ
   pub gives : GivesMade seed unit table weights
   pub report : Report
   pub planned : IsPlanOf (instance_of table weights) table.ids report
+  pub sent : Sent table planned.slots
   pub sound : IsSound (instance_of table weights) table.ids report
   pub text_is : text ≡ made_text (summary_of seed table report)
 
--- the summary was written
-pub record WritesMade (seed unit : ℕ) (old new : Option (List ℕ)) : Type 0 where
+-- the summary was written, and the schedule of the plan was sent
+pub record WritesMade (Sent : TableFacts → List (List ℕ) → Type 0) (seed unit : ℕ) (old new : Option (List ℕ)) :
+    Type 0 where
   pub text : List ℕ
-  pub makes : MadeOf seed unit text
+  pub makes : MadeOf Sent seed unit text
   pub written : Appends old new text

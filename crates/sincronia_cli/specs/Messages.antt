@@ -9,7 +9,7 @@ use Rattle.weights.specs.declared.fault.WeightsFault.{WeightsFault}
 use Rattle.weights.specs.declared.fault.WeightsFault.TheVariants as weight
 use Rattle.sincronia_cli.specs.declared.status.Status.{Status}
 use Rattle.sincronia_cli.specs.declared.status.Status.TheVariants.{Ok, No, Usage, BadTrace, BadWeights, BadReport}
-use Rattle.sincronia_cli.specs.declared.status.Status.TheVariants.{Limit, ReadFault, WriteFault, NoMemory}
+use Rattle.sincronia_cli.specs.declared.status.Status.TheVariants.{Limit, ReadFault, WriteFault, WireFault, NoMemory}
 
 -- the name of a quantity
 abbrev pub name_of : Quantity → List ℕ
@@ -65,4 +65,5 @@ status_text (BadReport line) = codes "report: line " ++ decimal line
 status_text (Limit which count) = limit_text which count
 status_text (ReadFault count) = codes "read fault"
 status_text (WriteFault count) = codes "write fault"
+status_text (WireFault port count) = codes "wire fault at port " ++ decimal port
 status_text NoMemory = codes "no memory"

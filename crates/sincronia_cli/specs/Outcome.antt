@@ -4,6 +4,7 @@ use Rattle.command_words.specs.Jobs.{Job}
 use Rattle.command_words.specs.Jobs.Job.{check_job, classes_job, compare_job, make_job, plan_job}
 use Rattle.command_words.specs.Words.{Said}
 use Rattle.cert_check.specs.declared.verdict.Verdict.{Verdict}
+use Rattle.flow_table.specs.Table.{TableFacts}
 use Rattle.outside.specs.Shelf.{Told}
 use Rattle.rankers.specs.Meaning.{Meaning}
 use Rattle.sincronia_cli.specs.declared.status.Status.{Status}
@@ -14,18 +15,28 @@ use Rattle.sincronia_cli.specs.Compare.{ComparisonOf}
 use Rattle.sincronia_cli.specs.Make.{MadeOf}
 use Rattle.sincronia_cli.specs.Plan.{AppendsBeginning, PlanOf}
 
--- the text of the command and the status that it ends with, where the bench has these rankers
-abbrev pub OutcomeBy : Job → Option Told → Said → List Meaning → Status → List ℕ → Type 0
-OutcomeBy (plan_job trace) told said bench status text = (status ≡ Ok) × PlanOf told said text
-OutcomeBy (check_job trace report) told said bench status text =
-    (verdict : Verdict) × (status ≡ status_for verdict) × CheckOf told said verdict text
-OutcomeBy (make_job seed) told said bench status text = (status ≡ Ok) × MadeOf seed said.unit text
-OutcomeBy (compare_job trace) told said bench status text = (status ≡ Ok) × ComparisonOf told said bench text
-OutcomeBy (classes_job trace) told said bench status text = (status ≡ Ok) × ClassesOf told said text
+module _ (Sent : TableFacts → List (List ℕ) → Type 0) where
+  -- The text of the command and the status that it ends with, where the bench has these rankers. Where a plan is
+  -- served, this holds of its table and schedule: it is what was sent.
+  abbrev pub OutcomeBy : Job → Option Told → Said → List Meaning → Status → List ℕ → Type 0
+  OutcomeBy (plan_job trace) told said bench status text = (status ≡ Ok) × PlanOf Sent told said text
+  OutcomeBy (check_job trace report) told said bench status text =
+      (verdict : Verdict) × (status ≡ status_for verdict) × CheckOf told said verdict text
+  OutcomeBy (make_job seed) told said bench status text = (status ≡ Ok) × MadeOf Sent seed said.unit text
+  OutcomeBy (compare_job trace) told said bench status text = (status ≡ Ok) × ComparisonOf told said bench text
+  OutcomeBy (classes_job trace) told said bench status text = (status ≡ Ok) × ClassesOf told said text
 
--- what is said has this text and this status
-abbrev pub IsOutcome : Option Told → Said → List Meaning → Status → List ℕ → Type 0
-IsOutcome told said bench status text = OutcomeBy said.job told said bench status text
+  -- what is said has this text and this status
+  abbrev pub IsOutcome : Option Told → Said → List Meaning → Status → List ℕ → Type 0
+  IsOutcome told said bench status text = OutcomeBy said.job told said bench status text
+
+  -- a beginning of the text of the command was written, which is shorter than the text
+  pub record WritesBeginning (told : Option Told) (said : Said) (bench : List Meaning) (old new : Option (List ℕ)) :
+      Type 0 where
+    pub text : List ℕ
+    pub status : Status
+    pub outcome : IsOutcome told said bench status text
+    pub written : AppendsBeginning old new text
 
 -- there was a text to be written
 abbrev pub HasText : Status → Type 0
@@ -33,11 +44,3 @@ HasText Ok = Unit {0}
 HasText No = Unit {0}
 HasText (WriteFault count) = Unit {0}
 HasText status = ⊥
-
--- a beginning of the text of the command was written, which is shorter than the text
-pub record WritesBeginning (told : Option Told) (said : Said) (bench : List Meaning) (old new : Option (List ℕ)) :
-    Type 0 where
-  pub text : List ℕ
-  pub status : Status
-  pub outcome : IsOutcome told said bench status text
-  pub written : AppendsBeginning old new text

@@ -10,13 +10,16 @@ use Rattle.report.specs.declared.value.Report.{Report}
 use Rattle.report.specs.Text.{report_text}
 use Rattle.sincronia_cli.specs.Inputs.{IsInput}
 
--- the instance that the files give, the report of its plan, and the text of the report
-pub record PlanOf (told : Option Told) (said : Said) (text : List ℕ) : Type 0 where
+-- The instance that the files give, the report of its plan, and the text of the report. Of the table and the report's
+-- schedule this holds: it is what was sent.
+pub record PlanOf (Sent : TableFacts → List (List ℕ) → Type 0) (told : Option Told) (said : Said) (text : List ℕ) :
+    Type 0 where
   pub table : TableFacts
   pub weights : List ℕ
   pub input : IsInput told (trace_name said.job) said.weights said.unit table weights
   pub report : Report
   pub planned : IsPlanOf (instance_of table weights) table.ids report
+  pub sent : Sent table planned.slots
   pub text_is : text ≡ report_text report
 
 -- where the sink tells what it took, the text was appended
@@ -29,11 +32,12 @@ abbrev pub AppendsBeginning : Option (List ℕ) → Option (List ℕ) → List �
 AppendsBeginning None new text = Unit {0}
 AppendsBeginning (Some old) new text = (n : ℕ) × (n < length text) × (new ≡ Some (old ++ take n text))
 
--- The text of the plan was written. The plan's bound is at most the cost of every valid schedule of the instance that
--- the files give, and its cost is at most four times that bound, and its slack.
-pub record WritesPlan (told : Option Told) (said : Said) (old new : Option (List ℕ)) : Type 0 where
+-- The text of the plan was written, and its schedule was sent. The plan's bound is at most the cost of every valid
+-- schedule of the instance that the files give, and its cost is at most four times that bound, and its slack.
+pub record WritesPlan (Sent : TableFacts → List (List ℕ) → Type 0) (told : Option Told) (said : Said)
+    (old new : Option (List ℕ)) : Type 0 where
   pub text : List ℕ
-  pub plan : PlanOf told said text
+  pub plan : PlanOf Sent told said text
   pub bounds : BoundsEverySchedule (instance_of plan.table plan.weights) plan.report
   pub within : IsWithinFour plan.report
   pub written : Appends old new text

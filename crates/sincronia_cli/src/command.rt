@@ -1,5 +1,6 @@
 //! The program's job, from the words to the written text.
 ghost use Rattle.std.specs.Prelude.{◌≡◌, ◌≢◌, ◌≤◌, ◌<◌, ◌^◌, ◌⊎◌, ℕ, [], All, Err, IfErr, IfOk, IfSome, IsSomeAnd, List, OnOk, drop, length, map, take};
+ghost use Rattle.coflow_units.specs.declared.limits.TheConstants.{MAX_PORTS};
 ghost use Rattle.coflow_units.specs.declared.quantity.Quantity.{Quantity};
 ghost use Rattle.command_words.specs.Jobs.Job.{check_job, classes_job, compare_job, make_job, plan_job};
 ghost use Rattle.command_words.specs.Line.{texts};
@@ -10,18 +11,20 @@ ghost use Rattle.trace_reader.specs.declared.fault.TraceFault.{TraceFault};
 ghost use Rattle.weights.specs.declared.fault.WeightsFault.{WeightsFault};
 ghost use Rattle.cert_check.specs.declared.verdict.Reason.{Reason};
 ghost use Rattle.cert_check.specs.declared.verdict.Verdict.{Verdict};
+ghost use Rattle.served_plans.specs.Sent.{SendsAll, SendsPart, StopsShort};
 ghost use Rattle.sincronia_cli.specs.Causes.{FileFailed, FilesLimit, FilesReportFault, FilesTraceFault, FilesWeightsFault, HasCauseOf};
 ghost use Rattle.sincronia_cli.specs.Check.{WritesVerdict, WritesYes};
 ghost use Rattle.sincronia_cli.specs.Classes.{WritesClasses};
 ghost use Rattle.sincronia_cli.specs.Compare.{WritesComparison};
 ghost use Rattle.sincronia_cli.specs.Command.{Fits, IsCommand, IsOfFiles};
 ghost use Rattle.sincronia_cli.specs.Complete.{AreGood, EndsWell, HasGoodFiles, IsStill};
-ghost use Rattle.sincronia_cli.specs.Ends.{IsDone, IsReadFault, IsWriteFault, CountsFault};
+ghost use Rattle.sincronia_cli.specs.Ends.{CountsFault, IfPastFiles, IsPastFiles, IsReadFault, IsWriteFault};
 ghost use Rattle.sincronia_cli.specs.FileCauses.{ShelfFailed};
 ghost use Rattle.sincronia_cli.specs.FirstCause.{EndsBy, IsFirstCause, IsInterrupted};
 ghost use Rattle.sincronia_cli.specs.Make.{WritesMade};
 ghost use Rattle.sincronia_cli.specs.Outcome.{HasText, IsOutcome, WritesBeginning};
 ghost use Rattle.sincronia_cli.specs.Plan.{WritesPlan};
+ghost use Rattle.sincronia_cli.specs.Serving.{AreStill, MayHaveSent, SendsOnly, Serves, WireFailed};
 ghost use Rattle.sincronia_cli.specs.Shelves.{KeepsFiles, OfBoth, ReadsOut};
 ghost use Rattle.sincronia_cli.specs.TraceCauses.{IsTraceForm};
 ghost use Rattle.sincronia_cli.specs.Turns.{FilesInTurn};
@@ -35,29 +38,39 @@ use crate::outcome::Outcome;
 use crate::planning::plan_trace;
 use crate::status::Status;
 use command_words::{Job, Words, WordsFault, read_words};
-use outside::{Shelf, Sink, write_all};
+use outside::{Shelf, Sink, Wire, write_all};
 use rankers::Ranker;
 use std::alloc::Global;
+use std::sync::Wait;
+use std::thread::Threads;
 
-/// Does what the words ask for, and writes one text to the sink.
+/// Does what the words ask for, and writes one text to the sink. Where a plan is served, its units are sent on the wires
+/// before.
 ///
 /// - `plan TRACE` reads the file of that name on the shelf and writes the plan of its trace. With `--weights FILE` the
 ///   coflows have the weights of that file, and else weight 1 each; with `--unit MEGABYTES` a unit has so many
 ///   megabytes, and else one. The plan is that of the order by bottleneck, select, scale, iterate: a report of version 2
 ///   with the order's places, a lower bound on the cost of every valid schedule with its slack, the schedule that
 ///   serves the order, and its cost, which is at most four times the bound and the slack. (Sincronia: Agarwal, Rajakrishnan,
-///   Narayan, Agarwal, Shmoys and Vahdat, SIGCOMM 2018.)
+///   Narayan, Agarwal, Shmoys and Vahdat, SIGCOMM 2018.) The schedule was served: a hall registers all coflows in number
+///   order, publishes their order, and runs until nothing is left, and so many agents as `--agents` says, from 1 to 64, and
+///   else 4, send the units of its runs on the wires. The text is the same for any number of agents.
 /// - `check TRACE REPORT` reads a report of a plan of that trace, by whomever made, and writes one line: yes with its
 ///   totals where all that it says is right, and else no with the first reason. `--weights` and `--unit` are as for
 ///   `plan`. A yes says that the stated bound is at most the cost of every valid schedule.
-/// - `make SEED` makes a trace and weights from a number, plans them as `plan` does, and writes a summary of the plan,
-///   whose report is right. It reads no file.
+/// - `make SEED` makes a trace and weights from a number, plans and serves them as `plan` does, and writes a summary of
+///   the plan, whose report is right. It reads no file.
 /// - `compare TRACE` asks the rankers of the bench for orders of the trace's coflows, one ranker after another, and
 ///   writes the bound of `plan` and two rows for each: what its first answer costs, and what its second one does, after
 ///   it was told the slots in which the coflows ended. `--weights` and `--unit` are as for `plan`.
 /// - `classes TRACE` folds the order of `plan` into as many classes as `--classes` says, from 1 to 64, and else 8, and
 ///   writes the class of each coflow, and the schedule that serves the class order with its cost, which is at most the
 ///   cap. `--weights` and `--unit` are as for `plan`.
+///
+/// There is a wire for each ingress port that a trace may have, 1025 of them; further ones are left alone. `plan` and `make`
+/// alone use them. Where they tell what they accepted, at `Ok` and `WriteFault` each of them has the units of the plan's
+/// schedule that begin at its port, each once, behind what it had. At `WireFault` and `NoMemory` it has some of these, none
+/// twice, or none. At every other status, and for every other command, it is as before.
 ///
 /// The bench has fewer than 2^32 rankers, and `compare` alone uses it. A ranker that was asked is dropped, so at `Ok`
 /// and `WriteFault` of `compare` the bench is empty; at its `NoMemory` those that were not reached are still there, as
@@ -67,7 +80,8 @@ use std::alloc::Global;
 /// tested; so are the weights; then the table of flows is made; then the report is read, and its grammar is tested. A
 /// file is started only where nothing that is looked at before it is wrong. No call that failed is tried again: the
 /// shelf's count of faults rises by one at `ReadFault`, the sink's at `WriteFault`, each up to 2^64 - 1, where it stops,
-/// and neither does at any other status.
+/// and neither does at any other status. After a unit that a wire did not accept the run is closed and no further one is
+/// opened.
 ///
 /// What is said here of the bytes of files, of the files that are looked at and of what is written holds where shelf and
 /// sink tell it, as those in memory do. The others tell their counts of faults alone.
@@ -87,22 +101,28 @@ use std::alloc::Global;
 ///   weights where the trace has no fault, or the report where trace and weights give a table within its limits.
 /// - `WriteFault`: a call to the sink failed, and its count of faults rose. `count` is 1. A beginning of the text was
 ///   written, which is shorter than the text.
+/// - `WireFault`: in `plan` or `make` the wire of this ingress port did not accept a unit, and its count of faults rose.
+///   `count` is 1. It is the least port at which a unit of the last run is missing.
 /// - `NoMemory`: no memory was to be had.
 ///
 /// Where the files of the command are told, the status is the one of the first thing that is wrong with them, or where
-/// they are good `Ok`, or for `check` `Ok` or `No`; only `ReadFault`, `WriteFault` and `NoMemory` may come in its place,
-/// the first two only where a count of faults rises. At `Ok` and `No` those files are good. At `Ok`, `No` and `WriteFault` every file of the
-/// command was read to its end; after any other status nothing was written. The files on the shelf are as before.
-pub fn sincronia<H: Shelf, K: Sink>(
+/// they are good `Ok`, or for `check` `Ok` or `No`; only `ReadFault`, `WriteFault`, `WireFault` and `NoMemory` may come in its
+/// place, the first three only where a count of faults rises. At `Ok`, `No`, `WriteFault` and `WireFault` those files are good, and every file of the
+/// command was read to its end. After any status but the first three of these nothing was written. The files on the shelf are as before.
+pub fn sincronia<R: Threads + Wait + Sync, H: Shelf, K: Sink, W: Wire + Send>(
+    rt: &R,
     alloc: Global,
     words: &[String],
     shelf: &mut H,
     out: &mut K,
+    wires: &mut Vec<W>,
     bench: &mut Vec<Box<dyn Ranker>>,
 ) -> Status
-    requires { length bench.old.items < 2 ^ 32 }
+    requires wires { MAX_PORTS < length wires.old.items }
+    requires bench { length bench.old.items < 2 ^ 32 }
     ensures plan { (said : Said) (trace : List ℕ) → IsCommand (plan_job trace) (texts words.now) said →
-        result ≡ Status.Ok → WritesPlan (H.told shelf.old) said (K.taken out.old) (K.taken out.new) }
+        result ≡ Status.Ok → WritesPlan (SendsAll W.runs wires.old.items wires.new.items) (H.told shelf.old) said
+        (K.taken out.old) (K.taken out.new) }
     ensures yes { (said : Said) (trace report : List ℕ) → IsCommand (check_job trace report) (texts words.now) said →
         result ≡ Status.Ok → WritesYes (H.told shelf.old) said (K.taken out.old) (K.taken out.new) }
     ensures no { result ≡ Status.No →
@@ -110,7 +130,10 @@ pub fn sincronia<H: Shelf, K: Sink>(
         (reason : Reason) ×
         WritesVerdict (H.told shelf.old) said (Verdict.No reason) (K.taken out.old) (K.taken out.new) }
     ensures make { (said : Said) (seed : ℕ) → IsCommand (make_job seed) (texts words.now) said → result ≡ Status.Ok →
-        WritesMade seed said.unit (K.taken out.old) (K.taken out.new) }
+        WritesMade (SendsAll W.runs wires.old.items wires.new.items) seed said.unit (K.taken out.old)
+        (K.taken out.new) }
+    ensures wires { SendsOnly W.runs wires.old.items wires.new.items (H.told shelf.old) (texts words.now) }
+    ensures unsent { (MayHaveSent result → ⊥) → wires.new.items ≡ wires.old.items }
     ensures compare { (said : Said) (trace : List ℕ) → IsCommand (compare_job trace) (texts words.now) said →
         result ≡ Status.Ok → WritesComparison (H.told shelf.old) said (map (λ b. meaning b) bench.old.items)
         (K.taken out.old) (K.taken out.new) }
@@ -125,13 +148,14 @@ pub fn sincronia<H: Shelf, K: Sink>(
         result ≡ Status.Ok → WritesClasses (H.told shelf.old) said (K.taken out.old) (K.taken out.new) }
     ensures complete { (said : Said) → IsWords (texts words.now) said →
         AreGood said.job said (H.told shelf.old) → IsStill (H.faults shelf.old) (H.faults shelf.new) →
-        IsStill (K.faults out.old) (K.faults out.new) → EndsWell said.job result ⊎ (result ≡ Status.NoMemory) }
+        IsStill (K.faults out.old) (K.faults out.new) → AreStill W.faults wires.old.items wires.new.items →
+        EndsWell said.job result ⊎ (result ≡ Status.NoMemory) }
     ensures first { (said : Said) (cause : Status) → IsOfFiles (texts words.now) said →
         IsSomeAnd (H.told shelf.old) (λ t. IsFirstCause said t cause) →
         EndsBy said.job cause result ⊎ IsInterrupted result }
-    ensures good { IsDone result → (said : Said) × IsWords (texts words.now) said ×
+    ensures good { IsPastFiles result → (said : Said) × IsWords (texts words.now) said ×
         IfSome (H.told shelf.old) (HasGoodFiles said.job said) }
-    ensures read_out { (said : Said) → IsWords (texts words.now) said → HasText result →
+    ensures read_out { (said : Said) → IsWords (texts words.now) said → IsPastFiles result →
         OfBoth (H.told shelf.old) (H.told shelf.new) (ReadsOut said.job said) }
     ensures in_turn { (said : Said) → IsWords (texts words.now) said →
         OfBoth (H.told shelf.old) (H.told shelf.new) (FilesInTurn said result) }
@@ -155,8 +179,10 @@ pub fn sincronia<H: Shelf, K: Sink>(
         (count ≡ 1) × Rose (K.faults out.old) (K.faults out.new) }
     ensures beginning { (count : ℕ) → result ≡ Status.WriteFault count →
         (said : Said) × IsWords (texts words.now) said ×
-        WritesBeginning (H.told shelf.old) said (map (λ b. meaning b) bench.old.items) (K.taken out.old)
-        (K.taken out.new) }
+        WritesBeginning (SendsAll W.runs wires.old.items wires.new.items) (H.told shelf.old) said
+        (map (λ b. meaning b) bench.old.items) (K.taken out.old) (K.taken out.new) }
+    ensures wire { (port count : ℕ) → result ≡ Status.WireFault port count →
+        WireFailed W.faults W.runs wires.old.items wires.new.items (H.told shelf.old) (texts words.now) port count }
     ensures still_shelf { (IsReadFault result → ⊥) → H.faults shelf.new ≡ H.faults shelf.old }
     ensures once_shelf { IsReadFault result → RoseOnce (H.faults shelf.old) (H.faults shelf.new) }
     ensures still_sink { (IsWriteFault result → ⊥) → K.faults out.new ≡ K.faults out.old }
@@ -171,7 +197,7 @@ pub fn sincronia<H: Shelf, K: Sink>(
         Err(WordsFault::Usage) => return Status::Usage,
         Err(WordsFault::NoMemory) => return Status::NoMemory,
     };
-    let outcome = match carry_out(alloc, words, shelf, bench) {
+    let outcome = match carry_out(rt, alloc, words, shelf, wires, bench) {
         Ok(outcome) => outcome,
         Err(status) => return status,
     };
@@ -182,16 +208,19 @@ pub fn sincronia<H: Shelf, K: Sink>(
 }
 
 /// What the words ask to be written, or the status of why there is nothing to write.
-fn carry_out<'a, H: Shelf>(
+fn carry_out<'a, R: Threads + Wait + Sync, H: Shelf, W: Wire + Send>(
+    rt: &R,
     alloc: Global,
     words: Words<'a>,
     shelf: &mut H,
+    wires: &mut Vec<W>,
     bench: &mut Vec<Box<dyn Ranker>>,
 ) -> Result<Outcome, Status>
     requires fits { Fits (said_by words) }
     requires few { length bench.old.items < 2 ^ 32 }
-    ensures outcome { IfOk result (λ o. IsOutcome (H.told shelf.old) (said_by words.entry)
-        (map (λ b. meaning b) bench.old.items) o.status o.text.items) }
+    requires wires { MAX_PORTS < length wires.old.items }
+    ensures outcome { IfOk result (λ o. IsOutcome (SendsAll W.runs wires.old.items wires.new.items)
+        (H.told shelf.old) (said_by words.entry) (map (λ b. meaning b) bench.old.items) o.status o.text.items) }
     ensures empty { OnOk result ((trace : List ℕ) → (said_by words.entry).job ≡ compare_job trace →
         bench.new.items ≡ []) }
     ensures left { (reached : ℕ) × (bench.new.items ≡ drop reached bench.old.items) ×
@@ -199,24 +228,34 @@ fn carry_out<'a, H: Shelf>(
     ensures same_bench { IfErr result (λ status. status ≢ Status.NoMemory → bench.new.items ≡ bench.old.items) }
     ensures others_bench { ((trace : List ℕ) → (said_by words.entry).job ≡ compare_job trace → ⊥) →
         bench.new.items ≡ bench.old.items }
-    ensures read_out { OnOk result (OfBoth (H.told shelf.old) (H.told shelf.new)
+    ensures sent { (wires.new.items ≡ wires.old.items) ⊎ Serves (SendsPart W.runs wires.old.items wires.new.items)
+        (said_by words.entry).job (H.told shelf.old) (said_by words.entry) }
+    ensures unsent { IfErr result (λ status. (MayHaveSent status → ⊥) → wires.new.items ≡ wires.old.items) }
+    ensures read_out { IfPastFiles result (OfBoth (H.told shelf.old) (H.told shelf.new)
         (ReadsOut (said_by words.entry).job (said_by words.entry))) }
-    ensures good { OnOk result (IfSome (H.told shelf.old)
+    ensures good { IfPastFiles result (IfSome (H.told shelf.old)
         (HasGoodFiles (said_by words.entry).job (said_by words.entry))) }
     ensures in_turn { IfErr result (λ status. OfBoth (H.told shelf.old) (H.told shelf.new)
         (FilesInTurn (said_by words.entry) status)) }
     ensures cause { IfErr result
-        (HasCauseOf (H.faults shelf.old) (H.faults shelf.new) (H.told shelf.old) (H.told shelf.new)
-        (said_by words.entry)) }
+        (HasCauseOf (StopsShort W.faults W.runs wires.old.items wires.new.items) (H.faults shelf.old)
+        (H.faults shelf.new) (H.told shelf.old) (H.told shelf.new) (said_by words.entry)) }
     ensures keeps { KeepsFiles (H.told shelf.old) (H.told shelf.new) }
     ensures counts { CountsFault (H.faults shelf.old) (H.faults shelf.new) result }
     ensures untouched { (seed : ℕ) → (said_by words.entry).job ≡ make_job seed →
         (H.told shelf.new ≡ H.told shelf.old) × (H.faults shelf.new ≡ H.faults shelf.old) }
 {
     match words.job {
-        Job::Plan { trace } => plan_trace(alloc, trace, words.options, shelf),
+        Job::Plan { trace } => plan_trace(rt, alloc, trace, words.options, shelf, wires),
         Job::Check { trace, report } => check_report(alloc, trace, report, words.options, shelf),
-        Job::Make { seed } => make_workload(alloc, seed, words.options.unit),
+        Job::Make { seed } => make_workload(
+            rt,
+            alloc,
+            seed,
+            words.options.unit,
+            words.options.agents,
+            wires,
+        ),
         Job::Compare { trace } => compare_rankers(alloc, trace, words.options, shelf, bench),
         Job::Classes { trace } => list_classes(alloc, trace, words.options, shelf),
     }

@@ -11,6 +11,7 @@ mod making;
 mod messages;
 mod outcome;
 mod planning;
+mod serving;
 mod status;
 
 pub use command::sincronia;

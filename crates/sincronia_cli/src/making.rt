@@ -1,6 +1,6 @@
 //! The command `make`: the plan of a made trace, read back and checked.
-ghost use Rattle.std.specs.Prelude.{◌≡◌, ◌≤◌, ◌<◌, ◌^◌, ℕ, All, IfErr, IfOk, None, length, sum_by};
-ghost use Rattle.coflow_units.specs.declared.limits.TheConstants.{MAX_REPORT, MAX_TEXT, MAX_UNIT, MAX_UNITS, MAX_WEIGHT};
+ghost use Rattle.std.specs.Prelude.{◌≡◌, ◌≤◌, ◌<◌, ◌^◌, ◌⊎◌, ℕ, All, IfErr, IfOk, None, length, sum_by};
+ghost use Rattle.coflow_units.specs.declared.limits.TheConstants.{MAX_PORTS, MAX_REPORT, MAX_TEXT, MAX_UNIT, MAX_UNITS, MAX_WEIGHT};
 ghost use Rattle.cert_check.specs.Sound.{IsSound};
 ghost use Rattle.coflow_units.specs.declared.fabric.Flow.{Flow};
 ghost use Rattle.coflow_units.specs.declared.quantity.Quantity.{Quantity};
@@ -17,31 +17,51 @@ ghost use Rattle.text_fields.specs.Checks.{first_fault};
 ghost use Rattle.trace_reader.specs.Trace.{trace_checks, trace_of};
 ghost use Rattle.weights.specs.Weights.{text_checks, weights_of};
 ghost use Rattle.sincronia_cli.specs.Causes.{HasMadeCause};
+ghost use Rattle.served_plans.specs.Sent.{SendsAll, SendsPart, StopsShort};
 ghost use Rattle.sincronia_cli.specs.Make.{GivesMade, MadeOf, summary_of};
+ghost use Rattle.sincronia_cli.specs.Serving.{IsWireCause, ServesMade};
 
 use crate::inputs::Input;
 use crate::outcome::Outcome;
+use crate::serving::serve;
 use crate::status::Status;
 use cert_check::Verdict;
 use coflow_units::{Flow, Items, NoMemory, Trace};
 use flow_table::{Table, TableFault};
-use plans::plan;
+use outside::Wire;
 use report::{Made, Report, ReportFault, read_report, write_made, write_report};
 use std::alloc::Global;
+use std::sync::Wait;
+use std::thread::Threads;
 use trace_reader::{TraceFault, read_trace};
 use verdicts::verdict_on;
 use weights::{WeightsFault, read_weights};
 use workload::made;
 
-/// The summary of the plan of the trace that is made from a seed, whose report was read back and found right. There is one where there is memory.
-pub(crate) fn make_workload(alloc: Global, seed: u64, unit: u64) -> Result<Outcome, Status>
+/// The summary of the plan of the trace that is made from a seed, whose units were sent on the wires, and whose report was read back and found right.
+/// There is one where there is memory and no wire fails.
+pub(crate) fn make_workload<R: Threads + Wait + Sync, W: Wire + Send>(
+    rt: &R,
+    alloc: Global,
+    seed: u64,
+    unit: u64,
+    agents: u64,
+    wires: &mut Vec<W>,
+) -> Result<Outcome, Status>
     requires some { 1 ≤ unit }
     requires unit_limit { unit ≤ MAX_UNIT }
-    ensures outcome { IfOk result (λ o. (o.status ≡ Status.Ok) × MadeOf seed unit o.text.items) }
-    ensures cause { IfErr result HasMadeCause }
+    requires agents { 1 ≤ agents }
+    requires few_agents { agents < 2 ^ 32 }
+    requires wires { MAX_PORTS < length wires.old.items }
+    ensures outcome { IfOk result (λ o. (o.status ≡ Status.Ok) ×
+        MadeOf (SendsAll W.runs wires.old.items wires.new.items) seed unit o.text.items) }
+    ensures sent { (wires.new.items ≡ wires.old.items) ⊎ ServesMade (SendsPart W.runs wires.old.items wires.new.items)
+        seed unit }
+    ensures cause { IfErr result (λ status. HasMadeCause status ⊎ IsWireCause
+        (λ port. ServesMade (StopsShort W.faults W.runs wires.old.items wires.new.items port) seed unit) status) }
 {
     let input = made_input(alloc, seed, unit)?;
-    let planned = plan(alloc, &input.table, input.weights.as_slice())?;
+    let planned = serve(rt, alloc, &input, agents as u32, wires)?;
     let text = write_report(alloc, &planned)?;
     let report = read_back(alloc, &text)?;
     let text = summary(alloc, seed, &input, &report)?;

@@ -26,6 +26,7 @@ impl fmt::Display for Status {
             Status::Limit { which, count } => write_limit(f, *which, *count),
             Status::ReadFault { count: _ } => f.write_str("read fault"),
             Status::WriteFault { count: _ } => f.write_str("write fault"),
+            Status::WireFault { port, count: _ } => write!(f, "wire fault at port {port}"),
             Status::NoMemory => f.write_str("no memory"),
         }
     }

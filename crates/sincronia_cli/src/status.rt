@@ -4,12 +4,13 @@ ghost use Rattle.sincronia_cli.specs.Code.{code_of};
 
 use coflow_units::{NoMemory, Quantity};
 use flow_table::TableFault;
+use hall_plan::PlanFault;
 use report::ReportFault;
 use trace_reader::TraceFault;
 use weights::WeightsFault;
 
-/// How the job ended. The `count` of a fault of shelf or sink is the number of calls that failed, which is 1: the first
-/// one ends the job.
+/// How the job ended. The `count` of a fault of shelf, sink or wire is the number of calls that failed, which is 1: the first
+/// one ends the job. Of wires further ones may have failed in the same run.
 #[derive(Clone, Copy, Debug, PartialEq, Eq)]
 pub enum Status {
     /// The text was written whole. The answer of `check` is yes.
@@ -31,6 +32,8 @@ pub enum Status {
     ReadFault { count: u32 },
     /// A call to the sink failed. A beginning of the text was written.
     WriteFault { count: u32 },
+    /// The wire of this ingress port did not accept a unit. It is the least port at which a unit of the last run is missing.
+    WireFault { port: u32, count: u32 },
     /// No memory was to be had.
     NoMemory,
 }
@@ -50,6 +53,7 @@ impl Status {
             Status::Limit { which: _, count: _ } => 7,
             Status::ReadFault { count: _ } => 8,
             Status::WriteFault { count: _ } => 9,
+            Status::WireFault { port: _, count: _ } => 10,
             Status::NoMemory => 11,
         }
     }
@@ -110,6 +114,19 @@ impl From<TableFault> for Status {
         match fault {
             TableFault::Limit { which, count } => Status::Limit { which, count },
             TableFault::NoMemory => Status::NoMemory,
+        }
+    }
+}
+
+impl From<PlanFault> for Status {
+    ghost use Rattle.sincronia_cli.specs.Serving.{IsStatusOfPlan};
+
+    ghost from_gives = { λ fault status. IsStatusOfPlan fault status };
+
+    fn from(fault: PlanFault) -> Status {
+        match fault {
+            PlanFault::WireFault { port } => Status::WireFault { port, count: 1 },
+            PlanFault::NoMemory => Status::NoMemory,
         }
     }
 }

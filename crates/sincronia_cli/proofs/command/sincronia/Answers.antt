@@ -1,15 +1,18 @@
-use Rattle.std.proofs.Common.{◌≡◌, ap, refl, Err}
+use Rattle.std.proofs.Common.{◌≡◌, ap, refl, subst, Err}
 use Rattle.std.proofs.lemmas.List.Elements.{All-nil}
 use Rattle.std.specs.Prelude.{map}
 use Rattle.command_words.specs.Jobs.Job.{compare_job}
 use Rattle.command_words.specs.Line.{texts}
 use Rattle.command_words.specs.Words.{Said, said_by}
 use Rattle.sincronia_cli.specs.declared.status.Status.TheVariants.{WriteFault}
+use Rattle.served_plans.specs.Sent.{SendsAll, SendsPart, StopsShort}
+use Rattle.sincronia_cli.specs.Outcome.{HasText}
 use Rattle.sincronia_cli.proofs.BenchFacts.{cause_has_no_text, job_of, outcome_has_text}
 use Rattle.sincronia_cli.proofs.CompleteFacts.{good_files_end}
 use Rattle.sincronia_cli.proofs.FirstFacts.{first_ends, text_ends}
 use Rattle.sincronia_cli.proofs.OutcomeFacts.{bad_report_checked}
 use Rattle.sincronia_cli.proofs.PlanFacts.{begun}
+use Rattle.sincronia_cli.proofs.ServingFacts.{none_failed, past_by_wire, sent_by, unsent_for, wire_failed}
 use Rattle.sincronia_cli.proofs.TurnFacts.{done_by, out_for, text_in_turn, turn_for}
 use Rattle.sincronia_cli.proofs.WrittenFacts.{classes_written, comparison_written, made_written, no_written, plan_written, yes_written}
 use Rattle.sincronia_cli.proofs.command.sincronia.Goals as goal
@@ -19,51 +22,59 @@ returns-in-Err-Usage-clause-usage g c = λ e said is. c.in-Err-Usage.ensures.usa
 
 pub returns-in-Err-clause-bad_report : goal.returns-in-Err-clause-bad_report
 returns-in-Err-clause-bad_report g c = λ line e.
-    let checked = bad_report_checked (texts c.args.words.now) (said_by c.in-Ok.words) (g.H.Shelf.faults c.args.shelf.now) (g.H.Shelf.faults c.carry_out.new.shelf)
+    let checked = bad_report_checked (StopsShort g.W.Wire.faults g.W.Wire.runs c.args.wires.now.items c.carry_out.new.wires.items)
+    (texts c.args.words.now) (said_by c.in-Ok.words) (g.H.Shelf.faults c.args.shelf.now) (g.H.Shelf.faults c.carry_out.new.shelf)
     (g.H.Shelf.told c.args.shelf.now) (g.H.Shelf.told c.carry_out.new.shelf) line c.in-Err.status c.in-Ok.ensures.said c.in-Err.ensures.cause e in
     (said_by c.in-Ok.words, checked.0, checked.1, checked.2, checked.3)
 
 pub returns-clause-plan : goal.returns-clause-plan
 returns-clause-plan g c = λ said trace is e.
-    plan_written _ (texts c.args.words.now) (said_by c.in-Ok.words) said (g.H.Shelf.told c.args.shelf.now)
+    plan_written _ (SendsAll g.W.Wire.runs c.args.wires.now.items c.carry_out.new.wires.items) (texts c.args.words.now) (said_by c.in-Ok.words) said
+    (g.H.Shelf.told c.args.shelf.now)
     (map (λ b. (goal.Ranker-dyn g (b.vtable, b.value)).meaning b.value) c.args.bench.now.items) c.in-Ok-carry_out.outcome.status c.in-Ok-carry_out.outcome.text.items
     c.deref.result.now (g.K.Sink.taken c.args.out.now) (g.K.Sink.taken c.write_all.new.sink) c.in-Ok-write_all.field-0 trace
     c.in-Ok.ensures.said is c.in-Ok-carry_out.ensures.outcome c.deref.ensures.value c.in-Ok-write_all.ensures.taken
 
 pub returns-clause-yes : goal.returns-clause-yes
 returns-clause-yes g c = λ said trace report is e.
-    yes_written _ (texts c.args.words.now) (said_by c.in-Ok.words) said (g.H.Shelf.told c.args.shelf.now)
+    yes_written _ (SendsAll g.W.Wire.runs c.args.wires.now.items c.carry_out.new.wires.items) (texts c.args.words.now) (said_by c.in-Ok.words) said
+    (g.H.Shelf.told c.args.shelf.now)
     (map (λ b. (goal.Ranker-dyn g (b.vtable, b.value)).meaning b.value) c.args.bench.now.items) c.in-Ok-carry_out.outcome.status c.in-Ok-carry_out.outcome.text.items
     c.deref.result.now (g.K.Sink.taken c.args.out.now) (g.K.Sink.taken c.write_all.new.sink) c.in-Ok-write_all.field-0 trace report
     c.in-Ok.ensures.said is c.in-Ok-carry_out.ensures.outcome e c.deref.ensures.value c.in-Ok-write_all.ensures.taken
 
 pub returns-clause-make : goal.returns-clause-make
 returns-clause-make g c = λ said seed is e.
-    made_written _ (texts c.args.words.now) (said_by c.in-Ok.words) said (g.H.Shelf.told c.args.shelf.now)
+    made_written _ (SendsAll g.W.Wire.runs c.args.wires.now.items c.carry_out.new.wires.items) (texts c.args.words.now) (said_by c.in-Ok.words) said
+    (g.H.Shelf.told c.args.shelf.now)
     (map (λ b. (goal.Ranker-dyn g (b.vtable, b.value)).meaning b.value) c.args.bench.now.items) c.in-Ok-carry_out.outcome.status c.in-Ok-carry_out.outcome.text.items
     c.deref.result.now (g.K.Sink.taken c.args.out.now) (g.K.Sink.taken c.write_all.new.sink) c.in-Ok-write_all.field-0 seed
     c.in-Ok.ensures.said is c.in-Ok-carry_out.ensures.outcome c.deref.ensures.value c.in-Ok-write_all.ensures.taken
 
 pub returns-in-Err-Usage-clause-complete : goal.returns-in-Err-Usage-clause-complete
-returns-in-Err-Usage-clause-complete g c = λ said is good shelf sink. absurd (c.in-Err-Usage.ensures.usage (ap Err c.in-Err-Usage.field-0-is) said is)
+returns-in-Err-Usage-clause-complete g c = λ said is good shelf sink wires. absurd (c.in-Err-Usage.ensures.usage (ap Err c.in-Err-Usage.field-0-is) said is)
 
 pub returns-in-Err-clause-complete : goal.returns-in-Err-clause-complete
-returns-in-Err-clause-complete g c = λ said is good shelf sink.
-    good_files_end (texts c.args.words.now) (said_by c.in-Ok.words) said (g.H.Shelf.faults c.args.shelf.now) (g.H.Shelf.faults c.carry_out.new.shelf)
+returns-in-Err-clause-complete g c = λ said is good shelf sink wires.
+    good_files_end (StopsShort g.W.Wire.faults g.W.Wire.runs c.args.wires.now.items c.carry_out.new.wires.items)
+    (texts c.args.words.now) (said_by c.in-Ok.words) said (g.H.Shelf.faults c.args.shelf.now) (g.H.Shelf.faults c.carry_out.new.shelf)
     (g.H.Shelf.told c.args.shelf.now) (g.H.Shelf.told c.carry_out.new.shelf) c.in-Err.status c.in-Ok.ensures.said is c.in-Err.ensures.cause good shelf
+    (none_failed g.W.Wire.faults g.W.Wire.runs c.args.wires.now.items c.carry_out.new.wires.items wires)
 
 pub returns-in-Err-Usage-clause-first : goal.returns-in-Err-Usage-clause-first
 returns-in-Err-Usage-clause-first g c = λ said cause is x. absurd (c.in-Err-Usage.ensures.usage (ap Err c.in-Err-Usage.field-0-is) said is.words_say)
 
 pub returns-in-Err-clause-first : goal.returns-in-Err-clause-first
 returns-in-Err-clause-first g c = λ said cause is x.
-    first_ends (texts c.args.words.now) (said_by c.in-Ok.words) said (g.H.Shelf.faults c.args.shelf.now) (g.H.Shelf.faults c.carry_out.new.shelf)
+    first_ends (StopsShort g.W.Wire.faults g.W.Wire.runs c.args.wires.now.items c.carry_out.new.wires.items)
+    (texts c.args.words.now) (said_by c.in-Ok.words) said (g.H.Shelf.faults c.args.shelf.now) (g.H.Shelf.faults c.carry_out.new.shelf)
     (g.H.Shelf.told c.args.shelf.now) (g.H.Shelf.told c.carry_out.new.shelf) c.in-Err.status cause c.in-Ok.ensures.said is c.in-Err.ensures.cause x
 
 pub returns-clause-first : goal.returns-clause-first
 returns-clause-first g c = λ said cause is x.
     let outcome = c.in-Ok-carry_out.outcome in
-    text_ends (texts c.args.words.now) (said_by c.in-Ok.words) said (g.H.Shelf.told c.args.shelf.now)
+    text_ends (SendsAll g.W.Wire.runs c.args.wires.now.items c.carry_out.new.wires.items) (texts c.args.words.now) (said_by c.in-Ok.words) said
+    (g.H.Shelf.told c.args.shelf.now)
     (map (λ b. (goal.Ranker-dyn g (b.vtable, b.value)).meaning b.value) c.args.bench.now.items) outcome.status cause outcome.text.items
     c.in-Ok.ensures.said is c.in-Ok-carry_out.ensures.good c.in-Ok-carry_out.ensures.outcome x
 
@@ -79,17 +90,34 @@ returns-clause-in_turn g c = λ said is.
     let outcome = c.in-Ok-carry_out.outcome in
     let ensures = c.in-Ok-carry_out.ensures in
     turn_for (texts c.args.words.now) (said_by c.in-Ok.words) said old new outcome.status c.in-Ok.ensures.said is
-    (text_in_turn old new (said_by c.in-Ok.words) outcome.status
+    (text_in_turn old new (said_by c.in-Ok.words) outcome.status (SendsAll g.W.Wire.runs c.args.wires.now.items c.carry_out.new.wires.items)
     (map (λ b. (goal.Ranker-dyn g (b.vtable, b.value)).meaning b.value) c.args.bench.now.items)
     outcome.text.items ensures.outcome ensures.good ensures.read_out (λ seed e. (ensures.untouched seed e).0))
 
 pub returns-clause-no : goal.returns-clause-no
 returns-clause-no g c = λ e.
-    no_written _ (texts c.args.words.now) (said_by c.in-Ok.words) (said_by c.in-Ok.words) (g.H.Shelf.told c.args.shelf.now)
+    no_written _ (SendsAll g.W.Wire.runs c.args.wires.now.items c.carry_out.new.wires.items) (texts c.args.words.now) (said_by c.in-Ok.words) (said_by c.in-Ok.words)
+    (g.H.Shelf.told c.args.shelf.now)
     (map (λ b. (goal.Ranker-dyn g (b.vtable, b.value)).meaning b.value) c.args.bench.now.items) c.in-Ok-carry_out.outcome.status
     c.in-Ok-carry_out.outcome.text.items
     c.deref.result.now (g.K.Sink.taken c.args.out.now) (g.K.Sink.taken c.write_all.new.sink) c.in-Ok-write_all.field-0
     c.in-Ok.ensures.said c.in-Ok-carry_out.ensures.outcome e c.deref.ensures.value c.in-Ok-write_all.ensures.taken
+
+pub returns-in-Err-clause-read_out : goal.returns-in-Err-clause-read_out
+returns-in-Err-clause-read_out g c = λ said is past.
+    out_for (texts c.args.words.now) (said_by c.in-Ok.words) said (g.H.Shelf.told c.args.shelf.now) (g.H.Shelf.told c.carry_out.new.shelf) c.in-Ok.ensures.said is
+    (c.in-Err.ensures.read_out (past_by_wire (StopsShort g.W.Wire.faults g.W.Wire.runs c.args.wires.now.items c.carry_out.new.wires.items)
+    (g.H.Shelf.faults c.args.shelf.now) (g.H.Shelf.faults c.carry_out.new.shelf)
+    (g.H.Shelf.told c.args.shelf.now) (g.H.Shelf.told c.carry_out.new.shelf) (said_by c.in-Ok.words) c.in-Err.status c.in-Err.ensures.cause past))
+
+pub returns-in-Err-clause-good : goal.returns-in-Err-clause-good
+returns-in-Err-clause-good g c = λ past. (
+  said_by c.in-Ok.words,
+  c.in-Ok.ensures.said,
+  c.in-Err.ensures.good (past_by_wire (StopsShort g.W.Wire.faults g.W.Wire.runs c.args.wires.now.items c.carry_out.new.wires.items)
+      (g.H.Shelf.faults c.args.shelf.now) (g.H.Shelf.faults c.carry_out.new.shelf)
+      (g.H.Shelf.told c.args.shelf.now) (g.H.Shelf.told c.carry_out.new.shelf) (said_by c.in-Ok.words) c.in-Err.status c.in-Err.ensures.cause past),
+)
 
 pub returns-clause-read_out : goal.returns-clause-read_out
 returns-clause-read_out g c = λ said is text.
@@ -125,21 +153,24 @@ returns-in_default-clause-beginning g c = λ count e. (
 
 pub returns-clause-compare : goal.returns-clause-compare
 returns-clause-compare g c = λ said trace is e.
-    comparison_written _ (texts c.args.words.now) (said_by c.in-Ok.words) said (g.H.Shelf.told c.args.shelf.now)
+    comparison_written _ (SendsAll g.W.Wire.runs c.args.wires.now.items c.carry_out.new.wires.items) (texts c.args.words.now) (said_by c.in-Ok.words) said
+    (g.H.Shelf.told c.args.shelf.now)
     (map (λ b. (goal.Ranker-dyn g (b.vtable, b.value)).meaning b.value) c.args.bench.now.items) c.in-Ok-carry_out.outcome.status c.in-Ok-carry_out.outcome.text.items
     c.deref.result.now (g.K.Sink.taken c.args.out.now) (g.K.Sink.taken c.write_all.new.sink) c.in-Ok-write_all.field-0 trace
     c.in-Ok.ensures.said is c.in-Ok-carry_out.ensures.outcome c.deref.ensures.value c.in-Ok-write_all.ensures.taken
 
 pub returns-clause-classes : goal.returns-clause-classes
 returns-clause-classes g c = λ said trace is e.
-    classes_written _ (texts c.args.words.now) (said_by c.in-Ok.words) said (g.H.Shelf.told c.args.shelf.now)
+    classes_written _ (SendsAll g.W.Wire.runs c.args.wires.now.items c.carry_out.new.wires.items) (texts c.args.words.now) (said_by c.in-Ok.words) said
+    (g.H.Shelf.told c.args.shelf.now)
     (map (λ b. (goal.Ranker-dyn g (b.vtable, b.value)).meaning b.value) c.args.bench.now.items) c.in-Ok-carry_out.outcome.status c.in-Ok-carry_out.outcome.text.items
     c.deref.result.now (g.K.Sink.taken c.args.out.now) (g.K.Sink.taken c.write_all.new.sink) c.in-Ok-write_all.field-0 trace
     c.in-Ok.ensures.said is c.in-Ok-carry_out.ensures.outcome c.deref.ensures.value c.in-Ok-write_all.ensures.taken
 
 pub returns-in-Err-clause-empty : goal.returns-in-Err-clause-empty
 returns-in-Err-clause-empty g c = λ said trace is text.
-    absurd (cause_has_no_text (g.H.Shelf.faults c.args.shelf.now) (g.H.Shelf.faults c.carry_out.new.shelf) (g.H.Shelf.told c.args.shelf.now)
+    absurd (cause_has_no_text (StopsShort g.W.Wire.faults g.W.Wire.runs c.args.wires.now.items c.carry_out.new.wires.items)
+    (g.H.Shelf.faults c.args.shelf.now) (g.H.Shelf.faults c.carry_out.new.shelf) (g.H.Shelf.told c.args.shelf.now)
     (g.H.Shelf.told c.carry_out.new.shelf) (said_by c.in-Ok.words) c.in-Err.status c.in-Err.ensures.cause text)
 
 pub returns-in_default-clause-empty : goal.returns-in_default-clause-empty
@@ -171,7 +202,7 @@ returns-in_default-clause-same_bench g c = λ none other. absurd (none tt)
 pub returns-clause-same_bench : goal.returns-clause-same_bench
 returns-clause-same_bench g c = λ none other.
     absurd {A = c.carry_out.new.bench.items ≡ c.args.bench.now.items}
-    (none (outcome_has_text (g.H.Shelf.told c.args.shelf.now) (said_by c.in-Ok.words)
+    (none (outcome_has_text (SendsAll g.W.Wire.runs c.args.wires.now.items c.carry_out.new.wires.items) (g.H.Shelf.told c.args.shelf.now) (said_by c.in-Ok.words)
     (map (λ b. (goal.Ranker-dyn g (b.vtable, b.value)).meaning b.value) c.args.bench.now.items)
     c.in-Ok-carry_out.outcome.status c.in-Ok-carry_out.outcome.text.items c.in-Ok-carry_out.ensures.outcome))
 
@@ -186,3 +217,47 @@ returns-in_default-clause-others_bench g c = λ no.
 pub returns-clause-others_bench : goal.returns-clause-others_bench
 returns-clause-others_bench g c = λ no.
     c.carry_out.ensures.others_bench (λ trace e. no (said_by c.in-Ok.words) trace (record { words_say = c.in-Ok.ensures.said; job_is = e }))
+
+pub returns-in-Err-clause-wires : goal.returns-in-Err-clause-wires
+returns-in-Err-clause-wires g c =
+    sent_by g.W.Wire.runs c.args.wires.now.items c.carry_out.new.wires.items (texts c.args.words.now) (said_by c.in-Ok.words) (g.H.Shelf.told c.args.shelf.now)
+    c.in-Ok.ensures.said c.carry_out.ensures.sent
+
+pub returns-in_default-clause-wires : goal.returns-in_default-clause-wires
+returns-in_default-clause-wires g c =
+    sent_by g.W.Wire.runs c.args.wires.now.items c.carry_out.new.wires.items (texts c.args.words.now) (said_by c.in-Ok.words) (g.H.Shelf.told c.args.shelf.now)
+    c.in-Ok.ensures.said c.carry_out.ensures.sent
+
+pub returns-clause-wires : goal.returns-clause-wires
+returns-clause-wires g c =
+    sent_by g.W.Wire.runs c.args.wires.now.items c.carry_out.new.wires.items (texts c.args.words.now) (said_by c.in-Ok.words) (g.H.Shelf.told c.args.shelf.now)
+    c.in-Ok.ensures.said c.carry_out.ensures.sent
+
+pub returns-in-Err-clause-wire : goal.returns-in-Err-clause-wire
+returns-in-Err-clause-wire g c = λ port count e.
+    wire_failed g.W.Wire.faults g.W.Wire.runs c.args.wires.now.items c.carry_out.new.wires.items (texts c.args.words.now) (said_by c.in-Ok.words)
+    (g.H.Shelf.faults c.args.shelf.now) (g.H.Shelf.faults c.carry_out.new.shelf) (g.H.Shelf.told c.args.shelf.now) (g.H.Shelf.told c.carry_out.new.shelf)
+    port count c.in-Err.status c.in-Ok.ensures.said c.in-Err.ensures.cause e
+
+pub returns-in_default-clause-unsent : goal.returns-in_default-clause-unsent
+returns-in_default-clause-unsent g c = λ none. absurd (none tt)
+
+pub returns-clause-unsent : goal.returns-clause-unsent
+returns-clause-unsent g c =
+    unsent_for c.args.wires.now.items c.carry_out.new.wires.items (SendsAll g.W.Wire.runs c.args.wires.now.items c.carry_out.new.wires.items)
+    (SendsPart g.W.Wire.runs c.args.wires.now.items c.carry_out.new.wires.items)
+    (g.H.Shelf.told c.args.shelf.now) (said_by c.in-Ok.words)
+    (map (λ b. (goal.Ranker-dyn g (b.vtable, b.value)).meaning b.value) c.args.bench.now.items)
+    c.in-Ok-carry_out.outcome.status c.in-Ok-carry_out.outcome.text.items c.in-Ok-carry_out.ensures.outcome c.carry_out.ensures.sent
+
+pub returns-clause-wire : goal.returns-clause-wire
+returns-clause-wire g c = λ port count e.
+    absurd (subst HasText e (outcome_has_text (SendsAll g.W.Wire.runs c.args.wires.now.items c.carry_out.new.wires.items) (g.H.Shelf.told c.args.shelf.now) (said_by c.in-Ok.words)
+    (map (λ b. (goal.Ranker-dyn g (b.vtable, b.value)).meaning b.value) c.args.bench.now.items)
+    c.in-Ok-carry_out.outcome.status c.in-Ok-carry_out.outcome.text.items c.in-Ok-carry_out.ensures.outcome))
+
+pub returns-in_default-clause-good : goal.returns-in_default-clause-good
+returns-in_default-clause-good g c = λ past. (said_by c.in-Ok.words, c.in-Ok.ensures.said, c.in-Ok-carry_out.ensures.good)
+
+pub returns-clause-good : goal.returns-clause-good
+returns-clause-good g c = λ past. (said_by c.in-Ok.words, c.in-Ok.ensures.said, c.in-Ok-carry_out.ensures.good)

@@ -1,0 +1,139 @@
+#!/usr/bin/env python3
+"""Runs the built program on files that are made to be hard on it, and compares standard output, standard error, the exit code and the peak of memory.
+
+Use: checks/hostile_files.py [--long]            The last line is 'N passed, M failed'; the exit code is 0 where none failed.
+
+Each row has the answer as it follows from the formats, worked out by hand, and the greatest peak of memory that it may take, in MiB. With --long also a report of 2^30 bytes is read,
+in which memory runs out: the program is left 4 GiB of addresses.
+"""
+import os
+import resource
+import sys
+import tempfile
+
+sys.dont_write_bytecode = True
+from program_runs import CHECK, PROGRAM, READ_FAULT, TWO, TWO_TEXT, WEIGHTED, build
+
+PLAN = ["plan", "t"]
+DIGITS = b"1" * 2**26
+BOUND_OF_EQUALS = 2**35 + 2**23
+
+
+def many_mappers():
+    """4096 coflows, each with 4096 mappers at location 0 and a reducer of 4096 megabytes at location 1."""
+    rest = b" 0 4096" + b" 0" * 4096 + b" 1 1:4096\n"
+    return b"1 4096\n" + b"".join(b"%d%s" % (number, rest) for number in range(4096))
+
+
+def many_mappers_text():
+    """Its plan. Each coflow has one flow, of 4096 units at port 0, and weight 1, so the coflow with the greatest number takes the last place, pays 2^40 / 4096 for a unit, and nothing is
+    left to the others. It ends in slot 4096 * 4096, and the others one after another before it. Of 4096 coflows of 4096 units each the squares come to 2^48 and 2^36."""
+    places = b"".join(b"place %d %d in 0 %d %d 1\n" % (k, k - 1, 2**28 if k == 4096 else 0, 4096 * k) for k in range(1, 4097))
+    cost = 4096 * sum(range(1, 4097))
+    runs = b"".join(b"run 4096 %d\n" % flow for flow in range(4096))
+    return b"sincronia 2\n%sbound %d\nslack 0\ncost %d\n%send\n" % (places, BOUND_OF_EQUALS, cost, runs)
+
+
+def bad(line):
+    return b"sincronia: " + line + b"\n"
+
+
+# name, bytes of the files `t`, `w` and `r` (None: there is no such file), words, code, standard output, standard error, MiB
+def rows():
+    head, rest = TWO.split(b"\n", 1)
+    zeros = b"0" * 10**6
+    return [
+        ("2^26 digits as a trace", DIGITS, None, None, PLAN, 3, b"", bad(b"trace: bad header"), 160),
+        ("2^26 digits as weights", TWO, DIGITS, None, WEIGHTED, 4, b"", bad(b"weights: line 1 unknown id 18446744073709551615"), 160),
+        ("2^26 digits as a report", TWO, None, DIGITS, CHECK, 5, b"", bad(b"report: line 1"), 160),
+        ("2^26 + 1 digits", DIGITS + b"1", None, None, PLAN, 7, b"", bad(b"limit: text 67108865"), 160),
+        ("an id of 10^7 digits", b"1 1\n" + b"9" * 10**7 + b" 0 1 0 1 1:1\n", None, None, PLAN, 7, b"", bad(b"limit: id 18446744073709551615"), 40),
+        ("a location of 10^7 digits", b"1 1\n7 0 1 " + b"9" * 10**7 + b" 1 1:1\n", None, None, PLAN, 3, b"", bad(b"trace: line 2 port 18446744073709551615 out of range"), 40),
+        ("10^7 digits behind a point", b"1 1\n7 0 1 0 1 1:0." + b"0" * 10**7 + b"1\n", None, None, PLAN, 0,
+         b"sincronia 2\nplace 1 7 in 0 1099511627776 1 1\nbound 1\nslack 0\ncost 1\nrun 1 0\nend\n", b"", 40),
+        ("a weight of 10^7 digits", TWO, b"1 " + b"9" * 10**7 + b"\n", None, WEIGHTED, 7, b"", bad(b"limit: weight 18446744073709551615"), 40),
+        ("10^6 zeros before each number", b"\n".join(b" ".join(zeros + field for field in line.split(b" ")) for line in (head, rest.split(b"\n")[0]))
+         .replace(b":", b":" + zeros) + b"\n2 0 1 0 1 1:1\n", None, None, PLAN, 0, TWO_TEXT, b"", 40),
+        ("10^6 zeros before a number of a report", TWO, None, TWO_TEXT.replace(b"bound 5", b"bound " + zeros + b"5"), CHECK, 5, b"", bad(b"report: line 4"), 20),
+        ("4096 coflows of 4096 mappers", many_mappers(), None, None, PLAN, 0, many_mappers_text(), b"", 200),
+        ("zero bytes as a trace", b"\0" * 2**20, None, None, PLAN, 3, b"", bad(b"trace: bad header"), 20),
+        ("bytes of 255 as a trace", b"\xff" * 2**20, None, None, PLAN, 3, b"", bad(b"trace: bad header"), 20),
+        ("zero bytes behind a header", b"1 1\n" + b"\0" * 2**20, None, None, PLAN, 3, b"", bad(b"trace: line 2 field 1"), 20),
+        ("bytes of 255 behind a header", b"1 1\n" + b"\xff" * 2**20, None, None, PLAN, 3, b"", bad(b"trace: line 2 field 1"), 20),
+        ("bytes of 0 and 255 behind fields", b"1 1\n7 0 1 0 1 1:1 " + b"\0\xff" * 2**19, None, None, PLAN, 3, b"", bad(b"trace: line 2 field 7"), 20),
+        ("zero bytes as weights", TWO, b"\0" * 2**20, None, WEIGHTED, 4, b"", bad(b"weights: line 1 field 1"), 20),
+        ("bytes of 255 behind an id", TWO, b"1 " + b"\xff" * 2**20, None, WEIGHTED, 4, b"", bad(b"weights: line 1 field 2"), 20),
+        ("zero bytes as a report", TWO, None, b"\0" * 2**20, CHECK, 5, b"", bad(b"report: line 1"), 20),
+        ("bytes of 255 in a report", TWO, None, TWO_TEXT.replace(b"run 3 0", b"run 3 \xff"), CHECK, 5, b"", bad(b"report: line 8"), 20),
+        ("a folder as report", TWO, None, None, ["check", "t", "."], 8, b"", READ_FAULT, 20),
+    ]
+
+
+def measured(folder, files, words, before=None):
+    """The exit code, standard output, standard error and the peak of memory in MiB of the words over these files."""
+    for name, content in files.items():
+        if content is not None:
+            with open(os.path.join(folder, name), "wb") as file:
+                file.write(content)
+    with open(os.path.join(folder, "out"), "wb") as out, open(os.path.join(folder, "err"), "wb") as err:
+        child = os.fork()
+        if child == 0:
+            os.chdir(folder)
+            os.dup2(out.fileno(), 1)
+            os.dup2(err.fileno(), 2)
+            if before:
+                before()
+            os.execv(PROGRAM, [PROGRAM, *words])
+        _, status, usage = os.wait4(child, 0)
+    with open(os.path.join(folder, "out"), "rb") as out, open(os.path.join(folder, "err"), "rb") as err:
+        return os.waitstatus_to_exitcode(status), out.read(), err.read(), usage.ru_maxrss / 1024
+
+
+def run(row):
+    name, trace, weights, report, words, code, out, err, most = row
+    with tempfile.TemporaryDirectory() as folder:
+        *have, peak = measured(folder, {"t": trace, "w": weights, "r": report}, words)
+    good = have == [code, out, err] and peak <= most
+    if good:
+        print("%s: %d MiB" % (name, peak), flush=True)
+    else:
+        print("FAILED %s: %r, %d MiB, of at most %d" % (name, [part[:80] if isinstance(part, bytes) else part for part in have], peak, most), flush=True)
+    return good
+
+
+def four_gib():
+    """Leaves the program 4 GiB of addresses."""
+    resource.setrlimit(resource.RLIMIT_AS, (2**32, 2**32))
+
+
+def run_long_report():
+    """A report of 2^30 bytes of runs, by turns of the first and of the second flow: all of it can be read, but its runs need more than 4 GiB."""
+    head = TWO_TEXT[:TWO_TEXT.index(b"run ")]
+    pair, end = b"run 1 1\nrun 1 0\n", b"end\n"
+    with tempfile.TemporaryDirectory() as folder:
+        with open(os.path.join(folder, "r"), "wb") as file:
+            file.write(head)
+            pairs = (2**30 - len(head) - len(end)) // len(pair)
+            for _ in range(pairs // 2**16):
+                file.write(pair * 2**16)
+            file.write(pair * (pairs % 2**16) + end)
+        *have, peak = measured(folder, {"t": TWO}, CHECK, four_gib)
+    good = have == [11, b"", b"sincronia: no memory\n"]
+    print("%sa report of 2^30 bytes of runs: %r, %d MiB" % ("" if good else "FAILED ", have, peak))
+    return good
+
+
+def main():
+    if not build():
+        print("the program could not be built")
+        print("0 passed, 1 failed")
+        return 1
+    results = [run(row) for row in rows()]
+    if "--long" in sys.argv[1:]:
+        results.append(run_long_report())
+    print("%d passed, %d failed" % (results.count(True), results.count(False)))
+    return 0 if all(results) else 1
+
+
+if __name__ == "__main__":
+    sys.exit(main())

@@ -1,0 +1,157 @@
+//! What plans send on wires, and what comes of wires that fail.
+use crate::jobs::{NONE, TWO, words};
+use crate::plan_tests::{CROSSED, CROSSED_TEXT, TWO_TEXT};
+use coflow_units::MAX_PORTS;
+use outside::{MemShelf, MemSink, MemWire};
+use sincronia_cli::{Status, sincronia};
+use std::alloc::Global;
+use std::process::Abort;
+use std::sync::Wait;
+use std::test::Fail;
+use std::thread::Threads;
+
+/// A wire for each ingress port. The first two do not accept the units with these numbers, counted from 1; 0 is no unit's.
+fn wires_of(alloc: Global, fail_at: [u64; 2]) -> Result<Vec<MemWire>, Fail> {
+    let mut wires = Vec::new(alloc);
+    for port in 0..=MAX_PORTS {
+        let fails = match port {
+            0 => fail_at[0],
+            1 => fail_at[1],
+            _ => 0,
+        };
+        wires.push(MemWire::new(alloc, 8, Some(fails))?)?;
+    }
+    Ok(wires)
+}
+
+/// Tells the runs that the wires accepted, wire by wire.
+fn tell_wires(alloc: Global, wires: &[MemWire]) -> Result<String, Fail> {
+    let mut text = String::new(alloc);
+    for port in 0..wires.len() {
+        for index in 0..wires[port].len() {
+            let (slot, flow, units) = wires[port].run(index);
+            write!(text, "{port}: {slot} {flow} {units}\n")?;
+        }
+    }
+    Ok(text)
+}
+
+/// The status, what was written, and what the wires accepted, of these words over a trace `t` and the report `r` of two flows.
+fn served<R: Threads + Wait + Sync + Abort>(
+    rt: &R,
+    alloc: Global,
+    texts: &[&str],
+    trace: &[u8],
+    fail_at: [u64; 2],
+    after: Option<u64>,
+) -> Result<(Status, MemSink, String), Fail> {
+    let mut shelf = MemShelf::new(alloc, 64, Vec::new(alloc))?;
+    for (name, bytes) in [("t", trace), ("r", TWO_TEXT)] {
+        if bytes != NONE {
+            shelf.put(name, bytes)?;
+        }
+    }
+    let mut out = MemSink::new(alloc, 4096, after)?;
+    let mut wires = wires_of(alloc, fail_at)?;
+    let enough = wires.len() > MAX_PORTS as usize;
+    assert!(rt; enough);
+    let words = words(alloc, texts)?;
+    let mut bench = Vec::new(alloc);
+    let status = sincronia(
+        rt, alloc, &words, &mut shelf, &mut out, &mut wires, &mut bench,
+    );
+    let text = tell_wires(alloc, &wires)?;
+    Ok((status, out, text))
+}
+
+/// What the wires have of the plan of two flows, and of that of coflows that cross.
+const TWO_SENT: &str = "0: 1 1 1\n0: 2 0 3\n";
+
+const CROSSED_SENT: &str = "0: 1 0 1\n0: 2 2 1\n1: 1 3 1\n1: 2 1 1\n";
+
+#[test]
+fn plans_are_sent_by_any_number_of_agents(rt: HostRuntime) -> Result<(), Fail> {
+    let rows: [(&[u8], &[u8], &str); 3] = [
+        (TWO, TWO_TEXT, TWO_SENT),
+        (CROSSED, CROSSED_TEXT, CROSSED_SENT),
+        (
+            b"2 0\n",
+            b"sincronia 2\nbound 0\nslack 0\ncost 0\nend\n",
+            "",
+        ),
+    ];
+    for (trace, text, sent) in rows {
+        for agents in ["--agents=1", "--agents=2", "--agents=4", "--agents=64"] {
+            let words = ["sincronia", "plan", "t", agents];
+            let (status, out, wires) = served(&rt, rt.alloc(), &words, trace, [0, 0], None)?;
+            assert_eq!(rt; status, Status::Ok);
+            assert_eq!(rt; out.bytes(), text);
+            assert_eq!(rt; wires.as_str(), sent);
+        }
+    }
+    Ok(())
+}
+
+#[test]
+fn each_unit_of_a_wire_fails_in_turn(rt: HostRuntime) -> Result<(), Fail> {
+    let rows = [
+        (1, ""),
+        (2, "0: 1 1 1\n"),
+        (3, "0: 1 1 1\n0: 2 0 1\n"),
+        (4, "0: 1 1 1\n0: 2 0 2\n"),
+        (5, TWO_SENT),
+    ];
+    for (unit, sent) in rows {
+        let words = ["sincronia", "plan", "t"];
+        let (status, out, wires) = served(&rt, rt.alloc(), &words, TWO, [unit, 0], None)?;
+        if unit <= 4 {
+            assert_eq!(rt; status, Status::WireFault { port: 0, count: 1 });
+            assert_eq!(rt; out.bytes().len(), 0);
+        } else {
+            assert_eq!(rt; status, Status::Ok);
+            assert_eq!(rt; out.bytes(), TWO_TEXT);
+        }
+        assert_eq!(rt; wires.as_str(), sent, "at {unit}");
+    }
+    Ok(())
+}
+
+#[test]
+fn the_least_port_that_fails_is_told(rt: HostRuntime) -> Result<(), Fail> {
+    let rows = [
+        ([1, 1], 0, ""),
+        ([0, 1], 1, "0: 1 0 1\n"),
+        ([2, 1], 1, "0: 1 0 1\n"),
+        ([1, 2], 0, "1: 1 3 1\n"),
+        ([0, 2], 1, "0: 1 0 1\n0: 2 2 1\n1: 1 3 1\n"),
+    ];
+    for (fail_at, port, sent) in rows {
+        for agents in ["--agents=1", "--agents=2"] {
+            let words = ["sincronia", "plan", "t", agents];
+            let (status, out, wires) = served(&rt, rt.alloc(), &words, CROSSED, fail_at, None)?;
+            assert_eq!(rt; status, Status::WireFault { port, count: 1 });
+            assert_eq!(rt; out.bytes().len(), 0);
+            assert_eq!(rt; wires.as_str(), sent, "at {fail_at:?}");
+        }
+    }
+    Ok(())
+}
+
+#[test]
+fn only_plans_are_sent(rt: HostRuntime) -> Result<(), Fail> {
+    // A text that is not taken whole was sent all the same; other commands, and plans of bad files, send nothing.
+    let plan: &[&str] = &["sincronia", "plan", "t"];
+    let rows: [(&[&str], &[u8], Option<u64>, &str); 6] = [
+        (plan, TWO, Some(10), TWO_SENT),
+        (plan, b"", None, ""),
+        (&["sincronia", "plan", "t", "t"], TWO, None, ""),
+        (&["sincronia", "check", "t", "r"], TWO, None, ""),
+        (&["sincronia", "compare", "t"], TWO, None, ""),
+        (&["sincronia", "classes", "t"], TWO, None, ""),
+    ];
+    for (words, trace, after, sent) in rows {
+        let (_status, _out, wires) = served(&rt, rt.alloc(), words, trace, [0, 0], after)?;
+        assert_eq!(rt; wires.as_str(), sent);
+    }
+    Ok(())
+}
