@@ -9,9 +9,9 @@ ghost use Rattle.live_text.specs.Live.{IsLive};
 
 use coflow_units::{Items, MAX_REPORT, MAX_TEXT, MAX_WEIGHT, Trace};
 use flow_table::Table;
-use journal_audit::{Audit, AuditReason, audit};
+use journal_audit::{Audit, audit, audit_text};
 use live_text::{Live, read_live};
-use outside::{DiskShelf, Place4, Shelf, read_all};
+use outside::{DiskShelf, Place4, Shelf, StdSink, read_all, write_all};
 use std::alloc::Global;
 use std::process::ExitCode;
 use std::{env, io};
@@ -33,16 +33,15 @@ enum Stop {
     Table,
     #[error("no journal is read")]
     Journal,
+    #[error("no line is written")]
+    Line,
     #[error("no memory")]
     NoMemory,
 }
 
 fn main(rt: HostRuntime) -> ExitCode {
     match run(&rt) {
-        Ok(verdict) => match print(&rt, verdict) {
-            Ok(()) => ExitCode::from(0),
-            Err(_) => ExitCode::from(1),
-        },
+        Ok(()) => ExitCode::from(0),
         Err(stop) => {
             // A line that cannot be written changes nothing.
             let _ = eprintln!(rt; "audit_runs: {stop}");
@@ -52,37 +51,19 @@ fn main(rt: HostRuntime) -> ExitCode {
 }
 
 /// Prints the line of a verdict.
-fn print(rt: &HostRuntime, verdict: Audit) -> io::Result<()> {
-    match verdict {
-        Audit::Yes {
-            entries,
-            versions,
-            slots,
-        } => println!(rt; "yes entries {entries} versions {versions} slots {slots}"),
-        Audit::No(reason) => print_reason(rt, reason),
+fn print(rt: &HostRuntime, verdict: Audit) -> Result<(), Stop> {
+    let Ok(line) = audit_text(rt.alloc(), verdict) else {
+        return Err(Stop::NoMemory);
+    };
+    let mut sink = StdSink::new(rt.stdout());
+    match write_all(&mut sink, &line) {
+        Ok(()) => Ok(()),
+        Err(_) => Err(Stop::Line),
     }
 }
 
-/// Prints the line of a reason.
-fn print_reason(rt: &HostRuntime, reason: AuditReason) -> io::Result<()> {
-    match reason {
-        AuditReason::NoId { position } => println!(rt; "no id {position}"),
-        AuditReason::NoEntry { position, .. } => println!(rt; "no entry {position}"),
-        AuditReason::NoClose { slot } => println!(rt; "no close {slot}"),
-        AuditReason::NoOrder { version, place } => println!(rt; "no order {version} {place}"),
-        AuditReason::NoPull {
-            client,
-            line,
-            stated,
-            real,
-        } => println!(rt; "no pull {client} {line} {stated} {real}"),
-        AuditReason::NoVersion { client, line } => println!(rt; "no version {client} {line}"),
-        AuditReason::NoRun { slot } => println!(rt; "no run {slot}"),
-    }
-}
-
-/// The verdict that the words ask for.
-fn run(rt: &HostRuntime) -> Result<Audit, Stop> {
+/// Prints the verdict that the words ask for.
+fn run(rt: &HostRuntime) -> Result<(), Stop> {
     let alloc = rt.alloc();
     let Ok(words) = env::args(rt) else {
         return Err(Stop::Usage);
@@ -94,7 +75,8 @@ fn run(rt: &HostRuntime) -> Result<Audit, Stop> {
         return Err(Stop::Usage);
     }
     let mut shelf = DiskShelf::new(*rt);
-    verdict_of(alloc, &words[1], &words[2], &words[3], &mut shelf)
+    let verdict = verdict_of(alloc, &words[1], &words[2], &words[3], &mut shelf)?;
+    print(rt, verdict)
 }
 
 /// The verdict on the printed journal of a file, for the trace and the weights of others.

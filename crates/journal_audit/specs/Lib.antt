@@ -6,3 +6,4 @@ pub mod Reasons
 pub mod Looked
 pub mod Orders
 pub mod Replayed
+pub mod Line

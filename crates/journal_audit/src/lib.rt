@@ -4,6 +4,7 @@
 mod auditing;
 mod ids;
 pub mod laws;
+mod line;
 mod orders;
 mod parts;
 mod pulls;
@@ -14,4 +15,5 @@ mod stated;
 mod verdict;
 
 pub use auditing::audit;
+pub use line::audit_text;
 pub use verdict::{Audit, AuditReason};
