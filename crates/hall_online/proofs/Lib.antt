@@ -1,0 +1,11 @@
+pub mod OwnTurns
+pub mod OwnRuns
+pub mod Actions
+pub mod RunSteps
+pub mod ServeSteps
+pub mod Begins
+pub mod Tallying
+pub mod Bounds
+pub mod Publishing
+pub mod Releases
+pub mod Endings

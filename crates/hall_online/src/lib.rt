@@ -1,0 +1,14 @@
+//! An online run served by a hall: one driver does what the course of the run says, and runs are sent on wires.
+#![tactic(auto)]
+
+mod acting;
+mod answer;
+mod ending;
+mod orders;
+mod progress;
+mod running;
+mod serving;
+mod turns;
+
+pub use answer::OnlineFault;
+pub use serving::serve_online;
