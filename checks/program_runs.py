@@ -139,6 +139,52 @@ TABLE_ROWS = [
 ]
 
 
+# A coflow of 6 units, and one of 1 unit that arrives 16 milliseconds later, which are two slots of 8. They share both ports, and an order is published each four slots.
+LATE = b"2 2\n1 0 1 0 1 1:6\n2 16 1 0 1 1:1\n"
+ONLINE = b"""sincronia online 2
+epoch 0
+place 1 1 in 0 183251937962
+bound 6
+epoch 4
+place 1 2 in 0 549755813888
+place 2 1 in 0 549755813888
+bound 4
+done 1 7
+done 2 5
+cost 12
+release 1 2 in 0 0 916259689814
+release 2 1 in 0 183251937962 4
+total 10
+run 4 0
+run 1 1
+run 2 0
+end
+"""
+
+# rows as above
+ONLINE_ROWS = [
+    ("a right online run", LATE, ONLINE, CHECK, 0, b"yes total 10 cost 12\n", b""),
+    ("a total below the real one", LATE, ONLINE.replace(b"total 10", b"total 9"), CHECK, 0, b"yes total 9 cost 12\n", b""),
+    ("a total too high", LATE, ONLINE.replace(b"total 10", b"total 11"), CHECK, 1, b"no total 11 10\n", b""),
+    ("publishings that are wrong", LATE, ONLINE.replace(b"bound 4", b"bound 99").replace(b"1 2 in 0 549755813888", b"1 9 in 9 0"), CHECK, 0, b"yes total 10 cost 12\n", b""),
+    ("an online run of no coflow", b"2 0\n", b"sincronia online 2\ncost 0\ntotal 0\nend\n", CHECK, 0, b"yes total 0 cost 0\n", b""),
+    ("slots of 4 milliseconds", LATE, ONLINE, CHECK + ["--slot-ms", "4"], 0, b"yes total 10 cost 12\n", b""),
+    ("slots of 2 milliseconds", LATE, ONLINE, CHECK + ["--slot-ms", "2"], 1, b"no early 5 2\n", b""),
+    ("a run before an arrival", LATE, ONLINE.replace(b"run 4 0\nrun 1 1\nrun 2 0", b"run 1 0\nrun 1 1\nrun 5 0"), CHECK, 1, b"no early 2 2\n", b""),
+    ("a release twice", LATE, ONLINE.replace(b"release 1 2", b"release 1 1"), CHECK, 1, b"no order 2\n", b""),
+    ("a z too high", LATE, ONLINE.replace(b"183251937962 4", b"183251937962 5"), CHECK, 1, b"no infeasible 1\n", b""),
+    ("a completion too many", LATE, ONLINE.replace(b"done 2 5\n", b"done 2 5\ndone 2 5\n"), CHECK, 1, b"no listed 3\n", b""),
+    ("another completion", LATE, ONLINE.replace(b"done 2 5", b"done 2 6"), CHECK, 1, b"no done 2 6 5\n", b""),
+    ("another cost", LATE, ONLINE.replace(b"cost 12", b"cost 13"), CHECK, 1, b"no cost 13 12\n", b""),
+    ("two faults of an online run", LATE, ONLINE.replace(b"cost 12", b"cost 13").replace(b"total 10", b"total 11"), CHECK, 1, b"no total 11 10\n", b""),
+    ("a publishing that comes twice", LATE, ONLINE.replace(b"epoch 4", b"epoch 0"), CHECK, 5, b"", b"sincronia: report: line 5\n"),
+    ("an online run without its last line", LATE, ONLINE[:-4], CHECK, 5, b"", b"sincronia: report: line 18\n"),
+    ("an online run of version 1", LATE, ONLINE.replace(b"online 2", b"online 1"), CHECK, 5, b"", b"sincronia: report: line 1\n"),
+    ("an online run with carriage returns", LATE, ONLINE.replace(b"\n", b"\r\n"), CHECK, 5, b"", b"sincronia: report: line 1\n"),
+    ("a report of a plan behind the line of an online run", TWO, b"sincronia online 2\n" + TWO_TEXT, CHECK, 5, b"", b"sincronia: report: line 2\n"),
+]
+
+
 def comparison(bound, bssi, sebf, fifo, first, second):
     """The text of a comparison. The answers of all rankers but the last are the same before and after they are told."""
     costs = [(b"bssi", bssi, bssi), (b"sebf", sebf, sebf), (b"fifo", fifo, fifo), (b"attained", first, second)]
@@ -314,7 +360,7 @@ def main():
         print("0 passed, 1 failed")
         return 1
     results = [run(row) for row in ROWS + COMPARE_ROWS + CLASS_ROWS] + [run_check(row) for row in CHECK_ROWS]
-    results += [run_check((name, *rest), trace) for name, trace, *rest in TABLE_ROWS]
+    results += [run_check((name, *rest), trace) for name, trace, *rest in TABLE_ROWS + ONLINE_ROWS]
     results += [run_long_report("a long report", TWO, b"text 1073741825"),
                 run_long_report("a long report of too many units", TOO_MANY, b"units 1099511627777")]
     results += [run_shuffle(), run_made()]

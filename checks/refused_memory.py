@@ -14,7 +14,7 @@ import tempfile
 from concurrent.futures import ThreadPoolExecutor
 
 sys.dont_write_bytecode = True
-from program_runs import PROGRAM, TOP, TWO, TWO_TEXT, build
+from program_runs import LATE, ONLINE, PROGRAM, TOP, TWO, TWO_TEXT, build
 
 REFUSING = r"""
 #include <stddef.h>
@@ -49,6 +49,7 @@ SERIES = [
     ("plan", ["plan", "t", "--weights", "w"]),
     ("plan by one agent", ["plan", "t", "--agents", "1"]),
     ("check", ["check", "t", "r"]),
+    ("check of an online run", ["check", "l", "o"]),
     ("make", ["make", "7", "--unit", "64"]),
     ("compare", ["compare", "t", "--weights", "w"]),
     ("classes", ["classes", "t", "--weights", "w"]),
@@ -113,7 +114,7 @@ def main():
         return 1
     passed, failed = 0, 0
     with tempfile.TemporaryDirectory() as folder:
-        for name, content in (("t", TWO), ("w", b"1 1\n"), ("r", TWO_TEXT)):
+        for name, content in (("t", TWO), ("w", b"1 1\n"), ("r", TWO_TEXT), ("l", LATE), ("o", ONLINE)):
             with open(os.path.join(folder, name), "wb") as file:
                 file.write(content)
         make_library(folder)

@@ -20,13 +20,14 @@ use Rattle.picture.specs.declared.value.Window.{Window}
 use Rattle.picture.specs.Bars.{IsBar, IsBars, bar_count}
 use Rattle.report.proofs.TextLaws.{reports_are_one}
 use Rattle.report.specs.declared.value.Report.{Report}
+use Rattle.report.specs.Reading.{IsBadAt, IsTextOf}
 use Rattle.schedule_model.specs.RunList.{slots_in}
-use Rattle.sincronia_cli.proofs.CompleteFacts.{report_is_good, table_fits, trace_is_good, weights_are_good}
+use Rattle.sincronia_cli.proofs.CompleteFacts.{files_end, text_is_good}
 use Rattle.sincronia_cli.proofs.ShelfFacts.{if_some, of_both}
 use Rattle.sincronia_cli.proofs.TurnFacts.{done_in_turn}
 use Rattle.sincronia_cli.specs.declared.status.Status.{Status}
 use Rattle.sincronia_cli.specs.declared.status.Status.TheVariants as status
-use Rattle.sincronia_cli.specs.Causes.{FilesGiveTable, HasFilesCause}
+use Rattle.sincronia_cli.specs.Causes.{FilesGiveTable, HasCauseInFiles}
 use Rattle.sincronia_cli.specs.Check.{IsReportOf}
 use Rattle.sincronia_cli.specs.Complete.{IsStill}
 use Rattle.sincronia_cli.specs.Ends.{IsReadFault}
@@ -174,28 +175,17 @@ module _ (said : PictureSaid) (t : Told) where
 
 -- ---- so the job ends by it
 
-files_end : (before now : ℕ) (t : Told) (new : Option Told) (said : PictureSaid) (s : Status) → HasFilesCause before now (Some t) new (check_of said) s → AreGoodFiles said t →
-    IsStill before now → s ≡ status.NoMemory
-files_end before now t new said (status.BadTrace fault) (form, bad) (table, report) still = absurd (trace_is_good _ fault table.gives.trace_text bad)
-files_end before now t new said (status.BadWeights fault) (form, (text, bad)) (table, report) still =
-    absurd (weights_are_good _ _ table.list fault table.gives.weights_are bad)
-files_end before now t new said (status.BadReport line) (given, (gives, bad)) (table, report) still = absurd ((report_is_good (bytes_if t (Some said.report)) report).line line bad)
-files_end before now t new said (status.Limit which count) (inl limit) (table, report) still = absurd (table_fits _ _ said.unit which count table limit)
-files_end before now t new said (status.Limit which count) (inr (gives, limit)) (table, report) still =
-    absurd ((report_is_good (bytes_if t (Some said.report)) report).fits which count limit)
-files_end before now t new said (status.ReadFault count) (one, rose, failed) good still = absurd (still rose)
-files_end before now t new said status.NoMemory cause good still = refl
-files_end before now t new said status.Ok cause good still = absurd cause
-files_end before now t new said status.No cause good still = absurd cause
-files_end before now t new said status.Usage cause good still = absurd cause
-files_end before now t new said (status.WriteFault count) cause good still = absurd cause
-files_end before now t new said (status.WireFault port count) cause good still = absurd cause
+files_past : (before now : ℕ) (t : Told) (new : Option Told) (said : PictureSaid) (s : Status) → HasCauseInFiles IsBadAt before now (Some t) new (check_of said) s →
+    AreGoodFiles said t → IsStill before now → s ≡ status.NoMemory
+files_past before now t new said s cause (table, report) still =
+    files_end before now t new (check_of said) s cause table
+    (text_is_good IsTextOf IsBadAt (λ bytes r line is bad. bad.no_text r is) (bytes_if t (Some said.report)) report) still
 
 pub ends_at_files : (before now : ℕ) (old new : Option Told) (by said : PictureSaid) (s : Status) (answer : PictureStatus) → by ≡ said →
-    HasFilesCause before now old new (check_of by) s → IsSomeAnd old (CallFor said answer) → IsStill before now → (Ended s ≡ answer) ⊎ (Ended s ≡ Ended status.NoMemory)
+    HasCauseInFiles IsBadAt before now old new (check_of by) s → IsSomeAnd old (CallFor said answer) → IsStill before now → (Ended s ≡ answer) ⊎ (Ended s ≡ Ended status.NoMemory)
 ends_at_files before now None new by said s answer same cause call still = absurd call
 ends_at_files before now (Some t) new by said s answer same cause (good, is) still =
-    inr (ap Ended (files_end before now t new said s (subst (λ (x : PictureSaid). HasFilesCause before now (Some t) new (check_of x) s) same cause) good still))
+    inr (ap Ended (files_past before now t new said s (subst (λ (x : PictureSaid). HasCauseInFiles IsBadAt before now (Some t) new (check_of x) s) same cause) good still))
 
 pub ends_at_verdict : (before now : ℕ) (old new : Option Told) (by said : PictureSaid) (table : TableFacts) (ws : List ℕ) (r : Report) (s answer : PictureStatus) → by ≡ said →
     IsInput old by.trace by.weights by.unit table ws → IsReportOf old by.report r → HasVerdictCause table ws r by s →

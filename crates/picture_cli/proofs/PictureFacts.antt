@@ -1,6 +1,6 @@
 -- What a right report gives its picture, and the causes of the statuses of the program that draws.
 use Rattle.std.proofs.Common.{◌≡◌, ℕ, ◌^◌, ◌*◌, ◌≤◌, ◌<◌, List, [], Option, Some, None, Result, Ok, Err, length, map, refl, sym, ap, subst, ◌∙◌, arith}
-use Rattle.std.specs.Prelude.{All, IfErr, IsErrAnd, slice_index}
+use Rattle.std.specs.Prelude.{All, IfErr, IsErrAnd}
 use Rattle.std.proofs.Math.Nat.{mul-le-mul_left}
 use Rattle.std.proofs.lemmas.Grind.{div_ceil_times}
 use Rattle.std.specs.List.{range_with_len, slice_index_or}
@@ -38,9 +38,8 @@ use Rattle.report.specs.declared.value.Report.{Report}
 use Rattle.report.specs.Report.{IsReport}
 use Rattle.schedule_model.proofs.CostSums.{parts_small}
 use Rattle.schedule_model.specs.RunList.{NamesFlows, slots_in}
-use Rattle.sincronia_cli.specs.declared.status.Status.{Status}
-use Rattle.sincronia_cli.specs.declared.status.Status.TheVariants as status
-use Rattle.sincronia_cli.specs.Causes.{HasFilesCause}
+use Rattle.report.specs.Reading.{IsBadAt}
+use Rattle.sincronia_cli.specs.Causes.{HasCauseInFiles}
 use Rattle.sincronia_cli.specs.Check.{IsReportOf}
 use Rattle.sincronia_cli.specs.Ends.{IsReadFault, IsWriteFault}
 use Rattle.sincronia_cli.specs.Inputs.{IsInput}
@@ -113,7 +112,7 @@ unfolding judged_by
 cause_by before now old new said t ws r drawn.No input report (reason, is) = (reason, judged_by old said t ws r (verdict.No reason) input report is)
 cause_by before now old new said t ws r (drawn.NoSlots first last) input report (holds, cause) = (judged_by old said t ws r verdict.Yes input report holds, cause)
 cause_by before now old new said t ws r (drawn.TooManyBars bars) input report (holds, cause) = (judged_by old said t ws r verdict.Yes input report holds, cause)
-cause_by before now old new said t ws r (drawn.Ended s) input report is = subst (λ x. HasFilesCause before now old new (check_of said) x) (sym is) tt
+cause_by before now old new said t ws r (drawn.Ended s) input report is = subst (λ x. HasCauseInFiles IsBadAt before now old new (check_of said) x) (sym is) tt
 cause_by before now old new said t ws r drawn.Ok input report (holds, cause) = absurd cause
 cause_by before now old new said t ws r drawn.Usage input report (holds, cause) = absurd cause
 

@@ -7,16 +7,20 @@ use Rattle.picture.specs.declared.value.Bar.{Bar}
 use Rattle.picture.specs.declared.value.TheConstants.{MAX_BARS}
 use Rattle.picture.specs.Bars.{IsBars, bar_count}
 use Rattle.schedule_model.specs.RunList.{slots_in}
-use Rattle.sincronia_cli.specs.Complete.{HasGoodFiles}
+use Rattle.report.specs.Reading.{IsTextOf}
+use Rattle.sincronia_cli.specs.Causes.{FilesGiveTable}
+use Rattle.sincronia_cli.specs.Complete.{HasReportText}
+use Rattle.sincronia_cli.specs.Inputs.{bytes_if}
 use Rattle.sincronia_cli.specs.Ends.{IsWriteFault}
 use Rattle.picture_cli.specs.Picture.{HasNoPicture, Judged, check_of, window_of}
 use Rattle.picture_cli.specs.Words.{PictureSaid}
 use Rattle.picture_cli.specs.declared.status.PictureStatus.{PictureStatus}
 use Rattle.picture_cli.specs.declared.status.PictureStatus.TheVariants.{Ended, No, NoSlots, Ok, TooManyBars, Usage}
 
--- the texts of all files that are read have no fault, and they are within the limits
+-- the texts of all files that are read have no fault, and they are within the limits; the report is that of a plan
 abbrev pub AreGoodFiles : PictureSaid → Told → Type 0
-AreGoodFiles said t = HasGoodFiles (check_of said).job (check_of said) t
+AreGoodFiles said t =
+    FilesGiveTable (check_of said) t × HasReportText IsTextOf (bytes_if t (Some said.report))
 
 -- the report of the files is right, the window has one of its slots, and there are no more bars than a picture may have
 pub record CanBeDrawn (said : PictureSaid) (t : Told) : Type 0 where

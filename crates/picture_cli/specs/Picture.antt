@@ -1,5 +1,5 @@
 -- The picture of a report.
-use Rattle.std.specs.Prelude.{◌≡◌, ℕ, ◌*◌, ◌<◌, ◌≤◌, List, Option, Some, length, map, min}
+use Rattle.std.specs.Prelude.{◌≡◌, ℕ, ◌*◌, ◌<◌, ◌≤◌, List, Option, length, map, min}
 use Rattle.std.specs.List.{range_with_len}
 use Rattle.coflow_units.specs.Completion.{completion, cost}
 use Rattle.coflow_units.specs.Flows.{Instance}
@@ -22,12 +22,12 @@ use Rattle.picture_text.specs.Svg.{picture_text}
 use Rattle.picture_text.specs.Title.{hundredths}
 use Rattle.report.specs.declared.value.Report.{Report}
 use Rattle.schedule_model.specs.RunList.{slots_in}
-use Rattle.sincronia_cli.specs.Causes.{HasFilesCause}
+use Rattle.report.specs.Reading.{IsBadAt}
+use Rattle.sincronia_cli.specs.Causes.{HasCauseInFiles}
 use Rattle.sincronia_cli.specs.Check.{IsReportOf}
 use Rattle.sincronia_cli.specs.Ends.{IsWriteFault}
 use Rattle.sincronia_cli.specs.Inputs.{IsInput}
 use Rattle.plans.specs.Totals.{BoundsEverySchedule}
-use Rattle.sincronia_cli.specs.declared.status.Status.{Status}
 use Rattle.sincronia_cli.specs.declared.status.Status.TheVariants as status
 use Rattle.command_words.specs.Jobs.Job.{check_job}
 use Rattle.command_words.specs.Words.{Said}
@@ -121,7 +121,7 @@ HasPictureCause before now old new said (NoSlots first last) =
     (j : Judged old said verdict.Yes) × HasNoPicture j.table j.report said (NoSlots first last)
 HasPictureCause before now old new said (TooManyBars bars) =
     (j : Judged old said verdict.Yes) × HasNoPicture j.table j.report said (TooManyBars bars)
-HasPictureCause before now old new said (Ended s) = HasFilesCause before now old new (check_of said) s
+HasPictureCause before now old new said (Ended s) = HasCauseInFiles IsBadAt before now old new (check_of said) s
 HasPictureCause before now old new said s = ⊥
 
 -- there was a picture to be written

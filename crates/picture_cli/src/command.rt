@@ -28,7 +28,8 @@ use std::alloc::Global;
 /// `--from SLOT` and `--to SLOT`, the first and the last slot that are shown, which are those of the schedule without them; and `--side in` or `--side out`, whose
 /// ports are shown, ingress ports without it.
 ///
-/// The trace, the weights and the report are read in this order, and the first fault ends the job. The report is checked as `sincronia check` does it.
+/// The trace, the weights and the report are read in this order, and the first fault ends the job. The report is that of a plan, and it is checked as `sincronia check` does it.
+/// An online run has no picture: its text is bad at line 1.
 ///
 /// The statuses are:
 /// - `Ok`: the picture was written whole.

@@ -1,7 +1,8 @@
 //! The files of a picture.
 ghost use Rattle.std.specs.Prelude.{◌≤◌, IfErr, IfOk, IfSome, OnOk};
 ghost use Rattle.coflow_units.specs.declared.limits.TheConstants.{MAX_UNIT};
-ghost use Rattle.sincronia_cli.specs.Causes.{HasFilesCause};
+ghost use Rattle.report.specs.Reading.{IsBadAt};
+ghost use Rattle.sincronia_cli.specs.Causes.{HasCauseInFiles};
 ghost use Rattle.sincronia_cli.specs.Check.{IsReportOf};
 ghost use Rattle.sincronia_cli.specs.Ends.{CountsFault};
 ghost use Rattle.sincronia_cli.specs.Inputs.{IsInput};
@@ -24,7 +25,7 @@ pub(crate) struct Files {
     pub(crate) report: Report,
 }
 
-/// Reads the files that the words name: the trace, the weights and the report, in this order. The error is the status of why they were not read.
+/// Reads the files that the words name: the trace, the weights and the report of a plan, in this order. The error is the status of why they were not read.
 pub(crate) fn read_files<'a, H: Shelf>(
     alloc: Global,
     words: PictureWords<'a>,
@@ -42,7 +43,7 @@ pub(crate) fn read_files<'a, H: Shelf>(
         (FilesInTurn (check_of (said_by words.entry)) status)) }
     ensures keeps { KeepsFiles (H.told shelf.old) (H.told shelf.new) }
     ensures counts { CountsFault (H.faults shelf.old) (H.faults shelf.new) result }
-    ensures cause { IfErr result (HasFilesCause (H.faults shelf.old) (H.faults shelf.new) (H.told shelf.old)
+    ensures cause { IfErr result (HasCauseInFiles IsBadAt (H.faults shelf.old) (H.faults shelf.new) (H.told shelf.old)
         (H.told shelf.new) (check_of (said_by words.entry))) }
 {
     let input = read_input(alloc, words.trace, words.weights, words.unit, shelf)?;

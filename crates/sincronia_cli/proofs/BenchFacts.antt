@@ -5,8 +5,7 @@ use Rattle.command_words.specs.Jobs.Job.{check_job, classes_job, compare_job, ma
 use Rattle.command_words.specs.Line.{Text}
 use Rattle.command_words.specs.Words.{IsWords, Said}
 use Rattle.command_words.proofs.OneMeaning.{words_one}
-use Rattle.cert_check.specs.declared.verdict.Verdict.{Verdict}
-use Rattle.cert_check.specs.declared.verdict.Verdict.TheVariants.{No, Yes}
+use Rattle.std.specs.Prelude.{Bool, false, true}
 use Rattle.flow_table.specs.Table.{TableFacts}
 use Rattle.outside.specs.Shelf.{Told}
 use Rattle.rankers.specs.Meaning.{Meaning}
@@ -25,14 +24,14 @@ job_of words by said k reads is = ap (λ (s : Said). s.job) (words_one words by 
 
 -- ---- an outcome has a text
 
-of_verdict : (verdict : Verdict) (s : Status) → s ≡ status_for verdict → HasText s
-of_verdict Yes s is = subst HasText (sym is) tt
-of_verdict (No reason) s is = subst HasText (sym is) tt
+of_answer : (answer : Bool) (s : Status) → s ≡ status_for answer → HasText s
+of_answer true s is = subst HasText (sym is) tt
+of_answer false s is = subst HasText (sym is) tt
 
 text_by : (S : TableFacts → List (List ℕ) → Type 0) (k : Job) (told : Option Told) (said : Said) (bench : List Meaning) (s : Status) (text : List ℕ) →
     OutcomeBy S k told said bench s text → HasText s
 text_by S (plan_job trace) told said bench s text outcome = subst HasText (sym outcome.0) tt
-text_by S (check_job trace report) told said bench s text (verdict, is, checks) = of_verdict verdict s is
+text_by S (check_job trace report) told said bench s text (answer, is, checks) = of_answer answer s is
 text_by S (make_job seed) told said bench s text outcome = subst HasText (sym outcome.0) tt
 text_by S (compare_job trace) told said bench s text outcome = subst HasText (sym outcome.0) tt
 text_by S (classes_job trace) told said bench s text outcome = subst HasText (sym outcome.0) tt

@@ -1,9 +1,7 @@
 -- What the laws say of a comparison.
-use Rattle.std.proofs.Common.{◌≡◌, ◌≤◌, ℕ, List, Option, drop, subst, sym, take}
+use Rattle.std.proofs.Common.{◌≡◌, ℕ, List, Option, drop, take}
 use Rattle.std.specs.Prelude.{All}
-use Rattle.coflow_units.specs.Completion.{cost}
 use Rattle.coflow_units.specs.Flows.{Instance}
-use Rattle.coflow_units.specs.Schedule.{IsValid}
 use Rattle.command_words.specs.Words.{Said}
 use Rattle.flow_table.specs.Table.{instance_of}
 use Rattle.order_reports.proofs.RowFacts.{costs_above}

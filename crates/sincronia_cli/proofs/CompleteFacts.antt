@@ -1,6 +1,6 @@
 -- A command whose files are good ends well, where no count rose and there is memory.
 use Rattle.std.proofs.Common.{◌≡◌, ℕ, inl, inr, List, Option, Some, None, refl, sym, subst, ◌∙◌, arith}
-use Rattle.std.specs.Prelude.{◌⊎◌}
+use Rattle.std.specs.Prelude.{◌⊎◌, Bool, false, true}
 use Rattle.command_words.specs.Jobs.{Job, report_name}
 use Rattle.command_words.specs.Jobs.Job.{check_job, classes_job, compare_job, make_job, plan_job}
 use Rattle.command_words.specs.Line.{Text}
@@ -8,17 +8,15 @@ use Rattle.command_words.specs.Words.{IsWords, Said}
 use Rattle.command_words.proofs.OneMeaning.{words_one}
 use Rattle.coflow_units.specs.declared.quantity.Quantity.{Quantity}
 use Rattle.coflow_units.specs.declared.trace.CoflowLine.{CoflowLine}
-use Rattle.cert_check.specs.declared.verdict.Verdict.{Verdict}
-use Rattle.cert_check.specs.declared.verdict.Verdict.TheVariants.{No, Yes}
 use Rattle.flow_table.specs.Table.{TableFacts}
 use Rattle.rankers.specs.Meaning.{Meaning}
 use Rattle.outside.specs.Shelf.{Told}
 use Rattle.weights.specs.declared.fault.WeightsFault.{WeightsFault}
 use Rattle.sincronia_cli.specs.declared.status.Status.{Status}
 use Rattle.sincronia_cli.specs.declared.status.Status.TheVariants as status
-use Rattle.sincronia_cli.specs.Causes.{CauseBy, FilesGiveTable, HasCauseOf, HasFilesCause}
+use Rattle.sincronia_cli.specs.Causes.{CauseBy, FilesGiveTable, HasCauseInFiles, HasCauseOf}
 use Rattle.sincronia_cli.specs.Check.{status_for}
-use Rattle.sincronia_cli.specs.Complete.{AreGood, EndsWell, IsReportText, IsStill}
+use Rattle.sincronia_cli.specs.Complete.{AreGood, EndsWell, HasReportText, IsReportText, IsStill}
 use Rattle.sincronia_cli.specs.InputCauses.{GiveTable, LimitCause}
 use Rattle.sincronia_cli.specs.InputCauses.LimitCause.{in_table, in_trace, in_weights}
 use Rattle.sincronia_cli.specs.Inputs.{GiveWeights, IsTraceText, bytes_if}
@@ -29,6 +27,8 @@ use Rattle.sincronia_cli.specs.TraceCauses.{HasTraceFault, TraceLimit}
 use Rattle.sincronia_cli.specs.WeightsCauses.{IsFaultOf, WeightsLimit}
 use Rattle.trace_reader.specs.declared.fault.TraceFault.{TraceFault}
 use Rattle.sincronia_cli.proofs.EndCauses.{by_made, by_wire}
+use Rattle.verdicts.specs.AnyReport.{IsAnyBadAt, IsAnyText}
+use Rattle.verdicts.proofs.OneReport.{text_or_bad}
 
 -- ---- a text that reads has no fault
 
@@ -57,17 +57,25 @@ table_fits trace weights unit which count good (in_trace limit) = trace_fits tra
 table_fits trace weights unit which count good (in_weights text limit) = weights_fit weights _ good.list which count good.gives.weights_are limit
 table_fits trace weights unit which count good (in_table text ws give cause) = good.fits which count cause
 
--- the report, where there is one, has no fault
-pub record HasGoodReport (report : Option (List ℕ)) : Type 0 where
-  pub line : (n : ℕ) → IsBadReport report n → ⊥
+-- the report, where there is one, is not bad in this way, and not too long
+pub record HasNoFault (IsBad : List ℕ → ℕ → Type 0) (report : Option (List ℕ)) : Type 0 where
+  pub line : (n : ℕ) → IsBadReport IsBad report n → ⊥
   pub fits : (which : Quantity) (count : ℕ) → ReportLimit report which count → ⊥
 
-pub report_is_good : (report : Option (List ℕ)) → IsReportText report → HasGoodReport report
-report_is_good None good = absurd good
-report_is_good (Some text) (short, report, is) = record {
-  line = λ n (low, bad). bad.no_text report is;
+pub text_is_good : {R : Type 0} (IsText : List ℕ → R → Type 0) (IsBad : List ℕ → ℕ → Type 0) → ((bytes : List ℕ) (r : R) (line : ℕ) → IsText bytes r → IsBad bytes line → ⊥) →
+    (report : Option (List ℕ)) → HasReportText IsText report → HasNoFault IsBad report
+text_is_good IsText IsBad apart None good = absurd good
+text_is_good IsText IsBad apart (Some text) (short, report, is) = record {
+  line = λ n (low, bad). apart text report n is bad;
   fits = λ which count (text_is, told, long). absurd (omega (arith, short, long));
 }
+
+-- the same of a report of either kind
+abbrev pub HasGoodReport : Option (List ℕ) → Type 0
+HasGoodReport report = HasNoFault IsAnyBadAt report
+
+pub report_is_good : (report : Option (List ℕ)) → IsReportText report → HasGoodReport report
+report_is_good report good = text_is_good IsAnyText IsAnyBadAt text_or_bad report good
 
 no_report : HasGoodReport None
 no_report = record { line = λ n bad. bad; fits = λ which count (is, told, long). long }
@@ -77,8 +85,8 @@ no_report_of t name none = subst (λ (n : Option (List ℕ)). HasGoodReport (byt
 
 -- ---- so a command does not end early
 
-files_end : (before now : ℕ) (t : Told) (new : Option Told) (said : Said) (s : Status) → HasFilesCause before now (Some t) new said s → FilesGiveTable said t →
-    HasGoodReport (bytes_if t (report_name said.job)) → IsStill before now → s ≡ status.NoMemory
+pub files_end : {IsBad : List ℕ → ℕ → Type 0} (before now : ℕ) (t : Told) (new : Option Told) (said : Said) (s : Status) → HasCauseInFiles IsBad before now (Some t) new said s →
+    FilesGiveTable said t → HasNoFault IsBad (bytes_if t (report_name said.job)) → IsStill before now → s ≡ status.NoMemory
 files_end before now t new said (status.BadTrace fault) (form, bad) table report still = absurd (trace_is_good _ fault table.gives.trace_text bad)
 files_end before now t new said (status.BadWeights fault) (form, (text, bad)) table report still = absurd (weights_are_good _ _ table.list fault table.gives.weights_are bad)
 files_end before now t new said (status.BadReport line) (given, (gives, bad)) table report still = absurd (report.line line bad)
@@ -129,14 +137,14 @@ good_files_end F words by said before now old new s reads is cause good still wi
 
 -- ---- and where its text was written it ended well
 
-verdict_ends : (verdict : Verdict) (s : Status) → s ≡ status_for verdict → (s ≡ status.Ok) ⊎ (s ≡ status.No)
-verdict_ends Yes s is = inl is
-verdict_ends (No reason) s is = inr is
+answer_ends : (answer : Bool) (s : Status) → s ≡ status_for answer → (s ≡ status.Ok) ⊎ (s ≡ status.No)
+answer_ends true s is = inl is
+answer_ends false s is = inr is
 
 pub written_by : (S : TableFacts → List (List ℕ) → Type 0) (k : Job) (told : Option Told) (said : Said) (bench : List Meaning) (s : Status) (text : List ℕ) →
     OutcomeBy S k told said bench s text → EndsWell k s
 written_by S (plan_job trace) told said bench s text outcome = outcome.0
-written_by S (check_job trace report) told said bench s text (verdict, is, checks) = verdict_ends verdict s is
+written_by S (check_job trace report) told said bench s text (answer, is, checks) = answer_ends answer s is
 written_by S (make_job seed) told said bench s text outcome = outcome.0
 written_by S (compare_job trace) told said bench s text outcome = outcome.0
 written_by S (classes_job trace) told said bench s text outcome = outcome.0

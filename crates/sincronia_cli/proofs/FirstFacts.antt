@@ -1,5 +1,5 @@
 -- What the files of a command call for is one, and the command ends by it.
-use Rattle.std.proofs.Common.{◌≡◌, ◌+◌, ◌<◌, ℕ, inl, inr, List, Option, Some, None, refl, sym, subst, ◌∙◌, ap, arith}
+use Rattle.std.proofs.Common.{◌≡◌, ◌+◌, ℕ, inl, inr, List, Option, Some, None, refl, sym, subst, ◌∙◌, ap, arith}
 use Rattle.std.specs.Prelude.{◌⊎◌, IfSome, IsSomeAnd}
 use Rattle.coflow_units.specs.declared.limits.TheConstants.{MAX_REPORT, MAX_TEXT}
 use Rattle.coflow_units.specs.declared.quantity.Quantity.{Quantity}
@@ -15,10 +15,11 @@ use Rattle.flow_table.specs.Causes.{ExceedsLimit}
 use Rattle.flow_table.specs.Table.{TableFacts}
 use Rattle.outside.specs.Shelf.{Told, bytes_of}
 use Rattle.rankers.specs.Meaning.{Meaning}
-use Rattle.report.specs.Reading.{IsBadAt}
 use Rattle.trace_reader.specs.Trace.{trace_of}
 use Rattle.trace_reader.specs.declared.fault.TraceFault.{TraceFault}
 use Rattle.trace_reader.specs.declared.fault.TraceFault.TheVariants as trace_fault
+use Rattle.verdicts.specs.AnyReport.{IsAnyBadAt}
+use Rattle.verdicts.proofs.OneReport.{any_line_one}
 use Rattle.weights.specs.declared.fault.WeightsFault.{WeightsFault}
 use Rattle.weights.specs.declared.fault.WeightsFault.TheVariants as weights_fault
 use Rattle.sincronia_cli.specs.declared.status.Status.{Status}
@@ -63,7 +64,7 @@ data TableStops (trace : Trace) (unit : ℕ) (s : Status) : Type 0 where
 
 data ReportStops (report : Option (List ℕ)) (s : Status) : Type 0 where
   long_report : IsLongReport report → s ≡ status.Limit quantity.Text (MAX_REPORT + 1) → ReportStops report s
-  bad_report : (line : ℕ) → IsBadReport report line → s ≡ status.BadReport line → ReportStops report s
+  bad_report : (line : ℕ) → IsBadReport IsAnyBadAt report line → s ≡ status.BadReport line → ReportStops report s
 
 -- ---- each step has one
 
@@ -99,12 +100,6 @@ table_one trace unit a b (over v m (inr (v_is, (few, m_is, long))) e) (over w n 
 table_one trace unit a b (over v m (inl (v_is, (many, m_is))) e) (over w n (inr (w_is, (few, n_is, long))) f) = absurd (omega (arith, many, few))
 table_one trace unit a b (over v m (inr (v_is, (few, m_is, long))) e) (over w n (inl (w_is, (many, n_is))) f) = absurd (omega (arith, many, few))
 
-line_not_before : (bytes : List ℕ) (m n : ℕ) → IsBadAt bytes m → IsBadAt bytes n → m < n → ⊥
-line_not_before bytes m n at_m at_n less = at_m.here (at_n.before m less)
-
-bad_line_one : (bytes : List ℕ) (m n : ℕ) → IsBadAt bytes m → IsBadAt bytes n → m ≡ n
-bad_line_one bytes m n at_m at_n = grind (arith, line_not_before bytes m n at_m at_n, line_not_before bytes n m at_n at_m)
-
 report_one : (report : Option (List ℕ)) (a b : Status) → ReportStops report a → ReportStops report b → a ≡ b
 report_one None a b (long_report x e) y = absurd x
 report_one None a b (bad_report m x e) y = absurd x
@@ -112,7 +107,7 @@ report_one (Some text) a b (long_report x e) (long_report y f) = e ∙ sym f
 report_one (Some text) a b (long_report x e) (bad_report m (short, bad) f) = absurd (omega (arith, x, short))
 report_one (Some text) a b (bad_report m (short, bad) f) (long_report x e) = absurd (omega (arith, x, short))
 report_one (Some text) a b (bad_report m (short, bad) e) (bad_report n (low, wrong) f) =
-    let one : m ≡ n = bad_line_one text m n bad wrong in
+    let one : m ≡ n = any_line_one text m n bad wrong in
     e ∙ ap (λ k. status.BadReport k) one ∙ sym f
 
 -- ---- a step that has one does not go on

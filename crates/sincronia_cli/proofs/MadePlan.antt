@@ -1,5 +1,5 @@
 -- The plan of a made trace, read back from its own text.
-use Rattle.std.proofs.Common.{◌≡◌, ℕ, ◌^◌, ◌≤◌, ◌<◌, ◌∙◌, List, length, ap, subst, sym, arith}
+use Rattle.std.proofs.Common.{◌≡◌, ℕ, ◌≤◌, ◌∙◌, List, length, ap, subst, sym}
 use Rattle.std.specs.Prelude.{All}
 use Rattle.coflow_units.specs.Flows.{IsDistinct}
 use Rattle.cert_check.specs.Sound.{IsSound}

@@ -1,13 +1,11 @@
 -- How far a command came with its files, and that the shelf's count of faults stays.
-use Rattle.std.proofs.Common.{◌≡◌, ◌≢◌, IsErrAnd, IfErr, ℕ, inl, inr, List, Option, Some, Result, Ok, Err, refl, sym, subst, ◌∙◌}
-use Rattle.std.specs.Prelude.{◌⊎◌, IfSome}
+use Rattle.std.proofs.Common.{◌≡◌, ◌≢◌, ◌≤◌, ◌^◌, IsErrAnd, IfErr, ℕ, List, length, Option, Some, Result, Ok, Err, refl, sym, subst, ◌∙◌}
+use Rattle.std.specs.Prelude.{◌⊎◌, Bool, IfSome, false, true}
 use Rattle.command_words.specs.Jobs.{Job, report_name, trace_name}
 use Rattle.command_words.specs.Jobs.Job.{check_job, classes_job, compare_job, make_job, plan_job}
 use Rattle.command_words.specs.Line.{Text}
 use Rattle.command_words.specs.Words.{IsWords, Said}
 use Rattle.command_words.proofs.OneMeaning.{words_one}
-use Rattle.cert_check.specs.declared.verdict.Verdict.{Verdict}
-use Rattle.cert_check.specs.declared.verdict.Verdict.TheVariants as verdict
 use Rattle.coflow_units.specs.declared.trace.Trace.{Trace}
 use Rattle.flow_table.specs.Table.{TableFacts}
 use Rattle.flow_table.specs.declared.fault.TableFault.{TableFault}
@@ -16,12 +14,14 @@ use Rattle.outside.specs.declared.shelf.Place4.{Place4}
 use Rattle.outside.specs.declared.shelf.Place4.TheVariants as place
 use Rattle.outside.specs.Rose.{RoseOnce}
 use Rattle.rankers.specs.Meaning.{Meaning}
-use Rattle.outside.specs.Shelf.{Told}
+use Rattle.outside.specs.Shelf.{Told, bytes_of}
+use Rattle.verdicts.specs.declared.any_report.AnyReport.{AnyReport}
+use Rattle.verdicts.specs.AnyReport.{IsAnyText}
 use Rattle.sincronia_cli.specs.declared.status.Status.{Status}
 use Rattle.sincronia_cli.specs.declared.status.Status.TheVariants as status
 use Rattle.sincronia_cli.specs.Causes.{FilesGiveTable, HasMadeCause}
-use Rattle.sincronia_cli.specs.Check.{IsReportOf, status_for}
-use Rattle.sincronia_cli.specs.Complete.{HasGoodFiles, IsReportText}
+use Rattle.sincronia_cli.specs.Check.{IsAnyReportOf, status_for}
+use Rattle.sincronia_cli.specs.Complete.{HasGoodFiles, HasReportText}
 use Rattle.sincronia_cli.specs.Ends.{IsReadFault, CountsFault}
 use Rattle.sincronia_cli.specs.FileCauses.{NameFailed, NameFailedIf}
 use Rattle.sincronia_cli.specs.InputCauses.{IsStatusOfTable}
@@ -165,15 +165,16 @@ pub done_in_turn : (old new : Option Told) (said : Said) (s : Status) → (IsRea
     OfBoth old new (AreReadOut (trace_name said.job) said.weights) → OfBoth old new (FilesInTurn said s)
 done_in_turn old new said s other table out = past_input old new said s table out (λ count e. absurd (no_read s count other e))
 
-module _ (old mid new : Option Told) (said : Said) (name : List ℕ) (s : Status) where
+module _ (IsBad : List ℕ → ℕ → Type 0) (old mid new : Option Told) (said : Said) (name : List ℕ) (s : Status) where
   pub report_in_turn : (mid_count now : ℕ) → report_name said.job ≡ Some name → KeepsFiles old mid → IfSome old (FilesGiveTable said) →
-      OfBoth old mid (AreReadOut (trace_name said.job) said.weights) → OfBoth mid new (KeepsOthers place.Report) → IsReportCause mid_count now mid new name s →
+      OfBoth old mid (AreReadOut (trace_name said.job) said.weights) → OfBoth mid new (KeepsOthers place.Report) →
+      IsReportCause IsBad mid_count now mid new name s →
       OfBoth old new (FilesInTurn said s)
   report_in_turn mid_count now is keeps table out others cause =
       past_input old new said s table (still_both_out old mid new said out others)
-      (λ count e. failed count (subst (λ (x : Status). IsReportCause mid_count now mid new name x) e cause))
+      (λ count e. failed count (subst (λ (x : Status). IsReportCause IsBad mid_count now mid new name x) e cause))
     where
-      failed : (count : ℕ) → IsReportCause mid_count now mid new name (status.ReadFault count) → OfBoth old new (NameFailedIf (report_name said.job))
+      failed : (count : ℕ) → IsReportCause IsBad mid_count now mid new name (status.ReadFault count) → OfBoth old new (NameFailedIf (report_name said.job))
       failed count (one, rose, named) =
           subst (λ o. OfBoth old new (NameFailedIf o)) (sym is)
           (named_before old mid new (Some name) keeps (of_both mid new (NameFailed name) (NameFailedIf (Some name)) (λ a b h. h) named))
@@ -208,14 +209,14 @@ made_counts P n (Err s) cause = (λ other. refl, λ read. absurd (served_reads P
 
 -- ---- a job whose text was made
 
-verdict_reads : (verdict : Verdict) (s : Status) → s ≡ status_for verdict → IsReadFault s → ⊥
-verdict_reads verdict.Yes s is read = subst IsReadFault is read
-verdict_reads (verdict.No reason) s is read = subst IsReadFault is read
+answer_reads : (answer : Bool) (s : Status) → s ≡ status_for answer → IsReadFault s → ⊥
+answer_reads true s is read = subst IsReadFault is read
+answer_reads false s is read = subst IsReadFault is read
 
 text_reads : (S : TableFacts → List (List ℕ) → Type 0) (k : Job) (told : Option Told) (said : Said) (bench : List Meaning) (s : Status) (text : List ℕ) →
     OutcomeBy S k told said bench s text → IsReadFault s → ⊥
 text_reads S (plan_job trace) told said bench s text (is, plan) read = subst IsReadFault is read
-text_reads S (check_job trace report) told said bench s text (verdict, is, checks) read = verdict_reads verdict s is read
+text_reads S (check_job trace report) told said bench s text (answer, is, checks) read = answer_reads answer s is read
 text_reads S (make_job seed) told said bench s text (is, made) read = subst IsReadFault is read
 text_reads S (compare_job trace) told said bench s text (is, compares) read = subst IsReadFault is read
 text_reads S (classes_job trace) told said bench s text (is, classes) read = subst IsReadFault is read
@@ -247,10 +248,16 @@ out_for words by said old new reads is out = subst (λ (x : Said). OfBoth old ne
 
 -- ---- the report of a check is good
 
-pub report_good : (old mid : Option Told) (said : Said) (trace name : List ℕ) (report : _) → report_name said.job ≡ Some name → KeepsFiles old mid →
-    IfSome old (FilesGiveTable said) →
-    IsReportOf mid name report → IfSome old (HasGoodFiles (check_job trace name) said)
-report_good old mid said trace name report is keeps table of =
-    with_both old (FilesGiveTable said) (λ t. IsTextIf report (bytes_if t (Some name))) (HasGoodFiles (check_job trace name) said)
-    (λ t gives text. (gives, subst (λ (o : Option (List ℕ)). IsReportText (bytes_if t o)) (sym is) (text.0, report, text.1))) table
-    (told_before old mid (Some name) (IsTextIf report) keeps of.reads)
+-- the files give a table, and the other one has the text of a report
+pub text_good : {R : Type 0} (IsText : List ℕ → R → Type 0) (old mid : Option Told) (said : Said) (name : List ℕ) (report : R) → report_name said.job ≡ Some name →
+    KeepsFiles old mid → IfSome old (FilesGiveTable said) → IfSome mid (λ t. (length (bytes_of t name) ≤ 2 ^ 30) × IsText (bytes_of t name) report) →
+    IfSome old (λ t. FilesGiveTable said t × HasReportText IsText (bytes_if t (report_name said.job)))
+text_good IsText old mid said name report is keeps table reads =
+    with_both old (FilesGiveTable said) (λ t. IsTextIf IsText report (bytes_if t (Some name)))
+    (λ t. FilesGiveTable said t × HasReportText IsText (bytes_if t (report_name said.job)))
+    (λ t gives text. (gives, subst (λ (o : Option (List ℕ)). HasReportText IsText (bytes_if t o)) (sym is) (text.0, report, text.1))) table
+    (told_before old mid (Some name) (IsTextIf IsText report) keeps reads)
+
+pub report_good : (old mid : Option Told) (said : Said) (trace name : List ℕ) (report : AnyReport) → report_name said.job ≡ Some name → KeepsFiles old mid →
+    IfSome old (FilesGiveTable said) → IsAnyReportOf mid name report → IfSome old (HasGoodFiles (check_job trace name) said)
+report_good old mid said trace name report is keeps table of = text_good IsAnyText old mid said name report is keeps table of.reads

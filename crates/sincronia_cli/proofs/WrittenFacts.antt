@@ -1,27 +1,24 @@
 -- What was written, by the command of the words.
 use Rattle.std.proofs.Common.{◌≡◌, ℕ, List, refl, sym, subst, ◌∙◌}
-use Rattle.std.specs.Prelude.{Option, Ok}
+use Rattle.std.specs.Prelude.{Bool, Option, Ok, false, true}
 use Rattle.command_words.specs.Jobs.{Job}
 use Rattle.command_words.specs.Jobs.Job.{check_job, classes_job, compare_job, make_job, plan_job}
 use Rattle.command_words.specs.Line.{Text}
 use Rattle.command_words.specs.Words.{IsWords, Said}
-use Rattle.cert_check.specs.declared.verdict.Reason.{Reason}
-use Rattle.cert_check.specs.declared.verdict.Verdict.{Verdict}
-use Rattle.cert_check.specs.declared.verdict.Verdict.TheVariants.{No, Yes}
 use Rattle.flow_table.specs.Table.{TableFacts}
 use Rattle.outside.specs.Shelf.{Told}
 use Rattle.rankers.specs.Meaning.{Meaning}
 use Rattle.outside.specs.Sink.{TakesText}
 use Rattle.sincronia_cli.specs.declared.status.Status.{Status}
 use Rattle.sincronia_cli.specs.declared.status.Status.TheVariants as status
-use Rattle.sincronia_cli.specs.Check.{CheckOf, WritesVerdict, WritesYes, status_for}
+use Rattle.sincronia_cli.specs.Check.{CheckOf, WritesNo, WritesYes, status_for}
 use Rattle.sincronia_cli.specs.Command.{IsCommand}
 use Rattle.sincronia_cli.specs.Classes.{WritesClasses}
 use Rattle.sincronia_cli.specs.Compare.{WritesComparison}
 use Rattle.sincronia_cli.specs.Make.{WritesMade}
 use Rattle.sincronia_cli.specs.Outcome.{IsOutcome, OutcomeBy}
 use Rattle.sincronia_cli.specs.Plan.{WritesPlan}
-use Rattle.sincronia_cli.proofs.CheckFacts.{sure_yes}
+use Rattle.sincronia_cli.proofs.CheckFacts.{OnlineLaw, sure_yes}
 use Rattle.sincronia_cli.proofs.CompareFacts.{writes_comparison}
 use Rattle.sincronia_cli.proofs.OutcomeFacts.{outcome_by}
 use Rattle.sincronia_cli.proofs.PlanFacts.{appended, writes_plan}
@@ -48,31 +45,29 @@ module _ {X : Type 0} (E : Type 0) (S : TableFacts → List (List ℕ) → Type 
   classes_written trace reads is outcome e takes =
       record { text = text; classes = (outcome_by S words by said (classes_job trace) told bench s text reads is outcome).1; written = appended E old new text lent x e takes }
 
-  yes_for : (verdict : Verdict) → s ≡ status_for verdict → s ≡ status.Ok → verdict ≡ Yes
-  yes_for Yes is ok = λ i. Yes
-  yes_for (No reason) is ok = let bad : status.Ok ≡ status.No = sym ok ∙ is in cc
+  yes_for : (answer : Bool) → s ≡ status_for answer → s ≡ status.Ok → answer ≡ true
+  yes_for true is ok = refl
+  yes_for false is ok = let bad : status.Ok ≡ status.No = sym ok ∙ is in cc
 
-  pub yes_written : (trace report : Text) → IsWords words by → IsCommand (check_job trace report) words said → IsOutcome S told by bench s text → s ≡ status.Ok → lent ≡ text →
+  pub yes_written : OnlineLaw → (trace report : Text) → IsWords words by → IsCommand (check_job trace report) words said → IsOutcome S told by bench s text → s ≡ status.Ok → lent ≡ text →
       TakesText {E = E} old new lent (Ok x) →
       WritesYes told said old new
-  yes_written trace report reads is outcome ok e takes =
-      let (verdict, status_is, checks) = outcome_by S words by said (check_job trace report) told bench s text reads is outcome in
-      sure_yes told said old new text (subst (λ (v : Verdict). CheckOf told said v text) (yes_for verdict status_is ok) checks) (appended E old new text lent x e takes)
+  yes_written law trace report reads is outcome ok e takes =
+      let (answer, status_is, checks) = outcome_by S words by said (check_job trace report) told bench s text reads is outcome in
+      sure_yes law told said old new text (subst (λ (v : Bool). CheckOf told said v text) (yes_for answer status_is ok) checks) (appended E old new text lent x e takes)
 
   pub no_written : IsWords words by → IsOutcome S told by bench s text → s ≡ status.No → lent ≡ text → TakesText {E = E} old new lent (Ok x) →
-      (said : Said) × (trace report : Text) × IsCommand (check_job trace report) words said × (reason : Reason) × WritesVerdict told said (No reason) old new
+      (said : Said) × (trace report : Text) × IsCommand (check_job trace report) words said × WritesNo told said old new
   no_written reads outcome wrong e takes = by_job by.job refl outcome
     where
-      by_verdict : (verdict : Verdict) → s ≡ status_for verdict → CheckOf told by verdict text → (reason : Reason) × WritesVerdict told by (No reason) old new
-      by_verdict Yes is checks = let bad : status.Ok ≡ status.No = sym is ∙ wrong in cc
-      by_verdict (No reason) is checks = (reason, record { text = text; checks = checks; written = appended E old new text lent x e takes })
+      by_answer : (answer : Bool) → s ≡ status_for answer → CheckOf told by answer text → WritesNo told by old new
+      by_answer true is checks = let bad : status.Ok ≡ status.No = sym is ∙ wrong in cc
+      by_answer false is checks = record { text = text; checks = checks; written = appended E old new text lent x e takes }
 
       by_job : (k : Job) → by.job ≡ k → OutcomeBy S k told by bench s text →
-          (said : Said) × (trace report : Text) × IsCommand (check_job trace report) words said × (reason : Reason) × WritesVerdict told said (No reason) old new
+          (said : Said) × (trace report : Text) × IsCommand (check_job trace report) words said × WritesNo told said old new
       by_job (plan_job trace) same (is, plan) = let bad : status.Ok ≡ status.No = sym is ∙ wrong in cc
-      by_job (check_job trace report) same (verdict, is, checks) =
-          let told_no = by_verdict verdict is checks in
-          (by, trace, report, record { words_say = reads; job_is = same }, told_no.0, told_no.1)
+      by_job (check_job trace report) same (answer, is, checks) = (by, trace, report, record { words_say = reads; job_is = same }, by_answer answer is checks)
       by_job (make_job seed) same (is, made) = let bad : status.Ok ≡ status.No = sym is ∙ wrong in cc
       by_job (compare_job trace) same (is, compares) = let bad : status.Ok ≡ status.No = sym is ∙ wrong in cc
       by_job (classes_job trace) same (is, classes) = let bad : status.Ok ≡ status.No = sym is ∙ wrong in cc

@@ -19,6 +19,7 @@ use Rattle.sincronia_cli.specs.ReportCauses.{IsBadReport, ReportLimit}
 use Rattle.sincronia_cli.specs.Serving.{IsWireCause, Serves}
 use Rattle.sincronia_cli.specs.TraceCauses.{HasTraceFault, IsTraceForm}
 use Rattle.sincronia_cli.specs.WeightsCauses.{IsWeightsForm}
+use Rattle.verdicts.specs.AnyReport.{IsAnyBadAt}
 
 -- the files that are named give a table within its limits
 abbrev pub FilesGiveTable : Said → Told → Type 0
@@ -37,9 +38,14 @@ FilesTraceFault said fault t = HasTraceFault (bytes_of t (trace_name said.job)) 
 abbrev pub FilesWeightsFault : Said → WeightsFault → Told → Type 0
 FilesWeightsFault said fault t = HasWeightsFault (bytes_of t (trace_name said.job)) (bytes_if t said.weights) fault
 
--- the files give a table, and this is the first line of the other file that no text of a report has
+-- the files give a table, and the other file is bad at this line
+abbrev pub FilesBadReport : (List ℕ → ℕ → Type 0) → Said → ℕ → Told → Type 0
+FilesBadReport IsBad said line t = FilesGiveTable said t × IsBadReport IsBad (bytes_if t (report_name said.job)) line
+
+-- The files give a table, and this is the first line of the other file that no text of a report has: of one of an online
+-- run where its first line is that of one, and else of one of a plan.
 abbrev pub FilesReportFault : Said → ℕ → Told → Type 0
-FilesReportFault said line t = FilesGiveTable said t × IsBadReport (bytes_if t (report_name said.job)) line
+FilesReportFault said line t = FilesBadReport IsAnyBadAt said line t
 
 -- A quantity of the files is outside its range, and nothing that is looked at before it is wrong:
 -- one of the trace, of the weights or of the table, or the bytes of a report where there is a table.
@@ -54,18 +60,24 @@ abbrev pub FileFailed : Said → Told → Told → Type 0
 FileFailed said old new = InputFailed (trace_name said.job) said.weights old new
     ⊎ (FilesGiveTable said old × NameFailedIf (report_name said.job) old new)
 
--- The cause of a status that comes before anything is written, in a command that reads files.
--- The shelf had and has these counts of faults, and told and tells these files.
-abbrev pub HasFilesCause : ℕ → ℕ → Option Told → Option Told → Said → Status → Type 0
-HasFilesCause before now old new said (BadTrace fault) = IsTraceForm fault × IfSome old (FilesTraceFault said fault)
-HasFilesCause before now old new said (BadWeights fault) =
+-- The cause of a status that comes before anything is written, in a command that reads files, where its reports are bad
+-- in this way. The shelf had and has these counts of faults, and told and tells these files.
+abbrev pub HasCauseInFiles : (List ℕ → ℕ → Type 0) → ℕ → ℕ → Option Told → Option Told → Said → Status → Type 0
+HasCauseInFiles IsBad before now old new said (BadTrace fault) =
+    IsTraceForm fault × IfSome old (FilesTraceFault said fault)
+HasCauseInFiles IsBad before now old new said (BadWeights fault) =
     IsWeightsForm fault × IfSome old (FilesWeightsFault said fault)
-HasFilesCause before now old new said (BadReport line) =
-    IsGiven (report_name said.job) × IfSome old (FilesReportFault said line)
-HasFilesCause before now old new said (Limit which count) = IfSome old (FilesLimit said which count)
-HasFilesCause before now old new said (ReadFault count) = ShelfFailed before now old new (FileFailed said) count
-HasFilesCause before now old new said NoMemory = Unit {0}
-HasFilesCause before now old new said status = ⊥
+HasCauseInFiles IsBad before now old new said (BadReport line) =
+    IsGiven (report_name said.job) × IfSome old (FilesBadReport IsBad said line)
+HasCauseInFiles IsBad before now old new said (Limit which count) = IfSome old (FilesLimit said which count)
+HasCauseInFiles IsBad before now old new said (ReadFault count) =
+    ShelfFailed before now old new (FileFailed said) count
+HasCauseInFiles IsBad before now old new said NoMemory = Unit {0}
+HasCauseInFiles IsBad before now old new said status = ⊥
+
+-- the same in a command of this program, which reads reports of both kinds
+abbrev pub HasFilesCause : ℕ → ℕ → Option Told → Option Told → Said → Status → Type 0
+HasFilesCause before now old new said status = HasCauseInFiles IsAnyBadAt before now old new said status
 
 -- the cause of a status that comes before anything is written, in `make`, which reads no file: there was no memory
 abbrev pub HasMadeCause : Status → Type 0

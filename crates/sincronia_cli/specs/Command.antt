@@ -25,11 +25,12 @@ pub record IsOfFiles (words : List Text) (said : Said) : Type 0 where
   pub words_say : IsWords words said
   pub reads : ReadsFiles said.job
 
--- the unit, the agents and the classes of what is said are in their ranges
+-- the unit, the agents, the milliseconds of a slot and the classes of what is said are in their ranges
 pub record Fits (said : Said) : Type 0 where
   pub some : 1 ≤ said.unit
   pub unit_limit : said.unit ≤ MAX_UNIT
   pub some_agents : 1 ≤ said.agents
   pub few_agents : said.agents < 2 ^ 32
+  pub some_time : 1 ≤ said.slot_ms
   pub some_classes : 1 ≤ said.classes
   pub few_classes : said.classes ≤ MAX_OPTION_CLASSES

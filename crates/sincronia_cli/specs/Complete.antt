@@ -6,17 +6,20 @@ use Rattle.command_words.specs.Words.{Said}
 use Rattle.coflow_units.specs.declared.limits.TheConstants.{MAX_REPORT}
 use Rattle.outside.specs.Rose.{Rose}
 use Rattle.outside.specs.Shelf.{Told}
-use Rattle.report.specs.declared.value.Report.{Report}
-use Rattle.report.specs.Reading.{IsTextOf}
+use Rattle.verdicts.specs.AnyReport.{IsAnyText}
 use Rattle.sincronia_cli.specs.declared.status.Status.{Status}
 use Rattle.sincronia_cli.specs.declared.status.Status.TheVariants.{No, Ok}
 use Rattle.sincronia_cli.specs.Causes.{FilesGiveTable}
 use Rattle.sincronia_cli.specs.Inputs.{bytes_if}
 
 -- there is a file of a report, and it has the text of one
+abbrev pub HasReportText : {R : Type 0} → (List ℕ → R → Type 0) → Option (List ℕ) → Type 0
+HasReportText IsText None = ⊥
+HasReportText {R} IsText (Some text) = (length text ≤ MAX_REPORT) × (report : R) × IsText text report
+
+-- the same of a report of a plan or of an online run
 abbrev pub IsReportText : Option (List ℕ) → Type 0
-IsReportText None = ⊥
-IsReportText (Some text) = (length text ≤ MAX_REPORT) × (report : Report) × IsTextOf text report
+IsReportText text = HasReportText IsAnyText text
 
 -- the texts of all files that the command reads have no fault, and they are within the limits
 abbrev pub HasGoodFiles : Job → Said → Told → Type 0

@@ -1,9 +1,8 @@
 -- What each command has to write, and with which status its job ends then.
-use Rattle.std.specs.Prelude.{◌≡◌, ℕ, List, Option}
+use Rattle.std.specs.Prelude.{◌≡◌, ℕ, Bool, List, Option}
 use Rattle.command_words.specs.Jobs.{Job}
 use Rattle.command_words.specs.Jobs.Job.{check_job, classes_job, compare_job, make_job, plan_job}
 use Rattle.command_words.specs.Words.{Said}
-use Rattle.cert_check.specs.declared.verdict.Verdict.{Verdict}
 use Rattle.flow_table.specs.Table.{TableFacts}
 use Rattle.outside.specs.Shelf.{Told}
 use Rattle.rankers.specs.Meaning.{Meaning}
@@ -21,7 +20,7 @@ module _ (Sent : TableFacts → List (List ℕ) → Type 0) where
   abbrev pub OutcomeBy : Job → Option Told → Said → List Meaning → Status → List ℕ → Type 0
   OutcomeBy (plan_job trace) told said bench status text = (status ≡ Ok) × PlanOf Sent told said text
   OutcomeBy (check_job trace report) told said bench status text =
-      (verdict : Verdict) × (status ≡ status_for verdict) × CheckOf told said verdict text
+      (yes : Bool) × (status ≡ status_for yes) × CheckOf told said yes text
   OutcomeBy (make_job seed) told said bench status text = (status ≡ Ok) × MadeOf Sent seed said.unit text
   OutcomeBy (compare_job trace) told said bench status text = (status ≡ Ok) × ComparisonOf told said bench text
   OutcomeBy (classes_job trace) told said bench status text = (status ≡ Ok) × ClassesOf told said text

@@ -1,13 +1,8 @@
 //! The command `check`: the verdict on a report.
-ghost use Rattle.std.specs.Prelude.{◌≡◌, ◌≤◌, All, IfErr, IfOk, IfSome, OnOk, Some, length};
-ghost use Rattle.coflow_units.specs.declared.limits.TheConstants.{MAX_UNIT, MAX_WEIGHT};
-ghost use Rattle.cert_check.specs.declared.verdict.Verdict.{Verdict};
-ghost use Rattle.cert_check.specs.Reasons.{IsVerdict};
+ghost use Rattle.std.specs.Prelude.{◌≡◌, ◌≤◌, Bool, IfErr, IfOk, IfSome, OnOk};
+ghost use Rattle.coflow_units.specs.declared.limits.TheConstants.{MAX_UNIT};
 ghost use Rattle.command_words.specs.Jobs.Job.{check_job};
 ghost use Rattle.command_words.specs.Words.{said_with};
-ghost use Rattle.flow_table.specs.Table.{instance_of};
-ghost use Rattle.report.specs.Report.{IsReport};
-ghost use Rattle.verdicts.specs.VerdictLine.{verdict_text};
 ghost use Rattle.sincronia_cli.specs.Causes.{HasFilesCause};
 ghost use Rattle.sincronia_cli.specs.Check.{CheckOf, status_for};
 ghost use Rattle.sincronia_cli.specs.Complete.{HasGoodFiles};
@@ -15,16 +10,13 @@ ghost use Rattle.sincronia_cli.specs.Ends.{CountsFault};
 ghost use Rattle.sincronia_cli.specs.Shelves.{KeepsFiles, OfBoth, ReadsOut};
 ghost use Rattle.sincronia_cli.specs.Turns.{FilesInTurn};
 
-use crate::inputs::{Input, read_input, read_report_file};
+use crate::inputs::{read_any_report_file, read_input};
 use crate::outcome::Outcome;
 use crate::status::Status;
-use cert_check::Verdict;
-use coflow_units::NoMemory;
 use command_words::Options;
 use outside::Shelf;
-use report::Report;
 use std::alloc::Global;
-use verdicts::{verdict_on, verdict_text};
+use verdicts::judge;
 
 /// The line of the verdict on the report of that name, for the coflows of the trace of the other, or the status of why
 /// there is none.
@@ -37,8 +29,9 @@ pub(crate) fn check_report<'a, H: Shelf>(
 ) -> Result<Outcome, Status>
     requires some { 1 ≤ options.unit }
     requires unit_limit { options.unit ≤ MAX_UNIT }
-    ensures outcome { IfOk result (λ o. (verdict : Verdict) × (o.status ≡ status_for verdict) ×
-        CheckOf (H.told shelf.old) (said_with (check_job trace.now report.now) options.entry) verdict o.text.items) }
+    requires some_time { 1 ≤ options.slot_ms }
+    ensures outcome { IfOk result (λ o. (yes : Bool) × (o.status ≡ status_for yes) ×
+        CheckOf (H.told shelf.old) (said_with (check_job trace.now report.now) options.entry) yes o.text.items) }
     ensures read_out { OnOk result (OfBoth (H.told shelf.old) (H.told shelf.new)
         (ReadsOut (check_job trace.now report.now)
         (said_with (check_job trace.now report.now) options.entry))) }
@@ -52,34 +45,18 @@ pub(crate) fn check_report<'a, H: Shelf>(
         (H.told shelf.new) (said_with (check_job trace.now report.now) options.entry) status) }
 {
     let input = read_input(alloc, trace, options.weights, options.unit, shelf)?;
-    let report = read_report_file(alloc, report, shelf)?;
-    let outcome = outcome_of(alloc, &input, &report)?;
-    Ok(outcome)
-}
-
-/// The line of the verdict on a report, and its status.
-fn outcome_of(alloc: Global, input: &Input, report: &Report) -> Result<Outcome, NoMemory>
-    requires count { length input.now.weights ≡ length input.now.table.ids }
-    requires weights { All (λ w. w ≤ MAX_WEIGHT) input.now.weights }
-    requires report { IsReport report.now }
-    ensures { IfOk result (λ o. (verdict : Verdict) × (o.status ≡ status_for verdict) ×
-        IsVerdict (instance_of input.now.table input.now.weights) input.now.table.ids report.now verdict ×
-        (o.text.items ≡ verdict_text input.now.table.ids report.now verdict)) }
-{
-    let verdict = verdict_on(alloc, &input.table, input.weights.as_slice(), report)?;
-    let text = verdict_text(alloc, &input.table, report, verdict)?;
+    let report = read_any_report_file(alloc, report, shelf)?;
+    let weights = input.weights.as_slice();
+    let judged = judge(alloc, &input.table, weights, options.slot_ms, &report)?;
     Ok(Outcome {
-        text,
-        status: status_of(verdict),
+        text: judged.line,
+        status: status_of(judged.yes),
     })
 }
 
-/// The status of a verdict whose line was written.
-fn status_of(verdict: Verdict) -> Status
-    ensures { result ≡ status_for verdict }
+/// The status of an answer whose line was written.
+fn status_of(yes: bool) -> Status
+    ensures { result ≡ status_for yes }
 {
-    match verdict {
-        Verdict::Yes => Status::Ok,
-        Verdict::No(_) => Status::No,
-    }
+    if yes { Status::Ok } else { Status::No }
 }

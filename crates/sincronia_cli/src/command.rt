@@ -9,11 +9,9 @@ ghost use Rattle.outside.specs.Rose.{Rose, RoseOnce};
 ghost use Rattle.rankers.specs.FactsTold.{FactsTold};
 ghost use Rattle.trace_reader.specs.declared.fault.TraceFault.{TraceFault};
 ghost use Rattle.weights.specs.declared.fault.WeightsFault.{WeightsFault};
-ghost use Rattle.cert_check.specs.declared.verdict.Reason.{Reason};
-ghost use Rattle.cert_check.specs.declared.verdict.Verdict.{Verdict};
 ghost use Rattle.served_plans.specs.Sent.{SendsAll, SendsPart, StopsShort};
 ghost use Rattle.sincronia_cli.specs.Causes.{FileFailed, FilesLimit, FilesReportFault, FilesTraceFault, FilesWeightsFault, HasCauseOf};
-ghost use Rattle.sincronia_cli.specs.Check.{WritesVerdict, WritesYes};
+ghost use Rattle.sincronia_cli.specs.Check.{WritesNo, WritesYes};
 ghost use Rattle.sincronia_cli.specs.Classes.{WritesClasses};
 ghost use Rattle.sincronia_cli.specs.Compare.{WritesComparison};
 ghost use Rattle.sincronia_cli.specs.Command.{Fits, IsCommand, IsOfFiles};
@@ -38,6 +36,7 @@ use crate::outcome::Outcome;
 use crate::planning::plan_trace;
 use crate::status::Status;
 use command_words::{Job, Words, WordsFault, read_words};
+use online_check::laws::yes_bounds_released_schedules;
 use outside::{Shelf, Sink, Wire, write_all};
 use rankers::Ranker;
 use std::alloc::Global;
@@ -55,9 +54,13 @@ use std::thread::Threads;
 ///   Narayan, Agarwal, Shmoys and Vahdat, SIGCOMM 2018.) The schedule was served: a hall registers all coflows in number
 ///   order, publishes their order, and runs until nothing is left, and so many agents as `--agents` says, from 1 to 64, and
 ///   else 4, send the units of its runs on the wires. The text is the same for any number of agents.
-/// - `check TRACE REPORT` reads a report of a plan of that trace, by whomever made, and writes one line: yes with its
-///   totals where all that it says is right, and else no with the first reason. `--weights` and `--unit` are as for
-///   `plan`. A yes says that the stated bound is at most the cost of every valid schedule.
+/// - `check TRACE REPORT` reads a report of a plan of that trace or of an online run, by whomever made, and writes one
+///   line: yes with its totals where all that it says is right, and else no with the first reason. The report is that of
+///   an online run where its first line is `sincronia online 2`. `--weights` and `--unit` are as for `plan`. A yes on a
+///   plan says that the stated bound is at most the cost of every valid schedule. A yes on an online run says that its
+///   schedule serves nobody before its arrival and has the stated cost, and that the stated total is at most the cost of
+///   every valid schedule that does so; a coflow arrives at its milliseconds over those of a slot, rounded up, and a slot
+///   has as many as `--slot-ms` says, and else 8. Of the orders that were published it says nothing.
 /// - `make SEED` makes a trace and weights from a number, plans and serves them as `plan` does, and writes a summary of
 ///   the plan, whose report is right. It reads no file.
 /// - `compare TRACE` asks the rankers of the bench for orders of the trace's coflows, one ranker after another, and
@@ -93,8 +96,8 @@ use std::thread::Threads;
 /// - `BadTrace`: the file is no trace. The fault is its first in reading order.
 /// - `BadWeights`: the trace has no fault, and the file is no weights of its coflows. The fault is the file's first in
 ///   reading order.
-/// - `BadReport`: trace and weights give a table within its limits, and the file is no report. The line is the first
-///   one that no text of a report has after the lines before it.
+/// - `BadReport`: trace and weights give a table within its limits, and the file is no report of the kind that its first
+///   line tells. The line is the first one that no text of such a report has after the lines before it.
 /// - `Limit`: a quantity of the files is outside its range, and nothing that is looked at before it is wrong. It does
 ///   not come for `make`.
 /// - `ReadFault`: a call to the shelf failed, and its count of faults rose. `count` is 1. The file is the trace, or the
@@ -127,8 +130,7 @@ pub fn sincronia<R: Threads + Wait + Sync, H: Shelf, K: Sink, W: Wire + Send>(
         result ≡ Status.Ok → WritesYes (H.told shelf.old) said (K.taken out.old) (K.taken out.new) }
     ensures no { result ≡ Status.No →
         (said : Said) × (trace report : List ℕ) × IsCommand (check_job trace report) (texts words.now) said ×
-        (reason : Reason) ×
-        WritesVerdict (H.told shelf.old) said (Verdict.No reason) (K.taken out.old) (K.taken out.new) }
+        WritesNo (H.told shelf.old) said (K.taken out.old) (K.taken out.new) }
     ensures make { (said : Said) (seed : ℕ) → IsCommand (make_job seed) (texts words.now) said → result ≡ Status.Ok →
         WritesMade (SendsAll W.runs wires.old.items wires.new.items) seed said.unit (K.taken out.old)
         (K.taken out.new) }
@@ -204,6 +206,8 @@ pub fn sincronia<R: Threads + Wait + Sync, H: Shelf, K: Sink, W: Wire + Send>(
     let Ok(()) = write_all(out, &outcome.text) else {
         return Status::WriteFault { count: 1 };
     };
+    // what a yes on an online run says of every schedule
+    yes_bounds_released_schedules();
     outcome.status
 }
 

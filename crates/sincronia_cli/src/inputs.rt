@@ -5,7 +5,9 @@ ghost use Rattle.coflow_units.specs.Trace.{IsTrace};
 ghost use Rattle.flow_table.specs.Table.{IsTable, IsTableOf};
 ghost use Rattle.outside.specs.declared.shelf.Place4.{Place4};
 ghost use Rattle.outside.specs.Shelf.{bytes_of};
-ghost use Rattle.sincronia_cli.specs.Check.{IsReportOf};
+ghost use Rattle.report.specs.Reading.{IsBadAt};
+ghost use Rattle.verdicts.specs.AnyReport.{IsAnyBadAt};
+ghost use Rattle.sincronia_cli.specs.Check.{IsAnyReportOf, IsReportOf};
 ghost use Rattle.sincronia_cli.specs.Ends.{CountsFault};
 ghost use Rattle.sincronia_cli.specs.FileCauses.{IsFileCause};
 ghost use Rattle.sincronia_cli.specs.InputCauses.{GiveTable, HasInputCause};
@@ -23,6 +25,7 @@ use outside::{Place4, ReadStop, Shelf, read_all};
 use report::{Report, ReportFault, read_report};
 use std::alloc::Global;
 use trace_reader::{TraceFault, read_trace};
+use verdicts::{AnyReport, read_any_report};
 use weights::{WeightsFault, read_weights};
 
 /// The flows of a trace, and the weight of each of its coflows.
@@ -118,7 +121,26 @@ fn equal_weights(alloc: Global, trace: &Trace) -> Result<Items<u64>, NoMemory>
     Ok(Items::from_vec(weights))
 }
 
-/// Reads the report under a name. The error is the status that says why there is none.
+/// Reads the report under a name, that of a plan or of an online run. The error is the status that says why there is none.
+pub(crate) fn read_any_report_file<H: Shelf>(
+    alloc: Global,
+    name: &str,
+    shelf: &mut H,
+) -> Result<AnyReport, Status>
+    ensures report { IfOk result (IsAnyReportOf (H.told shelf.old) name.now) }
+    ensures read_out { OnOk result (OfBoth (H.told shelf.old) (H.told shelf.new) (IsReadOut Place4.Report name.now)) }
+    ensures others { OfBoth (H.told shelf.old) (H.told shelf.new) (KeepsOthers Place4.Report) }
+    ensures keeps { KeepsFiles (H.told shelf.old) (H.told shelf.new) }
+    ensures counts { CountsFault (H.faults shelf.old) (H.faults shelf.new) result }
+    ensures cause { IfErr result (IsReportCause IsAnyBadAt (H.faults shelf.old) (H.faults shelf.new)
+        (H.told shelf.old) (H.told shelf.new) name.now) }
+{
+    let bytes = read_file(alloc, Place4::Report, name, MAX_REPORT, shelf)?;
+    let report = read_any_report(alloc, &bytes)?;
+    Ok(report)
+}
+
+/// Reads the report of a plan under a name. The error is the status that says why there is none.
 pub fn read_report_file<H: Shelf>(
     alloc: Global,
     name: &str,
@@ -129,8 +151,8 @@ pub fn read_report_file<H: Shelf>(
     ensures others { OfBoth (H.told shelf.old) (H.told shelf.new) (KeepsOthers Place4.Report) }
     ensures keeps { KeepsFiles (H.told shelf.old) (H.told shelf.new) }
     ensures counts { CountsFault (H.faults shelf.old) (H.faults shelf.new) result }
-    ensures cause { IfErr result
-        (IsReportCause (H.faults shelf.old) (H.faults shelf.new) (H.told shelf.old) (H.told shelf.new) name.now) }
+    ensures cause { IfErr result (IsReportCause IsBadAt (H.faults shelf.old) (H.faults shelf.new)
+        (H.told shelf.old) (H.told shelf.new) name.now) }
 {
     let bytes = read_file(alloc, Place4::Report, name, MAX_REPORT, shelf)?;
     let report = read_report(alloc, &bytes)?;

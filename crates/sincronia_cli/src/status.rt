@@ -23,7 +23,8 @@ pub enum Status {
     BadTrace(TraceFault),
     /// The file is no weights of the trace's coflows. The fault is the first in reading order, and one of form.
     BadWeights(WeightsFault),
-    /// The file is no report. No text of a report has this line, counted from 1, after the lines before it.
+    /// The file is no report of the kind that its first line tells. No text of such a report has this line, counted from 1,
+    /// after the lines before it.
     BadReport { line: u32 },
     /// A counted quantity is outside its range. The count is told as 2^64 - 1 where it is greater. Of the bytes of a text
     /// and of flows it is one more than the limit.

@@ -1,7 +1,8 @@
-use Rattle.std.proofs.Common.{Some, refl}
-use Rattle.sincronia_cli.proofs.CheckFacts.{checked_out, from_input, from_report, report_named}
+use Rattle.std.proofs.Common.{refl}
+use Rattle.report.specs.Reading.{IsBadAt, IsTextOf}
+use Rattle.sincronia_cli.proofs.CheckFacts.{checked_out, from_report, input_cause, report_before}
 use Rattle.sincronia_cli.proofs.ShelfFacts.{files_kept, passed_on}
-use Rattle.sincronia_cli.proofs.TurnFacts.{counts_on, input_in_turn, report_good, report_in_turn}
+use Rattle.sincronia_cli.proofs.TurnFacts.{counts_on, input_in_turn, report_in_turn, text_good}
 use Rattle.picture_cli.specs.Picture.{check_of}
 use Rattle.picture_cli.specs.Words.{said_by}
 use Rattle.picture_cli.proofs.files.read_files.Goals as goal
@@ -9,7 +10,7 @@ use Rattle.picture_cli.proofs.files.read_files.Goals as goal
 pub returns-in_err-input-clause-cause : goal.returns-in_err-input-clause-cause
 returns-in_err-input-clause-cause g c =
     passed_on c.from_residual.result c.in_err-input.field-0.0 _ c.from_residual.ensures.1
-    (from_input (g.H.Shelf.faults c.args.shelf.now) (g.H.Shelf.faults c.read_input.new.shelf) (g.H.Shelf.told c.args.shelf.now) (g.H.Shelf.told c.read_input.new.shelf)
+    (input_cause IsBadAt (g.H.Shelf.faults c.args.shelf.now) (g.H.Shelf.faults c.read_input.new.shelf) (g.H.Shelf.told c.args.shelf.now) (g.H.Shelf.told c.read_input.new.shelf)
     (check_of (said_by c.args.words)) c.in_err-input.field-0.0 c.in_err-input.ensures.cause)
 
 pub returns-in_err-input-clause-in_turn : goal.returns-in_err-input-clause-in_turn
@@ -21,7 +22,7 @@ returns-in_err-input-clause-in_turn g c =
 pub returns-in_err-report-clause-cause : goal.returns-in_err-report-clause-cause
 returns-in_err-report-clause-cause g c =
     passed_on c.from_residual-in_err-report.result c.in_err-report.field-0.0 _ c.from_residual-in_err-report.ensures.1
-    (from_report (g.H.Shelf.faults c.args.shelf.now) (g.H.Shelf.faults c.read_input.new.shelf) (g.H.Shelf.faults c.read_report_file.new.shelf)
+    (from_report IsBadAt (g.H.Shelf.faults c.args.shelf.now) (g.H.Shelf.faults c.read_input.new.shelf) (g.H.Shelf.faults c.read_report_file.new.shelf)
     (g.H.Shelf.told c.args.shelf.now) (g.H.Shelf.told c.read_input.new.shelf) (g.H.Shelf.told c.read_report_file.new.shelf) (check_of (said_by c.args.words))
     c.args.words.report.now c.in_err-report.field-0.0
     refl c.read_input.ensures.later c.read_input.ensures.keeps c.in_ok-input.ensures.table c.in_err-report.ensures.cause)
@@ -29,7 +30,8 @@ returns-in_err-report-clause-cause g c =
 pub returns-in_err-report-clause-in_turn : goal.returns-in_err-report-clause-in_turn
 returns-in_err-report-clause-in_turn g c =
     passed_on c.from_residual-in_err-report.result c.in_err-report.field-0.0 _ c.from_residual-in_err-report.ensures.1
-    (report_in_turn (g.H.Shelf.told c.args.shelf.now) (g.H.Shelf.told c.read_input.new.shelf) (g.H.Shelf.told c.read_report_file.new.shelf) (check_of (said_by c.args.words))
+    (report_in_turn IsBadAt (g.H.Shelf.told c.args.shelf.now) (g.H.Shelf.told c.read_input.new.shelf) (g.H.Shelf.told c.read_report_file.new.shelf)
+    (check_of (said_by c.args.words))
     c.args.words.report.now c.in_err-report.field-0.0 (g.H.Shelf.faults c.read_input.new.shelf) (g.H.Shelf.faults c.read_report_file.new.shelf)
     refl c.read_input.ensures.keeps c.in_ok-input.ensures.table c.in_ok-input.ensures.read_out c.read_report_file.ensures.others c.in_err-report.ensures.cause)
 
@@ -48,14 +50,14 @@ returns-clause-keeps g c = files_kept (g.H.Shelf.told c.args.shelf.now) (g.H.She
 
 pub returns-clause-report : goal.returns-clause-report
 returns-clause-report g c =
-    report_named (g.H.Shelf.told c.args.shelf.now) (g.H.Shelf.told c.read_input.new.shelf) (Some c.args.words.report.now) c.args.words.report.now c.in_ok-report.report refl
+    report_before (g.H.Shelf.told c.args.shelf.now) (g.H.Shelf.told c.read_input.new.shelf) c.args.words.report.now c.in_ok-report.report
     c.read_input.ensures.keeps c.in_ok-report.ensures.report
 
 pub returns-clause-good : goal.returns-clause-good
 returns-clause-good g c =
-    report_good (g.H.Shelf.told c.args.shelf.now) (g.H.Shelf.told c.read_input.new.shelf) (check_of (said_by c.args.words)) c.args.words.trace.now c.args.words.report.now
+    text_good IsTextOf (g.H.Shelf.told c.args.shelf.now) (g.H.Shelf.told c.read_input.new.shelf) (check_of (said_by c.args.words)) c.args.words.report.now
     c.in_ok-report.report refl
-    c.read_input.ensures.keeps c.in_ok-input.ensures.table c.in_ok-report.ensures.report
+    c.read_input.ensures.keeps c.in_ok-input.ensures.table c.in_ok-report.ensures.report.reads
 
 pub returns-clause-read_out : goal.returns-clause-read_out
 returns-clause-read_out g c =

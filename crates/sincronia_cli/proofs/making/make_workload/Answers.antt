@@ -1,4 +1,4 @@
-use Rattle.std.proofs.Common.{◌∙◌, inl, inr, refl, ap, Err}
+use Rattle.std.proofs.Common.{◌∙◌, inr, refl, ap, Err}
 use Rattle.sincronia_cli.specs.Causes.{HasMadeCause}
 use Rattle.sincronia_cli.proofs.MadePlan.{made_of, read_is_planned, read_is_sound}
 use Rattle.sincronia_cli.proofs.WireFacts.{plan_cause}

@@ -1,10 +1,9 @@
-use Rattle.std.proofs.Common.{◌≡◌, inl, inr, subst, sym, ap, Err}
+use Rattle.std.proofs.Common.{inl, inr, ap, Err}
 use Rattle.command_words.specs.Jobs.Job.{plan_job}
 use Rattle.command_words.specs.Words.{Said, said_with}
-use Rattle.served_plans.specs.Sent.{StopsShort}
 use Rattle.sincronia_cli.specs.Causes.{HasFilesCause}
-use Rattle.sincronia_cli.specs.Serving.{IsStatusOfPlan, IsWireCause, Serves}
-use Rattle.sincronia_cli.specs.Shelves.{OfBoth, ReadsOut}
+use Rattle.sincronia_cli.specs.Serving.{IsStatusOfPlan}
+use Rattle.sincronia_cli.specs.Shelves.{OfBoth}
 use Rattle.sincronia_cli.specs.Turns.{FilesInTurn}
 use Rattle.sincronia_cli.proofs.CheckFacts.{from_input}
 use Rattle.sincronia_cli.proofs.ShelfFacts.{passed_as, passed_on}

@@ -1,4 +1,4 @@
-use Rattle.std.proofs.Common.{◌≡◌, ℕ, IsErrAnd, List, ap, length, refl, sym, subst, ◌∙◌, Err, arith}
+use Rattle.std.proofs.Common.{◌≡◌, IsErrAnd, List, ap, length, sym, subst, ◌∙◌, Err, arith}
 use Rattle.coflow_units.proofs.Fronts.{written_back}
 use Rattle.flow_table.specs.Table.{instance_of}
 use Rattle.hall_plan.specs.declared.answer.PlanFault.TheVariants.{WireFault}
