@@ -1,10 +1,12 @@
 //! Agents of the ports on threads of their own.
 ghost use Rattle.std.specs.Prelude.{◌≡◌, ◌+◌, ◌<◌, ◌≤◌, ◌^◌, [], length, false};
 
+use crate::begun::board_of;
 use outside::{CountWire, MemWire};
 use port_agent::{Agent, Served};
 use port_board::{PortBoard, Poster, Settled};
-use std::test::*;
+use std::alloc::Global;
+use std::process::Abort;
 use std::thread::{Threads, join_mut};
 
 // One post of this length at port 0, served on one wire.
@@ -30,22 +32,25 @@ fn serve_once(
     (served, answer)
 }
 
+// A wire that does not accept the unit with this number.
+fn wire_of(rt: &impl Abort, alloc: Global, fail_at: u64) -> MemWire {
+    let Ok(wire) = MemWire::new(alloc, 4, Some(fail_at)) else {
+        panic!(rt; "no memory");
+    };
+    wire
+}
+
 #[test]
-fn what_a_wire_accepts_is_reported(rt: HostRuntime) -> Result<(), Fail> {
+fn what_a_wire_accepts_is_reported(rt: HostRuntime) {
     // the length, the unit that fails, and what is served: drawn, sent, short
     let rows = [(1, 1, (1, 0, 1)), (5, 3, (1, 2, 1)), (5, 9, (1, 5, 0))];
     for (length, fail_at, want) in rows {
-        let Ok((board, mut poster)) = PortBoard::new(rt.alloc(), 1) else {
-            panic!(&rt; "no memory");
-        };
-        let Ok(wire) = MemWire::new(rt.alloc(), 4, Some(fail_at)) else {
-            panic!(&rt; "no memory");
-        };
+        let (board, mut poster) = board_of(&rt, rt.alloc(), 1);
+        let wire = wire_of(&rt, rt.alloc(), fail_at);
         let (served, answer) = serve_once(&board, &mut poster, wire, length);
-        assert_eq!(rt; (served.drawn, served.sent, served.short), want);
-        assert_eq!(rt; answer, Settled::Sent(served.sent));
+        let have = (served.drawn, served.sent, served.short);
+        assert_eq!(rt; (have, answer), (want, Settled::Sent(want.1)));
     }
-    Ok(())
 }
 
 // A post at each port.
@@ -127,44 +132,83 @@ fn total(wires: &[CountWire; 64]) -> u64 {
     units
 }
 
-#[test]
-fn agents_on_threads_share_the_grants(rt: HostRuntime) -> Result<(), Fail> {
-    let handle = &rt;
-    for round in 1..=50u64 {
-        let Ok((board, mut poster)) = PortBoard::new(rt.alloc(), 64) else {
-            panic!(&rt; "no memory");
-        };
-        let mut first = Agent::new(board.agent(&mut poster));
-        let mut second = Agent::new(board.agent(&mut poster));
-        let mut third = Agent::new(board.agent(&mut poster));
-        post_all(&board, &mut poster, round);
-        let mut first_wires = [CountWire { sent: 0 }; 64];
-        let mut second_wires = [CountWire { sent: 0 }; 64];
-        let mut third_wires = [CountWire { sent: 0 }; 64];
-        let shared = &board;
-        let (served, others) = join_mut(
-            handle,
-            &mut || first.serve(shared, 0, &mut first_wires),
-            &mut || serve_both(
-                handle,
-                shared,
-                &mut second,
-                &mut third,
-                &mut second_wires,
-                &mut third_wires,
-            ),
-        );
-        board.back(&mut poster, first.into_seat());
-        board.back(&mut poster, second.into_seat());
-        board.back(&mut poster, third.into_seat());
-        assert_eq!(handle;
-            sent_otherwise(&first_wires, &second_wires, &third_wires, round),
-            None
-        );
-        assert_eq!(handle; settled_otherwise(&board, &mut poster, round), None);
-        assert_eq!(handle; served.drawn.saturating_add(others.0), 64);
-        assert_eq!(handle; served.sent.saturating_add(others.1), round * 64);
-        assert_eq!(handle; served.sent, total(&first_wires));
+// Three agents serve all ports, each on a thread: what the first one served, and how many grants the others drew, and how many units they sent.
+fn serve_all(
+    rt: &impl Threads,
+    board: &PortBoard,
+    one: &mut Agent,
+    two: &mut Agent,
+    three: &mut Agent,
+    wires: &mut [CountWire; 64],
+    others: (&mut [CountWire; 64], &mut [CountWire; 64]),
+) -> (Served, (u32, u64))
+    requires own { (one.old.at ≡ board.now.id) × (two.old.at ≡ board.now.id) × (three.old.at ≡ board.now.id) }
+    requires ports { 64 ≤ board.now.ports }
+    ensures own { (one.new.at ≡ one.old.at) × (two.new.at ≡ two.old.at) × (three.new.at ≡ three.old.at) }
+    ensures out { (one.new.view.out ≡ one.old.view.out) × (two.new.view.out ≡ two.old.view.out) ×
+        (three.new.view.out ≡ three.old.view.out) }
+{
+    let (two_wires, three_wires) = others;
+    join_mut(
+        rt,
+        &mut || one.serve(board, 0, wires),
+        &mut || serve_both(rt, board, two, three, two_wires, three_wires),
+    )
+}
+
+// What came of a round: the first ports that were sent or settled otherwise, how many grants were drawn and units sent, and whether the wires of the first agent have what it says.
+#[derive(Clone, Copy, Debug, PartialEq, Eq)]
+struct Round {
+    sent_otherwise: Option<usize>,
+    settled_otherwise: Option<u32>,
+    drawn: u32,
+    sent: u64,
+    first_is_right: bool,
+}
+
+// Three agents serve a post of this length at each of 64 ports, each on a thread.
+fn played(rt: &(impl Threads + Abort), alloc: Global, length: u64) -> Round
+    requires length { (1 ≤ length) × (length ≤ 50) }
+{
+    let (board, mut poster) = board_of(rt, alloc, 64);
+    let mut first = Agent::new(board.agent(&mut poster));
+    let mut second = Agent::new(board.agent(&mut poster));
+    let mut third = Agent::new(board.agent(&mut poster));
+    post_all(&board, &mut poster, length);
+    let mut wires = [CountWire { sent: 0 }; 64];
+    let mut second_wires = [CountWire { sent: 0 }; 64];
+    let mut third_wires = [CountWire { sent: 0 }; 64];
+    let (served, others) = serve_all(
+        rt,
+        &board,
+        &mut first,
+        &mut second,
+        &mut third,
+        &mut wires,
+        (&mut second_wires, &mut third_wires),
+    );
+    board.back(&mut poster, first.into_seat());
+    board.back(&mut poster, second.into_seat());
+    board.back(&mut poster, third.into_seat());
+    Round {
+        sent_otherwise: sent_otherwise(&wires, &second_wires, &third_wires, length),
+        settled_otherwise: settled_otherwise(&board, &mut poster, length),
+        drawn: served.drawn.saturating_add(others.0),
+        sent: served.sent.saturating_add(others.1),
+        first_is_right: served.sent == total(&wires),
     }
-    Ok(())
+}
+
+#[test]
+fn agents_on_threads_share_the_grants(rt: HostRuntime) {
+    for length in 1..=50u64 {
+        let want = Round {
+            sent_otherwise: None,
+            settled_otherwise: None,
+            drawn: 64,
+            sent: length * 64,
+            first_is_right: true,
+        };
+        assert_eq!(rt; played(&rt, rt.alloc(), length), want);
+    }
 }

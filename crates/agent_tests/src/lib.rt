@@ -5,4 +5,6 @@
 #[cfg(test)]
 mod agents;
 #[cfg(test)]
+mod begun;
+#[cfg(test)]
 mod posts;

@@ -2,8 +2,9 @@
 ghost use Rattle.std.specs.Prelude.{◌≡◌, ◌≤◌, [], Contains};
 ghost use Rattle.port_board.specs.declared.view.Grant.{Grant};
 
+use crate::begun::board_of;
 use port_board::{AgentSeat, Draw, PortBoard, Poster, Settled};
-use std::test::*;
+use std::process::Abort;
 
 // The word of a port whose grant of flow 0 in slot 1 is drawn.
 const DRAWN: u64 = 4611686018428436480;
@@ -14,6 +15,7 @@ enum Seen {
     Took(u64),
     Idle(u64),
     Missed(u64, u64),
+    Settled(Settled),
 }
 
 fn finish(board: &PortBoard, seat: &mut AgentSeat, draw: Draw) -> Seen
@@ -41,43 +43,65 @@ fn post_first(board: &PortBoard, poster: &mut Poster)
     board.post(poster, 0, 1, 0, 1);
 }
 
-#[test]
-fn one_of_two_agents_draws(rt: HostRuntime) -> Result<(), Fail> {
-    let Ok((board, mut poster)) = PortBoard::new(rt.alloc(), 2) else {
-        panic!(&rt; "no memory");
-    };
-    let mut first = board.agent(&mut poster);
-    let mut second = board.agent(&mut poster);
-    post_first(&board, &mut poster);
-    board.show(&mut poster, &mut first);
-    let one = board.draw(&mut first, 0);
-    let two = board.draw(&mut second, 0);
-    assert_eq!(rt; finish(&board, &mut second, two), Seen::Idle(DRAWN));
-    assert!(rt;
-        poster.posted(0) && !poster.posted(1),
-        "port 0 has an unsettled post"
-    );
-    assert_eq!(rt; board.settle(&mut poster, 0), Settled::Busy(DRAWN));
-    assert!(rt; poster.posted(0), "a busy post stays unsettled");
-    assert_eq!(rt; board.settle(&mut poster, 0), Settled::Busy(DRAWN));
-    assert_eq!(rt; finish(&board, &mut first, one), Seen::Took(1));
-    assert!(rt; poster.posted(0), "the post is still unsettled");
-    assert_eq!(rt; board.settle(&mut poster, 0), Settled::Sent(1));
-    assert!(rt; !poster.posted(0), "the post is settled");
-    assert_eq!(rt; poster.agents(), 2);
-    Ok(())
+// Settles the post at port 0, which is unsettled until then.
+fn settled(rt: &impl Abort, board: &PortBoard, poster: &mut Poster) -> Seen
+    requires own { poster.old.at ≡ board.now.id }
+    requires port { 1 ≤ board.now.ports }
+    ensures own { poster.new.at ≡ board.entry.now.id }
+{
+    assert!(rt; poster.posted(0), "the post is unsettled");
+    Seen::Settled(board.settle(poster, 0))
+}
+
+// Two agents draw the poster's first post, which is settled before the one that drew it reports, and after that.
+fn drawn_by_two(
+    rt: &impl Abort,
+    board: &PortBoard,
+    poster: &mut Poster,
+    first: &mut AgentSeat,
+    second: &mut AgentSeat,
+) -> [Seen; 5]
+    requires own { (poster.old.at ≡ board.now.id) × (first.old.at ≡ board.now.id) × (second.old.at ≡ board.now.id) }
+    requires none { (poster.old.view.posts ≡ []) × (1 ≤ board.now.ports) }
+{
+    post_first(board, poster);
+    board.show(poster, first);
+    let one = board.draw(first, 0);
+    let two = board.draw(second, 0);
+    [
+        finish(board, second, two),
+        settled(rt, board, poster),
+        settled(rt, board, poster),
+        finish(board, first, one),
+        settled(rt, board, poster),
+    ]
 }
 
 #[test]
-fn a_grant_that_nobody_draws_is_taken_back(rt: HostRuntime) -> Result<(), Fail> {
-    let Ok((board, mut poster)) = PortBoard::new(rt.alloc(), 2) else {
-        panic!(&rt; "no memory");
-    };
+fn one_of_two_agents_draws(rt: HostRuntime) {
+    let (board, mut poster) = board_of(&rt, rt.alloc(), 2);
+    let mut first = board.agent(&mut poster);
+    let mut second = board.agent(&mut poster);
+    let seen = drawn_by_two(&rt, &board, &mut poster, &mut first, &mut second);
+    let want = [
+        Seen::Idle(DRAWN),
+        Seen::Settled(Settled::Busy(DRAWN)),
+        Seen::Settled(Settled::Busy(DRAWN)),
+        Seen::Took(1),
+        Seen::Settled(Settled::Sent(1)),
+    ];
+    assert_eq!(rt; seen, want);
+    let left = (poster.posted(0), poster.posted(1), poster.agents());
+    assert_eq!(rt; left, (false, false, 2));
+}
+
+#[test]
+fn a_grant_that_nobody_draws_is_taken_back(rt: HostRuntime) {
+    let (board, mut poster) = board_of(&rt, rt.alloc(), 2);
     let mut seat = board.agent(&mut poster);
     post_first(&board, &mut poster);
-    assert!(rt; poster.posted(0), "the post is unsettled");
-    assert_eq!(rt; board.settle(&mut poster, 0), Settled::TakenBack);
+    let back = settled(&rt, &board, &mut poster);
     let late = board.draw(&mut seat, 0);
-    assert_eq!(rt; finish(&board, &mut seat, late), Seen::Idle(0));
-    Ok(())
+    let seen = [back, finish(&board, &mut seat, late)];
+    assert_eq!(rt; seen, [Seen::Settled(Settled::TakenBack), Seen::Idle(0)]);
 }
