@@ -16,3 +16,4 @@ pub mod PublishTells
 pub mod OwingTells
 pub mod TellSteps
 pub mod RunSteps
+pub mod KeptSteps

@@ -1,48 +1,31 @@
 -- The run that is opened is that of the state.
-use Rattle.std.proofs.Common.{◌≡◌, ℕ, ◌-◌, ◌<◌, ◌≤◌, Bool, true, false, List, [], ◌∷◌, ◌++◌, length, min, Option, Some, None, refl, sym, ap, subst, ◌∙◌, arith}
-use Rattle.std.proofs.Common.{true≢false, unwrap_or}
-use Rattle.std.specs.Prelude.{◌&&◌, not, slice_index, is_some, MatchOption}
+use Rattle.std.proofs.Common.{◌≡◌, ℕ, ◌-◌, ◌<◌, ◌≤◌, true, List, [], ◌∷◌, ◌++◌, min, refl, sym, ap, subst, ◌∙◌, arith}
+use Rattle.std.proofs.Common.{unwrap_or}
+use Rattle.std.specs.Prelude.{◌&&◌, not, slice_index}
 use Rattle.std.specs.List.{filter}
 use Rattle.coflow_units.specs.declared.fabric.Flow.{Flow}
+use Rattle.matching.specs.Matching.{listed_in}
 use Rattle.coflow_units.specs.Grants.{IsGrants}
 use Rattle.coflow_units.proofs.Sums.{all_of_members, any_in}
-use Rattle.greedy_rates.specs.Room.{TellsIngresses}
 use Rattle.coflow_units.proofs.Lists.{filter_same}
 use Rattle.journal.specs.declared.opening.Opening.{Opening}
 use Rattle.master_core.specs.declared.standing.Standing.{Standing}
 use Rattle.journal.specs.State.{has, owed, slot_end, State}
 use Rattle.master_core.specs.Attendance.{marked}
 use Rattle.journal.specs.Line.{line, newest}
-use Rattle.master_core.specs.Published.{ranked}
-use Rattle.master_core.specs.Waiting.{waits}
+use Rattle.master_core.specs.Waiting.{line_of, waits}
 use Rattle.journal.specs.Runs.{granted, least_of, slots_for}
-use Rattle.master_core.specs.OpenRun.{FitsRun, IsBegun, KeptRun}
-use Rattle.master_core.specs.Standing.{IsNoneOwing, TellsCoflows, TellsOpen, TellsOrders, is_owing}
+use Rattle.master_core.specs.OpenRun.{FitsRun, IsBegun, KeptRun, TellsIngresses}
+use Rattle.master_core.specs.Standing.{IsFit, Tells, TellsCoflows, TellsOpen, TellsOrders}
 use Rattle.master_core.proofs.Bools.{both}
 use Rattle.journal.proofs.Instances.{only_grants}
 use Rattle.master_core.proofs.LineSteps.{rank_zero}
 use Rattle.journal.proofs.Sound.{least_below, least_each}
 
--- ---- the first flow that owes
-
-pub some_owing : (flows : List Flow) (present : List Bool) (owes : List ℕ) (r : Option ℕ) →
-    MatchOption r (IsNoneOwing flows present owes (length flows)) (λ f. (f < length flows) × (is_owing flows present owes f ≡ true) × IsNoneOwing flows present owes f) →
-    is_some r ≡ true →
-    (f : ℕ) × (f < length flows) × (is_owing flows present owes f ≡ true) × IsNoneOwing flows present owes f
-some_owing flows present owes None m e = absurd (true≢false (sym e))
-some_owing flows present owes (Some f) m e = (f, m.0, m.1, m.2)
-
-pub none_owing : (flows : List Flow) (present : List Bool) (owes : List ℕ) (r : Option ℕ) →
-    MatchOption r (IsNoneOwing flows present owes (length flows)) (λ f. (f < length flows) × (is_owing flows present owes f ≡ true) × IsNoneOwing flows present owes f) →
-    is_some r ≡ false →
-    IsNoneOwing flows present owes (length flows)
-none_owing flows present owes None m e = m
-none_owing flows present owes (Some f) m e = absurd (true≢false e)
-
 -- ---- the line
 
 pub line_told : (s : State) (x : Standing) → TellsCoflows s.joined s.left x.roster → TellsOrders s.joined s.published x.orders →
-    filter (marked x.roster.present) (ranked x.orders.places) ++ filter (waits (ranked x.orders.places) x.roster.present) x.roster.joined ≡ line s
+    line_of x.roster x.orders ≡ line s
 line_told s x here orders =
     let stays = λ (c : ℕ). not (has s.left c) in
     let others = λ (c : ℕ). not (has (newest s) c) && not (has s.left c) in
@@ -68,6 +51,13 @@ grants_along flows line left owes got same h = record {
   free = h.free;
   rest = λ f lt in' some. h.rest f lt in' (subst (λ n. 0 < n) (sym (same f)) some);
 }
+
+-- where the kept grants are fresh, they are those of the line of the state
+pub kept_granted : (o : Opening) (s : State) (x : Standing) → IsFit o x → Tells o s x → x.runs.fresh ≡ true → IsGrants o.table.flows (line s) (owed o s) (listed_in x.runs.tables)
+kept_granted o s x fit t fresh =
+    let got = listed_in x.runs.tables in
+    subst (λ l. IsGrants o.table.flows l (owed o s) got) (line_told s x t.coflows t.orders)
+    (grants_along o.table.flows (line_of x.roster x.orders) (λ f. slice_index x.ledger.owed f) (owed o s) got t.owed (fit.grants fresh).grants)
 
 least_same : (a b : ℕ → ℕ) (fs : List ℕ) (n : ℕ) → ((f : ℕ) → a f ≡ b f) → least_of a fs n ≡ least_of b fs n
 least_same a b [] n same = refl
@@ -99,7 +89,7 @@ open_kept flows ports line' left first most slot slots got k h e f g = record {
   first = e;
   slots = f;
   granted = g;
-  at = subst (λ l. TellsIngresses flows l k.at) g h.at;
+  at = subst (λ l. TellsIngresses flows l k.tables) g h.at;
   noted_len = h.noted_len;
   noted = λ ingress lt. h.noted ingress;
 }

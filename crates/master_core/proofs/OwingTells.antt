@@ -1,8 +1,14 @@
 -- The flows of the line that owe units, as they are kept.
-use Rattle.std.proofs.Common.{◌≡◌, ℕ, ◌<◌, Bool, true, List, [], ◌∷◌, length, max, Option, Some, None, refl, sym, ap, ◌∙◌, arith}
+use Rattle.std.proofs.Common.{◌≡◌, ℕ, ◌<◌, Bool, true, inl, inr, List, [], ◌∷◌, Contains, length, max, Option, Some, None, refl, sym, ap, subst, ◌∙◌, arith}
 use Rattle.std.specs.Prelude.{◌==◌, ◌&&◌, if◌then◌else◌, nat_le, nat_lt, slice_index, slice_index_or}
-use Rattle.std.proofs.lemmas.Bool.{lt-ltb, ne_eqb}
+use Rattle.std.proofs.lemmas.Bool.{and_from, and_parts, cases_Bool, lt-ltb, ltb-true, ne_eqb}
+use Rattle.std.specs.List.{range_with_len}
+use Rattle.std.proofs.lemmas.List.Elements.{All-contains}
 use Rattle.coflow_units.specs.declared.fabric.Flow.{Flow}
+use Rattle.coflow_units.specs.Grants.{IsGrants}
+use Rattle.coflow_units.proofs.RunLengths.{some_grant}
+use Rattle.coflow_units.proofs.Sums.{any_has, any_in, nothing_in}
+use Rattle.coflow_units.proofs.Lists.{keeps, number_in}
 use Rattle.coflow_units.specs.Flows.{coflow_of}
 use Rattle.journal.specs.declared.command.Reply.{Reply}
 use Rattle.journal.specs.declared.command.Reply.TheVariants.{Late, NothingLeft, Opened, Skipped, StillOpen, StillOwed}
@@ -52,6 +58,38 @@ pub owing_first : (o : Opening) (s : State) (x : Standing) (f : ℕ) → IsFit o
 owing_first o s x f fit t lt here none =
     filter_first (λ f. has (line s) (coflow_of o.table.flows f) && nat_lt 0 (owed o s f)) (length o.table.flows) f lt (same_test o s x f fit t lt ∙ here)
     (λ g before. same_test o s x g fit t (omega (arith, before, lt)) ∙ none g before)
+
+-- where nothing is granted, no flow of the line owes
+pub ungranted_none : (o : Opening) (s : State) (got : List ℕ) → IsGrants o.table.flows (line s) (owed o s) got → got ≡ [] → owing o s ≡ []
+ungranted_none o s got h none =
+    let test = λ (f : ℕ). has (line s) (coflow_of o.table.flows f) && nat_lt 0 (owed o s f) in
+    filter_none test (length o.table.flows) (λ f lt. elim (cases_Bool (test f)) [
+      | inl t ↦
+          let (there, owes) = and_parts (has (line s) (coflow_of o.table.flows f)) _ t in
+          let (g, in') = some_grant o.table.flows (line s) (owed o s) got f h lt (any_has (line s) (coflow_of o.table.flows f) there) (ltb-true 0 (owed o s f) owes) in
+          absurd (nothing_in g (subst (λ l. Contains l g) none in'))
+      | inr e ↦ e
+    ])
+
+pub some_of : (l : List ℕ) → 0 < length l → (g : ℕ) × Contains l g
+some_of [] some = absurd (omega (arith, some))
+some_of (g ∷ rest) some = (g, (0, omega arith, refl))
+
+first_of : (l : List ℕ) (f : ℕ) → Contains l f → (g : ℕ) × (rest : List ℕ) × (l ≡ g ∷ rest)
+first_of [] f in' = absurd (nothing_in f in')
+first_of (g ∷ rest) f in' = (g, rest, refl)
+
+-- where a flow is granted, some flow of the line owes
+pub granted_owes : (o : Opening) (s : State) (got : List ℕ) → IsGrants o.table.flows (line s) (owed o s) got → 0 < length got →
+    (f : ℕ) × (rest : List ℕ) × (owing o s ≡ f ∷ rest)
+granted_owes o s got h some =
+    let (f, in') = some_of got some in
+    let n = length o.table.flows in
+    let lt = All-contains (λ (x : ℕ). x < n) got f h.flow in' in
+    let there = All-contains (λ x. Contains (line s) (coflow_of o.table.flows x)) got f h.in_line in' in
+    first_of (owing o s) f
+    (keeps (λ f. has (line s) (coflow_of o.table.flows f) && nat_lt 0 (owed o s f)) (range_with_len 0 n) f (number_in 0 n f (omega arith) (omega (arith, lt)))
+    (and_from (has (line s) (coflow_of o.table.flows f)) (nat_lt 0 (owed o s f)) (any_in (line s) (coflow_of o.table.flows f) there) (lt-ltb 0 (owed o s f) (h.owed f in'))))
 
 -- ---- a skip, and an opening, by who owes
 

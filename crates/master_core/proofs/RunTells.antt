@@ -1,11 +1,14 @@
 -- What the kept run tells of the open run, before and after a note.
-use Rattle.std.proofs.Common.{◌≡◌, ℕ, ◌<◌, ◌≤◌, Bool, List, ◌∷◌, length, min, inl, inr, Option, Some, None, refl, sym, ap, subst, ◌∙◌, arith, unwrap_or}
-use Rattle.std.specs.Prelude.{if◌then◌else◌, slice_set}
-use Rattle.std.proofs.lemmas.Bool.{cases_eq, cases_lt, eq-eqb, ne_eqb}
+use Rattle.std.proofs.Common.{◌≡◌, ℕ, ◌<◌, ◌≤◌, Bool, true, false, List, ◌∷◌, length, min, inl, inr, Option, Some, None, refl, sym, ap, subst, ◌∙◌, arith, unwrap_or}
+use Rattle.std.specs.Prelude.{◌&&◌, ◌↔◌, if◌then◌else◌, nat_lt, slice_set}
+use Rattle.std.proofs.lemmas.Bool.{cases_eq, cases_lt, eq-eqb, lt-ltb, ltb-true, ne_eqb}
 use Rattle.std.proofs.lemmas.List.{get_or-set_other, get_or-set_same, length-set}
 use Rattle.std.proofs.Math.ListN.{get_or-eq_default}
 use Rattle.coflow_units.specs.declared.fabric.Flow.{Flow}
-use Rattle.greedy_rates.specs.Room.{TellsIngresses, flow_at_ingress}
+use Rattle.matching.specs.declared.tables.Tables.{Tables}
+use Rattle.matching.specs.Matching.{IsGrantedAt, IsSettled, listed_in, ports_of}
+use Rattle.matching.specs.Ranking.{number_of}
+use Rattle.matching.specs.Sound.{rank_at}
 use Rattle.journal.specs.declared.command.Reply.{Reply}
 use Rattle.journal.specs.declared.command.Reply.TheVariants.{NotGranted, Noted}
 use Rattle.journal.specs.State.{Run}
@@ -13,7 +16,7 @@ use Rattle.journal.specs.Runs.{flow_at, grant_in, note_in, noted_at}
 use Rattle.journal.specs.Fold.{noted_in}
 use Rattle.journal.specs.Answer.{noted, on_run}
 use Rattle.journal.proofs.Ingresses.{grant_is, grant_none}
-use Rattle.master_core.specs.OpenRun.{FitsOpen, KeptRun, flow_kept, kept_note, note_at, note_of, number_noted, with_note}
+use Rattle.master_core.specs.OpenRun.{FitsOpen, KeptRun, TellsIngresses, flow_kept, granted_at, kept_note, note_at, note_of, number_noted, with_note}
 use Rattle.master_core.specs.Standing.{TellsOpen, TellsRun}
 
 -- ---- the grant at an ingress
@@ -23,8 +26,32 @@ same_option None None f g = refl
 same_option None (Some x) f g = absurd (g refl x refl)
 same_option (Some x) b f g = sym (f x refl)
 
-pub grant_told : (flows : List Flow) (granted : List ℕ) (at : List (Option ℕ)) (p : ℕ) → TellsIngresses flows granted at → grant_in flows granted p ≡ flow_at_ingress at p
-grant_told flows granted at p tells = same_option (grant_in flows granted p) (flow_at_ingress at p)
+some_at : (a b : Bool) (n f : ℕ) → (if a && b then Some n else None) ≡ Some f → (a ≡ true) × (b ≡ true) × (n ≡ f)
+some_at true true n f e = (refl, refl, cc)
+some_at true false n f e = absurd (cc)
+some_at false b n f e = absurd (cc)
+
+-- the flow at an ingress, by the tables
+granted_at_is : (m : Tables) (p f : ℕ) → (granted_at m p ≡ Some f) ↔ IsGrantedAt m p f
+granted_at_is m p f = (
+  λ e. let (low, known, is) = some_at (nat_lt p (ports_of m)) (nat_lt (rank_at m p) m.ranks.count) (number_of m.ranks (rank_at m p)) f e in
+      (ltb-true p (ports_of m) low, ltb-true (rank_at m p) m.ranks.count known, is),
+  λ h. ap (λ (b : Bool). if b && nat_lt (rank_at m p) m.ranks.count then Some (number_of m.ranks (rank_at m p)) else None) (lt-ltb p (ports_of m) h.0)
+      ∙ ap (λ (b : Bool). if b then Some (number_of m.ranks (rank_at m p)) else None) (lt-ltb (rank_at m p) m.ranks.count h.1) ∙ ap Some h.2,
+)
+
+pub at_told : (m : Tables) (p : ℕ) (r : Option ℕ) → ((f : ℕ) → (r ≡ Some f) ↔ IsGrantedAt m p f) → r ≡ granted_at m p
+at_told m p r at = same_option r (granted_at m p) (λ f e. (granted_at_is m p f).1 ((at f).0 e)) (λ none f e.
+    let some : r ≡ Some f = (at f).1 ((granted_at_is m p f).0 e) in absurd (cc))
+
+pub settled_at : (flows : List Flow) (line : List ℕ) (left : ℕ → ℕ) (m : Tables) → IsSettled flows line left m → TellsIngresses flows (listed_in m) m
+settled_at flows line left m h = λ p f. (
+  λ e. (h.at p f).0 ((granted_at_is m p f).0 e),
+  λ there. (granted_at_is m p f).1 ((h.at p f).1 there),
+)
+
+pub grant_told : (flows : List Flow) (granted : List ℕ) (m : Tables) (p : ℕ) → TellsIngresses flows granted m → grant_in flows granted p ≡ granted_at m p
+grant_told flows granted m p tells = same_option (grant_in flows granted p) (granted_at m p)
     (λ f e. (tells p f).1 (grant_is flows granted p f e))
     (λ none f e. let (in', is) = (tells p f).0 e in grant_none flows granted p f none in' is)
 
@@ -32,7 +59,7 @@ pub flow_told : (flows : List Flow) (ports : ℕ) (r : Option Run) (x : Option K
 flow_told flows ports None None p t = refl
 flow_told flows ports None (Some x) p t = absurd t
 flow_told flows ports (Some r) None p t = absurd t
-flow_told flows ports (Some r) (Some x) p t = sym (grant_told flows r.granted x.at p t.at)
+flow_told flows ports (Some r) (Some x) p t = sym (grant_told flows r.granted x.tables p t.at)
 
 -- ---- notes
 
@@ -56,8 +83,8 @@ short_told flows ports None None p units t = refl
 short_told flows ports None (Some x) p units t = absurd t
 short_told flows ports (Some r) None p units t = absurd t
 short_told flows ports (Some r) (Some x) p units t =
-    noted_by r p units (grant_in flows r.granted p) ∙ ap (λ g. reply_for p (note_of r.slots units g)) (grant_told flows r.granted x.at p t.at) ∙
-    ap (λ n. reply_for p (note_of n units (flow_at_ingress x.at p))) (sym t.slots)
+    noted_by r p units (grant_in flows r.granted p) ∙ ap (λ g. reply_for p (note_of r.slots units g)) (grant_told flows r.granted x.tables p t.at) ∙
+    ap (λ n. reply_for p (note_of n units (granted_at x.tables p))) (sym t.slots)
 
 note_kept : (flows : List Flow) (ports : ℕ) (r : Run) (x : KeptRun) (p n : ℕ) → p < ports → TellsOpen flows ports r x →
     TellsOpen flows ports (record r { notes = (p, n) ∷ r.notes }) (record x { noted = slice_set x.noted p (Some n) })
@@ -118,5 +145,5 @@ fits_noted flows owed (Some x) p units n h e = record {
   ascending = h.ascending;
   flow = h.flow;
   each_owes = h.each_owes;
-  notes = λ q. set_within x.noted x.slots p n q (note_within x.slots units n (flow_at_ingress x.at p) e) (h.notes q);
+  notes = λ q. set_within x.noted x.slots p n q (note_within x.slots units n (granted_at x.tables p) e) (h.notes q);
 }

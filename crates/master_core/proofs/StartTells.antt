@@ -7,6 +7,7 @@ use Rattle.coflow_units.specs.declared.plan.Place.{Place}
 use Rattle.coflow_units.specs.Flows.{units_of}
 use Rattle.coflow_units.proofs.Sums.{nothing_in}
 use Rattle.greedy_rates.specs.Owed.{IsOwed}
+use Rattle.matching.specs.Matching.{room_of}
 use Rattle.journal.specs.declared.opening.Opening.{Opening}
 use Rattle.master_core.specs.declared.standing.Standing.{Standing}
 use Rattle.master_core.specs.Attendance.{marked}
@@ -37,8 +38,8 @@ pub start_fits : (o : Opening) (x : Standing) → IsOpening o → length x.roste
     x.orders.ports ≡ o.table.ports → length o.table.ids + length o.table.ids ≤ x.line.room →
     x.ledger.units ≡ map (λ (f : Flow). f.units) o.table.flows → x.ledger.owed ≡ x.ledger.units → IsOwed o.table.flows x.owing →
     x.owing.left ≡ map (λ (f : Flow). f.units) o.table.flows → length x.owing.of_coflow ≡ length o.table.ids →
-    x.runs.ports ≡ o.table.ports → x.runs.run ≡ None → x.next ≡ 1 → IsFit o x
-start_fits o x ok present weights coflows ports room units owes owed left sums sides run next = record {
+    x.runs.ports ≡ o.table.ports → room_of x.runs.tables ≡ length o.table.flows → x.runs.fresh ≡ false → x.runs.run ≡ None → x.next ≡ 1 → IsFit o x
+start_fits o x ok present weights coflows ports room units owes owed left sums sides flows stale run next = record {
   opening = ok;
   present_len = present;
   weights_len = ap (λ (l : List ℕ). length l) weights ∙ ok.each_weight;
@@ -52,6 +53,8 @@ start_fits o x ok present weights coflows ports room units owes owed left sums s
   owing_left = left ∙ sym (owes ∙ units);
   owing_coflows = sums;
   runs_ports = sides;
+  runs_room = flows;
+  grants = λ e. absurd (true≢false (sym e ∙ stale));
   run = subst (FitsOpen o.table.flows x.ledger.owed) (sym run) tt;
   next_ends = omega (arith, next);
 }

@@ -1,28 +1,30 @@
 -- What is kept tells the state after a command, where it told the state before.
-use Rattle.std.proofs.Common.{◌≡◌, ℕ, ◌<◌, ◌≤◌, Bool, true, false, List, [], ◌∷◌, ◌++◌, length, get_or, inl, inr, None, sym, ap, subst, ◌∙◌, arith, true≢false}
+use Rattle.std.proofs.Common.{◌≡◌, ℕ, ◌<◌, ◌≤◌, Bool, true, false, List, [], ◌∷◌, ◌++◌, length, get_or, inl, inr, Option, None, sym, ap, subst, ◌∙◌, arith, true≢false}
 use Rattle.std.specs.declared.alloc.Global.{Global}
 use Rattle.std.specs.declared.vec.Vec.{Vec}
-use Rattle.std.specs.Prelude.{All, ◌^◌, ◌==◌, ◌&&◌, not, if◌then◌else◌, slice_set}
+use Rattle.std.specs.Prelude.{All, ◌^◌, ◌==◌, ◌&&◌, not, if◌then◌else◌, slice_index, slice_set}
 use Rattle.std.proofs.lemmas.Bool.{cases_Bool, cases_eq, eq-eqb, ne_eqb}
 use Rattle.std.proofs.lemmas.List.{get_or-set_other, get_or-set_same, length-set}
 use Rattle.std.proofs.lemmas.List.Elements.{All-set}
 use Rattle.coflow_units.specs.Flows.{Instance}
 use Rattle.grant_ledger.specs.Accounts.{Accounts}
 use Rattle.greedy_rates.specs.Owed.{IsOwed, Owed}
+use Rattle.matching.specs.Matching.{IsSettled, room_of}
+use Rattle.coflow_units.specs.declared.fabric.Flow.{Flow}
 use Rattle.journal.specs.declared.command.Command.{Command}
 use Rattle.journal.specs.declared.command.Command.TheVariants.{Pull}
 use Rattle.journal.specs.declared.command.Reply.{Reply}
 use Rattle.journal.specs.declared.opening.Opening.{Opening}
 use Rattle.master_core.specs.declared.standing.Standing.{Standing}
-use Rattle.journal.specs.State.{has, slot_end, State}
+use Rattle.journal.specs.State.{has, Run, slot_end, State}
 use Rattle.master_core.specs.Attendance.{Attendance, marked}
 use Rattle.journal.specs.Line.{newest_in, rank_in}
 use Rattle.master_core.specs.Published.{Published, ranked}
-use Rattle.master_core.specs.Waiting.{Waiting}
-use Rattle.master_core.specs.OpenRun.{FitsOpen, KeptRuns}
+use Rattle.master_core.specs.Waiting.{Waiting, line_of}
+use Rattle.master_core.specs.OpenRun.{FitsOpen, KeepsGrants, KeptRuns}
 use Rattle.journal.specs.Fold.{after}
 use Rattle.journal.specs.Answer.{answer, pulled}
-use Rattle.master_core.specs.Standing.{Follows, IsFit, Tells, TellsCoflows, TellsOrders}
+use Rattle.master_core.specs.Standing.{Follows, IsFit, Tells, TellsCoflows, TellsOrders, TellsRun}
 use Rattle.master_core.proofs.Bools.{and_false}
 use Rattle.master_core.proofs.Members.{has_last, has_more, has_other}
 
@@ -80,8 +82,16 @@ more_joined joined published x c h = record { version_is = h.version_is; places_
 
 -- ---- what fits
 
-pub fits_roster : (o : Opening) (x : Standing) (roster : Attendance) → IsFit o x → length roster.present ≡ length x.roster.present → IsFit o (record x { roster = roster })
-fits_roster o x roster h len = record {
+-- the kept grants are not those of the line any longer
+abbrev pub stale : KeptRuns → KeptRuns
+stale x = record x { fresh = false }
+
+pub stale_run : (flows : List Flow) (ports : ℕ) (r : Option Run) (x y : KeptRuns) → y ≡ stale x → TellsRun flows ports r x.run → TellsRun flows ports r y.run
+stale_run flows ports r x y is t = subst (λ (z : KeptRuns). TellsRun flows ports r z.run) (sym is) t
+
+pub fits_roster : (o : Opening) (x : Standing) (roster : Attendance) (runs : KeptRuns) → IsFit o x → length roster.present ≡ length x.roster.present → runs ≡ stale x.runs →
+    IsFit o (record x { roster = roster; runs = runs })
+fits_roster o x roster runs h len is = subst (λ r. IsFit o (record x { roster = roster; runs = r })) (sym is) (record {
   opening = h.opening;
   present_len = len ∙ h.present_len;
   weights_len = h.weights_len;
@@ -95,9 +105,11 @@ fits_roster o x roster h len = record {
   owing_left = h.owing_left;
   owing_coflows = h.owing_coflows;
   runs_ports = h.runs_ports;
+  runs_room = h.runs_room;
+  grants = λ e. absurd (true≢false (sym e));
   run = h.run;
   next_ends = h.next_ends;
-}
+})
 
 -- ---- answers
 
@@ -131,15 +143,21 @@ fits_weights o x weights c w h is le = record {
   owing_left = h.owing_left;
   owing_coflows = h.owing_coflows;
   runs_ports = h.runs_ports;
+  runs_room = h.runs_room;
+  grants = h.grants;
   run = h.run;
   next_ends = h.next_ends;
 }
 
 -- ---- runs
 
-pub fits_runs : (o : Opening) (x : Standing) (runs : KeptRuns) → IsFit o x → runs.ports ≡ x.runs.ports → FitsOpen o.table.flows x.ledger.owed runs.run →
-    IsFit o (record x { runs = runs })
-fits_runs o x runs h same fits = record {
+-- the kept grants are the same
+kept_along : (flows : List Flow) (line owed : List ℕ) (x y : KeptRuns) → y.tables ≡ x.tables → y.fresh ≡ x.fresh → KeepsGrants flows line owed x → KeepsGrants flows line owed y
+kept_along flows line owed x y tables fresh h = λ e. subst (IsSettled flows line (λ f. slice_index owed f)) (sym tables) (h (sym fresh ∙ e))
+
+pub fits_runs : (o : Opening) (x : Standing) (runs : KeptRuns) → IsFit o x → runs.ports ≡ x.runs.ports → runs.tables ≡ x.runs.tables → runs.fresh ≡ x.runs.fresh →
+    FitsOpen o.table.flows x.ledger.owed runs.run → IsFit o (record x { runs = runs })
+fits_runs o x runs h same tables fresh fits = record {
   opening = h.opening;
   present_len = h.present_len;
   weights_len = h.weights_len;
@@ -153,6 +171,8 @@ fits_runs o x runs h same fits = record {
   owing_left = h.owing_left;
   owing_coflows = h.owing_coflows;
   runs_ports = same ∙ h.runs_ports;
+  runs_room = ap room_of tables ∙ h.runs_room;
+  grants = kept_along o.table.flows (line_of x.roster x.orders) x.ledger.owed x.runs runs tables fresh h.grants;
   run = fits;
   next_ends = h.next_ends;
 }
@@ -172,15 +192,18 @@ fits_next o x next h le = record {
   owing_left = h.owing_left;
   owing_coflows = h.owing_coflows;
   runs_ports = h.runs_ports;
+  runs_room = h.runs_room;
+  grants = h.grants;
   run = h.run;
   next_ends = le;
 }
 
 pub fits_closed : (o : Opening) (x : Standing) (ledger : Accounts) (owing : Owed) (runs : KeptRuns) (next : ℕ) → IsFit o x → ledger.units ≡ x.ledger.units →
     IsOwed o.table.flows owing → owing.left ≡ ledger.owed →
-    length owing.of_coflow ≡ length x.owing.of_coflow → runs.ports ≡ x.runs.ports → runs.run ≡ None → next ≤ slot_end →
+    length owing.of_coflow ≡ length x.owing.of_coflow → runs.ports ≡ x.runs.ports → room_of runs.tables ≡ room_of x.runs.tables →
+    KeepsGrants o.table.flows (line_of x.roster x.orders) ledger.owed runs → runs.run ≡ None → next ≤ slot_end →
     IsFit o (record x { ledger = ledger; owing = owing; runs = runs; next = next })
-fits_closed o x ledger owing runs next h units owed left sums ports none le = record {
+fits_closed o x ledger owing runs next h units owed left sums ports room grants none le = record {
   opening = h.opening;
   present_len = h.present_len;
   weights_len = h.weights_len;
@@ -194,13 +217,16 @@ fits_closed o x ledger owing runs next h units owed left sums ports none le = re
   owing_left = left;
   owing_coflows = sums ∙ h.owing_coflows;
   runs_ports = ports ∙ h.runs_ports;
+  runs_room = room ∙ h.runs_room;
+  grants = grants;
   run = subst (FitsOpen o.table.flows ledger.owed) (sym none) tt;
   next_ends = le;
 }
 
-pub fits_opened : (o : Opening) (x : Standing) (line : Waiting) (runs : KeptRuns) → IsFit o x → line.room ≡ x.line.room → runs.ports ≡ x.runs.ports →
-    FitsOpen o.table.flows x.ledger.owed runs.run → IsFit o (record x { line = line; runs = runs })
-fits_opened o x line runs h room ports fits = record {
+pub fits_granted : (o : Opening) (x : Standing) (line : Waiting) (runs : KeptRuns) → IsFit o x → line.room ≡ x.line.room → runs.ports ≡ x.runs.ports →
+    room_of runs.tables ≡ room_of x.runs.tables → IsSettled o.table.flows (line_of x.roster x.orders) (λ f. slice_index x.ledger.owed f) runs.tables → runs.run ≡ None →
+    IsFit o (record x { line = line; runs = runs })
+fits_granted o x line runs h room ports flows settled none = record {
   opening = h.opening;
   present_len = h.present_len;
   weights_len = h.weights_len;
@@ -214,13 +240,15 @@ fits_opened o x line runs h room ports fits = record {
   owing_left = h.owing_left;
   owing_coflows = h.owing_coflows;
   runs_ports = ports ∙ h.runs_ports;
-  run = fits;
+  runs_room = flows ∙ h.runs_room;
+  grants = λ e. settled;
+  run = subst (FitsOpen o.table.flows x.ledger.owed) (sym none) tt;
   next_ends = h.next_ends;
 }
 
-pub fits_orders : (o : Opening) (x : Standing) (orders : Published) → IsFit o x → orders.coflows ≡ x.orders.coflows → orders.ports ≡ x.orders.ports →
-    IsFit o (record x { orders = orders })
-fits_orders o x orders h coflows ports = record {
+pub fits_orders : (o : Opening) (x : Standing) (orders : Published) (runs : KeptRuns) → IsFit o x → orders.coflows ≡ x.orders.coflows → orders.ports ≡ x.orders.ports → runs ≡ stale x.runs →
+    IsFit o (record x { orders = orders; runs = runs })
+fits_orders o x orders runs h coflows ports is = subst (λ r. IsFit o (record x { orders = orders; runs = r })) (sym is) (record {
   opening = h.opening;
   present_len = h.present_len;
   weights_len = h.weights_len;
@@ -234,6 +262,8 @@ fits_orders o x orders h coflows ports = record {
   owing_left = h.owing_left;
   owing_coflows = h.owing_coflows;
   runs_ports = h.runs_ports;
+  runs_room = h.runs_room;
+  grants = λ e. absurd (true≢false (sym e));
   run = h.run;
   next_ends = h.next_ends;
-}
+})

@@ -1,28 +1,49 @@
--- The open run as it is kept: with a table of the granted flow and of the note of each ingress.
-use Rattle.std.specs.Prelude.{◌≡◌, ℕ, ◌+◌, ◌-◌, ◌<◌, ◌≤◌, min, if◌then◌else◌, List, [], All, length, slice_index}
-use Rattle.std.specs.Prelude.{slice_set, Option, Some, None, unwrap_or}
+-- The open run as it is kept, with the granted flow and the note of each ingress, and the grants that are kept from run
+-- to run.
+use Rattle.std.specs.Prelude.{◌≡◌, ℕ, ◌+◌, ◌-◌, ◌<◌, ◌≤◌, ◌↔◌, ◌&&◌, Bool, true, min, nat_lt, if◌then◌else◌, List, []}
+use Rattle.std.specs.Prelude.{All, Contains, length, slice_index, slice_set, Option, Some, None, unwrap_or}
 use Rattle.std.specs.List.{slice_index_or}
 use Rattle.std.specs.List.Sorted.{IsStrictlyIncreasing}
 use Rattle.coflow_units.specs.declared.fabric.Flow.{Flow}
 use Rattle.coflow_units.specs.Flows.{ingress_of}
 use Rattle.coflow_units.specs.Grants.{IsGrants}
-use Rattle.greedy_rates.specs.Room.{TellsIngresses, flow_at_ingress}
 use Rattle.journal.specs.State.{has, slot_end}
 use Rattle.journal.specs.Runs.{least_of}
+use Rattle.matching.specs.declared.tables.Tables.{Tables}
+use Rattle.matching.specs.Matching.{IsSettled, ports_of}
+use Rattle.matching.specs.Ranking.{number_of}
+use Rattle.matching.specs.Sound.{rank_at}
 
--- the first slot, how many slots there are, the granted flows, and for each ingress the granted flow there and what was
--- noted last
+-- the flow that is granted at an ingress
+abbrev pub granted_at : Tables → ℕ → Option ℕ
+granted_at m ingress =
+    if nat_lt ingress (ports_of m) && nat_lt (rank_at m ingress) m.ranks.count
+    then Some (number_of m.ranks (rank_at m ingress)) else None
+
+-- the flow at an ingress is the granted one that begins there
+abbrev pub TellsIngresses : List Flow → List ℕ → Tables → Type 0
+TellsIngresses flows granted m = (ingress f : ℕ) →
+    (granted_at m ingress ≡ Some f) ↔ (Contains granted f × (ingress_of flows f ≡ ingress))
+
+-- the first slot, how many slots there are, the granted flows with their tables, and for each ingress what was noted
+-- last
 pub record KeptRun : Type 0 where
   pub first : ℕ
   pub slots : ℕ
   pub granted : List ℕ
-  pub at : List (Option ℕ)
+  pub tables : Tables
   pub noted : List (Option ℕ)
 
--- the number of ports on each side, and the open run
+-- the number of ports on each side, the tables of the grants that are kept, whether these are fresh, and the open run
 pub record KeptRuns : Type 0 where
   pub ports : ℕ
+  pub tables : Tables
+  pub fresh : Bool
   pub run : Option KeptRun
+
+-- where the kept grants are fresh, they are those of the line and of these units that are owed
+abbrev pub KeepsGrants : List Flow → List ℕ → List ℕ → KeptRuns → Type 0
+KeepsGrants flows line owed x = x.fresh ≡ true → IsSettled flows line (λ f. slice_index owed f) x.tables
 
 -- what was noted last at an ingress
 abbrev pub note_at : List (Option ℕ) → ℕ → Option ℕ
@@ -35,14 +56,14 @@ pub record IsBegun (flows : List Flow) (ports : ℕ) (line : List ℕ) (left : �
   pub first_is : r.first ≡ first
   pub slots_is : r.slots ≡ least_of left r.granted (min most (slot_end - first))
   pub grants : IsGrants flows line left r.granted
-  pub at : TellsIngresses flows r.granted r.at
+  pub at : TellsIngresses flows r.granted r.tables
   pub noted_len : length r.noted ≡ ports
   pub noted : (ingress : ℕ) → note_at r.noted ingress ≡ None
 
 -- the granted flow at an ingress, where a run is open
 abbrev pub flow_kept : Option KeptRun → ℕ → Option ℕ
 flow_kept None ingress = None
-flow_kept (Some r) ingress = flow_at_ingress r.at ingress
+flow_kept (Some r) ingress = granted_at r.tables ingress
 
 -- the granted flows, where a run is open
 abbrev pub flows_kept : Option KeptRun → List ℕ
@@ -62,7 +83,7 @@ note_of slots units (Some flow) = Some (min units slots)
 -- what is noted at an ingress, where it has a grant in the open run
 abbrev pub number_noted : Option KeptRun → ℕ → ℕ → Option ℕ
 number_noted None ingress units = None
-number_noted (Some r) ingress units = note_of r.slots units (flow_at_ingress r.at ingress)
+number_noted (Some r) ingress units = note_of r.slots units (granted_at r.tables ingress)
 
 -- the run with a note
 abbrev pub with_note : Option KeptRun → ℕ → Option ℕ → Option KeptRun

@@ -5,7 +5,6 @@ use Rattle.coflow_units.specs.declared.limits.TheConstants.{MAX_WEIGHT}
 use Rattle.coflow_units.specs.declared.fabric.Flow.{Flow}
 use Rattle.coflow_units.specs.Flows.{Instance, coflow_of}
 use Rattle.greedy_rates.specs.Owed.{IsOwed}
-use Rattle.greedy_rates.specs.Room.{TellsIngresses}
 use Rattle.journal.specs.declared.command.Command.{Command}
 use Rattle.journal.specs.declared.command.Reply.{Reply}
 use Rattle.journal.specs.declared.opening.Opening.{Opening}
@@ -14,7 +13,9 @@ use Rattle.journal.specs.State.{has, IsOpening, owed, Run, slot_end, State}
 use Rattle.master_core.specs.Attendance.{Attendance, marked}
 use Rattle.journal.specs.Line.{newest_in}
 use Rattle.master_core.specs.Published.{Published, TellsPlaces, ranked}
-use Rattle.master_core.specs.OpenRun.{FitsOpen, KeptRun, note_at}
+use Rattle.master_core.specs.OpenRun.{FitsOpen, KeepsGrants, KeptRun, TellsIngresses, note_at}
+use Rattle.matching.specs.Matching.{room_of}
+use Rattle.master_core.specs.Waiting.{line_of}
 use Rattle.journal.specs.Runs.{note_in}
 use Rattle.journal.specs.Fold.{after}
 use Rattle.journal.specs.Answer.{answer}
@@ -37,7 +38,7 @@ pub record TellsOpen (flows : List Flow) (ports : ℕ) (r : Run) (x : KeptRun) :
   pub first : x.first ≡ r.first
   pub slots : x.slots ≡ r.slots
   pub granted : x.granted ≡ r.granted
-  pub at : TellsIngresses flows r.granted x.at
+  pub at : TellsIngresses flows r.granted x.tables
   pub noted_len : length x.noted ≡ ports
   pub noted : (ingress : ℕ) → ingress < ports → note_at x.noted ingress ≡ note_in r.notes ingress
 
@@ -72,8 +73,8 @@ pub record Tells (o : Opening) (s : State) (x : Standing) : Type 0 where
   pub run : TellsRun o.table.flows o.table.ports s.run x.runs.run
   pub next : x.next ≡ s.next
 
--- what is kept has the sizes of the opening and numbers within their limits, and the sums of what is owed are those of
--- its flows and of the ledger
+-- What is kept has the sizes of the opening and numbers within their limits, and the sums of what is owed are those of
+-- its flows and of the ledger. Where the kept grants are fresh, they are those of the line and of the ledger.
 pub record IsFit (o : Opening) (x : Standing) : Type 0 where
   pub opening : IsOpening o
   pub present_len : length x.roster.present ≡ length o.table.ids
@@ -88,6 +89,8 @@ pub record IsFit (o : Opening) (x : Standing) : Type 0 where
   pub owing_left : x.owing.left ≡ x.ledger.owed
   pub owing_coflows : length x.owing.of_coflow ≡ length o.table.ids
   pub runs_ports : x.runs.ports ≡ o.table.ports
+  pub runs_room : room_of x.runs.tables ≡ length o.table.flows
+  pub grants : KeepsGrants o.table.flows (line_of x.roster x.orders) x.ledger.owed x.runs
   pub run : FitsOpen o.table.flows x.ledger.owed x.runs.run
   pub next_ends : x.next ≤ slot_end
 

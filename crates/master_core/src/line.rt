@@ -6,7 +6,7 @@ ghost use Rattle.coflow_units.specs.Flows.{IsDistinct};
 ghost use Rattle.journal.specs.State.{has};
 ghost use Rattle.master_core.specs.Attendance.{marked};
 ghost use Rattle.master_core.specs.Published.{ranked};
-ghost use Rattle.master_core.specs.Waiting.{waits};
+ghost use Rattle.master_core.specs.Waiting.{line_of, waits};
 
 use crate::orders::Orders;
 use crate::roster::Roster;
@@ -44,8 +44,7 @@ impl Line {
     pub fn fill(&mut self, roster: &Roster, orders: &Orders)
         requires coflows { length roster.now.present ≡ orders.now.coflows }
         requires room { orders.now.coflows + orders.now.coflows ≤ self.old.room }
-        ensures line { self.new.coflows ≡ filter (marked roster.now.present) (ranked orders.now.places)
-            ++ filter (waits (ranked orders.now.places) roster.now.present) roster.now.joined }
+        ensures line { self.new.coflows ≡ line_of roster.now orders.now }
         ensures once { IsDistinct self.new.coflows }
         ensures coflow { All (λ c. c < length roster.now.present) self.new.coflows }
         ensures all { (coflow : ℕ) → marked roster.now.present coflow ≡ true → has self.new.coflows coflow ≡ true }

@@ -1,17 +1,19 @@
-//! The open run, with its grants and its notes.
-ghost use Rattle.std.specs.Prelude.{◌≡◌, ℕ, ◌+◌, ◌-◌, ◌^◌, ◌<◌, ◌≤◌, None, Some, All, Contains, IfOk, MatchOption, length, slice_index, unwrap_or};
+//! The grants that are kept from run to run, and the open run with its notes.
+ghost use Rattle.std.specs.Prelude.{◌≡◌, ℕ, ◌+◌, ◌-◌, ◌^◌, ◌<◌, ◌≤◌, List, [], true, false, None, Some, All, IfOk, IsTrue, MatchOption, length, slice_index, unwrap_or};
 ghost use Rattle.std.specs.List.Sorted.{IsStrictlyIncreasing};
 ghost use Rattle.coflow_units.specs.declared.fabric.Flow.{Flow};
-ghost use Rattle.coflow_units.specs.Flows.{IsDistinct, coflow_of};
+ghost use Rattle.coflow_units.specs.Flows.{IsDistinct};
 ghost use Rattle.flow_table.specs.Table.{IsTable};
 ghost use Rattle.greedy_rates.specs.Owed.{IsOwed};
 ghost use Rattle.journal.specs.State.{slot_end};
-ghost use Rattle.master_core.specs.OpenRun.{FitsOpen, IsBegun, KeptRun, credit_of, flow_kept, flows_kept, kept_credit, kept_note, note_at, number_noted, with_note};
+ghost use Rattle.matching.specs.Matching.{IsSettled, listed_in, room_of};
+ghost use Rattle.master_core.specs.OpenRun.{FitsOpen, IsBegun, KeepsGrants, KeptRun, credit_of, flow_kept, flows_kept, kept_credit, kept_note, note_at, number_noted, with_note};
 
 use coflow_units::{Flow, MAX_SLOT, NoMemory};
 use flow_table::Table;
 use grant_ledger::Ledger;
-use greedy_rates::{Owing, Scratch, grants_owed};
+use greedy_rates::Owing;
+use matching::Matching;
 use std::alloc::Global;
 use std::marker::Model;
 
@@ -23,42 +25,97 @@ pub struct OpenRun {
     pub count: u32,
 }
 
-/// The open run, where there is one, and the room for the grants and the notes of runs.
+/// The grants that are kept from run to run, and the open run, where there is one, with the room for its notes. An open run grants the flows that are kept.
 ///
-/// Contracts see `Runs` as the number of ports on each side, and the open run with its grants and notes.
+/// Contracts see `Runs` as the number of ports on each side, the tables of the kept grants, whether these are fresh, and the open run with its grants and notes.
 #[derive(Drop)]
 pub struct Runs {
-    scratch: Scratch,
+    grants: Matching,
+    /// Whether the kept grants are those of the line and of the units that are owed now. Where they are not, they are made anew before the next run.
+    fresh: bool,
     /// For each ingress what was noted last in the open run.
     noted: Vec<Option<u64>>,
+    /// Whether something was noted since the notes were cleared.
+    has_notes: bool,
     current: Option<OpenRun>,
 }
 
 impl Model for Runs {
     ghost use Rattle.std.specs.Prelude.{◌≡◌, length};
-    ghost use Rattle.master_core.specs.KeptRuns.{KeepsCount, kept_run};
+    ghost use Rattle.matching.specs.Matching.{ports_of};
+    ghost use Rattle.master_core.specs.KeptRuns.{AreRuns, kept_run};
     ghost use Rattle.master_core.specs.OpenRun.{KeptRuns};
 
     ghost Value = { KeptRuns };
 
-    ghost view = { λ s. record { ports = s.scratch.ports; run = kept_run s.scratch s.noted.items s.current } };
+    ghost view = { λ s. record {
+      ports = ports_of s.grants;
+      tables = s.grants;
+      fresh = s.fresh;
+      run = kept_run s.grants s.noted.items s.current;
+    } };
 
-    ghost invariant = { λ s. (length s.noted.items ≡ s.scratch.ports) × KeepsCount s.scratch s.current };
+    ghost invariant = { λ s. AreRuns s.grants s.noted.items s.has_notes s.current };
 }
 
 impl Runs {
-    /// Takes the room for runs over so many ports on each side. No run is open. The error is want of memory.
-    pub fn new(alloc: Global, ports: u32) -> Result<Runs, NoMemory>
-        ensures ports { IfOk result (λ r. r.ports ≡ ports) }
+    /// Takes the room for runs of a table's flows. Nothing is granted, and no run is open. The error is want of memory.
+    pub fn new(alloc: Global, table: &Table) -> Result<Runs, NoMemory>
+        ensures ports { IfOk result (λ r. r.ports ≡ table.now.ports) }
+        ensures room { IfOk result (λ r. room_of r.tables ≡ length table.now.flows) }
+        ensures stale { IfOk result (λ r. r.fresh ≡ false) }
         ensures run { IfOk result (λ r. r.run ≡ None) }
     {
-        let scratch = Scratch::new(alloc, ports)?;
+        let ports = table.ports();
+        let grants = Matching::with_room(alloc, table.flows().len() as u32, ports)?;
         let noted = vec![in alloc; None; ports as usize]?;
         Ok(Runs {
-            scratch,
+            grants,
+            fresh: false,
             noted,
+            has_notes: false,
             current: None,
         })
+    }
+
+    /// Whether the kept grants are those of the line and of the units that are owed now.
+    pub fn is_fresh(&self) -> bool
+        ensures { result ≡ self.now.fresh }
+    {
+        self.fresh
+    }
+
+    /// The kept grants are not those of the line any longer. An open run keeps its own.
+    pub fn set_stale(&mut self)
+        ensures { self.new ≡ record self.old { fresh = false } }
+    {
+        self.fresh = false;
+    }
+
+    /// Makes the grants anew, of a line of coflows and the units that each flow owes. No run is open.
+    pub fn grant_anew(&mut self, table: &Table, line: &[u32], owed: &[u64])
+        requires closed { self.old.run ≡ None }
+        requires ports { self.old.ports ≡ table.now.ports }
+        requires room { room_of self.old.tables ≡ length table.now.flows }
+        requires once { IsDistinct line.now }
+        requires coflow { All (λ c. c < length table.now.ids) line.now }
+        requires owed_len { length owed.now ≡ length table.now.flows }
+        ensures settled { IsSettled table.now.flows line.now (λ f. slice_index owed.now f) self.new.tables }
+        ensures fresh { self.new.fresh ≡ true }
+        ensures closed { self.new.run ≡ None }
+        ensures ports { self.new.ports ≡ self.old.ports }
+        ensures room { room_of self.new.tables ≡ room_of self.old.tables }
+    {
+        self.grants.begin(table.flows(), table.starts(), line, owed);
+        self.fresh = true;
+    }
+
+    /// Whether the kept grants are of no flow.
+    pub fn grants_nothing(&self) -> bool
+        ensures none { IsTrue result → listed_in self.now.tables ≡ [] }
+        ensures some { result ≡ false → 0 < length (listed_in self.now.tables) }
+    {
+        self.grants.count() == 0
     }
 
     /// The open run; none where no run is open.
@@ -74,7 +131,7 @@ impl Runs {
         ensures { result ≡ flow_kept self.now.run ingress }
     {
         match self.current {
-            Some(_) => self.scratch.at(ingress),
+            Some(_) => self.grants.at(ingress),
             None => None,
         }
     }
@@ -84,7 +141,7 @@ impl Runs {
         ensures { result.now ≡ flows_kept self.now.run }
     {
         match self.current {
-            Some(_) => self.scratch.flows(),
+            Some(_) => self.grants.flows(),
             None => &[],
         }
     }
@@ -100,40 +157,25 @@ impl Runs {
         }
     }
 
-    /// Opens a run at slot `first`: it grants the flows of the slot for the line and the units left, for at most so many slots. Some flow of the line has units left.
-    pub fn begin(
-        &mut self,
-        table: &Table,
-        line: &[u32],
-        owing: &Owing,
-        first: u64,
-        most: u64,
-    ) -> OpenRun
-        requires ports { self.old.ports ≡ table.now.ports }
-        requires once { IsDistinct line.now }
-        requires coflow { All (λ c. c < length table.now.ids) line.now }
-        requires owed { IsOwed table.now.flows owing.now }
-        requires sums { length owing.now.of_coflow ≡ length table.now.ids }
-        requires some { (f : ℕ) × (f < length table.now.flows) × Contains line.now (coflow_of table.now.flows f) ×
-            (0 < slice_index owing.now.left f) }
+    /// Opens a run at slot `first` with the grants that are kept, for at most so many slots. Some flow is granted.
+    pub fn begin(&mut self, first: u64, most: u64) -> OpenRun
+        requires some { 0 < length (listed_in self.old.tables) }
         requires in_time { first < slot_end }
         ensures ports { self.new.ports ≡ self.old.ports }
+        ensures tables { self.new.tables ≡ self.old.tables }
+        ensures fresh { self.new.fresh ≡ self.old.fresh }
         ensures begun { (r : KeptRun) × (self.new.run ≡ Some r) ×
-            IsBegun table.now.flows self.old.ports line.now (λ f. slice_index owing.now.left f) first most r
+            ((flows : List Flow) (line : List ℕ) (left : ℕ → ℕ) → IsSettled flows line left self.old.tables →
+            IsBegun flows self.old.ports line left first most r)
             × (result.first ≡ r.first) × (result.slots ≡ r.slots) × (result.count ≡ length r.granted) }
     {
-        let granted = grants_owed(
-            &mut self.scratch,
-            table.flows(),
-            table.starts(),
-            line,
-            owing,
-        );
-        self.noted.fill(None);
+        clear_notes(&mut self.noted, self.has_notes);
+        self.has_notes = false;
+        let least = self.grants.least_left();
         let run = OpenRun {
             first,
-            slots: granted.length.min(most).min(MAX_SLOT + 1 - first),
-            count: granted.count,
+            slots: least.min(most).min(MAX_SLOT + 1 - first),
+            count: self.grants.count(),
         };
         self.current = Some(run);
         run
@@ -146,20 +188,23 @@ impl Runs {
         ensures noted { result ≡ number_noted self.old.run ingress units }
         ensures run { self.new.run ≡ with_note self.old.run ingress result }
         ensures ports { self.new.ports ≡ self.old.ports }
+        ensures tables { self.new.tables ≡ self.old.tables }
+        ensures fresh { self.new.fresh ≡ self.old.fresh }
     {
         let Some(run) = self.current else {
             return None;
         };
-        if self.scratch.at(ingress).is_none() {
+        if self.grants.at(ingress).is_none() {
             return None;
         }
         let number = units.min(run.slots);
         self.noted[ingress as usize] = Some(number);
+        self.has_notes = true;
         Some(number)
     }
 
     /// Closes the open run: each granted flow is credited with the number noted at its ingress, or with a unit for each slot. None comes exactly where no run is open.
-    /// The sums of what is owed stay those of the ledger.
+    /// The sums of what is owed stay those of the ledger. The kept grants lose the credited units and are repaired; where something was noted, they are stale instead.
     pub fn end(&mut self, flows: &[Flow], ledger: &mut Ledger, owing: &mut Owing) -> Option<OpenRun>
         requires fits { FitsOpen flows.now ledger.old.owed self.old.run }
         requires ingress_in_range { All (λ (x : Flow). x.ingress < self.old.ports) flows.now }
@@ -175,6 +220,9 @@ impl Runs {
         ensures owed { IsOwed flows.now owing.new }
         ensures left { owing.new.left ≡ ledger.new.owed }
         ensures sums { length owing.new.of_coflow ≡ length owing.old.of_coflow }
+        ensures room { room_of self.new.tables ≡ room_of self.old.tables }
+        ensures grants { (line : List ℕ) → KeepsGrants flows.now line ledger.old.owed self.old →
+            KeepsGrants flows.now line ledger.new.owed self.new }
     {
         let Some(run) = self.current else {
             return None;
@@ -183,13 +231,31 @@ impl Runs {
             ledger,
             owing,
             flows,
-            self.scratch.flows(),
+            self.grants.flows(),
             &self.noted,
             run.slots,
         );
         self.current = None;
+        if self.has_notes {
+            self.fresh = false;
+            return Some(run);
+        }
+        self.grants.take_run(run.slots);
+        self.grants.repair();
         Some(run)
     }
+}
+
+/// Nothing is noted at an ingress any longer. Where no note was made, there is nothing to clear.
+fn clear_notes(noted: &mut [Option<u64>], has_notes: bool)
+    requires quiet { has_notes ≡ false → (ingress : ℕ) → note_at noted.old ingress ≡ None }
+    ensures len { length noted.new ≡ length noted.old }
+    ensures none { (ingress : ℕ) → note_at noted.new ingress ≡ None }
+{
+    if !has_notes {
+        return;
+    }
+    noted.fill(None);
 }
 
 /// Credits each granted flow with the number noted at its ingress, or with a unit for each slot, in the ledger and in the sums of what is owed.

@@ -1,11 +1,12 @@
 //! What a master keeps beside its journal, so as not to read it again, and how each command is carried out on it.
-ghost use Rattle.std.specs.Prelude.{◌≡◌, ℕ, ◌+◌, ◌^◌, ◌<◌, ◌≤◌, false, [], None, IfOk, length, map};
+ghost use Rattle.std.specs.Prelude.{◌≡◌, ℕ, ◌+◌, ◌^◌, ◌<◌, ◌≤◌, true, false, [], None, IfOk, length, map};
 ghost use Rattle.coflow_units.specs.declared.limits.TheConstants.{MAX_COFLOWS, MAX_PORTS, MAX_WEIGHT};
 ghost use Rattle.coflow_units.specs.declared.fabric.Flow.{Flow};
 ghost use Rattle.greedy_rates.specs.Owed.{IsOwed};
-ghost use Rattle.journal.specs.State.{IsOpening};
+ghost use Rattle.journal.specs.State.{IsOpening, State};
 ghost use Rattle.journal.specs.Fold.{start};
 ghost use Rattle.journal.specs.Answer.{IsInRange};
+ghost use Rattle.matching.specs.Matching.{room_of};
 ghost use Rattle.master_core.specs.Attendance.{marked};
 ghost use Rattle.master_core.specs.Standing.{Follows, IsFit, Tells};
 ghost use Rattle.journal.specs.declared.command.Command.TheVariants.{Register, Withdraw, Publish, Pull, Open, Short, Close, Skip, Reweigh};
@@ -112,6 +113,7 @@ impl Standing {
             return Reply::Already;
         }
         self.roster.join(coflow);
+        self.runs.set_stale();
         Reply::Joined
     }
 
@@ -124,6 +126,7 @@ impl Standing {
             return Reply::NotHere;
         }
         self.roster.leave(coflow);
+        self.runs.set_stale();
         Reply::Left
     }
 
@@ -141,6 +144,7 @@ impl Standing {
             &self.weights,
             self.roster.present(),
         );
+        self.runs.set_stale();
         Reply::Version(self.orders.version())
     }
 
@@ -165,21 +169,31 @@ impl Standing {
         if let Some(run) = self.runs.current() {
             return Reply::StillOpen(run.first);
         }
-        if first_owing(&opening.table, &self.roster, &self.owing).is_none() {
+        self.refresh(opening);
+        if self.runs.grants_nothing() {
             return Reply::NothingLeft;
         }
         if self.next > MAX_SLOT {
             return Reply::Late(self.next);
         }
-        self.line.fill(&self.roster, &self.orders);
-        let run = self.runs.begin(
-            &opening.table,
-            self.line.coflows(),
-            &self.owing,
-            self.next,
-            most,
-        );
+        let run = self.runs.begin(self.next, most);
         Reply::Opened(run.first, run.slots, run.count)
+    }
+
+    /// Makes the kept grants anew where they are not fresh. No run is open.
+    fn refresh(&mut self, opening: &Opening)
+        requires fit { IsFit opening.now self.old }
+        requires closed { self.old.runs.run ≡ None }
+        ensures fit { IsFit opening.now self.new }
+        ensures fresh { self.new.runs.fresh ≡ true }
+        ensures closed { self.new.runs.run ≡ None }
+        ensures tells { (s : State) → Tells opening.now s self.old → Tells opening.now s self.new }
+    {
+        if self.runs.is_fresh() {
+            return;
+        }
+        self.line.fill(&self.roster, &self.orders);
+        self.runs.grant_anew(&opening.table, self.line.coflows(), self.ledger.owed_all());
     }
 
     fn short(&mut self, opening: &Opening, ingress: u32, units: u64) -> Reply
@@ -265,10 +279,12 @@ fn units_kept(alloc: Global, table: &Table) -> Result<(Ledger, Owing, Runs), NoM
     ensures left { IfOk result (λ x. x.1.left ≡ map (λ (f : Flow). f.units) table.now.flows) }
     ensures sums { IfOk result (λ x. length x.1.of_coflow ≡ length table.now.ids) }
     ensures ports { IfOk result (λ x. x.2.ports ≡ table.now.ports) }
+    ensures room { IfOk result (λ x. room_of x.2.tables ≡ length table.now.flows) }
+    ensures stale { IfOk result (λ x. x.2.fresh ≡ false) }
     ensures run { IfOk result (λ x. x.2.run ≡ None) }
 {
     let ledger = Ledger::new(alloc, table)?;
     let owing = Owing::of(alloc, table.flows(), table.coflows(), table.ports())?;
-    let runs = Runs::new(alloc, table.ports())?;
+    let runs = Runs::new(alloc, table)?;
     Ok((ledger, owing, runs))
 }

@@ -41,4 +41,5 @@ returns-clause-fit c =
     subst (IsFit o) (sym c.of.ensures)
     (start_fits o x c.requires (c.in_ok-coflows.ensures.present_len ∙ c.coflows.ensures.coflows) weights (c.in_ok-coflows.ensures.coflows_are ∙ c.coflows.ensures.coflows)
     (c.in_ok-coflows.ensures.ports_are ∙ c.ports.ensures.ports) (omega (arith, c.in_ok-coflows.ensures.room, c.coflows.ensures.coflows)) c.in_ok-units.ensures.units
-    c.in_ok-units.ensures.owed c.in_ok-units.ensures.owing c.in_ok-units.ensures.left c.in_ok-units.ensures.sums c.in_ok-units.ensures.ports c.in_ok-units.ensures.run refl)
+    c.in_ok-units.ensures.owed c.in_ok-units.ensures.owing c.in_ok-units.ensures.left c.in_ok-units.ensures.sums c.in_ok-units.ensures.ports c.in_ok-units.ensures.room
+    c.in_ok-units.ensures.stale c.in_ok-units.ensures.run refl)

@@ -11,7 +11,7 @@ use Rattle.journal.specs.Answer.{on_run}
 use Rattle.master_core.specs.Published.{IsLeft}
 use Rattle.master_core.proofs.OwingTells.{none_told, run_told}
 use Rattle.master_core.proofs.PublishTells.{left_told, owed_within, published_told}
-use Rattle.master_core.proofs.TellSteps.{fits_orders, follows}
+use Rattle.master_core.proofs.TellSteps.{fits_orders, follows, stale_run}
 use Rattle.master_core.proofs.standing.Standing.publish.Goals as goal
 
 abbrev still : Reply → Option Run → Reply
@@ -36,7 +36,9 @@ returns c =
     let o = c.args.opening.now in
     let old = c.args.self.now in
     let new = c.publish.new.self in
-    follows o Publish old (Version c.version.result) (record old { orders = new }) (fits_orders o old new c.requires.fit c.publish.ensures.coflows_are c.publish.ensures.ports_are)
+    let runs = c.set_stale.new.self in
+    follows o Publish old (Version c.version.result) (record old { orders = new; runs = runs })
+    (fits_orders o old new runs c.requires.fit c.publish.ensures.coflows_are c.publish.ensures.ports_are c.set_stale.ensures)
     (λ s t.
     let i = what_is_left o s in
     let a = left_told o s old c.requires.fit t in
@@ -52,7 +54,7 @@ returns c =
         weight = t.weight;
         orders = published_told o s old new c.requires.fit t c.publish.ensures.version (c.publish.ensures.order i a5);
         owed = t.owed;
-        run = t.run;
+        run = stale_run o.table.flows o.table.ports s.run old.runs runs c.set_stale.ensures t.run;
         next = t.next;
       },
     ))

@@ -18,7 +18,7 @@ returns-in-Some c =
     let is = sym c.note.ensures.noted ∙ c.in-Some.is in
     let run = c.note.ensures.run ∙ ap (λ (x : Option ℕ). with_note old.runs.run p x) c.in-Some.is in
     follows o (Short p c.args.units) old (Noted n) (record old { runs = new })
-    (fits_runs o old new c.requires.fit c.note.ensures.ports
+    (fits_runs o old new c.requires.fit c.note.ensures.ports c.note.ensures.tables c.note.ensures.fresh
     (subst (FitsOpen o.table.flows old.ledger.owed) (sym run) (fits_noted o.table.flows old.ledger.owed old.runs.run p c.args.units n c.requires.fit.run is)))
     (λ s t. (
       answer_noted o.table.flows o.table.ports s.run old.runs.run p c.args.units n t.run is,
@@ -42,7 +42,8 @@ returns-in-None c =
     let is = sym c.note.ensures.noted ∙ c.in-None.is in
     let run = c.note.ensures.run ∙ ap (λ (x : Option ℕ). with_note old.runs.run p x) c.in-None.is ∙ with_none old.runs.run p in
     follows o (Short p c.args.units) old (NotGranted p) (record old { runs = new })
-    (fits_runs o old new c.requires.fit c.note.ensures.ports (subst (FitsOpen o.table.flows old.ledger.owed) (sym run) c.requires.fit.run))
+    (fits_runs o old new c.requires.fit c.note.ensures.ports c.note.ensures.tables c.note.ensures.fresh
+    (subst (FitsOpen o.table.flows old.ledger.owed) (sym run) c.requires.fit.run))
     (λ s t. (
       answer_not_granted o.table.flows o.table.ports s.run old.runs.run p c.args.units t.run is,
       record {

@@ -6,7 +6,7 @@ use Rattle.journal.specs.declared.command.Command.TheVariants.{Withdraw}
 use Rattle.journal.specs.declared.command.Reply.{Reply}
 use Rattle.journal.specs.declared.command.Reply.TheVariants.{Left, NotHere}
 use Rattle.journal.specs.State.{has}
-use Rattle.master_core.proofs.TellSteps.{coflow_leaves, fits_roster, follows}
+use Rattle.master_core.proofs.TellSteps.{coflow_leaves, fits_roster, follows, stale_run}
 use Rattle.master_core.proofs.standing.Standing.withdraw.Goals as goal
 
 abbrev told : Bool → Reply
@@ -21,9 +21,10 @@ pub returns : goal.returns
 returns c =
     let old = c.args.self.now in
     let new = c.leave.new.self in
+    let runs = c.set_stale.new.self in
     let here = sym c.is_present.ensures ∙ c.if-not-is_present.false in
     let len = ap (λ (l : List Bool). length l) c.leave.ensures.present ∙ length-set old.roster.present c.args.coflow false in
-    follows c.args.opening.now (Withdraw c.args.coflow) old Left (record old { roster = new }) (fits_roster c.args.opening.now old new c.requires.fit len)
+    follows c.args.opening.now (Withdraw c.args.coflow) old Left (record old { roster = new; runs = runs }) (fits_roster c.args.opening.now old new runs c.requires.fit len c.set_stale.ensures)
     (λ s t. let here' = sym (t.coflows.present_is c.args.coflow) ∙ here in (
       ap told here',
       record {
@@ -32,7 +33,7 @@ returns c =
         weight = t.weight;
         orders = t.orders;
         owed = t.owed;
-        run = t.run;
+        run = stale_run c.args.opening.now.table.flows c.args.opening.now.table.ports s.run old.runs runs c.set_stale.ensures t.run;
         next = t.next;
       },
     ))
