@@ -2,12 +2,12 @@
 ghost use Rattle.std.specs.Prelude.{◌≤◌, All, IsTrue};
 ghost use Rattle.coflow_units.specs.declared.limits.TheConstants.{MAX_WEIGHT};
 
-use coflow_units::{MAX_TEXT, MAX_WEIGHT};
-use flow_table::{Table, TableFault};
+use coflow_units::{MAX_UNIT, MAX_WEIGHT};
+use flow_table::Table;
 use std::alloc::Global;
 use std::fmt::Debug;
 use std::process::Abort;
-use trace_reader::read_trace;
+use trace_tables::{TextFault, table_of_text};
 
 /// Two coflows that share both ports, of 3 units and of 1 unit.
 pub(crate) const TWO: &str = "2 2\n1 0 1 0 1 1:3\n2 0 1 0 1 1:1\n";
@@ -30,14 +30,10 @@ pub(crate) fn built(
     alloc: Global,
     trace: &str,
     unit: u64,
-) -> Result<Table, TableFault> {
-    assert!(rt; trace.len() <= MAX_TEXT);
+) -> Result<Table, TextFault> {
     assert!(rt; unit >= 1);
-    assert!(rt; unit <= 1 << 20);
-    let Ok(trace) = read_trace(alloc, trace.as_bytes()) else {
-        panic!(rt; "no table");
-    };
-    Table::build(alloc, &trace, unit)
+    assert!(rt; unit <= MAX_UNIT);
+    table_of_text(alloc, trace.as_bytes(), unit)
 }
 
 /// The flows of a trace, where a unit has so many megabytes.

@@ -1,35 +1,48 @@
 //! Schedules: cost, completions and patience.
-ghost use Rattle.std.specs.Prelude.{◌≤◌, ◌^◌, All, length};
-ghost use Rattle.coflow_units.specs.declared.limits.TheConstants.{MAX_WEIGHT};
+ghost use Rattle.std.specs.Prelude.{◌≡◌, ◌+◌, ◌++◌, ◌≤◌, ◌^◌, All, length, replicate};
+ghost use Rattle.std.specs.List.Sorted.{IsStrictlyIncreasing};
+ghost use Rattle.coflow_units.specs.declared.limits.TheConstants.{MAX_SLOT, MAX_WEIGHT};
 
 use crate::inputs::{THREE, TWO, are_weights, had, table_of};
-use coflow_units::{Flow, NoMemory};
+use coflow_units::{Flow, Run};
 use schedule_model::{Schedule, completions, cost, find_fault, is_patient};
 use std::alloc::Global;
 use std::process::Abort;
 
+/// Appends a run of so many slots.
+fn push(rt: &impl Abort, schedule: &mut Schedule, slots: u64, flows: &[u32])
+    requires some { 1 ≤ slots }
+    requires ascending { IsStrictlyIncreasing flows.now }
+    requires short { length schedule.old + slots ≤ MAX_SLOT }
+    ensures pushed { schedule.new ≡ schedule.old ++ replicate slots flows.now }
+{
+    let Ok(()) = schedule.push_run(slots, flows) else {
+        panic!(rt; "no memory");
+    };
+}
+
 /// The schedule that serves three coflows in the order 0, 2, 1. Its run of two slots is appended in two parts.
-fn worked(alloc: Global) -> Result<Schedule, NoMemory> {
+fn worked(rt: &impl Abort, alloc: Global) -> Schedule {
     let mut schedule = Schedule::new(alloc);
-    schedule.push_run(1, &[0, 1, 5])?;
-    schedule.push_run(1, &[1, 3])?;
-    schedule.push_run(1, &[2, 3])?;
-    schedule.push_run(1, &[2, 3])?;
-    schedule.push_run(1, &[4, 5])?;
-    schedule.push_run(2, &[2, 6])?;
-    schedule.push_run(1, &[2])?;
-    Ok(schedule)
+    push(rt, &mut schedule, 1, &[0, 1, 5]);
+    push(rt, &mut schedule, 1, &[1, 3]);
+    push(rt, &mut schedule, 1, &[2, 3]);
+    push(rt, &mut schedule, 1, &[2, 3]);
+    push(rt, &mut schedule, 1, &[4, 5]);
+    push(rt, &mut schedule, 2, &[2, 6]);
+    push(rt, &mut schedule, 1, &[2]);
+    schedule
 }
 
 /// The schedule that serves the shorter one of two coflows in the first slot, or in the slot behind it.
-fn shorter_first(alloc: Global, idle: bool) -> Result<Schedule, NoMemory> {
+fn shorter_first(rt: &impl Abort, alloc: Global, idle: bool) -> Schedule {
     let mut schedule = Schedule::new(alloc);
     if idle {
-        schedule.push_run(1, &[])?;
+        push(rt, &mut schedule, 1, &[]);
     }
-    schedule.push_run(1, &[1])?;
-    schedule.push_run(3, &[0])?;
-    Ok(schedule)
+    push(rt, &mut schedule, 1, &[1]);
+    push(rt, &mut schedule, 3, &[0]);
+    schedule
 }
 
 /// The cost of a valid schedule, whether it is patient for the order, and its completions.
@@ -61,35 +74,40 @@ fn told(
     )
 }
 
-/// The same of a schedule of a trace.
-fn worth(
+/// Tests the same of a schedule of a trace.
+fn expect(
     rt: &impl Abort,
     alloc: Global,
     trace: &str,
     weights: &[u64],
     order: &[u32],
     schedule: &Schedule,
-) -> String {
+    want: &str,
+) {
     let table = table_of(rt, alloc, trace, 1);
     assert!(rt; weights.len() == table.coflows() as usize);
     let fit = are_weights(weights);
     assert!(rt; fit);
     let coflows = table.coflows();
-    told(rt, alloc, table.flows(), coflows, weights, order, schedule)
+    let have = told(rt, alloc, table.flows(), coflows, weights, order, schedule);
+    assert_eq!(rt; have.as_str(), want);
+}
+
+/// Two runs of the same flows are one.
+fn are_joined(rt: &impl Abort, runs: &[Run]) {
+    assert_eq!(rt; runs.len(), 6);
+    assert_eq!(rt; runs[2].length, 2);
 }
 
 #[test]
 fn cost_patience_and_completions(rt: HostRuntime) {
-    let schedule = had(&rt, worked(rt.alloc()));
-    let runs = schedule.runs();
-    assert_eq!(rt; runs.len(), 6);
-    assert_eq!(rt; runs[2].length, 2);
+    let schedule = worked(&rt, rt.alloc());
+    are_joined(&rt, schedule.runs());
     for (order, want) in [
         ([0, 2, 1], "16 true [1, 8, 7]"),
         ([0, 1, 2], "16 false [1, 8, 7]"),
     ] {
-        let have = worth(&rt, rt.alloc(), THREE, &[1, 1, 1], &order, &schedule);
-        assert_eq!(rt; have.as_str(), want);
+        expect(&rt, rt.alloc(), THREE, &[1, 1, 1], &order, &schedule, want);
     }
     for (weights, order, idle, want) in [
         ([1, 1], [1, 0], false, "5 true [4, 1]"),
@@ -97,8 +115,7 @@ fn cost_patience_and_completions(rt: HostRuntime) {
         ([5, 1], [1, 0], false, "21 true [4, 1]"),
         ([1, 1], [1, 0], true, "7 false [5, 2]"),
     ] {
-        let schedule = had(&rt, shorter_first(rt.alloc(), idle));
-        let have = worth(&rt, rt.alloc(), TWO, &weights, &order, &schedule);
-        assert_eq!(rt; have.as_str(), want);
+        let schedule = shorter_first(&rt, rt.alloc(), idle);
+        expect(&rt, rt.alloc(), TWO, &weights, &order, &schedule, want);
     }
 }

@@ -35,6 +35,12 @@ fn tell_flows(rt: &impl Abort, text: &mut String, flows: &[Flow]) {
     had(rt, text.push_str("; "));
 }
 
+/// Tests what is told of a trace.
+fn expect(rt: &impl Abort, alloc: Global, trace: &str, unit: u64, want: &str) {
+    let have = told(rt, alloc, trace, unit);
+    assert_eq!(rt; have.as_str(), want);
+}
+
 /// Units are rounded up, and have a limit.
 #[test]
 fn units_of_megabytes(rt: HostRuntime) {
@@ -56,8 +62,7 @@ fn units_of_megabytes(rt: HostRuntime) {
     for (reducers, unit, want) in rows {
         let count = reducers.split(' ').count();
         let trace = format!(in rt.alloc(); "1 1\n7 0 1 0 {count} {reducers}\n");
-        let have = told(&rt, rt.alloc(), had(&rt, trace).as_str(), unit);
-        assert_eq!(rt; have.as_str(), want);
+        expect(&rt, rt.alloc(), had(&rt, trace).as_str(), unit, want);
     }
 }
 
@@ -74,19 +79,24 @@ const SHARES: &str = "2 0 1 1 1:1 => , 0 1 1
 1 0 1 1:0 => 
 1 1 0 => ";
 
+/// Tests the flows of a coflow that stands before and behind one without units.
+fn try_share(rt: &impl Abort, alloc: Global, line: &str, want: &str) {
+    let trace = format!(in alloc; "1 3\n3 5 {line}\n9 0 1 1 0\n4 8 {line}\n");
+    let trace = had(rt, trace);
+    let want = had(rt, format!(in alloc; "3 5{want}; 9 0; 4 8{want}; "));
+    expect(rt, alloc, trace.as_str(), 1, want.as_str());
+}
+
 #[test]
 fn mappers_share_units(rt: HostRuntime) {
     for row in SHARES.split('\n') {
         let Some((line, want)) = row.split_once(" => ") else {
             panic!(&rt; "a row without an arrow");
         };
-        let trace = format!(in rt.alloc(); "1 3\n3 5 {line}\n9 0 1 1 0\n4 8 {line}\n");
-        let want = had(&rt, format!(in rt.alloc(); "3 5{want}; 9 0; 4 8{want}; "));
-        let have = told(&rt, rt.alloc(), had(&rt, trace).as_str(), 1);
-        assert_eq!(rt; have.as_str(), want.as_str());
+        try_share(&rt, rt.alloc(), line, want);
     }
     let want = "1 0, 20 93 1; 2 120, 7 7 2, 7 93 5; 3 250, 20 38 3, 20 93 1, 64 38 2, 110 38 2; ";
-    assert_eq!(rt; told(&rt, rt.alloc(), THREE, 1).as_str(), want);
+    expect(&rt, rt.alloc(), THREE, 1, want);
 }
 
 /// A trace in which from each of 1024 locations goes one unit to each of them, and what is said of a second coflow.
@@ -103,12 +113,8 @@ fn crowded(rt: &impl Abort, alloc: Global, second: &str) -> String {
     trace
 }
 
-/// As many flows as there may be, where the second coflow has none, and one too many.
-#[test]
-fn flows_have_a_limit(rt: HostRuntime) {
-    let most = crowded(&rt, rt.alloc(), "2 0 1 0 0");
-    let table = table_of(&rt, rt.alloc(), most.as_str(), 1);
-    let flows = table.flows();
+/// Tests as many flows as there may be.
+fn are_crowded(rt: &impl Abort, flows: &[Flow]) {
     assert!(rt; flows.len() == 1 << 20);
     let second = Flow {
         coflow: 0,
@@ -117,7 +123,14 @@ fn flows_have_a_limit(rt: HostRuntime) {
         units: 1,
     };
     assert_eq!(rt; flows[1024], second);
+}
+
+/// As many flows as there may be, where the second coflow has none, and one too many.
+#[test]
+fn flows_have_a_limit(rt: HostRuntime) {
+    let most = crowded(&rt, rt.alloc(), "2 0 1 0 0");
+    are_crowded(&rt, table_of(&rt, rt.alloc(), most.as_str(), 1).flows());
     let more = crowded(&rt, rt.alloc(), "2 0 1 0 1 1024:1");
-    let fault = told(&rt, rt.alloc(), more.as_str(), 1);
-    assert_eq!(rt; fault.as_str(), "Flows of 1048577 are too many");
+    let fault = "Flows of 1048577 are too many";
+    expect(&rt, rt.alloc(), more.as_str(), 1, fault);
 }
