@@ -31,10 +31,11 @@ use Rattle.online_runs.specs.Value.{IsOnlineOf, release_line, done_lines}
 use Rattle.online_runs.proofs.Along.{holds_first}
 use Rattle.online_runs.proofs.AtTheEnd.{run_serves}
 use Rattle.online_runs.proofs.Marks.{none_marked}
-use Rattle.hall_online.specs.declared.progress.Progress.{Progress}
+use Rattle.online_progress.specs.declared.progress.Progress.{Progress}
 use Rattle.hall_online.specs.Halls.{IsReady}
-use Rattle.hall_online.specs.Serving.{EndsAs, HaveSent, HaveServed, IsUnderWay, TellsRun}
-use Rattle.hall_online.specs.Tallies.{IsTallied}
+use Rattle.hall_online.specs.Serving.{EndsAs, HaveSent, HaveServed, IsUnderWay}
+use Rattle.online_progress.specs.Tells.{TellsRun}
+use Rattle.online_progress.specs.Tallies.{IsTallied}
 use Rattle.hall_online.proofs.RunSteps.{tallied_owed}
 
 abbrev opening : TableFacts → List ℕ → ℕ → Opening

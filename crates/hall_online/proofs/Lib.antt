@@ -4,8 +4,4 @@ pub mod Actions
 pub mod RunSteps
 pub mod ServeSteps
 pub mod Begins
-pub mod Tallying
-pub mod Bounds
 pub mod Publishing
-pub mod Releases
-pub mod Endings

@@ -1,33 +1,20 @@
--- What is kept of an online run between its actions, and what holds of its hall and its wires.
+-- What holds of an online run between its actions, of its hall and of its wires.
 use Rattle.std.specs.Prelude.{◌≡◌, ℕ, ◌<◌, ◌≤◌, ◌&&◌, not, List, Option, length, slice_index}
 use Rattle.epochs.specs.declared.action.Action.{Action}
 use Rattle.epochs.specs.Choice.{IsFirstAction}
-use Rattle.epochs.specs.Course.{after, Course, is_marked}
+use Rattle.epochs.specs.Course.{after, Course}
 use Rattle.journal.specs.declared.command.Entry.{Entry}
 use Rattle.journal.specs.declared.opening.Opening.{Opening}
 use Rattle.journal.specs.Closed.{schedule_of, wire_of}
-use Rattle.journal.specs.Fold.{state_of}
-use Rattle.journal.specs.State.{owed}
 use Rattle.client_session.specs.Models.{HallModel}
 use Rattle.slot_runner.specs.Models.{RunnerModel}
 use Rattle.hall_plan.specs.Wires.{AreUnits, HaveMore}
 use Rattle.online_runs.specs.Deeds.{course_of, Deed, IsOnlineRun, IsOnlineSoFar, IsServedOnline, journal_of, owed_after, time_of}
 use Rattle.online_runs.specs.Input.{IsOnlineInput, online_limit}
 use Rattle.online_runs.specs.Value.{epochs_of}
-use Rattle.hall_online.specs.declared.progress.Progress.{Progress}
+use Rattle.online_progress.specs.declared.progress.Progress.{Progress}
+use Rattle.online_progress.specs.Tells.{TellsRun}
 use Rattle.hall_online.specs.Halls.{IsReady}
-
--- what is kept is what the journal and the course tell
-pub record TellsRun (o : Opening) (s : Course) (j : List Entry) (p : Progress) : Type 0 where
-  pub time_is : p.time ≡ time_of o j
-  pub each_left : length p.left.items ≡ length o.table.flows
-  pub left_is : (f : ℕ) → f < length o.table.flows → slice_index p.left.items f ≡ owed o (state_of o j) f
-  pub owed_is : p.owed.items ≡ owed_after o j
-  pub each_present : length p.present.items ≡ length o.table.ids
-  pub present_is : (c : ℕ) →
-      is_marked p.present.items c ≡ (is_marked s.registered c && not (is_marked s.withdrawn c))
-  pub epochs_are : p.epochs.items ≡ epochs_of o j
-  pub schedule_is : p.schedule ≡ schedule_of o j
 
 -- after some deeds: the driver is alone with their journal, and the course and what is kept are what it tells
 pub record IsUnderWay (hall : HallModel) (runner : RunnerModel) (arrivals : List ℕ) (every : ℕ) (s : Course)

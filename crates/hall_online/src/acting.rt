@@ -4,12 +4,11 @@ ghost use Rattle.epochs.specs.declared.action.Action.TheVariants.{Publish, Regis
 ghost use Rattle.port_load.specs.LoadTable.{IsSameSize};
 ghost use Rattle.hall_online.specs.Serving.{IsDoneFrom, MayDo, SendsNothing};
 
-use crate::orders::epoch_of;
-use crate::progress::Progress;
 use crate::turns::{join, leave, pass, publish};
 use client_session::Hall;
 use coflow_units::{NoMemory, Place};
 use flow_table::Table;
+use online_progress::{Progress, epoch_of};
 use port_load::Loads;
 use slot_runner::Runner;
 use std::alloc::Global;

@@ -3,12 +3,11 @@
 
 mod acting;
 mod answer;
-mod ending;
-mod orders;
-mod progress;
+mod beginning;
+mod online;
 mod running;
 mod serving;
 mod turns;
 
 pub use answer::OnlineFault;
-pub use serving::serve_online;
+pub use online::serve_online;

@@ -8,9 +8,9 @@ ghost use Rattle.hall_online.specs.declared.answer.OnlineFault.TheVariants.{TooM
 ghost use Rattle.hall_online.specs.Serving.{ComesFirst, HaveSent, HaveServed, IsDoneFrom, IsUnderWay, MayDo};
 
 use crate::answer::OnlineFault;
-use crate::progress::{Progress, spend};
 use client_session::Hall;
 use flow_table::Table;
+use online_progress::{Progress, spend};
 use outside::Wire;
 use slot_runner::{Ran, Runner};
 use std::alloc::Global;

@@ -1,0 +1,16 @@
+use Rattle.std.proofs.Common.{sym, subst}
+use Rattle.hall_plan.specs.Wires.{AreAllUnits, HaveMore}
+use Rattle.online_runs.specs.Input.{online_opening}
+use Rattle.hall_online.proofs.Begins.{told_so}
+use Rattle.hall_online.proofs.online.serve_online.Goals as goal
+
+pub returns-clause-online : goal.returns-clause-online
+returns-clause-online g c =
+    told_so (online_opening c.args.table.now c.args.weights.now) c.args.arrivals.now c.args.every c.in_ok-progress.progress c.in_ok-online.online
+    c.in_ok-progress.ensures.ends c.in_ok-online.ensures.epochs c.in_ok-online.ensures.done c.in_ok-online.ensures.cost c.in_ok-online.ensures.release
+    c.in_ok-online.ensures.runs
+
+pub returns-clause-sent : goal.returns-clause-sent
+returns-clause-sent g c =
+    subst (λ slots. HaveMore g.W.Wire.runs (AreAllUnits c.args.table.now.flows slots) c.args.table.now.ports c.args.wires.now c.served.new.wires)
+    (sym c.in_ok-online.ensures.runs.same) c.in_ok-progress.ensures.sent

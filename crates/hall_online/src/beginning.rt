@@ -1,0 +1,120 @@
+//! An online run before its first action.
+ghost use Rattle.std.specs.Prelude.{◌≡◌, ◌+◌, ◌≤◌, [], All, IfOk, length, vec_capacity};
+ghost use Rattle.coflow_units.specs.declared.limits.TheConstants.{MAX_ARRIVAL, MAX_COFLOWS, MAX_OPTION_SLOTS, MAX_WEIGHT};
+ghost use Rattle.epochs.specs.Course.{at_first};
+ghost use Rattle.online_runs.specs.Input.{online_opening};
+ghost use Rattle.hall_online.specs.Halls.{IsReady};
+ghost use Rattle.hall_online.specs.Serving.{IsUnderWay};
+
+use crate::acting::Orders;
+use client_session::Hall;
+use coflow_units::{Items, NoMemory};
+use epochs::Epochs;
+use flow_table::Table;
+use master_core::Master;
+use online_progress::{Progress, no_progress};
+use port_load::Loads;
+use slot_runner::Runner;
+use std::alloc::Global;
+
+/// The calls of the driver: 2^40.
+const CALLS: u64 = 1_099_511_627_776;
+
+/// The entries of the journal that do not grow with the table.
+const FURTHER_ENTRIES: u32 = 32_768;
+
+/// A hall with its driver, and what is kept of an online run.
+#[derive(Drop)]
+pub(crate) struct Begun {
+    pub(crate) hall: Hall,
+    pub(crate) runner: Runner,
+    pub(crate) course: Epochs,
+    pub(crate) orders: Orders,
+    pub(crate) progress: Progress,
+}
+
+/// An online run before its first action.
+pub(crate) fn begin(
+    alloc: Global,
+    table: &Table,
+    weights: &[u64],
+    arrivals: &[u64],
+    every: u64,
+) -> Result<Begun, NoMemory>
+    requires weight_each { length weights.now ≡ length table.now.ids }
+    requires weight_range { All (λ w. (1 ≤ w) × (w ≤ MAX_WEIGHT)) weights.now }
+    requires arrival_each { length arrivals.now ≡ length table.now.ids }
+    requires arrival_range { All (λ a. a ≤ MAX_ARRIVAL + 1) arrivals.now }
+    requires epoch_some { 1 ≤ every }
+    requires epoch_fits { every ≤ MAX_OPTION_SLOTS }
+    ensures opening { IfOk result (λ b. b.hall.setting.opening ≡ online_opening table.now weights.now) }
+    ensures none { IfOk result (λ b. b.runner.driver.journal ≡ []) }
+    ensures under_way { IfOk result (λ b. IsUnderWay b.hall b.runner arrivals.now every b.course b.progress) }
+    ensures places { IfOk result (λ b. length table.now.ids ≤ vec_capacity b.orders.places) }
+    ensures coflows { IfOk result (λ b. b.orders.loads.coflows ≡ length table.now.ids) }
+    ensures ports { IfOk result (λ b. b.orders.loads.ports ≡ table.now.ports) }
+{
+    let _within = table.coflows();
+    let course = course_of(alloc, arrivals, every)?;
+    let orders = no_orders(alloc, table)?;
+    let progress = no_progress(alloc, table)?;
+    let (hall, runner) = hall_of(alloc, table, weights)?;
+    Ok(Begun {
+        hall,
+        runner,
+        course,
+        orders,
+        progress,
+    })
+}
+
+/// What is kept of the run. Its hall ends.
+pub(crate) fn kept_of(run: Begun) -> Progress
+    ensures { result ≡ run.progress }
+{
+    let Begun { progress, .. } = run;
+    progress
+}
+
+/// A hall of a new master of the table, whose driver is alone.
+fn hall_of(alloc: Global, table: &Table, weights: &[u64]) -> Result<(Hall, Runner), NoMemory>
+    requires weight_each { length weights.now ≡ length table.now.ids }
+    requires weight_range { All (λ w. (1 ≤ w) × (w ≤ MAX_WEIGHT)) weights.now }
+    ensures opening { IfOk result (λ made. made.0.setting.opening ≡ online_opening table.now weights.now) }
+    ensures ready { IfOk result (λ made. IsReady made.0 made.1) }
+    ensures none { IfOk result (λ made. made.1.driver.journal ≡ []) }
+{
+    let limit = 4 * table.coflows() + 2 * table.flows().len() as u32 + FURTHER_ENTRIES;
+    let copied = table.copy(alloc)?;
+    let list = Vec::from_slice(alloc, weights)?;
+    let master = Master::new(alloc, copied, Items::from_vec(list), limit)?;
+    let (hall, driver) = Hall::begin(alloc, master, CALLS)?;
+    let Ok(runner) = Runner::new(alloc, driver, table.ports()) else {
+        return Err(NoMemory);
+    };
+    Ok((hall, runner))
+}
+
+/// The course of a run over these arrivals, before its first action.
+fn course_of(alloc: Global, arrivals: &[u64], every: u64) -> Result<Epochs, NoMemory>
+    requires coflows { length arrivals.now ≤ MAX_COFLOWS }
+    requires arrivals_fit { All (λ a. a ≤ MAX_ARRIVAL + 1) arrivals.now }
+    requires epoch_some { 1 ≤ every }
+    requires epoch_fits { every ≤ MAX_OPTION_SLOTS }
+    ensures { IfOk result (λ course. course ≡ at_first arrivals.now every) }
+{
+    let list = Vec::from_slice(alloc, arrivals)?;
+    let course = Epochs::new(alloc, list, every)?;
+    Ok(course)
+}
+
+/// Room for the places of an order, and a table of loads.
+fn no_orders(alloc: Global, table: &Table) -> Result<Orders, NoMemory>
+    ensures places { IfOk result (λ orders. length table.now.ids ≤ vec_capacity orders.places) }
+    ensures coflows { IfOk result (λ orders. orders.loads.coflows ≡ length table.now.ids) }
+    ensures ports { IfOk result (λ orders. orders.loads.ports ≡ table.now.ports) }
+{
+    let places = Vec::with_capacity(alloc, table.coflows() as usize)?;
+    let loads = Loads::of(alloc, table.flows(), table.coflows(), table.ports())?;
+    Ok(Orders { places, loads })
+}

@@ -1,0 +1,4 @@
+pub mod Tallying
+pub mod Bounds
+pub mod Releases
+pub mod Endings
