@@ -16,7 +16,7 @@ sys.dont_write_bytecode = True  # the folder stays as it is
 TOP = os.path.dirname(os.path.dirname(os.path.abspath(__file__)))
 sys.path.insert(0, os.path.join(TOP, "checks"))
 
-from plain_audit import PROGRAM, WORDS, Live, build, numbered, put, spoken  # noqa: E402
+from plain_audit import FILES, PROGRAM, WORDS, Live, build, numbered, put, spoken  # noqa: E402
 from plain_hall import Stepped  # noqa: E402
 from plain_plan import Coflow  # noqa: E402
 
@@ -78,11 +78,12 @@ def main():
     r = random.Random(SEED)
     coflows = coflows_of(r)
     live = journal(r, coflows, count)
-    build()
+    if not build():
+        sys.exit("the program could not be built")
     times = []
     with tempfile.TemporaryDirectory() as folder:
         put(folder, PORTS, coflows, live)
-        size = os.path.getsize(os.path.join(folder, WORDS[2]))
+        size = os.path.getsize(os.path.join(folder, FILES[2]))
         for _ in range(RUNS):
             begun = time.monotonic()
             ended = subprocess.run([PROGRAM, *WORDS], cwd=folder, stdout=subprocess.PIPE, check=True)

@@ -1,5 +1,5 @@
 #!/usr/bin/env python3
-"""Audits printed journals by a plain auditor, which keeps a journal alone and reads all else from there, and compares its line with what the program `audit_runs` prints. The journals are drawn:
+"""Audits printed journals by a plain auditor, which keeps a journal alone and reads all else from there, and compares its line with what `sincronia audit` prints. The journals are drawn:
 right ones, and the same with one or two places damaged. Rows that were worked by hand are compared with both, and each allocation of one of them is refused in turn.
 
 Use: checks/plain_audit.py [JOURNALS]     The last line is 'N passed, M failed'; the exit code is 0 where none failed.
@@ -16,24 +16,8 @@ sys.dont_write_bytecode = True
 from master_journal import Master
 from plain_master import CUBE, SQUARE, TWO
 from plain_plan import Kind, drawn, trace_text, weights_text, write
-from refused_memory import TOP, make_library, refusing
-
-FOLDER = os.path.join(TOP, "crates", "audit_runs")
-PROGRAM = os.path.join(FOLDER, "out", "audit_runs")
-
-
-def build():
-    """Proves and builds the program, where there is none or a source is newer. Where that fails the script ends, and leaves no program of an earlier tree."""
-    made = os.path.getmtime(PROGRAM) if os.path.exists(PROGRAM) else 0
-    sources = [os.path.join(at, name) for at, _, names in os.walk(os.path.join(TOP, "crates")) for name in names if name.endswith((".rt", ".antt")) and "out" not in at.split(os.sep)]
-    if any(os.path.getmtime(source) > made for source in sources):
-        if made:
-            os.remove(PROGRAM)
-        built = subprocess.run(["rt", "run", "--", "data/t", "data/w", "data/j"], cwd=FOLDER, stdout=subprocess.DEVNULL, check=False)
-        if built.returncode or not os.path.exists(PROGRAM):
-            print("the program could not be built\n0 passed, 1 failed")
-            sys.exit(1)
-
+from program_runs import PROGRAM, build
+from refused_memory import NO_MEMORY, make_library, refusing
 
 # Printed journals. An entry has who asked, the words of the command and the words of the reply, in ids; an order has ids; a pull has a client, a line, an id, a version and a rank; a run has a
 # length and flows.
@@ -316,14 +300,13 @@ def journal(seed):
 # The comparison
 
 
-WORDS = ["trace", "weights", "journal"]
-# how the program ends with want of memory: no file, trace, weights, table or journal, or that itself
-TOLD = b"audit_runs: no ", b"audit_runs: the trace makes no table", b"audit_runs: usage"
+FILES = ["trace", "weights", "journal"]
+WORDS = ["audit", "trace", "journal", "--weights", "weights"]
 
 
 def put(folder, ports, coflows, live):
     """Writes the files of a journal."""
-    for name, text in zip(WORDS, (trace_text(ports, coflows), weights_text(coflows), live_text(live))):
+    for name, text in zip(FILES, (trace_text(ports, coflows), weights_text(coflows), live_text(live))):
         write(folder, name, text)
 
 
@@ -332,7 +315,8 @@ def printed(folder, ports, coflows, live):
     put(folder, ports, coflows, live)
     ended = subprocess.run([PROGRAM, *WORDS], cwd=folder, stdin=subprocess.DEVNULL, capture_output=True, timeout=60)
     out = ended.stdout.decode()
-    return out[:-1] if ended.returncode == 0 and out.endswith("\n") else "exit code %d, %r and %r" % (ended.returncode, out, ended.stderr)
+    code = 0 if out.startswith("yes") else 1
+    return out[:-1] if ended.returncode == code and out.endswith("\n") else "exit code %d, %r and %r" % (ended.returncode, out, ended.stderr)
 
 
 def refused(folder):
@@ -342,7 +326,7 @@ def refused(folder):
         (code, out, err), count = refusing(folder, PROGRAM, WORDS, number, number)
         if count == 0:
             return ends, number
-        ends.add(out.decode() if code == 0 else "error" if (code, out) == (1, b"") and err.startswith(TOLD) else "exit code %d, %r and %r" % (code, out, err))
+        ends.add(out.decode() if code == 0 else "error" if (code, out, err) == NO_MEMORY else "exit code %d, %r and %r" % (code, out, err))
     return ends, 0
 
 
@@ -371,8 +355,9 @@ def main():
     plain = "--plain" in sys.argv
     count = int(sys.argv[1]) if len(sys.argv) > 1 and not plain else 900
     passed = failed = 0
-    if not plain:
-        build()
+    if not plain and not build():
+        print("the program could not be built\n0 passed, 1 failed")
+        return 1
     with tempfile.TemporaryDirectory() as folder:
         if not plain:
             make_library(folder)

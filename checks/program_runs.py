@@ -184,6 +184,51 @@ ONLINE_ROWS = [
     ("a report of a plan behind the line of an online run", TWO, b"sincronia online 2\n" + TWO_TEXT, CHECK, 5, b"", b"sincronia: report: line 2\n"),
 ]
 
+# A client registers both coflows and publishes an order, and two runs are opened, the second of them until nothing is left.
+JOURNAL = b"""sincronia live 1
+entry 1 1 register 1 joined
+entry 2 1 register 2 joined
+entry 3 1 publish version 1
+entry 4 0 open 4 opened 1 1 1
+entry 5 0 close closed 1
+entry 6 0 open 4 opened 2 3 1
+entry 7 0 close closed 2
+entry 8 0 open 4 nothing
+order 1 2 1
+pull 1 4 2 1 1
+run 1 1
+run 3 0
+end
+"""
+AUDIT = ["audit", "t", "r"]
+
+# rows as above, with the printed journal in place of the report, and weights `w` before it
+AUDIT_ROWS = [
+    ("a right journal", TWO, None, JOURNAL, AUDIT, 0, b"yes entries 8 versions 1 slots 4\n", b""),
+    ("a journal of nothing", TWO, None, b"sincronia live 1\nend\n", AUDIT, 0, b"yes entries 0 versions 0 slots 0\n", b""),
+    ("a journal of no coflow", b"2 0\n", None, b"sincronia live 1\nend\n", AUDIT, 0, b"yes entries 0 versions 0 slots 0\n", b""),
+    ("an id that is no coflow's", TWO, None, JOURNAL.replace(b"register 2", b"register 3"), AUDIT, 1, b"no id 2\n", b""),
+    ("another reply", TWO, None, JOURNAL.replace(b"closed 2", b"closed 3"), AUDIT, 1, b"no entry 7\n", b""),
+    ("a run that is open", TWO, None, JOURNAL.replace(b"entry 7 0 close closed 2\nentry 8 0 open 4 nothing\n", b""), AUDIT, 1, b"no close 2\n", b""),
+    ("another order", TWO, None, JOURNAL.replace(b"order 1 2 1", b"order 1 1 2"), AUDIT, 1, b"no order 1 1\n", b""),
+    ("another rank", TWO, None, JOURNAL.replace(b"pull 1 4 2 1 1", b"pull 1 4 2 1 2"), AUDIT, 1, b"no pull 1 4 2 1\n", b""),
+    ("a version that was not made", TWO, None, JOURNAL.replace(b"pull 1 4 2 1 1", b"pull 1 4 2 2 0"), AUDIT, 1, b"no version 1 4\n", b""),
+    ("a run too long", TWO, None, JOURNAL.replace(b"run 3 0", b"run 4 0"), AUDIT, 1, b"no run 5\n", b""),
+    ("a journal of other weights", TWO, b"1 5\n2 1\n", JOURNAL, AUDIT + ["--weights", "w"], 1, b"no entry 4\n", b""),
+    ("a journal of other units", TWO, None, JOURNAL, ["audit", "--unit", "2", "t", "r"], 1, b"no entry 6\n", b""),
+    ("a journal without its last line", TWO, None, JOURNAL[:-4], AUDIT, 5, b"", b"sincronia: report: line 14\n"),
+    ("a journal with a reply of another command", TWO, None, JOURNAL.replace(b"register 1 joined", b"register 1 left"), AUDIT, 5, b"", b"sincronia: report: line 2\n"),
+    ("a journal with carriage returns", TWO, None, JOURNAL.replace(b"\n", b"\r\n"), AUDIT, 5, b"", b"sincronia: report: line 1\n"),
+    ("a report in place of a journal", TWO, None, TWO_TEXT, AUDIT, 5, b"", b"sincronia: report: line 1\n"),
+    ("a journal in place of a report", TWO, None, JOURNAL, CHECK, 5, b"", b"sincronia: report: line 1\n"),
+    ("no journal", TWO, None, None, AUDIT, 8, b"", READ_FAULT),
+    ("a bad trace and no journal", b"", None, None, AUDIT, 3, b"", b"sincronia: trace: bad header\n"),
+    ("a weight of no coflow and no journal", TWO, b"9 1\n", None, AUDIT + ["--weights", "w"], 4, b"", b"sincronia: weights: line 1 unknown id 9\n"),
+    ("no journal of too many units", TOO_MANY, None, None, AUDIT, 7, b"", b"sincronia: limit: units 1099511627777\n"),
+    ("no second name to audit", TWO, None, JOURNAL, ["audit", "t"], 2, b"", USAGE),
+    ("a third name to audit", TWO, None, JOURNAL, AUDIT + ["r"], 2, b"", USAGE),
+]
+
 
 def comparison(bound, bssi, sebf, fifo, first, second):
     """The text of a comparison. The answers of all rankers but the last are the same before and after they are told."""
@@ -315,12 +360,18 @@ def run_check(row, trace=TWO):
         return same(name, started(folder, {"t": trace, "r": report}, words), tuple(want))
 
 
-def run_long_report(name, trace, limit):
-    """A report of 2^30 + 1 bytes, which takes no room on the disk."""
+def run_audit(row):
+    name, trace, weights, journal, words, *want = row
+    with tempfile.TemporaryDirectory() as folder:
+        return same(name, started(folder, {"t": trace, "w": weights, "r": journal}, words), tuple(want))
+
+
+def run_long_report(name, words, trace, limit):
+    """A report or a printed journal of 2^30 + 1 bytes, which takes no room on the disk."""
     with tempfile.TemporaryDirectory() as folder:
         with open(os.path.join(folder, "r"), "wb") as file:
             file.truncate(2**30 + 1)
-        return same(name, started(folder, {"t": trace}, CHECK), (7, b"", b"sincronia: limit: %s\n" % limit))
+        return same(name, started(folder, {"t": trace}, words), (7, b"", b"sincronia: limit: %s\n" % limit))
 
 
 def run_shuffle():
@@ -361,8 +412,9 @@ def main():
         return 1
     results = [run(row) for row in ROWS + COMPARE_ROWS + CLASS_ROWS] + [run_check(row) for row in CHECK_ROWS]
     results += [run_check((name, *rest), trace) for name, trace, *rest in TABLE_ROWS + ONLINE_ROWS]
-    results += [run_long_report("a long report", TWO, b"text 1073741825"),
-                run_long_report("a long report of too many units", TOO_MANY, b"units 1099511627777")]
+    results += [run_audit(row) for row in AUDIT_ROWS]
+    results += [run_long_report("a long report", CHECK, TWO, b"text 1073741825"), run_long_report("a long journal", AUDIT, TWO, b"text 1073741825"),
+                run_long_report("a long report of too many units", CHECK, TOO_MANY, b"units 1099511627777")]
     results += [run_shuffle(), run_made()]
     with open("/dev/full", "wb") as full:
         results += [run(("a full device for " + words[0], TWO, None, words, 9, b"", WRITE_FAULT), full) for words in (["plan", "t"], COMPARE, CLASSES)]

@@ -14,7 +14,7 @@ import tempfile
 from concurrent.futures import ThreadPoolExecutor
 
 sys.dont_write_bytecode = True
-from program_runs import LATE, ONLINE, PROGRAM, TOP, TWO, TWO_TEXT, build
+from program_runs import JOURNAL, LATE, ONLINE, PROGRAM, TOP, TWO, TWO_TEXT, build
 
 REFUSING = r"""
 #include <stddef.h>
@@ -53,6 +53,7 @@ SERIES = [
     ("make", ["make", "7", "--unit", "64"]),
     ("compare", ["compare", "t", "--weights", "w"]),
     ("classes", ["classes", "t", "--weights", "w"]),
+    ("audit", ["audit", "t", "j"]),
 ]
 # how many runs are started before their answers are looked at
 BATCH = 64
@@ -114,7 +115,7 @@ def main():
         return 1
     passed, failed = 0, 0
     with tempfile.TemporaryDirectory() as folder:
-        for name, content in (("t", TWO), ("w", b"1 1\n"), ("r", TWO_TEXT), ("l", LATE), ("o", ONLINE)):
+        for name, content in (("t", TWO), ("w", b"1 1\n"), ("r", TWO_TEXT), ("l", LATE), ("o", ONLINE), ("j", JOURNAL)):
             with open(os.path.join(folder, name), "wb") as file:
                 file.write(content)
         make_library(folder)

@@ -5,7 +5,7 @@ use Rattle.std.specs.Str.{bytes_eq}
 use Rattle.text_fields.specs.Numbers.{is_number, number}
 use Rattle.command_words.specs.Line.{Text}
 use Rattle.command_words.specs.declared.job.Job.{Job as JobWords}
-use Rattle.command_words.specs.declared.job.Job.TheVariants.{Check, Classes, Compare, Make, Plan}
+use Rattle.command_words.specs.declared.job.Job.TheVariants.{Audit, Check, Classes, Compare, Make, Plan}
 
 -- What the program is asked to do: a command, with the names of files or the number behind it.
 pub data Job : Type 0 where
@@ -19,6 +19,8 @@ pub data Job : Type 0 where
   compare_job : Text → Job
   -- the name of a trace
   classes_job : Text → Job
+  -- the names of a trace and of a printed journal
+  audit_job : Text → Text → Job
 
 -- the job of words that were read
 abbrev pub job_by : JobWords → Job
@@ -27,6 +29,7 @@ job_by (Check trace report) = check_job trace.now report.now
 job_by (Make seed) = make_job seed
 job_by (Compare trace) = compare_job trace.now
 job_by (Classes trace) = classes_job trace.now
+job_by (Audit trace journal) = audit_job trace.now journal.now
 
 -- The name of a file is not empty and is not `-`.
 abbrev pub is_file_name : Text → Bool
@@ -53,20 +56,21 @@ abbrev pub alone : {X : Type 0} → Option X → Option Text → Option X
 alone given None = given
 alone given (Some second) = None
 
--- the check of a trace and a report, where both are given
-abbrev pub check_if : Option Text → Option Text → Option Job
-check_if (Some trace) (Some report) = Some (check_job trace report)
-check_if _ _ = None
+-- the job of a trace and another file, where both are given
+abbrev pub both_in : (Text → Text → Job) → Option Text → Option Text → Option Job
+both_in job (Some trace) (Some other) = Some (job trace other)
+both_in job _ _ = None
 
 -- The job of a command's name, FIRST and SECOND: the table of commands. There is none where the name is no command's, or
 -- where the command does not take what stands behind it.
 abbrev pub job_of : Text → Text → Option Text → Option Job
 job_of name first second = if bytes_eq name (codes "plan") then option_map plan_job (alone (file_of first) second)
-    else (if bytes_eq name (codes "check") then check_if (file_of first) (file_in second)
+    else (if bytes_eq name (codes "check") then both_in check_job (file_of first) (file_in second)
     else (if bytes_eq name (codes "make") then option_map make_job (alone (seed_of first) second)
     else (if bytes_eq name (codes "compare") then option_map compare_job (alone (file_of first) second)
     else (if bytes_eq name (codes "classes") then option_map classes_job (alone (file_of first) second)
-    else None))))
+    else (if bytes_eq name (codes "audit") then both_in audit_job (file_of first) (file_in second)
+    else None)))))
 
 -- the job of the names by their places, where COMMAND and FIRST stand
 abbrev pub job_in : Option Text → Option Text → Option Text → Option Job
@@ -80,11 +84,13 @@ trace_name (check_job trace report) = trace
 trace_name (make_job seed) = []
 trace_name (compare_job trace) = trace
 trace_name (classes_job trace) = trace
+trace_name (audit_job trace journal) = trace
 
--- the name of the report that a job reads, if it reads one
+-- the name of the report or of the printed journal that a job reads, if it reads one
 abbrev pub report_name : Job → Option Text
 report_name (plan_job trace) = None
 report_name (check_job trace report) = Some report
 report_name (make_job seed) = None
 report_name (compare_job trace) = None
 report_name (classes_job trace) = None
+report_name (audit_job trace journal) = Some journal

@@ -17,6 +17,8 @@ pub enum Job<'a> {
     Compare { trace: &'a str },
     /// `classes TRACE` folds the order of a trace into classes.
     Classes { trace: &'a str },
+    /// `audit TRACE JOURNAL` tests a printed journal against a trace.
+    Audit { trace: &'a str, journal: &'a str },
 }
 
 /// The job of the command of this name and the words behind it. `None` where there is no such command, or it does not take them.
@@ -44,6 +46,11 @@ pub(crate) fn job_of<'a>(name: &str, first: &'a str, second: Option<&'a str>) ->
         "classes" => {
             let trace = file_alone(first, second)?;
             Some(Job::Classes { trace })
+        }
+        "audit" => {
+            let trace = file_of(first)?;
+            let journal = file_of(second?)?;
+            Some(Job::Audit { trace, journal })
         }
         _ => None,
     }

@@ -1,7 +1,7 @@
 -- What a command does to the bench: whether there is a text decides it, and the job of the words.
 use Rattle.std.proofs.Common.{◌≡◌, ℕ, inl, inr, List, Option, ap, subst, sym, ◌∙◌}
 use Rattle.command_words.specs.Jobs.{Job}
-use Rattle.command_words.specs.Jobs.Job.{check_job, classes_job, compare_job, make_job, plan_job}
+use Rattle.command_words.specs.Jobs.Job.{audit_job, check_job, classes_job, compare_job, make_job, plan_job}
 use Rattle.command_words.specs.Line.{Text}
 use Rattle.command_words.specs.Words.{IsWords, Said}
 use Rattle.command_words.proofs.OneMeaning.{words_one}
@@ -35,6 +35,7 @@ text_by S (check_job trace report) told said bench s text (answer, is, checks) =
 text_by S (make_job seed) told said bench s text outcome = subst HasText (sym outcome.0) tt
 text_by S (compare_job trace) told said bench s text outcome = subst HasText (sym outcome.0) tt
 text_by S (classes_job trace) told said bench s text outcome = subst HasText (sym outcome.0) tt
+text_by S (audit_job trace journal) told said bench s text (answer, is, audits) = of_answer answer s is
 
 pub outcome_has_text : (S : TableFacts → List (List ℕ) → Type 0) (told : Option Told) (said : Said) (bench : List Meaning) (s : Status) (text : List ℕ) →
     IsOutcome S told said bench s text → HasText s
@@ -66,6 +67,7 @@ none_by F (make_job seed) before now old new said s cause text =
     of_served (λ port. Serves (F port) (make_job seed) old said) (λ (x : Status). HasText x → ⊥) s (λ t. t) (λ port count t. t) cause text
 none_by F (compare_job trace) before now old new said s cause text = no_text before now old new said s cause text
 none_by F (classes_job trace) before now old new said s cause text = no_text before now old new said s cause text
+none_by F (audit_job trace journal) before now old new said s cause text = no_text before now old new said s cause text
 
 pub cause_has_no_text : (F : ℕ → TableFacts → List ℕ → Type 0) (before now : ℕ) (old new : Option Told) (said : Said) (s : Status) → HasCauseOf F before now old new said s →
     HasText s → ⊥

@@ -1,5 +1,5 @@
 -- What a yes says, and the causes of the statuses of a command that reads files.
-use Rattle.std.proofs.Common.{◌≡◌, ℕ, ◌^◌, ◌≤◌, ◌<◌, inl, inr, List, Option, Some, None, length, sym, subst, ◌∙◌, arith}
+use Rattle.std.proofs.Common.{◌≡◌, ℕ, ◌^◌, ◌≤◌, ◌<◌, inl, inr, List, Option, Some, None, length, refl, sym, subst, ◌∙◌, arith}
 use Rattle.std.specs.Prelude.{Err, IfSome, true}
 use Rattle.command_words.specs.Jobs.{report_name, trace_name}
 use Rattle.command_words.specs.Jobs.Job.{check_job}
@@ -24,7 +24,7 @@ use Rattle.verdicts.specs.declared.any_report.AnyReport.{AnyReport}
 use Rattle.verdicts.specs.declared.any_report.AnyReport.TheVariants as any
 use Rattle.verdicts.specs.AnyReport.{GivesAnyReport, IsAnyBadAt, IsAnyReport, IsAnyText}
 use Rattle.verdicts.specs.Judged.{IsRight}
-use Rattle.sincronia_cli.specs.Causes.{FileFailed, FilesBadReport, FilesGiveTable, FilesLimit, HasCauseInFiles, HasFilesCause, IsGiven}
+use Rattle.sincronia_cli.specs.Causes.{FileFailed, FilesBadReport, FilesGiveTable, FilesLimit, HasCauseInFiles, HasFilesCause, IsBadFor, IsGiven}
 use Rattle.sincronia_cli.specs.Check.{BoundsSchedules, CheckOf, IsAnyReportOf, IsReportOf, WritesYes, arrival_of}
 use Rattle.sincronia_cli.specs.FileCauses.{IsFileCause, NameFailed, NameFailedIf}
 use Rattle.sincronia_cli.specs.InputCauses.{HasInputCause, InputFailed, LimitCause}
@@ -75,7 +75,7 @@ input_cause IsBad before now old new said (status.WireFault port count) h = absu
 
 pub from_input : (before now : ℕ) (old new : Option Told) (said : Said) (s : Status) → HasInputCause before now old new (trace_name said.job) said.weights said.unit s →
     HasFilesCause before now old new said s
-from_input before now old new said s h = input_cause IsAnyBadAt before now old new said s h
+from_input before now old new said s h = input_cause (IsBadFor said.job) before now old new said s h
 
 -- ---- a report
 
@@ -93,12 +93,13 @@ pub report_refused : (old : Option Told) (name bytes lent : List ℕ) (line : �
 report_refused None name bytes lent line has e short bad = tt
 report_refused (Some t) name bytes lent line has e short bad = (subst (λ (xs : List ℕ). length xs ≤ 2 ^ 30) has short, subst (λ (xs : List ℕ). IsBadAt xs line) (e ∙ has) bad)
 
-any_report_read : (old : Option Told) (name bytes lent : List ℕ) (report : AnyReport) → HasBytes old name bytes → lent ≡ bytes → length bytes ≤ 2 ^ 30 → IsAnyText lent report →
-    IfSome old (λ t. (length (bytes_of t name) ≤ 2 ^ 30) × IsAnyText (bytes_of t name) report)
-any_report_read None name bytes lent report has e short text = tt
-any_report_read (Some t) name bytes lent report has e short text = (
+-- what was read is the text of this value
+pub text_of_file : {R : Type 0} (IsText : List ℕ → R → Type 0) (old : Option Told) (name bytes lent : List ℕ) (report : R) → HasBytes old name bytes → lent ≡ bytes →
+    length bytes ≤ 2 ^ 30 → IsText lent report → IfSome old (λ t. (length (bytes_of t name) ≤ 2 ^ 30) × IsText (bytes_of t name) report)
+text_of_file IsText None name bytes lent report has e short text = tt
+text_of_file IsText (Some t) name bytes lent report has e short text = (
   subst (λ (xs : List ℕ). length xs ≤ 2 ^ 30) has short,
-  subst (λ (xs : List ℕ). IsAnyText xs report) (e ∙ has) text,
+  subst (λ (xs : List ℕ). IsText xs report) (e ∙ has) text,
 )
 
 any_report_fits : (bytes : List ℕ) (report : AnyReport) → IsAnyText bytes report → IsAnyReport report
@@ -108,22 +109,25 @@ any_report_fits bytes (any.Online o) text = text.1.online
 pub any_report_of_file : (old : Option Told) (name bytes lent : List ℕ) (report : AnyReport) → HasBytes old name bytes → lent ≡ bytes → length bytes ≤ 2 ^ 30 →
     IsAnyText lent report → IsAnyReportOf old name report
 any_report_of_file old name bytes lent report has e short text =
-    record { fits = any_report_fits lent report text; reads = any_report_read old name bytes lent report has e short text }
+    record { fits = any_report_fits lent report text; reads = text_of_file IsAnyText old name bytes lent report has e short text }
 
-any_report_refused : (old : Option Told) (name bytes lent : List ℕ) (line : ℕ) → HasBytes old name bytes → lent ≡ bytes → length bytes ≤ 2 ^ 30 → IsAnyBadAt lent line →
-    IfSome old (λ t. IsBadReport IsAnyBadAt (Some (bytes_of t name)) line)
-any_report_refused None name bytes lent line has e short bad = tt
-any_report_refused (Some t) name bytes lent line has e short bad = (
-  subst (λ (xs : List ℕ). length xs ≤ 2 ^ 30) has short,
-  subst (λ (xs : List ℕ). IsAnyBadAt xs line) (e ∙ has) bad,
-)
+module _ (IsBad : List ℕ → ℕ → Type 0) (before now : ℕ) (old new : Option Told) (name bytes lent : List ℕ) where
+  text_refused : (told : Option Told) (line : ℕ) → HasBytes told name bytes → lent ≡ bytes → length bytes ≤ 2 ^ 30 → IsBad lent line →
+      IfSome told (λ t. IsBadReport IsBad (Some (bytes_of t name)) line)
+  text_refused None line has e short bad = tt
+  text_refused (Some t) line has e short bad = (subst (λ (xs : List ℕ). length xs ≤ 2 ^ 30) has short, subst (λ (xs : List ℕ). IsBad xs line) (e ∙ has) bad)
+
+  -- why what was read is no text
+  pub text_cause : (fault : ReportFault) (s : Status) → HasBytes old name bytes → lent ≡ bytes → length bytes ≤ 2 ^ 30 →
+      ((line : ℕ) → fault ≡ report_fault.BadText line → IsBad lent line) → IsStatusOfReport fault s → IsReportCause IsBad before now old new name s
+  text_cause (report_fault.BadText line) s has e short bad is =
+      subst (λ (x : Status). IsReportCause IsBad before now old new name x) (sym is) (text_refused old line has e short (bad line refl))
+  text_cause report_fault.NoMemory s has e short bad is = subst (λ (x : Status). IsReportCause IsBad before now old new name x) (sym is) tt
 
 pub any_report_cause : (before now : ℕ) (old new : Option Told) (name bytes lent : List ℕ) (fault : ReportFault) (s : Status) → HasBytes old name bytes → lent ≡ bytes →
     length bytes ≤ 2 ^ 30 → GivesAnyReport lent (Err fault) → IsStatusOfReport fault s → IsReportCause IsAnyBadAt before now old new name s
-any_report_cause before now old new name bytes lent (report_fault.BadText line) s has e short bad is =
-    subst (λ (x : Status). IsReportCause IsAnyBadAt before now old new name x) (sym is) (any_report_refused old name bytes lent line has e short bad)
-any_report_cause before now old new name bytes lent report_fault.NoMemory s has e short bad is =
-    subst (λ (x : Status). IsReportCause IsAnyBadAt before now old new name x) (sym is) tt
+any_report_cause before now old new name bytes lent fault s has e short bad is =
+    text_cause IsAnyBadAt before now old new name bytes lent fault s has e short (λ line same. subst (λ (f : ReportFault). GivesAnyReport lent (Err f)) same bad) is
 
 pub file_to_report : (IsBad : List ℕ → ℕ → Type 0) (before now : ℕ) (old new : Option Told) (name : List ℕ) (s : Status) → IsFileCause 1073741824 before now old new name s →
     IsReportCause IsBad before now old new name s

@@ -1,8 +1,8 @@
 -- A command whose files are good ends well, where no count rose and there is memory.
-use Rattle.std.proofs.Common.{◌≡◌, ℕ, inl, inr, List, Option, Some, None, refl, sym, subst, ◌∙◌, arith}
+use Rattle.std.proofs.Common.{◌≡◌, ℕ, inl, inr, List, Option, Some, None, ap, refl, sym, subst, ◌∙◌, arith}
 use Rattle.std.specs.Prelude.{◌⊎◌, Bool, false, true}
 use Rattle.command_words.specs.Jobs.{Job, report_name}
-use Rattle.command_words.specs.Jobs.Job.{check_job, classes_job, compare_job, make_job, plan_job}
+use Rattle.command_words.specs.Jobs.Job.{audit_job, check_job, classes_job, compare_job, make_job, plan_job}
 use Rattle.command_words.specs.Line.{Text}
 use Rattle.command_words.specs.Words.{IsWords, Said}
 use Rattle.command_words.proofs.OneMeaning.{words_one}
@@ -10,13 +10,15 @@ use Rattle.coflow_units.specs.declared.quantity.Quantity.{Quantity}
 use Rattle.coflow_units.specs.declared.trace.CoflowLine.{CoflowLine}
 use Rattle.flow_table.specs.Table.{TableFacts}
 use Rattle.rankers.specs.Meaning.{Meaning}
+use Rattle.live_text.specs.Reading.{IsBadAt, IsTextOf}
 use Rattle.outside.specs.Shelf.{Told}
 use Rattle.weights.specs.declared.fault.WeightsFault.{WeightsFault}
 use Rattle.sincronia_cli.specs.declared.status.Status.{Status}
 use Rattle.sincronia_cli.specs.declared.status.Status.TheVariants as status
-use Rattle.sincronia_cli.specs.Causes.{CauseBy, FilesGiveTable, HasCauseInFiles, HasCauseOf}
+use Rattle.sincronia_cli.specs.Causes.{CauseBy, FilesGiveTable, HasCauseInFiles, HasCauseOf, IsBadFor}
 use Rattle.sincronia_cli.specs.Check.{status_for}
-use Rattle.sincronia_cli.specs.Complete.{AreGood, EndsWell, HasReportText, IsReportText, IsStill}
+use Rattle.sincronia_cli.specs.Command.{ReadsFiles}
+use Rattle.sincronia_cli.specs.Complete.{AreGood, EndsWell, HasGoodFiles, HasReportText, IsJournalText, IsReportText, IsStill}
 use Rattle.sincronia_cli.specs.InputCauses.{GiveTable, LimitCause}
 use Rattle.sincronia_cli.specs.InputCauses.LimitCause.{in_table, in_trace, in_weights}
 use Rattle.sincronia_cli.specs.Inputs.{GiveWeights, IsTraceText, bytes_if}
@@ -70,18 +72,40 @@ text_is_good IsText IsBad apart (Some text) (short, report, is) = record {
   fits = λ which count (text_is, told, long). absurd (omega (arith, short, long));
 }
 
--- the same of a report of either kind
-abbrev pub HasGoodReport : Option (List ℕ) → Type 0
-HasGoodReport report = HasNoFault IsAnyBadAt report
-
-pub report_is_good : (report : Option (List ℕ)) → IsReportText report → HasGoodReport report
+report_is_good : (report : Option (List ℕ)) → IsReportText report → HasNoFault IsAnyBadAt report
 report_is_good report good = text_is_good IsAnyText IsAnyBadAt text_or_bad report good
 
-no_report : HasGoodReport None
-no_report = record { line = λ n bad. bad; fits = λ which count (is, told, long). long }
+journal_is_good : (journal : Option (List ℕ)) → IsJournalText journal → HasNoFault IsBadAt journal
+journal_is_good journal good = text_is_good IsTextOf IsBadAt (λ bytes live line text bad. bad.no_text live text) journal good
 
-pub no_report_of : (t : Told) (name : Option (List ℕ)) → name ≡ None → HasGoodReport (bytes_if t name)
-no_report_of t name none = subst (λ (n : Option (List ℕ)). HasGoodReport (bytes_if t n)) (sym none) no_report
+no_report : (IsBad : List ℕ → ℕ → Type 0) → HasNoFault IsBad None
+no_report IsBad = record { line = λ n bad. bad; fits = λ which count (is, told, long). long }
+
+module _ (said : Said) (t : Told) where
+  no_report_of : (k : Job) → said.job ≡ k → report_name k ≡ None → HasNoFault (IsBadFor said.job) (bytes_if t (report_name said.job))
+  no_report_of k same none =
+      subst (λ (n : Option (List ℕ)). HasNoFault (IsBadFor said.job) (bytes_if t n)) (sym (ap report_name same ∙ none)) (no_report (IsBadFor said.job))
+
+  good_of : (k : Job) → said.job ≡ k → HasNoFault (IsBadFor k) (bytes_if t (report_name said.job)) → HasNoFault (IsBadFor said.job) (bytes_if t (report_name said.job))
+  good_of k same good = subst (λ (j : Job). HasNoFault (IsBadFor j) (bytes_if t (report_name said.job))) (sym same) good
+
+  -- the report or the printed journal of good files, where there is one, has no fault
+  pub other_is_good : (k : Job) → said.job ≡ k → HasGoodFiles k said t → HasNoFault (IsBadFor said.job) (bytes_if t (report_name said.job))
+  other_is_good (plan_job trace) same good = no_report_of (plan_job trace) same refl
+  other_is_good (check_job trace report) same (table, text) = good_of (check_job trace report) same (report_is_good (bytes_if t (report_name said.job)) text)
+  other_is_good (make_job seed) same good = no_report_of (make_job seed) same refl
+  other_is_good (compare_job trace) same good = no_report_of (compare_job trace) same refl
+  other_is_good (classes_job trace) same good = no_report_of (classes_job trace) same refl
+  other_is_good (audit_job trace journal) same (table, text) = good_of (audit_job trace journal) same (journal_is_good (bytes_if t (report_name said.job)) text)
+
+  -- good files that are read give a table
+  pub table_is_good : (k : Job) → ReadsFiles k → HasGoodFiles k said t → FilesGiveTable said t
+  table_is_good (plan_job trace) reads table = table
+  table_is_good (check_job trace report) reads (table, text) = table
+  table_is_good (make_job seed) reads good = absurd reads
+  table_is_good (compare_job trace) reads table = table
+  table_is_good (classes_job trace) reads table = table
+  table_is_good (audit_job trace journal) reads (table, text) = table
 
 -- ---- so a command does not end early
 
@@ -104,29 +128,32 @@ files_end before now t new said (status.WireFault port count) cause table report
 abbrev pub NoneFailed : (ℕ → TableFacts → List ℕ → Type 0) → Type 0
 NoneFailed F = (port : ℕ) (t : TableFacts) (ws : List ℕ) → F port t ws → ⊥
 
-by_command : (F : ℕ → TableFacts → List ℕ → Type 0) (k : Job) (before now : ℕ) (old new : Option Told) (said : Said) (s : Status) → report_name said.job ≡ report_name k →
+by_command : (F : ℕ → TableFacts → List ℕ → Type 0) (k : Job) (before now : ℕ) (old new : Option Told) (said : Said) (s : Status) → said.job ≡ k →
     CauseBy F k before now old new said s → AreGood k said old → IsStill before now → NoneFailed F → s ≡ status.NoMemory
-by_command F (plan_job trace) before now None new said s none cause good still wires = absurd good
-by_command F (plan_job trace) before now (Some t) new said s none (inl cause) good still wires =
-    files_end before now t new said s cause good (no_report_of t (report_name said.job) none) still
-by_command F (plan_job trace) before now (Some t) new said s none (inr cause) good still wires =
+by_command F (plan_job trace) before now None new said s same cause good still wires = absurd good
+by_command F (plan_job trace) before now (Some t) new said s same (inl cause) good still wires =
+    files_end before now t new said s cause good (other_is_good said t (plan_job trace) same good) still
+by_command F (plan_job trace) before now (Some t) new said s same (inr cause) good still wires =
     let (port, count, is, serves) = by_wire (λ port. Serves (F port) (plan_job trace) (Some t) said) s cause in
     let (table, list, input, f) = serves in
     absurd (wires port table list f)
-by_command F (check_job trace report) before now None new said s some cause good still wires = absurd good
-by_command F (check_job trace name) before now (Some t) new said s some cause (table, report) still wires =
-    files_end before now t new said s cause table (report_is_good (bytes_if t (report_name said.job)) report) still
-by_command F (make_job seed) before now old new said s none (inl cause) good still wires = by_made s cause
-by_command F (make_job seed) before now old new said s none (inr cause) good still wires =
+by_command F (check_job trace report) before now None new said s same cause good still wires = absurd good
+by_command F (check_job trace report) before now (Some t) new said s same cause good still wires =
+    files_end before now t new said s cause good.0 (other_is_good said t (check_job trace report) same good) still
+by_command F (make_job seed) before now old new said s same (inl cause) good still wires = by_made s cause
+by_command F (make_job seed) before now old new said s same (inr cause) good still wires =
     let (port, count, is, serves) = by_wire (λ port. Serves (F port) (make_job seed) old said) s cause in
     let (table, list, gives, f) = serves in
     absurd (wires port table list f)
-by_command F (compare_job trace) before now None new said s none cause good still wires = absurd good
-by_command F (compare_job trace) before now (Some t) new said s none cause good still wires =
-    files_end before now t new said s cause good (no_report_of t (report_name said.job) none) still
-by_command F (classes_job trace) before now None new said s none cause good still wires = absurd good
-by_command F (classes_job trace) before now (Some t) new said s none cause good still wires =
-    files_end before now t new said s cause good (no_report_of t (report_name said.job) none) still
+by_command F (compare_job trace) before now None new said s same cause good still wires = absurd good
+by_command F (compare_job trace) before now (Some t) new said s same cause good still wires =
+    files_end before now t new said s cause good (other_is_good said t (compare_job trace) same good) still
+by_command F (classes_job trace) before now None new said s same cause good still wires = absurd good
+by_command F (classes_job trace) before now (Some t) new said s same cause good still wires =
+    files_end before now t new said s cause good (other_is_good said t (classes_job trace) same good) still
+by_command F (audit_job trace journal) before now None new said s same cause good still wires = absurd good
+by_command F (audit_job trace journal) before now (Some t) new said s same cause good still wires =
+    files_end before now t new said s cause good.0 (other_is_good said t (audit_job trace journal) same good) still
 
 pub good_files_end : (F : ℕ → TableFacts → List ℕ → Type 0) (words : List Text) (by said : Said) (before now : ℕ) (old new : Option Told) (s : Status) → IsWords words by →
     IsWords words said → HasCauseOf F before now old new by s → AreGood said.job said old → IsStill before now → NoneFailed F →
@@ -148,6 +175,7 @@ written_by S (check_job trace report) told said bench s text (answer, is, checks
 written_by S (make_job seed) told said bench s text outcome = outcome.0
 written_by S (compare_job trace) told said bench s text outcome = outcome.0
 written_by S (classes_job trace) told said bench s text outcome = outcome.0
+written_by S (audit_job trace journal) told said bench s text (answer, is, audits) = answer_ends answer s is
 
 pub written_ends : (S : TableFacts → List (List ℕ) → Type 0) (words : List Text) (by said : Said) (told : Option Told) (bench : List Meaning) (s : Status) (text : List ℕ) →
     IsWords words by → IsWords words said → IsOutcome S told by bench s text →

@@ -7,7 +7,7 @@ use Rattle.coflow_units.specs.declared.quantity.Quantity.TheVariants as quantity
 use Rattle.coflow_units.specs.declared.trace.CoflowLine.{CoflowLine}
 use Rattle.coflow_units.specs.declared.trace.Trace.{Trace}
 use Rattle.command_words.specs.Jobs.{Job, report_name, trace_name}
-use Rattle.command_words.specs.Jobs.Job.{check_job, classes_job, compare_job, make_job, plan_job}
+use Rattle.command_words.specs.Jobs.Job.{audit_job, check_job, classes_job, compare_job, make_job, plan_job}
 use Rattle.command_words.specs.Line.{Text}
 use Rattle.command_words.specs.Words.{IsWords, Said}
 use Rattle.command_words.proofs.OneMeaning.{words_one}
@@ -18,13 +18,11 @@ use Rattle.rankers.specs.Meaning.{Meaning}
 use Rattle.trace_reader.specs.Trace.{trace_of}
 use Rattle.trace_reader.specs.declared.fault.TraceFault.{TraceFault}
 use Rattle.trace_reader.specs.declared.fault.TraceFault.TheVariants as trace_fault
-use Rattle.verdicts.specs.AnyReport.{IsAnyBadAt}
-use Rattle.verdicts.proofs.OneReport.{any_line_one}
 use Rattle.weights.specs.declared.fault.WeightsFault.{WeightsFault}
 use Rattle.weights.specs.declared.fault.WeightsFault.TheVariants as weights_fault
 use Rattle.sincronia_cli.specs.declared.status.Status.{Status}
 use Rattle.sincronia_cli.specs.declared.status.Status.TheVariants as status
-use Rattle.sincronia_cli.specs.Causes.{CauseBy, HasCauseOf, HasFilesCause}
+use Rattle.sincronia_cli.specs.Causes.{CauseBy, HasCauseOf, HasFilesCause, IsBadFor}
 use Rattle.sincronia_cli.specs.Command.{IsOfFiles, ReadsFiles}
 use Rattle.sincronia_cli.specs.Complete.{EndsWell, HasGoodFiles}
 use Rattle.sincronia_cli.specs.FirstCause.{EndsBy, IsFirstCause, IsInterrupted}
@@ -36,8 +34,9 @@ use Rattle.sincronia_cli.specs.ReportCauses.{IsBadReport, IsLongReport}
 use Rattle.sincronia_cli.specs.Serving.{Serves}
 use Rattle.sincronia_cli.specs.TraceCauses.{HasTraceFault, IsTooLong, IsTraceForm}
 use Rattle.sincronia_cli.specs.WeightsCauses.{AreTooLong, IsFaultOf, IsWeightsForm}
+use Rattle.sincronia_cli.proofs.AuditFacts.{bad_line_one}
 use Rattle.sincronia_cli.proofs.EndCauses.{by_wire}
-use Rattle.sincronia_cli.proofs.CompleteFacts.{HasGoodReport, no_report_of, report_is_good, trace_is_good, weights_are_good, written_by}
+use Rattle.sincronia_cli.proofs.CompleteFacts.{HasNoFault, other_is_good, table_is_good, trace_is_good, weights_are_good, written_by}
 
 -- ---- the status of a fault
 
@@ -62,9 +61,10 @@ data WeightsStop (file : Option (List ℕ)) (coflows : List CoflowLine) (s : Sta
 data TableStops (trace : Trace) (unit : ℕ) (s : Status) : Type 0 where
   over : (which : Quantity) (count : ℕ) → ExceedsLimit trace unit which count → s ≡ status.Limit which count → TableStops trace unit s
 
-data ReportStops (report : Option (List ℕ)) (s : Status) : Type 0 where
-  long_report : IsLongReport report → s ≡ status.Limit quantity.Text (MAX_REPORT + 1) → ReportStops report s
-  bad_report : (line : ℕ) → IsBadReport IsAnyBadAt report line → s ≡ status.BadReport line → ReportStops report s
+-- the report of this job, or its printed journal
+data ReportStops (k : Job) (report : Option (List ℕ)) (s : Status) : Type 0 where
+  long_report : IsLongReport report → s ≡ status.Limit quantity.Text (MAX_REPORT + 1) → ReportStops k report s
+  bad_report : (line : ℕ) → IsBadReport (IsBadFor k) report line → s ≡ status.BadReport line → ReportStops k report s
 
 -- ---- each step has one
 
@@ -100,14 +100,14 @@ table_one trace unit a b (over v m (inr (v_is, (few, m_is, long))) e) (over w n 
 table_one trace unit a b (over v m (inl (v_is, (many, m_is))) e) (over w n (inr (w_is, (few, n_is, long))) f) = absurd (omega (arith, many, few))
 table_one trace unit a b (over v m (inr (v_is, (few, m_is, long))) e) (over w n (inl (w_is, (many, n_is))) f) = absurd (omega (arith, many, few))
 
-report_one : (report : Option (List ℕ)) (a b : Status) → ReportStops report a → ReportStops report b → a ≡ b
-report_one None a b (long_report x e) y = absurd x
-report_one None a b (bad_report m x e) y = absurd x
-report_one (Some text) a b (long_report x e) (long_report y f) = e ∙ sym f
-report_one (Some text) a b (long_report x e) (bad_report m (short, bad) f) = absurd (omega (arith, x, short))
-report_one (Some text) a b (bad_report m (short, bad) f) (long_report x e) = absurd (omega (arith, x, short))
-report_one (Some text) a b (bad_report m (short, bad) e) (bad_report n (low, wrong) f) =
-    let one : m ≡ n = any_line_one text m n bad wrong in
+report_one : (k : Job) (report : Option (List ℕ)) (a b : Status) → ReportStops k report a → ReportStops k report b → a ≡ b
+report_one k None a b (long_report x e) y = absurd x
+report_one k None a b (bad_report m x e) y = absurd x
+report_one k (Some text) a b (long_report x e) (long_report y f) = e ∙ sym f
+report_one k (Some text) a b (long_report x e) (bad_report m (short, bad) f) = absurd (omega (arith, x, short))
+report_one k (Some text) a b (bad_report m (short, bad) f) (long_report x e) = absurd (omega (arith, x, short))
+report_one k (Some text) a b (bad_report m (short, bad) e) (bad_report n (low, wrong) f) =
+    let one : m ≡ n = bad_line_one k text m n bad wrong in
     e ∙ ap (λ k. status.BadReport k) one ∙ sym f
 
 -- ---- a step that has one does not go on
@@ -124,25 +124,25 @@ weights_end file coflows list a (bad_weights f h e) good = weights_are_good file
 table_ends : (trace : List ℕ) (file : Option (List ℕ)) (unit : ℕ) (a : Status) → TableStops (trace_of trace) unit a → GiveTable trace file unit → ⊥
 table_ends trace file unit a (over which count x e) good = good.fits which count x
 
-report_ends : (report : Option (List ℕ)) (a : Status) → ReportStops report a → HasGoodReport report → ⊥
-report_ends None a (long_report x e) good = x
-report_ends (Some text) a (long_report x e) good = good.fits quantity.Text (MAX_REPORT + 1) (refl, refl, x)
-report_ends report a (bad_report line x e) good = good.line line x
+report_ends : (k : Job) (report : Option (List ℕ)) (a : Status) → ReportStops k report a → HasNoFault (IsBadFor k) report → ⊥
+report_ends k None a (long_report x e) good = x
+report_ends k (Some text) a (long_report x e) good = good.fits quantity.Text (MAX_REPORT + 1) (refl, refl, x)
+report_ends k report a (bad_report line x e) good = good.line line x
 
 -- ---- the steps in turn
 
-data Stops (trace : List ℕ) (file : Option (List ℕ)) (unit : ℕ) (report : Option (List ℕ)) (s : Status) : Type 0 where
-  at_trace : TraceStops trace s → Stops trace file unit report s
-  at_weights : IsTraceText trace → WeightsStop file (trace_of trace).coflows s → Stops trace file unit report s
-  at_table : IsTraceText trace → (list : List ℕ) → GiveWeights file (trace_of trace).coflows list → TableStops (trace_of trace) unit s → Stops trace file unit report s
-  at_report : GiveTable trace file unit → ReportStops report s → Stops trace file unit report s
-  at_end : GiveTable trace file unit → HasGoodReport report → s ≡ status.Ok → Stops trace file unit report s
+data Stops (k : Job) (trace : List ℕ) (file : Option (List ℕ)) (unit : ℕ) (report : Option (List ℕ)) (s : Status) : Type 0 where
+  at_trace : TraceStops trace s → Stops k trace file unit report s
+  at_weights : IsTraceText trace → WeightsStop file (trace_of trace).coflows s → Stops k trace file unit report s
+  at_table : IsTraceText trace → (list : List ℕ) → GiveWeights file (trace_of trace).coflows list → TableStops (trace_of trace) unit s → Stops k trace file unit report s
+  at_report : GiveTable trace file unit → ReportStops k report s → Stops k trace file unit report s
+  at_end : GiveTable trace file unit → HasNoFault (IsBadFor k) report → s ≡ status.Ok → Stops k trace file unit report s
 
-module _ (trace : List ℕ) (file : Option (List ℕ)) (unit : ℕ) (report : Option (List ℕ)) where
+module _ (k : Job) (trace : List ℕ) (file : Option (List ℕ)) (unit : ℕ) (report : Option (List ℕ)) where
   abbrev coflows : List CoflowLine
   coflows = (trace_of trace).coflows
 
-  stops_one : (a b : Status) → Stops trace file unit report a → Stops trace file unit report b → a ≡ b
+  stops_one : (a b : Status) → Stops k trace file unit report a → Stops k trace file unit report b → a ≡ b
   stops_one a b (at_trace x) (at_trace y) = trace_one trace a b x y
   stops_one a b (at_trace x) (at_weights text y) = absurd (trace_ends trace a x text)
   stops_one a b (at_trace x) (at_table text list give y) = absurd (trace_ends trace a x text)
@@ -161,12 +161,12 @@ module _ (trace : List ℕ) (file : Option (List ℕ)) (unit : ℕ) (report : Op
   stops_one a b (at_report table x) (at_trace y) = absurd (trace_ends trace b y table.gives.trace_text)
   stops_one a b (at_report table x) (at_weights text y) = absurd (weights_end file coflows table.list b y table.gives.weights_are)
   stops_one a b (at_report table x) (at_table text list give y) = absurd (table_ends trace file unit b y table)
-  stops_one a b (at_report table x) (at_report again y) = report_one report a b x y
-  stops_one a b (at_report table x) (at_end again good y) = absurd (report_ends report a x good)
+  stops_one a b (at_report table x) (at_report again y) = report_one k report a b x y
+  stops_one a b (at_report table x) (at_end again good y) = absurd (report_ends k report a x good)
   stops_one a b (at_end table good x) (at_trace y) = absurd (trace_ends trace b y table.gives.trace_text)
   stops_one a b (at_end table good x) (at_weights text y) = absurd (weights_end file coflows table.list b y table.gives.weights_are)
   stops_one a b (at_end table good x) (at_table text list give y) = absurd (table_ends trace file unit b y table)
-  stops_one a b (at_end table good x) (at_report again y) = absurd (report_ends report b y good)
+  stops_one a b (at_end table good x) (at_report again y) = absurd (report_ends k report b y good)
   stops_one a b (at_end table good x) (at_end again fine y) = x ∙ sym y
 
 -- ---- a first cause is one of them
@@ -188,30 +188,22 @@ by_weights (weights_fault.DuplicateId line id) form = refl
 by_weights (weights_fault.Limit line which count) form = absurd form
 by_weights weights_fault.NoMemory form = refl
 
-by_limit : (trace : List ℕ) (file : Option (List ℕ)) (unit : ℕ) (report : Option (List ℕ)) (which : Quantity) (count : ℕ) → LimitCause trace file unit which count →
-    Stops trace file unit report (status.Limit which count)
-by_limit trace file unit report which count (in_trace (inl (is, told, long))) = at_trace (long_trace long (rw (is, told) refl))
-by_limit trace file unit report which count (in_trace (inr (line, bad))) = at_trace (bad_trace _ bad refl)
-by_limit trace file unit report which count (in_weights text (inl (is, told, long))) = at_weights text (long_weights long (rw (is, told) refl))
-by_limit trace file unit report which count (in_weights text (inr (line, bad))) = at_weights text (bad_weights _ bad refl)
-by_limit trace file unit report which count (in_table text list give cause) = at_table text list give (over which count cause refl)
-
-by_good : (k : Job) (said : Said) (t : Told) → ReadsFiles k → report_name said.job ≡ report_name k → HasGoodFiles k said t →
-    Stops (bytes_of t (trace_name said.job)) (bytes_if t said.weights) said.unit (bytes_if t (report_name said.job)) status.Ok
-by_good (plan_job trace) said t reads none table = at_end table (no_report_of t (report_name said.job) none) refl
-by_good (check_job trace report) said t reads some (table, text) = at_end table (report_is_good (bytes_if t (report_name said.job)) text) refl
-by_good (make_job seed) said t reads none good = absurd reads
-by_good (compare_job trace) said t reads none table = at_end table (no_report_of t (report_name said.job) none) refl
-by_good (classes_job trace) said t reads none table = at_end table (no_report_of t (report_name said.job) none) refl
+by_limit : (k : Job) (trace : List ℕ) (file : Option (List ℕ)) (unit : ℕ) (report : Option (List ℕ)) (which : Quantity) (count : ℕ) → LimitCause trace file unit which count →
+    Stops k trace file unit report (status.Limit which count)
+by_limit k trace file unit report which count (in_trace (inl (is, told, long))) = at_trace (long_trace long (rw (is, told) refl))
+by_limit k trace file unit report which count (in_trace (inr (line, bad))) = at_trace (bad_trace _ bad refl)
+by_limit k trace file unit report which count (in_weights text (inl (is, told, long))) = at_weights text (long_weights long (rw (is, told) refl))
+by_limit k trace file unit report which count (in_weights text (inr (line, bad))) = at_weights text (bad_weights _ bad refl)
+by_limit k trace file unit report which count (in_table text list give cause) = at_table text list give (over which count cause refl)
 
 stops_of : (words : List Text) (said : Said) (t : Told) (s : Status) → IsOfFiles words said → IsFirstCause said t s →
-    Stops (bytes_of t (trace_name said.job)) (bytes_if t said.weights) said.unit (bytes_if t (report_name said.job)) s
+    Stops said.job (bytes_of t (trace_name said.job)) (bytes_if t said.weights) said.unit (bytes_if t (report_name said.job)) s
 stops_of words said t (status.BadTrace f) is (form, bad) = at_trace (bad_trace f bad (sym (by_trace f form)))
 stops_of words said t (status.BadWeights f) is (form, (text, bad)) = at_weights text (bad_weights f bad (sym (by_weights f form)))
 stops_of words said t (status.BadReport line) is (table, bad) = at_report table (bad_report line bad refl)
-stops_of words said t (status.Limit which count) is (inl cause) = by_limit _ _ said.unit _ which count cause
+stops_of words said t (status.Limit which count) is (inl cause) = by_limit said.job _ _ said.unit _ which count cause
 stops_of words said t (status.Limit which count) is (inr (table, (text, told, long))) = at_report table (long_report long (rw (text, told) refl))
-stops_of words said t status.Ok is good = by_good said.job said t is.reads refl good
+stops_of words said t status.Ok is good = at_end (table_is_good said t said.job is.reads good) (other_is_good said t said.job refl good) refl
 stops_of words said t status.No is cause = absurd cause
 stops_of words said t status.Usage is cause = absurd cause
 stops_of words said t (status.ReadFault count) is cause = absurd cause
@@ -220,7 +212,7 @@ stops_of words said t (status.WireFault port count) is cause = absurd cause
 stops_of words said t status.NoMemory is cause = absurd cause
 
 pub first_cause_one : (words : List Text) (said : Said) (t : Told) (a b : Status) → IsOfFiles words said → IsFirstCause said t a → IsFirstCause said t b → a ≡ b
-first_cause_one words said t a b is x y = stops_one _ _ _ _ a b (stops_of words said t a is x) (stops_of words said t b is y)
+first_cause_one words said t a b is x y = stops_one said.job _ _ _ _ a b (stops_of words said t a is x) (stops_of words said t b is y)
 
 -- ---- so a command that reads files ends by it
 
@@ -252,6 +244,7 @@ of_files F (check_job trace report) before now old new said s reads why = inl wh
 of_files F (make_job seed) before now old new said s reads why = absurd reads
 of_files F (compare_job trace) before now old new said s reads why = inl why
 of_files F (classes_job trace) before now old new said s reads why = inl why
+of_files F (audit_job trace journal) before now old new said s reads why = inl why
 
 pub first_ends : (F : ℕ → TableFacts → List ℕ → Type 0) (words : List Text) (by said : Said) (before now : ℕ) (old new : Option Told) (s cause : Status) → IsWords words by →
     IsOfFiles words said → HasCauseOf F before now old new by s → IsSomeAnd old (λ t. IsFirstCause said t cause) → EndsBy said.job cause s ⊎ IsInterrupted s

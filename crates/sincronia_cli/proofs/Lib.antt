@@ -9,6 +9,7 @@ pub mod EndCauses
 pub mod OutcomeFacts
 pub mod BenchFacts
 pub mod CheckFacts
+pub mod AuditFacts
 pub mod TurnFacts
 pub mod WrittenFacts
 pub mod CompleteFacts

@@ -1,8 +1,8 @@
 -- What is to be written, by the command of the words.
-use Rattle.std.proofs.Common.{◌≡◌, ℕ, inl, inr, List, refl, subst}
+use Rattle.std.proofs.Common.{◌≡◌, ℕ, inl, inr, List, subst}
 use Rattle.std.specs.Prelude.{Option, IfSome}
 use Rattle.command_words.specs.Jobs.{Job, report_name}
-use Rattle.command_words.specs.Jobs.Job.{check_job, classes_job, compare_job, make_job, plan_job}
+use Rattle.command_words.specs.Jobs.Job.{audit_job, check_job, classes_job, compare_job, make_job, plan_job}
 use Rattle.command_words.specs.Line.{Text}
 use Rattle.command_words.specs.Words.{IsWords, Said}
 use Rattle.command_words.proofs.OneMeaning.{words_one}
@@ -23,14 +23,7 @@ outcome_by S words by said k told bench status text reads is outcome =
     subst (λ (j : Job). OutcomeBy S j told said bench status text) is.job_is
     (subst (λ (s : Said). IsOutcome S told s bench status text) (words_one words by said reads is.words_say) outcome)
 
--- ---- the command of a report that is bad
-
-reports_are_checked : (k : Job) → IsGiven (report_name k) → (trace report : Text) × (k ≡ check_job trace report)
-reports_are_checked (check_job trace report) given = (trace, report, refl)
-reports_are_checked (plan_job trace) given = absurd given
-reports_are_checked (make_job seed) given = absurd given
-reports_are_checked (compare_job trace) given = absurd given
-reports_are_checked (classes_job trace) given = absurd given
+-- ---- a report or a printed journal that is bad
 
 of_files : (F : ℕ → TableFacts → List ℕ → Type 0) (k : Job) (before now : ℕ) (old new : Option Told) (said : Said) (line : ℕ) →
     CauseBy F k before now old new said (status.BadReport line) → HasFilesCause before now old new said (status.BadReport line)
@@ -41,11 +34,9 @@ of_files F (make_job seed) before now old new said line (inl h) = absurd h
 of_files F (make_job seed) before now old new said line (inr h) = absurd h
 of_files F (compare_job trace) before now old new said line h = h
 of_files F (classes_job trace) before now old new said line h = h
+of_files F (audit_job trace journal) before now old new said line h = h
 
-pub bad_report_checked : (F : ℕ → TableFacts → List ℕ → Type 0) (words : List Text) (said : Said) (before now : ℕ) (old new : Option Told) (line : ℕ) (s : Status) →
-    IsWords words said → HasCauseOf F before now old new said s → s ≡ status.BadReport line →
-    (trace report : Text) × IsCommand (check_job trace report) words said × IfSome old (FilesReportFault said line)
-bad_report_checked F words said before now old new line s reads cause is =
-    let (given, fault) = of_files F said.job before now old new said line (subst (λ (x : Status). HasCauseOf F before now old new said x) is cause) in
-    let (trace, report, same) = reports_are_checked said.job given in
-    (trace, report, record { words_say = reads; job_is = same }, fault)
+pub bad_report_given : (F : ℕ → TableFacts → List ℕ → Type 0) (said : Said) (before now : ℕ) (old new : Option Told) (line : ℕ) (s : Status) →
+    HasCauseOf F before now old new said s → s ≡ status.BadReport line → IsGiven (report_name said.job) × IfSome old (FilesReportFault said line)
+bad_report_given F said before now old new line s cause is =
+    of_files F said.job before now old new said line (subst (λ (x : Status). HasCauseOf F before now old new said x) is cause)

@@ -2,7 +2,7 @@
 use Rattle.std.proofs.Common.{◌≡◌, ℕ, ◌<◌, inl, inr, List, [], ◌∷◌, length, subst, sym, arith}
 use Rattle.std.specs.Prelude.{◌⊎◌, Option}
 use Rattle.command_words.specs.Jobs.{Job}
-use Rattle.command_words.specs.Jobs.Job.{check_job, classes_job, compare_job, make_job, plan_job}
+use Rattle.command_words.specs.Jobs.Job.{audit_job, check_job, classes_job, compare_job, make_job, plan_job}
 use Rattle.command_words.specs.Line.{Text}
 use Rattle.command_words.specs.Words.{IsWords, Said}
 use Rattle.flow_table.specs.Table.{TableFacts}
@@ -57,6 +57,8 @@ module _ {W : Type 0} (before after : List W) (S : TableFacts → List (List ℕ
   unsent_by (check_job trace report) told said bench s text outcome (inr serves) none = absurd serves
   unsent_by (compare_job trace) told said bench s text (is, compares) sent none = well s is none
   unsent_by (classes_job trace) told said bench s text (is, classes) sent none = well s is none
+  unsent_by (audit_job trace journal) told said bench s text outcome (inl same) none = same
+  unsent_by (audit_job trace journal) told said bench s text outcome (inr serves) none = absurd serves
 
   pub unsent_for : (told : Option Told) (said : Said) (bench : List Meaning) (s : Status) (text : List ℕ) → IsOutcome S told said bench s text →
       (after ≡ before) ⊎ Serves P said.job told said → (MayHaveSent s → ⊥) → after ≡ before
@@ -82,6 +84,7 @@ module _ {W : Type 0} (faults : W → ℕ) (runs : W → Option (List (ℕ × �
     of_job (check_job trace report) none = absurd none
     of_job (compare_job trace) none = absurd none
     of_job (classes_job trace) none = absurd none
+    of_job (audit_job trace journal) none = absurd none
 
     pub wire_failed : (s : Status) → IsWords words said → HasCauseOf (StopsShort faults runs before after) count_before count_now old new said s →
         s ≡ status.WireFault port count → WireFailed faults runs before after old words port count

@@ -2,7 +2,7 @@
 use Rattle.std.proofs.Common.{◌≡◌, ℕ, List, refl, sym, subst, ◌∙◌}
 use Rattle.std.specs.Prelude.{Bool, Option, Ok, false, true}
 use Rattle.command_words.specs.Jobs.{Job}
-use Rattle.command_words.specs.Jobs.Job.{check_job, classes_job, compare_job, make_job, plan_job}
+use Rattle.command_words.specs.Jobs.Job.{audit_job, check_job, classes_job, compare_job, make_job, plan_job}
 use Rattle.command_words.specs.Line.{Text}
 use Rattle.command_words.specs.Words.{IsWords, Said}
 use Rattle.flow_table.specs.Table.{TableFacts}
@@ -11,13 +11,15 @@ use Rattle.rankers.specs.Meaning.{Meaning}
 use Rattle.outside.specs.Sink.{TakesText}
 use Rattle.sincronia_cli.specs.declared.status.Status.{Status}
 use Rattle.sincronia_cli.specs.declared.status.Status.TheVariants as status
+use Rattle.sincronia_cli.specs.Audit.{AuditOf, WritesSound, WritesUnsound}
 use Rattle.sincronia_cli.specs.Check.{CheckOf, WritesNo, WritesYes, status_for}
 use Rattle.sincronia_cli.specs.Command.{IsCommand}
 use Rattle.sincronia_cli.specs.Classes.{WritesClasses}
 use Rattle.sincronia_cli.specs.Compare.{WritesComparison}
 use Rattle.sincronia_cli.specs.Make.{WritesMade}
-use Rattle.sincronia_cli.specs.Outcome.{IsOutcome, OutcomeBy}
+use Rattle.sincronia_cli.specs.Outcome.{IsOutcome, OutcomeBy, WritesNoBy}
 use Rattle.sincronia_cli.specs.Plan.{WritesPlan}
+use Rattle.sincronia_cli.proofs.AuditFacts.{sure_sound}
 use Rattle.sincronia_cli.proofs.CheckFacts.{OnlineLaw, sure_yes}
 use Rattle.sincronia_cli.proofs.CompareFacts.{writes_comparison}
 use Rattle.sincronia_cli.proofs.OutcomeFacts.{outcome_by}
@@ -56,18 +58,27 @@ module _ {X : Type 0} (E : Type 0) (S : TableFacts → List (List ℕ) → Type 
       let (answer, status_is, checks) = outcome_by S words by said (check_job trace report) told bench s text reads is outcome in
       sure_yes law told said old new text (subst (λ (v : Bool). CheckOf told said v text) (yes_for answer status_is ok) checks) (appended E old new text lent x e takes)
 
-  pub no_written : IsWords words by → IsOutcome S told by bench s text → s ≡ status.No → lent ≡ text → TakesText {E = E} old new lent (Ok x) →
-      (said : Said) × (trace report : Text) × IsCommand (check_job trace report) words said × WritesNo told said old new
-  no_written reads outcome wrong e takes = by_job by.job refl outcome
+  pub sound_written : (trace journal : Text) → IsWords words by → IsCommand (audit_job trace journal) words said → IsOutcome S told by bench s text → s ≡ status.Ok → lent ≡ text →
+      TakesText {E = E} old new lent (Ok x) → WritesSound told said old new
+  sound_written trace journal reads is outcome ok e takes =
+      let (answer, status_is, audits) = outcome_by S words by said (audit_job trace journal) told bench s text reads is outcome in
+      sure_sound told said old new text (subst (λ (v : Bool). AuditOf told said v text) (yes_for answer status_is ok) audits) (appended E old new text lent x e takes)
+
+  pub no_written : IsOutcome S told by bench s text → s ≡ status.No → lent ≡ text → TakesText {E = E} old new lent (Ok x) → WritesNoBy by.job told by old new
+  no_written outcome wrong e takes = by_job by.job outcome
     where
       by_answer : (answer : Bool) → s ≡ status_for answer → CheckOf told by answer text → WritesNo told by old new
       by_answer true is checks = let bad : status.Ok ≡ status.No = sym is ∙ wrong in cc
       by_answer false is checks = record { text = text; checks = checks; written = appended E old new text lent x e takes }
 
-      by_job : (k : Job) → by.job ≡ k → OutcomeBy S k told by bench s text →
-          (said : Said) × (trace report : Text) × IsCommand (check_job trace report) words said × WritesNo told said old new
-      by_job (plan_job trace) same (is, plan) = let bad : status.Ok ≡ status.No = sym is ∙ wrong in cc
-      by_job (check_job trace report) same (answer, is, checks) = (by, trace, report, record { words_say = reads; job_is = same }, by_answer answer is checks)
-      by_job (make_job seed) same (is, made) = let bad : status.Ok ≡ status.No = sym is ∙ wrong in cc
-      by_job (compare_job trace) same (is, compares) = let bad : status.Ok ≡ status.No = sym is ∙ wrong in cc
-      by_job (classes_job trace) same (is, classes) = let bad : status.Ok ≡ status.No = sym is ∙ wrong in cc
+      by_verdict : (answer : Bool) → s ≡ status_for answer → AuditOf told by answer text → WritesUnsound told by old new
+      by_verdict true is audits = let bad : status.Ok ≡ status.No = sym is ∙ wrong in cc
+      by_verdict false is audits = record { text = text; audits = audits; written = appended E old new text lent x e takes }
+
+      by_job : (k : Job) → OutcomeBy S k told by bench s text → WritesNoBy k told by old new
+      by_job (plan_job trace) (is, plan) = let bad : status.Ok ≡ status.No = sym is ∙ wrong in cc
+      by_job (check_job trace report) (answer, is, checks) = by_answer answer is checks
+      by_job (make_job seed) (is, made) = let bad : status.Ok ≡ status.No = sym is ∙ wrong in cc
+      by_job (compare_job trace) (is, compares) = let bad : status.Ok ≡ status.No = sym is ∙ wrong in cc
+      by_job (classes_job trace) (is, classes) = let bad : status.Ok ≡ status.No = sym is ∙ wrong in cc
+      by_job (audit_job trace journal) (answer, is, audits) = by_verdict answer is audits

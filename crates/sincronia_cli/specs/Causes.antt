@@ -1,11 +1,12 @@
 -- Why a command wrote nothing: what is wrong with its files, looked at in this order:
--- the trace, the weights, the table, the report.
+-- the trace, the weights, the table, the report or the printed journal.
 use Rattle.std.specs.Prelude.{ℕ, ◌⊎◌, List, Option, Some, None, IfSome}
 use Rattle.command_words.specs.Jobs.{Job, report_name, trace_name}
-use Rattle.command_words.specs.Jobs.Job.{check_job, classes_job, compare_job, make_job, plan_job}
+use Rattle.command_words.specs.Jobs.Job.{audit_job, check_job, classes_job, compare_job, make_job, plan_job}
 use Rattle.command_words.specs.Words.{Said}
 use Rattle.coflow_units.specs.declared.quantity.Quantity.{Quantity}
 use Rattle.flow_table.specs.Table.{TableFacts}
+use Rattle.live_text.specs.Reading.{IsBadAt}
 use Rattle.outside.specs.Shelf.{Told, bytes_of}
 use Rattle.trace_reader.specs.declared.fault.TraceFault.{TraceFault}
 use Rattle.weights.specs.declared.fault.WeightsFault.{WeightsFault}
@@ -42,10 +43,19 @@ FilesWeightsFault said fault t = HasWeightsFault (bytes_of t (trace_name said.jo
 abbrev pub FilesBadReport : (List ℕ → ℕ → Type 0) → Said → ℕ → Told → Type 0
 FilesBadReport IsBad said line t = FilesGiveTable said t × IsBadReport IsBad (bytes_if t (report_name said.job)) line
 
--- The files give a table, and this is the first line of the other file that no text of a report has: of one of an online
--- run where its first line is that of one, and else of one of a plan.
+-- Where a text of the other file of a job is bad. That of `audit` is a printed journal. All others are reports: of an
+-- online run where the first line is that of one, and else of a plan.
+abbrev pub IsBadFor : Job → List ℕ → ℕ → Type 0
+IsBadFor (plan_job trace) = IsAnyBadAt
+IsBadFor (check_job trace report) = IsAnyBadAt
+IsBadFor (make_job seed) = IsAnyBadAt
+IsBadFor (compare_job trace) = IsAnyBadAt
+IsBadFor (classes_job trace) = IsAnyBadAt
+IsBadFor (audit_job trace journal) = IsBadAt
+
+-- the files give a table, and this is the first line of the other file that no such text has
 abbrev pub FilesReportFault : Said → ℕ → Told → Type 0
-FilesReportFault said line t = FilesBadReport IsAnyBadAt said line t
+FilesReportFault said line t = FilesBadReport (IsBadFor said.job) said line t
 
 -- A quantity of the files is outside its range, and nothing that is looked at before it is wrong:
 -- one of the trace, of the weights or of the table, or the bytes of a report where there is a table.
@@ -75,9 +85,9 @@ HasCauseInFiles IsBad before now old new said (ReadFault count) =
 HasCauseInFiles IsBad before now old new said NoMemory = Unit {0}
 HasCauseInFiles IsBad before now old new said status = ⊥
 
--- the same in a command of this program, which reads reports of both kinds
+-- the same in a command of this program
 abbrev pub HasFilesCause : ℕ → ℕ → Option Told → Option Told → Said → Status → Type 0
-HasFilesCause before now old new said status = HasCauseInFiles IsAnyBadAt before now old new said status
+HasFilesCause before now old new said status = HasCauseInFiles (IsBadFor said.job) before now old new said status
 
 -- the cause of a status that comes before anything is written, in `make`, which reads no file: there was no memory
 abbrev pub HasMadeCause : Status → Type 0
@@ -96,6 +106,7 @@ CauseBy F (make_job seed) before now old new said status =
     HasMadeCause status ⊎ IsWireCause (λ port. Serves (F port) (make_job seed) old said) status
 CauseBy F (compare_job trace) before now old new said status = HasFilesCause before now old new said status
 CauseBy F (classes_job trace) before now old new said status = HasFilesCause before now old new said status
+CauseBy F (audit_job trace journal) before now old new said status = HasFilesCause before now old new said status
 
 -- what is said has this cause of the status
 abbrev pub HasCauseOf : (ℕ → TableFacts → List ℕ → Type 0) → ℕ → ℕ → Option Told → Option Told → Said → Status → Type 0

@@ -2,7 +2,7 @@
 use Rattle.std.specs.Prelude.{◌≡◌, ◌<◌, ◌≤◌, ◌^◌, List}
 use Rattle.coflow_units.specs.declared.limits.TheConstants.{MAX_UNIT}
 use Rattle.command_words.specs.Jobs.{Job}
-use Rattle.command_words.specs.Jobs.Job.{check_job, classes_job, compare_job, make_job, plan_job}
+use Rattle.command_words.specs.Jobs.Job.{audit_job, check_job, classes_job, compare_job, make_job, plan_job}
 use Rattle.command_words.specs.declared.words.TheConstants.{MAX_OPTION_CLASSES}
 use Rattle.command_words.specs.Line.{Text}
 use Rattle.command_words.specs.Words.{IsWords, Said}
@@ -19,6 +19,7 @@ ReadsFiles (check_job trace report) = Unit {0}
 ReadsFiles (make_job seed) = ⊥
 ReadsFiles (compare_job trace) = Unit {0}
 ReadsFiles (classes_job trace) = Unit {0}
+ReadsFiles (audit_job trace journal) = Unit {0}
 
 -- the words are those of a command that reads files
 pub record IsOfFiles (words : List Text) (said : Said) : Type 0 where

@@ -3,6 +3,7 @@ pub mod Inputs
 pub mod Command
 pub mod Plan
 pub mod Check
+pub mod Audit
 pub mod Make
 pub mod Compare
 pub mod Classes

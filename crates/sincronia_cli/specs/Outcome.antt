@@ -1,14 +1,15 @@
 -- What each command has to write, and with which status its job ends then.
 use Rattle.std.specs.Prelude.{◌≡◌, ℕ, Bool, List, Option}
 use Rattle.command_words.specs.Jobs.{Job}
-use Rattle.command_words.specs.Jobs.Job.{check_job, classes_job, compare_job, make_job, plan_job}
+use Rattle.command_words.specs.Jobs.Job.{audit_job, check_job, classes_job, compare_job, make_job, plan_job}
 use Rattle.command_words.specs.Words.{Said}
 use Rattle.flow_table.specs.Table.{TableFacts}
 use Rattle.outside.specs.Shelf.{Told}
 use Rattle.rankers.specs.Meaning.{Meaning}
 use Rattle.sincronia_cli.specs.declared.status.Status.{Status}
 use Rattle.sincronia_cli.specs.declared.status.Status.TheVariants.{No, Ok, WriteFault}
-use Rattle.sincronia_cli.specs.Check.{CheckOf, status_for}
+use Rattle.sincronia_cli.specs.Audit.{AuditOf, WritesUnsound}
+use Rattle.sincronia_cli.specs.Check.{CheckOf, WritesNo, status_for}
 use Rattle.sincronia_cli.specs.Classes.{ClassesOf}
 use Rattle.sincronia_cli.specs.Compare.{ComparisonOf}
 use Rattle.sincronia_cli.specs.Make.{MadeOf}
@@ -24,6 +25,8 @@ module _ (Sent : TableFacts → List (List ℕ) → Type 0) where
   OutcomeBy (make_job seed) told said bench status text = (status ≡ Ok) × MadeOf Sent seed said.unit text
   OutcomeBy (compare_job trace) told said bench status text = (status ≡ Ok) × ComparisonOf told said bench text
   OutcomeBy (classes_job trace) told said bench status text = (status ≡ Ok) × ClassesOf told said text
+  OutcomeBy (audit_job trace journal) told said bench status text =
+      (yes : Bool) × (status ≡ status_for yes) × AuditOf told said yes text
 
   -- what is said has this text and this status
   abbrev pub IsOutcome : Option Told → Said → List Meaning → Status → List ℕ → Type 0
@@ -36,6 +39,12 @@ module _ (Sent : TableFacts → List (List ℕ) → Type 0) where
     pub status : Status
     pub outcome : IsOutcome told said bench status text
     pub written : AppendsBeginning old new text
+
+-- The job answered no, and its line was written: that on a report, or that on a printed journal.
+abbrev pub WritesNoBy : Job → Option Told → Said → Option (List ℕ) → Option (List ℕ) → Type 0
+WritesNoBy (check_job trace report) told said old new = WritesNo told said old new
+WritesNoBy (audit_job trace journal) told said old new = WritesUnsound told said old new
+WritesNoBy job told said old new = ⊥
 
 -- there was a text to be written
 abbrev pub HasText : Status → Type 0

@@ -1,5 +1,5 @@
--- Why the report of a file was not read. A command takes reports of one kind or of more, so where a text is bad is
--- said by the command.
+-- Why the report of a file, or the printed journal, was not read. A command takes texts of one kind or of more, so where
+-- a text is bad is said by the command.
 use Rattle.std.specs.Prelude.{◌≡◌, ℕ, ◌≤◌, ◌<◌, ◌+◌, List, Option, Some, None, IfSome, length}
 use Rattle.coflow_units.specs.declared.limits.TheConstants.{MAX_REPORT}
 use Rattle.coflow_units.specs.declared.quantity.Quantity.{Quantity}

@@ -29,8 +29,8 @@ pub data InputInTurn (trace : List ℕ) (weights : Option (List ℕ)) (status : 
   at_weights : IsTraceText (bytes_of old trace) → IsReadOut place.Trace trace old new →
       FailsAt weights status old new → InputInTurn trace weights status old new
 
--- All files in turn. Either the report was not looked at, or trace and weights were read to their ends and give a table
--- within its limits.
+-- All files in turn. Either the report or the printed journal was not looked at, or trace and weights were read to their
+-- ends and give a table within its limits.
 pub data FilesInTurn (said : Said) (status : Status) (old new : Told) : Type 0 where
   at_input : InputInTurn (trace_name said.job) said.weights status old new → IsAsBefore place.Report old new →
       FilesInTurn said status old new

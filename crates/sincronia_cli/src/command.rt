@@ -2,7 +2,8 @@
 ghost use Rattle.std.specs.Prelude.{◌≡◌, ◌≢◌, ◌≤◌, ◌<◌, ◌^◌, ◌⊎◌, ℕ, [], All, Err, IfErr, IfOk, IfSome, IsSomeAnd, List, OnOk, drop, length, map, take};
 ghost use Rattle.coflow_units.specs.declared.limits.TheConstants.{MAX_PORTS};
 ghost use Rattle.coflow_units.specs.declared.quantity.Quantity.{Quantity};
-ghost use Rattle.command_words.specs.Jobs.Job.{check_job, classes_job, compare_job, make_job, plan_job};
+ghost use Rattle.command_words.specs.Jobs.{report_name};
+ghost use Rattle.command_words.specs.Jobs.Job.{audit_job, check_job, classes_job, compare_job, make_job, plan_job};
 ghost use Rattle.command_words.specs.Line.{texts};
 ghost use Rattle.command_words.specs.Words.{IsWords, Said, said_by};
 ghost use Rattle.outside.specs.Rose.{Rose, RoseOnce};
@@ -10,8 +11,9 @@ ghost use Rattle.rankers.specs.FactsTold.{FactsTold};
 ghost use Rattle.trace_reader.specs.declared.fault.TraceFault.{TraceFault};
 ghost use Rattle.weights.specs.declared.fault.WeightsFault.{WeightsFault};
 ghost use Rattle.served_plans.specs.Sent.{SendsAll, SendsPart, StopsShort};
-ghost use Rattle.sincronia_cli.specs.Causes.{FileFailed, FilesLimit, FilesReportFault, FilesTraceFault, FilesWeightsFault, HasCauseOf};
-ghost use Rattle.sincronia_cli.specs.Check.{WritesNo, WritesYes};
+ghost use Rattle.sincronia_cli.specs.Causes.{FileFailed, FilesLimit, FilesReportFault, FilesTraceFault, FilesWeightsFault, HasCauseOf, IsGiven};
+ghost use Rattle.sincronia_cli.specs.Audit.{WritesSound};
+ghost use Rattle.sincronia_cli.specs.Check.{WritesYes};
 ghost use Rattle.sincronia_cli.specs.Classes.{WritesClasses};
 ghost use Rattle.sincronia_cli.specs.Compare.{WritesComparison};
 ghost use Rattle.sincronia_cli.specs.Command.{Fits, IsCommand, IsOfFiles};
@@ -20,7 +22,7 @@ ghost use Rattle.sincronia_cli.specs.Ends.{CountsFault, IfPastFiles, IsPastFiles
 ghost use Rattle.sincronia_cli.specs.FileCauses.{ShelfFailed};
 ghost use Rattle.sincronia_cli.specs.FirstCause.{EndsBy, IsFirstCause, IsInterrupted};
 ghost use Rattle.sincronia_cli.specs.Make.{WritesMade};
-ghost use Rattle.sincronia_cli.specs.Outcome.{HasText, IsOutcome, WritesBeginning};
+ghost use Rattle.sincronia_cli.specs.Outcome.{HasText, IsOutcome, WritesBeginning, WritesNoBy};
 ghost use Rattle.sincronia_cli.specs.Plan.{WritesPlan};
 ghost use Rattle.sincronia_cli.specs.Serving.{AreStill, MayHaveSent, SendsOnly, Serves, WireFailed};
 ghost use Rattle.sincronia_cli.specs.Shelves.{KeepsFiles, OfBoth, ReadsOut};
@@ -28,6 +30,7 @@ ghost use Rattle.sincronia_cli.specs.TraceCauses.{IsTraceForm};
 ghost use Rattle.sincronia_cli.specs.Turns.{FilesInTurn};
 ghost use Rattle.sincronia_cli.specs.WeightsCauses.{IsWeightsForm};
 
+use crate::auditing::audit_journal;
 use crate::checking::check_report;
 use crate::classing::list_classes;
 use crate::comparing::compare_rankers;
@@ -69,6 +72,13 @@ use std::thread::Threads;
 /// - `classes TRACE` folds the order of `plan` into as many classes as `--classes` says, from 1 to 64, and else 8, and
 ///   writes the class of each coflow, and the schedule that serves the class order with its cost, which is at most the
 ///   cap. `--weights` and `--unit` are as for `plan`.
+/// - `audit TRACE JOURNAL` reads a printed journal of a hall over that trace, by whomever made, and writes one line: yes
+///   with the numbers of its entries, orders and slots where all that it says of them is right, and else no with the first
+///   reason. `--weights` and `--unit` are as for `plan`. A master with the table and the weights answers its entries one
+///   after another. A yes says that each reply is the master's, that the orders, the ranks of pulls and the runs are those
+///   of the entries, and that in each run a flow that owes units, and whose coflow stands in the line, is served or shares
+///   a port with a served flow no later in the line; no flow stands twice in a slot, nor in more slots than it has units.
+///   It says nothing of who asked, nor of when.
 ///
 /// There is a wire for each ingress port that a trace may have, 1025 of them; further ones are left alone. `plan` and `make`
 /// alone use them. Where they tell what they accepted, at `Ok` and `WriteFault` each of them has the units of the plan's
@@ -80,7 +90,8 @@ use std::thread::Threads;
 /// they were and in their order; at all other statuses the bench is as before.
 ///
 /// Files are looked at one after another, and the first fault ends the job: the trace is read, and then its grammar is
-/// tested; so are the weights; then the table of flows is made; then the report is read, and its grammar is tested. A
+/// tested; so are the weights; then the table of flows is made; then the report or the printed journal is read, and its
+/// grammar is tested. A
 /// file is started only where nothing that is looked at before it is wrong. No call that failed is tried again: the
 /// shelf's count of faults rises by one at `ReadFault`, the sink's at `WriteFault`, each up to 2^64 - 1, where it stops,
 /// and neither does at any other status. After a unit that a wire did not accept the run is closed and no further one is
@@ -90,18 +101,20 @@ use std::thread::Threads;
 /// sink tell it, as those in memory do. The others tell their counts of faults alone.
 ///
 /// The statuses are:
-/// - `Ok`: the text was written whole, and the answer of `check` is yes.
-/// - `No`: the answer of `check` is no, and its line was written whole.
+/// - `Ok`: the text was written whole, and the answer of `check` or `audit` is yes.
+/// - `No`: the answer of `check` or `audit` is no, and its line was written whole.
 /// - `Usage`: the words are no command line.
 /// - `BadTrace`: the file is no trace. The fault is its first in reading order.
 /// - `BadWeights`: the trace has no fault, and the file is no weights of its coflows. The fault is the file's first in
 ///   reading order.
 /// - `BadReport`: trace and weights give a table within its limits, and the file is no report of the kind that its first
-///   line tells. The line is the first one that no text of such a report has after the lines before it.
+///   line tells, or, for `audit`, no printed journal. The line is the first one that no text of such a kind has after the
+///   lines before it.
 /// - `Limit`: a quantity of the files is outside its range, and nothing that is looked at before it is wrong. It does
 ///   not come for `make`.
 /// - `ReadFault`: a call to the shelf failed, and its count of faults rose. `count` is 1. The file is the trace, or the
-///   weights where the trace has no fault, or the report where trace and weights give a table within its limits.
+///   weights where the trace has no fault, or the report or the printed journal where trace and weights give a table
+///   within its limits.
 /// - `WriteFault`: a call to the sink failed, and its count of faults rose. `count` is 1. A beginning of the text was
 ///   written, which is shorter than the text.
 /// - `WireFault`: in `plan` or `make` the wire of this ingress port did not accept a unit, and its count of faults rose.
@@ -109,7 +122,7 @@ use std::thread::Threads;
 /// - `NoMemory`: no memory was to be had.
 ///
 /// Where the files of the command are told, the status is the one of the first thing that is wrong with them, or where
-/// they are good `Ok`, or for `check` `Ok` or `No`; only `ReadFault`, `WriteFault`, `WireFault` and `NoMemory` may come in its
+/// they are good `Ok`, or for `check` and `audit` `Ok` or `No`; only `ReadFault`, `WriteFault`, `WireFault` and `NoMemory` may come in its
 /// place, the first three only where a count of faults rises. At `Ok`, `No`, `WriteFault` and `WireFault` those files are good, and every file of the
 /// command was read to its end. After any status but the first three of these nothing was written. The files on the shelf are as before.
 pub fn sincronia<R: Threads + Wait + Sync, H: Shelf, K: Sink, W: Wire + Send>(
@@ -128,9 +141,11 @@ pub fn sincronia<R: Threads + Wait + Sync, H: Shelf, K: Sink, W: Wire + Send>(
         (K.taken out.old) (K.taken out.new) }
     ensures yes { (said : Said) (trace report : List ℕ) → IsCommand (check_job trace report) (texts words.now) said →
         result ≡ Status.Ok → WritesYes (H.told shelf.old) said (K.taken out.old) (K.taken out.new) }
-    ensures no { result ≡ Status.No →
-        (said : Said) × (trace report : List ℕ) × IsCommand (check_job trace report) (texts words.now) said ×
-        WritesNo (H.told shelf.old) said (K.taken out.old) (K.taken out.new) }
+    ensures audit_yes { (said : Said) (trace journal : List ℕ) →
+        IsCommand (audit_job trace journal) (texts words.now) said → result ≡ Status.Ok →
+        WritesSound (H.told shelf.old) said (K.taken out.old) (K.taken out.new) }
+    ensures no { result ≡ Status.No → (said : Said) × IsWords (texts words.now) said ×
+        WritesNoBy said.job (H.told shelf.old) said (K.taken out.old) (K.taken out.new) }
     ensures make { (said : Said) (seed : ℕ) → IsCommand (make_job seed) (texts words.now) said → result ≡ Status.Ok →
         WritesMade (SendsAll W.runs wires.old.items wires.new.items) seed said.unit (K.taken out.old)
         (K.taken out.new) }
@@ -170,7 +185,7 @@ pub fn sincronia<R: Threads + Wait + Sync, H: Shelf, K: Sink, W: Wire + Send>(
         (said : Said) × IsOfFiles (texts words.now) said × IsWeightsForm fault ×
         IfSome (H.told shelf.old) (FilesWeightsFault said fault) }
     ensures bad_report { (line : ℕ) → result ≡ Status.BadReport line →
-        (said : Said) × (trace report : List ℕ) × IsCommand (check_job trace report) (texts words.now) said ×
+        (said : Said) × IsWords (texts words.now) said × IsGiven (report_name said.job) ×
         IfSome (H.told shelf.old) (FilesReportFault said line) }
     ensures limit { (which : Quantity) (count : ℕ) → result ≡ Status.Limit which count →
         (said : Said) × IsOfFiles (texts words.now) said × IfSome (H.told shelf.old) (FilesLimit said which count) }
@@ -262,5 +277,6 @@ fn carry_out<'a, R: Threads + Wait + Sync, H: Shelf, W: Wire + Send>(
         ),
         Job::Compare { trace } => compare_rankers(alloc, trace, words.options, shelf, bench),
         Job::Classes { trace } => list_classes(alloc, trace, words.options, shelf),
+        Job::Audit { trace, journal } => audit_journal(alloc, trace, journal, words.options, shelf),
     }
 }

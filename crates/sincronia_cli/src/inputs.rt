@@ -1,12 +1,14 @@
-//! The files of a command: the trace, the weights of its coflows, and a report.
+//! The files of a command: the trace, the weights of its coflows, and a report or a printed journal.
 ghost use Rattle.std.specs.Prelude.{◌≡◌, ◌≤◌, ℕ, IfErr, IfOk, IfSome, OnOk, length, option_map, replicate};
 ghost use Rattle.coflow_units.specs.declared.limits.TheConstants.{MAX_REPORT, MAX_UNIT};
 ghost use Rattle.coflow_units.specs.Trace.{IsTrace};
 ghost use Rattle.flow_table.specs.Table.{IsTable, IsTableOf};
 ghost use Rattle.outside.specs.declared.shelf.Place4.{Place4};
 ghost use Rattle.outside.specs.Shelf.{bytes_of};
+ghost use Rattle.live_text.specs.Reading.{IsBadAt as IsBadJournalAt};
 ghost use Rattle.report.specs.Reading.{IsBadAt};
 ghost use Rattle.verdicts.specs.AnyReport.{IsAnyBadAt};
+ghost use Rattle.sincronia_cli.specs.Audit.{IsJournalOf};
 ghost use Rattle.sincronia_cli.specs.Check.{IsAnyReportOf, IsReportOf};
 ghost use Rattle.sincronia_cli.specs.Ends.{CountsFault};
 ghost use Rattle.sincronia_cli.specs.FileCauses.{IsFileCause};
@@ -21,6 +23,7 @@ ghost use Rattle.sincronia_cli.specs.WeightsCauses.{IsWeightsCause};
 use crate::status::Status;
 use coflow_units::{Items, MAX_REPORT, MAX_TEXT, NoMemory, Quantity, Trace};
 use flow_table::{Table, TableFault};
+use live_text::{Live, read_live};
 use outside::{Place4, ReadStop, Shelf, read_all};
 use report::{Report, ReportFault, read_report};
 use std::alloc::Global;
@@ -157,6 +160,25 @@ pub fn read_report_file<H: Shelf>(
     let bytes = read_file(alloc, Place4::Report, name, MAX_REPORT, shelf)?;
     let report = read_report(alloc, &bytes)?;
     Ok(report)
+}
+
+/// Reads the printed journal under a name. The error is the status that says why there is none.
+pub(crate) fn read_journal_file<H: Shelf>(
+    alloc: Global,
+    name: &str,
+    shelf: &mut H,
+) -> Result<Live, Status>
+    ensures journal { IfOk result (IsJournalOf (H.told shelf.old) name.now) }
+    ensures read_out { OnOk result (OfBoth (H.told shelf.old) (H.told shelf.new) (IsReadOut Place4.Report name.now)) }
+    ensures others { OfBoth (H.told shelf.old) (H.told shelf.new) (KeepsOthers Place4.Report) }
+    ensures keeps { KeepsFiles (H.told shelf.old) (H.told shelf.new) }
+    ensures counts { CountsFault (H.faults shelf.old) (H.faults shelf.new) result }
+    ensures cause { IfErr result (IsReportCause IsBadJournalAt (H.faults shelf.old) (H.faults shelf.new)
+        (H.told shelf.old) (H.told shelf.new) name.now) }
+{
+    let bytes = read_file(alloc, Place4::Report, name, MAX_REPORT, shelf)?;
+    let live = read_live(alloc, &bytes)?;
+    Ok(live)
 }
 
 /// The bytes of a file of at most `most` bytes.

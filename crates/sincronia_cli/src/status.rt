@@ -13,9 +13,9 @@ use weights::WeightsFault;
 /// one ends the job. Of wires further ones may have failed in the same run.
 #[derive(Clone, Copy, Debug, PartialEq, Eq)]
 pub enum Status {
-    /// The text was written whole. The answer of `check` is yes.
+    /// The text was written whole. The answer of `check` or `audit` is yes.
     Ok,
-    /// The report is not right. The line with the first reason was written whole.
+    /// The report or the printed journal is not right. The line with the first reason was written whole.
     No,
     /// The words are no command.
     Usage,
@@ -23,8 +23,8 @@ pub enum Status {
     BadTrace(TraceFault),
     /// The file is no weights of the trace's coflows. The fault is the first in reading order, and one of form.
     BadWeights(WeightsFault),
-    /// The file is no report of the kind that its first line tells. No text of such a report has this line, counted from 1,
-    /// after the lines before it.
+    /// The file is no report of the kind that its first line tells, or, for `audit`, no printed journal. No text of such a
+    /// kind has this line, counted from 1, after the lines before it.
     BadReport { line: u32 },
     /// A counted quantity is outside its range. The count is told as 2^64 - 1 where it is greater. Of the bytes of a text
     /// and of flows it is one more than the limit.

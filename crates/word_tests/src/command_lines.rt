@@ -50,6 +50,7 @@ fn job_text(rt: &impl Abort, alloc: Global, job: Job<'_>) -> String {
         Job::Make { seed } => format!(in alloc; "Make {seed} -"),
         Job::Compare { trace } => format!(in alloc; "Compare {trace} -"),
         Job::Classes { trace } => format!(in alloc; "Classes {trace} -"),
+        Job::Audit { trace, journal } => format!(in alloc; "Audit {trace} {journal}"),
     };
     had(rt, text)
 }
@@ -109,7 +110,10 @@ compare t => Compare t - - 1 4 1024 1 8 8
 classes t => Classes t - - 1 4 1024 1 8 8
 classes t --classes 1 => Classes t - - 1 4 1024 1 8 1
 --classes=64 classes t --weights w => Classes t - w 1 4 1024 1 8 64
-plan t --classes 02 => Plan t - - 1 4 1024 1 8 2";
+plan t --classes 02 => Plan t - - 1 4 1024 1 8 2
+audit t j => Audit t j - 1 4 1024 1 8 8
+--unit 2 audit t --weights=w j --agents 3 => Audit t j w 2 3 1024 1 8 8
+audit -- -t -j => Audit -t -j - 1 4 1024 1 8 8";
 
 #[test]
 fn lines_that_are_read(rt: HostRuntime) {
@@ -200,7 +204,13 @@ classes t --classes
 classes t --classes 0
 classes t --classes 65
 classes t --classes 1 --classes 1
-plan t --classes 65";
+plan t --classes 65
+audit
+audit t
+audit t j x
+audit t -
+audit - j
+audit t j --unit 0";
 
 #[test]
 fn lines_that_are_refused(rt: HostRuntime) {

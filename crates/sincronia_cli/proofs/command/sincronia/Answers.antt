@@ -10,11 +10,11 @@ use Rattle.sincronia_cli.specs.Outcome.{HasText}
 use Rattle.sincronia_cli.proofs.BenchFacts.{cause_has_no_text, job_of, outcome_has_text}
 use Rattle.sincronia_cli.proofs.CompleteFacts.{good_files_end}
 use Rattle.sincronia_cli.proofs.FirstFacts.{first_ends, text_ends}
-use Rattle.sincronia_cli.proofs.OutcomeFacts.{bad_report_checked}
+use Rattle.sincronia_cli.proofs.OutcomeFacts.{bad_report_given}
 use Rattle.sincronia_cli.proofs.PlanFacts.{begun}
 use Rattle.sincronia_cli.proofs.ServingFacts.{none_failed, past_by_wire, sent_by, unsent_for, wire_failed}
 use Rattle.sincronia_cli.proofs.TurnFacts.{done_by, out_for, text_in_turn, turn_for}
-use Rattle.sincronia_cli.proofs.WrittenFacts.{classes_written, comparison_written, made_written, no_written, plan_written, yes_written}
+use Rattle.sincronia_cli.proofs.WrittenFacts.{classes_written, comparison_written, made_written, no_written, plan_written, sound_written, yes_written}
 use Rattle.sincronia_cli.proofs.command.sincronia.Goals as goal
 
 pub returns-in-Err-Usage-clause-usage : goal.returns-in-Err-Usage-clause-usage
@@ -22,10 +22,10 @@ returns-in-Err-Usage-clause-usage g c = λ e said is. c.in-Err-Usage.ensures.usa
 
 pub returns-in-Err-clause-bad_report : goal.returns-in-Err-clause-bad_report
 returns-in-Err-clause-bad_report g c = λ line e.
-    let checked = bad_report_checked (StopsShort g.W.Wire.faults g.W.Wire.runs c.args.wires.now.items c.carry_out.new.wires.items)
-    (texts c.args.words.now) (said_by c.in-Ok.words) (g.H.Shelf.faults c.args.shelf.now) (g.H.Shelf.faults c.carry_out.new.shelf)
-    (g.H.Shelf.told c.args.shelf.now) (g.H.Shelf.told c.carry_out.new.shelf) line c.in-Err.status c.in-Ok.ensures.said c.in-Err.ensures.cause e in
-    (said_by c.in-Ok.words, checked.0, checked.1, checked.2, checked.3)
+    let bad = bad_report_given (StopsShort g.W.Wire.faults g.W.Wire.runs c.args.wires.now.items c.carry_out.new.wires.items)
+    (said_by c.in-Ok.words) (g.H.Shelf.faults c.args.shelf.now) (g.H.Shelf.faults c.carry_out.new.shelf)
+    (g.H.Shelf.told c.args.shelf.now) (g.H.Shelf.told c.carry_out.new.shelf) line c.in-Err.status c.in-Err.ensures.cause e in
+    (said_by c.in-Ok.words, c.in-Ok.ensures.said, bad.0, bad.1)
 
 pub returns-clause-plan : goal.returns-clause-plan
 returns-clause-plan g c = λ said trace is e.
@@ -42,6 +42,14 @@ returns-clause-yes g c = λ said trace report is e.
     (map (λ b. (goal.Ranker-dyn g (b.vtable, b.value)).meaning b.value) c.args.bench.now.items) c.in-Ok-carry_out.outcome.status c.in-Ok-carry_out.outcome.text.items
     c.deref.result.now (g.K.Sink.taken c.args.out.now) (g.K.Sink.taken c.write_all.new.sink) c.in-Ok-write_all.field-0
     c.yes_bounds_released_schedules.ensures.total trace report
+    c.in-Ok.ensures.said is c.in-Ok-carry_out.ensures.outcome e c.deref.ensures.value c.in-Ok-write_all.ensures.taken
+
+pub returns-clause-audit_yes : goal.returns-clause-audit_yes
+returns-clause-audit_yes g c = λ said trace journal is e.
+    sound_written _ (SendsAll g.W.Wire.runs c.args.wires.now.items c.carry_out.new.wires.items) (texts c.args.words.now) (said_by c.in-Ok.words) said
+    (g.H.Shelf.told c.args.shelf.now)
+    (map (λ b. (goal.Ranker-dyn g (b.vtable, b.value)).meaning b.value) c.args.bench.now.items) c.in-Ok-carry_out.outcome.status c.in-Ok-carry_out.outcome.text.items
+    c.deref.result.now (g.K.Sink.taken c.args.out.now) (g.K.Sink.taken c.write_all.new.sink) c.in-Ok-write_all.field-0 trace journal
     c.in-Ok.ensures.said is c.in-Ok-carry_out.ensures.outcome e c.deref.ensures.value c.in-Ok-write_all.ensures.taken
 
 pub returns-clause-make : goal.returns-clause-make
@@ -96,13 +104,16 @@ returns-clause-in_turn g c = λ said is.
     outcome.text.items ensures.outcome ensures.good ensures.read_out (λ seed e. (ensures.untouched seed e).0))
 
 pub returns-clause-no : goal.returns-clause-no
-returns-clause-no g c = λ e.
-    no_written _ (SendsAll g.W.Wire.runs c.args.wires.now.items c.carry_out.new.wires.items) (texts c.args.words.now) (said_by c.in-Ok.words) (said_by c.in-Ok.words)
-    (g.H.Shelf.told c.args.shelf.now)
-    (map (λ b. (goal.Ranker-dyn g (b.vtable, b.value)).meaning b.value) c.args.bench.now.items) c.in-Ok-carry_out.outcome.status
-    c.in-Ok-carry_out.outcome.text.items
-    c.deref.result.now (g.K.Sink.taken c.args.out.now) (g.K.Sink.taken c.write_all.new.sink) c.in-Ok-write_all.field-0
-    c.in-Ok.ensures.said c.in-Ok-carry_out.ensures.outcome e c.deref.ensures.value c.in-Ok-write_all.ensures.taken
+returns-clause-no g c = λ e. (
+  said_by c.in-Ok.words,
+  c.in-Ok.ensures.said,
+  no_written _ (SendsAll g.W.Wire.runs c.args.wires.now.items c.carry_out.new.wires.items) (texts c.args.words.now) (said_by c.in-Ok.words) (said_by c.in-Ok.words)
+      (g.H.Shelf.told c.args.shelf.now)
+      (map (λ b. (goal.Ranker-dyn g (b.vtable, b.value)).meaning b.value) c.args.bench.now.items) c.in-Ok-carry_out.outcome.status
+      c.in-Ok-carry_out.outcome.text.items
+      c.deref.result.now (g.K.Sink.taken c.args.out.now) (g.K.Sink.taken c.write_all.new.sink) c.in-Ok-write_all.field-0
+      c.in-Ok-carry_out.ensures.outcome e c.deref.ensures.value c.in-Ok-write_all.ensures.taken,
+)
 
 pub returns-in-Err-clause-read_out : goal.returns-in-Err-clause-read_out
 returns-in-Err-clause-read_out g c = λ said is past.

@@ -1,0 +1,91 @@
+-- Printed journals: what their texts say, and what a yes says.
+use Rattle.std.proofs.Common.{◌≡◌, ◌<◌, ◌≤◌, ◌^◌, ℕ, List, Option, Some, None, length, subst, arith}
+use Rattle.std.specs.Prelude.{Err, true}
+use Rattle.coflow_units.proofs.ServedLaws.{grants_patient}
+use Rattle.command_words.specs.Jobs.{Job, report_name}
+use Rattle.command_words.specs.Jobs.Job.{audit_job, check_job, classes_job, compare_job, make_job, plan_job}
+use Rattle.command_words.specs.Words.{Said}
+use Rattle.flow_table.specs.Table.{TableFacts}
+use Rattle.journal.proofs.WereOpened.{were_opened}
+use Rattle.journal.specs.Fold.{state_of}
+use Rattle.journal.specs.Journal.{line_of}
+use Rattle.journal.specs.State.{owed}
+use Rattle.journal_audit.proofs.YesSteps.{yes_clear, yes_slots, yes_within}
+use Rattle.journal_audit.specs.declared.verdict.Audit.{Audit}
+use Rattle.journal_audit.specs.declared.verdict.Audit.TheVariants.{No, Yes}
+use Rattle.journal_audit.specs.Reasons.{IsAudit}
+use Rattle.journal_audit.specs.Sound.{IsSoundLive}
+use Rattle.journal_audit.specs.Stated.{journal_in, opening_for}
+use Rattle.live_text.specs.declared.value.Live.{Live}
+use Rattle.live_text.specs.Live.{IsLive}
+use Rattle.live_text.specs.Reading.{GivesLive, IsBadAt, IsTextOf}
+use Rattle.outside.specs.Shelf.{Told}
+use Rattle.report.specs.declared.fault.ReportFault.{ReportFault}
+use Rattle.verdicts.proofs.OneReport.{any_line_one}
+use Rattle.sincronia_cli.specs.declared.status.Status.{Status}
+use Rattle.sincronia_cli.specs.Audit.{AuditOf, IsJournalIfNamed, IsJournalOf, RunsKeepTheLine, WritesSound, is_yes}
+use Rattle.sincronia_cli.specs.Causes.{IsBadFor}
+use Rattle.sincronia_cli.specs.Plan.{Appends}
+use Rattle.sincronia_cli.specs.ReportCauses.{IsReportCause, IsStatusOfReport}
+use Rattle.sincronia_cli.specs.Shelves.{HasBytes, KeepsFiles}
+use Rattle.sincronia_cli.proofs.CheckFacts.{IsTextIf, text_cause, text_of_file}
+use Rattle.sincronia_cli.proofs.ShelfFacts.{told_before}
+
+-- ---- a text that is bad is bad at one line
+
+journal_not_before : (bytes : List ℕ) (m n : ℕ) → IsBadAt bytes m → IsBadAt bytes n → m < n → ⊥
+journal_not_before bytes m n at_m at_n less = at_m.here (at_n.before m less)
+
+pub bad_line_one : (k : Job) (bytes : List ℕ) (m n : ℕ) → IsBadFor k bytes m → IsBadFor k bytes n → m ≡ n
+bad_line_one (plan_job trace) bytes m n x y = any_line_one bytes m n x y
+bad_line_one (check_job trace report) bytes m n x y = any_line_one bytes m n x y
+bad_line_one (make_job seed) bytes m n x y = any_line_one bytes m n x y
+bad_line_one (compare_job trace) bytes m n x y = any_line_one bytes m n x y
+bad_line_one (classes_job trace) bytes m n x y = any_line_one bytes m n x y
+bad_line_one (audit_job trace journal) bytes m n x y = grind (arith, journal_not_before bytes m n x y, journal_not_before bytes n m y x)
+
+-- ---- a printed journal that is read after the trace and the weights
+
+pub journal_of_file : (old : Option Told) (name bytes lent : List ℕ) (live : Live) → HasBytes old name bytes → lent ≡ bytes → length bytes ≤ 2 ^ 30 → IsTextOf lent live →
+    IsJournalOf old name live
+journal_of_file old name bytes lent live has e short text = record { fits = text.live; reads = text_of_file IsTextOf old name bytes lent live has e short text }
+
+pub journal_cause : (before now : ℕ) (old new : Option Told) (name bytes lent : List ℕ) (fault : ReportFault) (s : Status) → HasBytes old name bytes → lent ≡ bytes →
+    length bytes ≤ 2 ^ 30 → GivesLive lent (Err fault) → IsStatusOfReport fault s → IsReportCause IsBadAt before now old new name s
+journal_cause before now old new name bytes lent fault s has e short bad is =
+    text_cause IsBadAt before now old new name bytes lent fault s has e short (λ line same. subst (λ (f : ReportFault). GivesLive lent (Err f)) same bad) is
+
+pub journal_before : (old mid : Option Told) (name : List ℕ) (live : Live) → KeepsFiles old mid → IsJournalOf mid name live → IsJournalOf old name live
+journal_before old mid name live keeps is = record { fits = is.fits; reads = told_before old mid (Some name) (IsTextIf IsTextOf live) keeps is.reads }
+
+-- ---- a yes
+
+sound_of : (t : TableFacts) (weights : List ℕ) (l : Live) (verdict : Audit) → true ≡ is_yes verdict → IsAudit t weights l verdict → IsSoundLive t weights l
+sound_of t weights l (Yes entries versions slots) is right = right.sound
+sound_of t weights l (No reason) is why = cc
+
+live_of : (told : Option Told) (name : Option (List ℕ)) (l : Live) → IsJournalIfNamed told name l → IsLive l
+live_of told None l is = absurd is
+live_of told (Some name) l is = is.fits
+
+keeps_the_line : (t : TableFacts) (weights : List ℕ) (l : Live) → IsLive l → IsSoundLive t weights l → RunsKeepTheLine t weights l
+keeps_the_line t weights l live right =
+    let o = opening_for t weights l in
+    record {
+      closed = yes_slots t weights l live right;
+      opened = (were_opened o (journal_in t l) right.legal).1;
+      patient = λ r f x lt in_line owes. grants_patient t.flows (line_of o x.before) (owed o (state_of o x.before)) r.granted f x.grants lt in_line owes;
+      once = yes_clear t weights l live right;
+      within = λ f. yes_within t weights l live right f;
+    }
+
+pub sure_sound : (told : Option Told) (said : Said) (old new : Option (List ℕ)) (text : List ℕ) → AuditOf told said true text → Appends old new text → WritesSound told said old new
+sure_sound told said old new text audits written =
+    let right = sound_of audits.table audits.weights audits.live audits.verdict audits.yes_is audits.audited in
+    record {
+      text = text;
+      audits = audits;
+      right = right;
+      keeps = keeps_the_line audits.table audits.weights audits.live (live_of told (report_name said.job) audits.live audits.live_is) right;
+      written = written;
+    }
