@@ -41,25 +41,27 @@ fn expect(rt: &impl Abort, alloc: Global, trace: &str, unit: u64, want: &str) {
     assert_eq!(rt; have.as_str(), want);
 }
 
+/// The reducers of a coflow, how many megabytes a unit has, and what is told.
+const UNITS: [(&str, u64, &str); 9] = [
+    ("1:0.000001", 1, "7 0, 0 1 1; "),
+    ("1:1", 1, "7 0, 0 1 1; "),
+    ("1:1.000001", 1, "7 0, 0 1 2; "),
+    ("1:3", 2, "7 0, 0 1 2; "),
+    ("1:1048576", 1_048_576, "7 0, 0 1 1; "),
+    ("1:1048576.000001", 1_048_576, "7 0, 0 1 2; "),
+    ("1:1099511627776", 1, "7 0, 0 1 1099511627776; "),
+    ("1:1099511627776 0:1", 2, "7 0, 0 0 1, 0 1 549755813888; "),
+    (
+        "1:1099511627776 0:1",
+        1,
+        "Units of 1099511627777 are too many",
+    ),
+];
+
 /// Units are rounded up, and have a limit.
 #[test]
 fn units_of_megabytes(rt: HostRuntime) {
-    let rows = [
-        ("1:0.000001", 1, "7 0, 0 1 1; "),
-        ("1:1", 1, "7 0, 0 1 1; "),
-        ("1:1.000001", 1, "7 0, 0 1 2; "),
-        ("1:3", 2, "7 0, 0 1 2; "),
-        ("1:1048576", 1_048_576, "7 0, 0 1 1; "),
-        ("1:1048576.000001", 1_048_576, "7 0, 0 1 2; "),
-        ("1:1099511627776", 1, "7 0, 0 1 1099511627776; "),
-        ("1:1099511627776 0:1", 2, "7 0, 0 0 1, 0 1 549755813888; "),
-        (
-            "1:1099511627776 0:1",
-            1,
-            "Units of 1099511627777 are too many",
-        ),
-    ];
-    for (reducers, unit, want) in rows {
+    for (reducers, unit, want) in UNITS {
         let count = reducers.split(' ').count();
         let trace = format!(in rt.alloc(); "1 1\n7 0 1 0 {count} {reducers}\n");
         expect(&rt, rt.alloc(), had(&rt, trace).as_str(), unit, want);
