@@ -1,0 +1,4 @@
+pub mod Followed
+pub mod Driven
+pub mod Rounds
+pub mod Ends
