@@ -1,7 +1,12 @@
 //! Verdicts on online runs.
-ghost use Rattle.std.specs.Prelude.{◌≡◌, ◌≤◌, ◌+◌, All, IfOk, IsTrue, length};
-ghost use Rattle.coflow_units.specs.declared.limits.TheConstants.{MAX_ARRIVAL, MAX_WEIGHT};
+ghost use Rattle.std.specs.Prelude.{◌≤◌, ◌<◌, ◌+◌, All, IsTrue, map};
+ghost use Rattle.std.specs.List.Sorted.{IsStrictlyIncreasing};
+ghost use Rattle.coflow_units.specs.declared.limits.TheConstants.{MAX_ARRIVAL, MAX_UNITS, MAX_WEIGHT};
 ghost use Rattle.online_text.specs.Online.{IsOnline};
+ghost use Rattle.cert_check.specs.Sound.{AreLoadsOf};
+ghost use Rattle.coflow_units.specs.declared.fabric.Port.{Port};
+ghost use Rattle.port_load.specs.LoadTable.{total_at};
+ghost use Rattle.online_text.specs.declared.value.Epoch.{Epoch};
 ghost use Rattle.report.specs.Report.{HasSmallNumbers, IsReport};
 
 use coflow_units::{Items, MAX_ARRIVAL, MAX_TEXT, MAX_WEIGHT, Port, Side};
@@ -11,20 +16,35 @@ use online_text::{DoneLine, Epoch, Online, ReleaseLine};
 use port_load::Loads;
 use report::{Report, read_report};
 use std::alloc::Global;
+use std::fmt::Debug;
 use std::process::Abort;
-use std::test::Fail;
-use trace_reader::read_trace;
+use trace_tables::table_of_text;
 
 /// A coflow of 6 units, and one of 1 unit that arrives two slots later. They share both ports.
 const LATE: &str = "2 2\n1 0 1 0 1 1:6\n2 16 1 0 1 1:1\n";
 
-/// The flows of a trace, where a unit has one megabyte.
-pub(crate) fn table_of(alloc: Global, trace: &str) -> Result<Table, Fail> {
-    if trace.len() > MAX_TEXT {
-        return Err(Fail::new("a long trace"));
+/// The value of an answer.
+pub(crate) fn had<T, E: Debug + Drop>(rt: &impl Abort, answer: Result<T, E>) -> T {
+    match answer {
+        Ok(value) => value,
+        Err(fault) => panic!(rt; "{fault:?}"),
     }
-    let trace = read_trace(alloc, trace.as_bytes())?;
-    Ok(Table::build(alloc, &trace, 1)?)
+}
+
+/// The flows of a trace, where a unit has one megabyte.
+pub(crate) fn table_of(rt: &impl Abort, alloc: Global, trace: &str) -> Table {
+    had(rt, table_of_text(alloc, trace.as_bytes(), 1))
+}
+
+/// The loads of a table.
+pub(crate) fn loads_of(rt: &impl Abort, alloc: Global, table: &Table) -> Loads
+    ensures loads { AreLoadsOf table.now result }
+    ensures totals { (port : Port) → port.number < table.now.ports → total_at result port ≤ MAX_UNITS }
+{
+    let Ok(loads) = Loads::of(alloc, table.flows(), table.coflows(), table.ports()) else {
+        panic!(rt; "no memory");
+    };
+    loads
 }
 
 /// Tests what the check requires of weights.
@@ -55,100 +75,137 @@ pub(crate) struct Stated<'a> {
 }
 
 /// The online run that a row states.
-fn online_of(alloc: Global, stated: Stated) -> Result<Online, Fail>
-    ensures { IfOk result IsOnline }
+fn online_of(rt: &impl Abort, alloc: Global, stated: Stated) -> Online
+    ensures { IsOnline result }
 {
-    let release = release_lines(alloc, stated.release)?;
-    online_with(alloc, release, stated)
+    let release = release_lines(rt, alloc, stated.release);
+    online_with(rt, alloc, release, stated)
 }
 
 /// The online run that a row states, with this certificate and one publishing of which nothing is right.
 pub(crate) fn online_with(
+    rt: &impl Abort,
     alloc: Global,
     release: Items<ReleaseLine>,
     stated: Stated,
-) -> Result<Online, Fail>
-    ensures { IfOk result IsOnline }
+) -> Online
+    ensures { IsOnline result }
 {
-    let Report { runs, .. } = report_of(alloc, stated.runs)?;
-    let mut epochs = Vec::new(alloc);
-    let places = Items::from_vec(Vec::new(alloc));
-    epochs.push(Epoch {
-        time: 9,
-        places,
-        bound: 99,
-    })?;
-    Ok(Online {
-        epochs: Items::from_vec(epochs),
-        done: lines_done(alloc, stated.done)?,
+    let Report { runs, .. } = report_of(rt, alloc, stated.runs);
+    Online {
+        epochs: epochs_of(rt, alloc),
+        done: lines_done(rt, alloc, stated.done),
         cost: stated.cost,
         release,
         total: stated.total,
         runs,
-    })
+    }
+}
+
+/// One publishing of which nothing is right.
+fn epochs_of(rt: &impl Abort, alloc: Global) -> Items<Epoch>
+    ensures { IsStrictlyIncreasing (map (λ (e : Epoch). e.time) result) }
+{
+    let places = Items::from_vec(Vec::new(alloc));
+    let mut epochs = Vec::new(alloc);
+    had(
+        rt,
+        epochs.push(Epoch {
+            time: 9,
+            places,
+            bound: 99,
+        }),
+    );
+    Items::from_vec(epochs)
+}
+
+/// The text of a report that has these runs and nothing else.
+fn report_text(rt: &impl Abort, alloc: Global, runs: &str) -> String {
+    let begins = "sincronia 1\nbound 0\nslack 0\ncost 0\n";
+    let mut text = had(rt, String::from_str(alloc, begins));
+    for run in runs.split('/') {
+        had(rt, write!(text, "{run}\n"));
+    }
+    had(rt, text.push_str("end\n"));
+    text
 }
 
 /// A report that has these runs and nothing else.
-fn report_of(alloc: Global, runs: &str) -> Result<Report, Fail>
-    ensures { IfOk result (λ r. IsReport r × HasSmallNumbers r) }
+fn report_of(rt: &impl Abort, alloc: Global, runs: &str) -> Report
+    ensures { IsReport result × HasSmallNumbers result }
 {
-    let mut text = String::from_str(alloc, "sincronia 1\nbound 0\nslack 0\ncost 0\n")?;
-    for run in runs.split('/') {
-        text.push_str(run)?;
-        text.push_str("\n")?;
-    }
-    text.push_str("end\n")?;
-    if text.len() > MAX_TEXT {
-        return Err(Fail::new("a long text"));
-    }
-    Ok(read_report(alloc, text.as_bytes())?)
+    let text = report_text(rt, alloc, runs);
+    assert!(rt; text.len() <= MAX_TEXT);
+    let Ok(report) = read_report(alloc, text.as_bytes()) else {
+        panic!(rt; "no report");
+    };
+    report
 }
 
 /// The lines of the completions.
-fn lines_done(alloc: Global, done: &[(u32, u64)]) -> Result<Items<DoneLine>, Fail> {
+fn lines_done(rt: &impl Abort, alloc: Global, done: &[(u32, u64)]) -> Items<DoneLine> {
     let mut lines = Vec::new(alloc);
     for (id, slot) in done {
-        lines.push(DoneLine {
+        let line = DoneLine {
             id: *id,
             slot: *slot,
-        })?;
+        };
+        had(rt, lines.push(line));
     }
-    Ok(Items::from_vec(lines))
+    Items::from_vec(lines)
 }
 
 /// The lines of the certificate.
 fn release_lines(
+    rt: &impl Abort,
     alloc: Global,
     release: &[(u32, u32, u128, u128)],
-) -> Result<Items<ReleaseLine>, Fail> {
+) -> Items<ReleaseLine> {
     let mut lines = Vec::new(alloc);
     for (id, number, y, z) in release {
         let port = Port {
             side: Side::Ingress,
             number: *number,
         };
-        lines.push(ReleaseLine {
+        let line = ReleaseLine {
             id: *id,
             port,
             y: *y,
             z: *z,
-        })?;
+        };
+        had(rt, lines.push(line));
     }
-    Ok(Items::from_vec(lines))
+    Items::from_vec(lines)
+}
+
+/// The verdict on an online run.
+pub(crate) fn verdict_of(
+    rt: &impl Abort,
+    alloc: Global,
+    table: &Table,
+    weights: &[u64],
+    arrivals: &[u64],
+    online: &Online,
+) -> OnlineVerdict
+    requires online { IsOnline online.now }
+{
+    assert!(rt; weights.len() == table.coflows() as usize);
+    assert!(rt; arrivals.len() == table.coflows() as usize);
+    let fit = are_weights(weights) && are_arrivals(arrivals);
+    assert!(rt; fit);
+    let loads = loads_of(rt, alloc, table);
+    had(
+        rt,
+        check_online(alloc, table, &loads, weights, arrivals, online),
+    )
 }
 
 /// The verdict on what a row states of the two coflows, with weights 1.
-fn verdict_of(rt: &impl Abort, alloc: Global, stated: Stated) -> Result<String, Fail> {
-    let table = table_of(alloc, LATE)?;
-    let weights = [1, 1];
-    let arrivals = [0, 2];
-    assert!(rt; table.coflows() == 2);
-    let fit = are_weights(&weights) && are_arrivals(&arrivals);
-    assert!(rt; fit);
-    let online = online_of(alloc, stated)?;
-    let loads = Loads::of(alloc, table.flows(), table.coflows(), table.ports())?;
-    let verdict = check_online(alloc, &table, &loads, &weights, &arrivals, &online)?;
-    Ok(format!(in alloc; "{verdict:?}")?)
+fn told(rt: &impl Abort, alloc: Global, stated: Stated) -> String {
+    let table = table_of(rt, alloc, LATE);
+    let online = online_of(rt, alloc, stated);
+    let verdict = verdict_of(rt, alloc, &table, &[1, 1], &[0, 2], &online);
+    had(rt, format!(in alloc; "{verdict:?}"))
 }
 
 /// What the online run of the two coflows states where orders are published each four slots.
@@ -170,218 +227,229 @@ pub(crate) const LATER_WRONG: Stated<'static> = Stated {
 };
 
 /// Tries rows, each a text beside its verdict.
-fn try_rows(rt: &impl Abort, alloc: Global, rows: &[(Stated, &str)]) -> Result<(), Fail> {
+fn try_rows(rt: &impl Abort, alloc: Global, rows: &[(Stated, &str)]) {
     for (stated, want) in rows {
-        let have = verdict_of(rt, alloc, *stated)?;
+        let have = told(rt, alloc, *stated);
         assert_eq!(rt; have.as_str(), *want);
     }
-    Ok(())
 }
+
+const RIGHT_RUNS: [(Stated<'static>, &str); 4] = [
+    (RIGHT, "Yes"),
+    (Stated { total: 9, ..RIGHT }, "Yes"),
+    (Stated { total: 0, ..RIGHT }, "Yes"),
+    (
+        Stated {
+            done: &[(1, 7), (2, 3)],
+            cost: 10,
+            runs: "run 2 0/run 1 1/run 4 0",
+            ..RIGHT
+        },
+        "Yes",
+    ),
+];
 
 /// A total may be below that of the certificate, and the short coflow may be served in the slot behind its arrival.
 #[test]
-fn right_runs(rt: HostRuntime) -> Result<(), Fail> {
-    let rows = [
-        (RIGHT, "Yes"),
-        (Stated { total: 9, ..RIGHT }, "Yes"),
-        (Stated { total: 0, ..RIGHT }, "Yes"),
-        (
-            Stated {
-                done: &[(1, 7), (2, 3)],
-                cost: 10,
-                runs: "run 2 0/run 1 1/run 4 0",
-                ..RIGHT
-            },
-            "Yes",
-        ),
-    ];
-    try_rows(&rt, rt.alloc(), &rows)
+fn right_runs(rt: HostRuntime) {
+    try_rows(&rt, rt.alloc(), &RIGHT_RUNS);
 }
+
+const WRONG_CERTIFICATES: [(Stated<'static>, &str); 11] = [
+    (
+        Stated {
+            release: &[],
+            ..LATER_WRONG
+        },
+        "No(NotPermutation { place: 1 })",
+    ),
+    (
+        Stated {
+            release: &[(3, 9, 0, 0)],
+            ..LATER_WRONG
+        },
+        "No(NotPermutation { place: 1 })",
+    ),
+    (
+        Stated {
+            release: &[(2, 9, 0, 0)],
+            ..LATER_WRONG
+        },
+        "No(NotPermutation { place: 2 })",
+    ),
+    (
+        Stated {
+            release: &[(2, 9, 0, 0), (2, 9, 0, 0)],
+            ..LATER_WRONG
+        },
+        "No(NotPermutation { place: 2 })",
+    ),
+    (
+        Stated {
+            release: &[(2, 9, 0, 0), (1, 9, 0, 0), (1, 9, 0, 0)],
+            ..LATER_WRONG
+        },
+        "No(NotPermutation { place: 3 })",
+    ),
+    (
+        Stated {
+            release: &[(2, 2, 0, 0), (1, 3, 0, u128::MAX)],
+            ..LATER_WRONG
+        },
+        "No(PortRange { place: 2, number: 3 })",
+    ),
+    (
+        Stated {
+            release: &[(2, 0, 0, 916259689815), (1, 0, 183251937962, 5)],
+            ..LATER_WRONG
+        },
+        "No(Infeasible { coflow: 0 })",
+    ),
+    (
+        Stated {
+            release: &[(2, 0, 0, 916259689815), (1, 0, 183251937962, 4)],
+            ..LATER_WRONG
+        },
+        "No(Infeasible { coflow: 1 })",
+    ),
+    (
+        Stated {
+            release: &[(2, 0, 0, u128::MAX), (1, 0, 183251937962, 4)],
+            ..LATER_WRONG
+        },
+        "No(Infeasible { coflow: 1 })",
+    ),
+    (LATER_WRONG, "No(TotalTooHigh { stated: 99, real: 10 })"),
+    (
+        Stated { total: 11, ..RIGHT },
+        "No(TotalTooHigh { stated: 11, real: 10 })",
+    ),
+];
 
 /// The certificate spends all that both coflows have, so one part more is too much. What is looked at later is wrong too.
 #[test]
-fn wrong_certificates(rt: HostRuntime) -> Result<(), Fail> {
-    let rows = [
-        (
-            Stated {
-                release: &[],
-                ..LATER_WRONG
-            },
-            "No(NotPermutation { place: 1 })",
-        ),
-        (
-            Stated {
-                release: &[(3, 9, 0, 0)],
-                ..LATER_WRONG
-            },
-            "No(NotPermutation { place: 1 })",
-        ),
-        (
-            Stated {
-                release: &[(2, 9, 0, 0)],
-                ..LATER_WRONG
-            },
-            "No(NotPermutation { place: 2 })",
-        ),
-        (
-            Stated {
-                release: &[(2, 9, 0, 0), (2, 9, 0, 0)],
-                ..LATER_WRONG
-            },
-            "No(NotPermutation { place: 2 })",
-        ),
-        (
-            Stated {
-                release: &[(2, 9, 0, 0), (1, 9, 0, 0), (1, 9, 0, 0)],
-                ..LATER_WRONG
-            },
-            "No(NotPermutation { place: 3 })",
-        ),
-        (
-            Stated {
-                release: &[(2, 2, 0, 0), (1, 3, 0, u128::MAX)],
-                ..LATER_WRONG
-            },
-            "No(PortRange { place: 2, number: 3 })",
-        ),
-        (
-            Stated {
-                release: &[(2, 0, 0, 916259689815), (1, 0, 183251937962, 5)],
-                ..LATER_WRONG
-            },
-            "No(Infeasible { coflow: 0 })",
-        ),
-        (
-            Stated {
-                release: &[(2, 0, 0, 916259689815), (1, 0, 183251937962, 4)],
-                ..LATER_WRONG
-            },
-            "No(Infeasible { coflow: 1 })",
-        ),
-        (
-            Stated {
-                release: &[(2, 0, 0, u128::MAX), (1, 0, 183251937962, 4)],
-                ..LATER_WRONG
-            },
-            "No(Infeasible { coflow: 1 })",
-        ),
-        (LATER_WRONG, "No(TotalTooHigh { stated: 99, real: 10 })"),
-        (
-            Stated { total: 11, ..RIGHT },
-            "No(TotalTooHigh { stated: 11, real: 10 })",
-        ),
-    ];
-    try_rows(&rt, rt.alloc(), &rows)
+fn wrong_certificates(rt: HostRuntime) {
+    try_rows(&rt, rt.alloc(), &WRONG_CERTIFICATES);
 }
+
+const LATER_SCHEDULES: Stated<'static> = Stated {
+    done: &[],
+    cost: 99,
+    ..RIGHT
+};
+
+const WRONG_SCHEDULES: [(Stated<'static>, &str); 6] = [
+    (
+        Stated {
+            runs: "run 1 1/run 6 0/run 1 2",
+            ..LATER_SCHEDULES
+        },
+        "No(NoFlow { slot: 8, flow: 2 })",
+    ),
+    (
+        Stated {
+            runs: "run 1 0 1/run 4 0",
+            ..LATER_SCHEDULES
+        },
+        "No(ClashIn { slot: 1, port: Port { side: Ingress, number: 0 } })",
+    ),
+    (
+        Stated {
+            runs: "run 1 1/run 5 0",
+            ..LATER_SCHEDULES
+        },
+        "No(UnitsOf { flow: 0, have: 5, want: 6 })",
+    ),
+    (
+        Stated {
+            runs: "run 1 1/run 6 0",
+            ..LATER_SCHEDULES
+        },
+        "No(Early { slot: 1, coflow: 1 })",
+    ),
+    (
+        Stated {
+            runs: "run 1 0/run 1 1/run 5 0",
+            ..LATER_SCHEDULES
+        },
+        "No(Early { slot: 2, coflow: 1 })",
+    ),
+    (
+        Stated {
+            runs: "run 2 0/run 1 1/run 4 0",
+            ..LATER_SCHEDULES
+        },
+        "No(Listed { index: 1 })",
+    ),
+];
 
 /// The short coflow arrives at time 2, so the first slot that may hold it is the third.
 #[test]
-fn wrong_schedules(rt: HostRuntime) -> Result<(), Fail> {
-    let later = Stated {
-        done: &[],
-        cost: 99,
-        ..RIGHT
-    };
-    let rows = [
-        (
-            Stated {
-                runs: "run 1 1/run 6 0/run 1 2",
-                ..later
-            },
-            "No(NoFlow { slot: 8, flow: 2 })",
-        ),
-        (
-            Stated {
-                runs: "run 1 0 1/run 4 0",
-                ..later
-            },
-            "No(ClashIn { slot: 1, port: Port { side: Ingress, number: 0 } })",
-        ),
-        (
-            Stated {
-                runs: "run 1 1/run 5 0",
-                ..later
-            },
-            "No(UnitsOf { flow: 0, have: 5, want: 6 })",
-        ),
-        (
-            Stated {
-                runs: "run 1 1/run 6 0",
-                ..later
-            },
-            "No(Early { slot: 1, coflow: 1 })",
-        ),
-        (
-            Stated {
-                runs: "run 1 0/run 1 1/run 5 0",
-                ..later
-            },
-            "No(Early { slot: 2, coflow: 1 })",
-        ),
-        (
-            Stated {
-                runs: "run 2 0/run 1 1/run 4 0",
-                ..later
-            },
-            "No(Listed { index: 1 })",
-        ),
-    ];
-    try_rows(&rt, rt.alloc(), &rows)
+fn wrong_schedules(rt: HostRuntime) {
+    try_rows(&rt, rt.alloc(), &WRONG_SCHEDULES);
 }
+
+const LATER_COMPLETIONS: Stated<'static> = Stated { cost: 99, ..RIGHT };
+
+const WRONG_COMPLETIONS: [(Stated<'static>, &str); 9] = [
+    (
+        Stated {
+            done: &[],
+            ..LATER_COMPLETIONS
+        },
+        "No(Listed { index: 1 })",
+    ),
+    (
+        Stated {
+            done: &[(1, 9)],
+            ..LATER_COMPLETIONS
+        },
+        "No(Listed { index: 2 })",
+    ),
+    (
+        Stated {
+            done: &[(2, 9), (1, 9)],
+            ..LATER_COMPLETIONS
+        },
+        "No(Listed { index: 1 })",
+    ),
+    (
+        Stated {
+            done: &[(1, 9), (1, 9)],
+            ..LATER_COMPLETIONS
+        },
+        "No(Listed { index: 2 })",
+    ),
+    (
+        Stated {
+            done: &[(1, 9), (2, 9), (2, 9)],
+            ..LATER_COMPLETIONS
+        },
+        "No(Listed { index: 3 })",
+    ),
+    (
+        Stated {
+            done: &[(1, 8), (2, 4)],
+            ..LATER_COMPLETIONS
+        },
+        "No(DoneWrong { coflow: 0, stated: 8, real: 7 })",
+    ),
+    (
+        Stated {
+            done: &[(1, 7), (2, 4)],
+            ..LATER_COMPLETIONS
+        },
+        "No(DoneWrong { coflow: 1, stated: 4, real: 5 })",
+    ),
+    (LATER_COMPLETIONS, "No(CostWrong { stated: 99, real: 12 })"),
+    (
+        Stated { cost: 11, ..RIGHT },
+        "No(CostWrong { stated: 11, real: 12 })",
+    ),
+];
 
 /// The lines of the completions go by coflow.
 #[test]
-fn wrong_completions(rt: HostRuntime) -> Result<(), Fail> {
-    let later = Stated { cost: 99, ..RIGHT };
-    let rows = [
-        (Stated { done: &[], ..later }, "No(Listed { index: 1 })"),
-        (
-            Stated {
-                done: &[(1, 9)],
-                ..later
-            },
-            "No(Listed { index: 2 })",
-        ),
-        (
-            Stated {
-                done: &[(2, 9), (1, 9)],
-                ..later
-            },
-            "No(Listed { index: 1 })",
-        ),
-        (
-            Stated {
-                done: &[(1, 9), (1, 9)],
-                ..later
-            },
-            "No(Listed { index: 2 })",
-        ),
-        (
-            Stated {
-                done: &[(1, 9), (2, 9), (2, 9)],
-                ..later
-            },
-            "No(Listed { index: 3 })",
-        ),
-        (
-            Stated {
-                done: &[(1, 8), (2, 4)],
-                ..later
-            },
-            "No(DoneWrong { coflow: 0, stated: 8, real: 7 })",
-        ),
-        (
-            Stated {
-                done: &[(1, 7), (2, 4)],
-                ..later
-            },
-            "No(DoneWrong { coflow: 1, stated: 4, real: 5 })",
-        ),
-        (later, "No(CostWrong { stated: 99, real: 12 })"),
-        (
-            Stated { cost: 11, ..RIGHT },
-            "No(CostWrong { stated: 11, real: 12 })",
-        ),
-    ];
-    try_rows(&rt, rt.alloc(), &rows)
+fn wrong_completions(rt: HostRuntime) {
+    try_rows(&rt, rt.alloc(), &WRONG_COMPLETIONS);
 }
