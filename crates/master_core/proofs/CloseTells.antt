@@ -1,5 +1,5 @@
 -- The state after the open run is closed.
-use Rattle.std.proofs.Common.{◌≡◌, ℕ, ◌+◌, ◌-◌, ◌<◌, List, length, inl, inr, Option, Some, None, refl, ap, subst, ◌∙◌, arith, unwrap_or}
+use Rattle.std.proofs.Common.{◌≡◌, ℕ, ◌+◌, ◌-◌, ◌<◌, List, length, inl, inr, Option, Some, None, refl, sym, ap, subst, ◌∙◌, arith, unwrap_or}
 use Rattle.std.specs.Prelude.{if◌then◌else◌}
 use Rattle.std.proofs.lemmas.Bool.{cases_lt}
 use Rattle.std.proofs.Math.ListN.{get_or-eq_default}
@@ -10,7 +10,7 @@ use Rattle.journal.specs.declared.command.Reply.TheVariants.{Closed, NoneOpen}
 use Rattle.journal.specs.State.{has, Run}
 use Rattle.journal.specs.Runs.{credit, note_in}
 use Rattle.journal.specs.Answer.{on_run}
-use Rattle.master_core.specs.OpenRun.{FitsOpen, FitsRun, KeptRun, kept_credit, note_at}
+use Rattle.master_core.specs.OpenRun.{FitsOpen, FitsRun, KeepsGrants, KeptRun, KeptRuns, kept_credit, note_at}
 use Rattle.master_core.specs.Standing.{TellsOpen, TellsRun}
 
 pub ingress_low : (t : TableFacts) (f : ℕ) → IsTable t → ingress_of t.flows f < t.ports
@@ -46,3 +46,9 @@ close_none r e = ap (λ (z : Option Run). on_run z (λ r. Closed r.first) NoneOp
 
 pub close_some : (r : Option Run) (z : Run) (n : ℕ) → r ≡ Some z → z.first ≡ n → on_run r (λ r. Closed r.first) NoneOpen ≡ Closed n
 close_some r z n e is = ap (λ (y : Option Run). on_run y (λ r. Closed r.first) NoneOpen) e ∙ ap Closed is
+
+-- what an end keeps of the grants, over the table's flows
+pub grants_kept : (read flows : List Flow) (line before after : List ℕ) (old new : KeptRuns) → read ≡ flows → KeepsGrants flows line before old →
+    ((l : List ℕ) → KeepsGrants read l before old → KeepsGrants read l after new) → KeepsGrants flows line after new
+grants_kept read flows line before after old new same kept ends =
+    subst (λ (l : List Flow). KeepsGrants l line after new) same (ends line (subst (λ (l : List Flow). KeepsGrants l line before old) (sym same) kept))

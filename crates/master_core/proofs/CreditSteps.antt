@@ -1,9 +1,9 @@
 -- One more granted flow is credited.
-use Rattle.std.proofs.Common.{◌≡◌, ◌≢◌, ℕ, ◌+◌, ◌-◌, ◌<◌, ◌≤◌, inl, inr, Bool, true, false, List, [], ◌∷◌, length, take, get_or, Option, sym, ap, subst, ◌∙◌, arith, length-take}
+use Rattle.std.proofs.Common.{◌≡◌, ℕ, ◌+◌, ◌-◌, ◌<◌, ◌≤◌, inl, inr, Bool, true, false, List, [], ◌∷◌, length, take, get_or, Option, sym, ap, ◌∙◌, arith, length-take}
 use Rattle.std.specs.Prelude.{◌==◌, ◌||◌, if◌then◌else◌, slice_set, unwrap_or}
 use Rattle.std.specs.List.Sorted.{IsStrictlyIncreasing}
 use Rattle.std.proofs.lemmas.Bool.{cases_eq, eq-eqb, ne_eqb}
-use Rattle.std.proofs.lemmas.List.{ext_get_or, get_or-set_other, get_or-set_same, get_or-take, get_or_default, length-set, take_more}
+use Rattle.std.proofs.lemmas.List.{get_or-set_other, get_or-set_same, get_or-take, get_or_default, take_more}
 use Rattle.std.proofs.lemmas.List.Folds.{list_any-append}
 use Rattle.std.proofs.lemmas.List.Kept.{AllPairs-from_increasing}
 use Rattle.coflow_units.specs.declared.fabric.Flow.{Flow}
@@ -58,14 +58,3 @@ credited_more flows before owed granted noted slots k g n up lt is in' note fits
           ap (λ b. pay b f) (more ∙ ap (λ b. has (take k granted) f || b) (ne_eqb g f (λ e. ne (sym e))) ∙ or_false (has (take k granted) f)) in
           ap (λ x. x + credit_of flows (take (k + 1) granted) noted slots f) (get_or-set_other owed g f (get_or owed g 0 - n) 0 ne) ∙ ap (λ x. get_or owed f 0 + x) same ∙ so_far f
     ]
-
--- the units left are taken from as the ledger is credited
-pub in_step : (left after owed : List ℕ) (g n : ℕ) → length after ≡ length left → left ≡ owed → g < length left → get_or after g 0 ≡ get_or left g 0 - n →
-    ((f : ℕ) → f ≢ g → get_or after f 0 ≡ get_or left f 0) →
-    after ≡ slice_set owed g (get_or owed g 0 - n)
-in_step left after owed g n same is lt less others =
-    subst (λ l. after ≡ slice_set l g (get_or l g 0 - n)) is
-    (ext_get_or 0 after (slice_set left g (get_or left g 0 - n)) (same ∙ sym (length-set left g (get_or left g 0 - n))) (λ f _. elim (cases_eq f g) [
-      | inl e ↦ ap (λ x. get_or after x 0) e ∙ less ∙ sym (ap (λ x. get_or (slice_set left g (get_or left g 0 - n)) x 0) e ∙ get_or-set_same left g (get_or left g 0 - n) 0 lt)
-      | inr ne ↦ others f ne ∙ sym (get_or-set_other left g f (get_or left g 0 - n) 0 ne)
-    ]))

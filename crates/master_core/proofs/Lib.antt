@@ -5,7 +5,6 @@ pub mod RankSteps
 pub mod LineSteps
 pub mod PlaceSteps
 pub mod OwingSteps
-pub mod SearchSteps
 pub mod CreditSteps
 pub mod RunTells
 pub mod CloseTells

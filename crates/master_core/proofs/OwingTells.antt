@@ -1,6 +1,6 @@
 -- The flows of the line that owe units, as they are kept.
 use Rattle.std.proofs.Common.{◌≡◌, ℕ, ◌<◌, Bool, true, inl, inr, List, [], ◌∷◌, Contains, length, max, Option, Some, None, refl, sym, ap, subst, ◌∙◌, arith}
-use Rattle.std.specs.Prelude.{◌==◌, ◌&&◌, if◌then◌else◌, nat_le, nat_lt, slice_index, slice_index_or}
+use Rattle.std.specs.Prelude.{◌==◌, ◌&&◌, if◌then◌else◌, MatchOption, nat_le, nat_lt, slice_index_or}
 use Rattle.std.proofs.lemmas.Bool.{and_from, and_parts, cases_Bool, lt-ltb, ltb-true, ne_eqb}
 use Rattle.std.specs.List.{range_with_len}
 use Rattle.std.proofs.lemmas.List.Elements.{All-contains}
@@ -41,23 +41,31 @@ none_told flows ports (Some r) (Some x) t e = absurd (cc)
 -- ---- who owes
 
 same_test : (o : Opening) (s : State) (x : Standing) (f : ℕ) → IsFit o x → Tells o s x → f < length o.table.flows →
-    (has (line s) (coflow_of o.table.flows f) && nat_lt 0 (owed o s f)) ≡ is_owing o.table.flows x.roster.present x.owing.left f
+    (has (line s) (coflow_of o.table.flows f) && nat_lt 0 (owed o s f)) ≡ is_owing o.table.flows x.roster.present x.ledger.owed f
 same_test o s x f fit t lt =
     let c = coflow_of o.table.flows f in
     ap (λ b. b && nat_lt 0 (owed o s f)) (line_members s t.orders.named c ∙ sym (t.coflows.present_is c)) ∙
-    ap (λ n. marked x.roster.present c && nat_lt 0 n) (sym (ap (λ (l : List ℕ). slice_index l f) fit.owing_left ∙ t.owed f))
+    ap (λ n. marked x.roster.present c && nat_lt 0 n) (sym (t.owed f))
 
-pub owing_none : (o : Opening) (s : State) (x : Standing) → IsFit o x → Tells o s x → IsNoneOwing o.table.flows x.roster.present x.owing.left (length o.table.flows) →
+owing_none : (o : Opening) (s : State) (x : Standing) → IsFit o x → Tells o s x → IsNoneOwing o.table.flows x.roster.present x.ledger.owed (length o.table.flows) →
     owing o s ≡ []
 owing_none o s x fit t none = filter_none (λ f. has (line s) (coflow_of o.table.flows f) && nat_lt 0 (owed o s f)) (length o.table.flows)
     (λ f lt. same_test o s x f fit t lt ∙ none f lt)
 
-pub owing_first : (o : Opening) (s : State) (x : Standing) (f : ℕ) → IsFit o x → Tells o s x → f < length o.table.flows →
-    is_owing o.table.flows x.roster.present x.owing.left f ≡ true → IsNoneOwing o.table.flows x.roster.present x.owing.left f →
+owing_first : (o : Opening) (s : State) (x : Standing) (f : ℕ) → IsFit o x → Tells o s x → f < length o.table.flows →
+    is_owing o.table.flows x.roster.present x.ledger.owed f ≡ true → IsNoneOwing o.table.flows x.roster.present x.ledger.owed f →
     (rest : List ℕ) × (owing o s ≡ f ∷ rest)
 owing_first o s x f fit t lt here none =
     filter_first (λ f. has (line s) (coflow_of o.table.flows f) && nat_lt 0 (owed o s f)) (length o.table.flows) f lt (same_test o s x f fit t lt ∙ here)
     (λ g before. same_test o s x g fit t (omega (arith, before, lt)) ∙ none g before)
+
+-- what is found of the flows is found of those that owe in the state
+pub owing_found : (o : Opening) (s : State) (x : Standing) (found : Option ℕ) → IsFit o x → Tells o s x →
+    MatchOption found (IsNoneOwing o.table.flows x.roster.present x.ledger.owed (length o.table.flows))
+    (λ f. (f < length o.table.flows) × (is_owing o.table.flows x.roster.present x.ledger.owed f ≡ true) × IsNoneOwing o.table.flows x.roster.present x.ledger.owed f) →
+    MatchOption found (owing o s ≡ []) (λ f. (rest : List ℕ) × (owing o s ≡ f ∷ rest))
+owing_found o s x None fit t none = owing_none o s x fit t none
+owing_found o s x (Some f) fit t (lt, here, none) = owing_first o s x f fit t lt here none
 
 -- where nothing is granted, no flow of the line owes
 pub ungranted_none : (o : Opening) (s : State) (got : List ℕ) → IsGrants o.table.flows (line s) (owed o s) got → got ≡ [] → owing o s ≡ []

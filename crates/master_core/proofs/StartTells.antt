@@ -6,7 +6,6 @@ use Rattle.coflow_units.specs.declared.fabric.Flow.{Flow}
 use Rattle.coflow_units.specs.declared.plan.Place.{Place}
 use Rattle.coflow_units.specs.Flows.{units_of}
 use Rattle.coflow_units.proofs.Sums.{nothing_in}
-use Rattle.greedy_rates.specs.Owed.{IsOwed}
 use Rattle.matching.specs.Matching.{room_of}
 use Rattle.journal.specs.declared.opening.Opening.{Opening}
 use Rattle.master_core.specs.declared.standing.Standing.{Standing}
@@ -36,10 +35,9 @@ start_told o x joined present weights version places owes run next = record {
 
 pub start_fits : (o : Opening) (x : Standing) → IsOpening o → length x.roster.present ≡ length o.table.ids → x.weights.items ≡ o.weights → x.orders.coflows ≡ length o.table.ids →
     x.orders.ports ≡ o.table.ports → length o.table.ids + length o.table.ids ≤ x.line.room →
-    x.ledger.units ≡ map (λ (f : Flow). f.units) o.table.flows → x.ledger.owed ≡ x.ledger.units → IsOwed o.table.flows x.owing →
-    x.owing.left ≡ map (λ (f : Flow). f.units) o.table.flows → length x.owing.of_coflow ≡ length o.table.ids →
+    x.ledger.units ≡ map (λ (f : Flow). f.units) o.table.flows → x.ledger.owed ≡ x.ledger.units →
     x.runs.ports ≡ o.table.ports → room_of x.runs.tables ≡ length o.table.flows → x.runs.fresh ≡ false → x.runs.run ≡ None → x.next ≡ 1 → IsFit o x
-start_fits o x ok present weights coflows ports room units owes owed left sums sides flows stale run next = record {
+start_fits o x ok present weights coflows ports room units owes sides flows stale run next = record {
   opening = ok;
   present_len = present;
   weights_len = ap (λ (l : List ℕ). length l) weights ∙ ok.each_weight;
@@ -49,9 +47,6 @@ start_fits o x ok present weights coflows ports room units owes owed left sums s
   line_room = room;
   units = units;
   owed_len = ap (λ (l : List ℕ). length l) (owes ∙ units) ∙ length-map o.table.flows (λ (f : Flow). f.units);
-  owing = owed;
-  owing_left = left ∙ sym (owes ∙ units);
-  owing_coflows = sums;
   runs_ports = sides;
   runs_room = flows;
   grants = λ e. absurd (true≢false (sym e ∙ stale));

@@ -8,7 +8,6 @@ use Rattle.std.proofs.lemmas.List.{get_or-set_other, get_or-set_same, length-set
 use Rattle.std.proofs.lemmas.List.Elements.{All-set}
 use Rattle.coflow_units.specs.Flows.{Instance}
 use Rattle.grant_ledger.specs.Accounts.{Accounts}
-use Rattle.greedy_rates.specs.Owed.{IsOwed, Owed}
 use Rattle.matching.specs.Matching.{IsSettled, room_of}
 use Rattle.coflow_units.specs.declared.fabric.Flow.{Flow}
 use Rattle.journal.specs.declared.command.Command.{Command}
@@ -101,9 +100,6 @@ fits_roster o x roster runs h len is = subst (λ r. IsFit o (record x { roster =
   line_room = h.line_room;
   units = h.units;
   owed_len = h.owed_len;
-  owing = h.owing;
-  owing_left = h.owing_left;
-  owing_coflows = h.owing_coflows;
   runs_ports = h.runs_ports;
   runs_room = h.runs_room;
   grants = λ e. absurd (true≢false (sym e));
@@ -139,9 +135,6 @@ fits_weights o x weights c w h is le = record {
   line_room = h.line_room;
   units = h.units;
   owed_len = h.owed_len;
-  owing = h.owing;
-  owing_left = h.owing_left;
-  owing_coflows = h.owing_coflows;
   runs_ports = h.runs_ports;
   runs_room = h.runs_room;
   grants = h.grants;
@@ -167,9 +160,6 @@ fits_runs o x runs h same tables fresh fits = record {
   line_room = h.line_room;
   units = h.units;
   owed_len = h.owed_len;
-  owing = h.owing;
-  owing_left = h.owing_left;
-  owing_coflows = h.owing_coflows;
   runs_ports = same ∙ h.runs_ports;
   runs_room = ap room_of tables ∙ h.runs_room;
   grants = kept_along o.table.flows (line_of x.roster x.orders) x.ledger.owed x.runs runs tables fresh h.grants;
@@ -188,9 +178,6 @@ fits_next o x next h le = record {
   line_room = h.line_room;
   units = h.units;
   owed_len = h.owed_len;
-  owing = h.owing;
-  owing_left = h.owing_left;
-  owing_coflows = h.owing_coflows;
   runs_ports = h.runs_ports;
   runs_room = h.runs_room;
   grants = h.grants;
@@ -198,12 +185,11 @@ fits_next o x next h le = record {
   next_ends = le;
 }
 
-pub fits_closed : (o : Opening) (x : Standing) (ledger : Accounts) (owing : Owed) (runs : KeptRuns) (next : ℕ) → IsFit o x → ledger.units ≡ x.ledger.units →
-    IsOwed o.table.flows owing → owing.left ≡ ledger.owed →
-    length owing.of_coflow ≡ length x.owing.of_coflow → runs.ports ≡ x.runs.ports → room_of runs.tables ≡ room_of x.runs.tables →
+pub fits_closed : (o : Opening) (x : Standing) (ledger : Accounts) (runs : KeptRuns) (next : ℕ) → IsFit o x → ledger.units ≡ x.ledger.units →
+    length ledger.owed ≡ length x.ledger.owed → runs.ports ≡ x.runs.ports → room_of runs.tables ≡ room_of x.runs.tables →
     KeepsGrants o.table.flows (line_of x.roster x.orders) ledger.owed runs → runs.run ≡ None → next ≤ slot_end →
-    IsFit o (record x { ledger = ledger; owing = owing; runs = runs; next = next })
-fits_closed o x ledger owing runs next h units owed left sums ports room grants none le = record {
+    IsFit o (record x { ledger = ledger; runs = runs; next = next })
+fits_closed o x ledger runs next h units owed ports room grants none le = record {
   opening = h.opening;
   present_len = h.present_len;
   weights_len = h.weights_len;
@@ -212,10 +198,7 @@ fits_closed o x ledger owing runs next h units owed left sums ports room grants 
   orders_ports = h.orders_ports;
   line_room = h.line_room;
   units = units ∙ h.units;
-  owed_len = ap (λ (l : List ℕ). length l) (sym left) ∙ owed.count;
-  owing = owed;
-  owing_left = left;
-  owing_coflows = sums ∙ h.owing_coflows;
+  owed_len = owed ∙ h.owed_len;
   runs_ports = ports ∙ h.runs_ports;
   runs_room = room ∙ h.runs_room;
   grants = grants;
@@ -236,9 +219,6 @@ fits_granted o x line runs h room ports flows settled none = record {
   line_room = omega (arith, h.line_room, room);
   units = h.units;
   owed_len = h.owed_len;
-  owing = h.owing;
-  owing_left = h.owing_left;
-  owing_coflows = h.owing_coflows;
   runs_ports = ports ∙ h.runs_ports;
   runs_room = flows ∙ h.runs_room;
   grants = λ e. settled;
@@ -246,7 +226,8 @@ fits_granted o x line runs h room ports flows settled none = record {
   next_ends = h.next_ends;
 }
 
-pub fits_orders : (o : Opening) (x : Standing) (orders : Published) (runs : KeptRuns) → IsFit o x → orders.coflows ≡ x.orders.coflows → orders.ports ≡ x.orders.ports → runs ≡ stale x.runs →
+pub fits_orders : (o : Opening) (x : Standing) (orders : Published) (runs : KeptRuns) → IsFit o x → orders.coflows ≡ x.orders.coflows →
+    orders.ports ≡ x.orders.ports → runs ≡ stale x.runs →
     IsFit o (record x { orders = orders; runs = runs })
 fits_orders o x orders runs h coflows ports is = subst (λ r. IsFit o (record x { orders = orders; runs = r })) (sym is) (record {
   opening = h.opening;
@@ -258,9 +239,6 @@ fits_orders o x orders runs h coflows ports is = subst (λ r. IsFit o (record x 
   line_room = h.line_room;
   units = h.units;
   owed_len = h.owed_len;
-  owing = h.owing;
-  owing_left = h.owing_left;
-  owing_coflows = h.owing_coflows;
   runs_ports = h.runs_ports;
   runs_room = h.runs_room;
   grants = λ e. absurd (true≢false (sym e));

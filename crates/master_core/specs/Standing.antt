@@ -4,7 +4,6 @@ use Rattle.std.specs.Prelude.{length, map, slice_index, Option, Some, None}
 use Rattle.coflow_units.specs.declared.limits.TheConstants.{MAX_WEIGHT}
 use Rattle.coflow_units.specs.declared.fabric.Flow.{Flow}
 use Rattle.coflow_units.specs.Flows.{Instance, coflow_of}
-use Rattle.greedy_rates.specs.Owed.{IsOwed}
 use Rattle.journal.specs.declared.command.Command.{Command}
 use Rattle.journal.specs.declared.command.Reply.{Reply}
 use Rattle.journal.specs.declared.opening.Opening.{Opening}
@@ -56,14 +55,6 @@ is_owing flows present owed f = marked present (coflow_of flows f) && nat_lt 0 (
 abbrev pub IsNoneOwing : List Flow → List Bool → List ℕ → ℕ → Type 0
 IsNoneOwing flows present owed n = (f : ℕ) → f < n → is_owing flows present owed f ≡ false
 
--- the coflow is marked as present, and its sum of what is owed is some
-abbrev pub is_due : List Bool → List ℕ → ℕ → Bool
-is_due present sums coflow = marked present coflow && nat_lt 0 (slice_index sums coflow)
-
--- none of the first n coflows is such a one
-abbrev pub IsNoneDue : List Bool → List ℕ → ℕ → Type 0
-IsNoneDue present sums n = (coflow : ℕ) → coflow < n → is_due present sums coflow ≡ false
-
 -- what is kept tells the state
 pub record Tells (o : Opening) (s : State) (x : Standing) : Type 0 where
   pub coflows : TellsCoflows s.joined s.left x.roster
@@ -73,8 +64,8 @@ pub record Tells (o : Opening) (s : State) (x : Standing) : Type 0 where
   pub run : TellsRun o.table.flows o.table.ports s.run x.runs.run
   pub next : x.next ≡ s.next
 
--- What is kept has the sizes of the opening and numbers within their limits, and the sums of what is owed are those of
--- its flows and of the ledger. Where the kept grants are fresh, they are those of the line and of the ledger.
+-- What is kept has the sizes of the opening and numbers within their limits. Where the kept grants are fresh, they are
+-- those of the line and of the ledger.
 pub record IsFit (o : Opening) (x : Standing) : Type 0 where
   pub opening : IsOpening o
   pub present_len : length x.roster.present ≡ length o.table.ids
@@ -85,9 +76,6 @@ pub record IsFit (o : Opening) (x : Standing) : Type 0 where
   pub line_room : length o.table.ids + length o.table.ids ≤ x.line.room
   pub units : x.ledger.units ≡ map (λ (f : Flow). f.units) o.table.flows
   pub owed_len : length x.ledger.owed ≡ length o.table.flows
-  pub owing : IsOwed o.table.flows x.owing
-  pub owing_left : x.owing.left ≡ x.ledger.owed
-  pub owing_coflows : length x.owing.of_coflow ≡ length o.table.ids
   pub runs_ports : x.runs.ports ≡ o.table.ports
   pub runs_room : room_of x.runs.tables ≡ length o.table.flows
   pub grants : KeepsGrants o.table.flows (line_of x.roster x.orders) x.ledger.owed x.runs

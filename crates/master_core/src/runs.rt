@@ -4,7 +4,6 @@ ghost use Rattle.std.specs.List.Sorted.{IsStrictlyIncreasing};
 ghost use Rattle.coflow_units.specs.declared.fabric.Flow.{Flow};
 ghost use Rattle.coflow_units.specs.Flows.{IsDistinct};
 ghost use Rattle.flow_table.specs.Table.{IsTable};
-ghost use Rattle.greedy_rates.specs.Owed.{IsOwed};
 ghost use Rattle.journal.specs.State.{slot_end};
 ghost use Rattle.matching.specs.Matching.{IsSettled, listed_in, room_of};
 ghost use Rattle.master_core.specs.OpenRun.{FitsOpen, IsBegun, KeepsGrants, KeptRun, credit_of, flow_kept, flows_kept, kept_credit, kept_note, note_at, number_noted, with_note};
@@ -12,7 +11,6 @@ ghost use Rattle.master_core.specs.OpenRun.{FitsOpen, IsBegun, KeepsGrants, Kept
 use coflow_units::{Flow, MAX_SLOT, NoMemory};
 use flow_table::Table;
 use grant_ledger::Ledger;
-use greedy_rates::Owing;
 use matching::Matching;
 use std::alloc::Global;
 use std::marker::Model;
@@ -204,22 +202,19 @@ impl Runs {
     }
 
     /// Closes the open run: each granted flow is credited with the number noted at its ingress, or with a unit for each slot. None comes exactly where no run is open.
-    /// The sums of what is owed stay those of the ledger. The kept grants lose the credited units and are repaired; where something was noted, they are stale instead.
-    pub fn end(&mut self, flows: &[Flow], ledger: &mut Ledger, owing: &mut Owing) -> Option<OpenRun>
+    /// The kept grants lose the credited units and are repaired; where something was noted, they are stale instead.
+    pub fn end(&mut self, flows: &[Flow], ledger: &mut Ledger) -> Option<OpenRun>
         requires fits { FitsOpen flows.now ledger.old.owed self.old.run }
         requires ingress_in_range { All (λ (x : Flow). x.ingress < self.old.ports) flows.now }
         requires units_len { length ledger.old.units ≡ length flows.now }
-        requires owed { IsOwed flows.now owing.old }
-        requires left { owing.old.left ≡ ledger.old.owed }
+        requires owed_len { length ledger.old.owed ≡ length flows.now }
         ensures run { MatchOption result ((self.old.run ≡ None) × (ledger.new ≡ ledger.old))
             (λ x. (r : KeptRun) × (self.old.run ≡ Some r) × (x.first ≡ r.first) × (x.slots ≡ r.slots)
             × ((f : ℕ) → slice_index ledger.new.owed f + kept_credit flows.now r f ≡ slice_index ledger.old.owed f)) }
         ensures closed { self.new.run ≡ None }
         ensures ports { self.new.ports ≡ self.old.ports }
         ensures units { ledger.new.units ≡ ledger.old.units }
-        ensures owed { IsOwed flows.now owing.new }
-        ensures left { owing.new.left ≡ ledger.new.owed }
-        ensures sums { length owing.new.of_coflow ≡ length owing.old.of_coflow }
+        ensures owed_len { length ledger.new.owed ≡ length ledger.old.owed }
         ensures room { room_of self.new.tables ≡ room_of self.old.tables }
         ensures grants { (line : List ℕ) → KeepsGrants flows.now line ledger.old.owed self.old →
             KeepsGrants flows.now line ledger.new.owed self.new }
@@ -227,14 +222,7 @@ impl Runs {
         let Some(run) = self.current else {
             return None;
         };
-        credit_all(
-            ledger,
-            owing,
-            flows,
-            self.grants.flows(),
-            &self.noted,
-            run.slots,
-        );
+        credit_all(ledger, flows, self.grants.flows(), &self.noted, run.slots);
         self.current = None;
         if self.has_notes {
             self.fresh = false;
@@ -258,10 +246,9 @@ fn clear_notes(noted: &mut [Option<u64>], has_notes: bool)
     noted.fill(None);
 }
 
-/// Credits each granted flow with the number noted at its ingress, or with a unit for each slot, in the ledger and in the sums of what is owed.
+/// Credits each granted flow with the number noted at its ingress, or with a unit for each slot.
 fn credit_all(
     ledger: &mut Ledger,
-    owing: &mut Owing,
     flows: &[Flow],
     granted: &[u32],
     noted: &[Option<u64>],
@@ -271,14 +258,11 @@ fn credit_all(
     requires flow { All (λ f. f < length flows.now) granted.now }
     requires ingress { All (λ (x : Flow). x.ingress < length noted.now) flows.now }
     requires units_len { length ledger.old.units ≡ length flows.now }
-    requires owing { IsOwed flows.now owing.old }
-    requires left { owing.old.left ≡ ledger.old.owed }
+    requires owed_len { length ledger.old.owed ≡ length flows.now }
     requires owed { All (λ f. slots ≤ slice_index ledger.old.owed f) granted.now }
     requires notes { (ingress : ℕ) → unwrap_or (note_at noted.now ingress) slots ≤ slots }
     ensures units { ledger.new.units ≡ ledger.old.units }
-    ensures owing { IsOwed flows.now owing.new }
-    ensures left { owing.new.left ≡ ledger.new.owed }
-    ensures sums { length owing.new.of_coflow ≡ length owing.old.of_coflow }
+    ensures owed_len { length ledger.new.owed ≡ length ledger.old.owed }
     ensures owed { (f : ℕ) → slice_index ledger.new.owed f + credit_of flows.now granted.now noted.now slots f ≡
         slice_index ledger.old.owed f }
 {
@@ -286,6 +270,5 @@ fn credit_all(
         let ingress = flows[*flow as usize].ingress;
         let units = noted[ingress as usize].unwrap_or(slots);
         ledger.credit(*flow, units);
-        owing.take(flows, *flow, units);
     }
 }

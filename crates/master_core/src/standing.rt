@@ -1,10 +1,10 @@
 //! What a master keeps beside its journal, so as not to read it again, and how each command is carried out on it.
-ghost use Rattle.std.specs.Prelude.{◌≡◌, ℕ, ◌+◌, ◌^◌, ◌<◌, ◌≤◌, true, false, [], None, IfOk, length, map};
+ghost use Rattle.std.specs.Prelude.{◌≡◌, ℕ, ◌+◌, ◌^◌, ◌<◌, ◌≤◌, true, false, [], ◌∷◌, None, IfOk, List, MatchOption, length, map};
 ghost use Rattle.coflow_units.specs.declared.limits.TheConstants.{MAX_COFLOWS, MAX_PORTS, MAX_WEIGHT};
 ghost use Rattle.coflow_units.specs.declared.fabric.Flow.{Flow};
-ghost use Rattle.greedy_rates.specs.Owed.{IsOwed};
 ghost use Rattle.journal.specs.State.{IsOpening, State};
 ghost use Rattle.journal.specs.Fold.{start};
+ghost use Rattle.journal.specs.Line.{owing};
 ghost use Rattle.journal.specs.Answer.{IsInRange};
 ghost use Rattle.matching.specs.Matching.{room_of};
 ghost use Rattle.master_core.specs.Attendance.{marked};
@@ -19,7 +19,6 @@ use crate::search::first_owing;
 use coflow_units::{MAX_SLOT, NoMemory};
 use flow_table::Table;
 use grant_ledger::Ledger;
-use greedy_rates::Owing;
 use journal::{Command, Opening, Reply};
 use std::alloc::Global;
 
@@ -32,8 +31,6 @@ pub struct Standing {
     pub orders: Orders,
     pub line: Line,
     pub ledger: Ledger,
-    /// What the flows owe as in the ledger, with its sums.
-    pub owing: Owing,
     pub runs: Runs,
     /// The slot with which the next run begins, or with which the open run began.
     pub next: u64,
@@ -54,31 +51,25 @@ impl Standing {
     }
 
     /// What is kept of coflows, their weights, and what is kept of units, together. The next slot is the first.
-    fn of(
-        coflows: (Roster, Orders, Line),
-        weights: Vec<u64>,
-        units: (Ledger, Owing, Runs),
-    ) -> Standing
+    fn of(coflows: (Roster, Orders, Line), weights: Vec<u64>, units: (Ledger, Runs)) -> Standing
         ensures { result ≡ record {
           roster = coflows.0;
           weights = weights;
           orders = coflows.1;
           line = coflows.2;
           ledger = units.0;
-          owing = units.1;
-          runs = units.2;
+          runs = units.1;
           next = 1;
         } }
     {
         let (roster, orders, line) = coflows;
-        let (ledger, owing, runs) = units;
+        let (ledger, runs) = units;
         Standing {
             roster,
             weights,
             orders,
             line,
             ledger,
-            owing,
             runs,
             next: 1,
         }
@@ -196,6 +187,19 @@ impl Standing {
         self.runs.grant_anew(&opening.table, self.line.coflows(), self.ledger.owed_all());
     }
 
+    /// The first flow, by number, of a present coflow that owes units. None comes exactly where no such flow owes. The kept grants are fresh: where they are of no flow, no flow is looked at.
+    fn first_flow_owing(&self, opening: &Opening) -> Option<u32>
+        requires fit { IsFit opening.now self.now }
+        requires fresh { self.now.runs.fresh ≡ true }
+        ensures { (s : State) → Tells opening.now s self.now →
+            MatchOption result (owing opening.now s ≡ []) (λ f. (rest : List ℕ) × (owing opening.now s ≡ f ∷ rest)) }
+    {
+        if self.runs.grants_nothing() {
+            return None;
+        }
+        first_owing(&opening.table, &self.roster, &self.ledger)
+    }
+
     fn short(&mut self, opening: &Opening, ingress: u32, units: u64) -> Reply
         requires fit { IsFit opening.now self.old }
         requires ingress_in { ingress < opening.now.table.ports }
@@ -212,7 +216,7 @@ impl Standing {
         ensures { Follows opening.now Close self.old result self.new }
     {
         let flows = opening.table.flows();
-        let Some(run) = self.runs.end(flows, &mut self.ledger, &mut self.owing) else {
+        let Some(run) = self.runs.end(flows, &mut self.ledger) else {
             return Reply::NoneOpen;
         };
         self.next = run.first + run.slots;
@@ -226,7 +230,8 @@ impl Standing {
         if let Some(run) = self.runs.current() {
             return Reply::StillOpen(run.first);
         }
-        if let Some(flow) = first_owing(&opening.table, &self.roster, &self.owing) {
+        self.refresh(opening);
+        if let Some(flow) = self.first_flow_owing(opening) {
             return Reply::StillOwed(flow);
         }
         if to > MAX_SLOT {
@@ -272,19 +277,15 @@ fn coflows_kept(alloc: Global, coflows: u32, ports: u32) -> Result<(Roster, Orde
 }
 
 /// What the flows of a table owe, and the room for their runs: each owes all its units, and no run is open. The error is want of memory.
-fn units_kept(alloc: Global, table: &Table) -> Result<(Ledger, Owing, Runs), NoMemory>
+fn units_kept(alloc: Global, table: &Table) -> Result<(Ledger, Runs), NoMemory>
     ensures units { IfOk result (λ x. x.0.units ≡ map (λ (f : Flow). f.units) table.now.flows) }
     ensures owed { IfOk result (λ x. x.0.owed ≡ x.0.units) }
-    ensures owing { IfOk result (λ x. IsOwed table.now.flows x.1) }
-    ensures left { IfOk result (λ x. x.1.left ≡ map (λ (f : Flow). f.units) table.now.flows) }
-    ensures sums { IfOk result (λ x. length x.1.of_coflow ≡ length table.now.ids) }
-    ensures ports { IfOk result (λ x. x.2.ports ≡ table.now.ports) }
-    ensures room { IfOk result (λ x. room_of x.2.tables ≡ length table.now.flows) }
-    ensures stale { IfOk result (λ x. x.2.fresh ≡ false) }
-    ensures run { IfOk result (λ x. x.2.run ≡ None) }
+    ensures ports { IfOk result (λ x. x.1.ports ≡ table.now.ports) }
+    ensures room { IfOk result (λ x. room_of x.1.tables ≡ length table.now.flows) }
+    ensures stale { IfOk result (λ x. x.1.fresh ≡ false) }
+    ensures run { IfOk result (λ x. x.1.run ≡ None) }
 {
     let ledger = Ledger::new(alloc, table)?;
-    let owing = Owing::of(alloc, table.flows(), table.coflows(), table.ports())?;
     let runs = Runs::new(alloc, table)?;
-    Ok((ledger, owing, runs))
+    Ok((ledger, runs))
 }

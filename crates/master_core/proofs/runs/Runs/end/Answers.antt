@@ -38,7 +38,8 @@ returns-clause-grants c = λ line kept fresh.
     let noted = c.self.inside.noted.items in
     let old = c.args.ledger.now.owed in
     let new = c.credit_all.new.ledger.owed in
-    let paid = paid_along flows new old c.flows.result.now (listed_in m) c.deref.result.now noted c.in-Some.run'.slots c.flows.ensures c.deref.ensures.value c.credit_all.ensures.owed in
+    let paid = paid_along flows new old c.flows.result.now (listed_in m) c.deref.result.now noted c.in-Some.run'.slots c.flows.ensures c.deref.ensures.value
+    c.credit_all.ensures.owed in
     let settled = subst (IsSettled flows line (λ f. get_or old f 0)) (sym (ap (λ (v : KeptRuns). v.tables) c.self.view_is))
     (kept (sym (ap (λ (v : KeptRuns). v.fresh) c.self.view_is) ∙ fresh)) in
     c.repair.ensures.settled flows line (λ f. get_or new f 0)

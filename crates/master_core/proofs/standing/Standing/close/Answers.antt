@@ -4,15 +4,14 @@ use Rattle.std.specs.Prelude.{slice_index}
 use Rattle.coflow_units.specs.declared.fabric.Flow.{Flow}
 use Rattle.coflow_units.specs.Flows.{units_of}
 use Rattle.grant_ledger.specs.Accounts.{Accounts}
-use Rattle.greedy_rates.specs.Owed.{IsOwed}
 use Rattle.journal.specs.declared.command.Command.TheVariants.{Close}
 use Rattle.journal.specs.declared.command.Reply.TheVariants.{Closed, NoneOpen}
 use Rattle.journal.specs.State.{Run}
 use Rattle.journal.specs.Fold.{closed}
-use Rattle.master_core.specs.OpenRun.{KeepsGrants, KeptRun, kept_credit}
+use Rattle.master_core.specs.OpenRun.{KeptRun, kept_credit}
 use Rattle.master_core.specs.Waiting.{line_of}
 use Rattle.master_core.specs.Standing.{Tells, TellsRun}
-use Rattle.master_core.proofs.CloseTells.{close_none, close_some, credit_told, fits_kept, ingress_low, open_of, still_owed}
+use Rattle.master_core.proofs.CloseTells.{close_none, close_some, credit_told, fits_kept, grants_kept, ingress_low, open_of, still_owed}
 use Rattle.master_core.proofs.OwingTells.{none_told}
 use Rattle.master_core.proofs.TellSteps.{fits_closed, follows}
 use Rattle.master_core.proofs.standing.Standing.close.Goals as goal
@@ -22,12 +21,12 @@ returns-in_default c =
     let o = c.args.opening.now in
     let old = c.args.self.now in
     let ends = c.in_default.ensures in
-    let kept = subst (λ (l : List Flow). KeepsGrants l (line_of old.roster old.orders) c.end.new.ledger.owed c.end.new.self) c.flows-flows.ensures.flows
-    (ends.grants (line_of old.roster old.orders) (subst (λ (l : List Flow). KeepsGrants l (line_of old.roster old.orders) old.ledger.owed old.runs) (sym c.flows-flows.ensures.flows) c.requires.fit.grants)) in
+    let kept = grants_kept c.flows-flows.result.now o.table.flows (line_of old.roster old.orders) old.ledger.owed c.end.new.ledger.owed old.runs c.end.new.self
+    c.flows-flows.ensures.flows c.requires.fit.grants ends.grants in
     let (none, same) = ends.run in
-    follows o Close old NoneOpen (record old { ledger = c.end.new.ledger; owing = c.end.new.owing; runs = c.end.new.self })
-    (fits_closed o old c.end.new.ledger c.end.new.owing c.end.new.self old.next c.requires.fit ends.units
-    (subst (λ (l : List Flow). IsOwed l c.end.new.owing) c.flows-flows.ensures.flows ends.owed) ends.left ends.sums ends.ports ends.room kept ends.closed c.requires.fit.next_ends)
+    follows o Close old NoneOpen (record old { ledger = c.end.new.ledger; runs = c.end.new.self })
+    (fits_closed o old c.end.new.ledger c.end.new.self old.next c.requires.fit ends.units
+    ends.owed_len ends.ports ends.room kept ends.closed c.requires.fit.next_ends)
     (λ s t.
     let none' = none_told o.table.flows o.table.ports s.run old.runs.run t.run none in (
       close_none s.run none',
@@ -46,15 +45,15 @@ returns c =
     let o = c.args.opening.now in
     let old = c.args.self.now in
     let ends = c.in-Some.ensures in
-    let kept = subst (λ (l : List Flow). KeepsGrants l (line_of old.roster old.orders) c.end.new.ledger.owed c.end.new.self) c.flows-flows.ensures.flows
-    (ends.grants (line_of old.roster old.orders) (subst (λ (l : List Flow). KeepsGrants l (line_of old.roster old.orders) old.ledger.owed old.runs) (sym c.flows-flows.ensures.flows) c.requires.fit.grants)) in
+    let kept = grants_kept c.flows-flows.result.now o.table.flows (line_of old.roster old.orders) old.ledger.owed c.end.new.ledger.owed old.runs c.end.new.self
+    c.flows-flows.ensures.flows c.requires.fit.grants ends.grants in
     let x = c.in-Some.run' in
     let (k, is, first, slots, paid) = ends.run in
     let fits = fits_kept o.table.flows old.ledger.owed old.runs.run k c.requires.fit.run is in
-    let new = record old { ledger = c.end.new.ledger; owing = c.end.new.owing; runs = c.end.new.self; next = x.first + x.slots } in
+    let new = record old { ledger = c.end.new.ledger; runs = c.end.new.self; next = x.first + x.slots } in
     follows o Close old (Closed x.first) new
-    (fits_closed o old c.end.new.ledger c.end.new.owing c.end.new.self (x.first + x.slots) c.requires.fit ends.units
-    (subst (λ (l : List Flow). IsOwed l c.end.new.owing) c.flows-flows.ensures.flows ends.owed) ends.left ends.sums ends.ports ends.room kept ends.closed
+    (fits_closed o old c.end.new.ledger c.end.new.self (x.first + x.slots) c.requires.fit ends.units
+    ends.owed_len ends.ports ends.room kept ends.closed
     (omega (arith, fits.ends, first, slots)))
     (λ s t.
     let (r, run, told) = open_of o.table.flows o.table.ports s.run old.runs.run k t.run is in (

@@ -15,8 +15,7 @@ returns-clause-tells c =
       orders = c.in_ok-coflows.coflows.1;
       line = c.in_ok-coflows.coflows.2;
       ledger = c.in_ok-units.units.0;
-      owing = c.in_ok-units.units.1;
-      runs = c.in_ok-units.units.2;
+      runs = c.in_ok-units.units.1;
       next = 1;
     } in
     let weights : c.in_ok-weights.weights.items ≡ o.weights = c.in_ok-weights.ensures.items_if_clones_equal (search rules) ∙ c.as_slice.ensures in
@@ -33,13 +32,12 @@ returns-clause-fit c =
       orders = c.in_ok-coflows.coflows.1;
       line = c.in_ok-coflows.coflows.2;
       ledger = c.in_ok-units.units.0;
-      owing = c.in_ok-units.units.1;
-      runs = c.in_ok-units.units.2;
+      runs = c.in_ok-units.units.1;
       next = 1;
     } in
     let weights : c.in_ok-weights.weights.items ≡ o.weights = c.in_ok-weights.ensures.items_if_clones_equal (search rules) ∙ c.as_slice.ensures in
     subst (IsFit o) (sym c.of.ensures)
     (start_fits o x c.requires (c.in_ok-coflows.ensures.present_len ∙ c.coflows.ensures.coflows) weights (c.in_ok-coflows.ensures.coflows_are ∙ c.coflows.ensures.coflows)
     (c.in_ok-coflows.ensures.ports_are ∙ c.ports.ensures.ports) (omega (arith, c.in_ok-coflows.ensures.room, c.coflows.ensures.coflows)) c.in_ok-units.ensures.units
-    c.in_ok-units.ensures.owed c.in_ok-units.ensures.owing c.in_ok-units.ensures.left c.in_ok-units.ensures.sums c.in_ok-units.ensures.ports c.in_ok-units.ensures.room
+    c.in_ok-units.ensures.owed c.in_ok-units.ensures.ports c.in_ok-units.ensures.room
     c.in_ok-units.ensures.stale c.in_ok-units.ensures.run refl)

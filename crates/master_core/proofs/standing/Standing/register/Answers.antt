@@ -23,7 +23,8 @@ returns c =
     let runs = c.set_stale.new.self in
     let away = sym c.has_joined.ensures ∙ c.if-has_joined.false in
     let len = ap (λ (l : List Bool). length l) c.join.ensures.present ∙ length-set old.roster.present c.args.coflow true in
-    follows c.args.opening.now (Register c.args.coflow) old Joined (record old { roster = new; runs = runs }) (fits_roster c.args.opening.now old new runs c.requires.fit len c.set_stale.ensures)
+    follows c.args.opening.now (Register c.args.coflow) old Joined (record old { roster = new; runs = runs })
+    (fits_roster c.args.opening.now old new runs c.requires.fit len c.set_stale.ensures)
     (λ s t. let away' = ap (λ l. has l c.args.coflow) (sym t.coflows.joined_is) ∙ away in (
       ap told away',
       record {

@@ -7,7 +7,7 @@ use Rattle.journal.specs.declared.command.Reply.{Reply}
 use Rattle.journal.specs.declared.command.Reply.TheVariants.{Late, Skipped, StillOpen, StillOwed}
 use Rattle.journal.specs.State.{Run, slot_end}
 use Rattle.journal.specs.Answer.{on_run, skipped}
-use Rattle.master_core.proofs.OwingTells.{none_told, owing_first, owing_none, run_told, skip_free, skip_owed}
+use Rattle.master_core.proofs.OwingTells.{none_told, run_told, skip_free, skip_owed}
 use Rattle.master_core.proofs.TellSteps.{fits_next, follows}
 use Rattle.master_core.proofs.standing.Standing.skip.Goals as goal
 
@@ -22,42 +22,44 @@ returns-in-Some c =
     follows o (Skip c.args.to) old (StillOpen c.in-Some.run'.first) old c.requires.fit
     (λ s t. (run_told o.table.flows o.table.ports s.run old.runs.run k (skipped o s c.args.to) t.run is ∙ ap StillOpen (sym first), t))
 
-pub returns-in-Some-first_owing : goal.returns-in-Some-first_owing
-returns-in-Some-first_owing c =
+pub returns-in-Some-first_flow_owing : goal.returns-in-Some-first_flow_owing
+returns-in-Some-first_flow_owing c =
     let o = c.args.opening.now in
     let old = c.args.self.now in
-    let f = c.in-Some-first_owing.flow in
-    let (lt, here, none) = c.in-Some-first_owing.ensures in
-    follows o (Skip c.args.to) old (StillOwed f) old c.requires.fit
+    let f = c.in-Some-first_flow_owing.flow in
+    follows o (Skip c.args.to) old (StillOwed f) c.refresh.new.self c.refresh.ensures.fit
     (λ s t.
-    let (rest, e) = owing_first o s old f c.requires.fit t lt here none in
-    (ap (still (skipped o s c.args.to)) (none_told o.table.flows o.table.ports s.run old.runs.run t.run c.in_default.ensures) ∙ skip_owed o s c.args.to f rest e, t))
+    let t' = c.refresh.ensures.tells s t in
+    let (rest, e) = c.in-Some-first_flow_owing.ensures s t' in
+    (ap (still (skipped o s c.args.to)) (none_told o.table.flows o.table.ports s.run old.runs.run t.run c.in_default.ensures) ∙ skip_owed o s c.args.to f rest e, t'))
 
 pub returns-then-to-gt-MAX_SLOT : goal.returns-then-to-gt-MAX_SLOT
 returns-then-to-gt-MAX_SLOT c =
     let o = c.args.opening.now in
     let old = c.args.self.now in
-    let none = c.in_default-first_owing.ensures in
-    follows o (Skip c.args.to) old (Late c.args.to) old c.requires.fit
-    (λ s t. (
+    follows o (Skip c.args.to) old (Late c.args.to) c.refresh.new.self c.refresh.ensures.fit
+    (λ s t.
+    let t' = c.refresh.ensures.tells s t in (
       ap (still (skipped o s c.args.to)) (none_told o.table.flows o.table.ports s.run old.runs.run t.run c.in_default.ensures) ∙
-          skip_free o s c.args.to (owing_none o s old c.requires.fit t none)
+          skip_free o s c.args.to (c.in_default-first_flow_owing.ensures s t')
           ∙ ap (λ (b : Bool). if b then Late c.args.to else Skipped (max s.next c.args.to)) (le-leb slot_end c.args.to (omega arith)),
-      t,
+      t',
     ))
 
 pub returns : goal.returns
 returns c =
     let o = c.args.opening.now in
     let old = c.args.self.now in
-    let none = c.in_default-first_owing.ensures in
+    let mid = c.refresh.new.self in
+    let fit = c.refresh.ensures.fit in
     let n = c.max-self.result in
-    follows o (Skip c.args.to) old (Skipped n) (record old { next = n })
-    (fits_next o old n c.requires.fit (omega (arith, c.max-self.ensures, c.requires.fit.next_ends, c.if-to-gt-MAX_SLOT.false)))
-    (λ s t. (
+    follows o (Skip c.args.to) old (Skipped n) (record mid { next = n })
+    (fits_next o mid n fit (omega (arith, c.max-self.ensures, fit.next_ends, c.if-to-gt-MAX_SLOT.false)))
+    (λ s t.
+    let t' = c.refresh.ensures.tells s t in (
       ap (still (skipped o s c.args.to)) (none_told o.table.flows o.table.ports s.run old.runs.run t.run c.in_default.ensures) ∙
-          skip_free o s c.args.to (owing_none o s old c.requires.fit t none)
+          skip_free o s c.args.to (c.in_default-first_flow_owing.ensures s t')
           ∙ ap (λ (b : Bool). if b then Late c.args.to else Skipped (max s.next c.args.to)) (lt-leb slot_end c.args.to (omega arith)) ∙
-          ap Skipped (ap (λ m. max m c.args.to) (sym t.next) ∙ sym c.max-self.ensures),
-      record { coflows = t.coflows; weight = t.weight; orders = t.orders; owed = t.owed; run = t.run; next = refl },
+          ap Skipped (ap (λ m. max m c.args.to) (sym t'.next) ∙ sym c.max-self.ensures),
+      record { coflows = t'.coflows; weight = t'.weight; orders = t'.orders; owed = t'.owed; run = t'.run; next = refl },
     ))

@@ -24,7 +24,8 @@ returns c =
     let runs = c.set_stale.new.self in
     let here = sym c.is_present.ensures ∙ c.if-not-is_present.false in
     let len = ap (λ (l : List Bool). length l) c.leave.ensures.present ∙ length-set old.roster.present c.args.coflow false in
-    follows c.args.opening.now (Withdraw c.args.coflow) old Left (record old { roster = new; runs = runs }) (fits_roster c.args.opening.now old new runs c.requires.fit len c.set_stale.ensures)
+    follows c.args.opening.now (Withdraw c.args.coflow) old Left (record old { roster = new; runs = runs })
+    (fits_roster c.args.opening.now old new runs c.requires.fit len c.set_stale.ensures)
     (λ s t. let here' = sym (t.coflows.present_is c.args.coflow) ∙ here in (
       ap told here',
       record {
