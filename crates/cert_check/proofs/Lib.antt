@@ -10,4 +10,5 @@ pub mod NamedCoflow
 pub mod Firsts
 pub mod EndFacts
 pub mod Verdicts
+pub mod OneOfEach
 pub mod OneVerdict

@@ -25,6 +25,7 @@ use Rattle.cert_check.specs.Places.{IsFirstOutOfRange, IsFirstWrong, IsNew, IsNo
 use Rattle.cert_check.specs.Reasons.{IsFirstReason, IsVerdict, kind}
 use Rattle.cert_check.specs.Stated.{IsLeastWrong, IsLeastWrongOfAny}
 use Rattle.cert_check.proofs.IdSteps.{found}
+use Rattle.cert_check.proofs.OneOfEach.{between, one_bad_port, one_clash, one_flow, one_miscount, one_wrong_place}
 use Rattle.cert_check.proofs.NameSteps.{NamedSoFar, is_new, is_not_new, named_all, named_short}
 use Rattle.cert_check.proofs.Verdicts.{refuses}
 
@@ -73,33 +74,6 @@ wrong_or_named ids stated = elim (wrong_or_new ids stated (length stated) (omega
 
 -- ---- one reason of each kind
 
-between : (a b : ℕ) → (a < b → ⊥) → (b < a → ⊥) → a ≡ b
-between a b less more = elim (cases_lt a b) [
-  | inl lt ↦ absurd (less lt)
-  | inr le ↦ elim (cases_lt b a) [
-    | inl lt ↦ absurd (more lt)
-    | inr upto ↦ omega arith
-  ]
-]
-
-not_both : (ids stated : List ℕ) (k : ℕ) → IsNew ids stated k → IsNotNew ids stated k → ⊥
-not_both ids stated k new not_new = elim not_new [
-  | inl unknown ↦ unknown new.known
-  | inr earlier ↦ new.once earlier
-]
-
-no_earlier_wrong : (ids stated : List ℕ) (a b : ℕ) → IsFirstWrong ids stated a → IsFirstWrong ids stated b → a < b → ⊥
-no_earlier_wrong ids stated a b wa wb lt = elim wa.wrong [
-  | inl (inside, not_new) ↦ not_both ids stated (a - 1) (wb.before (a - 1) (omega (arith, wa.counted))) not_new
-  | inr (e, less) ↦ elim wb.wrong [
-    | inl (inside, not_new) ↦ omega arith
-    | inr (e', less') ↦ omega (arith, wa.counted)
-  ]
-]
-
-no_earlier_port : (ports : ℕ) (places : List PlaceLine) (a b m n : ℕ) → IsFirstOutOfRange ports places a m → IsFirstOutOfRange ports places b n → a < b → ⊥
-no_earlier_port ports places a b m n pa pb lt = omega (arith, pa.has, pa.beyond, pb.before (a - 1) (omega (arith, pa.counted)))
-
 no_lesser_wrong : (coflows stated : List ℕ) (real : ℕ → ℕ) (a b s s' x x' : ℕ) → IsLeastWrong coflows stated real a s x → IsLeastWrong coflows stated real b s' x' → a < b → ⊥
 no_lesser_wrong coflows stated real a b s s' x x' wa wb lt =
     wa.differ (sym wa.says ∙ wb.least wa.place wa.inside (omega (arith, wa.of_coflow)) ∙ ap real wa.of_coflow ∙ wa.should)
@@ -119,38 +93,6 @@ one_wrong_of_any : (coflows : List ℕ) (stated : Option (List ℕ)) (real : ℕ
 one_wrong_of_any coflows None real a b s s' x x' once wa wb = absurd wa
 one_wrong_of_any coflows (Some stated) real a b s s' x x' once wa wb = one_wrong coflows stated real a b s s' x x' once wa wb
 
-one_port : (s t : Side) (m n : ℕ) → number_no_later s m t n → number_no_later t n s m → (s ≡ t) × (m ≡ n)
-one_port Ingress Ingress m n le ge = (refl, omega arith)
-one_port Ingress Egress m n le ge = absurd ge
-one_port Egress Ingress m n le ge = absurd le
-one_port Egress Egress m n le ge = (refl, omega arith)
-
-first_of_both : (a b : ℕ) (P Q : Type 0) → (a < b) ⊎ ((a ≡ b) × P) → (b < a) ⊎ ((b ≡ a) × Q) → (a ≡ b) × P × Q
-first_of_both a b P Q (inl lt) (inl gt) = absurd (omega arith)
-first_of_both a b P Q (inl lt) (inr (e, q)) = absurd (omega arith)
-first_of_both a b P Q (inr (e, p)) (inl gt) = absurd (omega arith)
-first_of_both a b P Q (inr (e, p)) (inr (e', q)) = (e, p, q)
-
-one_flow : (flows : List Flow) (slots : List (List ℕ)) (slot f slot' f' : ℕ) → IsFirstNoFlow flows slots slot f → IsFirstNoFlow flows slots slot' f' → (slot ≡ slot') × (f ≡ f')
-one_flow flows slots slot f slot' f' a b =
-    let both = first_of_both slot slot' (f ≤ f') (f' ≤ f) (a.first slot' f' b.stands b.no_flow) (b.first slot f a.stands a.no_flow) in
-    (both.0, omega (arith, both.1, both.2))
-
-one_clash : (flows : List Flow) (slots : List (List ℕ)) (slot slot' : ℕ) (port port' : Port) → IsFirstClash flows slots slot port → IsFirstClash flows slots slot' port' →
-    (slot ≡ slot') × (port.side ≡ port'.side) × (port.number ≡ port'.number)
-one_clash flows slots slot slot' port port' a b =
-    let both = first_of_both slot slot' (IsNoLater port port') (IsNoLater port' port) (a.first slot' port' b.clashes) (b.first slot port a.clashes) in
-    let ports = one_port port.side port'.side port.number port'.number both.1 both.2 in
-    (both.0, ports.0, ports.1)
-
-one_miscount : (flows : List Flow) (slots : List (List ℕ)) (f h w f' h' w' : ℕ) → IsFirstMiscount flows slots f h w → IsFirstMiscount flows slots f' h' w' →
-    (f ≡ f') × (h ≡ h') × (w ≡ w')
-one_miscount flows slots f h w f' h' w' a b =
-    let less = λ (lt : f < f'). a.differ (sym a.stands_in ∙ b.first f lt ∙ a.wants) in
-    let more = λ (lt : f' < f). b.differ (sym b.stands_in ∙ a.first f' lt ∙ b.wants) in
-    let e : f ≡ f' = between f f' less more in
-    (e, sym a.stands_in ∙ ap (times slots) e ∙ b.stands_in, sym a.wants ∙ ap (units_of flows) e ∙ b.wants)
-
 module _ (i : Instance) (ids : List ℕ) (r : Report) where
   -- with no wrong place, the coflows of the places differ
   apart_where_named : (reason : Reason) → 0 < kind reason → IsFirstReason i ids r reason → IsDistinct (coflows_in ids r.places)
@@ -161,11 +103,10 @@ module _ (i : Instance) (ids : List ℕ) (r : Report) where
 
   same_reason : (a b : Reason) → kind a ≡ kind b → IsFirstReason i ids r a → IsFirstReason i ids r b → a ≡ b
   same_reason (NotPermutation p) (NotPermutation q) e fa fb =
-      ap NotPermutation (between p q (no_earlier_wrong ids (ids_in r.places) p q fa.holds fb.holds) (no_earlier_wrong ids (ids_in r.places) q p fb.holds fa.holds))
+      ap NotPermutation (one_wrong_place ids (ids_in r.places) p q fa.holds fb.holds)
   same_reason (PortRange p m) (PortRange q n) e fa fb =
-      let place : p ≡ q = between p q (no_earlier_port i.ports r.places p q m n fa.holds fb.holds) (no_earlier_port i.ports r.places q p n m fb.holds fa.holds) in
-      let number : m ≡ n = sym fa.holds.has ∙ ap (λ k. (place_at r.places (k - 1)).port.number) place ∙ fb.holds.has in
-      ap (λ k. PortRange k m) place ∙ ap (PortRange q) number
+      let both = one_bad_port i.ports r.places p q m n fa.holds fb.holds in
+      ap (λ k. PortRange k m) both.0 ∙ ap (PortRange q) both.1
   same_reason (WeightWrong c s x) (WeightWrong d t y) e fa fb =
       let both = one_wrong_of_any (coflows_in ids r.places) r.weights i.weight c d s t x y (apart_where_named (WeightWrong c s x) (omega arith) fa) fa.holds fb.holds in
       ap (λ n. WeightWrong n s x) both.0 ∙ ap (λ n. WeightWrong d n x) both.1 ∙ ap (WeightWrong d t) both.2
@@ -174,7 +115,7 @@ module _ (i : Instance) (ids : List ℕ) (r : Report) where
   same_reason (BoundTooHigh s x) (BoundTooHigh t y) e fa fb = ap (λ n. BoundTooHigh n x) (fa.holds.0 ∙ sym fb.holds.0) ∙ ap (BoundTooHigh t) (fa.holds.1 ∙ sym fb.holds.1)
   same_reason (SlackWrong s x) (SlackWrong t y) e fa fb = ap (λ n. SlackWrong n x) (fa.holds.0 ∙ sym fb.holds.0) ∙ ap (SlackWrong t) (fa.holds.1 ∙ sym fb.holds.1)
   same_reason (NoFlow s f) (NoFlow t g) e fa fb =
-      let both = one_flow i.flows (slots_in r.runs) s f t g fa.holds fb.holds in
+      let both = one_flow i.flows (slots_in r.runs) s t f g fa.holds fb.holds in
       ap (λ n. NoFlow n f) both.0 ∙ ap (NoFlow t) both.1
   same_reason (ClashIn s p) (ClashIn t q) e fa fb =
       let both = one_clash i.flows (slots_in r.runs) s t p q fa.holds fb.holds in
@@ -182,7 +123,7 @@ module _ (i : Instance) (ids : List ℕ) (r : Report) where
       let number = ap (λ n. ClashIn t record { side = q.side; number = n }) both.2 in
       ap (λ n. ClashIn n p) both.0 ∙ side ∙ number
   same_reason (UnitsOf f h w) (UnitsOf g k v) e fa fb =
-      let both = one_miscount i.flows (slots_in r.runs) f h w g k v fa.holds fb.holds in
+      let both = one_miscount i.flows (slots_in r.runs) f g h k w v fa.holds fb.holds in
       ap (λ n. UnitsOf n h w) both.0 ∙ ap (λ n. UnitsOf g n w) both.1 ∙ ap (UnitsOf g k) both.2
   same_reason (DoneWrong c s x) (DoneWrong d t y) e fa fb =
       let both = one_wrong (coflows_in ids r.places) (ends_in r.places) (completion i.flows (slots_in r.runs)) c d s t x y (apart_where_named (DoneWrong c s x) (omega arith) fa)

@@ -30,42 +30,10 @@ use Rattle.online_check.specs.Done.{IsFirstUnlisted, IsFirstWrongEnd, IsListed, 
 use Rattle.online_check.specs.Early.{IsFirstEarly}
 use Rattle.online_check.specs.Reasons.{IsFirstOnlineReason, IsOnlineVerdict, online_kind}
 use Rattle.online_check.specs.Released.{plain_lines, released_in}
+use Rattle.cert_check.proofs.OneOfEach.{first_of_both, one_bad_port, one_clash, one_flow, one_miscount, one_wrong_place, only_one}
 use Rattle.online_check.proofs.Verdicts.{yes_where_sound}
 
 -- ---- one number of each kind
-
--- what holds of one number alone, where none of them is less than another
-pub only_one : {P : ℕ → Type 0} → ((a b : ℕ) → P a → P b → a < b → ⊥) → (a b : ℕ) → P a → P b → a ≡ b
-only_one never a b pa pb = elim (cases_lt a b) [
-  | inl less ↦ absurd (never a b pa pb less)
-  | inr le ↦ elim (cases_lt b a) [
-    | inl less ↦ absurd (never b a pb pa less)
-    | inr ge ↦ omega arith
-  ]
-]
-
-is_one_kind : (ids stated : List ℕ) (k : ℕ) → IsNew ids stated k → IsNotNew ids stated k → ⊥
-is_one_kind ids stated k new (inl unknown) = unknown new.known
-is_one_kind ids stated k new (inr earlier) = new.once earlier
-
-one_wrong_place : (ids stated : List ℕ) (a b : ℕ) → IsFirstWrong ids stated a → IsFirstWrong ids stated b → a ≡ b
-one_wrong_place ids stated = only_one earlier where
-  earlier : (a b : ℕ) → IsFirstWrong ids stated a → IsFirstWrong ids stated b → a < b → ⊥
-  earlier a b wa wb less = elim wa.wrong [
-    | inl (inside, not_new) ↦ is_one_kind ids stated (a - 1) (wb.before (a - 1) (omega (arith, wa.counted))) not_new
-    | inr (end, few) ↦ elim wb.wrong [
-      | inl (inside, not_new) ↦ omega (arith, wa.counted, end, inside, less)
-      | inr (end', few') ↦ omega (arith, wa.counted, end, end', less)
-    ]
-  ]
-
-one_bad_port : (ports : ℕ) (places : List PlaceLine) (a b m n : ℕ) → IsFirstOutOfRange ports places a m → IsFirstOutOfRange ports places b n → (a ≡ b) × (m ≡ n)
-one_bad_port ports places a b m n pa pb =
-    let place : a ≡ b = only_one earlier a b (m, pa) (n, pb) in
-    (place, sym pa.has ∙ ap (λ k. (place_at places (k - 1)).port.number) place ∙ pb.has)
-  where
-    earlier : (a b : ℕ) → (m : ℕ) × IsFirstOutOfRange ports places a m → (n : ℕ) × IsFirstOutOfRange ports places b n → a < b → ⊥
-    earlier a b (m, pa) (n, pb) less = omega (arith, pa.has, pa.beyond, pb.before (a - 1) (omega (arith, pa.counted)))
 
 one_infeasible : (flows : List Flow) (weight : ℕ → ℕ) (places : List ReleasePlace) (a b : ℕ) → IsLeastReleasedInfeasible flows weight places a →
     IsLeastReleasedInfeasible flows weight places b → a ≡ b
@@ -99,44 +67,10 @@ one_wrong_end stated real a b s t x y wa wb =
 
 -- ---- one slot of each kind, and what is first in it
 
--- of two that both come first, the slots are the same
-pub same_slot : (a b : ℕ) (P Q : Type 0) → (a < b) ⊎ ((a ≡ b) × P) → (b < a) ⊎ ((b ≡ a) × Q) → (a ≡ b) × P × Q
-same_slot a b P Q (inl less) (inl more) = absurd (omega (arith, less, more))
-same_slot a b P Q (inl less) (inr (e, q)) = absurd (omega (arith, less, e))
-same_slot a b P Q (inr (e, p)) (inl more) = absurd (omega (arith, more, e))
-same_slot a b P Q (inr (e, p)) (inr (e', q)) = (e, p, q)
-
-one_stranger : (flows : List Flow) (slots : List (List ℕ)) (s t f g : ℕ) → IsFirstNoFlow flows slots s f → IsFirstNoFlow flows slots t g → (s ≡ t) × (f ≡ g)
-one_stranger flows slots s t f g a b =
-    let both = same_slot s t (f ≤ g) (g ≤ f) (a.first t g b.stands b.no_flow) (b.first s f a.stands a.no_flow) in
-    (both.0, omega (arith, both.1, both.2))
-
-same_port : (s t : Side) (m n : ℕ) → number_no_later s m t n → number_no_later t n s m → (s ≡ t) × (m ≡ n)
-same_port Ingress Ingress m n le ge = (refl, omega (arith, le, ge))
-same_port Ingress Egress m n le ge = absurd ge
-same_port Egress Ingress m n le ge = absurd le
-same_port Egress Egress m n le ge = (refl, omega (arith, le, ge))
-
-one_clashing : (flows : List Flow) (slots : List (List ℕ)) (s t : ℕ) (p q : Port) → IsFirstClash flows slots s p → IsFirstClash flows slots t q →
-    (s ≡ t) × (p.side ≡ q.side) × (p.number ≡ q.number)
-one_clashing flows slots s t p q a b =
-    let both = same_slot s t (IsNoLater p q) (IsNoLater q p) (a.first t q b.clashes) (b.first s p a.clashes) in
-    let ports = same_port p.side q.side p.number q.number both.1 both.2 in
-    (both.0, ports.0, ports.1)
-
-one_miscounted : (flows : List Flow) (slots : List (List ℕ)) (f g h k v w : ℕ) → IsFirstMiscount flows slots f h v → IsFirstMiscount flows slots g k w →
-    (f ≡ g) × (h ≡ k) × (v ≡ w)
-one_miscounted flows slots f g h k v w a b =
-    let flow : f ≡ g = only_one lesser f g (h, v, a) (k, w, b) in
-    (flow, sym a.stands_in ∙ ap (times slots) flow ∙ b.stands_in, sym a.wants ∙ ap (units_of flows) flow ∙ b.wants)
-  where
-    lesser : (f g : ℕ) → (h v : ℕ) × IsFirstMiscount flows slots f h v → (k w : ℕ) × IsFirstMiscount flows slots g k w → f < g → ⊥
-    lesser f g (h, v, a) (k, w, b) less = a.differ (sym a.stands_in ∙ b.first f less ∙ a.wants)
-
 one_early : (flows : List Flow) (arrival : ℕ → ℕ) (slots : List (List ℕ)) (s t c d : ℕ) → IsFirstEarly flows arrival slots s c → IsFirstEarly flows arrival slots t d →
     (s ≡ t) × (c ≡ d)
 one_early flows arrival slots s t c d a b =
-    let both = same_slot s t (c ≤ d) (d ≤ c) (a.first t d b.early) (b.first s c a.early) in
+    let both = first_of_both s t (c ≤ d) (d ≤ c) (a.first t d b.early) (b.first s c a.early) in
     (both.0, omega (arith, both.1, both.2))
 
 -- ---- one reason, and one verdict
@@ -150,15 +84,15 @@ module _ (i : Instance) (arrival : ℕ → ℕ) (ids : List ℕ) (o : Online) wh
   same_reason (Infeasible c) (Infeasible d) e fa fb = ap Infeasible (one_infeasible i.flows i.weight (released_in ids o.release) c d fa.holds fb.holds)
   same_reason (TotalTooHigh s x) (TotalTooHigh t y) e fa fb = ap (λ n. TotalTooHigh n x) (fa.holds.0 ∙ sym fb.holds.0) ∙ ap (TotalTooHigh t) (fa.holds.1 ∙ sym fb.holds.1)
   same_reason (NoFlow s f) (NoFlow t g) e fa fb =
-      let both = one_stranger i.flows (slots_in o.runs) s t f g fa.holds fb.holds in
+      let both = one_flow i.flows (slots_in o.runs) s t f g fa.holds fb.holds in
       ap (λ n. NoFlow n f) both.0 ∙ ap (NoFlow t) both.1
   same_reason (ClashIn s p) (ClashIn t q) e fa fb =
-      let both = one_clashing i.flows (slots_in o.runs) s t p q fa.holds fb.holds in
+      let both = one_clash i.flows (slots_in o.runs) s t p q fa.holds fb.holds in
       let side = ap (λ (x : Side). ClashIn t record { side = x; number = p.number }) both.1 in
       let number = ap (λ n. ClashIn t record { side = q.side; number = n }) both.2 in
       ap (λ n. ClashIn n p) both.0 ∙ side ∙ number
   same_reason (UnitsOf f h v) (UnitsOf g k w) e fa fb =
-      let all = one_miscounted i.flows (slots_in o.runs) f g h k v w fa.holds fb.holds in
+      let all = one_miscount i.flows (slots_in o.runs) f g h k v w fa.holds fb.holds in
       ap (λ n. UnitsOf n h v) all.0 ∙ ap (λ n. UnitsOf g n v) all.1 ∙ ap (UnitsOf g k) all.2
   same_reason (Early s c) (Early t d) e fa fb =
       let both = one_early i.flows arrival (slots_in o.runs) s t c d fa.holds fb.holds in
