@@ -481,7 +481,7 @@ round_done o most calls rounds r driver mid new olds mids news pulls told_more h
           (All-weaker (λ (s : Spell). s.round ≡ n) (λ (s : Spell). s.round < length (rounds ++ r ∷ [])) (λ s e. omega (arith, e, long)) more driven.opened.rounds_are);
       between = All-append (IsSpellBetween next) spells more (still_spells levels n new.position version spells h.rounds_done h.between)
           (beside_spells levels n new.position version driver.position mid.position more here raised driven.opened.rounds_are driven.opened.stand);
-      slot_rounds_are = map-append round_of spells more ∙ (λ i. h.slot_rounds_are i ++ driven.as_asked i) 
+      slot_rounds_are = map-append round_of spells more ∙ (λ i. h.slot_rounds_are i ++ driven.as_asked i)
           ∙ sym (slots_more 0 rounds r ∙ ap (λ m. slot_rounds_from 0 rounds ++ (if r.runs then m ∷ [] else [])) first);
     }
 
