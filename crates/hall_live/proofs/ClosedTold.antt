@@ -154,7 +154,7 @@ lines_of_others o clients n k (r ∷ rs) all other =
 
 -- ---- entries, one by one
 
-from_splits : (P : Entry → Type 0) (before es : List Entry) → ((front more : List Entry) (e : Entry) → before ++ es ≡ front ++ e ∷ more → P e) → All P es
+pub from_splits : (P : Entry → Type 0) (before es : List Entry) → ((front more : List Entry) (e : Entry) → before ++ es ≡ front ++ e ∷ more → P e) → All P es
 from_splits P before [] h = All-nil P
 from_splits P before (e ∷ es) h =
     All-cons P e es (h before es e refl) (from_splits P (before ++ e ∷ []) es (λ front more x is. h front more x (sym (append_assoc before (e ∷ []) es) ∙ is)))

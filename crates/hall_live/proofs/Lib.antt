@@ -5,3 +5,4 @@ pub mod PullsTold
 pub mod ClosedTold
 pub mod PullLines
 pub mod Seated
+pub mod Counted

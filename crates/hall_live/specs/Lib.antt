@@ -2,3 +2,4 @@ pub mod Followed
 pub mod Driven
 pub mod Rounds
 pub mod Ends
+pub mod Room

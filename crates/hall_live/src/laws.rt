@@ -1,5 +1,5 @@
 //! Laws of the rounds of a run of `live`.
-ghost use Rattle.std.specs.Prelude.{◌≡◌, ℕ, ◌++◌, [], ◌∷◌, false, true, length, List};
+ghost use Rattle.std.specs.Prelude.{◌≡◌, ℕ, ◌+◌, ◌<◌, ◌≤◌, ◌++◌, [], ◌∷◌, All, false, true, length, List};
 ghost use Rattle.journal.specs.declared.command.Reply.TheVariants.{NothingLeft};
 ghost use Rattle.journal.specs.declared.opening.Opening.{Opening};
 ghost use Rattle.journal.specs.Driven.{Drive, IsSentWhole};
@@ -13,13 +13,16 @@ ghost use Rattle.client_session.specs.Levels.{IsLevel};
 ghost use Rattle.client_session.specs.Models.{DriverModel, HallModel, SessionModel};
 ghost use Rattle.slot_runner.specs.Models.{RunnerModel};
 ghost use Rattle.slot_runner.specs.Slots.{HasRun, IsAnswered};
+ghost use Rattle.live_model.specs.Rounds.{Spell};
 ghost use Rattle.live_model.specs.Script.{limit_of};
+ghost use Rattle.live_course.specs.Drivers.{AreOpenings};
 ghost use Rattle.live_model.specs.Sent.{Wires};
 ghost use Rattle.live_rounds.specs.declared.answer.PullDone.{PullDone};
 ghost use Rattle.live_rounds.specs.Rounds.{IsRoundDone};
 ghost use Rattle.hall_live.specs.Driven.{HasDriven};
 ghost use Rattle.hall_live.specs.Ends.{HasRunOut, IsCarriedOut, IsRunningOut, MayBeAsked};
 ghost use Rattle.hall_live.specs.Followed.{AreBegun};
+ghost use Rattle.hall_live.specs.Room.{found_none, IsShort};
 ghost use Rattle.hall_live.specs.Rounds.{AreRoundsDone};
 
 /// How rounds go on. None is done where a driver has seen nothing and each session is new. A round more is done where
@@ -62,6 +65,17 @@ pub fn closed_halls_carry_out_scripts()
         HasRunOut most calls script.rounds driver sessions pulls → IsClosed hall driver sessions master →
         ((port : ℕ) → wires port ≡ wire_of master.opening master.journal port) →
         IsCarriedOut master.opening script most master.journal wires pulls }
+{}
+
+/// The journal of a closed hall has fewer entries than the limit of its script, whatever its rounds stopped for: no session
+/// has more entries than its client has lines, each run that was closed sent a unit, and no more openings found nothing
+/// left than there are rounds, and one.
+pub fn runs_have_room()
+    ensures { (script : Script) (most : ℕ) (hall : HallModel) (driver : DriverModel) (sessions : List SessionModel)
+        (spells : List Spell) (master : MasterFacts) → master.opening.limit ≡ limit_of master.opening script →
+        length sessions ≡ script.clients → All (IsShort script) sessions → AreOpenings most driver.journal spells →
+        found_none spells ≤ length script.rounds + 1 → IsClosed hall driver sessions master →
+        length master.journal < master.opening.limit }
 {}
 
 /// What the slot of a runner comes to beside a round: a run that was sent whole, or the answer that nothing is left, is
