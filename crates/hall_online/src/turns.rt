@@ -58,8 +58,8 @@ pub(crate) fn publish<R: Wait>(rt: &R, hall: &Hall, runner: &mut Runner, places:
 pub(crate) fn pass<R: Wait>(rt: &R, hall: &Hall, runner: &mut Runner, to: u64)
     requires ready { IsReady hall.now runner.old }
     requires room { length runner.old.driver.journal < hall.now.setting.opening.limit }
-    requires idle { answer hall.now.setting.opening (state_of hall.now.setting.opening runner.old.driver.journal) (Skip to)
-        ≡ Skipped to }
+    requires idle { answer hall.now.setting.opening
+        (state_of hall.now.setting.opening runner.old.driver.journal) (Skip to) ≡ Skipped to }
     ensures ready { IsReady hall.now runner.new }
     ensures asked { HasAsked hall.now.setting.opening (Skip to) runner.old runner.new }
 {

@@ -100,7 +100,8 @@ sorted_rises listed sorted once moved ascends =
     IsStrictlyIncreasing-from_distinct sorted (IsNonDecreasingBy-from_sort (λ (x : ℕ). x) sorted ascends)
     (IsDistinct-IsPermutation eqb flips listed sorted moved (IsDistinct-from_AllPairs Decides-eqb listed once))
 
-pub sorted_lists : (ranks : Ranks) (at : List ℕ) (done : ℕ → Type 0) (listed sorted : List ℕ) → IsListing ranks at done listed → IsPermutation listed sorted → IsStrictlyIncreasing sorted →
+pub sorted_lists : (ranks : Ranks) (at : List ℕ) (done : ℕ → Type 0) (listed sorted : List ℕ) → IsListing ranks at done listed →
+    IsPermutation listed sorted → IsStrictlyIncreasing sorted →
     IsListing ranks at done sorted
 sorted_lists ranks at done listed sorted list moved rises = record {
   from = λ f has. list.from f (Contains-permutation sorted listed f (IsPermutation-sym listed sorted moved) has);

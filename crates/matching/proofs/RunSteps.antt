@@ -120,7 +120,8 @@ first_of_some : (xs : List ℕ) → xs ≢ [] → (f : ℕ) × Contains xs f
 first_of_some [] ne = absurd (ne refl)
 first_of_some (x ∷ xs) ne = (x, in_first x xs)
 
-pub least_is : (flows : List Flow) (line : List ℕ) (left : ℕ → ℕ) (m : Tables) (done : ℕ → Type 0) (least : ℕ) → ((r : ℕ) → r < m.ranks.count → done (first_of m.ranks r)) → IsRanks m.ranks →
+pub least_is : (flows : List Flow) (line : List ℕ) (left : ℕ → ℕ) (m : Tables) (done : ℕ → Type 0) (least : ℕ) →
+    ((r : ℕ) → r < m.ranks.count → done (first_of m.ranks r)) → IsRanks m.ranks →
     IsBoard m.ranks.ports (graph_of m.ranks) m.board.at.items → IsSettled flows line left m →
     IsLeastUpto (graph_of m.ranks) (left_at m) m.board.at.items done least → IsLeastLeft left (listed_in m) least
 least_is flows line left m done least all k b s l = record {
@@ -278,7 +279,8 @@ run_takes first old new done more n units one k b same low some t s = record {
   begins = ap (λ (x : Ranks). first_of x rank) same ∙ begins_there
 
 -- what is kept after the run
-pub run_matching : (flows : List Flow) (line : List ℕ) (left lower : ℕ → ℕ) (old new : Tables) (done : ℕ → Type 0) (units : ℕ) → ((r : ℕ) → r < old.ranks.count → done (first_of old.ranks r)) → IsRanks old.ranks →
+pub run_matching : (flows : List Flow) (line : List ℕ) (left lower : ℕ → ℕ) (old new : Tables) (done : ℕ → Type 0) (units : ℕ) →
+    ((r : ℕ) → r < old.ranks.count → done (first_of old.ranks r)) → IsRanks old.ranks →
     IsBoard old.ranks.ports (graph_of old.ranks) old.board.at.items → new.ranks ≡ old.ranks → IsRunTaken old new done units →
     IsSettled flows line left old → IsRunLess left lower (listed_in old) units → IsMatching flows line lower new
 run_matching flows line left lower old new done units all k b same t s less = record {

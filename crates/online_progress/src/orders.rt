@@ -53,7 +53,8 @@ pub fn epoch_of(
 /// What a publishing says of each place.
 fn order_lines(alloc: Global, table: &Table, places: &[Place]) -> Result<Vec<OnlinePlace>, NoMemory>
     requires { All (λ (x : Place). x.coflow < length table.now.ids) places.now }
-    ensures { IfOk result (λ lines. lines.items ≡ map (λ (x : Place). place_line table.now.ids (entry_of x)) places.now) }
+    ensures { IfOk result (λ lines.
+        lines.items ≡ map (λ (x : Place). place_line table.now.ids (entry_of x)) places.now) }
 {
     let mut lines = Vec::with_capacity(alloc, places.len())?;
     for place in places {

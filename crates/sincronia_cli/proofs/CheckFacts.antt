@@ -46,7 +46,8 @@ bounds_of : OnlineLaw → (i : Instance) (arrival : ℕ → ℕ) (ids : List ℕ
 bounds_of law i arrival ids (any.Plan r) sound = λ slots valid. omega (arith, sound.bound_is_low, bound_law i _ slots sound.certificate sound.feasible valid)
 bounds_of law i arrival ids (any.Online o) sound = λ slots released. law i arrival ids o slots sound released
 
-pub sure_yes : OnlineLaw → (told : Option Told) (said : Said) (old new : Option (List ℕ)) (text : List ℕ) → CheckOf told said true text → Appends old new text → WritesYes told said old new
+pub sure_yes : OnlineLaw → (told : Option Told) (said : Said) (old new : Option (List ℕ)) (text : List ℕ) → CheckOf told said true text → Appends old new text →
+    WritesYes told said old new
 sure_yes law told said old new text checks written = record {
   text = text;
   checks = checks;

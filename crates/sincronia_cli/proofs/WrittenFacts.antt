@@ -51,7 +51,8 @@ module _ {X : Type 0} (E : Type 0) (S : TableFacts → List (List ℕ) → Type 
   yes_for true is ok = refl
   yes_for false is ok = let bad : status.Ok ≡ status.No = sym ok ∙ is in cc
 
-  pub yes_written : OnlineLaw → (trace report : Text) → IsWords words by → IsCommand (check_job trace report) words said → IsOutcome S told by bench s text → s ≡ status.Ok → lent ≡ text →
+  pub yes_written : OnlineLaw → (trace report : Text) → IsWords words by → IsCommand (check_job trace report) words said → IsOutcome S told by bench s text →
+      s ≡ status.Ok → lent ≡ text →
       TakesText {E = E} old new lent (Ok x) →
       WritesYes told said old new
   yes_written law trace report reads is outcome ok e takes =

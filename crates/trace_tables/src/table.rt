@@ -26,7 +26,8 @@ pub fn table_of_text(alloc: Global, text: &[u8], unit: u64) -> Result<Table, Tex
     ensures long { result ≡ Err TextFault.TooLong → MAX_TEXT < length text.now }
     ensures trace { (fault : TraceFault) → result ≡ Err (TextFault.Trace fault) →
         Answers (trace_checks text.now) (λ t. t ≡ trace_of text.now) (Err fault) }
-    ensures cause { (fault : TableFault) → result ≡ Err (TextFault.Table fault) → HasCause (trace_of text.now) unit fault }
+    ensures cause { (fault : TableFault) → result ≡ Err (TextFault.Table fault) →
+        HasCause (trace_of text.now) unit fault }
 {
     if text.len() > MAX_TEXT {
         return Err(TextFault::TooLong);

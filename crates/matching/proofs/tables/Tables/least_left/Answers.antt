@@ -19,7 +19,8 @@ returns c = λ flows line left s.
     let xs = m.ranks.sources.ports in
     let k = c.loop-ingress.ingress-index in
     least_is flows line left m (IsAmongFirst xs k) c.loop-ingress.least
-    (λ r lt. among_all xs k _ (omega (arith, c.loop-ingress-test.false, ap length c.list-ingress-items.ensures.ports)) (c.requires.ranks.sources r lt)) c.requires.ranks c.requires.board s
+    (λ r lt. among_all xs k _ (omega (arith, c.loop-ingress-test.false, ap length c.list-ingress-items.ensures.ports)) (c.requires.ranks.sources r lt))
+    c.requires.ranks c.requires.board s
     c.loop-ingress.invariant
 
 pub loop-ingress-preserved-then-rank : goal.loop-ingress-preserved-then-rank

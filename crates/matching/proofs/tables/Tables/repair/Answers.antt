@@ -30,7 +30,8 @@ returns-clause-settled c = λ flows line left m.
     let listed = c.list_granted-granted.new.listed in
     let at = now.board.at.items in
     let e = c.settle.ensures.ranks in
-    let listing = subst (λ (xs : List ℕ). IsListing now.ranks (take now.ranks.ports xs) (λ p. p < length (take now.ranks.ports xs)) (take n listed)) c.deref.ensures.value l.listing in
+    let listing = subst (λ (xs : List ℕ). IsListing now.ranks (take now.ranks.ports xs) (λ p. p < length (take now.ranks.ports xs))
+    (take n listed)) c.deref.ensures.value l.listing in
     let back = written_back now.listed.len listed now.listed.items (l.len ∙ c.deref_mut.ensures.len) in
     let told = subst (λ (xs : List ℕ). IsTold (number_of now.ranks) (Stands g at) (take n xs)) (sym back)
     (listed_told now.ranks at (take n listed) s.ranks s.board l.ascending listing) in
