@@ -7,7 +7,7 @@ Each row has the answer as it follows from the formats, worked out by hand, and 
 in which memory runs out: the program is left 4 GiB of addresses.
 """
 import os
-import resource
+import subprocess
 import sys
 import tempfile
 
@@ -43,50 +43,60 @@ def rows():
     head, rest = TWO.split(b"\n", 1)
     zeros = b"0" * 10**6
     return [
-        ("2^26 digits as a trace", DIGITS, None, None, PLAN, 3, b"", bad(b"trace: bad header"), 160),
-        ("2^26 digits as weights", TWO, DIGITS, None, WEIGHTED, 4, b"", bad(b"weights: line 1 unknown id 18446744073709551615"), 160),
-        ("2^26 digits as a report", TWO, None, DIGITS, CHECK, 5, b"", bad(b"report: line 1"), 160),
-        ("2^26 + 1 digits", DIGITS + b"1", None, None, PLAN, 7, b"", bad(b"limit: text 67108865"), 160),
-        ("an id of 10^7 digits", b"1 1\n" + b"9" * 10**7 + b" 0 1 0 1 1:1\n", None, None, PLAN, 7, b"", bad(b"limit: id 18446744073709551615"), 40),
-        ("a location of 10^7 digits", b"1 1\n7 0 1 " + b"9" * 10**7 + b" 1 1:1\n", None, None, PLAN, 3, b"", bad(b"trace: line 2 port 18446744073709551615 out of range"), 40),
+        ("2^26 digits as a trace", DIGITS, None, None, PLAN, 3, b"", bad(b"trace: bad header"), 80),
+        ("2^26 digits as weights", TWO, DIGITS, None, WEIGHTED, 4, b"", bad(b"weights: line 1 unknown id 18446744073709551615"), 80),
+        ("2^26 digits as a report", TWO, None, DIGITS, CHECK, 5, b"", bad(b"report: line 1"), 80),
+        ("2^26 + 1 digits", DIGITS + b"1", None, None, PLAN, 7, b"", bad(b"limit: text 67108865"), 80),
+        ("an id of 10^7 digits", b"1 1\n" + b"9" * 10**7 + b" 0 1 0 1 1:1\n", None, None, PLAN, 7, b"", bad(b"limit: id 18446744073709551615"), 16),
+        ("a location of 10^7 digits", b"1 1\n7 0 1 " + b"9" * 10**7 + b" 1 1:1\n", None, None, PLAN, 3, b"", bad(b"trace: line 2 port 18446744073709551615 out of range"), 16),
         ("10^7 digits behind a point", b"1 1\n7 0 1 0 1 1:0." + b"0" * 10**7 + b"1\n", None, None, PLAN, 0,
-         b"sincronia 2\nplace 1 7 in 0 1099511627776 1 1\nbound 1\nslack 0\ncost 1\nrun 1 0\nend\n", b"", 40),
-        ("a weight of 10^7 digits", TWO, b"1 " + b"9" * 10**7 + b"\n", None, WEIGHTED, 7, b"", bad(b"limit: weight 18446744073709551615"), 40),
+         b"sincronia 2\nplace 1 7 in 0 1099511627776 1 1\nbound 1\nslack 0\ncost 1\nrun 1 0\nend\n", b"", 16),
+        ("a weight of 10^7 digits", TWO, b"1 " + b"9" * 10**7 + b"\n", None, WEIGHTED, 7, b"", bad(b"limit: weight 18446744073709551615"), 16),
         ("10^6 zeros before each number", b"\n".join(b" ".join(zeros + field for field in line.split(b" ")) for line in (head, rest.split(b"\n")[0]))
-         .replace(b":", b":" + zeros) + b"\n2 0 1 0 1 1:1\n", None, None, PLAN, 0, TWO_TEXT, b"", 40),
-        ("10^6 zeros before a number of a report", TWO, None, TWO_TEXT.replace(b"bound 5", b"bound " + zeros + b"5"), CHECK, 5, b"", bad(b"report: line 4"), 20),
-        ("4096 coflows of 4096 mappers", many_mappers(), None, None, PLAN, 0, many_mappers_text(), b"", 200),
-        ("zero bytes as a trace", b"\0" * 2**20, None, None, PLAN, 3, b"", bad(b"trace: bad header"), 20),
-        ("bytes of 255 as a trace", b"\xff" * 2**20, None, None, PLAN, 3, b"", bad(b"trace: bad header"), 20),
-        ("zero bytes behind a header", b"1 1\n" + b"\0" * 2**20, None, None, PLAN, 3, b"", bad(b"trace: line 2 field 1"), 20),
-        ("bytes of 255 behind a header", b"1 1\n" + b"\xff" * 2**20, None, None, PLAN, 3, b"", bad(b"trace: line 2 field 1"), 20),
-        ("bytes of 0 and 255 behind fields", b"1 1\n7 0 1 0 1 1:1 " + b"\0\xff" * 2**19, None, None, PLAN, 3, b"", bad(b"trace: line 2 field 7"), 20),
-        ("zero bytes as weights", TWO, b"\0" * 2**20, None, WEIGHTED, 4, b"", bad(b"weights: line 1 field 1"), 20),
-        ("bytes of 255 behind an id", TWO, b"1 " + b"\xff" * 2**20, None, WEIGHTED, 4, b"", bad(b"weights: line 1 field 2"), 20),
-        ("zero bytes as a report", TWO, None, b"\0" * 2**20, CHECK, 5, b"", bad(b"report: line 1"), 20),
-        ("bytes of 255 in a report", TWO, None, TWO_TEXT.replace(b"run 3 0", b"run 3 \xff"), CHECK, 5, b"", bad(b"report: line 8"), 20),
-        ("a folder as report", TWO, None, None, ["check", "t", "."], 8, b"", READ_FAULT, 20),
+         .replace(b":", b":" + zeros) + b"\n2 0 1 0 1 1:1\n", None, None, PLAN, 0, TWO_TEXT, b"", 16),
+        ("10^6 zeros before a number of a report", TWO, None, TWO_TEXT.replace(b"bound 5", b"bound " + zeros + b"5"), CHECK, 5, b"", bad(b"report: line 4"), 8),
+        ("4096 coflows of 4096 mappers", many_mappers(), None, None, PLAN, 0, many_mappers_text(), b"", 120),
+        ("zero bytes as a trace", b"\0" * 2**20, None, None, PLAN, 3, b"", bad(b"trace: bad header"), 8),
+        ("bytes of 255 as a trace", b"\xff" * 2**20, None, None, PLAN, 3, b"", bad(b"trace: bad header"), 8),
+        ("zero bytes behind a header", b"1 1\n" + b"\0" * 2**20, None, None, PLAN, 3, b"", bad(b"trace: line 2 field 1"), 8),
+        ("bytes of 255 behind a header", b"1 1\n" + b"\xff" * 2**20, None, None, PLAN, 3, b"", bad(b"trace: line 2 field 1"), 8),
+        ("bytes of 0 and 255 behind fields", b"1 1\n7 0 1 0 1 1:1 " + b"\0\xff" * 2**19, None, None, PLAN, 3, b"", bad(b"trace: line 2 field 7"), 8),
+        ("zero bytes as weights", TWO, b"\0" * 2**20, None, WEIGHTED, 4, b"", bad(b"weights: line 1 field 1"), 8),
+        ("bytes of 255 behind an id", TWO, b"1 " + b"\xff" * 2**20, None, WEIGHTED, 4, b"", bad(b"weights: line 1 field 2"), 8),
+        ("zero bytes as a report", TWO, None, b"\0" * 2**20, CHECK, 5, b"", bad(b"report: line 1"), 8),
+        ("bytes of 255 in a report", TWO, None, TWO_TEXT.replace(b"run 3 0", b"run 3 \xff"), CHECK, 5, b"", bad(b"report: line 8"), 8),
+        ("a folder as report", TWO, None, None, ["check", "t", "."], 8, b"", READ_FAULT, 8),
     ]
 
 
-def measured(folder, files, words, before=None):
-    """The exit code, standard output, standard error and the peak of memory in MiB of the words over these files."""
+# Runs the words in a folder, with standard output and standard error in the files `out` and `err` there and so many bytes of addresses (0: no limit), and prints the exit code and the peak of
+# memory in KiB. The peak of a process counts what it had before the program was started in it, which is a copy of its parent: so a small process starts the program.
+STARTER = """
+import os, resource, sys
+folder, most, *words = sys.argv[1:]
+os.chdir(folder)
+child = os.fork()
+if child == 0:
+    for name, number in (("out", 1), ("err", 2)):
+        os.dup2(os.open(name, os.O_WRONLY | os.O_CREAT | os.O_TRUNC), number)
+    if int(most):
+        resource.setrlimit(resource.RLIMIT_AS, (int(most), int(most)))
+    os.execv(words[0], words)
+_, status, usage = os.wait4(child, 0)
+print(os.waitstatus_to_exitcode(status), usage.ru_maxrss)
+"""
+
+
+def measured(folder, files, words, most=0):
+    """The exit code, standard output, standard error and the peak of memory in MiB of the words over these files, in so many bytes of addresses, where that is not 0."""
     for name, content in files.items():
         if content is not None:
             with open(os.path.join(folder, name), "wb") as file:
                 file.write(content)
-    with open(os.path.join(folder, "out"), "wb") as out, open(os.path.join(folder, "err"), "wb") as err:
-        child = os.fork()
-        if child == 0:
-            os.chdir(folder)
-            os.dup2(out.fileno(), 1)
-            os.dup2(err.fileno(), 2)
-            if before:
-                before()
-            os.execv(PROGRAM, [PROGRAM, *words])
-        _, status, usage = os.wait4(child, 0)
+    started = [sys.executable, "-S", "-E", "-c", STARTER, folder, str(most), os.path.abspath(PROGRAM), *words]
+    code, peak = map(int, subprocess.run(started, stdout=subprocess.PIPE, check=True).stdout.split())
     with open(os.path.join(folder, "out"), "rb") as out, open(os.path.join(folder, "err"), "rb") as err:
-        return os.waitstatus_to_exitcode(status), out.read(), err.read(), usage.ru_maxrss / 1024
+        return code, out.read(), err.read(), peak / 1024
 
 
 def run(row):
@@ -101,11 +111,6 @@ def run(row):
     return good
 
 
-def four_gib():
-    """Leaves the program 4 GiB of addresses."""
-    resource.setrlimit(resource.RLIMIT_AS, (2**32, 2**32))
-
-
 def run_long_report():
     """A report of 2^30 bytes of runs, by turns of the first and of the second flow: all of it can be read, but its runs need more than 4 GiB."""
     head = TWO_TEXT[:TWO_TEXT.index(b"run ")]
@@ -117,7 +122,7 @@ def run_long_report():
             for _ in range(pairs // 2**16):
                 file.write(pair * 2**16)
             file.write(pair * (pairs % 2**16) + end)
-        *have, peak = measured(folder, {"t": TWO}, CHECK, four_gib)
+        *have, peak = measured(folder, {"t": TWO}, CHECK, 2**32)
     good = have == [11, b"", b"sincronia: no memory\n"]
     print("%sa report of 2^30 bytes of runs: %r, %d MiB" % ("" if good else "FAILED ", have, peak))
     return good
