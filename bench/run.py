@@ -4,6 +4,7 @@
 Use: bench/run.py [--peer 'PROGRAM WORD ..'] [SHAPE ..]
      bench/run.py picture      draws windows of 1000 slots of a large plan alone; the exit code is 1 where one takes more than its bound
      bench/run.py compare      times a comparison alone, beside the serving of one order
+     bench/run.py [--peer 'PROGRAM WORD ..'] online      times online runs alone, and the check of one
 
 First, on each shape of load, the commands `plan` and `check`, output to /dev/null: seconds of the processor, the least of three runs, and the peak of memory. `--peer` names another program
 with the same commands, words behind it included; it runs in turn with ours, and the ratios to it are printed beside. Shapes on the command line are the only ones that run.
@@ -226,6 +227,39 @@ def comparison(folder):
     print(line, flush=True)
 
 
+# what is said behind `online t --unit 16`, and how many times the peer's time it is to take at most
+ONLINE = [([], 4), (["--epoch", "64"], 6)]
+
+
+def online(peer, folder):
+    """Times online runs of the trace of the shape of the public one, and the check of the first, beside the check of a plan of about its size. One agent sends: others would be started in each run."""
+    put(folder, "t", traces.hour)
+    unit = ["--unit", "16"]
+    for options, bound in ONLINE:
+        ours, theirs = [], []
+        for _ in range(RUNS):
+            ours.append(measured([PROGRAM, "online", "t", *unit, *options, "--agents", "1"], folder))
+            if peer:
+                theirs.append(measured([*peer, "online", "t", *unit, *options], folder))
+        beside(" ".join(["online", *unit, *options]), min(ours), min(theirs) if peer else None, bound)
+    with open(os.path.join(folder, "o"), "wb") as file:
+        subprocess.run([PROGRAM, "online", "t", *unit, "--agents", "1"], cwd=folder, stdout=file, check=False)
+    planned(folder, unit)
+    sizes = [os.path.getsize(os.path.join(folder, name)) // 1000 for name in ("o", "r")]
+    print("the report of the online run has %d kB, that of the plan %d kB" % tuple(sizes), flush=True)
+    ours = min(measured([PROGRAM, "check", "t", "o", *unit], folder) for _ in range(RUNS))
+    theirs = min(measured([*peer, "check", "t", "r", *unit], folder) for _ in range(RUNS)) if peer else None
+    beside("check of the online run, beside that of the plan", ours, theirs, 4)
+
+
+def beside(name, ours, theirs, bound):
+    seconds, memory, code = ours
+    line = "  %-50s %8.3f s  %5d MiB  code %d" % (name, seconds, memory, code)
+    if theirs:
+        line += "   peer %8.3f s  %5d MiB  code %d   ratio %.2f (bound %d)" % (*theirs, seconds / theirs[0], bound)
+    print(line, flush=True)
+
+
 def build(program):
     """Proves and builds a program anew, so that none of an earlier tree is timed."""
     if os.path.exists(program):
@@ -243,7 +277,7 @@ def main():
         if len(words) < 2:
             sys.exit(__doc__)
         peer, words = shlex.split(words[1]), words[2:]
-    alone = words[0] if words in (["picture"], ["compare"]) else None
+    alone = words[0] if words in (["picture"], ["compare"], ["online"]) else None
     if not alone and any(name not in SHAPES for name in words):
         sys.exit("bench: the shapes are %s" % " ".join(SHAPES))
     build(PROGRAM)
@@ -256,6 +290,8 @@ def main():
             limits_and_parts(folder)
         if alone == "compare" or not words:
             comparison(folder)
+        if alone == "online" or not words:
+            online(peer, folder)
         if alone == "picture" or not words:
             build(PICTURE)
             sys.exit(1 if windows(folder) else 0)
