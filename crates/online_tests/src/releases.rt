@@ -1,5 +1,5 @@
 //! Released certificates and their totals.
-use crate::verdicts::{LATER_WRONG, are_weights, had, loads_of, online_with, table_of, verdict_of};
+use crate::stated::{LATER_WRONG, are_weights, had, loads_of, online_with, table_of, verdict_of};
 use coflow_units::{Items, Side};
 use flow_table::Table;
 use online_check::{OnlineReason, OnlineVerdict};
