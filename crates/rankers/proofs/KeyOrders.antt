@@ -18,6 +18,7 @@ use Rattle.coflow_units.proofs.Lists.{number_below, number_in, numbers_apart}
 use Rattle.coflow_units.proofs.Sums.{all_of_members, first_or_tail, in_first, in_tail, nothing_in, pairs_from_apart}
 use Rattle.class_rates.specs.Classes.{ClassBefore}
 use Rattle.class_rates.proofs.ClassOrders.{before_as, head_before, no_later, order_is_one, tail_sorted}
+use Rattle.coflow_facts.proofs.Moved.{moved_apart}
 use Rattle.rankers.specs.ByKey.{IsByKey, by_key, key_then_number, put_by_key}
 
 -- ---- sorted by a number that holds the key and the number
@@ -32,11 +33,6 @@ keys_before key x y lx ly ne le = elim (cases_lt (key x) (key y)) [
         | inr down ↦ absurd (ne (omega (arith, le, e, down)))
       ]
 ]
-
--- a list that has the elements of one without repetition repeats none
-pub moved_apart : (xs ys : List ℕ) → IsPermutation xs ys → AllPairs (λ x y. x ≢ y) xs → AllPairs (λ x y. x ≢ y) ys
-moved_apart xs ys moved apart =
-    AllPairs-from_IsDistinct Decides-eqb ys (IsDistinct-IsPermutation eqb flips xs ys moved (IsDistinct-from_AllPairs Decides-eqb xs apart))
 
 pub sorted_by_key : (key : ℕ → ℕ) (n : ℕ) (out : List ℕ) → n ≤ 4294967296 → IsPermutation (range_with_len 0 n) out →
     IsNonDecreasingBy (λ c. key_then_number (key c) c) out → IsByKey key n out

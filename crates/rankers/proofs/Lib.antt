@@ -1,7 +1,5 @@
 pub mod KeyOrders
 pub mod Permutations
-pub mod PlaceOrders
-pub mod Greatest
 pub mod Noted
 pub mod OneRow
 pub mod ServedOrders

@@ -18,22 +18,10 @@ use Rattle.coflow_units.proofs.Lists.{any_from, any_where, in_reverse, into_reve
 use Rattle.coflow_units.proofs.Sums.{all_of_members, any_has, any_in, first_or_tail}
 use Rattle.class_rates.specs.Classes.{IsPermutation}
 use Rattle.flow_table.specs.Table.{TableFacts}
-use Rattle.rankers.specs.FactsTold.{IsBssiOrder}
+use Rattle.coflow_facts.proofs.Permutations.{few_below}
 use Rattle.rankers.specs.Scores.{IsFirstUnfit, IsNew, IsNotNew}
-use Rattle.rankers.proofs.KeyOrders.{moved_apart}
 
 -- ---- as many numbers below n as n, without repetition, are all of them
-
-by_test : (xs : List ℕ) (q : ℕ) → list_any (eqb q) xs ≡ true → Contains xs q
-by_test xs q e =
-    let (x, has, at) = any_where (eqb q) xs e in
-    subst (Contains xs) (sym (eqb-true q x at)) has
-
-few_below : (n : ℕ) (xs : List ℕ) → AllPairs (λ x y. x ≢ y) xs → ((q : ℕ) → Contains xs q → q < n) → length xs ≤ n
-few_below n xs apart low = length-le_from_distinct_below xs n (IsDistinct-from_AllPairs Decides-eqb xs apart) (λ q e. low q (by_test xs q e))
-
-many_below : (n : ℕ) (xs : List ℕ) → ((q : ℕ) → q < n → Contains xs q) → n ≤ length xs
-many_below n xs all = le-length_from_below xs n (λ q lt. any_from (eqb q) xs q (all q lt) (eq-eqb q q refl))
 
 pub all_below : (n : ℕ) (xs : List ℕ) → AllPairs (λ x y. x ≢ y) xs → ((q : ℕ) → Contains xs q → q < n) → length xs ≡ n → (c : ℕ) → c < n → Contains xs c
 all_below n xs apart low count c lt = elim (cases_Bool (list_any (λ x. x == c) xs)) [
@@ -131,22 +119,3 @@ repeated_unfit order seen place number before lt is known old = record {
   unfit = at_place order place (inr (subst (Contains (take place order)) is (before.here number known old)));
   before = λ k lt. before.new k (omega (arith, lt));
 }
-
--- ---- the order of a certificate of all coflows
-
-pub bssi_permutation : (t : TableFacts) (weights order : List ℕ) → IsBssiOrder t weights order → (length order ≡ length t.ids) × IsPermutation order
-bssi_permutation t weights order is =
-    let n = length t.ids in
-    let certificate = is.ordering.certificate in
-    let coflows = front is.entries in
-    let low = λ (q : ℕ) (has : Contains coflows q). number_below 0 n q (All-contains (Contains (range_with_len 0 n)) coflows q certificate.coflow has) in
-    let all = λ (q : ℕ) (lt : q < n). All-contains (Contains coflows) (range_with_len 0 n) q certificate.all (number_in 0 n q (omega arith) (omega (arith, lt))) in
-    let fewer = few_below n coflows certificate.once (λ q has. omega (arith, low q has)) in
-    let more = many_below n coflows all in
-    let count : length (reverse coflows) ≡ n = omega (arith, length-reverse coflows, fewer, more) in
-    let whole : IsPermutation (reverse coflows) = record {
-      distinct = moved_apart coflows (reverse coflows) (IsPermutation-reverse coflows) certificate.once;
-      known = all_of_members (λ c. c < length (reverse coflows)) (reverse coflows) (λ c has. omega (arith, count, low c (in_reverse coflows c has)));
-      all = λ c lt. into_reverse coflows c (all c (omega (arith, count, lt)));
-    } in
-    (ap (λ xs. length xs) is.order_is ∙ count, subst IsPermutation (sym is.order_is) whole)

@@ -5,10 +5,10 @@ ghost use Rattle.flow_table.specs.Table.{instance_of};
 ghost use Rattle.rankers.specs.FactsTold.{IsFactsOf};
 ghost use Rattle.rankers.specs.Rounds.{IsRowsFrom};
 
-use crate::facts::Facts;
 use crate::ranker::Ranker;
 use crate::rounds::rounds_of;
 use crate::row::Row;
+use coflow_facts::Facts;
 use coflow_units::NoMemory;
 use flow_table::Table;
 use std::alloc::Global;

@@ -3,8 +3,8 @@ ghost use Rattle.std.specs.Prelude.{◌≡◌, IfOk, replicate};
 ghost use Rattle.rankers.specs.Kinds.{attained};
 
 use crate::by_key::fill_by_key;
-use crate::facts::Facts;
 use crate::ranker::Ranker;
+use coflow_facts::Facts;
 use coflow_units::NoMemory;
 use std::alloc::Global;
 

@@ -3,18 +3,15 @@
 
 mod by_key;
 mod comparing;
-mod facts;
 mod kinds;
 pub mod laws;
-mod order;
 mod ranker;
 mod rounds;
 mod row;
 mod scoring;
 
+pub use coflow_facts::{Facts, loads_of, order_of};
 pub use comparing::compare;
-pub use facts::Facts;
 pub use kinds::{Attained, Bssi0, Fifo, Sebf};
-pub use order::{loads_of, order_of};
 pub use ranker::Ranker;
 pub use row::{Row, Scored};

@@ -4,7 +4,7 @@ ghost use Rattle.rankers.specs.FactsTold.{FactsTold, coflows_in};
 ghost use Rattle.rankers.specs.Meaning.{Meaning, after_note, after_question, answer_of};
 ghost use Rattle.report.specs.Compared.{IsName};
 
-use crate::facts::Facts;
+use coflow_facts::Facts;
 
 /// Orders coflows, and may learn from what came of its order. It holds a list of numbers; its name, and what it makes of questions and notes, no call changes.
 pub trait Ranker: Drop {

@@ -10,10 +10,10 @@ ghost use Rattle.rankers.specs.Scores.{IsScore, IsServedOrder};
 ghost use Rattle.schedule_model.specs.RunList.{NamesFlows};
 
 use crate::by_key::fill_by_key;
-use crate::facts::Facts;
 use crate::ranker::Ranker;
 use crate::row::Scored;
 use crate::scoring::{Judged, judge, score};
+use coflow_facts::Facts;
 use coflow_units::NoMemory;
 use flow_table::Table;
 use schedule_model::{Schedule, completions, cost};

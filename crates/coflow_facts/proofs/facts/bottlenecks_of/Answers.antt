@@ -1,6 +1,6 @@
 use Rattle.std.proofs.Common.{rules}
-use Rattle.rankers.proofs.Greatest.{one_more}
-use Rattle.rankers.proofs.facts.bottlenecks_of.Goals as goal
+use Rattle.coflow_facts.proofs.Greatest.{one_more}
+use Rattle.coflow_facts.proofs.facts.bottlenecks_of.Goals as goal
 
 pub loop-coflow-preserved : goal.loop-coflow-preserved
 loop-coflow-preserved c = record {

@@ -1,6 +1,6 @@
 use Rattle.std.proofs.Common.{◌≡◌, ℕ, ◌<◌, get_or, length}
 use Rattle.port_load.specs.Bottleneck.{IsBottleneck}
-use Rattle.rankers.proofs.facts.bottlenecks_of.Given as goal
+use Rattle.coflow_facts.proofs.facts.bottlenecks_of.Given as goal
 
 abbrev pub invariant-loop-coflow : goal.invariant-loop-coflow
 invariant-loop-coflow l = record {

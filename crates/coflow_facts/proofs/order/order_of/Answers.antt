@@ -1,7 +1,7 @@
 use Rattle.std.proofs.Common.{◌∙◌, ap, length, replicate, true}
 use Rattle.flow_table.specs.Table.{instance_of}
 use Rattle.bssi_order.proofs.AllCoflows.{all_coflows}
-use Rattle.rankers.proofs.order.order_of.Goals as goal
+use Rattle.coflow_facts.proofs.order.order_of.Goals as goal
 
 pub returns : goal.returns
 returns c =

@@ -1,6 +1,6 @@
 use Rattle.std.proofs.Common.{◌≡◌, length, ap, sym, ◌∙◌, arith}
-use Rattle.rankers.proofs.Permutations.{bssi_permutation}
-use Rattle.rankers.proofs.facts.Facts.of.Goals as goal
+use Rattle.coflow_facts.proofs.Permutations.{bssi_permutation}
+use Rattle.coflow_facts.proofs.facts.Facts.of.Goals as goal
 
 pub invariant_of-result : goal.invariant_of-result
 invariant_of-result c =

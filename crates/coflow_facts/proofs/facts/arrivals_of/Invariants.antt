@@ -1,6 +1,6 @@
 use Rattle.std.proofs.Common.{◌≡◌, ◌<◌, take}
 use Rattle.std.specs.Prelude.{All}
-use Rattle.rankers.proofs.facts.arrivals_of.Given as goal
+use Rattle.coflow_facts.proofs.facts.arrivals_of.Given as goal
 
 abbrev pub invariant-loop-coflow : goal.invariant-loop-coflow
 invariant-loop-coflow l = record {

@@ -6,7 +6,7 @@ ghost use Rattle.coflow_units.specs.declared.limits.TheConstants.{MAX_WEIGHT};
 ghost use Rattle.flow_table.specs.Table.{IsTable};
 ghost use Rattle.port_load.specs.LoadTable.{HasLoads, load_at};
 ghost use Rattle.port_load.specs.Bottleneck.{IsBottleneck};
-ghost use Rattle.rankers.specs.FactsTold.{IsBssiOrder, IsFacts, IsFactsOf, coflows_in};
+ghost use Rattle.coflow_facts.specs.FactsTold.{IsBssiOrder, IsFacts, IsFactsOf, coflows_in};
 
 use crate::order::{coflows_of, loads_of, order_of};
 use coflow_units::{NoMemory, Port};
@@ -27,7 +27,7 @@ pub struct Facts {
 }
 
 impl Model for Facts {
-    ghost use Rattle.rankers.specs.FactsTold.{FactsTold, IsFacts};
+    ghost use Rattle.coflow_facts.specs.FactsTold.{FactsTold, IsFacts};
 
     ghost Value = { FactsTold };
 
@@ -121,21 +121,21 @@ impl Facts {
     }
 
     /// The arrivals of the coflows, by number.
-    pub(crate) fn arrivals(&self) -> &[u64]
+    pub fn arrivals(&self) -> &[u64]
         ensures { result.now ≡ self.now.arrivals }
     {
         &self.arrivals
     }
 
     /// The greatest loads of the coflows, by number.
-    pub(crate) fn bottlenecks(&self) -> &[u64]
+    pub fn bottlenecks(&self) -> &[u64]
         ensures { result.now ≡ self.now.bottlenecks }
     {
         &self.bottlenecks
     }
 
     /// The order by bottleneck, select, scale, iterate.
-    pub(crate) fn order(&self) -> &[u32]
+    pub fn order(&self) -> &[u32]
         ensures order { result.now ≡ self.now.order }
         ensures facts { IsFacts self.now }
     {

@@ -2,8 +2,8 @@ use Rattle.std.proofs.Common.{List, ap, ◌∙◌}
 use Rattle.std.specs.Prelude.{map}
 use Rattle.coflow_units.specs.declared.plan.Place.{Place}
 use Rattle.bssi_order.specs.Order.{entries_of}
-use Rattle.rankers.proofs.PlaceOrders.{order_of_places}
-use Rattle.rankers.proofs.facts.order_in.Goals as goal
+use Rattle.coflow_facts.proofs.PlaceOrders.{order_of_places}
+use Rattle.coflow_facts.proofs.facts.order_in.Goals as goal
 
 pub returns : goal.returns
 returns c = record {

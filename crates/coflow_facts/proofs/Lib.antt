@@ -1,0 +1,4 @@
+pub mod Moved
+pub mod Permutations
+pub mod PlaceOrders
+pub mod Greatest
