@@ -1,5 +1,5 @@
 -- The commands of a text whose ids are known are in range, and none of them notes units or skips slots.
-use Rattle.std.proofs.Common.{◌≡◌, ℕ, List, [], ◌∷◌, true, false, length, refl, suc, arith}
+use Rattle.std.proofs.Common.{◌≡◌, ℕ, List, [], ◌∷◌, true, length, refl, suc, arith}
 use Rattle.std.specs.Prelude.{◌&&◌, All, nat_le, nat_lt}
 use Rattle.std.proofs.lemmas.Bool.{and_from, le-leb, lt-ltb}
 use Rattle.std.proofs.lemmas.List.Elements.{All-cons}
@@ -8,13 +8,12 @@ use Rattle.cert_check.proofs.NameSteps.{known_within}
 use Rattle.journal.specs.declared.command.Entry.{Entry}
 use Rattle.journal.specs.declared.opening.Opening.{Opening}
 use Rattle.journal.specs.Answer.{IsInRange, in_range}
-use Rattle.journal.specs.Counts.{is_noting, is_skipping}
 use Rattle.journal.specs.Sound.{InRange}
 use Rattle.live_text.specs.declared.value.EntryLine.{EntryLine}
 use Rattle.live_text.specs.declared.value.Word.{Word}
 use Rattle.live_text.specs.declared.value.Word.TheVariants.{Close, Open, Publish, Pull, Register, Reweigh, Withdraw}
 use Rattle.live_text.specs.Live.{IsEntry, IsWord}
-use Rattle.journal_audit.specs.Looked.{IsPlain}
+use Rattle.journal_replay.specs.Replay.{IsPlain, IsPlainCommand}
 use Rattle.journal_audit.specs.Stated.{IsKnown, command_for, entry_for, stated_by}
 
 pub range_for : (o : Opening) (w : Word) → IsKnown o.table.ids w → IsWord w → IsInRange o (command_for o.table.ids w)
@@ -38,7 +37,7 @@ in_range_for o (Reweigh id weight) known (small, (some, most)) =
     (lt-ltb (coflow_with o.table.ids id) (length o.table.ids) (known_within o.table.ids id known))
     (and_from (nat_lt 0 weight) (nat_le weight 4294967296) (lt-ltb 0 weight some) (le-leb weight 4294967296 most))
 
-pub plain_for : (ids : List ℕ) (w : Word) → (is_noting (command_for ids w) ≡ false) × (is_skipping (command_for ids w) ≡ false)
+pub plain_for : (ids : List ℕ) (w : Word) → IsPlainCommand (command_for ids w)
 plain_for ids (Register id) = (refl, refl)
 plain_for ids (Withdraw id) = (refl, refl)
 plain_for ids Publish = (refl, refl)
@@ -57,4 +56,4 @@ stated_in_range o (e ∷ es) known all = All-cons (λ (x : Entry). in_range o x.
 pub stated_plain : (ids : List ℕ) (entries : List EntryLine) → IsPlain (stated_by ids entries)
 stated_plain ids [] = λ j d lt. absurd (omega arith)
 stated_plain ids (e ∷ es) =
-    All-cons (λ (x : Entry). (is_noting x.command ≡ false) × (is_skipping x.command ≡ false)) (entry_for ids e) (stated_by ids es) (plain_for ids e.word) (stated_plain ids es)
+    All-cons (λ (x : Entry). IsPlainCommand x.command) (entry_for ids e) (stated_by ids es) (plain_for ids e.word) (stated_plain ids es)

@@ -1,6 +1,6 @@
 -- Orders beside one another, place by place and version by version.
-use Rattle.std.proofs.Common.{◌≡◌, ◌≢◌, ℕ, ◌+◌, ◌-◌, ◌≤◌, ◌<◌, inl, inr, Bool, true, false, List, [], ◌∷◌, ◌++◌, get_or, length, map, min, sym, ap, ◌∙◌, subst, arith}
-use Rattle.std.specs.Prelude.{MatchOption, None, Option, Some, if◌then◌else◌, is_some, slice_index}
+use Rattle.std.proofs.Common.{◌≡◌, ◌≢◌, ℕ, ◌+◌, ◌-◌, ◌≤◌, ◌<◌, inl, inr, true, false, List, [], ◌∷◌, ◌++◌, get_or, length, map, min, sym, ap, ◌∙◌, subst, arith}
+use Rattle.std.specs.Prelude.{MatchOption, None, Option, Some, is_some, slice_index}
 use Rattle.std.specs.List.{slice_index_or}
 use Rattle.std.proofs.lemmas.Bool.{cases_lt, false≢true}
 use Rattle.std.proofs.lemmas.List.{ext_get_or, get_or-map, length-map}
@@ -11,6 +11,7 @@ use Rattle.journal.specs.declared.opening.Opening.{Opening}
 use Rattle.journal.specs.Journal.{is_version, version_of}
 use Rattle.journal.proofs.Growth.{order_kept, version_append}
 use Rattle.master_core.specs.Published.{ranked}
+use Rattle.journal_replay.proofs.EntriesAnew.{one_more}
 use Rattle.journal_audit.specs.declared.orders.WrongOrder.{WrongOrder}
 use Rattle.journal_audit.specs.Orders.{AreOrders, HasOrder, IsWrongOrder}
 use Rattle.journal_audit.specs.Parted.{IsFirstPlace}
@@ -103,9 +104,6 @@ module _ (o : Opening) (before : List Entry) (e : Entry) (orders : List (List �
   stays_back : (k : ℕ) → k < version_of before → HasOrder o (before ++ e ∷ []) orders k → HasOrder o before orders k
   stays_back k lt has = has ∙ ap Some (order_stays (k + 1) (omega (arith, lt)))
 
-  pub one_more : (b : Bool) → is_version e.reply ≡ b → version_of (before ++ e ∷ []) ≡ version_of before + (if b then 1 else 0)
-  one_more b is = version_append before (e ∷ []) ∙ ap (λ (b : Bool). version_of before + ((if b then 1 else 0) + 0)) is ∙ omega arith
-
   pub wrong_stays : (w : WrongOrder) → IsWrongOrder o before orders w → IsWrongOrder o (before ++ e ∷ []) orders w
   wrong_stays w h = record {
     counted = h.counted;
@@ -118,7 +116,7 @@ module _ (o : Opening) (before : List Entry) (e : Entry) (orders : List (List �
   pub none_made : is_version e.reply ≡ false → ((k : ℕ) → k < version_of before → HasOrder o before orders k) →
       (k : ℕ) → k < version_of (before ++ e ∷ []) → HasOrder o (before ++ e ∷ []) orders k
   none_made is all k lt =
-      let within : k < version_of before = omega (arith, lt, one_more false is) in
+      let within : k < version_of before = omega (arith, lt, one_more before e false is) in
       stays k within (all k within)
 
   pub one_made : is_version e.reply ≡ true → ((k : ℕ) → k < version_of before → HasOrder o before orders k) →
@@ -127,7 +125,7 @@ module _ (o : Opening) (before : List Entry) (e : Entry) (orders : List (List �
   one_made is all newest k lt = elim (cases_lt k (version_of before)) [
     | inl less ↦ stays k less (all k less)
     | inr le ↦
-        let last : version_of (before ++ e ∷ []) - 1 ≡ k = omega (arith, lt, le, one_more true is) in
+        let last : version_of (before ++ e ∷ []) - 1 ≡ k = omega (arith, lt, le, one_more before e true is) in
         subst (HasOrder o (before ++ e ∷ []) orders) last newest
   ]
 
@@ -136,9 +134,9 @@ module _ (o : Opening) (before : List Entry) (e : Entry) (orders : List (List �
       IsFirstPlace (slice_index_or orders (version_of (before ++ e ∷ []) - 1) []) (order_ids o (before ++ e ∷ []) (version_of (before ++ e ∷ []))) w.place →
       IsWrongOrder o (before ++ e ∷ []) orders w
   wrong_made w is all version wrong place = record {
-    counted = omega (arith, version, one_more true is);
+    counted = omega (arith, version, one_more before e true is);
     made = omega (arith, version);
-    before = λ k lt. let less : k < version_of before = omega (arith, lt, version, one_more true is) in stays k less (all k less);
+    before = λ k lt. let less : k < version_of before = omega (arith, lt, version, one_more before e true is) in stays k less (all k less);
     wrong = λ has. wrong (subst (λ v. HasOrder o (before ++ e ∷ []) orders (v - 1)) version has);
     place_is = subst (λ v. IsFirstPlace (slice_index_or orders (v - 1) []) (order_ids o (before ++ e ∷ []) v) w.place) (sym version) place;
   }

@@ -16,7 +16,7 @@ use Rattle.journal.specs.Journal.{is_version, rank_of, version_of}
 use Rattle.journal.proofs.Growth.{rank_kept}
 use Rattle.journal.specs.Line.{rank_in}
 use Rattle.journal_audit.specs.Replayed.{AreRanks, told}
-use Rattle.journal_audit.proofs.OrderSteps.{one_more}
+use Rattle.journal_replay.proofs.EntriesAnew.{one_more}
 
 -- the rank of a coflow, where it has a place
 abbrev pub found_rank : List ℕ → ℕ → Option ℕ
@@ -59,7 +59,7 @@ rank_more xs k coflow lt = ap (option_map (λ n. n + 1)) (found_more xs k coflow
 module _ {M : Type 0} (find : M → ℕ → Option ℕ) (o : Opening) (before : List Entry) (e : Entry) where
   pub ranks_stay : (ts : List M) → is_version e.reply ≡ false → AreRanks find o before ts → AreRanks find o (before ++ e ∷ []) ts
   ranks_stay ts none (count, tells) =
-      let same : version_of (before ++ e ∷ []) ≡ version_of before + 0 = one_more o before e [] false none in (
+      let same : version_of (before ++ e ∷ []) ≡ version_of before + 0 = one_more before e false none in (
         omega (arith, count, same),
         λ k coflow d lt. tells k coflow d (omega (arith, lt, same)) ∙ sym (rank_kept o before (e ∷ []) (k + 1) coflow (omega (arith, lt, same))),
       )
@@ -67,7 +67,7 @@ module _ {M : Type 0} (find : M → ℕ → Option ℕ) (o : Opening) (before : 
   pub ranks_push : (ts : List M) (t : M) → is_version e.reply ≡ true → AreRanks find o before ts →
       ((coflow : ℕ) → told (find t coflow) ≡ rank_of o (before ++ e ∷ []) (version_of (before ++ e ∷ [])) coflow) → AreRanks find o (before ++ e ∷ []) (ts ++ t ∷ [])
   ranks_push ts t made (count, tells) newest =
-      let more : version_of (before ++ e ∷ []) ≡ version_of before + 1 = one_more o before e [] true made in (
+      let more : version_of (before ++ e ∷ []) ≡ version_of before + 1 = one_more before e true made in (
         omega (arith, count, more, length-append ts (t ∷ [])),
         λ k coflow d lt. elim (cases_lt k (version_of before)) [
           | inl less ↦

@@ -1,8 +1,6 @@
 -- What is known while a printed journal is looked through.
-use Rattle.std.specs.Prelude.{◌≡◌, ◌≢◌, ◌⊎◌, ℕ, ◌-◌, ◌<◌, ◌≤◌, min, false, List, All, Contains, map}
+use Rattle.std.specs.Prelude.{◌≡◌, ◌≢◌, ◌⊎◌, ℕ, ◌-◌, ◌<◌, ◌≤◌, min, List, All, Contains, map}
 use Rattle.coflow_units.specs.declared.plan.Run.{Run}
-use Rattle.journal.specs.declared.command.Entry.{Entry}
-use Rattle.journal.specs.Counts.{is_noting, is_skipping}
 use Rattle.live_text.specs.declared.value.EntryLine.{EntryLine}
 use Rattle.live_text.specs.declared.value.PullLine.{PullLine}
 use Rattle.journal_audit.specs.declared.stated.Stated.{Stated}
@@ -17,10 +15,6 @@ IsStated ids entries (Commands commands) =
     (commands.items ≡ map (λ (e : EntryLine). command_for ids e.word) entries)
     × All (λ (e : EntryLine). IsKnown ids e.word) entries
 IsStated ids entries (Unknown position) = IsFirstUnknown ids entries position
-
--- no entry notes units or skips slots
-abbrev pub IsPlain : List Entry → Type 0
-IsPlain journal = All (λ (e : Entry). (is_noting e.command ≡ false) × (is_skipping e.command ≡ false)) journal
 
 -- two runs that are not the same have so many slots in common: none where their flows differ, and else all those of the
 -- shorter one

@@ -1,22 +1,14 @@
 -- What is taken down while a master answers the entries of a printed journal.
-use Rattle.std.specs.Prelude.{◌≡◌, ℕ, ◌+◌, ◌<◌, Bool, true, false, if◌then◌else◌, List, [], Option, length, map, nat_eq}
-use Rattle.std.specs.Prelude.{option_to_list, unwrap_or}
+use Rattle.std.specs.Prelude.{◌≡◌, ℕ, ◌+◌, ◌<◌, List, Option, length, nat_eq, unwrap_or}
 use Rattle.std.specs.List.{slice_index_or}
-use Rattle.coflow_units.specs.Schedule.{slots_of}
 use Rattle.indexmap.specs.IndexMap.{get}
-use Rattle.journal.specs.declared.command.Command.{Command}
-use Rattle.journal.specs.declared.command.Command.TheVariants.{Close}
 use Rattle.journal.specs.declared.command.Entry.{Entry}
 use Rattle.journal.specs.declared.opening.Opening.{Opening}
-use Rattle.journal.specs.State.{Run}
-use Rattle.journal.specs.Closed.{closed_runs}
-use Rattle.journal.specs.Counts.{run_line}
-use Rattle.journal.specs.Journal.{IsLegal, rank_of, version_of}
-use Rattle.journal.specs.Sound.{InRange}
+use Rattle.journal.specs.Journal.{rank_of, version_of}
+use Rattle.journal_replay.specs.Replay.{IsReplay}
 use Rattle.live_text.specs.declared.value.EntryLine.{EntryLine}
 use Rattle.journal_audit.specs.declared.replay.Replayed.{Replayed}
 use Rattle.journal_audit.specs.declared.replay.WrongEntry.{WrongEntry}
-use Rattle.journal_audit.specs.Looked.{IsPlain}
 use Rattle.journal_audit.specs.Orders.{AreOrders}
 use Rattle.journal_audit.specs.Reasons.{IsFirstWrongEntry}
 use Rattle.journal_audit.specs.Stated.{stated_by}
@@ -31,26 +23,10 @@ AreRanks {M} find o journal tables =
     (length tables ≡ version_of journal) × ((k coflow : ℕ) (d : M) → k < version_of journal →
     told (find (slice_index_or tables k d) coflow) ≡ rank_of o journal (k + 1) coflow)
 
--- the equal slots of the runs, each with the flows that its run grants
-abbrev pub even_slots : List Run → List (List ℕ)
-even_slots runs = slots_of (map run_line runs)
-
--- the command closes the open run
-abbrev pub closes : Command → Bool
-closes Close = true
-closes k = false
-
--- the run that the command closes, where one is open
-abbrev pub closing_run : Command → Option Run → List Run
-closing_run k run = if closes k then option_to_list run else []
-
--- The journal is legal, in range, and has no notes and no skips. The slots are those of its closed runs, the tables tell
--- the ranks in its versions, and its orders are the stated ones, or the first wrong one is told.
+-- The slots are those of a replay of the journal, the tables tell the ranks in its versions, and its orders are the
+-- stated ones, or the first wrong one is told.
 pub record IsReplayed (o : Opening) (journal : List Entry) (orders : List (List ℕ)) (x : Replayed) : Type 0 where
-  pub legal : IsLegal o journal
-  pub in_range : InRange o journal
-  pub plain : IsPlain journal
-  pub slots : x.schedule ≡ even_slots (closed_runs o journal)
+  pub replay : IsReplay o journal x.schedule
   pub ranks : AreRanks (get nat_eq) o journal x.ranks.items
   pub orders_are : AreOrders o journal orders x.wrong
 

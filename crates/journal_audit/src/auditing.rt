@@ -1,5 +1,5 @@
 //! The audit of a printed journal.
-ghost use Rattle.std.specs.Prelude.{◌≡◌, ◌≤◌, ℕ, All, IfOk, List, MatchOption, length, map, nat_eq};
+ghost use Rattle.std.specs.Prelude.{◌≡◌, ◌≤◌, ℕ, [], All, IfOk, List, MatchOption, length, map, max, nat_eq};
 ghost use Rattle.indexmap.specs.IndexMap.{get};
 ghost use Rattle.coflow_units.specs.declared.limits.TheConstants.{MAX_COFLOWS, MAX_WEIGHT};
 ghost use Rattle.flow_table.specs.Table.{TableFacts};
@@ -40,9 +40,26 @@ pub fn audit(
     ensures audit { IfOk result (IsAudit table weights live.now) }
 {
     let coflows = coflows_by_id(alloc, &table)?;
-    match commands_of(alloc, &coflows, live.entries.as_slice())? {
+    audit_entries(alloc, table, weights, live, &coflows)
+}
+
+/// The same, where the coflows are looked up by their ids.
+fn audit_entries(
+    alloc: Global,
+    table: Table,
+    weights: Items<u64>,
+    live: &Live,
+    coflows: &IndexMap<u32, u32>,
+) -> Result<Audit, NoMemory>
+    requires each_weight { length weights ≡ length table.ids }
+    requires weight { All (λ w. (1 ≤ w) × (w ≤ MAX_WEIGHT)) weights }
+    requires live { IsLive live.now }
+    requires coflows { Finds table.ids (get nat_eq coflows.now) }
+    ensures { IfOk result (IsAudit table weights live.now) }
+{
+    match commands_of(alloc, coflows, live.entries.as_slice())? {
         Stated::Commands(commands) => {
-            audit_commands(alloc, table, weights, live, &coflows, &commands)
+            audit_commands(alloc, table, weights, live, coflows, &commands)
         }
         Stated::Unknown(position) => Ok(Audit::No(AuditReason::NoId { position })),
     }
@@ -65,19 +82,64 @@ fn audit_commands(
     requires known { All (λ (e : EntryLine). IsKnown table.ids e.word) live.now.entries }
     ensures { IfOk result (IsAudit table weights live.now) }
 {
-    let entries = live.entries.as_slice();
-    let limit = (entries.len() as u32).max(1);
-    let _coflows = table.coflows();
+    let limit = (live.entries.as_slice().len() as u32).max(1);
     let mut master = Master::new(alloc, table, weights, limit)?;
+    audit_by_master(alloc, &mut master, live, coflows, commands)
+}
+
+/// The same, by a master without entries that begins with the opening.
+fn audit_by_master(
+    alloc: Global,
+    master: &mut Master,
+    live: &Live,
+    coflows: &IndexMap<u32, u32>,
+    commands: &[Command],
+) -> Result<Audit, NoMemory>
+    requires empty { master.old.journal ≡ [] }
+    requires limit { master.old.opening.limit ≡ max (length live.now.entries) 1 }
+    requires live { IsLive live.now }
+    requires coflows { Finds master.old.opening.table.ids (get nat_eq coflows.now) }
+    requires commands { commands.now
+        ≡ map (λ (e : EntryLine). command_for master.old.opening.table.ids e.word) live.now.entries }
+    requires known { All (λ (e : EntryLine). IsKnown master.old.opening.table.ids e.word) live.now.entries }
+    ensures { (t : TableFacts) (weights : List ℕ) → master.old.opening ≡ opening_for t weights live.now →
+        IfOk result (IsAudit t weights live.now) }
+{
+    let _coflows = master.table().coflows();
     let mut replayed = Replayed::new(alloc);
+    audit_replay(alloc, master, &mut replayed, live, coflows, commands)
+}
+
+/// The same, where nothing is taken down yet.
+fn audit_replay(
+    alloc: Global,
+    master: &mut Master,
+    replayed: &mut Replayed,
+    live: &Live,
+    coflows: &IndexMap<u32, u32>,
+    commands: &[Command],
+) -> Result<Audit, NoMemory>
+    requires few { length master.old.opening.table.ids ≤ MAX_COFLOWS }
+    requires empty { master.old.journal ≡ [] }
+    requires limit { master.old.opening.limit ≡ max (length live.now.entries) 1 }
+    requires live { IsLive live.now }
+    requires coflows { Finds master.old.opening.table.ids (get nat_eq coflows.now) }
+    requires commands { commands.now
+        ≡ map (λ (e : EntryLine). command_for master.old.opening.table.ids e.word) live.now.entries }
+    requires known { All (λ (e : EntryLine). IsKnown master.old.opening.table.ids e.word) live.now.entries }
+    requires nothing { IsReplayed master.old.opening [] live.now.orders replayed.old }
+    ensures { (t : TableFacts) (weights : List ℕ) → master.old.opening ≡ opening_for t weights live.now →
+        IfOk result (IsAudit t weights live.now) }
+{
+    let entries = live.entries.as_slice();
     let orders = live.orders.as_slice();
-    match replay(alloc, &mut master, &mut replayed, commands, entries, orders)? {
+    match replay(alloc, master, replayed, commands, entries, orders)? {
         Some(wrong) => Ok(Audit::No(AuditReason::NoEntry {
             position: wrong.position,
             stated: wrong.stated,
             real: wrong.real,
         })),
-        None => Ok(verdict_of(&master, &replayed, coflows, live)),
+        None => Ok(verdict_of(master, replayed, coflows, live)),
     }
 }
 

@@ -13,6 +13,7 @@ ghost use Rattle.journal_audit.specs.Sound.{order_ids};
 use coflow_units::{Items, Place};
 use flow_table::Table;
 use journal::Reply;
+use journal_replay::is_version;
 use master_core::Master;
 
 /// An order that is not the master's: its version, and the first place at which the two part.
@@ -42,15 +43,6 @@ pub(crate) fn wrong_order_after(
         return None;
     }
     wrong_newest(master, orders, master.version())
-}
-
-pub(crate) fn is_version(reply: Reply) -> bool
-    ensures { result ≡ is_version reply }
-{
-    match reply {
-        Reply::Version(_) => true,
-        _ => false,
-    }
 }
 
 /// Whether the order of this version, the newest one, is not the stated one.

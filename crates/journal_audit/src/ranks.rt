@@ -8,10 +8,10 @@ ghost use Rattle.journal.specs.Line.{rank_in};
 ghost use Rattle.master_core.specs.Published.{ranked};
 ghost use Rattle.journal_audit.specs.Replayed.{AreRanks, told};
 
-use crate::orders::is_version;
 use coflow_units::{NoMemory, Place};
 use indexmap::IndexMap;
 use journal::Reply;
+use journal_replay::is_version;
 use master_core::Master;
 use std::alloc::Global;
 

@@ -1,16 +1,14 @@
 //! The entries of a printed journal, asked of a master anew.
-ghost use Rattle.std.specs.Prelude.{◌≡◌, ◌≤◌, ◌<◌, ◌+◌, ◌++◌, ℕ, All, IfOk, IsTrue, ◌↔◌, List, [], MatchOption, OnOk, false, length, length as count_of, map};
+ghost use Rattle.std.specs.Prelude.{◌≡◌, ◌≤◌, ◌<◌, ◌∷◌, ◌++◌, ℕ, All, IfOk, IsTrue, ◌↔◌, List, [], MatchOption, OnOk, length, map};
 ghost use Rattle.coflow_units.specs.declared.limits.TheConstants.{MAX_COFLOWS};
-ghost use Rattle.journal.specs.Answer.{IsInRange, reply_of};
-ghost use Rattle.journal.specs.Counts.{is_noting, is_skipping};
-ghost use Rattle.journal.specs.Fold.{state_of};
-ghost use Rattle.journal.specs.Journal.{journal_after};
-ghost use Rattle.journal.specs.Sound.{SoundState};
+ghost use Rattle.journal.specs.Answer.{IsInRange, reply_of, room};
+ghost use Rattle.journal.specs.Journal.{entry};
 ghost use Rattle.journal.specs.declared.opening.Opening.{Opening};
 ghost use Rattle.live_text.specs.declared.limits.TheConstants.{MAX_ENTRIES};
 ghost use Rattle.live_text.specs.declared.value.EntryLine.{EntryLine};
 ghost use Rattle.live_text.specs.Live.{IsEntry};
-ghost use Rattle.journal_audit.specs.Replayed.{IsReplayed, IsWrongEntry, closes, closing_run, even_slots};
+ghost use Rattle.journal_replay.specs.Replay.{IsPlainCommand};
+ghost use Rattle.journal_audit.specs.Replayed.{IsReplayed, IsWrongEntry};
 ghost use Rattle.journal_audit.specs.Stated.{IsKnown, command_for, stated_by};
 
 use crate::orders::{WrongOrder, wrong_order_after};
@@ -19,6 +17,7 @@ use crate::stated::reply_of;
 use coflow_units::{Items, NoMemory};
 use indexmap::IndexMap;
 use journal::{Command, Reply};
+use journal_replay::answer;
 use live_text::{EntryLine, Said};
 use master_core::Master;
 use schedule_model::Schedule;
@@ -80,7 +79,7 @@ pub(crate) fn replay(
 {
     for index in 0..commands.len() {
         let line = entries[index];
-        let real = answer(alloc, master, replayed, line.who, commands[index], orders)?;
+        let real = take_down(alloc, master, replayed, line.who, commands[index], orders)?;
         if !is_same_reply(real, reply_of(line.said)) {
             return Ok(Some(WrongEntry {
                 position: index as u32 + 1,
@@ -93,7 +92,7 @@ pub(crate) fn replay(
 }
 
 /// The master answers a command, and what it does is taken down. The error is want of memory.
-fn answer(
+fn take_down(
     alloc: Global,
     master: &mut Master,
     replayed: &mut Replayed,
@@ -102,50 +101,19 @@ fn answer(
     orders: &[Items<u32>],
 ) -> Result<Reply, NoMemory>
     requires few { length master.old.opening.table.ids ≤ MAX_COFLOWS }
-    requires room { length master.old.journal < master.old.opening.limit }
+    requires room { length master.old.journal < room master.old.opening command }
     requires range { IsInRange master.old.opening command }
-    requires plain { (is_noting command ≡ false) × (is_skipping command ≡ false) }
+    requires plain { IsPlainCommand command }
     requires before { IsReplayed master.old.opening master.old.journal orders.now replayed.old }
     ensures reply { IfOk result (λ reply. reply ≡ reply_of master.old.opening master.old.journal command) }
     ensures opening { OnOk result (master.new.opening ≡ master.old.opening) }
-    ensures journal { OnOk result (master.new.journal ≡
-        journal_after master.old.opening master.old.journal who command) }
+    ensures journal { IfOk result (λ reply. master.new.journal ≡ master.old.journal ++ entry who command reply ∷ []) }
     ensures after { OnOk result (IsReplayed master.old.opening master.new.journal orders.now replayed.new) }
 {
-    push_closing_run(master, &mut replayed.schedule, command)?;
-    let reply = master.step(who, command);
+    let reply = answer(master, &mut replayed.schedule, who, command)?;
     rank_newest(alloc, master, &mut replayed.ranks, reply)?;
     replayed.wrong = wrong_order_after(master, orders, replayed.wrong, reply);
     Ok(reply)
-}
-
-/// Adds the slots of the run that the command closes, where one is open, each with all flows that the run grants.
-fn push_closing_run(
-    master: &Master,
-    schedule: &mut Schedule,
-    command: Command,
-) -> Result<(), NoMemory>
-    requires sound { SoundState master.now.opening (state_of master.now.opening master.now.journal) }
-    requires passed { count_of schedule.old + 1 ≡ (state_of master.now.opening master.now.journal).next }
-    ensures { OnOk result (schedule.new ≡ schedule.old
-        ++ even_slots (closing_run command (state_of master.now.opening master.now.journal).run)) }
-{
-    if !closes(command) {
-        return Ok(());
-    }
-    let Some(slots) = master.open_slots() else {
-        return Ok(());
-    };
-    schedule.push_run(slots, master.granted_flows())
-}
-
-fn closes(command: Command) -> bool
-    ensures { result ≡ closes command }
-{
-    match command {
-        Command::Close => true,
-        _ => false,
-    }
 }
 
 fn is_same_reply(one: Reply, other: Reply) -> bool

@@ -15,7 +15,7 @@ use Rattle.journal_audit.specs.Replayed.{AreRanks}
 use Rattle.journal_audit.specs.Sound.{orders_of}
 use Rattle.journal_audit.proofs.FirstReasons.{before_close, before_orders, before_ranks, before_runs, before_versions, first_at, none_is_open, one_is_open}
 use Rattle.journal_audit.proofs.KeptRuns.{live_kept, told_kept}
-use Rattle.journal_audit.proofs.ReplaySteps.{replayed_schedule}
+use Rattle.journal_replay.proofs.EntriesAnew.{replayed_schedule}
 use Rattle.journal_audit.proofs.reasons.late_reason.Goals as goal
 
 pub returns-then-is_some : goal.returns-then-is_some
@@ -24,8 +24,8 @@ returns-then-is_some c =
     let journal = c.args.master.now.journal in
     let open' : is_some (run_slots (state_of o journal).run) ≡ true = ap is_some (sym c.open_slots.ensures) ∙ sym c.is_some.ensures ∙ c.if-is_some.true in
     let one = one_is_open o (state_of o journal).sent (state_of o journal).next (state_of o journal).run
-    (legal_sound o journal c.requires.replayed.legal c.requires.replayed.in_range).open_run open' in
-    first_at o c.args.live.now journal (NoClose c.next_slot.result) c.requires.journal (before_close o c.args.live.now journal c.requires.known c.requires.replayed.legal)
+    (legal_sound o journal c.requires.replayed.replay.legal c.requires.replayed.replay.in_range).open_run open' in
+    first_at o c.args.live.now journal (NoClose c.next_slot.result) c.requires.journal (before_close o c.args.live.now journal c.requires.known c.requires.replayed.replay.legal)
     (one.0, one.1, one.2 ∙ sym c.next_slot.ensures)
 
 pub returns-in-Some : goal.returns-in-Some
@@ -34,7 +34,7 @@ returns-in-Some c =
     let journal = c.args.master.now.journal in
     let closed = none_is_open (state_of o journal).run (ap is_some (sym c.open_slots.ensures) ∙ sym c.is_some.ensures ∙ c.if-is_some.false) in
     first_at o c.args.live.now journal (NoOrder c.in-Some.wrong.version c.in-Some.wrong.place) c.requires.journal
-    (before_orders o c.args.live.now journal c.requires.known c.requires.replayed.legal closed)
+    (before_orders o c.args.live.now journal c.requires.known c.requires.replayed.replay.legal closed)
     (subst (λ (l : List (List ℕ)). IsFirstWrongOrder l (orders_of o journal) c.in-Some.wrong.version c.in-Some.wrong.place) c.as_slice-orders.ensures c.in-Some.ensures)
 
 pub returns-in-Some-wrong_rank : goal.returns-in-Some-wrong_rank
@@ -45,7 +45,7 @@ returns-in-Some-wrong_rank c =
     let orders : c.args.live.now.orders ≡ orders_of o journal = sym c.as_slice-orders.ensures ∙ c.in_default.ensures in
     let w = c.in-Some-wrong_rank.wrong in
     first_at o c.args.live.now journal (NoPull w.client w.line w.stated w.real) c.requires.journal
-    (before_ranks o c.args.live.now journal c.requires.known c.requires.replayed.legal closed orders)
+    (before_ranks o c.args.live.now journal c.requires.known c.requires.replayed.replay.legal closed orders)
     (subst (λ (l : List PullLine). IsFirstWrongRank o journal l w.client w.line w.stated w.real) c.as_slice-pulls.ensures
     (c.in-Some-wrong_rank.ensures o journal c.requires.coflows (subst (λ ts. AreRanks (get nat_eq) o journal ts) (sym c.deref.ensures.value) c.requires.replayed.ranks)))
 
@@ -59,7 +59,7 @@ returns-in-Some-wrong_version c =
     (c.in_default-wrong_rank.ensures o journal c.requires.coflows (subst (λ ts. AreRanks (get nat_eq) o journal ts) (sym c.deref.ensures.value) c.requires.replayed.ranks)) in
     let w = c.in-Some-wrong_version.wrong in
     first_at o c.args.live.now journal (NoVersion w.client w.line) c.requires.journal
-    (before_versions o c.args.live.now journal c.requires.known c.requires.replayed.legal closed orders ranks)
+    (before_versions o c.args.live.now journal c.requires.known c.requires.replayed.replay.legal closed orders ranks)
     (subst (λ (l : List PullLine). IsFirstWrongVersion o.table.ids (version_of journal) l w.client w.line) c.as_slice-pulls.ensures
     (subst (λ (n : ℕ). IsFirstWrongVersion o.table.ids n c.as_slice-pulls.result.now w.client w.line) c.version-newest.ensures
     (c.in-Some-wrong_version.ensures o.table.ids c.requires.coflows)))
@@ -77,7 +77,7 @@ returns-in_err-slot c =
     let journal = c.args.master.now.journal in
     rw c.from_residual.ensures (record {
       known = c.requires.known;
-      legal = c.requires.replayed.legal;
+      legal = c.requires.replayed.replay.legal;
       closed = none_is_open (state_of o journal).run (ap is_some (sym c.open_slots.ensures) ∙ sym c.is_some.ensures ∙ c.if-is_some.false);
       orders = sym c.as_slice-orders.ensures ∙ c.in_default.ensures;
       ranks = subst (All (λ (p : PullLine). p.rank ≡ real_rank o journal p)) c.as_slice-pulls.ensures
@@ -86,7 +86,7 @@ returns-in_err-slot c =
           (subst (λ (n : ℕ). (k : ℕ) → k < length c.as_slice-pulls.result.now → HasVersion o.table.ids n c.as_slice-pulls.result.now k) c.version-newest.ensures
           (c.in_default-wrong_version.ensures o.table.ids c.requires.coflows));
       runs = ap slots_in (sym c.as_slice-stated.ensures) ∙ c.in_err-slot.ensures ∙ c.runs-real.ensures.runs.same
-          ∙ replayed_schedule o journal c.args.live.now.orders c.args.replayed.now c.requires.replayed;
+          ∙ replayed_schedule o journal c.args.replayed.now.schedule c.requires.replayed.replay;
     })
 
 pub returns : goal.returns
@@ -101,10 +101,10 @@ returns c =
     (subst (λ (n : ℕ). (k : ℕ) → k < length c.as_slice-pulls.result.now → HasVersion o.table.ids n c.as_slice-pulls.result.now k) c.version-newest.ensures
     (c.in_default-wrong_version.ensures o.table.ids c.requires.coflows)) in
     let real : slots_in c.runs-real.result.now ≡ schedule_of o journal = c.runs-real.ensures.runs.same
-    ∙ replayed_schedule o journal c.args.live.now.orders c.args.replayed.now c.requires.replayed in
+    ∙ replayed_schedule o journal c.args.replayed.now.schedule c.requires.replayed.replay in
     let parted = c.in_ok-slot.ensures in
     first_at o c.args.live.now journal (NoRun c.in_ok-slot.slot) c.requires.journal
-    (before_runs o c.args.live.now journal c.requires.known c.requires.replayed.legal closed orders ranks versions) (
+    (before_runs o c.args.live.now journal c.requires.known c.requires.replayed.replay.legal closed orders ranks versions) (
       parted.0,
       subst (λ (l : List (List ℕ)). IsPartedAt l (schedule_of o journal) (c.in_ok-slot.slot - 1)) (ap slots_in c.as_slice-stated.ensures)
           (subst (λ (l : List (List ℕ)). IsPartedAt (slots_in c.as_slice-stated.result.now) l (c.in_ok-slot.slot - 1)) real parted.1),

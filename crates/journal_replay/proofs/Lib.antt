@@ -1,0 +1,2 @@
+pub mod ClosingRuns
+pub mod EntriesAnew
