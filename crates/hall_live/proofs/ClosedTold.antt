@@ -47,7 +47,8 @@ use Rattle.hall_live.specs.Ends.{HasRunOut, IsCarriedOut, MayBeAsked, pull_line}
 use Rattle.hall_live.specs.Followed.{AreFollowed, IsFollowed, told_from}
 use Rattle.hall_live.specs.Rounds.{AreRoundsDone}
 use Rattle.hall_live.proofs.PullsTold.{client_pulls}
-use Rattle.hall_live.proofs.RoundsOn.{beside_spells, cut_rises, levels_on, still_between, still_spells}
+use Rattle.hall_live.proofs.LevelsOn.{cut_rises, levels_on, still_between}
+use Rattle.hall_live.proofs.RoundsOn.{beside_spells, still_spells}
 
 -- ---- sessions
 
@@ -162,6 +163,35 @@ from_splits P before (e ∷ es) h =
 -- ---- the closed hall
 
 module _ (script : Script) (most calls : ℕ) (hall : HallModel) (driver : DriverModel) (sessions : List SessionModel) (pulls : List PullDone) (master : MasterFacts)
+    (h : HasRunOut most calls script.rounds driver sessions pulls) (c : IsClosed hall driver sessions master) where
+  abbrev rounds_done : AreRoundsDone most calls script.rounds h.running.before sessions pulls
+  rounds_done = h.running.done
+
+  runs_later : h.running.before.position ≤ h.before.position
+  runs_later = h.running.opened.later
+
+  last_later : h.before.position ≤ driver.position
+  last_later = h.opened.later
+
+  -- nothing stands behind the last opening
+  none_behind : (rest : List Entry) (e : Entry) → master.journal ≡ driver.journal ++ e ∷ rest → ⊥
+  none_behind rest e is = ⊎_elim
+      (λ own. let lt = own.1 in omega (arith, lt))
+      (λ by.
+      let s = by.0 in
+      let within = All-contains IsWithin sessions s (own_within rounds_done.levels script.rounds calls 1 sessions rounds_done.told rounds_done.clients) by.1 in
+      let low = All-contains (λ (e : OwnEntry). e.position ≤ s.position) s.own _ within by.3 in
+      let one = All-contains (λ (x : SessionModel). x.position ≡ h.running.before.position) sessions s rounds_done.level.one by.1 in
+      omega (arith, low, one, runs_later, last_later, h.position)) (c.entries driver.journal rest e is)
+
+  pub all_there : master.journal ≡ driver.journal
+  all_there = go c.begins.0 c.begins.1
+    where
+      go : (others : List Entry) → master.journal ≡ driver.journal ++ others → master.journal ≡ driver.journal
+      go [] is = is ∙ append-nil driver.journal
+      go (e ∷ rest) is = absurd (none_behind rest e is)
+
+module _ (script : Script) (most calls : ℕ) (hall : HallModel) (driver : DriverModel) (sessions : List SessionModel) (pulls : List PullDone) (master : MasterFacts)
     (wires : Wires)
     (ok : IsOpening master.opening) (limit : master.opening.limit ≡ limit_of master.opening script) (may : MayBeAsked master.opening script)
     (each : length sessions ≡ script.clients) (h : HasRunOut most calls script.rounds driver sessions pulls) (c : IsClosed hall driver sessions master)
@@ -184,23 +214,8 @@ module _ (script : Script) (most calls : ℕ) (hall : HallModel) (driver : Drive
   last : h.before.position ≤ driver.position
   last = h.opened.later
 
-  -- nothing stands behind the last opening
-  none_behind : (rest : List Entry) (e : Entry) → journal ≡ driver.journal ++ e ∷ rest → ⊥
-  none_behind rest e is = ⊎_elim
-      (λ own. let lt = own.1 in omega (arith, lt))
-      (λ by.
-      let s = by.0 in
-      let within = All-contains IsWithin sessions s (own_within done.levels script.rounds calls 1 sessions done.told done.clients) by.1 in
-      let low = All-contains (λ (e : OwnEntry). e.position ≤ s.position) s.own _ within by.3 in
-      let one = All-contains (λ (x : SessionModel). x.position ≡ h.running.before.position) sessions s done.level.one by.1 in
-      omega (arith, low, one, later, last, h.position)) (c.entries driver.journal rest e is)
-
-  all_there : journal ≡ driver.journal
-  all_there = go c.begins.0 c.begins.1
-    where
-      go : (others : List Entry) → journal ≡ driver.journal ++ others → journal ≡ driver.journal
-      go [] is = is ∙ append-nil driver.journal
-      go (e ∷ rest) is = absurd (none_behind rest e is)
+  whole : journal ≡ driver.journal
+  whole = all_there script most calls hall driver sessions pulls master h c
 
   abbrev told : ℕ → List (ℕ × Act)
   told k = told_from 1 done.told k
@@ -275,7 +290,7 @@ module _ (script : Script) (most calls : ℕ) (hall : HallModel) (driver : Drive
   ends_work : EndsWork o script journal
   ends_work =
       let e = entry 0 (Open most) NothingLeft in
-      let is : journal ≡ h.journal ++ e ∷ [] = all_there ∙ h.ends in
+      let is : journal ≡ h.journal ++ e ∷ [] = whole ∙ h.ends in
       let legal : IsLegal o (h.journal ++ e ∷ []) = subst (IsLegal o) is c.seen.legal in
       let same : state_of o journal ≡ state_of o h.journal = ap (state_of o) is ∙ state_snoc o h.journal e in
       record {
@@ -290,7 +305,7 @@ module _ (script : Script) (most calls : ℕ) (hall : HallModel) (driver : Drive
   drives : Drives script most journal driving
   drives =
       let all : AreOpenings most driver.journal (spells_of driving) = h.opened.openings (done.spells ++ h.running.later) (h.running.opened.openings done.spells done.openings) in
-      let opened : AreOpenings most journal (spells_of driving) = subst (λ l. AreOpenings most l (spells_of driving)) (sym all_there) all in
+      let opened : AreOpenings most journal (spells_of driving) = subst (λ l. AreOpenings most l (spells_of driving)) (sym whole) all in
       record {
         entries = opened.entries;
         answers = opened.answers;

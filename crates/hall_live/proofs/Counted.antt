@@ -7,13 +7,14 @@ use Rattle.std.proofs.lemmas.Bool.{cases_lt, eq-eqb, le-ltb, lt-ltb, ne_eqb}
 use Rattle.std.proofs.lemmas.List.{length-map}
 use Rattle.std.proofs.lemmas.List.FromFn.{length-enumerate_from}
 use Rattle.std.proofs.lemmas.List.Recursion.{is_count_by}
-use Rattle.std.proofs.lemmas.List.Elements.{All-append, All-cons, All-contains, All-head, All-nil, All-tail}
+use Rattle.std.proofs.lemmas.List.Elements.{All-append, All-cons, All-contains, All-head, All-nil, All-tail, All-weaker}
 use Rattle.coflow_units.specs.declared.fabric.Flow.{Flow}
 use Rattle.journal.specs.declared.command.Command.{Command}
 use Rattle.journal.specs.declared.command.Command.TheVariants.{Close, Open, Publish, Pull, Register, Reweigh, Short, Skip, Withdraw}
 use Rattle.journal.specs.declared.command.Entry.{Entry}
 use Rattle.journal.specs.declared.command.Reply.{Reply}
-use Rattle.journal.specs.Counts.{is_closing, is_noting}
+use Rattle.journal.specs.declared.opening.Opening.{Opening}
+use Rattle.journal.specs.Counts.{is_closing, is_noting, is_skipping}
 use Rattle.journal.specs.Entries.{is_driving}
 use Rattle.journal.specs.Journal.{entry}
 use Rattle.journal.proofs.Counting.{few_closings, units_within}
@@ -22,6 +23,7 @@ use Rattle.turnstile.specs.Histories.{NoneAbove}
 use Rattle.script_reader.specs.declared.script.Script.{Script}
 use Rattle.script_reader.specs.declared.script.ScriptLine.{ScriptLine}
 use Rattle.client_session.specs.Closes.{HasEnded, IsClosed}
+use Rattle.client_session.specs.Desk.{IsSeen}
 use Rattle.client_session.specs.Drivers.{who_of}
 use Rattle.client_session.specs.Models.{DriverModel, HallModel, SessionModel}
 use Rattle.client_session.specs.Own.{own_entries, OwnEntry}
@@ -200,31 +202,36 @@ all_openings most (s ∷ ss) fits =
       all_openings most ss (All-tail Fits s ss fits),
     )
 
--- ---- nothing is noted
+-- ---- nothing is noted, and no slot is skipped
 
-noting_drives : (k : Command) → (is_driving k ≡ true → ⊥) → is_noting k ≡ false
-noting_drives (Short port units) h = absurd (h refl)
-noting_drives (Register c) h = refl
-noting_drives (Withdraw c) h = refl
-noting_drives Publish h = refl
-noting_drives (Pull c) h = refl
-noting_drives (Open most) h = refl
-noting_drives Close h = refl
-noting_drives (Skip to) h = refl
-noting_drives (Reweigh c w) h = refl
+abbrev pub IsQuiet : Command → Type 0
+IsQuiet k = (is_noting k ≡ false) × (is_skipping k ≡ false)
+
+quiet_or_drives : (k : Command) → (is_driving k ≡ true → ⊥) → IsQuiet k
+quiet_or_drives (Short port units) h = absurd (h refl)
+quiet_or_drives (Skip to) h = absurd (h refl)
+quiet_or_drives (Register c) h = (refl, refl)
+quiet_or_drives (Withdraw c) h = (refl, refl)
+quiet_or_drives Publish h = (refl, refl)
+quiet_or_drives (Pull c) h = (refl, refl)
+quiet_or_drives (Open most) h = (refl, refl)
+quiet_or_drives Close h = (refl, refl)
+quiet_or_drives (Reweigh c w) h = (refl, refl)
 
 abbrev Quiet : ℕ × Entry → Type 0
-Quiet x = is_noting x.1.command ≡ false
+Quiet x = IsQuiet x.1.command
 
-abbrev QuietEntry : Entry → Type 0
-QuietEntry e = is_noting e.command ≡ false
+abbrev pub QuietEntry : Entry → Type 0
+QuietEntry e = IsQuiet e.command
 
 quiet_spell : (most : ℕ) (s : Spell) → All Quiet (spell_entries most s)
 quiet_spell most s = go s.closed
   where
     go : (closed : Option (ℕ × Reply)) → All Quiet ((s.opened, entry 0 (Open most) s.answer) ∷ closing_entries closed)
-    go None = All-cons Quiet (s.opened, entry 0 (Open most) s.answer) [] refl (All-nil Quiet)
-    go (Some x) = All-cons Quiet (s.opened, entry 0 (Open most) s.answer) ((x.0, entry 0 Close x.1) ∷ []) refl (All-cons Quiet (x.0, entry 0 Close x.1) [] refl (All-nil Quiet))
+    go None = All-cons Quiet (s.opened, entry 0 (Open most) s.answer) [] (refl, refl) (All-nil Quiet)
+    go (Some x) =
+        All-cons Quiet (s.opened, entry 0 (Open most) s.answer) ((x.0, entry 0 Close x.1) ∷ []) (refl, refl)
+        (All-cons Quiet (x.0, entry 0 Close x.1) [] (refl, refl) (All-nil Quiet))
 
 quiet_spells : (most : ℕ) (spells : List Spell) → All Quiet (flat_map (spell_entries most) spells)
 quiet_spells most [] = All-nil Quiet
@@ -233,9 +240,9 @@ quiet_spells most (s ∷ ss) = All-append Quiet (spell_entries most s) (flat_map
 abbrev ByRoot : Entry → Type 0
 ByRoot e = is_driving e.command ≡ true → e.who ≡ 0
 
-no_notes : (n : ℕ) (es : List Entry) → All ByRoot es → All Quiet (drivers n es) → All QuietEntry es
-no_notes n [] root quiet = All-nil QuietEntry
-no_notes n (e ∷ es) root quiet = go (e.who == 0) refl quiet (λ rest. no_notes (n + 1) es (All-tail ByRoot e es root) rest)
+none_noted : (n : ℕ) (es : List Entry) → All ByRoot es → All Quiet (drivers n es) → All QuietEntry es
+none_noted n [] root quiet = All-nil QuietEntry
+none_noted n (e ∷ es) root quiet = go (e.who == 0) refl quiet (λ rest. none_noted (n + 1) es (All-tail ByRoot e es root) rest)
   where
     go : (b : Bool) → (e.who == 0) ≡ b → All Quiet (cond b ((n, e) ∷ drivers (n + 1) es) (drivers (n + 1) es)) → (All Quiet (drivers (n + 1) es) → All QuietEntry es) →
         All QuietEntry (e ∷ es)
@@ -243,7 +250,11 @@ no_notes n (e ∷ es) root quiet = go (e.who == 0) refl quiet (λ rest. no_notes
         All-cons QuietEntry e es (All-head Quiet (n, e) (drivers (n + 1) es) h) (more (All-tail Quiet (n, e) (drivers (n + 1) es) h))
     go false is h more =
         All-cons QuietEntry e es
-        (noting_drives e.command (λ drives. absurd (true≢false (sym (eq-eqb e.who 0 (All-head ByRoot e es root drives)) ∙ is)))) (more h)
+        (quiet_or_drives e.command (λ drives. absurd (true≢false (sym (eq-eqb e.who 0 (All-head ByRoot e es root drives)) ∙ is)))) (more h)
+
+-- so it is where the driver's entries are openings with their closings
+pub openings_are_quiet : (o : Opening) (most : ℕ) (journal : List Entry) (spells : List Spell) → IsSeen o journal → AreOpenings most journal spells → All QuietEntry journal
+openings_are_quiet o most journal spells seen openings = none_noted 1 journal seen.driven (subst (All Quiet) (sym openings.entries) (quiet_spells most spells))
 
 -- ---- the whole journal
 
@@ -289,7 +300,7 @@ module _ (script : Script) (most : ℕ) (hall : HallModel) (driver : DriverModel
 
   few_driven : length (entries_by journal 0) ≤ 2 * sum_by (λ (x : Flow). x.units) master.opening.table.flows + length script.rounds + 1
   few_driven =
-      let quiet = no_notes 1 journal c.seen.driven (subst (All Quiet) (sym opened.entries) (quiet_spells most spells)) in
+      let quiet = All-weaker QuietEntry (λ (e : Entry). is_noting e.command ≡ false) (λ e q. q.0) journal (openings_are_quiet master.opening most journal spells c.seen opened) in
       let count = is_count_by closes_in (λ (e : Entry). is_closing e.reply) refl (λ e es. refl) journal in
       omega (
         arith,

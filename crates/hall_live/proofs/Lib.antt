@@ -1,3 +1,6 @@
+pub mod LevelsOn
+pub mod FollowedOn
+pub mod RoundPulls
 pub mod RoundsOn
 pub mod DrivenOn
 pub mod RunningOut

@@ -4,3 +4,4 @@ pub mod Steps
 pub mod PartsBuilt
 pub mod Coming
 pub mod Collecting
+pub mod AskingLittle

@@ -3,3 +3,4 @@ pub mod Stops
 pub mod Lines
 pub mod Parts
 pub mod Rounds
+pub mod Asking

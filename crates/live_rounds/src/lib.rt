@@ -5,6 +5,7 @@
 mod answer;
 mod client;
 mod gate;
+pub mod laws;
 mod line;
 mod part;
 mod playing;
