@@ -2,8 +2,8 @@
 ghost use Rattle.std.specs.Prelude.{◌≡◌, All};
 ghost use Rattle.client_session.specs.Models.{IsDriverOf, IsSessionOf};
 
-use crate::begun::{hall_of_two, journal_of, seat};
 use client_session::{CloseFault, Driver, Entry, Hall, Session};
+use small_halls::{hall_of_two, journal_of, seat};
 use std::alloc::Global;
 use std::process::Abort;
 use std::test::*;
@@ -56,7 +56,7 @@ fn second(rt: &impl Abort, alloc: Global, hall: &Hall, driver: &mut Driver) -> S
 fn a_hall_stays_open_where_a_session_was_dropped(rt: HostRuntime) {
     let alloc = rt.alloc();
     let mut sessions = Vec::new(alloc);
-    let (hall, mut driver) = hall_of_two(&rt, alloc, 100);
+    let (hall, mut driver) = hall_of_two(&rt, alloc, 100, 20);
     seat(&rt, alloc, &hall, &mut driver, &mut sessions, 1, 1);
     let _ = second(&rt, alloc, &hall, &mut driver);
     let (hall, driver, sessions) = refused(&rt, alloc, hall, driver, sessions);
@@ -87,7 +87,7 @@ fn closed_later(
 fn a_hall_closes_once_all_sessions_are_given(rt: HostRuntime) {
     let alloc = rt.alloc();
     let mut sessions = Vec::new(alloc);
-    let (hall, mut driver) = hall_of_two(&rt, alloc, 100);
+    let (hall, mut driver) = hall_of_two(&rt, alloc, 100, 20);
     seat(&rt, alloc, &hall, &mut driver, &mut sessions, 1, 1);
     let last = second(&rt, alloc, &hall, &mut driver);
     let journal = closed_later(&rt, alloc, hall, driver, sessions, last);

@@ -2,11 +2,10 @@
 ghost use Rattle.std.specs.Prelude.{◌≡◌, ◌≤◌, ◌^◌, All, length};
 ghost use Rattle.client_session.specs.Models.{IsDriverOf, IsSessionOf};
 
-use crate::begun::{hall_of_two, journal_of, seat};
+use crate::calls::{Case, play_rows};
 use crate::example::show;
-use crate::rows::{Case, play_rows};
-use crate::told::{Told, tell, tell_entries};
 use client_session::{Driver, Entry, Hall, Session};
+use small_halls::{Told, hall_of_two, journal_of, seat, tell, tell_entries};
 use std::alloc::Global;
 use std::process::Abort;
 use std::sync::Wait;
@@ -62,7 +61,7 @@ fn played<R: Wait + Abort>(
     requires few { (size.limit ≤ 2 ^ 23) × (size.sessions ≤ 64) }
 {
     let mut sessions = Vec::new(alloc);
-    let (hall, mut driver) = hall_of_two(rt, alloc, size.limit);
+    let (hall, mut driver) = hall_of_two(rt, alloc, size.limit, 20);
     seat(
         rt,
         alloc,

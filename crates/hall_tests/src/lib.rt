@@ -3,9 +3,7 @@
 #![tactic(auto)]
 
 #[cfg(test)]
-mod asks;
-#[cfg(test)]
-mod begun;
+mod calls;
 #[cfg(test)]
 mod closes;
 #[cfg(test)]
@@ -16,5 +14,3 @@ mod games;
 mod orders;
 #[cfg(test)]
 mod rows;
-#[cfg(test)]
-mod told;
