@@ -1,1 +1,4 @@
+pub mod FollowingEntries
 pub mod LineSteps
+pub mod OrdersTold
+pub mod WordsOfRuns
