@@ -1,0 +1,9 @@
+pub mod DriverTurns
+pub mod OpeningSteps
+pub mod WiresOn
+pub mod FewEntries
+pub mod PullsInTable
+pub mod GoingOn
+pub mod EndingRuns
+pub mod Begins
+pub mod Whole

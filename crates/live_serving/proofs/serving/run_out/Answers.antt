@@ -1,0 +1,59 @@
+use Rattle.std.proofs.Common.{Ok, Err, ap, refl, subst}
+use Rattle.live_serving.specs.Openings.{IsOpening}
+use Rattle.live_serving.proofs.EndingRuns.{ending_filled, ending_on, ends, slots_fall}
+use Rattle.live_serving.proofs.OpeningSteps.{stop_in}
+use Rattle.live_serving.proofs.WiresOn.{served_err, served_first, served_on, served_still}
+use Rattle.live_serving.proofs.serving.run_out.Goals as goal
+
+pub runs-init : goal.runs-init
+runs-init g c =
+    let h = c.requires.ending in
+    record {
+      ending = h;
+      wires = served_first g.W.Wire.faults g.W.Wire.runs c.args.hall.now (Ok tt) c.args.runner.now c.args.wires.now refl h.drives.may h.drives.seen c.requires.wires;
+    }
+
+pub returns-in-Err-clause-filled : goal.returns-in-Err-clause-filled
+returns-in-Err-clause-filled g c = λ e.
+    ending_filled c.args.hall.now c.args._script.now c.args.most c.runs.runner c.open_once.new.runner c.args._sessions.now c.args._pulls.now c.runs.invariant.ending
+    c.open_once.ensures.wires.may
+    (subst (λ s. IsOpening c.args.hall.now c.args.most c.runs.runner c.open_once.new.runner (Err s)) (ap stop_in e) c.in-Err.ensures.opening)
+
+pub returns-in-Err-clause-wires : goal.returns-in-Err-clause-wires
+returns-in-Err-clause-wires g c =
+    served_err g.W.Wire.faults g.W.Wire.runs c.args.hall.now c.in-Err.stop c.args.runner.now c.open_once.new.runner c.args.wires.now c.open_once.new.wires
+    (served_on g.W.Wire.faults g.W.Wire.runs c.args.hall.now (Ok tt) (Err c.in-Err.stop) c.args.runner.now c.runs.runner c.open_once.new.runner c.args.wires.now c.runs.wires
+    c.open_once.new.wires c.runs.invariant.wires c.in-Err.ensures.wires)
+
+pub returns-then-not-some-clause-ended : goal.returns-then-not-some-clause-ended
+returns-then-not-some-clause-ended g c =
+    ends c.args.hall.now c.args._script.now c.args.most c.runs.runner c.open_once.new.runner c.args._sessions.now c.args._pulls.now c.runs.invariant.ending
+    c.open_once.ensures.wires.may
+    (subst (λ some. IsOpening c.args.hall.now c.args.most c.runs.runner c.open_once.new.runner (Ok some)) c.if-not-some.true c.in-Ok.ensures.opening)
+
+pub returns-then-not-some-clause-wires : goal.returns-then-not-some-clause-wires
+returns-then-not-some-clause-wires g c =
+    let h = c.open_once.ensures.wires in
+    served_still g.W.Wire.faults g.W.Wire.runs c.args.hall.now (Ok c.in-Ok.some) (Ok tt) c.args.runner.now c.open_once.new.runner c.open_once.new.runner c.args.wires.now
+    c.open_once.new.wires refl h.may refl
+    (served_on g.W.Wire.faults g.W.Wire.runs c.args.hall.now (Ok tt) (Ok c.in-Ok.some) c.args.runner.now c.runs.runner c.open_once.new.runner c.args.wires.now c.runs.wires
+    c.open_once.new.wires c.runs.invariant.wires c.in-Ok.ensures.wires)
+
+pub runs-smaller : goal.runs-smaller
+runs-smaller g c =
+    let h = subst (λ some. IsOpening c.args.hall.now c.args.most c.runs.runner c.open_once.new.runner (Ok some)) c.if-not-some.false c.in-Ok.ensures.opening in
+    slots_fall c.args.hall.now c.args._script.now c.args.most c.runs.runner c.open_once.new.runner c.args._sessions.now c.args._pulls.now c.runs.invariant.ending h.0 h.1 h.2
+    c.open_once.ensures.wires.may
+
+pub runs-preserved : goal.runs-preserved
+runs-preserved g c =
+    let h = subst (λ some. IsOpening c.args.hall.now c.args.most c.runs.runner c.open_once.new.runner (Ok some)) c.if-not-some.false c.in-Ok.ensures.opening in
+    let may = c.open_once.ensures.wires.may in
+    record {
+      ending = ending_on c.args.hall.now c.args._script.now c.args.most c.runs.runner c.open_once.new.runner c.args._sessions.now c.args._pulls.now c.runs.invariant.ending
+          h.0 h.1 h.2 may;
+      wires = served_still g.W.Wire.faults g.W.Wire.runs c.args.hall.now (Ok c.in-Ok.some) (Ok tt) c.args.runner.now c.open_once.new.runner c.open_once.new.runner
+          c.args.wires.now c.open_once.new.wires refl may refl
+          (served_on g.W.Wire.faults g.W.Wire.runs c.args.hall.now (Ok tt) (Ok c.in-Ok.some) c.args.runner.now c.runs.runner c.open_once.new.runner c.args.wires.now
+          c.runs.wires c.open_once.new.wires c.runs.invariant.wires c.in-Ok.ensures.wires);
+    }

@@ -1,0 +1,6 @@
+pub mod Wires
+pub mod Driving
+pub mod Openings
+pub mod Playing
+pub mod Going
+pub mod Served

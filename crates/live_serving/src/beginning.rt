@@ -1,0 +1,61 @@
+//! A run of `live` before its first round.
+ghost use Rattle.std.specs.Prelude.{◌≡◌, ◌≤◌, ℕ, [], IfOk};
+ghost use Rattle.coflow_units.specs.declared.limits.TheConstants.{MAX_CLIENTS};
+ghost use Rattle.live_model.specs.Script.{limit_of};
+ghost use Rattle.hall_live.specs.Ends.{MayBeAsked};
+ghost use Rattle.live_serving.specs.Going.{IsGoing};
+
+use crate::commands::commands_of;
+use client_session::{Hall, Session};
+use coflow_units::NoMemory;
+use hall_live::seat_clients;
+use live_rounds::PullDone;
+use master_core::Master;
+use script_reader::Script;
+use slot_runner::Runner;
+use std::alloc::Global;
+
+/// The calls of the driver: 2^40.
+const CALLS: u64 = 1_099_511_627_776;
+
+/// A hall with its runner, the sessions of its clients, and what their pulls were told.
+#[derive(Drop)]
+pub(crate) struct Begun {
+    pub(crate) hall: Hall,
+    pub(crate) runner: Runner,
+    pub(crate) sessions: Vec<Session>,
+    pub(crate) pulls: Vec<PullDone>,
+}
+
+/// A hall of the master with a session for each client, of as many calls as the script has commands. The error is want
+/// of memory, and drops the master.
+pub(crate) fn begin(alloc: Global, master: Master, script: &Script) -> Result<Begun, NoMemory>
+    requires empty { master.journal ≡ [] }
+    requires limit { master.opening.limit ≡ limit_of master.opening script.now }
+    requires asked { MayBeAsked master.opening script.now }
+    requires clients { script.now.clients ≤ MAX_CLIENTS }
+    ensures opening { IfOk result (λ b. b.hall.setting.opening ≡ master.opening) }
+    ensures none { IfOk result (λ b. b.runner.driver.journal ≡ []) }
+    ensures under_way { (most : ℕ) → IfOk result (λ b.
+        IsGoing b.hall script.now most 0 b.runner b.sessions.items b.pulls.items) }
+{
+    let ports = master.table().ports();
+    let (hall, mut driver) = Hall::begin(alloc, master, CALLS)?;
+    let _within = hall.coflows();
+    let sessions = seat_clients(
+        alloc,
+        &hall,
+        &mut driver,
+        script.clients,
+        commands_of(script),
+    )?;
+    let Ok(runner) = Runner::new(alloc, driver, ports) else {
+        return Err(NoMemory);
+    };
+    Ok(Begun {
+        hall,
+        runner,
+        sessions,
+        pulls: Vec::new(alloc),
+    })
+}

@@ -1,0 +1,104 @@
+//! The end of a run of `live`.
+ghost use Rattle.std.specs.Prelude.{◌≡◌, ℕ, Err, IfOk, IsOk, OnOk};
+ghost use Rattle.client_session.specs.Closes.{IsClosed};
+ghost use Rattle.live_serving.specs.declared.answer.LiveFault.TheVariants as fault;
+ghost use Rattle.live_serving.specs.declared.answer.Stop.TheVariants.{Full, WireFault};
+ghost use Rattle.live_serving.specs.Going.{AreSeated, IsEnded, IsFilled};
+ghost use Rattle.live_serving.specs.Served.{IsTold};
+
+use crate::answer::{LiveFault, Served, Stop};
+use crate::beginning::Begun;
+use client_session::{CloseFault, Driver, Hall, Session};
+use coflow_units::{Items, NoMemory};
+use hall_live::pull_lines;
+use live_rounds::PullDone;
+use master_core::Master;
+use script_reader::Script;
+use std::alloc::Global;
+
+/// Closes the hall and tells the pulls, once the work is ended. Where a turn found no room the hall is closed as well: its
+/// journal would then show that there was room, so that this never comes.
+pub(crate) fn end(
+    alloc: Global,
+    run: Begun,
+    script: &Script,
+    answer: Result<(), Stop>,
+) -> Result<Served, LiveFault>
+    requires ended { OnOk answer ((most : ℕ) ×
+        IsEnded run.hall script.now most run.runner.driver run.sessions.items run.pulls.items) }
+    requires filled { answer ≡ Err Full → (most : ℕ) ×
+        IsFilled run.hall script.now most run.runner.driver run.sessions.items }
+    ensures opening { IfOk result (λ s. s.master.opening ≡ run.hall.setting.opening) }
+    ensures no_stop { IfOk result (λ s. IsOk answer) }
+    ensures told { (most : ℕ) → IfOk result (λ s.
+        IsEnded run.hall script.now most run.runner.driver run.sessions.items run.pulls.items →
+        IsTold run.hall.setting.opening script.now most s.master.journal run.runner.driver.journal s.pulls) }
+    ensures fault { (port : ℕ) → result ≡ Err (fault.WireFault port) → answer ≡ Err (WireFault port) }
+{
+    let Begun {
+        hall,
+        runner,
+        sessions,
+        pulls,
+    } = run;
+    match answer {
+        Ok(()) => tell(alloc, hall, runner.into_driver(), sessions, &pulls, script),
+        Err(Stop::Full) => {
+            refuse(alloc, hall, runner.into_driver(), sessions, script);
+            Err(LiveFault::NoMemory)
+        }
+        Err(Stop::WireFault { port }) => Err(LiveFault::WireFault { port }),
+        Err(Stop::NoMemory) => Err(LiveFault::NoMemory),
+    }
+}
+
+// Closes the hall, and tells the pulls.
+fn tell(
+    alloc: Global,
+    hall: Hall,
+    driver: Driver,
+    sessions: Vec<Session>,
+    pulls: &[PullDone],
+    script: &Script,
+) -> Result<Served, LiveFault>
+    requires ended { (most : ℕ) × IsEnded hall script.now most driver sessions.items pulls.now }
+    ensures opening { IfOk result (λ s. s.master.opening ≡ hall.setting.opening) }
+    ensures told { (most : ℕ) → IfOk result (λ s. IsEnded hall script.now most driver sessions.items pulls.now →
+        IsTold hall.setting.opening script.now most s.master.journal driver.journal s.pulls) }
+    ensures fault { (port : ℕ) → result ≡ Err (fault.WireFault port) → ⊥ }
+{
+    let _within = hall.coflows();
+    let master = close(alloc, hall, driver, sessions)?;
+    let lines = pull_lines(alloc, master.table(), pulls, script.clients)?;
+    Ok(Served {
+        master,
+        pulls: Items::from_vec(lines),
+    })
+}
+
+// Closes a hall in which a turn found no room. Its journal shows that there was room, so there is no memory to close it.
+fn refuse(alloc: Global, hall: Hall, driver: Driver, sessions: Vec<Session>, _script: &Script)
+    requires filled { (most : ℕ) × IsFilled hall _script.now most driver sessions.items }
+{
+    match close(alloc, hall, driver, sessions) {
+        Ok(_master) => unreachable!(),
+        Err(_no_memory) => {}
+    }
+}
+
+// Closes the hall, to which all of its sessions are given.
+fn close(
+    alloc: Global,
+    hall: Hall,
+    driver: Driver,
+    sessions: Vec<Session>,
+) -> Result<Master, NoMemory>
+    requires seated { (script : Script) × AreSeated hall script driver sessions.items }
+    ensures { IfOk result (IsClosed hall driver sessions.items) }
+{
+    match hall.close(alloc, driver, sessions) {
+        Ok(master) => Ok(master),
+        Err(CloseFault::NoMemory(_)) => Err(NoMemory),
+        Err(CloseFault::Missing { .. }) => unreachable!(),
+    }
+}

@@ -1,0 +1,16 @@
+//! The loop of `live`: a hall whose clients carry out a script round by round, each round beside a run of slots where it
+//! asks for one, and whose driver then opens runs until nothing is left.
+#![tactic(auto)]
+
+mod answer;
+mod beginning;
+mod beside;
+mod commands;
+mod ending;
+mod live;
+mod rounds;
+mod running;
+mod serving;
+
+pub use answer::{LiveFault, Served};
+pub use live::serve_live;
