@@ -1,6 +1,6 @@
 //! The command `check` on worked rows.
 use crate::jobs::{NEVER, NONE, TWO, job};
-use sincronia_cli::Status;
+use command_files::Status;
 use std::alloc::Global;
 use std::process::Abort;
 use std::sync::Wait;

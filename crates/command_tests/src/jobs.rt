@@ -3,8 +3,9 @@ ghost use Rattle.std.specs.Prelude.{◌<◌, IfOk, length};
 ghost use Rattle.coflow_units.specs.declared.limits.TheConstants.{MAX_PORTS};
 
 use coflow_units::{MAX_PORTS, NoMemory};
+use command_files::Status;
 use outside::{CountWire, MemShelf, MemSink};
-use sincronia_cli::{Status, sincronia};
+use sincronia_cli::sincronia;
 use std::alloc::Global;
 use std::sync::Wait;
 use std::test::Fail;

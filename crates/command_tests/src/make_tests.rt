@@ -1,6 +1,6 @@
 //! The command `make` on worked rows.
 use crate::jobs::{NEVER, NONE, job};
-use sincronia_cli::Status;
+use command_files::Status;
 use std::test::Fail;
 
 #[test]

@@ -1,6 +1,6 @@
 //! The command `plan` on worked rows.
 use crate::jobs::{NEVER, NONE, THREE, TWO, job};
-use sincronia_cli::Status;
+use command_files::Status;
 use std::test::Fail;
 
 pub(crate) const TWO_TEXT: &[u8] = b"sincronia 2

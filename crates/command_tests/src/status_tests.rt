@@ -1,7 +1,7 @@
 //! Words that are refused, and what a status ends with.
 use crate::jobs::{NEVER, NONE, TWO, job};
 use coflow_units::Quantity;
-use sincronia_cli::Status;
+use command_files::Status;
 use std::test::Fail;
 use trace_reader::TraceFault;
 use weights::WeightsFault;

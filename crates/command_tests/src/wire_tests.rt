@@ -2,8 +2,9 @@
 use crate::jobs::{NONE, TWO, words};
 use crate::plan_tests::{CROSSED, CROSSED_TEXT, TWO_TEXT};
 use coflow_units::MAX_PORTS;
+use command_files::Status;
 use outside::{MemShelf, MemSink, MemWire};
-use sincronia_cli::{Status, sincronia};
+use sincronia_cli::sincronia;
 use std::alloc::Global;
 use std::process::Abort;
 use std::sync::Wait;

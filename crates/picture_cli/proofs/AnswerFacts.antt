@@ -1,6 +1,6 @@
 -- What good files call for is one status, and the job ends by it.
 use Rattle.std.proofs.Common.{◌≡◌, ℕ, ◌<◌, ◌≤◌, ◌^◌, ◌-◌, ◌∙◌, inl, inr, List, [], ◌∷◌, Option, Some, None, get_or, length, min, refl, sym, ap, subst, suc, arith}
-use Rattle.std.specs.Prelude.{◌⊎◌, All, Err, IfSome, IsSomeAnd}
+use Rattle.std.specs.Prelude.{◌⊎◌, All, IfSome, IsSomeAnd}
 use Rattle.std.proofs.lemmas.List.Sums.{sum_by-cons}
 use Rattle.cert_check.proofs.OneVerdict.{one_verdict}
 use Rattle.cert_check.specs.declared.verdict.Reason.{Reason}
@@ -12,7 +12,6 @@ use Rattle.coflow_units.specs.declared.trace.CoflowLine.{CoflowLine}
 use Rattle.flow_table.proofs.TablesOne.{tables_one}
 use Rattle.flow_table.specs.Table.{TableFacts, instance_of}
 use Rattle.outside.specs.Shelf.{Told}
-use Rattle.outside.specs.Sink.{TakesText}
 use Rattle.picture.proofs.RowLaws.{one_picture}
 use Rattle.picture.specs.declared.value.Bar.{Bar}
 use Rattle.picture.specs.declared.value.TheConstants.{MAX_BARS}
@@ -22,19 +21,17 @@ use Rattle.report.proofs.TextLaws.{reports_are_one}
 use Rattle.report.specs.declared.value.Report.{Report}
 use Rattle.report.specs.Reading.{IsBadAt, IsTextOf}
 use Rattle.schedule_model.specs.RunList.{slots_in}
-use Rattle.sincronia_cli.proofs.CompleteFacts.{files_end, text_is_good}
-use Rattle.sincronia_cli.proofs.ShelfFacts.{if_some, of_both}
-use Rattle.sincronia_cli.proofs.TurnFacts.{done_in_turn}
-use Rattle.sincronia_cli.specs.declared.status.Status.{Status}
-use Rattle.sincronia_cli.specs.declared.status.Status.TheVariants as status
-use Rattle.sincronia_cli.specs.Causes.{FilesGiveTable, HasCauseInFiles}
-use Rattle.sincronia_cli.specs.Check.{IsReportOf}
-use Rattle.sincronia_cli.specs.Complete.{IsStill}
-use Rattle.sincronia_cli.specs.Ends.{IsReadFault}
-use Rattle.sincronia_cli.specs.Inputs.{GiveWeights, IsInput, bytes_if}
-use Rattle.sincronia_cli.specs.Plan.{AppendsBeginning}
-use Rattle.sincronia_cli.specs.Shelves.{AreReadOut, OfBoth, ReadsOut}
-use Rattle.sincronia_cli.specs.Turns.{FilesInTurn}
+use Rattle.command_files.proofs.GoodFacts.{files_end, text_is_good}
+use Rattle.command_files.proofs.ShelfFacts.{if_some, of_both}
+use Rattle.command_files.proofs.FileTurns.{done_in_turn}
+use Rattle.command_files.specs.declared.status.Status.{Status}
+use Rattle.command_files.specs.declared.status.Status.TheVariants as status
+use Rattle.command_files.specs.Causes.{FilesGiveTable, HasCauseInFiles}
+use Rattle.command_files.specs.Reports.{IsReportOf}
+use Rattle.command_files.specs.Ends.{IsStill, IsReadFault}
+use Rattle.command_files.specs.Inputs.{GiveWeights, IsInput, bytes_if}
+use Rattle.command_files.specs.Shelves.{AreReadOut, OfBoth, ReadsOut}
+use Rattle.command_files.specs.Turns.{FilesInTurn}
 use Rattle.picture_cli.proofs.PictureFacts.{cause_by}
 use Rattle.picture_cli.specs.Complete.{AreGoodFiles, CallFor, CanBeDrawn, IsAnswer}
 use Rattle.picture_cli.specs.Picture.{Draws, HasNoPicture, HasPictureCause, HasVerdictCause, Judged, check_of, window_of}
@@ -211,7 +208,7 @@ ends_drawn None by said text answer same draws call = absurd call
 ends_drawn (Some t) by said text answer same draws (good, is) =
     answers_one said t Ok answer (subst (λ (w : PictureSaid). CanBeDrawn w t) same (drawn_by by t text draws)) is
 
--- ---- how far the files were looked at, and what was written
+-- ---- how far the files were looked at
 
 pub past_in_turn : (old new : Option Told) (said : PictureSaid) (s : Status) → (IsReadFault s → ⊥) → IfSome old (AreGoodFiles said) →
     OfBoth old new (ReadsOut (check_of said).job (check_of said)) → OfBoth old new (FilesInTurn (check_of said) s)
@@ -219,9 +216,3 @@ past_in_turn old new said s other good out =
     done_in_turn old new (check_of said) s other
     (if_some old (AreGoodFiles said) (FilesGiveTable (check_of said)) (λ t (gives, report). gives) good)
     (of_both old new (ReadsOut (check_of said).job (check_of said)) (AreReadOut said.trace said.weights) (λ a b (both, report). both) out)
-
--- a text that was not taken whole
-pub begun : (X E : Type 0) (old new : Option (List ℕ)) (text lent : List ℕ) (e : E) → lent ≡ text → TakesText {X = X} {E = E} old new lent (Err e) →
-    AppendsBeginning old new text
-begun X E None new text lent e same takes = tt
-begun X E (Some old) new text lent e same takes = subst (λ (t : List ℕ). AppendsBeginning (Some old) new t) same takes

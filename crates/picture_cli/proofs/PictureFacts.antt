@@ -39,10 +39,10 @@ use Rattle.report.specs.Report.{IsReport}
 use Rattle.schedule_model.proofs.CostSums.{parts_small}
 use Rattle.schedule_model.specs.RunList.{NamesFlows, slots_in}
 use Rattle.report.specs.Reading.{IsBadAt}
-use Rattle.sincronia_cli.specs.Causes.{HasCauseInFiles}
-use Rattle.sincronia_cli.specs.Check.{IsReportOf}
-use Rattle.sincronia_cli.specs.Ends.{IsReadFault, IsWriteFault}
-use Rattle.sincronia_cli.specs.Inputs.{IsInput}
+use Rattle.command_files.specs.Causes.{HasCauseInFiles}
+use Rattle.command_files.specs.Reports.{IsReportOf}
+use Rattle.command_files.specs.Ends.{IsReadFault, IsWriteFault}
+use Rattle.command_files.specs.Inputs.{IsInput}
 use Rattle.picture_cli.specs.Picture.{Draws, HasNoPicture, HasPictureCause, HasVerdictCause, IsNearBest, IsPictureOf, Judged, check_of, window_of}
 use Rattle.picture_cli.specs.Status.{IsStatusOfBars, as_check}
 use Rattle.picture_cli.specs.Words.{IsPictureWords, PictureSaid}

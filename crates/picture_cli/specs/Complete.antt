@@ -8,10 +8,10 @@ use Rattle.picture.specs.declared.value.TheConstants.{MAX_BARS}
 use Rattle.picture.specs.Bars.{IsBars, bar_count}
 use Rattle.schedule_model.specs.RunList.{slots_in}
 use Rattle.report.specs.Reading.{IsTextOf}
-use Rattle.sincronia_cli.specs.Causes.{FilesGiveTable}
-use Rattle.sincronia_cli.specs.Complete.{HasReportText}
-use Rattle.sincronia_cli.specs.Inputs.{bytes_if}
-use Rattle.sincronia_cli.specs.Ends.{IsWriteFault}
+use Rattle.command_files.specs.Causes.{FilesGiveTable}
+use Rattle.command_files.specs.Reports.{HasReportText}
+use Rattle.command_files.specs.Inputs.{bytes_if}
+use Rattle.command_files.specs.Ends.{IsWriteFault}
 use Rattle.picture_cli.specs.Picture.{HasNoPicture, Judged, check_of, window_of}
 use Rattle.picture_cli.specs.Words.{PictureSaid}
 use Rattle.picture_cli.specs.declared.status.PictureStatus.{PictureStatus}

@@ -23,12 +23,12 @@ use Rattle.picture_text.specs.Title.{hundredths}
 use Rattle.report.specs.declared.value.Report.{Report}
 use Rattle.schedule_model.specs.RunList.{slots_in}
 use Rattle.report.specs.Reading.{IsBadAt}
-use Rattle.sincronia_cli.specs.Causes.{HasCauseInFiles}
-use Rattle.sincronia_cli.specs.Check.{IsReportOf}
-use Rattle.sincronia_cli.specs.Ends.{IsWriteFault}
-use Rattle.sincronia_cli.specs.Inputs.{IsInput}
+use Rattle.command_files.specs.Causes.{HasCauseInFiles}
+use Rattle.command_files.specs.Reports.{IsReportOf}
+use Rattle.command_files.specs.Ends.{IsWriteFault}
+use Rattle.command_files.specs.Inputs.{IsInput}
 use Rattle.plans.specs.Totals.{BoundsEverySchedule}
-use Rattle.sincronia_cli.specs.declared.status.Status.TheVariants as status
+use Rattle.command_files.specs.declared.status.Status.TheVariants as status
 use Rattle.command_words.specs.Jobs.Job.{check_job}
 use Rattle.command_words.specs.Words.{Said}
 use Rattle.picture_cli.specs.Words.{PictureSaid}

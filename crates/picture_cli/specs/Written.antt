@@ -1,7 +1,7 @@
 -- What was written.
 use Rattle.std.specs.Prelude.{List, ℕ, Option}
 use Rattle.outside.specs.Shelf.{Told}
-use Rattle.sincronia_cli.specs.Plan.{Appends, AppendsBeginning}
+use Rattle.command_files.specs.Written.{Appends, AppendsBeginning}
 use Rattle.picture_cli.specs.Picture.{Draws}
 use Rattle.picture_cli.specs.Words.{PictureSaid}
 

@@ -17,12 +17,12 @@ use crate::status::PictureStatus;
 use crate::words::PictureWords;
 use cert_check::Verdict;
 use coflow_units::{Items, NoMemory, Run};
+use command_files::Input;
 use flow_table::Table;
 use picture::{Window, bars_of, curve_of};
 use picture_text::{Picture, heaviest, write_picture};
 use report::Report;
 use schedule_model::completions_of_runs;
-use sincronia_cli::Input;
 use std::alloc::Global;
 use verdicts::verdict_on;
 

@@ -2,20 +2,20 @@
 ghost use Rattle.std.specs.Prelude.{◌≤◌, IfErr, IfOk, IfSome, OnOk};
 ghost use Rattle.coflow_units.specs.declared.limits.TheConstants.{MAX_UNIT};
 ghost use Rattle.report.specs.Reading.{IsBadAt};
-ghost use Rattle.sincronia_cli.specs.Causes.{HasCauseInFiles};
-ghost use Rattle.sincronia_cli.specs.Check.{IsReportOf};
-ghost use Rattle.sincronia_cli.specs.Ends.{CountsFault};
-ghost use Rattle.sincronia_cli.specs.Inputs.{IsInput};
-ghost use Rattle.sincronia_cli.specs.Shelves.{KeepsFiles, OfBoth, ReadsOut};
-ghost use Rattle.sincronia_cli.specs.Turns.{FilesInTurn};
+ghost use Rattle.command_files.specs.Causes.{HasCauseInFiles};
+ghost use Rattle.command_files.specs.Reports.{IsReportOf};
+ghost use Rattle.command_files.specs.Ends.{CountsFault};
+ghost use Rattle.command_files.specs.Inputs.{IsInput};
+ghost use Rattle.command_files.specs.Shelves.{KeepsFiles, OfBoth, ReadsOut};
+ghost use Rattle.command_files.specs.Turns.{FilesInTurn};
 ghost use Rattle.picture_cli.specs.Complete.{AreGoodFiles};
 ghost use Rattle.picture_cli.specs.Picture.{check_of};
 ghost use Rattle.picture_cli.specs.Words.{said_by};
 
 use crate::words::PictureWords;
+use command_files::{Input, Status, read_input, read_report_file};
 use outside::Shelf;
 use report::Report;
-use sincronia_cli::{Input, Status, read_input, read_report_file};
 use std::alloc::Global;
 
 /// The flows of a trace with the weights of its coflows, and a report.

@@ -3,8 +3,8 @@ ghost use Rattle.std.specs.Prelude.{◌≡◌};
 ghost use Rattle.picture_cli.specs.Status.{code_of};
 
 use coflow_units::NoMemory;
+use command_files::Status;
 use picture::BarsFault;
-use sincronia_cli::Status;
 
 /// How the job of drawing ended.
 #[derive(Clone, Copy, Debug, PartialEq, Eq)]
@@ -50,7 +50,7 @@ impl From<Status> for PictureStatus {
 
 impl From<NoMemory> for PictureStatus {
     ghost use Rattle.picture_cli.specs.declared.status.PictureStatus.TheVariants.{Ended};
-    ghost use Rattle.sincronia_cli.specs.declared.status.Status.TheVariants.{NoMemory};
+    ghost use Rattle.command_files.specs.declared.status.Status.TheVariants.{NoMemory};
 
     ghost from_gives = { λ _ s. s ≡ Ended NoMemory };
 

@@ -5,9 +5,10 @@ ghost use Rattle.std.specs.Prelude.{◌<◌, IfOk, length};
 ghost use Rattle.coflow_units.specs.declared.limits.TheConstants.{MAX_PORTS};
 
 use coflow_units::{MAX_COFLOWS, MAX_PORTS, NoMemory};
+use command_files::Status;
 use outside::{CountWire, DiskShelf, Shelf, Sink, StdSink};
 use rankers::{Attained, Bssi0, Fifo, Ranker, Sebf};
-use sincronia_cli::{Status, sincronia};
+use sincronia_cli::sincronia;
 use std::alloc::Global;
 use std::env;
 use std::io::ErrorKind;

@@ -1,6 +1,6 @@
 -- Printed journals: what their texts say, and what a yes says.
-use Rattle.std.proofs.Common.{◌≡◌, ◌<◌, ◌≤◌, ◌^◌, ℕ, List, Option, Some, None, length, subst, arith}
-use Rattle.std.specs.Prelude.{Err, true}
+use Rattle.std.proofs.Common.{◌≡◌, ◌<◌, ℕ, List, Option, Some, None, arith}
+use Rattle.std.specs.Prelude.{true}
 use Rattle.coflow_units.proofs.ServedLaws.{grants_patient}
 use Rattle.command_words.specs.Jobs.{Job, report_name}
 use Rattle.command_words.specs.Jobs.Job.{audit_job, check_job, classes_job, compare_job, make_job, plan_job}
@@ -18,18 +18,13 @@ use Rattle.journal_audit.specs.Sound.{IsSoundLive}
 use Rattle.journal_audit.specs.Stated.{journal_in, opening_for}
 use Rattle.live_text.specs.declared.value.Live.{Live}
 use Rattle.live_text.specs.Live.{IsLive}
-use Rattle.live_text.specs.Reading.{GivesLive, IsBadAt, IsTextOf}
+use Rattle.live_text.specs.Reading.{IsBadAt}
 use Rattle.outside.specs.Shelf.{Told}
-use Rattle.report.specs.declared.fault.ReportFault.{ReportFault}
 use Rattle.verdicts.proofs.OneReport.{any_line_one}
-use Rattle.sincronia_cli.specs.declared.status.Status.{Status}
-use Rattle.sincronia_cli.specs.Audit.{AuditOf, IsJournalIfNamed, IsJournalOf, RunsKeepTheLine, WritesSound, is_yes}
+use Rattle.sincronia_cli.specs.Audit.{AuditOf, RunsKeepTheLine, WritesSound, is_yes}
+use Rattle.command_files.specs.Reports.{IsJournalIfNamed}
 use Rattle.sincronia_cli.specs.Causes.{IsBadFor}
-use Rattle.sincronia_cli.specs.Plan.{Appends}
-use Rattle.sincronia_cli.specs.ReportCauses.{IsReportCause, IsStatusOfReport}
-use Rattle.sincronia_cli.specs.Shelves.{HasBytes, KeepsFiles}
-use Rattle.sincronia_cli.proofs.CheckFacts.{IsTextIf, text_cause, text_of_file}
-use Rattle.sincronia_cli.proofs.ShelfFacts.{told_before}
+use Rattle.command_files.specs.Written.{Appends}
 
 -- ---- a text that is bad is bad at one line
 
@@ -43,20 +38,6 @@ bad_line_one (make_job seed) bytes m n x y = any_line_one bytes m n x y
 bad_line_one (compare_job trace) bytes m n x y = any_line_one bytes m n x y
 bad_line_one (classes_job trace) bytes m n x y = any_line_one bytes m n x y
 bad_line_one (audit_job trace journal) bytes m n x y = grind (arith, journal_not_before bytes m n x y, journal_not_before bytes n m y x)
-
--- ---- a printed journal that is read after the trace and the weights
-
-pub journal_of_file : (old : Option Told) (name bytes lent : List ℕ) (live : Live) → HasBytes old name bytes → lent ≡ bytes → length bytes ≤ 2 ^ 30 → IsTextOf lent live →
-    IsJournalOf old name live
-journal_of_file old name bytes lent live has e short text = record { fits = text.live; reads = text_of_file IsTextOf old name bytes lent live has e short text }
-
-pub journal_cause : (before now : ℕ) (old new : Option Told) (name bytes lent : List ℕ) (fault : ReportFault) (s : Status) → HasBytes old name bytes → lent ≡ bytes →
-    length bytes ≤ 2 ^ 30 → GivesLive lent (Err fault) → IsStatusOfReport fault s → IsReportCause IsBadAt before now old new name s
-journal_cause before now old new name bytes lent fault s has e short bad is =
-    text_cause IsBadAt before now old new name bytes lent fault s has e short (λ line same. subst (λ (f : ReportFault). GivesLive lent (Err f)) same bad) is
-
-pub journal_before : (old mid : Option Told) (name : List ℕ) (live : Live) → KeepsFiles old mid → IsJournalOf mid name live → IsJournalOf old name live
-journal_before old mid name live keeps is = record { fits = is.fits; reads = told_before old mid (Some name) (IsTextIf IsTextOf live) keeps is.reads }
 
 -- ---- a yes
 

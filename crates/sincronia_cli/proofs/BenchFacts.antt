@@ -9,8 +9,8 @@ use Rattle.std.specs.Prelude.{Bool, false, true}
 use Rattle.flow_table.specs.Table.{TableFacts}
 use Rattle.outside.specs.Shelf.{Told}
 use Rattle.rankers.specs.Meaning.{Meaning}
-use Rattle.sincronia_cli.specs.declared.status.Status.{Status}
-use Rattle.sincronia_cli.specs.declared.status.Status.TheVariants as status
+use Rattle.command_files.specs.declared.status.Status.{Status}
+use Rattle.command_files.specs.declared.status.Status.TheVariants as status
 use Rattle.sincronia_cli.specs.Causes.{CauseBy, HasCauseOf, HasFilesCause}
 use Rattle.sincronia_cli.specs.Check.{status_for}
 use Rattle.sincronia_cli.specs.Command.{IsCommand}

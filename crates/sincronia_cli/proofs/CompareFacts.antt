@@ -8,7 +8,7 @@ use Rattle.order_reports.proofs.RowFacts.{costs_above}
 use Rattle.outside.specs.Shelf.{Told}
 use Rattle.rankers.specs.Meaning.{Meaning}
 use Rattle.sincronia_cli.specs.Compare.{ComparisonOf, WritesComparison}
-use Rattle.sincronia_cli.specs.Plan.{Appends}
+use Rattle.command_files.specs.Written.{Appends}
 use Rattle.plans.proofs.PlanTotals.{bound_low}
 
 pub writes_comparison : (told : Option Told) (said : Said) (bench : List Meaning) (old new : Option (List ℕ)) (text : List ℕ) → ComparisonOf told said bench text →

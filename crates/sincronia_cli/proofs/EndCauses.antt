@@ -1,10 +1,10 @@
 -- The statuses with which a plan that is served ends before its text is there.
 use Rattle.std.proofs.Common.{◌≡◌, ℕ, inl, inr, refl, sym, subst}
 use Rattle.std.specs.Prelude.{◌⊎◌}
-use Rattle.sincronia_cli.specs.declared.status.Status.{Status}
-use Rattle.sincronia_cli.specs.declared.status.Status.TheVariants as status
+use Rattle.command_files.specs.declared.status.Status.{Status}
+use Rattle.command_files.specs.declared.status.Status.TheVariants as status
 use Rattle.sincronia_cli.specs.Causes.{HasMadeCause}
-use Rattle.sincronia_cli.specs.Serving.{IsWireCause}
+use Rattle.command_files.specs.WireCauses.{IsWireCause}
 
 -- a wire fault
 pub by_wire : (P : ℕ → Type 0) (s : Status) → IsWireCause P s → (port : ℕ) × (count : ℕ) × (s ≡ status.WireFault port count) × P port

@@ -20,23 +20,24 @@ use Rattle.trace_reader.specs.declared.fault.TraceFault.{TraceFault}
 use Rattle.trace_reader.specs.declared.fault.TraceFault.TheVariants as trace_fault
 use Rattle.weights.specs.declared.fault.WeightsFault.{WeightsFault}
 use Rattle.weights.specs.declared.fault.WeightsFault.TheVariants as weights_fault
-use Rattle.sincronia_cli.specs.declared.status.Status.{Status}
-use Rattle.sincronia_cli.specs.declared.status.Status.TheVariants as status
+use Rattle.command_files.specs.declared.status.Status.{Status}
+use Rattle.command_files.specs.declared.status.Status.TheVariants as status
 use Rattle.sincronia_cli.specs.Causes.{CauseBy, HasCauseOf, HasFilesCause, IsBadFor}
 use Rattle.sincronia_cli.specs.Command.{IsOfFiles, ReadsFiles}
 use Rattle.sincronia_cli.specs.Complete.{EndsWell, HasGoodFiles}
 use Rattle.sincronia_cli.specs.FirstCause.{EndsBy, IsFirstCause, IsInterrupted}
-use Rattle.sincronia_cli.specs.InputCauses.{GiveTable, LimitCause}
-use Rattle.sincronia_cli.specs.InputCauses.LimitCause.{in_table, in_trace, in_weights}
-use Rattle.sincronia_cli.specs.Inputs.{GiveWeights, IsTraceText, bytes_if}
+use Rattle.command_files.specs.InputCauses.{GiveTable, LimitCause}
+use Rattle.command_files.specs.InputCauses.LimitCause.{in_table, in_trace, in_weights}
+use Rattle.command_files.specs.Inputs.{GiveWeights, IsTraceText, bytes_if}
 use Rattle.sincronia_cli.specs.Outcome.{IsOutcome}
-use Rattle.sincronia_cli.specs.ReportCauses.{IsBadReport, IsLongReport}
+use Rattle.command_files.specs.ReportCauses.{IsBadReport, IsLongReport}
 use Rattle.sincronia_cli.specs.Serving.{Serves}
-use Rattle.sincronia_cli.specs.TraceCauses.{HasTraceFault, IsTooLong, IsTraceForm}
-use Rattle.sincronia_cli.specs.WeightsCauses.{AreTooLong, IsFaultOf, IsWeightsForm}
+use Rattle.command_files.specs.TraceCauses.{HasTraceFault, IsTooLong, IsTraceForm}
+use Rattle.command_files.specs.WeightsCauses.{AreTooLong, IsFaultOf, IsWeightsForm}
 use Rattle.sincronia_cli.proofs.AuditFacts.{bad_line_one}
 use Rattle.sincronia_cli.proofs.EndCauses.{by_wire}
-use Rattle.sincronia_cli.proofs.CompleteFacts.{HasNoFault, other_is_good, table_is_good, trace_is_good, weights_are_good, written_by}
+use Rattle.command_files.proofs.GoodFacts.{HasNoFault, trace_is_good, weights_are_good}
+use Rattle.sincronia_cli.proofs.CompleteFacts.{other_is_good, table_is_good, written_by}
 
 -- ---- the status of a fault
 

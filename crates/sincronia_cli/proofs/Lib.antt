@@ -1,9 +1,5 @@
 pub mod PlanFacts
 pub mod CompareFacts
-pub mod ShelfFacts
-pub mod TraceFacts
-pub mod WeightsFacts
-pub mod InputFacts
 pub mod WordFacts
 pub mod EndCauses
 pub mod OutcomeFacts

@@ -9,9 +9,10 @@ use Rattle.command_words.proofs.OneMeaning.{words_one}
 use Rattle.flow_table.specs.Table.{TableFacts}
 use Rattle.outside.specs.Shelf.{Told}
 use Rattle.rankers.specs.Meaning.{Meaning}
-use Rattle.sincronia_cli.specs.declared.status.Status.{Status}
-use Rattle.sincronia_cli.specs.declared.status.Status.TheVariants as status
-use Rattle.sincronia_cli.specs.Causes.{CauseBy, FilesReportFault, HasCauseOf, HasFilesCause, IsGiven}
+use Rattle.command_files.specs.declared.status.Status.{Status}
+use Rattle.command_files.specs.declared.status.Status.TheVariants as status
+use Rattle.sincronia_cli.specs.Causes.{CauseBy, FilesReportFault, HasCauseOf, HasFilesCause}
+use Rattle.command_files.specs.Causes.{IsGiven}
 use Rattle.sincronia_cli.specs.Command.{IsCommand}
 use Rattle.sincronia_cli.specs.Outcome.{IsOutcome, OutcomeBy}
 

@@ -9,10 +9,10 @@ use Rattle.flow_table.specs.Table.{TableFacts}
 use Rattle.outside.specs.Shelf.{Told}
 use Rattle.rankers.specs.Meaning.{Meaning}
 use Rattle.served_plans.specs.Sent.{SendsPart, StopsShort}
-use Rattle.sincronia_cli.specs.declared.status.Status.{Status}
-use Rattle.sincronia_cli.specs.declared.status.Status.TheVariants as status
+use Rattle.command_files.specs.declared.status.Status.{Status}
+use Rattle.command_files.specs.declared.status.Status.TheVariants as status
 use Rattle.sincronia_cli.specs.Causes.{CauseBy, HasCauseOf}
-use Rattle.sincronia_cli.specs.Ends.{IsPastFiles, IsWireFault}
+use Rattle.command_files.specs.Ends.{IsPastFiles, IsWireFault}
 use Rattle.sincronia_cli.specs.Outcome.{HasText, IsOutcome, OutcomeBy}
 use Rattle.sincronia_cli.specs.Serving.{AreStill, MayHaveSent, SendsOnly, Serves, WireFailed}
 use Rattle.sincronia_cli.proofs.BenchFacts.{cause_has_no_text}

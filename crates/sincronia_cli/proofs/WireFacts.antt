@@ -5,14 +5,15 @@ use Rattle.command_words.specs.Words.{Said}
 use Rattle.hall_plan.specs.declared.answer.PlanFault.{PlanFault}
 use Rattle.hall_plan.specs.declared.answer.PlanFault.TheVariants as plan_fault
 use Rattle.outside.specs.Shelf.{Told}
-use Rattle.sincronia_cli.specs.declared.status.Status.{Status}
-use Rattle.sincronia_cli.specs.declared.status.Status.TheVariants as status
+use Rattle.command_files.specs.declared.status.Status.{Status}
+use Rattle.command_files.specs.declared.status.Status.TheVariants as status
 use Rattle.sincronia_cli.specs.Causes.{HasFilesCause, HasMadeCause}
-use Rattle.sincronia_cli.specs.Ends.{IfPastFiles, IsReadFault, IsWireFault}
-use Rattle.sincronia_cli.specs.InputCauses.{HasInputCause}
-use Rattle.sincronia_cli.specs.Serving.{IsStatusOfPlan, IsWireCause, MayHaveSent}
+use Rattle.command_files.specs.Ends.{IfPastFiles, IsReadFault, IsWireFault}
+use Rattle.command_files.specs.InputCauses.{HasInputCause}
+use Rattle.command_files.specs.WireCauses.{IsStatusOfPlan, IsWireCause}
+use Rattle.sincronia_cli.specs.Serving.{MayHaveSent}
 use Rattle.sincronia_cli.proofs.EndCauses.{of_served}
-use Rattle.sincronia_cli.proofs.ShelfFacts.{passed_as}
+use Rattle.command_files.proofs.ShelfFacts.{passed_as}
 
 -- ---- wires and weights that were lent
 

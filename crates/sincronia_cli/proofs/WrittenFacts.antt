@@ -9,8 +9,8 @@ use Rattle.flow_table.specs.Table.{TableFacts}
 use Rattle.outside.specs.Shelf.{Told}
 use Rattle.rankers.specs.Meaning.{Meaning}
 use Rattle.outside.specs.Sink.{TakesText}
-use Rattle.sincronia_cli.specs.declared.status.Status.{Status}
-use Rattle.sincronia_cli.specs.declared.status.Status.TheVariants as status
+use Rattle.command_files.specs.declared.status.Status.{Status}
+use Rattle.command_files.specs.declared.status.Status.TheVariants as status
 use Rattle.sincronia_cli.specs.Audit.{AuditOf, WritesSound, WritesUnsound}
 use Rattle.sincronia_cli.specs.Check.{CheckOf, WritesNo, WritesYes, status_for}
 use Rattle.sincronia_cli.specs.Command.{IsCommand}
@@ -23,7 +23,8 @@ use Rattle.sincronia_cli.proofs.AuditFacts.{sure_sound}
 use Rattle.sincronia_cli.proofs.CheckFacts.{OnlineLaw, sure_yes}
 use Rattle.sincronia_cli.proofs.CompareFacts.{writes_comparison}
 use Rattle.sincronia_cli.proofs.OutcomeFacts.{outcome_by}
-use Rattle.sincronia_cli.proofs.PlanFacts.{appended, writes_plan}
+use Rattle.command_files.proofs.SinkFacts.{appended}
+use Rattle.sincronia_cli.proofs.PlanFacts.{writes_plan}
 
 module _ {X : Type 0} (E : Type 0) (S : TableFacts → List (List ℕ) → Type 0) (words : List Text) (by said : Said) (told : Option Told) (bench : List Meaning) (s : Status)
     (text lent : List ℕ) (old new : Option (List ℕ)) (x : X) where

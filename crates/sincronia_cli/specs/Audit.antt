@@ -1,9 +1,7 @@
 -- What `audit` reads and writes.
-use Rattle.std.specs.Prelude.{◌≡◌, ℕ, ◌<◌, ◌≤◌, Bool, false, true, List, Option, Some, None, All, Contains, IfSome}
-use Rattle.std.specs.Prelude.{length, map}
+use Rattle.std.specs.Prelude.{◌≡◌, ℕ, ◌<◌, ◌≤◌, Bool, false, true, List, Option, All, Contains, length, map}
 use Rattle.command_words.specs.Jobs.{report_name, trace_name}
 use Rattle.command_words.specs.Words.{Said}
-use Rattle.coflow_units.specs.declared.limits.TheConstants.{MAX_REPORT}
 use Rattle.coflow_units.specs.Flows.{coflow_of, units_of}
 use Rattle.coflow_units.specs.Patient.{IsServedOrWaits}
 use Rattle.coflow_units.specs.Schedule.{IsClear, slots_of, times}
@@ -22,22 +20,11 @@ use Rattle.journal_audit.specs.Reasons.{IsAudit}
 use Rattle.journal_audit.specs.Sound.{IsSoundLive}
 use Rattle.journal_audit.specs.Stated.{journal_in, opening_for}
 use Rattle.live_text.specs.declared.value.Live.{Live}
-use Rattle.live_text.specs.Live.{IsLive}
-use Rattle.live_text.specs.Reading.{IsTextOf}
-use Rattle.outside.specs.Shelf.{Told, bytes_of}
+use Rattle.outside.specs.Shelf.{Told}
 use Rattle.schedule_model.specs.RunList.{slots_in}
-use Rattle.sincronia_cli.specs.Inputs.{IsInput}
-use Rattle.sincronia_cli.specs.Plan.{Appends}
-
--- a printed journal that was read, where the bytes under its name are told: they are its text
-pub record IsJournalOf (told : Option Told) (name : List ℕ) (live : Live) : Type 0 where
-  pub fits : IsLive live
-  pub reads : IfSome told (λ t. (length (bytes_of t name) ≤ MAX_REPORT) × IsTextOf (bytes_of t name) live)
-
--- there is a name of a printed journal, and this is the journal
-abbrev pub IsJournalIfNamed : Option Told → Option (List ℕ) → Live → Type 0
-IsJournalIfNamed told None live = ⊥
-IsJournalIfNamed told (Some name) live = IsJournalOf told name live
+use Rattle.command_files.specs.Inputs.{IsInput}
+use Rattle.command_files.specs.Written.{Appends}
+use Rattle.command_files.specs.Reports.{IsJournalIfNamed}
 
 -- whether a verdict is a yes
 abbrev pub is_yes : Audit → Bool

@@ -1,42 +1,21 @@
 -- What `check` reads and writes.
-use Rattle.std.specs.Prelude.{ℕ, ◌≤◌, Bool, false, true, List, Option, Some, None, IfSome, length, slice_index}
+use Rattle.std.specs.Prelude.{ℕ, Bool, false, true, List, Option, slice_index}
 use Rattle.command_words.specs.Jobs.{report_name, trace_name}
 use Rattle.command_words.specs.Words.{Said}
-use Rattle.coflow_units.specs.declared.limits.TheConstants.{MAX_REPORT}
 use Rattle.coflow_units.specs.Flows.{Instance}
 use Rattle.flow_table.specs.Table.{TableFacts, instance_of}
 use Rattle.online_check.specs.Arrivals.{arrivals_in}
 use Rattle.online_check.specs.Sound.{BoundsReleasedSchedules}
-use Rattle.outside.specs.Shelf.{Told, bytes_of}
+use Rattle.outside.specs.Shelf.{Told}
 use Rattle.plans.specs.Totals.{BoundsEverySchedule}
-use Rattle.report.specs.declared.value.Report.{Report}
-use Rattle.report.specs.Reading.{IsTextOf}
-use Rattle.report.specs.Report.{HasSmallNumbers, IsReport}
 use Rattle.verdicts.specs.declared.any_report.AnyReport.{AnyReport}
 use Rattle.verdicts.specs.declared.any_report.AnyReport.TheVariants.{Online, Plan}
-use Rattle.verdicts.specs.AnyReport.{IsAnyReport, IsAnyText}
 use Rattle.verdicts.specs.Judged.{IsJudged, IsRight}
-use Rattle.sincronia_cli.specs.declared.status.Status.{Status}
-use Rattle.sincronia_cli.specs.declared.status.Status.TheVariants as status
-use Rattle.sincronia_cli.specs.Inputs.{IsInput}
-use Rattle.sincronia_cli.specs.Plan.{Appends}
-
--- a report of a plan that was read, where the bytes under its name are told: they are its text
-pub record IsReportOf (told : Option Told) (name : List ℕ) (report : Report) : Type 0 where
-  pub fits : IsReport report
-  pub small : HasSmallNumbers report
-  pub reads : IfSome told (λ t. (length (bytes_of t name) ≤ MAX_REPORT) × IsTextOf (bytes_of t name) report)
-
--- A report that was read, where the bytes under its name are told: they are its text. It is that of an online run where
--- their first line is that of one, and else that of a plan.
-pub record IsAnyReportOf (told : Option Told) (name : List ℕ) (report : AnyReport) : Type 0 where
-  pub fits : IsAnyReport report
-  pub reads : IfSome told (λ t. (length (bytes_of t name) ≤ MAX_REPORT) × IsAnyText (bytes_of t name) report)
-
--- there is a name of a report, and this is the report
-abbrev pub IsReportIfNamed : Option Told → Option (List ℕ) → AnyReport → Type 0
-IsReportIfNamed told None report = ⊥
-IsReportIfNamed told (Some name) report = IsAnyReportOf told name report
+use Rattle.command_files.specs.declared.status.Status.{Status}
+use Rattle.command_files.specs.declared.status.Status.TheVariants as status
+use Rattle.command_files.specs.Inputs.{IsInput}
+use Rattle.command_files.specs.Written.{Appends}
+use Rattle.command_files.specs.Reports.{IsReportIfNamed}
 
 -- the times in slots at which the coflows arrive, where a slot takes as many milliseconds as is said
 abbrev pub arrival_of : TableFacts → Said → ℕ → ℕ

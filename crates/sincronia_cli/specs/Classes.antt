@@ -7,8 +7,8 @@ use Rattle.order_reports.specs.ClassList.{IsClassList}
 use Rattle.outside.specs.Shelf.{Told}
 use Rattle.report.specs.declared.classed.ClassText.{ClassText}
 use Rattle.report.specs.Classed.{class_text}
-use Rattle.sincronia_cli.specs.Inputs.{IsInput}
-use Rattle.sincronia_cli.specs.Plan.{Appends}
+use Rattle.command_files.specs.Inputs.{IsInput}
+use Rattle.command_files.specs.Written.{Appends}
 
 -- the instance that the files give, its coflows in as many classes as are said, and the text of these classes
 pub record ClassesOf (told : Option Told) (said : Said) (text : List ℕ) : Type 0 where

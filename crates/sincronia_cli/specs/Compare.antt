@@ -11,8 +11,8 @@ use Rattle.plans.specs.Totals.{IsPlanBound}
 use Rattle.rankers.specs.Meaning.{Meaning}
 use Rattle.report.specs.declared.compared.Compare.{Compare}
 use Rattle.report.specs.Compared.{compare_text}
-use Rattle.sincronia_cli.specs.Inputs.{IsInput}
-use Rattle.sincronia_cli.specs.Plan.{Appends}
+use Rattle.command_files.specs.Inputs.{IsInput}
+use Rattle.command_files.specs.Written.{Appends}
 
 -- the instance that the files give, the comparison of the rankers of the bench on it, and the text of the comparison
 pub record ComparisonOf (told : Option Told) (said : Said) (bench : List Meaning) (text : List ℕ) : Type 0 where

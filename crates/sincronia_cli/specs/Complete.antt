@@ -1,30 +1,14 @@
 -- When a command ends well.
-use Rattle.std.specs.Prelude.{◌≡◌, ℕ, ◌≤◌, ◌⊎◌, List, Option, Some, None, IsSomeAnd, length}
+use Rattle.std.specs.Prelude.{◌≡◌, ◌⊎◌, Option, IsSomeAnd}
 use Rattle.command_words.specs.Jobs.{Job, report_name}
 use Rattle.command_words.specs.Jobs.Job.{audit_job, check_job, classes_job, compare_job, make_job, plan_job}
 use Rattle.command_words.specs.Words.{Said}
-use Rattle.coflow_units.specs.declared.limits.TheConstants.{MAX_REPORT}
-use Rattle.live_text.specs.Reading.{IsTextOf}
-use Rattle.outside.specs.Rose.{Rose}
 use Rattle.outside.specs.Shelf.{Told}
-use Rattle.verdicts.specs.AnyReport.{IsAnyText}
-use Rattle.sincronia_cli.specs.declared.status.Status.{Status}
-use Rattle.sincronia_cli.specs.declared.status.Status.TheVariants.{No, Ok}
-use Rattle.sincronia_cli.specs.Causes.{FilesGiveTable}
-use Rattle.sincronia_cli.specs.Inputs.{bytes_if}
-
--- there is a file of a report, and it has the text of one
-abbrev pub HasReportText : {R : Type 0} → (List ℕ → R → Type 0) → Option (List ℕ) → Type 0
-HasReportText IsText None = ⊥
-HasReportText {R} IsText (Some text) = (length text ≤ MAX_REPORT) × (report : R) × IsText text report
-
--- the same of a report of a plan or of an online run
-abbrev pub IsReportText : Option (List ℕ) → Type 0
-IsReportText text = HasReportText IsAnyText text
-
--- the same of a printed journal
-abbrev pub IsJournalText : Option (List ℕ) → Type 0
-IsJournalText text = HasReportText IsTextOf text
+use Rattle.command_files.specs.declared.status.Status.{Status}
+use Rattle.command_files.specs.declared.status.Status.TheVariants.{No, Ok}
+use Rattle.command_files.specs.Causes.{FilesGiveTable}
+use Rattle.command_files.specs.Inputs.{bytes_if}
+use Rattle.command_files.specs.Reports.{IsJournalText, IsReportText}
 
 -- the texts of all files that the command reads have no fault, and they are within the limits
 abbrev pub HasGoodFiles : Job → Said → Told → Type 0
@@ -53,7 +37,3 @@ EndsWell (make_job seed) status = status ≡ Ok
 EndsWell (compare_job trace) status = status ≡ Ok
 EndsWell (classes_job trace) status = status ≡ Ok
 EndsWell (audit_job trace journal) status = (status ≡ Ok) ⊎ (status ≡ No)
-
--- the count did not rise
-abbrev pub IsStill : ℕ → ℕ → Type 0
-IsStill before now = Rose before now → ⊥

@@ -3,13 +3,13 @@ use Rattle.std.specs.Prelude.{◌≡◌}
 use Rattle.command_words.specs.Jobs.{Job}
 use Rattle.command_words.specs.Words.{Said}
 use Rattle.outside.specs.Shelf.{Told}
-use Rattle.sincronia_cli.specs.declared.status.Status.{Status}
-use Rattle.sincronia_cli.specs.declared.status.Status.TheVariants.{BadTrace, BadWeights, BadReport, Limit, Ok}
-use Rattle.sincronia_cli.specs.declared.status.Status.TheVariants.{NoMemory, ReadFault, WireFault, WriteFault}
-use Rattle.sincronia_cli.specs.Causes.{FilesLimit, FilesReportFault, FilesTraceFault, FilesWeightsFault}
+use Rattle.command_files.specs.declared.status.Status.{Status}
+use Rattle.command_files.specs.declared.status.Status.TheVariants.{BadTrace, BadWeights, BadReport, Limit, Ok, NoMemory, ReadFault, WireFault, WriteFault}
+use Rattle.command_files.specs.Causes.{FilesLimit, FilesTraceFault, FilesWeightsFault}
+use Rattle.sincronia_cli.specs.Causes.{FilesReportFault}
 use Rattle.sincronia_cli.specs.Complete.{EndsWell, HasGoodFiles}
-use Rattle.sincronia_cli.specs.TraceCauses.{IsTraceForm}
-use Rattle.sincronia_cli.specs.WeightsCauses.{IsWeightsForm}
+use Rattle.command_files.specs.TraceCauses.{IsTraceForm}
+use Rattle.command_files.specs.WeightsCauses.{IsWeightsForm}
 
 -- The status says the first thing that is wrong with the files of a command, or is Ok where they are good.
 abbrev pub IsFirstCause : Said → Told → Status → Type 0

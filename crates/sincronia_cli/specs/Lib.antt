@@ -1,5 +1,3 @@
-pub mod Shelves
-pub mod Inputs
 pub mod Command
 pub mod Plan
 pub mod Check
@@ -8,16 +6,7 @@ pub mod Make
 pub mod Compare
 pub mod Classes
 pub mod Outcome
-pub mod Ends
-pub mod FileCauses
-pub mod TraceCauses
-pub mod WeightsCauses
-pub mod InputCauses
-pub mod ReportCauses
 pub mod Serving
 pub mod Causes
 pub mod Complete
 pub mod FirstCause
-pub mod Turns
-pub mod Code
-pub mod Messages

@@ -9,8 +9,8 @@ use Rattle.report.specs.declared.value.Report.{Report}
 use Rattle.report.specs.Made.{made_text}
 use Rattle.workload.specs.Coflows.{made_coflows}
 use Rattle.workload.specs.Text.{trace_text, weights_text}
-use Rattle.sincronia_cli.specs.Inputs.{Gives}
-use Rattle.sincronia_cli.specs.Plan.{Appends}
+use Rattle.command_files.specs.Inputs.{Gives}
+use Rattle.command_files.specs.Written.{Appends}
 
 -- the texts of the seed give the table of flows and the weights
 abbrev pub GivesMade : ℕ → ℕ → TableFacts → List ℕ → Type 0

@@ -6,14 +6,15 @@ use Rattle.command_words.specs.Words.{Said}
 use Rattle.flow_table.specs.Table.{TableFacts}
 use Rattle.outside.specs.Shelf.{Told}
 use Rattle.rankers.specs.Meaning.{Meaning}
-use Rattle.sincronia_cli.specs.declared.status.Status.{Status}
-use Rattle.sincronia_cli.specs.declared.status.Status.TheVariants.{No, Ok, WriteFault}
+use Rattle.command_files.specs.declared.status.Status.{Status}
+use Rattle.command_files.specs.declared.status.Status.TheVariants.{No, Ok, WriteFault}
 use Rattle.sincronia_cli.specs.Audit.{AuditOf, WritesUnsound}
 use Rattle.sincronia_cli.specs.Check.{CheckOf, WritesNo, status_for}
 use Rattle.sincronia_cli.specs.Classes.{ClassesOf}
 use Rattle.sincronia_cli.specs.Compare.{ComparisonOf}
 use Rattle.sincronia_cli.specs.Make.{MadeOf}
-use Rattle.sincronia_cli.specs.Plan.{AppendsBeginning, PlanOf}
+use Rattle.command_files.specs.Written.{AppendsBeginning}
+use Rattle.sincronia_cli.specs.Plan.{PlanOf}
 
 module _ (Sent : TableFacts → List (List ℕ) → Type 0) where
   -- The text of the command and the status that it ends with, where the bench has these rankers. Where a plan is

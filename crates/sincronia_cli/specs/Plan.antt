@@ -1,5 +1,5 @@
 -- What `plan` reads and writes.
-use Rattle.std.specs.Prelude.{◌≡◌, ℕ, ◌<◌, ◌++◌, List, Option, Some, None, length, take}
+use Rattle.std.specs.Prelude.{◌≡◌, ℕ, List, Option}
 use Rattle.command_words.specs.Jobs.{trace_name}
 use Rattle.command_words.specs.Words.{Said}
 use Rattle.flow_table.specs.Table.{TableFacts, instance_of}
@@ -8,7 +8,8 @@ use Rattle.plans.specs.PlanReport.{IsPlanOf}
 use Rattle.plans.specs.Totals.{BoundsEverySchedule, IsWithinFour}
 use Rattle.report.specs.declared.value.Report.{Report}
 use Rattle.report.specs.Text.{report_text}
-use Rattle.sincronia_cli.specs.Inputs.{IsInput}
+use Rattle.command_files.specs.Inputs.{IsInput}
+use Rattle.command_files.specs.Written.{Appends}
 
 -- The instance that the files give, the report of its plan, and the text of the report. Of the table and the report's
 -- schedule this holds: it is what was sent.
@@ -21,16 +22,6 @@ pub record PlanOf (Sent : TableFacts → List (List ℕ) → Type 0) (told : Opt
   pub planned : IsPlanOf (instance_of table weights) table.ids report
   pub sent : Sent table planned.slots
   pub text_is : text ≡ report_text report
-
--- where the sink tells what it took, the text was appended
-abbrev pub Appends : Option (List ℕ) → Option (List ℕ) → List ℕ → Type 0
-Appends None new text = Unit {0}
-Appends (Some old) new text = new ≡ Some (old ++ text)
-
--- the same of a beginning of the text, which is shorter than the text
-abbrev pub AppendsBeginning : Option (List ℕ) → Option (List ℕ) → List ℕ → Type 0
-AppendsBeginning None new text = Unit {0}
-AppendsBeginning (Some old) new text = (n : ℕ) × (n < length text) × (new ≡ Some (old ++ take n text))
 
 -- The text of the plan was written, and its schedule was sent. The plan's bound is at most the cost of every valid
 -- schedule of the instance that the files give, and its cost is at most four times that bound, and its slack.

@@ -6,14 +6,12 @@ use Rattle.command_words.specs.Jobs.Job.{make_job, plan_job}
 use Rattle.command_words.specs.Line.{Text}
 use Rattle.command_words.specs.Words.{IsWords, Said}
 use Rattle.flow_table.specs.Table.{TableFacts}
-use Rattle.hall_plan.specs.declared.answer.PlanFault.{PlanFault}
-use Rattle.hall_plan.specs.declared.answer.PlanFault.TheVariants as plan_fault
 use Rattle.outside.specs.Rose.{Rose}
 use Rattle.outside.specs.Shelf.{Told}
 use Rattle.served_plans.specs.Sent.{SendsPart, StopsShort}
-use Rattle.sincronia_cli.specs.declared.status.Status.{Status}
-use Rattle.sincronia_cli.specs.declared.status.Status.TheVariants.{NoMemory, Ok, WireFault, WriteFault}
-use Rattle.sincronia_cli.specs.Inputs.{IsInput}
+use Rattle.command_files.specs.declared.status.Status.{Status}
+use Rattle.command_files.specs.declared.status.Status.TheVariants.{NoMemory, Ok, WireFault, WriteFault}
+use Rattle.command_files.specs.Inputs.{IsInput}
 use Rattle.sincronia_cli.specs.Make.{GivesMade}
 
 -- this holds of the table and the weights that the texts of the seed give
@@ -36,16 +34,6 @@ MayHaveSent (WriteFault count) = Unit {0}
 MayHaveSent (WireFault port count) = Unit {0}
 MayHaveSent NoMemory = Unit {0}
 MayHaveSent status = ⊥
-
--- the status says the fault
-abbrev pub IsStatusOfPlan : PlanFault → Status → Type 0
-IsStatusOfPlan (plan_fault.WireFault port) status = status ≡ WireFault port 1
-IsStatusOfPlan plan_fault.NoMemory status = status ≡ NoMemory
-
--- the cause of a wire fault: one is counted, and this holds of the port
-abbrev pub IsWireCause : (ℕ → Type 0) → Status → Type 0
-IsWireCause P (WireFault port count) = (count ≡ 1) × P port
-IsWireCause P status = ⊥
 
 module _ {W : Type 0} (runs : W → Option (List (ℕ × ℕ × ℕ))) where
   -- The wires are as before, or the job of the words serves a plan, and behind what each wire had it has units of the

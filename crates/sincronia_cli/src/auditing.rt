@@ -7,13 +7,12 @@ ghost use Rattle.sincronia_cli.specs.Audit.{AuditOf, is_yes};
 ghost use Rattle.sincronia_cli.specs.Causes.{HasFilesCause};
 ghost use Rattle.sincronia_cli.specs.Check.{status_for};
 ghost use Rattle.sincronia_cli.specs.Complete.{HasGoodFiles};
-ghost use Rattle.sincronia_cli.specs.Ends.{CountsFault};
-ghost use Rattle.sincronia_cli.specs.Shelves.{KeepsFiles, OfBoth, ReadsOut};
-ghost use Rattle.sincronia_cli.specs.Turns.{FilesInTurn};
+ghost use Rattle.command_files.specs.Ends.{CountsFault};
+ghost use Rattle.command_files.specs.Shelves.{KeepsFiles, OfBoth, ReadsOut};
+ghost use Rattle.command_files.specs.Turns.{FilesInTurn};
 
-use crate::inputs::{read_input, read_journal_file};
 use crate::outcome::Outcome;
-use crate::status::Status;
+use command_files::{Status, read_input, read_journal_file};
 use command_words::Options;
 use journal_audit::{Audit, audit, audit_text};
 use outside::Shelf;

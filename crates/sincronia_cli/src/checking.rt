@@ -6,13 +6,12 @@ ghost use Rattle.command_words.specs.Words.{said_with};
 ghost use Rattle.sincronia_cli.specs.Causes.{HasFilesCause};
 ghost use Rattle.sincronia_cli.specs.Check.{CheckOf, status_for};
 ghost use Rattle.sincronia_cli.specs.Complete.{HasGoodFiles};
-ghost use Rattle.sincronia_cli.specs.Ends.{CountsFault};
-ghost use Rattle.sincronia_cli.specs.Shelves.{KeepsFiles, OfBoth, ReadsOut};
-ghost use Rattle.sincronia_cli.specs.Turns.{FilesInTurn};
+ghost use Rattle.command_files.specs.Ends.{CountsFault};
+ghost use Rattle.command_files.specs.Shelves.{KeepsFiles, OfBoth, ReadsOut};
+ghost use Rattle.command_files.specs.Turns.{FilesInTurn};
 
-use crate::inputs::{read_any_report_file, read_input};
 use crate::outcome::Outcome;
-use crate::status::Status;
+use command_files::{Status, read_any_report_file, read_input};
 use command_words::Options;
 use outside::Shelf;
 use std::alloc::Global;

@@ -7,13 +7,12 @@ ghost use Rattle.rankers.specs.FactsTold.{FactsTold};
 ghost use Rattle.sincronia_cli.specs.Causes.{HasFilesCause};
 ghost use Rattle.sincronia_cli.specs.Compare.{ComparisonOf};
 ghost use Rattle.sincronia_cli.specs.Complete.{HasGoodFiles};
-ghost use Rattle.sincronia_cli.specs.Ends.{CountsFault};
-ghost use Rattle.sincronia_cli.specs.Shelves.{KeepsFiles, OfBoth, ReadsOut};
-ghost use Rattle.sincronia_cli.specs.Turns.{FilesInTurn};
+ghost use Rattle.command_files.specs.Ends.{CountsFault};
+ghost use Rattle.command_files.specs.Shelves.{KeepsFiles, OfBoth, ReadsOut};
+ghost use Rattle.command_files.specs.Turns.{FilesInTurn};
 
-use crate::inputs::read_input;
 use crate::outcome::Outcome;
-use crate::status::Status;
+use command_files::{Status, read_input};
 use command_words::Options;
 use order_reports::comparison_text;
 use outside::Shelf;

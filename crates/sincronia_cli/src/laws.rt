@@ -3,7 +3,7 @@ ghost use Rattle.std.specs.Prelude.{◌≡◌, List};
 ghost use Rattle.command_words.specs.Line.{Text};
 ghost use Rattle.command_words.specs.Words.{Said};
 ghost use Rattle.outside.specs.Shelf.{Told};
-ghost use Rattle.sincronia_cli.specs.declared.status.Status.{Status};
+ghost use Rattle.command_files.specs.declared.status.Status.{Status};
 ghost use Rattle.sincronia_cli.specs.Command.{IsOfFiles};
 ghost use Rattle.sincronia_cli.specs.FirstCause.{IsFirstCause};
 

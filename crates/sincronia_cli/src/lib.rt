@@ -6,15 +6,10 @@ mod checking;
 mod classing;
 mod command;
 mod comparing;
-mod inputs;
 pub mod laws;
 mod making;
-mod messages;
 mod outcome;
 mod planning;
 mod serving;
-mod status;
 
 pub use command::sincronia;
-pub use inputs::{Input, read_input, read_report_file};
-pub use status::Status;

@@ -19,14 +19,14 @@ ghost use Rattle.weights.specs.Weights.{text_checks, weights_of};
 ghost use Rattle.sincronia_cli.specs.Causes.{HasMadeCause};
 ghost use Rattle.served_plans.specs.Sent.{SendsAll, SendsPart, StopsShort};
 ghost use Rattle.sincronia_cli.specs.Make.{GivesMade, MadeOf, summary_of};
-ghost use Rattle.sincronia_cli.specs.Serving.{IsWireCause, ServesMade};
+ghost use Rattle.command_files.specs.WireCauses.{IsWireCause};
+ghost use Rattle.sincronia_cli.specs.Serving.{ServesMade};
 
-use crate::inputs::Input;
 use crate::outcome::Outcome;
 use crate::serving::serve;
-use crate::status::Status;
 use cert_check::Verdict;
 use coflow_units::{Flow, Items, NoMemory, Trace};
+use command_files::{Input, Status};
 use flow_table::{Table, TableFault};
 use outside::Wire;
 use report::{Made, Report, ReportFault, read_report, write_made, write_report};

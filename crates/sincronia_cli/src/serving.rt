@@ -7,7 +7,7 @@ ghost use Rattle.plans.specs.PlanReport.{IsPlanOf};
 ghost use Rattle.report.specs.Report.{HasSmallNumbers, HasWeights, IsReport};
 ghost use Rattle.served_plans.specs.Sent.{SendsAll, SendsPart, StopsShort};
 
-use crate::inputs::Input;
+use command_files::Input;
 use hall_plan::PlanFault;
 use outside::Wire;
 use report::Report;

@@ -1,9 +1,9 @@
 //! The program that draws: hands its words, the files and the standard output to the library's one call, and ends with its code.
 #![tactic(auto)]
 
+use command_files::Status;
 use outside::{DiskShelf, StdSink};
 use picture_cli::{PictureStatus, sincronia_picture};
-use sincronia_cli::Status;
 use std::env;
 use std::io::ErrorKind;
 use std::process::ExitCode;

@@ -1,13 +1,13 @@
 use Rattle.std.proofs.Common.{ap, inl, subst, Err}
 use Rattle.command_words.specs.Line.{texts}
-use Rattle.sincronia_cli.proofs.PlanFacts.{appended}
-use Rattle.sincronia_cli.specs.declared.status.Status.TheVariants as status
-use Rattle.sincronia_cli.specs.Shelves.{OfBoth, ReadsOut}
-use Rattle.sincronia_cli.specs.Turns.{FilesInTurn}
+use Rattle.command_files.proofs.SinkFacts.{appended, begun}
+use Rattle.command_files.specs.declared.status.Status.TheVariants as status
+use Rattle.command_files.specs.Shelves.{OfBoth, ReadsOut}
+use Rattle.command_files.specs.Turns.{FilesInTurn}
 use Rattle.picture_cli.specs.Picture.{check_of}
 use Rattle.picture_cli.specs.Status.{as_check}
 use Rattle.picture_cli.specs.Words.{PictureSaid, said_by}
-use Rattle.picture_cli.proofs.AnswerFacts.{begun, ends_at_files, ends_at_verdict, ends_drawn, past_in_turn}
+use Rattle.picture_cli.proofs.AnswerFacts.{ends_at_files, ends_at_verdict, ends_drawn, past_in_turn}
 use Rattle.picture_cli.proofs.PictureFacts.{cause_by, draws_by, from_counted, unit_within, verdict_calls}
 use Rattle.picture_cli.proofs.WordFacts.{one_words}
 use Rattle.picture_cli.proofs.command.sincronia_picture.Goals as goal
@@ -87,7 +87,7 @@ returns-in_default-clause-beginning g c = λ count e.
         text = text;
         draws = draws_by (g.H.Shelf.told c.args.shelf.now) (said_by c.in-Ok.words) files.input.table files.input.weights files.report text ensures.input ensures.report
             c.in-Ok-picture_of.ensures.drawn;
-        written = begun _ _ (g.K.Sink.taken c.args.out.now) (g.K.Sink.taken c.write_all.new.sink) text c.deref.result.now _ c.deref.ensures.value c.in_default.ensures.taken;
+        written = begun _ (g.K.Sink.taken c.args.out.now) (g.K.Sink.taken c.write_all.new.sink) text c.deref.result.now _ c.deref.ensures.value c.in_default.ensures.taken;
       },
     )
 

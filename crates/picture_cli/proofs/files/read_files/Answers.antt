@@ -1,8 +1,10 @@
 use Rattle.std.proofs.Common.{refl}
 use Rattle.report.specs.Reading.{IsBadAt, IsTextOf}
-use Rattle.sincronia_cli.proofs.CheckFacts.{checked_out, from_report, input_cause, report_before}
-use Rattle.sincronia_cli.proofs.ShelfFacts.{files_kept, passed_on}
-use Rattle.sincronia_cli.proofs.TurnFacts.{counts_on, input_in_turn, report_in_turn, text_good}
+use Rattle.command_files.proofs.CauseFacts.{checked_out, from_report, input_cause, text_good}
+use Rattle.command_files.proofs.ReportFacts.{report_before}
+use Rattle.command_files.proofs.ShelfFacts.{files_kept, passed_on}
+use Rattle.command_files.proofs.InputTurns.{counts_on}
+use Rattle.command_files.proofs.FileTurns.{input_in_turn, report_in_turn}
 use Rattle.picture_cli.specs.Picture.{check_of}
 use Rattle.picture_cli.specs.Words.{said_by}
 use Rattle.picture_cli.proofs.files.read_files.Goals as goal

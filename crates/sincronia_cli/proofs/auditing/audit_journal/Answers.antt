@@ -2,16 +2,17 @@ use Rattle.std.proofs.Common.{◌≡◌, refl, subst}
 use Rattle.command_words.specs.Jobs.Job.{audit_job}
 use Rattle.command_words.specs.Words.{Said, said_with}
 use Rattle.live_text.specs.Reading.{IsBadAt, IsTextOf}
-use Rattle.sincronia_cli.specs.declared.status.Status.{Status}
-use Rattle.sincronia_cli.specs.declared.status.Status.TheVariants.{NoMemory}
+use Rattle.command_files.specs.declared.status.Status.{Status}
+use Rattle.command_files.specs.declared.status.Status.TheVariants.{NoMemory}
 use Rattle.sincronia_cli.specs.Audit.{is_yes}
-use Rattle.sincronia_cli.specs.Ends.{IsReadFault}
-use Rattle.sincronia_cli.specs.Shelves.{OfBoth}
-use Rattle.sincronia_cli.specs.Turns.{FilesInTurn}
-use Rattle.sincronia_cli.proofs.AuditFacts.{journal_before}
-use Rattle.sincronia_cli.proofs.CheckFacts.{checked_out, from_input, from_report, still_both_out}
-use Rattle.sincronia_cli.proofs.ShelfFacts.{files_kept, passed_as, passed_on}
-use Rattle.sincronia_cli.proofs.TurnFacts.{done_in_turn, report_in_turn, text_good}
+use Rattle.command_files.specs.Ends.{IsReadFault}
+use Rattle.command_files.specs.Shelves.{OfBoth}
+use Rattle.command_files.specs.Turns.{FilesInTurn}
+use Rattle.command_files.proofs.ReportFacts.{journal_before}
+use Rattle.command_files.proofs.CauseFacts.{checked_out, from_report, still_both_out, text_good}
+use Rattle.sincronia_cli.proofs.CheckFacts.{from_input}
+use Rattle.command_files.proofs.ShelfFacts.{files_kept, passed_as, passed_on}
+use Rattle.command_files.proofs.FileTurns.{done_in_turn, report_in_turn}
 use Rattle.sincronia_cli.proofs.auditing.audit_journal.Goals as goal
 
 pub returns-in_err-input-clause-cause : goal.returns-in_err-input-clause-cause

@@ -2,18 +2,21 @@ use Rattle.std.proofs.Common.{◌≡◌, List, refl, subst, ℕ}
 use Rattle.std.specs.Prelude.{slice_index}
 use Rattle.command_words.specs.Jobs.Job.{check_job}
 use Rattle.command_words.specs.Words.{Said, said_with}
-use Rattle.sincronia_cli.proofs.CheckFacts.{any_report_before, checked_out, from_input, from_report, still_both_out}
+use Rattle.command_files.proofs.ReportFacts.{any_report_before}
+use Rattle.command_files.proofs.CauseFacts.{checked_out, from_report, still_both_out}
+use Rattle.sincronia_cli.proofs.CheckFacts.{from_input}
 use Rattle.flow_table.specs.Table.{instance_of}
 use Rattle.online_check.specs.Arrivals.{arrivals_in}
-use Rattle.sincronia_cli.specs.declared.status.Status.{Status}
-use Rattle.sincronia_cli.specs.declared.status.Status.TheVariants.{NoMemory}
-use Rattle.sincronia_cli.specs.Ends.{IsReadFault}
-use Rattle.sincronia_cli.specs.Shelves.{OfBoth}
+use Rattle.command_files.specs.declared.status.Status.{Status}
+use Rattle.command_files.specs.declared.status.Status.TheVariants.{NoMemory}
+use Rattle.command_files.specs.Ends.{IsReadFault}
+use Rattle.command_files.specs.Shelves.{OfBoth}
 use Rattle.verdicts.specs.Judged.{IsJudged}
 use Rattle.verdicts.specs.AnyReport.{IsAnyBadAt}
-use Rattle.sincronia_cli.specs.Turns.{FilesInTurn}
-use Rattle.sincronia_cli.proofs.ShelfFacts.{files_kept, passed_as, passed_on}
-use Rattle.sincronia_cli.proofs.TurnFacts.{done_in_turn, report_good, report_in_turn}
+use Rattle.command_files.specs.Turns.{FilesInTurn}
+use Rattle.command_files.proofs.ShelfFacts.{files_kept, passed_as, passed_on}
+use Rattle.command_files.proofs.FileTurns.{done_in_turn, report_in_turn}
+use Rattle.sincronia_cli.proofs.TurnFacts.{report_good}
 use Rattle.sincronia_cli.proofs.checking.check_report.Goals as goal
 
 pub returns-in_err-input-clause-cause : goal.returns-in_err-input-clause-cause

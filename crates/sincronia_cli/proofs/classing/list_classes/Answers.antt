@@ -1,7 +1,7 @@
 use Rattle.command_words.specs.Jobs.Job.{classes_job}
 use Rattle.command_words.specs.Words.{said_with}
 use Rattle.sincronia_cli.proofs.CheckFacts.{from_input}
-use Rattle.sincronia_cli.proofs.ShelfFacts.{passed_on}
+use Rattle.command_files.proofs.ShelfFacts.{passed_on}
 use Rattle.sincronia_cli.proofs.classing.list_classes.Goals as goal
 
 pub returns-in_err-input-clause-cause : goal.returns-in_err-input-clause-cause

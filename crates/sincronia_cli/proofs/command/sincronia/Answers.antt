@@ -4,14 +4,14 @@ use Rattle.std.specs.Prelude.{map}
 use Rattle.command_words.specs.Jobs.Job.{compare_job}
 use Rattle.command_words.specs.Line.{texts}
 use Rattle.command_words.specs.Words.{Said, said_by}
-use Rattle.sincronia_cli.specs.declared.status.Status.TheVariants.{WriteFault}
+use Rattle.command_files.specs.declared.status.Status.TheVariants.{WriteFault}
 use Rattle.served_plans.specs.Sent.{SendsAll, SendsPart, StopsShort}
 use Rattle.sincronia_cli.specs.Outcome.{HasText}
 use Rattle.sincronia_cli.proofs.BenchFacts.{cause_has_no_text, job_of, outcome_has_text}
 use Rattle.sincronia_cli.proofs.CompleteFacts.{good_files_end}
 use Rattle.sincronia_cli.proofs.FirstFacts.{first_ends, text_ends}
 use Rattle.sincronia_cli.proofs.OutcomeFacts.{bad_report_given}
-use Rattle.sincronia_cli.proofs.PlanFacts.{begun}
+use Rattle.command_files.proofs.SinkFacts.{begun}
 use Rattle.sincronia_cli.proofs.ServingFacts.{none_failed, past_by_wire, sent_by, unsent_for, wire_failed}
 use Rattle.sincronia_cli.proofs.TurnFacts.{done_by, out_for, text_in_turn, turn_for}
 use Rattle.sincronia_cli.proofs.WrittenFacts.{classes_written, comparison_written, made_written, no_written, plan_written, sound_written, yes_written}

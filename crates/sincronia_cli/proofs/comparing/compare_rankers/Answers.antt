@@ -5,7 +5,7 @@ use Rattle.command_words.specs.Words.{said_with}
 use Rattle.rankers.specs.FactsTold.{IsFactsOf}
 use Rattle.sincronia_cli.proofs.CheckFacts.{from_input}
 use Rattle.sincronia_cli.proofs.CompareFacts.{left_of_table}
-use Rattle.sincronia_cli.proofs.ShelfFacts.{passed_on}
+use Rattle.command_files.proofs.ShelfFacts.{passed_on}
 use Rattle.sincronia_cli.proofs.comparing.compare_rankers.Goals as goal
 
 pub returns-in_err-input-clause-cause : goal.returns-in_err-input-clause-cause

@@ -2,12 +2,13 @@ use Rattle.std.proofs.Common.{inl, inr, ap, Err}
 use Rattle.command_words.specs.Jobs.Job.{plan_job}
 use Rattle.command_words.specs.Words.{Said, said_with}
 use Rattle.sincronia_cli.specs.Causes.{HasFilesCause}
-use Rattle.sincronia_cli.specs.Serving.{IsStatusOfPlan}
-use Rattle.sincronia_cli.specs.Shelves.{OfBoth}
-use Rattle.sincronia_cli.specs.Turns.{FilesInTurn}
+use Rattle.command_files.specs.WireCauses.{IsStatusOfPlan}
+use Rattle.command_files.specs.Shelves.{OfBoth}
+use Rattle.command_files.specs.Turns.{FilesInTurn}
 use Rattle.sincronia_cli.proofs.CheckFacts.{from_input}
-use Rattle.sincronia_cli.proofs.ShelfFacts.{passed_as, passed_on}
-use Rattle.sincronia_cli.proofs.TurnFacts.{counts_none, done_in_turn}
+use Rattle.command_files.proofs.ShelfFacts.{passed_as, passed_on}
+use Rattle.command_files.proofs.InputTurns.{counts_none}
+use Rattle.command_files.proofs.FileTurns.{done_in_turn}
 use Rattle.sincronia_cli.proofs.WireFacts.{input_no_wire, may_send, past_anyhow, past_none, plan_cause, plan_reads}
 use Rattle.sincronia_cli.proofs.planning.plan_trace.Goals as goal
 

@@ -1,0 +1,118 @@
+-- The causes of the statuses of a command that reads files, and that its files are read to their ends.
+use Rattle.std.proofs.Common.{◌≡◌, ℕ, ◌^◌, ◌≤◌, inl, inr, List, Option, Some, None, length, sym, subst, ◌∙◌}
+use Rattle.std.specs.Prelude.{IfSome}
+use Rattle.command_words.specs.Jobs.{report_name, trace_name}
+use Rattle.command_words.specs.Jobs.Job.{check_job}
+use Rattle.command_words.specs.Words.{Said}
+use Rattle.coflow_units.specs.declared.quantity.Quantity.{Quantity}
+use Rattle.outside.specs.declared.shelf.Place4.TheVariants as place
+use Rattle.outside.specs.Shelf.{Told, bytes_of}
+use Rattle.command_files.specs.declared.status.Status.{Status}
+use Rattle.command_files.specs.declared.status.Status.TheVariants as status
+use Rattle.command_files.specs.Causes.{FileFailed, FilesBadReport, FilesGiveTable, FilesLimit, HasCauseInFiles, IsGiven}
+use Rattle.command_files.specs.FileCauses.{NameFailed, NameFailedIf}
+use Rattle.command_files.specs.InputCauses.{HasInputCause, InputFailed, LimitCause}
+use Rattle.command_files.specs.ReportCauses.{IsBadReport, IsReportCause, ReportLimit}
+use Rattle.command_files.specs.Shelves.{AreReadOut, IsReadOut, IsReadOutIf, KeepsFiles, KeepsOthers, OfBoth, ReadsOut}
+use Rattle.command_files.specs.Inputs.{bytes_if}
+use Rattle.command_files.proofs.ShelfFacts.{both_and, both_joined, both_through, if_some, later_out, named_before, of_both, rose_before, told_before, with_both}
+use Rattle.command_files.specs.Reports.{HasReportText}
+use Rattle.command_files.proofs.ReportFacts.{IsTextIf}
+
+-- ---- the causes of trace and weights
+
+pub input_cause : (IsBad : List ℕ → ℕ → Type 0) (before now : ℕ) (old new : Option Told) (said : Said) (s : Status) →
+    HasInputCause before now old new (trace_name said.job) said.weights said.unit s → HasCauseInFiles IsBad before now old new said s
+input_cause IsBad before now old new said (status.BadTrace fault) h = h
+input_cause IsBad before now old new said (status.BadWeights fault) h = h
+input_cause IsBad before now old new said (status.Limit which count) h =
+    if_some old (λ t. LimitCause (bytes_of t (trace_name said.job)) (bytes_if t said.weights) said.unit which count) (FilesLimit said which count) (λ t l. inl l) h
+input_cause IsBad before now old new said (status.ReadFault count) (one, rose, failed) =
+    (one, rose, of_both old new (InputFailed (trace_name said.job) said.weights) (FileFailed said) (λ a b f. inl f) failed)
+input_cause IsBad before now old new said status.NoMemory h = tt
+input_cause IsBad before now old new said status.Ok h = absurd h
+input_cause IsBad before now old new said status.No h = absurd h
+input_cause IsBad before now old new said status.Usage h = absurd h
+input_cause IsBad before now old new said (status.BadReport line) h = absurd h
+input_cause IsBad before now old new said (status.WriteFault count) h = absurd h
+input_cause IsBad before now old new said (status.WireFault port count) h = absurd h
+
+-- ---- a report that is read after the trace and the weights
+
+-- trace and weights are still read to their ends after the report is read
+pub still_both_out : (old mid new : Option Told) (said : Said) → OfBoth old mid (AreReadOut (trace_name said.job) said.weights) → OfBoth mid new (KeepsOthers place.Report) →
+    OfBoth old new (AreReadOut (trace_name said.job) said.weights)
+still_both_out old mid new said out others =
+    both_through old mid new (AreReadOut (trace_name said.job) said.weights) (KeepsOthers place.Report) (AreReadOut (trace_name said.job) said.weights) still out others
+  where
+    trace_differs : place.Trace ≡ place.Report → ⊥
+    trace_differs e = cc
+
+    weights_differ : place.Weights ≡ place.Report → ⊥
+    weights_differ e = cc
+
+    still_if : (n : Option (List ℕ)) (a b c : Told) → IsReadOutIf place.Weights n a b → KeepsOthers place.Report b c → IsReadOutIf place.Weights n a c
+    still_if None a b c out others = tt
+    still_if (Some n) a b c (file, left) (files, lefts) = (files place.Weights weights_differ ∙ file, lefts place.Weights weights_differ ∙ left)
+
+    still : (a b c : Told) → AreReadOut (trace_name said.job) said.weights a b → KeepsOthers place.Report b c → AreReadOut (trace_name said.job) said.weights a c
+    still a b c ((file, left), weights) (files, lefts) =
+        ((files place.Trace trace_differs ∙ file, lefts place.Trace trace_differs ∙ left), still_if said.weights a b c weights (files, lefts))
+
+-- every file of `check` is read to its end
+pub checked_out : (old mid new : Option Told) (said : Said) (trace name : List ℕ) → report_name said.job ≡ Some name → KeepsFiles old mid →
+    OfBoth old mid (AreReadOut (trace_name said.job) said.weights) →
+    OfBoth mid new (KeepsOthers place.Report) → OfBoth mid new (IsReadOut place.Report name) →
+    OfBoth old new (ReadsOut (check_job trace name) said)
+checked_out old mid new said trace name is keeps out others report =
+    both_joined old new (AreReadOut (trace_name said.job) said.weights) (IsReadOutIf place.Report (report_name said.job))
+    (still_both_out old mid new said out others)
+    (subst (λ o. OfBoth old new (IsReadOutIf place.Report o)) (sym is)
+    (later_out old mid new place.Report (Some name) keeps (of_both mid new (IsReadOut place.Report name) (IsReadOutIf place.Report (Some name)) (λ a b h. h) report)))
+
+module _ (IsBad : List ℕ → ℕ → Type 0) (before mid_count now : ℕ) (old mid new : Option Told) (said : Said) (name : List ℕ) where
+  bad_report : (line : ℕ) → report_name said.job ≡ Some name → KeepsFiles old mid → IfSome old (FilesGiveTable said) →
+      IfSome mid (λ t. IsBadReport IsBad (Some (bytes_of t name)) line) → IsGiven (report_name said.job) × IfSome old (FilesBadReport IsBad said line)
+  bad_report line is keeps table h = (
+    subst IsGiven (sym is) tt,
+    with_both old (FilesGiveTable said) (λ t. IsBadReport IsBad (bytes_if t (Some name)) line) (FilesBadReport IsBad said line)
+        (λ t gives bad. (gives, subst (λ (o : Option (List ℕ)). IsBadReport IsBad (bytes_if t o) line) (sym is) bad)) table
+        (told_before old mid (Some name) (λ b. IsBadReport IsBad b line) keeps h),
+  )
+
+  long_report : (which : Quantity) (count : ℕ) → report_name said.job ≡ Some name → KeepsFiles old mid → IfSome old (FilesGiveTable said) →
+      IfSome mid (λ t. ReportLimit (Some (bytes_of t name)) which count) → IfSome old (FilesLimit said which count)
+  long_report which count is keeps table h =
+      with_both old (FilesGiveTable said) (λ t. ReportLimit (bytes_if t (Some name)) which count) (FilesLimit said which count)
+      (λ t gives long. inr (gives, subst (λ (o : Option (List ℕ)). ReportLimit (bytes_if t o) which count) (sym is) long)) table
+      (told_before old mid (Some name) (λ b. ReportLimit b which count) keeps h)
+
+  report_failed : report_name said.job ≡ Some name → KeepsFiles old mid → IfSome old (FilesGiveTable said) → OfBoth mid new (NameFailed name) → OfBoth old new (FileFailed said)
+  report_failed is keeps table failed =
+      both_and old new (FilesGiveTable said) (NameFailedIf (report_name said.job)) (FileFailed said) (λ a b gives f. inr (gives, f)) table
+      (subst (λ o. OfBoth old new (NameFailedIf o)) (sym is)
+      (named_before old mid new (Some name) keeps (of_both mid new (NameFailed name) (NameFailedIf (Some name)) (λ a b h. h) failed)))
+
+  pub from_report : (s : Status) → report_name said.job ≡ Some name → before ≤ mid_count → KeepsFiles old mid → IfSome old (FilesGiveTable said) →
+      IsReportCause IsBad mid_count now mid new name s → HasCauseInFiles IsBad before now old new said s
+  from_report (status.BadReport line) is le keeps table h = bad_report line is keeps table h
+  from_report (status.Limit which count) is le keeps table h = long_report which count is keeps table h
+  from_report (status.ReadFault count) is le keeps table (one, rose, failed) = (one, rose_before before mid_count now le rose, report_failed is keeps table failed)
+  from_report status.NoMemory is le keeps table h = tt
+  from_report status.Ok is le keeps table h = absurd h
+  from_report status.No is le keeps table h = absurd h
+  from_report status.Usage is le keeps table h = absurd h
+  from_report (status.BadTrace fault) is le keeps table h = absurd h
+  from_report (status.BadWeights fault) is le keeps table h = absurd h
+  from_report (status.WriteFault count) is le keeps table h = absurd h
+  from_report (status.WireFault port count) is le keeps table h = absurd h
+
+-- the files give a table, and the other one has the text of a report
+pub text_good : {R : Type 0} (IsText : List ℕ → R → Type 0) (old mid : Option Told) (said : Said) (name : List ℕ) (report : R) → report_name said.job ≡ Some name →
+    KeepsFiles old mid → IfSome old (FilesGiveTable said) → IfSome mid (λ t. (length (bytes_of t name) ≤ 2 ^ 30) × IsText (bytes_of t name) report) →
+    IfSome old (λ t. FilesGiveTable said t × HasReportText IsText (bytes_if t (report_name said.job)))
+text_good IsText old mid said name report is keeps table reads =
+    with_both old (FilesGiveTable said) (λ t. IsTextIf IsText report (bytes_if t (Some name)))
+    (λ t. FilesGiveTable said t × HasReportText IsText (bytes_if t (report_name said.job)))
+    (λ t gives text. (gives, subst (λ (o : Option (List ℕ)). HasReportText IsText (bytes_if t o)) (sym is) (text.0, report, text.1))) table
+    (told_before old mid (Some name) (IsTextIf IsText report) keeps reads)

@@ -1,0 +1,69 @@
+-- How far a command came with its files.
+use Rattle.std.proofs.Common.{◌≡◌, ℕ, List, Option, Some, refl, sym, subst}
+use Rattle.std.specs.Prelude.{IfSome}
+use Rattle.command_words.specs.Jobs.{report_name, trace_name}
+use Rattle.command_words.specs.Words.{Said}
+use Rattle.outside.specs.declared.shelf.Place4.TheVariants as place
+use Rattle.outside.specs.Shelf.{Told}
+use Rattle.command_files.specs.declared.status.Status.{Status}
+use Rattle.command_files.specs.declared.status.Status.TheVariants as status
+use Rattle.command_files.specs.Causes.{FilesGiveTable}
+use Rattle.command_files.specs.Ends.{IsReadFault}
+use Rattle.command_files.specs.FileCauses.{NameFailed, NameFailedIf}
+use Rattle.command_files.specs.ReportCauses.{IsReportCause}
+use Rattle.command_files.specs.Shelves.{AreReadOut, KeepsFiles, KeepsOthers, OfBoth}
+use Rattle.command_files.specs.Turns.{FailsAt, FilesInTurn, InputInTurn, IsAsBefore}
+use Rattle.command_files.specs.Turns.FilesInTurn.{at_input, at_report}
+use Rattle.command_files.specs.Turns.InputInTurn.{at_trace}
+use Rattle.command_files.proofs.CauseFacts.{still_both_out}
+use Rattle.command_files.proofs.ShelfFacts.{both_and, both_joined, both_same, named_before, of_both}
+use Rattle.command_files.proofs.InputTurns.{fails_if, no_read}
+
+pub input_in_turn : (old new : Option Told) (said : Said) (s : Status) → OfBoth old new (InputInTurn (trace_name said.job) said.weights s) →
+    OfBoth old new (IsAsBefore place.Report) →
+    OfBoth old new (FilesInTurn said s)
+input_in_turn old new said s input report =
+    of_both old new (λ a b. InputInTurn (trace_name said.job) said.weights s a b × IsAsBefore place.Report a b) (FilesInTurn said s) (λ a b (i, r). at_input i r)
+    (both_joined old new (InputInTurn (trace_name said.job) said.weights s) (IsAsBefore place.Report) input report)
+
+past_input : (old new : Option Told) (said : Said) (s : Status) → IfSome old (FilesGiveTable said) → OfBoth old new (AreReadOut (trace_name said.job) said.weights) →
+    ((count : ℕ) → s ≡ status.ReadFault count → OfBoth old new (NameFailedIf (report_name said.job))) → OfBoth old new (FilesInTurn said s)
+past_input old new said s table out failed =
+    both_and old new (FilesGiveTable said) (λ a b. FailsAt (report_name said.job) s a b × AreReadOut (trace_name said.job) said.weights a b) (FilesInTurn said s)
+    (λ a b gives (f, out). at_report gives out f) table
+    (fails_if old new (report_name said.job) (AreReadOut (trace_name said.job) said.weights) s out failed)
+
+-- after all files no call to the shelf failed
+pub done_in_turn : (old new : Option Told) (said : Said) (s : Status) → (IsReadFault s → ⊥) → IfSome old (FilesGiveTable said) →
+    OfBoth old new (AreReadOut (trace_name said.job) said.weights) → OfBoth old new (FilesInTurn said s)
+done_in_turn old new said s other table out = past_input old new said s table out (λ count e. absurd (no_read s count other e))
+
+module _ (IsBad : List ℕ → ℕ → Type 0) (old mid new : Option Told) (said : Said) (name : List ℕ) (s : Status) where
+  pub report_in_turn : (mid_count now : ℕ) → report_name said.job ≡ Some name → KeepsFiles old mid → IfSome old (FilesGiveTable said) →
+      OfBoth old mid (AreReadOut (trace_name said.job) said.weights) → OfBoth mid new (KeepsOthers place.Report) →
+      IsReportCause IsBad mid_count now mid new name s →
+      OfBoth old new (FilesInTurn said s)
+  report_in_turn mid_count now is keeps table out others cause =
+      past_input old new said s table (still_both_out old mid new said out others)
+      (λ count e. failed count (subst (λ (x : Status). IsReportCause IsBad mid_count now mid new name x) e cause))
+    where
+      failed : (count : ℕ) → IsReportCause IsBad mid_count now mid new name (status.ReadFault count) → OfBoth old new (NameFailedIf (report_name said.job))
+      failed count (one, rose, named) =
+          subst (λ o. OfBoth old new (NameFailedIf o)) (sym is)
+          (named_before old mid new (Some name) keeps (of_both mid new (NameFailed name) (NameFailedIf (Some name)) (λ a b h. h) named))
+
+  pub checked_in_turn : (IsReadFault s → ⊥) → IfSome old (FilesGiveTable said) → OfBoth old mid (AreReadOut (trace_name said.job) said.weights) →
+      OfBoth mid new (KeepsOthers place.Report) → OfBoth old new (FilesInTurn said s)
+  checked_in_turn other table out others = done_in_turn old new said s other table (still_both_out old mid new said out others)
+
+-- where nothing is looked at
+pub untouched_in_turn : (told : Option Told) (said : Said) (s : Status) → (IsReadFault s → ⊥) → OfBoth told told (FilesInTurn said s)
+untouched_in_turn told said s other =
+    of_both told told (λ a b. FailsAt (Some (trace_name said.job)) s a b × (a ≡ b)) (FilesInTurn said s) (λ a b (f, same). of f same)
+    (fails_if told told (Some (trace_name said.job)) (λ a b. a ≡ b) s (both_same told (λ a b. a ≡ b) (λ t. refl)) (λ count e. absurd (no_read s count other e)))
+  where
+    of : {a b : Told} → FailsAt (Some (trace_name said.job)) s a b → a ≡ b → FilesInTurn said s a b
+    of {a = a} {b = b} f same =
+        let weights : IsAsBefore place.Weights a b = subst (λ (t : Told). IsAsBefore place.Weights a t) same (refl, refl) in
+        let report : IsAsBefore place.Report a b = subst (λ (t : Told). IsAsBefore place.Report a t) same (refl, refl) in
+        at_input (at_trace f weights) report

@@ -1,0 +1,10 @@
+pub mod ShelfFacts
+pub mod TraceFacts
+pub mod WeightsFacts
+pub mod InputFacts
+pub mod ReportFacts
+pub mod CauseFacts
+pub mod InputTurns
+pub mod FileTurns
+pub mod GoodFacts
+pub mod SinkFacts

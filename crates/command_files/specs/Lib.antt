@@ -1,0 +1,15 @@
+pub mod Shelves
+pub mod Inputs
+pub mod Reports
+pub mod Written
+pub mod Ends
+pub mod FileCauses
+pub mod TraceCauses
+pub mod WeightsCauses
+pub mod InputCauses
+pub mod ReportCauses
+pub mod WireCauses
+pub mod Causes
+pub mod Turns
+pub mod Code
+pub mod Messages
