@@ -2,12 +2,12 @@
 ghost use Rattle.std.specs.Prelude.{◌≤◌, All, IsTrue};
 ghost use Rattle.coflow_units.specs.declared.limits.TheConstants.{MAX_WEIGHT};
 
-use coflow_units::{MAX_TEXT, MAX_WEIGHT, NoMemory};
+use coflow_units::{MAX_WEIGHT, NoMemory};
 use flow_table::Table;
-use rankers::{Facts, Ranker, Row, compare};
+use rankers::{Attained, Facts, Ranker, Row, compare};
 use std::alloc::Global;
 use std::process::Abort;
-use trace_reader::read_trace;
+use trace_tables::table_of_text;
 
 /// Two coflows that share both ports, of 3 units and of 1 unit.
 pub(crate) const TWO: &str = "2 2\n1 0 1 0 1 1:3\n2 0 1 0 1 1:1\n";
@@ -23,8 +23,34 @@ pub(crate) fn had<T, E: Drop>(rt: &impl Abort, answer: Result<T, E>) -> T {
     }
 }
 
-/// The rows of a bench on a trace, where a unit has one megabyte, as a text.
-pub(crate) fn shown(
+/// Puts a ranker at the end of the bench.
+pub(crate) fn seat(rt: &impl Abort, bench: &mut Vec<Box<dyn Ranker>>, ranker: Box<dyn Ranker>) {
+    had(rt, bench.push(ranker));
+}
+
+/// A ranker that learns, with room for so many notes.
+pub(crate) fn attained(rt: &impl Abort, alloc: Global, room: u32) -> Box<dyn Ranker> {
+    let ranker = had(rt, Attained::new(alloc, room));
+    let boxed = had(rt, Box::new(alloc, ranker));
+    boxed
+}
+
+/// A bench has these rows on a trace, where a unit has one megabyte, and is empty then.
+pub(crate) fn are_rows(
+    rt: &impl Abort,
+    alloc: Global,
+    trace: &str,
+    weights: &[u64],
+    mut bench: Vec<Box<dyn Ranker>>,
+    want: &str,
+) {
+    let have = shown(rt, alloc, trace, weights, &mut bench);
+    assert!(rt; bench.is_empty());
+    assert_eq!(rt; have.as_str(), want);
+}
+
+/// The rows of a bench on a trace, as a text.
+fn shown(
     rt: &impl Abort,
     alloc: Global,
     trace: &str,
@@ -68,14 +94,10 @@ pub(crate) fn rows_on(
 
 /// The flows of a trace.
 pub(crate) fn table_of(rt: &impl Abort, alloc: Global, trace: &str) -> Table {
-    assert!(rt; trace.len() <= MAX_TEXT);
-    let Ok(trace) = read_trace(alloc, trace.as_bytes()) else {
+    let Ok(table) = table_of_text(alloc, trace.as_bytes(), 1) else {
         panic!(rt; "no table");
     };
-    match Table::build(alloc, &trace, 1) {
-        Ok(table) => table,
-        Err(_) => panic!(rt; "no table"),
-    }
+    table
 }
 
 /// Tests what calls require of weights.
