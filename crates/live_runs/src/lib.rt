@@ -1,4 +1,8 @@
-//! Laws from a closed hall and the value that is printed of it to the clause of `live`.
+//! A run of `live` that a hall serves, and the value that is printed of it.
 #![tactic(auto)]
 
 pub mod laws;
+mod running;
+mod value;
+
+pub use running::run_live;
