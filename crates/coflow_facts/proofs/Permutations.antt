@@ -1,21 +1,19 @@
 -- Lists that repeat nothing, and the order of a certificate, which has each coflow once.
-use Rattle.std.proofs.Common.{◌≡◌, ◌≢◌, ℕ, ◌+◌, ◌-◌, ◌≤◌, ◌<◌, inl, inr, Bool, true, false, List, [], ◌∷◌, ◌++◌, length, get_or, set, take}
+use Rattle.std.proofs.Common.{◌≡◌, ◌≢◌, ℕ, ◌≤◌, ◌<◌, true, List, length}
 use Rattle.std.proofs.Common.{reverse, Contains, refl, sym, ap, subst, ◌∙◌, arith}
-use Rattle.std.specs.Prelude.{All, AllPairs, ◌==◌, replicate}
+use Rattle.std.specs.Prelude.{AllPairs}
 use Rattle.std.specs.List.{list_any, range_with_len}
 use Rattle.std.proofs.Math.Dec.{eqb}
-use Rattle.std.proofs.lemmas.Bool.{both_ways, cases_Bool, cases_eq, cases_lt, eqb-true, eq-eqb}
+use Rattle.std.proofs.lemmas.Bool.{eqb-true, eq-eqb}
 use Rattle.std.proofs.lemmas.Bool.Decides.{Decides-eqb}
-use Rattle.std.proofs.lemmas.List.{get_or-replicate, get_or-set_other, get_or-set_same, get_or-take, get_or_default, length-replicate, length-reverse}
-use Rattle.std.proofs.lemmas.List.{length-set, length-take, take_more}
-use Rattle.std.proofs.lemmas.List.Elements.{All-contains, Contains-append_left, Contains-push, Contains-push_cases}
-use Rattle.std.proofs.lemmas.List.Kept.{AllPairs-cons}
+use Rattle.std.proofs.lemmas.List.{length-reverse}
+use Rattle.std.proofs.lemmas.List.Elements.{All-contains}
 use Rattle.std.proofs.lemmas.List.Sorted.{IsPermutation-reverse}
 use Rattle.std.proofs.lemmas.Map.Made.{IsDistinct-from_AllPairs}
 use Rattle.std.proofs.lemmas.Map.Steps.{le-length_from_below, length-le_from_distinct_below}
 use Rattle.coflow_units.specs.Certificate.{front}
 use Rattle.coflow_units.proofs.Lists.{any_from, any_where, in_reverse, into_reverse, number_below, number_in}
-use Rattle.coflow_units.proofs.Sums.{all_of_members, any_has, any_in, first_or_tail}
+use Rattle.coflow_units.proofs.Sums.{all_of_members}
 use Rattle.class_rates.specs.Classes.{IsPermutation}
 use Rattle.flow_table.specs.Table.{TableFacts}
 use Rattle.coflow_facts.specs.FactsTold.{IsBssiOrder}
