@@ -7,10 +7,12 @@ mod beginning;
 mod beside;
 mod commands;
 mod ending;
+mod limit;
 mod live;
 mod rounds;
 mod running;
 mod serving;
 
 pub use answer::{LiveFault, Served};
+pub use limit::journal_limit;
 pub use live::serve_live;
