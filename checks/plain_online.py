@@ -1,10 +1,10 @@
 #!/usr/bin/env python3
-"""Serves drawn traces as they arrive, by a plain program that follows the definitions one by one, and lets the built program check its texts, right ones and damaged ones.
+"""Serves drawn traces as they arrive, by a plain program that follows the definitions one by one, and compares what the built program prints for them; it lets that program check its texts, right ones and damaged ones.
 
 Use: checks/plain_online.py [TRACES]       The last line is 'N passed, M failed'; the exit code is 0 where none failed.
      checks/plain_online.py --print SEED   Prints the trace of that number, its weights, the options and the text.
 
-The built program must say yes to each text, and give damaged ones the first reason that the plain program finds, or the first line that is bad. Where a trace has few units, the least cost of
+The built program must make the same text of each trace, say yes to it, and give damaged ones the first reason that the plain program finds, or the first line that is bad. Where a trace has few units, the least cost of
 all schedules that serve nobody before its arrival is found by search: it is neither below the total nor above the cost.
 """
 import random
@@ -17,7 +17,6 @@ from collections import namedtuple
 from online_runs import Instance, append, facts_of, first_reason, least_cost, online_of, text_of
 from plain_plan import PROGRAM, Coflow, flows_of, up, weights_text, write
 
-ONLINE = False  # whether the built program has the command `online`, whose text is then compared too
 SEARCHED = 9  # up to so many units the best schedule is searched for
 DAMAGES, BAD_TEXTS = 6, 3  # so many damages of what a text says, and of how it is written, are tried on each
 
@@ -230,7 +229,7 @@ def fault_of(folder, instance, r, seen):
     text, options = text_of(online), options_of(instance)
     write(folder, "trace", trace_text(instance))
     write(folder, "weights", weights_text(instance.coflows))
-    if ONLINE and ran(folder, ["online", "trace", *options]) != (0, text, ""):
+    if ran(folder, ["online", "trace", *options]) != (0, text, ""):
         return "another text is printed"
 
     def told(written):

@@ -184,6 +184,80 @@ ONLINE_ROWS = [
     ("a report of a plan behind the line of an online run", TWO, b"sincronia online 2\n" + TWO_TEXT, CHECK, 5, b"", b"sincronia: report: line 2\n"),
 ]
 
+# Coflow 1 owes nothing from slot 1 on, and leaves at the publishing of time 4. Coflow 2 has weight 3 and is served from slot 3 on, and coflow 3 has weight 2 and arrives at time 10: slots 2
+# and 7 to 10 are idle. Of the release lines the last one cannot charge the port: coflow 3 arrives later than the 6 units of all three take.
+IDLE = b"1 3\n1 0 1 0 1 1:1\n2 16 1 0 1 1:4\n3 80 1 0 1 1:1\n"
+IDLE_ONLINE = b"""sincronia online 2
+epoch 0
+place 1 1 in 0 1099511627776
+bound 1
+epoch 4
+place 1 2 in 0 1649267441664
+bound 6
+done 1 1
+done 2 6
+done 3 11
+cost 41
+release 1 1 in 0 274877906944 0
+release 2 2 in 0 824633720832 0
+release 3 3 in 0 0 2199023255552
+total 38
+run 1 0
+run 1
+run 4 1
+run 4
+run 1 2
+end
+"""
+# A unit takes two megabytes: coflow 1 has 3 units then, and coflow 2 one unit from time 2 on.
+HALF_ONLINE = b"""sincronia online 2
+epoch 0
+place 1 1 in 0 366503875925
+bound 3
+done 1 3
+done 2 4
+cost 7
+release 1 2 in 0 0 733007751851
+release 2 1 in 0 366503875925 1
+total 7
+run 3 0
+run 1 1
+end
+"""
+SERVE = ["online", "t", "--epoch", "4"]
+
+
+def many_online(units):
+    """The text of a coflow of so many units whose order is published in each slot. All that is left is served in order, so the bound is what is left."""
+    epochs = [b"epoch %d\nplace 1 1 in 0 %d\nbound %d\n" % (units - left, 2**40 // left, left) for left in range(units, 0, -1)]
+    price, rest = divmod(2**40, units)
+    totals = b"done 1 %d\ncost %d\nrelease 1 1 in 0 %d %d\ntotal %d\nrun %d 0\nend\n" % (units, units, price, rest, units, units)
+    return b"sincronia online 2\n" + b"".join(epochs) + totals
+
+
+# name, bytes of the trace `t` and of the weights `w`, words, code, standard output, standard error
+SERVED_ROWS = [
+    ("a coflow that comes late", LATE, None, SERVE, 0, ONLINE, b""),
+    ("a coflow that comes late, by one agent", LATE, None, SERVE + ["--agents", "1"], 0, ONLINE, b""),
+    ("a coflow that comes late, by 64 agents", LATE, None, ["--agents=64"] + SERVE, 0, ONLINE, b""),
+    ("a coflow that comes late, in slots of 4 milliseconds", LATE.replace(b"16", b"7"), None, SERVE + ["--slot-ms", "4"], 0, ONLINE, b""),
+    ("a coflow that comes late, in units of 2 megabytes", LATE, None, SERVE + ["--unit", "2"], 0, HALF_ONLINE, b""),
+    ("idle slots, a coflow that leaves, and weights", IDLE, b"2 3\n3 2\n", SERVE + ["--weights", "w"], 0, IDLE_ONLINE, b""),
+    ("an online run of no coflow is served", b"2 0\n", None, ["online", "t"], 0, b"sincronia online 2\ncost 0\ntotal 0\nend\n", b""),
+    ("as many publishings as there may be", b"1 1\n1 0 1 0 1 1:8192\n", None, ["online", "t", "--epoch", "1"], 0, many_online(8192), b""),
+    ("a publishing too many", b"1 1\n1 0 1 0 1 1:8193\n", None, ["online", "t", "--epoch", "1"], 7, b"", b"sincronia: limit: epochs 8193\n"),
+    ("fewer publishings by longer epochs", b"1 1\n1 0 1 0 1 1:8193\n", None, ["online", "t", "--epoch", "8193"], 0,
+     many_online(8193).split(b"epoch 1\n")[0] + b"done" + many_online(8193).split(b"done")[1], b""),
+    ("an epoch of no slots", LATE, None, ["online", "t", "--epoch", "0"], 2, b"", USAGE),
+    ("an online run of two names", LATE, None, SERVE + ["t"], 2, b"", USAGE),
+    ("an online run of no name", LATE, None, ["online"], 2, b"", USAGE),
+    ("an online run of a bad trace", b"", None, SERVE, 3, b"", b"sincronia: trace: bad header\n"),
+    ("an online run of bad weights", LATE, b"9 1\n", SERVE + ["--weights", "w"], 4, b"", b"sincronia: weights: line 1 unknown id 9\n"),
+    ("an online run of too many units", TOO_MANY, None, SERVE, 7, b"", b"sincronia: limit: units 1099511627777\n"),
+    ("an online run of no such file", None, None, SERVE, 8, b"", READ_FAULT),
+    ("an online run of no such weights", LATE, None, SERVE + ["--weights", "w"], 8, b"", READ_FAULT),
+]
+
 # A client registers both coflows and publishes an order, and two runs are opened, the second of them until nothing is left.
 JOURNAL = b"""sincronia live 1
 entry 1 1 register 1 joined
@@ -396,6 +470,15 @@ def run_shuffle():
                     same("a shuffle is edited", started(folder, {"r": edited}, CHECK), (1, no, b""))])
 
 
+def run_served():
+    """An online run whose ports cross has one text, whatever the agents, and that text has a yes."""
+    with tempfile.TemporaryDirectory() as folder:
+        code, out, err = started(folder, {"t": CROSSED}, ["online", "t"])
+        good = same("an online run is served", (code, out.split(b"\n")[0], err), (0, b"sincronia online 2", b""))
+        return good and all([*[same("an online run is served by %s agents" % agents, started(folder, {}, ["online", "t", "--agents", agents]), (0, out, b"")) for agents in ("1", "2", "64")],
+                             same("an online run is checked", started(folder, {"r": out}, CHECK), (0, b"yes total 3 cost 4\n", b""))])
+
+
 def run_made():
     """A seed gives one summary, whatever the agents."""
     with tempfile.TemporaryDirectory() as folder:
@@ -415,11 +498,12 @@ def main():
     results += [run_audit(row) for row in AUDIT_ROWS]
     results += [run_long_report("a long report", CHECK, TWO, b"text 1073741825"), run_long_report("a long journal", AUDIT, TWO, b"text 1073741825"),
                 run_long_report("a long report of too many units", CHECK, TOO_MANY, b"units 1099511627777")]
-    results += [run_shuffle(), run_made()]
+    results += [run(row) for row in SERVED_ROWS]
+    results += [run_shuffle(), run_made(), run_served()]
     with open("/dev/full", "wb") as full:
-        results += [run(("a full device for " + words[0], TWO, None, words, 9, b"", WRITE_FAULT), full) for words in (["plan", "t"], COMPARE, CLASSES)]
+        results += [run(("a full device for " + words[0], TWO, None, words, 9, b"", WRITE_FAULT), full) for words in (["plan", "t"], COMPARE, CLASSES, SERVE)]
     results += [run(("no memory for the text of " + words[0], b"\n" * 2**26, None, words, 11, b"", b"sincronia: no memory\n"), before=little_memory)
-                for words in (["plan", "t"], COMPARE, CLASSES)]
+                for words in (["plan", "t"], COMPARE, CLASSES, SERVE)]
     print("%d passed, %d failed" % (results.count(True), results.count(False)))
     return 0 if all(results) else 1
 

@@ -54,6 +54,8 @@ SERIES = [
     ("compare", ["compare", "t", "--weights", "w"]),
     ("classes", ["classes", "t", "--weights", "w"]),
     ("audit", ["audit", "t", "j"]),
+    ("online", ["online", "l", "--epoch", "4"]),
+    ("online by one agent", ["online", "l", "--agents", "1"]),
 ]
 # how many runs are started before their answers are looked at
 BATCH = 64

@@ -2,6 +2,7 @@
 use Rattle.std.proofs.Common.{◌≡◌, ℕ, ◌^◌, ◌≤◌, inl, inr, List, Option, Some, None, length, sym, ap, subst, ◌∙◌, arith}
 use Rattle.std.specs.Prelude.{IfSome}
 use Rattle.std.proofs.lemmas.List.{length-map}
+use Rattle.coflow_units.specs.Flows.{IsDistinct}
 use Rattle.coflow_units.specs.declared.quantity.Quantity.{Quantity}
 use Rattle.coflow_units.specs.declared.trace.CoflowLine.{CoflowLine}
 use Rattle.coflow_units.specs.declared.trace.Trace.{Trace}
@@ -39,6 +40,7 @@ pub input_is : (old mid : Option Told) (name : List ℕ) (file : Option (List �
     IsInput old name file unit table weights
 input_is old mid name file unit trace weights table read keeps given of fits = record {
   table_fits = fits;
+  ids = subst IsDistinct (sym of.ids) read.fits.ids;
   count = given.count ∙ sym (ap (λ (xs : List ℕ). length xs) of.ids ∙ length-map trace.coflows (λ (x : CoflowLine). x.id));
   least = given.least;
   most = given.most;

@@ -3,6 +3,7 @@ use Rattle.std.specs.Prelude.{◌≡◌, ℕ, ◌≤◌, List, All, Option, Some
 use Rattle.coflow_units.specs.declared.limits.TheConstants.{MAX_TEXT, MAX_WEIGHT}
 use Rattle.coflow_units.specs.declared.trace.CoflowLine.{CoflowLine}
 use Rattle.coflow_units.specs.declared.trace.Trace.{Trace}
+use Rattle.coflow_units.specs.Flows.{IsDistinct}
 use Rattle.coflow_units.specs.Trace.{IsTrace}
 use Rattle.flow_table.specs.Table.{IsTable, IsTableOf, TableFacts}
 use Rattle.outside.specs.Shelf.{Told, bytes_of}
@@ -35,11 +36,12 @@ abbrev pub bytes_if : Told → Option (List ℕ) → Option (List ℕ)
 bytes_if told None = None
 bytes_if told (Some name) = Some (bytes_of told name)
 
--- A table and a weight from 1 to 2^32 for each of its coflows. Where the bytes of the files are told, those under the
+-- A table whose coflows differ by their ids, and a weight from 1 to 2^32 for each of its coflows. Where the bytes of the files are told, those under the
 -- name of a trace and under that of weights, where one is given, give them.
 pub record IsInput (told : Option Told) (trace : List ℕ) (file : Option (List ℕ)) (unit : ℕ) (table : TableFacts)
     (weights : List ℕ) : Type 0 where
   pub table_fits : IsTable table
+  pub ids : IsDistinct table.ids
   pub count : length weights ≡ length table.ids
   pub least : All (λ w. 1 ≤ w) weights
   pub most : All (λ w. w ≤ MAX_WEIGHT) weights

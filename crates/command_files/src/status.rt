@@ -26,14 +26,15 @@ pub enum Status {
     /// The file is no report of the kind that its first line tells, or, for `audit`, no printed journal. No text of such a
     /// kind has this line, counted from 1, after the lines before it.
     BadReport { line: u32 },
-    /// A counted quantity is outside its range. The count is told as 2^64 - 1 where it is greater. Of the bytes of a text
-    /// and of flows it is one more than the limit.
+    /// A counted quantity is outside its range. The count is told as 2^64 - 1 where it is greater. Of the bytes of a text,
+    /// of flows and of epochs, which are the orders of an online run, it is one more than the limit.
     Limit { which: Quantity, count: u64 },
     /// A call to the shelf failed.
     ReadFault { count: u32 },
     /// A call to the sink failed. A beginning of the text was written.
     WriteFault { count: u32 },
-    /// The wire of this ingress port did not accept a unit. It is the least port at which a unit of the last run is missing.
+    /// The wire of this ingress port did not accept a unit. For a plan it is the least port at which a unit of the last run is
+    /// missing.
     WireFault { port: u32, count: u32 },
     /// No memory was to be had.
     NoMemory,

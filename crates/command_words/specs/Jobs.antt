@@ -5,7 +5,7 @@ use Rattle.std.specs.Str.{bytes_eq}
 use Rattle.text_fields.specs.Numbers.{is_number, number}
 use Rattle.command_words.specs.Line.{Text}
 use Rattle.command_words.specs.declared.job.Job.{Job as JobWords}
-use Rattle.command_words.specs.declared.job.Job.TheVariants.{Audit, Check, Classes, Compare, Make, Plan}
+use Rattle.command_words.specs.declared.job.Job.TheVariants.{Audit, Check, Classes, Compare, Make, Online, Plan}
 
 -- What the program is asked to do: a command, with the names of files or the number behind it.
 pub data Job : Type 0 where
@@ -21,6 +21,8 @@ pub data Job : Type 0 where
   classes_job : Text → Job
   -- the names of a trace and of a printed journal
   audit_job : Text → Text → Job
+  -- the name of a trace
+  online_job : Text → Job
 
 -- the job of words that were read
 abbrev pub job_by : JobWords → Job
@@ -30,6 +32,7 @@ job_by (Make seed) = make_job seed
 job_by (Compare trace) = compare_job trace.now
 job_by (Classes trace) = classes_job trace.now
 job_by (Audit trace journal) = audit_job trace.now journal.now
+job_by (Online trace) = online_job trace.now
 
 -- The name of a file is not empty and is not `-`.
 abbrev pub is_file_name : Text → Bool
@@ -70,7 +73,8 @@ job_of name first second = if bytes_eq name (codes "plan") then option_map plan_
     else (if bytes_eq name (codes "compare") then option_map compare_job (alone (file_of first) second)
     else (if bytes_eq name (codes "classes") then option_map classes_job (alone (file_of first) second)
     else (if bytes_eq name (codes "audit") then both_in audit_job (file_of first) (file_in second)
-    else None)))))
+    else (if bytes_eq name (codes "online") then option_map online_job (alone (file_of first) second)
+    else None))))))
 
 -- the job of the names by their places, where COMMAND and FIRST stand
 abbrev pub job_in : Option Text → Option Text → Option Text → Option Job
@@ -85,6 +89,7 @@ trace_name (make_job seed) = []
 trace_name (compare_job trace) = trace
 trace_name (classes_job trace) = trace
 trace_name (audit_job trace journal) = trace
+trace_name (online_job trace) = trace
 
 -- the name of the report or of the printed journal that a job reads, if it reads one
 abbrev pub report_name : Job → Option Text
@@ -94,3 +99,4 @@ report_name (make_job seed) = None
 report_name (compare_job trace) = None
 report_name (classes_job trace) = None
 report_name (audit_job trace journal) = Some journal
+report_name (online_job trace) = None

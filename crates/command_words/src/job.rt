@@ -19,6 +19,8 @@ pub enum Job<'a> {
     Classes { trace: &'a str },
     /// `audit TRACE JOURNAL` tests a printed journal against a trace.
     Audit { trace: &'a str, journal: &'a str },
+    /// `online TRACE` serves a trace as its coflows arrive.
+    Online { trace: &'a str },
 }
 
 /// The job of the command of this name and the words behind it. `None` where there is no such command, or it does not take them.
@@ -51,6 +53,10 @@ pub(crate) fn job_of<'a>(name: &str, first: &'a str, second: Option<&'a str>) ->
             let trace = file_of(first)?;
             let journal = file_of(second?)?;
             Some(Job::Audit { trace, journal })
+        }
+        "online" => {
+            let trace = file_alone(first, second)?;
+            Some(Job::Online { trace })
         }
         _ => None,
     }

@@ -1,8 +1,9 @@
 -- What is told of an online run of a table is right, and what was sent is told of the table.
 use Rattle.std.proofs.Common.{◌≡◌, ◌∙◌, ℕ, ◌+◌, ◌^◌, ◌<◌, ◌≤◌, List, [], length, sym, ap, subst, arith, refl}
-use Rattle.std.specs.Prelude.{All, Option, slice_index}
+use Rattle.std.specs.Prelude.{◌++◌, ◌∷◌, All, Bool, false, if◌then◌else◌, Option, slice_index, true}
 use Rattle.std.specs.List.{slice_index_or}
-use Rattle.std.proofs.lemmas.List.Elements.{All-weaker}
+use Rattle.std.proofs.lemmas.List.{append_assoc}
+use Rattle.std.proofs.lemmas.List.Elements.{All-append, All-cons, All-nil, All-weaker}
 use Rattle.coflow_units.specs.Completion.{cost}
 use Rattle.coflow_units.specs.Flows.{Instance}
 use Rattle.coflow_units.specs.declared.limits.TheConstants.{MAX_ARRIVAL, MAX_OPTION_SLOTS, MAX_WEIGHT}
@@ -13,28 +14,60 @@ use Rattle.release_bound.specs.ReleaseOrder.{IsReleasedOrdering}
 use Rattle.online_text.specs.declared.value.Online.{Online}
 use Rattle.online_text.specs.Text.{online_text}
 use Rattle.online_check.specs.Arrivals.{arrivals_in}
+use Rattle.journal.specs.declared.command.Entry.{Entry}
 use Rattle.journal.specs.declared.opening.Opening.{Opening}
+use Rattle.journal.specs.Journal.{is_version}
 use Rattle.journal.specs.State.{IsOpening}
 use Rattle.hall_plan.proofs.WireSteps.{untouched}
-use Rattle.online_runs.specs.Deeds.{PublishesTooMany}
+use Rattle.online_runs.specs.Deeds.{IsOnlineRun, PublishesTooMany}
 use Rattle.online_runs.specs.Input.{IsOnlineInput, online_opening}
-use Rattle.online_runs.specs.Value.{IsOnlineOf}
+use Rattle.online_runs.specs.Value.{epoch_at, epochs_from, IsOnlineOf}
 use Rattle.online_runs.proofs.AtTheEnd.{run_serves, served_early}
-use Rattle.online_runs.proofs.Right.{is_right}
+use Rattle.online_runs.proofs.Right.{epoch_bound, is_right}
 use Rattle.hall_online.specs.Serving.{HaveServed}
 use Rattle.outside.specs.Rose.{Rose}
-use Rattle.served_online.specs.Told.{FailsAt, PublishesMore, SendsSoFar, TellsOnline}
+use Rattle.served_online.specs.Told.{FailsAt, IsPublishing, PublishesMore, SendsSoFar, TellsOnline}
 
--- ---- the laws of released certificates
+-- ---- the laws of online runs and of released certificates
 
 -- no schedule that serves nobody before its arrival costs less than the total of a feasible released certificate
 abbrev IsBound : Type 0
 IsBound = (i : Instance) (arrival : ℕ → ℕ) (places : List ReleasePlace) (slots : List (List ℕ)) → IsReleasedCertificate i places → IsReleasedFeasible i.flows i.weight places →
     IsReleased i.flows arrival slots → released_total i.flows arrival i.ports places ≤ cost i.flows i.weight i.coflows slots
 
+-- an online run that ends does not publish more orders than may be published
+abbrev IsApart : Type 0
+IsApart = (o : Opening) (arrivals : List ℕ) (every : ℕ) (journal : List Entry) (count : ℕ) → IsOnlineRun o arrivals every journal → PublishesTooMany o arrivals every count → ⊥
+
 -- the released certificate is feasible
 abbrev IsFeasible : Type 0
 IsFeasible = (i : Instance) (arrival : ℕ → ℕ) (places : List ReleasePlace) → IsReleasedOrdering i arrival places → IsReleasedFeasible i.flows i.weight places
+
+-- ---- the publishings of a journal
+
+at_publishing : (o : Opening) (journal before : List Entry) (e : Entry) (later : List Entry) (b : Bool) → IsOpening o → journal ≡ before ++ (e ∷ later) → is_version e.reply ≡ b →
+    All (IsPublishing o journal) (if b then epoch_at o before ∷ [] else [])
+at_publishing o journal before e later true ok is version =
+    All-cons (IsPublishing o journal) (epoch_at o before) []
+    (record {
+      before = before;
+      published = e;
+      later = later;
+      journal_is = is;
+      gives = version;
+      told = refl;
+      bounds = λ slots valid. epoch_bound o before slots ok valid;
+    })
+    (All-nil (IsPublishing o journal))
+at_publishing o journal before e later false ok is version = All-nil (IsPublishing o journal)
+
+-- each epoch that is told of the entries is that of a publishing
+publishings_from : (o : Opening) (journal before entries : List Entry) → IsOpening o → journal ≡ before ++ entries → All (IsPublishing o journal) (epochs_from o before entries)
+publishings_from o journal before [] ok is = All-nil (IsPublishing o journal)
+publishings_from o journal before (e ∷ es) ok is =
+    All-append (IsPublishing o journal) (if is_version e.reply then epoch_at o before ∷ [] else []) (epochs_from o (before ++ e ∷ []) es)
+    (at_publishing o journal before e es (is_version e.reply) ok is refl)
+    (publishings_from o journal (before ++ e ∷ []) es ok (is ∙ sym (append_assoc before (e ∷ []) es)))
 
 -- ---- one table
 
@@ -52,6 +85,9 @@ module _ (t : TableFacts) (weights : List ℕ) (slot_ms every : ℕ) where
     pub weight : All (λ w. (1 ≤ w) × (w ≤ MAX_WEIGHT)) weights
     pub epoch_some : 1 ≤ every
     pub epoch_fits : every ≤ MAX_OPTION_SLOTS
+
+  pub may_serve : IsTable t → length weights ≡ length t.ids → All (λ w. (1 ≤ w) × (w ≤ MAX_WEIGHT)) weights → 1 ≤ every → every ≤ MAX_OPTION_SLOTS → MayServe
+  may_serve table each weight some fits = record { table = table; each_weight = each; weight = weight; epoch_some = some; epoch_fits = fits }
 
   pub may_open : MayServe → IsOpening o
   may_open may = record {
@@ -78,9 +114,9 @@ module _ (t : TableFacts) (weights : List ℕ) (slot_ms every : ℕ) where
     }
 
     -- what is told of the run, with what holds of it besides
-    pub told_of : IsBound → IsFeasible → (P : Online → Type 0) (x : Online) (text : List ℕ) → IsOnlineOf o given every x → text ≡ online_text x → P x →
+    pub told_of : IsApart → IsBound → IsFeasible → (P : Online → Type 0) (x : Online) (text : List ℕ) → IsOnlineOf o given every x → text ≡ online_text x → P x →
         (told : TellsOnline t weights slot_ms every text) × P told.online
-    told_of total_law released_feasible P x text of is has =
+    told_of apart total_law released_feasible P x text of is has =
         let run : IsOnlineOf o arrivals every x = subst (λ l. IsOnlineOf o l every x) same of in
         let feasible : IsReleasedFeasible t.flows (slice_index weights) run.places =
         released_feasible (instance_of t weights) (slice_index arrivals) run.places run.ordering in (
@@ -88,6 +124,8 @@ module _ (t : TableFacts) (weights : List ℕ) (slot_ms every : ℕ) where
             online = x;
             run = run;
             text_is = is;
+            few = λ count more. apart o arrivals every run.journal count run.run more.next;
+            publishings = subst (All (IsPublishing o run.journal)) (sym run.epochs_are) (publishings_from o run.journal [] run.journal (may_open may) refl);
             released = subst (IsReleased t.flows (slice_index arrivals)) (sym run.runs_are.same) (run_serves o arrivals every run.journal input run.run);
             bounds = λ slots released.
                 omega (arith, run.total_is, total_law (instance_of t weights) (slice_index arrivals) run.places slots run.ordering.certificate feasible released);

@@ -7,6 +7,7 @@ ghost use Rattle.served_online.specs.Told.{FailsAt, PublishesMore, SendsAll, Sen
 use flow_table::Table;
 use hall_online::{OnlineFault, serve_online};
 use online_check::arrivals_of;
+use online_runs::laws::online_runs_are_one;
 use online_text::write_online;
 use outside::Wire;
 use release_bound::laws::{released_is_bound, released_ordering_is_feasible};
@@ -44,6 +45,7 @@ pub fn served_online<R: Threads + Wait + Sync, W: Wire + Send>(
     ensures too_many { (count : ℕ) → result ≡ Err (TooMany count) →
         PublishesMore table.now weights.now slot_ms every count }
 {
+    online_runs_are_one();
     released_is_bound();
     released_ordering_is_feasible();
     let _within = table.coflows();

@@ -1,11 +1,11 @@
 -- What a command does to the bench: whether there is a text decides it, and the job of the words.
 use Rattle.std.proofs.Common.{◌≡◌, ℕ, inl, inr, List, Option, ap, subst, sym, ◌∙◌}
 use Rattle.command_words.specs.Jobs.{Job}
-use Rattle.command_words.specs.Jobs.Job.{audit_job, check_job, classes_job, compare_job, make_job, plan_job}
+use Rattle.command_words.specs.Jobs.Job.{audit_job, check_job, classes_job, compare_job, make_job, online_job, plan_job}
 use Rattle.command_words.specs.Line.{Text}
 use Rattle.command_words.specs.Words.{IsWords, Said}
 use Rattle.command_words.proofs.OneMeaning.{words_one}
-use Rattle.std.specs.Prelude.{Bool, false, true}
+use Rattle.std.specs.Prelude.{Bool, IfSome, false, true}
 use Rattle.flow_table.specs.Table.{TableFacts}
 use Rattle.outside.specs.Shelf.{Told}
 use Rattle.rankers.specs.Meaning.{Meaning}
@@ -15,8 +15,9 @@ use Rattle.sincronia_cli.specs.Causes.{CauseBy, HasCauseOf, HasFilesCause}
 use Rattle.sincronia_cli.specs.Check.{status_for}
 use Rattle.sincronia_cli.specs.Command.{IsCommand}
 use Rattle.sincronia_cli.specs.Outcome.{HasText, IsOutcome, OutcomeBy}
-use Rattle.sincronia_cli.specs.Serving.{Serves}
-use Rattle.sincronia_cli.proofs.EndCauses.{by_wire, of_served}
+use Rattle.sincronia_cli.specs.Online.{FilesPublishMore}
+use Rattle.sincronia_cli.specs.Serving.{Serves, Service}
+use Rattle.sincronia_cli.proofs.EndCauses.{by_epochs, by_wire, of_served}
 
 -- the words are one command
 pub job_of : (words : List Text) (by said : Said) (k : Job) → IsWords words by → IsCommand k words said → by.job ≡ k
@@ -35,6 +36,7 @@ text_by S (check_job trace report) told said bench s text (answer, is, checks) =
 text_by S (make_job seed) told said bench s text outcome = subst HasText (sym outcome.0) tt
 text_by S (compare_job trace) told said bench s text outcome = subst HasText (sym outcome.0) tt
 text_by S (classes_job trace) told said bench s text outcome = subst HasText (sym outcome.0) tt
+text_by S (online_job trace) told said bench s text outcome = subst HasText (sym outcome.0) tt
 text_by S (audit_job trace journal) told said bench s text (answer, is, audits) = of_answer answer s is
 
 pub outcome_has_text : (S : TableFacts → List (List ℕ) → Type 0) (told : Option Told) (said : Said) (bench : List Meaning) (s : Status) (text : List ℕ) →
@@ -56,7 +58,7 @@ no_text before now old new said (status.WriteFault count) cause text = cause
 no_text before now old new said (status.WireFault port count) cause text = cause
 no_text before now old new said status.NoMemory cause text = text
 
-none_by : (F : ℕ → TableFacts → List ℕ → Type 0) (k : Job) (before now : ℕ) (old new : Option Told) (said : Said) (s : Status) → CauseBy F k before now old new said s →
+none_by : (F : ℕ → Service → Type 0) (k : Job) (before now : ℕ) (old new : Option Told) (said : Said) (s : Status) → CauseBy F k before now old new said s →
     HasText s → ⊥
 none_by F (plan_job trace) before now old new said s (inl cause) text = no_text before now old new said s cause text
 none_by F (plan_job trace) before now old new said s (inr cause) text =
@@ -67,8 +69,15 @@ none_by F (make_job seed) before now old new said s cause text =
     of_served (λ port. Serves (F port) (make_job seed) old said) (λ (x : Status). HasText x → ⊥) s (λ t. t) (λ port count t. t) cause text
 none_by F (compare_job trace) before now old new said s cause text = no_text before now old new said s cause text
 none_by F (classes_job trace) before now old new said s cause text = no_text before now old new said s cause text
+none_by F (online_job trace) before now old new said s (inl cause) text = no_text before now old new said s cause text
+none_by F (online_job trace) before now old new said s (inr (inl cause)) text =
+    let (port, count, is, p) = by_wire (λ port. Serves (F port) (online_job trace) old said) s cause in
+    subst HasText is text
+none_by F (online_job trace) before now old new said s (inr (inr cause)) text =
+    let (count, is, p) = by_epochs (λ count. IfSome old (FilesPublishMore said count)) s cause in
+    subst HasText is text
 none_by F (audit_job trace journal) before now old new said s cause text = no_text before now old new said s cause text
 
-pub cause_has_no_text : (F : ℕ → TableFacts → List ℕ → Type 0) (before now : ℕ) (old new : Option Told) (said : Said) (s : Status) → HasCauseOf F before now old new said s →
+pub cause_has_no_text : (F : ℕ → Service → Type 0) (before now : ℕ) (old new : Option Told) (said : Said) (s : Status) → HasCauseOf F before now old new said s →
     HasText s → ⊥
 cause_has_no_text F before now old new said s cause text = none_by F said.job before now old new said s cause text

@@ -2,7 +2,7 @@
 use Rattle.std.proofs.Common.{◌≡◌, ℕ, inl, inr, List, Option, Some, None, ap, refl, sym, subst, ◌∙◌}
 use Rattle.std.specs.Prelude.{◌⊎◌, Bool, false, true}
 use Rattle.command_words.specs.Jobs.{Job, report_name}
-use Rattle.command_words.specs.Jobs.Job.{audit_job, check_job, classes_job, compare_job, make_job, plan_job}
+use Rattle.command_words.specs.Jobs.Job.{audit_job, check_job, classes_job, compare_job, make_job, online_job, plan_job}
 use Rattle.command_words.specs.Line.{Text}
 use Rattle.command_words.specs.Words.{IsWords, Said}
 use Rattle.command_words.proofs.OneMeaning.{words_one}
@@ -19,8 +19,10 @@ use Rattle.sincronia_cli.specs.Complete.{AreGood, EndsWell, HasGoodFiles}
 use Rattle.command_files.specs.Ends.{IsStill}
 use Rattle.command_files.specs.Inputs.{bytes_if}
 use Rattle.sincronia_cli.specs.Outcome.{IsOutcome, OutcomeBy}
-use Rattle.sincronia_cli.specs.Serving.{Serves}
-use Rattle.sincronia_cli.proofs.EndCauses.{by_made, by_wire}
+use Rattle.sincronia_cli.specs.Online.{FilesPublishMore}
+use Rattle.sincronia_cli.specs.Serving.{Serves, Service}
+use Rattle.sincronia_cli.specs.Serving.Service.{online_of, plan_of}
+use Rattle.sincronia_cli.proofs.EndCauses.{by_epochs, by_made, by_wire}
 use Rattle.command_files.proofs.GoodFacts.{HasNoFault, files_end, journal_is_good, no_report, report_is_good}
 
 -- ---- a text that reads has no fault
@@ -40,6 +42,7 @@ module _ (said : Said) (t : Told) where
   other_is_good (make_job seed) same good = no_report_of (make_job seed) same refl
   other_is_good (compare_job trace) same good = no_report_of (compare_job trace) same refl
   other_is_good (classes_job trace) same good = no_report_of (classes_job trace) same refl
+  other_is_good (online_job trace) same good = no_report_of (online_job trace) same refl
   other_is_good (audit_job trace journal) same (table, text) = good_of (audit_job trace journal) same (journal_is_good (bytes_if t (report_name said.job)) text)
 
   -- good files that are read give a table
@@ -49,15 +52,16 @@ module _ (said : Said) (t : Told) where
   table_is_good (make_job seed) reads good = absurd reads
   table_is_good (compare_job trace) reads table = table
   table_is_good (classes_job trace) reads table = table
+  table_is_good (online_job trace) reads table = table
   table_is_good (audit_job trace journal) reads (table, text) = table
 
 -- ---- so a command does not end early
 
 -- no wire failed, whatever was sent
-abbrev pub NoneFailed : (ℕ → TableFacts → List ℕ → Type 0) → Type 0
-NoneFailed F = (port : ℕ) (t : TableFacts) (ws : List ℕ) → F port t ws → ⊥
+abbrev pub NoneFailed : (ℕ → Service → Type 0) → Type 0
+NoneFailed F = (port : ℕ) (s : Service) → F port s → ⊥
 
-by_command : (F : ℕ → TableFacts → List ℕ → Type 0) (k : Job) (before now : ℕ) (old new : Option Told) (said : Said) (s : Status) → said.job ≡ k →
+by_command : (F : ℕ → Service → Type 0) (k : Job) (before now : ℕ) (old new : Option Told) (said : Said) (s : Status) → said.job ≡ k →
     CauseBy F k before now old new said s → AreGood k said old → IsStill before now → NoneFailed F → s ≡ status.NoMemory
 by_command F (plan_job trace) before now None new said s same cause good still wires = absurd good
 by_command F (plan_job trace) before now (Some t) new said s same (inl cause) good still wires =
@@ -65,7 +69,7 @@ by_command F (plan_job trace) before now (Some t) new said s same (inl cause) go
 by_command F (plan_job trace) before now (Some t) new said s same (inr cause) good still wires =
     let (port, count, is, serves) = by_wire (λ port. Serves (F port) (plan_job trace) (Some t) said) s cause in
     let (table, list, input, f) = serves in
-    absurd (wires port table list f)
+    absurd (wires port (plan_of table list) f)
 by_command F (check_job trace report) before now None new said s same cause good still wires = absurd good
 by_command F (check_job trace report) before now (Some t) new said s same cause good still wires =
     files_end before now t new said s cause good.0 (other_is_good said t (check_job trace report) same good) still
@@ -73,18 +77,28 @@ by_command F (make_job seed) before now old new said s same (inl cause) good sti
 by_command F (make_job seed) before now old new said s same (inr cause) good still wires =
     let (port, count, is, serves) = by_wire (λ port. Serves (F port) (make_job seed) old said) s cause in
     let (table, list, gives, f) = serves in
-    absurd (wires port table list f)
+    absurd (wires port (plan_of table list) f)
 by_command F (compare_job trace) before now None new said s same cause good still wires = absurd good
 by_command F (compare_job trace) before now (Some t) new said s same cause good still wires =
     files_end before now t new said s cause good (other_is_good said t (compare_job trace) same good) still
 by_command F (classes_job trace) before now None new said s same cause good still wires = absurd good
 by_command F (classes_job trace) before now (Some t) new said s same cause good still wires =
     files_end before now t new said s cause good (other_is_good said t (classes_job trace) same good) still
+by_command F (online_job trace) before now None new said s same cause good still wires = absurd good
+by_command F (online_job trace) before now (Some t) new said s same (inl cause) good still wires =
+    files_end before now t new said s cause good.0 (other_is_good said t (online_job trace) same good.0) still
+by_command F (online_job trace) before now (Some t) new said s same (inr (inl cause)) good still wires =
+    let (port, count, is, serves) = by_wire (λ port. Serves (F port) (online_job trace) (Some t) said) s cause in
+    let (table, list, input, f) = serves in
+    absurd (wires port (online_of table list said.slot_ms said.epoch) f)
+by_command F (online_job trace) before now (Some t) new said s same (inr (inr cause)) good still wires =
+    let (count, is, more) = by_epochs (λ count. FilesPublishMore said count t) s cause in
+    absurd (good.1 count more)
 by_command F (audit_job trace journal) before now None new said s same cause good still wires = absurd good
 by_command F (audit_job trace journal) before now (Some t) new said s same cause good still wires =
     files_end before now t new said s cause good.0 (other_is_good said t (audit_job trace journal) same good) still
 
-pub good_files_end : (F : ℕ → TableFacts → List ℕ → Type 0) (words : List Text) (by said : Said) (before now : ℕ) (old new : Option Told) (s : Status) → IsWords words by →
+pub good_files_end : (F : ℕ → Service → Type 0) (words : List Text) (by said : Said) (before now : ℕ) (old new : Option Told) (s : Status) → IsWords words by →
     IsWords words said → HasCauseOf F before now old new by s → AreGood said.job said old → IsStill before now → NoneFailed F →
     EndsWell said.job s ⊎ (s ≡ status.NoMemory)
 good_files_end F words by said before now old new s reads is cause good still wires =
@@ -104,6 +118,7 @@ written_by S (check_job trace report) told said bench s text (answer, is, checks
 written_by S (make_job seed) told said bench s text outcome = outcome.0
 written_by S (compare_job trace) told said bench s text outcome = outcome.0
 written_by S (classes_job trace) told said bench s text outcome = outcome.0
+written_by S (online_job trace) told said bench s text outcome = outcome.0
 written_by S (audit_job trace journal) told said bench s text (answer, is, audits) = answer_ends answer s is
 
 pub written_ends : (S : TableFacts → List (List ℕ) → Type 0) (words : List Text) (by said : Said) (told : Option Told) (bench : List Meaning) (s : Status) (text : List ℕ) →

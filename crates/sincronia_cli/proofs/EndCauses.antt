@@ -1,9 +1,11 @@
--- The statuses with which a plan that is served ends before its text is there.
-use Rattle.std.proofs.Common.{◌≡◌, ℕ, inl, inr, refl, sym, subst}
+-- The statuses with which a plan or an online run that is served ends before its text is there.
+use Rattle.std.proofs.Common.{◌≡◌, ℕ, ap, inl, inr, refl, sym, subst}
 use Rattle.std.specs.Prelude.{◌⊎◌}
 use Rattle.command_files.specs.declared.status.Status.{Status}
 use Rattle.command_files.specs.declared.status.Status.TheVariants as status
+use Rattle.coflow_units.specs.declared.quantity.Quantity.TheVariants.{Epochs}
 use Rattle.sincronia_cli.specs.Causes.{HasMadeCause}
+use Rattle.sincronia_cli.specs.Online.{IsEpochsCause}
 use Rattle.command_files.specs.WireCauses.{IsWireCause}
 
 -- a wire fault
@@ -19,6 +21,20 @@ by_wire P (status.Limit which count) cause = absurd cause
 by_wire P (status.ReadFault count) cause = absurd cause
 by_wire P (status.WriteFault count) cause = absurd cause
 by_wire P status.NoMemory cause = absurd cause
+
+-- a limit of epochs
+pub by_epochs : (P : ℕ → Type 0) (s : Status) → IsEpochsCause P s → (count : ℕ) × (s ≡ status.Limit Epochs count) × P count
+by_epochs P (status.Limit which count) (is, p) = (count, ap (λ w. status.Limit w count) is, p)
+by_epochs P status.Ok cause = absurd cause
+by_epochs P status.No cause = absurd cause
+by_epochs P status.Usage cause = absurd cause
+by_epochs P (status.BadTrace fault) cause = absurd cause
+by_epochs P (status.BadWeights fault) cause = absurd cause
+by_epochs P (status.BadReport line) cause = absurd cause
+by_epochs P (status.WireFault port count) cause = absurd cause
+by_epochs P (status.ReadFault count) cause = absurd cause
+by_epochs P (status.WriteFault count) cause = absurd cause
+by_epochs P status.NoMemory cause = absurd cause
 
 -- want of memory
 pub by_made : (s : Status) → HasMadeCause s → s ≡ status.NoMemory

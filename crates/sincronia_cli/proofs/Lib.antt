@@ -2,6 +2,7 @@ pub mod PlanFacts
 pub mod CompareFacts
 pub mod WordFacts
 pub mod EndCauses
+pub mod OnlineFacts
 pub mod OutcomeFacts
 pub mod BenchFacts
 pub mod CheckFacts

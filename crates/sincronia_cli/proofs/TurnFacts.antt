@@ -2,7 +2,7 @@
 use Rattle.std.proofs.Common.{◌≡◌, IfErr, ℕ, List, Option, Some, Result, Ok, Err, refl, sym, subst}
 use Rattle.std.specs.Prelude.{◌⊎◌, Bool, IfSome, false, true}
 use Rattle.command_words.specs.Jobs.{Job, report_name, trace_name}
-use Rattle.command_words.specs.Jobs.Job.{audit_job, check_job, classes_job, compare_job, make_job, plan_job}
+use Rattle.command_words.specs.Jobs.Job.{audit_job, check_job, classes_job, compare_job, make_job, online_job, plan_job}
 use Rattle.command_words.specs.Line.{Text}
 use Rattle.command_words.specs.Words.{IsWords, Said}
 use Rattle.command_words.proofs.OneMeaning.{words_one}
@@ -54,6 +54,7 @@ text_reads S (check_job trace report) told said bench s text (answer, is, checks
 text_reads S (make_job seed) told said bench s text (is, made) read = subst IsReadFault is read
 text_reads S (compare_job trace) told said bench s text (is, compares) read = subst IsReadFault is read
 text_reads S (classes_job trace) told said bench s text (is, classes) read = subst IsReadFault is read
+text_reads S (online_job trace) told said bench s text (is, run) read = subst IsReadFault is read
 text_reads S (audit_job trace journal) told said bench s text (answer, is, audits) read = answer_reads answer s is read
 
 module _ (old new : Option Told) (said : Said) (s : Status) where
@@ -65,6 +66,7 @@ module _ (old new : Option Told) (said : Said) (s : Status) where
       (of_both old new (ReadsOut (check_job trace report) said) (AreReadOut (trace_name said.job) said.weights) (λ a b (both, report). both) out)
   done_by (compare_job trace) other good out same = done_in_turn old new said s other good out
   done_by (classes_job trace) other good out same = done_in_turn old new said s other good out
+  done_by (online_job trace) other good out same = done_in_turn old new said s other good out
   done_by (audit_job trace journal) other good out same =
       done_in_turn old new said s other (if_some old (HasGoodFiles (audit_job trace journal) said) (FilesGiveTable said) (λ t (gives, text). gives) good)
       (of_both old new (ReadsOut (audit_job trace journal) said) (AreReadOut (trace_name said.job) said.weights) (λ a b (both, other). both) out)

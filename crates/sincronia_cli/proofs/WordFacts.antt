@@ -1,6 +1,6 @@
 -- What words say fits their command.
 use Rattle.std.proofs.Common.{ℕ, ◌≤◌, List, Option, Some, None, arith}
-use Rattle.coflow_units.specs.declared.limits.TheConstants.{MAX_SLOT_MS, MAX_UNIT}
+use Rattle.coflow_units.specs.declared.limits.TheConstants.{MAX_OPTION_SLOTS, MAX_SLOT_MS, MAX_UNIT}
 use Rattle.command_words.specs.declared.words.TheConstants.{MAX_OPTION_CLASSES}
 use Rattle.command_words.specs.Line.{Text}
 use Rattle.command_words.specs.Words.{IsSetting, IsWords, Said}
@@ -22,12 +22,17 @@ agents_fit words said is = setting_fits 64 4 _ said.agents (omega arith) (omega 
 time_fits : (words : List Text) (said : Said) → IsWords words said → (1 ≤ said.slot_ms) × (said.slot_ms ≤ MAX_SLOT_MS)
 time_fits words said is = setting_fits (MAX_SLOT_MS) 8 _ said.slot_ms (omega arith) (omega arith) is.says.slot_ms
 
+epoch_fits : (words : List Text) (said : Said) → IsWords words said → (1 ≤ said.epoch) × (said.epoch ≤ MAX_OPTION_SLOTS)
+epoch_fits words said is = setting_fits (MAX_OPTION_SLOTS) 1024 _ said.epoch (omega arith) (omega arith) is.says.epoch
+
 pub words_fit : (words : List Text) (said : Said) → IsWords words said → Fits said
 words_fit words said is = record {
   some = (unit_fits words said is).0;
   unit_limit = (unit_fits words said is).1;
   some_agents = (agents_fit words said is).0;
   few_agents = omega (arith, (agents_fit words said is).1);
+  some_epoch = (epoch_fits words said is).0;
+  epoch_limit = (epoch_fits words said is).1;
   some_time = (time_fits words said is).0;
   some_classes = (classes_fit words said is).0;
   few_classes = (classes_fit words said is).1;

@@ -2,7 +2,7 @@
 use Rattle.std.proofs.Common.{◌≡◌, ℕ, List, refl, sym, subst, ◌∙◌}
 use Rattle.std.specs.Prelude.{Bool, Option, Ok, false, true}
 use Rattle.command_words.specs.Jobs.{Job}
-use Rattle.command_words.specs.Jobs.Job.{audit_job, check_job, classes_job, compare_job, make_job, plan_job}
+use Rattle.command_words.specs.Jobs.Job.{audit_job, check_job, classes_job, compare_job, make_job, online_job, plan_job}
 use Rattle.command_words.specs.Line.{Text}
 use Rattle.command_words.specs.Words.{IsWords, Said}
 use Rattle.flow_table.specs.Table.{TableFacts}
@@ -18,12 +18,14 @@ use Rattle.sincronia_cli.specs.Classes.{WritesClasses}
 use Rattle.sincronia_cli.specs.Compare.{WritesComparison}
 use Rattle.sincronia_cli.specs.Make.{WritesMade}
 use Rattle.sincronia_cli.specs.Outcome.{IsOutcome, OutcomeBy, WritesNoBy}
+use Rattle.sincronia_cli.specs.Online.{WritesOnline}
 use Rattle.sincronia_cli.specs.Plan.{WritesPlan}
 use Rattle.sincronia_cli.proofs.AuditFacts.{sure_sound}
 use Rattle.sincronia_cli.proofs.CheckFacts.{OnlineLaw, sure_yes}
 use Rattle.sincronia_cli.proofs.CompareFacts.{writes_comparison}
 use Rattle.sincronia_cli.proofs.OutcomeFacts.{outcome_by}
 use Rattle.command_files.proofs.SinkFacts.{appended}
+use Rattle.sincronia_cli.proofs.OnlineFacts.{writes_online}
 use Rattle.sincronia_cli.proofs.PlanFacts.{writes_plan}
 
 module _ {X : Type 0} (E : Type 0) (S : TableFacts → List (List ℕ) → Type 0) (words : List Text) (by said : Said) (told : Option Told) (bench : List Meaning) (s : Status)
@@ -47,6 +49,11 @@ module _ {X : Type 0} (E : Type 0) (S : TableFacts → List (List ℕ) → Type 
       TakesText {E = E} old new lent (Ok x) → WritesClasses told said old new
   classes_written trace reads is outcome e takes =
       record { text = text; classes = (outcome_by S words by said (classes_job trace) told bench s text reads is outcome).1; written = appended E old new text lent x e takes }
+
+  pub online_written : (trace : Text) → IsWords words by → IsCommand (online_job trace) words said → IsOutcome S told by bench s text → lent ≡ text →
+      TakesText {E = E} old new lent (Ok x) → WritesOnline S told said old new
+  online_written trace reads is outcome e takes =
+      writes_online S told said old new text (outcome_by S words by said (online_job trace) told bench s text reads is outcome).1 (appended E old new text lent x e takes)
 
   yes_for : (answer : Bool) → s ≡ status_for answer → s ≡ status.Ok → answer ≡ true
   yes_for true is ok = refl
@@ -83,4 +90,5 @@ module _ {X : Type 0} (E : Type 0) (S : TableFacts → List (List ℕ) → Type 
       by_job (make_job seed) (is, made) = let bad : status.Ok ≡ status.No = sym is ∙ wrong in cc
       by_job (compare_job trace) (is, compares) = let bad : status.Ok ≡ status.No = sym is ∙ wrong in cc
       by_job (classes_job trace) (is, classes) = let bad : status.Ok ≡ status.No = sym is ∙ wrong in cc
+      by_job (online_job trace) (is, run) = let bad : status.Ok ≡ status.No = sym is ∙ wrong in cc
       by_job (audit_job trace journal) (answer, is, audits) = by_verdict answer is audits

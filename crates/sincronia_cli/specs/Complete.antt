@@ -1,13 +1,14 @@
 -- When a command ends well.
 use Rattle.std.specs.Prelude.{◌≡◌, ◌⊎◌, Option, IsSomeAnd}
 use Rattle.command_words.specs.Jobs.{Job, report_name}
-use Rattle.command_words.specs.Jobs.Job.{audit_job, check_job, classes_job, compare_job, make_job, plan_job}
+use Rattle.command_words.specs.Jobs.Job.{audit_job, check_job, classes_job, compare_job, make_job, online_job, plan_job}
 use Rattle.command_words.specs.Words.{Said}
 use Rattle.outside.specs.Shelf.{Told}
 use Rattle.command_files.specs.declared.status.Status.{Status}
 use Rattle.command_files.specs.declared.status.Status.TheVariants.{No, Ok}
 use Rattle.command_files.specs.Causes.{FilesGiveTable}
 use Rattle.command_files.specs.Inputs.{bytes_if}
+use Rattle.sincronia_cli.specs.Online.{PublishesFew}
 use Rattle.command_files.specs.Reports.{IsJournalText, IsReportText}
 
 -- the texts of all files that the command reads have no fault, and they are within the limits
@@ -19,8 +20,9 @@ HasGoodFiles (compare_job trace) said t = FilesGiveTable said t
 HasGoodFiles (classes_job trace) said t = FilesGiveTable said t
 HasGoodFiles (audit_job trace journal) said t =
     FilesGiveTable said t × IsJournalText (bytes_if t (report_name said.job))
+HasGoodFiles (online_job trace) said t = FilesGiveTable said t
 
--- the files that the command reads are told, and they are good
+-- the files that the command reads are told, and they are good; an online run of them does not publish too many orders
 abbrev pub AreGood : Job → Said → Option Told → Type 0
 AreGood (plan_job trace) said told = IsSomeAnd told (HasGoodFiles (plan_job trace) said)
 AreGood (check_job trace report) said told = IsSomeAnd told (HasGoodFiles (check_job trace report) said)
@@ -28,6 +30,8 @@ AreGood (make_job seed) said told = Unit {0}
 AreGood (compare_job trace) said told = IsSomeAnd told (HasGoodFiles (compare_job trace) said)
 AreGood (classes_job trace) said told = IsSomeAnd told (HasGoodFiles (classes_job trace) said)
 AreGood (audit_job trace journal) said told = IsSomeAnd told (HasGoodFiles (audit_job trace journal) said)
+AreGood (online_job trace) said told =
+    IsSomeAnd told (λ t. HasGoodFiles (online_job trace) said t × PublishesFew (online_job trace) said t)
 
 -- the job of the command was done, and its text was written whole
 abbrev pub EndsWell : Job → Status → Type 0
@@ -37,3 +41,4 @@ EndsWell (make_job seed) status = status ≡ Ok
 EndsWell (compare_job trace) status = status ≡ Ok
 EndsWell (classes_job trace) status = status ≡ Ok
 EndsWell (audit_job trace journal) status = (status ≡ Ok) ⊎ (status ≡ No)
+EndsWell (online_job trace) status = status ≡ Ok

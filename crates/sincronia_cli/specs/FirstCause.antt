@@ -5,19 +5,21 @@ use Rattle.command_words.specs.Words.{Said}
 use Rattle.outside.specs.Shelf.{Told}
 use Rattle.command_files.specs.declared.status.Status.{Status}
 use Rattle.command_files.specs.declared.status.Status.TheVariants.{BadTrace, BadWeights, BadReport, Limit, Ok, NoMemory, ReadFault, WireFault, WriteFault}
-use Rattle.command_files.specs.Causes.{FilesLimit, FilesTraceFault, FilesWeightsFault}
+use Rattle.command_files.specs.Causes.{FilesTraceFault, FilesWeightsFault}
 use Rattle.sincronia_cli.specs.Causes.{FilesReportFault}
 use Rattle.sincronia_cli.specs.Complete.{EndsWell, HasGoodFiles}
+use Rattle.sincronia_cli.specs.Online.{CommandLimit, PublishesFew}
 use Rattle.command_files.specs.TraceCauses.{IsTraceForm}
 use Rattle.command_files.specs.WeightsCauses.{IsWeightsForm}
 
--- The status says the first thing that is wrong with the files of a command, or is Ok where they are good.
+-- The status says the first thing that is wrong with the files of a command, or is Ok where they are good. Of a file
+-- nothing is wrong where an online run would publish too many orders; this comes last.
 abbrev pub IsFirstCause : Said → Told → Status → Type 0
 IsFirstCause said t (BadTrace fault) = IsTraceForm fault × FilesTraceFault said fault t
 IsFirstCause said t (BadWeights fault) = IsWeightsForm fault × FilesWeightsFault said fault t
-IsFirstCause said t (Limit which count) = FilesLimit said which count t
+IsFirstCause said t (Limit which count) = CommandLimit said which count t
 IsFirstCause said t (BadReport line) = FilesReportFault said line t
-IsFirstCause said t Ok = HasGoodFiles said.job said t
+IsFirstCause said t Ok = HasGoodFiles said.job said t × PublishesFew said.job said t
 IsFirstCause said t status = ⊥
 
 -- the status of a command whose files call for this one

@@ -5,6 +5,7 @@ pub mod Audit
 pub mod Make
 pub mod Compare
 pub mod Classes
+pub mod Online
 pub mod Outcome
 pub mod Serving
 pub mod Causes

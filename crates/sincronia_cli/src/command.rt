@@ -3,15 +3,15 @@ ghost use Rattle.std.specs.Prelude.{◌≡◌, ◌≢◌, ◌≤◌, ◌<◌, �
 ghost use Rattle.coflow_units.specs.declared.limits.TheConstants.{MAX_PORTS};
 ghost use Rattle.coflow_units.specs.declared.quantity.Quantity.{Quantity};
 ghost use Rattle.command_words.specs.Jobs.{report_name};
-ghost use Rattle.command_words.specs.Jobs.Job.{audit_job, check_job, classes_job, compare_job, make_job, plan_job};
+ghost use Rattle.command_words.specs.Jobs.Job.{audit_job, check_job, classes_job, compare_job, make_job, online_job, plan_job};
 ghost use Rattle.command_words.specs.Line.{texts};
 ghost use Rattle.command_words.specs.Words.{IsWords, Said, said_by};
 ghost use Rattle.outside.specs.Rose.{Rose, RoseOnce};
 ghost use Rattle.rankers.specs.FactsTold.{FactsTold};
 ghost use Rattle.trace_reader.specs.declared.fault.TraceFault.{TraceFault};
 ghost use Rattle.weights.specs.declared.fault.WeightsFault.{WeightsFault};
-ghost use Rattle.served_plans.specs.Sent.{SendsAll, SendsPart, StopsShort};
-ghost use Rattle.command_files.specs.Causes.{FileFailed, FilesLimit, FilesTraceFault, FilesWeightsFault, IsGiven};
+ghost use Rattle.served_plans.specs.Sent.{SendsAll};
+ghost use Rattle.command_files.specs.Causes.{FileFailed, FilesTraceFault, FilesWeightsFault, IsGiven};
 ghost use Rattle.sincronia_cli.specs.Causes.{FilesReportFault, HasCauseOf};
 ghost use Rattle.sincronia_cli.specs.Audit.{WritesSound};
 ghost use Rattle.sincronia_cli.specs.Check.{WritesYes};
@@ -23,9 +23,10 @@ ghost use Rattle.command_files.specs.Ends.{IsStill, CountsFault, IfPastFiles, Is
 ghost use Rattle.command_files.specs.FileCauses.{ShelfFailed};
 ghost use Rattle.sincronia_cli.specs.FirstCause.{EndsBy, IsFirstCause, IsInterrupted};
 ghost use Rattle.sincronia_cli.specs.Make.{WritesMade};
+ghost use Rattle.sincronia_cli.specs.Online.{CommandLimit, PublishesFew, WritesOnline};
 ghost use Rattle.sincronia_cli.specs.Outcome.{HasText, IsOutcome, WritesBeginning, WritesNoBy};
 ghost use Rattle.sincronia_cli.specs.Plan.{WritesPlan};
-ghost use Rattle.sincronia_cli.specs.Serving.{AreStill, MayHaveSent, SendsOnly, Serves, WireFailed};
+ghost use Rattle.sincronia_cli.specs.Serving.{AreStill, MayHaveSent, Sends, SendsOnly, Serves, Stops, WireFailed};
 ghost use Rattle.command_files.specs.Shelves.{KeepsFiles, OfBoth, ReadsOut};
 ghost use Rattle.command_files.specs.TraceCauses.{IsTraceForm};
 ghost use Rattle.command_files.specs.Turns.{FilesInTurn};
@@ -36,6 +37,7 @@ use crate::checking::check_report;
 use crate::classing::list_classes;
 use crate::comparing::compare_rankers;
 use crate::making::make_workload;
+use crate::onlining::run_online;
 use crate::outcome::Outcome;
 use crate::planning::plan_trace;
 use command_files::Status;
@@ -47,8 +49,8 @@ use std::alloc::Global;
 use std::sync::Wait;
 use std::thread::Threads;
 
-/// Does what the words ask for, and writes one text to the sink. Where a plan is served, its units are sent on the wires
-/// before.
+/// Does what the words ask for, and writes one text to the sink. Where a plan or an online run is served, its units are sent
+/// on the wires before.
 ///
 /// - `plan TRACE` reads the file of that name on the shelf and writes the plan of its trace. With `--weights FILE` the
 ///   coflows have the weights of that file, and else weight 1 each; with `--unit MEGABYTES` a unit has so many
@@ -65,6 +67,15 @@ use std::thread::Threads;
 ///   schedule serves nobody before its arrival and has the stated cost, and that the stated total is at most the cost of
 ///   every valid schedule that does so; a coflow arrives at its milliseconds over those of a slot, rounded up, and a slot
 ///   has as many as `--slot-ms` says, and else 8. Of the orders that were published it says nothing.
+/// - `online TRACE` serves the trace as its coflows arrive, and writes the text of that online run. A coflow arrives at its
+///   milliseconds over those of a slot, rounded up, and a slot has as many as `--slot-ms` says, and else 8. Again and again
+///   the first of these is done that applies: a coflow that arrived joins; at each multiple of the epoch, where one of the
+///   coflows that are there owes units, those that owe none leave and a new order is published; the coflows are served up to
+///   the next epoch or arrival; slots are skipped up to the next arrival. An epoch has as many slots as `--epoch` says, from
+///   1 to 2^40, and else 1024. The text tells the order and the bound of each publishing, which is at most the cost of every
+///   valid schedule of what is left there, the completions, the cost, a released certificate with its total, which is at
+///   most the cost of every valid schedule that serves nobody before its arrival, and the schedule, which is one of these.
+///   `--weights`, `--unit` and `--agents` are as for `plan`, and the schedule is served as for `plan`.
 /// - `make SEED` makes a trace and weights from a number, plans and serves them as `plan` does, and writes a summary of
 ///   the plan, whose report is right. It reads no file.
 /// - `compare TRACE` asks the rankers of the bench for orders of the trace's coflows, one ranker after another, and
@@ -81,10 +92,11 @@ use std::thread::Threads;
 ///   a port with a served flow no later in the line; no flow stands twice in a slot, nor in more slots than it has units.
 ///   It says nothing of who asked, nor of when.
 ///
-/// There is a wire for each ingress port that a trace may have, 1025 of them; further ones are left alone. `plan` and `make`
-/// alone use them. Where they tell what they accepted, at `Ok` and `WriteFault` each of them has the units of the plan's
-/// schedule that begin at its port, each once, behind what it had. At `WireFault` and `NoMemory` it has some of these, none
-/// twice, or none. At every other status, and for every other command, it is as before.
+/// There is a wire for each ingress port that a trace may have, 1025 of them; further ones are left alone. `plan`, `make` and
+/// `online` alone use them. Where they tell what they accepted, at `Ok` and `WriteFault` each of them has the units of the
+/// schedule that begin at its port, each once, behind what it had. At `WireFault`, `NoMemory` and a `Limit` of epochs it has
+/// some of these, none twice, or none; of an online run none in a slot at or before its coflow's arrival. At every other
+/// status, and for every other command, it is as before.
 ///
 /// The bench has fewer than 2^32 rankers, and `compare` alone uses it. A ranker that was asked is dropped, so at `Ok`
 /// and `WriteFault` of `compare` the bench is empty; at its `NoMemory` those that were not reached are still there, as
@@ -112,14 +124,15 @@ use std::thread::Threads;
 ///   line tells, or, for `audit`, no printed journal. The line is the first one that no text of such a kind has after the
 ///   lines before it.
 /// - `Limit`: a quantity of the files is outside its range, and nothing that is looked at before it is wrong. It does
-///   not come for `make`.
+///   not come for `make`. That of epochs comes for `online` alone, where nothing is wrong with the files and more than 8192
+///   orders would be published; its count is 8193.
 /// - `ReadFault`: a call to the shelf failed, and its count of faults rose. `count` is 1. The file is the trace, or the
 ///   weights where the trace has no fault, or the report or the printed journal where trace and weights give a table
 ///   within its limits.
 /// - `WriteFault`: a call to the sink failed, and its count of faults rose. `count` is 1. A beginning of the text was
 ///   written, which is shorter than the text.
-/// - `WireFault`: in `plan` or `make` the wire of this ingress port did not accept a unit, and its count of faults rose.
-///   `count` is 1. It is the least port at which a unit of the last run is missing.
+/// - `WireFault`: in `plan`, `make` or `online` the wire of this ingress port did not accept a unit, and its count of faults
+///   rose. `count` is 1. In `plan` and `make` it is the least port at which a unit of the last run is missing.
 /// - `NoMemory`: no memory was to be had.
 ///
 /// Where the files of the command are told, the status is the one of the first thing that is wrong with them, or where
@@ -147,6 +160,11 @@ pub fn sincronia<R: Threads + Wait + Sync, H: Shelf, K: Sink, W: Wire + Send>(
         WritesSound (H.told shelf.old) said (K.taken out.old) (K.taken out.new) }
     ensures no { result ≡ Status.No → (said : Said) × IsWords (texts words.now) said ×
         WritesNoBy said.job (H.told shelf.old) said (K.taken out.old) (K.taken out.new) }
+    ensures online { (said : Said) (trace : List ℕ) → IsCommand (online_job trace) (texts words.now) said →
+        result ≡ Status.Ok → WritesOnline (SendsAll W.runs wires.old.items wires.new.items) (H.told shelf.old) said
+        (K.taken out.old) (K.taken out.new) }
+    ensures few { (said : Said) → IsWords (texts words.now) said → HasText result →
+        IfSome (H.told shelf.old) (PublishesFew said.job said) }
     ensures make { (said : Said) (seed : ℕ) → IsCommand (make_job seed) (texts words.now) said → result ≡ Status.Ok →
         WritesMade (SendsAll W.runs wires.old.items wires.new.items) seed said.unit (K.taken out.old)
         (K.taken out.new) }
@@ -189,7 +207,7 @@ pub fn sincronia<R: Threads + Wait + Sync, H: Shelf, K: Sink, W: Wire + Send>(
         (said : Said) × IsWords (texts words.now) said × IsGiven (report_name said.job) ×
         IfSome (H.told shelf.old) (FilesReportFault said line) }
     ensures limit { (which : Quantity) (count : ℕ) → result ≡ Status.Limit which count →
-        (said : Said) × IsOfFiles (texts words.now) said × IfSome (H.told shelf.old) (FilesLimit said which count) }
+        (said : Said) × IsOfFiles (texts words.now) said × IfSome (H.told shelf.old) (CommandLimit said which count) }
     ensures read { (count : ℕ) → result ≡ Status.ReadFault count → (said : Said) × IsOfFiles (texts words.now) said ×
         ShelfFailed (H.faults shelf.old) (H.faults shelf.new) (H.told shelf.old) (H.told shelf.new) (FileFailed said)
         count }
@@ -241,6 +259,8 @@ fn carry_out<'a, R: Threads + Wait + Sync, H: Shelf, W: Wire + Send>(
     requires wires { MAX_PORTS < length wires.old.items }
     ensures outcome { IfOk result (λ o. IsOutcome (SendsAll W.runs wires.old.items wires.new.items)
         (H.told shelf.old) (said_by words.entry) (map (λ b. meaning b) bench.old.items) o.status o.text.items) }
+    ensures few { OnOk result (IfSome (H.told shelf.old)
+        (PublishesFew (said_by words.entry).job (said_by words.entry))) }
     ensures empty { OnOk result ((trace : List ℕ) → (said_by words.entry).job ≡ compare_job trace →
         bench.new.items ≡ []) }
     ensures left { (reached : ℕ) × (bench.new.items ≡ drop reached bench.old.items) ×
@@ -248,7 +268,7 @@ fn carry_out<'a, R: Threads + Wait + Sync, H: Shelf, W: Wire + Send>(
     ensures same_bench { IfErr result (λ status. status ≢ Status.NoMemory → bench.new.items ≡ bench.old.items) }
     ensures others_bench { ((trace : List ℕ) → (said_by words.entry).job ≡ compare_job trace → ⊥) →
         bench.new.items ≡ bench.old.items }
-    ensures sent { (wires.new.items ≡ wires.old.items) ⊎ Serves (SendsPart W.runs wires.old.items wires.new.items)
+    ensures sent { (wires.new.items ≡ wires.old.items) ⊎ Serves (Sends W.runs wires.old.items wires.new.items)
         (said_by words.entry).job (H.told shelf.old) (said_by words.entry) }
     ensures unsent { IfErr result (λ status. (MayHaveSent status → ⊥) → wires.new.items ≡ wires.old.items) }
     ensures read_out { IfPastFiles result (OfBoth (H.told shelf.old) (H.told shelf.new)
@@ -258,7 +278,7 @@ fn carry_out<'a, R: Threads + Wait + Sync, H: Shelf, W: Wire + Send>(
     ensures in_turn { IfErr result (λ status. OfBoth (H.told shelf.old) (H.told shelf.new)
         (FilesInTurn (said_by words.entry) status)) }
     ensures cause { IfErr result
-        (HasCauseOf (StopsShort W.faults W.runs wires.old.items wires.new.items) (H.faults shelf.old)
+        (HasCauseOf (Stops W.faults W.runs wires.old.items wires.new.items) (H.faults shelf.old)
         (H.faults shelf.new) (H.told shelf.old) (H.told shelf.new) (said_by words.entry)) }
     ensures keeps { KeepsFiles (H.told shelf.old) (H.told shelf.new) }
     ensures counts { CountsFault (H.faults shelf.old) (H.faults shelf.new) result }
@@ -279,5 +299,6 @@ fn carry_out<'a, R: Threads + Wait + Sync, H: Shelf, W: Wire + Send>(
         Job::Compare { trace } => compare_rankers(alloc, trace, words.options, shelf, bench),
         Job::Classes { trace } => list_classes(alloc, trace, words.options, shelf),
         Job::Audit { trace, journal } => audit_journal(alloc, trace, journal, words.options, shelf),
+        Job::Online { trace } => run_online(rt, alloc, trace, words.options, shelf, wires),
     }
 }

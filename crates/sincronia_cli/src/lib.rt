@@ -8,6 +8,7 @@ mod command;
 mod comparing;
 pub mod laws;
 mod making;
+mod onlining;
 mod outcome;
 mod planning;
 mod serving;

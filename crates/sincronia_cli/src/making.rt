@@ -17,10 +17,10 @@ ghost use Rattle.text_fields.specs.Checks.{first_fault};
 ghost use Rattle.trace_reader.specs.Trace.{trace_checks, trace_of};
 ghost use Rattle.weights.specs.Weights.{text_checks, weights_of};
 ghost use Rattle.sincronia_cli.specs.Causes.{HasMadeCause};
-ghost use Rattle.served_plans.specs.Sent.{SendsAll, SendsPart, StopsShort};
+ghost use Rattle.served_plans.specs.Sent.{SendsAll};
 ghost use Rattle.sincronia_cli.specs.Make.{GivesMade, MadeOf, summary_of};
 ghost use Rattle.command_files.specs.WireCauses.{IsWireCause};
-ghost use Rattle.sincronia_cli.specs.Serving.{ServesMade};
+ghost use Rattle.sincronia_cli.specs.Serving.{Sends, ServesMade, Stops};
 
 use crate::outcome::Outcome;
 use crate::serving::serve;
@@ -55,10 +55,10 @@ pub(crate) fn make_workload<R: Threads + Wait + Sync, W: Wire + Send>(
     requires wires { MAX_PORTS < length wires.old.items }
     ensures outcome { IfOk result (λ o. (o.status ≡ Status.Ok) ×
         MadeOf (SendsAll W.runs wires.old.items wires.new.items) seed unit o.text.items) }
-    ensures sent { (wires.new.items ≡ wires.old.items) ⊎ ServesMade (SendsPart W.runs wires.old.items wires.new.items)
+    ensures sent { (wires.new.items ≡ wires.old.items) ⊎ ServesMade (Sends W.runs wires.old.items wires.new.items)
         seed unit }
     ensures cause { IfErr result (λ status. HasMadeCause status ⊎ IsWireCause
-        (λ port. ServesMade (StopsShort W.faults W.runs wires.old.items wires.new.items port) seed unit) status) }
+        (λ port. ServesMade (Stops W.faults W.runs wires.old.items wires.new.items port) seed unit) status) }
 {
     let input = made_input(alloc, seed, unit)?;
     let planned = serve(rt, alloc, &input, agents as u32, wires)?;

@@ -3,13 +3,13 @@ ghost use Rattle.std.specs.Prelude.{◌≡◌, ℕ, ◌<◌, ◌≤◌, ◌^◌,
 ghost use Rattle.coflow_units.specs.declared.limits.TheConstants.{MAX_PORTS, MAX_UNIT};
 ghost use Rattle.command_words.specs.Jobs.Job.{plan_job};
 ghost use Rattle.command_words.specs.Words.{said_with};
-ghost use Rattle.served_plans.specs.Sent.{SendsAll, SendsPart, StopsShort};
+ghost use Rattle.served_plans.specs.Sent.{SendsAll};
 ghost use Rattle.sincronia_cli.specs.Causes.{HasFilesCause};
 ghost use Rattle.sincronia_cli.specs.Complete.{HasGoodFiles};
 ghost use Rattle.command_files.specs.Ends.{CountsFault, IfPastFiles};
 ghost use Rattle.sincronia_cli.specs.Plan.{PlanOf};
 ghost use Rattle.command_files.specs.WireCauses.{IsWireCause};
-ghost use Rattle.sincronia_cli.specs.Serving.{MayHaveSent, Serves};
+ghost use Rattle.sincronia_cli.specs.Serving.{MayHaveSent, Sends, Serves, Stops};
 ghost use Rattle.command_files.specs.Shelves.{KeepsFiles, OfBoth, ReadsOut};
 ghost use Rattle.command_files.specs.Turns.{FilesInTurn};
 
@@ -41,7 +41,7 @@ pub(crate) fn plan_trace<'a, R: Threads + Wait + Sync, H: Shelf, W: Wire + Send>
         PlanOf (SendsAll W.runs wires.old.items wires.new.items) (H.told shelf.old)
         (said_with (plan_job trace.now) options.entry) o.text.items) }
     ensures sent { (wires.new.items ≡ wires.old.items) ⊎
-        Serves (SendsPart W.runs wires.old.items wires.new.items) (plan_job trace.now) (H.told shelf.old)
+        Serves (Sends W.runs wires.old.items wires.new.items) (plan_job trace.now) (H.told shelf.old)
         (said_with (plan_job trace.now) options.entry) }
     ensures unsent { IfErr result (λ status. (MayHaveSent status → ⊥) → wires.new.items ≡ wires.old.items) }
     ensures read_out { IfPastFiles result (OfBoth (H.told shelf.old) (H.told shelf.new)
@@ -55,7 +55,7 @@ pub(crate) fn plan_trace<'a, R: Threads + Wait + Sync, H: Shelf, W: Wire + Send>
     ensures cause { IfErr result (λ status.
         HasFilesCause (H.faults shelf.old) (H.faults shelf.new) (H.told shelf.old) (H.told shelf.new)
         (said_with (plan_job trace.now) options.entry) status
-        ⊎ IsWireCause (λ port. Serves (StopsShort W.faults W.runs wires.old.items wires.new.items port)
+        ⊎ IsWireCause (λ port. Serves (Stops W.faults W.runs wires.old.items wires.new.items port)
         (plan_job trace.now) (H.told shelf.old) (said_with (plan_job trace.now) options.entry)) status) }
 {
     let input = read_input(alloc, trace, options.weights, options.unit, shelf)?;

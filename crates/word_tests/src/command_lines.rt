@@ -51,6 +51,7 @@ fn job_text(rt: &impl Abort, alloc: Global, job: Job<'_>) -> String {
         Job::Compare { trace } => format!(in alloc; "Compare {trace} -"),
         Job::Classes { trace } => format!(in alloc; "Classes {trace} -"),
         Job::Audit { trace, journal } => format!(in alloc; "Audit {trace} {journal}"),
+        Job::Online { trace } => format!(in alloc; "Online {trace} -"),
     };
     had(rt, text)
 }
@@ -113,7 +114,10 @@ classes t --classes 1 => Classes t - - 1 4 1024 1 8 1
 plan t --classes 02 => Plan t - - 1 4 1024 1 8 2
 audit t j => Audit t j - 1 4 1024 1 8 8
 --unit 2 audit t --weights=w j --agents 3 => Audit t j w 2 3 1024 1 8 8
-audit -- -t -j => Audit -t -j - 1 4 1024 1 8 8";
+audit -- -t -j => Audit -t -j - 1 4 1024 1 8 8
+online t => Online t - - 1 4 1024 1 8 8
+online t --epoch 4 => Online t - - 1 4 4 1 8 8
+--slot-ms=20 online --epoch 1099511627776 t --weights w --unit 3 --agents 64 => Online t - w 3 64 1099511627776 1 20 8";
 
 #[test]
 fn lines_that_are_read(rt: HostRuntime) {
@@ -210,7 +214,14 @@ audit t
 audit t j x
 audit t -
 audit - j
-audit t j --unit 0";
+audit t j --unit 0
+online
+online t r
+online -
+online t --epoch 0
+online t --epoch 1099511627777
+online t --epoch 4 --epoch=4
+online t --slot-ms 1048577";
 
 #[test]
 fn lines_that_are_refused(rt: HostRuntime) {

@@ -3,7 +3,7 @@ use Rattle.std.specs.Result.{IsErrAnd}
 use Rattle.hall_online.specs.declared.answer.OnlineFault.{OnlineFault}
 use Rattle.hall_online.specs.declared.answer.OnlineFault.TheVariants.{TooMany, WireFault}
 use Rattle.served_online.specs.Told.{SendsAll}
-use Rattle.served_online.proofs.TextFacts.{fails_at, in_range, sent_nothing, sent_so_far, told_of, too_many}
+use Rattle.served_online.proofs.TextFacts.{fails_at, in_range, may_serve, sent_nothing, sent_so_far, told_of, too_many}
 use Rattle.served_online.proofs.telling.served_online.Goals as goal
 
 -- what a fault that is handed on is
@@ -20,27 +20,15 @@ serve_online-requires-clause-arrival_range g c κs within =
 pub returns-clause-text : goal.returns-clause-text
 returns-clause-text g c =
     told_of c.args.table.now c.args.weights.now c.args.slot_ms c.args.every
-    (record {
-      table = c.coflows-within.ensures.table;
-      each_weight = c.requires.weight_each;
-      weight = c.requires.weight_range;
-      epoch_some = c.requires.epoch_some;
-      epoch_fits = c.requires.epoch_fits;
-    })
+    (may_serve _ _ c.args.slot_ms _ c.coflows-within.ensures.table c.requires.weight_each c.requires.weight_range c.requires.epoch_some c.requires.epoch_fits)
     c.in_ok-arrivals.arrivals.items c.deref.result.now c.in_ok-arrivals.ensures.arrivals c.in_ok-arrivals.ensures.each c.in_ok-arrivals.ensures.range c.deref.ensures.value
-    c.released_is_bound.ensures.total c.released_ordering_is_feasible.ensures (SendsAll g.W.Wire.runs c.args.wires.now c.serve_online.new.wires c.args.table.now)
+    c.online_runs_are_one.ensures.too_many c.released_is_bound.ensures.total c.released_ordering_is_feasible.ensures (SendsAll g.W.Wire.runs c.args.wires.now c.serve_online.new.wires c.args.table.now)
     c.in_ok-online.online c.in_ok-text.text.items c.in_ok-online.ensures.online c.in_ok-text.ensures.text c.in_ok-online.ensures.sent
 
 pub returns-clause-sent : goal.returns-clause-sent
 returns-clause-sent g c =
     sent_so_far c.args.table.now c.args.weights.now c.args.slot_ms c.args.every
-    (record {
-      table = c.coflows-within.ensures.table;
-      each_weight = c.requires.weight_each;
-      weight = c.requires.weight_range;
-      epoch_some = c.requires.epoch_some;
-      epoch_fits = c.requires.epoch_fits;
-    })
+    (may_serve _ _ c.args.slot_ms _ c.coflows-within.ensures.table c.requires.weight_each c.requires.weight_range c.requires.epoch_some c.requires.epoch_fits)
     c.in_ok-arrivals.arrivals.items c.deref.result.now c.in_ok-arrivals.ensures.arrivals c.in_ok-arrivals.ensures.each c.in_ok-arrivals.ensures.range c.deref.ensures.value
     g.W.Wire.runs c.args.wires.now c.serve_online.new.wires c.serve_online.ensures.wires
 
@@ -51,26 +39,14 @@ returns-in_err-arrivals-clause-sent g c =
 pub returns-in_err-online-clause-sent : goal.returns-in_err-online-clause-sent
 returns-in_err-online-clause-sent g c =
     sent_so_far c.args.table.now c.args.weights.now c.args.slot_ms c.args.every
-    (record {
-      table = c.coflows-within.ensures.table;
-      each_weight = c.requires.weight_each;
-      weight = c.requires.weight_range;
-      epoch_some = c.requires.epoch_some;
-      epoch_fits = c.requires.epoch_fits;
-    })
+    (may_serve _ _ c.args.slot_ms _ c.coflows-within.ensures.table c.requires.weight_each c.requires.weight_range c.requires.epoch_some c.requires.epoch_fits)
     c.in_ok-arrivals.arrivals.items c.deref.result.now c.in_ok-arrivals.ensures.arrivals c.in_ok-arrivals.ensures.each c.in_ok-arrivals.ensures.range c.deref.ensures.value
     g.W.Wire.runs c.args.wires.now c.serve_online.new.wires c.serve_online.ensures.wires
 
 pub returns-in_err-text-clause-sent : goal.returns-in_err-text-clause-sent
 returns-in_err-text-clause-sent g c =
     sent_so_far c.args.table.now c.args.weights.now c.args.slot_ms c.args.every
-    (record {
-      table = c.coflows-within.ensures.table;
-      each_weight = c.requires.weight_each;
-      weight = c.requires.weight_range;
-      epoch_some = c.requires.epoch_some;
-      epoch_fits = c.requires.epoch_fits;
-    })
+    (may_serve _ _ c.args.slot_ms _ c.coflows-within.ensures.table c.requires.weight_each c.requires.weight_range c.requires.epoch_some c.requires.epoch_fits)
     c.in_ok-arrivals.arrivals.items c.deref.result.now c.in_ok-arrivals.ensures.arrivals c.in_ok-arrivals.ensures.each c.in_ok-arrivals.ensures.range c.deref.ensures.value
     g.W.Wire.runs c.args.wires.now c.serve_online.new.wires c.serve_online.ensures.wires
 
@@ -83,12 +59,6 @@ pub returns-in_err-online-clause-too_many : goal.returns-in_err-online-clause-to
 returns-in_err-online-clause-too_many g c = λ count e.
     let came : TooMany count ≡ c.in_err-online.field-0.0 = carried _ _ (TooMany count) c.from_residual-in_err-online.ensures.1 e in
     too_many c.args.table.now c.args.weights.now c.args.slot_ms c.args.every
-    (record {
-      table = c.coflows-within.ensures.table;
-      each_weight = c.requires.weight_each;
-      weight = c.requires.weight_range;
-      epoch_some = c.requires.epoch_some;
-      epoch_fits = c.requires.epoch_fits;
-    })
+    (may_serve _ _ c.args.slot_ms _ c.coflows-within.ensures.table c.requires.weight_each c.requires.weight_range c.requires.epoch_some c.requires.epoch_fits)
     c.in_ok-arrivals.arrivals.items c.deref.result.now c.in_ok-arrivals.ensures.arrivals c.in_ok-arrivals.ensures.each c.in_ok-arrivals.ensures.range c.deref.ensures.value count
     (c.in_err-online.ensures.too_many count (ap Err (sym came)))

@@ -5,16 +5,18 @@ use Rattle.command_words.specs.Jobs.Job.{compare_job}
 use Rattle.command_words.specs.Line.{texts}
 use Rattle.command_words.specs.Words.{Said, said_by}
 use Rattle.command_files.specs.declared.status.Status.TheVariants.{WriteFault}
-use Rattle.served_plans.specs.Sent.{SendsAll, SendsPart, StopsShort}
+use Rattle.served_plans.specs.Sent.{SendsAll}
 use Rattle.sincronia_cli.specs.Outcome.{HasText}
+use Rattle.sincronia_cli.specs.Serving.{Sends, Stops}
 use Rattle.sincronia_cli.proofs.BenchFacts.{cause_has_no_text, job_of, outcome_has_text}
 use Rattle.sincronia_cli.proofs.CompleteFacts.{good_files_end}
 use Rattle.sincronia_cli.proofs.FirstFacts.{first_ends, text_ends}
-use Rattle.sincronia_cli.proofs.OutcomeFacts.{bad_report_given}
+use Rattle.sincronia_cli.proofs.OnlineFacts.{few_for}
+use Rattle.sincronia_cli.proofs.OutcomeFacts.{bad_report_given, limit_given}
 use Rattle.command_files.proofs.SinkFacts.{begun}
 use Rattle.sincronia_cli.proofs.ServingFacts.{none_failed, past_by_wire, sent_by, unsent_for, wire_failed}
 use Rattle.sincronia_cli.proofs.TurnFacts.{done_by, out_for, text_in_turn, turn_for}
-use Rattle.sincronia_cli.proofs.WrittenFacts.{classes_written, comparison_written, made_written, no_written, plan_written, sound_written, yes_written}
+use Rattle.sincronia_cli.proofs.WrittenFacts.{classes_written, comparison_written, made_written, no_written, online_written, plan_written, sound_written, yes_written}
 use Rattle.sincronia_cli.proofs.command.sincronia.Goals as goal
 
 pub returns-in-Err-Usage-clause-usage : goal.returns-in-Err-Usage-clause-usage
@@ -22,7 +24,7 @@ returns-in-Err-Usage-clause-usage g c = λ e said is. c.in-Err-Usage.ensures.usa
 
 pub returns-in-Err-clause-bad_report : goal.returns-in-Err-clause-bad_report
 returns-in-Err-clause-bad_report g c = λ line e.
-    let bad = bad_report_given (StopsShort g.W.Wire.faults g.W.Wire.runs c.args.wires.now.items c.carry_out.new.wires.items)
+    let bad = bad_report_given (Stops g.W.Wire.faults g.W.Wire.runs c.args.wires.now.items c.carry_out.new.wires.items)
     (said_by c.in-Ok.words) (g.H.Shelf.faults c.args.shelf.now) (g.H.Shelf.faults c.carry_out.new.shelf)
     (g.H.Shelf.told c.args.shelf.now) (g.H.Shelf.told c.carry_out.new.shelf) line c.in-Err.status c.in-Err.ensures.cause e in
     (said_by c.in-Ok.words, c.in-Ok.ensures.said, bad.0, bad.1)
@@ -34,6 +36,35 @@ returns-clause-plan g c = λ said trace is e.
     (map (λ b. (goal.Ranker-dyn g (b.vtable, b.value)).meaning b.value) c.args.bench.now.items) c.in-Ok-carry_out.outcome.status c.in-Ok-carry_out.outcome.text.items
     c.deref.result.now (g.K.Sink.taken c.args.out.now) (g.K.Sink.taken c.write_all.new.sink) c.in-Ok-write_all.field-0 trace
     c.in-Ok.ensures.said is c.in-Ok-carry_out.ensures.outcome c.deref.ensures.value c.in-Ok-write_all.ensures.taken
+
+pub returns-clause-online : goal.returns-clause-online
+returns-clause-online g c = λ said trace is e.
+    online_written _ (SendsAll g.W.Wire.runs c.args.wires.now.items c.carry_out.new.wires.items) (texts c.args.words.now) (said_by c.in-Ok.words) said
+    (g.H.Shelf.told c.args.shelf.now)
+    (map (λ b. (goal.Ranker-dyn g (b.vtable, b.value)).meaning b.value) c.args.bench.now.items) c.in-Ok-carry_out.outcome.status c.in-Ok-carry_out.outcome.text.items
+    c.deref.result.now (g.K.Sink.taken c.args.out.now) (g.K.Sink.taken c.write_all.new.sink) c.in-Ok-write_all.field-0 trace
+    c.in-Ok.ensures.said is c.in-Ok-carry_out.ensures.outcome c.deref.ensures.value c.in-Ok-write_all.ensures.taken
+
+pub returns-in-Err-clause-few : goal.returns-in-Err-clause-few
+returns-in-Err-clause-few g c = λ said is text.
+    absurd (cause_has_no_text (Stops g.W.Wire.faults g.W.Wire.runs c.args.wires.now.items c.carry_out.new.wires.items)
+    (g.H.Shelf.faults c.args.shelf.now) (g.H.Shelf.faults c.carry_out.new.shelf) (g.H.Shelf.told c.args.shelf.now)
+    (g.H.Shelf.told c.carry_out.new.shelf) (said_by c.in-Ok.words) c.in-Err.status c.in-Err.ensures.cause text)
+
+pub returns-in_default-clause-few : goal.returns-in_default-clause-few
+returns-in_default-clause-few g c = λ said is text.
+    few_for (texts c.args.words.now) (said_by c.in-Ok.words) said (g.H.Shelf.told c.args.shelf.now) c.in-Ok.ensures.said is c.in-Ok-carry_out.ensures.few
+
+pub returns-clause-few : goal.returns-clause-few
+returns-clause-few g c = λ said is text.
+    few_for (texts c.args.words.now) (said_by c.in-Ok.words) said (g.H.Shelf.told c.args.shelf.now) c.in-Ok.ensures.said is c.in-Ok-carry_out.ensures.few
+
+pub returns-in-Err-clause-limit : goal.returns-in-Err-clause-limit
+returns-in-Err-clause-limit g c = λ which count e.
+    let bad = limit_given (Stops g.W.Wire.faults g.W.Wire.runs c.args.wires.now.items c.carry_out.new.wires.items)
+    (said_by c.in-Ok.words) (g.H.Shelf.faults c.args.shelf.now) (g.H.Shelf.faults c.carry_out.new.shelf)
+    (g.H.Shelf.told c.args.shelf.now) (g.H.Shelf.told c.carry_out.new.shelf) which count c.in-Err.status c.in-Err.ensures.cause e in
+    (said_by c.in-Ok.words, record { words_say = c.in-Ok.ensures.said; reads = bad.0 }, bad.1)
 
 pub returns-clause-yes : goal.returns-clause-yes
 returns-clause-yes g c = λ said trace report is e.
@@ -65,7 +96,7 @@ returns-in-Err-Usage-clause-complete g c = λ said is good shelf sink wires. abs
 
 pub returns-in-Err-clause-complete : goal.returns-in-Err-clause-complete
 returns-in-Err-clause-complete g c = λ said is good shelf sink wires.
-    good_files_end (StopsShort g.W.Wire.faults g.W.Wire.runs c.args.wires.now.items c.carry_out.new.wires.items)
+    good_files_end (Stops g.W.Wire.faults g.W.Wire.runs c.args.wires.now.items c.carry_out.new.wires.items)
     (texts c.args.words.now) (said_by c.in-Ok.words) said (g.H.Shelf.faults c.args.shelf.now) (g.H.Shelf.faults c.carry_out.new.shelf)
     (g.H.Shelf.told c.args.shelf.now) (g.H.Shelf.told c.carry_out.new.shelf) c.in-Err.status c.in-Ok.ensures.said is c.in-Err.ensures.cause good shelf
     (none_failed g.W.Wire.faults g.W.Wire.runs c.args.wires.now.items c.carry_out.new.wires.items wires)
@@ -75,7 +106,7 @@ returns-in-Err-Usage-clause-first g c = λ said cause is x. absurd (c.in-Err-Usa
 
 pub returns-in-Err-clause-first : goal.returns-in-Err-clause-first
 returns-in-Err-clause-first g c = λ said cause is x.
-    first_ends (StopsShort g.W.Wire.faults g.W.Wire.runs c.args.wires.now.items c.carry_out.new.wires.items)
+    first_ends (Stops g.W.Wire.faults g.W.Wire.runs c.args.wires.now.items c.carry_out.new.wires.items)
     (texts c.args.words.now) (said_by c.in-Ok.words) said (g.H.Shelf.faults c.args.shelf.now) (g.H.Shelf.faults c.carry_out.new.shelf)
     (g.H.Shelf.told c.args.shelf.now) (g.H.Shelf.told c.carry_out.new.shelf) c.in-Err.status cause c.in-Ok.ensures.said is c.in-Err.ensures.cause x
 
@@ -85,7 +116,7 @@ returns-clause-first g c = λ said cause is x.
     text_ends (SendsAll g.W.Wire.runs c.args.wires.now.items c.carry_out.new.wires.items) (texts c.args.words.now) (said_by c.in-Ok.words) said
     (g.H.Shelf.told c.args.shelf.now)
     (map (λ b. (goal.Ranker-dyn g (b.vtable, b.value)).meaning b.value) c.args.bench.now.items) outcome.status cause outcome.text.items
-    c.in-Ok.ensures.said is c.in-Ok-carry_out.ensures.good c.in-Ok-carry_out.ensures.outcome x
+    c.in-Ok.ensures.said is c.in-Ok-carry_out.ensures.good c.in-Ok-carry_out.ensures.few c.in-Ok-carry_out.ensures.outcome x
 
 pub returns-in-Err-clause-in_turn : goal.returns-in-Err-clause-in_turn
 returns-in-Err-clause-in_turn g c = λ said is.
@@ -118,7 +149,7 @@ returns-clause-no g c = λ e. (
 pub returns-in-Err-clause-read_out : goal.returns-in-Err-clause-read_out
 returns-in-Err-clause-read_out g c = λ said is past.
     out_for (texts c.args.words.now) (said_by c.in-Ok.words) said (g.H.Shelf.told c.args.shelf.now) (g.H.Shelf.told c.carry_out.new.shelf) c.in-Ok.ensures.said is
-    (c.in-Err.ensures.read_out (past_by_wire (StopsShort g.W.Wire.faults g.W.Wire.runs c.args.wires.now.items c.carry_out.new.wires.items)
+    (c.in-Err.ensures.read_out (past_by_wire (Stops g.W.Wire.faults g.W.Wire.runs c.args.wires.now.items c.carry_out.new.wires.items)
     (g.H.Shelf.faults c.args.shelf.now) (g.H.Shelf.faults c.carry_out.new.shelf)
     (g.H.Shelf.told c.args.shelf.now) (g.H.Shelf.told c.carry_out.new.shelf) (said_by c.in-Ok.words) c.in-Err.status c.in-Err.ensures.cause past))
 
@@ -126,7 +157,7 @@ pub returns-in-Err-clause-good : goal.returns-in-Err-clause-good
 returns-in-Err-clause-good g c = λ past. (
   said_by c.in-Ok.words,
   c.in-Ok.ensures.said,
-  c.in-Err.ensures.good (past_by_wire (StopsShort g.W.Wire.faults g.W.Wire.runs c.args.wires.now.items c.carry_out.new.wires.items)
+  c.in-Err.ensures.good (past_by_wire (Stops g.W.Wire.faults g.W.Wire.runs c.args.wires.now.items c.carry_out.new.wires.items)
       (g.H.Shelf.faults c.args.shelf.now) (g.H.Shelf.faults c.carry_out.new.shelf)
       (g.H.Shelf.told c.args.shelf.now) (g.H.Shelf.told c.carry_out.new.shelf) (said_by c.in-Ok.words) c.in-Err.status c.in-Err.ensures.cause past),
 )
@@ -181,7 +212,7 @@ returns-clause-classes g c = λ said trace is e.
 
 pub returns-in-Err-clause-empty : goal.returns-in-Err-clause-empty
 returns-in-Err-clause-empty g c = λ said trace is text.
-    absurd (cause_has_no_text (StopsShort g.W.Wire.faults g.W.Wire.runs c.args.wires.now.items c.carry_out.new.wires.items)
+    absurd (cause_has_no_text (Stops g.W.Wire.faults g.W.Wire.runs c.args.wires.now.items c.carry_out.new.wires.items)
     (g.H.Shelf.faults c.args.shelf.now) (g.H.Shelf.faults c.carry_out.new.shelf) (g.H.Shelf.told c.args.shelf.now)
     (g.H.Shelf.told c.carry_out.new.shelf) (said_by c.in-Ok.words) c.in-Err.status c.in-Err.ensures.cause text)
 
@@ -257,7 +288,7 @@ returns-in_default-clause-unsent g c = λ none. absurd (none tt)
 pub returns-clause-unsent : goal.returns-clause-unsent
 returns-clause-unsent g c =
     unsent_for c.args.wires.now.items c.carry_out.new.wires.items (SendsAll g.W.Wire.runs c.args.wires.now.items c.carry_out.new.wires.items)
-    (SendsPart g.W.Wire.runs c.args.wires.now.items c.carry_out.new.wires.items)
+    (Sends g.W.Wire.runs c.args.wires.now.items c.carry_out.new.wires.items)
     (g.H.Shelf.told c.args.shelf.now) (said_by c.in-Ok.words)
     (map (λ b. (goal.Ranker-dyn g (b.vtable, b.value)).meaning b.value) c.args.bench.now.items)
     c.in-Ok-carry_out.outcome.status c.in-Ok-carry_out.outcome.text.items c.in-Ok-carry_out.ensures.outcome c.carry_out.ensures.sent
