@@ -2,10 +2,9 @@
 ghost use Rattle.std.specs.Prelude.{◌≡◌, ◌≤◌, ◌^◌, All, length, vec_capacity};
 ghost use Rattle.client_session.specs.Models.{IsDriverOf, IsSessionOf};
 
-use crate::orders::{Order, obeyed};
 use client_session::{Driver, Hall, Session};
 use coflow_units::Place;
-use small_halls::{Ask, Said, answered};
+use small_halls::{Ask, Order, Said, answered, obeyed};
 use std::alloc::Global;
 use std::fmt::Debug;
 use std::process::Abort;

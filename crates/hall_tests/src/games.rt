@@ -11,7 +11,7 @@ use std::process::Abort;
 use std::sync::Wait;
 
 /// How many sessions a game has, how many turns each of them may take, and how many entries the journal has at most.
-#[derive(Clone, Copy, Debug)]
+#[derive(Clone, Copy)]
 pub(crate) struct Size {
     pub(crate) sessions: u32,
     pub(crate) calls: u32,

@@ -11,6 +11,4 @@ mod example;
 #[cfg(test)]
 mod games;
 #[cfg(test)]
-mod orders;
-#[cfg(test)]
 mod rows;

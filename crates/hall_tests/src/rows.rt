@@ -3,8 +3,7 @@ ghost use Rattle.std.specs.Prelude.{◌≤◌, ◌^◌};
 
 use crate::calls::{Call, Case};
 use crate::games::{Game, Size, agreed};
-use crate::orders::Order;
-use small_halls::Ask;
+use small_halls::{Ask, Order};
 use std::alloc::Global;
 use std::process::Abort;
 use std::sync::Wait;
