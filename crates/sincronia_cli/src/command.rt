@@ -1,5 +1,5 @@
 //! The program's job, from the words to the written text.
-ghost use Rattle.std.specs.Prelude.{◌≡◌, ◌≢◌, ◌≤◌, ◌<◌, ◌^◌, ◌⊎◌, ℕ, [], All, Err, IfErr, IfOk, IfSome, IsSomeAnd, List, OnOk, drop, length, map, take};
+ghost use Rattle.std.specs.Prelude.{◌≡◌, ◌≢◌, ◌≤◌, ◌<◌, ◌^◌, ◌⊎◌, ℕ, [], All, Err, IfErr, IfOk, IfSome, IsSomeAnd, List, OnErr, OnOk, drop, length, map, take};
 ghost use Rattle.coflow_units.specs.declared.limits.TheConstants.{MAX_PORTS};
 ghost use Rattle.coflow_units.specs.declared.quantity.Quantity.{Quantity};
 ghost use Rattle.command_words.specs.Jobs.{report_name};
@@ -7,6 +7,7 @@ ghost use Rattle.command_words.specs.Jobs.Job.{audit_job, check_job, classes_job
 ghost use Rattle.command_words.specs.Line.{texts};
 ghost use Rattle.command_words.specs.Words.{IsWords, Said, said_by};
 ghost use Rattle.outside.specs.Rose.{Rose, RoseOnce};
+ghost use Rattle.outside.specs.Sink.{TakesText};
 ghost use Rattle.rankers.specs.FactsTold.{FactsTold};
 ghost use Rattle.trace_reader.specs.declared.fault.TraceFault.{TraceFault};
 ghost use Rattle.weights.specs.declared.fault.WeightsFault.{WeightsFault};
@@ -43,7 +44,7 @@ use crate::planning::plan_trace;
 use command_files::Status;
 use command_words::{Job, Words, WordsFault, read_words};
 use online_check::laws::yes_bounds_released_schedules;
-use outside::{Shelf, Sink, Wire, write_all};
+use outside::{Failed, Shelf, Sink, Wire, write_all};
 use rankers::Ranker;
 use std::alloc::Global;
 use std::sync::Wait;
@@ -237,12 +238,22 @@ pub fn sincronia<R: Threads + Wait + Sync, H: Shelf, K: Sink, W: Wire + Send>(
         Ok(outcome) => outcome,
         Err(status) => return status,
     };
-    let Ok(()) = write_all(out, &outcome.text) else {
+    let Ok(()) = write_text(out, outcome.text) else {
         return Status::WriteFault { count: 1 };
     };
     // what a yes on an online run says of every schedule
     yes_bounds_released_schedules();
     outcome.status
+}
+
+/// Writes a text, which is let go.
+fn write_text<K: Sink>(out: &mut K, text: Vec<u8>) -> Result<(), Failed>
+    ensures cause { OnErr result (Rose (K.faults out.old) (K.faults out.new)) }
+    ensures once { OnErr result (RoseOnce (K.faults out.old) (K.faults out.new)) }
+    ensures still { OnOk result (K.faults out.new ≡ K.faults out.old) }
+    ensures taken { TakesText (K.taken out.old) (K.taken out.new) text.items result }
+{
+    write_all(out, &text)
 }
 
 /// What the words ask to be written, or the status of why there is nothing to write.

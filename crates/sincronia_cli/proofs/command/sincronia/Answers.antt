@@ -34,16 +34,16 @@ returns-clause-plan g c = λ said trace is e.
     plan_written _ (SendsAll g.W.Wire.runs c.args.wires.now.items c.carry_out.new.wires.items) (texts c.args.words.now) (said_by c.in-Ok.words) said
     (g.H.Shelf.told c.args.shelf.now)
     (map (λ b. (goal.Ranker-dyn g (b.vtable, b.value)).meaning b.value) c.args.bench.now.items) c.in-Ok-carry_out.outcome.status c.in-Ok-carry_out.outcome.text.items
-    c.deref.result.now (g.K.Sink.taken c.args.out.now) (g.K.Sink.taken c.write_all.new.sink) c.in-Ok-write_all.field-0 trace
-    c.in-Ok.ensures.said is c.in-Ok-carry_out.ensures.outcome c.deref.ensures.value c.in-Ok-write_all.ensures.taken
+    c.in-Ok-carry_out.outcome.text.items (g.K.Sink.taken c.args.out.now) (g.K.Sink.taken c.write_text.new.out) c.in-Ok-write_text.field-0 trace
+    c.in-Ok.ensures.said is c.in-Ok-carry_out.ensures.outcome refl c.in-Ok-write_text.ensures.taken
 
 pub returns-clause-online : goal.returns-clause-online
 returns-clause-online g c = λ said trace is e.
     online_written _ (SendsAll g.W.Wire.runs c.args.wires.now.items c.carry_out.new.wires.items) (texts c.args.words.now) (said_by c.in-Ok.words) said
     (g.H.Shelf.told c.args.shelf.now)
     (map (λ b. (goal.Ranker-dyn g (b.vtable, b.value)).meaning b.value) c.args.bench.now.items) c.in-Ok-carry_out.outcome.status c.in-Ok-carry_out.outcome.text.items
-    c.deref.result.now (g.K.Sink.taken c.args.out.now) (g.K.Sink.taken c.write_all.new.sink) c.in-Ok-write_all.field-0 trace
-    c.in-Ok.ensures.said is c.in-Ok-carry_out.ensures.outcome c.deref.ensures.value c.in-Ok-write_all.ensures.taken
+    c.in-Ok-carry_out.outcome.text.items (g.K.Sink.taken c.args.out.now) (g.K.Sink.taken c.write_text.new.out) c.in-Ok-write_text.field-0 trace
+    c.in-Ok.ensures.said is c.in-Ok-carry_out.ensures.outcome refl c.in-Ok-write_text.ensures.taken
 
 pub returns-in-Err-clause-few : goal.returns-in-Err-clause-few
 returns-in-Err-clause-few g c = λ said is text.
@@ -71,25 +71,25 @@ returns-clause-yes g c = λ said trace report is e.
     yes_written _ (SendsAll g.W.Wire.runs c.args.wires.now.items c.carry_out.new.wires.items) (texts c.args.words.now) (said_by c.in-Ok.words) said
     (g.H.Shelf.told c.args.shelf.now)
     (map (λ b. (goal.Ranker-dyn g (b.vtable, b.value)).meaning b.value) c.args.bench.now.items) c.in-Ok-carry_out.outcome.status c.in-Ok-carry_out.outcome.text.items
-    c.deref.result.now (g.K.Sink.taken c.args.out.now) (g.K.Sink.taken c.write_all.new.sink) c.in-Ok-write_all.field-0
+    c.in-Ok-carry_out.outcome.text.items (g.K.Sink.taken c.args.out.now) (g.K.Sink.taken c.write_text.new.out) c.in-Ok-write_text.field-0
     c.yes_bounds_released_schedules.ensures.total trace report
-    c.in-Ok.ensures.said is c.in-Ok-carry_out.ensures.outcome e c.deref.ensures.value c.in-Ok-write_all.ensures.taken
+    c.in-Ok.ensures.said is c.in-Ok-carry_out.ensures.outcome e refl c.in-Ok-write_text.ensures.taken
 
 pub returns-clause-audit_yes : goal.returns-clause-audit_yes
 returns-clause-audit_yes g c = λ said trace journal is e.
     sound_written _ (SendsAll g.W.Wire.runs c.args.wires.now.items c.carry_out.new.wires.items) (texts c.args.words.now) (said_by c.in-Ok.words) said
     (g.H.Shelf.told c.args.shelf.now)
     (map (λ b. (goal.Ranker-dyn g (b.vtable, b.value)).meaning b.value) c.args.bench.now.items) c.in-Ok-carry_out.outcome.status c.in-Ok-carry_out.outcome.text.items
-    c.deref.result.now (g.K.Sink.taken c.args.out.now) (g.K.Sink.taken c.write_all.new.sink) c.in-Ok-write_all.field-0 trace journal
-    c.in-Ok.ensures.said is c.in-Ok-carry_out.ensures.outcome e c.deref.ensures.value c.in-Ok-write_all.ensures.taken
+    c.in-Ok-carry_out.outcome.text.items (g.K.Sink.taken c.args.out.now) (g.K.Sink.taken c.write_text.new.out) c.in-Ok-write_text.field-0 trace journal
+    c.in-Ok.ensures.said is c.in-Ok-carry_out.ensures.outcome e refl c.in-Ok-write_text.ensures.taken
 
 pub returns-clause-make : goal.returns-clause-make
 returns-clause-make g c = λ said seed is e.
     made_written _ (SendsAll g.W.Wire.runs c.args.wires.now.items c.carry_out.new.wires.items) (texts c.args.words.now) (said_by c.in-Ok.words) said
     (g.H.Shelf.told c.args.shelf.now)
     (map (λ b. (goal.Ranker-dyn g (b.vtable, b.value)).meaning b.value) c.args.bench.now.items) c.in-Ok-carry_out.outcome.status c.in-Ok-carry_out.outcome.text.items
-    c.deref.result.now (g.K.Sink.taken c.args.out.now) (g.K.Sink.taken c.write_all.new.sink) c.in-Ok-write_all.field-0 seed
-    c.in-Ok.ensures.said is c.in-Ok-carry_out.ensures.outcome c.deref.ensures.value c.in-Ok-write_all.ensures.taken
+    c.in-Ok-carry_out.outcome.text.items (g.K.Sink.taken c.args.out.now) (g.K.Sink.taken c.write_text.new.out) c.in-Ok-write_text.field-0 seed
+    c.in-Ok.ensures.said is c.in-Ok-carry_out.ensures.outcome refl c.in-Ok-write_text.ensures.taken
 
 pub returns-in-Err-Usage-clause-complete : goal.returns-in-Err-Usage-clause-complete
 returns-in-Err-Usage-clause-complete g c = λ said is good shelf sink wires. absurd (c.in-Err-Usage.ensures.usage (ap Err c.in-Err-Usage.field-0-is) said is)
@@ -142,8 +142,8 @@ returns-clause-no g c = λ e. (
       (g.H.Shelf.told c.args.shelf.now)
       (map (λ b. (goal.Ranker-dyn g (b.vtable, b.value)).meaning b.value) c.args.bench.now.items) c.in-Ok-carry_out.outcome.status
       c.in-Ok-carry_out.outcome.text.items
-      c.deref.result.now (g.K.Sink.taken c.args.out.now) (g.K.Sink.taken c.write_all.new.sink) c.in-Ok-write_all.field-0
-      c.in-Ok-carry_out.ensures.outcome e c.deref.ensures.value c.in-Ok-write_all.ensures.taken,
+      c.in-Ok-carry_out.outcome.text.items (g.K.Sink.taken c.args.out.now) (g.K.Sink.taken c.write_text.new.out) c.in-Ok-write_text.field-0
+      c.in-Ok-carry_out.ensures.outcome e refl c.in-Ok-write_text.ensures.taken,
 )
 
 pub returns-in-Err-clause-read_out : goal.returns-in-Err-clause-read_out
@@ -189,8 +189,8 @@ returns-in_default-clause-beginning g c = λ count e. (
     text = c.in-Ok-carry_out.outcome.text.items;
     status = c.in-Ok-carry_out.outcome.status;
     outcome = c.in-Ok-carry_out.ensures.outcome;
-    written = begun _ (g.K.Sink.taken c.args.out.now) (g.K.Sink.taken c.write_all.new.sink) c.in-Ok-carry_out.outcome.text.items c.deref.result.now _
-        c.deref.ensures.value c.in_default.ensures.taken;
+    written = begun _ (g.K.Sink.taken c.args.out.now) (g.K.Sink.taken c.write_text.new.out) c.in-Ok-carry_out.outcome.text.items c.in-Ok-carry_out.outcome.text.items _
+        refl c.in_default.ensures.taken;
   },
 )
 
@@ -199,16 +199,16 @@ returns-clause-compare g c = λ said trace is e.
     comparison_written _ (SendsAll g.W.Wire.runs c.args.wires.now.items c.carry_out.new.wires.items) (texts c.args.words.now) (said_by c.in-Ok.words) said
     (g.H.Shelf.told c.args.shelf.now)
     (map (λ b. (goal.Ranker-dyn g (b.vtable, b.value)).meaning b.value) c.args.bench.now.items) c.in-Ok-carry_out.outcome.status c.in-Ok-carry_out.outcome.text.items
-    c.deref.result.now (g.K.Sink.taken c.args.out.now) (g.K.Sink.taken c.write_all.new.sink) c.in-Ok-write_all.field-0 trace
-    c.in-Ok.ensures.said is c.in-Ok-carry_out.ensures.outcome c.deref.ensures.value c.in-Ok-write_all.ensures.taken
+    c.in-Ok-carry_out.outcome.text.items (g.K.Sink.taken c.args.out.now) (g.K.Sink.taken c.write_text.new.out) c.in-Ok-write_text.field-0 trace
+    c.in-Ok.ensures.said is c.in-Ok-carry_out.ensures.outcome refl c.in-Ok-write_text.ensures.taken
 
 pub returns-clause-classes : goal.returns-clause-classes
 returns-clause-classes g c = λ said trace is e.
     classes_written _ (SendsAll g.W.Wire.runs c.args.wires.now.items c.carry_out.new.wires.items) (texts c.args.words.now) (said_by c.in-Ok.words) said
     (g.H.Shelf.told c.args.shelf.now)
     (map (λ b. (goal.Ranker-dyn g (b.vtable, b.value)).meaning b.value) c.args.bench.now.items) c.in-Ok-carry_out.outcome.status c.in-Ok-carry_out.outcome.text.items
-    c.deref.result.now (g.K.Sink.taken c.args.out.now) (g.K.Sink.taken c.write_all.new.sink) c.in-Ok-write_all.field-0 trace
-    c.in-Ok.ensures.said is c.in-Ok-carry_out.ensures.outcome c.deref.ensures.value c.in-Ok-write_all.ensures.taken
+    c.in-Ok-carry_out.outcome.text.items (g.K.Sink.taken c.args.out.now) (g.K.Sink.taken c.write_text.new.out) c.in-Ok-write_text.field-0 trace
+    c.in-Ok.ensures.said is c.in-Ok-carry_out.ensures.outcome refl c.in-Ok-write_text.ensures.taken
 
 pub returns-in-Err-clause-empty : goal.returns-in-Err-clause-empty
 returns-in-Err-clause-empty g c = λ said trace is text.
