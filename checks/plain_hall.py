@@ -264,12 +264,12 @@ def fault_of_hall(folder, seed, ports, coflows, count, tally):
 
 
 def fault_of_example():
-    """The first line of a block of docs/HALL.md that is not the text of the tests of `hall_tests` or of the halls that they begin, or None. Blanks and ends of lines count for nothing."""
+    """The first line of a block of docs/HALL.md that is not the text of the tests of `hall_tests`, or None. Blanks and ends of lines count for nothing."""
     def text(*parts):
         with open(os.path.join(TOP, *parts), encoding="utf-8") as it:
             return it.read()
 
-    sources = ["".join(text("crates", crate, "src", name).split()) for crate, name in (("small_halls", "begun.rt"), ("hall_tests", "example.rt"))]
+    sources = ["".join(text("crates", "hall_tests", "src", name).split()) for name in ("begun.rt", "example.rt")]
     blocks = re.findall(r"^```rust\n(.*?)^```", text("docs", "HALL.md"), re.M | re.S)
     if not blocks:
         return "there is no example"

@@ -2,16 +2,17 @@
 ghost use Rattle.std.specs.Prelude.{◌≡◌, ◌≤◌, ◌^◌, All, length};
 ghost use Rattle.client_session.specs.Models.{IsDriverOf, IsSessionOf};
 
-use crate::calls::{Case, play_rows};
+use crate::begun::{hall_of_two, journal_of, seat};
 use crate::example::show;
+use crate::rows::{Case, play_rows};
+use crate::told::{Told, tell, tell_entries};
 use client_session::{Driver, Entry, Hall, Session};
-use small_halls::{Told, hall_of_two, journal_of, seat, tell, tell_entries};
 use std::alloc::Global;
 use std::process::Abort;
 use std::sync::Wait;
 
 /// How many sessions a game has, how many turns each of them may take, and how many entries the journal has at most.
-#[derive(Clone, Copy)]
+#[derive(Clone, Copy, Debug)]
 pub(crate) struct Size {
     pub(crate) sessions: u32,
     pub(crate) calls: u32,
@@ -61,7 +62,7 @@ fn played<R: Wait + Abort>(
     requires few { (size.limit ≤ 2 ^ 23) × (size.sessions ≤ 64) }
 {
     let mut sessions = Vec::new(alloc);
-    let (hall, mut driver) = hall_of_two(rt, alloc, size.limit, 20);
+    let (hall, mut driver) = hall_of_two(rt, alloc, size.limit);
     seat(
         rt,
         alloc,

@@ -3,7 +3,9 @@
 #![tactic(auto)]
 
 #[cfg(test)]
-mod calls;
+mod asks;
+#[cfg(test)]
+mod begun;
 #[cfg(test)]
 mod closes;
 #[cfg(test)]
@@ -11,4 +13,8 @@ mod example;
 #[cfg(test)]
 mod games;
 #[cfg(test)]
+mod orders;
+#[cfg(test)]
 mod rows;
+#[cfg(test)]
+mod told;

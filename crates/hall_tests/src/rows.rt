@@ -1,12 +1,153 @@
-//! Rows of calls of a hall in a known order, and what they answer.
-ghost use Rattle.std.specs.Prelude.{◌≤◌, ◌^◌};
+//! Calls of a hall in a known order, and what they answer.
+ghost use Rattle.std.specs.Prelude.{◌≡◌, ◌≤◌, ◌^◌, All, length, vec_capacity};
+ghost use Rattle.client_session.specs.Models.{IsDriverOf, IsSessionOf};
 
-use crate::calls::{Call, Case};
+use crate::asks::{Ask, Said, answered};
 use crate::games::{Game, Size, agreed};
-use small_halls::{Ask, Order};
+use crate::orders::{Order, obeyed};
+use client_session::{Driver, Hall, Session};
+use coflow_units::Place;
 use std::alloc::Global;
+use std::fmt::Debug;
 use std::process::Abort;
 use std::sync::Wait;
+use std::test::*;
+
+/// A call of a row: of the driver, of a session by its place, or of the hall. `Seen` asks nothing of a session.
+#[derive(Clone, Copy)]
+pub(crate) enum Call {
+    Driver(Order),
+    Granted(u32),
+    Client(usize, Ask),
+    Seen(usize),
+    Level,
+}
+
+/// A call, and what is told then.
+#[derive(Clone, Copy)]
+pub(crate) struct Case<'a> {
+    call: Call,
+    want: &'a str,
+}
+
+fn row(call: Call, want: &str) -> Case<'_> {
+    Case { call, want }
+}
+
+/// The text of an answer.
+fn text_of(rt: &impl Abort, alloc: Global, answer: impl Debug + Drop) -> String {
+    let Ok(text) = format!(in alloc; "{answer:?}") else {
+        panic!(rt; "no memory");
+    };
+    text
+}
+
+/// Adds how many calls a driver has left.
+fn tell_left(rt: &impl Abort, text: &mut String, driver: &Driver) {
+    let Ok(()) = write!(text, ", {}", driver.calls_left()) else {
+        panic!(rt; "no memory");
+    };
+}
+
+/// Adds the newest position and version that a session has seen, and how many calls it has left.
+fn tell_seen(rt: &impl Abort, text: &mut String, sessions: &[Session], at: usize) {
+    let Some(session) = sessions.get(at) else {
+        panic!(rt; "no such session");
+    };
+    let (position, version) = (session.seen_position(), session.seen_version());
+    let Ok(()) = write!(text, ", {position} {version} {}", session.calls_left()) else {
+        panic!(rt; "no memory");
+    };
+}
+
+/// Asks the session at a place, and tells its answer.
+fn session_told<R: Wait + Abort>(
+    rt: &R,
+    alloc: Global,
+    hall: &Hall,
+    sessions: &mut [Session],
+    at: usize,
+    ask: Ask,
+) -> String
+    requires own { All (IsSessionOf hall.now) sessions.old }
+    requires coflows { length hall.now.setting.opening.table.ids ≡ 2 }
+    ensures own { All (IsSessionOf hall.entry.now) sessions.new }
+{
+    assert!(rt; at < sessions.len());
+    match answered(rt, hall, &mut sessions[at], ask) {
+        Said::Turn(answer) => text_of(rt, alloc, answer),
+        Said::Pull(pulled) => text_of(rt, alloc, pulled),
+    }
+}
+
+/// Makes a call, and tells its answer.
+fn told<R: Wait + Abort>(
+    rt: &R,
+    alloc: Global,
+    hall: &Hall,
+    driver: &mut Driver,
+    sessions: &mut [Session],
+    places: &mut Vec<Place>,
+    call: Call,
+) -> String
+    requires driver { IsDriverOf hall.now driver.old }
+    requires sessions { All (IsSessionOf hall.now) sessions.old }
+    requires coflows { length hall.now.setting.opening.table.ids ≡ 2 }
+    requires ports { 2 ≤ hall.now.setting.opening.table.ports }
+    requires room { 2 ≤ vec_capacity places.old }
+    ensures driver { IsDriverOf hall.entry.now driver.new }
+    ensures sessions { All (IsSessionOf hall.entry.now) sessions.new }
+    ensures room { vec_capacity places.new ≡ vec_capacity places.old }
+{
+    match call {
+        Call::Driver(order) => {
+            let answer = obeyed(rt, hall, driver, places, order);
+            let mut text = text_of(rt, alloc, answer);
+            tell_left(rt, &mut text, driver);
+            text
+        }
+        Call::Granted(ingress) => text_of(rt, alloc, driver.granted(ingress)),
+        Call::Client(at, ask) => {
+            let mut text = session_told(rt, alloc, hall, sessions, at, ask);
+            tell_seen(rt, &mut text, sessions, at);
+            text
+        }
+        Call::Seen(at) => {
+            let mut text = String::new(alloc);
+            tell_seen(rt, &mut text, sessions, at);
+            text
+        }
+        Call::Level => {
+            hall.level(driver, sessions);
+            String::new(alloc)
+        }
+    }
+}
+
+/// Makes the calls of the rows.
+pub(crate) fn play_rows<R: Wait + Abort>(
+    rt: &R,
+    alloc: Global,
+    hall: &Hall,
+    driver: &mut Driver,
+    sessions: &mut [Session],
+    rows: &[Case<'_>],
+)
+    requires driver { IsDriverOf hall.now driver.old }
+    requires sessions { All (IsSessionOf hall.now) sessions.old }
+    requires coflows { length hall.now.setting.opening.table.ids ≡ 2 }
+    requires ports { 2 ≤ hall.now.setting.opening.table.ports }
+    ensures driver { IsDriverOf hall.entry.now driver.new }
+    ensures sessions { All (IsSessionOf hall.entry.now) sessions.new }
+{
+    let Ok(mut places) = Vec::with_capacity(alloc, 2) else {
+        panic!(rt; "no memory");
+    };
+    for row in rows {
+        let have = told(rt, alloc, hall, driver, sessions, &mut places, row.call);
+        assert_eq!(rt; have.as_str(), row.want);
+    }
+}
 
 /// Makes the calls of the rows in a new hall of two sessions, and closes it. The receipts are those of the closed journal.
 fn play<R: Wait + Abort>(rt: &R, alloc: Global, limit: u32, calls: u32, rows: &[Case<'_>])
@@ -21,222 +162,222 @@ fn play<R: Wait + Abort>(rt: &R, alloc: Global, limit: u32, calls: u32, rows: &[
     agreed(rt, alloc, size, Game::Rows(rows), &mut Vec::new(alloc));
 }
 
-const SPENT: [Case<'static>; 4] = [
-    (
-        Call::Client(0, Ask::Register(0)),
-        "Done(Receipt { position: 1, version: 0, reply: Joined }), 1 0 0",
-    ),
-    (Call::Client(0, Ask::Register(1)), "Spent, 1 0 0"),
-    (Call::Client(0, Ask::Publish), "Spent, 1 0 0"),
-    (
-        Call::Client(0, Ask::Pull(1)),
-        "Unranked { version: 0 }, 1 0 0",
-    ),
-];
+/// A call of the session at a place.
+fn client(at: usize, ask: Ask, want: &str) -> Case<'_> {
+    row(Call::Client(at, ask), want)
+}
+
+/// A call of the driver.
+fn driver(order: Order, want: &str) -> Case<'_> {
+    row(Call::Driver(order), want)
+}
 
 #[test]
 fn a_session_makes_no_more_calls_than_it_has(rt: HostRuntime) {
-    play(&rt, rt.alloc(), 100, 1, &SPENT);
+    let rows = [
+        client(
+            0,
+            Ask::Register(0),
+            "Done(Receipt { position: 1, version: 0, reply: Joined }), 1 0 0",
+        ),
+        client(0, Ask::Register(1), "Spent, 1 0 0"),
+        client(0, Ask::Publish, "Spent, 1 0 0"),
+        client(0, Ask::Pull(1), "Unranked { version: 0 }, 1 0 0"),
+    ];
+    play(&rt, rt.alloc(), 100, 1, &rows);
 }
-
-const NEWEST_RANKS: [Case<'static>; 11] = [
-    (
-        Call::Client(0, Ask::Register(0)),
-        "Done(Receipt { position: 1, version: 0, reply: Joined }), 1 0 8",
-    ),
-    (
-        Call::Client(0, Ask::Register(1)),
-        "Done(Receipt { position: 2, version: 0, reply: Joined }), 2 0 7",
-    ),
-    (
-        Call::Client(0, Ask::Publish),
-        "Done(Receipt { position: 3, version: 1, reply: Version(1) }), 3 1 6",
-    ),
-    (
-        Call::Client(1, Ask::Pull(1)),
-        "Rank { version: 1, rank: 1 }, 0 1 9",
-    ),
-    (
-        Call::Client(1, Ask::Pull(0)),
-        "Rank { version: 1, rank: 2 }, 0 1 9",
-    ),
-    (Call::Seen(0), ", 3 1 6"),
-    (
-        Call::Client(0, Ask::Withdraw(1)),
-        "Done(Receipt { position: 4, version: 1, reply: Left }), 4 1 5",
-    ),
-    (
-        Call::Client(0, Ask::Publish),
-        "Done(Receipt { position: 5, version: 2, reply: Version(2) }), 5 2 4",
-    ),
-    (
-        Call::Client(1, Ask::Pull(1)),
-        "Unranked { version: 2 }, 0 2 9",
-    ),
-    (
-        Call::Client(1, Ask::Pull(0)),
-        "Rank { version: 2, rank: 1 }, 0 2 9",
-    ),
-    (
-        Call::Client(1, Ask::PullTurn(0)),
-        "Done(Receipt { position: 6, version: 2, reply: Rank(2, 1) }), 6 2 8",
-    ),
-];
 
 #[test]
 fn pulls_read_the_newest_ranks(rt: HostRuntime) {
-    play(&rt, rt.alloc(), 100, 9, &NEWEST_RANKS);
+    let rows = [
+        client(
+            0,
+            Ask::Register(0),
+            "Done(Receipt { position: 1, version: 0, reply: Joined }), 1 0 8",
+        ),
+        client(
+            0,
+            Ask::Register(1),
+            "Done(Receipt { position: 2, version: 0, reply: Joined }), 2 0 7",
+        ),
+        client(
+            0,
+            Ask::Publish,
+            "Done(Receipt { position: 3, version: 1, reply: Version(1) }), 3 1 6",
+        ),
+        client(1, Ask::Pull(1), "Rank { version: 1, rank: 1 }, 0 1 9"),
+        client(1, Ask::Pull(0), "Rank { version: 1, rank: 2 }, 0 1 9"),
+        row(Call::Seen(0), ", 3 1 6"),
+        client(
+            0,
+            Ask::Withdraw(1),
+            "Done(Receipt { position: 4, version: 1, reply: Left }), 4 1 5",
+        ),
+        client(
+            0,
+            Ask::Publish,
+            "Done(Receipt { position: 5, version: 2, reply: Version(2) }), 5 2 4",
+        ),
+        client(1, Ask::Pull(1), "Unranked { version: 2 }, 0 2 9"),
+        client(1, Ask::Pull(0), "Rank { version: 2, rank: 1 }, 0 2 9"),
+        client(
+            1,
+            Ask::PullTurn(0),
+            "Done(Receipt { position: 6, version: 2, reply: Rank(2, 1) }), 6 2 8",
+        ),
+    ];
+    play(&rt, rt.alloc(), 100, 9, &rows);
 }
-
-const REWEIGHED: [Case<'static>; 11] = [
-    (
-        Call::Client(0, Ask::Register(0)),
-        "Done(Receipt { position: 1, version: 0, reply: Joined }), 1 0 8",
-    ),
-    (
-        Call::Client(0, Ask::Register(1)),
-        "Done(Receipt { position: 2, version: 0, reply: Joined }), 2 0 7",
-    ),
-    (
-        Call::Client(0, Ask::Publish),
-        "Done(Receipt { position: 3, version: 1, reply: Version(1) }), 3 1 6",
-    ),
-    (
-        Call::Client(1, Ask::Reweigh(0, 5)),
-        "Done(Receipt { position: 4, version: 1, reply: Weighed(1) }), 4 1 8",
-    ),
-    (
-        Call::Client(1, Ask::PullTurn(0)),
-        "Done(Receipt { position: 5, version: 1, reply: Rank(1, 2) }), 5 1 7",
-    ),
-    (
-        Call::Client(1, Ask::Pull(0)),
-        "Rank { version: 1, rank: 2 }, 5 1 7",
-    ),
-    (
-        Call::Client(0, Ask::Publish),
-        "Done(Receipt { position: 6, version: 2, reply: Version(2) }), 6 2 5",
-    ),
-    (
-        Call::Client(1, Ask::PullTurn(0)),
-        "Done(Receipt { position: 7, version: 2, reply: Rank(2, 1) }), 7 2 6",
-    ),
-    (
-        Call::Client(1, Ask::Pull(0)),
-        "Rank { version: 2, rank: 1 }, 7 2 6",
-    ),
-    (
-        Call::Client(0, Ask::Withdraw(1)),
-        "Done(Receipt { position: 8, version: 2, reply: Left }), 8 2 4",
-    ),
-    (
-        Call::Client(1, Ask::Reweigh(1, 2)),
-        "Done(Receipt { position: 9, version: 2, reply: NotHere }), 9 2 5",
-    ),
-];
 
 #[test]
 fn a_weight_counts_from_the_next_version_on(rt: HostRuntime) {
-    play(&rt, rt.alloc(), 100, 9, &REWEIGHED);
+    let rows = [
+        client(
+            0,
+            Ask::Register(0),
+            "Done(Receipt { position: 1, version: 0, reply: Joined }), 1 0 8",
+        ),
+        client(
+            0,
+            Ask::Register(1),
+            "Done(Receipt { position: 2, version: 0, reply: Joined }), 2 0 7",
+        ),
+        client(
+            0,
+            Ask::Publish,
+            "Done(Receipt { position: 3, version: 1, reply: Version(1) }), 3 1 6",
+        ),
+        client(
+            1,
+            Ask::Reweigh(0, 5),
+            "Done(Receipt { position: 4, version: 1, reply: Weighed(1) }), 4 1 8",
+        ),
+        client(
+            1,
+            Ask::PullTurn(0),
+            "Done(Receipt { position: 5, version: 1, reply: Rank(1, 2) }), 5 1 7",
+        ),
+        client(1, Ask::Pull(0), "Rank { version: 1, rank: 2 }, 5 1 7"),
+        client(
+            0,
+            Ask::Publish,
+            "Done(Receipt { position: 6, version: 2, reply: Version(2) }), 6 2 5",
+        ),
+        client(
+            1,
+            Ask::PullTurn(0),
+            "Done(Receipt { position: 7, version: 2, reply: Rank(2, 1) }), 7 2 6",
+        ),
+        client(1, Ask::Pull(0), "Rank { version: 2, rank: 1 }, 7 2 6"),
+        client(
+            0,
+            Ask::Withdraw(1),
+            "Done(Receipt { position: 8, version: 2, reply: Left }), 8 2 4",
+        ),
+        client(
+            1,
+            Ask::Reweigh(1, 2),
+            "Done(Receipt { position: 9, version: 2, reply: NotHere }), 9 2 5",
+        ),
+    ];
+    play(&rt, rt.alloc(), 100, 9, &rows);
 }
-
-const RUN_AMONG_ASKS: [Case<'static>; 21] = [
-    (
-        Call::Client(0, Ask::Register(0)),
-        "Done(Receipt { position: 1, version: 0, reply: Joined }), 1 0 8",
-    ),
-    (
-        Call::Driver(Order::Register(1)),
-        "Done(Receipt { position: 2, version: 0, reply: Joined }), 19",
-    ),
-    (
-        Call::Driver(Order::Close),
-        "Done(Receipt { position: 3, version: 0, reply: NoneOpen }), 18",
-    ),
-    (
-        Call::Driver(Order::Publish),
-        "Done(Receipt { position: 4, version: 1, reply: Version(1) }), 17",
-    ),
-    (Call::Granted(0), "None"),
-    (
-        Call::Driver(Order::Open(5)),
-        "Done(Receipt { position: 5, version: 1, reply: Opened(1, 1, 1) }), 16",
-    ),
-    (Call::Granted(0), "Some(1)"),
-    (Call::Granted(1), "None"),
-    (
-        Call::Driver(Order::Skip(9)),
-        "Done(Receipt { position: 6, version: 1, reply: StillOpen(1) }), 15",
-    ),
-    (
-        Call::Client(1, Ask::Withdraw(1)),
-        "Done(Receipt { position: 7, version: 1, reply: Left }), 7 1 8",
-    ),
-    (
-        Call::Driver(Order::Short(0, 0)),
-        "Done(Receipt { position: 8, version: 1, reply: Noted(0) }), 14",
-    ),
-    (
-        Call::Driver(Order::Close),
-        "Done(Receipt { position: 9, version: 1, reply: Closed(1) }), 13",
-    ),
-    (Call::Granted(0), "None"),
-    (
-        Call::Driver(Order::Withdraw(0)),
-        "Done(Receipt { position: 10, version: 1, reply: Left }), 12",
-    ),
-    (
-        Call::Driver(Order::Skip(9)),
-        "Done(Receipt { position: 11, version: 1, reply: Skipped(9) }), 11",
-    ),
-    (
-        Call::Driver(Order::Open(9)),
-        "Done(Receipt { position: 12, version: 1, reply: NothingLeft }), 10",
-    ),
-    (Call::Seen(0), ", 1 0 8"),
-    (Call::Seen(1), ", 7 1 8"),
-    (Call::Level, ""),
-    (Call::Seen(0), ", 12 1 8"),
-    (Call::Seen(1), ", 12 1 8"),
-];
 
 #[test]
 fn a_driver_runs_while_sessions_ask(rt: HostRuntime) {
-    play(&rt, rt.alloc(), 100, 9, &RUN_AMONG_ASKS);
+    let rows = [
+        client(
+            0,
+            Ask::Register(0),
+            "Done(Receipt { position: 1, version: 0, reply: Joined }), 1 0 8",
+        ),
+        driver(
+            Order::Register(1),
+            "Done(Receipt { position: 2, version: 0, reply: Joined }), 19",
+        ),
+        driver(
+            Order::Close,
+            "Done(Receipt { position: 3, version: 0, reply: NoneOpen }), 18",
+        ),
+        driver(
+            Order::Publish,
+            "Done(Receipt { position: 4, version: 1, reply: Version(1) }), 17",
+        ),
+        row(Call::Granted(0), "None"),
+        driver(
+            Order::Open(5),
+            "Done(Receipt { position: 5, version: 1, reply: Opened(1, 1, 1) }), 16",
+        ),
+        row(Call::Granted(0), "Some(1)"),
+        row(Call::Granted(1), "None"),
+        driver(
+            Order::Skip(9),
+            "Done(Receipt { position: 6, version: 1, reply: StillOpen(1) }), 15",
+        ),
+        client(
+            1,
+            Ask::Withdraw(1),
+            "Done(Receipt { position: 7, version: 1, reply: Left }), 7 1 8",
+        ),
+        driver(
+            Order::Short(0, 0),
+            "Done(Receipt { position: 8, version: 1, reply: Noted(0) }), 14",
+        ),
+        driver(
+            Order::Close,
+            "Done(Receipt { position: 9, version: 1, reply: Closed(1) }), 13",
+        ),
+        row(Call::Granted(0), "None"),
+        driver(
+            Order::Withdraw(0),
+            "Done(Receipt { position: 10, version: 1, reply: Left }), 12",
+        ),
+        driver(
+            Order::Skip(9),
+            "Done(Receipt { position: 11, version: 1, reply: Skipped(9) }), 11",
+        ),
+        driver(
+            Order::Open(9),
+            "Done(Receipt { position: 12, version: 1, reply: NothingLeft }), 10",
+        ),
+        row(Call::Seen(0), ", 1 0 8"),
+        row(Call::Seen(1), ", 7 1 8"),
+        row(Call::Level, ""),
+        row(Call::Seen(0), ", 12 1 8"),
+        row(Call::Seen(1), ", 12 1 8"),
+    ];
+    play(&rt, rt.alloc(), 100, 9, &rows);
 }
-
-const FULL: [Case<'static>; 10] = [
-    (
-        Call::Driver(Order::Register(0)),
-        "Done(Receipt { position: 1, version: 0, reply: Joined }), 19",
-    ),
-    (
-        Call::Driver(Order::Open(2)),
-        "Done(Receipt { position: 2, version: 0, reply: Opened(1, 2, 1) }), 18",
-    ),
-    (
-        Call::Client(0, Ask::Register(1)),
-        "Done(Receipt { position: 3, version: 0, reply: Joined }), 3 0 8",
-    ),
-    (Call::Client(1, Ask::Register(1)), "Full(3), 3 0 8"),
-    (Call::Driver(Order::Register(1)), "Full(3), 17"),
-    (
-        Call::Driver(Order::Short(0, 1)),
-        "Done(Receipt { position: 4, version: 0, reply: Noted(1) }), 16",
-    ),
-    (
-        Call::Driver(Order::Close),
-        "Done(Receipt { position: 5, version: 0, reply: Closed(1) }), 15",
-    ),
-    (
-        Call::Client(1, Ask::Pull(1)),
-        "Unranked { version: 0 }, 3 0 8",
-    ),
-    (Call::Level, ""),
-    (Call::Seen(0), ", 5 0 8"),
-];
 
 #[test]
 fn a_full_journal_takes_what_ends_a_run(rt: HostRuntime) {
-    play(&rt, rt.alloc(), 3, 9, &FULL);
+    let rows = [
+        driver(
+            Order::Register(0),
+            "Done(Receipt { position: 1, version: 0, reply: Joined }), 19",
+        ),
+        driver(
+            Order::Open(2),
+            "Done(Receipt { position: 2, version: 0, reply: Opened(1, 2, 1) }), 18",
+        ),
+        client(
+            0,
+            Ask::Register(1),
+            "Done(Receipt { position: 3, version: 0, reply: Joined }), 3 0 8",
+        ),
+        client(1, Ask::Register(1), "Full(3), 3 0 8"),
+        driver(Order::Register(1), "Full(3), 17"),
+        driver(
+            Order::Short(0, 1),
+            "Done(Receipt { position: 4, version: 0, reply: Noted(1) }), 16",
+        ),
+        driver(
+            Order::Close,
+            "Done(Receipt { position: 5, version: 0, reply: Closed(1) }), 15",
+        ),
+        client(1, Ask::Pull(1), "Unranked { version: 0 }, 3 0 8"),
+        row(Call::Level, ""),
+        row(Call::Seen(0), ", 5 0 8"),
+    ];
+    play(&rt, rt.alloc(), 3, 9, &rows);
 }

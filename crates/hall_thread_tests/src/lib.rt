@@ -3,6 +3,12 @@
 #![tactic(auto)]
 
 #[cfg(test)]
+mod asks;
+#[cfg(test)]
+mod begun;
+#[cfg(test)]
 mod threads;
+#[cfg(test)]
+mod told;
 #[cfg(test)]
 mod versions;

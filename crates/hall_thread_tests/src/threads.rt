@@ -2,9 +2,11 @@
 ghost use Rattle.std.specs.Prelude.{◌≡◌, ◌≤◌, All, length};
 ghost use Rattle.client_session.specs.Models.{IsSessionOf};
 
+use crate::asks::{Ask, Said, answered};
+use crate::begun::{hall_of_two, journal_of, seat};
+use crate::told::{Told, tell, tell_entries};
 use crate::versions::{Note, is_true, versions_of};
 use client_session::{Entry, Hall, Pulled, Session};
-use small_halls::{Ask, Said, Told, answered, hall_of_two, journal_of, seat, tell, tell_entries};
 use std::alloc::Global;
 use std::process::Abort;
 use std::sync::{Mutex, Wait};
@@ -185,7 +187,7 @@ fn played<R: Threads + Wait + Sync + Abort>(
     requires few { count ≤ 64 }
 {
     let mut sessions = Vec::new(alloc);
-    let (hall, mut driver) = hall_of_two(rt, alloc, LIMIT, 0);
+    let (hall, mut driver) = hall_of_two(rt, alloc, LIMIT);
     seat(rt, alloc, &hall, &mut driver, &mut sessions, count, TURNS);
     play_all(rt, alloc, &hall, &mut sessions, crowd);
     tell(rt, &sessions, told);
@@ -197,7 +199,7 @@ fn are_entries(rt: &impl Abort, alloc: Global, journal: &[Entry], count: u32, to
     let mut entries = Vec::new(alloc);
     tell_entries(rt, journal, count, &mut entries);
     assert!(rt; told == entries.as_slice());
-    assert!(rt; told.len() == journal.len());
+    assert_eq!(rt; told.len(), journal.len());
 }
 
 /// Plays a crowd in a new hall. What was told and noted is compared with the closed journal.

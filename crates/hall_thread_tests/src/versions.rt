@@ -1,9 +1,10 @@
 //! What sessions noted, and what a plain master makes of the commands of the closed journal.
 ghost use Rattle.std.specs.Prelude.{◌≤◌, ◌^◌};
 
+use crate::begun::master_of_two;
+use crate::told::Told;
 use client_session::{Entry, Reply};
 use master_core::Master;
-use small_halls::{Told, master_of_two};
 use std::alloc::Global;
 use std::process::Abort;
 

@@ -1,6 +1,6 @@
 -- Levelling leaves the sessions in their hall.
 use Rattle.client_session.proofs.Levelling.{are_raised_of}
-use Rattle.hall_tests.proofs.calls.told.Goals as goal
+use Rattle.hall_tests.proofs.rows.told.Goals as goal
 
 pub returns-in-Level-clause-sessions : goal.returns-in-Level-clause-sessions
 returns-in-Level-clause-sessions g c =

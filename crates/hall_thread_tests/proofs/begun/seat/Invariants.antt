@@ -2,7 +2,7 @@
 use Rattle.std.proofs.Common.{◌≡◌, length}
 use Rattle.std.specs.Prelude.{All}
 use Rattle.client_session.specs.Models.{IsDriverOf, IsSessionOf}
-use Rattle.small_halls.proofs.begun.seat.Given as goal
+use Rattle.hall_thread_tests.proofs.begun.seat.Given as goal
 
 abbrev pub invariant-loop-before : goal.invariant-loop-before
 invariant-loop-before g l = record {

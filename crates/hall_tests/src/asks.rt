@@ -7,7 +7,7 @@ use std::sync::Wait;
 
 /// What a session is asked. Coflows are 0 and 1.
 #[derive(Clone, Copy)]
-pub enum Ask {
+pub(crate) enum Ask {
     Register(u32),
     Withdraw(u32),
     Publish,
@@ -18,13 +18,13 @@ pub enum Ask {
 
 /// What it answered.
 #[derive(Clone, Copy)]
-pub enum Said {
+pub(crate) enum Said {
     Turn(Answer),
     Pull(Pulled),
 }
 
 /// What a session answers. A weight of 0 is asked as 1.
-pub fn answered<R: Wait>(rt: &R, hall: &Hall, session: &mut Session, ask: Ask) -> Said
+pub(crate) fn answered<R: Wait>(rt: &R, hall: &Hall, session: &mut Session, ask: Ask) -> Said
     requires own { IsSessionOf hall.now session.old }
     requires coflows { length hall.now.setting.opening.table.ids ≡ 2 }
     ensures own { IsSessionOf hall.entry.now session.new }

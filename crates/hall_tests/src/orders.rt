@@ -8,7 +8,7 @@ use std::sync::Wait;
 
 /// What a driver is asked. Coflows and ports are 0 and 1.
 #[derive(Clone, Copy)]
-pub enum Order {
+pub(crate) enum Order {
     Register(u32),
     Withdraw(u32),
     Publish,
@@ -19,7 +19,7 @@ pub enum Order {
 }
 
 /// What a driver answers. A run of at most 0 slots is asked as one of 1 slot.
-pub fn obeyed<R: Wait>(
+pub(crate) fn obeyed<R: Wait>(
     rt: &R,
     hall: &Hall,
     driver: &mut Driver,

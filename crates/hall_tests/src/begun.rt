@@ -1,15 +1,15 @@
 //! Halls that tests begin, and how they are closed. A test that finds no memory stops at once.
-ghost use Rattle.std.specs.Prelude.{◌≡◌, ◌≤◌, ◌^◌, [], All, Ok, length};
+ghost use Rattle.std.specs.Prelude.{◌≡◌, ◌≤◌, ◌^◌, [], All, length};
 ghost use Rattle.client_session.specs.Halls.{IsFirstDriver};
 ghost use Rattle.client_session.specs.Models.{IsDriverOf, IsSessionOf};
 
 use client_session::{CloseFault, Driver, Entry, Hall, Session};
-use coflow_units::Items;
+use coflow_units::{Items, MAX_TEXT};
 use flow_table::Table;
 use master_core::Master;
 use std::alloc::Global;
 use std::process::Abort;
-use trace_tables::table_of_text;
+use trace_reader::read_trace;
 
 /// Two coflows that share both ports, of 3 units and of 1 unit.
 const TWO: &str = "2 2\n1 0 1 0 1 1:3\n2 0 1 0 1 1:1\n";
@@ -19,54 +19,52 @@ fn table_of_two(rt: &impl Abort, alloc: Global) -> Table
     ensures coflows { length result.ids ≡ 2 }
     ensures ports { 2 ≤ result.ports }
 {
-    let table = had(rt, table_of_text(alloc, TWO.as_bytes(), 1));
+    assert!(rt; TWO.len() <= MAX_TEXT);
+    let Ok(trace) = read_trace(alloc, TWO.as_bytes()) else {
+        panic!(rt; "no memory");
+    };
+    let Ok(table) = Table::build(alloc, &trace, 1) else {
+        panic!(rt; "no memory");
+    };
     assert!(rt; table.coflows() == 2);
     assert!(rt; table.ports() >= 2);
     table
 }
 
-/// The value of an answer that only want of memory can refuse.
-fn had<T, E: Drop>(rt: &impl Abort, answer: Result<T, E>) -> T
-    ensures { answer ≡ Ok result }
-{
-    match answer {
-        Ok(value) => value,
-        Err(_) => panic!(rt; "no memory"),
-    }
-}
-
 /// A master of these coflows, each of weight 1.
-pub fn master_of_two(rt: &impl Abort, alloc: Global, limit: u32) -> Master
+pub(crate) fn master_of_two(rt: &impl Abort, alloc: Global, limit: u32) -> Master
     requires some { 1 ≤ limit }
     requires few { limit ≤ 2 ^ 23 }
     ensures coflows { length result.opening.table.ids ≡ 2 }
     ensures ports { 2 ≤ result.opening.table.ports }
     ensures journal { result.journal ≡ [] }
 {
-    let weights = had(rt, vec![in alloc; 1u64; 2]);
+    let Ok(weights) = vec![in alloc; 1u64; 2] else {
+        panic!(rt; "no memory");
+    };
     let table = table_of_two(rt, alloc);
-    had(
-        rt,
-        Master::new(alloc, table, Items::from_vec(weights), limit),
-    )
+    let Ok(master) = Master::new(alloc, table, Items::from_vec(weights), limit) else {
+        panic!(rt; "no memory");
+    };
+    master
 }
 
-/// A hall of that master, and its driver, which may take so many turns.
-pub fn hall_of_two(rt: &impl Abort, alloc: Global, limit: u32, turns: u64) -> (Hall, Driver)
+/// A hall of that master, and its driver, which may take 20 turns.
+pub(crate) fn hall_of_two(rt: &impl Abort, alloc: Global, limit: u32) -> (Hall, Driver)
     requires some { 1 ≤ limit }
-    requires few { (limit ≤ 2 ^ 23) × (turns ≤ 2 ^ 40) }
-    ensures driver { IsFirstDriver result.0 turns result.1 }
+    requires few { limit ≤ 2 ^ 23 }
+    ensures driver { IsFirstDriver result.0 20 result.1 }
     ensures coflows { length result.0.setting.opening.table.ids ≡ 2 }
     ensures ports { 2 ≤ result.0.setting.opening.table.ports }
 {
-    had(
-        rt,
-        Hall::begin(alloc, master_of_two(rt, alloc, limit), turns),
-    )
+    let Ok(made) = Hall::begin(alloc, master_of_two(rt, alloc, limit), 20) else {
+        panic!(rt; "no memory");
+    };
+    made
 }
 
 /// Makes the first sessions of a hall, each of so many turns.
-pub fn seat(
+pub(crate) fn seat(
     rt: &impl Abort,
     alloc: Global,
     hall: &Hall,
@@ -93,7 +91,7 @@ pub fn seat(
 }
 
 /// Closes a hall of which all sessions are given. Where the close finds no memory it is tried once more.
-fn closed(
+pub(crate) fn closed(
     rt: &impl Abort,
     alloc: Global,
     hall: Hall,
@@ -114,7 +112,7 @@ fn closed(
 }
 
 /// Closes a hall, and answers the journal.
-pub fn journal_of(
+pub(crate) fn journal_of(
     rt: &impl Abort,
     alloc: Global,
     hall: Hall,
@@ -125,5 +123,8 @@ pub fn journal_of(
     requires sessions { All (IsSessionOf hall) sessions.items }
 {
     let master = closed(rt, alloc, hall, driver, sessions);
-    had(rt, Vec::from_slice(alloc, master.journal()))
+    let Ok(journal) = Vec::from_slice(alloc, master.journal()) else {
+        panic!(rt; "no memory");
+    };
+    journal
 }

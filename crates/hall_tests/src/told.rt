@@ -4,9 +4,9 @@ use std::process::Abort;
 
 /// A receipt of a caller.
 #[derive(Clone, Copy, Debug, PartialEq, Eq)]
-pub struct Told {
-    pub who: u32,
-    pub receipt: Receipt,
+pub(crate) struct Told {
+    pub(crate) who: u32,
+    pub(crate) receipt: Receipt,
 }
 
 /// Adds a receipt.
@@ -17,7 +17,7 @@ fn keep(rt: &impl Abort, told: &mut Vec<Told>, who: u32, receipt: Receipt) {
 }
 
 /// Adds the receipts of sessions, one session after another.
-pub fn tell(rt: &impl Abort, sessions: &[Session], told: &mut Vec<Told>) {
+pub(crate) fn tell(rt: &impl Abort, sessions: &[Session], told: &mut Vec<Told>) {
     for session in sessions {
         tell_one(rt, session.number(), session.receipts(), told);
     }
@@ -31,7 +31,12 @@ fn tell_one(rt: &impl Abort, who: u32, receipts: &[Receipt], told: &mut Vec<Told
 }
 
 /// Adds the entries of so many sessions in a journal, one session after another: what the sessions should have been told.
-pub fn tell_entries(rt: &impl Abort, journal: &[Entry], sessions: u32, told: &mut Vec<Told>) {
+pub(crate) fn tell_entries(
+    rt: &impl Abort,
+    journal: &[Entry],
+    sessions: u32,
+    told: &mut Vec<Told>,
+) {
     for before in 0..sessions {
         tell_entries_of(rt, journal, before.saturating_add(1), told);
     }

@@ -3,7 +3,7 @@ use Rattle.std.proofs.Common.{◌∷◌, ◌++◌, [], subst, sym, List}
 use Rattle.std.specs.Prelude.{All}
 use Rattle.std.proofs.lemmas.List.Elements.{All-push, All-same}
 use Rattle.client_session.specs.Models.{HallModel, IsSessionOf, SessionModel}
-use Rattle.small_halls.proofs.closes.closed_later.Goals as goal
+use Rattle.hall_tests.proofs.closes.closed_later.Goals as goal
 
 pub journal_of-requires-clause-sessions : goal.journal_of-requires-clause-sessions
 journal_of-requires-clause-sessions g c =

@@ -2,7 +2,7 @@
 use Rattle.std.proofs.Common.{◌≤◌}
 use Rattle.std.specs.Prelude.{All, vec_capacity}
 use Rattle.client_session.specs.Models.{IsDriverOf, IsSessionOf}
-use Rattle.hall_tests.proofs.calls.play_rows.Given as goal
+use Rattle.hall_tests.proofs.rows.play_rows.Given as goal
 
 abbrev pub invariant-loop-row : goal.invariant-loop-row
 invariant-loop-row g l = record {
