@@ -1,4 +1,4 @@
-//! What plans send on wires, and what comes of wires that fail.
+//! What plans and online runs send on wires, and what comes of wires that fail.
 use crate::jobs::{NONE, TWO, words};
 use crate::plan_tests::{CROSSED, CROSSED_TEXT, TWO_TEXT};
 use coflow_units::MAX_PORTS;
@@ -67,6 +67,33 @@ fn served<R: Threads + Wait + Sync + Abort>(
 
 /// What the wires have of the plan of two flows, and of that of coflows that cross.
 const TWO_SENT: &str = "0: 1 1 1\n0: 2 0 3\n";
+
+/// A coflow of 6 units, and one of 1 unit that arrives two slots of 8 milliseconds later. They share both ports.
+const LATE: &[u8] = b"2 2\n1 0 1 0 1 1:6\n2 16 1 0 1 1:1\n";
+
+/// The online run with an order each four slots: a run ends where the second coflow arrives, at the epoch, and where a coflow is
+/// served.
+const LATE_TEXT: &[u8] = b"sincronia online 2
+epoch 0
+place 1 1 in 0 183251937962
+bound 6
+epoch 4
+place 1 2 in 0 549755813888
+place 2 1 in 0 549755813888
+bound 4
+done 1 7
+done 2 5
+cost 12
+release 1 2 in 0 0 916259689814
+release 2 1 in 0 183251937962 4
+total 10
+run 4 0
+run 1 1
+run 2 0
+end
+";
+
+const LATE_SENT: &str = "0: 1 0 2\n0: 3 0 2\n0: 5 1 1\n0: 6 0 2\n";
 
 const CROSSED_SENT: &str = "0: 1 0 1\n0: 2 2 1\n1: 1 3 1\n1: 2 1 1\n";
 
@@ -139,11 +166,43 @@ fn the_least_port_that_fails_is_told(rt: HostRuntime) -> Result<(), Fail> {
 }
 
 #[test]
-fn only_plans_are_sent(rt: HostRuntime) -> Result<(), Fail> {
-    // A text that is not taken whole was sent all the same; other commands, and plans of bad files, send nothing.
+fn online_runs_are_sent_by_any_number_of_agents(rt: HostRuntime) -> Result<(), Fail> {
+    for agents in ["--agents=1", "--agents=2", "--agents=64"] {
+        let words = ["sincronia", "online", "t", "--epoch=4", agents];
+        let (status, out, wires) = served(&rt, rt.alloc(), &words, LATE, [0, 0], None)?;
+        assert_eq!(rt; status, Status::Ok);
+        assert_eq!(rt; out.bytes(), LATE_TEXT);
+        assert_eq!(rt; wires.as_str(), LATE_SENT);
+    }
+    Ok(())
+}
+
+#[test]
+fn an_online_run_ends_at_a_unit_that_is_not_accepted(rt: HostRuntime) -> Result<(), Fail> {
+    let rows = [
+        (1, ""),
+        (4, "0: 1 0 2\n0: 3 0 1\n"),
+        (5, "0: 1 0 2\n0: 3 0 2\n"),
+    ];
+    for (unit, sent) in rows {
+        let words = ["sincronia", "online", "t", "--epoch=4"];
+        let (status, out, wires) = served(&rt, rt.alloc(), &words, LATE, [unit, 0], None)?;
+        assert_eq!(rt; status, Status::WireFault { port: 0, count: 1 });
+        assert_eq!(rt; out.bytes().len(), 0);
+        assert_eq!(rt; wires.as_str(), sent, "at {unit}");
+    }
+    Ok(())
+}
+
+#[test]
+fn no_other_command_sends(rt: HostRuntime) -> Result<(), Fail> {
+    // A text that is not taken whole was sent all the same; other commands, and those of bad files, send nothing.
     let plan: &[&str] = &["sincronia", "plan", "t"];
-    let rows: [(&[&str], &[u8], Option<u64>, &str); 6] = [
+    let online: &[&str] = &["sincronia", "online", "t", "--epoch", "4"];
+    let rows: [(&[&str], &[u8], Option<u64>, &str); 8] = [
         (plan, TWO, Some(10), TWO_SENT),
+        (online, LATE, Some(10), LATE_SENT),
+        (online, b"", None, ""),
         (plan, b"", None, ""),
         (&["sincronia", "plan", "t", "t"], TWO, None, ""),
         (&["sincronia", "check", "t", "r"], TWO, None, ""),
