@@ -232,8 +232,9 @@ ONLINE = [([], 4), (["--epoch", "64"], 6)]
 
 
 def online(peer, folder):
-    """Times online runs of the trace of the shape of the public one, and the check of the first, beside the check of a plan of about its size. One agent sends: others would be started in each run."""
-    put(folder, "t", traces.hour)
+    """Times online runs of the trace of the shape of the public one, whose coflows arrive over an hour, and the check of the first, beside the peer's check of a plan of about its size. One agent
+    sends: others would be started in each run."""
+    put(folder, "t", lambda: traces.hour(spread_out=True))
     unit = ["--unit", "16"]
     for options, bound in ONLINE:
         ours, theirs = [], []

@@ -6,12 +6,12 @@ COFLOWS = 4096
 FLOWS = 2**20
 
 
-def text(ports, coflows):
-    """The trace of coflows, each its mappers and its reducers with their megabytes."""
+def text(ports, coflows, arrivals=None):
+    """The trace of coflows, each its mappers and its reducers with their megabytes, and their arrivals in milliseconds: 0 for all where none are given."""
     lines = ["%d %d" % (ports, len(coflows))]
     for ident, (mappers, reducers) in enumerate(coflows, 1):
-        lines.append("%d 0 %d %s %d %s" % (ident, len(mappers), " ".join(map(str, mappers)), len(reducers),
-                                           " ".join("%d:%s" % reducer for reducer in reducers)))
+        lines.append("%d %d %d %s %d %s" % (ident, arrivals[ident - 1] if arrivals else 0, len(mappers), " ".join(map(str, mappers)), len(reducers),
+                                            " ".join("%d:%s" % reducer for reducer in reducers)))
     return ("\n".join(lines) + "\n").encode()
 
 
@@ -57,9 +57,9 @@ def many_locations():
 # Shapes of load
 
 
-def hour(scale=1, count=526):
+def hour(scale=1, count=526, spread_out=False):
     """A trace of the shape of the public one-hour trace: 150 ports and 526 coflows, most of them short or narrow, and nearly all bytes in the long and wide ones. Sizes are multiplied by the scale.
-    With a lesser count it has the first ones of these coflows."""
+    With a lesser count it has the first ones of these coflows. All of them arrive at 0, or else over an hour."""
     r = random.Random(1)
 
     def between(low, high):
@@ -81,7 +81,7 @@ def hour(scale=1, count=526):
         m, n = min(150, int(m)), min(150, int(n))
         mappers, reducers = sorted(r.sample(range(150), m)), sorted(r.sample(range(150), n))
         coflows.append((mappers, [(place, "%.1f" % max(0.1, scale * size * m * r.uniform(0.5, 1.5))) for place in reducers]))
-    return text(150, coflows)
+    return text(150, coflows, sorted(r.randrange(3600000) for _ in coflows) if spread_out else None)
 
 
 def wide():
