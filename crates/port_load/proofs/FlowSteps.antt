@@ -149,12 +149,26 @@ differs : (present : List Bool) (a c : ℕ) (b : Bool) → is_present present a 
 differs present a c true t f = λ e. both_ways (is_present present a) (ap (is_present present) e ∙ f) t
 differs present a c false f t = λ e. both_ways (is_present present a) f (ap (is_present present) e ∙ t)
 
-pub fill_none : (old new : LoadTable) (flows : List Flow) (left : List ℕ) (present : List Bool) → IsSameSize old new → ((c : ℕ) (port : Port) → load_at new c port ≡ 0) →
-    FilledSoFar old new flows left present 0
+none_of : (b : Bool) (u : ℕ) → u ≡ 0 → (if b then u else 0) ≡ 0
+none_of true u e = e
+none_of false u e = refl
+
+pub fill_none : (old new : LoadTable) (flows : List Flow) (left : List ℕ) (present : List Bool) → IsSameSize old new →
+    ((c : ℕ) (port : Port) → c < old.coflows → port.number < old.ports → load_at new c port ≡ 0) → FilledSoFar old new flows left present 0
 fill_none old new flows left present size none = record {
   size = size;
-  present_are = λ c port lc lp t. none c port;
-  absent_are = λ c port lc lp f. none c port;
+  present_are = λ c port lc lp t. none c port lc lp;
+  absent_are = λ c port lc lp f. none c port lc lp;
+}
+
+-- a flow that has nothing left adds nothing
+pub fill_paid : (old new : LoadTable) (flows : List Flow) (left : List ℕ) (present : List Bool) (k : ℕ) → FilledSoFar old new flows left present k → k < length flows →
+    slice_index left k ≡ 0 → FilledSoFar old new flows left present (k + 1)
+fill_paid old new flows left present k so_far lt paid = record {
+  size = so_far.size;
+  present_are = λ c port lc lp t. so_far.present_are c port lc lp t ∙
+      omega (arith, left_more flows left k c port lt, none_of (loads c port (owing_at left flows k)) (slice_index left k) paid);
+  absent_are = so_far.absent_are;
 }
 
 pub fill_skip : (old new : LoadTable) (flows : List Flow) (left : List ℕ) (present : List Bool) (k : ℕ) → FilledSoFar old new flows left present k → k < length flows →

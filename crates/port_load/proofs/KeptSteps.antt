@@ -1,5 +1,5 @@
 -- The totals of a table follow its cells.
-use Rattle.std.proofs.Common.{◌≡◌, ◌≢◌, ℕ, ◌+◌, ◌*◌, ◌<◌, ◌≤◌, inl, inr, List, length, refl, sym, ap, subst, ◌∙◌, arith, length-set}
+use Rattle.std.proofs.Common.{◌≡◌, ◌≢◌, ℕ, ◌+◌, ◌-◌, ◌*◌, ◌<◌, ◌≤◌, inl, inr, List, length, refl, sym, ap, subst, ◌∙◌, arith, length-set}
 use Rattle.std.specs.Prelude.{replicate, slice_index, slice_set}
 use Rattle.std.specs.List.{range_with_len}
 use Rattle.std.proofs.lemmas.List.{get_or-replicate, length-replicate, get_or-set_same, get_or-set_other}
@@ -150,6 +150,39 @@ kept_nought coflows ports m n cells totals by_port by_coflow lc some lp cells_ar
   by_port_none = λ c row lt lr mark. ap (λ xs. slice_index xs (row * coflows + c)) cells_are ∙ nought_at m (row * coflows + c);
   by_coflow_none = λ c row lt lr mark. ap (λ xs. slice_index xs (row * coflows + c)) cells_are ∙ nought_at m (row * coflows + c);
 }
+
+-- ---- no load, and no marks
+
+-- the cell of a row is that of a port
+none_in_row : (t : LoadTable) → ((c : ℕ) (port : Port) → c < t.coflows → port.number < t.ports → load_at t c port ≡ 0) → (c row : ℕ) → c < t.coflows → row < t.ports + t.ports →
+    slice_index t.cells (row * t.coflows + c) ≡ 0
+none_in_row t none c row lc lr = elim (cases_lt row t.ports) [
+  | inl lt ↦ none c (record { side = Ingress; number = row }) lc lt
+  | inr le ↦
+      let at = none c (record { side = Egress; number = row - t.ports }) lc (omega (arith, le)) in
+      let same : row ≡ t.ports + (row - t.ports) = omega (arith, le) in
+      ap (λ r. slice_index t.cells (r * t.coflows + c)) same ∙ at
+]
+
+pub kept_unmarked : (t : LoadTable) (coflows ports : ℕ) (cells totals : List ℕ) (by_port by_coflow by_port' by_coflow' : MarkTable) →
+    IsKept coflows ports cells totals by_port by_coflow → table_of coflows ports cells ≡ t → ((c : ℕ) (port : Port) → c < t.coflows → port.number < t.ports → load_at t c port ≡ 0) →
+    HasShapeOf by_port by_port' → HasShapeOf by_coflow by_coflow' → IsKept coflows ports cells totals by_port' by_coflow'
+kept_unmarked t coflows ports cells totals by_port by_coflow by_port' by_coflow' kept view none at_port of_coflow =
+    let here = subst (λ (x : LoadTable). (c : ℕ) (port : Port) → c < x.coflows → port.number < x.ports → load_at x c port ≡ 0) (sym view) none in
+    record {
+      coflows_limit = kept.coflows_limit;
+      has_ports = kept.has_ports;
+      ports_limit = kept.ports_limit;
+      cells_len = kept.cells_len;
+      totals_len = kept.totals_len;
+      port_rows = at_port.rows ∙ kept.port_rows;
+      port_columns = at_port.columns ∙ kept.port_columns;
+      coflow_rows = of_coflow.rows ∙ kept.coflow_rows;
+      coflow_columns = of_coflow.columns ∙ kept.coflow_columns;
+      total = kept.total;
+      by_port_none = λ c row lc lr mark. none_in_row (table_of coflows ports cells) here c row lc lr;
+      by_coflow_none = λ c row lc lr mark. none_in_row (table_of coflows ports cells) here c row lc lr;
+    }
 
 -- ---- a coflow less
 

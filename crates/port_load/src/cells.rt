@@ -55,15 +55,6 @@ impl Cells {
         })
     }
 
-    /// Sets all cells to 0.
-    pub(crate) fn clear(&mut self)
-        ensures size { HasSizeOf self.old self.new }
-        ensures cells { cells_in self.new ≡ replicate (self.old.rows * self.old.columns) 0 }
-    {
-        self.blocks.fill(u32::MAX);
-        self.numbers.clear();
-    }
-
     pub(crate) fn get(&self, row: usize, column: usize) -> u64
         requires row_in { row < self.now.rows }
         requires column_in { column < self.now.columns }

@@ -83,6 +83,10 @@ impl Loads {
     {
         self.clear();
         for number in 0..flows.len() {
+            let units = left[number];
+            if units == 0 {
+                continue;
+            }
             let flow = flows[number];
             if !present[flow.coflow as usize] {
                 continue;
@@ -91,7 +95,7 @@ impl Loads {
                 coflow: flow.coflow,
                 ingress: flow.ingress,
                 egress: flow.egress,
-                units: left[number],
+                units,
             });
         }
     }
@@ -205,12 +209,24 @@ impl Loads {
         })
     }
 
+    /// Takes all loads away, coflow by coflow along its marks, so that the room that was written stays in use.
     fn clear(&mut self)
         ensures size { IsSameSize self.old self.new }
-        ensures none { (coflow : ℕ) (port : Port) → load_at self.new coflow port ≡ 0 }
+        ensures none { (coflow : ℕ) (port : Port) → coflow < self.old.coflows → port.number < self.old.ports →
+            load_at self.new coflow port ≡ 0 }
     {
-        self.cells.clear();
-        self.totals.fill(0);
+        for coflow in 0..self.coflows {
+            self.drop_coflow(coflow);
+        }
+        self.forget_marks();
+    }
+
+    /// Takes the marks away, where no coflow has load.
+    fn forget_marks(&mut self)
+        requires none { (coflow : ℕ) (port : Port) → coflow < self.old.coflows → port.number < self.old.ports →
+            load_at self.old coflow port ≡ 0 }
+        ensures same { self.new ≡ self.old }
+    {
         self.by_port.clear();
         self.by_coflow.clear();
     }

@@ -1,8 +1,15 @@
-use Rattle.std.proofs.Common.{◌^◌, ◌<◌, length, slice_index, take_all, ap, ◌∙◌, arith}
+use Rattle.std.proofs.Common.{◌≡◌, ◌^◌, ◌<◌, length, slice_index, take_all, ap, ◌∙◌, arith}
 use Rattle.coflow_units.specs.Load.{load}
 use Rattle.coflow_units.proofs.WhatIsLeft.{same_length}
-use Rattle.port_load.proofs.FlowSteps.{fill_add, fill_fits, fill_skip, filled_within, flows_left}
+use Rattle.port_load.proofs.FlowSteps.{fill_add, fill_fits, fill_paid, fill_skip, filled_within, flows_left}
 use Rattle.port_load.proofs.loads.Loads.fill.Goals as goal
+
+pub loop-number-preserved-then-units-eq0 : goal.loop-number-preserved-then-units-eq0
+loop-number-preserved-then-units-eq0 c =
+    let k = c.loop-number.number in
+    let lt : k < length c.args.flows.now = omega arith in
+    let paid : slice_index c.args.left.now k ≡ 0 = omega (arith, c.if-units-eq0.true) in
+    fill_paid c.args.self.now c.loop-number.self c.args.flows.now c.args.left.now c.args.present.now k c.loop-number.invariant lt paid
 
 pub loop-number-preserved-then-not-present-flow : goal.loop-number-preserved-then-not-present-flow
 loop-number-preserved-then-not-present-flow c =
