@@ -7,8 +7,8 @@ use Rattle.std.proofs.lemmas.List.Elements.{All-push}
 use Rattle.coflow_units.specs.Flows.{Instance}
 use Rattle.rankers.specs.declared.row.Row.{Row}
 use Rattle.rankers.specs.declared.row.Scored.{Scored}
-use Rattle.rankers.specs.FactsTold.{FactsTold}
-use Rattle.rankers.specs.Meaning.{Meaning}
+use Rattle.coflow_facts.specs.FactsTold.{FactsTold}
+use Rattle.ranker_kinds.specs.Meaning.{Meaning}
 use Rattle.rankers.specs.Rounds.{IsRounds, IsRowsFrom}
 
 pub first_taken : {X : Type 0} (xs new : List X) (x : X) → 0 < length xs → x ≡ get_or xs 0 x → new ≡ drop 1 xs → xs ≡ x ∷ new

@@ -1,4 +1,3 @@
-pub mod KeyOrders
 pub mod Permutations
 pub mod Noted
 pub mod OneRow

@@ -7,10 +7,10 @@ use Rattle.std.proofs.lemmas.List.FromFn.{get_or-range_with_len, length-range_wi
 use Rattle.coflow_units.specs.declared.fabric.Flow.{Flow}
 use Rattle.coflow_units.specs.Completion.{completion}
 use Rattle.coflow_units.proofs.Sums.{in_first, in_tail}
-use Rattle.rankers.specs.ByKey.{by_key, key_in}
-use Rattle.rankers.specs.Meaning.{Meaning, after_note, after_notes}
+use Rattle.ranker_kinds.specs.ByKey.{by_key, key_in}
+use Rattle.ranker_kinds.specs.Meaning.{Meaning, after_note, after_notes}
 use Rattle.rankers.specs.Rounds.{after_completions}
-use Rattle.rankers.proofs.KeyOrders.{by_key_low, keys_agree}
+use Rattle.ranker_kinds.proofs.KeyOrders.{by_key_low, keys_agree}
 
 ends_agree : (m : Meaning) (end other : ℕ → ℕ) (cs : List ℕ) → ((c : ℕ) → Contains cs c → end c ≡ other c) → after_notes m end cs ≡ after_notes m other cs
 ends_agree m end other [] same = refl

@@ -9,8 +9,8 @@ use Rattle.class_rates.specs.Classes.{IsPermutation}
 use Rattle.rankers.specs.declared.row.Row.{Row}
 use Rattle.rankers.specs.declared.row.Scored.{Scored}
 use Rattle.rankers.specs.declared.row.Scored.TheVariants.{Cost, Unfit}
-use Rattle.rankers.specs.FactsTold.{FactsTold}
-use Rattle.rankers.specs.Meaning.{Meaning, after_question, answer_of}
+use Rattle.coflow_facts.specs.FactsTold.{FactsTold}
+use Rattle.ranker_kinds.specs.Meaning.{Meaning, after_question, answer_of}
 use Rattle.rankers.specs.Rounds.{IsRounds, IsRowsFrom, IsToldOf, after_completions}
 use Rattle.rankers.specs.Scores.{IsFirstUnfit, IsNew, IsNotNew, IsScore, IsServedOrder}
 

@@ -15,7 +15,7 @@ use Rattle.schedule_model.proofs.ValidSteps.{valid_names}
 use Rattle.rankers.specs.declared.row.Scored.TheVariants.{Cost}
 use Rattle.rankers.specs.declared.scoring.Judged.{Judged}
 use Rattle.rankers.specs.declared.scoring.Judged.TheVariants.{Served, Unfit}
-use Rattle.rankers.specs.Meaning.{Meaning}
+use Rattle.ranker_kinds.specs.Meaning.{Meaning}
 use Rattle.rankers.specs.Rounds.{IsToldOf, after_completions}
 use Rattle.rankers.specs.Scores.{IsFirstUnfit, IsScore, IsServedOrder}
 use Rattle.rankers.specs.Served.{IsJudged}

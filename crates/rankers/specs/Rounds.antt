@@ -5,9 +5,9 @@ use Rattle.coflow_units.specs.declared.fabric.Flow.{Flow}
 use Rattle.coflow_units.specs.Flows.{Instance}
 use Rattle.rankers.specs.declared.row.Row.{Row}
 use Rattle.rankers.specs.declared.row.Scored.{Scored}
-use Rattle.rankers.specs.ByKey.{by_key}
-use Rattle.rankers.specs.FactsTold.{FactsTold}
-use Rattle.rankers.specs.Meaning.{Meaning, after_notes, after_question, answer_of}
+use Rattle.ranker_kinds.specs.ByKey.{by_key}
+use Rattle.coflow_facts.specs.FactsTold.{FactsTold}
+use Rattle.ranker_kinds.specs.Meaning.{Meaning, after_notes, after_question, answer_of}
 use Rattle.rankers.specs.Scores.{IsFirstUnfit, IsScore, IsServedOrder}
 
 -- it was told the completion of each of so many coflows, by completion and then by number

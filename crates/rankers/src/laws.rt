@@ -1,19 +1,12 @@
 //! Laws of rows.
 ghost use Rattle.std.specs.Prelude.{◌≡◌, ℕ, List};
 ghost use Rattle.coflow_units.specs.Flows.{Instance};
-ghost use Rattle.rankers.specs.ByKey.{IsByKey, by_key};
 ghost use Rattle.rankers.specs.declared.row.Row.{Row};
 ghost use Rattle.rankers.specs.declared.row.Scored.{Scored};
-ghost use Rattle.rankers.specs.FactsTold.{FactsTold};
-ghost use Rattle.rankers.specs.Meaning.{Meaning};
+ghost use Rattle.coflow_facts.specs.FactsTold.{FactsTold};
+ghost use Rattle.ranker_kinds.specs.Meaning.{Meaning};
 ghost use Rattle.rankers.specs.Rounds.{IsRounds, IsRowsFrom};
-ghost use Rattle.rankers.specs.Rows.{Answers, ByKeys, UnfitRows};
-
-/// The list of numbers by a key is the one list that has them by their keys, and those of one key by number.
-pub fn by_key_is_one()
-    ensures sorted { (key : ℕ → ℕ) (n : ℕ) → IsByKey key n (by_key key n) }
-    ensures one { (key : ℕ → ℕ) (n : ℕ) (order : List ℕ) → IsByKey key n order → order ≡ by_key key n }
-{}
+ghost use Rattle.rankers.specs.Rows.{UnfitRows};
 
 /// What the rounds of a ranker are worth depends on its own meaning and the facts alone: not on its place, nor on the other rankers.
 pub fn rounds_are_one()
@@ -25,9 +18,7 @@ pub fn rounds_are_one()
         IsRowsFrom i facts index ms rows → IsRowsFrom i facts index ms other_rows → rows ≡ other_rows }
 {}
 
-/// Orders by keys, what rankers answer before and after notes, and places at which an answer is no order, are as they were worked out by hand.
+/// Places at which an answer is no order are as they were worked out by hand.
 pub fn rows_hold()
-    ensures by_key { ByKeys }
-    ensures answers { Answers }
-    ensures unfit { UnfitRows }
+    ensures { UnfitRows }
 {}

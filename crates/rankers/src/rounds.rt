@@ -2,20 +2,19 @@
 ghost use Rattle.std.specs.Prelude.{◌≡◌, ◌<◌, ◌≤◌, ◌^◌, ℕ, All, IfOk, OnOk, length};
 ghost use Rattle.coflow_units.specs.declared.limits.TheConstants.{MAX_WEIGHT};
 ghost use Rattle.flow_table.specs.Table.{instance_of};
-ghost use Rattle.rankers.specs.FactsTold.{coflows_in};
-ghost use Rattle.rankers.specs.Meaning.{after_note, after_notes, after_question, answer_of};
-ghost use Rattle.rankers.specs.ByKey.{by_key, key_in};
+ghost use Rattle.coflow_facts.specs.FactsTold.{coflows_in};
+ghost use Rattle.ranker_kinds.specs.Meaning.{after_note, after_notes, after_question, answer_of};
+ghost use Rattle.ranker_kinds.specs.ByKey.{by_key, key_in};
 ghost use Rattle.rankers.specs.Rounds.{IsRounds, IsToldOf, after_completions};
 ghost use Rattle.rankers.specs.Scores.{IsScore, IsServedOrder};
 ghost use Rattle.schedule_model.specs.RunList.{NamesFlows};
 
-use crate::by_key::fill_by_key;
-use crate::ranker::Ranker;
 use crate::row::Scored;
 use crate::scoring::{Judged, judge, score};
 use coflow_facts::Facts;
 use coflow_units::NoMemory;
 use flow_table::Table;
+use ranker_kinds::{Ranker, fill_by_key};
 use schedule_model::{Schedule, completions, cost};
 use std::alloc::Global;
 

@@ -3,7 +3,7 @@ use Rattle.std.specs.Prelude.{All, map}
 use Rattle.std.specs.List.{range_with_len}
 use Rattle.coflow_units.specs.declared.fabric.Flow.{Flow}
 use Rattle.coflow_units.specs.Completion.{completion}
-use Rattle.rankers.specs.ByKey.{by_key, key_in}
+use Rattle.ranker_kinds.specs.ByKey.{by_key, key_in}
 use Rattle.rankers.proofs.Noted.{ends_count, told_completions}
 use Rattle.rankers.proofs.rounds.tell.Goals as goal
 

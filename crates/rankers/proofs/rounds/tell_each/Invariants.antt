@@ -1,7 +1,7 @@
 -- the notes that are left give what all notes give
 use Rattle.std.proofs.Common.{◌≡◌, drop}
-use Rattle.rankers.specs.ByKey.{key_in}
-use Rattle.rankers.specs.Meaning.{after_notes}
+use Rattle.ranker_kinds.specs.ByKey.{key_in}
+use Rattle.ranker_kinds.specs.Meaning.{after_notes}
 use Rattle.rankers.proofs.rounds.tell_each.Given as goal
 
 abbrev pub invariant-loop-coflow : goal.invariant-loop-coflow

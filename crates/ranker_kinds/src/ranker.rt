@@ -1,7 +1,7 @@
 //! What a ranker is.
 ghost use Rattle.std.specs.Prelude.{◌≡◌, ⊤, length};
-ghost use Rattle.rankers.specs.FactsTold.{FactsTold, coflows_in};
-ghost use Rattle.rankers.specs.Meaning.{Meaning, after_note, after_question, answer_of};
+ghost use Rattle.coflow_facts.specs.FactsTold.{FactsTold, coflows_in};
+ghost use Rattle.ranker_kinds.specs.Meaning.{Meaning, after_note, after_question, answer_of};
 ghost use Rattle.report.specs.Compared.{IsName};
 
 use coflow_facts::Facts;

@@ -1,5 +1,5 @@
-use Rattle.rankers.proofs.KeyOrders.{by_key_is, by_key_one}
-use Rattle.rankers.proofs.laws.by_key_is_one.Goals as goal
+use Rattle.ranker_kinds.proofs.KeyOrders.{by_key_is, by_key_one}
+use Rattle.ranker_kinds.proofs.laws.by_key_is_one.Goals as goal
 
 pub returns-clause-sorted : goal.returns-clause-sorted
 returns-clause-sorted c = by_key_is

@@ -1,6 +1,6 @@
 //! The rankers.
 ghost use Rattle.std.specs.Prelude.{◌≡◌, IfOk, replicate};
-ghost use Rattle.rankers.specs.Kinds.{attained};
+ghost use Rattle.ranker_kinds.specs.Kinds.{attained};
 
 use crate::by_key::fill_by_key;
 use crate::ranker::Ranker;
@@ -14,7 +14,7 @@ use std::alloc::Global;
 pub struct Bssi0;
 
 impl Ranker for Bssi0 {
-    ghost use Rattle.rankers.specs.Kinds.{bssi};
+    ghost use Rattle.ranker_kinds.specs.Kinds.{bssi};
 
     ghost meaning = { λ s. bssi };
 
@@ -35,7 +35,7 @@ impl Ranker for Bssi0 {
 pub struct Sebf;
 
 impl Ranker for Sebf {
-    ghost use Rattle.rankers.specs.Kinds.{sebf};
+    ghost use Rattle.ranker_kinds.specs.Kinds.{sebf};
 
     ghost meaning = { λ s. sebf };
 
@@ -56,7 +56,7 @@ impl Ranker for Sebf {
 pub struct Fifo;
 
 impl Ranker for Fifo {
-    ghost use Rattle.rankers.specs.Kinds.{fifo};
+    ghost use Rattle.ranker_kinds.specs.Kinds.{fifo};
 
     ghost meaning = { λ s. fifo };
 
@@ -91,7 +91,7 @@ impl Attained {
 }
 
 impl Ranker for Attained {
-    ghost use Rattle.rankers.specs.Kinds.{attained};
+    ghost use Rattle.ranker_kinds.specs.Kinds.{attained};
 
     ghost meaning = { λ s. attained s.slots.items };
 

@@ -1,8 +1,8 @@
 use Rattle.std.proofs.Common.{◌≡◌, List, ℕ, length, subst, arith}
 use Rattle.std.specs.List.Sorted.{IsPermutation}
-use Rattle.rankers.specs.ByKey.{by_key, key_in}
-use Rattle.rankers.proofs.KeyOrders.{by_key_below, by_key_one, sorted_by_key}
-use Rattle.rankers.proofs.by_key.fill_by_key.Goals as goal
+use Rattle.ranker_kinds.specs.ByKey.{by_key, key_in}
+use Rattle.ranker_kinds.proofs.KeyOrders.{by_key_below, by_key_one, sorted_by_key}
+use Rattle.ranker_kinds.proofs.by_key.fill_by_key.Goals as goal
 
 pub returns : goal.returns
 returns c =

@@ -1,6 +1,6 @@
 -- the places so far are numbered
 use Rattle.std.proofs.Common.{◌≡◌, ℕ, ◌<◌, get_or, length}
-use Rattle.rankers.proofs.by_key.number.Given as goal
+use Rattle.ranker_kinds.proofs.by_key.number.Given as goal
 
 abbrev pub invariant-loop-place : goal.invariant-loop-place
 invariant-loop-place l = record {

@@ -2,10 +2,10 @@
 ghost use Rattle.std.specs.Prelude.{◌≡◌, ◌≤◌, ◌<◌, ◌^◌, All, length};
 ghost use Rattle.std.specs.List.{range_with_len};
 ghost use Rattle.std.specs.List.Sorted.{IsNonDecreasingBy, IsPermutation};
-ghost use Rattle.rankers.specs.ByKey.{by_key, key_in, key_then_number};
+ghost use Rattle.ranker_kinds.specs.ByKey.{by_key, key_in, key_then_number};
 
 /// Fills `out` with the numbers from 0 on, by their keys, and those of one key by number. A number past the end of the keys has the key 0.
-pub(crate) fn fill_by_key(keys: &[u64], out: &mut [u32])
+pub fn fill_by_key(keys: &[u64], out: &mut [u32])
     requires { length out.old ≤ 2 ^ 32 }
     ensures order { out.new ≡ by_key (key_in keys.now) (length out.old) }
     ensures known { All (λ c. c < length out.old) out.new }

@@ -1,6 +1,6 @@
 use Rattle.std.proofs.Common.{length, arith}
-use Rattle.rankers.proofs.KeyOrders.{numbered_is_range}
-use Rattle.rankers.proofs.by_key.number.Goals as goal
+use Rattle.ranker_kinds.proofs.KeyOrders.{numbered_is_range}
+use Rattle.ranker_kinds.proofs.by_key.number.Goals as goal
 
 pub returns : goal.returns
 returns c = numbered_is_range c.loop-place.out (length c.args.out.now) c.loop-place.place c.loop-place.invariant.count (omega (arith, c.loop-place-test.false))

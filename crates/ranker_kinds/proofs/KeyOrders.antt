@@ -14,7 +14,7 @@ use Rattle.coflow_units.proofs.Sums.{all_of_members, first_or_tail, in_first, in
 use Rattle.class_rates.specs.Classes.{ClassBefore}
 use Rattle.class_rates.proofs.ClassOrders.{before_as, head_before, no_later, order_is_one, tail_sorted}
 use Rattle.coflow_facts.proofs.Moved.{moved_apart}
-use Rattle.rankers.specs.ByKey.{IsByKey, by_key, key_then_number, put_by_key}
+use Rattle.ranker_kinds.specs.ByKey.{IsByKey, by_key, key_then_number, put_by_key}
 
 -- ---- sorted by a number that holds the key and the number
 

@@ -1,0 +1,4 @@
+pub mod Meaning
+pub mod ByKey
+pub mod Kinds
+pub mod Rows
