@@ -101,7 +101,7 @@ pub(crate) fn table_of(rt: &impl Abort, alloc: Global, trace: &str) -> Table {
 }
 
 /// Tests what calls require of weights.
-fn are_weights(weights: &[u64]) -> bool
+pub(crate) fn are_weights(weights: &[u64]) -> bool
     ensures { IsTrue result → All (λ w. w ≤ MAX_WEIGHT) weights.now }
 {
     weights.iter().all(|weight| *weight <= MAX_WEIGHT)

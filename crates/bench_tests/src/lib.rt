@@ -5,6 +5,8 @@
 #[cfg(test)]
 mod benches;
 #[cfg(test)]
+mod comparisons;
+#[cfg(test)]
 mod counting;
 #[cfg(test)]
 mod inputs;
