@@ -1,4 +1,4 @@
-//! Tests of benches of rankers, of what is left on a bench where memory is wanting, and of the texts of comparisons and of classes. That rows are those of the definitions is a
+//! Tests of benches of rankers, of what is left on a bench where memory is wanting, and of whole comparisons. That rows are those of the definitions is a
 //! clause; here are rows that were worked out by hand, and what no clause sees: how often a ranker was asked and told, and that each box is dropped once.
 #![tactic(auto)]
 
@@ -10,5 +10,3 @@ mod comparisons;
 mod counting;
 #[cfg(test)]
 mod inputs;
-#[cfg(test)]
-mod texts;

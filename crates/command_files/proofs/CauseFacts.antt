@@ -1,15 +1,18 @@
 -- The causes of the statuses of a command that reads files, and that its files are read to their ends.
-use Rattle.std.proofs.Common.{◌≡◌, ℕ, ◌^◌, ◌≤◌, inl, inr, List, Option, Some, None, length, sym, subst, ◌∙◌}
+use Rattle.std.proofs.Common.{◌≡◌, ◌≢◌, ℕ, ◌^◌, ◌≤◌, List, Option, Some, None, length, sym, subst, ◌∙◌}
 use Rattle.std.specs.Prelude.{IfSome}
 use Rattle.command_words.specs.Jobs.{report_name, trace_name}
 use Rattle.command_words.specs.Jobs.Job.{check_job}
 use Rattle.command_words.specs.Words.{Said}
 use Rattle.coflow_units.specs.declared.quantity.Quantity.{Quantity}
+use Rattle.outside.specs.declared.shelf.Place4.{Place4}
 use Rattle.outside.specs.declared.shelf.Place4.TheVariants as place
 use Rattle.outside.specs.Shelf.{Told, bytes_of}
 use Rattle.command_files.specs.declared.status.Status.{Status}
 use Rattle.command_files.specs.declared.status.Status.TheVariants as status
 use Rattle.command_files.specs.Causes.{FileFailed, FilesBadReport, FilesGiveTable, FilesLimit, HasCauseInFiles, IsGiven}
+use Rattle.command_files.specs.Causes.FileFailed.{at_input, at_report}
+use Rattle.command_files.specs.Causes.FilesLimit.{in_input, in_report}
 use Rattle.command_files.specs.FileCauses.{NameFailed, NameFailedIf}
 use Rattle.command_files.specs.InputCauses.{HasInputCause, InputFailed, LimitCause}
 use Rattle.command_files.specs.ReportCauses.{IsBadReport, IsReportCause, ReportLimit}
@@ -26,38 +29,44 @@ pub input_cause : (IsBad : List ℕ → ℕ → Type 0) (before now : ℕ) (old 
 input_cause IsBad before now old new said (status.BadTrace fault) h = h
 input_cause IsBad before now old new said (status.BadWeights fault) h = h
 input_cause IsBad before now old new said (status.Limit which count) h =
-    if_some old (λ t. LimitCause (bytes_of t (trace_name said.job)) (bytes_if t said.weights) said.unit which count) (FilesLimit said which count) (λ t l. inl l) h
+    if_some old (λ t. LimitCause (bytes_of t (trace_name said.job)) (bytes_if t said.weights) said.unit which count) (FilesLimit said which count) (λ t l. in_input l) h
 input_cause IsBad before now old new said (status.ReadFault count) (one, rose, failed) =
-    (one, rose, of_both old new (InputFailed (trace_name said.job) said.weights) (FileFailed said) (λ a b f. inl f) failed)
+    (one, rose, of_both old new (InputFailed (trace_name said.job) said.weights) (FileFailed said) (λ a b f. at_input f) failed)
 input_cause IsBad before now old new said status.NoMemory h = tt
 input_cause IsBad before now old new said status.Ok h = absurd h
 input_cause IsBad before now old new said status.No h = absurd h
 input_cause IsBad before now old new said status.Usage h = absurd h
 input_cause IsBad before now old new said (status.BadReport line) h = absurd h
+input_cause IsBad before now old new said (status.BadScript line field) h = absurd h
 input_cause IsBad before now old new said (status.WriteFault count) h = absurd h
 input_cause IsBad before now old new said (status.WireFault port count) h = absurd h
 
 -- ---- a report that is read after the trace and the weights
 
--- trace and weights are still read to their ends after the report is read
+module _ (at : Place4) (trace_differs : place.Trace ≢ at) (weights_differ : place.Weights ≢ at) (trace : List ℕ) where
+  still_if : (n : Option (List ℕ)) (a b c : Told) → IsReadOutIf place.Weights n a b → KeepsOthers at b c → IsReadOutIf place.Weights n a c
+  still_if None a b c out others = tt
+  still_if (Some n) a b c (file, left) (files, lefts) = (files place.Weights weights_differ ∙ file, lefts place.Weights weights_differ ∙ left)
+
+  -- trace and weights are still read to their ends after a file is read at another place
+  pub still_both : (weights : Option (List ℕ)) (old mid new : Option Told) → OfBoth old mid (AreReadOut trace weights) → OfBoth mid new (KeepsOthers at) →
+      OfBoth old new (AreReadOut trace weights)
+  still_both weights old mid new out others = both_through old mid new (AreReadOut trace weights) (KeepsOthers at) (AreReadOut trace weights) still out others
+    where
+      still : (a b c : Told) → AreReadOut trace weights a b → KeepsOthers at b c → AreReadOut trace weights a c
+      still a b c ((file, left), out) (files, lefts) =
+          ((files place.Trace trace_differs ∙ file, lefts place.Trace trace_differs ∙ left), still_if weights a b c out (files, lefts))
+
+trace_not_report : place.Trace ≢ place.Report
+trace_not_report e = cc
+
+weights_not_report : place.Weights ≢ place.Report
+weights_not_report e = cc
+
+-- so they are after the report is read
 pub still_both_out : (old mid new : Option Told) (said : Said) → OfBoth old mid (AreReadOut (trace_name said.job) said.weights) → OfBoth mid new (KeepsOthers place.Report) →
     OfBoth old new (AreReadOut (trace_name said.job) said.weights)
-still_both_out old mid new said out others =
-    both_through old mid new (AreReadOut (trace_name said.job) said.weights) (KeepsOthers place.Report) (AreReadOut (trace_name said.job) said.weights) still out others
-  where
-    trace_differs : place.Trace ≡ place.Report → ⊥
-    trace_differs e = cc
-
-    weights_differ : place.Weights ≡ place.Report → ⊥
-    weights_differ e = cc
-
-    still_if : (n : Option (List ℕ)) (a b c : Told) → IsReadOutIf place.Weights n a b → KeepsOthers place.Report b c → IsReadOutIf place.Weights n a c
-    still_if None a b c out others = tt
-    still_if (Some n) a b c (file, left) (files, lefts) = (files place.Weights weights_differ ∙ file, lefts place.Weights weights_differ ∙ left)
-
-    still : (a b c : Told) → AreReadOut (trace_name said.job) said.weights a b → KeepsOthers place.Report b c → AreReadOut (trace_name said.job) said.weights a c
-    still a b c ((file, left), weights) (files, lefts) =
-        ((files place.Trace trace_differs ∙ file, lefts place.Trace trace_differs ∙ left), still_if said.weights a b c weights (files, lefts))
+still_both_out old mid new said out others = still_both place.Report trace_not_report weights_not_report (trace_name said.job) said.weights old mid new out others
 
 -- every file of `check` is read to its end
 pub checked_out : (old mid new : Option Told) (said : Said) (trace name : List ℕ) → report_name said.job ≡ Some name → KeepsFiles old mid →
@@ -84,12 +93,12 @@ module _ (IsBad : List ℕ → ℕ → Type 0) (before mid_count now : ℕ) (old
       IfSome mid (λ t. ReportLimit (Some (bytes_of t name)) which count) → IfSome old (FilesLimit said which count)
   long_report which count is keeps table h =
       with_both old (FilesGiveTable said) (λ t. ReportLimit (bytes_if t (Some name)) which count) (FilesLimit said which count)
-      (λ t gives long. inr (gives, subst (λ (o : Option (List ℕ)). ReportLimit (bytes_if t o) which count) (sym is) long)) table
+      (λ t gives long. in_report gives (subst (λ (o : Option (List ℕ)). ReportLimit (bytes_if t o) which count) (sym is) long)) table
       (told_before old mid (Some name) (λ b. ReportLimit b which count) keeps h)
 
   report_failed : report_name said.job ≡ Some name → KeepsFiles old mid → IfSome old (FilesGiveTable said) → OfBoth mid new (NameFailed name) → OfBoth old new (FileFailed said)
   report_failed is keeps table failed =
-      both_and old new (FilesGiveTable said) (NameFailedIf (report_name said.job)) (FileFailed said) (λ a b gives f. inr (gives, f)) table
+      both_and old new (FilesGiveTable said) (NameFailedIf (report_name said.job)) (FileFailed said) (λ a b gives f. at_report gives f) table
       (subst (λ o. OfBoth old new (NameFailedIf o)) (sym is)
       (named_before old mid new (Some name) keeps (of_both mid new (NameFailed name) (NameFailedIf (Some name)) (λ a b h. h) failed)))
 
@@ -104,6 +113,7 @@ module _ (IsBad : List ℕ → ℕ → Type 0) (before mid_count now : ℕ) (old
   from_report status.Usage is le keeps table h = absurd h
   from_report (status.BadTrace fault) is le keeps table h = absurd h
   from_report (status.BadWeights fault) is le keeps table h = absurd h
+  from_report (status.BadScript line field) is le keeps table h = absurd h
   from_report (status.WriteFault count) is le keeps table h = absurd h
   from_report (status.WireFault port count) is le keeps table h = absurd h
 

@@ -1,7 +1,8 @@
 -- How far a command came with its files.
-use Rattle.std.proofs.Common.{◌≡◌, ℕ, List, Option, Some, refl, sym, subst}
+use Rattle.std.proofs.Common.{◌≡◌, ℕ, List, Option, Some, None, refl, sym, subst}
 use Rattle.std.specs.Prelude.{IfSome}
-use Rattle.command_words.specs.Jobs.{report_name, trace_name}
+use Rattle.command_words.specs.Jobs.{Job, report_name, script_name, trace_name}
+use Rattle.command_words.specs.Jobs.Job.{audit_job, check_job, classes_job, compare_job, live_job, make_job, online_job, plan_job}
 use Rattle.command_words.specs.Words.{Said}
 use Rattle.outside.specs.declared.shelf.Place4.TheVariants as place
 use Rattle.outside.specs.Shelf.{Told}
@@ -20,23 +21,37 @@ use Rattle.command_files.proofs.ShelfFacts.{both_and, both_joined, both_same, na
 use Rattle.command_files.proofs.InputTurns.{fails_if, no_read}
 
 pub input_in_turn : (old new : Option Told) (said : Said) (s : Status) → OfBoth old new (InputInTurn (trace_name said.job) said.weights s) →
-    OfBoth old new (IsAsBefore place.Report) →
+    OfBoth old new (IsAsBefore place.Report) → OfBoth old new (IsAsBefore place.Script) →
     OfBoth old new (FilesInTurn said s)
-input_in_turn old new said s input report =
-    of_both old new (λ a b. InputInTurn (trace_name said.job) said.weights s a b × IsAsBefore place.Report a b) (FilesInTurn said s) (λ a b (i, r). at_input i r)
-    (both_joined old new (InputInTurn (trace_name said.job) said.weights s) (IsAsBefore place.Report) input report)
+input_in_turn old new said s input report script =
+    of_both old new (λ a b. InputInTurn (trace_name said.job) said.weights s a b × (IsAsBefore place.Report a b × IsAsBefore place.Script a b)) (FilesInTurn said s)
+    (λ a b (i, (r, t)). at_input i r t)
+    (both_joined old new (InputInTurn (trace_name said.job) said.weights s) (λ a b. IsAsBefore place.Report a b × IsAsBefore place.Script a b) input
+    (both_joined old new (IsAsBefore place.Report) (IsAsBefore place.Script) report script))
 
-past_input : (old new : Option Told) (said : Said) (s : Status) → IfSome old (FilesGiveTable said) → OfBoth old new (AreReadOut (trace_name said.job) said.weights) →
+past_input : (old new : Option Told) (said : Said) (s : Status) → script_name said.job ≡ None → IfSome old (FilesGiveTable said) →
+    OfBoth old new (AreReadOut (trace_name said.job) said.weights) →
     ((count : ℕ) → s ≡ status.ReadFault count → OfBoth old new (NameFailedIf (report_name said.job))) → OfBoth old new (FilesInTurn said s)
-past_input old new said s table out failed =
+past_input old new said s none table out failed =
     both_and old new (FilesGiveTable said) (λ a b. FailsAt (report_name said.job) s a b × AreReadOut (trace_name said.job) said.weights a b) (FilesInTurn said s)
-    (λ a b gives (f, out). at_report gives out f) table
+    (λ a b gives (f, out). at_report none gives out f) table
     (fails_if old new (report_name said.job) (AreReadOut (trace_name said.job) said.weights) s out failed)
 
--- after all files no call to the shelf failed
-pub done_in_turn : (old new : Option Told) (said : Said) (s : Status) → (IsReadFault s → ⊥) → IfSome old (FilesGiveTable said) →
+-- after all files of a job without a script no call to the shelf failed
+pub done_in_turn : (old new : Option Told) (said : Said) (s : Status) → script_name said.job ≡ None → (IsReadFault s → ⊥) → IfSome old (FilesGiveTable said) →
     OfBoth old new (AreReadOut (trace_name said.job) said.weights) → OfBoth old new (FilesInTurn said s)
-done_in_turn old new said s other table out = past_input old new said s table out (λ count e. absurd (no_read s count other e))
+done_in_turn old new said s none other table out = past_input old new said s none table out (λ count e. absurd (no_read s count other e))
+
+-- a job that reads a report reads no script
+pub report_alone : (k : Job) (name : List ℕ) → report_name k ≡ Some name → script_name k ≡ None
+report_alone (plan_job trace) name is = refl
+report_alone (check_job trace report) name is = refl
+report_alone (make_job seed) name is = refl
+report_alone (compare_job trace) name is = refl
+report_alone (classes_job trace) name is = refl
+report_alone (audit_job trace journal) name is = refl
+report_alone (online_job trace) name is = refl
+report_alone (live_job trace script) name is = cc
 
 module _ (IsBad : List ℕ → ℕ → Type 0) (old mid new : Option Told) (said : Said) (name : List ℕ) (s : Status) where
   pub report_in_turn : (mid_count now : ℕ) → report_name said.job ≡ Some name → KeepsFiles old mid → IfSome old (FilesGiveTable said) →
@@ -44,17 +59,13 @@ module _ (IsBad : List ℕ → ℕ → Type 0) (old mid new : Option Told) (said
       IsReportCause IsBad mid_count now mid new name s →
       OfBoth old new (FilesInTurn said s)
   report_in_turn mid_count now is keeps table out others cause =
-      past_input old new said s table (still_both_out old mid new said out others)
+      past_input old new said s (report_alone said.job name is) table (still_both_out old mid new said out others)
       (λ count e. failed count (subst (λ (x : Status). IsReportCause IsBad mid_count now mid new name x) e cause))
     where
       failed : (count : ℕ) → IsReportCause IsBad mid_count now mid new name (status.ReadFault count) → OfBoth old new (NameFailedIf (report_name said.job))
       failed count (one, rose, named) =
           subst (λ o. OfBoth old new (NameFailedIf o)) (sym is)
           (named_before old mid new (Some name) keeps (of_both mid new (NameFailed name) (NameFailedIf (Some name)) (λ a b h. h) named))
-
-  pub checked_in_turn : (IsReadFault s → ⊥) → IfSome old (FilesGiveTable said) → OfBoth old mid (AreReadOut (trace_name said.job) said.weights) →
-      OfBoth mid new (KeepsOthers place.Report) → OfBoth old new (FilesInTurn said s)
-  checked_in_turn other table out others = done_in_turn old new said s other table (still_both_out old mid new said out others)
 
 -- where nothing is looked at
 pub untouched_in_turn : (told : Option Told) (said : Said) (s : Status) → (IsReadFault s → ⊥) → OfBoth told told (FilesInTurn said s)
@@ -66,4 +77,5 @@ untouched_in_turn told said s other =
     of {a = a} {b = b} f same =
         let weights : IsAsBefore place.Weights a b = subst (λ (t : Told). IsAsBefore place.Weights a t) same (refl, refl) in
         let report : IsAsBefore place.Report a b = subst (λ (t : Told). IsAsBefore place.Report a t) same (refl, refl) in
-        at_input (at_trace f weights) report
+        let script : IsAsBefore place.Script a b = subst (λ (t : Told). IsAsBefore place.Script a t) same (refl, refl) in
+        at_input (at_trace f weights) report script

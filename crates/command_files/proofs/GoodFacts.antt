@@ -1,21 +1,31 @@
 -- Good files have no fault.
-use Rattle.std.proofs.Common.{◌≡◌, ℕ, inl, inr, List, Option, Some, None, refl, sym, ◌∙◌, arith}
-use Rattle.command_words.specs.Jobs.{report_name}
+use Rattle.std.proofs.Common.{◌≡◌, ℕ, inl, inr, List, Option, Some, None, refl, sym, ap, subst, ◌∙◌, arith}
+use Rattle.std.specs.Prelude.{sum_by}
+use Rattle.command_words.specs.Jobs.{report_name, script_name, trace_name}
 use Rattle.command_words.specs.Words.{Said}
+use Rattle.coflow_units.specs.declared.fabric.Flow.{Flow}
 use Rattle.coflow_units.specs.declared.quantity.Quantity.{Quantity}
 use Rattle.coflow_units.specs.declared.trace.CoflowLine.{CoflowLine}
+use Rattle.flow_table.specs.Sent.{sent}
+use Rattle.flow_table.proofs.FlowsOne.{flows_one}
 use Rattle.live_text.specs.Reading.{IsBadAt, IsTextOf}
-use Rattle.outside.specs.Shelf.{Told}
+use Rattle.outside.specs.Shelf.{Told, bytes_of}
+use Rattle.script_reader.specs.declared.fault.ScriptFault.{ScriptFault}
+use Rattle.script_reader.specs.declared.fault.ScriptFault.TheVariants as script_fault
+use Rattle.trace_reader.specs.Trace.{trace_of}
 use Rattle.weights.specs.declared.fault.WeightsFault.{WeightsFault}
 use Rattle.command_files.specs.declared.status.Status.{Status}
 use Rattle.command_files.specs.declared.status.Status.TheVariants as status
-use Rattle.command_files.specs.Causes.{FilesGiveTable, HasCauseInFiles}
+use Rattle.command_files.specs.Causes.{FilesBadScript, FilesGiveScript, FilesGiveShared, FilesGiveTable, HasCauseInFiles, IsGiven}
+use Rattle.command_files.specs.Causes.FilesLimit.{in_input, in_report, in_script, in_shared}
 use Rattle.command_files.specs.Reports.{HasReportText, IsJournalText, IsReportText}
 use Rattle.command_files.specs.Ends.{IsStill}
 use Rattle.command_files.specs.InputCauses.{GiveTable, LimitCause}
 use Rattle.command_files.specs.InputCauses.LimitCause.{in_table, in_trace, in_weights}
 use Rattle.command_files.specs.Inputs.{GiveWeights, IsTraceText, bytes_if}
 use Rattle.command_files.specs.ReportCauses.{IsBadReport, ReportLimit}
+use Rattle.command_files.specs.ScriptCauses.{HasScriptFault, ScriptLimit}
+use Rattle.command_files.specs.Scripts.{HasMoreUnits, HasScriptText}
 use Rattle.command_files.specs.TraceCauses.{HasTraceFault, TraceLimit}
 use Rattle.command_files.specs.WeightsCauses.{IsFaultOf, WeightsLimit}
 use Rattle.trace_reader.specs.declared.fault.TraceFault.{TraceFault}
@@ -71,19 +81,72 @@ journal_is_good journal good = text_is_good IsTextOf IsBadAt (λ bytes live line
 pub no_report : (IsBad : List ℕ → ℕ → Type 0) → HasNoFault IsBad None
 no_report IsBad = record { line = λ n bad. bad; fits = λ which count (is, told, long). long }
 
+-- ---- a script has no fault
+
+-- The table that the files give has no more units than clients share live, where a script is named. The script, where
+-- there is one, has no fault.
+pub record HasNoScriptFault (said : Said) (t : Told) : Type 0 where
+  pub units : (g : FilesGiveTable said t) (count : ℕ) → IsGiven (script_name said.job) → HasMoreUnits g.table count → ⊥
+  pub bad : (line field : ℕ) → FilesBadScript said line field t → ⊥
+  pub fits : (s : FilesGiveShared said t) (which : Quantity) (count : ℕ) → ScriptLimit s.given.table.ids (bytes_if t (script_name said.job)) which count → ⊥
+
+-- a job without a script
+pub no_script : (said : Said) (t : Told) → script_name said.job ≡ None → HasNoScriptFault said t
+no_script said t none = record {
+  units = λ g count given more. subst IsGiven none given;
+  bad = λ line field (s, bad). subst (λ (o : Option (List ℕ)). HasScriptFault s.given.table.ids (bytes_if t o) (script_fault.Bad line field)) none bad;
+  fits = λ s which count limit. no_limit s which count (subst (λ (o : Option (List ℕ)). ScriptLimit s.given.table.ids (bytes_if t o) which count) none limit);
+}
+  where
+    no_limit : (s : FilesGiveShared said t) (which : Quantity) (count : ℕ) → ScriptLimit s.given.table.ids None which count → ⊥
+    no_limit s which count (inl (is, told, long)) = long
+    no_limit s which count (inr bad) = bad
+
+-- the tables of the files agree in their flows and their ids
+same_flows : (said : Said) (t : Told) (a b : FilesGiveTable said t) → a.table.flows ≡ b.table.flows
+same_flows said t a b =
+    flows_one (sent (trace_of (bytes_of t (trace_name said.job))) said.unit) a.table.flows b.table.flows a.gives.table_is.flows b.gives.table_is.flows
+
+same_ids : (said : Said) (t : Told) (a b : FilesGiveTable said t) → a.table.ids ≡ b.table.ids
+same_ids said t a b = a.gives.table_is.ids ∙ sym b.gives.table_is.ids
+
+-- a text that passes has no fault
+passes_all : (ids : List ℕ) (file : Option (List ℕ)) (fault : ScriptFault) → HasScriptText ids file → HasScriptFault ids file fault → ⊥
+passes_all ids None fault good bad = bad
+passes_all ids (Some text) fault good (short, first) = let clash : None ≡ Some fault = sym good.passes ∙ first in cc
+
+pub script_is_good : (said : Said) (t : Told) → FilesGiveScript said t → HasNoScriptFault said t
+script_is_good said t (s, good) = record {
+  units = λ g count given (is, more). absurd (omega (arith, more, s.shared, ap (λ (xs : List Flow). sum_by (λ (x : Flow). x.units) xs) (same_flows said t g s.given)));
+  bad = λ line field (other, bad). passes_all other.given.table.ids _ (script_fault.Bad line field) (over other) bad;
+  fits = λ other which count limit. fit other which count _ (over other) limit;
+}
+  where
+    over : (other : FilesGiveShared said t) → HasScriptText other.given.table.ids (bytes_if t (script_name said.job))
+    over other = subst (λ (ids : List ℕ). HasScriptText ids (bytes_if t (script_name said.job))) (same_ids said t s.given other.given) good
+
+    fit : (other : FilesGiveShared said t) (which : Quantity) (count : ℕ) (file : Option (List ℕ)) → HasScriptText other.given.table.ids file →
+        ScriptLimit other.given.table.ids file which count → ⊥
+    fit other which count None text limit = text
+    fit other which count (Some bytes) text (inl (is, told, long)) = absurd (omega (arith, text.short, long))
+    fit other which count (Some bytes) text (inr bad) = passes_all other.given.table.ids (Some bytes) (script_fault.Limit which count) text bad
+
 -- ---- so a command does not end early
 
 pub files_end : {IsBad : List ℕ → ℕ → Type 0} (before now : ℕ) (t : Told) (new : Option Told) (said : Said) (s : Status) → HasCauseInFiles IsBad before now (Some t) new said s →
-    FilesGiveTable said t → HasNoFault IsBad (bytes_if t (report_name said.job)) → IsStill before now → s ≡ status.NoMemory
-files_end before now t new said (status.BadTrace fault) (form, bad) table report still = absurd (trace_is_good _ fault table.gives.trace_text bad)
-files_end before now t new said (status.BadWeights fault) (form, (text, bad)) table report still = absurd (weights_are_good _ _ table.list fault table.gives.weights_are bad)
-files_end before now t new said (status.BadReport line) (given, (gives, bad)) table report still = absurd (report.line line bad)
-files_end before now t new said (status.Limit which count) (inl limit) table report still = absurd (table_fits _ _ said.unit which count table limit)
-files_end before now t new said (status.Limit which count) (inr (gives, limit)) table report still = absurd (report.fits which count limit)
-files_end before now t new said (status.ReadFault count) (one, rose, failed) table report still = absurd (still rose)
-files_end before now t new said status.NoMemory cause table report still = refl
-files_end before now t new said status.Ok cause table report still = absurd cause
-files_end before now t new said status.No cause table report still = absurd cause
-files_end before now t new said status.Usage cause table report still = absurd cause
-files_end before now t new said (status.WriteFault count) cause table report still = absurd cause
-files_end before now t new said (status.WireFault port count) cause table report still = absurd cause
+    FilesGiveTable said t → HasNoFault IsBad (bytes_if t (report_name said.job)) → HasNoScriptFault said t → IsStill before now → s ≡ status.NoMemory
+files_end before now t new said (status.BadTrace fault) (form, bad) table report script still = absurd (trace_is_good _ fault table.gives.trace_text bad)
+files_end before now t new said (status.BadWeights fault) (form, (text, bad)) table report script still = absurd (weights_are_good _ _ table.list fault table.gives.weights_are bad)
+files_end before now t new said (status.BadReport line) (given, (gives, bad)) table report script still = absurd (report.line line bad)
+files_end before now t new said (status.Limit which count) (in_input limit) table report script still = absurd (table_fits _ _ said.unit which count table limit)
+files_end before now t new said (status.Limit which count) (in_report gives limit) table report script still = absurd (report.fits which count limit)
+files_end before now t new said (status.Limit which count) (in_shared given g is more) table report script still = absurd (script.units g count given more)
+files_end before now t new said (status.Limit which count) (in_script s limit) table report script still = absurd (script.fits s which count limit)
+files_end before now t new said (status.BadScript line field) (given, bad) table report script still = absurd (script.bad line field bad)
+files_end before now t new said (status.ReadFault count) (one, rose, failed) table report script still = absurd (still rose)
+files_end before now t new said status.NoMemory cause table report script still = refl
+files_end before now t new said status.Ok cause table report script still = absurd cause
+files_end before now t new said status.No cause table report script still = absurd cause
+files_end before now t new said status.Usage cause table report script still = absurd cause
+files_end before now t new said (status.WriteFault count) cause table report script still = absurd cause
+files_end before now t new said (status.WireFault port count) cause table report script still = absurd cause

@@ -52,6 +52,12 @@ trace_not_report e = cc
 weights_not_report : place.Report ≢ place.Weights
 weights_not_report e = cc
 
+trace_not_script : place.Script ≢ place.Trace
+trace_not_script e = cc
+
+weights_not_script : place.Script ≢ place.Weights
+weights_not_script e = cc
+
 weights_not_trace : place.Weights ≢ place.Trace
 weights_not_trace e = cc
 
@@ -66,6 +72,14 @@ pub no_report_by_both : (old mid new : Option Told) → OfBoth old mid (KeepsOth
 no_report_by_both old mid new trace weights =
     as_before_through old mid new place.Report (no_report_by_trace old mid trace) (as_before mid new place.Report place.Weights weights_not_report weights)
 
+pub no_script_by_trace : (old new : Option Told) → OfBoth old new (KeepsOthers place.Trace) → OfBoth old new (IsAsBefore place.Script)
+no_script_by_trace old new keeps = as_before old new place.Script place.Trace trace_not_script keeps
+
+pub no_script_by_both : (old mid new : Option Told) → OfBoth old mid (KeepsOthers place.Trace) → OfBoth mid new (KeepsOthers place.Weights) →
+    OfBoth old new (IsAsBefore place.Script)
+no_script_by_both old mid new trace weights =
+    as_before_through old mid new place.Script (no_script_by_trace old mid trace) (as_before mid new place.Script place.Weights weights_not_script weights)
+
 -- ---- the file that failed
 
 -- at a read fault this file failed, and with that
@@ -78,6 +92,7 @@ fails_if old new name Q status.Usage q h = of_both old new Q (λ a b. FailsAt na
 fails_if old new name Q (status.BadTrace fault) q h = of_both old new Q (λ a b. FailsAt name (status.BadTrace fault) a b × Q a b) (λ a b x. (tt, x)) q
 fails_if old new name Q (status.BadWeights fault) q h = of_both old new Q (λ a b. FailsAt name (status.BadWeights fault) a b × Q a b) (λ a b x. (tt, x)) q
 fails_if old new name Q (status.BadReport line) q h = of_both old new Q (λ a b. FailsAt name (status.BadReport line) a b × Q a b) (λ a b x. (tt, x)) q
+fails_if old new name Q (status.BadScript line field) q h = of_both old new Q (λ a b. FailsAt name (status.BadScript line field) a b × Q a b) (λ a b x. (tt, x)) q
 fails_if old new name Q (status.Limit which count) q h = of_both old new Q (λ a b. FailsAt name (status.Limit which count) a b × Q a b) (λ a b x. (tt, x)) q
 fails_if old new name Q (status.WriteFault count) q h = of_both old new Q (λ a b. FailsAt name (status.WriteFault count) a b × Q a b) (λ a b x. (tt, x)) q
 fails_if old new name Q (status.WireFault port count) q h = of_both old new Q (λ a b. FailsAt name (status.WireFault port count) a b × Q a b) (λ a b x. (tt, x)) q

@@ -6,5 +6,8 @@ pub mod ReportFacts
 pub mod CauseFacts
 pub mod InputTurns
 pub mod FileTurns
+pub mod ScriptFacts
+pub mod LiveCauses
+pub mod LiveTurns
 pub mod GoodFacts
 pub mod SinkFacts

@@ -85,6 +85,7 @@ file_to_report IsBad before now old new name status.Usage h = absurd h
 file_to_report IsBad before now old new name (status.BadTrace fault) h = absurd h
 file_to_report IsBad before now old new name (status.BadWeights fault) h = absurd h
 file_to_report IsBad before now old new name (status.BadReport line) h = absurd h
+file_to_report IsBad before now old new name (status.BadScript line field) h = absurd h
 file_to_report IsBad before now old new name (status.WriteFault count) h = absurd h
 file_to_report IsBad before now old new name (status.WireFault port count) h = absurd h
 

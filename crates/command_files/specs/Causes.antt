@@ -1,18 +1,21 @@
 -- What is wrong with the files of a command, looked at in this order:
--- the trace, the weights, the table, the report or the printed journal.
-use Rattle.std.specs.Prelude.{ℕ, ◌⊎◌, List, Option, Some, None, IfSome}
-use Rattle.command_words.specs.Jobs.{report_name, trace_name}
+-- the trace, the weights, the table, the report, the printed journal or the script.
+use Rattle.std.specs.Prelude.{◌≡◌, ℕ, List, Option, Some, None, IfSome}
+use Rattle.command_words.specs.Jobs.{report_name, script_name, trace_name}
 use Rattle.command_words.specs.Words.{Said}
 use Rattle.coflow_units.specs.declared.quantity.Quantity.{Quantity}
+use Rattle.coflow_units.specs.declared.quantity.Quantity.TheVariants.{Units}
 use Rattle.outside.specs.Shelf.{Told, bytes_of}
 use Rattle.trace_reader.specs.declared.fault.TraceFault.{TraceFault}
 use Rattle.weights.specs.declared.fault.WeightsFault.{WeightsFault}
 use Rattle.command_files.specs.declared.status.Status.{Status}
-use Rattle.command_files.specs.declared.status.Status.TheVariants.{BadTrace, BadWeights, BadReport, Limit, ReadFault, NoMemory}
+use Rattle.command_files.specs.declared.status.Status.TheVariants.{BadTrace, BadWeights, BadReport, BadScript, Limit, ReadFault, NoMemory}
 use Rattle.command_files.specs.FileCauses.{NameFailedIf, ShelfFailed}
 use Rattle.command_files.specs.Inputs.{bytes_if}
 use Rattle.command_files.specs.InputCauses.{GiveTable, HasWeightsFault, InputFailed, LimitCause}
 use Rattle.command_files.specs.ReportCauses.{IsBadReport, ReportLimit}
+use Rattle.command_files.specs.ScriptCauses.{IsBadScript, ScriptLimit}
+use Rattle.command_files.specs.Scripts.{HasMoreUnits, HasScriptText, IsShared}
 use Rattle.command_files.specs.TraceCauses.{HasTraceFault, IsTraceForm}
 use Rattle.command_files.specs.WeightsCauses.{IsWeightsForm}
 
@@ -37,18 +40,40 @@ FilesWeightsFault said fault t = HasWeightsFault (bytes_of t (trace_name said.jo
 abbrev pub FilesBadReport : (List ℕ → ℕ → Type 0) → Said → ℕ → Told → Type 0
 FilesBadReport IsBad said line t = FilesGiveTable said t × IsBadReport IsBad (bytes_if t (report_name said.job)) line
 
--- A quantity of the files is outside its range, and nothing that is looked at before it is wrong:
--- one of the trace, of the weights or of the table, or the bytes of a report where there is a table.
-abbrev pub FilesLimit : Said → Quantity → ℕ → Told → Type 0
-FilesLimit said which count t =
-    LimitCause (bytes_of t (trace_name said.job)) (bytes_if t said.weights) said.unit which count
-    ⊎ (FilesGiveTable said t × ReportLimit (bytes_if t (report_name said.job)) which count)
+-- The files that are named give a table within its limits, and it has no more units than clients may share live.
+pub record FilesGiveShared (said : Said) (t : Told) : Type 0 where
+  pub given : FilesGiveTable said t
+  pub shared : IsShared given.table
 
--- The file whose reading failed: the trace, the weights where the trace has no fault, or the report where there is a
--- table.
-abbrev pub FileFailed : Said → Told → Told → Type 0
-FileFailed said old new = InputFailed (trace_name said.job) said.weights old new
-    ⊎ (FilesGiveTable said old × NameFailedIf (report_name said.job) old new)
+-- and they give a script over its coflows
+abbrev pub FilesGiveScript : Said → Told → Type 0
+FilesGiveScript said t =
+    (s : FilesGiveShared said t) × HasScriptText s.given.table.ids (bytes_if t (script_name said.job))
+
+-- the files give a table that clients may share live, and the script is bad at this field of this line
+abbrev pub FilesBadScript : Said → ℕ → ℕ → Told → Type 0
+FilesBadScript said line field t =
+    (s : FilesGiveShared said t) × IsBadScript s.given.table.ids (bytes_if t (script_name said.job)) line field
+
+-- A quantity of the files is outside its range, and nothing that is looked at before it is wrong: one of the trace, of
+-- the weights or of the table, or the bytes of a report where there is a table. Where there is a table and a script is
+-- named, it may be the units that clients share live, and where these are few, a quantity of the script.
+pub data FilesLimit (said : Said) (which : Quantity) (count : ℕ) (t : Told) : Type 0 where
+  in_input : LimitCause (bytes_of t (trace_name said.job)) (bytes_if t said.weights) said.unit which count →
+      FilesLimit said which count t
+  in_report : FilesGiveTable said t → ReportLimit (bytes_if t (report_name said.job)) which count →
+      FilesLimit said which count t
+  in_shared : IsGiven (script_name said.job) → (g : FilesGiveTable said t) → which ≡ Units →
+      HasMoreUnits g.table count → FilesLimit said which count t
+  in_script : (s : FilesGiveShared said t) →
+      ScriptLimit s.given.table.ids (bytes_if t (script_name said.job)) which count → FilesLimit said which count t
+
+-- The file whose reading failed: the trace, the weights where the trace has no fault, the report where there is a table,
+-- or the script where there is a table that clients may share live.
+pub data FileFailed (said : Said) (old new : Told) : Type 0 where
+  at_input : InputFailed (trace_name said.job) said.weights old new → FileFailed said old new
+  at_report : FilesGiveTable said old → NameFailedIf (report_name said.job) old new → FileFailed said old new
+  at_script : FilesGiveShared said old → NameFailedIf (script_name said.job) old new → FileFailed said old new
 
 -- The cause of a status that comes before anything is written, in a command that reads files, where its reports are bad
 -- in this way. The shelf had and has these counts of faults, and told and tells these files.
@@ -59,6 +84,8 @@ HasCauseInFiles IsBad before now old new said (BadWeights fault) =
     IsWeightsForm fault × IfSome old (FilesWeightsFault said fault)
 HasCauseInFiles IsBad before now old new said (BadReport line) =
     IsGiven (report_name said.job) × IfSome old (FilesBadReport IsBad said line)
+HasCauseInFiles IsBad before now old new said (BadScript line field) =
+    IsGiven (script_name said.job) × IfSome old (FilesBadScript said line field)
 HasCauseInFiles IsBad before now old new said (Limit which count) = IfSome old (FilesLimit said which count)
 HasCauseInFiles IsBad before now old new said (ReadFault count) =
     ShelfFailed before now old new (FileFailed said) count

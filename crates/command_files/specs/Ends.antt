@@ -25,7 +25,7 @@ abbrev pub IsWireFault : Status → Type 0
 IsWireFault (status.WireFault port count) = Unit {0}
 IsWireFault other = ⊥
 
--- All files were read: the text was there, whole or not, or a plan was being served when a wire failed.
+-- All files were read: the text was there, whole or not, or units were being sent when a wire failed.
 abbrev pub IsPastFiles : Status → Type 0
 IsPastFiles status.Ok = Unit {0}
 IsPastFiles status.No = Unit {0}

@@ -1,6 +1,7 @@
 pub mod Shelves
 pub mod Inputs
 pub mod Reports
+pub mod Scripts
 pub mod Written
 pub mod Ends
 pub mod FileCauses
@@ -8,6 +9,7 @@ pub mod TraceCauses
 pub mod WeightsCauses
 pub mod InputCauses
 pub mod ReportCauses
+pub mod ScriptCauses
 pub mod WireCauses
 pub mod Causes
 pub mod Turns

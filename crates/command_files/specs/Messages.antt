@@ -8,7 +8,7 @@ use Rattle.trace_reader.specs.declared.fault.TraceFault.TheVariants as trace
 use Rattle.weights.specs.declared.fault.WeightsFault.{WeightsFault}
 use Rattle.weights.specs.declared.fault.WeightsFault.TheVariants as weight
 use Rattle.command_files.specs.declared.status.Status.{Status}
-use Rattle.command_files.specs.declared.status.Status.TheVariants.{Ok, No, Usage, BadTrace, BadWeights, BadReport, Limit, ReadFault, WriteFault, WireFault, NoMemory}
+use Rattle.command_files.specs.declared.status.Status.TheVariants.{Ok, No, Usage, BadTrace, BadWeights, BadReport, BadScript, Limit, ReadFault, WriteFault, WireFault, NoMemory}
 
 -- the name of a quantity
 abbrev pub name_of : Quantity → List ℕ
@@ -61,6 +61,7 @@ status_text Usage = codes "usage: sincronia COMMAND FIRST [SECOND] [options]"
 status_text (BadTrace fault) = trace_text fault
 status_text (BadWeights fault) = weights_text fault
 status_text (BadReport line) = codes "report: line " ++ decimal line
+status_text (BadScript line field) = codes "script: line " ++ decimal line ++ codes " field " ++ decimal field
 status_text (Limit which count) = limit_text which count
 status_text (ReadFault count) = codes "read fault"
 status_text (WriteFault count) = codes "write fault"

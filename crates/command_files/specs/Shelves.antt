@@ -1,7 +1,8 @@
 -- What a call does to a shelf that tells its files.
 use Rattle.std.specs.Prelude.{◌≡◌, ℕ, List, [], Option, Some, None, IfSome}
-use Rattle.command_words.specs.Jobs.{Job, report_name, trace_name}
-use Rattle.command_words.specs.Jobs.Job.{audit_job, check_job, classes_job, compare_job, make_job, online_job, plan_job}
+use Rattle.command_words.specs.Jobs.{Job, report_name, script_name, trace_name}
+use Rattle.command_words.specs.Jobs.Job.{audit_job, check_job, classes_job, compare_job, live_job, make_job, online_job}
+use Rattle.command_words.specs.Jobs.Job.{plan_job}
 use Rattle.command_words.specs.Words.{Said}
 use Rattle.outside.specs.declared.shelf.Place4.{Place4}
 use Rattle.outside.specs.declared.shelf.Place4.TheVariants as place
@@ -49,3 +50,5 @@ ReadsOut (classes_job trace) said old new = AreReadOut (trace_name said.job) sai
 ReadsOut (online_job trace) said old new = AreReadOut (trace_name said.job) said.weights old new
 ReadsOut (audit_job trace journal) said old new =
     AreReadOut (trace_name said.job) said.weights old new × IsReadOutIf place.Report (report_name said.job) old new
+ReadsOut (live_job trace script) said old new =
+    AreReadOut (trace_name said.job) said.weights old new × IsReadOutIf place.Script (script_name said.job) old new

@@ -1,13 +1,13 @@
 -- In which order a command looks at its files: how far it came, by what the shelf tells of its places.
-use Rattle.std.specs.Prelude.{◌≡◌, ℕ, List, Option, Some}
-use Rattle.command_words.specs.Jobs.{report_name, trace_name}
+use Rattle.std.specs.Prelude.{◌≡◌, ℕ, List, Option, Some, None}
+use Rattle.command_words.specs.Jobs.{report_name, script_name, trace_name}
 use Rattle.command_words.specs.Words.{Said}
 use Rattle.outside.specs.declared.shelf.Place4.{Place4}
 use Rattle.outside.specs.declared.shelf.Place4.TheVariants as place
 use Rattle.outside.specs.Shelf.{Told, bytes_of}
 use Rattle.command_files.specs.declared.status.Status.{Status}
 use Rattle.command_files.specs.declared.status.Status.TheVariants.{ReadFault}
-use Rattle.command_files.specs.Causes.{FilesGiveTable}
+use Rattle.command_files.specs.Causes.{FilesGiveShared, FilesGiveTable}
 use Rattle.command_files.specs.FileCauses.{NameFailedIf}
 use Rattle.command_files.specs.Inputs.{IsTraceText}
 use Rattle.command_files.specs.Shelves.{AreReadOut, IsReadOut}
@@ -29,10 +29,14 @@ pub data InputInTurn (trace : List ℕ) (weights : Option (List ℕ)) (status : 
   at_weights : IsTraceText (bytes_of old trace) → IsReadOut place.Trace trace old new →
       FailsAt weights status old new → InputInTurn trace weights status old new
 
--- All files in turn. Either the report or the printed journal was not looked at, or trace and weights were read to their
--- ends and give a table within its limits.
+-- All files in turn. Either the report, the printed journal and the script were not looked at, or trace and weights were
+-- read to their ends and give a table within its limits. Before a script is looked at, it is one that clients may share
+-- live.
 pub data FilesInTurn (said : Said) (status : Status) (old new : Told) : Type 0 where
   at_input : InputInTurn (trace_name said.job) said.weights status old new → IsAsBefore place.Report old new →
+      IsAsBefore place.Script old new → FilesInTurn said status old new
+  at_report : script_name said.job ≡ None → FilesGiveTable said old →
+      AreReadOut (trace_name said.job) said.weights old new → FailsAt (report_name said.job) status old new →
       FilesInTurn said status old new
-  at_report : FilesGiveTable said old → AreReadOut (trace_name said.job) said.weights old new →
-      FailsAt (report_name said.job) status old new → FilesInTurn said status old new
+  at_script : FilesGiveShared said old → AreReadOut (trace_name said.job) said.weights old new →
+      FailsAt (script_name said.job) status old new → FilesInTurn said status old new

@@ -27,7 +27,7 @@ IsFaultOf None coflows fault = ⊥
 IsFaultOf (Some text) coflows fault =
     (length text ≤ MAX_TEXT) × (first_fault (text_checks text coflows) ≡ Some fault)
 
--- there is a file of weights, and it is too long
+-- there is a file, and it is too long
 abbrev pub AreTooLong : Option (List ℕ) → Type 0
 AreTooLong None = ⊥
 AreTooLong (Some text) = IsTooLong text

@@ -1,4 +1,4 @@
-//! The files of a command: the trace, the weights of its coflows, and a report or a printed journal.
+//! The files of a command: the trace, the weights of its coflows, and a report, a printed journal or a script.
 ghost use Rattle.std.specs.Prelude.{◌≡◌, ◌≤◌, ℕ, IfErr, IfOk, IfSome, OnOk, length, option_map, replicate};
 ghost use Rattle.coflow_units.specs.declared.limits.TheConstants.{MAX_REPORT, MAX_UNIT};
 ghost use Rattle.coflow_units.specs.Trace.{IsTrace};
@@ -14,6 +14,8 @@ ghost use Rattle.command_files.specs.FileCauses.{IsFileCause};
 ghost use Rattle.command_files.specs.InputCauses.{GiveTable, HasInputCause};
 ghost use Rattle.command_files.specs.Inputs.{IsInput, IsTraceOf, IsWeightsOf, bytes_if};
 ghost use Rattle.command_files.specs.ReportCauses.{IsReportCause};
+ghost use Rattle.command_files.specs.ScriptCauses.{IsScriptCause};
+ghost use Rattle.command_files.specs.Scripts.{IsScriptOf};
 ghost use Rattle.command_files.specs.Shelves.{AreReadOut, HasBytes, IsReadOut, IsReadOutIf, KeepsFiles, KeepsOthers, OfBoth};
 ghost use Rattle.command_files.specs.TraceCauses.{IsTraceCause};
 ghost use Rattle.command_files.specs.Turns.{InputInTurn, IsAsBefore};
@@ -25,6 +27,7 @@ use flow_table::{Table, TableFault};
 use live_text::{Live, read_live};
 use outside::{Place4, ReadStop, Shelf, read_all};
 use report::{Report, ReportFault, read_report};
+use script_reader::{Script, ScriptFault, read_script};
 use std::alloc::Global;
 use trace_reader::{TraceFault, read_trace};
 use verdicts::{AnyReport, read_any_report};
@@ -58,6 +61,7 @@ pub fn read_input<H: Shelf>(
     ensures in_turn { IfErr result (λ status. OfBoth (H.told shelf.old) (H.told shelf.new)
         (InputInTurn name.now (option_map (λ s. s.now) weights_name.entry) status)) }
     ensures no_report { OfBoth (H.told shelf.old) (H.told shelf.new) (IsAsBefore Place4.Report) }
+    ensures no_script { OfBoth (H.told shelf.old) (H.told shelf.new) (IsAsBefore Place4.Script) }
     ensures keeps { KeepsFiles (H.told shelf.old) (H.told shelf.new) }
     ensures later { H.faults shelf.old ≤ H.faults shelf.new }
     ensures counts { CountsFault (H.faults shelf.old) (H.faults shelf.new) result }
@@ -174,6 +178,26 @@ pub fn read_journal_file<H: Shelf>(alloc: Global, name: &str, shelf: &mut H) -> 
     let bytes = read_file(alloc, Place4::Report, name, MAX_REPORT, shelf)?;
     let live = read_live(alloc, &bytes)?;
     Ok(live)
+}
+
+/// Reads the script under a name, over the coflows of a table. The error is the status that says why there is none.
+pub fn read_script_file<H: Shelf>(
+    alloc: Global,
+    name: &str,
+    table: &Table,
+    shelf: &mut H,
+) -> Result<Script, Status>
+    ensures script { IfOk result (IsScriptOf (H.told shelf.old) name.now table.now.ids) }
+    ensures read_out { OnOk result (OfBoth (H.told shelf.old) (H.told shelf.new) (IsReadOut Place4.Script name.now)) }
+    ensures others { OfBoth (H.told shelf.old) (H.told shelf.new) (KeepsOthers Place4.Script) }
+    ensures keeps { KeepsFiles (H.told shelf.old) (H.told shelf.new) }
+    ensures counts { CountsFault (H.faults shelf.old) (H.faults shelf.new) result }
+    ensures cause { IfErr result (IsScriptCause table.now.ids (H.faults shelf.old) (H.faults shelf.new)
+        (H.told shelf.old) (H.told shelf.new) name.now) }
+{
+    let bytes = read_file(alloc, Place4::Script, name, MAX_TEXT, shelf)?;
+    let script = read_script(alloc, &bytes, table)?;
+    Ok(script)
 }
 
 /// The bytes of a file of at most `most` bytes.

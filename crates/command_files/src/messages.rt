@@ -23,6 +23,7 @@ impl fmt::Display for Status {
             Status::BadTrace(fault) => write_trace_fault(f, *fault),
             Status::BadWeights(fault) => write_weights_fault(f, *fault),
             Status::BadReport { line } => write!(f, "report: line {line}"),
+            Status::BadScript { line, field } => write!(f, "script: line {line} field {field}"),
             Status::Limit { which, count } => write_limit(f, *which, *count),
             Status::ReadFault { count: _ } => f.write_str("read fault"),
             Status::WriteFault { count: _ } => f.write_str("write fault"),

@@ -6,6 +6,7 @@ use coflow_units::{NoMemory, Quantity};
 use flow_table::TableFault;
 use hall_plan::PlanFault;
 use report::ReportFault;
+use script_reader::ScriptFault;
 use trace_reader::TraceFault;
 use weights::WeightsFault;
 
@@ -26,6 +27,9 @@ pub enum Status {
     /// The file is no report of the kind that its first line tells, or, for `audit`, no printed journal. No text of such a
     /// kind has this line, counted from 1, after the lines before it.
     BadReport { line: u32 },
+    /// The file is no script over the trace's coflows. The fault is the first in reading order, and one of form: lines and
+    /// fields count from 1.
+    BadScript { line: u32, field: u32 },
     /// A counted quantity is outside its range. The count is told as 2^64 - 1 where it is greater. Of the bytes of a text,
     /// of flows and of epochs, which are the orders of an online run, it is one more than the limit.
     Limit { which: Quantity, count: u64 },
@@ -52,6 +56,7 @@ impl Status {
             Status::BadTrace(_) => 3,
             Status::BadWeights(_) => 4,
             Status::BadReport { line: _ } => 5,
+            Status::BadScript { line: _, field: _ } => 6,
             Status::Limit { which: _, count: _ } => 7,
             Status::ReadFault { count: _ } => 8,
             Status::WriteFault { count: _ } => 9,
@@ -142,6 +147,20 @@ impl From<ReportFault> for Status {
         match fault {
             ReportFault::BadText { line } => Status::BadReport { line },
             ReportFault::NoMemory => Status::NoMemory,
+        }
+    }
+}
+
+impl From<ScriptFault> for Status {
+    ghost use Rattle.command_files.specs.ScriptCauses.{IsStatusOfScript};
+
+    ghost from_gives = { λ fault status. IsStatusOfScript fault status };
+
+    fn from(fault: ScriptFault) -> Status {
+        match fault {
+            ScriptFault::Bad { line, field } => Status::BadScript { line, field },
+            ScriptFault::Limit { which, count } => Status::Limit { which, count },
+            ScriptFault::NoMemory => Status::NoMemory,
         }
     }
 }

@@ -1,10 +1,11 @@
 //! Jobs over files in memory.
-ghost use Rattle.std.specs.Prelude.{◌<◌, IfOk, length};
-ghost use Rattle.coflow_units.specs.declared.limits.TheConstants.{MAX_PORTS};
+ghost use Rattle.std.specs.Prelude.{◌<◌, ◌≤◌, IfOk, length};
+ghost use Rattle.coflow_units.specs.declared.limits.TheConstants.{MAX_CLIENTS, MAX_PORTS};
 
-use coflow_units::{MAX_PORTS, NoMemory};
+use coflow_units::{MAX_CLIENTS, MAX_PORTS, NoMemory};
 use command_files::Status;
-use outside::{CountWire, MemShelf, MemSink};
+use live_rounds::OpenGate;
+use outside::{CountWire, MemShelf, MemSink, Shelf};
 use sincronia_cli::sincronia;
 use std::alloc::Global;
 use std::sync::Wait;
@@ -19,7 +20,7 @@ pub(crate) const THREE: &[u8] =
 /// Stands for a file that is not there.
 pub(crate) const NONE: &[u8] = b"no file";
 
-pub(crate) fn words(alloc: Global, texts: &[&str]) -> Result<Vec<String>, Fail> {
+fn words(alloc: Global, texts: &[&str]) -> Result<Vec<String>, Fail> {
     let mut words = Vec::new(alloc);
     for text in texts {
         words.push(String::from_str(alloc, text)?)?;
@@ -41,11 +42,19 @@ pub(crate) const NEVER: Failing = Failing {
 };
 
 /// A wire for each ingress port, which counts what it accepts.
-pub(crate) fn count_wires(alloc: Global) -> Result<Vec<CountWire>, NoMemory>
+fn count_wires(alloc: Global) -> Result<Vec<CountWire>, NoMemory>
     ensures { IfOk result (λ wires. MAX_PORTS < length wires.items) }
 {
     let wires = vec![in alloc; CountWire { sent: 0 }; MAX_PORTS as usize + 1]?;
     Ok(wires)
+}
+
+/// A gate for each client, which holds nobody back.
+fn open_gates(alloc: Global) -> Result<Vec<OpenGate>, NoMemory>
+    ensures { IfOk result (λ gates. MAX_CLIENTS ≤ length gates.items) }
+{
+    let gates = vec![in alloc; OpenGate; MAX_CLIENTS as usize]?;
+    Ok(gates)
 }
 
 /// The status and the bytes taken, of these words over the trace `t`, the weights `w` and the report `r`, of which a byte
@@ -63,12 +72,24 @@ pub(crate) fn job<R: Threads + Wait + Sync>(
             shelf.put(name, bytes)?;
         }
     }
-    let mut out = MemSink::new(alloc, 4096, failing.after)?;
+    ask(rt, alloc, texts, &mut shelf, failing.after)
+}
+
+/// The status and the bytes taken, of these words over the files of a shelf. Nobody waits for wires or gates.
+pub(crate) fn ask<R: Threads + Wait + Sync, H: Shelf>(
+    rt: &R,
+    alloc: Global,
+    texts: &[&str],
+    shelf: &mut H,
+    after: Option<u64>,
+) -> Result<(Status, MemSink), Fail> {
+    let mut out = MemSink::new(alloc, 4096, after)?;
     let words = words(alloc, texts)?;
     let mut wires = count_wires(alloc)?;
+    let mut gates = open_gates(alloc)?;
     let mut bench = Vec::new(alloc);
     let status = sincronia(
-        rt, alloc, &words, &mut shelf, &mut out, &mut wires, &mut bench,
+        rt, alloc, &words, shelf, &mut out, &mut wires, &mut gates, &mut bench,
     );
     Ok((status, out))
 }

@@ -10,12 +10,8 @@ mod jobs;
 #[cfg(test)]
 mod make_tests;
 #[cfg(test)]
-mod meeting_tests;
-#[cfg(test)]
 mod plan_tests;
 #[cfg(test)]
 mod status_tests;
 #[cfg(test)]
 mod turn_tests;
-#[cfg(test)]
-mod wire_tests;

@@ -1,12 +1,11 @@
 //! Files are looked at in turn, and the first fault ends the job.
 use crate::check_tests::{PLACES, RUNS, TOTALS};
 use crate::endless::EndlessReport;
-use crate::jobs::{Failing, NEVER, NONE, TWO, count_wires, job, words};
+use crate::jobs::{Failing, NEVER, NONE, TWO, ask, job};
 use crate::plan_tests::TWO_TEXT;
 use coflow_units::{MAX_TEXT, Quantity};
 use command_files::Status;
-use outside::{MemSink, SureShelf};
-use sincronia_cli::sincronia;
+use outside::SureShelf;
 use std::test::Fail;
 use trace_reader::TraceFault;
 use weights::WeightsFault;
@@ -142,13 +141,8 @@ fn a_report_without_end_is_not_read_where_there_is_no_table(rt: HostRuntime) -> 
     let mut files = SureShelf::new(alloc, 64)?;
     files.put("t", HEAVY)?;
     let mut shelf = EndlessReport { files };
-    let mut out = MemSink::new(alloc, 64, None)?;
-    let words = words(alloc, &["sincronia", "check", "t", "r"])?;
-    let mut wires = count_wires(alloc)?;
-    let mut bench = Vec::new(alloc);
-    let status = sincronia(
-        &rt, alloc, &words, &mut shelf, &mut out, &mut wires, &mut bench,
-    );
+    let words = ["sincronia", "check", "t", "r"];
+    let (status, out) = ask(&rt, alloc, &words, &mut shelf, None)?;
     assert_eq!(rt; status, TOO_HEAVY);
     assert_eq!(rt; out.bytes().len(), 0);
     Ok(())
@@ -160,13 +154,8 @@ fn a_text_above_its_limit_is_told(rt: HostRuntime) -> Result<(), Fail> {
     let mut shelf = SureShelf::new(alloc, MAX_TEXT)?;
     let digits = vec![in alloc; b'1'; MAX_TEXT + 1]?;
     shelf.put("t", &digits)?;
-    let mut out = MemSink::new(alloc, 64, None)?;
-    let words = words(alloc, &["sincronia", "plan", "t"])?;
-    let mut wires = count_wires(alloc)?;
-    let mut bench = Vec::new(alloc);
-    let status = sincronia(
-        &rt, alloc, &words, &mut shelf, &mut out, &mut wires, &mut bench,
-    );
+    let words = ["sincronia", "plan", "t"];
+    let (status, out) = ask(&rt, alloc, &words, &mut shelf, None)?;
     let long = Status::Limit {
         which: Quantity::Text,
         count: 67_108_865,

@@ -5,7 +5,7 @@ use Rattle.std.specs.Str.{bytes_eq}
 use Rattle.text_fields.specs.Numbers.{is_number, number}
 use Rattle.command_words.specs.Line.{Text}
 use Rattle.command_words.specs.declared.job.Job.{Job as JobWords}
-use Rattle.command_words.specs.declared.job.Job.TheVariants.{Audit, Check, Classes, Compare, Make, Online, Plan}
+use Rattle.command_words.specs.declared.job.Job.TheVariants.{Audit, Check, Classes, Compare, Live, Make, Online, Plan}
 
 -- What the program is asked to do: a command, with the names of files or the number behind it.
 pub data Job : Type 0 where
@@ -23,6 +23,8 @@ pub data Job : Type 0 where
   audit_job : Text → Text → Job
   -- the name of a trace
   online_job : Text → Job
+  -- the names of a trace and of a script
+  live_job : Text → Text → Job
 
 -- the job of words that were read
 abbrev pub job_by : JobWords → Job
@@ -33,6 +35,7 @@ job_by (Compare trace) = compare_job trace.now
 job_by (Classes trace) = classes_job trace.now
 job_by (Audit trace journal) = audit_job trace.now journal.now
 job_by (Online trace) = online_job trace.now
+job_by (Live trace script) = live_job trace.now script.now
 
 -- The name of a file is not empty and is not `-`.
 abbrev pub is_file_name : Text → Bool
@@ -74,7 +77,8 @@ job_of name first second = if bytes_eq name (codes "plan") then option_map plan_
     else (if bytes_eq name (codes "classes") then option_map classes_job (alone (file_of first) second)
     else (if bytes_eq name (codes "audit") then both_in audit_job (file_of first) (file_in second)
     else (if bytes_eq name (codes "online") then option_map online_job (alone (file_of first) second)
-    else None))))))
+    else (if bytes_eq name (codes "live") then both_in live_job (file_of first) (file_in second)
+    else None)))))))
 
 -- the job of the names by their places, where COMMAND and FIRST stand
 abbrev pub job_in : Option Text → Option Text → Option Text → Option Job
@@ -90,6 +94,7 @@ trace_name (compare_job trace) = trace
 trace_name (classes_job trace) = trace
 trace_name (audit_job trace journal) = trace
 trace_name (online_job trace) = trace
+trace_name (live_job trace script) = trace
 
 -- the name of the report or of the printed journal that a job reads, if it reads one
 abbrev pub report_name : Job → Option Text
@@ -100,3 +105,15 @@ report_name (compare_job trace) = None
 report_name (classes_job trace) = None
 report_name (audit_job trace journal) = Some journal
 report_name (online_job trace) = None
+report_name (live_job trace script) = None
+
+-- the name of the script that a job reads, if it reads one
+abbrev pub script_name : Job → Option Text
+script_name (plan_job trace) = None
+script_name (check_job trace report) = None
+script_name (make_job seed) = None
+script_name (compare_job trace) = None
+script_name (classes_job trace) = None
+script_name (audit_job trace journal) = None
+script_name (online_job trace) = None
+script_name (live_job trace script) = Some script

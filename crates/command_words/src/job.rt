@@ -21,6 +21,8 @@ pub enum Job<'a> {
     Audit { trace: &'a str, journal: &'a str },
     /// `online TRACE` serves a trace as its coflows arrive.
     Online { trace: &'a str },
+    /// `live TRACE SCRIPT` carries out a script of clients over a trace.
+    Live { trace: &'a str, script: &'a str },
 }
 
 /// The job of the command of this name and the words behind it. `None` where there is no such command, or it does not take them.
@@ -57,6 +59,11 @@ pub(crate) fn job_of<'a>(name: &str, first: &'a str, second: Option<&'a str>) ->
         "online" => {
             let trace = file_alone(first, second)?;
             Some(Job::Online { trace })
+        }
+        "live" => {
+            let trace = file_of(first)?;
+            let script = file_of(second?)?;
+            Some(Job::Live { trace, script })
         }
         _ => None,
     }

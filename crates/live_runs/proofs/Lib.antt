@@ -1,1 +1,2 @@
 pub mod RunsTold
+pub mod ScriptsRead

@@ -2,7 +2,9 @@
 #![tactic(auto)]
 
 pub mod laws;
+mod limit;
 mod running;
 mod value;
 
+pub use limit::limit_of_read;
 pub use running::run_live;

@@ -21,7 +21,7 @@ use Rattle.report.proofs.TextLaws.{reports_are_one}
 use Rattle.report.specs.declared.value.Report.{Report}
 use Rattle.report.specs.Reading.{IsBadAt, IsTextOf}
 use Rattle.schedule_model.specs.RunList.{slots_in}
-use Rattle.command_files.proofs.GoodFacts.{files_end, text_is_good}
+use Rattle.command_files.proofs.GoodFacts.{files_end, no_script, text_is_good}
 use Rattle.command_files.proofs.ShelfFacts.{if_some, of_both}
 use Rattle.command_files.proofs.FileTurns.{done_in_turn}
 use Rattle.command_files.specs.declared.status.Status.{Status}
@@ -176,7 +176,7 @@ files_past : (before now : ℕ) (t : Told) (new : Option Told) (said : PictureSa
     AreGoodFiles said t → IsStill before now → s ≡ status.NoMemory
 files_past before now t new said s cause (table, report) still =
     files_end before now t new (check_of said) s cause table
-    (text_is_good IsTextOf IsBadAt (λ bytes r line is bad. bad.no_text r is) (bytes_if t (Some said.report)) report) still
+    (text_is_good IsTextOf IsBadAt (λ bytes r line is bad. bad.no_text r is) (bytes_if t (Some said.report)) report) (no_script (check_of said) t refl) still
 
 pub ends_at_files : (before now : ℕ) (old new : Option Told) (by said : PictureSaid) (s : Status) (answer : PictureStatus) → by ≡ said →
     HasCauseInFiles IsBadAt before now old new (check_of by) s → IsSomeAnd old (CallFor said answer) → IsStill before now → (Ended s ≡ answer) ⊎ (Ended s ≡ Ended status.NoMemory)
@@ -213,6 +213,6 @@ ends_drawn (Some t) by said text answer same draws (good, is) =
 pub past_in_turn : (old new : Option Told) (said : PictureSaid) (s : Status) → (IsReadFault s → ⊥) → IfSome old (AreGoodFiles said) →
     OfBoth old new (ReadsOut (check_of said).job (check_of said)) → OfBoth old new (FilesInTurn (check_of said) s)
 past_in_turn old new said s other good out =
-    done_in_turn old new (check_of said) s other
+    done_in_turn old new (check_of said) s refl other
     (if_some old (AreGoodFiles said) (FilesGiveTable (check_of said)) (λ t (gives, report). gives) good)
     (of_both old new (ReadsOut (check_of said).job (check_of said)) (AreReadOut said.trace said.weights) (λ a b (both, report). both) out)

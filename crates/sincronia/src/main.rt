@@ -1,11 +1,12 @@
-//! The program: hands its words, the files, the standard output and wires that count to the library's one call, and ends with its code.
+//! The program: hands its words, the files, the standard output, wires that count and open gates to the library's one call, and ends with its code.
 #![tactic(auto)]
 
-ghost use Rattle.std.specs.Prelude.{◌<◌, IfOk, length};
-ghost use Rattle.coflow_units.specs.declared.limits.TheConstants.{MAX_PORTS};
+ghost use Rattle.std.specs.Prelude.{◌<◌, ◌≤◌, IfOk, length};
+ghost use Rattle.coflow_units.specs.declared.limits.TheConstants.{MAX_CLIENTS, MAX_PORTS};
 
-use coflow_units::{MAX_COFLOWS, MAX_PORTS, NoMemory};
+use coflow_units::{MAX_CLIENTS, MAX_COFLOWS, MAX_PORTS, NoMemory};
 use command_files::Status;
+use live_rounds::OpenGate;
 use outside::{CountWire, DiskShelf, Shelf, Sink, StdSink};
 use rankers::{Attained, Bssi0, Fifo, Ranker, Sebf};
 use sincronia_cli::sincronia;
@@ -59,8 +60,8 @@ fn run<R: Threads + Wait + Sync, H: Shelf, K: Sink>(
     }
 }
 
-/// Does what the words ask for, with the rankers of `compare` on the bench. The error is want of memory for the bench or the
-/// wires.
+/// Does what the words ask for, with the rankers of `compare` on the bench. The error is want of memory for the bench, the
+/// wires or the gates.
 fn with_bench<R: Threads + Wait + Sync, H: Shelf, K: Sink>(
     rt: &R,
     alloc: Global,
@@ -74,7 +75,10 @@ fn with_bench<R: Threads + Wait + Sync, H: Shelf, K: Sink>(
     bench.push(Box::new(alloc, Fifo)?)?;
     bench.push(Box::new(alloc, Attained::new(alloc, MAX_COFLOWS)?)?)?;
     let mut wires = wires(alloc)?;
-    let status = sincronia(rt, alloc, words, shelf, out, &mut wires, &mut bench);
+    let mut gates = gates(alloc)?;
+    let status = sincronia(
+        rt, alloc, words, shelf, out, &mut wires, &mut gates, &mut bench,
+    );
     Ok(status)
 }
 
@@ -84,4 +88,12 @@ fn wires(alloc: Global) -> Result<Vec<CountWire>, NoMemory>
 {
     let wires = vec![in alloc; CountWire { sent: 0 }; MAX_PORTS as usize + 1]?;
     Ok(wires)
+}
+
+/// A gate for each client that a script may have. It holds nobody back.
+fn gates(alloc: Global) -> Result<Vec<OpenGate>, NoMemory>
+    ensures { IfOk result (λ gates. MAX_CLIENTS ≤ length gates.items) }
+{
+    let gates = vec![in alloc; OpenGate; MAX_CLIENTS as usize]?;
+    Ok(gates)
 }

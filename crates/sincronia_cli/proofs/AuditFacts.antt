@@ -3,7 +3,7 @@ use Rattle.std.proofs.Common.{◌≡◌, ◌<◌, ℕ, List, Option, Some, None,
 use Rattle.std.specs.Prelude.{true}
 use Rattle.coflow_units.proofs.ServedLaws.{grants_patient}
 use Rattle.command_words.specs.Jobs.{Job, report_name}
-use Rattle.command_words.specs.Jobs.Job.{audit_job, check_job, classes_job, compare_job, make_job, online_job, plan_job}
+use Rattle.command_words.specs.Jobs.Job.{audit_job, check_job, classes_job, compare_job, live_job, make_job, online_job, plan_job}
 use Rattle.command_words.specs.Words.{Said}
 use Rattle.flow_table.specs.Table.{TableFacts}
 use Rattle.journal.proofs.WereOpened.{were_opened}
@@ -38,6 +38,7 @@ bad_line_one (make_job seed) bytes m n x y = any_line_one bytes m n x y
 bad_line_one (compare_job trace) bytes m n x y = any_line_one bytes m n x y
 bad_line_one (classes_job trace) bytes m n x y = any_line_one bytes m n x y
 bad_line_one (online_job trace) bytes m n x y = any_line_one bytes m n x y
+bad_line_one (live_job trace script) bytes m n x y = any_line_one bytes m n x y
 bad_line_one (audit_job trace journal) bytes m n x y = grind (arith, journal_not_before bytes m n x y, journal_not_before bytes n m y x)
 
 -- ---- a yes

@@ -1,7 +1,7 @@
 -- What a command does to the bench: whether there is a text decides it, and the job of the words.
 use Rattle.std.proofs.Common.{◌≡◌, ℕ, inl, inr, List, Option, ap, subst, sym, ◌∙◌}
 use Rattle.command_words.specs.Jobs.{Job}
-use Rattle.command_words.specs.Jobs.Job.{audit_job, check_job, classes_job, compare_job, make_job, online_job, plan_job}
+use Rattle.command_words.specs.Jobs.Job.{audit_job, check_job, classes_job, compare_job, live_job, make_job, online_job, plan_job}
 use Rattle.command_words.specs.Line.{Text}
 use Rattle.command_words.specs.Words.{IsWords, Said}
 use Rattle.command_words.proofs.OneMeaning.{words_one}
@@ -37,6 +37,7 @@ text_by S (make_job seed) told said bench s text outcome = subst HasText (sym ou
 text_by S (compare_job trace) told said bench s text outcome = subst HasText (sym outcome.0) tt
 text_by S (classes_job trace) told said bench s text outcome = subst HasText (sym outcome.0) tt
 text_by S (online_job trace) told said bench s text outcome = subst HasText (sym outcome.0) tt
+text_by S (live_job trace script) told said bench s text outcome = subst HasText (sym outcome.0) tt
 text_by S (audit_job trace journal) told said bench s text (answer, is, audits) = of_answer answer s is
 
 pub outcome_has_text : (S : TableFacts → List (List ℕ) → Type 0) (told : Option Told) (said : Said) (bench : List Meaning) (s : Status) (text : List ℕ) →
@@ -52,6 +53,7 @@ no_text before now old new said status.Usage cause text = text
 no_text before now old new said (status.BadTrace fault) cause text = text
 no_text before now old new said (status.BadWeights fault) cause text = text
 no_text before now old new said (status.BadReport line) cause text = text
+no_text before now old new said (status.BadScript line field) cause text = text
 no_text before now old new said (status.Limit which count) cause text = text
 no_text before now old new said (status.ReadFault count) cause text = text
 no_text before now old new said (status.WriteFault count) cause text = cause
@@ -75,6 +77,10 @@ none_by F (online_job trace) before now old new said s (inr (inl cause)) text =
     subst HasText is text
 none_by F (online_job trace) before now old new said s (inr (inr cause)) text =
     let (count, is, p) = by_epochs (λ count. IfSome old (FilesPublishMore said count)) s cause in
+    subst HasText is text
+none_by F (live_job trace script) before now old new said s (inl cause) text = no_text before now old new said s cause text
+none_by F (live_job trace script) before now old new said s (inr cause) text =
+    let (port, count, is, p) = by_wire (λ port. Serves (F port) (live_job trace script) old said) s cause in
     subst HasText is text
 none_by F (audit_job trace journal) before now old new said s cause text = no_text before now old new said s cause text
 

@@ -1,8 +1,8 @@
 -- A command whose files are good ends well, where no count rose and there is memory.
 use Rattle.std.proofs.Common.{◌≡◌, ℕ, inl, inr, List, Option, Some, None, ap, refl, sym, subst, ◌∙◌}
 use Rattle.std.specs.Prelude.{◌⊎◌, Bool, false, true}
-use Rattle.command_words.specs.Jobs.{Job, report_name}
-use Rattle.command_words.specs.Jobs.Job.{audit_job, check_job, classes_job, compare_job, make_job, online_job, plan_job}
+use Rattle.command_words.specs.Jobs.{Job, report_name, script_name}
+use Rattle.command_words.specs.Jobs.Job.{audit_job, check_job, classes_job, compare_job, live_job, make_job, online_job, plan_job}
 use Rattle.command_words.specs.Line.{Text}
 use Rattle.command_words.specs.Words.{IsWords, Said}
 use Rattle.command_words.proofs.OneMeaning.{words_one}
@@ -21,14 +21,14 @@ use Rattle.command_files.specs.Inputs.{bytes_if}
 use Rattle.sincronia_cli.specs.Outcome.{IsOutcome, OutcomeBy}
 use Rattle.sincronia_cli.specs.Online.{FilesPublishMore}
 use Rattle.sincronia_cli.specs.Serving.{Serves, Service}
-use Rattle.sincronia_cli.specs.Serving.Service.{online_of, plan_of}
+use Rattle.sincronia_cli.specs.Serving.Service.{online_of, plan_of, script_of}
 use Rattle.sincronia_cli.proofs.EndCauses.{by_epochs, by_made, by_wire}
-use Rattle.command_files.proofs.GoodFacts.{HasNoFault, files_end, journal_is_good, no_report, report_is_good}
+use Rattle.command_files.proofs.GoodFacts.{HasNoFault, files_end, journal_is_good, no_report, no_script, report_is_good, script_is_good}
 
 -- ---- a text that reads has no fault
 
 module _ (said : Said) (t : Told) where
-  no_report_of : (k : Job) → said.job ≡ k → report_name k ≡ None → HasNoFault (IsBadFor said.job) (bytes_if t (report_name said.job))
+  pub no_report_of : (k : Job) → said.job ≡ k → report_name k ≡ None → HasNoFault (IsBadFor said.job) (bytes_if t (report_name said.job))
   no_report_of k same none =
       subst (λ (n : Option (List ℕ)). HasNoFault (IsBadFor said.job) (bytes_if t n)) (sym (ap report_name same ∙ none)) (no_report (IsBadFor said.job))
 
@@ -43,6 +43,7 @@ module _ (said : Said) (t : Told) where
   other_is_good (compare_job trace) same good = no_report_of (compare_job trace) same refl
   other_is_good (classes_job trace) same good = no_report_of (classes_job trace) same refl
   other_is_good (online_job trace) same good = no_report_of (online_job trace) same refl
+  other_is_good (live_job trace script) same good = no_report_of (live_job trace script) same refl
   other_is_good (audit_job trace journal) same (table, text) = good_of (audit_job trace journal) same (journal_is_good (bytes_if t (report_name said.job)) text)
 
   -- good files that are read give a table
@@ -53,6 +54,7 @@ module _ (said : Said) (t : Told) where
   table_is_good (compare_job trace) reads table = table
   table_is_good (classes_job trace) reads table = table
   table_is_good (online_job trace) reads table = table
+  table_is_good (live_job trace script) reads good = good.0.given
   table_is_good (audit_job trace journal) reads (table, text) = table
 
 -- ---- so a command does not end early
@@ -65,14 +67,14 @@ by_command : (F : ℕ → Service → Type 0) (k : Job) (before now : ℕ) (old 
     CauseBy F k before now old new said s → AreGood k said old → IsStill before now → NoneFailed F → s ≡ status.NoMemory
 by_command F (plan_job trace) before now None new said s same cause good still wires = absurd good
 by_command F (plan_job trace) before now (Some t) new said s same (inl cause) good still wires =
-    files_end before now t new said s cause good (other_is_good said t (plan_job trace) same good) still
+    files_end before now t new said s cause good (other_is_good said t (plan_job trace) same good) (no_script said t (ap script_name same)) still
 by_command F (plan_job trace) before now (Some t) new said s same (inr cause) good still wires =
     let (port, count, is, serves) = by_wire (λ port. Serves (F port) (plan_job trace) (Some t) said) s cause in
     let (table, list, input, f) = serves in
     absurd (wires port (plan_of table list) f)
 by_command F (check_job trace report) before now None new said s same cause good still wires = absurd good
 by_command F (check_job trace report) before now (Some t) new said s same cause good still wires =
-    files_end before now t new said s cause good.0 (other_is_good said t (check_job trace report) same good) still
+    files_end before now t new said s cause good.0 (other_is_good said t (check_job trace report) same good) (no_script said t (ap script_name same)) still
 by_command F (make_job seed) before now old new said s same (inl cause) good still wires = by_made s cause
 by_command F (make_job seed) before now old new said s same (inr cause) good still wires =
     let (port, count, is, serves) = by_wire (λ port. Serves (F port) (make_job seed) old said) s cause in
@@ -80,13 +82,13 @@ by_command F (make_job seed) before now old new said s same (inr cause) good sti
     absurd (wires port (plan_of table list) f)
 by_command F (compare_job trace) before now None new said s same cause good still wires = absurd good
 by_command F (compare_job trace) before now (Some t) new said s same cause good still wires =
-    files_end before now t new said s cause good (other_is_good said t (compare_job trace) same good) still
+    files_end before now t new said s cause good (other_is_good said t (compare_job trace) same good) (no_script said t (ap script_name same)) still
 by_command F (classes_job trace) before now None new said s same cause good still wires = absurd good
 by_command F (classes_job trace) before now (Some t) new said s same cause good still wires =
-    files_end before now t new said s cause good (other_is_good said t (classes_job trace) same good) still
+    files_end before now t new said s cause good (other_is_good said t (classes_job trace) same good) (no_script said t (ap script_name same)) still
 by_command F (online_job trace) before now None new said s same cause good still wires = absurd good
 by_command F (online_job trace) before now (Some t) new said s same (inl cause) good still wires =
-    files_end before now t new said s cause good.0 (other_is_good said t (online_job trace) same good.0) still
+    files_end before now t new said s cause good.0 (other_is_good said t (online_job trace) same good.0) (no_script said t (ap script_name same)) still
 by_command F (online_job trace) before now (Some t) new said s same (inr (inl cause)) good still wires =
     let (port, count, is, serves) = by_wire (λ port. Serves (F port) (online_job trace) (Some t) said) s cause in
     let (table, list, input, f) = serves in
@@ -94,9 +96,16 @@ by_command F (online_job trace) before now (Some t) new said s same (inr (inl ca
 by_command F (online_job trace) before now (Some t) new said s same (inr (inr cause)) good still wires =
     let (count, is, more) = by_epochs (λ count. FilesPublishMore said count t) s cause in
     absurd (good.1 count more)
+by_command F (live_job trace script) before now None new said s same cause good still wires = absurd good
+by_command F (live_job trace script) before now (Some t) new said s same (inl cause) good still wires =
+    files_end before now t new said s cause good.0.given (other_is_good said t (live_job trace script) same good) (script_is_good said t good) still
+by_command F (live_job trace script) before now (Some t) new said s same (inr cause) good still wires =
+    let (port, count, is, serves) = by_wire (λ port. Serves (F port) (live_job trace script) (Some t) said) s cause in
+    let (table, list, input, asked, reads, f) = serves in
+    absurd (wires port (script_of table list asked) f)
 by_command F (audit_job trace journal) before now None new said s same cause good still wires = absurd good
 by_command F (audit_job trace journal) before now (Some t) new said s same cause good still wires =
-    files_end before now t new said s cause good.0 (other_is_good said t (audit_job trace journal) same good) still
+    files_end before now t new said s cause good.0 (other_is_good said t (audit_job trace journal) same good) (no_script said t (ap script_name same)) still
 
 pub good_files_end : (F : ℕ → Service → Type 0) (words : List Text) (by said : Said) (before now : ℕ) (old new : Option Told) (s : Status) → IsWords words by →
     IsWords words said → HasCauseOf F before now old new by s → AreGood said.job said old → IsStill before now → NoneFailed F →
@@ -119,6 +128,7 @@ written_by S (make_job seed) told said bench s text outcome = outcome.0
 written_by S (compare_job trace) told said bench s text outcome = outcome.0
 written_by S (classes_job trace) told said bench s text outcome = outcome.0
 written_by S (online_job trace) told said bench s text outcome = outcome.0
+written_by S (live_job trace script) told said bench s text outcome = outcome.0
 written_by S (audit_job trace journal) told said bench s text (answer, is, audits) = answer_ends answer s is
 
 pub written_ends : (S : TableFacts → List (List ℕ) → Type 0) (words : List Text) (by said : Said) (told : Option Told) (bench : List Meaning) (s : Status) (text : List ℕ) →

@@ -6,8 +6,8 @@ use Rattle.coflow_units.specs.declared.quantity.Quantity.{Quantity}
 use Rattle.coflow_units.specs.declared.quantity.Quantity.TheVariants as quantity
 use Rattle.coflow_units.specs.declared.trace.CoflowLine.{CoflowLine}
 use Rattle.coflow_units.specs.declared.trace.Trace.{Trace}
-use Rattle.command_words.specs.Jobs.{Job, report_name, trace_name}
-use Rattle.command_words.specs.Jobs.Job.{audit_job, check_job, classes_job, compare_job, make_job, online_job, plan_job}
+use Rattle.command_words.specs.Jobs.{Job, report_name, script_name, trace_name}
+use Rattle.command_words.specs.Jobs.Job.{audit_job, check_job, classes_job, compare_job, live_job, make_job, online_job, plan_job}
 use Rattle.command_words.specs.Line.{Text}
 use Rattle.command_words.specs.Words.{IsWords, Said}
 use Rattle.command_words.proofs.OneMeaning.{words_one}
@@ -15,6 +15,7 @@ use Rattle.flow_table.specs.Causes.{ExceedsLimit}
 use Rattle.flow_table.specs.Table.{TableFacts}
 use Rattle.outside.specs.Shelf.{Told, bytes_of}
 use Rattle.rankers.specs.Meaning.{Meaning}
+use Rattle.script_reader.specs.declared.fault.ScriptFault.TheVariants as script_fault
 use Rattle.trace_reader.specs.Trace.{trace_of}
 use Rattle.trace_reader.specs.declared.fault.TraceFault.{TraceFault}
 use Rattle.trace_reader.specs.declared.fault.TraceFault.TheVariants as trace_fault
@@ -26,6 +27,7 @@ use Rattle.sincronia_cli.specs.Causes.{CauseBy, HasCauseOf, HasFilesCause, IsBad
 use Rattle.sincronia_cli.specs.Command.{IsOfFiles, ReadsFiles}
 use Rattle.sincronia_cli.specs.Complete.{EndsWell, HasGoodFiles}
 use Rattle.sincronia_cli.specs.FirstCause.{EndsBy, IsFirstCause, IsInterrupted}
+use Rattle.command_files.specs.Causes.FilesLimit.{in_input, in_report, in_script as in_script_of, in_shared}
 use Rattle.command_files.specs.InputCauses.{GiveTable, LimitCause}
 use Rattle.command_files.specs.InputCauses.LimitCause.{in_table, in_trace, in_weights}
 use Rattle.command_files.specs.Inputs.{GiveWeights, IsTraceText, bytes_if}
@@ -37,7 +39,10 @@ use Rattle.command_files.specs.TraceCauses.{HasTraceFault, IsTooLong, IsTraceFor
 use Rattle.command_files.specs.WeightsCauses.{AreTooLong, IsFaultOf, IsWeightsForm}
 use Rattle.sincronia_cli.proofs.AuditFacts.{bad_line_one}
 use Rattle.sincronia_cli.proofs.EndCauses.{by_epochs, by_wire}
-use Rattle.sincronia_cli.proofs.OnlineFacts.{over_is, over_one}
+use Rattle.sincronia_cli.proofs.BeyondFacts.{Beyond, ScriptStops, alone_is_good, beyond_one, is_given, nothing_beyond}
+use Rattle.sincronia_cli.proofs.BeyondFacts.Beyond.{in_script, too_much, too_often}
+use Rattle.sincronia_cli.proofs.BeyondFacts.ScriptStops.{bad_script, long_script}
+use Rattle.sincronia_cli.proofs.OnlineFacts.{over_is}
 use Rattle.command_files.proofs.GoodFacts.{HasNoFault, trace_is_good, weights_are_good}
 use Rattle.sincronia_cli.proofs.CompleteFacts.{other_is_good, table_is_good, written_by}
 
@@ -132,17 +137,17 @@ report_ends k None a (long_report x e) good = x
 report_ends k (Some text) a (long_report x e) good = good.fits quantity.Text (MAX_REPORT + 1) (refl, refl, x)
 report_ends k report a (bad_report line x e) good = good.line line x
 
--- ---- the steps in turn; the last one is that of an online run, which publishes too many orders where this holds of the number of the next
+-- ---- the steps in turn; the last one is what the job finds beyond trace, weights, table and report, and this holds of its status
 
-data Stops (k : Job) (trace : List ℕ) (file : Option (List ℕ)) (unit : ℕ) (report : Option (List ℕ)) (More : ℕ → Type 0) (s : Status) : Type 0 where
+data Stops (k : Job) (trace : List ℕ) (file : Option (List ℕ)) (unit : ℕ) (report : Option (List ℕ)) (More : Status → Type 0) (s : Status) : Type 0 where
   at_trace : TraceStops trace s → Stops k trace file unit report More s
   at_weights : IsTraceText trace → WeightsStop file (trace_of trace).coflows s → Stops k trace file unit report More s
   at_table : IsTraceText trace → (list : List ℕ) → GiveWeights file (trace_of trace).coflows list → TableStops (trace_of trace) unit s → Stops k trace file unit report More s
   at_report : GiveTable trace file unit → ReportStops k report s → Stops k trace file unit report More s
-  at_epochs : GiveTable trace file unit → HasNoFault (IsBadFor k) report → (count : ℕ) → More count → s ≡ status.Limit quantity.Epochs count → Stops k trace file unit report More s
-  at_end : GiveTable trace file unit → HasNoFault (IsBadFor k) report → ((count : ℕ) → More count → ⊥) → s ≡ status.Ok → Stops k trace file unit report More s
+  beyond : GiveTable trace file unit → HasNoFault (IsBadFor k) report → More s → Stops k trace file unit report More s
+  at_end : GiveTable trace file unit → HasNoFault (IsBadFor k) report → ((t : Status) → More t → ⊥) → s ≡ status.Ok → Stops k trace file unit report More s
 
-module _ (k : Job) (trace : List ℕ) (file : Option (List ℕ)) (unit : ℕ) (report : Option (List ℕ)) (More : ℕ → Type 0) (one : (m n : ℕ) → More m → More n → m ≡ n) where
+module _ (k : Job) (trace : List ℕ) (file : Option (List ℕ)) (unit : ℕ) (report : Option (List ℕ)) (More : Status → Type 0) (one : (a b : Status) → More a → More b → a ≡ b) where
   abbrev coflows : List CoflowLine
   coflows = (trace_of trace).coflows
 
@@ -151,37 +156,37 @@ module _ (k : Job) (trace : List ℕ) (file : Option (List ℕ)) (unit : ℕ) (r
   stops_one a b (at_trace x) (at_weights text y) = absurd (trace_ends trace a x text)
   stops_one a b (at_trace x) (at_table text list give y) = absurd (trace_ends trace a x text)
   stops_one a b (at_trace x) (at_report table y) = absurd (trace_ends trace a x table.gives.trace_text)
-  stops_one a b (at_trace x) (at_epochs table good n more y) = absurd (trace_ends trace a x table.gives.trace_text)
+  stops_one a b (at_trace x) (beyond table good y) = absurd (trace_ends trace a x table.gives.trace_text)
   stops_one a b (at_trace x) (at_end table good few y) = absurd (trace_ends trace a x table.gives.trace_text)
   stops_one a b (at_weights text x) (at_trace y) = absurd (trace_ends trace b y text)
   stops_one a b (at_weights text x) (at_weights again y) = weights_stop_one file coflows a b x y
   stops_one a b (at_weights text x) (at_table again list give y) = absurd (weights_end file coflows list a x give)
   stops_one a b (at_weights text x) (at_report table y) = absurd (weights_end file coflows table.list a x table.gives.weights_are)
-  stops_one a b (at_weights text x) (at_epochs table good n more y) = absurd (weights_end file coflows table.list a x table.gives.weights_are)
+  stops_one a b (at_weights text x) (beyond table good y) = absurd (weights_end file coflows table.list a x table.gives.weights_are)
   stops_one a b (at_weights text x) (at_end table good few y) = absurd (weights_end file coflows table.list a x table.gives.weights_are)
   stops_one a b (at_table text list give x) (at_trace y) = absurd (trace_ends trace b y text)
   stops_one a b (at_table text list give x) (at_weights again y) = absurd (weights_end file coflows list b y give)
   stops_one a b (at_table text list give x) (at_table again other gives y) = table_one (trace_of trace) unit a b x y
   stops_one a b (at_table text list give x) (at_report table y) = absurd (table_ends trace file unit a x table)
-  stops_one a b (at_table text list give x) (at_epochs table good n more y) = absurd (table_ends trace file unit a x table)
+  stops_one a b (at_table text list give x) (beyond table good y) = absurd (table_ends trace file unit a x table)
   stops_one a b (at_table text list give x) (at_end table good few y) = absurd (table_ends trace file unit a x table)
   stops_one a b (at_report table x) (at_trace y) = absurd (trace_ends trace b y table.gives.trace_text)
   stops_one a b (at_report table x) (at_weights text y) = absurd (weights_end file coflows table.list b y table.gives.weights_are)
   stops_one a b (at_report table x) (at_table text list give y) = absurd (table_ends trace file unit b y table)
   stops_one a b (at_report table x) (at_report again y) = report_one k report a b x y
-  stops_one a b (at_report table x) (at_epochs again good n more y) = absurd (report_ends k report a x good)
+  stops_one a b (at_report table x) (beyond again good y) = absurd (report_ends k report a x good)
   stops_one a b (at_report table x) (at_end again good few y) = absurd (report_ends k report a x good)
-  stops_one a b (at_epochs table good m more x) (at_trace y) = absurd (trace_ends trace b y table.gives.trace_text)
-  stops_one a b (at_epochs table good m more x) (at_weights text y) = absurd (weights_end file coflows table.list b y table.gives.weights_are)
-  stops_one a b (at_epochs table good m more x) (at_table text list give y) = absurd (table_ends trace file unit b y table)
-  stops_one a b (at_epochs table good m more x) (at_report again y) = absurd (report_ends k report b y good)
-  stops_one a b (at_epochs table good m more x) (at_epochs again fine n beyond y) = x ∙ ap (λ c. status.Limit quantity.Epochs c) (one m n more beyond) ∙ sym y
-  stops_one a b (at_epochs table good m more x) (at_end again fine few y) = absurd (few m more)
+  stops_one a b (beyond table good x) (at_trace y) = absurd (trace_ends trace b y table.gives.trace_text)
+  stops_one a b (beyond table good x) (at_weights text y) = absurd (weights_end file coflows table.list b y table.gives.weights_are)
+  stops_one a b (beyond table good x) (at_table text list give y) = absurd (table_ends trace file unit b y table)
+  stops_one a b (beyond table good x) (at_report again y) = absurd (report_ends k report b y good)
+  stops_one a b (beyond table good x) (beyond again fine y) = one a b x y
+  stops_one a b (beyond table good x) (at_end again fine few y) = absurd (few a x)
   stops_one a b (at_end table good few x) (at_trace y) = absurd (trace_ends trace b y table.gives.trace_text)
   stops_one a b (at_end table good few x) (at_weights text y) = absurd (weights_end file coflows table.list b y table.gives.weights_are)
   stops_one a b (at_end table good few x) (at_table text list give y) = absurd (table_ends trace file unit b y table)
   stops_one a b (at_end table good few x) (at_report again y) = absurd (report_ends k report b y good)
-  stops_one a b (at_end table good few x) (at_epochs again fine n more y) = absurd (few n more)
+  stops_one a b (at_end table good few x) (beyond again fine y) = absurd (few b y)
   stops_one a b (at_end table good few x) (at_end again fine fewer y) = x ∙ sym y
 
 -- ---- a first cause is one of them
@@ -203,7 +208,7 @@ by_weights (weights_fault.DuplicateId line id) form = refl
 by_weights (weights_fault.Limit line which count) form = absurd form
 by_weights weights_fault.NoMemory form = refl
 
-by_limit : (k : Job) (trace : List ℕ) (file : Option (List ℕ)) (unit : ℕ) (report : Option (List ℕ)) (More : ℕ → Type 0) (which : Quantity) (count : ℕ) →
+by_limit : (k : Job) (trace : List ℕ) (file : Option (List ℕ)) (unit : ℕ) (report : Option (List ℕ)) (More : Status → Type 0) (which : Quantity) (count : ℕ) →
     LimitCause trace file unit which count → Stops k trace file unit report More (status.Limit which count)
 by_limit k trace file unit report More which count (in_trace (inl (is, told, long))) = at_trace (long_trace long (rw (is, told) refl))
 by_limit k trace file unit report More which count (in_trace (inr (line, bad))) = at_trace (bad_trace _ bad refl)
@@ -212,16 +217,28 @@ by_limit k trace file unit report More which count (in_weights text (inr (line, 
 by_limit k trace file unit report More which count (in_table text list give cause) = at_table text list give (over which count cause refl)
 
 stops_of : (words : List Text) (said : Said) (t : Told) (s : Status) → IsOfFiles words said → IsFirstCause said t s →
-    Stops said.job (bytes_of t (trace_name said.job)) (bytes_if t said.weights) said.unit (bytes_if t (report_name said.job)) (λ count. PublishesOver said.job said count t) s
+    Stops said.job (bytes_of t (trace_name said.job)) (bytes_if t said.weights) said.unit (bytes_if t (report_name said.job)) (Beyond said t) s
 stops_of words said t (status.BadTrace f) is (form, bad) = at_trace (bad_trace f bad (sym (by_trace f form)))
 stops_of words said t (status.BadWeights f) is (form, (text, bad)) = at_weights text (bad_weights f bad (sym (by_weights f form)))
 stops_of words said t (status.BadReport line) is (table, bad) = at_report table (bad_report line bad refl)
-stops_of words said t (status.Limit which count) is (inr (epochs, beyond)) =
-    let (trace, same, more) = over_is said t said.job count beyond in
-    at_epochs more.given (other_is_good said t (online_job trace) same more.given) count beyond (ap (λ w. status.Limit w count) epochs)
-stops_of words said t (status.Limit which count) is (inl (inl cause)) = by_limit said.job _ _ said.unit _ _ which count cause
-stops_of words said t (status.Limit which count) is (inl (inr (table, (text, told, long)))) = at_report table (long_report long (rw (text, told) refl))
-stops_of words said t status.Ok is good = at_end (table_is_good said t said.job is.reads good.0) (other_is_good said t said.job refl good.0) good.1 refl
+stops_of words said t (status.BadScript line field) is (x, bad) =
+    let stops : ScriptStops x.given.table.ids (bytes_if t (script_name said.job)) (status.BadScript line field) = bad_script (script_fault.Bad line field) bad refl in
+    beyond x.given (alone_is_good said t (is_given said t (script_name said.job) x.given.table.ids (status.BadScript line field) stops)) (in_script x stops)
+stops_of words said t (status.Limit which count) is (inr (epochs, many)) =
+    let (trace, same, more) = over_is said t said.job count many in
+    beyond more.given (other_is_good said t (online_job trace) same more.given) (too_often count many (ap (λ w. status.Limit w count) epochs))
+stops_of words said t (status.Limit which count) is (inl (in_input cause)) = by_limit said.job _ _ said.unit _ _ which count cause
+stops_of words said t (status.Limit which count) is (inl (in_report table (text, told, long))) = at_report table (long_report long (rw (text, told) refl))
+stops_of words said t (status.Limit which count) is (inl (in_shared given table units more)) =
+    beyond table (alone_is_good said t given) (too_much given table count more (ap (λ w. status.Limit w count) units))
+stops_of words said t (status.Limit which count) is (inl (in_script_of x (inl (text, told, long)))) =
+    let stops : ScriptStops x.given.table.ids (bytes_if t (script_name said.job)) (status.Limit which count) = long_script long (rw (text, told) refl) in
+    beyond x.given (alone_is_good said t (is_given said t (script_name said.job) x.given.table.ids (status.Limit which count) stops)) (in_script x stops)
+stops_of words said t (status.Limit which count) is (inl (in_script_of x (inr bad))) =
+    let stops : ScriptStops x.given.table.ids (bytes_if t (script_name said.job)) (status.Limit which count) = bad_script (script_fault.Limit which count) bad refl in
+    beyond x.given (alone_is_good said t (is_given said t (script_name said.job) x.given.table.ids (status.Limit which count) stops)) (in_script x stops)
+stops_of words said t status.Ok is good =
+    at_end (table_is_good said t said.job is.reads good.0) (other_is_good said t said.job refl good.0) (nothing_beyond said t good.0 good.1) refl
 stops_of words said t status.No is cause = absurd cause
 stops_of words said t status.Usage is cause = absurd cause
 stops_of words said t (status.ReadFault count) is cause = absurd cause
@@ -230,7 +247,7 @@ stops_of words said t (status.WireFault port count) is cause = absurd cause
 stops_of words said t status.NoMemory is cause = absurd cause
 
 pub first_cause_one : (words : List Text) (said : Said) (t : Told) (a b : Status) → IsOfFiles words said → IsFirstCause said t a → IsFirstCause said t b → a ≡ b
-first_cause_one words said t a b is x y = stops_one said.job _ _ _ _ (λ count. PublishesOver said.job said count t) (over_one said t said.job) a b (stops_of words said t a is x) (stops_of words said t b is y)
+first_cause_one words said t a b is x y = stops_one said.job _ _ _ _ (Beyond said t) (beyond_one said t) a b (stops_of words said t a is x) (stops_of words said t b is y)
 
 -- ---- so a command that reads files ends by it
 
@@ -243,6 +260,7 @@ files_end_by : (words : List Text) (said : Said) (before now : ℕ) (t : Told) (
 files_end_by words said before now t new (status.BadTrace f) cause is why x = by_cause words said t (status.BadTrace f) cause is why x refl
 files_end_by words said before now t new (status.BadWeights f) cause is why x = by_cause words said t (status.BadWeights f) cause is why x refl
 files_end_by words said before now t new (status.BadReport line) cause is why x = by_cause words said t (status.BadReport line) cause is why.1 x refl
+files_end_by words said before now t new (status.BadScript line field) cause is why x = by_cause words said t (status.BadScript line field) cause is why.1 x refl
 files_end_by words said before now t new (status.Limit which count) cause is why x = by_cause words said t (status.Limit which count) cause is (inl why) x refl
 files_end_by words said before now t new (status.ReadFault count) cause is why x = inr tt
 files_end_by words said before now t new status.NoMemory cause is why x = inr tt
@@ -267,6 +285,10 @@ of_files F (online_job trace) before now old new said s reads (inr (inl why)) =
     let (port, count, is, p) = by_wire (λ port. Serves (F port) (online_job trace) old said) s why in
     inr (inl (subst IsInterrupted (sym is) tt))
 of_files F (online_job trace) before now old new said s reads (inr (inr why)) = inr (inr (by_epochs (λ count. IfSome old (FilesPublishMore said count)) s why))
+of_files F (live_job trace script) before now old new said s reads (inl why) = inl why
+of_files F (live_job trace script) before now old new said s reads (inr why) =
+    let (port, count, is, p) = by_wire (λ port. Serves (F port) (live_job trace script) old said) s why in
+    inr (inl (subst IsInterrupted (sym is) tt))
 of_files F (check_job trace report) before now old new said s reads why = inl why
 of_files F (make_job seed) before now old new said s reads why = absurd reads
 of_files F (compare_job trace) before now old new said s reads why = inl why
@@ -287,9 +309,9 @@ first_ends F words by said before now old new s cause read is why x = go old her
     go None why x = absurd x
     go (Some t) (inl why) x = files_end_by words said before now t new s cause is why x
     go (Some t) (inr (inl interrupted)) x = inr interrupted
-    go (Some t) (inr (inr (count, same, beyond))) x =
+    go (Some t) (inr (inr (count, same, many))) x =
         subst (λ (y : Status). EndsBy said.job cause y ⊎ IsInterrupted y) (sym same)
-        (by_cause words said t (status.Limit quantity.Epochs count) cause is (inr (refl, beyond)) x refl)
+        (by_cause words said t (status.Limit quantity.Epochs count) cause is (inr (refl, many)) x refl)
 
 pub text_ends : (S : TableFacts → List (List ℕ) → Type 0) (words : List Text) (by said : Said) (old : Option Told) (bench : List Meaning) (s cause : Status) (text : List ℕ) →
     IsWords words by → IsOfFiles words said → IfSome old (HasGoodFiles by.job by) → IfSome old (PublishesFew by.job by) → IsOutcome S old by bench s text → IsSomeAnd old (λ t. IsFirstCause said t cause) →

@@ -12,6 +12,8 @@ pub mod WrittenFacts
 pub mod CompleteFacts
 pub mod ServingFacts
 pub mod WireFacts
+pub mod LiveFacts
+pub mod BeyondFacts
 pub mod FirstFacts
 pub mod MadeInput
 pub mod MadePlan

@@ -1,8 +1,8 @@
 -- What is to be written, by the command of the words.
 use Rattle.std.proofs.Common.{◌≡◌, ℕ, inl, inr, List, refl, subst, sym}
 use Rattle.std.specs.Prelude.{IfSome, None, Option, Some}
-use Rattle.command_words.specs.Jobs.{Job, report_name}
-use Rattle.command_words.specs.Jobs.Job.{audit_job, check_job, classes_job, compare_job, make_job, online_job, plan_job}
+use Rattle.command_words.specs.Jobs.{Job, report_name, script_name}
+use Rattle.command_words.specs.Jobs.Job.{audit_job, check_job, classes_job, compare_job, live_job, make_job, online_job, plan_job}
 use Rattle.command_words.specs.Line.{Text}
 use Rattle.command_words.specs.Words.{IsWords, Said}
 use Rattle.command_words.proofs.OneMeaning.{words_one}
@@ -12,7 +12,7 @@ use Rattle.rankers.specs.Meaning.{Meaning}
 use Rattle.command_files.specs.declared.status.Status.{Status}
 use Rattle.command_files.specs.declared.status.Status.TheVariants as status
 use Rattle.sincronia_cli.specs.Causes.{CauseBy, FilesReportFault, HasCauseOf, HasFilesCause}
-use Rattle.command_files.specs.Causes.{FilesLimit, IsGiven}
+use Rattle.command_files.specs.Causes.{FilesBadScript, FilesLimit, IsGiven}
 use Rattle.coflow_units.specs.declared.quantity.Quantity.{Quantity}
 use Rattle.sincronia_cli.specs.Online.{CommandLimit, FilesPublishMore, PublishesOver}
 use Rattle.sincronia_cli.specs.Command.{IsCommand, ReadsFiles}
@@ -41,7 +41,32 @@ of_files F (classes_job trace) before now old new said line h = h
 of_files F (online_job trace) before now old new said line (inl h) = h
 of_files F (online_job trace) before now old new said line (inr (inl h)) = absurd h
 of_files F (online_job trace) before now old new said line (inr (inr h)) = absurd h
+of_files F (live_job trace script) before now old new said line (inl h) = h
+of_files F (live_job trace script) before now old new said line (inr h) = absurd h
 of_files F (audit_job trace journal) before now old new said line h = h
+
+-- ---- a script that is bad
+
+script_of_files : (F : ℕ → Service → Type 0) (k : Job) (before now : ℕ) (old new : Option Told) (said : Said) (line field : ℕ) →
+    CauseBy F k before now old new said (status.BadScript line field) → HasFilesCause before now old new said (status.BadScript line field)
+script_of_files F (plan_job trace) before now old new said line field (inl h) = h
+script_of_files F (plan_job trace) before now old new said line field (inr h) = absurd h
+script_of_files F (check_job trace report) before now old new said line field h = h
+script_of_files F (make_job seed) before now old new said line field (inl h) = absurd h
+script_of_files F (make_job seed) before now old new said line field (inr h) = absurd h
+script_of_files F (compare_job trace) before now old new said line field h = h
+script_of_files F (classes_job trace) before now old new said line field h = h
+script_of_files F (online_job trace) before now old new said line field (inl h) = h
+script_of_files F (online_job trace) before now old new said line field (inr (inl h)) = absurd h
+script_of_files F (online_job trace) before now old new said line field (inr (inr h)) = absurd h
+script_of_files F (live_job trace script) before now old new said line field (inl h) = h
+script_of_files F (live_job trace script) before now old new said line field (inr h) = absurd h
+script_of_files F (audit_job trace journal) before now old new said line field h = h
+
+pub bad_script_given : (F : ℕ → Service → Type 0) (said : Said) (before now : ℕ) (old new : Option Told) (line field : ℕ) (s : Status) →
+    HasCauseOf F before now old new said s → s ≡ status.BadScript line field → IsGiven (script_name said.job) × IfSome old (FilesBadScript said line field)
+bad_script_given F said before now old new line field s cause is =
+    script_of_files F said.job before now old new said line field (subst (λ (x : Status). HasCauseOf F before now old new said x) is cause)
 
 -- ---- a quantity that is outside its range
 
@@ -65,6 +90,8 @@ limit_by F (online_job trace) before now old new said which count same (inr (inr
     over : (told : Option Told) → IfSome told (FilesPublishMore said count) → IfSome told (CommandLimit said which count)
     over None more = tt
     over (Some t) more = inr (epochs, subst (λ (j : Job). PublishesOver j said count t) (sym same) more)
+limit_by F (live_job trace script) before now old new said which count same (inl h) = (tt, limited old said which count h)
+limit_by F (live_job trace script) before now old new said which count same (inr h) = absurd h
 limit_by F (audit_job trace journal) before now old new said which count same h = (tt, limited old said which count h)
 
 pub limit_given : (F : ℕ → Service → Type 0) (said : Said) (before now : ℕ) (old new : Option Told) (which : Quantity) (count : ℕ) (s : Status) →

@@ -2,7 +2,7 @@
 use Rattle.std.proofs.Common.{◌≡◌, ℕ, ◌<◌, inl, inr, List, [], ◌∷◌, length, subst, sym, arith}
 use Rattle.std.specs.Prelude.{◌⊎◌, Option}
 use Rattle.command_words.specs.Jobs.{Job}
-use Rattle.command_words.specs.Jobs.Job.{audit_job, check_job, classes_job, compare_job, make_job, online_job, plan_job}
+use Rattle.command_words.specs.Jobs.Job.{audit_job, check_job, classes_job, compare_job, live_job, make_job, online_job, plan_job}
 use Rattle.command_words.specs.Line.{Text}
 use Rattle.command_words.specs.Words.{IsWords, Said}
 use Rattle.flow_table.specs.Table.{TableFacts}
@@ -14,7 +14,7 @@ use Rattle.sincronia_cli.specs.Causes.{CauseBy, HasCauseOf}
 use Rattle.command_files.specs.Ends.{IsPastFiles, IsWireFault}
 use Rattle.sincronia_cli.specs.Outcome.{HasText, IsOutcome, OutcomeBy}
 use Rattle.sincronia_cli.specs.Serving.{AreStill, MayHaveSent, Sends, SendsOnly, Serves, Service, Stops, WireFailed}
-use Rattle.sincronia_cli.specs.Serving.Service.{online_of, plan_of}
+use Rattle.sincronia_cli.specs.Serving.Service.{online_of, plan_of, script_of}
 use Rattle.sincronia_cli.proofs.BenchFacts.{cause_has_no_text}
 use Rattle.sincronia_cli.proofs.CompleteFacts.{NoneFailed}
 
@@ -29,6 +29,7 @@ past_without status.Usage none past = past
 past_without (status.BadTrace fault) none past = past
 past_without (status.BadWeights fault) none past = past
 past_without (status.BadReport line) none past = past
+past_without (status.BadScript line field) none past = past
 past_without (status.Limit which count) none past = past
 past_without (status.ReadFault count) none past = past
 past_without status.NoMemory none past = past
@@ -58,6 +59,7 @@ module _ {W : Type 0} (before after : List W) (S : TableFacts → List (List ℕ
   unsent_by (compare_job trace) told said bench s text (is, compares) sent none = well s is none
   unsent_by (classes_job trace) told said bench s text (is, classes) sent none = well s is none
   unsent_by (online_job trace) told said bench s text (is, run) sent none = well s is none
+  unsent_by (live_job trace script) told said bench s text (is, run) sent none = well s is none
   unsent_by (audit_job trace journal) told said bench s text outcome (inl same) none = same
   unsent_by (audit_job trace journal) told said bench s text outcome (inr serves) none = absurd serves
 
@@ -77,6 +79,9 @@ module _ {W : Type 0} (faults : W → ℕ) (runs : W → Option (List (ℕ × �
   none_failed still port (online_of t ws slot_ms every) stops =
       let w = some_of before port stops.wire in
       still port w w stops.wire (stops.rose w w)
+  none_failed still port (script_of t ws script) stops =
+      let w = some_of before port stops.wire in
+      still port w w stops.wire (stops.rose w w)
 
   module _ (words : List Text) (said : Said) (count_before count_now : ℕ) (old new : Option Told) (port count : ℕ) where
     of_job : (k : Job) → CauseBy (Stops faults runs before after) k count_before count_now old new said (status.WireFault port count) →
@@ -92,6 +97,8 @@ module _ {W : Type 0} (faults : W → ℕ) (runs : W → Option (List (ℕ × �
     of_job (online_job trace) (inl none) = absurd none
     of_job (online_job trace) (inr (inl why)) = why
     of_job (online_job trace) (inr (inr none)) = absurd none
+    of_job (live_job trace script) (inl none) = absurd none
+    of_job (live_job trace script) (inr why) = why
 
     pub wire_failed : (s : Status) → IsWords words said → HasCauseOf (Stops faults runs before after) count_before count_now old new said s →
         s ≡ status.WireFault port count → WireFailed faults runs before after old words port count

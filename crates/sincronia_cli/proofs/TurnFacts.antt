@@ -1,8 +1,8 @@
 -- How far a command came with its files, and that the shelf's count of faults stays.
-use Rattle.std.proofs.Common.{◌≡◌, IfErr, ℕ, List, Option, Some, Result, Ok, Err, refl, sym, subst}
+use Rattle.std.proofs.Common.{◌≡◌, IfErr, ℕ, List, Option, Some, Result, Ok, Err, ap, refl, sym, subst}
 use Rattle.std.specs.Prelude.{◌⊎◌, Bool, IfSome, false, true}
-use Rattle.command_words.specs.Jobs.{Job, report_name, trace_name}
-use Rattle.command_words.specs.Jobs.Job.{audit_job, check_job, classes_job, compare_job, make_job, online_job, plan_job}
+use Rattle.command_words.specs.Jobs.{Job, report_name, script_name, trace_name}
+use Rattle.command_words.specs.Jobs.Job.{audit_job, check_job, classes_job, compare_job, live_job, make_job, online_job, plan_job}
 use Rattle.command_words.specs.Line.{Text}
 use Rattle.command_words.specs.Words.{IsWords, Said}
 use Rattle.command_words.proofs.OneMeaning.{words_one}
@@ -12,7 +12,7 @@ use Rattle.outside.specs.Shelf.{Told}
 use Rattle.verdicts.specs.declared.any_report.AnyReport.{AnyReport}
 use Rattle.verdicts.specs.AnyReport.{IsAnyText}
 use Rattle.command_files.specs.declared.status.Status.{Status}
-use Rattle.command_files.specs.Causes.{FilesGiveTable}
+use Rattle.command_files.specs.Causes.{FilesGiveShared, FilesGiveTable}
 use Rattle.sincronia_cli.specs.Causes.{HasMadeCause}
 use Rattle.command_files.specs.Reports.{IsAnyReportOf}
 use Rattle.sincronia_cli.specs.Check.{status_for}
@@ -25,6 +25,7 @@ use Rattle.command_files.specs.Turns.{FilesInTurn}
 use Rattle.sincronia_cli.proofs.EndCauses.{of_served}
 use Rattle.command_files.proofs.ShelfFacts.{if_some, of_both}
 use Rattle.command_files.proofs.FileTurns.{done_in_turn, untouched_in_turn}
+use Rattle.command_files.proofs.LiveTurns.{live_in_turn}
 use Rattle.command_files.proofs.CauseFacts.{text_good}
 
 -- ---- all files in turn
@@ -55,27 +56,34 @@ text_reads S (make_job seed) told said bench s text (is, made) read = subst IsRe
 text_reads S (compare_job trace) told said bench s text (is, compares) read = subst IsReadFault is read
 text_reads S (classes_job trace) told said bench s text (is, classes) read = subst IsReadFault is read
 text_reads S (online_job trace) told said bench s text (is, run) read = subst IsReadFault is read
+text_reads S (live_job trace script) told said bench s text (is, run) read = subst IsReadFault is read
 text_reads S (audit_job trace journal) told said bench s text (answer, is, audits) read = answer_reads answer s is read
 
 module _ (old new : Option Told) (said : Said) (s : Status) where
-  pub done_by : (k : Job) → (IsReadFault s → ⊥) → IfSome old (HasGoodFiles k said) → OfBoth old new (ReadsOut k said) → ((seed : ℕ) → k ≡ make_job seed → new ≡ old) →
+  pub done_by : (k : Job) → said.job ≡ k → (IsReadFault s → ⊥) → IfSome old (HasGoodFiles k said) → OfBoth old new (ReadsOut k said) → ((seed : ℕ) → k ≡ make_job seed → new ≡ old) →
       OfBoth old new (FilesInTurn said s)
-  done_by (plan_job trace) other good out same = done_in_turn old new said s other good out
-  done_by (check_job trace report) other good out same =
-      done_in_turn old new said s other (if_some old (HasGoodFiles (check_job trace report) said) (FilesGiveTable said) (λ t (gives, report). gives) good)
+  done_by (plan_job trace) is other good out same = done_in_turn old new said s (ap script_name is) other good out
+  done_by (check_job trace report) is other good out same =
+      done_in_turn old new said s (ap script_name is) other
+      (if_some old (HasGoodFiles (check_job trace report) said) (FilesGiveTable said) (λ t (gives, report). gives) good)
       (of_both old new (ReadsOut (check_job trace report) said) (AreReadOut (trace_name said.job) said.weights) (λ a b (both, report). both) out)
-  done_by (compare_job trace) other good out same = done_in_turn old new said s other good out
-  done_by (classes_job trace) other good out same = done_in_turn old new said s other good out
-  done_by (online_job trace) other good out same = done_in_turn old new said s other good out
-  done_by (audit_job trace journal) other good out same =
-      done_in_turn old new said s other (if_some old (HasGoodFiles (audit_job trace journal) said) (FilesGiveTable said) (λ t (gives, text). gives) good)
+  done_by (compare_job trace) is other good out same = done_in_turn old new said s (ap script_name is) other good out
+  done_by (classes_job trace) is other good out same = done_in_turn old new said s (ap script_name is) other good out
+  done_by (online_job trace) is other good out same = done_in_turn old new said s (ap script_name is) other good out
+  done_by (live_job trace script) is other good out same =
+      live_in_turn old new said s other
+      (if_some old (HasGoodFiles (live_job trace script) said) (FilesGiveShared said) (λ t (shared, text). shared) good)
+      (of_both old new (ReadsOut (live_job trace script) said) (AreReadOut (trace_name said.job) said.weights) (λ a b (both, asked). both) out)
+  done_by (audit_job trace journal) is other good out same =
+      done_in_turn old new said s (ap script_name is) other
+      (if_some old (HasGoodFiles (audit_job trace journal) said) (FilesGiveTable said) (λ t (gives, text). gives) good)
       (of_both old new (ReadsOut (audit_job trace journal) said) (AreReadOut (trace_name said.job) said.weights) (λ a b (both, other). both) out)
-  done_by (make_job seed) other good out same = subst (λ n. OfBoth old n (FilesInTurn said s)) (sym (same seed refl)) (untouched_in_turn old said s other)
+  done_by (make_job seed) is other good out same = subst (λ n. OfBoth old n (FilesInTurn said s)) (sym (same seed refl)) (untouched_in_turn old said s other)
 
   pub text_in_turn : (S : TableFacts → List (List ℕ) → Type 0) (bench : List Meaning) (text : List ℕ) → IsOutcome S old said bench s text →
       IfSome old (HasGoodFiles said.job said) → OfBoth old new (ReadsOut said.job said) →
       ((seed : ℕ) → said.job ≡ make_job seed → new ≡ old) → OfBoth old new (FilesInTurn said s)
-  text_in_turn S bench text outcome good out same = done_by said.job (text_reads S said.job old said bench s text outcome) good out same
+  text_in_turn S bench text outcome good out same = done_by said.job refl (text_reads S said.job old said bench s text outcome) good out same
 
 -- what holds for the words holds for all that they say
 pub turn_for : (words : List Text) (by said : Said) (old new : Option Told) (s : Status) → IsWords words by → IsWords words said → OfBoth old new (FilesInTurn by s) →

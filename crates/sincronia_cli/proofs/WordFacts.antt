@@ -25,6 +25,9 @@ time_fits words said is = setting_fits (MAX_SLOT_MS) 8 _ said.slot_ms (omega ari
 epoch_fits : (words : List Text) (said : Said) → IsWords words said → (1 ≤ said.epoch) × (said.epoch ≤ MAX_OPTION_SLOTS)
 epoch_fits words said is = setting_fits (MAX_OPTION_SLOTS) 1024 _ said.epoch (omega arith) (omega arith) is.says.epoch
 
+run_fits : (words : List Text) (said : Said) → IsWords words said → (1 ≤ said.run) × (said.run ≤ MAX_OPTION_SLOTS)
+run_fits words said is = setting_fits (MAX_OPTION_SLOTS) 1 _ said.run (omega arith) (omega arith) is.says.run
+
 pub words_fit : (words : List Text) (said : Said) → IsWords words said → Fits said
 words_fit words said is = record {
   some = (unit_fits words said is).0;
@@ -33,6 +36,7 @@ words_fit words said is = record {
   few_agents = omega (arith, (agents_fit words said is).1);
   some_epoch = (epoch_fits words said is).0;
   epoch_limit = (epoch_fits words said is).1;
+  some_slots = (run_fits words said is).0;
   some_time = (time_fits words said is).0;
   some_classes = (classes_fit words said is).0;
   few_classes = (classes_fit words said is).1;

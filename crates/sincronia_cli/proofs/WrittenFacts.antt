@@ -2,7 +2,7 @@
 use Rattle.std.proofs.Common.{◌≡◌, ℕ, List, refl, sym, subst, ◌∙◌}
 use Rattle.std.specs.Prelude.{Bool, Option, Ok, false, true}
 use Rattle.command_words.specs.Jobs.{Job}
-use Rattle.command_words.specs.Jobs.Job.{audit_job, check_job, classes_job, compare_job, make_job, online_job, plan_job}
+use Rattle.command_words.specs.Jobs.Job.{audit_job, check_job, classes_job, compare_job, live_job, make_job, online_job, plan_job}
 use Rattle.command_words.specs.Line.{Text}
 use Rattle.command_words.specs.Words.{IsWords, Said}
 use Rattle.flow_table.specs.Table.{TableFacts}
@@ -16,6 +16,7 @@ use Rattle.sincronia_cli.specs.Check.{CheckOf, WritesNo, WritesYes, status_for}
 use Rattle.sincronia_cli.specs.Command.{IsCommand}
 use Rattle.sincronia_cli.specs.Classes.{WritesClasses}
 use Rattle.sincronia_cli.specs.Compare.{WritesComparison}
+use Rattle.sincronia_cli.specs.Live.{WritesLive}
 use Rattle.sincronia_cli.specs.Make.{WritesMade}
 use Rattle.sincronia_cli.specs.Outcome.{IsOutcome, OutcomeBy, WritesNoBy}
 use Rattle.sincronia_cli.specs.Online.{WritesOnline}
@@ -55,6 +56,11 @@ module _ {X : Type 0} (E : Type 0) (S : TableFacts → List (List ℕ) → Type 
   online_written trace reads is outcome e takes =
       writes_online S told said old new text (outcome_by S words by said (online_job trace) told bench s text reads is outcome).1 (appended E old new text lent x e takes)
 
+  pub live_written : (trace script : Text) → IsWords words by → IsCommand (live_job trace script) words said → IsOutcome S told by bench s text → lent ≡ text →
+      TakesText {E = E} old new lent (Ok x) → WritesLive S told said old new
+  live_written trace script reads is outcome e takes =
+      record { text = text; run = (outcome_by S words by said (live_job trace script) told bench s text reads is outcome).1; written = appended E old new text lent x e takes }
+
   yes_for : (answer : Bool) → s ≡ status_for answer → s ≡ status.Ok → answer ≡ true
   yes_for true is ok = refl
   yes_for false is ok = let bad : status.Ok ≡ status.No = sym ok ∙ is in cc
@@ -90,5 +96,6 @@ module _ {X : Type 0} (E : Type 0) (S : TableFacts → List (List ℕ) → Type 
       by_job (make_job seed) (is, made) = let bad : status.Ok ≡ status.No = sym is ∙ wrong in cc
       by_job (compare_job trace) (is, compares) = let bad : status.Ok ≡ status.No = sym is ∙ wrong in cc
       by_job (classes_job trace) (is, classes) = let bad : status.Ok ≡ status.No = sym is ∙ wrong in cc
+      by_job (live_job trace script) (is, run) = let bad : status.Ok ≡ status.No = sym is ∙ wrong in cc
       by_job (online_job trace) (is, run) = let bad : status.Ok ≡ status.No = sym is ∙ wrong in cc
       by_job (audit_job trace journal) (answer, is, audits) = by_verdict answer is audits

@@ -1,8 +1,8 @@
 -- Why a command wrote nothing: what is wrong with its files, looked at in this order:
--- the trace, the weights, the table, the report or the printed journal.
+-- the trace, the weights, the table, the report, the printed journal or the script.
 use Rattle.std.specs.Prelude.{ℕ, ◌⊎◌, List, Option, IfSome}
 use Rattle.command_words.specs.Jobs.{Job}
-use Rattle.command_words.specs.Jobs.Job.{audit_job, check_job, classes_job, compare_job, make_job, online_job, plan_job}
+use Rattle.command_words.specs.Jobs.Job.{audit_job, check_job, classes_job, compare_job, live_job, make_job, online_job, plan_job}
 use Rattle.command_words.specs.Words.{Said}
 use Rattle.live_text.specs.Reading.{IsBadAt}
 use Rattle.outside.specs.Shelf.{Told}
@@ -24,6 +24,7 @@ IsBadFor (compare_job trace) = IsAnyBadAt
 IsBadFor (classes_job trace) = IsAnyBadAt
 IsBadFor (audit_job trace journal) = IsBadAt
 IsBadFor (online_job trace) = IsAnyBadAt
+IsBadFor (live_job trace script) = IsAnyBadAt
 
 -- the files give a table, and this is the first line of the other file that no such text has
 abbrev pub FilesReportFault : Said → ℕ → Told → Type 0
@@ -54,6 +55,9 @@ CauseBy F (online_job trace) before now old new said status =
     HasFilesCause before now old new said status
     ⊎ (IsWireCause (λ port. Serves (F port) (online_job trace) old said) status
     ⊎ IsEpochsCause (λ count. IfSome old (FilesPublishMore said count)) status)
+CauseBy F (live_job trace script) before now old new said status =
+    HasFilesCause before now old new said status
+    ⊎ IsWireCause (λ port. Serves (F port) (live_job trace script) old said) status
 
 -- what is said has this cause of the status
 abbrev pub HasCauseOf : (ℕ → Service → Type 0) → ℕ → ℕ → Option Told → Option Told → Said → Status → Type 0

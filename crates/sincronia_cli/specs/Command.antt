@@ -2,7 +2,7 @@
 use Rattle.std.specs.Prelude.{◌≡◌, ◌<◌, ◌≤◌, ◌^◌, List}
 use Rattle.coflow_units.specs.declared.limits.TheConstants.{MAX_OPTION_SLOTS, MAX_UNIT}
 use Rattle.command_words.specs.Jobs.{Job}
-use Rattle.command_words.specs.Jobs.Job.{audit_job, check_job, classes_job, compare_job, make_job, online_job, plan_job}
+use Rattle.command_words.specs.Jobs.Job.{audit_job, check_job, classes_job, compare_job, live_job, make_job, online_job, plan_job}
 use Rattle.command_words.specs.declared.words.TheConstants.{MAX_OPTION_CLASSES}
 use Rattle.command_words.specs.Line.{Text}
 use Rattle.command_words.specs.Words.{IsWords, Said}
@@ -21,14 +21,15 @@ ReadsFiles (compare_job trace) = Unit {0}
 ReadsFiles (classes_job trace) = Unit {0}
 ReadsFiles (audit_job trace journal) = Unit {0}
 ReadsFiles (online_job trace) = Unit {0}
+ReadsFiles (live_job trace script) = Unit {0}
 
 -- the words are those of a command that reads files
 pub record IsOfFiles (words : List Text) (said : Said) : Type 0 where
   pub words_say : IsWords words said
   pub reads : ReadsFiles said.job
 
--- the unit, the agents, the slots of an epoch, the milliseconds of a slot and the classes of what is said are in their
--- ranges
+-- the unit, the agents, the slots of an epoch and of a run, the milliseconds of a slot and the classes of what is said
+-- are in their ranges
 pub record Fits (said : Said) : Type 0 where
   pub some : 1 ≤ said.unit
   pub unit_limit : said.unit ≤ MAX_UNIT
@@ -36,6 +37,7 @@ pub record Fits (said : Said) : Type 0 where
   pub few_agents : said.agents < 2 ^ 32
   pub some_epoch : 1 ≤ said.epoch
   pub epoch_limit : said.epoch ≤ MAX_OPTION_SLOTS
+  pub some_slots : 1 ≤ said.run
   pub some_time : 1 ≤ said.slot_ms
   pub some_classes : 1 ≤ said.classes
   pub few_classes : said.classes ≤ MAX_OPTION_CLASSES

@@ -1,12 +1,12 @@
 -- When a command ends well.
 use Rattle.std.specs.Prelude.{◌≡◌, ◌⊎◌, Option, IsSomeAnd}
 use Rattle.command_words.specs.Jobs.{Job, report_name}
-use Rattle.command_words.specs.Jobs.Job.{audit_job, check_job, classes_job, compare_job, make_job, online_job, plan_job}
+use Rattle.command_words.specs.Jobs.Job.{audit_job, check_job, classes_job, compare_job, live_job, make_job, online_job, plan_job}
 use Rattle.command_words.specs.Words.{Said}
 use Rattle.outside.specs.Shelf.{Told}
 use Rattle.command_files.specs.declared.status.Status.{Status}
 use Rattle.command_files.specs.declared.status.Status.TheVariants.{No, Ok}
-use Rattle.command_files.specs.Causes.{FilesGiveTable}
+use Rattle.command_files.specs.Causes.{FilesGiveScript, FilesGiveTable}
 use Rattle.command_files.specs.Inputs.{bytes_if}
 use Rattle.sincronia_cli.specs.Online.{PublishesFew}
 use Rattle.command_files.specs.Reports.{IsJournalText, IsReportText}
@@ -21,6 +21,7 @@ HasGoodFiles (classes_job trace) said t = FilesGiveTable said t
 HasGoodFiles (audit_job trace journal) said t =
     FilesGiveTable said t × IsJournalText (bytes_if t (report_name said.job))
 HasGoodFiles (online_job trace) said t = FilesGiveTable said t
+HasGoodFiles (live_job trace script) said t = FilesGiveScript said t
 
 -- the files that the command reads are told, and they are good; an online run of them does not publish too many orders
 abbrev pub AreGood : Job → Said → Option Told → Type 0
@@ -32,6 +33,7 @@ AreGood (classes_job trace) said told = IsSomeAnd told (HasGoodFiles (classes_jo
 AreGood (audit_job trace journal) said told = IsSomeAnd told (HasGoodFiles (audit_job trace journal) said)
 AreGood (online_job trace) said told =
     IsSomeAnd told (λ t. HasGoodFiles (online_job trace) said t × PublishesFew (online_job trace) said t)
+AreGood (live_job trace script) said told = IsSomeAnd told (HasGoodFiles (live_job trace script) said)
 
 -- the job of the command was done, and its text was written whole
 abbrev pub EndsWell : Job → Status → Type 0
@@ -42,3 +44,4 @@ EndsWell (compare_job trace) status = status ≡ Ok
 EndsWell (classes_job trace) status = status ≡ Ok
 EndsWell (audit_job trace journal) status = (status ≡ Ok) ⊎ (status ≡ No)
 EndsWell (online_job trace) status = status ≡ Ok
+EndsWell (live_job trace script) status = status ≡ Ok

@@ -4,8 +4,8 @@ use Rattle.command_words.specs.Jobs.{Job}
 use Rattle.command_words.specs.Words.{Said}
 use Rattle.outside.specs.Shelf.{Told}
 use Rattle.command_files.specs.declared.status.Status.{Status}
-use Rattle.command_files.specs.declared.status.Status.TheVariants.{BadTrace, BadWeights, BadReport, Limit, Ok, NoMemory, ReadFault, WireFault, WriteFault}
-use Rattle.command_files.specs.Causes.{FilesTraceFault, FilesWeightsFault}
+use Rattle.command_files.specs.declared.status.Status.TheVariants.{BadReport, BadScript, BadTrace, BadWeights, Limit, NoMemory, Ok, ReadFault, WireFault, WriteFault}
+use Rattle.command_files.specs.Causes.{FilesBadScript, FilesTraceFault, FilesWeightsFault}
 use Rattle.sincronia_cli.specs.Causes.{FilesReportFault}
 use Rattle.sincronia_cli.specs.Complete.{EndsWell, HasGoodFiles}
 use Rattle.sincronia_cli.specs.Online.{CommandLimit, PublishesFew}
@@ -19,6 +19,7 @@ IsFirstCause said t (BadTrace fault) = IsTraceForm fault × FilesTraceFault said
 IsFirstCause said t (BadWeights fault) = IsWeightsForm fault × FilesWeightsFault said fault t
 IsFirstCause said t (Limit which count) = CommandLimit said which count t
 IsFirstCause said t (BadReport line) = FilesReportFault said line t
+IsFirstCause said t (BadScript line field) = FilesBadScript said line field t
 IsFirstCause said t Ok = HasGoodFiles said.job said t × PublishesFew said.job said t
 IsFirstCause said t status = ⊥
 

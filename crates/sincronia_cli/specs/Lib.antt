@@ -6,6 +6,7 @@ pub mod Make
 pub mod Compare
 pub mod Classes
 pub mod Online
+pub mod Live
 pub mod Outcome
 pub mod Serving
 pub mod Causes

@@ -1,7 +1,7 @@
 -- What each command has to write, and with which status its job ends then.
 use Rattle.std.specs.Prelude.{◌≡◌, ℕ, Bool, List, Option}
 use Rattle.command_words.specs.Jobs.{Job}
-use Rattle.command_words.specs.Jobs.Job.{audit_job, check_job, classes_job, compare_job, make_job, online_job, plan_job}
+use Rattle.command_words.specs.Jobs.Job.{audit_job, check_job, classes_job, compare_job, live_job, make_job, online_job, plan_job}
 use Rattle.command_words.specs.Words.{Said}
 use Rattle.flow_table.specs.Table.{TableFacts}
 use Rattle.outside.specs.Shelf.{Told}
@@ -14,12 +14,13 @@ use Rattle.sincronia_cli.specs.Classes.{ClassesOf}
 use Rattle.sincronia_cli.specs.Compare.{ComparisonOf}
 use Rattle.sincronia_cli.specs.Make.{MadeOf}
 use Rattle.command_files.specs.Written.{AppendsBeginning}
+use Rattle.sincronia_cli.specs.Live.{LiveOf}
 use Rattle.sincronia_cli.specs.Online.{OnlineOf}
 use Rattle.sincronia_cli.specs.Plan.{PlanOf}
 
 module _ (Sent : TableFacts → List (List ℕ) → Type 0) where
-  -- The text of the command and the status that it ends with, where the bench has these rankers. Where a plan
-  -- or an online run is served, this holds of its table and schedule: it is what was sent.
+  -- The text of the command and the status that it ends with, where the bench has these rankers. Where a plan, an
+  -- online run or a script is served, this holds of its table and schedule: it is what was sent.
   abbrev pub OutcomeBy : Job → Option Told → Said → List Meaning → Status → List ℕ → Type 0
   OutcomeBy (plan_job trace) told said bench status text = (status ≡ Ok) × PlanOf Sent told said text
   OutcomeBy (check_job trace report) told said bench status text =
@@ -30,6 +31,7 @@ module _ (Sent : TableFacts → List (List ℕ) → Type 0) where
   OutcomeBy (audit_job trace journal) told said bench status text =
       (yes : Bool) × (status ≡ status_for yes) × AuditOf told said yes text
   OutcomeBy (online_job trace) told said bench status text = (status ≡ Ok) × OnlineOf Sent told said text
+  OutcomeBy (live_job trace script) told said bench status text = (status ≡ Ok) × LiveOf Sent told said text
 
   -- what is said has this text and this status
   abbrev pub IsOutcome : Option Told → Said → List Meaning → Status → List ℕ → Type 0

@@ -1,9 +1,9 @@
 //! The program's job, from the words to the written text.
 ghost use Rattle.std.specs.Prelude.{◌≡◌, ◌≢◌, ◌≤◌, ◌<◌, ◌^◌, ◌⊎◌, ℕ, [], All, Err, IfErr, IfOk, IfSome, IsSomeAnd, List, OnErr, OnOk, drop, length, map, take};
-ghost use Rattle.coflow_units.specs.declared.limits.TheConstants.{MAX_PORTS};
+ghost use Rattle.coflow_units.specs.declared.limits.TheConstants.{MAX_CLIENTS, MAX_PORTS};
 ghost use Rattle.coflow_units.specs.declared.quantity.Quantity.{Quantity};
-ghost use Rattle.command_words.specs.Jobs.{report_name};
-ghost use Rattle.command_words.specs.Jobs.Job.{audit_job, check_job, classes_job, compare_job, make_job, online_job, plan_job};
+ghost use Rattle.command_words.specs.Jobs.{report_name, script_name};
+ghost use Rattle.command_words.specs.Jobs.Job.{audit_job, check_job, classes_job, compare_job, live_job, make_job, online_job, plan_job};
 ghost use Rattle.command_words.specs.Line.{texts};
 ghost use Rattle.command_words.specs.Words.{IsWords, Said, said_by};
 ghost use Rattle.outside.specs.Rose.{Rose, RoseOnce};
@@ -12,7 +12,7 @@ ghost use Rattle.rankers.specs.FactsTold.{FactsTold};
 ghost use Rattle.trace_reader.specs.declared.fault.TraceFault.{TraceFault};
 ghost use Rattle.weights.specs.declared.fault.WeightsFault.{WeightsFault};
 ghost use Rattle.served_plans.specs.Sent.{SendsAll};
-ghost use Rattle.command_files.specs.Causes.{FileFailed, FilesTraceFault, FilesWeightsFault, IsGiven};
+ghost use Rattle.command_files.specs.Causes.{FileFailed, FilesBadScript, FilesTraceFault, FilesWeightsFault, IsGiven};
 ghost use Rattle.sincronia_cli.specs.Causes.{FilesReportFault, HasCauseOf};
 ghost use Rattle.sincronia_cli.specs.Audit.{WritesSound};
 ghost use Rattle.sincronia_cli.specs.Check.{WritesYes};
@@ -23,6 +23,7 @@ ghost use Rattle.sincronia_cli.specs.Complete.{AreGood, EndsWell, HasGoodFiles};
 ghost use Rattle.command_files.specs.Ends.{IsStill, CountsFault, IfPastFiles, IsPastFiles, IsReadFault, IsWriteFault};
 ghost use Rattle.command_files.specs.FileCauses.{ShelfFailed};
 ghost use Rattle.sincronia_cli.specs.FirstCause.{EndsBy, IsFirstCause, IsInterrupted};
+ghost use Rattle.sincronia_cli.specs.Live.{WritesLive};
 ghost use Rattle.sincronia_cli.specs.Make.{WritesMade};
 ghost use Rattle.sincronia_cli.specs.Online.{CommandLimit, PublishesFew, WritesOnline};
 ghost use Rattle.sincronia_cli.specs.Outcome.{HasText, IsOutcome, WritesBeginning, WritesNoBy};
@@ -37,12 +38,14 @@ use crate::auditing::audit_journal;
 use crate::checking::check_report;
 use crate::classing::list_classes;
 use crate::comparing::compare_rankers;
+use crate::living::run_clients;
 use crate::making::make_workload;
 use crate::onlining::run_online;
 use crate::outcome::Outcome;
 use crate::planning::plan_trace;
 use command_files::Status;
 use command_words::{Job, Words, WordsFault, read_words};
+use live_rounds::Gate;
 use online_check::laws::yes_bounds_released_schedules;
 use outside::{Failed, Shelf, Sink, Wire, write_all};
 use rankers::Ranker;
@@ -50,8 +53,8 @@ use std::alloc::Global;
 use std::sync::Wait;
 use std::thread::Threads;
 
-/// Does what the words ask for, and writes one text to the sink. Where a plan or an online run is served, its units are sent
-/// on the wires before.
+/// Does what the words ask for, and writes one text to the sink. Where a plan, an online run or a script is served, units are
+/// sent on the wires before.
 ///
 /// - `plan TRACE` reads the file of that name on the shelf and writes the plan of its trace. With `--weights FILE` the
 ///   coflows have the weights of that file, and else weight 1 each; with `--unit MEGABYTES` a unit has so many
@@ -77,6 +80,13 @@ use std::thread::Threads;
 ///   valid schedule of what is left there, the completions, the cost, a released certificate with its total, which is at
 ///   most the cost of every valid schedule that serves nobody before its arrival, and the schedule, which is one of these.
 ///   `--weights`, `--unit` and `--agents` are as for `plan`, and the schedule is served as for `plan`.
+/// - `live TRACE SCRIPT` reads a script of what clients ask, carries it out in a hall over the trace, and writes the hall's
+///   journal. The trace has at most 2^20 units. Each client of the script has a thread of its own, and passes its gate before each of its commands. Round
+///   follows on round; beside a round that ends with `slot` a run is opened, of one slot or of at most as many as `--run`
+///   says, up to 2^40; and after the last round runs are opened until nothing is left. Agents send the units on the wires.
+///   The text has each entry of the journal with the reply of the one-thread master, the order of each version, what each
+///   pull was told, and the schedule of the closed runs. What clients ask beside one another comes in some order: any of
+///   them may be printed, and what is said of it holds of each. `--weights`, `--unit` and `--agents` are as for `plan`.
 /// - `make SEED` makes a trace and weights from a number, plans and serves them as `plan` does, and writes a summary of
 ///   the plan, whose report is right. It reads no file.
 /// - `compare TRACE` asks the rankers of the bench for orders of the trace's coflows, one ranker after another, and
@@ -93,20 +103,22 @@ use std::thread::Threads;
 ///   a port with a served flow no later in the line; no flow stands twice in a slot, nor in more slots than it has units.
 ///   It says nothing of who asked, nor of when.
 ///
-/// There is a wire for each ingress port that a trace may have, 1025 of them; further ones are left alone. `plan`, `make` and
-/// `online` alone use them. Where they tell what they accepted, at `Ok` and `WriteFault` each of them has the units of the
-/// schedule that begin at its port, each once, behind what it had. At `WireFault`, `NoMemory` and a `Limit` of epochs it has
-/// some of these, none twice, or none; of an online run none in a slot at or before its coflow's arrival. At every other
-/// status, and for every other command, it is as before.
+/// There is a wire for each ingress port that a trace may have, 1025 of them; further ones are left alone. `plan`, `make`,
+/// `online` and `live` alone use them. Where they tell what they accepted, at `Ok` and `WriteFault` each of them has the
+/// units of the schedule that begin at its port, each once, behind what it had. At `WireFault`, `NoMemory` and a `Limit` of
+/// epochs it has some of these, none twice, or none; of an online run none in a slot at or before its coflow's arrival. At
+/// every other status, and for every other command, it is as before.
+///
+/// There is a gate for each number that a client of a script may have, 64 of them. `live` alone uses them: for every other
+/// command they are as before.
 ///
 /// The bench has fewer than 2^32 rankers, and `compare` alone uses it. A ranker that was asked is dropped, so at `Ok`
 /// and `WriteFault` of `compare` the bench is empty; at its `NoMemory` those that were not reached are still there, as
 /// they were and in their order; at all other statuses the bench is as before.
 ///
 /// Files are looked at one after another, and the first fault ends the job: the trace is read, and then its grammar is
-/// tested; so are the weights; then the table of flows is made; then the report or the printed journal is read, and its
-/// grammar is tested. A
-/// file is started only where nothing that is looked at before it is wrong. No call that failed is tried again: the
+/// tested; so are the weights; then the table of flows is made; then the report, the printed journal or the script is read,
+/// and its grammar is tested. A file is started only where nothing that is looked at before it is wrong. No call that failed is tried again: the
 /// shelf's count of faults rises by one at `ReadFault`, the sink's at `WriteFault`, each up to 2^64 - 1, where it stops,
 /// and neither does at any other status. After a unit that a wire did not accept the run is closed and no further one is
 /// opened.
@@ -124,32 +136,36 @@ use std::thread::Threads;
 /// - `BadReport`: trace and weights give a table within its limits, and the file is no report of the kind that its first
 ///   line tells, or, for `audit`, no printed journal. The line is the first one that no text of such a kind has after the
 ///   lines before it.
+/// - `BadScript`: trace and weights give a table within its limits, of at most 2^20 units, and the file is no script over its
+///   coflows. The fault is its first in reading order, told by its line and field.
 /// - `Limit`: a quantity of the files is outside its range, and nothing that is looked at before it is wrong. It does
-///   not come for `make`. That of epochs comes for `online` alone, where nothing is wrong with the files and more than 8192
+///   not come for `make`. For `live` the units are at most 2^20, which is looked at before the script is read. That of epochs comes for `online` alone, where nothing is wrong with the files and more than 8192
 ///   orders would be published; its count is 8193.
 /// - `ReadFault`: a call to the shelf failed, and its count of faults rose. `count` is 1. The file is the trace, or the
-///   weights where the trace has no fault, or the report or the printed journal where trace and weights give a table
-///   within its limits.
+///   weights where the trace has no fault, or the report, the printed journal or the script where trace and weights give a
+///   table within its limits.
 /// - `WriteFault`: a call to the sink failed, and its count of faults rose. `count` is 1. A beginning of the text was
 ///   written, which is shorter than the text.
-/// - `WireFault`: in `plan`, `make` or `online` the wire of this ingress port did not accept a unit, and its count of faults
-///   rose. `count` is 1. In `plan` and `make` it is the least port at which a unit of the last run is missing.
+/// - `WireFault`: in `plan`, `make`, `online` or `live` the wire of this ingress port did not accept a unit, and its count of
+///   faults rose. `count` is 1. In `plan`, `make` and `live` it is the least port at which a unit of the last run is missing.
 /// - `NoMemory`: no memory was to be had.
 ///
 /// Where the files of the command are told, the status is the one of the first thing that is wrong with them, or where
 /// they are good `Ok`, or for `check` and `audit` `Ok` or `No`; only `ReadFault`, `WriteFault`, `WireFault` and `NoMemory` may come in its
 /// place, the first three only where a count of faults rises. At `Ok`, `No`, `WriteFault` and `WireFault` those files are good, and every file of the
 /// command was read to its end. After any status but the first three of these nothing was written. The files on the shelf are as before.
-pub fn sincronia<R: Threads + Wait + Sync, H: Shelf, K: Sink, W: Wire + Send>(
+pub fn sincronia<R: Threads + Wait + Sync, H: Shelf, K: Sink, W: Wire + Send, G: Gate + Send>(
     rt: &R,
     alloc: Global,
     words: &[String],
     shelf: &mut H,
     out: &mut K,
     wires: &mut Vec<W>,
+    gates: &mut Vec<G>,
     bench: &mut Vec<Box<dyn Ranker>>,
 ) -> Status
     requires wires { MAX_PORTS < length wires.old.items }
+    requires gates { MAX_CLIENTS ≤ length gates.old.items }
     requires bench { length bench.old.items < 2 ^ 32 }
     ensures plan { (said : Said) (trace : List ℕ) → IsCommand (plan_job trace) (texts words.now) said →
         result ≡ Status.Ok → WritesPlan (SendsAll W.runs wires.old.items wires.new.items) (H.told shelf.old) said
@@ -166,6 +182,11 @@ pub fn sincronia<R: Threads + Wait + Sync, H: Shelf, K: Sink, W: Wire + Send>(
         (K.taken out.old) (K.taken out.new) }
     ensures few { (said : Said) → IsWords (texts words.now) said → HasText result →
         IfSome (H.told shelf.old) (PublishesFew said.job said) }
+    ensures live { (said : Said) (trace script : List ℕ) → IsCommand (live_job trace script) (texts words.now) said →
+        result ≡ Status.Ok → WritesLive (SendsAll W.runs wires.old.items wires.new.items) (H.told shelf.old) said
+        (K.taken out.old) (K.taken out.new) }
+    ensures gates { ((said : Said) (trace script : List ℕ) →
+        IsCommand (live_job trace script) (texts words.now) said → ⊥) → gates.new.items ≡ gates.old.items }
     ensures make { (said : Said) (seed : ℕ) → IsCommand (make_job seed) (texts words.now) said → result ≡ Status.Ok →
         WritesMade (SendsAll W.runs wires.old.items wires.new.items) seed said.unit (K.taken out.old)
         (K.taken out.new) }
@@ -207,6 +228,9 @@ pub fn sincronia<R: Threads + Wait + Sync, H: Shelf, K: Sink, W: Wire + Send>(
     ensures bad_report { (line : ℕ) → result ≡ Status.BadReport line →
         (said : Said) × IsWords (texts words.now) said × IsGiven (report_name said.job) ×
         IfSome (H.told shelf.old) (FilesReportFault said line) }
+    ensures bad_script { (line field : ℕ) → result ≡ Status.BadScript line field →
+        (said : Said) × IsWords (texts words.now) said × IsGiven (script_name said.job) ×
+        IfSome (H.told shelf.old) (FilesBadScript said line field) }
     ensures limit { (which : Quantity) (count : ℕ) → result ≡ Status.Limit which count →
         (said : Said) × IsOfFiles (texts words.now) said × IfSome (H.told shelf.old) (CommandLimit said which count) }
     ensures read { (count : ℕ) → result ≡ Status.ReadFault count → (said : Said) × IsOfFiles (texts words.now) said ×
@@ -234,7 +258,7 @@ pub fn sincronia<R: Threads + Wait + Sync, H: Shelf, K: Sink, W: Wire + Send>(
         Err(WordsFault::Usage) => return Status::Usage,
         Err(WordsFault::NoMemory) => return Status::NoMemory,
     };
-    let outcome = match carry_out(rt, alloc, words, shelf, wires, bench) {
+    let outcome = match carry_out(rt, alloc, words, shelf, wires, gates, bench) {
         Ok(outcome) => outcome,
         Err(status) => return status,
     };
@@ -257,17 +281,19 @@ fn write_text<K: Sink>(out: &mut K, text: Vec<u8>) -> Result<(), Failed>
 }
 
 /// What the words ask to be written, or the status of why there is nothing to write.
-fn carry_out<'a, R: Threads + Wait + Sync, H: Shelf, W: Wire + Send>(
+fn carry_out<'a, R: Threads + Wait + Sync, H: Shelf, W: Wire + Send, G: Gate + Send>(
     rt: &R,
     alloc: Global,
     words: Words<'a>,
     shelf: &mut H,
     wires: &mut Vec<W>,
+    gates: &mut Vec<G>,
     bench: &mut Vec<Box<dyn Ranker>>,
 ) -> Result<Outcome, Status>
     requires fits { Fits (said_by words) }
     requires few { length bench.old.items < 2 ^ 32 }
     requires wires { MAX_PORTS < length wires.old.items }
+    requires gates { MAX_CLIENTS ≤ length gates.old.items }
     ensures outcome { IfOk result (λ o. IsOutcome (SendsAll W.runs wires.old.items wires.new.items)
         (H.told shelf.old) (said_by words.entry) (map (λ b. meaning b) bench.old.items) o.status o.text.items) }
     ensures few { OnOk result (IfSome (H.told shelf.old)
@@ -279,6 +305,8 @@ fn carry_out<'a, R: Threads + Wait + Sync, H: Shelf, W: Wire + Send>(
     ensures same_bench { IfErr result (λ status. status ≢ Status.NoMemory → bench.new.items ≡ bench.old.items) }
     ensures others_bench { ((trace : List ℕ) → (said_by words.entry).job ≡ compare_job trace → ⊥) →
         bench.new.items ≡ bench.old.items }
+    ensures gates { ((trace script : List ℕ) → (said_by words.entry).job ≡ live_job trace script → ⊥) →
+        gates.new.items ≡ gates.old.items }
     ensures sent { (wires.new.items ≡ wires.old.items) ⊎ Serves (Sends W.runs wires.old.items wires.new.items)
         (said_by words.entry).job (H.told shelf.old) (said_by words.entry) }
     ensures unsent { IfErr result (λ status. (MayHaveSent status → ⊥) → wires.new.items ≡ wires.old.items) }
@@ -311,5 +339,15 @@ fn carry_out<'a, R: Threads + Wait + Sync, H: Shelf, W: Wire + Send>(
         Job::Classes { trace } => list_classes(alloc, trace, words.options, shelf),
         Job::Audit { trace, journal } => audit_journal(alloc, trace, journal, words.options, shelf),
         Job::Online { trace } => run_online(rt, alloc, trace, words.options, shelf, wires),
+        Job::Live { trace, script } => run_clients(
+            rt,
+            alloc,
+            trace,
+            script,
+            words.options,
+            shelf,
+            wires,
+            gates,
+        ),
     }
 }

@@ -7,6 +7,7 @@ mod classing;
 mod command;
 mod comparing;
 pub mod laws;
+mod living;
 mod making;
 mod onlining;
 mod outcome;

@@ -52,6 +52,7 @@ fn job_text(rt: &impl Abort, alloc: Global, job: Job<'_>) -> String {
         Job::Classes { trace } => format!(in alloc; "Classes {trace} -"),
         Job::Audit { trace, journal } => format!(in alloc; "Audit {trace} {journal}"),
         Job::Online { trace } => format!(in alloc; "Online {trace} -"),
+        Job::Live { trace, script } => format!(in alloc; "Live {trace} {script}"),
     };
     had(rt, text)
 }
@@ -117,7 +118,12 @@ audit t j => Audit t j - 1 4 1024 1 8 8
 audit -- -t -j => Audit -t -j - 1 4 1024 1 8 8
 online t => Online t - - 1 4 1024 1 8 8
 online t --epoch 4 => Online t - - 1 4 4 1 8 8
---slot-ms=20 online --epoch 1099511627776 t --weights w --unit 3 --agents 64 => Online t - w 3 64 1099511627776 1 20 8";
+--slot-ms=20 online --epoch 1099511627776 t --weights w --unit 3 --agents 64 => Online t - w 3 64 1099511627776 1 20 8
+live t s => Live t s - 1 4 1024 1 8 8
+live t s --run 4 => Live t s - 1 4 1024 4 8 8
+--run=1099511627776 live --weights w t --agents 64 s --unit 2 => Live t s w 2 64 1024 1099511627776 8 8
+live -- -t -s => Live -t -s - 1 4 1024 1 8 8
+live t s --epoch 5 --slot-ms 6 --classes 7 => Live t s - 1 4 5 1 6 7";
 
 #[test]
 fn lines_that_are_read(rt: HostRuntime) {
@@ -221,7 +227,18 @@ online -
 online t --epoch 0
 online t --epoch 1099511627777
 online t --epoch 4 --epoch=4
-online t --slot-ms 1048577";
+online t --slot-ms 1048577
+live
+live t
+live t s x
+live t -
+live - s
+live t s --run 0
+live t s --run 1099511627777
+live t s --run 1 --run 1
+live t s --agents 65
+live t s --epoch 0
+lives t s";
 
 #[test]
 fn lines_that_are_refused(rt: HostRuntime) {

@@ -19,7 +19,7 @@ pub returns-in_err-input-clause-in_turn : goal.returns-in_err-input-clause-in_tu
 returns-in_err-input-clause-in_turn g c =
     passed_on c.from_residual.result c.in_err-input.field-0.0 _ c.from_residual.ensures.1
     (input_in_turn (g.H.Shelf.told c.args.shelf.now) (g.H.Shelf.told c.read_input.new.shelf) (check_of (said_by c.args.words)) c.in_err-input.field-0.0
-    c.in_err-input.ensures.in_turn c.read_input.ensures.no_report)
+    c.in_err-input.ensures.in_turn c.read_input.ensures.no_report c.read_input.ensures.no_script)
 
 pub returns-in_err-report-clause-cause : goal.returns-in_err-report-clause-cause
 returns-in_err-report-clause-cause g c =

@@ -64,7 +64,7 @@ returns-in_err-verdict-clause-in_turn g c =
     let new = g.H.Shelf.told c.read_journal_file.new.shelf in
     let said : Said = said_with (audit_job c.args.trace.now c.args.journal.now) c.args.options in
     passed_as c.from_residual-in_err-verdict.result (λ (s : Status). s ≡ NoMemory) (λ status. OfBoth old new (FilesInTurn said status)) c.from_residual-in_err-verdict.ensures.1
-    (λ s is. done_in_turn old new said s (λ read. subst IsReadFault is read) c.in_ok-input.ensures.table
+    (λ s is. done_in_turn old new said s refl (λ read. subst IsReadFault is read) c.in_ok-input.ensures.table
     (still_both_out old mid new said c.in_ok-input.ensures.read_out c.read_journal_file.ensures.others))
 
 pub returns-in_err-text-clause-in_turn : goal.returns-in_err-text-clause-in_turn
@@ -74,7 +74,7 @@ returns-in_err-text-clause-in_turn g c =
     let new = g.H.Shelf.told c.read_journal_file.new.shelf in
     let said : Said = said_with (audit_job c.args.trace.now c.args.journal.now) c.args.options in
     passed_as c.from_residual-in_err-text.result (λ (s : Status). s ≡ NoMemory) (λ status. OfBoth old new (FilesInTurn said status)) c.from_residual-in_err-text.ensures.1
-    (λ s is. done_in_turn old new said s (λ read. subst IsReadFault is read) c.in_ok-input.ensures.table
+    (λ s is. done_in_turn old new said s refl (λ read. subst IsReadFault is read) c.in_ok-input.ensures.table
     (still_both_out old mid new said c.in_ok-input.ensures.read_out c.read_journal_file.ensures.others))
 
 pub returns-clause-outcome : goal.returns-clause-outcome

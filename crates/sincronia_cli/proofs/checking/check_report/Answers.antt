@@ -60,7 +60,7 @@ returns-in_err-judged-clause-in_turn g c =
     let new = g.H.Shelf.told c.read_any_report_file.new.shelf in
     let said : Said = said_with (check_job c.args.trace.now c.args.report.now) c.args.options in
     passed_as c.from_residual-in_err-judged.result (λ (s : Status). s ≡ NoMemory) (λ status. OfBoth old new (FilesInTurn said status)) c.from_residual-in_err-judged.ensures.1
-    (λ s is. done_in_turn old new said s (λ read. subst IsReadFault is read) c.in_ok-input.ensures.table
+    (λ s is. done_in_turn old new said s refl (λ read. subst IsReadFault is read) c.in_ok-input.ensures.table
     (still_both_out old mid new said c.in_ok-input.ensures.read_out c.read_any_report_file.ensures.others))
 
 pub returns-in_err-judged-clause-keeps : goal.returns-in_err-judged-clause-keeps

@@ -12,11 +12,11 @@ use Rattle.sincronia_cli.proofs.BenchFacts.{cause_has_no_text, job_of, outcome_h
 use Rattle.sincronia_cli.proofs.CompleteFacts.{good_files_end}
 use Rattle.sincronia_cli.proofs.FirstFacts.{first_ends, text_ends}
 use Rattle.sincronia_cli.proofs.OnlineFacts.{few_for}
-use Rattle.sincronia_cli.proofs.OutcomeFacts.{bad_report_given, limit_given}
+use Rattle.sincronia_cli.proofs.OutcomeFacts.{bad_report_given, bad_script_given, limit_given}
 use Rattle.command_files.proofs.SinkFacts.{begun}
 use Rattle.sincronia_cli.proofs.ServingFacts.{none_failed, past_by_wire, sent_by, unsent_for, wire_failed}
 use Rattle.sincronia_cli.proofs.TurnFacts.{done_by, out_for, text_in_turn, turn_for}
-use Rattle.sincronia_cli.proofs.WrittenFacts.{classes_written, comparison_written, made_written, no_written, online_written, plan_written, sound_written, yes_written}
+use Rattle.sincronia_cli.proofs.WrittenFacts.{classes_written, comparison_written, live_written, made_written, no_written, online_written, plan_written, sound_written, yes_written}
 use Rattle.sincronia_cli.proofs.command.sincronia.Goals as goal
 
 pub returns-in-Err-Usage-clause-usage : goal.returns-in-Err-Usage-clause-usage
@@ -27,6 +27,13 @@ returns-in-Err-clause-bad_report g c = λ line e.
     let bad = bad_report_given (Stops g.W.Wire.faults g.W.Wire.runs c.args.wires.now.items c.carry_out.new.wires.items)
     (said_by c.in-Ok.words) (g.H.Shelf.faults c.args.shelf.now) (g.H.Shelf.faults c.carry_out.new.shelf)
     (g.H.Shelf.told c.args.shelf.now) (g.H.Shelf.told c.carry_out.new.shelf) line c.in-Err.status c.in-Err.ensures.cause e in
+    (said_by c.in-Ok.words, c.in-Ok.ensures.said, bad.0, bad.1)
+
+pub returns-in-Err-clause-bad_script : goal.returns-in-Err-clause-bad_script
+returns-in-Err-clause-bad_script g c = λ line field e.
+    let bad = bad_script_given (Stops g.W.Wire.faults g.W.Wire.runs c.args.wires.now.items c.carry_out.new.wires.items)
+    (said_by c.in-Ok.words) (g.H.Shelf.faults c.args.shelf.now) (g.H.Shelf.faults c.carry_out.new.shelf)
+    (g.H.Shelf.told c.args.shelf.now) (g.H.Shelf.told c.carry_out.new.shelf) line field c.in-Err.status c.in-Err.ensures.cause e in
     (said_by c.in-Ok.words, c.in-Ok.ensures.said, bad.0, bad.1)
 
 pub returns-clause-plan : goal.returns-clause-plan
@@ -44,6 +51,26 @@ returns-clause-online g c = λ said trace is e.
     (map (λ b. (goal.Ranker-dyn g (b.vtable, b.value)).meaning b.value) c.args.bench.now.items) c.in-Ok-carry_out.outcome.status c.in-Ok-carry_out.outcome.text.items
     c.in-Ok-carry_out.outcome.text.items (g.K.Sink.taken c.args.out.now) (g.K.Sink.taken c.write_text.new.out) c.in-Ok-write_text.field-0 trace
     c.in-Ok.ensures.said is c.in-Ok-carry_out.ensures.outcome refl c.in-Ok-write_text.ensures.taken
+
+pub returns-clause-live : goal.returns-clause-live
+returns-clause-live g c = λ said trace script is e.
+    live_written _ (SendsAll g.W.Wire.runs c.args.wires.now.items c.carry_out.new.wires.items) (texts c.args.words.now) (said_by c.in-Ok.words) said
+    (g.H.Shelf.told c.args.shelf.now)
+    (map (λ b. (goal.Ranker-dyn g (b.vtable, b.value)).meaning b.value) c.args.bench.now.items) c.in-Ok-carry_out.outcome.status c.in-Ok-carry_out.outcome.text.items
+    c.in-Ok-carry_out.outcome.text.items (g.K.Sink.taken c.args.out.now) (g.K.Sink.taken c.write_text.new.out) c.in-Ok-write_text.field-0 trace script
+    c.in-Ok.ensures.said is c.in-Ok-carry_out.ensures.outcome refl c.in-Ok-write_text.ensures.taken
+
+pub returns-in-Err-clause-gates : goal.returns-in-Err-clause-gates
+returns-in-Err-clause-gates g c = λ no.
+    c.carry_out.ensures.gates (λ trace script e. no (said_by c.in-Ok.words) trace script (record { words_say = c.in-Ok.ensures.said; job_is = e }))
+
+pub returns-in_default-clause-gates : goal.returns-in_default-clause-gates
+returns-in_default-clause-gates g c = λ no.
+    c.carry_out.ensures.gates (λ trace script e. no (said_by c.in-Ok.words) trace script (record { words_say = c.in-Ok.ensures.said; job_is = e }))
+
+pub returns-clause-gates : goal.returns-clause-gates
+returns-clause-gates g c = λ no.
+    c.carry_out.ensures.gates (λ trace script e. no (said_by c.in-Ok.words) trace script (record { words_say = c.in-Ok.ensures.said; job_is = e }))
 
 pub returns-in-Err-clause-few : goal.returns-in-Err-clause-few
 returns-in-Err-clause-few g c = λ said is text.
@@ -179,7 +206,7 @@ returns-in_default-clause-in_turn g c = λ said is.
     let by : Said = said_by c.in-Ok.words in
     let ensures = c.in-Ok-carry_out.ensures in
     turn_for (texts c.args.words.now) by said old new (WriteFault 1) c.in-Ok.ensures.said is
-    (done_by old new by (WriteFault 1) by.job (λ read. read) ensures.good ensures.read_out (λ seed e. (ensures.untouched seed e).0))
+    (done_by old new by (WriteFault 1) by.job refl (λ read. read) ensures.good ensures.read_out (λ seed e. (ensures.untouched seed e).0))
 
 pub returns-in_default-clause-beginning : goal.returns-in_default-clause-beginning
 returns-in_default-clause-beginning g c = λ count e. (

@@ -1,4 +1,4 @@
-use Rattle.std.proofs.Common.{inl, inr, ap, Err}
+use Rattle.std.proofs.Common.{inl, inr, ap, refl, Err}
 use Rattle.command_words.specs.Jobs.Job.{plan_job}
 use Rattle.command_words.specs.Words.{Said, said_with}
 use Rattle.sincronia_cli.specs.Causes.{HasFilesCause}
@@ -53,7 +53,7 @@ returns-in_err-report-clause-in_turn g c =
     let said : Said = said_with (plan_job c.args.trace.now) c.args.options in
     passed_as c.from_residual-in_err-report.result (IsStatusOfPlan c.in_err-report.field-0.0) (λ status. OfBoth old new (FilesInTurn said status))
     c.from_residual-in_err-report.ensures.1
-    (λ s is. done_in_turn old new said s (plan_reads c.in_err-report.field-0.0 s is) c.in_ok-input.ensures.table c.in_ok-input.ensures.read_out)
+    (λ s is. done_in_turn old new said s refl (plan_reads c.in_err-report.field-0.0 s is) c.in_ok-input.ensures.table c.in_ok-input.ensures.read_out)
 
 pub returns-in_err-report-clause-counts : goal.returns-in_err-report-clause-counts
 returns-in_err-report-clause-counts g c =

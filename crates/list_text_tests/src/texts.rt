@@ -3,9 +3,17 @@ ghost use Rattle.std.specs.Prelude.{All, IsTrue};
 ghost use Rattle.report.specs.Compared.{IsName};
 ghost use Rattle.report.specs.declared.compared.RowLine.{RowLine};
 
-use crate::inputs::had;
 use coflow_units::{Items, Run};
 use report::{ClassText, Compare, Member, RowLine, RowText, write_classes, write_compare};
+use std::process::Abort;
+
+/// The value of an answer that only want of memory can refuse.
+fn had<T, E: Drop>(rt: &impl Abort, answer: Result<T, E>) -> T {
+    match answer {
+        Ok(value) => value,
+        Err(_) => panic!(rt; "no memory"),
+    }
+}
 
 /// Tests what the text of a comparison requires of names.
 fn have_names(rows: &[RowLine]) -> bool

@@ -1,10 +1,9 @@
 //! What plans and online runs send on wires, and what comes of wires that fail.
-use crate::jobs::{NONE, TWO, words};
-use crate::plan_tests::{CROSSED, CROSSED_TEXT, TWO_TEXT};
+use crate::asking::{ask, open_gates, two_files};
+use crate::texts::{CROSSED, CROSSED_TEXT, TWO, TWO_TEXT};
 use coflow_units::MAX_PORTS;
 use command_files::Status;
-use outside::{MemShelf, MemSink, MemWire};
-use sincronia_cli::sincronia;
+use outside::{MemSink, MemWire};
 use std::alloc::Global;
 use std::process::Abort;
 use std::sync::Wait;
@@ -37,30 +36,20 @@ fn tell_wires(alloc: Global, wires: &[MemWire]) -> Result<String, Fail> {
     Ok(text)
 }
 
-/// The status, what was written, and what the wires accepted, of these words over a trace `t` and the report `r` of two flows.
-fn served<R: Threads + Wait + Sync + Abort>(
+/// The status, what was written, and what the wires accepted, of these words over a trace `t` and a script or a report `s`.
+pub(crate) fn served<R: Threads + Wait + Sync + Abort>(
     rt: &R,
     alloc: Global,
     texts: &[&str],
-    trace: &[u8],
+    named: [&[u8]; 2],
     fail_at: [u64; 2],
     after: Option<u64>,
 ) -> Result<(Status, MemSink, String), Fail> {
-    let mut shelf = MemShelf::new(alloc, 64, Vec::new(alloc))?;
-    for (name, bytes) in [("t", trace), ("r", TWO_TEXT)] {
-        if bytes != NONE {
-            shelf.put(name, bytes)?;
-        }
-    }
-    let mut out = MemSink::new(alloc, 4096, after)?;
     let mut wires = wires_of(alloc, fail_at)?;
-    let enough = wires.len() > MAX_PORTS as usize;
-    assert!(rt; enough);
-    let words = words(alloc, texts)?;
-    let mut bench = Vec::new(alloc);
-    let status = sincronia(
-        rt, alloc, &words, &mut shelf, &mut out, &mut wires, &mut bench,
-    );
+    let mut gates = open_gates(alloc)?;
+    let mut found = two_files(("t", named[0]), ("s", named[1]));
+    found.after = after;
+    let (status, out) = ask(rt, alloc, texts, found, &mut wires, &mut gates)?;
     let text = tell_wires(alloc, &wires)?;
     Ok((status, out, text))
 }
@@ -110,8 +99,8 @@ fn plans_are_sent_by_any_number_of_agents(rt: HostRuntime) -> Result<(), Fail> {
     ];
     for (trace, text, sent) in rows {
         for agents in ["--agents=1", "--agents=2", "--agents=4", "--agents=64"] {
-            let words = ["sincronia", "plan", "t", agents];
-            let (status, out, wires) = served(&rt, rt.alloc(), &words, trace, [0, 0], None)?;
+            let words = ["plan", "t", agents];
+            let (status, out, wires) = served(&rt, rt.alloc(), &words, [trace, b""], [0, 0], None)?;
             assert_eq!(rt; status, Status::Ok);
             assert_eq!(rt; out.bytes(), text);
             assert_eq!(rt; wires.as_str(), sent);
@@ -130,8 +119,8 @@ fn each_unit_of_a_wire_fails_in_turn(rt: HostRuntime) -> Result<(), Fail> {
         (5, TWO_SENT),
     ];
     for (unit, sent) in rows {
-        let words = ["sincronia", "plan", "t"];
-        let (status, out, wires) = served(&rt, rt.alloc(), &words, TWO, [unit, 0], None)?;
+        let words = ["plan", "t"];
+        let (status, out, wires) = served(&rt, rt.alloc(), &words, [TWO, b""], [unit, 0], None)?;
         if unit <= 4 {
             assert_eq!(rt; status, Status::WireFault { port: 0, count: 1 });
             assert_eq!(rt; out.bytes().len(), 0);
@@ -155,8 +144,15 @@ fn the_least_port_that_fails_is_told(rt: HostRuntime) -> Result<(), Fail> {
     ];
     for (fail_at, port, sent) in rows {
         for agents in ["--agents=1", "--agents=2"] {
-            let words = ["sincronia", "plan", "t", agents];
-            let (status, out, wires) = served(&rt, rt.alloc(), &words, CROSSED, fail_at, None)?;
+            let words = ["plan", "t", agents];
+            let (status, out, wires) = served(
+                &rt,
+                rt.alloc(),
+                &words,
+                [CROSSED, b""],
+                fail_at,
+                None,
+            )?;
             assert_eq!(rt; status, Status::WireFault { port, count: 1 });
             assert_eq!(rt; out.bytes().len(), 0);
             assert_eq!(rt; wires.as_str(), sent, "at {fail_at:?}");
@@ -168,8 +164,8 @@ fn the_least_port_that_fails_is_told(rt: HostRuntime) -> Result<(), Fail> {
 #[test]
 fn online_runs_are_sent_by_any_number_of_agents(rt: HostRuntime) -> Result<(), Fail> {
     for agents in ["--agents=1", "--agents=2", "--agents=64"] {
-        let words = ["sincronia", "online", "t", "--epoch=4", agents];
-        let (status, out, wires) = served(&rt, rt.alloc(), &words, LATE, [0, 0], None)?;
+        let words = ["online", "t", "--epoch=4", agents];
+        let (status, out, wires) = served(&rt, rt.alloc(), &words, [LATE, b""], [0, 0], None)?;
         assert_eq!(rt; status, Status::Ok);
         assert_eq!(rt; out.bytes(), LATE_TEXT);
         assert_eq!(rt; wires.as_str(), LATE_SENT);
@@ -185,8 +181,8 @@ fn an_online_run_ends_at_a_unit_that_is_not_accepted(rt: HostRuntime) -> Result<
         (5, "0: 1 0 2\n0: 3 0 2\n"),
     ];
     for (unit, sent) in rows {
-        let words = ["sincronia", "online", "t", "--epoch=4"];
-        let (status, out, wires) = served(&rt, rt.alloc(), &words, LATE, [unit, 0], None)?;
+        let words = ["online", "t", "--epoch=4"];
+        let (status, out, wires) = served(&rt, rt.alloc(), &words, [LATE, b""], [unit, 0], None)?;
         assert_eq!(rt; status, Status::WireFault { port: 0, count: 1 });
         assert_eq!(rt; out.bytes().len(), 0);
         assert_eq!(rt; wires.as_str(), sent, "at {unit}");
@@ -197,20 +193,27 @@ fn an_online_run_ends_at_a_unit_that_is_not_accepted(rt: HostRuntime) -> Result<
 #[test]
 fn no_other_command_sends(rt: HostRuntime) -> Result<(), Fail> {
     // A text that is not taken whole was sent all the same; other commands, and those of bad files, send nothing.
-    let plan: &[&str] = &["sincronia", "plan", "t"];
-    let online: &[&str] = &["sincronia", "online", "t", "--epoch", "4"];
+    let plan: &[&str] = &["plan", "t"];
+    let online: &[&str] = &["online", "t", "--epoch", "4"];
     let rows: [(&[&str], &[u8], Option<u64>, &str); 8] = [
         (plan, TWO, Some(10), TWO_SENT),
         (online, LATE, Some(10), LATE_SENT),
         (online, b"", None, ""),
         (plan, b"", None, ""),
-        (&["sincronia", "plan", "t", "t"], TWO, None, ""),
-        (&["sincronia", "check", "t", "r"], TWO, None, ""),
-        (&["sincronia", "compare", "t"], TWO, None, ""),
-        (&["sincronia", "classes", "t"], TWO, None, ""),
+        (&["plan", "t", "t"], TWO, None, ""),
+        (&["check", "t", "s"], TWO, None, ""),
+        (&["compare", "t"], TWO, None, ""),
+        (&["classes", "t"], TWO, None, ""),
     ];
     for (words, trace, after, sent) in rows {
-        let (_status, _out, wires) = served(&rt, rt.alloc(), words, trace, [0, 0], after)?;
+        let (_status, _out, wires) = served(
+            &rt,
+            rt.alloc(),
+            words,
+            [trace, TWO_TEXT],
+            [0, 0],
+            after,
+        )?;
         assert_eq!(rt; wires.as_str(), sent);
     }
     Ok(())
