@@ -17,6 +17,8 @@ from program_runs import CHECK, PROGRAM, READ_FAULT, TWO, TWO_TEXT, WEIGHTED, bu
 PLAN = ["plan", "t"]
 DIGITS = b"1" * 2**26
 BOUND_OF_EQUALS = 2**35 + 2**23
+LIVE = ["live", "t", "r"]
+PULLS = b"1 register 1\n" + b"1 pull 2\n" * 65535
 
 
 def many_mappers():
@@ -34,11 +36,18 @@ def many_mappers_text():
     return b"sincronia 2\n%sbound %d\nslack 0\ncost %d\n%send\n" % (places, BOUND_OF_EQUALS, cost, runs)
 
 
+def script_text(script):
+    """The text of a script of one client over the two coflows, who registers the first one and pulls the other one's rank. Nothing is published, so version 0 has no rank for it."""
+    pulls = b"".join(b"pull 1 %d 2 0 0\n" % line for line in range(2, script.count(b"\n") + 1))
+    runs = b"".join(b"entry %d 0 open 1 opened %d 1 1\nentry %d 0 close closed %d\n" % (2 * slot, slot, 2 * slot + 1, slot) for slot in (1, 2, 3))
+    return b"sincronia live 1\nentry 1 1 register 1 joined\n%sentry 8 0 open 1 nothing\n%srun 3 0\nend\n" % (runs, pulls)
+
+
 def bad(line):
     return b"sincronia: " + line + b"\n"
 
 
-# name, bytes of the files `t`, `w` and `r` (None: there is no such file), words, code, standard output, standard error, MiB
+# name, bytes of the files `t`, `w` and `r`, which is a report or a script (None: there is no such file), words, code, standard output, standard error, MiB
 def rows():
     head, rest = TWO.split(b"\n", 1)
     zeros = b"0" * 10**6
@@ -56,6 +65,11 @@ def rows():
          .replace(b":", b":" + zeros) + b"\n2 0 1 0 1 1:1\n", None, None, PLAN, 0, TWO_TEXT, b"", 16),
         ("10^6 zeros before a number of a report", TWO, None, TWO_TEXT.replace(b"bound 5", b"bound " + zeros + b"5"), CHECK, 5, b"", bad(b"report: line 4"), 8),
         ("4096 coflows of 4096 mappers", many_mappers(), None, None, PLAN, 0, many_mappers_text(), b"", 120),
+        ("a script of 65536 commands", TWO, None, PULLS, LIVE, 0, script_text(PULLS), b"", 16),
+        ("a script of 65537 commands", TWO, None, PULLS + b"1 pull 2\n", LIVE, 7, b"", bad(b"limit: commands 65537"), 16),
+        ("2^26 digits as a script", TWO, None, DIGITS, LIVE, 7, b"", bad(b"limit: clients 18446744073709551615"), 80),
+        ("zero bytes as a script", TWO, None, b"\0" * 2**20, LIVE, 6, b"", bad(b"script: line 1 field 1"), 8),
+        ("bytes of 255 behind a client", TWO, None, b"1 " + b"\xff" * 2**20, LIVE, 6, b"", bad(b"script: line 1 field 2"), 8),
         ("zero bytes as a trace", b"\0" * 2**20, None, None, PLAN, 3, b"", bad(b"trace: bad header"), 8),
         ("bytes of 255 as a trace", b"\xff" * 2**20, None, None, PLAN, 3, b"", bad(b"trace: bad header"), 8),
         ("zero bytes behind a header", b"1 1\n" + b"\0" * 2**20, None, None, PLAN, 3, b"", bad(b"trace: line 2 field 1"), 8),
