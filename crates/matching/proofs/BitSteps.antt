@@ -1,9 +1,9 @@
 -- Bits of words: one is set or cleared, and the others stay.
-use Rattle.std.proofs.Common.{◌≡◌, ◌≢◌, ℕ, ◌+◌, ◌-◌, ◌*◌, ◌/◌, ◌%◌, ◌^◌, ◌<◌, ◌≤◌, inl, inr, List, length, get_or, set, replicate, drop, take, min, w64, sym, ap, subst, ◌∙◌, arith}
+use Rattle.std.proofs.Common.{◌≡◌, ◌≢◌, ℕ, ◌+◌, ◌-◌, ◌*◌, ◌/◌, ◌%◌, ◌^◌, ◌<◌, ◌≤◌, ◌++◌, inl, inr, List, length, get_or, set, replicate, drop, take, min, w64, sym, ap, subst, ◌∙◌, arith}
 use Rattle.std.specs.Prelude.{bit_and, bit_or}
 use Rattle.std.specs.Int.{bit_at, bit_not, trailing_zeros}
 use Rattle.std.proofs.lemmas.Bool.{cases_eq, cases_lt}
-use Rattle.std.proofs.lemmas.List.{get_or-drop, get_or-replicate, get_or-set_same, get_or-set_other, get_or-take, get_or_past, length-drop, length-replicate, length-take}
+use Rattle.std.proofs.lemmas.List.{get_or-append_right, get_or-drop, get_or-replicate, get_or-set_same, get_or-set_other, get_or-take, get_or_append_left, get_or_past, length-append, length-drop, length-replicate, length-take}
 use Rattle.std.proofs.lemmas.Nat.{div-mul-add, mod-mul-add, mul-add-lt}
 use Rattle.std.proofs.lemmas.Nat.Bits.{bit_at-lt, bit_at-zero, bit_at-trailing_zeros, bit_at_and, bit_at_clear_same, bit_at_clear_other, bit_at_set_same, bit_at_set_other}
 use Rattle.matching.specs.Board.{no_rank}
@@ -105,6 +105,23 @@ no_bits n e = elim (cases_lt (0 + e / 64) n) [
   | inl lt ↦ ap (λ x. bit_at x (e % 64)) (get_or-replicate n (0 + e / 64) 0 0 lt) ∙ bit_at-zero (e % 64)
   | inr ge ↦ ap (λ x. bit_at x (e % 64)) (get_or_past (replicate n 0) (0 + e / 64) 0 (omega (arith, ge, length-replicate {A = ℕ} n 0))) ∙ bit_at-zero (e % 64)
 ]
+
+-- ---- words of which the first ones are cleared
+
+pub front_size : (words : List ℕ) (n : ℕ) → n ≤ length words → length (replicate n 0 ++ drop n words) ≡ length words
+front_size words n le = let cleared : List ℕ = replicate n 0 in length-append cleared (drop n words) ∙ omega (arith, le, length-replicate {A = ℕ} n 0, length-drop n words)
+
+pub front_cleared : (words : List ℕ) (n start e : ℕ) → (n ≤ start + e / 64 → bit_of words start e ≡ 0) → bit_of (replicate n 0 ++ drop n words) start e ≡ 0
+front_cleared words n start e behind =
+    let p = start + e / 64 in
+    let cleared : List ℕ = replicate n 0 in
+    let size : length cleared ≡ n = length-replicate {A = ℕ} n 0 in
+    elim (cases_lt p n) [
+      | inl lt ↦ ap (λ x. bit_at x (e % 64)) (get_or_append_left cleared (drop n words) 0 p (omega (arith, lt, size)) ∙ get_or-replicate n p 0 0 lt) ∙
+          bit_at-zero (e % 64)
+      | inr ge ↦ ap (λ x. bit_at x (e % 64)) (get_or-append_right cleared (drop n words) n p 0 size (omega (arith, ge)) ∙ get_or-drop n words (p - n) 0 ∙
+          ap (λ q. get_or words q 0) {x = n + (p - n)} {y = p} (omega (arith, ge))) ∙ behind (omega (arith, ge))
+    ]
 
 -- ---- bits that are set where nothing stands
 

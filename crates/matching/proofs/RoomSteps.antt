@@ -7,7 +7,7 @@ use Rattle.matching.specs.Board.{graph_of, no_rank}
 use Rattle.matching.specs.Matching.{HasRoom, IsSameRoom, IsWhole}
 use Rattle.matching.specs.Rows.{IsBlank, IsShaped}
 use Rattle.matching.specs.Sound.{IsSound, left_at}
-use Rattle.matching.proofs.RowSteps.{no_rows}
+use Rattle.matching.proofs.RowSteps.{blank_holds, no_rows}
 
 pub room_again : (old mid new : Tables) → IsSameRoom old mid → IsSameRoom mid new → IsSameRoom old new
 room_again old mid new a b = record {
@@ -78,7 +78,7 @@ empty_whole m flows e = record {
     };
     chain = record { fits = omega (arith, e.none); next_is = λ r from lt. absurd (omega (arith, lt, e.none)) };
     behind = λ r s less lt. absurd (omega (arith, lt, e.none));
-    rows = no_rows m.ranks.ports (graph_of m.ranks) (left_at m) m.heads.rows e.shape e.blank e.rowless e.rowless';
+    rows = no_rows m.ranks.ports (graph_of m.ranks) (left_at m) m.heads.rows (blank_holds m.ranks.ports m.heads.rows e.shape e.blank e.rowless) e.rowless e.rowless';
     board = record {
       size = ap (λ (xs : List ℕ). length xs) e.board ∙ length-replicate (ports + ports) no_rank;
       own = λ p lt. inl (filled_with m.board.at.items (ports + ports) p e.board lt);

@@ -1,18 +1,65 @@
--- Ranks come into rows, and end.
-use Rattle.std.proofs.Common.{◌≡◌, ◌≢◌, ℕ, ◌+◌, ◌*◌, ◌/◌, ◌%◌, ◌≤◌, ◌<◌, ◌⊎◌, inl, inr, List, length, get_or, set, refl, sym, ap, ◌∙◌, arith}
+-- Rows are emptied; ranks come into rows, and end.
+use Rattle.std.proofs.Common.{◌≡◌, ◌≢◌, ℕ, ◌+◌, ◌*◌, ◌/◌, ◌%◌, ◌≤◌, ◌<◌, ◌⊎◌, ◌++◌, inl, inr, List, length, get_or, set, replicate, drop, refl, sym, ap, ◌∙◌, arith}
 use Rattle.std.proofs.lemmas.Bool.{cases_eq, cases_lt}
 use Rattle.std.proofs.lemmas.List.{get_or-set_same, get_or-set_other, length-set}
+use Rattle.std.proofs.lemmas.Nat.{mul-le}
 use Rattle.matching.specs.declared.rows.Rows.{Rows}
 use Rattle.matching.specs.Kept.{Graph}
 use Rattle.matching.specs.Board.{IsGraph}
-use Rattle.matching.specs.Rows.{bit_of, owes_at, row_of, GoesOn, HasLast, IsBlank, IsOpen, IsRows, IsShaped}
-use Rattle.matching.proofs.BitSteps.{one_place, place_in, set_in, cleared_in, set_here, set_elsewhere, cleared_here, cleared_elsewhere}
+use Rattle.matching.specs.Rows.{bit_of, owes_at, row_of, GoesOn, HasLast, HoldsRows, IsBlank, IsOpen, IsRows, IsShaped}
+use Rattle.matching.proofs.BitSteps.{one_place, place_in, set_in, cleared_in, set_here, set_elsewhere, cleared_here, cleared_elsewhere, bit_is, front_cleared, front_size}
 use Rattle.matching.proofs.EndSteps.{IsSameOwing}
 
-pub no_rows : (ports : ℕ) (g : Graph) (left : ℕ → ℕ) (rows : Rows) → IsShaped ports rows → IsBlank rows → rows.count ≡ 0 → rows.ranked ≡ 0 → IsRows ports g left rows
-no_rows ports g left rows shape blank none none' = record {
-  shape = shape;
-  fits = omega (arith, none);
+-- ---- the rows that are in use, and what is behind them
+
+pub blank_holds : (ports : ℕ) (rows : Rows) → IsShaped ports rows → IsBlank rows → rows.count ≡ 0 → HoldsRows ports rows
+blank_holds ports rows shape blank none = record { shape = shape; fits = omega (arith, none); behind = λ k e _ _ _. blank k e }
+
+pub rows_hold : (ports : ℕ) (g : Graph) (left : ℕ → ℕ) (rows : Rows) → IsRows ports g left rows → HoldsRows ports rows
+rows_hold ports g left rows w = record {
+  shape = w.shape;
+  fits = w.fits;
+  behind = λ k e from lk le. bit_is rows.owes.items (k * rows.width) e (λ one.
+      let (r, lt, here, _, _) = w.only k e lk le one in
+      omega (arith, w.row r lt, here, from));
+}
+
+-- the words of the rows in use
+pub used_fits : (ports : ℕ) (rows : Rows) → HoldsRows ports rows → rows.count * rows.width ≤ length rows.owes.items
+used_fits ports rows h = omega (arith, mul-le rows.count rows.width (length rows.first.items) rows.width h.fits (omega arith), h.shape.words)
+
+pub record IsEmptied (old new : Rows) : Type 0 where
+  pub width : new.width ≡ old.width
+  pub count : new.count ≡ 0
+  pub first : new.first.items ≡ old.first.items
+  pub owes : new.owes.items ≡ replicate (old.count * old.width) 0 ++ drop (old.count * old.width) old.owes.items
+
+pub emptied_holds : (ports : ℕ) (old new : Rows) → IsEmptied old new → HoldsRows ports old → HoldsRows ports new
+emptied_holds ports old new m h =
+    let used = old.count * old.width in
+    let inside : used ≤ length old.owes.items = used_fits ports old h in
+    let size = ap (λ (xs : List ℕ). length xs) m.first in
+    let bit : (k e : ℕ) → k < length old.first.items → e < 64 * old.width → owes_at new k e ≡ 0 = λ k e lk le.
+    ap (λ xs. bit_of xs (k * new.width) e) m.owes ∙ ap (λ n. bit_of (replicate used 0 ++ drop used old.owes.items) (k * n) e) m.width ∙
+    front_cleared old.owes.items used (k * old.width) e (λ from. elim (cases_lt k old.count) [
+      | inl lt ↦ absurd (omega (arith, from, place_in old.width k e old.count lt le))
+      | inr ge ↦ h.behind k e (omega (arith, ge)) lk le
+    ]) in
+    record {
+      shape = record {
+        wide = omega (arith, h.shape.wide, m.width);
+        few = omega (arith, size, h.shape.few);
+        words = ap (λ xs. length xs) m.owes ∙ front_size old.owes.items used inside ∙ h.shape.words ∙ ap (λ n. n * old.width) (sym size) ∙
+            ap (λ n. length new.first.items * n) (sym m.width);
+      };
+      fits = omega (arith, m.count);
+      behind = λ k e _ lk le. bit k e (omega (arith, lk, size)) (omega (arith, le, m.width));
+    }
+
+pub no_rows : (ports : ℕ) (g : Graph) (left : ℕ → ℕ) (rows : Rows) → HoldsRows ports rows → rows.count ≡ 0 → rows.ranked ≡ 0 → IsRows ports g left rows
+no_rows ports g left rows holds none none' = record {
+  shape = holds.shape;
+  fits = holds.fits;
   ranked = omega (arith, none');
   known = omega (arith, none');
   inside = λ k lt. absurd (omega (arith, lt, none));
@@ -21,7 +68,7 @@ no_rows ports g left rows shape blank none none' = record {
   follows = λ r s less lt. absurd (omega (arith, lt, none'));
   rises = λ r s less lt. absurd (omega (arith, lt, none'));
   owed = λ r e lt. absurd (omega (arith, lt, none'));
-  only = λ k e lk le one. absurd (omega (arith, blank k e, one));
+  only = λ k e lk le one. absurd (omega (arith, holds.behind k e (omega (arith, none)) lk le, one));
 }
 
 pub same_rows : (ports : ℕ) (g : Graph) (left lower : ℕ → ℕ) (rows : Rows) → IsSameOwing g.count left lower → IsRows ports g left rows → IsRows ports g lower rows

@@ -26,6 +26,12 @@ pub record IsShaped (ports : ℕ) (rows : Rows) : Type 0 where
 abbrev pub IsBlank : Rows → Type 0
 IsBlank rows = (k e : ℕ) → owes_at rows k e ≡ 0
 
+-- no bit is set behind the rows that are in use
+pub record HoldsRows (ports : ℕ) (rows : Rows) : Type 0 where
+  pub shape : IsShaped ports rows
+  pub fits : rows.count ≤ length rows.first.items
+  pub behind : (k e : ℕ) → rows.count ≤ k → k < length rows.first.items → e < 64 * rows.width → owes_at rows k e ≡ 0
+
 -- The first ranks have rows: they follow one another, and in a row the ports of the second side rise.
 -- The bits are set exactly where a rank of the row owes.
 pub record IsRows (ports : ℕ) (g : Graph) (left : ℕ → ℕ) (rows : Rows) : Type 0 where

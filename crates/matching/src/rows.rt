@@ -1,7 +1,7 @@
 //! The ports to which the ranks of a row owe, 64 in one word.
-ghost use Rattle.std.specs.Prelude.{◌≡◌, ◌≢◌, ℕ, ◌+◌, ◌*◌, ◌<◌, ◌≤◌, IfOk, length, true};
+ghost use Rattle.std.specs.Prelude.{◌≡◌, ◌≢◌, ℕ, ◌+◌, ◌*◌, ◌<◌, ◌≤◌, ◌++◌, IfOk, drop, length, replicate, true};
 ghost use Rattle.matching.specs.Board.{IsRanks, graph_of};
-ghost use Rattle.matching.specs.Rows.{GoesOn, HasLast, IsBlank, IsLeastFree, IsOpen, IsRows, IsShaped};
+ghost use Rattle.matching.specs.Rows.{GoesOn, HasLast, HoldsRows, IsBlank, IsLeastFree, IsOpen, IsRows, IsShaped};
 
 use crate::ranks::Ranks;
 use coflow_units::NoMemory;
@@ -52,17 +52,28 @@ impl Rows {
     /// Each rank owes: makes the rows of the first ranks, as far as the room goes.
     pub fn fill(&mut self, ranks: &Ranks)
         requires ranks { IsRanks ranks.now }
-        requires shaped { IsShaped ranks.now.ports self.old }
+        requires holds { HoldsRows ranks.now.ports self.old }
         ensures rows { IsRows ranks.now.ports (graph_of ranks.now) (λ r. r + 1) self.new }
     {
-        self.owes.fill(0);
-        self.count = 0;
-        self.ranked = 0;
+        self.clear();
         for rank in 0..ranks.count {
             if !self.push(ranks, rank) {
                 return;
             }
         }
+    }
+
+    /// No rank has a row any longer. Behind the rows in use no bit is set, so that those rows alone are cleared:
+    /// where they are few, this takes little time, however great the room is.
+    fn clear(&mut self)
+        requires holds { (ports : ℕ) × HoldsRows ports self.old }
+        ensures holds { (ports : ℕ) → HoldsRows ports self.old → HoldsRows ports self.new }
+        ensures none { (self.new.count ≡ 0) × (self.new.ranked ≡ 0) }
+    {
+        let used = self.count as usize * self.width as usize;
+        clear_front(&mut self.owes, used);
+        self.count = 0;
+        self.ranked = 0;
     }
 
     /// The next rank comes into a row. The answer tells whether there was room.
@@ -182,4 +193,12 @@ impl Rows {
         }
         None
     }
+}
+
+/// So many words, the first ones, are 0 now.
+fn clear_front(words: &mut [u64], used: usize)
+    requires { used ≤ length words.old }
+    ensures { words.new ≡ replicate used 0 ++ drop used words.old }
+{
+    words[..used].fill(0);
 }

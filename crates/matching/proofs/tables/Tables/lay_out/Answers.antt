@@ -4,9 +4,12 @@ use Rattle.coflow_units.specs.declared.fabric.Flow.{Flow}
 use Rattle.matching.specs.declared.board.Board.{Board}
 use Rattle.matching.specs.declared.heads.Heads.{Heads}
 use Rattle.matching.specs.declared.ranks.Ranks.{Ranks}
-use Rattle.matching.specs.Board.{IsRanks}
+use Rattle.matching.specs.Board.{IsRanks, graph_of}
 use Rattle.matching.specs.Ranking.{IsRanking, number_of}
+use Rattle.matching.specs.Rows.{HoldsRows}
+use Rattle.matching.specs.Sound.{left_at}
 use Rattle.matching.proofs.MatchingSteps.{ranking_fits, ranking_made}
+use Rattle.matching.proofs.RowSteps.{rows_hold}
 use Rattle.matching.proofs.tables.Tables.lay_out.Goals as goal
 
 pub copy_left-requires-clause-fits : goal.copy_left-requires-clause-fits
@@ -49,6 +52,14 @@ fill-requires-clause-room c =
       ap (λ (x : Heads). length x.next.items) c.copy_left.ensures.heads,
       ranking_fits c.args.flows.now c.args.line.now (λ f. get_or c.args.left.now f 0) (length c.args.line.now) 0 c.rank.new.self c.rank.ensures.ranking,
     )
+
+pub fill-requires-clause-holds : goal.fill-requires-clause-holds
+fill-requires-clause-holds c =
+    let old = c.args.self.now in
+    let copied = c.copy_left.new.self in
+    let ports : copied.ranks.ports ≡ old.ranks.ports = ap (λ (x : Ranks). x.ports) c.copy_left.ensures.ranks ∙ c.rank.ensures.ports in
+    let held : HoldsRows old.ranks.ports old.heads.rows = rows_hold old.ranks.ports (graph_of old.ranks) (left_at old) old.heads.rows c.requires.whole.sound.rows in
+    subst (λ n. HoldsRows n copied.heads.rows) (sym ports) (subst (λ (x : Heads). HoldsRows old.ranks.ports x.rows) (sym c.copy_left.ensures.heads) held)
 
 pub returns-clause-begun : goal.returns-clause-begun
 returns-clause-begun c =
