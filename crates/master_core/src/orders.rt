@@ -3,6 +3,7 @@ ghost use Rattle.std.specs.Prelude.{◌≡◌, ℕ, ◌+◌, ◌^◌, ◌<◌, �
 ghost use Rattle.coflow_units.specs.declared.limits.TheConstants.{MAX_COFLOWS, MAX_PORTS, MAX_UNITS, MAX_WEIGHT};
 ghost use Rattle.coflow_units.specs.declared.plan.Place.{Place};
 ghost use Rattle.coflow_units.specs.Flows.{Instance, IsDistinct};
+ghost use Rattle.coflow_units.specs.Starts.{IsStarts};
 ghost use Rattle.port_load.specs.LoadTable.{IsWithin};
 ghost use Rattle.bssi_order.specs.Order.{IsOrder};
 ghost use Rattle.journal.specs.Line.{rank_in};
@@ -64,10 +65,19 @@ impl Orders {
         })
     }
 
-    /// Makes the next version: the coflows that are present are ordered by the units that their flows have left, with one weight and one mark for each coflow.
-    pub fn publish(&mut self, flows: &[Flow], left: &[u64], weights: &[u64], present: &[bool])
+    /// Makes the next version: the coflows that are present are ordered by the units that their flows have left, with one weight and one mark for each coflow. The flows stand coflow by coflow, those of each from its start on.
+    pub fn publish(
+        &mut self,
+        flows: &[Flow],
+        starts: &[u32],
+        left: &[u64],
+        weights: &[u64],
+        present: &[bool],
+    )
         requires version_fits { self.old.version + 1 < 2 ^ 32 }
         requires within { IsWithin flows.now self.old.coflows self.old.ports }
+        requires starts { IsStarts flows.now starts.now }
+        requires starts_len { length starts.now ≡ self.old.coflows + 1 }
         requires left_len { length left.now ≡ length flows.now }
         requires weights_len { length weights.now ≡ self.old.coflows }
         requires present_len { length present.now ≡ self.old.coflows }
@@ -79,7 +89,7 @@ impl Orders {
         ensures coflows_are { self.new.coflows ≡ self.old.coflows }
         ensures ports_are { self.new.ports ≡ self.old.ports }
     {
-        self.loads.fill(flows, left, present);
+        self.loads.fill_by_coflow(flows, starts, left, present);
         self.bssi.run(&mut self.loads, weights, present);
         rank_places(&mut self.ranks, self.bssi.places());
         self.version += 1;

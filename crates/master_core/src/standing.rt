@@ -131,6 +131,7 @@ impl Standing {
         }
         self.orders.publish(
             opening.table.flows(),
+            opening.table.starts(),
             self.ledger.owed_all(),
             &self.weights,
             self.roster.present(),

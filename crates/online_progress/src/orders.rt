@@ -39,7 +39,7 @@ pub fn epoch_of(
         IfOk result (λ e. e ≡ epoch_of table.now.ids time i) }
     ensures size { IsSameSize loads.old loads.new }
 {
-    loads.fill(table.flows(), left, present);
+    loads.fill_by_coflow(table.flows(), table.starts(), left, present);
     let cert = Cert::of(alloc, places)?;
     let bound = bound(loads, &cert);
     let lines = order_lines(alloc, table, places)?;

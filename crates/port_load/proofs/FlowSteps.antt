@@ -135,21 +135,21 @@ pub record FilledSoFar (old new : LoadTable) (flows : List Flow) (left : List �
       load_at new c port ≡ load (take k (flows_left left flows)) c port
   pub absent_are : (c : ℕ) (port : Port) → c < old.coflows → port.number < old.ports → is_present present c ≡ false → load_at new c port ≡ 0
 
-left_more : (flows : List Flow) (left : List ℕ) (k c : ℕ) (port : Port) → k < length flows →
+pub left_more : (flows : List Flow) (left : List ℕ) (k c : ℕ) (port : Port) → k < length flows →
     load (take (k + 1) (flows_left left flows)) c port ≡ load (take k (flows_left left flows)) c port + (if loads c port (owing_at left flows k) then slice_index left k else 0)
 left_more flows left k c port lt =
     let d : Flow = record { coflow = 0; ingress = 0; egress = 0; units = 0 } in
     load_more (flows_left left flows) k c port d (omega (arith, same_length (λ f. slice_index left f) flows))
     ∙ ap (λ (x : Flow). load (take k (flows_left left flows)) c port + (if loads c port x then x.units else 0)) (left_flow (λ f. slice_index left f) flows k d lt)
 
-other_coflow : (c u : ℕ) (port : Port) (x : Flow) → x.coflow ≢ c → (if loads c port x then u else 0) ≡ 0
+pub other_coflow : (c u : ℕ) (port : Port) (x : Flow) → x.coflow ≢ c → (if loads c port x then u else 0) ≡ 0
 other_coflow c u port x ne = ap (λ b. if (b && uses port x) then u else 0) (ne_eqb x.coflow c ne)
 
 differs : (present : List Bool) (a c : ℕ) (b : Bool) → is_present present a ≡ b → is_present present c ≡ not b → a ≢ c
 differs present a c true t f = λ e. both_ways (is_present present a) (ap (is_present present) e ∙ f) t
 differs present a c false f t = λ e. both_ways (is_present present a) f (ap (is_present present) e ∙ t)
 
-none_of : (b : Bool) (u : ℕ) → u ≡ 0 → (if b then u else 0) ≡ 0
+pub none_of : (b : Bool) (u : ℕ) → u ≡ 0 → (if b then u else 0) ≡ 0
 none_of true u e = e
 none_of false u e = refl
 

@@ -2,6 +2,7 @@
 #![tactic(auto)]
 
 mod cells;
+mod filling;
 mod greatest;
 pub mod laws;
 mod loads;

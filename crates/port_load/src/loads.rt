@@ -210,7 +210,7 @@ impl Loads {
     }
 
     /// Takes all loads away, coflow by coflow along its marks, so that the room that was written stays in use.
-    fn clear(&mut self)
+    pub(crate) fn clear(&mut self)
         ensures size { IsSameSize self.old self.new }
         ensures none { (coflow : ℕ) (port : Port) → coflow < self.old.coflows → port.number < self.old.ports →
             load_at self.new coflow port ≡ 0 }
@@ -231,7 +231,8 @@ impl Loads {
         self.by_coflow.clear();
     }
 
-    fn add(&mut self, flow: Flow)
+    /// Adds the units of a flow to the loads of its coflow on its two ports.
+    pub(crate) fn add(&mut self, flow: Flow)
         requires coflow_in { flow.coflow < self.old.coflows }
         requires ingress_in { flow.ingress < self.old.ports }
         requires egress_in { flow.egress < self.old.ports }

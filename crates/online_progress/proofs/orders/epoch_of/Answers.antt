@@ -25,12 +25,12 @@ epoch_is time ls ms m n places worth = ap (λ l. epoch time l m) places ∙ ap (
 pub bound-bound-requires-clause-certificate : goal.bound-bound-requires-clause-certificate
 bound-bound-requires-clause-certificate c =
     let (i, weights, inst, order, is, small) = c.requires.order in
-    let t = c.fill.new.self in
-    let coflows : t.coflows ≡ length c.args.present.now = c.fill.ensures.size.coflows ∙ c.requires.coflows ∙ sym c.requires.each_present in
-    let ports : t.ports ≡ c.args.table.now.ports = c.fill.ensures.size.ports ∙ c.requires.ports in
+    let t = c.fill_by_coflow.new.self in
+    let coflows : t.coflows ≡ length c.args.present.now = c.fill_by_coflow.ensures.size.coflows ∙ c.requires.coflows ∙ sym c.requires.each_present in
+    let ports : t.ports ≡ c.args.table.now.ports = c.fill_by_coflow.ensures.size.ports ∙ c.requires.ports in
     let filled : (x : ℕ) (port : Port) → x < t.coflows → port.number < t.ports → is_present c.args.present.now x ≡ true →
     load_at t x port ≡ load (with_units (λ f. slice_index c.args.left.now f) c.args.table.now.flows) x port =
-    λ x port lt lt' yes. c.fill.ensures.present_are x port (omega (arith, lt, c.fill.ensures.size.coflows)) (omega (arith, lt', c.fill.ensures.size.ports)) yes ∙
+    λ x port lt lt' yes. c.fill_by_coflow.ensures.present_are x port (omega (arith, lt, c.fill_by_coflow.ensures.size.coflows)) (omega (arith, lt', c.fill_by_coflow.ensures.size.ports)) yes ∙
     ap (λ (fs : List Flow). load (with_units (λ f. slice_index c.args.left.now f) fs) x port) c.flows.ensures.flows in
     subst (IsCertificateOf t) (sym c.in_ok-cert.ensures.from_last)
     (certificate i c.args.table.now.flows c.args.left.now weights c.args.present.now c.args.table.now.ports c.args.places.now inst order is t coflows ports filled)
@@ -38,12 +38,12 @@ bound-bound-requires-clause-certificate c =
 pub bound-bound-requires-clause-feasible : goal.bound-bound-requires-clause-feasible
 bound-bound-requires-clause-feasible c =
     let (i, weights, inst, order, is, small) = c.requires.order in
-    let t = c.fill.new.self in
-    let coflows : t.coflows ≡ length c.args.present.now = c.fill.ensures.size.coflows ∙ c.requires.coflows ∙ sym c.requires.each_present in
-    let ports : t.ports ≡ c.args.table.now.ports = c.fill.ensures.size.ports ∙ c.requires.ports in
+    let t = c.fill_by_coflow.new.self in
+    let coflows : t.coflows ≡ length c.args.present.now = c.fill_by_coflow.ensures.size.coflows ∙ c.requires.coflows ∙ sym c.requires.each_present in
+    let ports : t.ports ≡ c.args.table.now.ports = c.fill_by_coflow.ensures.size.ports ∙ c.requires.ports in
     let filled : (x : ℕ) (port : Port) → x < t.coflows → port.number < t.ports → is_present c.args.present.now x ≡ true →
     load_at t x port ≡ load (with_units (λ f. slice_index c.args.left.now f) c.args.table.now.flows) x port =
-    λ x port lt lt' yes. c.fill.ensures.present_are x port (omega (arith, lt, c.fill.ensures.size.coflows)) (omega (arith, lt', c.fill.ensures.size.ports)) yes ∙
+    λ x port lt lt' yes. c.fill_by_coflow.ensures.present_are x port (omega (arith, lt, c.fill_by_coflow.ensures.size.coflows)) (omega (arith, lt', c.fill_by_coflow.ensures.size.ports)) yes ∙
     ap (λ (fs : List Flow). load (with_units (λ f. slice_index c.args.left.now f) fs) x port) c.flows.ensures.flows in (
       weights,
       small,
@@ -59,12 +59,12 @@ order_lines-requires c =
 
 pub returns-clause-epoch : goal.returns-clause-epoch
 returns-clause-epoch c = λ i weights inst order is.
-    let t = c.fill.new.self in
-    let coflows : t.coflows ≡ length c.args.present.now = c.fill.ensures.size.coflows ∙ c.requires.coflows ∙ sym c.requires.each_present in
-    let ports : t.ports ≡ c.args.table.now.ports = c.fill.ensures.size.ports ∙ c.requires.ports in
+    let t = c.fill_by_coflow.new.self in
+    let coflows : t.coflows ≡ length c.args.present.now = c.fill_by_coflow.ensures.size.coflows ∙ c.requires.coflows ∙ sym c.requires.each_present in
+    let ports : t.ports ≡ c.args.table.now.ports = c.fill_by_coflow.ensures.size.ports ∙ c.requires.ports in
     let filled : (x : ℕ) (port : Port) → x < t.coflows → port.number < t.ports → is_present c.args.present.now x ≡ true →
     load_at t x port ≡ load (with_units (λ f. slice_index c.args.left.now f) c.args.table.now.flows) x port =
-    λ x port lt lt' yes. c.fill.ensures.present_are x port (omega (arith, lt, c.fill.ensures.size.coflows)) (omega (arith, lt', c.fill.ensures.size.ports)) yes ∙
+    λ x port lt lt' yes. c.fill_by_coflow.ensures.present_are x port (omega (arith, lt, c.fill_by_coflow.ensures.size.coflows)) (omega (arith, lt', c.fill_by_coflow.ensures.size.ports)) yes ∙
     ap (λ (fs : List Flow). load (with_units (λ f. slice_index c.args.left.now f) fs) x port) c.flows.ensures.flows in
     let same : entries_of c.args.places.now ≡ the_ordering i = is_ordering i c.args.table.now.flows c.args.left.now weights c.args.present.now c.args.table.now.ports
     c.args.places.now inst order is in

@@ -13,8 +13,8 @@ pub rank_places-requires-clause-few : goal.rank_places-requires-clause-few
 rank_places-requires-clause-few c =
     let s = c.self.inside in
     let len = c.requires.present_len ∙ sym (ap (λ (v : Published). v.coflows) c.self.view_is) in
-    let order = order_is_made c.args.flows.now c.args.left.now c.args.weights.now c.args.present.now s.loads c.fill.new.self c.run.new.self.places c.run.ensures.order
-    c.fill.ensures.size len c.fill.ensures.present_are in
+    let order = order_is_made c.args.flows.now c.args.left.now c.args.weights.now c.args.present.now s.loads c.fill_by_coflow.new.self c.run.new.self.places c.run.ensures.order
+    c.fill_by_coflow.ensures.size len c.fill_by_coflow.ensures.present_are in
     omega (
       arith,
       places_few (left_of c.args.flows.now c.args.left.now c.args.weights.now c.args.present.now s.loads.ports) c.run.new.self.places c.args.present.now order refl,
@@ -27,8 +27,8 @@ pub rank_places-requires-clause-once : goal.rank_places-requires-clause-once
 rank_places-requires-clause-once c =
     let s = c.self.inside in
     let len = c.requires.present_len ∙ sym (ap (λ (v : Published). v.coflows) c.self.view_is) in
-    let order = order_is_made c.args.flows.now c.args.left.now c.args.weights.now c.args.present.now s.loads c.fill.new.self c.run.new.self.places c.run.ensures.order
-    c.fill.ensures.size len c.fill.ensures.present_are in
+    let order = order_is_made c.args.flows.now c.args.left.now c.args.weights.now c.args.present.now s.loads c.fill_by_coflow.new.self c.run.new.self.places c.run.ensures.order
+    c.fill_by_coflow.ensures.size len c.fill_by_coflow.ensures.present_are in
     subst (λ (l : List Place). IsDistinct (ranked l)) (sym c.places.ensures)
     (places_once (left_of c.args.flows.now c.args.left.now c.args.weights.now c.args.present.now s.loads.ports) c.run.new.self.places order)
 
@@ -36,8 +36,8 @@ pub rank_places-requires-clause-coflow : goal.rank_places-requires-clause-coflow
 rank_places-requires-clause-coflow c =
     let s = c.self.inside in
     let len = c.requires.present_len ∙ sym (ap (λ (v : Published). v.coflows) c.self.view_is) in
-    let order = order_is_made c.args.flows.now c.args.left.now c.args.weights.now c.args.present.now s.loads c.fill.new.self c.run.new.self.places c.run.ensures.order
-    c.fill.ensures.size len c.fill.ensures.present_are in
+    let order = order_is_made c.args.flows.now c.args.left.now c.args.weights.now c.args.present.now s.loads c.fill_by_coflow.new.self c.run.new.self.places c.run.ensures.order
+    c.fill_by_coflow.ensures.size len c.fill_by_coflow.ensures.present_are in
     let n : length c.args.present.now ≡ length c.deref_mut.result.now = len ∙ sym (ap (λ (l : List ℕ). length l) c.deref_mut.ensures.value ∙ c.self.invariant.ranks_len) in
     subst (λ (l : List Place). All (λ (x : Place). x.coflow < length c.deref_mut.result.now) l) (sym c.places.ensures)
     (subst (λ m. All (λ (x : Place). x.coflow < m) c.run.new.self.places) n
@@ -47,10 +47,10 @@ pub invariant_of-self : goal.invariant_of-self
 invariant_of-self c =
     let s = c.self.inside in
     let len = c.requires.present_len ∙ sym (ap (λ (v : Published). v.coflows) c.self.view_is) in
-    let order = order_is_made c.args.flows.now c.args.left.now c.args.weights.now c.args.present.now s.loads c.fill.new.self c.run.new.self.places c.run.ensures.order
-    c.fill.ensures.size len c.fill.ensures.present_are in
+    let order = order_is_made c.args.flows.now c.args.left.now c.args.weights.now c.args.present.now s.loads c.fill_by_coflow.new.self c.run.new.self.places c.run.ensures.order
+    c.fill_by_coflow.ensures.size len c.fill_by_coflow.ensures.present_are in
     let i = left_of c.args.flows.now c.args.left.now c.args.weights.now c.args.present.now s.loads.ports in
-    let coflows = c.run.ensures.size.coflows ∙ c.fill.ensures.size.coflows in
+    let coflows = c.run.ensures.size.coflows ∙ c.fill_by_coflow.ensures.size.coflows in
     let same = ap (λ (l : List ℕ). length l) c.deref_mut.ensures.value in
     let n : length c.rank_places.new.ranks ≡ s.ranks.len = c.rank_places.auto.ranks ∙ c.deref_mut.ensures.len in
     let back = written_back s.ranks.len c.rank_places.new.ranks s.ranks.items n in
@@ -71,7 +71,7 @@ pub returns-clause-order : goal.returns-clause-order
 returns-clause-order c = λ i left.
     let s = c.self.inside in
     let ports = ap (λ (v : Published). v.ports) c.self.view_is in
-    c.run.ensures.order i (filled_is_left i c.args.flows.now c.args.left.now c.args.weights.now c.args.present.now s.loads c.fill.new.self
-    (subst (λ n. IsLeft i c.args.flows.now c.args.left.now c.args.weights.now c.args.present.now n) (sym ports) left) c.fill.ensures.size
+    c.run.ensures.order i (filled_is_left i c.args.flows.now c.args.left.now c.args.weights.now c.args.present.now s.loads c.fill_by_coflow.new.self
+    (subst (λ n. IsLeft i c.args.flows.now c.args.left.now c.args.weights.now c.args.present.now n) (sym ports) left) c.fill_by_coflow.ensures.size
     (c.requires.present_len ∙ sym (ap (λ (v : Published). v.coflows) c.self.view_is))
-    c.fill.ensures.present_are)
+    c.fill_by_coflow.ensures.present_are)
