@@ -1,14 +1,8 @@
 pub mod FirstReasons
 pub mod InRanges
 pub mod KeptRuns
-pub mod KnownIds
-pub mod OrderSteps
 pub mod OneVerdict
-pub mod Partings
-pub mod PullSteps
-pub mod RankSteps
 pub mod ReplaySteps
-pub mod RunPartings
 pub mod Refusals
 pub mod StatedSteps
 pub mod YesSteps

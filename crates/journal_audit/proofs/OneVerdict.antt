@@ -14,16 +14,16 @@ use Rattle.live_text.specs.declared.value.EntryLine.{EntryLine}
 use Rattle.live_text.specs.declared.value.Live.{Live}
 use Rattle.live_text.specs.declared.value.PullLine.{PullLine}
 use Rattle.live_text.specs.declared.value.Said.{Said}
+use Rattle.journal_claims.specs.Parted.{IsFirstPlace, IsPartedAt}
+use Rattle.journal_claims.specs.Pulls.{IsFirstWrongRank, IsFirstWrongVersion, pull_at, real_rank}
+use Rattle.journal_claims.specs.Orders.{orders_of}
+use Rattle.journal_claims.proofs.Partings.{same_some}
 use Rattle.journal_audit.specs.declared.verdict.Audit.{Audit}
 use Rattle.journal_audit.specs.declared.verdict.Audit.TheVariants.{No, Yes}
 use Rattle.journal_audit.specs.declared.verdict.AuditReason.{AuditReason}
 use Rattle.journal_audit.specs.declared.verdict.AuditReason.TheVariants.{NoClose, NoEntry, NoId, NoOrder, NoPull, NoRun, NoVersion}
-use Rattle.journal_audit.specs.Parted.{IsFirstPlace, IsPartedAt}
-use Rattle.journal_audit.specs.Pulls.{IsFirstWrongRank, IsFirstWrongVersion, pull_at, real_rank}
 use Rattle.journal_audit.specs.Reasons.{HasReasonFor, IsAudit, IsFirstReasonFor, IsFirstUnknown, IsFirstWrongEntry, kind, line_at}
-use Rattle.journal_audit.specs.Sound.{orders_of}
 use Rattle.journal_audit.specs.Stated.{command_for, entry_for, opening_for, reply_for, stated_by}
-use Rattle.journal_audit.proofs.Partings.{same_some}
 use Rattle.journal_audit.proofs.Refusals.{entry_at, none_of_right}
 
 -- ---- of each kind the first is one

@@ -15,10 +15,11 @@ use Rattle.live_text.specs.Live.{IsEntry}
 use Rattle.journal_replay.specs.Replay.{IsPlainCommand, IsReplay}
 use Rattle.journal_replay.proofs.ClosingRuns.{room_least}
 use Rattle.journal_replay.proofs.EntriesAnew.{none_anew, one_more}
+use Rattle.journal_claims.specs.Orders.{AreOrders}
+use Rattle.journal_claims.specs.Ranks.{AreRanks}
 use Rattle.journal_audit.specs.declared.replay.Replayed.{Replayed}
-use Rattle.journal_audit.specs.Orders.{AreOrders}
 use Rattle.journal_audit.specs.Reasons.{IsFirstWrongEntry, line_at}
-use Rattle.journal_audit.specs.Replayed.{AreRanks, IsReplayed}
+use Rattle.journal_audit.specs.Replayed.{IsReplayed}
 use Rattle.journal_audit.specs.Stated.{IsKnown, command_for, entry_for, reply_for, stated_by}
 use Rattle.journal_audit.proofs.InRanges.{plain_for, range_for}
 use Rattle.journal_audit.proofs.Refusals.{entry_at}

@@ -1,9 +1,6 @@
 pub mod Stated
-pub mod Parted
-pub mod Pulls
 pub mod Sound
 pub mod Reasons
 pub mod Looked
-pub mod Orders
 pub mod Replayed
 pub mod Line

@@ -16,14 +16,15 @@ use Rattle.live_text.specs.declared.value.Said.{Said}
 use Rattle.live_text.specs.declared.value.Said.TheVariants.{Joined}
 use Rattle.live_text.specs.declared.value.Word.TheVariants.{Publish}
 use Rattle.schedule_model.specs.RunList.{slots_in}
+use Rattle.journal_claims.specs.Parted.{IsFirstWrongOrder, IsPartedAt}
+use Rattle.journal_claims.specs.Pulls.{IsFirstWrongRank, IsFirstWrongVersion}
+use Rattle.journal_claims.specs.Orders.{orders_of}
 use Rattle.journal_audit.specs.declared.verdict.Audit.{Audit}
 use Rattle.journal_audit.specs.declared.verdict.Audit.TheVariants.{Yes, No}
 use Rattle.journal_audit.specs.declared.verdict.AuditReason.{AuditReason}
 use Rattle.journal_audit.specs.declared.verdict.AuditReason.TheVariants.{NoId, NoEntry, NoClose, NoOrder, NoPull, NoVersion}
 use Rattle.journal_audit.specs.declared.verdict.AuditReason.TheVariants.{NoRun}
-use Rattle.journal_audit.specs.Parted.{IsFirstWrongOrder, IsPartedAt}
-use Rattle.journal_audit.specs.Pulls.{IsFirstWrongRank, IsFirstWrongVersion}
-use Rattle.journal_audit.specs.Sound.{IsSoundLive, orders_of}
+use Rattle.journal_audit.specs.Sound.{IsSoundLive}
 use Rattle.journal_audit.specs.Stated.{IsKnown, command_for, journal_in, opening_for, reply_for}
 
 abbrev pub line_at : List EntryLine → ℕ → EntryLine

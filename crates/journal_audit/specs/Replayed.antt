@@ -1,27 +1,16 @@
 -- What is taken down while a master answers the entries of a printed journal.
-use Rattle.std.specs.Prelude.{◌≡◌, ℕ, ◌+◌, ◌<◌, List, Option, length, nat_eq, unwrap_or}
-use Rattle.std.specs.List.{slice_index_or}
+use Rattle.std.specs.Prelude.{ℕ, List, nat_eq}
 use Rattle.indexmap.specs.IndexMap.{get}
 use Rattle.journal.specs.declared.command.Entry.{Entry}
 use Rattle.journal.specs.declared.opening.Opening.{Opening}
-use Rattle.journal.specs.Journal.{rank_of, version_of}
 use Rattle.journal_replay.specs.Replay.{IsReplay}
 use Rattle.live_text.specs.declared.value.EntryLine.{EntryLine}
+use Rattle.journal_claims.specs.Orders.{AreOrders}
+use Rattle.journal_claims.specs.Ranks.{AreRanks}
 use Rattle.journal_audit.specs.declared.replay.Replayed.{Replayed}
 use Rattle.journal_audit.specs.declared.replay.WrongEntry.{WrongEntry}
-use Rattle.journal_audit.specs.Orders.{AreOrders}
 use Rattle.journal_audit.specs.Reasons.{IsFirstWrongEntry}
 use Rattle.journal_audit.specs.Stated.{stated_by}
-
--- what a lookup tells, and 0 where it finds nothing
-abbrev pub told : Option ℕ → ℕ
-told found = unwrap_or found 0
-
--- there is a table for each version that the journal makes, which tells the rank of each coflow in its order
-abbrev pub AreRanks : {M : Type 0} → (M → ℕ → Option ℕ) → Opening → List Entry → List M → Type 0
-AreRanks {M} find o journal tables =
-    (length tables ≡ version_of journal) × ((k coflow : ℕ) (d : M) → k < version_of journal →
-    told (find (slice_index_or tables k d) coflow) ≡ rank_of o journal (k + 1) coflow)
 
 -- The slots are those of a replay of the journal, the tables tell the ranks in its versions, and its orders are the
 -- stated ones, or the first wrong one is told.

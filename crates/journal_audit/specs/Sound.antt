@@ -1,26 +1,18 @@
 -- What a printed journal must say to be right, whoever made it.
-use Rattle.std.specs.Prelude.{◌≡◌, ℕ, ◌<◌, List, All, None, length, map, slice_index}
-use Rattle.std.specs.List.{range_with_len}
+use Rattle.std.specs.Prelude.{◌≡◌, ℕ, ◌<◌, List, All, None, length}
 use Rattle.flow_table.specs.Table.{TableFacts}
 use Rattle.journal.specs.declared.command.Entry.{Entry}
 use Rattle.journal.specs.declared.opening.Opening.{Opening}
 use Rattle.journal.specs.Closed.{schedule_of}
 use Rattle.journal.specs.Fold.{state_of}
-use Rattle.journal.specs.Journal.{IsLegal, order_in, version_of}
+use Rattle.journal.specs.Journal.{IsLegal, version_of}
 use Rattle.live_text.specs.declared.value.EntryLine.{EntryLine}
 use Rattle.live_text.specs.declared.value.Live.{Live}
 use Rattle.live_text.specs.declared.value.PullLine.{PullLine}
 use Rattle.schedule_model.specs.RunList.{slots_in}
-use Rattle.journal_audit.specs.Pulls.{HasVersion, real_rank}
+use Rattle.journal_claims.specs.Orders.{orders_of}
+use Rattle.journal_claims.specs.Pulls.{HasVersion, real_rank}
 use Rattle.journal_audit.specs.Stated.{IsKnown, journal_in, opening_for}
-
--- the ids of the order of a version
-abbrev pub order_ids : Opening → List Entry → ℕ → List ℕ
-order_ids o journal v = map (λ c. slice_index o.table.ids c) (order_in o journal v)
-
--- the orders of the versions that the journal makes, from version 1 on, by their ids
-abbrev pub orders_of : Opening → List Entry → List (List ℕ)
-orders_of o journal = map (order_ids o journal) (range_with_len 1 (version_of journal))
 
 -- The text is right for this opening and the journal that its entries state. The ids of the entries are coflows'. The
 -- journal is legal, and no run is open at its end. The orders are those of its versions, one for each. Each pull is told

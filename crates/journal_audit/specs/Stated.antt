@@ -1,5 +1,5 @@
 -- The journal that the entries of a printed journal state, and what it begins with.
-use Rattle.std.specs.Prelude.{◌≡◌, ℕ, ◌==◌, max, List, Option, Contains, length, map, position}
+use Rattle.std.specs.Prelude.{ℕ, max, List, Contains, length, map}
 use Rattle.cert_check.specs.Places.{coflow_with}
 use Rattle.flow_table.specs.Table.{TableFacts}
 use Rattle.journal.specs.declared.command.Command.{Command}
@@ -65,7 +65,3 @@ opening_for t weights l = record { table = t; weights = weights; limit = max (le
 -- the journal that the text states
 abbrev pub journal_in : TableFacts → Live → List Entry
 journal_in t l = stated_by t.ids l.entries
-
--- the answers of a lookup by ids are the coflows that have them, by number
-abbrev pub Finds : List ℕ → (ℕ → Option ℕ) → Type 0
-Finds ids find = (id : ℕ) → find id ≡ position (λ x. x == id) ids

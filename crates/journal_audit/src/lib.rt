@@ -2,13 +2,8 @@
 #![tactic(auto)]
 
 mod auditing;
-mod ids;
 pub mod laws;
 mod line;
-mod orders;
-mod parts;
-mod pulls;
-mod ranks;
 mod reasons;
 mod replay;
 mod stated;

@@ -11,12 +11,11 @@ ghost use Rattle.journal_replay.specs.Replay.{IsPlainCommand};
 ghost use Rattle.journal_audit.specs.Replayed.{IsReplayed, IsWrongEntry};
 ghost use Rattle.journal_audit.specs.Stated.{IsKnown, command_for, stated_by};
 
-use crate::orders::{WrongOrder, wrong_order_after};
-use crate::ranks::rank_newest;
 use crate::stated::reply_of;
 use coflow_units::{Items, NoMemory};
 use indexmap::IndexMap;
 use journal::{Command, Reply};
+use journal_claims::{WrongOrder, rank_newest, wrong_order_after};
 use journal_replay::answer;
 use live_text::{EntryLine, Said};
 use master_core::Master;

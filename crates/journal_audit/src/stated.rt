@@ -3,12 +3,14 @@ ghost use Rattle.std.specs.Prelude.{◌≡◌, ◌≤◌, ℕ, Contains, IfOk, L
 ghost use Rattle.indexmap.specs.IndexMap.{get};
 ghost use Rattle.cert_check.specs.Places.{coflow_with};
 ghost use Rattle.live_text.specs.declared.limits.TheConstants.{MAX_ENTRIES};
+ghost use Rattle.journal_claims.specs.Ids.{Finds};
 ghost use Rattle.journal_audit.specs.Looked.{IsStated};
-ghost use Rattle.journal_audit.specs.Stated.{Finds, IsKnown, command_for, reply_for};
+ghost use Rattle.journal_audit.specs.Stated.{IsKnown, command_for, reply_for};
 
 use coflow_units::NoMemory;
 use indexmap::IndexMap;
 use journal::{Command, Reply};
+use journal_claims::found;
 use live_text::{EntryLine, Said, Word};
 use std::alloc::Global;
 
@@ -64,16 +66,6 @@ fn coflow_of(coflows: &IndexMap<u32, u32>, id: u32) -> Option<u32>
         MatchOption result (Contains ids id → ⊥) (λ coflow. Contains ids id × (coflow ≡ coflow_with ids id)) }
 {
     found(coflows, id)
-}
-
-/// What is found under the id.
-pub(crate) fn found(coflows: &IndexMap<u32, u32>, id: u32) -> Option<u32>
-    ensures { result ≡ get nat_eq coflows.now id }
-{
-    match coflows.get(&id) {
-        Some(coflow) => Some(*coflow),
-        None => None,
-    }
 }
 
 /// The reply that the words of an entry state.
