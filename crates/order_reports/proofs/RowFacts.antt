@@ -9,12 +9,12 @@ use Rattle.coflow_units.specs.Schedule.{IsValid}
 use Rattle.coflow_units.proofs.ServedLaws.{served_valid}
 use Rattle.flow_table.specs.Table.{TableFacts, instance_of}
 use Rattle.rankers.specs.declared.row.Row.{Row}
-use Rattle.rankers.specs.declared.row.Scored.{Scored}
-use Rattle.rankers.specs.declared.row.Scored.TheVariants as scored
+use Rattle.order_scores.specs.declared.scored.Scored.{Scored}
+use Rattle.order_scores.specs.declared.scored.Scored.TheVariants as scored
 use Rattle.rankers.specs.FactsTold.{FactsTold}
 use Rattle.rankers.specs.Meaning.{Meaning}
 use Rattle.rankers.specs.Rounds.{IsRowsFrom}
-use Rattle.rankers.specs.Scores.{IsScore}
+use Rattle.order_scores.specs.Scores.{IsScore}
 use Rattle.report.specs.declared.compared.Compare.{Compare}
 use Rattle.report.specs.declared.compared.RowLine.{RowLine}
 use Rattle.order_reports.specs.Comparison.{CostsAtLeast, IsBelowCosts, IsComparison, line_of, names_of, worth_of}

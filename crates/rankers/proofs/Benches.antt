@@ -6,7 +6,7 @@ use Rattle.std.proofs.lemmas.List.{drop-drop, get_or-drop, length-drop, take_mor
 use Rattle.std.proofs.lemmas.List.Elements.{All-push}
 use Rattle.coflow_units.specs.Flows.{Instance}
 use Rattle.rankers.specs.declared.row.Row.{Row}
-use Rattle.rankers.specs.declared.row.Scored.{Scored}
+use Rattle.order_scores.specs.declared.scored.Scored.{Scored}
 use Rattle.coflow_facts.specs.FactsTold.{FactsTold}
 use Rattle.ranker_kinds.specs.Meaning.{Meaning}
 use Rattle.rankers.specs.Rounds.{IsRounds, IsRowsFrom}

@@ -4,11 +4,11 @@ use Rattle.coflow_units.specs.Completion.{completion}
 use Rattle.coflow_units.specs.declared.fabric.Flow.{Flow}
 use Rattle.coflow_units.specs.Flows.{Instance}
 use Rattle.rankers.specs.declared.row.Row.{Row}
-use Rattle.rankers.specs.declared.row.Scored.{Scored}
+use Rattle.order_scores.specs.declared.scored.Scored.{Scored}
 use Rattle.ranker_kinds.specs.ByKey.{by_key}
 use Rattle.coflow_facts.specs.FactsTold.{FactsTold}
 use Rattle.ranker_kinds.specs.Meaning.{Meaning, after_notes, after_question, answer_of}
-use Rattle.rankers.specs.Scores.{IsFirstUnfit, IsScore, IsServedOrder}
+use Rattle.order_scores.specs.Scores.{IsFirstUnfit, IsScore, IsServedOrder}
 
 -- it was told the completion of each of so many coflows, by completion and then by number
 abbrev pub after_completions : List Flow → ℕ → Meaning → List (List ℕ) → Meaning

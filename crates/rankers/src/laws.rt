@@ -2,11 +2,10 @@
 ghost use Rattle.std.specs.Prelude.{◌≡◌, ℕ, List};
 ghost use Rattle.coflow_units.specs.Flows.{Instance};
 ghost use Rattle.rankers.specs.declared.row.Row.{Row};
-ghost use Rattle.rankers.specs.declared.row.Scored.{Scored};
+ghost use Rattle.order_scores.specs.declared.scored.Scored.{Scored};
 ghost use Rattle.coflow_facts.specs.FactsTold.{FactsTold};
 ghost use Rattle.ranker_kinds.specs.Meaning.{Meaning};
 ghost use Rattle.rankers.specs.Rounds.{IsRounds, IsRowsFrom};
-ghost use Rattle.rankers.specs.Rows.{UnfitRows};
 
 /// What the rounds of a ranker are worth depends on its own meaning and the facts alone: not on its place, nor on the other rankers.
 pub fn rounds_are_one()
@@ -16,9 +15,4 @@ pub fn rounds_are_one()
         IsRounds i facts m first second → IsRounds i facts m other_first other_second → second ≡ other_second }
     ensures rows { (i : Instance) (facts : FactsTold) (index : ℕ) (ms : List Meaning) (rows other_rows : List Row) →
         IsRowsFrom i facts index ms rows → IsRowsFrom i facts index ms other_rows → rows ≡ other_rows }
-{}
-
-/// Places at which an answer is no order are as they were worked out by hand.
-pub fn rows_hold()
-    ensures { UnfitRows }
 {}

@@ -5,9 +5,9 @@ mod comparing;
 pub mod laws;
 mod rounds;
 mod row;
-mod scoring;
 
 pub use coflow_facts::{Facts, loads_of, order_of};
 pub use comparing::compare;
+pub use order_scores::Scored;
 pub use ranker_kinds::{Attained, Bssi0, Fifo, Ranker, Sebf};
-pub use row::{Row, Scored};
+pub use row::Row;

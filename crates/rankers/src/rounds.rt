@@ -6,14 +6,13 @@ ghost use Rattle.coflow_facts.specs.FactsTold.{coflows_in};
 ghost use Rattle.ranker_kinds.specs.Meaning.{after_note, after_notes, after_question, answer_of};
 ghost use Rattle.ranker_kinds.specs.ByKey.{by_key, key_in};
 ghost use Rattle.rankers.specs.Rounds.{IsRounds, IsToldOf, after_completions};
-ghost use Rattle.rankers.specs.Scores.{IsScore, IsServedOrder};
+ghost use Rattle.order_scores.specs.Scores.{IsScore, IsServedOrder};
 ghost use Rattle.schedule_model.specs.RunList.{NamesFlows};
 
-use crate::row::Scored;
-use crate::scoring::{Judged, judge, score};
 use coflow_facts::Facts;
 use coflow_units::NoMemory;
 use flow_table::Table;
+use order_scores::{Judged, Scored, judge, score};
 use ranker_kinds::{Ranker, fill_by_key};
 use schedule_model::{Schedule, completions, cost};
 use std::alloc::Global;

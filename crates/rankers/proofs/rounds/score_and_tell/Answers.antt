@@ -1,5 +1,6 @@
 use Rattle.std.proofs.Common.{inr, refl}
-use Rattle.rankers.proofs.ServedOrders.{judged_names, judged_score, judged_told, judged_unfit}
+use Rattle.order_scores.proofs.ServedOrders.{judged_names, judged_score, judged_unfit}
+use Rattle.rankers.proofs.ToldOrders.{judged_told}
 use Rattle.rankers.proofs.rounds.score_and_tell.Goals as goal
 
 pub tell-requires-clause-names : goal.tell-requires-clause-names

@@ -4,10 +4,10 @@ ghost use Rattle.std.specs.List.{slice_index_or};
 ghost use Rattle.coflow_units.specs.declared.limits.TheConstants.{MAX_WEIGHT};
 ghost use Rattle.class_rates.specs.Classes.{IsPermutation};
 ghost use Rattle.flow_table.specs.Table.{instance_of};
-ghost use Rattle.rankers.specs.Scores.{IsFirstUnfit, IsScore};
-ghost use Rattle.rankers.specs.Served.{IsJudged};
+ghost use Rattle.order_scores.specs.Scores.{IsFirstUnfit, IsScore};
+ghost use Rattle.order_scores.specs.Served.{IsJudged};
 
-use crate::row::Scored;
+use crate::scored::Scored;
 use coflow_units::NoMemory;
 use flow_table::Table;
 use schedule_model::{Schedule, cost};
@@ -16,13 +16,13 @@ use std::alloc::Global;
 
 /// What becomes of an answer: the schedule that serves it, where it is an order of the coflows, or the first place at which it is none.
 #[derive(Drop)]
-pub(crate) enum Judged {
+pub enum Judged {
     Served(Schedule),
     Unfit(u32),
 }
 
 /// Serves the answer, which has one number for each coflow of the table.
-pub(crate) fn judge(alloc: Global, table: &Table, order: &[u32]) -> Result<Judged, NoMemory>
+pub fn judge(alloc: Global, table: &Table, order: &[u32]) -> Result<Judged, NoMemory>
     requires { length order.now ≡ length table.now.ids }
     ensures { IfOk result (λ judged. IsJudged table.now order.now judged) }
 {
@@ -34,7 +34,7 @@ pub(crate) fn judge(alloc: Global, table: &Table, order: &[u32]) -> Result<Judge
 }
 
 /// What the answer is worth.
-pub(crate) fn score(
+pub fn score(
     alloc: Global,
     table: &Table,
     weights: &[u64],

@@ -1,7 +1,7 @@
 use Rattle.std.proofs.Common.{◌≡◌, ◌+◌, ◌<◌, List, Bool, true, false, get_or, length, refl, sym, ap, subst, ◌∙◌, arith}
-use Rattle.rankers.specs.Scores.{IsFirstUnfit}
-use Rattle.rankers.proofs.Permutations.{new_is_permutation, repeated_unfit, seen_more}
-use Rattle.rankers.proofs.scoring.first_unfit.Goals as goal
+use Rattle.order_scores.specs.Scores.{IsFirstUnfit}
+use Rattle.order_scores.proofs.Permutations.{new_is_permutation, repeated_unfit, seen_more}
+use Rattle.order_scores.proofs.scoring.first_unfit.Goals as goal
 
 pub returns-then-repeated : goal.returns-then-repeated
 returns-then-repeated c =

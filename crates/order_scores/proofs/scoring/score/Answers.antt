@@ -1,5 +1,5 @@
-use Rattle.rankers.proofs.ServedOrders.{judged_names, judged_score, judged_unfit}
-use Rattle.rankers.proofs.scoring.score.Goals as goal
+use Rattle.order_scores.proofs.ServedOrders.{judged_names, judged_score, judged_unfit}
+use Rattle.order_scores.proofs.scoring.score.Goals as goal
 
 pub cost-requires-clause-names : goal.cost-requires-clause-names
 cost-requires-clause-names c = judged_names c.args.table.now c.args.order.now c.in_ok-schedule.field-0 c.in-Served.schedule c.flows.result.now c.flows.ensures.flows c.in-Served.is

@@ -1,6 +1,6 @@
 -- Unfit answers, worked out by hand.
 use Rattle.std.specs.Prelude.{[], ◌∷◌}
-use Rattle.rankers.specs.Scores.{IsFirstUnfit}
+use Rattle.order_scores.specs.Scores.{IsFirstUnfit}
 
 -- a number that stood earlier, and one that is no coflow's
 pub record UnfitRows : Type 0 where

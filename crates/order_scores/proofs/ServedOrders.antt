@@ -1,5 +1,5 @@
 -- What becomes of an answer, and what it is worth.
-use Rattle.std.proofs.Common.{◌≡◌, ℕ, inl, List, length, sym, ap, subst, ◌∙◌}
+use Rattle.std.proofs.Common.{◌≡◌, ℕ, List, length, sym, ap, subst, ◌∙◌}
 use Rattle.std.specs.Prelude.{slice_index}
 use Rattle.std.specs.List.{range_with_len}
 use Rattle.std.proofs.lemmas.List.FromFn.{length-range_with_len}
@@ -12,13 +12,11 @@ use Rattle.flow_table.specs.Table.{TableFacts, instance_of}
 use Rattle.schedule_model.specs.RunList.{NamesFlows}
 use Rattle.schedule_model.specs.Weights.{weighted_cost}
 use Rattle.schedule_model.proofs.ValidSteps.{valid_names}
-use Rattle.rankers.specs.declared.row.Scored.TheVariants.{Cost}
-use Rattle.rankers.specs.declared.scoring.Judged.{Judged}
-use Rattle.rankers.specs.declared.scoring.Judged.TheVariants.{Served, Unfit}
-use Rattle.ranker_kinds.specs.Meaning.{Meaning}
-use Rattle.rankers.specs.Rounds.{IsToldOf, after_completions}
-use Rattle.rankers.specs.Scores.{IsFirstUnfit, IsScore, IsServedOrder}
-use Rattle.rankers.specs.Served.{IsJudged}
+use Rattle.order_scores.specs.declared.scored.Scored.TheVariants.{Cost}
+use Rattle.order_scores.specs.declared.scoring.Judged.{Judged}
+use Rattle.order_scores.specs.declared.scoring.Judged.TheVariants.{Served, Unfit}
+use Rattle.order_scores.specs.Scores.{IsFirstUnfit, IsScore, IsServedOrder}
+use Rattle.order_scores.specs.Served.{IsJudged}
 
 pub judged_served : (t : TableFacts) (order : List ℕ) (judged : Judged) (slots : List (List ℕ)) → judged ≡ Served slots → IsJudged t order judged →
     IsPermutation order × IsServed t.flows order slots
@@ -35,7 +33,7 @@ pub judged_names : (t : TableFacts) (order : List ℕ) (judged : Judged) (slots 
 judged_names t order judged slots flows same is holds =
     subst (λ fs. NamesFlows (length fs) slots) (sym same) (valid_names t.flows slots (served_valid t.flows order slots (judged_served t order judged slots is holds).1))
 
-served_order : (t : TableFacts) (weights order : List ℕ) (judged : Judged) (slots : List (List ℕ)) → length order ≡ length t.ids → judged ≡ Served slots → IsJudged t order judged →
+pub served_order : (t : TableFacts) (weights order : List ℕ) (judged : Judged) (slots : List (List ℕ)) → length order ≡ length t.ids → judged ≡ Served slots → IsJudged t order judged →
     IsServedOrder (instance_of t weights) order slots
 served_order t weights order judged slots count is holds =
     let (permutation, served) = judged_served t order judged slots is holds in
@@ -53,8 +51,3 @@ judged_score t weights order judged slots flows total count each same is holds e
   served_order t weights order judged slots count is holds,
   e ∙ (ap (λ fs. weighted_cost fs weights slots) same ∙ ap (λ n. cost t.flows (λ c. slice_index weights c) (range_with_len 0 n) slots) each),
 )
-
-pub judged_told : (t : TableFacts) (weights order : List ℕ) (judged : Judged) (slots : List (List ℕ)) (m later : Meaning) → length order ≡ length t.ids → judged ≡ Served slots →
-    IsJudged t order judged → later ≡ after_completions t.flows (length t.ids) m slots → IsToldOf (instance_of t weights) order m later
-judged_told t weights order judged slots m later count is holds e =
-    inl (slots, served_order t weights order judged slots count is holds, e ∙ ap (λ n. after_completions t.flows n m slots) (sym (length-range_with_len 0 (length t.ids))))

@@ -11,7 +11,7 @@ use Rattle.std.proofs.lemmas.List.Kept.{AllPairs-cons}
 use Rattle.coflow_units.proofs.Sums.{all_of_members, any_has, any_in, first_or_tail}
 use Rattle.class_rates.specs.Classes.{IsPermutation}
 use Rattle.coflow_facts.proofs.Permutations.{few_below}
-use Rattle.rankers.specs.Scores.{IsFirstUnfit, IsNew, IsNotNew}
+use Rattle.order_scores.specs.Scores.{IsFirstUnfit, IsNew, IsNotNew}
 
 -- ---- as many numbers below n as n, without repetition, are all of them
 

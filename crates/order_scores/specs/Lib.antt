@@ -1,0 +1,3 @@
+pub mod Scores
+pub mod Served
+pub mod Rows
