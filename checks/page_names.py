@@ -79,7 +79,7 @@ def is_defined(name, text):
 
 def hall_names():
     """Each name in the last cells of docs/HALL.md, and whether it is there."""
-    crates = "turnstile", "rank_board", "client_session", "hall_plan", "served_plans", "sincronia_cli"
+    crates = "turnstile", "rank_board", "client_session", "slot_runner", "hall_plan", "served_plans", "sincronia_cli"
     calls, text = {}, "\n".join(map(definitions_of, crates))
     for crate in crates:
         for call, clauses in clauses_of(crate).items():
