@@ -19,7 +19,9 @@ use Rattle.live_course.specs.Drivers.{AreOpenings}
 use Rattle.hall_live.specs.Followed.{AreBegun}
 use Rattle.hall_live.proofs.RoundsOn.{none_done}
 use Rattle.live_serving.specs.Going.{IsFor, IsGoing}
+use Rattle.live_serving.specs.Wires.{AllSentWhole}
 use Rattle.live_serving.proofs.PullsInTable.{InTable}
+use Rattle.live_serving.proofs.SentWhole.{whole_first}
 
 pub nothing_seen : (o : Opening) → IsSeen o []
 nothing_seen o = record {
@@ -49,6 +51,7 @@ begins hall script most ports first driver sessions for' f is own begun each por
         calls = omega (arith, ap (λ (d : DriverModel). d.left) is, f.left, ap (λ (l : List Entry). length (driver_entries l)) empty);
         spells = [];
         openings = subst (λ l. AreOpenings most l []) (sym empty) (none_opened most);
+        whole = subst (AllSentWhole o) (sym empty) (whole_first o);
       };
       done = none_done most (length (lines_of script)) driver sessions empty (ap (λ (d : DriverModel). d.position) is ∙ f.position) begun;
       coflows = All-nil (InTable (length o.table.ids));

@@ -11,7 +11,7 @@ use Rattle.journal.specs.declared.command.Reply.{Reply}
 use Rattle.journal.specs.declared.command.Reply.TheVariants.{Late, NothingLeft, Skipped}
 use Rattle.journal.specs.declared.opening.Opening.{Opening}
 use Rattle.journal.specs.Answer.{in_range}
-use Rattle.journal.specs.Closed.{wire_of}
+use Rattle.journal.specs.Closed.{LeavesSlots}
 use Rattle.journal.specs.Counts.{furthest_skip, is_noting, is_skipping, skipped_to}
 use Rattle.journal.specs.Driven.{driver_entries, is_other}
 use Rattle.journal.specs.Entries.{is_driving, TellsEntry}
@@ -21,7 +21,7 @@ use Rattle.journal.specs.State.{IsOpening, State}
 use Rattle.journal.proofs.Along.{all_front}
 use Rattle.journal.proofs.Counting.{units_within}
 use Rattle.journal.proofs.EntryTells.{entry_tells}
-use Rattle.journal.proofs.Leaving.{leaves_push, others_leave}
+use Rattle.journal.proofs.Leaving.{leaves_push, others_leave, slots_both}
 use Rattle.journal.proofs.Legal.{legal_fits, legal_front}
 use Rattle.journal.proofs.NextSlots.{few_by_units}
 use Rattle.client_session.specs.Desk.{DrivenByRoot, IsSeen}
@@ -115,24 +115,24 @@ never_spent hall most old ok h low =
     let o = hall.setting.opening in
     omega (arith, low, h.calls, few_driven old.driver.journal, legal_fits o old.driver.journal h.seen.legal, ok.few_entries, ok.table.few_ports, h.may.ports)
 
--- ---- what sends nothing
+-- ---- what leaves the slots
 
 still : (b : Bool) → not b ≡ true → b ≡ false
 still true h = absurd (true≢false (sym h))
 still false h = refl
 
-pub others_send_none : (o : Opening) (before after : List Entry) → IsSeen o after → GrownByOthers before after → (port : ℕ) → wire_of o after port ≡ wire_of o before port
-others_send_none o before after seen (others, is, far) port =
+pub others_leave_slots : (o : Opening) (before after : List Entry) → IsSeen o after → GrownByOthers before after → LeavesSlots o before after
+others_leave_slots o before after seen (others, is, far) =
     let here = subst (IsSeen o) is seen in
     let other = others_are_other before others [] (subst DrivenByRoot (sym (append-nil (before ++ others))) here.driven) far in
     let quiet = All-weaker (λ (e : Entry). is_other e ≡ true) (λ (e : Entry). is_driving e.command ≡ false)
     (λ e is. still (is_driving e.command) (and_parts (nat_lt 0 e.who) (not (is_driving e.command)) is).1) others other in
-    ap (λ l. wire_of o l port) is ∙ (others_leave o before others here.legal quiet).slots.wire port
+    subst (LeavesSlots o before) (sym is) (others_leave o before others here.legal quiet).slots
 
-pub nothing_sends_none : (o : Opening) (most : ℕ) (old new : RunnerModel) → IsAnswered o most old new NothingLeft → (port : ℕ) →
-    wire_of o new.driver.journal port ≡ wire_of o old.driver.journal port
-nothing_sends_none o most old new x port =
+pub nothing_leaves_slots : (o : Opening) (most : ℕ) (old new : RunnerModel) → IsAnswered o most old new NothingLeft → LeavesSlots o old.driver.journal new.driver.journal
+nothing_leaves_slots o most old new x =
     let before = x.turn.before in
-    ap (λ l. wire_of o l port) (answered o most old new NothingLeft x)
-    ∙ (leaves_push o before (entry 0 (Open most) NothingLeft) refl).slots.wire port
-    ∙ others_send_none o old.driver.journal before (seen_met o most old new NothingLeft x) x.turn.others port
+    let last = entry 0 (Open most) NothingLeft in
+    subst (LeavesSlots o old.driver.journal) (sym (answered o most old new NothingLeft x))
+    (slots_both o old.driver.journal before (before ++ last ∷ []) (others_leave_slots o old.driver.journal before (seen_met o most old new NothingLeft x) x.turn.others)
+    (leaves_push o before last refl).slots)

@@ -33,6 +33,7 @@ use Rattle.live_serving.specs.Going.{AreSeated, IsEnded, IsEnding, IsFilled, IsG
 use Rattle.live_serving.specs.Openings.{HasMetFull}
 use Rattle.live_serving.specs.Served.{IsTold}
 use Rattle.live_serving.proofs.FewEntries.{all_short, few_found, few_spells, found_append, none_found, none_within, same_few}
+use Rattle.live_serving.proofs.SentWhole.{whole_next}
 
 -- ---- all rounds are done
 
@@ -75,6 +76,7 @@ module _ (hall : HallModel) (script : Script) (most : ℕ) (old new : RunnerMode
         calls = omega (arith, run.calls, h.drives.calls);
         spells = running.done.spells ++ running.later;
         openings = running.opened.openings running.done.spells running.done.openings;
+        whole = whole_next o old.driver.journal new.driver.journal d run.goes_on whole h.drives.whole;
       };
       running = running;
       coflows = h.coflows;

@@ -31,6 +31,7 @@ use Rattle.live_serving.specs.declared.answer.Stop.TheVariants.{Full}
 use Rattle.live_serving.specs.Going.{AreSeated, IsFilled, IsGoing}
 use Rattle.live_serving.specs.Openings.{GoesOn, HasMetFull}
 use Rattle.live_serving.specs.Playing.{HasPlayed, Settles, Told}
+use Rattle.live_serving.specs.Wires.{AllSentWhole}
 use Rattle.live_serving.proofs.FewEntries.{all_short, AreWithin, few_found, few_spells, found_append, never_lack, one_spell, round_within, same_few}
 use Rattle.live_serving.proofs.PullsInTable.{InTable, round_in_table}
 
@@ -200,6 +201,7 @@ module _ (hall : HallModel) (script : Script) (most n : ℕ) (old mid : RunnerMo
         );
         spells = done.spells;
         openings = done.openings;
+        whole = subst (AllSentWhole o) (sym journal_is) (on.4 h.drives.whole);
       };
       done = done;
       coflows = All-append (InTable (length o.table.ids)) pulls more.items h.coflows

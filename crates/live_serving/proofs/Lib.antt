@@ -1,4 +1,5 @@
 pub mod DriverTurns
+pub mod SentWhole
 pub mod OpeningSteps
 pub mod WiresOn
 pub mod FewEntries

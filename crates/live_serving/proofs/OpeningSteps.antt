@@ -24,8 +24,9 @@ use Rattle.live_serving.specs.declared.answer.Stop.{Stop}
 use Rattle.live_serving.specs.declared.answer.Stop.TheVariants.{Full, NoMemory, WireFault}
 use Rattle.live_serving.specs.Driving.{MayDrive}
 use Rattle.live_serving.specs.Openings.{AreServed, GoesOn, HasFailed, HasMetFull, IsOpening}
-use Rattle.live_serving.specs.Wires.{HaveSent, IsCutAt}
-use Rattle.live_serving.proofs.DriverTurns.{nothing_sends_none, others_send_none}
+use Rattle.live_serving.specs.Wires.{AllSentWhole, HaveSent, IsCutAt}
+use Rattle.live_serving.proofs.DriverTurns.{nothing_leaves_slots, others_leave_slots}
+use Rattle.live_serving.proofs.SentWhole.{whole_next, whole_still}
 
 abbrev pub is_wired : {S : Type 0} → Result S Stop → Bool
 is_wired (Err (WireFault port)) = true
@@ -42,8 +43,9 @@ stop_in (Ok x) = NoMemory
 -- ---- the run that was cut short
 
 cut_at : (o : Opening) (most : ℕ) (old new : RunnerModel) (d : Drive) (port flow units ports : ℕ) → HasRun o most d old new → grant_in o.table.flows new.granted port ≡ Some flow →
-    d.sent port ≡ units → units < d.slots → ((p f : ℕ) → p < port → grant_in o.table.flows new.granted p ≡ Some f → d.sent p ≡ d.slots) → IsCutAt o new.driver.journal port
-cut_at o most old new d port flow units ports run granted is short least =
+    AllSentWhole o old.driver.journal → d.sent port ≡ units → units < d.slots →
+    ((p f : ℕ) → p < port → grant_in o.table.flows new.granted p ≡ Some f → d.sent p ≡ d.slots) → IsCutAt o new.driver.journal port
+cut_at o most old new d port flow units ports run granted whole is short least =
     let flows = o.table.flows in
     let gs = driven o old.driver.journal d in
     let opened = opened_in old.driver.journal d in
@@ -63,6 +65,7 @@ cut_at o most old new d port flow units ports run granted is short least =
           credits f in'
           ∙ least (ingress_of flows f) f lt (ap (λ l. grant_in flows l (ingress_of flows f)) run.granted ∙ (grant_at flows gs (ingress_of flows f) f clear).1 (there, refl))
           ∙ sym slots;
+      whole = whole;
     }
 
 module _ {W : Type 0} (faults : W → ℕ) (runs : W → Option (List (ℕ × ℕ × ℕ))) (hall : HallModel) (old new : RunnerModel) (before after : List W) where
@@ -130,15 +133,15 @@ module _ {W : Type 0} (faults : W → ℕ) (runs : W → Option (List (ℕ × �
       fault = λ p e. subst (HasFailed faults runs hall new before after) (ap port_of e) (record {
         in_range = omega (arith, x.in_range, h.may.ports);
         rose = x.rose;
-        cut = cut_at o most old new x.drive port x.flow units old.ports x.run x.granted x.units_is x.short x.least;
+        cut = cut_at o most old new x.drive port x.flow units old.ports x.run x.granted h.whole x.units_is x.short x.least;
       });
     }
 
     pub nothing_served : IsAnswered hall.setting.opening most old new NothingLeft → after ≡ before → AreServed faults runs {S = Bool} hall old new before after (Ok false)
-    nothing_served x same = served_none (Ok false) refl again x.turn.seen long (nothing_sends_none o most old new x) same
+    nothing_served x same = served_none (Ok false) refl again x.turn.seen long (nothing_leaves_slots o most old new x).wire same
 
     pub full_served : (count : ℕ) → IsFullAt hall.setting.opening most old new count → after ≡ before → AreServed faults runs {S = Bool} hall old new before after (Err Full)
-    full_served count x same = served_none (Err Full) refl again x.turn.seen long (others_send_none o old.driver.journal new.driver.journal x.turn.seen x.turn.others) same
+    full_served count x same = served_none (Err Full) refl again x.turn.seen long (others_leave_slots o old.driver.journal new.driver.journal x.turn.seen x.turn.others).wire same
 
     pub unasked_served : new ≡ old → after ≡ before → AreServed faults runs {S = Bool} hall old new before after (Err NoMemory)
     unasked_served is same = served_none (Err NoMemory) refl again (subst (λ (r : RunnerModel). IsSeen o r.driver.journal) (sym is) h.seen) long (λ port. ap (λ (r : RunnerModel). wire_of o r.driver.journal port) is) same
@@ -155,10 +158,14 @@ full_met hall most count old new x = record {
 pub goes_on : (hall : HallModel) (most : ℕ) (old new : RunnerModel) (answer : Result Bool Stop) → IsOpening hall most old new answer → GoesOn hall most true old new answer
 goes_on hall most old new (Ok true) h =
     let (d, run, whole) = h in
-    (run.calls, run.place, run.seen, λ round. run_driven hall.setting.opening most round old new d run whole)
-goes_on hall most old new (Ok false) h = (h.calls, h.place, h.turn.seen, λ round. nothing_driven hall.setting.opening most round old new h)
+    let o = hall.setting.opening in
+    (run.calls, run.place, run.seen, (λ round. run_driven o most round old new d run whole), whole_next o old.driver.journal new.driver.journal d run.goes_on whole)
+goes_on hall most old new (Ok false) h =
+    let o = hall.setting.opening in
+    let still = whole_still o old.driver.journal new.driver.journal (nothing_leaves_slots o most old new h) in
+    (h.calls, h.place, h.turn.seen, (λ round. nothing_driven o most round old new h), still)
 goes_on hall most old new (Err Full) h = h
 goes_on hall most old new (Err stop) h = tt
 
 pub rests : (hall : HallModel) (most : ℕ) (old : RunnerModel) → MayDrive hall most old → GoesOn hall most false old old (Ok false)
-rests hall most old h = (refl, record { gate = refl; setting = refl; rank = refl; made = refl }, h.seen, λ round. none_driven most round old.driver)
+rests hall most old h = (refl, record { gate = refl; setting = refl; rank = refl; made = refl }, h.seen, (λ round. none_driven most round old.driver), λ whole. whole)

@@ -13,7 +13,7 @@ use Rattle.hall_live.specs.Driven.{HasDriven}
 use Rattle.hall_plan.specs.Halls.{NoneFell}
 use Rattle.live_serving.specs.declared.answer.Stop.{Stop}
 use Rattle.live_serving.specs.declared.answer.Stop.TheVariants.{Full, WireFault}
-use Rattle.live_serving.specs.Wires.{HaveSent, IsCutAt}
+use Rattle.live_serving.specs.Wires.{AllSentWhole, HaveSent, IsCutAt}
 
 -- the driver met a journal that has no room: it has seen as many entries as there may be, and added none
 pub record HasMetFull (hall : HallModel) (old new : DriverModel) : Type 0 where
@@ -29,12 +29,13 @@ IsOpening hall most old new (Ok false) = IsAnswered hall.setting.opening most ol
 IsOpening hall most old new (Err Full) = HasMetFull hall old.driver new.driver
 IsOpening hall most old new (Err stop) = Unit {0}
 
--- The driver opened a run and closed it where one was asked for, or was answered that nothing is left; or there was no
--- room.
+-- The driver opened a run, sent it whole and closed it where one was asked for, or was answered that nothing is left; or
+-- there was no room.
 abbrev pub GoesOn : HallModel → ℕ → Bool → RunnerModel → RunnerModel → Result Bool Stop → Type 0
 GoesOn hall most asked old new (Ok some) =
     CallsFall old.driver new.driver × StaysInHall old.driver new.driver × IsSeen hall.setting.opening new.driver.journal
     × ((round : ℕ) → HasDriven most round asked old.driver new.driver)
+    × (AllSentWhole hall.setting.opening old.driver.journal → AllSentWhole hall.setting.opening new.driver.journal)
 GoesOn hall most asked old new (Err Full) = HasMetFull hall old.driver new.driver
 GoesOn hall most asked old new (Err stop) = Unit {0}
 

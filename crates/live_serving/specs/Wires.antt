@@ -1,5 +1,6 @@
 -- What a run of `live` left on the wires.
-use Rattle.std.specs.Prelude.{◌≡◌, ℕ, ◌<◌, ◌≤◌, List, [], ◌∷◌, ◌++◌, Contains, Option}
+use Rattle.std.specs.Prelude.{◌≡◌, ℕ, ◌<◌, ◌≤◌, List, [], ◌∷◌, ◌++◌, All, Contains, Option}
+use Rattle.coflow_units.specs.declared.fabric.Flow.{Flow}
 use Rattle.coflow_units.specs.Flows.{ingress_of, units_of}
 use Rattle.coflow_units.specs.Schedule.{times}
 use Rattle.journal.specs.declared.command.Entry.{Entry}
@@ -10,8 +11,17 @@ use Rattle.journal.specs.Runs.{credit}
 use Rattle.journal.specs.State.{Run}
 use Rattle.hall_plan.specs.Wires.{AreAllUnits, HaveMore}
 
+-- of each flow that the run granted a unit was sent for each of its slots
+abbrev pub WasSentWhole : List Flow → Run → Type 0
+WasSentWhole flows r = (f : ℕ) → Contains r.granted f → credit flows r f ≡ r.slots
+
+-- so it is with each run that the journal closed
+abbrev pub AllSentWhole : Opening → List Entry → Type 0
+AllSentWhole o journal = All (WasSentWhole o.table.flows) (closed_runs o journal)
+
 -- The last run of the journal granted a flow that begins at this port, and fewer units of it were sent than the run has
--- slots. Of each of its flows that begin at lesser ports all units were sent.
+-- slots. Of each of its flows that begin at lesser ports all units were sent. Each earlier run was sent whole, so that
+-- no run was opened after one that fell short.
 pub record IsCutAt (o : Opening) (journal : List Entry) (port : ℕ) : Type 0 where
   pub earlier : List Run
   pub run : Run
@@ -22,6 +32,8 @@ pub record IsCutAt (o : Opening) (journal : List Entry) (port : ℕ) : Type 0 wh
   pub missing : credit o.table.flows run flow < run.slots
   pub lesser : (f : ℕ) → Contains run.granted f → ingress_of o.table.flows f < port →
       credit o.table.flows run f ≡ run.slots
+  -- of each earlier run each granted flow was sent whole
+  pub whole : All (WasSentWhole o.table.flows) earlier
 
 module _ {W : Type 0} (runs : W → Option (List (ℕ × ℕ × ℕ))) where
   -- the wires have what they had, and then what the journal sent
