@@ -1,0 +1,4 @@
+//! What is printed of a run of `live` is audited yes.
+#![tactic(auto)]
+
+pub mod laws;
