@@ -1,17 +1,15 @@
 //! What the words of the call ask for.
 ghost use Rattle.std.specs.Prelude.{◌≤◌, IfOk, vec_len};
 ghost use Rattle.coflow_units.specs.declared.limits.TheConstants.{MAX_TEXT};
-ghost use Rattle.hall_games.specs.declared.game.TheConstants.{MAX_EACH};
+ghost use Rattle.hall_callers.specs.declared.callers.TheConstants.{MAX_EACH};
 
 use crate::stop::Stop;
 use coflow_units::MAX_TEXT;
 use flow_table::Table;
+use hall_callers::MAX_EACH;
 use outside::{Place4, Shelf, read_all};
 use std::alloc::Global;
 use trace_tables::{TextFault, table_of_text};
-
-/// The greatest number of commands of a caller.
-pub const MAX_EACH: u32 = 1_000_000;
 
 /// What is printed.
 #[derive(Clone, Copy, Debug, PartialEq, Eq)]

@@ -2,11 +2,9 @@
 ghost use Rattle.std.specs.Prelude.{◌≤◌};
 ghost use Rattle.hall_games.specs.Locked.{HasAsked, HaveAsked};
 
-use crate::callers::Size;
-use crate::draw::{Ask, Draw, Order};
-use crate::seats::CLIENTS;
 use crate::stop::Stop;
 use coflow_units::NoMemory;
+use hall_callers::{Ask, CLIENTS, Draw, Order, Size};
 use master_core::{Command, Master};
 use std::alloc::Global;
 use std::rt::Runtime;

@@ -1,8 +1,7 @@
 //! What is printed of a game.
-use crate::callers::{Client, Said, Size};
 use crate::game::Mode;
-use crate::seats::CLIENTS;
 use crate::stop::Stop;
+use hall_callers::{CLIENTS, Client, Said, Size};
 use master_core::Master;
 use std::io;
 use std::time::Duration;

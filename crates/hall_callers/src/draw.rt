@@ -1,6 +1,6 @@
 //! Numbers that are drawn, the same for the same seed, and the commands that they make.
 ghost use Rattle.std.specs.Prelude.{◌≡◌, ℕ, ◌+◌, ◌*◌, ◌^◌, ◌<◌, ◌≤◌};
-ghost use Rattle.hall_games.specs.Asked.{IsAskOf, IsOrderOf};
+ghost use Rattle.hall_callers.specs.Asked.{IsAskOf, IsOrderOf};
 
 /// A generator of drawn numbers: the linear congruential one of Knuth's MMIX (The Art of Computer Programming, volume 2, section 3.3.4).
 #[derive(Clone, Copy, Debug)]

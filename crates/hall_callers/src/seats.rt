@@ -1,8 +1,8 @@
 //! Halls that games begin, and their callers.
 ghost use Rattle.std.specs.Prelude.{◌≡◌, ◌≤◌, [], All, IfOk, OnOk, length};
 ghost use Rattle.client_session.specs.Models.{IsDriverOf};
-ghost use Rattle.hall_games.specs.Callers.{IsClientOf, IsPilotOf};
-ghost use Rattle.hall_games.specs.declared.game.TheConstants.{MAX_EACH};
+ghost use Rattle.hall_callers.specs.Callers.{IsClientOf, IsPilotOf};
+ghost use Rattle.hall_callers.specs.declared.callers.TheConstants.{MAX_EACH};
 
 use crate::callers::{Client, Pilot, Size};
 use crate::draw::Draw;

@@ -2,7 +2,7 @@
 use Rattle.std.proofs.Common.{◌+◌, ◌≤◌, length}
 use Rattle.std.specs.Prelude.{vec_capacity}
 use Rattle.client_session.specs.Models.{IsDriverOf}
-use Rattle.hall_games.proofs.callers.Pilot.play.Given as goal
+use Rattle.hall_callers.proofs.callers.Pilot.play.Given as goal
 
 abbrev pub invariant-loop-turn : goal.invariant-loop-turn
 invariant-loop-turn g l = record {

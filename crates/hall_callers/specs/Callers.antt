@@ -2,8 +2,8 @@
 use Rattle.std.specs.Prelude.{ℕ, ◌+◌, ◌≤◌, length}
 use Rattle.std.specs.Prelude.{vec_capacity}
 use Rattle.client_session.specs.Models.{HallModel, IsDriverOf, IsSessionOf}
-use Rattle.hall_games.specs.declared.callers.Client.{Client}
-use Rattle.hall_games.specs.declared.callers.Pilot.{Pilot}
+use Rattle.hall_callers.specs.declared.callers.Client.{Client}
+use Rattle.hall_callers.specs.declared.callers.Pilot.{Pilot}
 
 -- the client's session is of the hall, and it has room for so many answers more
 pub record IsClientOf (hall : HallModel) (commands : ℕ) (c : Client) : Type 0 where

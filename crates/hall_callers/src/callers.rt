@@ -1,8 +1,8 @@
 //! The callers of a hall: each asks drawn commands, and keeps what it is answered.
 ghost use Rattle.std.specs.Prelude.{◌≡◌, ◌+◌, ◌^◌, ◌<◌, ◌≤◌, All, IfOk, OnOk, length, vec_capacity};
 ghost use Rattle.client_session.specs.Models.{IsDriverOf, IsSessionOf};
-ghost use Rattle.hall_games.specs.Asked.{IsAskOf, IsOrderOf};
-ghost use Rattle.hall_games.specs.Callers.{IsClientOf, IsPilotOf};
+ghost use Rattle.hall_callers.specs.Asked.{IsAskOf, IsOrderOf};
+ghost use Rattle.hall_callers.specs.Callers.{IsClientOf, IsPilotOf};
 
 use crate::draw::{Ask, Draw, Order};
 use client_session::{Answer, Driver, Hall, Pulled, Session};
@@ -11,6 +11,9 @@ use std::alloc::Global;
 use std::sync::Wait;
 use std::thread;
 use std::thread::Threads;
+
+/// The greatest number of commands of a caller.
+pub const MAX_EACH: u32 = 1_000_000;
 
 /// What a caller was answered.
 #[derive(Clone, Copy, Debug)]

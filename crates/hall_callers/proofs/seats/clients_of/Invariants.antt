@@ -2,8 +2,8 @@
 use Rattle.std.proofs.Common.{◌≡◌, ◌≤◌, length}
 use Rattle.std.specs.Prelude.{All, vec_capacity}
 use Rattle.client_session.specs.Models.{IsDriverOf}
-use Rattle.hall_games.specs.Callers.{IsClientOf}
-use Rattle.hall_games.proofs.seats.clients_of.Given as goal
+use Rattle.hall_callers.specs.Callers.{IsClientOf}
+use Rattle.hall_callers.proofs.seats.clients_of.Given as goal
 
 abbrev pub invariant-loop-before : goal.invariant-loop-before
 invariant-loop-before l = record {

@@ -1,11 +1,11 @@
 -- What may be asked of a hall of so many coflows and ports.
 use Rattle.std.specs.Prelude.{ℕ, ◌<◌, ◌≤◌}
 use Rattle.coflow_units.specs.declared.limits.TheConstants.{MAX_WEIGHT}
-use Rattle.hall_games.specs.declared.draw.Ask.{Ask}
-use Rattle.hall_games.specs.declared.draw.Ask.TheVariants.{Register, Withdraw, Publish, PullTurn, Reweigh, Pull}
-use Rattle.hall_games.specs.declared.draw.Order.{Order}
-use Rattle.hall_games.specs.declared.draw.Order.TheVariants.{Open, Short, Close, Skip, Register as Joins}
-use Rattle.hall_games.specs.declared.draw.Order.TheVariants.{Withdraw as Leaves, Publish as Publishes}
+use Rattle.hall_callers.specs.declared.draw.Ask.{Ask}
+use Rattle.hall_callers.specs.declared.draw.Ask.TheVariants.{Register, Withdraw, Publish, PullTurn, Reweigh, Pull}
+use Rattle.hall_callers.specs.declared.draw.Order.{Order}
+use Rattle.hall_callers.specs.declared.draw.Order.TheVariants.{Open, Short, Close, Skip, Register as Joins}
+use Rattle.hall_callers.specs.declared.draw.Order.TheVariants.{Withdraw as Leaves, Publish as Publishes}
 
 -- the ask is of one of so many coflows, and its weight is one that a coflow may have
 abbrev pub IsAskOf : ℕ → Ask → Type 0
