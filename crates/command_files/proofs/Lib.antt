@@ -4,6 +4,7 @@ pub mod WeightsFacts
 pub mod InputFacts
 pub mod ReportFacts
 pub mod CauseFacts
+pub mod JobFacts
 pub mod InputTurns
 pub mod FileTurns
 pub mod ScriptFacts

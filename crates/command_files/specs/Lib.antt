@@ -1,5 +1,6 @@
 pub mod Shelves
 pub mod Inputs
+pub mod Arrivals
 pub mod Reports
 pub mod Scripts
 pub mod Written
@@ -12,6 +13,8 @@ pub mod ReportCauses
 pub mod ScriptCauses
 pub mod WireCauses
 pub mod Causes
+pub mod JobCauses
+pub mod GoodFiles
 pub mod Turns
 pub mod Code
 pub mod Messages

@@ -11,13 +11,14 @@ use Rattle.outside.specs.Shelf.{Told}
 use Rattle.rankers.specs.Meaning.{Meaning}
 use Rattle.command_files.specs.declared.status.Status.{Status}
 use Rattle.command_files.specs.declared.status.Status.TheVariants as status
-use Rattle.sincronia_cli.specs.Causes.{CauseBy, HasCauseOf, HasFilesCause}
-use Rattle.sincronia_cli.specs.Check.{status_for}
+use Rattle.sincronia_cli.specs.Causes.{CauseBy, HasCauseOf}
+use Rattle.command_files.specs.JobCauses.{HasFilesCause}
+use Rattle.reading_commands.specs.Check.{status_for}
 use Rattle.sincronia_cli.specs.Command.{IsCommand}
 use Rattle.sincronia_cli.specs.Outcome.{HasText, IsOutcome, OutcomeBy}
-use Rattle.sincronia_cli.specs.Online.{FilesPublishMore}
-use Rattle.sincronia_cli.specs.Serving.{Serves, Service}
-use Rattle.sincronia_cli.proofs.EndCauses.{by_epochs, by_wire, of_served}
+use Rattle.serving_commands.specs.Online.{FilesPublishMore}
+use Rattle.serving_commands.specs.Serving.{Serves, Service}
+use Rattle.serving_commands.proofs.EndCauses.{by_epochs, by_wire, of_served}
 
 -- the words are one command
 pub job_of : (words : List Text) (by said : Said) (k : Job) → IsWords words by → IsCommand k words said → by.job ≡ k

@@ -20,12 +20,12 @@ use Rattle.command_files.specs.Inputs.{bytes_if}
 use Rattle.command_files.specs.ScriptCauses.{HasScriptFault}
 use Rattle.command_files.specs.Scripts.{HasMoreUnits, HasScriptText, table_units}
 use Rattle.command_files.specs.WeightsCauses.{AreTooLong}
-use Rattle.sincronia_cli.specs.Causes.{IsBadFor}
-use Rattle.sincronia_cli.specs.Complete.{HasGoodFiles}
-use Rattle.sincronia_cli.specs.Online.{PublishesFew, PublishesOver}
+use Rattle.command_files.specs.JobCauses.{IsBadFor}
+use Rattle.command_files.specs.GoodFiles.{HasGoodFiles}
+use Rattle.serving_commands.specs.Online.{PublishesFew, PublishesOver}
 use Rattle.command_files.proofs.GoodFacts.{HasNoFault}
 use Rattle.sincronia_cli.proofs.CompleteFacts.{no_report_of}
-use Rattle.sincronia_cli.proofs.OnlineFacts.{over_is, over_one}
+use Rattle.serving_commands.proofs.OnlineFacts.{over_is, over_one}
 
 -- ---- the status of a fault of a script
 

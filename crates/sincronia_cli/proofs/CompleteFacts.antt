@@ -11,18 +11,20 @@ use Rattle.rankers.specs.Meaning.{Meaning}
 use Rattle.outside.specs.Shelf.{Told}
 use Rattle.command_files.specs.declared.status.Status.{Status}
 use Rattle.command_files.specs.declared.status.Status.TheVariants as status
-use Rattle.sincronia_cli.specs.Causes.{CauseBy, HasCauseOf, IsBadFor}
+use Rattle.sincronia_cli.specs.Causes.{CauseBy, HasCauseOf}
+use Rattle.command_files.specs.JobCauses.{IsBadFor}
 use Rattle.command_files.specs.Causes.{FilesGiveTable}
-use Rattle.sincronia_cli.specs.Check.{status_for}
+use Rattle.reading_commands.specs.Check.{status_for}
 use Rattle.sincronia_cli.specs.Command.{ReadsFiles}
-use Rattle.sincronia_cli.specs.Complete.{AreGood, EndsWell, HasGoodFiles}
+use Rattle.sincronia_cli.specs.Complete.{AreGood, EndsWell}
+use Rattle.command_files.specs.GoodFiles.{HasGoodFiles}
 use Rattle.command_files.specs.Ends.{IsStill}
 use Rattle.command_files.specs.Inputs.{bytes_if}
 use Rattle.sincronia_cli.specs.Outcome.{IsOutcome, OutcomeBy}
-use Rattle.sincronia_cli.specs.Online.{FilesPublishMore}
-use Rattle.sincronia_cli.specs.Serving.{Serves, Service}
-use Rattle.sincronia_cli.specs.Serving.Service.{online_of, plan_of, script_of}
-use Rattle.sincronia_cli.proofs.EndCauses.{by_epochs, by_made, by_wire}
+use Rattle.serving_commands.specs.Online.{FilesPublishMore}
+use Rattle.serving_commands.specs.Serving.{Serves, Service}
+use Rattle.serving_commands.specs.Serving.Service.{online_of, plan_of, script_of}
+use Rattle.serving_commands.proofs.EndCauses.{by_epochs, by_made, by_wire}
 use Rattle.command_files.proofs.GoodFacts.{HasNoFault, files_end, journal_is_good, no_report, no_script, report_is_good, script_is_good}
 
 -- ---- a text that reads has no fault

@@ -23,9 +23,11 @@ use Rattle.weights.specs.declared.fault.WeightsFault.{WeightsFault}
 use Rattle.weights.specs.declared.fault.WeightsFault.TheVariants as weights_fault
 use Rattle.command_files.specs.declared.status.Status.{Status}
 use Rattle.command_files.specs.declared.status.Status.TheVariants as status
-use Rattle.sincronia_cli.specs.Causes.{CauseBy, HasCauseOf, HasFilesCause, IsBadFor}
+use Rattle.sincronia_cli.specs.Causes.{CauseBy, HasCauseOf}
+use Rattle.command_files.specs.JobCauses.{HasFilesCause, IsBadFor}
 use Rattle.sincronia_cli.specs.Command.{IsOfFiles, ReadsFiles}
-use Rattle.sincronia_cli.specs.Complete.{EndsWell, HasGoodFiles}
+use Rattle.sincronia_cli.specs.Complete.{EndsWell}
+use Rattle.command_files.specs.GoodFiles.{HasGoodFiles}
 use Rattle.sincronia_cli.specs.FirstCause.{EndsBy, IsFirstCause, IsInterrupted}
 use Rattle.command_files.specs.Causes.FilesLimit.{in_input, in_report, in_script as in_script_of, in_shared}
 use Rattle.command_files.specs.InputCauses.{GiveTable, LimitCause}
@@ -33,16 +35,16 @@ use Rattle.command_files.specs.InputCauses.LimitCause.{in_table, in_trace, in_we
 use Rattle.command_files.specs.Inputs.{GiveWeights, IsTraceText, bytes_if}
 use Rattle.sincronia_cli.specs.Outcome.{IsOutcome}
 use Rattle.command_files.specs.ReportCauses.{IsBadReport, IsLongReport}
-use Rattle.sincronia_cli.specs.Online.{FilesPublishMore, PublishesFew, PublishesOver}
-use Rattle.sincronia_cli.specs.Serving.{Serves, Service}
+use Rattle.serving_commands.specs.Online.{FilesPublishMore, PublishesFew, PublishesOver}
+use Rattle.serving_commands.specs.Serving.{Serves, Service}
 use Rattle.command_files.specs.TraceCauses.{HasTraceFault, IsTooLong, IsTraceForm}
 use Rattle.command_files.specs.WeightsCauses.{AreTooLong, IsFaultOf, IsWeightsForm}
-use Rattle.sincronia_cli.proofs.AuditFacts.{bad_line_one}
-use Rattle.sincronia_cli.proofs.EndCauses.{by_epochs, by_wire}
+use Rattle.command_files.proofs.JobFacts.{bad_line_one}
+use Rattle.serving_commands.proofs.EndCauses.{by_epochs, by_wire}
 use Rattle.sincronia_cli.proofs.BeyondFacts.{Beyond, ScriptStops, alone_is_good, beyond_one, is_given, nothing_beyond}
 use Rattle.sincronia_cli.proofs.BeyondFacts.Beyond.{in_script, too_much, too_often}
 use Rattle.sincronia_cli.proofs.BeyondFacts.ScriptStops.{bad_script, long_script}
-use Rattle.sincronia_cli.proofs.OnlineFacts.{over_is}
+use Rattle.serving_commands.proofs.OnlineFacts.{over_is}
 use Rattle.command_files.proofs.GoodFacts.{HasNoFault, trace_is_good, weights_are_good}
 use Rattle.sincronia_cli.proofs.CompleteFacts.{other_is_good, table_is_good, written_by}
 

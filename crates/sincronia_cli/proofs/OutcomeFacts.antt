@@ -11,12 +11,13 @@ use Rattle.outside.specs.Shelf.{Told}
 use Rattle.rankers.specs.Meaning.{Meaning}
 use Rattle.command_files.specs.declared.status.Status.{Status}
 use Rattle.command_files.specs.declared.status.Status.TheVariants as status
-use Rattle.sincronia_cli.specs.Causes.{CauseBy, FilesReportFault, HasCauseOf, HasFilesCause}
+use Rattle.sincronia_cli.specs.Causes.{CauseBy, HasCauseOf}
+use Rattle.command_files.specs.JobCauses.{FilesReportFault, HasFilesCause}
 use Rattle.command_files.specs.Causes.{FilesBadScript, FilesLimit, IsGiven}
 use Rattle.coflow_units.specs.declared.quantity.Quantity.{Quantity}
-use Rattle.sincronia_cli.specs.Online.{CommandLimit, FilesPublishMore, PublishesOver}
+use Rattle.serving_commands.specs.Online.{CommandLimit, FilesPublishMore, PublishesOver}
 use Rattle.sincronia_cli.specs.Command.{IsCommand, ReadsFiles}
-use Rattle.sincronia_cli.specs.Serving.{Service}
+use Rattle.serving_commands.specs.Serving.{Service}
 use Rattle.sincronia_cli.specs.Outcome.{IsOutcome, OutcomeBy}
 
 -- what is done for the words is what is done for all that they say

@@ -13,8 +13,8 @@ use Rattle.command_files.specs.declared.status.Status.TheVariants as status
 use Rattle.sincronia_cli.specs.Causes.{CauseBy, HasCauseOf}
 use Rattle.command_files.specs.Ends.{IsPastFiles, IsWireFault}
 use Rattle.sincronia_cli.specs.Outcome.{HasText, IsOutcome, OutcomeBy}
-use Rattle.sincronia_cli.specs.Serving.{AreStill, MayHaveSent, Sends, SendsOnly, Serves, Service, Stops, WireFailed}
-use Rattle.sincronia_cli.specs.Serving.Service.{online_of, plan_of, script_of}
+use Rattle.serving_commands.specs.Serving.{AreStill, MayHaveSent, Sends, SendsOnly, Serves, Service, Stops, WireFailed}
+use Rattle.serving_commands.specs.Serving.Service.{online_of, plan_of, script_of}
 use Rattle.sincronia_cli.proofs.BenchFacts.{cause_has_no_text}
 use Rattle.sincronia_cli.proofs.CompleteFacts.{NoneFailed}
 

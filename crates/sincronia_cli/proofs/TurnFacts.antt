@@ -1,7 +1,7 @@
 -- How far a command came with its files, and that the shelf's count of faults stays.
-use Rattle.std.proofs.Common.{◌≡◌, IfErr, ℕ, List, Option, Some, Result, Ok, Err, ap, refl, sym, subst}
+use Rattle.std.proofs.Common.{◌≡◌, IfErr, ℕ, List, Option, Result, Ok, Err, ap, refl, sym, subst}
 use Rattle.std.specs.Prelude.{◌⊎◌, Bool, IfSome, false, true}
-use Rattle.command_words.specs.Jobs.{Job, report_name, script_name, trace_name}
+use Rattle.command_words.specs.Jobs.{Job, script_name, trace_name}
 use Rattle.command_words.specs.Jobs.Job.{audit_job, check_job, classes_job, compare_job, live_job, make_job, online_job, plan_job}
 use Rattle.command_words.specs.Line.{Text}
 use Rattle.command_words.specs.Words.{IsWords, Said}
@@ -9,24 +9,20 @@ use Rattle.command_words.proofs.OneMeaning.{words_one}
 use Rattle.flow_table.specs.Table.{TableFacts}
 use Rattle.rankers.specs.Meaning.{Meaning}
 use Rattle.outside.specs.Shelf.{Told}
-use Rattle.verdicts.specs.declared.any_report.AnyReport.{AnyReport}
-use Rattle.verdicts.specs.AnyReport.{IsAnyText}
 use Rattle.command_files.specs.declared.status.Status.{Status}
 use Rattle.command_files.specs.Causes.{FilesGiveShared, FilesGiveTable}
-use Rattle.sincronia_cli.specs.Causes.{HasMadeCause}
-use Rattle.command_files.specs.Reports.{IsAnyReportOf}
-use Rattle.sincronia_cli.specs.Check.{status_for}
-use Rattle.sincronia_cli.specs.Complete.{HasGoodFiles}
+use Rattle.serving_commands.specs.Make.{HasMadeCause}
+use Rattle.reading_commands.specs.Check.{status_for}
+use Rattle.command_files.specs.GoodFiles.{HasGoodFiles}
 use Rattle.command_files.specs.Ends.{IsReadFault, CountsFault}
 use Rattle.sincronia_cli.specs.Outcome.{IsOutcome, OutcomeBy}
 use Rattle.command_files.specs.WireCauses.{IsWireCause}
-use Rattle.command_files.specs.Shelves.{AreReadOut, KeepsFiles, OfBoth, ReadsOut}
+use Rattle.command_files.specs.Shelves.{AreReadOut, OfBoth, ReadsOut}
 use Rattle.command_files.specs.Turns.{FilesInTurn}
-use Rattle.sincronia_cli.proofs.EndCauses.{of_served}
+use Rattle.serving_commands.proofs.EndCauses.{of_served}
 use Rattle.command_files.proofs.ShelfFacts.{if_some, of_both}
 use Rattle.command_files.proofs.FileTurns.{done_in_turn, untouched_in_turn}
 use Rattle.command_files.proofs.LiveTurns.{live_in_turn}
-use Rattle.command_files.proofs.CauseFacts.{text_good}
 
 -- ---- all files in turn
 
@@ -93,9 +89,3 @@ turn_for words by said old new s reads is turn = subst (λ (x : Said). OfBoth ol
 pub out_for : (words : List Text) (by said : Said) (old new : Option Told) → IsWords words by → IsWords words said → OfBoth old new (ReadsOut by.job by) →
     OfBoth old new (ReadsOut said.job said)
 out_for words by said old new reads is out = subst (λ (x : Said). OfBoth old new (ReadsOut x.job x)) (words_one words by said reads is) out
-
--- ---- the report of a check is good
-
-pub report_good : (old mid : Option Told) (said : Said) (trace name : List ℕ) (report : AnyReport) → report_name said.job ≡ Some name → KeepsFiles old mid →
-    IfSome old (FilesGiveTable said) → IsAnyReportOf mid name report → IfSome old (HasGoodFiles (check_job trace name) said)
-report_good old mid said trace name report is keeps table of = text_good IsAnyText old mid said name report is keeps table of.reads

@@ -11,23 +11,23 @@ use Rattle.rankers.specs.Meaning.{Meaning}
 use Rattle.outside.specs.Sink.{TakesText}
 use Rattle.command_files.specs.declared.status.Status.{Status}
 use Rattle.command_files.specs.declared.status.Status.TheVariants as status
-use Rattle.sincronia_cli.specs.Audit.{AuditOf, WritesSound, WritesUnsound}
-use Rattle.sincronia_cli.specs.Check.{CheckOf, WritesNo, WritesYes, status_for}
+use Rattle.reading_commands.specs.Audit.{AuditOf, WritesSound, WritesUnsound}
+use Rattle.reading_commands.specs.Check.{CheckOf, WritesNo, WritesYes, status_for}
 use Rattle.sincronia_cli.specs.Command.{IsCommand}
-use Rattle.sincronia_cli.specs.Classes.{WritesClasses}
-use Rattle.sincronia_cli.specs.Compare.{WritesComparison}
-use Rattle.sincronia_cli.specs.Live.{WritesLive}
-use Rattle.sincronia_cli.specs.Make.{WritesMade}
+use Rattle.reading_commands.specs.Classes.{WritesClasses}
+use Rattle.reading_commands.specs.Compare.{WritesComparison}
+use Rattle.serving_commands.specs.Live.{WritesLive}
+use Rattle.serving_commands.specs.Make.{WritesMade}
 use Rattle.sincronia_cli.specs.Outcome.{IsOutcome, OutcomeBy, WritesNoBy}
-use Rattle.sincronia_cli.specs.Online.{WritesOnline}
-use Rattle.sincronia_cli.specs.Plan.{WritesPlan}
-use Rattle.sincronia_cli.proofs.AuditFacts.{sure_sound}
-use Rattle.sincronia_cli.proofs.CheckFacts.{OnlineLaw, sure_yes}
-use Rattle.sincronia_cli.proofs.CompareFacts.{writes_comparison}
+use Rattle.serving_commands.specs.Online.{WritesOnline}
+use Rattle.serving_commands.specs.Plan.{WritesPlan}
+use Rattle.reading_commands.proofs.AuditFacts.{sure_sound}
+use Rattle.reading_commands.proofs.CheckFacts.{OnlineLaw, sure_yes}
+use Rattle.reading_commands.proofs.CompareFacts.{writes_comparison}
 use Rattle.sincronia_cli.proofs.OutcomeFacts.{outcome_by}
 use Rattle.command_files.proofs.SinkFacts.{appended}
-use Rattle.sincronia_cli.proofs.OnlineFacts.{writes_online}
-use Rattle.sincronia_cli.proofs.PlanFacts.{writes_plan}
+use Rattle.serving_commands.proofs.OnlineFacts.{writes_online}
+use Rattle.serving_commands.proofs.PlanFacts.{writes_plan}
 
 module _ {X : Type 0} (E : Type 0) (S : TableFacts → List (List ℕ) → Type 0) (words : List Text) (by said : Said) (told : Option Told) (bench : List Meaning) (s : Status)
     (text lent : List ℕ) (old new : Option (List ℕ)) (x : X) where

@@ -1,27 +1,13 @@
 -- When a command ends well.
 use Rattle.std.specs.Prelude.{◌≡◌, ◌⊎◌, Option, IsSomeAnd}
-use Rattle.command_words.specs.Jobs.{Job, report_name}
+use Rattle.command_words.specs.Jobs.{Job}
 use Rattle.command_words.specs.Jobs.Job.{audit_job, check_job, classes_job, compare_job, live_job, make_job, online_job, plan_job}
 use Rattle.command_words.specs.Words.{Said}
 use Rattle.outside.specs.Shelf.{Told}
 use Rattle.command_files.specs.declared.status.Status.{Status}
 use Rattle.command_files.specs.declared.status.Status.TheVariants.{No, Ok}
-use Rattle.command_files.specs.Causes.{FilesGiveScript, FilesGiveTable}
-use Rattle.command_files.specs.Inputs.{bytes_if}
-use Rattle.sincronia_cli.specs.Online.{PublishesFew}
-use Rattle.command_files.specs.Reports.{IsJournalText, IsReportText}
-
--- the texts of all files that the command reads have no fault, and they are within the limits
-abbrev pub HasGoodFiles : Job → Said → Told → Type 0
-HasGoodFiles (plan_job trace) said t = FilesGiveTable said t
-HasGoodFiles (check_job trace report) said t = FilesGiveTable said t × IsReportText (bytes_if t (report_name said.job))
-HasGoodFiles (make_job seed) said t = Unit {0}
-HasGoodFiles (compare_job trace) said t = FilesGiveTable said t
-HasGoodFiles (classes_job trace) said t = FilesGiveTable said t
-HasGoodFiles (audit_job trace journal) said t =
-    FilesGiveTable said t × IsJournalText (bytes_if t (report_name said.job))
-HasGoodFiles (online_job trace) said t = FilesGiveTable said t
-HasGoodFiles (live_job trace script) said t = FilesGiveScript said t
+use Rattle.command_files.specs.GoodFiles.{HasGoodFiles}
+use Rattle.serving_commands.specs.Online.{PublishesFew}
 
 -- the files that the command reads are told, and they are good; an online run of them does not publish too many orders
 abbrev pub AreGood : Job → Said → Option Told → Type 0

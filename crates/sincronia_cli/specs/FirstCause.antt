@@ -6,9 +6,10 @@ use Rattle.outside.specs.Shelf.{Told}
 use Rattle.command_files.specs.declared.status.Status.{Status}
 use Rattle.command_files.specs.declared.status.Status.TheVariants.{BadReport, BadScript, BadTrace, BadWeights, Limit, NoMemory, Ok, ReadFault, WireFault, WriteFault}
 use Rattle.command_files.specs.Causes.{FilesBadScript, FilesTraceFault, FilesWeightsFault}
-use Rattle.sincronia_cli.specs.Causes.{FilesReportFault}
-use Rattle.sincronia_cli.specs.Complete.{EndsWell, HasGoodFiles}
-use Rattle.sincronia_cli.specs.Online.{CommandLimit, PublishesFew}
+use Rattle.command_files.specs.JobCauses.{FilesReportFault}
+use Rattle.sincronia_cli.specs.Complete.{EndsWell}
+use Rattle.command_files.specs.GoodFiles.{HasGoodFiles}
+use Rattle.serving_commands.specs.Online.{CommandLimit, PublishesFew}
 use Rattle.command_files.specs.TraceCauses.{IsTraceForm}
 use Rattle.command_files.specs.WeightsCauses.{IsWeightsForm}
 

@@ -1,14 +1,5 @@
 pub mod Command
-pub mod Plan
-pub mod Check
-pub mod Audit
-pub mod Make
-pub mod Compare
-pub mod Classes
-pub mod Online
-pub mod Live
 pub mod Outcome
-pub mod Serving
 pub mod Causes
 pub mod Complete
 pub mod FirstCause

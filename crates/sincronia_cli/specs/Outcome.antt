@@ -8,15 +8,15 @@ use Rattle.outside.specs.Shelf.{Told}
 use Rattle.rankers.specs.Meaning.{Meaning}
 use Rattle.command_files.specs.declared.status.Status.{Status}
 use Rattle.command_files.specs.declared.status.Status.TheVariants.{No, Ok, WriteFault}
-use Rattle.sincronia_cli.specs.Audit.{AuditOf, WritesUnsound}
-use Rattle.sincronia_cli.specs.Check.{CheckOf, WritesNo, status_for}
-use Rattle.sincronia_cli.specs.Classes.{ClassesOf}
-use Rattle.sincronia_cli.specs.Compare.{ComparisonOf}
-use Rattle.sincronia_cli.specs.Make.{MadeOf}
+use Rattle.reading_commands.specs.Audit.{AuditOf, WritesUnsound}
+use Rattle.reading_commands.specs.Check.{CheckOf, WritesNo, status_for}
+use Rattle.reading_commands.specs.Classes.{ClassesOf}
+use Rattle.reading_commands.specs.Compare.{ComparisonOf}
+use Rattle.serving_commands.specs.Make.{MadeOf}
 use Rattle.command_files.specs.Written.{AppendsBeginning}
-use Rattle.sincronia_cli.specs.Live.{LiveOf}
-use Rattle.sincronia_cli.specs.Online.{OnlineOf}
-use Rattle.sincronia_cli.specs.Plan.{PlanOf}
+use Rattle.serving_commands.specs.Live.{LiveOf}
+use Rattle.serving_commands.specs.Online.{OnlineOf}
+use Rattle.serving_commands.specs.Plan.{PlanOf}
 
 module _ (Sent : TableFacts → List (List ℕ) → Type 0) where
   -- The text of the command and the status that it ends with, where the bench has these rankers. Where a plan, an

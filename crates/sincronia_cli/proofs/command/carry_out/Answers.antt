@@ -3,7 +3,7 @@ use Rattle.std.specs.Prelude.{◌⊎◌}
 use Rattle.command_words.specs.Jobs.{job_by}
 use Rattle.command_words.specs.Words.{said_with}
 use Rattle.command_words.specs.declared.job.Job.{Job}
-use Rattle.sincronia_cli.specs.Serving.{Sends, Serves}
+use Rattle.serving_commands.specs.Serving.{Sends, Serves}
 use Rattle.sincronia_cli.proofs.command.carry_out.Goals as goal
 
 pub returns-in-Live-clause-sent : goal.returns-in-Live-clause-sent

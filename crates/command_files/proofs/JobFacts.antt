@@ -1,0 +1,33 @@
+-- The causes of the statuses of a command whose job says what its other file is.
+use Rattle.std.proofs.Common.{◌≡◌, ◌<◌, ℕ, List, Option, arith}
+use Rattle.command_words.specs.Jobs.{Job, trace_name}
+use Rattle.command_words.specs.Jobs.Job.{audit_job, check_job, classes_job, compare_job, live_job, make_job, online_job, plan_job}
+use Rattle.command_words.specs.Words.{Said}
+use Rattle.live_text.specs.Reading.{IsBadAt}
+use Rattle.outside.specs.Shelf.{Told}
+use Rattle.verdicts.proofs.OneReport.{any_line_one}
+use Rattle.command_files.specs.declared.status.Status.{Status}
+use Rattle.command_files.specs.InputCauses.{HasInputCause}
+use Rattle.command_files.specs.JobCauses.{HasFilesCause, IsBadFor}
+use Rattle.command_files.proofs.CauseFacts.{input_cause}
+
+-- ---- the causes of trace and weights
+
+pub from_input : (before now : ℕ) (old new : Option Told) (said : Said) (s : Status) → HasInputCause before now old new (trace_name said.job) said.weights said.unit s →
+    HasFilesCause before now old new said s
+from_input before now old new said s h = input_cause (IsBadFor said.job) before now old new said s h
+
+-- ---- a text that is bad is bad at one line
+
+journal_not_before : (bytes : List ℕ) (m n : ℕ) → IsBadAt bytes m → IsBadAt bytes n → m < n → ⊥
+journal_not_before bytes m n at_m at_n less = at_m.here (at_n.before m less)
+
+pub bad_line_one : (k : Job) (bytes : List ℕ) (m n : ℕ) → IsBadFor k bytes m → IsBadFor k bytes n → m ≡ n
+bad_line_one (plan_job trace) bytes m n x y = any_line_one bytes m n x y
+bad_line_one (check_job trace report) bytes m n x y = any_line_one bytes m n x y
+bad_line_one (make_job seed) bytes m n x y = any_line_one bytes m n x y
+bad_line_one (compare_job trace) bytes m n x y = any_line_one bytes m n x y
+bad_line_one (classes_job trace) bytes m n x y = any_line_one bytes m n x y
+bad_line_one (online_job trace) bytes m n x y = any_line_one bytes m n x y
+bad_line_one (live_job trace script) bytes m n x y = any_line_one bytes m n x y
+bad_line_one (audit_job trace journal) bytes m n x y = grind (arith, journal_not_before bytes m n x y, journal_not_before bytes n m y x)

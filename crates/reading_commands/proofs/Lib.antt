@@ -1,0 +1,3 @@
+pub mod CompareFacts
+pub mod CheckFacts
+pub mod AuditFacts

@@ -1,0 +1,4 @@
+pub mod Check
+pub mod Audit
+pub mod Compare
+pub mod Classes

@@ -1,0 +1,28 @@
+use Rattle.std.proofs.Common.{Err, ap, inl}
+use Rattle.command_words.specs.Jobs.Job.{online_job}
+use Rattle.command_words.specs.Words.{said_with}
+use Rattle.command_files.proofs.ShelfFacts.{passed_on}
+use Rattle.command_files.specs.JobCauses.{HasFilesCause}
+use Rattle.command_files.proofs.JobFacts.{from_input}
+use Rattle.serving_commands.proofs.OnlineFacts.{online_cause, publishes_few, publishes_more}
+use Rattle.serving_commands.proofs.onlining.run_online.Goals as goal
+
+pub returns-in_err-input-clause-cause : goal.returns-in_err-input-clause-cause
+returns-in_err-input-clause-cause g c =
+    passed_on c.from_residual.result c.in_err-input.field-0.0 _ c.from_residual.ensures.1
+    (inl (from_input (g.H.Shelf.faults c.args.shelf.now) (g.H.Shelf.faults c.read_input.new.shelf) (g.H.Shelf.told c.args.shelf.now) (g.H.Shelf.told c.read_input.new.shelf)
+    (said_with (online_job c.args.trace.now) c.args.options) c.in_err-input.field-0.0 c.in_err-input.ensures.cause))
+
+pub returns-in-Ok-clause-few : goal.returns-in-Ok-clause-few
+returns-in-Ok-clause-few g c =
+    publishes_few (g.H.Shelf.told c.args.shelf.now) (said_with (online_job c.args.trace.now) c.args.options) c.in_ok-input.input.table c.in_ok-input.input.weights
+    c.in_ok-input.ensures.input c.args.trace.now c.in-Ok.ensures.text.0.few
+
+pub returns-clause-cause : goal.returns-clause-cause
+returns-clause-cause g c =
+    online_cause c.in-Err.fault c.status_of.result
+    (HasFilesCause (g.H.Shelf.faults c.args.shelf.now) (g.H.Shelf.faults c.read_input.new.shelf) (g.H.Shelf.told c.args.shelf.now) (g.H.Shelf.told c.read_input.new.shelf)
+    (said_with (online_job c.args.trace.now) c.args.options)) _ _ c.status_of.ensures tt
+    (λ port is. (c.in_ok-input.input.table, c.in_ok-input.input.weights, c.in_ok-input.ensures.input, c.in-Err.ensures.fault port (ap Err is)))
+    (λ count is. publishes_more (g.H.Shelf.told c.args.shelf.now) (said_with (online_job c.args.trace.now) c.args.options) c.in_ok-input.input.table
+    c.in_ok-input.input.weights c.in_ok-input.ensures.input count c.in_ok-input.ensures.table (c.in-Err.ensures.too_many count (ap Err is)))

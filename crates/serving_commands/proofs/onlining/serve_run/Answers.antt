@@ -1,0 +1,17 @@
+use Rattle.std.proofs.Common.{◌∙◌, IfOk, ℕ, List, subst}
+use Rattle.coflow_units.proofs.Fronts.{written_back}
+use Rattle.served_online.specs.Told.{PublishesMore, SendsAll, TellsOnline}
+use Rattle.serving_commands.proofs.WireFacts.{moved}
+use Rattle.serving_commands.proofs.onlining.serve_run.Goals as goal
+
+pub returns-clause-text : goal.returns-clause-text
+returns-clause-text g c =
+    moved (λ before after weights. IfOk c.served_online.result (λ text.
+    (told : TellsOnline c.args.input.now.table weights c.args.options.slot_ms c.args.options.epoch text.items) ×
+    SendsAll g.W.Wire.runs before after c.args.input.now.table told.online)) _ _ _ _ _ _
+    c.deref_mut.ensures.value (written_back _ _ _ (c.served_online.auto.wires ∙ c.deref_mut.ensures.len)) c.as_slice.ensures c.served_online.ensures.text
+
+pub returns-clause-too_many : goal.returns-clause-too_many
+returns-clause-too_many g c = λ count e.
+    subst (λ (weights : List ℕ). PublishesMore c.args.input.now.table weights c.args.options.slot_ms c.args.options.epoch count) c.as_slice.ensures
+    (c.served_online.ensures.too_many count e)
