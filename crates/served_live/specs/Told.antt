@@ -47,7 +47,7 @@ module _ {W : Type 0} (runs : W → Option (List (ℕ × ℕ × ℕ))) where
 
 module _ {W : Type 0} (faults : W → ℕ) (runs : W → Option (List (ℕ × ℕ × ℕ))) where
   -- The count of faults of the port's wire rose. What was sent is what a legal journal sent: of its last run a unit is
-  -- missing at this port, and none at lesser ports.
+  -- missing at this port, and none at lesser ports. Each earlier run was sent whole.
   pub record FailsAt (before after : List W) (port : ℕ) (table : TableFacts) (weights : List ℕ) (script : Script) :
       Type 0 where
     pub fits : port < table.ports
