@@ -4,7 +4,9 @@
 mod callers;
 mod draw;
 mod seats;
+mod stop;
 
 pub use callers::{Client, MAX_EACH, Pilot, Said, Size, play_all};
 pub use draw::{Ask, Draw, Order};
 pub use seats::{CLIENTS, begun, master_of, seated};
+pub use stop::Stop;

@@ -3,10 +3,9 @@ ghost use Rattle.std.specs.Prelude.{◌≤◌, IfOk, vec_len};
 ghost use Rattle.coflow_units.specs.declared.limits.TheConstants.{MAX_TEXT};
 ghost use Rattle.hall_callers.specs.declared.callers.TheConstants.{MAX_EACH};
 
-use crate::stop::Stop;
 use coflow_units::MAX_TEXT;
 use flow_table::Table;
-use hall_callers::MAX_EACH;
+use hall_callers::{MAX_EACH, Stop};
 use outside::{Place4, Shelf, read_all};
 use std::alloc::Global;
 use trace_tables::{TextFault, table_of_text};

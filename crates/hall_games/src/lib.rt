@@ -4,10 +4,8 @@
 
 mod closing;
 mod game;
-mod locked;
 mod playing;
-mod stop;
 mod telling;
 
+pub use hall_callers::Stop;
 pub use playing::play_words;
-pub use stop::Stop;

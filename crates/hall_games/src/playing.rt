@@ -7,12 +7,11 @@ ghost use Rattle.hall_callers.specs.declared.callers.TheConstants.{MAX_EACH};
 
 use crate::closing::closed;
 use crate::game::{Game, Mode, game_of};
-use crate::locked::contend;
-use crate::stop::Stop;
 use crate::telling::{tell_end, tell_said};
 use client_session::Hall;
 use flow_table::Table;
-use hall_callers::{Client, Pilot, Size, begun, master_of, play_all, seated};
+use hall_callers::{Client, Pilot, Size, Stop, begun, master_of, play_all, seated};
+use locked_games::contend;
 use outside::Shelf;
 use std::alloc::Global;
 use std::io;

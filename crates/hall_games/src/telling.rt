@@ -1,7 +1,6 @@
 //! What is printed of a game.
 use crate::game::Mode;
-use crate::stop::Stop;
-use hall_callers::{CLIENTS, Client, Said, Size};
+use hall_callers::{CLIENTS, Client, Said, Size, Stop};
 use master_core::Master;
 use std::io;
 use std::time::Duration;

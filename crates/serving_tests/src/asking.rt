@@ -10,42 +10,30 @@ use std::sync::Wait;
 use std::test::Fail;
 use std::thread::Threads;
 
-/// The files of a job by their names, and how many bytes the sink takes until it fails.
+/// What is asked of the files `t` and `s`.
 #[derive(Clone, Copy)]
-pub(crate) struct Files<'a> {
-    pub(crate) named: [(&'a str, &'a [u8]); 2],
+pub(crate) struct Asked<'a> {
+    /// The words behind the program's name, but for the last one.
+    pub(crate) words: &'a [&'a str],
+    pub(crate) last: &'a str,
+    pub(crate) named: [&'a [u8]; 2],
+    /// How many bytes the sink takes until it fails.
     pub(crate) after: Option<u64>,
 }
 
-/// Two files, and a sink that does not fail.
-pub(crate) fn two_files<'a>(first: (&'a str, &'a [u8]), second: (&'a str, &'a [u8])) -> Files<'a> {
-    Files {
-        named: [first, second],
-        after: None,
-    }
-}
-
-/// The status and the bytes taken, of the words behind the program's name.
+/// The status and the bytes taken.
 pub(crate) fn ask<R: Threads + Wait + Sync + Abort, W: Wire + Send, G: Gate + Send>(
     rt: &R,
     alloc: Global,
-    texts: &[&str],
-    files: Files<'_>,
+    asked: Asked<'_>,
     wires: &mut Vec<W>,
     gates: &mut Vec<G>,
 ) -> Result<(Status, MemSink), Fail> {
     let enough = wires.len() > MAX_PORTS as usize && gates.len() >= MAX_CLIENTS as usize;
     assert!(rt; enough);
-    let mut shelf = MemShelf::new(alloc, 64, Vec::new(alloc))?;
-    for (name, bytes) in files.named {
-        shelf.put(name, bytes)?;
-    }
-    let mut out = MemSink::new(alloc, 4096, files.after)?;
-    let mut words = Vec::new(alloc);
-    words.push(String::from_str(alloc, "sincronia")?)?;
-    for text in texts {
-        words.push(String::from_str(alloc, text)?)?;
-    }
+    let words = words_of(alloc, asked)?;
+    let mut shelf = shelf_of(alloc, asked)?;
+    let mut out = MemSink::new(alloc, 4096, asked.after)?;
     let mut bench = Vec::new(alloc);
     let status = sincronia(
         rt, alloc, &words, &mut shelf, &mut out, wires, gates, &mut bench,
@@ -53,8 +41,31 @@ pub(crate) fn ask<R: Threads + Wait + Sync + Abort, W: Wire + Send, G: Gate + Se
     Ok((status, out))
 }
 
+fn words_of(alloc: Global, asked: Asked<'_>) -> Result<Vec<String>, Fail> {
+    let mut words = Vec::new(alloc);
+    words.push(String::from_str(alloc, "sincronia")?)?;
+    for text in asked.words {
+        words.push(String::from_str(alloc, text)?)?;
+    }
+    words.push(String::from_str(alloc, asked.last)?)?;
+    Ok(words)
+}
+
+fn shelf_of(alloc: Global, asked: Asked<'_>) -> Result<MemShelf, Fail> {
+    let mut shelf = MemShelf::new(alloc, 64, Vec::new(alloc))?;
+    shelf.put("t", asked.named[0])?;
+    shelf.put("s", asked.named[1])?;
+    Ok(shelf)
+}
+
 /// A gate for each client, which holds nobody back.
 pub(crate) fn open_gates(alloc: Global) -> Result<Vec<OpenGate>, Fail> {
     let gates = vec![in alloc; OpenGate; MAX_CLIENTS as usize]?;
     Ok(gates)
+}
+
+/// Stops where a job came to another status or another text.
+pub(crate) fn expect<R: Abort>(rt: &R, status: Status, text: &[u8], wanted: (Status, &[u8])) {
+    assert_eq!(rt; status, wanted.0);
+    assert_eq!(rt; text, wanted.1);
 }

@@ -1,6 +1,6 @@
 //! Clients of a script that wait for each other at their gates, and for a wire.
-use crate::asking::{ask, two_files};
-use crate::meeting::{MeetingGate, Pair, meeting_gates, meeting_wires};
+use crate::asking::{Asked, ask};
+use crate::meeting::{MeetingGate, Pair, Side, meeting_gates, meeting_wires};
 use crate::texts::TWO;
 use command_files::Status;
 use outside::MemSink;
@@ -10,16 +10,52 @@ use std::sync::Wait;
 use std::test::Fail;
 use std::thread::Threads;
 
-/// The status of a script over two flows, and what was written, on wires that accept all.
-fn played<R: Threads + Wait + Sync + Abort>(
+/// A command over two flows and a script, and who waits for whom: a client at one of its lines, and another client at one of its, or the wires.
+#[derive(Clone, Copy)]
+struct Scene<'a> {
+    words: &'a [&'a str],
+    last: &'a str,
+    script: &'a [u8],
+    first: Option<u32>,
+    second: Option<u32>,
+    wires: bool,
+}
+
+/// The status, what was written, and whether the gates of the first two clients were passed where they wait, and did not give up.
+fn play<R: Threads + Wait + Sync + Abort>(
     rt: &R,
     alloc: Global,
-    script: &[u8],
-    gates: &mut Vec<MeetingGate<'_>>,
-) -> Result<(Status, MemSink), Fail> {
-    let mut wires = meeting_wires(alloc, None, None)?;
-    let named = two_files(("t", TWO), ("s", script));
-    ask(rt, alloc, &["live", "t", "s"], named, &mut wires, gates)
+    scene: Scene<'_>,
+) -> Result<(Status, MemSink, [bool; 2]), Fail> {
+    let asked = Asked {
+        words: scene.words,
+        last: scene.last,
+        named: [TWO, scene.script],
+        after: None,
+    };
+    let pair = Pair::new();
+    let side = if scene.wires {
+        Some(pair.second())
+    } else {
+        None
+    };
+    let mut wires = meeting_wires(alloc, side, None)?;
+    let (first, second) = (
+        at_line(scene.first, pair.first()),
+        at_line(scene.second, pair.second()),
+    );
+    let mut gates = meeting_gates(alloc, first, second)?;
+    let (status, out) = ask(rt, alloc, asked, &mut wires, &mut gates)?;
+    let met = [has_met(&gates, 0), has_met(&gates, 1)];
+    Ok((status, out, met))
+}
+
+/// Where a client waits, with its side of the pair.
+fn at_line(line: Option<u32>, side: Side<'_>) -> Option<(u32, Side<'_>)> {
+    match line {
+        Some(line) => Some((line, side)),
+        None => None,
+    }
 }
 
 /// Whether the gate of a client, counted from 0, was passed where it waits, and did not give up.
@@ -28,6 +64,48 @@ fn has_met(gates: &[MeetingGate<'_>], client: usize) -> bool {
         Some(gate) => gate.passed && !gate.gave_up,
         None => false,
     }
+}
+
+/// Stops where the scene ends otherwise: with another status, or with other gates that were met.
+fn meets<R: Threads + Wait + Sync + Abort>(
+    rt: &R,
+    alloc: Global,
+    scene: Scene<'_>,
+    wanted: [bool; 2],
+) -> Result<(), Fail> {
+    let (status, _out, met) = play(rt, alloc, scene)?;
+    assert_eq!(rt; status, Status::Ok);
+    assert_eq!(rt; met, wanted);
+    Ok(())
+}
+
+/// Two clients that register beside each other.
+const BESIDE: Scene<'static> = Scene {
+    words: &["live", "t"],
+    last: "s",
+    script: b"1 register 1\n2 register 2\nwait\n",
+    first: Some(1),
+    second: Some(2),
+    wires: false,
+};
+
+// No clause says that the clients of a round ask beside each other. Where one of them ended before the other began, a gate would give up here.
+#[test]
+fn two_clients_ask_at_the_same_time(rt: HostRuntime) -> Result<(), Fail> {
+    meets(&rt, rt.alloc(), BESIDE, [true, true])
+}
+
+// Nor does a clause say that a run is served beside the clients of its round.
+#[test]
+fn a_run_is_served_while_a_client_waits(rt: HostRuntime) -> Result<(), Fail> {
+    let scene = Scene {
+        script: b"1 register 1\n1 publish\nwait\n1 register 2\nslot\n",
+        first: Some(4),
+        second: None,
+        wires: true,
+        ..BESIDE
+    };
+    meets(&rt, rt.alloc(), scene, [true, false])
 }
 
 /// Whether the bytes have this line.
@@ -40,69 +118,35 @@ fn has_line(bytes: &[u8], line: &[u8]) -> bool {
     false
 }
 
-// No clause says that the clients of a round ask beside each other. Where one of them ended before the other began, a gate would give up here.
-#[test]
-fn two_clients_ask_at_the_same_time(rt: HostRuntime) -> Result<(), Fail> {
-    let pair = Pair::new();
-    let (first, second) = (Some((1, pair.first())), Some((2, pair.second())));
-    let mut gates = meeting_gates(rt.alloc(), first, second)?;
-    let script = b"1 register 1\n2 register 2\nwait\n";
-    let (status, _out) = played(&rt, rt.alloc(), script, &mut gates)?;
-    assert_eq!(rt; status, Status::Ok);
-    assert!(rt; has_met(&gates, 0));
-    assert!(rt; has_met(&gates, 1));
-    Ok(())
-}
-
-// Nor does a clause say that a run is served beside the clients of its round.
-#[test]
-fn a_run_is_served_while_a_client_waits(rt: HostRuntime) -> Result<(), Fail> {
-    let alloc = rt.alloc();
-    let pair = Pair::new();
-    let mut gates = meeting_gates(alloc, Some((4, pair.first())), None)?;
-    let mut wires = meeting_wires(alloc, Some(pair.second()), None)?;
-    let script: &[u8] = b"1 register 1\n1 publish\nwait\n1 register 2\nslot\n";
-    let named = two_files(("t", TWO), ("s", script));
-    let (status, _out) = ask(
-        &rt,
-        alloc,
-        &["live", "t", "s"],
-        named,
-        &mut wires,
-        &mut gates,
-    )?;
-    assert_eq!(rt; status, Status::Ok);
-    assert!(rt; has_met(&gates, 0));
-    Ok(())
-}
-
 // A client reads its rank without a turn. The second client goes on where the first one, behind its own publishing, comes to its pull.
 #[test]
 fn both_pulls_have_the_order_that_was_published_before(rt: HostRuntime) -> Result<(), Fail> {
-    let pair = Pair::new();
-    let (first, second) = (Some((4, pair.first())), Some((5, pair.second())));
-    let mut gates = meeting_gates(rt.alloc(), first, second)?;
-    let script = b"1 register 1\nwait\n1 publish\n1 pull 1\n2 pull 1\nwait\n";
-    let (status, out) = played(&rt, rt.alloc(), script, &mut gates)?;
+    let scene = Scene {
+        script: b"1 register 1\nwait\n1 publish\n1 pull 1\n2 pull 1\nwait\n",
+        first: Some(4),
+        second: Some(5),
+        ..BESIDE
+    };
+    let (status, out, met) = play(&rt, rt.alloc(), scene)?;
+    let first = has_line(out.bytes(), b"pull 1 4 1 1 1");
+    let second = has_line(out.bytes(), b"pull 2 5 1 1 1");
     assert_eq!(rt; status, Status::Ok);
-    assert!(rt; has_met(&gates, 1));
-    assert!(rt; has_line(out.bytes(), b"pull 1 4 1 1 1"));
-    assert!(rt; has_line(out.bytes(), b"pull 2 5 1 1 1"));
+    assert_eq!(rt; met, [true, true]);
+    assert!(rt; first && second);
     Ok(())
 }
 
 // The gates of other commands are not passed.
 #[test]
 fn no_other_command_passes_a_gate(rt: HostRuntime) -> Result<(), Fail> {
-    let alloc = rt.alloc();
-    let pair = Pair::new();
-    let mut gates = meeting_gates(alloc, Some((1, pair.first())), None)?;
-    let mut wires = meeting_wires(alloc, None, None)?;
-    let named = two_files(("t", TWO), ("s", b"1 register 1\n"));
-    for words in [&["plan", "t"], &["online", "t"], &["classes", "t"]] {
-        let (status, _out) = ask(&rt, alloc, words, named, &mut wires, &mut gates)?;
-        assert_eq!(rt; status, Status::Ok);
-        assert!(rt; !has_met(&gates, 0));
+    for word in ["plan", "online", "classes"] {
+        let scene = Scene {
+            words: &[word],
+            last: "t",
+            second: None,
+            ..BESIDE
+        };
+        meets(&rt, rt.alloc(), scene, [false, false])?;
     }
     Ok(())
 }

@@ -12,6 +12,8 @@ mod meeting;
 #[cfg(test)]
 mod meeting_tests;
 #[cfg(test)]
+mod sending;
+#[cfg(test)]
 mod texts;
 #[cfg(test)]
 mod wire_tests;

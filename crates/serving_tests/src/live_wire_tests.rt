@@ -1,6 +1,6 @@
 //! What a script sends on wires, and what comes of wires and sinks that fail.
+use crate::sending::{Row, send_rows};
 use crate::texts::TWO;
-use crate::wire_tests::served;
 use coflow_units::Quantity;
 use command_files::Status;
 use std::test::Fail;
@@ -27,69 +27,90 @@ end
 
 const SCRIPT_SENT: &str = "0: 1 1 1\n0: 2 0 3\n";
 
+/// The script by any number of agents.
+const LIVE: Row<'static> = Row {
+    words: &["live", "t", "s", "--run=4"],
+    last: &["--agents=1", "--agents=2", "--agents=64"],
+    named: [TWO, SCRIPT],
+    fail_at: [0, 0],
+    after: None,
+    status: Status::Ok,
+    text: SCRIPT_TEXT,
+    sent: SCRIPT_SENT,
+};
+
 #[test]
 fn scripts_are_served_by_any_number_of_agents(rt: HostRuntime) -> Result<(), Fail> {
-    for agents in ["--agents=1", "--agents=2", "--agents=64"] {
-        let words = ["live", "t", "s", "--run=4", agents];
-        let (status, out, wires) = served(&rt, rt.alloc(), &words, [TWO, SCRIPT], [0, 0], None)?;
-        assert_eq!(rt; status, Status::Ok);
-        assert_eq!(rt; out.bytes(), SCRIPT_TEXT);
-        assert_eq!(rt; wires.as_str(), SCRIPT_SENT);
-    }
-    Ok(())
+    send_rows(&rt, rt.alloc(), &[LIVE])
 }
+
+/// A script of which nothing is written.
+const UNWRITTEN: Row<'static> = Row {
+    last: &["--agents=1"],
+    text: b"",
+    sent: "",
+    ..LIVE
+};
 
 #[test]
 fn a_script_ends_at_a_unit_that_is_not_accepted(rt: HostRuntime) -> Result<(), Fail> {
-    let rows = [
-        (1, ""),
-        (2, "0: 1 1 1\n"),
-        (3, "0: 1 1 1\n0: 2 0 1\n"),
-        (5, SCRIPT_SENT),
+    const ENDED: Row<'static> = Row {
+        status: Status::WireFault { port: 0, count: 1 },
+        ..UNWRITTEN
+    };
+    const ROWS: &[Row<'static>] = &[
+        Row {
+            fail_at: [1, 0],
+            ..ENDED
+        },
+        Row {
+            fail_at: [2, 0],
+            sent: "0: 1 1 1\n",
+            ..ENDED
+        },
+        Row {
+            fail_at: [3, 0],
+            sent: "0: 1 1 1\n0: 2 0 1\n",
+            ..ENDED
+        },
+        Row {
+            fail_at: [5, 0],
+            ..LIVE
+        },
     ];
-    for (unit, sent) in rows {
-        let words = ["live", "t", "s", "--run", "4"];
-        let (status, out, wires) = served(&rt, rt.alloc(), &words, [TWO, SCRIPT], [unit, 0], None)?;
-        if unit <= 4 {
-            assert_eq!(rt; status, Status::WireFault { port: 0, count: 1 });
-            assert_eq!(rt; out.bytes().len(), 0);
-        } else {
-            assert_eq!(rt; status, Status::Ok);
-        }
-        assert_eq!(rt; wires.as_str(), sent, "at {unit}");
-    }
-    Ok(())
+    send_rows(&rt, rt.alloc(), ROWS)
 }
 
+// A text that is not taken whole was sent all the same.
 #[test]
 fn a_bad_script_sends_nothing(rt: HostRuntime) -> Result<(), Fail> {
-    // A text that is not taken whole was sent all the same.
-    let clients = Status::Limit {
+    const CLIENTS: Status = Status::Limit {
         which: Quantity::Clients,
         count: 65,
     };
-    let written = Status::WriteFault { count: 1 };
-    let rows: [(&[u8], Option<u64>, Status, &str); 4] = [
-        (
-            b"1 register 9\nwait\n",
-            None,
-            Status::BadScript { line: 1, field: 3 },
-            "",
-        ),
-        (b"65 publish\nwait\n", None, clients, ""),
-        (
-            b"1 jump\nwait\n",
-            None,
-            Status::BadScript { line: 1, field: 2 },
-            "",
-        ),
-        (SCRIPT, Some(10), written, SCRIPT_SENT),
+    const ROWS: &[Row<'static>] = &[
+        Row {
+            named: [TWO, b"1 register 9\nwait\n"],
+            status: Status::BadScript { line: 1, field: 3 },
+            ..UNWRITTEN
+        },
+        Row {
+            named: [TWO, b"65 publish\nwait\n"],
+            status: CLIENTS,
+            ..UNWRITTEN
+        },
+        Row {
+            named: [TWO, b"1 jump\nwait\n"],
+            status: Status::BadScript { line: 1, field: 2 },
+            ..UNWRITTEN
+        },
+        Row {
+            after: Some(10),
+            status: Status::WriteFault { count: 1 },
+            text: b"sincronia ",
+            sent: SCRIPT_SENT,
+            ..UNWRITTEN
+        },
     ];
-    for (script, after, want, sent) in rows {
-        let words = ["live", "t", "s", "--run=4"];
-        let (status, _out, wires) = served(&rt, rt.alloc(), &words, [TWO, script], [0, 0], after)?;
-        assert_eq!(rt; status, want);
-        assert_eq!(rt; wires.as_str(), sent);
-    }
-    Ok(())
+    send_rows(&rt, rt.alloc(), ROWS)
 }

@@ -1,9 +1,14 @@
 //! Agents that wait for each other on the wires of a plan, of an online run and of a script.
-use crate::asking::{ask, open_gates, two_files};
+use crate::asking::{Asked, ask, expect, open_gates};
 use crate::meeting::{Pair, meeting_wires};
 use crate::texts::{CROSSED, CROSSED_TEXT};
 use command_files::Status;
+use outside::MemSink;
+use std::alloc::Global;
+use std::process::Abort;
+use std::sync::Wait;
 use std::test::Fail;
+use std::thread::Threads;
 
 /// The online run: both coflows are there at once, and nobody owes behind slot 2.
 const CROSSED_ONLINE: &[u8] = b"sincronia online 2
@@ -41,39 +46,78 @@ end
 /// The flows of both coflows are granted beside each other, in a round beside whose commands nothing is asked.
 const SCRIPT: &[u8] = b"1 register 1\n1 register 2\n1 publish\nwait\nslot\n";
 
+/// What is asked of coflows that cross, by so many agents.
+const PLAN: Asked<'static> = Asked {
+    words: &["plan", "t"],
+    last: "--agents=2",
+    named: [CROSSED, SCRIPT],
+    after: None,
+};
+
+const ONLINE: Asked<'static> = Asked {
+    words: &["online", "t"],
+    ..PLAN
+};
+
+const LIVE: Asked<'static> = Asked {
+    words: &["live", "t", "s"],
+    ..PLAN
+};
+
+/// Wires of even and of odd ports that wait for one another.
+fn meet<R: Threads + Wait + Sync + Abort>(
+    rt: &R,
+    alloc: Global,
+    asked: Asked<'_>,
+) -> Result<(Status, MemSink), Fail> {
+    let pair = Pair::new();
+    let mut gates = open_gates(alloc)?;
+    let mut wires = meeting_wires(alloc, Some(pair.first()), Some(pair.second()))?;
+    ask(rt, alloc, asked, &mut wires, &mut gates)
+}
+
+/// Stops where the job ends otherwise: because a wire gave up, say, or because there was no memory for a thread.
+fn meets<R: Threads + Wait + Sync + Abort>(
+    rt: &R,
+    alloc: Global,
+    asked: Asked<'_>,
+    wanted: (Status, &[u8]),
+) -> Result<(), Fail> {
+    let (status, out) = meet(rt, alloc, asked)?;
+    expect(rt, status, out.bytes(), wanted);
+    Ok(())
+}
+
 // No clause says that agents send beside each other. Where one of them ended before another began, the first wire would give up here, as it does where one agent has both.
 #[test]
 fn agents_send_at_the_same_time(rt: HostRuntime) -> Result<(), Fail> {
-    let gave_up = Status::WireFault { port: 0, count: 1 };
-    let nothing: &[u8] = b"";
-    let plan: &[&str] = &["plan", "t"];
-    let online: &[&str] = &["online", "t"];
-    let live: &[&str] = &["live", "t", "s"];
-    let rows = [
-        (plan, "--agents=2", Status::Ok, CROSSED_TEXT),
-        (plan, "--agents=64", Status::Ok, CROSSED_TEXT),
-        (plan, "--agents=1", gave_up, nothing),
-        (online, "--agents=2", Status::Ok, CROSSED_ONLINE),
-        (online, "--agents=1", gave_up, nothing),
-        (live, "--agents=2", Status::Ok, CROSSED_LIVE),
-        (live, "--agents=1", gave_up, nothing),
+    const ROWS: &[(Asked<'static>, &[u8])] = &[
+        (PLAN, CROSSED_TEXT),
+        (
+            Asked {
+                last: "--agents=64",
+                ..PLAN
+            },
+            CROSSED_TEXT,
+        ),
+        (ONLINE, CROSSED_ONLINE),
+        (LIVE, CROSSED_LIVE),
     ];
-    let alloc = rt.alloc();
-    for (command, agents, want, text) in rows {
-        let pair = Pair::new();
-        let mut wires = meeting_wires(alloc, Some(pair.first()), Some(pair.second()))?;
-        let mut gates = open_gates(alloc)?;
-        let mut words = Vec::new(alloc);
-        words.extend_from_slice(command)?;
-        words.push(agents)?;
-        let named = two_files(("t", CROSSED), ("s", SCRIPT));
-        let (status, out) = ask(&rt, alloc, &words, named, &mut wires, &mut gates)?;
-        assert_eq!(rt;
-            status,
-            want,
-            "a wire gave up, or there was no memory for a thread"
-        );
-        assert_eq!(rt; out.bytes(), text);
+    for (asked, text) in ROWS {
+        meets(&rt, rt.alloc(), *asked, (Status::Ok, *text))?;
+    }
+    Ok(())
+}
+
+#[test]
+fn one_agent_sends_on_one_wire_after_another(rt: HostRuntime) -> Result<(), Fail> {
+    const GAVE_UP: Status = Status::WireFault { port: 0, count: 1 };
+    for asked in [PLAN, ONLINE, LIVE] {
+        let alone = Asked {
+            last: "--agents=1",
+            ..asked
+        };
+        meets(&rt, rt.alloc(), alone, (GAVE_UP, b""))?;
     }
     Ok(())
 }

@@ -1,61 +1,14 @@
 //! What plans and online runs send on wires, and what comes of wires that fail.
-use crate::asking::{ask, open_gates, two_files};
+use crate::sending::{Row, send_rows};
 use crate::texts::{CROSSED, CROSSED_TEXT, TWO, TWO_TEXT};
-use coflow_units::MAX_PORTS;
 use command_files::Status;
-use outside::{MemSink, MemWire};
-use std::alloc::Global;
-use std::process::Abort;
-use std::sync::Wait;
 use std::test::Fail;
-use std::thread::Threads;
-
-/// A wire for each ingress port. The first two do not accept the units with these numbers, counted from 1; 0 is no unit's.
-fn wires_of(alloc: Global, fail_at: [u64; 2]) -> Result<Vec<MemWire>, Fail> {
-    let mut wires = Vec::new(alloc);
-    for port in 0..=MAX_PORTS {
-        let fails = match port {
-            0 => fail_at[0],
-            1 => fail_at[1],
-            _ => 0,
-        };
-        wires.push(MemWire::new(alloc, 8, Some(fails))?)?;
-    }
-    Ok(wires)
-}
-
-/// Tells the runs that the wires accepted, wire by wire.
-fn tell_wires(alloc: Global, wires: &[MemWire]) -> Result<String, Fail> {
-    let mut text = String::new(alloc);
-    for port in 0..wires.len() {
-        for index in 0..wires[port].len() {
-            let (slot, flow, units) = wires[port].run(index);
-            write!(text, "{port}: {slot} {flow} {units}\n")?;
-        }
-    }
-    Ok(text)
-}
-
-/// The status, what was written, and what the wires accepted, of these words over a trace `t` and a script or a report `s`.
-pub(crate) fn served<R: Threads + Wait + Sync + Abort>(
-    rt: &R,
-    alloc: Global,
-    texts: &[&str],
-    named: [&[u8]; 2],
-    fail_at: [u64; 2],
-    after: Option<u64>,
-) -> Result<(Status, MemSink, String), Fail> {
-    let mut wires = wires_of(alloc, fail_at)?;
-    let mut gates = open_gates(alloc)?;
-    let mut found = two_files(("t", named[0]), ("s", named[1]));
-    found.after = after;
-    let (status, out) = ask(rt, alloc, texts, found, &mut wires, &mut gates)?;
-    let text = tell_wires(alloc, &wires)?;
-    Ok((status, out, text))
-}
+use trace_reader::TraceFault;
 
 /// What the wires have of the plan of two flows, and of that of coflows that cross.
 const TWO_SENT: &str = "0: 1 1 1\n0: 2 0 3\n";
+
+const CROSSED_SENT: &str = "0: 1 0 1\n0: 2 2 1\n1: 1 3 1\n1: 2 1 1\n";
 
 /// A coflow of 6 units, and one of 1 unit that arrives two slots of 8 milliseconds later. They share both ports.
 const LATE: &[u8] = b"2 2\n1 0 1 0 1 1:6\n2 16 1 0 1 1:1\n";
@@ -84,137 +37,249 @@ end
 
 const LATE_SENT: &str = "0: 1 0 2\n0: 3 0 2\n0: 5 1 1\n0: 6 0 2\n";
 
-const CROSSED_SENT: &str = "0: 1 0 1\n0: 2 2 1\n1: 1 3 1\n1: 2 1 1\n";
+const AGENTS: &[&str] = &["--agents=1", "--agents=2", "--agents=4", "--agents=64"];
+
+/// The plan of two flows by any number of agents.
+const PLAN: Row<'static> = Row {
+    words: &["plan", "t"],
+    last: AGENTS,
+    named: [TWO, b""],
+    fail_at: [0, 0],
+    after: None,
+    status: Status::Ok,
+    text: TWO_TEXT,
+    sent: TWO_SENT,
+};
+
+/// The online run by any number of agents.
+const ONLINE: Row<'static> = Row {
+    words: &["online", "t", "--epoch=4"],
+    named: [LATE, b""],
+    text: LATE_TEXT,
+    sent: LATE_SENT,
+    ..PLAN
+};
 
 #[test]
 fn plans_are_sent_by_any_number_of_agents(rt: HostRuntime) -> Result<(), Fail> {
-    let rows: [(&[u8], &[u8], &str); 3] = [
-        (TWO, TWO_TEXT, TWO_SENT),
-        (CROSSED, CROSSED_TEXT, CROSSED_SENT),
-        (
-            b"2 0\n",
-            b"sincronia 2\nbound 0\nslack 0\ncost 0\nend\n",
-            "",
-        ),
+    const ROWS: &[Row<'static>] = &[
+        PLAN,
+        Row {
+            named: [CROSSED, b""],
+            text: CROSSED_TEXT,
+            sent: CROSSED_SENT,
+            ..PLAN
+        },
+        Row {
+            named: [b"2 0\n", b""],
+            text: b"sincronia 2\nbound 0\nslack 0\ncost 0\nend\n",
+            sent: "",
+            ..PLAN
+        },
     ];
-    for (trace, text, sent) in rows {
-        for agents in ["--agents=1", "--agents=2", "--agents=4", "--agents=64"] {
-            let words = ["plan", "t", agents];
-            let (status, out, wires) = served(&rt, rt.alloc(), &words, [trace, b""], [0, 0], None)?;
-            assert_eq!(rt; status, Status::Ok);
-            assert_eq!(rt; out.bytes(), text);
-            assert_eq!(rt; wires.as_str(), sent);
-        }
-    }
-    Ok(())
+    send_rows(&rt, rt.alloc(), ROWS)
 }
+
+/// The plan of two flows by one agent, on a wire that fails.
+const FAILED: Row<'static> = Row {
+    words: &["plan"],
+    last: &["t"],
+    status: Status::WireFault { port: 0, count: 1 },
+    text: b"",
+    ..PLAN
+};
 
 #[test]
 fn each_unit_of_a_wire_fails_in_turn(rt: HostRuntime) -> Result<(), Fail> {
-    let rows = [
-        (1, ""),
-        (2, "0: 1 1 1\n"),
-        (3, "0: 1 1 1\n0: 2 0 1\n"),
-        (4, "0: 1 1 1\n0: 2 0 2\n"),
-        (5, TWO_SENT),
+    const ROWS: &[Row<'static>] = &[
+        Row {
+            fail_at: [1, 0],
+            sent: "",
+            ..FAILED
+        },
+        Row {
+            fail_at: [2, 0],
+            sent: "0: 1 1 1\n",
+            ..FAILED
+        },
+        Row {
+            fail_at: [3, 0],
+            sent: "0: 1 1 1\n0: 2 0 1\n",
+            ..FAILED
+        },
+        Row {
+            fail_at: [4, 0],
+            sent: "0: 1 1 1\n0: 2 0 2\n",
+            ..FAILED
+        },
+        Row {
+            fail_at: [5, 0],
+            last: &["t"],
+            words: &["plan"],
+            ..PLAN
+        },
     ];
-    for (unit, sent) in rows {
-        let words = ["plan", "t"];
-        let (status, out, wires) = served(&rt, rt.alloc(), &words, [TWO, b""], [unit, 0], None)?;
-        if unit <= 4 {
-            assert_eq!(rt; status, Status::WireFault { port: 0, count: 1 });
-            assert_eq!(rt; out.bytes().len(), 0);
-        } else {
-            assert_eq!(rt; status, Status::Ok);
-            assert_eq!(rt; out.bytes(), TWO_TEXT);
-        }
-        assert_eq!(rt; wires.as_str(), sent, "at {unit}");
-    }
-    Ok(())
+    send_rows(&rt, rt.alloc(), ROWS)
 }
+
+/// The plan of coflows that cross, where the wire of one of two ports fails.
+const CROSSED_FAILED: Row<'static> = Row {
+    last: &["--agents=1", "--agents=2"],
+    named: [CROSSED, b""],
+    status: Status::WireFault { port: 1, count: 1 },
+    text: b"",
+    ..PLAN
+};
 
 #[test]
 fn the_least_port_that_fails_is_told(rt: HostRuntime) -> Result<(), Fail> {
-    let rows = [
-        ([1, 1], 0, ""),
-        ([0, 1], 1, "0: 1 0 1\n"),
-        ([2, 1], 1, "0: 1 0 1\n"),
-        ([1, 2], 0, "1: 1 3 1\n"),
-        ([0, 2], 1, "0: 1 0 1\n0: 2 2 1\n1: 1 3 1\n"),
+    const AT_FIRST: Status = Status::WireFault { port: 0, count: 1 };
+    const ROWS: &[Row<'static>] = &[
+        Row {
+            fail_at: [1, 1],
+            status: AT_FIRST,
+            sent: "",
+            ..CROSSED_FAILED
+        },
+        Row {
+            fail_at: [0, 1],
+            sent: "0: 1 0 1\n",
+            ..CROSSED_FAILED
+        },
+        Row {
+            fail_at: [2, 1],
+            sent: "0: 1 0 1\n",
+            ..CROSSED_FAILED
+        },
+        Row {
+            fail_at: [1, 2],
+            status: AT_FIRST,
+            sent: "1: 1 3 1\n",
+            ..CROSSED_FAILED
+        },
+        Row {
+            fail_at: [0, 2],
+            sent: "0: 1 0 1\n0: 2 2 1\n1: 1 3 1\n",
+            ..CROSSED_FAILED
+        },
     ];
-    for (fail_at, port, sent) in rows {
-        for agents in ["--agents=1", "--agents=2"] {
-            let words = ["plan", "t", agents];
-            let (status, out, wires) = served(
-                &rt,
-                rt.alloc(),
-                &words,
-                [CROSSED, b""],
-                fail_at,
-                None,
-            )?;
-            assert_eq!(rt; status, Status::WireFault { port, count: 1 });
-            assert_eq!(rt; out.bytes().len(), 0);
-            assert_eq!(rt; wires.as_str(), sent, "at {fail_at:?}");
-        }
-    }
-    Ok(())
+    send_rows(&rt, rt.alloc(), ROWS)
 }
 
 #[test]
 fn online_runs_are_sent_by_any_number_of_agents(rt: HostRuntime) -> Result<(), Fail> {
-    for agents in ["--agents=1", "--agents=2", "--agents=64"] {
-        let words = ["online", "t", "--epoch=4", agents];
-        let (status, out, wires) = served(&rt, rt.alloc(), &words, [LATE, b""], [0, 0], None)?;
-        assert_eq!(rt; status, Status::Ok);
-        assert_eq!(rt; out.bytes(), LATE_TEXT);
-        assert_eq!(rt; wires.as_str(), LATE_SENT);
-    }
-    Ok(())
+    send_rows(&rt, rt.alloc(), &[ONLINE])
 }
 
 #[test]
 fn an_online_run_ends_at_a_unit_that_is_not_accepted(rt: HostRuntime) -> Result<(), Fail> {
-    let rows = [
-        (1, ""),
-        (4, "0: 1 0 2\n0: 3 0 1\n"),
-        (5, "0: 1 0 2\n0: 3 0 2\n"),
+    const ENDED: Row<'static> = Row {
+        last: &["--agents=1"],
+        status: Status::WireFault { port: 0, count: 1 },
+        text: b"",
+        ..ONLINE
+    };
+    const ROWS: &[Row<'static>] = &[
+        Row {
+            fail_at: [1, 0],
+            sent: "",
+            ..ENDED
+        },
+        Row {
+            fail_at: [4, 0],
+            sent: "0: 1 0 2\n0: 3 0 1\n",
+            ..ENDED
+        },
+        Row {
+            fail_at: [5, 0],
+            sent: "0: 1 0 2\n0: 3 0 2\n",
+            ..ENDED
+        },
     ];
-    for (unit, sent) in rows {
-        let words = ["online", "t", "--epoch=4"];
-        let (status, out, wires) = served(&rt, rt.alloc(), &words, [LATE, b""], [unit, 0], None)?;
-        assert_eq!(rt; status, Status::WireFault { port: 0, count: 1 });
-        assert_eq!(rt; out.bytes().len(), 0);
-        assert_eq!(rt; wires.as_str(), sent, "at {unit}");
-    }
-    Ok(())
+    send_rows(&rt, rt.alloc(), ROWS)
 }
+
+// The sink takes ten bytes, and the units were sent all the same.
+#[test]
+fn a_text_that_is_not_taken_whole_was_sent(rt: HostRuntime) -> Result<(), Fail> {
+    const ROWS: &[Row<'static>] = &[
+        Row {
+            last: &["--agents=1"],
+            after: Some(10),
+            status: Status::WriteFault { count: 1 },
+            text: b"sincronia ",
+            ..PLAN
+        },
+        Row {
+            last: &["--agents=1"],
+            after: Some(10),
+            status: Status::WriteFault { count: 1 },
+            text: b"sincronia ",
+            ..ONLINE
+        },
+    ];
+    send_rows(&rt, rt.alloc(), ROWS)
+}
+
+/// The classes of two flows, where there is one class.
+const CLASSES_TEXT: &[u8] = b"sincronia classes 1
+member 1 1
+member 1 2
+cap 12
+cost 7
+run 3 0
+run 1 1
+end
+";
+
+/// A job that sends nothing.
+const SILENT: Row<'static> = Row {
+    words: &[],
+    last: &["t"],
+    named: [TWO, TWO_TEXT],
+    sent: "",
+    text: b"",
+    ..PLAN
+};
 
 #[test]
 fn no_other_command_sends(rt: HostRuntime) -> Result<(), Fail> {
-    // A text that is not taken whole was sent all the same; other commands, and those of bad files, send nothing.
-    let plan: &[&str] = &["plan", "t"];
-    let online: &[&str] = &["online", "t", "--epoch", "4"];
-    let rows: [(&[&str], &[u8], Option<u64>, &str); 8] = [
-        (plan, TWO, Some(10), TWO_SENT),
-        (online, LATE, Some(10), LATE_SENT),
-        (online, b"", None, ""),
-        (plan, b"", None, ""),
-        (&["plan", "t", "t"], TWO, None, ""),
-        (&["check", "t", "s"], TWO, None, ""),
-        (&["compare", "t"], TWO, None, ""),
-        (&["classes", "t"], TWO, None, ""),
+    const BAD: Status = Status::BadTrace(TraceFault::BadHeader);
+    const ROWS: &[Row<'static>] = &[
+        Row {
+            words: &["online"],
+            named: [b"", b""],
+            status: BAD,
+            ..SILENT
+        },
+        Row {
+            words: &["plan"],
+            named: [b"", b""],
+            status: BAD,
+            ..SILENT
+        },
+        Row {
+            words: &["plan", "t"],
+            status: Status::Usage,
+            ..SILENT
+        },
+        Row {
+            words: &["check", "t"],
+            last: &["s"],
+            text: b"yes bound 5 slack 1 cost 5\n",
+            ..SILENT
+        },
+        Row {
+            words: &["compare"],
+            text: b"sincronia compare 1\nbound 5\nend\n",
+            ..SILENT
+        },
+        Row {
+            words: &["classes", "t"],
+            last: &["--classes=1"],
+            text: CLASSES_TEXT,
+            ..SILENT
+        },
     ];
-    for (words, trace, after, sent) in rows {
-        let (_status, _out, wires) = served(
-            &rt,
-            rt.alloc(),
-            words,
-            [trace, TWO_TEXT],
-            [0, 0],
-            after,
-        )?;
-        assert_eq!(rt; wires.as_str(), sent);
-    }
-    Ok(())
+    send_rows(&rt, rt.alloc(), ROWS)
 }

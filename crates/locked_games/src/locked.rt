@@ -1,10 +1,9 @@
 //! The same commands, asked of a master behind a mutex. It tells how fast a hall is beside one.
 ghost use Rattle.std.specs.Prelude.{◌≤◌};
-ghost use Rattle.hall_games.specs.Locked.{HasAsked, HaveAsked};
+ghost use Rattle.locked_games.specs.Locked.{HasAsked, HaveAsked};
 
-use crate::stop::Stop;
 use coflow_units::NoMemory;
-use hall_callers::{Ask, CLIENTS, Draw, Order, Size};
+use hall_callers::{Ask, CLIENTS, Draw, Order, Size, Stop};
 use master_core::{Command, Master};
 use std::alloc::Global;
 use std::rt::Runtime;

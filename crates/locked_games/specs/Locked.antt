@@ -1,7 +1,7 @@
 -- What callers of a master behind a mutex have done.
 use Rattle.std.specs.Prelude.{◌≡◌, ℕ, ◌+◌, ◌<◌, ◌≤◌, List, length}
 use Rattle.std.specs.List.{slice_index_or}
-use Rattle.hall_games.specs.declared.locked.Caller.{Caller}
+use Rattle.locked_games.specs.declared.locked.Caller.{Caller}
 
 -- the caller has its number as before, and had at most so many commands more carried out
 pub record HasAsked (commands : ℕ) (before after : Caller) : Type 0 where

@@ -1,0 +1,103 @@
+//! Rows of jobs whose wires tell what they were sent.
+use crate::asking::{Asked, ask, expect, open_gates};
+use coflow_units::MAX_PORTS;
+use command_files::Status;
+use outside::{MemSink, MemWire};
+use std::alloc::Global;
+use std::process::Abort;
+use std::sync::Wait;
+use std::test::Fail;
+use std::thread::Threads;
+
+/// A job, and what comes of it with each of its last words.
+#[derive(Clone, Copy)]
+pub(crate) struct Row<'a> {
+    pub(crate) words: &'a [&'a str],
+    /// The words of which each is the last one in turn.
+    pub(crate) last: &'a [&'a str],
+    /// The files `t` and `s`.
+    pub(crate) named: [&'a [u8]; 2],
+    /// The first two wires do not accept the units with these numbers, counted from 1; 0 is no unit's.
+    pub(crate) fail_at: [u64; 2],
+    /// How many bytes the sink takes until it fails.
+    pub(crate) after: Option<u64>,
+    pub(crate) status: Status,
+    pub(crate) text: &'a [u8],
+    /// What the wires accepted: wire by wire, a line for each run with its first slot, its flow and its units.
+    pub(crate) sent: &'a str,
+}
+
+/// Carries the rows out one by one, and stops where one comes to something else.
+pub(crate) fn send_rows<R: Threads + Wait + Sync + Abort>(
+    rt: &R,
+    alloc: Global,
+    rows: &[Row<'_>],
+) -> Result<(), Fail> {
+    for row in rows {
+        send_row(rt, alloc, *row)?;
+    }
+    Ok(())
+}
+
+fn send_row<R: Threads + Wait + Sync + Abort>(
+    rt: &R,
+    alloc: Global,
+    row: Row<'_>,
+) -> Result<(), Fail> {
+    for last in row.last {
+        let (status, out, sent) = served(rt, alloc, row, last)?;
+        expect(rt, status, out.bytes(), (row.status, row.text));
+        assert_eq!(rt; sent.as_str(), row.sent);
+    }
+    Ok(())
+}
+
+fn served<'a, R: Threads + Wait + Sync + Abort>(
+    rt: &R,
+    alloc: Global,
+    row: Row<'a>,
+    last: &'a str,
+) -> Result<(Status, MemSink, String), Fail> {
+    let asked = Asked {
+        words: row.words,
+        last,
+        named: row.named,
+        after: row.after,
+    };
+    let mut gates = open_gates(alloc)?;
+    let mut wires = wires_of(alloc, row.fail_at)?;
+    let (status, out) = ask(rt, alloc, asked, &mut wires, &mut gates)?;
+    let text = tell_wires(alloc, &wires)?;
+    Ok((status, out, text))
+}
+
+/// A wire for each ingress port.
+fn wires_of(alloc: Global, fail_at: [u64; 2]) -> Result<Vec<MemWire>, Fail> {
+    let mut wires = Vec::new(alloc);
+    for port in 0..=MAX_PORTS {
+        let fails = match port {
+            0 => fail_at[0],
+            1 => fail_at[1],
+            _ => 0,
+        };
+        wires.push(MemWire::new(alloc, 8, Some(fails))?)?;
+    }
+    Ok(wires)
+}
+
+/// Tells the runs that the wires accepted, wire by wire.
+fn tell_wires(alloc: Global, wires: &[MemWire]) -> Result<String, Fail> {
+    let mut text = String::new(alloc);
+    for port in 0..wires.len() {
+        tell_wire(port, &wires[port], &mut text)?;
+    }
+    Ok(text)
+}
+
+fn tell_wire(port: usize, wire: &MemWire, text: &mut String) -> Result<(), Fail> {
+    for index in 0..wire.len() {
+        let (slot, flow, units) = wire.run(index);
+        write!(text, "{port}: {slot} {flow} {units}\n")?;
+    }
+    Ok(())
+}
