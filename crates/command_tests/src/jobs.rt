@@ -8,6 +8,7 @@ use live_rounds::OpenGate;
 use outside::{CountWire, MemShelf, MemSink, Shelf};
 use sincronia_cli::sincronia;
 use std::alloc::Global;
+use std::process::Abort;
 use std::sync::Wait;
 use std::test::Fail;
 use std::thread::Threads;
@@ -29,7 +30,7 @@ fn words(alloc: Global, texts: &[&str]) -> Result<Vec<String>, Fail> {
 }
 
 /// A call of the shelf that fails, counted from 1, or 0 where none fails; and how many bytes the sink takes until it fails.
-#[derive(Clone, Copy)]
+#[derive(Clone, Copy, Debug)]
 pub(crate) struct Failing {
     pub(crate) call: u32,
     pub(crate) after: Option<u64>,
@@ -40,6 +41,50 @@ pub(crate) const NEVER: Failing = Failing {
     call: 0,
     after: None,
 };
+
+/// A job, and what comes of it: its words, the trace `t`, the weights `w` and the report `r`, the status, and what is written.
+#[derive(Clone, Copy)]
+pub(crate) struct Row<'a> {
+    pub(crate) words: &'a [&'a str],
+    pub(crate) files: [&'a [u8]; 3],
+    pub(crate) status: Status,
+    pub(crate) text: &'a [u8],
+}
+
+/// Stops where one of the jobs comes to something else.
+pub(crate) fn try_rows<R: Threads + Wait + Sync + Abort>(
+    rt: &R,
+    alloc: Global,
+    rows: &[Row<'_>],
+) -> Result<(), Fail> {
+    for row in rows {
+        try_row(rt, alloc, *row, NEVER)?;
+    }
+    Ok(())
+}
+
+/// Stops where the job comes to something else.
+pub(crate) fn try_row<R: Threads + Wait + Sync + Abort>(
+    rt: &R,
+    alloc: Global,
+    row: Row<'_>,
+    failing: Failing,
+) -> Result<(), Fail> {
+    let (status, out) = job(rt, alloc, row.words, row.files, failing)?;
+    expect(rt, (status, out.bytes()), (row.status, row.text), failing);
+    Ok(())
+}
+
+/// Stops where another status or another text came.
+pub(crate) fn expect<R: Abort>(
+    rt: &R,
+    come: (Status, &[u8]),
+    want: (Status, &[u8]),
+    failing: Failing,
+) {
+    assert_eq!(rt; come.0, want.0, "{failing:?}");
+    assert_eq!(rt; come.1, want.1, "{failing:?}");
+}
 
 /// A wire for each ingress port, which counts what it accepts.
 fn count_wires(alloc: Global) -> Result<Vec<CountWire>, NoMemory>
@@ -66,13 +111,18 @@ pub(crate) fn job<R: Threads + Wait + Sync>(
     files: [&[u8]; 3],
     failing: Failing,
 ) -> Result<(Status, MemSink), Fail> {
-    let mut shelf = MemShelf::new(alloc, 1, vec![in alloc; failing.call]?)?;
+    let mut shelf = shelf_of(alloc, files, failing.call)?;
+    ask(rt, alloc, texts, &mut shelf, failing.after)
+}
+
+fn shelf_of(alloc: Global, files: [&[u8]; 3], call: u32) -> Result<MemShelf, Fail> {
+    let mut shelf = MemShelf::new(alloc, 1, vec![in alloc; call]?)?;
     for (name, bytes) in ["t", "w", "r"].into_iter().zip(files) {
         if bytes != NONE {
             shelf.put(name, bytes)?;
         }
     }
-    ask(rt, alloc, texts, &mut shelf, failing.after)
+    Ok(shelf)
 }
 
 /// The status and the bytes taken, of these words over the files of a shelf. Nobody waits for wires or gates.

@@ -1,7 +1,11 @@
 //! The command `plan` on worked rows.
-use crate::jobs::{NEVER, NONE, THREE, TWO, job};
+use crate::jobs::{NEVER, NONE, THREE, TWO, expect, job};
 use command_files::Status;
+use std::alloc::Global;
+use std::process::Abort;
+use std::sync::Wait;
 use std::test::Fail;
+use std::thread::Threads;
 
 pub(crate) const TWO_TEXT: &[u8] = b"sincronia 2
 place 1 2 in 0 733007751851 1 1
@@ -37,9 +41,23 @@ run 1 0
 end
 ";
 
+/// Stops where the plan of a trace and weights, with an option, has another text.
+fn plan_row<R: Threads + Wait + Sync + Abort>(
+    rt: &R,
+    alloc: Global,
+    option: &str,
+    files: [&[u8]; 2],
+    text: &[u8],
+) -> Result<(), Fail> {
+    let words = ["sincronia", option, "plan", "t"];
+    let (status, out) = job(rt, alloc, &words, [files[0], files[1], NONE], NEVER)?;
+    expect(rt, (status, out.bytes()), (Status::Ok, text), NEVER);
+    Ok(())
+}
+
 #[test]
 fn traces_are_planned(rt: HostRuntime) -> Result<(), Fail> {
-    let rows: [(&[u8], &[u8]); 11] = [
+    const ROWS: &[(&[u8], &[u8])] = &[
         (b"2 0\n", b"sincronia 2\nbound 0\nslack 0\ncost 0\nend\n"),
         (TWO, TWO_TEXT),
         // only the first mapper sends, and a small size is a unit
@@ -70,18 +88,15 @@ fn traces_are_planned(rt: HostRuntime) -> Result<(), Fail> {
             b"sincronia 2\nplace 1 1 in 0 1 1099511627776 1\nbound 1099511627776\nslack 0\ncost 1099511627776\nrun 1099511627776 0\nend\n",
         ),
     ];
-    for (trace, text) in rows {
-        let words = ["sincronia", "plan", "t"];
-        let (status, out) = job(&rt, rt.alloc(), &words, [trace, NONE, NONE], NEVER)?;
-        assert_eq!(rt; status, Status::Ok);
-        assert_eq!(rt; out.bytes(), text);
+    for (trace, text) in ROWS {
+        plan_row(&rt, rt.alloc(), "--agents=1", [*trace, NONE], *text)?;
     }
     Ok(())
 }
 
 #[test]
 fn weights_and_units_are_used(rt: HostRuntime) -> Result<(), Fail> {
-    let rows: [(&str, &[u8], &[u8], &[u8]); 5] = [
+    const ROWS: &[(&str, &[u8], &[u8], &[u8])] = &[
         (
             "--weights=w",
             TWO,
@@ -113,11 +128,8 @@ fn weights_and_units_are_used(rt: HostRuntime) -> Result<(), Fail> {
             b"sincronia 2\nplace 1 2 in 0 549755813888 1 1\nplace 2 1 in 0 549755813888 3 1\nbound 4\nslack 0\ncost 4\nrun 1 1\nrun 2 0\nend\n",
         ),
     ];
-    for (option, trace, weights, text) in rows {
-        let words = ["sincronia", option, "plan", "t"];
-        let (status, out) = job(&rt, rt.alloc(), &words, [trace, weights, NONE], NEVER)?;
-        assert_eq!(rt; status, Status::Ok);
-        assert_eq!(rt; out.bytes(), text);
+    for (option, trace, weights, text) in ROWS {
+        plan_row(&rt, rt.alloc(), option, [*trace, *weights], *text)?;
     }
     Ok(())
 }

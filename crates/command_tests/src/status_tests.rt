@@ -1,15 +1,16 @@
 //! Words that are refused, and what a status ends with.
-use crate::jobs::{NEVER, NONE, TWO, job};
+use crate::jobs::{NEVER, NONE, Row, TWO, try_row};
 use coflow_units::Quantity;
 use command_files::Status;
+use std::alloc::Global;
+use std::process::Abort;
 use std::test::Fail;
 use trace_reader::TraceFault;
 use weights::WeightsFault;
 
 #[test]
 fn other_words_are_refused(rt: HostRuntime) -> Result<(), Fail> {
-    let alloc = rt.alloc();
-    let rows: [&[&str]; 12] = [
+    const ROWS: &[&[&str]] = &[
         &[],
         &["sincronia"],
         &["sincronia", "plan"],
@@ -23,18 +24,34 @@ fn other_words_are_refused(rt: HostRuntime) -> Result<(), Fail> {
         &["sincronia", "check", "t", "t", "t"],
         &["sincronia", "paln", "t"],
     ];
-    for row in rows {
-        let (status, out) = job(&rt, alloc, row, [TWO, NONE, NONE], NEVER)?;
-        assert_eq!(rt; status, Status::Usage);
-        assert_eq!(rt; out.bytes().len(), 0);
+    for words in ROWS {
+        let row = Row {
+            words: *words,
+            files: [TWO, NONE, NONE],
+            status: Status::Usage,
+            text: b"",
+        };
+        try_row(&rt, rt.alloc(), row, NEVER)?;
     }
+    Ok(())
+}
+
+/// Stops where the status has another code or another line.
+fn tells<R: Abort>(
+    rt: &R,
+    alloc: Global,
+    status: Status,
+    code: u8,
+    line: &str,
+) -> Result<(), Fail> {
+    assert_eq!(rt; status.code(), code);
+    assert_eq!(rt; format!(in alloc; "{status}")?.as_str(), line);
     Ok(())
 }
 
 #[test]
 fn statuses_have_their_codes_and_lines(rt: HostRuntime) -> Result<(), Fail> {
-    let alloc = rt.alloc();
-    let rows = [
+    const ROWS: &[(Status, u8, &str)] = &[
         (Status::Ok, 0, ""),
         (Status::No, 1, ""),
         (
@@ -108,9 +125,8 @@ fn statuses_have_their_codes_and_lines(rt: HostRuntime) -> Result<(), Fail> {
         ),
         (Status::NoMemory, 11, "no memory"),
     ];
-    for (status, code, line) in rows {
-        assert_eq!(rt; status.code(), code);
-        assert_eq!(rt; format!(in alloc; "{status}")?.as_str(), line);
+    for (status, code, line) in ROWS {
+        tells(&rt, rt.alloc(), *status, *code, *line)?;
     }
     Ok(())
 }

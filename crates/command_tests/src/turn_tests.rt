@@ -1,12 +1,15 @@
 //! Files are looked at in turn, and the first fault ends the job.
-use crate::check_tests::{PLACES, RUNS, TOTALS};
 use crate::endless::EndlessReport;
-use crate::jobs::{Failing, NEVER, NONE, TWO, ask, job};
+use crate::jobs::{Failing, NEVER, NONE, Row, TWO, ask, expect, try_row};
 use crate::plan_tests::TWO_TEXT;
 use coflow_units::{MAX_TEXT, Quantity};
 use command_files::Status;
 use outside::SureShelf;
+use std::alloc::Global;
+use std::process::Abort;
+use std::sync::Wait;
 use std::test::Fail;
+use std::thread::Threads;
 use trace_reader::TraceFault;
 use weights::WeightsFault;
 
@@ -24,9 +27,32 @@ const NO_END: &[u8] =
 const ZERO: &[u8] =
     b"sincronia 1\nplace 1 2 in 0 733007751851 1\nplace 2 1 in 0 366503875925 4\nbound 5\nslack 1\ncost 5\nrun 1 1\nrun 03 0\nend\n";
 
+const PLAN: &[&str] = &["sincronia", "plan", "t", "--weights=w"];
+
+const CHECK: &[&str] = &["sincronia", "check", "t", "r"];
+
+const BOTH: &[&str] = &["sincronia", "check", "t", "r", "--weights=w"];
+
+/// Stops where the job ends with another status, or writes something.
+fn refused<'a, R: Threads + Wait + Sync + Abort>(
+    rt: &R,
+    alloc: Global,
+    words: &'a [&'a str],
+    files: [&'a [u8]; 3],
+    status: Status,
+) -> Result<(), Fail> {
+    let row = Row {
+        words,
+        files,
+        status,
+        text: b"",
+    };
+    try_row(rt, alloc, row, NEVER)
+}
+
 #[test]
 fn bad_files_have_their_first_fault(rt: HostRuntime) -> Result<(), Fail> {
-    let rows: [(&[u8], &[u8], Status); 12] = [
+    const ROWS: &[(&[u8], &[u8], Status)] = &[
         (b"", b"", Status::BadTrace(TraceFault::BadHeader)),
         (
             b"1 1\n1 0 1 2 1 0:1\n",
@@ -93,44 +119,36 @@ fn bad_files_have_their_first_fault(rt: HostRuntime) -> Result<(), Fail> {
         // the trace is looked at first
         (b"", b"9 1", Status::BadTrace(TraceFault::BadHeader)),
     ];
-    for (trace, weights, status) in rows {
-        let words = ["sincronia", "plan", "t", "--weights=w"];
-        let (have, out) = job(&rt, rt.alloc(), &words, [trace, weights, NONE], NEVER)?;
-        assert_eq!(rt; have, status);
-        assert_eq!(rt; out.bytes().len(), 0);
+    for (trace, weights, status) in ROWS {
+        refused(&rt, rt.alloc(), PLAN, [*trace, *weights, NONE], *status)?;
     }
     Ok(())
 }
 
 #[test]
 fn files_are_looked_at_in_turn(rt: HostRuntime) -> Result<(), Fail> {
-    let plan: &[&str] = &["sincronia", "plan", "t", "--weights=w"];
-    let check: &[&str] = &["sincronia", "check", "t", "r"];
-    let both: &[&str] = &["sincronia", "check", "t", "r", "--weights=w"];
-    let unknown = Status::BadWeights(WeightsFault::UnknownId { line: 1, id: 9 });
-    let header = Status::BadTrace(TraceFault::BadHeader);
-    let missing = Status::ReadFault { count: 1 };
-    let rows: [(&[&str], [&[u8]; 3], Status); 13] = [
-        (check, [TWO, NONE, NO_END], Status::BadReport { line: 9 }),
-        (check, [TWO, NONE, ZERO], Status::BadReport { line: 8 }),
-        (check, [TWO, NONE, b""], Status::BadReport { line: 1 }),
-        (check, [TWO, NONE, NONE], missing),
-        (check, [NONE, NONE, NO_END], missing),
+    const UNKNOWN: Status = Status::BadWeights(WeightsFault::UnknownId { line: 1, id: 9 });
+    const HEADER: Status = Status::BadTrace(TraceFault::BadHeader);
+    const MISSING: Status = Status::ReadFault { count: 1 };
+    const ROWS: &[(&[&str], [&[u8]; 3], Status)] = &[
+        (CHECK, [TWO, NONE, NO_END], Status::BadReport { line: 9 }),
+        (CHECK, [TWO, NONE, ZERO], Status::BadReport { line: 8 }),
+        (CHECK, [TWO, NONE, b""], Status::BadReport { line: 1 }),
+        (CHECK, [TWO, NONE, NONE], MISSING),
+        (CHECK, [NONE, NONE, NO_END], MISSING),
         // a table above its limits, with a bad report and with none
-        (check, [HEAVY, NONE, NO_END], TOO_HEAVY),
-        (check, [HEAVY, NONE, NONE], TOO_HEAVY),
-        (both, [TWO, b"9 1", NO_END], unknown),
-        (both, [TWO, NONE, NO_END], missing),
-        (both, [b"", b"9 1", NO_END], header),
+        (CHECK, [HEAVY, NONE, NO_END], TOO_HEAVY),
+        (CHECK, [HEAVY, NONE, NONE], TOO_HEAVY),
+        (BOTH, [TWO, b"9 1", NO_END], UNKNOWN),
+        (BOTH, [TWO, NONE, NO_END], MISSING),
+        (BOTH, [b"", b"9 1", NO_END], HEADER),
         // a bad trace, with bad weights and with none
-        (plan, [b"", b"9 1", NONE], header),
-        (plan, [b"", NONE, NONE], header),
-        (plan, [TWO, NONE, NONE], missing),
+        (PLAN, [b"", b"9 1", NONE], HEADER),
+        (PLAN, [b"", NONE, NONE], HEADER),
+        (PLAN, [TWO, NONE, NONE], MISSING),
     ];
-    for (texts, files, status) in rows {
-        let (have, out) = job(&rt, rt.alloc(), texts, files, NEVER)?;
-        assert_eq!(rt; have, status);
-        assert_eq!(rt; out.bytes().len(), 0);
+    for (words, files, status) in ROWS {
+        refused(&rt, rt.alloc(), *words, *files, *status)?;
     }
     Ok(())
 }
@@ -141,64 +159,96 @@ fn a_report_without_end_is_not_read_where_there_is_no_table(rt: HostRuntime) -> 
     let mut files = SureShelf::new(alloc, 64)?;
     files.put("t", HEAVY)?;
     let mut shelf = EndlessReport { files };
-    let words = ["sincronia", "check", "t", "r"];
-    let (status, out) = ask(&rt, alloc, &words, &mut shelf, None)?;
-    assert_eq!(rt; status, TOO_HEAVY);
-    assert_eq!(rt; out.bytes().len(), 0);
+    let (status, out) = ask(&rt, alloc, CHECK, &mut shelf, None)?;
+    expect(&rt, (status, out.bytes()), (TOO_HEAVY, b""), NEVER);
     Ok(())
 }
 
 #[test]
 fn a_text_above_its_limit_is_told(rt: HostRuntime) -> Result<(), Fail> {
     let alloc = rt.alloc();
-    let mut shelf = SureShelf::new(alloc, MAX_TEXT)?;
-    let digits = vec![in alloc; b'1'; MAX_TEXT + 1]?;
-    shelf.put("t", &digits)?;
-    let words = ["sincronia", "plan", "t"];
-    let (status, out) = ask(&rt, alloc, &words, &mut shelf, None)?;
-    let long = Status::Limit {
+    const LONG: Status = Status::Limit {
         which: Quantity::Text,
         count: 67_108_865,
     };
-    assert_eq!(rt; status, long);
-    assert_eq!(rt; out.bytes().len(), 0);
+    let mut shelf = long_shelf(alloc)?;
+    let words = ["sincronia", "plan", "t"];
+    let (status, out) = ask(&rt, alloc, &words, &mut shelf, None)?;
+    expect(&rt, (status, out.bytes()), (LONG, b""), NEVER);
     Ok(())
 }
 
-#[test]
-fn each_call_of_the_shelf_fails_in_turn(rt: HostRuntime) -> Result<(), Fail> {
-    // For the trace one start, 32 reads of one byte, and one read of none; and the same for the 115 bytes of the report.
-    let alloc = rt.alloc();
-    let report = format!(in alloc; "sincronia 1\n{PLACES}{TOTALS}{RUNS}end\n")?;
-    let plan: &[&str] = &["sincronia", "plan", "t"];
-    let check: &[&str] = &["sincronia", "check", "t", "r"];
-    let files = [TWO, NONE, report.as_bytes()];
-    for (words, calls) in [(plan, 34), (check, 34 + 1 + report.len() as u32 + 1)] {
-        for call in 1..=calls + 1 {
-            let failing = Failing { call, after: None };
-            let (status, out) = job(&rt, alloc, words, files, failing)?;
-            if call <= calls {
-                assert_eq!(rt; status, Status::ReadFault { count: 1 }, "at {call}");
-                assert_eq!(rt; out.bytes().len(), 0, "at {call}");
-            } else {
-                assert_eq!(rt; status, Status::Ok);
-            }
-        }
+/// A shelf whose trace has a byte too many.
+fn long_shelf(alloc: Global) -> Result<SureShelf, Fail> {
+    let mut shelf = SureShelf::new(alloc, MAX_TEXT)?;
+    let digits = vec![in alloc; b'1'; MAX_TEXT + 1]?;
+    shelf.put("t", &digits)?;
+    Ok(shelf)
+}
+
+const REPORT: &[u8] =
+    b"sincronia 1\nplace 1 2 in 0 733007751851 1\nplace 2 1 in 0 366503875925 4\nbound 5\nslack 1\ncost 5\nrun 1 1\nrun 3 0\nend\n";
+
+/// Each of so many calls of the shelf fails in turn, and none where one more is to.
+fn fail_calls<R: Threads + Wait + Sync + Abort>(
+    rt: &R,
+    alloc: Global,
+    row: Row<'_>,
+    calls: u32,
+) -> Result<(), Fail> {
+    let failed = Row {
+        status: Status::ReadFault { count: 1 },
+        text: b"",
+        ..row
+    };
+    for call in 1..=calls {
+        try_row(rt, alloc, failed, Failing { call, after: None })?;
     }
-    Ok(())
+    let past = Failing {
+        call: calls.saturating_add(1),
+        after: None,
+    };
+    try_row(rt, alloc, row, past)
+}
+
+// One start, 32 reads of one byte, and one read of none.
+#[test]
+fn each_call_of_a_plan_fails_in_turn(rt: HostRuntime) -> Result<(), Fail> {
+    const ROW: Row<'static> = Row {
+        words: &["sincronia", "plan", "t"],
+        files: [TWO, NONE, NONE],
+        status: Status::Ok,
+        text: TWO_TEXT,
+    };
+    fail_calls(&rt, rt.alloc(), ROW, 34)
+}
+
+// The same, and for the 115 bytes of the report.
+#[test]
+fn each_call_of_a_check_fails_in_turn(rt: HostRuntime) -> Result<(), Fail> {
+    const ROW: Row<'static> = Row {
+        words: CHECK,
+        files: [TWO, NONE, REPORT],
+        status: Status::Ok,
+        text: b"yes bound 5 slack 1 cost 5\n",
+    };
+    fail_calls(&rt, rt.alloc(), ROW, 34 + 1 + 115 + 1)
 }
 
 #[test]
 fn the_sink_fails_after_each_number_of_bytes(rt: HostRuntime) -> Result<(), Fail> {
     for taken in 0..TWO_TEXT.len() {
+        let row = Row {
+            words: &["sincronia", "plan", "t"],
+            files: [TWO, NONE, NONE],
+            status: Status::WriteFault { count: 1 },
+            text: &TWO_TEXT[..taken],
+        };
         let failing = Failing {
             call: 0,
             after: Some(taken as u64),
         };
-        let words = ["sincronia", "plan", "t"];
-        let (status, out) = job(&rt, rt.alloc(), &words, [TWO, NONE, NONE], failing)?;
-        assert_eq!(rt; status, Status::WriteFault { count: 1 }, "after {taken}");
-        assert_eq!(rt; out.bytes(), &TWO_TEXT[..taken], "after {taken}");
+        try_row(&rt, rt.alloc(), row, failing)?;
     }
     Ok(())
 }
