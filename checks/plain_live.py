@@ -221,6 +221,7 @@ BAD_ROWS = [
     ("no such word", TRACE, b"1 jump\nwait\n", LIVE, 6, b"script: line 1 field 2"),
     ("no client", TRACE, b"\n one publish\n", LIVE, 6, b"script: line 2 field 1"),
     ("a field behind the end of a round", TRACE, b"1 publish\nwait 1\n", LIVE, 6, b"script: line 2 field 2"),
+    ("a field too few", TRACE, b"1 reweigh 1\n", LIVE, 6, b"script: line 1 field 4"),
     ("a field too many", TRACE, b"1 reweigh 1 2 3\n", LIVE, 6, b"script: line 1 field 5"),
     ("a client past the last", TRACE, b"65 publish\nwait\n", LIVE, 7, b"limit: clients 65"),
     ("a weight of 0", TRACE, b"1 reweigh 1 0\n", LIVE, 7, b"limit: weight 0"),

@@ -48,6 +48,25 @@ ROWS = [
      b"sincronia 2\nplace 1 7 in 0 1099511627776 1 1\nbound 1\nslack 0\ncost 1\nrun 1 0\nend\n", b""),
     ("from port 1 to port 0", b"1 1\n1 0 1 1 1 0:1\n", None, ["plan", "t"], 0,
      b"sincronia 2\nplace 1 1 in 1 1099511627776 1 1\nbound 1\nslack 0\ncost 1\nrun 1 0\nend\n", b""),
+    ("only the first mapper sends", b"1 1\n7 0 2 0 1 1 1:1\n", None, ["plan", "t"], 0,
+     b"sincronia 2\nplace 1 7 in 0 1099511627776 1 1\nbound 1\nslack 0\ncost 1\nrun 1 0\nend\n", b""),
+    ("a small size is a unit", b"1 1\n7 0 1 0 1 1:0.000001\n", None, ["plan", "t"], 0,
+     b"sincronia 2\nplace 1 7 in 0 1099511627776 1 1\nbound 1\nslack 0\ncost 1\nrun 1 0\nend\n", b""),
+    ("a coflow of no units", b"1 2\n3 0 1 0 1 1:0\n4 0 1 0 1 1:2\n", None, ["plan", "t"], 0,
+     b"sincronia 2\nplace 1 3 in 0 0 0 1\nplace 2 4 in 0 549755813888 2 1\nbound 2\nslack 0\ncost 2\nrun 2 0\nend\n", b""),
+    ("two mappers at one port", b"1 1\n1 0 2 0 0 1 1:4\n", None, ["plan", "t"], 0,
+     b"sincronia 2\nplace 1 1 in 0 274877906944 4 1\nbound 4\nslack 0\ncost 4\nrun 4 0\nend\n", b""),
+    ("three coflows", b"150 3\n1 0 2 20 38 1 93:1.0\n2 120 1 7 2 93:4.5 7:2\n3 250 3 20 64 110 2 38:6.25 93:1\n", None, ["plan", "t"], 0,
+     b"sincronia 2\nplace 1 1 in 20 1099511627776 1 1\nplace 2 3 out 38 157073089682 7 1\nplace 3 2 in 7 157073089682 8 1\nbound 15\nslack 1\ncost 16\n"
+     b"run 1 0 1 5\nrun 1 1 3\nrun 2 2 3\nrun 1 4 5\nrun 2 2 6\nrun 1 2\nend\n", b""),
+    ("coflows that cross", CROSSED, None, ["plan", "t"], 0, CROSSED_TEXT, b""),
+    ("a port of 2^40 units", b"1 1\n1 0 1 0 1 1:1099511627776\n", None, ["plan", "t"], 0,
+     b"sincronia 2\nplace 1 1 in 0 1 1099511627776 1\nbound 1099511627776\nslack 0\ncost 1099511627776\nrun 1099511627776 0\nend\n", b""),
+    ("a weight of 2^20", b"1 1\n1 0 1 0 1 1:1048577\n", b"1 1048576", WEIGHTED, 0,
+     b"sincronia 2\nplace 1 1 in 0 1099510579200 1048577 1048576\nbound 1099512676351\nslack 3\ncost 1099512676352\nrun 1048577 0\nend\n", b""),
+    ("the greatest weight", b"1 1\n1 0 1 0 1 1:1099511627776\n", b"1 4294967296\n", WEIGHTED, 0,
+     b"sincronia 2\nplace 1 1 in 0 4294967296 1099511627776 4294967296\nbound 4722366482869645213696\nslack 0\ncost 4722366482869645213696\n"
+     b"run 1099511627776 0\nend\n", b""),
     ("carriage returns", TWO.replace(b"\n", b"\r\n"), None, ["plan", "t"], 0, TWO_TEXT, b""),
     ("no last line feed", TWO[:-1], None, ["plan", "t"], 0, TWO_TEXT, b""),
     ("blank lines", b"\n \n" + TWO.replace(b"\n", b"\n\t\n"), None, ["plan", "t"], 0, TWO_TEXT, b""),
@@ -428,6 +447,12 @@ def run(row, stdout=None, before=None):
         return same(name, started(folder, {"t": trace, "w": weights}, words, stdout, before), tuple(want))
 
 
+def run_by_agents(row):
+    """A row that ends well has the same text by any number of agents."""
+    name, trace, weights, words, *want = row
+    return [run(("%s, by %s agents" % (name, agents), trace, weights, [*words, "--agents", agents], *want)) for agents in ("1", "64")]
+
+
 def run_check(row, trace=TWO):
     name, report, words, *want = row
     with tempfile.TemporaryDirectory() as folder:
@@ -494,6 +519,7 @@ def main():
         print("0 passed, 1 failed")
         return 1
     results = [run(row) for row in ROWS + COMPARE_ROWS + CLASS_ROWS] + [run_check(row) for row in CHECK_ROWS]
+    results += [good for row in ROWS if row[4] == 0 and not any("agents" in word for word in row[3]) for good in run_by_agents(row)]
     results += [run_check((name, *rest), trace) for name, trace, *rest in TABLE_ROWS + ONLINE_ROWS]
     results += [run_audit(row) for row in AUDIT_ROWS]
     results += [run_long_report("a long report", CHECK, TWO, b"text 1073741825"), run_long_report("a long journal", AUDIT, TWO, b"text 1073741825"),

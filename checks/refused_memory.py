@@ -44,6 +44,9 @@ void *realloc(void *old, size_t size) { return refused() ? NULL : __libc_realloc
 
 NO_MEMORY = (11, b"", b"sincronia: no memory\n")
 
+# A client registers both coflows, publishes an order, and asks for a rank.
+SCRIPT = b"1 register 1\n1 register 2\n1 publish\n1 pull 2\nwait\n"
+
 # name and words
 SERIES = [
     ("plan", ["plan", "t", "--weights", "w"]),
@@ -56,6 +59,7 @@ SERIES = [
     ("audit", ["audit", "t", "j"]),
     ("online", ["online", "l", "--epoch", "4"]),
     ("online by one agent", ["online", "l", "--agents", "1"]),
+    ("live", ["live", "t", "s", "--run", "4"]),
 ]
 # how many runs are started before their answers are looked at
 BATCH = 64
@@ -117,7 +121,7 @@ def main():
         return 1
     passed, failed = 0, 0
     with tempfile.TemporaryDirectory() as folder:
-        for name, content in (("t", TWO), ("w", b"1 1\n"), ("r", TWO_TEXT), ("l", LATE), ("o", ONLINE), ("j", JOURNAL)):
+        for name, content in (("t", TWO), ("w", b"1 1\n"), ("r", TWO_TEXT), ("l", LATE), ("o", ONLINE), ("j", JOURNAL), ("s", SCRIPT)):
             with open(os.path.join(folder, name), "wb") as file:
                 file.write(content)
         make_library(folder)
