@@ -28,8 +28,10 @@ pub input_cause : (IsBad : List ℕ → ℕ → Type 0) (before now : ℕ) (old 
     HasInputCause before now old new (trace_name said.job) said.weights said.unit s → HasCauseInFiles IsBad before now old new said s
 input_cause IsBad before now old new said (status.BadTrace fault) h = h
 input_cause IsBad before now old new said (status.BadWeights fault) h = h
-input_cause IsBad before now old new said (status.Limit which count) h =
-    if_some old (λ t. LimitCause (bytes_of t (trace_name said.job)) (bytes_if t said.weights) said.unit which count) (FilesLimit said which count) (λ t l. in_input l) h
+input_cause IsBad before now old new said (status.Limit which count) (may, h) = (
+  may said.job,
+  if_some old (λ t. LimitCause (bytes_of t (trace_name said.job)) (bytes_if t said.weights) said.unit which count) (FilesLimit said which count) (λ t l. in_input l) h,
+)
 input_cause IsBad before now old new said (status.ReadFault count) (one, rose, failed) =
     (one, rose, of_both old new (InputFailed (trace_name said.job) said.weights) (FileFailed said) (λ a b f. at_input f) failed)
 input_cause IsBad before now old new said status.NoMemory h = tt
@@ -105,7 +107,7 @@ module _ (IsBad : List ℕ → ℕ → Type 0) (before mid_count now : ℕ) (old
   pub from_report : (s : Status) → report_name said.job ≡ Some name → before ≤ mid_count → KeepsFiles old mid → IfSome old (FilesGiveTable said) →
       IsReportCause IsBad mid_count now mid new name s → HasCauseInFiles IsBad before now old new said s
   from_report (status.BadReport line) is le keeps table h = bad_report line is keeps table h
-  from_report (status.Limit which count) is le keeps table h = long_report which count is keeps table h
+  from_report (status.Limit which count) is le keeps table (may, h) = (may said.job, long_report which count is keeps table h)
   from_report (status.ReadFault count) is le keeps table (one, rose, failed) = (one, rose_before before mid_count now le rose, report_failed is keeps table failed)
   from_report status.NoMemory is le keeps table h = tt
   from_report status.Ok is le keeps table h = absurd h

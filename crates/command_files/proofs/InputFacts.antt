@@ -25,6 +25,7 @@ use Rattle.command_files.specs.Inputs.{GiveWeights, Gives, IsInput, IsTraceOf, I
 use Rattle.command_files.specs.Shelves.{AreReadOut, IsReadOut, IsReadOutIf, KeepsFiles, KeepsOthers, OfBoth}
 use Rattle.command_files.specs.TraceCauses.{IsTraceCause, TraceLimit}
 use Rattle.command_files.specs.WeightsCauses.{IsFaultOf, IsWeightsCause, WeightsLimit}
+use Rattle.command_files.proofs.LimitFacts.{table_may}
 use Rattle.command_files.proofs.ShelfFacts.{both_and, both_joined, if_some, later_out, named_before, of_both, rose_before, still_out, told_before, with_both}
 
 given_before : (old mid : Option Told) (file : Option (List ℕ)) (coflows : List CoflowLine) (weights : List ℕ) → KeepsFiles old mid →
@@ -85,8 +86,8 @@ both_out old mid new name file out keeps others later =
 pub from_trace : (before now : ℕ) (old new : Option Told) (name : List ℕ) (file : Option (List ℕ)) (unit : ℕ) (s : Status) → IsTraceCause before now old new name s →
     HasInputCause before now old new name file unit s
 from_trace before now old new name file unit (status.BadTrace fault) cause = cause
-from_trace before now old new name file unit (status.Limit which count) cause =
-    if_some old (λ t. TraceLimit (bytes_of t name) which count) (λ t. LimitCause (bytes_of t name) (bytes_if t file) unit which count) (λ t h. in_trace h) cause
+from_trace before now old new name file unit (status.Limit which count) (may, limit) =
+    (may, if_some old (λ t. TraceLimit (bytes_of t name) which count) (λ t. LimitCause (bytes_of t name) (bytes_if t file) unit which count) (λ t h. in_trace h) limit)
 from_trace before now old new name file unit (status.ReadFault count) (one, rose, named) =
     (one, rose, of_both old new (NameFailed name) (InputFailed name file) (λ a b h. at_trace h) named)
 from_trace before now old new name file unit status.NoMemory cause = tt
@@ -118,10 +119,12 @@ module _ (before mid_count now : ℕ) (old mid new : Option Told) (name : List �
         (λ t (text, is) f. (text, subst (λ (x : Trace). IsFaultOf (bytes_if t file) x.coflows fault) is f)) read.reads
         (told_before old mid file (λ b. IsFaultOf b trace.coflows fault) keeps h),
   )
-  from_weights (status.Limit which count) le keeps read h =
-      with_both old (ReadAs name trace) (λ t. WeightsLimit (bytes_if t file) trace.coflows which count) (λ t. LimitCause (bytes_of t name) (bytes_if t file) unit which count)
-      (λ t (text, is) l. in_weights text (subst (λ (x : Trace). WeightsLimit (bytes_if t file) x.coflows which count) is l)) read.reads
-      (told_before old mid file (λ b. WeightsLimit b trace.coflows which count) keeps h)
+  from_weights (status.Limit which count) le keeps read (may, h) = (
+    may,
+    with_both old (ReadAs name trace) (λ t. WeightsLimit (bytes_if t file) trace.coflows which count) (λ t. LimitCause (bytes_of t name) (bytes_if t file) unit which count)
+        (λ t (text, is) l. in_weights text (subst (λ (x : Trace). WeightsLimit (bytes_if t file) x.coflows which count) is l)) read.reads
+        (told_before old mid file (λ b. WeightsLimit b trace.coflows which count) keeps h),
+  )
   from_weights (status.ReadFault count) le keeps read h =
       let (one, rose, named) = by_name file count h in
       (one, rose_before before mid_count now le rose, weights_failed keeps read named)
@@ -140,9 +143,11 @@ pub from_table : (before now : ℕ) (old mid new : Option Told) (name : List ℕ
     KeepsFiles old mid → IsTraceOf old name trace → IsWeightsOf mid file trace.coflows weights →
     HasCause trace unit fault → IsStatusOfTable fault s → HasInputCause before now old new name file unit s
 from_table before now old mid new name file unit trace weights (table_fault.Limit which count) s keeps read given h is =
-    subst (λ (x : Status). HasInputCause before now old new name file unit x) (sym is)
-    (with_both old (ReadAs name trace) (λ t. GiveWeights (bytes_if t file) trace.coflows weights) (λ t. LimitCause (bytes_of t name) (bytes_if t file) unit which count)
-    (λ t (text, same) g. in_table text weights (subst (λ (x : Trace). GiveWeights (bytes_if t file) x.coflows weights) same g)
-    (subst (λ (x : Trace). HasCause x unit (table_fault.Limit which count)) same h)) read.reads (given_before old mid file trace.coflows weights keeps given.given))
+    subst (λ (x : Status). HasInputCause before now old new name file unit x) (sym is) (
+      table_may trace unit which count h,
+      with_both old (ReadAs name trace) (λ t. GiveWeights (bytes_if t file) trace.coflows weights) (λ t. LimitCause (bytes_of t name) (bytes_if t file) unit which count)
+          (λ t (text, same) g. in_table text weights (subst (λ (x : Trace). GiveWeights (bytes_if t file) x.coflows weights) same g)
+          (subst (λ (x : Trace). HasCause x unit (table_fault.Limit which count)) same h)) read.reads (given_before old mid file trace.coflows weights keeps given.given),
+    )
 from_table before now old mid new name file unit trace weights table_fault.NoMemory s keeps read given h is =
     subst (λ (x : Status). HasInputCause before now old new name file unit x) (sym is) tt

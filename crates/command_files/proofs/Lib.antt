@@ -1,4 +1,5 @@
 pub mod ShelfFacts
+pub mod LimitFacts
 pub mod TraceFacts
 pub mod WeightsFacts
 pub mod InputFacts

@@ -18,9 +18,10 @@ use Rattle.command_files.specs.Causes.FilesLimit.{in_script, in_shared}
 use Rattle.command_files.specs.FileCauses.{NameFailed, NameFailedIf}
 use Rattle.command_files.specs.Inputs.{Gives, IsInput, bytes_if}
 use Rattle.command_files.specs.ScriptCauses.{IsBadScript, IsScriptCause, ScriptLimit}
-use Rattle.command_files.specs.Scripts.{HasMoreUnits, HasScriptText, IsScriptOf, IsShared, table_units}
+use Rattle.command_files.specs.Scripts.{HasMoreUnits, HasScriptText, IsScriptOf, IsShared}
 use Rattle.command_files.specs.Shelves.{AreReadOut, IsReadOut, IsReadOutIf, KeepsFiles, KeepsOthers, OfBoth, ReadsOut}
 use Rattle.command_files.proofs.CauseFacts.{still_both}
+use Rattle.command_files.proofs.LimitFacts.{job_may}
 use Rattle.command_files.proofs.ShelfFacts.{both_and, both_joined, if_some, later_out, named_before, of_both, rose_before, told_before, with_both}
 
 trace_not_script : place.Trace ≢ place.Script
@@ -74,9 +75,11 @@ module _ (old : Option Told) (said : Said) (table : TableFacts) (weights : List 
   pub from_units : (IsBad : List ℕ → ℕ → Type 0) (before now : ℕ) (new : Option Told) (name : List ℕ) (count : ℕ) (s : Status) → script_name said.job ≡ Some name →
       s ≡ status.Limit quantity.Units count → HasMoreUnits table count → HasCauseInFiles IsBad before now old new said s
   from_units IsBad before now new name count s named is more =
-      subst (λ (x : Status). HasCauseInFiles IsBad before now old new said x) (sym is)
-      (if_some old (GiveTableAs table said) (FilesLimit said quantity.Units count)
-      (λ t (g, same). in_shared (subst IsGiven (sym named) tt) g refl (subst (λ (x : TableFacts). HasMoreUnits x count) (sym same) more)) table_as)
+      subst (λ (x : Status). HasCauseInFiles IsBad before now old new said x) (sym is) (
+        tt,
+        if_some old (GiveTableAs table said) (FilesLimit said quantity.Units count)
+            (λ t (g, same). in_shared (subst IsGiven (sym named) tt) g refl (subst (λ (x : TableFacts). HasMoreUnits x count) (sym same) more)) table_as,
+      )
 
 -- ---- a script that is read after them
 
@@ -111,7 +114,7 @@ module _ (IsBad : List ℕ → ℕ → Type 0) (before mid_count now : ℕ) (old
 
   pub from_script : (s : Status) → before ≤ mid_count → IsScriptCause table.ids mid_count now mid new name s → HasCauseInFiles IsBad before now old new said s
   from_script (status.BadScript line field) le h = bad_script line field h
-  from_script (status.Limit which count) le h = long_script which count h
+  from_script (status.Limit which count) le (may, h) = (job_may said.job name which is may, long_script which count h)
   from_script (status.ReadFault count) le (one, rose, failed) = (one, rose_before before mid_count now le rose, script_failed failed)
   from_script status.NoMemory le h = tt
   from_script status.Ok le h = absurd h

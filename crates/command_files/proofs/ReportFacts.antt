@@ -15,6 +15,7 @@ use Rattle.command_files.specs.Reports.{IsAnyReportOf, IsReportOf, IsJournalOf}
 use Rattle.command_files.specs.FileCauses.{IsFileCause}
 use Rattle.command_files.specs.ReportCauses.{IsBadReport, IsReportCause, IsStatusOfReport, ReportLimit}
 use Rattle.command_files.specs.Shelves.{HasBytes, KeepsFiles}
+use Rattle.command_files.proofs.LimitFacts.{text_may}
 use Rattle.command_files.proofs.ShelfFacts.{told_before}
 use Rattle.live_text.specs.declared.value.Live.{Live}
 use Rattle.live_text.specs.Reading.{GivesLive, IsBadAt as IsBadJournalAt, IsTextOf as IsJournalTextOf}
@@ -73,7 +74,7 @@ any_report_cause before now old new name bytes lent fault s has e short bad is =
 
 pub file_to_report : (IsBad : List ℕ → ℕ → Type 0) (before now : ℕ) (old new : Option Told) (name : List ℕ) (s : Status) → IsFileCause 1073741824 before now old new name s →
     IsReportCause IsBad before now old new name s
-file_to_report IsBad before now old new name (status.Limit which count) (text, number, long) = go old long where
+file_to_report IsBad before now old new name (status.Limit which count) (text, number, long) = (text_may which text, go old long) where
   go : (o : Option Told) → IfSome o (λ t. 1073741824 < length (bytes_of t name)) → IfSome o (λ t. ReportLimit (Some (bytes_of t name)) which count)
   go None h = tt
   go (Some t) h = (text, number, h)

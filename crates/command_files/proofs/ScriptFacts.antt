@@ -1,6 +1,7 @@
 -- What the bytes of a script give, and why they give nothing.
 use Rattle.std.proofs.Common.{◌≡◌, ℕ, ◌^◌, ◌≤◌, inl, inr, List, Option, Some, None, Err, length, sym, ap, subst, ◌∙◌}
 use Rattle.std.specs.Prelude.{IfSome}
+use Rattle.command_words.specs.Jobs.Job.{live_job}
 use Rattle.coflow_units.specs.declared.quantity.Quantity.{Quantity}
 use Rattle.outside.specs.Shelf.{Told, bytes_of}
 use Rattle.script_reader.specs.Checks.{Answers, text_checks}
@@ -16,6 +17,7 @@ use Rattle.command_files.specs.ScriptCauses.{HasScriptFault, IsScriptCause, IsSt
 use Rattle.command_files.specs.Scripts.{IsScriptOf}
 use Rattle.command_files.specs.Shelves.{HasBytes, KeepsFiles}
 use Rattle.command_files.specs.TraceCauses.{IsTooLong}
+use Rattle.command_files.proofs.LimitFacts.{script_may, text_may}
 use Rattle.command_files.proofs.ShelfFacts.{told_before}
 
 pub script_of_file : (ids : List ℕ) (old : Option Told) (name bytes lent : List ℕ) (script : Script) → HasBytes old name bytes → lent ≡ bytes → length bytes ≤ 2 ^ 26 →
@@ -58,11 +60,12 @@ module _ (ids : List ℕ) (before now : ℕ) (old new : Option Told) (name : Lis
   script_cause bytes lent P (script_fault.Bad line field) s has e short first is =
       subst (λ (x : Status). IsScriptCause ids before now old new name x) (sym is) (script_has old bytes lent (script_fault.Bad line field) has e short first)
   script_cause bytes lent P (script_fault.Limit which count) s has e short first is =
-      subst (λ (x : Status). IsScriptCause ids before now old new name x) (sym is) (script_limit old bytes lent which count has e short first)
+      subst (λ (x : Status). IsScriptCause ids before now old new name x) (sym is)
+      (script_may ids lent which count first, script_limit old bytes lent which count has e short first)
   script_cause bytes lent P script_fault.NoMemory s has e short first is = subst (λ (x : Status). IsScriptCause ids before now old new name x) (sym is) tt
 
   pub file_to_script : (s : Status) → IsFileCause 67108864 before now old new name s → IsScriptCause ids before now old new name s
-  file_to_script (status.Limit which count) (text, number, long) = go old long where
+  file_to_script (status.Limit which count) (text, number, long) = (λ trace script. text_may which text (live_job trace script), go old long) where
     go : (o : Option Told) → IfSome o (λ t. IsTooLong (bytes_of t name)) → IfSome o (λ t. ScriptLimit ids (Some (bytes_of t name)) which count)
     go None h = tt
     go (Some t) h = inl (text, number, h)

@@ -15,6 +15,7 @@ use Rattle.command_files.specs.FileCauses.{IsFileCause}
 use Rattle.command_files.specs.Inputs.{IsTraceText}
 use Rattle.command_files.specs.Shelves.{HasBytes}
 use Rattle.command_files.specs.TraceCauses.{HasTraceFault, IsStatusOfTrace, IsTooLong, IsTraceCause, IsTraceForm, TraceLimit}
+use Rattle.command_files.proofs.LimitFacts.{text_may, trace_may}
 
 trace_has : (old : Option Told) (name bytes lent : List ℕ) (fault : TraceFault) → HasBytes old name bytes → lent ≡ bytes → length bytes ≤ 2 ^ 26 →
     first_fault (trace_checks lent) ≡ Some fault → IfSome old (λ t. HasTraceFault (bytes_of t name) fault)
@@ -52,11 +53,12 @@ trace_cause before now old new name bytes lent P (trace_fault.DuplicateId line i
 trace_cause before now old new name bytes lent P (trace_fault.PortRange line port) s has e short first is =
     bad_trace before now old new name bytes lent (trace_fault.PortRange line port) s tt has e short first is
 trace_cause before now old new name bytes lent P (trace_fault.Limit line which count) s has e short first is =
-    subst (λ (x : Status). IsTraceCause before now old new name x) (sym is) (trace_limit old name bytes lent line which count has e short first)
+    subst (λ (x : Status). IsTraceCause before now old new name x) (sym is)
+    (trace_may lent line which count first, trace_limit old name bytes lent line which count has e short first)
 trace_cause before now old new name bytes lent P trace_fault.NoMemory s has e short first is = subst (λ (x : Status). IsTraceCause before now old new name x) (sym is) tt
 
 pub file_to_trace : (before now : ℕ) (old new : Option Told) (name : List ℕ) (s : Status) → IsFileCause 67108864 before now old new name s → IsTraceCause before now old new name s
-file_to_trace before now old new name (status.Limit which count) cause = go old cause.2 where
+file_to_trace before now old new name (status.Limit which count) cause = (text_may which cause.0, go old cause.2) where
   go : (o : Option Told) → IfSome o (λ t. IsTooLong (bytes_of t name)) → IfSome o (λ t. TraceLimit (bytes_of t name) which count)
   go None long = tt
   go (Some t) long = inl (cause.0, cause.1, long)

@@ -17,6 +17,7 @@ use Rattle.command_files.specs.Inputs.{GiveWeights, IsWeightsOf, bytes_if}
 use Rattle.command_files.specs.Shelves.{HasBytes}
 use Rattle.command_files.specs.TraceCauses.{IsTooLong}
 use Rattle.command_files.specs.WeightsCauses.{IsFaultOf, IsStatusOfWeights, IsWeightsCause, IsWeightsForm, WeightsLimit}
+use Rattle.command_files.proofs.LimitFacts.{text_may, weights_may}
 
 weights_have : (old : Option Told) (name bytes lent : List ℕ) (coflows : List CoflowLine) (fault : WeightsFault) → HasBytes old name bytes → lent ≡ bytes → length bytes ≤ 2 ^ 26 →
     first_fault (text_checks lent coflows) ≡ Some fault →
@@ -48,13 +49,14 @@ weights_cause before now old new name bytes lent coflows P (weights_fault.Unknow
 weights_cause before now old new name bytes lent coflows P (weights_fault.DuplicateId line id) s has e short first is =
     bad_weights before now old new name bytes lent coflows (weights_fault.DuplicateId line id) s tt has e short first is
 weights_cause before now old new name bytes lent coflows P (weights_fault.Limit line which count) s has e short first is =
-    subst (λ (x : Status). IsWeightsCause before now old new (Some name) coflows x) (sym is) (weights_limit old name bytes lent coflows line which count has e short first)
+    subst (λ (x : Status). IsWeightsCause before now old new (Some name) coflows x) (sym is)
+    (weights_may lent coflows line which count first, weights_limit old name bytes lent coflows line which count has e short first)
 weights_cause before now old new name bytes lent coflows P weights_fault.NoMemory s has e short first is =
     subst (λ (x : Status). IsWeightsCause before now old new (Some name) coflows x) (sym is) tt
 
 pub file_to_weights : (before now : ℕ) (old new : Option Told) (name : List ℕ) (coflows : List CoflowLine) (s : Status) → IsFileCause 67108864 before now old new name s →
     IsWeightsCause before now old new (Some name) coflows s
-file_to_weights before now old new name coflows (status.Limit which count) cause = go old cause.2 where
+file_to_weights before now old new name coflows (status.Limit which count) cause = (text_may which cause.0, go old cause.2) where
   go : (o : Option Told) → IfSome o (λ t. IsTooLong (bytes_of t name)) → IfSome o (λ t. WeightsLimit (bytes_if t (Some name)) coflows which count)
   go None long = tt
   go (Some t) long = inl (cause.0, cause.1, long)

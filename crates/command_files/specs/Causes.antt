@@ -13,6 +13,7 @@ use Rattle.command_files.specs.declared.status.Status.TheVariants.{BadTrace, Bad
 use Rattle.command_files.specs.FileCauses.{NameFailedIf, ShelfFailed}
 use Rattle.command_files.specs.Inputs.{bytes_if}
 use Rattle.command_files.specs.InputCauses.{GiveTable, HasWeightsFault, InputFailed, LimitCause}
+use Rattle.command_files.specs.Limits.{MayLimit}
 use Rattle.command_files.specs.ReportCauses.{IsBadReport, ReportLimit}
 use Rattle.command_files.specs.ScriptCauses.{IsBadScript, ScriptLimit}
 use Rattle.command_files.specs.Scripts.{HasMoreUnits, HasScriptText, IsShared}
@@ -86,7 +87,8 @@ HasCauseInFiles IsBad before now old new said (BadReport line) =
     IsGiven (report_name said.job) × IfSome old (FilesBadReport IsBad said line)
 HasCauseInFiles IsBad before now old new said (BadScript line field) =
     IsGiven (script_name said.job) × IfSome old (FilesBadScript said line field)
-HasCauseInFiles IsBad before now old new said (Limit which count) = IfSome old (FilesLimit said which count)
+HasCauseInFiles IsBad before now old new said (Limit which count) =
+    MayLimit said.job which × IfSome old (FilesLimit said which count)
 HasCauseInFiles IsBad before now old new said (ReadFault count) =
     ShelfFailed before now old new (FileFailed said) count
 HasCauseInFiles IsBad before now old new said NoMemory = Unit {0}

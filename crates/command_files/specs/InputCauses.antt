@@ -12,6 +12,7 @@ use Rattle.command_files.specs.declared.status.Status.{Status}
 use Rattle.command_files.specs.declared.status.Status.TheVariants.{BadTrace, BadWeights, Limit, NoMemory, ReadFault}
 use Rattle.command_files.specs.FileCauses.{NameFailed, NameFailedIf, ShelfFailed}
 use Rattle.command_files.specs.Inputs.{GiveWeights, Gives, IsTraceText, bytes_if}
+use Rattle.command_files.specs.Limits.{EachMayLimit}
 use Rattle.command_files.specs.TraceCauses.{HasTraceFault, IsTraceForm, TraceLimit}
 use Rattle.command_files.specs.WeightsCauses.{IsFaultOf, IsWeightsForm, WeightsLimit}
 
@@ -55,7 +56,7 @@ HasInputCause before now old new trace weights unit (BadTrace fault) =
 HasInputCause before now old new trace weights unit (BadWeights fault) =
     IsWeightsForm fault × IfSome old (λ t. HasWeightsFault (bytes_of t trace) (bytes_if t weights) fault)
 HasInputCause before now old new trace weights unit (Limit which count) =
-    IfSome old (λ t. LimitCause (bytes_of t trace) (bytes_if t weights) unit which count)
+    EachMayLimit which × IfSome old (λ t. LimitCause (bytes_of t trace) (bytes_if t weights) unit which count)
 HasInputCause before now old new trace weights unit (ReadFault count) =
     ShelfFailed before now old new (InputFailed trace weights) count
 HasInputCause before now old new trace weights unit NoMemory = Unit {0}

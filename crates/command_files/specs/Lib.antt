@@ -5,6 +5,7 @@ pub mod Reports
 pub mod Scripts
 pub mod Written
 pub mod Ends
+pub mod Limits
 pub mod FileCauses
 pub mod TraceCauses
 pub mod WeightsCauses

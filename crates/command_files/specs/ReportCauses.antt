@@ -10,6 +10,7 @@ use Rattle.report.specs.declared.fault.ReportFault.TheVariants as report_fault
 use Rattle.command_files.specs.declared.status.Status.{Status}
 use Rattle.command_files.specs.declared.status.Status.TheVariants.{BadReport, Limit, NoMemory, ReadFault}
 use Rattle.command_files.specs.FileCauses.{NameFailed, ShelfFailed}
+use Rattle.command_files.specs.Limits.{EachMayLimit}
 
 -- there is a file of a report, and it is bad at this line
 abbrev pub IsBadReport : (List ℕ → ℕ → Type 0) → Option (List ℕ) → ℕ → Type 0
@@ -35,7 +36,7 @@ abbrev pub IsReportCause : (List ℕ → ℕ → Type 0) → ℕ → ℕ → Opt
 IsReportCause IsBad before now old new name (BadReport line) =
     IfSome old (λ t. IsBadReport IsBad (Some (bytes_of t name)) line)
 IsReportCause IsBad before now old new name (Limit which count) =
-    IfSome old (λ t. ReportLimit (Some (bytes_of t name)) which count)
+    EachMayLimit which × IfSome old (λ t. ReportLimit (Some (bytes_of t name)) which count)
 IsReportCause IsBad before now old new name (ReadFault count) =
     ShelfFailed before now old new (NameFailed name) count
 IsReportCause IsBad before now old new name NoMemory = Unit {0}

@@ -11,6 +11,7 @@ use Rattle.text_fields.specs.Checks.{first_fault}
 use Rattle.command_files.specs.declared.status.Status.{Status}
 use Rattle.command_files.specs.declared.status.Status.TheVariants.{BadScript, Limit, NoMemory, ReadFault}
 use Rattle.command_files.specs.FileCauses.{NameFailed, ShelfFailed}
+use Rattle.command_files.specs.Limits.{ClientsMayLimit}
 use Rattle.command_files.specs.WeightsCauses.{AreTooLong}
 
 -- there is a file of a script over the coflows of these ids, and this is its first fault
@@ -39,7 +40,7 @@ abbrev pub IsScriptCause : List ℕ → ℕ → ℕ → Option Told → Option T
 IsScriptCause ids before now old new name (BadScript line field) =
     IfSome old (λ t. IsBadScript ids (Some (bytes_of t name)) line field)
 IsScriptCause ids before now old new name (Limit which count) =
-    IfSome old (λ t. ScriptLimit ids (Some (bytes_of t name)) which count)
+    ClientsMayLimit which × IfSome old (λ t. ScriptLimit ids (Some (bytes_of t name)) which count)
 IsScriptCause ids before now old new name (ReadFault count) =
     ShelfFailed before now old new (NameFailed name) count
 IsScriptCause ids before now old new name NoMemory = Unit {0}

@@ -11,6 +11,7 @@ use Rattle.trace_reader.specs.declared.fault.TraceFault.TheVariants as trace_fau
 use Rattle.command_files.specs.declared.status.Status.{Status}
 use Rattle.command_files.specs.declared.status.Status.TheVariants.{BadTrace, Limit, NoMemory, ReadFault}
 use Rattle.command_files.specs.FileCauses.{NameFailed, ShelfFailed}
+use Rattle.command_files.specs.Limits.{EachMayLimit}
 
 -- the text is longer than any trace or weights that are read
 abbrev pub IsTooLong : List ℕ → Type 0
@@ -42,7 +43,8 @@ IsStatusOfTrace fault status = status ≡ BadTrace fault
 abbrev pub IsTraceCause : ℕ → ℕ → Option Told → Option Told → List ℕ → Status → Type 0
 IsTraceCause before now old new name (BadTrace fault) =
     IsTraceForm fault × IfSome old (λ t. HasTraceFault (bytes_of t name) fault)
-IsTraceCause before now old new name (Limit which count) = IfSome old (λ t. TraceLimit (bytes_of t name) which count)
+IsTraceCause before now old new name (Limit which count) =
+    EachMayLimit which × IfSome old (λ t. TraceLimit (bytes_of t name) which count)
 IsTraceCause before now old new name (ReadFault count) = ShelfFailed before now old new (NameFailed name) count
 IsTraceCause before now old new name NoMemory = Unit {0}
 IsTraceCause before now old new name status = ⊥

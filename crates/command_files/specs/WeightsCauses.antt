@@ -12,6 +12,7 @@ use Rattle.weights.specs.declared.fault.WeightsFault.TheVariants as weights_faul
 use Rattle.command_files.specs.declared.status.Status.{Status}
 use Rattle.command_files.specs.declared.status.Status.TheVariants.{BadWeights, Limit, NoMemory, ReadFault}
 use Rattle.command_files.specs.FileCauses.{NameFailed, ShelfFailed}
+use Rattle.command_files.specs.Limits.{EachMayLimit}
 use Rattle.command_files.specs.Inputs.{bytes_if}
 use Rattle.command_files.specs.TraceCauses.{IsTooLong}
 
@@ -48,7 +49,7 @@ abbrev pub IsWeightsCause : ℕ → ℕ → Option Told → Option Told → Opti
 IsWeightsCause before now old new name coflows (BadWeights fault) =
     IsWeightsForm fault × IfSome old (λ t. IsFaultOf (bytes_if t name) coflows fault)
 IsWeightsCause before now old new name coflows (Limit which count) =
-    IfSome old (λ t. WeightsLimit (bytes_if t name) coflows which count)
+    EachMayLimit which × IfSome old (λ t. WeightsLimit (bytes_if t name) coflows which count)
 IsWeightsCause before now old new (Some name) coflows (ReadFault count) =
     ShelfFailed before now old new (NameFailed name) count
 IsWeightsCause before now old new name coflows NoMemory = Unit {0}

@@ -14,6 +14,7 @@ use Rattle.command_files.specs.declared.status.Status.TheVariants as status
 use Rattle.sincronia_cli.specs.Causes.{CauseBy, HasCauseOf}
 use Rattle.command_files.specs.JobCauses.{FilesReportFault, HasFilesCause}
 use Rattle.command_files.specs.Causes.{FilesBadScript, FilesLimit, IsGiven}
+use Rattle.command_files.specs.Limits.{MayLimit}
 use Rattle.coflow_units.specs.declared.quantity.Quantity.{Quantity}
 use Rattle.serving_commands.specs.Online.{CommandLimit, FilesPublishMore, PublishesOver}
 use Rattle.sincronia_cli.specs.Command.{IsCommand, ReadsFiles}
@@ -76,27 +77,35 @@ limited None said which count limit = tt
 limited (Some t) said which count limit = inl limit
 
 limit_by : (F : ℕ → Service → Type 0) (k : Job) (before now : ℕ) (old new : Option Told) (said : Said) (which : Quantity) (count : ℕ) → said.job ≡ k →
-    CauseBy F k before now old new said (status.Limit which count) → ReadsFiles k × IfSome old (CommandLimit said which count)
-limit_by F (plan_job trace) before now old new said which count same (inl h) = (tt, limited old said which count h)
+    CauseBy F k before now old new said (status.Limit which count) → ReadsFiles k × MayLimit k which × IfSome old (CommandLimit said which count)
+limit_by F (plan_job trace) before now old new said which count same (inl (may, limit)) =
+    (tt, subst (λ (j : Job). MayLimit j which) same may, limited old said which count limit)
 limit_by F (plan_job trace) before now old new said which count same (inr h) = absurd h
-limit_by F (check_job trace report) before now old new said which count same h = (tt, limited old said which count h)
+limit_by F (check_job trace report) before now old new said which count same (may, limit) =
+    (tt, subst (λ (j : Job). MayLimit j which) same may, limited old said which count limit)
 limit_by F (make_job seed) before now old new said which count same (inl h) = absurd h
 limit_by F (make_job seed) before now old new said which count same (inr h) = absurd h
-limit_by F (compare_job trace) before now old new said which count same h = (tt, limited old said which count h)
-limit_by F (classes_job trace) before now old new said which count same h = (tt, limited old said which count h)
-limit_by F (online_job trace) before now old new said which count same (inl h) = (tt, limited old said which count h)
+limit_by F (compare_job trace) before now old new said which count same (may, limit) =
+    (tt, subst (λ (j : Job). MayLimit j which) same may, limited old said which count limit)
+limit_by F (classes_job trace) before now old new said which count same (may, limit) =
+    (tt, subst (λ (j : Job). MayLimit j which) same may, limited old said which count limit)
+limit_by F (online_job trace) before now old new said which count same (inl (may, limit)) =
+    (tt, subst (λ (j : Job). MayLimit j which) same may, limited old said which count limit)
 limit_by F (online_job trace) before now old new said which count same (inr (inl h)) = absurd h
-limit_by F (online_job trace) before now old new said which count same (inr (inr (epochs, more))) = (tt, over old more)
+limit_by F (online_job trace) before now old new said which count same (inr (inr (epochs, more))) =
+    (tt, subst (MayLimit (online_job trace)) (sym epochs) tt, over old more)
   where
     over : (told : Option Told) → IfSome told (FilesPublishMore said count) → IfSome told (CommandLimit said which count)
     over None more = tt
     over (Some t) more = inr (epochs, subst (λ (j : Job). PublishesOver j said count t) (sym same) more)
-limit_by F (live_job trace script) before now old new said which count same (inl h) = (tt, limited old said which count h)
+limit_by F (live_job trace script) before now old new said which count same (inl (may, limit)) =
+    (tt, subst (λ (j : Job). MayLimit j which) same may, limited old said which count limit)
 limit_by F (live_job trace script) before now old new said which count same (inr h) = absurd h
-limit_by F (audit_job trace journal) before now old new said which count same h = (tt, limited old said which count h)
+limit_by F (audit_job trace journal) before now old new said which count same (may, limit) =
+    (tt, subst (λ (j : Job). MayLimit j which) same may, limited old said which count limit)
 
 pub limit_given : (F : ℕ → Service → Type 0) (said : Said) (before now : ℕ) (old new : Option Told) (which : Quantity) (count : ℕ) (s : Status) →
-    HasCauseOf F before now old new said s → s ≡ status.Limit which count → ReadsFiles said.job × IfSome old (CommandLimit said which count)
+    HasCauseOf F before now old new said s → s ≡ status.Limit which count → ReadsFiles said.job × MayLimit said.job which × IfSome old (CommandLimit said which count)
 limit_given F said before now old new which count s cause is =
     limit_by F said.job before now old new said which count refl (subst (λ (x : Status). HasCauseOf F before now old new said x) is cause)
 

@@ -15,6 +15,7 @@ ghost use Rattle.served_plans.specs.Sent.{SendsAll};
 ghost use Rattle.command_files.specs.Causes.{FileFailed, FilesBadScript, FilesTraceFault, FilesWeightsFault, IsGiven};
 ghost use Rattle.sincronia_cli.specs.Causes.{HasCauseOf};
 ghost use Rattle.command_files.specs.JobCauses.{FilesReportFault};
+ghost use Rattle.command_files.specs.Limits.{MayLimit};
 ghost use Rattle.reading_commands.specs.Audit.{WritesSound};
 ghost use Rattle.reading_commands.specs.Check.{WritesYes};
 ghost use Rattle.reading_commands.specs.Classes.{WritesClasses};
@@ -134,8 +135,9 @@ use std::thread::Threads;
 /// - `BadScript`: trace and weights give a table within its limits, of at most 2^20 units, and the file is no script over its
 ///   coflows. The fault is its first in reading order, told by its line and field.
 /// - `Limit`: a quantity of the files is outside its range, and nothing that is looked at before it is wrong. It does
-///   not come for `make`. For `live` the units are at most 2^20, which is looked at before the script is read. That of epochs comes for `online` alone, where nothing is wrong with the files and more than 8192
-///   orders would be published; its count is 8193.
+///   not come for `make`. For `live` the units are at most 2^20, which is looked at before the script is read. Those of
+///   clients and of commands come for `live` alone. That of epochs comes for `online` alone, where nothing is wrong with
+///   the files and more than 8192 orders would be published; its count is 8193.
 /// - `ReadFault`: a call to the shelf failed, and its count of faults rose. `count` is 1. The file is the trace, or the
 ///   weights where the trace has no fault, or the report, the printed journal or the script where trace and weights give a
 ///   table within its limits.
@@ -227,7 +229,8 @@ pub fn sincronia<R: Threads + Wait + Sync, H: Shelf, K: Sink, W: Wire + Send, G:
         (said : Said) × IsWords (texts words.now) said × IsGiven (script_name said.job) ×
         IfSome (H.told shelf.old) (FilesBadScript said line field) }
     ensures limit { (which : Quantity) (count : ℕ) → result ≡ Status.Limit which count →
-        (said : Said) × IsOfFiles (texts words.now) said × IfSome (H.told shelf.old) (CommandLimit said which count) }
+        (said : Said) × IsOfFiles (texts words.now) said × MayLimit said.job which ×
+        IfSome (H.told shelf.old) (CommandLimit said which count) }
     ensures read { (count : ℕ) → result ≡ Status.ReadFault count → (said : Said) × IsOfFiles (texts words.now) said ×
         ShelfFailed (H.faults shelf.old) (H.faults shelf.new) (H.told shelf.old) (H.told shelf.new) (FileFailed said)
         count }

@@ -91,7 +91,7 @@ returns-in-Err-clause-limit g c = λ which count e.
     let bad = limit_given (Stops g.W.Wire.faults g.W.Wire.runs c.args.wires.now.items c.carry_out.new.wires.items)
     (said_by c.in-Ok.words) (g.H.Shelf.faults c.args.shelf.now) (g.H.Shelf.faults c.carry_out.new.shelf)
     (g.H.Shelf.told c.args.shelf.now) (g.H.Shelf.told c.carry_out.new.shelf) which count c.in-Err.status c.in-Err.ensures.cause e in
-    (said_by c.in-Ok.words, record { words_say = c.in-Ok.ensures.said; reads = bad.0 }, bad.1)
+    (said_by c.in-Ok.words, record { words_say = c.in-Ok.ensures.said; reads = bad.0 }, bad.1, bad.2)
 
 pub returns-clause-yes : goal.returns-clause-yes
 returns-clause-yes g c = λ said trace report is e.

@@ -1,0 +1,32 @@
+-- Which quantities a command may find outside their ranges.
+use Rattle.std.specs.Prelude.{List, ℕ}
+use Rattle.command_words.specs.Jobs.{Job}
+use Rattle.command_words.specs.Jobs.Job.{live_job, online_job}
+use Rattle.coflow_units.specs.declared.quantity.Quantity.{Quantity}
+use Rattle.coflow_units.specs.declared.quantity.Quantity.TheVariants.{Clients, Commands, Epochs}
+
+-- the job is an online run
+abbrev pub RunsOnline : Job → Type 0
+RunsOnline (online_job trace) = Unit {0}
+RunsOnline job = ⊥
+
+-- the job is a script of clients
+abbrev pub RunsClients : Job → Type 0
+RunsClients (live_job trace script) = Unit {0}
+RunsClients job = ⊥
+
+-- A command with this job may end at a limit of this quantity: an online run at that of its epochs, a script at those of
+-- its clients and its commands, and each of them at those of the bytes of its files, the trace, the weights and the table.
+abbrev pub MayLimit : Job → Quantity → Type 0
+MayLimit job Epochs = RunsOnline job
+MayLimit job Clients = RunsClients job
+MayLimit job Commands = RunsClients job
+MayLimit job which = Unit {0}
+
+-- each command may end at a limit of this quantity
+abbrev pub EachMayLimit : Quantity → Type 0
+EachMayLimit which = (job : Job) → MayLimit job which
+
+-- each command that runs a script may do so
+abbrev pub ClientsMayLimit : Quantity → Type 0
+ClientsMayLimit which = (trace script : List ℕ) → MayLimit (live_job trace script) which
