@@ -1,7 +1,7 @@
 -- The causes of the statuses of a command that reads files, and that its files are read to their ends.
 use Rattle.std.proofs.Common.{◌≡◌, ◌≢◌, ℕ, ◌^◌, ◌≤◌, List, Option, Some, None, length, sym, subst, ◌∙◌}
 use Rattle.std.specs.Prelude.{IfSome}
-use Rattle.command_words.specs.Jobs.{report_name, trace_name}
+use Rattle.command_words.specs.Jobs.{report_name, script_name, trace_name}
 use Rattle.command_words.specs.Jobs.Job.{check_job}
 use Rattle.command_words.specs.Words.{Said}
 use Rattle.coflow_units.specs.declared.quantity.Quantity.{Quantity}
@@ -16,9 +16,9 @@ use Rattle.command_files.specs.Causes.FilesLimit.{in_input, in_report}
 use Rattle.command_files.specs.FileCauses.{NameFailed, NameFailedIf}
 use Rattle.command_files.specs.InputCauses.{HasInputCause, InputFailed, LimitCause}
 use Rattle.command_files.specs.ReportCauses.{IsBadReport, IsReportCause, ReportLimit}
-use Rattle.command_files.specs.Shelves.{AreReadOut, IsReadOut, IsReadOutIf, KeepsFiles, KeepsOthers, OfBoth, ReadsOut}
+use Rattle.command_files.specs.Shelves.{AllReadOut, AreReadOut, IsAsBefore, IsReadOut, IsReadOutIf, KeepsFiles, KeepsOthers, OfBoth, ReadsOut}
 use Rattle.command_files.specs.Inputs.{bytes_if}
-use Rattle.command_files.proofs.ShelfFacts.{both_and, both_joined, both_through, if_some, later_out, named_before, of_both, rose_before, told_before, with_both}
+use Rattle.command_files.proofs.ShelfFacts.{both_and, both_joined, both_through, if_some, later_out, named_before, of_both, rose_before, still_before, told_before, with_both}
 use Rattle.command_files.specs.Reports.{HasReportText}
 use Rattle.command_files.proofs.ReportFacts.{IsTextIf}
 
@@ -47,7 +47,7 @@ input_cause IsBad before now old new said (status.WireFault port count) h = absu
 
 module _ (at : Place4) (trace_differs : place.Trace ≢ at) (weights_differ : place.Weights ≢ at) (trace : List ℕ) where
   still_if : (n : Option (List ℕ)) (a b c : Told) → IsReadOutIf place.Weights n a b → KeepsOthers at b c → IsReadOutIf place.Weights n a c
-  still_if None a b c out others = tt
+  still_if None a b c (file, left) (files, lefts) = (files place.Weights weights_differ ∙ file, lefts place.Weights weights_differ ∙ left)
   still_if (Some n) a b c (file, left) (files, lefts) = (files place.Weights weights_differ ∙ file, lefts place.Weights weights_differ ∙ left)
 
   -- trace and weights are still read to their ends after a file is read at another place
@@ -58,6 +58,14 @@ module _ (at : Place4) (trace_differs : place.Trace ≢ at) (weights_differ : pl
       still : (a b c : Told) → AreReadOut trace weights a b → KeepsOthers at b c → AreReadOut trace weights a c
       still a b c ((file, left), out) (files, lefts) =
           ((files place.Trace trace_differs ∙ file, lefts place.Trace trace_differs ∙ left), still_if weights a b c out (files, lefts))
+
+-- every file that is named is read to its end
+pub all_out : (old new : Option Told) (said : Said) → OfBoth old new (AreReadOut (trace_name said.job) said.weights) →
+    OfBoth old new (IsReadOutIf place.Report (report_name said.job)) → OfBoth old new (IsReadOutIf place.Script (script_name said.job)) → OfBoth old new (AllReadOut said)
+all_out old new said out report script =
+    both_joined old new (AreReadOut (trace_name said.job) said.weights)
+    (λ a b. IsReadOutIf place.Report (report_name said.job) a b × IsReadOutIf place.Script (script_name said.job) a b) out
+    (both_joined old new (IsReadOutIf place.Report (report_name said.job)) (IsReadOutIf place.Script (script_name said.job)) report script)
 
 trace_not_report : place.Trace ≢ place.Report
 trace_not_report e = cc
@@ -70,16 +78,26 @@ pub still_both_out : (old mid new : Option Told) (said : Said) → OfBoth old mi
     OfBoth old new (AreReadOut (trace_name said.job) said.weights)
 still_both_out old mid new said out others = still_both place.Report trace_not_report weights_not_report (trace_name said.job) said.weights old mid new out others
 
+pub script_not_report : place.Script ≢ place.Report
+script_not_report e = cc
+
+-- every file of a job that reads nothing but trace and weights is read to its end
+pub input_out : (old new : Option Told) (said : Said) → report_name said.job ≡ None → script_name said.job ≡ None →
+    OfBoth old new (AreReadOut (trace_name said.job) said.weights) → OfBoth old new (IsAsBefore place.Report) → OfBoth old new (IsAsBefore place.Script) →
+    OfBoth old new (AllReadOut said)
+input_out old new said alone none out report script =
+    all_out old new said out (subst (λ o. OfBoth old new (IsReadOutIf place.Report o)) (sym alone) report)
+    (subst (λ o. OfBoth old new (IsReadOutIf place.Script o)) (sym none) script)
+
 -- every file of `check` is read to its end
-pub checked_out : (old mid new : Option Told) (said : Said) (trace name : List ℕ) → report_name said.job ≡ Some name → KeepsFiles old mid →
-    OfBoth old mid (AreReadOut (trace_name said.job) said.weights) →
+pub checked_out : (old mid new : Option Told) (said : Said) (trace name : List ℕ) → report_name said.job ≡ Some name → script_name said.job ≡ None → KeepsFiles old mid →
+    OfBoth old mid (AreReadOut (trace_name said.job) said.weights) → OfBoth old mid (IsAsBefore place.Script) →
     OfBoth mid new (KeepsOthers place.Report) → OfBoth mid new (IsReadOut place.Report name) →
     OfBoth old new (ReadsOut (check_job trace name) said)
-checked_out old mid new said trace name is keeps out others report =
-    both_joined old new (AreReadOut (trace_name said.job) said.weights) (IsReadOutIf place.Report (report_name said.job))
-    (still_both_out old mid new said out others)
-    (subst (λ o. OfBoth old new (IsReadOutIf place.Report o)) (sym is)
-    (later_out old mid new place.Report (Some name) keeps (of_both mid new (IsReadOut place.Report name) (IsReadOutIf place.Report (Some name)) (λ a b h. h) report)))
+checked_out old mid new said trace name is none keeps out script others report =
+    all_out old new said (still_both_out old mid new said out others)
+    (subst (λ o. OfBoth old new (IsReadOutIf place.Report o)) (sym is) (later_out old mid new place.Report name keeps report))
+    (subst (λ o. OfBoth old new (IsReadOutIf place.Script o)) (sym none) (still_before old mid new place.Script place.Report script_not_report script others))
 
 module _ (IsBad : List ℕ → ℕ → Type 0) (before mid_count now : ℕ) (old mid new : Option Told) (said : Said) (name : List ℕ) where
   bad_report : (line : ℕ) → report_name said.job ≡ Some name → KeepsFiles old mid → IfSome old (FilesGiveTable said) →

@@ -1,5 +1,5 @@
 -- How far a command came with its files.
-use Rattle.std.proofs.Common.{◌≡◌, ℕ, List, Option, Some, None, refl, sym, subst}
+use Rattle.std.proofs.Common.{◌≡◌, ℕ, List, Option, Some, None, refl, sym, subst, ◌∙◌}
 use Rattle.std.specs.Prelude.{IfSome}
 use Rattle.command_words.specs.Jobs.{Job, report_name, script_name, trace_name}
 use Rattle.command_words.specs.Jobs.Job.{audit_job, check_job, classes_job, compare_job, live_job, make_job, online_job, plan_job}
@@ -12,12 +12,12 @@ use Rattle.command_files.specs.Causes.{FilesGiveTable}
 use Rattle.command_files.specs.Ends.{IsReadFault}
 use Rattle.command_files.specs.FileCauses.{NameFailed, NameFailedIf}
 use Rattle.command_files.specs.ReportCauses.{IsReportCause}
-use Rattle.command_files.specs.Shelves.{AreReadOut, KeepsFiles, KeepsOthers, OfBoth}
-use Rattle.command_files.specs.Turns.{FailsAt, FilesInTurn, InputInTurn, IsAsBefore}
+use Rattle.command_files.specs.Shelves.{AllReadOut, AreReadOut, IsAsBefore, IsAsBeforeUnless, KeepsFiles, KeepsOthers, OfBoth}
+use Rattle.command_files.specs.Turns.{FailsAt, FilesInTurn, InputInTurn}
 use Rattle.command_files.specs.Turns.FilesInTurn.{at_input, at_report}
 use Rattle.command_files.specs.Turns.InputInTurn.{at_trace}
-use Rattle.command_files.proofs.CauseFacts.{still_both_out}
-use Rattle.command_files.proofs.ShelfFacts.{both_and, both_joined, both_same, named_before, of_both}
+use Rattle.command_files.proofs.CauseFacts.{script_not_report, still_both_out}
+use Rattle.command_files.proofs.ShelfFacts.{both_and, both_joined, both_same, left_unless, named_before, of_both, still_before}
 use Rattle.command_files.proofs.InputTurns.{fails_if, no_read}
 
 pub input_in_turn : (old new : Option Told) (said : Said) (s : Status) → OfBoth old new (InputInTurn (trace_name said.job) said.weights s) →
@@ -29,18 +29,25 @@ input_in_turn old new said s input report script =
     (both_joined old new (InputInTurn (trace_name said.job) said.weights s) (λ a b. IsAsBefore place.Report a b × IsAsBefore place.Script a b) input
     (both_joined old new (IsAsBefore place.Report) (IsAsBefore place.Script) report script))
 
-past_input : (old new : Option Told) (said : Said) (s : Status) → script_name said.job ≡ None → IfSome old (FilesGiveTable said) →
-    OfBoth old new (AreReadOut (trace_name said.job) said.weights) →
+-- how the places are left where trace and weights were read to their ends
+abbrev IsLeft : Said → Told → Told → Type 0
+IsLeft said a b =
+    AreReadOut (trace_name said.job) said.weights a b × (IsAsBeforeUnless place.Report (report_name said.job) a b × IsAsBefore place.Script a b)
+
+past_input : (old new : Option Told) (said : Said) (s : Status) → script_name said.job ≡ None → IfSome old (FilesGiveTable said) → OfBoth old new (IsLeft said) →
     ((count : ℕ) → s ≡ status.ReadFault count → OfBoth old new (NameFailedIf (report_name said.job))) → OfBoth old new (FilesInTurn said s)
-past_input old new said s none table out failed =
-    both_and old new (FilesGiveTable said) (λ a b. FailsAt (report_name said.job) s a b × AreReadOut (trace_name said.job) said.weights a b) (FilesInTurn said s)
-    (λ a b gives (f, out). at_report none gives out f) table
-    (fails_if old new (report_name said.job) (AreReadOut (trace_name said.job) said.weights) s out failed)
+past_input old new said s none table left failed =
+    both_and old new (FilesGiveTable said) (λ a b. FailsAt (report_name said.job) s a b × IsLeft said a b) (FilesInTurn said s)
+    (λ a b gives (f, (out, (report, script))). at_report none gives out report script f) table (fails_if old new (report_name said.job) (IsLeft said) s left failed)
 
 -- after all files of a job without a script no call to the shelf failed
 pub done_in_turn : (old new : Option Told) (said : Said) (s : Status) → script_name said.job ≡ None → (IsReadFault s → ⊥) → IfSome old (FilesGiveTable said) →
-    OfBoth old new (AreReadOut (trace_name said.job) said.weights) → OfBoth old new (FilesInTurn said s)
-done_in_turn old new said s none other table out = past_input old new said s none table out (λ count e. absurd (no_read s count other e))
+    OfBoth old new (AllReadOut said) → OfBoth old new (FilesInTurn said s)
+done_in_turn old new said s none other table out =
+    past_input old new said s none table (of_both old new (AllReadOut said) (IsLeft said) left out) (λ count e. absurd (no_read s count other e))
+  where
+    left : (a b : Told) → AllReadOut said a b → IsLeft said a b
+    left a b (both, (report, script)) = (both, (left_unless place.Report (report_name said.job) a b report, left_unless place.Script (script_name said.job) a b script none))
 
 -- a job that reads a report reads no script
 pub report_alone : (k : Job) (name : List ℕ) → report_name k ≡ Some name → script_name k ≡ None
@@ -55,13 +62,23 @@ report_alone (live_job trace script) name is = cc
 
 module _ (IsBad : List ℕ → ℕ → Type 0) (old mid new : Option Told) (said : Said) (name : List ℕ) (s : Status) where
   pub report_in_turn : (mid_count now : ℕ) → report_name said.job ≡ Some name → KeepsFiles old mid → IfSome old (FilesGiveTable said) →
-      OfBoth old mid (AreReadOut (trace_name said.job) said.weights) → OfBoth mid new (KeepsOthers place.Report) →
+      OfBoth old mid (AreReadOut (trace_name said.job) said.weights) → OfBoth old mid (IsAsBefore place.Script) → OfBoth mid new (KeepsOthers place.Report) →
       IsReportCause IsBad mid_count now mid new name s →
       OfBoth old new (FilesInTurn said s)
-  report_in_turn mid_count now is keeps table out others cause =
-      past_input old new said s (report_alone said.job name is) table (still_both_out old mid new said out others)
+  report_in_turn mid_count now is keeps table out script others cause =
+      past_input old new said s (report_alone said.job name is) table left
       (λ count e. failed count (subst (λ (x : Status). IsReportCause IsBad mid_count now mid new name x) e cause))
     where
+      named : report_name said.job ≡ None → ⊥
+      named none = let clash : Some name ≡ None = sym is ∙ none in cc
+
+      left : OfBoth old new (IsLeft said)
+      left =
+          of_both old new (λ a b. AreReadOut (trace_name said.job) said.weights a b × IsAsBefore place.Script a b) (IsLeft said)
+          (λ a b (both, untouched). (both, (λ none. absurd (named none), untouched)))
+          (both_joined old new (AreReadOut (trace_name said.job) said.weights) (IsAsBefore place.Script) (still_both_out old mid new said out others)
+          (still_before old mid new place.Script place.Report script_not_report script others))
+
       failed : (count : ℕ) → IsReportCause IsBad mid_count now mid new name (status.ReadFault count) → OfBoth old new (NameFailedIf (report_name said.job))
       failed count (one, rose, named) =
           subst (λ o. OfBoth old new (NameFailedIf o)) (sym is)

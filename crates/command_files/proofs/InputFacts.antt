@@ -26,7 +26,7 @@ use Rattle.command_files.specs.Shelves.{AreReadOut, IsReadOut, IsReadOutIf, Keep
 use Rattle.command_files.specs.TraceCauses.{IsTraceCause, TraceLimit}
 use Rattle.command_files.specs.WeightsCauses.{IsFaultOf, IsWeightsCause, WeightsLimit}
 use Rattle.command_files.proofs.LimitFacts.{table_may}
-use Rattle.command_files.proofs.ShelfFacts.{both_and, both_joined, if_some, later_out, named_before, of_both, rose_before, still_out, told_before, with_both}
+use Rattle.command_files.proofs.ShelfFacts.{as_before, both_and, both_joined, if_some, later_out_if, named_before, of_both, rose_before, still_out, told_before, with_both}
 
 given_before : (old mid : Option Told) (file : Option (List ℕ)) (coflows : List CoflowLine) (weights : List ℕ) → KeepsFiles old mid →
     IfSome mid (λ t. GiveWeights (bytes_if t file) coflows weights) → IfSome old (λ t. GiveWeights (bytes_if t file) coflows weights)
@@ -73,13 +73,16 @@ table_given old name file unit trace weights table read input of units =
 
 -- both files are read to their ends
 pub both_out : (old mid new : Option Told) (name : List ℕ) (file : Option (List ℕ)) → OfBoth old mid (IsReadOut place.Trace name) → KeepsFiles old mid →
-    OfBoth mid new (KeepsOthers place.Weights) → OfBoth mid new (IsReadOutIf place.Weights file) → OfBoth old new (AreReadOut name file)
-both_out old mid new name file out keeps others later =
+    OfBoth old mid (KeepsOthers place.Trace) → OfBoth mid new (KeepsOthers place.Weights) → OfBoth mid new (IsReadOutIf place.Weights file) → OfBoth old new (AreReadOut name file)
+both_out old mid new name file out keeps elsewhere others later =
     both_joined old new (IsReadOut place.Trace name) (IsReadOutIf place.Weights file) (still_out old mid new place.Trace place.Weights name differ out others)
-    (later_out old mid new place.Weights file keeps later)
+    (later_out_if old mid new place.Weights file keeps (as_before old mid place.Weights place.Trace apart elsewhere) later)
   where
     differ : place.Trace ≡ place.Weights → ⊥
     differ e = cc
+
+    apart : place.Weights ≡ place.Trace → ⊥
+    apart e = cc
 
 -- ---- the causes of both together
 

@@ -1,5 +1,5 @@
 -- Trace and weights in turn, and that the shelf's count of faults stays.
-use Rattle.std.proofs.Common.{◌≡◌, ◌≢◌, IsErrAnd, ℕ, List, Option, Some, Result, Ok, Err, refl, sym, subst, ◌∙◌}
+use Rattle.std.proofs.Common.{◌≡◌, ◌≢◌, IsErrAnd, ℕ, List, Option, Some, None, Result, Ok, Err, refl, sym, subst, ◌∙◌}
 use Rattle.coflow_units.specs.declared.trace.Trace.{Trace}
 use Rattle.flow_table.specs.declared.fault.TableFault.{TableFault}
 use Rattle.flow_table.specs.declared.fault.TableFault.TheVariants as table_fault
@@ -13,13 +13,13 @@ use Rattle.command_files.specs.Ends.{IsReadFault, CountsFault}
 use Rattle.command_files.specs.FileCauses.{NameFailed, NameFailedIf}
 use Rattle.command_files.specs.InputCauses.{IsStatusOfTable}
 use Rattle.command_files.specs.Inputs.{IsTraceOf}
-use Rattle.command_files.specs.Shelves.{IsReadOut, KeepsFiles, KeepsOthers, OfBoth}
+use Rattle.command_files.specs.Shelves.{IsAsBefore, IsAsBeforeUnless, IsReadOut, KeepsFiles, KeepsOthers, OfBoth}
 use Rattle.command_files.specs.TraceCauses.{IsTraceCause}
-use Rattle.command_files.specs.Turns.{FailsAt, InputInTurn, IsAsBefore}
+use Rattle.command_files.specs.Turns.{FailsAt, InputInTurn}
 use Rattle.command_files.specs.Turns.InputInTurn.{at_trace, at_weights}
 use Rattle.command_files.specs.WeightsCauses.{IsWeightsCause}
 use Rattle.command_files.proofs.InputFacts.{ReadAs, by_name}
-use Rattle.command_files.proofs.ShelfFacts.{both_and, both_joined, both_through, named_before, of_both, still_out}
+use Rattle.command_files.proofs.ShelfFacts.{as_before, as_before_through, both_and, both_joined, both_through, named_before, of_both, still_out}
 
 -- ---- the count of the shelf
 
@@ -38,13 +38,6 @@ counts_none before now (Ok x) Q is not e = e
 counts_none before now (Err s) Q is not e = (λ other. e, λ fault. absurd (not s is fault))
 
 -- ---- places that are as before
-
-pub as_before : (old new : Option Told) (at other : Place4) → at ≢ other → OfBoth old new (KeepsOthers other) → OfBoth old new (IsAsBefore at)
-as_before old new at other differ keeps = of_both old new (KeepsOthers other) (IsAsBefore at) (λ a b (files, lefts). (files at differ, lefts at differ)) keeps
-
-pub as_before_through : (old mid new : Option Told) (at : Place4) → OfBoth old mid (IsAsBefore at) → OfBoth mid new (IsAsBefore at) → OfBoth old new (IsAsBefore at)
-as_before_through old mid new at p q =
-    both_through old mid new (IsAsBefore at) (IsAsBefore at) (IsAsBefore at) (λ a b c (file, left) (files, lefts). (files ∙ file, lefts ∙ left)) p q
 
 trace_not_report : place.Report ≢ place.Trace
 trace_not_report e = cc
@@ -117,25 +110,35 @@ trace_in_turn before now old new name file s cause others =
     failed : (count : ℕ) → IsTraceCause before now old new name (status.ReadFault count) → OfBoth old new (NameFailedIf (Some name))
     failed count (one, rose, named) = of_both old new (NameFailed name) (NameFailedIf (Some name)) (λ a b h. h) named
 
-past_trace : (old mid new : Option Told) (name : List ℕ) (file : Option (List ℕ)) (trace : Trace) (s : Status) → IsTraceOf old name trace →
-    OfBoth old mid (IsReadOut place.Trace name) → OfBoth mid new (KeepsOthers place.Weights) →
-    ((count : ℕ) → s ≡ status.ReadFault count → OfBoth old new (NameFailedIf file)) → OfBoth old new (InputInTurn name file s)
-past_trace old mid new name file trace s read out others failed =
-    both_and old new (ReadAs name trace) (λ a b. FailsAt file s a b × IsReadOut place.Trace name a b) (InputInTurn name file s)
-    (λ a b (text, is) (f, out). at_weights text out f) read.reads
-    (fails_if old new file (IsReadOut place.Trace name) s (still_out old mid new place.Trace place.Weights name trace_not_weights out others) failed)
+-- no file was looked at in the place of weights that are not named
+left_alone : (old mid new : Option Told) (file : Option (List ℕ)) → OfBoth old mid (KeepsOthers place.Trace) → OfBoth mid new (KeepsOthers place.Weights) →
+    (file ≡ None → OfBoth mid new (IsAsBefore place.Weights)) → OfBoth old new (IsAsBeforeUnless place.Weights file)
+left_alone old mid new None trace weights unnamed =
+    of_both old new (IsAsBefore place.Weights) (IsAsBeforeUnless place.Weights None) (λ a b h e. h)
+    (as_before_through old mid new place.Weights (as_before old mid place.Weights place.Trace weights_not_trace trace) (unnamed refl))
+left_alone old mid new (Some name) trace weights unnamed =
+    of_both old new (IsAsBefore place.Report) (IsAsBeforeUnless place.Weights (Some name)) (λ a b h e. let clash : Some name ≡ None = e in cc)
+    (no_report_by_both old mid new trace weights)
 
-pub weights_in_turn : (before mid_count now : ℕ) (old mid new : Option Told) (name : List ℕ) (file : Option (List ℕ)) (unit : ℕ) (trace : Trace) (s : Status) →
-    KeepsFiles old mid → IsTraceOf old name trace → OfBoth old mid (IsReadOut place.Trace name) → OfBoth mid new (KeepsOthers place.Weights) →
-    IsWeightsCause mid_count now mid new file trace.coflows s → OfBoth old new (InputInTurn name file s)
-weights_in_turn before mid_count now old mid new name file unit trace s keeps read out others cause =
-    past_trace old mid new name file trace s read out others
-    (λ count is.
-    let known = subst (λ (x : Status). IsWeightsCause mid_count now mid new file trace.coflows x) is cause in
-    let (one, rose, named) = by_name before mid_count now old mid new name file unit trace file count known in
-    named_before old mid new file keeps named)
+module _ (old mid new : Option Told) (name : List ℕ) (file : Option (List ℕ)) (trace : Trace) (read : IsTraceOf old name trace) (out : OfBoth old mid (IsReadOut place.Trace name))
+    (elsewhere : OfBoth old mid (KeepsOthers place.Trace)) (others : OfBoth mid new (KeepsOthers place.Weights))
+    (unnamed : file ≡ None → OfBoth mid new (IsAsBefore place.Weights)) where
+  past_trace : (s : Status) → ((count : ℕ) → s ≡ status.ReadFault count → OfBoth old new (NameFailedIf file)) → OfBoth old new (InputInTurn name file s)
+  past_trace s failed =
+      both_and old new (ReadAs name trace) (λ a b. FailsAt file s a b × (IsReadOut place.Trace name a b × IsAsBeforeUnless place.Weights file a b)) (InputInTurn name file s)
+      (λ a b (text, is) (f, (out, left)). at_weights text out left f) read.reads
+      (fails_if old new file (λ a b. IsReadOut place.Trace name a b × IsAsBeforeUnless place.Weights file a b) s
+      (both_joined old new (IsReadOut place.Trace name) (IsAsBeforeUnless place.Weights file)
+      (still_out old mid new place.Trace place.Weights name trace_not_weights out others) (left_alone old mid new file elsewhere others unnamed)) failed)
 
-pub table_in_turn : (old mid new : Option Told) (name : List ℕ) (file : Option (List ℕ)) (trace : Trace) (fault : TableFault) (s : Status) → IsTraceOf old name trace →
-    OfBoth old mid (IsReadOut place.Trace name) → OfBoth mid new (KeepsOthers place.Weights) → IsStatusOfTable fault s → OfBoth old new (InputInTurn name file s)
-table_in_turn old mid new name file trace fault s read out others is =
-    past_trace old mid new name file trace s read out others (λ count e. absurd (no_read s count (table_reads fault s is) e))
+  pub weights_in_turn : (before mid_count now : ℕ) (unit : ℕ) (s : Status) → KeepsFiles old mid → IsWeightsCause mid_count now mid new file trace.coflows s →
+      OfBoth old new (InputInTurn name file s)
+  weights_in_turn before mid_count now unit s keeps cause =
+      past_trace s
+      (λ count is.
+      let known = subst (λ (x : Status). IsWeightsCause mid_count now mid new file trace.coflows x) is cause in
+      let (one, rose, named) = by_name before mid_count now old mid new name file unit trace file count known in
+      named_before old mid new file keeps named)
+
+  pub table_in_turn : (fault : TableFault) (s : Status) → IsStatusOfTable fault s → OfBoth old new (InputInTurn name file s)
+  table_in_turn fault s is = past_trace s (λ count e. absurd (no_read s count (table_reads fault s is) e))

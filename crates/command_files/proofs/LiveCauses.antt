@@ -1,7 +1,7 @@
 -- Why the files of `live` give nothing, and that they are read to their ends.
 use Rattle.std.proofs.Common.{◌≡◌, ◌≢◌, ℕ, ◌≤◌, List, Option, Some, None, refl, sym, subst}
 use Rattle.std.specs.Prelude.{IfSome}
-use Rattle.command_words.specs.Jobs.{script_name, trace_name}
+use Rattle.command_words.specs.Jobs.{report_name, script_name, trace_name}
 use Rattle.command_words.specs.Jobs.Job.{live_job}
 use Rattle.command_words.specs.Words.{Said}
 use Rattle.coflow_units.specs.declared.quantity.Quantity.{Quantity}
@@ -19,10 +19,10 @@ use Rattle.command_files.specs.FileCauses.{NameFailed, NameFailedIf}
 use Rattle.command_files.specs.Inputs.{Gives, IsInput, bytes_if}
 use Rattle.command_files.specs.ScriptCauses.{IsBadScript, IsScriptCause, ScriptLimit}
 use Rattle.command_files.specs.Scripts.{HasMoreUnits, HasScriptText, IsScriptOf, IsShared}
-use Rattle.command_files.specs.Shelves.{AreReadOut, IsReadOut, IsReadOutIf, KeepsFiles, KeepsOthers, OfBoth, ReadsOut}
-use Rattle.command_files.proofs.CauseFacts.{still_both}
+use Rattle.command_files.specs.Shelves.{AreReadOut, IsAsBefore, IsReadOut, IsReadOutIf, KeepsFiles, KeepsOthers, OfBoth, ReadsOut}
+use Rattle.command_files.proofs.CauseFacts.{all_out, still_both}
 use Rattle.command_files.proofs.LimitFacts.{job_may}
-use Rattle.command_files.proofs.ShelfFacts.{both_and, both_joined, if_some, later_out, named_before, of_both, rose_before, told_before, with_both}
+use Rattle.command_files.proofs.ShelfFacts.{both_and, both_joined, if_some, later_out, named_before, of_both, rose_before, still_before, told_before, with_both}
 
 trace_not_script : place.Trace ≢ place.Script
 trace_not_script e = cc
@@ -30,21 +30,23 @@ trace_not_script e = cc
 weights_not_script : place.Weights ≢ place.Script
 weights_not_script e = cc
 
+pub report_not_script : place.Report ≢ place.Script
+report_not_script e = cc
+
 -- trace and weights are still read to their ends after the script is read
 pub still_before_script : (old mid new : Option Told) (said : Said) → OfBoth old mid (AreReadOut (trace_name said.job) said.weights) → OfBoth mid new (KeepsOthers place.Script) →
     OfBoth old new (AreReadOut (trace_name said.job) said.weights)
 still_before_script old mid new said out others = still_both place.Script trace_not_script weights_not_script (trace_name said.job) said.weights old mid new out others
 
 -- every file of `live` is read to its end
-pub scripted_out : (old mid new : Option Told) (said : Said) (trace name : List ℕ) → script_name said.job ≡ Some name → KeepsFiles old mid →
-    OfBoth old mid (AreReadOut (trace_name said.job) said.weights) →
+pub scripted_out : (old mid new : Option Told) (said : Said) (trace name : List ℕ) → script_name said.job ≡ Some name → report_name said.job ≡ None → KeepsFiles old mid →
+    OfBoth old mid (AreReadOut (trace_name said.job) said.weights) → OfBoth old mid (IsAsBefore place.Report) →
     OfBoth mid new (KeepsOthers place.Script) → OfBoth mid new (IsReadOut place.Script name) →
     OfBoth old new (ReadsOut (live_job trace name) said)
-scripted_out old mid new said trace name is keeps out others script =
-    both_joined old new (AreReadOut (trace_name said.job) said.weights) (IsReadOutIf place.Script (script_name said.job))
-    (still_before_script old mid new said out others)
-    (subst (λ o. OfBoth old new (IsReadOutIf place.Script o)) (sym is)
-    (later_out old mid new place.Script (Some name) keeps (of_both mid new (IsReadOut place.Script name) (IsReadOutIf place.Script (Some name)) (λ a b h. h) script)))
+scripted_out old mid new said trace name is none keeps out report others script =
+    all_out old new said (still_before_script old mid new said out others)
+    (subst (λ o. OfBoth old new (IsReadOutIf place.Report o)) (sym none) (still_before old mid new place.Report place.Script report_not_script report others))
+    (subst (λ o. OfBoth old new (IsReadOutIf place.Script o)) (sym is) (later_out old mid new place.Script name keeps script))
 
 -- ---- the table of the files is this one
 

@@ -10,7 +10,7 @@ use Rattle.outside.specs.Shelf.{Keeps, ReadsWhole, Starts, Told, bytes_of}
 use Rattle.command_files.specs.declared.status.Status.{Status}
 use Rattle.command_files.specs.FileCauses.{NameFailedIf}
 use Rattle.command_files.specs.Inputs.{bytes_if}
-use Rattle.command_files.specs.Shelves.{IsReadOut, IsReadOutIf, KeepsFiles, KeepsOthers, OfBoth}
+use Rattle.command_files.specs.Shelves.{IsAsBefore, IsAsBeforeUnless, IsReadOut, IsReadOutIf, KeepsFiles, KeepsOthers, OfBoth}
 
 -- ---- an error that is handed on
 
@@ -62,6 +62,20 @@ both_joined (Some old) new P Q (t, is, p) (s, same, q) =
 pub both_kept : (old new : Option Told) → KeepsFiles old new → OfBoth old new Keeps
 both_kept None new k = tt
 both_kept (Some old) new k = k
+
+-- ---- places that are as before
+
+pub as_before : (old new : Option Told) (at other : Place4) → at ≢ other → OfBoth old new (KeepsOthers other) → OfBoth old new (IsAsBefore at)
+as_before old new at other differ keeps = of_both old new (KeepsOthers other) (IsAsBefore at) (λ a b (files, lefts). (files at differ, lefts at differ)) keeps
+
+pub as_before_through : (old mid new : Option Told) (at : Place4) → OfBoth old mid (IsAsBefore at) → OfBoth mid new (IsAsBefore at) → OfBoth old new (IsAsBefore at)
+as_before_through old mid new at p q =
+    both_through old mid new (IsAsBefore at) (IsAsBefore at) (IsAsBefore at) (λ a b c (file, left) (files, lefts). (files ∙ file, lefts ∙ left)) p q
+
+-- as it is where a file is read at another place after that
+pub still_before : (old mid new : Option Told) (at other : Place4) → at ≢ other → OfBoth old mid (IsAsBefore at) → OfBoth mid new (KeepsOthers other) →
+    OfBoth old new (IsAsBefore at)
+still_before old mid new at other differ p keeps = as_before_through old mid new at p (as_before mid new at other differ keeps)
 
 -- ---- a file that is read
 
@@ -126,14 +140,21 @@ still_out old mid new place other name differ out keeps =
     (λ a b c (file, left) (files, lefts). (files place differ ∙ file, lefts place differ ∙ left)) out keeps
 
 -- a file that was read to its end later is the one that the shelf told of before
-pub later_out : (old mid new : Option Told) (place : Place4) (name : Option (List ℕ)) → KeepsFiles old mid → OfBoth mid new (IsReadOutIf place name) →
-    OfBoth old new (IsReadOutIf place name)
+pub later_out : (old mid new : Option Told) (place : Place4) (name : List ℕ) → KeepsFiles old mid → OfBoth mid new (IsReadOut place name) → OfBoth old new (IsReadOut place name)
 later_out old mid new place name keeps out =
-    both_through old mid new Keeps (IsReadOutIf place name) (IsReadOutIf place name) (λ a b c k o. by a b c k name o) (both_kept old mid keeps) out
-  where
-    by : (a b c : Told) → Keeps a b → (n : Option (List ℕ)) → IsReadOutIf place n b c → IsReadOutIf place n a c
-    by a b c k None o = tt
-    by a b c k (Some n) (file, left) = (file ∙ ap (λ (f : List ℕ → ℕ). f n) k.file, left)
+    both_through old mid new Keeps (IsReadOut place name) (IsReadOut place name) (λ a b c k (file, left). (file ∙ ap (λ (f : List ℕ → ℕ). f name) k.file, left))
+    (both_kept old mid keeps) out
+
+-- the same of a file that may be named, where none was looked at there before
+pub later_out_if : (old mid new : Option Told) (place : Place4) (name : Option (List ℕ)) → KeepsFiles old mid → OfBoth old mid (IsAsBefore place) →
+    OfBoth mid new (IsReadOutIf place name) → OfBoth old new (IsReadOutIf place name)
+later_out_if old mid new place None keeps before out = as_before_through old mid new place before out
+later_out_if old mid new place (Some name) keeps before out = later_out old mid new place name keeps out
+
+-- no file was looked at where none is named
+pub left_unless : (at : Place4) (name : Option (List ℕ)) (a b : Told) → IsReadOutIf at name a b → IsAsBeforeUnless at name a b
+left_unless at None a b out = λ e. out
+left_unless at (Some name) a b out = λ e. let clash : Some name ≡ None = e in cc
 
 -- ---- what was told before
 

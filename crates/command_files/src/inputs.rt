@@ -1,5 +1,5 @@
 //! The files of a command: the trace, the weights of its coflows, and a report, a printed journal or a script.
-ghost use Rattle.std.specs.Prelude.{◌≡◌, ◌≤◌, ℕ, IfErr, IfOk, IfSome, OnOk, length, option_map, replicate};
+ghost use Rattle.std.specs.Prelude.{◌≡◌, ◌≤◌, ℕ, None, IfErr, IfOk, IfSome, OnOk, length, option_map, replicate};
 ghost use Rattle.coflow_units.specs.declared.limits.TheConstants.{MAX_REPORT, MAX_UNIT};
 ghost use Rattle.coflow_units.specs.Trace.{IsTrace};
 ghost use Rattle.flow_table.specs.Table.{IsTable, IsTableOf};
@@ -16,9 +16,9 @@ ghost use Rattle.command_files.specs.Inputs.{IsInput, IsTraceOf, IsWeightsOf, by
 ghost use Rattle.command_files.specs.ReportCauses.{IsReportCause};
 ghost use Rattle.command_files.specs.ScriptCauses.{IsScriptCause};
 ghost use Rattle.command_files.specs.Scripts.{IsScriptOf};
-ghost use Rattle.command_files.specs.Shelves.{AreReadOut, HasBytes, IsReadOut, IsReadOutIf, KeepsFiles, KeepsOthers, OfBoth};
+ghost use Rattle.command_files.specs.Shelves.{AreReadOut, HasBytes, IsAsBefore, IsReadOut, IsReadOutIf, KeepsFiles, KeepsOthers, OfBoth};
 ghost use Rattle.command_files.specs.TraceCauses.{IsTraceCause};
-ghost use Rattle.command_files.specs.Turns.{InputInTurn, IsAsBefore};
+ghost use Rattle.command_files.specs.Turns.{InputInTurn};
 ghost use Rattle.command_files.specs.WeightsCauses.{IsWeightsCause};
 
 use crate::status::Status;
@@ -102,6 +102,8 @@ fn weights_of_file<H: Shelf>(
         (IsWeightsOf (H.told shelf.old) (option_map (λ s. s.now) name.entry) trace.now.coflows) }
     ensures read_out { OnOk result (OfBoth (H.told shelf.old) (H.told shelf.new)
         (IsReadOutIf Place4.Weights (option_map (λ s. s.now) name.entry))) }
+    ensures unnamed { option_map (λ s. s.now) name.entry ≡ None →
+        OfBoth (H.told shelf.old) (H.told shelf.new) (IsAsBefore Place4.Weights) }
     ensures others { OfBoth (H.told shelf.old) (H.told shelf.new) (KeepsOthers Place4.Weights) }
     ensures keeps { KeepsFiles (H.told shelf.old) (H.told shelf.new) }
     ensures later { H.faults shelf.old ≤ H.faults shelf.new }

@@ -22,7 +22,7 @@ use Rattle.report.specs.declared.value.Report.{Report}
 use Rattle.report.specs.Reading.{IsBadAt, IsTextOf}
 use Rattle.schedule_model.specs.RunList.{slots_in}
 use Rattle.command_files.proofs.GoodFacts.{files_end, no_script, text_is_good}
-use Rattle.command_files.proofs.ShelfFacts.{if_some, of_both}
+use Rattle.command_files.proofs.ShelfFacts.{if_some}
 use Rattle.command_files.proofs.FileTurns.{done_in_turn}
 use Rattle.command_files.specs.declared.status.Status.{Status}
 use Rattle.command_files.specs.declared.status.Status.TheVariants as status
@@ -30,7 +30,7 @@ use Rattle.command_files.specs.Causes.{FilesGiveTable, HasCauseInFiles}
 use Rattle.command_files.specs.Reports.{IsReportOf}
 use Rattle.command_files.specs.Ends.{IsStill, IsReadFault}
 use Rattle.command_files.specs.Inputs.{GiveWeights, IsInput, bytes_if}
-use Rattle.command_files.specs.Shelves.{AreReadOut, OfBoth, ReadsOut}
+use Rattle.command_files.specs.Shelves.{OfBoth, ReadsOut}
 use Rattle.command_files.specs.Turns.{FilesInTurn}
 use Rattle.picture_cli.proofs.PictureFacts.{cause_by}
 use Rattle.picture_cli.specs.Complete.{AreGoodFiles, CallFor, CanBeDrawn, IsAnswer}
@@ -214,5 +214,4 @@ pub past_in_turn : (old new : Option Told) (said : PictureSaid) (s : Status) →
     OfBoth old new (ReadsOut (check_of said).job (check_of said)) → OfBoth old new (FilesInTurn (check_of said) s)
 past_in_turn old new said s other good out =
     done_in_turn old new (check_of said) s refl other
-    (if_some old (AreGoodFiles said) (FilesGiveTable (check_of said)) (λ t (gives, report). gives) good)
-    (of_both old new (ReadsOut (check_of said).job (check_of said)) (AreReadOut said.trace said.weights) (λ a b (both, report). both) out)
+    (if_some old (AreGoodFiles said) (FilesGiveTable (check_of said)) (λ t (gives, report). gives) good) out

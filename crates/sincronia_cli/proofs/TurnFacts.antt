@@ -1,7 +1,7 @@
 -- How far a command came with its files, and that the shelf's count of faults stays.
 use Rattle.std.proofs.Common.{◌≡◌, IfErr, ℕ, List, Option, Result, Ok, Err, ap, refl, sym, subst}
 use Rattle.std.specs.Prelude.{◌⊎◌, Bool, IfSome, false, true}
-use Rattle.command_words.specs.Jobs.{Job, script_name, trace_name}
+use Rattle.command_words.specs.Jobs.{Job, report_name, script_name}
 use Rattle.command_words.specs.Jobs.Job.{audit_job, check_job, classes_job, compare_job, live_job, make_job, online_job, plan_job}
 use Rattle.command_words.specs.Line.{Text}
 use Rattle.command_words.specs.Words.{IsWords, Said}
@@ -10,17 +10,17 @@ use Rattle.flow_table.specs.Table.{TableFacts}
 use Rattle.rankers.specs.Meaning.{Meaning}
 use Rattle.outside.specs.Shelf.{Told}
 use Rattle.command_files.specs.declared.status.Status.{Status}
-use Rattle.command_files.specs.Causes.{FilesGiveShared, FilesGiveTable}
+use Rattle.command_files.specs.Causes.{FilesGiveShared, FilesGiveTable, IsGiven}
 use Rattle.serving_commands.specs.Make.{HasMadeCause}
 use Rattle.reading_commands.specs.Check.{status_for}
 use Rattle.command_files.specs.GoodFiles.{HasGoodFiles}
 use Rattle.command_files.specs.Ends.{IsReadFault, CountsFault}
 use Rattle.sincronia_cli.specs.Outcome.{IsOutcome, OutcomeBy}
 use Rattle.command_files.specs.WireCauses.{IsWireCause}
-use Rattle.command_files.specs.Shelves.{AreReadOut, OfBoth, ReadsOut}
+use Rattle.command_files.specs.Shelves.{OfBoth, ReadsOut}
 use Rattle.command_files.specs.Turns.{FilesInTurn}
 use Rattle.serving_commands.proofs.EndCauses.{of_served}
-use Rattle.command_files.proofs.ShelfFacts.{if_some, of_both}
+use Rattle.command_files.proofs.ShelfFacts.{if_some}
 use Rattle.command_files.proofs.FileTurns.{done_in_turn, untouched_in_turn}
 use Rattle.command_files.proofs.LiveTurns.{live_in_turn}
 
@@ -61,19 +61,16 @@ module _ (old new : Option Told) (said : Said) (s : Status) where
   done_by (plan_job trace) is other good out same = done_in_turn old new said s (ap script_name is) other good out
   done_by (check_job trace report) is other good out same =
       done_in_turn old new said s (ap script_name is) other
-      (if_some old (HasGoodFiles (check_job trace report) said) (FilesGiveTable said) (λ t (gives, report). gives) good)
-      (of_both old new (ReadsOut (check_job trace report) said) (AreReadOut (trace_name said.job) said.weights) (λ a b (both, report). both) out)
+      (if_some old (HasGoodFiles (check_job trace report) said) (FilesGiveTable said) (λ t (gives, report). gives) good) out
   done_by (compare_job trace) is other good out same = done_in_turn old new said s (ap script_name is) other good out
   done_by (classes_job trace) is other good out same = done_in_turn old new said s (ap script_name is) other good out
   done_by (online_job trace) is other good out same = done_in_turn old new said s (ap script_name is) other good out
   done_by (live_job trace script) is other good out same =
-      live_in_turn old new said s other
-      (if_some old (HasGoodFiles (live_job trace script) said) (FilesGiveShared said) (λ t (shared, text). shared) good)
-      (of_both old new (ReadsOut (live_job trace script) said) (AreReadOut (trace_name said.job) said.weights) (λ a b (both, asked). both) out)
+      live_in_turn old new said s (subst IsGiven (sym (ap script_name is)) tt) (ap report_name is) other
+      (if_some old (HasGoodFiles (live_job trace script) said) (FilesGiveShared said) (λ t (shared, text). shared) good) out
   done_by (audit_job trace journal) is other good out same =
       done_in_turn old new said s (ap script_name is) other
-      (if_some old (HasGoodFiles (audit_job trace journal) said) (FilesGiveTable said) (λ t (gives, text). gives) good)
-      (of_both old new (ReadsOut (audit_job trace journal) said) (AreReadOut (trace_name said.job) said.weights) (λ a b (both, other). both) out)
+      (if_some old (HasGoodFiles (audit_job trace journal) said) (FilesGiveTable said) (λ t (gives, text). gives) good) out
   done_by (make_job seed) is other good out same = subst (λ n. OfBoth old n (FilesInTurn said s)) (sym (same seed refl)) (untouched_in_turn old said s other)
 
   pub text_in_turn : (S : TableFacts → List (List ℕ) → Type 0) (bench : List Meaning) (text : List ℕ) → IsOutcome S old said bench s text →

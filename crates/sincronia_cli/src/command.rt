@@ -114,7 +114,8 @@ use std::thread::Threads;
 ///
 /// Files are looked at one after another, and the first fault ends the job: the trace is read, and then its grammar is
 /// tested; so are the weights; then the table of flows is made; then the report, the printed journal or the script is read,
-/// and its grammar is tested. A file is started only where nothing that is looked at before it is wrong. No call that failed is tried again: the
+/// and its grammar is tested. A file is started only where nothing that is looked at before it is wrong, and in the place of a
+/// weights file, a report or a script that the words do not name none is started. No call that failed is tried again: the
 /// shelf's count of faults rises by one at `ReadFault`, the sink's at `WriteFault`, each up to 2^64 - 1, where it stops,
 /// and neither does at any other status. After a unit that a wire did not accept the run is closed and no further one is
 /// opened.

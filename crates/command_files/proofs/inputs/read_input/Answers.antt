@@ -40,7 +40,7 @@ pub returns-clause-read_out : goal.returns-clause-read_out
 returns-clause-read_out g c =
     both_out (g.H.Shelf.told c.args.shelf.now) (g.H.Shelf.told c.trace_of_file.new.shelf) (g.H.Shelf.told c.weights_of_file.new.shelf) c.args.name.now
     (option_map (λ s. s.now) c.args.weights_name)
-    c.in_ok-trace.ensures.read_out c.in_ok-trace.ensures.keeps c.in_ok-weights.ensures.others c.in_ok-weights.ensures.read_out
+    c.in_ok-trace.ensures.read_out c.in_ok-trace.ensures.keeps c.in_ok-trace.ensures.others c.in_ok-weights.ensures.others c.in_ok-weights.ensures.read_out
 
 pub returns-in_err-table-clause-keeps : goal.returns-in_err-table-clause-keeps
 returns-in_err-table-clause-keeps g c =

@@ -21,6 +21,14 @@ returns-in_err-input-clause-cause g c =
     (input_cause IsAnyBadAt (g.H.Shelf.faults c.args.shelf.now) (g.H.Shelf.faults c.read_input.new.shelf) (g.H.Shelf.told c.args.shelf.now) (g.H.Shelf.told c.read_input.new.shelf)
     (said_with (live_job c.args.trace.now c.args.script.now) c.args.options) c.in_err-input.field-0.0 c.in_err-input.ensures.cause)
 
+pub returns-in_err-input-clause-in_turn : goal.returns-in_err-input-clause-in_turn
+returns-in_err-input-clause-in_turn g c =
+    let old = g.H.Shelf.told c.args.shelf.now in
+    let new = g.H.Shelf.told c.read_input.new.shelf in
+    let said : Said = said_with (live_job c.args.trace.now c.args.script.now) c.args.options in
+    passed_on c.from_residual.result c.in_err-input.field-0.0 (λ status. OfBoth old new (FilesInTurn said status)) c.from_residual.ensures.1
+    (input_in_turn old new said c.in_err-input.field-0.0 c.in_err-input.ensures.in_turn c.read_input.ensures.no_report c.read_input.ensures.no_script)
+
 pub returns-in_err-share-clause-cause : goal.returns-in_err-share-clause-cause
 returns-in_err-share-clause-cause g c =
     let said : Said = said_with (live_job c.args.trace.now c.args.script.now) c.args.options in
@@ -59,7 +67,7 @@ returns-in_err-script-clause-in_turn g c =
     (script_in_turn c.in_ok-input.input.table.ids old mid new said c.args.script.now c.in_err-script.field-0.0
     (g.H.Shelf.faults c.read_input.new.shelf) (g.H.Shelf.faults c.read_script_file.new.shelf) refl c.read_input.ensures.keeps
     (shared_given old said c.in_ok-input.input.table c.in_ok-input.input.weights c.in_ok-input.ensures.input c.in_ok-input.ensures.table c.in_ok-share.ensures.shared)
-    c.in_ok-input.ensures.read_out c.read_script_file.ensures.others c.in_err-script.ensures.cause)
+    c.in_ok-input.ensures.read_out c.read_input.ensures.no_report c.read_script_file.ensures.others c.in_err-script.ensures.cause)
 
 pub returns-in_err-script-clause-keeps : goal.returns-in_err-script-clause-keeps
 returns-in_err-script-clause-keeps g c = files_kept (g.H.Shelf.told c.args.shelf.now) (g.H.Shelf.told c.read_input.new.shelf) (g.H.Shelf.told c.read_script_file.new.shelf)
@@ -77,8 +85,8 @@ returns-clause-script g c =
 pub returns-clause-read_out : goal.returns-clause-read_out
 returns-clause-read_out g c =
     scripted_out (g.H.Shelf.told c.args.shelf.now) (g.H.Shelf.told c.read_input.new.shelf) (g.H.Shelf.told c.read_script_file.new.shelf)
-    (said_with (live_job c.args.trace.now c.args.script.now) c.args.options) c.args.trace.now c.args.script.now refl
-    c.read_input.ensures.keeps c.in_ok-input.ensures.read_out c.read_script_file.ensures.others c.in_ok-script.ensures.read_out
+    (said_with (live_job c.args.trace.now c.args.script.now) c.args.options) c.args.trace.now c.args.script.now refl refl
+    c.read_input.ensures.keeps c.in_ok-input.ensures.read_out c.read_input.ensures.no_report c.read_script_file.ensures.others c.in_ok-script.ensures.read_out
 
 pub returns-clause-good : goal.returns-clause-good
 returns-clause-good g c =

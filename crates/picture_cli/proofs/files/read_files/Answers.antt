@@ -35,7 +35,8 @@ returns-in_err-report-clause-in_turn g c =
     (report_in_turn IsBadAt (g.H.Shelf.told c.args.shelf.now) (g.H.Shelf.told c.read_input.new.shelf) (g.H.Shelf.told c.read_report_file.new.shelf)
     (check_of (said_by c.args.words))
     c.args.words.report.now c.in_err-report.field-0.0 (g.H.Shelf.faults c.read_input.new.shelf) (g.H.Shelf.faults c.read_report_file.new.shelf)
-    refl c.read_input.ensures.keeps c.in_ok-input.ensures.table c.in_ok-input.ensures.read_out c.read_report_file.ensures.others c.in_err-report.ensures.cause)
+    refl c.read_input.ensures.keeps c.in_ok-input.ensures.table c.in_ok-input.ensures.read_out c.read_input.ensures.no_script
+    c.read_report_file.ensures.others c.in_err-report.ensures.cause)
 
 pub returns-in_err-report-clause-counts : goal.returns-in_err-report-clause-counts
 returns-in_err-report-clause-counts g c =
@@ -64,5 +65,5 @@ returns-clause-good g c =
 pub returns-clause-read_out : goal.returns-clause-read_out
 returns-clause-read_out g c =
     checked_out (g.H.Shelf.told c.args.shelf.now) (g.H.Shelf.told c.read_input.new.shelf) (g.H.Shelf.told c.read_report_file.new.shelf) (check_of (said_by c.args.words))
-    c.args.words.trace.now c.args.words.report.now refl
-    c.read_input.ensures.keeps c.in_ok-input.ensures.read_out c.read_report_file.ensures.others c.in_ok-report.ensures.read_out
+    c.args.words.trace.now c.args.words.report.now refl refl
+    c.read_input.ensures.keeps c.in_ok-input.ensures.read_out c.read_input.ensures.no_script c.read_report_file.ensures.others c.in_ok-report.ensures.read_out

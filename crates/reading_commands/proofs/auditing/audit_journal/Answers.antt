@@ -9,10 +9,10 @@ use Rattle.command_files.specs.Ends.{IsReadFault}
 use Rattle.command_files.specs.Shelves.{OfBoth}
 use Rattle.command_files.specs.Turns.{FilesInTurn}
 use Rattle.command_files.proofs.ReportFacts.{journal_before}
-use Rattle.command_files.proofs.CauseFacts.{checked_out, from_report, still_both_out, text_good}
+use Rattle.command_files.proofs.CauseFacts.{checked_out, from_report, text_good}
 use Rattle.command_files.proofs.JobFacts.{from_input}
 use Rattle.command_files.proofs.ShelfFacts.{files_kept, passed_as, passed_on}
-use Rattle.command_files.proofs.FileTurns.{done_in_turn, report_in_turn}
+use Rattle.command_files.proofs.FileTurns.{done_in_turn, report_in_turn, input_in_turn}
 use Rattle.reading_commands.proofs.auditing.audit_journal.Goals as goal
 
 pub returns-in_err-input-clause-cause : goal.returns-in_err-input-clause-cause
@@ -20,6 +20,14 @@ returns-in_err-input-clause-cause g c =
     passed_on c.from_residual.result c.in_err-input.field-0.0 _ c.from_residual.ensures.1
     (from_input (g.H.Shelf.faults c.args.shelf.now) (g.H.Shelf.faults c.read_input.new.shelf) (g.H.Shelf.told c.args.shelf.now) (g.H.Shelf.told c.read_input.new.shelf)
     (said_with (audit_job c.args.trace.now c.args.journal.now) c.args.options) c.in_err-input.field-0.0 c.in_err-input.ensures.cause)
+
+pub returns-in_err-input-clause-in_turn : goal.returns-in_err-input-clause-in_turn
+returns-in_err-input-clause-in_turn g c =
+    let old = g.H.Shelf.told c.args.shelf.now in
+    let new = g.H.Shelf.told c.read_input.new.shelf in
+    let said : Said = said_with (audit_job c.args.trace.now c.args.journal.now) c.args.options in
+    passed_on c.from_residual.result c.in_err-input.field-0.0 (λ status. OfBoth old new (FilesInTurn said status)) c.from_residual.ensures.1
+    (input_in_turn old new said c.in_err-input.field-0.0 c.in_err-input.ensures.in_turn c.read_input.ensures.no_report c.read_input.ensures.no_script)
 
 pub returns-in_err-live-clause-keeps : goal.returns-in_err-live-clause-keeps
 returns-in_err-live-clause-keeps g c = files_kept (g.H.Shelf.told c.args.shelf.now) (g.H.Shelf.told c.read_input.new.shelf) (g.H.Shelf.told c.read_journal_file.new.shelf)
@@ -55,7 +63,8 @@ returns-in_err-live-clause-in_turn g c =
     passed_on c.from_residual-in_err-live.result c.in_err-live.field-0.0 (λ status. OfBoth old new (FilesInTurn said status)) c.from_residual-in_err-live.ensures.1
     (report_in_turn IsBadAt old mid new said c.args.journal.now c.in_err-live.field-0.0
     (g.H.Shelf.faults c.read_input.new.shelf) (g.H.Shelf.faults c.read_journal_file.new.shelf)
-    refl c.read_input.ensures.keeps c.in_ok-input.ensures.table c.in_ok-input.ensures.read_out c.read_journal_file.ensures.others c.in_err-live.ensures.cause)
+    refl c.read_input.ensures.keeps c.in_ok-input.ensures.table c.in_ok-input.ensures.read_out c.read_input.ensures.no_script
+    c.read_journal_file.ensures.others c.in_err-live.ensures.cause)
 
 pub returns-in_err-verdict-clause-in_turn : goal.returns-in_err-verdict-clause-in_turn
 returns-in_err-verdict-clause-in_turn g c =
@@ -65,7 +74,8 @@ returns-in_err-verdict-clause-in_turn g c =
     let said : Said = said_with (audit_job c.args.trace.now c.args.journal.now) c.args.options in
     passed_as c.from_residual-in_err-verdict.result (λ (s : Status). s ≡ NoMemory) (λ status. OfBoth old new (FilesInTurn said status)) c.from_residual-in_err-verdict.ensures.1
     (λ s is. done_in_turn old new said s refl (λ read. subst IsReadFault is read) c.in_ok-input.ensures.table
-    (still_both_out old mid new said c.in_ok-input.ensures.read_out c.read_journal_file.ensures.others))
+    (checked_out old mid new said c.args.trace.now c.args.journal.now refl refl c.read_input.ensures.keeps c.in_ok-input.ensures.read_out c.read_input.ensures.no_script
+    c.read_journal_file.ensures.others c.in_ok-live.ensures.read_out))
 
 pub returns-in_err-text-clause-in_turn : goal.returns-in_err-text-clause-in_turn
 returns-in_err-text-clause-in_turn g c =
@@ -75,7 +85,8 @@ returns-in_err-text-clause-in_turn g c =
     let said : Said = said_with (audit_job c.args.trace.now c.args.journal.now) c.args.options in
     passed_as c.from_residual-in_err-text.result (λ (s : Status). s ≡ NoMemory) (λ status. OfBoth old new (FilesInTurn said status)) c.from_residual-in_err-text.ensures.1
     (λ s is. done_in_turn old new said s refl (λ read. subst IsReadFault is read) c.in_ok-input.ensures.table
-    (still_both_out old mid new said c.in_ok-input.ensures.read_out c.read_journal_file.ensures.others))
+    (checked_out old mid new said c.args.trace.now c.args.journal.now refl refl c.read_input.ensures.keeps c.in_ok-input.ensures.read_out c.read_input.ensures.no_script
+    c.read_journal_file.ensures.others c.in_ok-live.ensures.read_out))
 
 pub returns-clause-outcome : goal.returns-clause-outcome
 returns-clause-outcome g c = (
@@ -98,8 +109,8 @@ returns-clause-outcome g c = (
 pub returns-clause-read_out : goal.returns-clause-read_out
 returns-clause-read_out g c =
     checked_out (g.H.Shelf.told c.args.shelf.now) (g.H.Shelf.told c.read_input.new.shelf) (g.H.Shelf.told c.read_journal_file.new.shelf)
-    (said_with (audit_job c.args.trace.now c.args.journal.now) c.args.options) c.args.trace.now c.args.journal.now refl
-    c.read_input.ensures.keeps c.in_ok-input.ensures.read_out c.read_journal_file.ensures.others c.in_ok-live.ensures.read_out
+    (said_with (audit_job c.args.trace.now c.args.journal.now) c.args.options) c.args.trace.now c.args.journal.now refl refl
+    c.read_input.ensures.keeps c.in_ok-input.ensures.read_out c.read_input.ensures.no_script c.read_journal_file.ensures.others c.in_ok-live.ensures.read_out
 
 pub returns-clause-good : goal.returns-clause-good
 returns-clause-good g c =

@@ -3,7 +3,7 @@ use Rattle.std.specs.Prelude.{slice_index}
 use Rattle.command_words.specs.Jobs.Job.{check_job}
 use Rattle.command_words.specs.Words.{Said, said_with}
 use Rattle.command_files.proofs.ReportFacts.{any_report_before}
-use Rattle.command_files.proofs.CauseFacts.{checked_out, from_report, still_both_out}
+use Rattle.command_files.proofs.CauseFacts.{checked_out, from_report}
 use Rattle.command_files.proofs.JobFacts.{from_input}
 use Rattle.flow_table.specs.Table.{instance_of}
 use Rattle.online_check.specs.Arrivals.{arrivals_in}
@@ -15,7 +15,7 @@ use Rattle.verdicts.specs.Judged.{IsJudged}
 use Rattle.verdicts.specs.AnyReport.{IsAnyBadAt}
 use Rattle.command_files.specs.Turns.{FilesInTurn}
 use Rattle.command_files.proofs.ShelfFacts.{files_kept, passed_as, passed_on}
-use Rattle.command_files.proofs.FileTurns.{done_in_turn, report_in_turn}
+use Rattle.command_files.proofs.FileTurns.{done_in_turn, report_in_turn, input_in_turn}
 use Rattle.reading_commands.proofs.CheckFacts.{report_good}
 use Rattle.reading_commands.proofs.checking.check_report.Goals as goal
 
@@ -24,6 +24,14 @@ returns-in_err-input-clause-cause g c =
     passed_on c.from_residual.result c.in_err-input.field-0.0 _ c.from_residual.ensures.1
     (from_input (g.H.Shelf.faults c.args.shelf.now) (g.H.Shelf.faults c.read_input.new.shelf) (g.H.Shelf.told c.args.shelf.now) (g.H.Shelf.told c.read_input.new.shelf)
     (said_with (check_job c.args.trace.now c.args.report.now) c.args.options) c.in_err-input.field-0.0 c.in_err-input.ensures.cause)
+
+pub returns-in_err-input-clause-in_turn : goal.returns-in_err-input-clause-in_turn
+returns-in_err-input-clause-in_turn g c =
+    let old = g.H.Shelf.told c.args.shelf.now in
+    let new = g.H.Shelf.told c.read_input.new.shelf in
+    let said : Said = said_with (check_job c.args.trace.now c.args.report.now) c.args.options in
+    passed_on c.from_residual.result c.in_err-input.field-0.0 (λ status. OfBoth old new (FilesInTurn said status)) c.from_residual.ensures.1
+    (input_in_turn old new said c.in_err-input.field-0.0 c.in_err-input.ensures.in_turn c.read_input.ensures.no_report c.read_input.ensures.no_script)
 
 pub returns-in_err-report-clause-keeps : goal.returns-in_err-report-clause-keeps
 returns-in_err-report-clause-keeps g c = files_kept (g.H.Shelf.told c.args.shelf.now) (g.H.Shelf.told c.read_input.new.shelf) (g.H.Shelf.told c.read_any_report_file.new.shelf)
@@ -51,7 +59,8 @@ returns-in_err-report-clause-in_turn g c =
     passed_on c.from_residual-in_err-report.result c.in_err-report.field-0.0 (λ status. OfBoth old new (FilesInTurn said status)) c.from_residual-in_err-report.ensures.1
     (report_in_turn IsAnyBadAt old mid new said c.args.report.now c.in_err-report.field-0.0
     (g.H.Shelf.faults c.read_input.new.shelf) (g.H.Shelf.faults c.read_any_report_file.new.shelf)
-    refl c.read_input.ensures.keeps c.in_ok-input.ensures.table c.in_ok-input.ensures.read_out c.read_any_report_file.ensures.others c.in_err-report.ensures.cause)
+    refl c.read_input.ensures.keeps c.in_ok-input.ensures.table c.in_ok-input.ensures.read_out c.read_input.ensures.no_script
+    c.read_any_report_file.ensures.others c.in_err-report.ensures.cause)
 
 pub returns-in_err-judged-clause-in_turn : goal.returns-in_err-judged-clause-in_turn
 returns-in_err-judged-clause-in_turn g c =
@@ -61,7 +70,8 @@ returns-in_err-judged-clause-in_turn g c =
     let said : Said = said_with (check_job c.args.trace.now c.args.report.now) c.args.options in
     passed_as c.from_residual-in_err-judged.result (λ (s : Status). s ≡ NoMemory) (λ status. OfBoth old new (FilesInTurn said status)) c.from_residual-in_err-judged.ensures.1
     (λ s is. done_in_turn old new said s refl (λ read. subst IsReadFault is read) c.in_ok-input.ensures.table
-    (still_both_out old mid new said c.in_ok-input.ensures.read_out c.read_any_report_file.ensures.others))
+    (checked_out old mid new said c.args.trace.now c.args.report.now refl refl c.read_input.ensures.keeps c.in_ok-input.ensures.read_out c.read_input.ensures.no_script
+    c.read_any_report_file.ensures.others c.in_ok-report.ensures.read_out))
 
 pub returns-in_err-judged-clause-keeps : goal.returns-in_err-judged-clause-keeps
 returns-in_err-judged-clause-keeps g c = files_kept (g.H.Shelf.told c.args.shelf.now) (g.H.Shelf.told c.read_input.new.shelf) (g.H.Shelf.told c.read_any_report_file.new.shelf)
@@ -90,8 +100,8 @@ returns-clause-outcome g c =
 pub returns-clause-read_out : goal.returns-clause-read_out
 returns-clause-read_out g c =
     checked_out (g.H.Shelf.told c.args.shelf.now) (g.H.Shelf.told c.read_input.new.shelf) (g.H.Shelf.told c.read_any_report_file.new.shelf)
-    (said_with (check_job c.args.trace.now c.args.report.now) c.args.options) c.args.trace.now c.args.report.now refl
-    c.read_input.ensures.keeps c.in_ok-input.ensures.read_out c.read_any_report_file.ensures.others c.in_ok-report.ensures.read_out
+    (said_with (check_job c.args.trace.now c.args.report.now) c.args.options) c.args.trace.now c.args.report.now refl refl
+    c.read_input.ensures.keeps c.in_ok-input.ensures.read_out c.read_input.ensures.no_script c.read_any_report_file.ensures.others c.in_ok-report.ensures.read_out
 
 pub returns-clause-good : goal.returns-clause-good
 returns-clause-good g c =

@@ -5,10 +5,11 @@ use Rattle.command_files.specs.JobCauses.{HasFilesCause}
 use Rattle.command_files.specs.WireCauses.{IsStatusOfPlan}
 use Rattle.command_files.specs.Shelves.{OfBoth}
 use Rattle.command_files.specs.Turns.{FilesInTurn}
+use Rattle.command_files.proofs.CauseFacts.{input_out}
 use Rattle.command_files.proofs.JobFacts.{from_input}
 use Rattle.command_files.proofs.ShelfFacts.{passed_as, passed_on}
 use Rattle.command_files.proofs.InputTurns.{counts_none}
-use Rattle.command_files.proofs.FileTurns.{done_in_turn}
+use Rattle.command_files.proofs.FileTurns.{done_in_turn, input_in_turn}
 use Rattle.serving_commands.proofs.WireFacts.{input_no_wire, may_send, past_anyhow, past_none, plan_cause, plan_reads}
 use Rattle.serving_commands.proofs.planning.plan_trace.Goals as goal
 
@@ -17,6 +18,14 @@ returns-in_err-input-clause-cause g c =
     passed_on c.from_residual.result c.in_err-input.field-0.0 _ c.from_residual.ensures.1
     (inl (from_input (g.H.Shelf.faults c.args.shelf.now) (g.H.Shelf.faults c.read_input.new.shelf) (g.H.Shelf.told c.args.shelf.now) (g.H.Shelf.told c.read_input.new.shelf)
     (said_with (plan_job c.args.trace.now) c.args.options) c.in_err-input.field-0.0 c.in_err-input.ensures.cause))
+
+pub returns-in_err-input-clause-in_turn : goal.returns-in_err-input-clause-in_turn
+returns-in_err-input-clause-in_turn g c =
+    let old = g.H.Shelf.told c.args.shelf.now in
+    let new = g.H.Shelf.told c.read_input.new.shelf in
+    let said : Said = said_with (plan_job c.args.trace.now) c.args.options in
+    passed_on c.from_residual.result c.in_err-input.field-0.0 (λ status. OfBoth old new (FilesInTurn said status)) c.from_residual.ensures.1
+    (input_in_turn old new said c.in_err-input.field-0.0 c.in_err-input.ensures.in_turn c.read_input.ensures.no_report c.read_input.ensures.no_script)
 
 pub returns-in_err-input-clause-read_out : goal.returns-in_err-input-clause-read_out
 returns-in_err-input-clause-read_out g c =
@@ -41,7 +50,10 @@ pub returns-in_err-report-clause-unsent : goal.returns-in_err-report-clause-unse
 returns-in_err-report-clause-unsent g c = may_send c.from_residual-in_err-report.result c.in_err-report.field-0.0 c.from_residual-in_err-report.ensures.1 _
 
 pub returns-in_err-report-clause-read_out : goal.returns-in_err-report-clause-read_out
-returns-in_err-report-clause-read_out g c = past_anyhow c.from_residual-in_err-report.result _ c.in_ok-input.ensures.read_out
+returns-in_err-report-clause-read_out g c =
+    past_anyhow c.from_residual-in_err-report.result _
+    (input_out (g.H.Shelf.told c.args.shelf.now) (g.H.Shelf.told c.read_input.new.shelf) (said_with (plan_job c.args.trace.now) c.args.options) refl refl
+    c.in_ok-input.ensures.read_out c.read_input.ensures.no_report c.read_input.ensures.no_script)
 
 pub returns-in_err-report-clause-good : goal.returns-in_err-report-clause-good
 returns-in_err-report-clause-good g c = past_anyhow c.from_residual-in_err-report.result _ c.in_ok-input.ensures.table
@@ -53,7 +65,8 @@ returns-in_err-report-clause-in_turn g c =
     let said : Said = said_with (plan_job c.args.trace.now) c.args.options in
     passed_as c.from_residual-in_err-report.result (IsStatusOfPlan c.in_err-report.field-0.0) (λ status. OfBoth old new (FilesInTurn said status))
     c.from_residual-in_err-report.ensures.1
-    (λ s is. done_in_turn old new said s refl (plan_reads c.in_err-report.field-0.0 s is) c.in_ok-input.ensures.table c.in_ok-input.ensures.read_out)
+    (λ s is. done_in_turn old new said s refl (plan_reads c.in_err-report.field-0.0 s is) c.in_ok-input.ensures.table
+    (input_out old new said refl refl c.in_ok-input.ensures.read_out c.read_input.ensures.no_report c.read_input.ensures.no_script))
 
 pub returns-in_err-report-clause-counts : goal.returns-in_err-report-clause-counts
 returns-in_err-report-clause-counts g c =
