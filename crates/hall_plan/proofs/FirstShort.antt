@@ -1,8 +1,8 @@
 -- Where a run was not sent whole, the port that stopped it: what the wires of the lesser ports have, and what its own lacks.
 use Rattle.std.proofs.Common.{◌≡◌, ℕ, ◌+◌, ◌-◌, ◌≤◌, ◌<◌, inl, inr, Bool, true, false, true≢false}
-use Rattle.std.proofs.Common.{List, [], ◌∷◌, ◌++◌, Some, get_or, length, refl, replicate, sym, ap, subst, ◌∙◌, arith, suc, zero, cond}
-use Rattle.std.specs.Prelude.{Contains, map, nat_lt, ◌==◌, ◌&&◌}
-use Rattle.std.specs.List.{filter, range_with_len}
+use Rattle.std.proofs.Common.{List, [], ◌++◌, Some, get_or, length, refl, replicate, sym, ap, ◌∙◌, arith, suc, zero, cond}
+use Rattle.std.specs.Prelude.{Contains, nat_lt, ◌==◌, ◌&&◌}
+use Rattle.std.specs.List.{filter}
 use Rattle.std.proofs.lemmas.Bool.{cases_Bool, cases_lt, eq-eqb, eqb-true, lt-ltb, ltb-true}
 use Rattle.std.proofs.lemmas.List.{get_or-append-add, get_or_append_left, get_or-replicate, length-append, length-replicate}
 use Rattle.std.proofs.lemmas.List.FromFn.{get_or-map-range_with_len}
@@ -14,7 +14,7 @@ use Rattle.coflow_units.proofs.Lists.{filter_in, keeps}
 use Rattle.coflow_units.proofs.Sums.{any_has, any_in, any_not}
 use Rattle.journal.specs.declared.command.Entry.{Entry}
 use Rattle.journal.specs.declared.opening.Opening.{Opening}
-use Rattle.journal.specs.Closed.{IsClosedRun, schedule_of, times_on, wire_of}
+use Rattle.journal.specs.Closed.{schedule_of, wire_of}
 use Rattle.journal.specs.Driven.{Drive, driven, driven_slots, GoesOnByRun, sent_from}
 use Rattle.journal.specs.Runs.{grant_in}
 use Rattle.journal.proofs.Driving.{driven_goes_on}

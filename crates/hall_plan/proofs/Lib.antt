@@ -4,5 +4,6 @@ pub mod PlanRuns
 pub mod PlanParts
 pub mod WireSteps
 pub mod FirstShort
+pub mod CutRuns
 pub mod PlanTurns
 pub mod PlanSlots

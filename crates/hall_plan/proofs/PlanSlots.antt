@@ -39,12 +39,14 @@ use Rattle.slot_runner.specs.Slots.{AreSent, HasRun, IsAnswered, IsFaulted, IsFu
 use Rattle.hall_plan.proofs.FirstShort.{stops}
 use Rattle.coflow_units.proofs.ServedLaws.{grants_clear}
 use Rattle.coflow_units.specs.Schedule.{IsClear}
+use Rattle.hall_plan.specs.Cuts.{AllSentWhole, HaveStopped, IsPlanBegun}
 use Rattle.hall_plan.specs.Halls.{IsServedBy, MayPlan, NoneFell}
 use Rattle.hall_plan.specs.Journals.{plan_journal, plan_order, run_entries}
 use Rattle.hall_plan.specs.Plans.{IsPartOf, IsPlanned}
 use Rattle.hall_plan.specs.Wires.{AreAllUnits, AreUnits, HaveMore, StopsAt}
 use Rattle.hall_plan.proofs.Begun.{planned_serves}
-use Rattle.hall_plan.proofs.PlanEntries.{closings_are_runs}
+use Rattle.hall_plan.proofs.CutRuns.{cut_at, whole_unnoted}
+use Rattle.hall_plan.proofs.PlanEntries.{closings_are_runs, no_notes}
 use Rattle.hall_plan.proofs.PlanParts.{IsNextRun, next_is_part, runs_are_parts}
 use Rattle.hall_plan.proofs.PlanRuns.{few_entries, few_slots, nothing_yet, serves_all, split}
 use Rattle.hall_plan.proofs.PlanTurns.{added, not_stopped}
@@ -360,6 +362,23 @@ module _ {W : Type 0} {faults : W → ℕ} {wruns : W → Option (List (ℕ × �
         have_so faults wruns (λ p s. s ≡ wire_of o' new.driver.journal p) (StopsAt o'.table.flows slots port (d.first + units)) o'.table.ports before after
             (λ p s e. subst (StopsAt o'.table.flows slots port (d.first + units) p) (sym e) (stops' p)) (wires_now new after d x.run x.wires),
       )
+
+  -- the runs before it were sent whole
+  pub stops_there : (new : RunnerModel) (after : List W) (port units : ℕ) → IsFaulted faults wruns o' MAX_SLOT old new mid after port units →
+      HaveStopped wruns (IsPlanBegun o') o' port before after
+  stops_there new after port units x =
+      let whole : AllSentWhole o' old.driver.journal = subst (AllSentWhole o') (sym h.may.alone.journal_is) (whole_unnoted o' last legal_last (no_notes o' h.made)) in
+      record {
+        begun = last;
+        drive = x.drive;
+        begins = ((h.made, refl), x.run.asked);
+        journal = new.driver.journal;
+        goes_on = is_driven hall old new h.made x.drive h.may x.run;
+        alone = none_earlier hall old new h.made x.drive h.may x.run;
+        legal = x.run.seen.legal;
+        cut = cut_at faults wruns o' MAX_SLOT old new mid after port units x whole;
+        sent = wires_now new after x.drive x.run x.wires;
+      }
 
 -- ---- the start
 

@@ -6,6 +6,7 @@ ghost use Rattle.flow_table.specs.Table.{instance_of};
 ghost use Rattle.bssi_order.specs.Order.{IsOrder};
 ghost use Rattle.master_core.specs.Published.{ranked};
 ghost use Rattle.hall_plan.specs.declared.answer.PlanFault.TheVariants.{WireFault};
+ghost use Rattle.hall_plan.specs.Cuts.{HaveStopped, IsPlanBegun};
 ghost use Rattle.hall_plan.specs.Journals.{HasRoom};
 ghost use Rattle.hall_plan.specs.Plans.{IsPlanned};
 ghost use Rattle.hall_plan.specs.Wires.{AreAllUnits, AreUnits, HaveMore, StopsAt};
@@ -52,6 +53,8 @@ pub fn plan<R: Threads + Wait + Sync, W: Wire + Send>(
         IsPlanned master.opening.table master.opening.weights slots →
         (end : ℕ) × HaveMore W.runs (StopsAt master.opening.table.flows slots port end)
         master.opening.table.ports wires.old wires.new }
+    ensures stops { (port : ℕ) → result ≡ Err (WireFault port) →
+        HaveStopped W.runs (IsPlanBegun master.opening) master.opening port wires.old wires.new }
 {
     let (hall, mut runner, places) = begin(alloc, rt, master)?;
     let schedule = serve(alloc, rt, &hall, &mut runner, agents, wires)?;

@@ -3,6 +3,7 @@ ghost use Rattle.std.specs.Prelude.{◌≡◌, ℕ, ◌<◌, ◌≤◌, [], List
 ghost use Rattle.outside.specs.Rose.{Rose};
 ghost use Rattle.coflow_units.specs.Served.{IsServed};
 ghost use Rattle.hall_plan.specs.declared.answer.PlanFault.TheVariants.{WireFault};
+ghost use Rattle.hall_plan.specs.Cuts.{HaveStopped, IsPlanBegun};
 ghost use Rattle.hall_plan.specs.Halls.{MayPlan};
 ghost use Rattle.hall_plan.specs.Journals.{plan_order};
 ghost use Rattle.hall_plan.specs.Wires.{AreAllUnits, AreUnits, HaveMore, StopsAt};
@@ -44,6 +45,8 @@ pub(crate) fn serve<R: Threads + Wait + Sync, W: Wire + Send>(
         IsServed hall.now.setting.opening.table.flows (plan_order hall.now.setting.opening) slots →
         (end : ℕ) × HaveMore W.runs (StopsAt hall.now.setting.opening.table.flows slots port end)
         hall.now.setting.opening.table.ports wires.old wires.new }
+    ensures stops { (port : ℕ) → result ≡ Err (WireFault port) →
+        HaveStopped W.runs (IsPlanBegun hall.now.setting.opening) hall.now.setting.opening port wires.old wires.new }
 {
     let mut schedule = Schedule::new(alloc);
     loop {

@@ -1,11 +1,12 @@
 -- A table has a plan, and what a hall's plan sends is told of the table that its master was made of.
-use Rattle.std.proofs.Common.{◌≡◌, ℕ, ◌≤◌, ◌<◌, List, length, subst, ap, sym, arith}
+use Rattle.std.proofs.Common.{◌≡◌, ℕ, ◌≤◌, ◌<◌, List, length, subst, arith}
 use Rattle.std.specs.Prelude.{All, Option}
 use Rattle.std.specs.List.{slice_index_or}
 use Rattle.coflow_units.specs.declared.limits.TheConstants.{MAX_WEIGHT}
 use Rattle.coflow_units.specs.Flows.{coflow_of}
 use Rattle.coflow_units.proofs.ServedExists.{serve, served_exists}
 use Rattle.flow_table.specs.Table.{IsTable, TableFacts, instance_of}
+use Rattle.hall_plan.specs.Cuts.{HaveStopped, IsPlanBegun}
 use Rattle.hall_plan.specs.Journals.{plan_order}
 use Rattle.hall_plan.specs.Plans.{IsPlanned}
 use Rattle.hall_plan.specs.Wires.{AreUnits, HaveMore, StopsAt}
@@ -68,8 +69,9 @@ module _ {W : Type 0} (faults : W → ℕ) (runs : W → Option (List (ℕ × �
     abbrev Fails : ℕ → TableFacts → Type 0
     Fails port u = (port < u.ports) × ((b a : W) → Rose (faults (slice_index_or before port b)) (faults (slice_index_or after port a)))
 
-    pub stops_short : (port : ℕ) → t.ports ≤ length before → Fails port o.table → Stops port o.table o.weights → StopsShort faults runs before after port t weights
-    stops_short port long fails h =
+    pub stops_short : (port : ℕ) → t.ports ≤ length before → Fails port o.table → Stops port o.table o.weights →
+        HaveStopped runs (IsPlanBegun o) o port before after → StopsShort faults runs before after port t weights
+    stops_short port long fails h stopped =
         let (slots, planned) = planned_table t weights may in
         let moved : Stops port t weights = subst (λ ws. Stops port t ws) equal (subst (λ u. Stops port u o.weights) same h) in
         let there : Fails port t = subst (λ u. Fails port u) same fails in
@@ -81,4 +83,8 @@ module _ {W : Type 0} (faults : W → ℕ) (runs : W → Option (List (ℕ × �
           planned = planned;
           last = (moved slots planned).0;
           least = (moved slots planned).1;
+          opening = o;
+          table_is = same;
+          weights_are = equal;
+          stopped = stopped;
         }

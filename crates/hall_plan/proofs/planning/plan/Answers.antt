@@ -4,6 +4,7 @@ use Rattle.outside.specs.Rose.{Rose}
 use Rattle.journal.specs.declared.opening.Opening.{Opening}
 use Rattle.hall_plan.specs.declared.answer.PlanFault.{PlanFault}
 use Rattle.hall_plan.specs.declared.answer.PlanFault.TheVariants.{WireFault}
+use Rattle.hall_plan.specs.Cuts.{HaveStopped, IsPlanBegun}
 use Rattle.hall_plan.proofs.PlanSlots.{planned_so, Stops, UnitsAre}
 use Rattle.hall_plan.proofs.WireSteps.{untouched}
 use Rattle.hall_plan.proofs.planning.plan.Goals as goal
@@ -37,3 +38,9 @@ returns-in_err-schedule-clause-least g c = λ port slots e planned.
     let came : WireFault port ≡ c.in_err-schedule.field-0.0 = carried _ _ (WireFault port) c.from_residual-in_err-schedule.ensures.1 e in
     planned_so (Stops g.W.Wire.runs port c.args.wires.now c.serve.new.wires) c.in_ok-hall.hall.setting.opening c.args.master.opening c.in_ok-hall.ensures.opening
     c.in_ok-hall.ensures.runner.alone.opening (λ l served. c.in_err-schedule.ensures.least port l (ap Err (sym came)) served) slots planned
+
+pub returns-in_err-schedule-clause-stops : goal.returns-in_err-schedule-clause-stops
+returns-in_err-schedule-clause-stops g c = λ port e.
+    let came : WireFault port ≡ c.in_err-schedule.field-0.0 = carried _ _ (WireFault port) c.from_residual-in_err-schedule.ensures.1 e in
+    subst (λ (o : Opening). HaveStopped g.W.Wire.runs (IsPlanBegun o) o port c.args.wires.now c.serve.new.wires) c.in_ok-hall.ensures.opening
+    (c.in_err-schedule.ensures.stops port (ap Err (sym came)))

@@ -3,9 +3,10 @@ use Rattle.std.specs.List.Sorted.{IsStrictlyIncreasing}
 use Rattle.outside.specs.Rose.{Rose}
 use Rattle.hall_plan.specs.declared.answer.PlanFault.{PlanFault}
 use Rattle.hall_plan.specs.declared.answer.PlanFault.TheVariants.{WireFault}
+use Rattle.hall_plan.specs.Cuts.{HaveStopped, IsPlanBegun}
 use Rattle.hall_plan.specs.Halls.{IsServedBy}
 use Rattle.hall_plan.specs.Wires.{AreAllUnits, AreUnits, HaveMore}
-use Rattle.hall_plan.proofs.PlanSlots.{Stops, stops_first, ends_served, never_full, never_late, never_spent, no_run_parts}
+use Rattle.hall_plan.proofs.PlanSlots.{Stops, stops_first, stops_there, ends_served, never_full, never_late, never_spent, no_run_parts}
 use Rattle.hall_plan.proofs.PlanSlots.{ran_falls, ran_fits, ran_on, ran_parts, ran_rises, ran_some, rose_since, run_parts, sends_all, starts}
 use Rattle.hall_plan.proofs.serving.serve.Goals as goal
 
@@ -104,3 +105,9 @@ returns-in-WireFault-clause-least g c = λ port slots e served.
     let x = c.slot.ensures.wire_fault c.in-WireFault.port c.in-WireFault.sent c.in-WireFault.is in
     subst (λ p. Stops g.W.Wire.runs p c.args.wires.now c.slot.new.wires c.args.hall.now.setting.opening slots) (ap port_of e)
     (stops_first c.loop-length.invariant.served c.slot.new.self c.slot.new.wires c.in-WireFault.port c.in-WireFault.sent x slots served)
+
+pub returns-in-WireFault-clause-stops : goal.returns-in-WireFault-clause-stops
+returns-in-WireFault-clause-stops g c = λ port e.
+    let x = c.slot.ensures.wire_fault c.in-WireFault.port c.in-WireFault.sent c.in-WireFault.is in
+    subst (λ p. HaveStopped g.W.Wire.runs (IsPlanBegun c.args.hall.now.setting.opening) c.args.hall.now.setting.opening p c.args.wires.now c.slot.new.wires) (ap port_of e)
+    (stops_there c.loop-length.invariant.served c.slot.new.self c.slot.new.wires c.in-WireFault.port c.in-WireFault.sent x)

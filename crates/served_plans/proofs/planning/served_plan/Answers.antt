@@ -2,7 +2,7 @@ use Rattle.std.proofs.Common.{◌≡◌, IsErrAnd, ap, sym, subst, Err}
 use Rattle.flow_table.specs.Table.{TableFacts}
 use Rattle.hall_plan.specs.declared.answer.PlanFault.TheVariants.{WireFault}
 use Rattle.served_plans.specs.Sent.{SendsAll}
-use Rattle.served_plans.proofs.PlanExists.{MayBePlanned, sends_nothing, sends_part, stops_short}
+use Rattle.served_plans.proofs.PlanExists.{sends_nothing, sends_part, stops_short}
 use Rattle.served_plans.proofs.planning.served_plan.Goals as goal
 
 pub returns-in_err-master-clause-sent : goal.returns-in_err-master-clause-sent
@@ -35,6 +35,7 @@ returns-in_err-places-clause-fault g c = λ port e.
     (record { table = c.master_of.ensures.fits; count = c.requires.count; least = c.requires.least; most = c.requires.weights })
     c.args.wires.now c.plan.new.wires port c.requires.wires
     (c.in_err-places.ensures.fault port (ap Err (sym came))) (λ slots planned. c.in_err-places.ensures.least port slots (ap Err (sym came)) planned)
+    (c.in_err-places.ensures.stops port (ap Err (sym came)))
 
 pub returns-clause-plan : goal.returns-clause-plan
 returns-clause-plan g c =
