@@ -146,6 +146,7 @@ fn files_are_looked_at_in_turn(rt: HostRuntime) -> Result<(), Fail> {
         (PLAN, [b"", b"9 1", NONE], HEADER),
         (PLAN, [b"", NONE, NONE], HEADER),
         (PLAN, [TWO, NONE, NONE], MISSING),
+        (PLAN, [NONE, NONE, NONE], MISSING),
     ];
     for (words, files, status) in ROWS {
         refused(&rt, rt.alloc(), *words, *files, *status)?;

@@ -187,6 +187,22 @@ fn a_session_makes_no_more_calls_than_it_has(rt: HostRuntime) {
     play(&rt, rt.alloc(), 100, 1, &rows);
 }
 
+// The journal has room for one entry. A call that finds it full shows its length and is used up, and one more call is none.
+#[test]
+fn a_full_journal_uses_a_call_up(rt: HostRuntime) {
+    let rows = [
+        client(
+            0,
+            Ask::Register(0),
+            "Done(Receipt { position: 1, version: 0, reply: Joined }), 1 0 1",
+        ),
+        client(0, Ask::Register(1), "Full(1), 1 0 0"),
+        client(0, Ask::Register(1), "Spent, 1 0 0"),
+        client(1, Ask::Register(1), "Full(1), 1 0 1"),
+    ];
+    play(&rt, rt.alloc(), 1, 2, &rows);
+}
+
 #[test]
 fn pulls_read_the_newest_ranks(rt: HostRuntime) {
     let rows = [

@@ -128,6 +128,26 @@ fn empty(rt: &impl Alloc<A = Global>) -> Log
     }
 }
 
+// A seat that is made behind a turn of the root finds the line that it left, and so does the close.
+#[test]
+fn a_new_seat_finds_what_the_root_left(rt: HostRuntime) {
+    let Ok((gate, mut root)) = Turnstile::new(rt.alloc(), empty(&rt)) else {
+        panic!(&rt; "no memory");
+    };
+    let line = Line { who: 0, number: 0 };
+    add_root(&rt, &gate, &mut root, line);
+    let mut seat = gate.seat(&mut root);
+    let turn = gate.enter(&rt, &mut seat);
+    let found = lines_in_order(&turn.value, 0);
+    gate.leave(&mut seat, turn);
+    gate.rejoin(&mut root, seat);
+    let Ok(log) = gate.close(root) else {
+        unreachable!();
+    };
+    assert_eq!(rt; found, Some(1));
+    assert_eq!(rt; log.lines.as_slice(), &[line]);
+}
+
 // No clause says that a thread that sleeps is woken. Where the end of a turn wakes at another word, or wakes one thread alone, or a wait sleeps past
 // its turn, some thread sleeps for ever here.
 #[test]
