@@ -31,23 +31,25 @@ use Rattle.journal.proofs.RunsInOrder.{closed_sound}
 use Rattle.journal.proofs.ServingRuns.{as_long}
 use Rattle.client_session.specs.Models.{HallModel}
 use Rattle.slot_runner.specs.Models.{MayRun, RunnerModel}
-use Rattle.slot_runner.specs.Slots.{AreSent, HasRun, IsAnswered, IsFullAt, IsRan}
+use Rattle.slot_runner.specs.Slots.{AreSent, HasRun, IsAnswered, IsFaulted, IsFullAt, IsRan}
+use Rattle.hall_plan.specs.Cuts.{HaveStopped}
 use Rattle.hall_plan.specs.Halls.{NoneFell}
 use Rattle.hall_plan.specs.Wires.{AreUnits}
+use Rattle.hall_plan.proofs.CutRuns.{cut_at, whole_unnoted}
 use Rattle.hall_plan.proofs.PlanTurns.{added, not_stopped}
 use Rattle.hall_plan.proofs.WireSteps.{are_units, fell_next, have_next, have_so, none_fell}
-use Rattle.online_runs.specs.Deeds.{coflow_owes, owed_after, time_of}
+use Rattle.online_runs.specs.Deeds.{coflow_owes, DoesNext, owed_after, time_of}
 use Rattle.online_runs.proofs.Along.{Holds, no_run_epochs}
 use Rattle.online_runs.proofs.Owed.{owes_at}
 use Rattle.online_runs.proofs.Shapes.{drive_of, run_entries, run_is_driven}
 use Rattle.online_runs.proofs.Standing.{few_slots, range_later, run_goes, runs_more, some_owing}
 use Rattle.online_runs.proofs.Times.{run_schedule, run_time, time_is}
 use Rattle.online_progress.specs.declared.progress.Progress.{Progress}
-use Rattle.hall_online.specs.Serving.{ComesFirst, HaveSent, HaveServed, IsUnderWay}
+use Rattle.hall_online.specs.Serving.{ComesFirst, HaveSent, HaveServed, IsOnlineBegun, IsUnderWay}
 use Rattle.online_progress.specs.Tells.{TellsRun}
 use Rattle.online_progress.specs.Tallies.{IsTallied, left_of}
-use Rattle.hall_online.proofs.Actions.{first_here, goes_on, journal_now, now_holds, short_journal, so_far_now}
-use Rattle.hall_online.proofs.OwnRuns.{granted_is, legal_whole, one_run, ready_after, sent_part}
+use Rattle.hall_online.proofs.Actions.{first_here, first_there, goes_on, journal_now, now_holds, short_journal, so_far_now}
+use Rattle.hall_online.proofs.OwnRuns.{granted_is, legal_whole, none_earlier, one_run, ready_after, sent_part}
 
 -- ---- what is owed, coflow by coflow
 
@@ -295,3 +297,25 @@ module _ (hall : HallModel) (old : RunnerModel) (arrivals : List ℕ) (every : �
 
     pub ran_more : length j < length new.driver.journal
     ran_more = longer_so new x.drive x.run x.whole
+
+  -- ---- a run that fell short: those before it were sent whole
+
+  pub stops_there : {W : Type 0} (faults : W → ℕ) (wruns : W → Option (List (ℕ × ℕ × ℕ))) (new : RunnerModel) (before mid after' : List W) (port units : ℕ) →
+      IsFaulted faults wruns hall.setting.opening most old new mid after' port units → HaveSent wruns hall old before mid →
+      HaveStopped wruns (IsOnlineBegun hall.setting.opening arrivals every) hall.setting.opening port before after'
+  stops_there faults wruns new before mid after' port units x had = record {
+    begun = j;
+    drive = x.drive;
+    begins = (
+      h.deeds,
+      h.so_far,
+      h.journal_is,
+      subst (λ m. DoesNext o arrivals every h.deeds (Serve m)) (sym x.run.asked) (first_there hall old arrivals every s p h (Serve most) first),
+    );
+    journal = new.driver.journal;
+    goes_on = x.run.journal;
+    alone = none_earlier hall old new most x.drive h.ready x.run;
+    legal = x.run.seen.legal;
+    cut = cut_at faults wruns o most old new mid after' port units x (whole_unnoted o j held.stands.legal held.stands.no_notes);
+    sent = sent_more new x.drive x.run faults wruns before mid after' x.wires had;
+  }

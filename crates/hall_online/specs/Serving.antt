@@ -1,6 +1,7 @@
 -- What holds of an online run between its actions, of its hall and of its wires.
-use Rattle.std.specs.Prelude.{◌≡◌, ℕ, ◌<◌, ◌≤◌, ◌&&◌, not, List, Option, length, slice_index}
+use Rattle.std.specs.Prelude.{◌≡◌, ℕ, ◌≤◌, List, Option}
 use Rattle.epochs.specs.declared.action.Action.{Action}
+use Rattle.epochs.specs.declared.action.Action.TheVariants.{Run}
 use Rattle.epochs.specs.Choice.{IsFirstAction}
 use Rattle.epochs.specs.Course.{after, Course}
 use Rattle.journal.specs.declared.command.Entry.{Entry}
@@ -9,7 +10,7 @@ use Rattle.journal.specs.Closed.{schedule_of, wire_of}
 use Rattle.client_session.specs.Models.{HallModel}
 use Rattle.slot_runner.specs.Models.{RunnerModel}
 use Rattle.hall_plan.specs.Wires.{AreUnits, HaveMore}
-use Rattle.online_runs.specs.Deeds.{course_of, Deed, IsOnlineRun, IsOnlineSoFar, IsServedOnline, journal_of, owed_after, time_of}
+use Rattle.online_runs.specs.Deeds.{course_of, Deed, DoesNext, IsOnlineRun, IsOnlineSoFar, IsServedOnline, journal_of}
 use Rattle.online_runs.specs.Input.{IsOnlineInput, online_limit}
 use Rattle.online_runs.specs.Value.{epochs_of}
 use Rattle.online_progress.specs.declared.progress.Progress.{Progress}
@@ -47,6 +48,13 @@ IsDoneFrom hall old new p q action =
 abbrev pub SendsNothing : HallModel → RunnerModel → RunnerModel → Type 0
 SendsNothing hall old new = (port : ℕ) → wire_of hall.setting.opening new.driver.journal port
     ≡ wire_of hall.setting.opening old.driver.journal port
+
+-- an online run was served so far by whole runs, and this is its journal; what comes next is a run of at most so many
+-- slots
+abbrev pub IsOnlineBegun : Opening → List ℕ → ℕ → List Entry → ℕ → Type 0
+IsOnlineBegun o arrivals every journal most =
+    (deeds : List Deed) × IsOnlineSoFar o arrivals every deeds × (journal ≡ journal_of deeds)
+    × DoesNext o arrivals every deeds (Run most)
 
 module _ {W : Type 0} (runs : W → Option (List (ℕ × ℕ × ℕ))) where
   -- the wires have what they had, and then what the journal sent

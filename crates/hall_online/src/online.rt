@@ -2,13 +2,14 @@
 ghost use Rattle.std.specs.Prelude.{◌≡◌, ◌+◌, ◌≤◌, ◌<◌, ℕ, All, Err, IfOk, length, slice_index_or};
 ghost use Rattle.coflow_units.specs.declared.limits.TheConstants.{MAX_ARRIVAL, MAX_OPTION_SLOTS, MAX_WEIGHT};
 ghost use Rattle.outside.specs.Rose.{Rose};
+ghost use Rattle.hall_plan.specs.Cuts.{HaveStopped};
 ghost use Rattle.hall_plan.specs.Wires.{AreAllUnits, HaveMore};
 ghost use Rattle.schedule_model.specs.RunList.{NamesFlows, slots_in};
 ghost use Rattle.online_runs.specs.Deeds.{PublishesTooMany};
 ghost use Rattle.online_runs.specs.Input.{online_opening};
 ghost use Rattle.online_runs.specs.Value.{IsOnlineOf};
 ghost use Rattle.hall_online.specs.declared.answer.OnlineFault.TheVariants.{TooMany, WireFault};
-ghost use Rattle.hall_online.specs.Serving.{EndsAs, HaveServed};
+ghost use Rattle.hall_online.specs.Serving.{EndsAs, HaveServed, IsOnlineBegun};
 
 use crate::answer::OnlineFault;
 use crate::beginning::{begin, kept_of};
@@ -27,8 +28,9 @@ use std::thread::Threads;
 /// for each ingress port, and further wires are left alone.
 ///
 /// The orders are made by bottleneck, select, scale, iterate (Sincronia: Agarwal, Rajakrishnan, Narayan, Agarwal, Shmoys and Vahdat, SIGCOMM 2018); the rule of epochs and arrivals is this
-/// project's. `WireFault` comes only where the count of that port's wire rose in this call, and no further run is opened after it. `TooMany` comes exactly where more than 8192 orders would be
-/// published, if no fault and no want of memory comes before. `NoMemory` is want of memory. At every answer what was sent are units of one online run, none twice.
+/// project's. `WireFault` comes only where the count of that port's wire rose in this call. It is the least port at which a unit of the last run is missing, and no further run is opened after it.
+/// `TooMany` comes exactly where more than 8192 orders would be published, if no fault and no want of memory comes before. `NoMemory` is want of memory.
+/// At every answer what was sent are units of one online run, none twice.
 pub fn serve_online<R: Threads + Wait + Sync, W: Wire + Send>(
     alloc: Global,
     rt: &R,
@@ -54,6 +56,9 @@ pub fn serve_online<R: Threads + Wait + Sync, W: Wire + Send>(
     ensures wires { HaveServed W.runs (online_opening table.now weights.now) arrivals.now every wires.old wires.new }
     ensures fault { (port : ℕ) → result ≡ Err (WireFault port) → (port < table.now.ports) ×
         ((b a : W) → Rose (W.faults (slice_index_or wires.old port b)) (W.faults (slice_index_or wires.new port a))) }
+    ensures stops { (port : ℕ) → result ≡ Err (WireFault port) →
+        HaveStopped W.runs (IsOnlineBegun (online_opening table.now weights.now) arrivals.now every)
+        (online_opening table.now weights.now) port wires.old wires.new }
     ensures too_many { (count : ℕ) → result ≡ Err (TooMany count) →
         PublishesTooMany (online_opening table.now weights.now) arrivals.now every count }
 {
@@ -88,6 +93,9 @@ fn served<R: Threads + Wait + Sync, W: Wire + Send>(
     ensures wires { HaveServed W.runs (online_opening table.now weights.now) arrivals.now every wires.old wires.new }
     ensures fault { (port : ℕ) → result ≡ Err (WireFault port) → (port < table.now.ports) ×
         ((b a : W) → Rose (W.faults (slice_index_or wires.old port b)) (W.faults (slice_index_or wires.new port a))) }
+    ensures stops { (port : ℕ) → result ≡ Err (WireFault port) →
+        HaveStopped W.runs (IsOnlineBegun (online_opening table.now weights.now) arrivals.now every)
+        (online_opening table.now weights.now) port wires.old wires.new }
     ensures too_many { (count : ℕ) → result ≡ Err (TooMany count) →
         PublishesTooMany (online_opening table.now weights.now) arrivals.now every count }
 {

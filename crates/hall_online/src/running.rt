@@ -3,9 +3,10 @@ ghost use Rattle.std.specs.Prelude.{◌≡◌, ◌≤◌, ◌<◌, ℕ, Err, Lis
 ghost use Rattle.outside.specs.Rose.{Rose};
 ghost use Rattle.epochs.specs.declared.action.Action.TheVariants.{Run};
 ghost use Rattle.epochs.specs.Course.{Course};
+ghost use Rattle.hall_plan.specs.Cuts.{HaveStopped};
 ghost use Rattle.hall_plan.specs.Halls.{NoneFell};
 ghost use Rattle.hall_online.specs.declared.answer.OnlineFault.TheVariants.{TooMany, WireFault};
-ghost use Rattle.hall_online.specs.Serving.{ComesFirst, HaveSent, HaveServed, IsDoneFrom, IsUnderWay, MayDo};
+ghost use Rattle.hall_online.specs.Serving.{ComesFirst, HaveSent, HaveServed, IsDoneFrom, IsOnlineBegun, IsUnderWay, MayDo};
 
 use crate::answer::OnlineFault;
 use client_session::Hall;
@@ -45,6 +46,11 @@ pub(crate) fn act_run<R: Threads + Wait + Sync, W: Wire + Send>(
     ensures fell { NoneFell W.faults hall.now.setting.opening.table.ports wires.old wires.new }
     ensures fault { (port : ℕ) → result ≡ Err (WireFault port) → (port < hall.now.setting.opening.table.ports) ×
         ((b a : W) → Rose (W.faults (slice_index_or wires.old port b)) (W.faults (slice_index_or wires.new port a))) }
+    ensures stops { (port : ℕ) (arrivals : List ℕ) (every : ℕ) (s : Course) (before : List W) →
+        result ≡ Err (WireFault port) → IsUnderWay hall.now runner.old arrivals every s progress.old →
+        ComesFirst s progress.old (Run most) → HaveSent W.runs hall.now runner.old before wires.old →
+        HaveStopped W.runs (IsOnlineBegun hall.now.setting.opening arrivals every) hall.now.setting.opening port
+        before wires.new }
     ensures not_many { (count : ℕ) → result ≡ Err (TooMany count) → ⊥ }
     ensures as_many { length wires.new ≡ length wires.old }
 {

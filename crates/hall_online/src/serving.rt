@@ -1,10 +1,11 @@
 //! The actions of an online run, one after another.
 ghost use Rattle.std.specs.Prelude.{◌≡◌, ◌≤◌, ◌<◌, ℕ, Err, List, OnOk, length, slice_index_or, vec_capacity};
 ghost use Rattle.outside.specs.Rose.{Rose};
+ghost use Rattle.hall_plan.specs.Cuts.{HaveStopped};
 ghost use Rattle.hall_plan.specs.Wires.{AreAllUnits, HaveMore};
 ghost use Rattle.online_runs.specs.Deeds.{PublishesTooMany};
 ghost use Rattle.hall_online.specs.declared.answer.OnlineFault.TheVariants.{TooMany, WireFault};
-ghost use Rattle.hall_online.specs.Serving.{EndsAs, HaveSent, HaveServed, IsUnderWay};
+ghost use Rattle.hall_online.specs.Serving.{EndsAs, HaveSent, HaveServed, IsOnlineBegun, IsUnderWay};
 
 use crate::acting::{Orders, act_join, act_leave, act_pass, act_publish};
 use crate::answer::OnlineFault;
@@ -52,6 +53,11 @@ pub(crate) fn serve<R: Threads + Wait + Sync, W: Wire + Send>(
         HaveServed W.runs hall.now.setting.opening arrivals every before wires.new }
     ensures fault { (port : ℕ) → result ≡ Err (WireFault port) → (port < hall.now.setting.opening.table.ports) ×
         ((b a : W) → Rose (W.faults (slice_index_or wires.old port b)) (W.faults (slice_index_or wires.new port a))) }
+    ensures stops { (port : ℕ) (arrivals : List ℕ) (every : ℕ) (before : List W) → result ≡ Err (WireFault port) →
+        IsUnderWay hall.now runner.old arrivals every course.old progress.old →
+        HaveSent W.runs hall.now runner.old before wires.old →
+        HaveStopped W.runs (IsOnlineBegun hall.now.setting.opening arrivals every) hall.now.setting.opening port
+        before wires.new }
     ensures too_many { (count : ℕ) (arrivals : List ℕ) (every : ℕ) → result ≡ Err (TooMany count) →
         IsUnderWay hall.now runner.old arrivals every course.old progress.old →
         PublishesTooMany hall.now.setting.opening arrivals every count }

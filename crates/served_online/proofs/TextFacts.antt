@@ -18,15 +18,16 @@ use Rattle.journal.specs.declared.command.Entry.{Entry}
 use Rattle.journal.specs.declared.opening.Opening.{Opening}
 use Rattle.journal.specs.Journal.{is_version}
 use Rattle.journal.specs.State.{IsOpening}
+use Rattle.hall_plan.specs.Cuts.{HaveStopped}
 use Rattle.hall_plan.proofs.WireSteps.{untouched}
 use Rattle.online_runs.specs.Deeds.{IsOnlineRun, PublishesTooMany}
 use Rattle.online_runs.specs.Input.{IsOnlineInput, online_opening}
 use Rattle.online_runs.specs.Value.{epoch_at, epochs_from, IsOnlineOf}
 use Rattle.online_runs.proofs.AtTheEnd.{run_serves, served_early}
 use Rattle.online_runs.proofs.Right.{epoch_bound, is_right}
-use Rattle.hall_online.specs.Serving.{HaveServed}
+use Rattle.hall_online.specs.Serving.{HaveServed, IsOnlineBegun}
 use Rattle.outside.specs.Rose.{Rose}
-use Rattle.served_online.specs.Told.{FailsAt, IsPublishing, PublishesMore, SendsSoFar, TellsOnline}
+use Rattle.served_online.specs.Told.{FailsAt, IsPublishing, PublishesMore, SendsSoFar, StopsShort, TellsOnline}
 
 -- ---- the laws of online runs and of released certificates
 
@@ -149,6 +150,10 @@ module _ (t : TableFacts) (weights : List ℕ) (slot_ms every : ℕ) where
           early = λ c k is. served_early o arrivals every had.slots c k input had.served is;
           sent = had.units;
         }
+
+    pub stops_short : {W : Type 0} (runs : W → Option (List (ℕ × ℕ × ℕ))) (before after : List W) (port : ℕ) →
+        HaveStopped runs (IsOnlineBegun o given every) o port before after → StopsShort runs before after port t weights slot_ms every
+    stops_short runs before after port h = subst (λ l. HaveStopped runs (IsOnlineBegun o l every) o port before after) same h
 
   pub sent_nothing : {W : Type 0} (faults : W → ℕ) (runs : W → Option (List (ℕ × ℕ × ℕ))) (wires : List W) → t.ports ≤ length wires →
       SendsSoFar runs wires wires t weights slot_ms every

@@ -19,7 +19,9 @@ use Rattle.journal.specs.Journal.{is_version, left_at}
 use Rattle.online_runs.specs.Deeds.{IsServedOnline, PublishesTooMany}
 use Rattle.online_runs.specs.Input.{online_opening}
 use Rattle.online_runs.specs.Value.{epoch_at, IsOnlineOf}
+use Rattle.hall_plan.specs.Cuts.{HaveStopped}
 use Rattle.hall_plan.specs.Wires.{AreAllUnits, AreUnits, HaveMore}
+use Rattle.hall_online.specs.Serving.{IsOnlineBegun}
 use Rattle.outside.specs.Rose.{Rose}
 
 -- What is said of an epoch tells of an order that the journal published. Its bound is at most the cost of every valid
@@ -68,6 +70,13 @@ module _ {W : Type 0} (runs : W → Option (List (ℕ × ℕ × ℕ))) where
     pub early : (coflow k : ℕ) → holds_coflow t.flows (slice_index_or slots k []) coflow ≡ true →
         slice_index (arrivals_in t slot_ms) coflow ≤ k
     pub sent : HaveMore runs (AreUnits t.flows slots) t.ports before after
+
+  -- What was sent is what the journal of the online run sent up to a run that fell short. This run was cut short at the
+  -- port, and each earlier one was sent whole.
+  abbrev pub StopsShort : List W → List W → ℕ → TableFacts → List ℕ → ℕ → ℕ → Type 0
+  StopsShort before after port t weights slot_ms every =
+      HaveStopped runs (IsOnlineBegun (online_opening t weights) (arrivals_in t slot_ms) every)
+      (online_opening t weights) port before after
 
 module _ {W : Type 0} (faults : W → ℕ) where
   -- the count of faults of the port's wire rose

@@ -2,7 +2,7 @@
 ghost use Rattle.std.specs.Prelude.{◌≡◌, ℕ, ◌≤◌, All, Err, IfOk, length};
 ghost use Rattle.coflow_units.specs.declared.limits.TheConstants.{MAX_OPTION_SLOTS, MAX_WEIGHT};
 ghost use Rattle.hall_online.specs.declared.answer.OnlineFault.TheVariants.{TooMany, WireFault};
-ghost use Rattle.served_online.specs.Told.{FailsAt, PublishesMore, SendsAll, SendsSoFar, TellsOnline};
+ghost use Rattle.served_online.specs.Told.{FailsAt, PublishesMore, SendsAll, SendsSoFar, StopsShort, TellsOnline};
 
 use flow_table::Table;
 use hall_online::{OnlineFault, serve_online};
@@ -19,7 +19,8 @@ use std::thread::Threads;
 /// arrival or next after it. An epoch has `every` slots, from 1 to 2^40. There is one weight for each coflow, from 1 to 2^32. So many agents beside each other send the units, each on the wire of
 /// its ingress port; further wires are left alone. The text is the same for any number of agents.
 ///
-/// `WireFault` comes only where the count of that port's wire rose in this call, and no further run is opened after it. `TooMany` comes only where more than 8192 orders would be published.
+/// `WireFault` comes only where the count of that port's wire rose in this call. It is the least port at which a unit of the last run is missing, and no further
+/// run is opened after it. `TooMany` comes only where more than 8192 orders would be published.
 /// `NoMemory` is want of memory. At every answer what was sent are units of the one online run, none twice and none in a slot at or before its coflow's arrival; where there is a text, all of them.
 pub fn served_online<R: Threads + Wait + Sync, W: Wire + Send>(
     alloc: Global,
@@ -42,6 +43,8 @@ pub fn served_online<R: Threads + Wait + Sync, W: Wire + Send>(
         SendsAll W.runs wires.old wires.new table.now told.online) }
     ensures sent { SendsSoFar W.runs wires.old wires.new table.now weights.now slot_ms every }
     ensures fault { (port : ℕ) → result ≡ Err (WireFault port) → FailsAt W.faults wires.old wires.new port table.now }
+    ensures stops { (port : ℕ) → result ≡ Err (WireFault port) →
+        StopsShort W.runs wires.old wires.new port table.now weights.now slot_ms every }
     ensures too_many { (count : ℕ) → result ≡ Err (TooMany count) →
         PublishesMore table.now weights.now slot_ms every count }
 {

@@ -2,13 +2,14 @@ use Rattle.std.proofs.Common.{◌≡◌, ◌<◌, ◌≤◌, Result, Err, length
 use Rattle.outside.specs.Rose.{Rose}
 use Rattle.journal.specs.declared.opening.Opening.{Opening}
 use Rattle.schedule_model.specs.RunList.{NamesFlows}
+use Rattle.hall_plan.specs.Cuts.{HaveStopped}
 use Rattle.hall_plan.specs.Wires.{AreAllUnits, HaveMore}
 use Rattle.online_runs.specs.Deeds.{PublishesTooMany}
 use Rattle.online_runs.specs.Input.{IsOnlineInput, online_opening}
 use Rattle.online_progress.specs.declared.progress.Progress.{Progress}
 use Rattle.hall_online.specs.declared.answer.OnlineFault.{OnlineFault}
 use Rattle.hall_online.specs.declared.answer.OnlineFault.TheVariants.{NoMemory, TooMany, WireFault}
-use Rattle.hall_online.specs.Serving.{EndsAs, HaveServed}
+use Rattle.hall_online.specs.Serving.{EndsAs, HaveServed, IsOnlineBegun}
 use Rattle.hall_online.proofs.Begins.{names_flows, none_sent, none_served}
 use Rattle.hall_online.proofs.online.served.Goals as goal
 
@@ -74,3 +75,12 @@ returns-in-Err-clause-too_many g c = λ count e.
     let came : c.in-Err.fault ≡ TooMany count = ap fault_of e in
     subst (λ (x : Opening). PublishesTooMany x c.args.arrivals.now c.args.every count) c.in_ok-run.ensures.opening
     (c.in-Err.ensures.too_many count c.args.arrivals.now c.args.every (ap Err came) c.in_ok-run.ensures.under_way)
+
+pub returns-in-Err-clause-stops : goal.returns-in-Err-clause-stops
+returns-in-Err-clause-stops g c = λ port e.
+    let came : c.in-Err.fault ≡ WireFault port = ap fault_of e in
+    let long = subst (λ (x : Opening). x.table.ports ≤ length c.args.wires.now) (sym c.in_ok-run.ensures.opening) c.requires.wires in
+    subst (λ (x : Opening). HaveStopped g.W.Wire.runs (IsOnlineBegun x c.args.arrivals.now c.args.every) x port c.args.wires.now c.serve-answer.new.wires)
+    c.in_ok-run.ensures.opening
+    (c.in-Err.ensures.stops port c.args.arrivals.now c.args.every c.args.wires.now (ap Err came) c.in_ok-run.ensures.under_way
+    (none_sent g.W.Wire.faults g.W.Wire.runs c.in_ok-run.run'.hall c.in_ok-run.run'.runner c.args.wires.now c.in_ok-run.ensures.none long))

@@ -4,14 +4,15 @@ use Rattle.std.specs.List.Sorted.{IsStrictlyIncreasing}
 use Rattle.coflow_units.specs.declared.fabric.Flow.{Flow}
 use Rattle.outside.specs.Rose.{Rose}
 use Rattle.flow_table.specs.Table.{TableFacts}
+use Rattle.hall_plan.specs.Cuts.{HaveStopped}
 use Rattle.hall_plan.specs.Halls.{NoneFell}
 use Rattle.hall_plan.proofs.WireSteps.{none_fell}
 use Rattle.hall_online.specs.declared.answer.OnlineFault.{OnlineFault}
 use Rattle.hall_online.specs.declared.answer.OnlineFault.TheVariants.{WireFault}
-use Rattle.hall_online.specs.Serving.{HaveServed}
+use Rattle.hall_online.specs.Serving.{HaveServed, IsOnlineBegun}
 use Rattle.online_progress.specs.Tallies.{IsTallied}
 use Rattle.hall_online.proofs.RunSteps.{granted_flows, granted_rises, is_tallied, never_full, never_late, never_nothing, never_spent, owed_length, ran_enough, ran_fits}
-use Rattle.hall_online.proofs.RunSteps.{ran_more, ran_on, ran_some, ran_time, run_fell, sent_more, served_more, some}
+use Rattle.hall_online.proofs.RunSteps.{ran_more, ran_on, ran_some, ran_time, run_fell, sent_more, served_more, some, stops_there}
 use Rattle.hall_online.proofs.ServeSteps.{served_so}
 use Rattle.hall_online.proofs.running.act_run.Goals as goal
 
@@ -218,3 +219,12 @@ returns-in_ok-push_run-in-Ran-clause-served g c =
     served_more c.args.hall.now c.args.runner.now arrivals every s c.args.progress.now h c.args.most first c.slot.new.self x.drive x.run g.W.Wire.faults g.W.Wire.runs before
     c.args.wires.now
     c.slot.new.wires x.wires had
+
+pub returns-in-WireFault-clause-stops : goal.returns-in-WireFault-clause-stops
+returns-in-WireFault-clause-stops g c =
+    λ port arrivals every s before e h first had.
+    let x = c.slot.ensures.wire_fault c.in-WireFault.port c.in-WireFault.sent c.in-WireFault.is in
+    let o = c.args.hall.now.setting.opening in
+    subst (λ p. HaveStopped g.W.Wire.runs (IsOnlineBegun o arrivals every) o p before c.slot.new.wires) (ap port_of e)
+    (stops_there c.args.hall.now c.args.runner.now arrivals every s c.args.progress.now h c.args.most first g.W.Wire.faults g.W.Wire.runs c.slot.new.self before
+    c.args.wires.now c.slot.new.wires c.in-WireFault.port c.in-WireFault.sent x had)

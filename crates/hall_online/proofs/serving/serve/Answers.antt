@@ -221,3 +221,10 @@ pub returns-in_err-act_run-in-Run-clause-too_many : goal.returns-in_err-act_run-
 returns-in_err-act_run-in-Run-clause-too_many g c = λ count arrivals every e.
     let came : Many count ≡ c.in_err-act_run-in-Run.field-0.0 = carried _ _ (Many count) c.from_residual-in_err-act_run-in-Run.ensures.1 e in
     absurd (c.in_err-act_run-in-Run.ensures.not_many count (ap Err (sym came)))
+
+pub returns-in_err-act_run-in-Run-clause-stops : goal.returns-in_err-act_run-in-Run-clause-stops
+returns-in_err-act_run-in-Run-clause-stops g c = λ port arrivals every before e x had.
+    let came : WireFault port ≡ c.in_err-act_run-in-Run.field-0.0 = carried _ _ (WireFault port) c.from_residual-in_err-act_run-in-Run.ensures.1 e in
+    let first = comes c.actions.course c.actions.progress c.deref.result.now c.next.result _ c.deref.ensures.value c.next.ensures.first c.in-Run.is in
+    c.in_err-act_run-in-Run.ensures.stops port arrivals every c.actions.course before (ap Err (sym came)) (c.actions.invariant.serving.goes_on arrivals every x) first
+    (c.actions.invariant.serving.sent before had)

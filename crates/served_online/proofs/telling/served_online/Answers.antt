@@ -3,7 +3,7 @@ use Rattle.std.specs.Result.{IsErrAnd}
 use Rattle.hall_online.specs.declared.answer.OnlineFault.{OnlineFault}
 use Rattle.hall_online.specs.declared.answer.OnlineFault.TheVariants.{TooMany, WireFault}
 use Rattle.served_online.specs.Told.{SendsAll}
-use Rattle.served_online.proofs.TextFacts.{fails_at, in_range, may_serve, sent_nothing, sent_so_far, told_of, too_many}
+use Rattle.served_online.proofs.TextFacts.{fails_at, in_range, may_serve, sent_nothing, sent_so_far, stops_short, told_of, too_many}
 use Rattle.served_online.proofs.telling.served_online.Goals as goal
 
 -- what a fault that is handed on is
@@ -62,3 +62,11 @@ returns-in_err-online-clause-too_many g c = λ count e.
     (may_serve _ _ c.args.slot_ms _ c.coflows-within.ensures.table c.requires.weight_each c.requires.weight_range c.requires.epoch_some c.requires.epoch_fits)
     c.in_ok-arrivals.arrivals.items c.deref.result.now c.in_ok-arrivals.ensures.arrivals c.in_ok-arrivals.ensures.each c.in_ok-arrivals.ensures.range c.deref.ensures.value count
     (c.in_err-online.ensures.too_many count (ap Err (sym came)))
+
+pub returns-in_err-online-clause-stops : goal.returns-in_err-online-clause-stops
+returns-in_err-online-clause-stops g c = λ port e.
+    let came : WireFault port ≡ c.in_err-online.field-0.0 = carried _ _ (WireFault port) c.from_residual-in_err-online.ensures.1 e in
+    stops_short c.args.table.now c.args.weights.now c.args.slot_ms c.args.every
+    (may_serve _ _ c.args.slot_ms _ c.coflows-within.ensures.table c.requires.weight_each c.requires.weight_range c.requires.epoch_some c.requires.epoch_fits)
+    c.in_ok-arrivals.arrivals.items c.deref.result.now c.in_ok-arrivals.ensures.arrivals c.in_ok-arrivals.ensures.each c.in_ok-arrivals.ensures.range c.deref.ensures.value
+    g.W.Wire.runs c.args.wires.now c.serve_online.new.wires port (c.in_err-online.ensures.stops port (ap Err (sym came)))
