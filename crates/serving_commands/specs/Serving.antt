@@ -11,7 +11,7 @@ use Rattle.outside.specs.Rose.{Rose}
 use Rattle.outside.specs.Shelf.{Told}
 use Rattle.script_reader.specs.declared.script.Script.{Script}
 use Rattle.served_live.specs.Told.{FailsAt as LiveFails, SendsSoFar as LiveSends}
-use Rattle.served_online.specs.Told.{FailsAt, SendsSoFar}
+use Rattle.served_online.specs.Told.{FailsAt, SendsSoFar, StopsShort as OnlineStops}
 use Rattle.served_plans.specs.Sent.{SendsPart, StopsShort}
 use Rattle.command_files.specs.declared.status.Status.{Status}
 use Rattle.command_files.specs.declared.status.Status.TheVariants.{Limit, NoMemory, Ok, WireFault, WriteFault}
@@ -74,10 +74,12 @@ module _ {W : Type 0} (runs : W → Option (List (ℕ × ℕ × ℕ))) where
 
 module _ {W : Type 0} (faults : W → ℕ) (runs : W → Option (List (ℕ × ℕ × ℕ))) where
   -- The count of faults of the port's wire rose. Of the units of a plan's schedule one at this port is missing in the
-  -- last slot, and of those at lesser ports none up to that slot. So it is with the last run that served a script.
+  -- last slot, and of those at lesser ports none up to that slot. So it is with the last run of an online run, and with
+  -- the last one that served a script.
   abbrev pub Stops : List W → List W → ℕ → Service → Type 0
   Stops before after port (plan_of table weights) = StopsShort faults runs before after port table weights
-  Stops before after port (online_of table weights slot_ms every) = FailsAt faults before after port table
+  Stops before after port (online_of table weights slot_ms every) =
+      FailsAt faults before after port table × OnlineStops runs before after port table weights slot_ms every
   Stops before after port (script_of table weights script) = LiveFails faults runs before after port table weights script
 
   -- One wire failed: the job of the words serves a plan, an online run or a script, and stops at this port.

@@ -5,7 +5,7 @@ ghost use Rattle.command_words.specs.Jobs.Job.{online_job};
 ghost use Rattle.command_words.specs.Words.{said_with};
 ghost use Rattle.flow_table.specs.Table.{IsTable};
 ghost use Rattle.hall_online.specs.declared.answer.OnlineFault.TheVariants.{TooMany, WireFault};
-ghost use Rattle.served_online.specs.Told.{FailsAt, PublishesMore, SendsAll as SendsRun, SendsSoFar, TellsOnline};
+ghost use Rattle.served_online.specs.Told.{FailsAt, PublishesMore, SendsAll as SendsRun, SendsSoFar, StopsShort, TellsOnline};
 ghost use Rattle.served_plans.specs.Sent.{SendsAll};
 ghost use Rattle.command_files.specs.Ends.{CountsFault, IfPastFiles};
 ghost use Rattle.command_files.specs.Shelves.{KeepsFiles, OfBoth, ReadsOut};
@@ -104,6 +104,9 @@ fn serve_run<'a, R: Threads + Wait + Sync, W: Wire + Send>(
         options.entry.slot_ms options.entry.epoch }
     ensures fault { (port : ℕ) → result ≡ Err (WireFault port) →
         FailsAt W.faults wires.old.items wires.new.items port input.now.table }
+    ensures stops { (port : ℕ) → result ≡ Err (WireFault port) →
+        StopsShort W.runs wires.old.items wires.new.items port input.now.table input.now.weights
+        options.entry.slot_ms options.entry.epoch }
     ensures too_many { (count : ℕ) → result ≡ Err (TooMany count) →
         PublishesMore input.now.table input.now.weights options.entry.slot_ms options.entry.epoch count }
 {

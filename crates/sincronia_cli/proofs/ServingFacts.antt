@@ -76,9 +76,9 @@ module _ {W : Type 0} (faults : W → ℕ) (runs : W → Option (List (ℕ × �
   none_failed still port (plan_of t ws) stops =
       let w = some_of before port stops.wire in
       still port w w stops.wire (stops.rose w w)
-  none_failed still port (online_of t ws slot_ms every) stops =
-      let w = some_of before port stops.wire in
-      still port w w stops.wire (stops.rose w w)
+  none_failed still port (online_of t ws slot_ms every) (fails, stops) =
+      let w = some_of before port fails.wire in
+      still port w w fails.wire (fails.rose w w)
   none_failed still port (script_of t ws script) stops =
       let w = some_of before port stops.wire in
       still port w w stops.wire (stops.rose w w)

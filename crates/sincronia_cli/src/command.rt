@@ -145,7 +145,7 @@ use std::thread::Threads;
 /// - `WriteFault`: a call to the sink failed, and its count of faults rose. `count` is 1. A beginning of the text was
 ///   written, which is shorter than the text.
 /// - `WireFault`: in `plan`, `make`, `online` or `live` the wire of this ingress port did not accept a unit, and its count of
-///   faults rose. `count` is 1. In `plan`, `make` and `live` it is the least port at which a unit of the last run is missing.
+///   faults rose. `count` is 1. It is the least port at which a unit of the last run is missing.
 /// - `NoMemory`: no memory was to be had.
 ///
 /// Where the files of the command are told, the status is the one of the first thing that is wrong with them, or where

@@ -134,8 +134,7 @@ fn a_new_seat_finds_what_the_root_left(rt: HostRuntime) {
     let Ok((gate, mut root)) = Turnstile::new(rt.alloc(), empty(&rt)) else {
         panic!(&rt; "no memory");
     };
-    let line = Line { who: 0, number: 0 };
-    add_root(&rt, &gate, &mut root, line);
+    add_root(&rt, &gate, &mut root, Line { who: 0, number: 0 });
     let mut seat = gate.seat(&mut root);
     let turn = gate.enter(&rt, &mut seat);
     let found = lines_in_order(&turn.value, 0);
@@ -145,7 +144,8 @@ fn a_new_seat_finds_what_the_root_left(rt: HostRuntime) {
         unreachable!();
     };
     assert_eq!(rt; found, Some(1));
-    assert_eq!(rt; log.lines.as_slice(), &[line]);
+    assert_eq!(rt; lines_in_order(&log, 0), Some(1));
+    assert_eq!(rt; log.lines.len(), 1);
 }
 
 // No clause says that a thread that sleeps is woken. Where the end of a turn wakes at another word, or wakes one thread alone, or a wait sleeps past

@@ -35,6 +35,11 @@ returns-clause-cause g c =
     online_cause c.in-Err.fault c.status_of.result
     (HasFilesCause (g.H.Shelf.faults c.args.shelf.now) (g.H.Shelf.faults c.read_input.new.shelf) (g.H.Shelf.told c.args.shelf.now) (g.H.Shelf.told c.read_input.new.shelf)
     (said_with (online_job c.args.trace.now) c.args.options)) _ _ c.status_of.ensures tt
-    (λ port is. (c.in_ok-input.input.table, c.in_ok-input.input.weights, c.in_ok-input.ensures.input, c.in-Err.ensures.fault port (ap Err is)))
+    (λ port is. (
+      c.in_ok-input.input.table,
+      c.in_ok-input.input.weights,
+      c.in_ok-input.ensures.input,
+      (c.in-Err.ensures.fault port (ap Err is), c.in-Err.ensures.stops port (ap Err is)),
+    ))
     (λ count is. publishes_more (g.H.Shelf.told c.args.shelf.now) (said_with (online_job c.args.trace.now) c.args.options) c.in_ok-input.input.table
     c.in_ok-input.input.weights c.in_ok-input.ensures.input count c.in_ok-input.ensures.table (c.in-Err.ensures.too_many count (ap Err is)))

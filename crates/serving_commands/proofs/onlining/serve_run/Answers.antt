@@ -1,6 +1,6 @@
 use Rattle.std.proofs.Common.{◌∙◌, IfOk, ℕ, List, subst}
 use Rattle.coflow_units.proofs.Fronts.{written_back}
-use Rattle.served_online.specs.Told.{PublishesMore, SendsAll, TellsOnline}
+use Rattle.served_online.specs.Told.{PublishesMore, SendsAll, StopsShort, TellsOnline}
 use Rattle.serving_commands.proofs.WireFacts.{moved}
 use Rattle.serving_commands.proofs.onlining.serve_run.Goals as goal
 
@@ -10,6 +10,11 @@ returns-clause-text g c =
     (told : TellsOnline c.args.input.now.table weights c.args.options.slot_ms c.args.options.epoch text.items) ×
     SendsAll g.W.Wire.runs before after c.args.input.now.table told.online)) _ _ _ _ _ _
     c.deref_mut.ensures.value (written_back _ _ _ (c.served_online.auto.wires ∙ c.deref_mut.ensures.len)) c.as_slice.ensures c.served_online.ensures.text
+
+pub returns-clause-stops : goal.returns-clause-stops
+returns-clause-stops g c = λ port e.
+    moved (λ before after weights. StopsShort g.W.Wire.runs before after port c.args.input.now.table weights c.args.options.slot_ms c.args.options.epoch) _ _ _ _ _ _
+    c.deref_mut.ensures.value (written_back _ _ _ (c.served_online.auto.wires ∙ c.deref_mut.ensures.len)) c.as_slice.ensures (c.served_online.ensures.stops port e)
 
 pub returns-clause-too_many : goal.returns-clause-too_many
 returns-clause-too_many g c = λ count e.
