@@ -1,6 +1,5 @@
 use Rattle.command_words.specs.Jobs.Job.{classes_job}
 use Rattle.command_words.specs.Words.{Said, said_with}
-use Rattle.command_files.proofs.CauseFacts.{input_out}
 use Rattle.command_files.proofs.JobFacts.{from_input}
 use Rattle.command_files.proofs.ShelfFacts.{passed_on}
 use Rattle.command_files.specs.Shelves.{OfBoth}

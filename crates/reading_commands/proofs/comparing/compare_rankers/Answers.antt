@@ -3,7 +3,6 @@ use Rattle.std.proofs.lemmas.List.Elements.{All-nil}
 use Rattle.command_words.specs.Jobs.Job.{compare_job}
 use Rattle.command_words.specs.Words.{Said, said_with}
 use Rattle.rankers.specs.FactsTold.{IsFactsOf}
-use Rattle.command_files.proofs.CauseFacts.{input_out}
 use Rattle.command_files.proofs.JobFacts.{from_input}
 use Rattle.reading_commands.proofs.CompareFacts.{left_of_table}
 use Rattle.command_files.proofs.ShelfFacts.{passed_on}

@@ -3,7 +3,6 @@ use Rattle.command_words.specs.Jobs.Job.{online_job}
 use Rattle.command_words.specs.Words.{Said, said_with}
 use Rattle.command_files.proofs.ShelfFacts.{passed_on}
 use Rattle.command_files.specs.JobCauses.{HasFilesCause}
-use Rattle.command_files.proofs.CauseFacts.{input_out}
 use Rattle.command_files.proofs.JobFacts.{from_input}
 use Rattle.serving_commands.proofs.OnlineFacts.{online_cause, publishes_few, publishes_more}
 use Rattle.command_files.specs.Shelves.{OfBoth}
