@@ -43,7 +43,7 @@ module _ {X : Type 0} (P : X → Type 0) (x : X) (xs : List X) where
   kept_there true h = All-tail P x xs h
   kept_there false h = h
 
-by_caller : (P : Entry → Type 0) (n : ℕ) (es : List Entry) →
+pub by_caller : (P : Entry → Type 0) (n : ℕ) (es : List Entry) →
     ((who : ℕ) → All (λ (x : ℕ × Entry). P x.1) (filter (λ (x : ℕ × Entry). x.1.who == who) (enumerate_from n es))) → All P es
 by_caller P n [] h = All-nil P
 by_caller P n (e ∷ es) h =

@@ -29,11 +29,11 @@ abbrev IsOther : ℕ → Entry → Type 0
 IsOther who e = (e.who == who) ≡ false
 
 -- the entry stands among these, and those behind it are of others
-record IsLastOf (who : ℕ) (es : List Entry) (e : Entry) : Type 0 where
-  before : List Entry
-  more : List Entry
-  stands : es ≡ before ++ e ∷ more
-  others : All (IsOther who) more
+pub record IsLastOf (who : ℕ) (es : List Entry) (e : Entry) : Type 0 where
+  pub before : List Entry
+  pub more : List Entry
+  pub stands : es ≡ before ++ e ∷ more
+  pub others : All (IsOther who) more
 
 abbrev own : ℕ → ℕ → List Entry → List (ℕ × Entry)
 own who n es = filter (λ x. x.1.who == who) (enumerate_from n es)
@@ -64,7 +64,7 @@ last_of who n (z ∷ es) front x e = go (z.who == who) refl front e (λ front e.
         record { before = []; more = es; stands = ap (λ y. y ∷ es) same; others = none_own who (n + 1) es behind }
     go true t (y ∷ front) e rest = longer (rest front (ap (drop 1) e))
 
-all_behind : {X : Type 0} (P : X → Type 0) (xs ys : List X) → All P (xs ++ ys) → All P ys
+pub all_behind : {X : Type 0} (P : X → Type 0) (xs ys : List X) → All P (xs ++ ys) → All P ys
 all_behind P [] ys h = h
 all_behind P (x ∷ xs) ys h = all_behind P xs ys (All-tail P x (xs ++ ys) h)
 
@@ -75,7 +75,7 @@ module _ (o : Opening) (script : Script) (most : ℕ) (journal : List Entry) (wi
   abbrev last : Spell
   last = course.driving.last
 
-  abbrev asks : Entry
+  abbrev pub asks : Entry
   asks = entry 0 (Open most) last.answer
 
   abbrev front : List Spell
@@ -86,7 +86,7 @@ module _ (o : Opening) (script : Script) (most : ℕ) (journal : List Entry) (wi
       x.driver.entries ∙ flat_map-append (spell_entries most) front (last ∷ [])
       ∙ ap (λ c. flat_map (spell_entries most) front ++ (last.opened, asks) ∷ (closing_entries c ++ [])) x.driver.last_is
 
-  split : IsLastOf 0 journal asks
+  pub split : IsLastOf 0 journal asks
   split = last_of 0 1 journal (flat_map (spell_entries most) front) (last.opened, asks) ends
 
   answer_is : last.answer ≡ NothingLeft
@@ -95,7 +95,7 @@ module _ (o : Opening) (script : Script) (most : ℕ) (journal : List Entry) (wi
       let fits = All-contains (λ (s : Spell). FitsAnswer s.answer s.closed) (spells_of course.driving) last x.driver.answers stands in
       subst (FitsAnswer last.answer) x.driver.last_is fits
 
-  quiet_behind : All (λ (e : Entry). is_driving e.command ≡ false) split.more
+  pub quiet_behind : All (λ (e : Entry). is_driving e.command ≡ false) split.more
   quiet_behind k d lt =
       let fit = subst (All (Fits _)) split.stands (all_fit o script most journal wires course may x) in
       let behind = All-tail (Fits _) asks split.more (all_behind (Fits _) split.before (asks ∷ split.more) fit) in

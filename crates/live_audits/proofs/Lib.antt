@@ -1,7 +1,15 @@
+pub mod Choices
 pub mod Limits
 pub mod Lines
 pub mod Callers
 pub mod Stated
 pub mod Ended
 pub mod PullsTold
+pub mod AskedEntries
+pub mod StateRanges
+pub mod EntryRanges
+pub mod RunRanges
+pub mod RisingLines
+pub mod PullRanges
 pub mod Right
+pub mod ReadBack

@@ -34,19 +34,19 @@ NeverFalls a b = a.client ≡ b.client → a.version ≤ b.version
 
 -- ---- pulls in blocks of clients
 
-abbrev IsOf : ℕ → PullLine → Type 0
+abbrev pub IsOf : ℕ → PullLine → Type 0
 IsOf client p = p.client ≡ client
 
-abbrev IsFrom : ℕ → PullLine → Type 0
+abbrev pub IsFrom : ℕ → PullLine → Type 0
 IsFrom client p = client ≤ p.client
 
 module _ (block : ℕ → List PullLine) where
-  all_blocks : (P : PullLine → Type 0) → ((client : ℕ) → All P (block client)) → (clients : List ℕ) → All P (flat_map block clients)
+  pub all_blocks : (P : PullLine → Type 0) → ((client : ℕ) → All P (block client)) → (clients : List ℕ) → All P (flat_map block clients)
   all_blocks P each [] = All-nil P
   all_blocks P each (c ∷ cs) = All-append P (block c) (flat_map block cs) (each c) (all_blocks P each cs)
 
   module _ (of_client : (client : ℕ) → All (IsOf client) (block client)) where
-    from_client : (a n : ℕ) → All (IsFrom a) (flat_map block (range_with_len a n))
+    pub from_client : (a n : ℕ) → All (IsFrom a) (flat_map block (range_with_len a n))
     from_client a zero = All-nil (IsFrom a)
     from_client a (suc n) =
         All-append (IsFrom a) (block a) (flat_map block (range_with_len (a + 1) n)) (λ k d lt. omega (arith, of_client a k d lt))

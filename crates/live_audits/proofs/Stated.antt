@@ -21,7 +21,7 @@ use Rattle.live_lines.specs.Names.{NamesCoflow}
 use Rattle.journal_audit.specs.Stated.{command_for, entry_for, IsKnown, reply_for, stated_by}
 use Rattle.live_audits.proofs.Callers.{Fits}
 
-from_some : {X : Type 0} (P : X → Type 0) (x y : X) → Some x ≡ Some y → P x → P y
+pub from_some : {X : Type 0} (P : X → Type 0) (x y : X) → Some x ≡ Some y → P x → P y
 from_some P x y e p = let same : x ≡ y = cc in subst P same p
 
 said_back : (r : Reply) (s : Said) → said_of r ≡ Some s → reply_for s ≡ r
