@@ -214,7 +214,7 @@ def comparison(folder):
     """The seconds of `compare`, which serves eight orders, and how many times those of serving one order they are."""
     put(folder, "t", traces.hour)
     words = ["t", "--unit", "16"]
-    plan = min(measured([PROGRAM, "plan", *words], folder)[0] for _ in range(RUNS))
+    plan = min(measured([PROGRAM, "plan", *words, "--agents", "1"], folder)[0] for _ in range(RUNS))
     classes = min(measured([PROGRAM, "classes", *words], folder)[0] for _ in range(RUNS))
     whole, memory, code = min(measured([PROGRAM, "compare", *words], folder) for _ in range(RUNS))
     if code != 0:

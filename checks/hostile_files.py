@@ -137,7 +137,7 @@ def run_long_report():
                 file.write(pair * 2**16)
             file.write(pair * (pairs % 2**16) + end)
         *have, peak = measured(folder, {"t": TWO}, CHECK, 2**32)
-    good = have == [11, b"", b"sincronia: no memory\n"]
+    good = have == [11, b"", b"sincronia: no memory\n"] and peak <= 4096
     print("%sa report of 2^30 bytes of runs: %r, %d MiB" % ("" if good else "FAILED ", have, peak))
     return good
 
