@@ -65,6 +65,8 @@ def proved_names():
 def definitions_of(crate):
     """The text of the crate's definitions."""
     folder = os.path.join("crates", crate, "specs")
+    if not os.path.isdir(os.path.join(TOP, folder)):
+        return ""
     return "\n".join(read(folder, name) for name in sorted(os.listdir(os.path.join(TOP, folder))) if name.endswith(".antt"))
 
 
@@ -79,7 +81,7 @@ def is_defined(name, text):
 
 def hall_names():
     """Each name in the last cells of docs/HALL.md, and whether it is there."""
-    crates = "turnstile", "rank_board", "client_session", "slot_runner", "hall_plan", "served_plans", "sincronia_cli"
+    crates = "turnstile", "rank_board", "master_desk", "client_session", "slot_runner", "hall_plan", "served_plans", "command_outcomes", "sincronia_cli"
     calls, text = {}, "\n".join(map(definitions_of, crates))
     for crate in crates:
         for call, clauses in clauses_of(crate).items():

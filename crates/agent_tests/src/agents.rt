@@ -1,5 +1,6 @@
 //! Agents of the ports on threads of their own.
-ghost use Rattle.std.specs.Prelude.{◌≡◌, ◌+◌, ◌<◌, ◌≤◌, ◌^◌, [], length, false};
+ghost use Rattle.std.specs.Prelude.{◌≡◌, ◌+◌, ◌<◌, ◌≤◌, [], length, false};
+ghost use Rattle.coflow_units.specs.declared.limits.TheConstants.{MAX_SLOT};
 
 use crate::begun::board_of;
 use outside::{CountWire, MemWire};
@@ -20,7 +21,7 @@ fn serve_once(
     requires fresh { (poster.old.view.posts ≡ []) × (poster.old.view.settled ≡ []) × (poster.old.view.made ≡ 0) ×
         (poster.old.view.back ≡ []) }
     requires ports { 1 ≤ board.now.ports }
-    requires length { (1 ≤ length) × (length ≤ 2 ^ 41) }
+    requires length { (1 ≤ length) × (length ≤ MAX_SLOT) }
 {
     let seat = board.agent(poster);
     board.post(poster, 0, 1, 0, length);

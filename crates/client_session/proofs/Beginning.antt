@@ -1,5 +1,5 @@
 -- What a new session is.
-use Rattle.std.proofs.Common.{◌≡◌, ◌≢◌, ℕ, ◌+◌, ◌<◌, ◌≤◌, ◌^◌, true, Option, Some, List, [], ◌++◌, length, map, take, drop, refl, sym, ap, ◌∙◌, subst, arith}
+use Rattle.std.proofs.Common.{◌≡◌, ◌≢◌, ℕ, ◌+◌, ◌<◌, ◌≤◌, ◌^◌, Option, List, [], ◌++◌, length, map, take, drop, refl, sym, ap, ◌∙◌, subst, arith}
 use Rattle.std.specs.Prelude.{All, unwrap_or}
 use Rattle.std.proofs.lemmas.List.{take_all, take-append-le}
 use Rattle.std.proofs.lemmas.List.Elements.{All-nil, All-weaker}
@@ -7,18 +7,17 @@ use Rattle.turnstile.specs.Models.{first_root, next_seat, RootModel, SeatModel a
 use Rattle.atomic_table.specs.Seated.{TableId}
 use Rattle.journal.specs.declared.command.Entry.{Entry}
 use Rattle.journal.specs.declared.opening.Opening.{Opening}
-use Rattle.journal.specs.Answer.{in_range}
-use Rattle.journal.specs.Entries.{is_driving}
 use Rattle.rank_board.specs.declared.pulls.Pull.{Pull}
 use Rattle.rank_board.specs.Models.{new_seat, SeatModel}
-use Rattle.client_session.specs.declared.desk.Setting.{Setting}
-use Rattle.client_session.specs.declared.receipt.Receipt.{Receipt}
-use Rattle.client_session.specs.Own.{IsPass, own_entries, receipt_of}
-use Rattle.client_session.specs.Desk.{IsSeen}
-use Rattle.client_session.specs.Drivers.{IsDriver, TellsGrants, who_of}
+use Rattle.master_desk.specs.declared.desk.Setting.{Setting}
+use Rattle.master_desk.specs.declared.receipt.Receipt.{Receipt}
+use Rattle.master_desk.specs.Own.{IsPass, own_entries, receipt_of}
+use Rattle.master_desk.specs.Grants.{TellsGrants}
+use Rattle.client_session.specs.Drivers.{IsDriver, who_of}
 use Rattle.client_session.specs.Turns.{IsSession}
-use Rattle.client_session.proofs.OwnSteps.{own_above}
-use Rattle.client_session.proofs.Passes.{pass_first}
+use Rattle.master_desk.proofs.Agreement.{nothing_seen}
+use Rattle.master_desk.proofs.OwnSteps.{own_above}
+use Rattle.master_desk.proofs.Passes.{pass_first}
 
 module _ (root : RootModel Entry Setting) (seat : TurnSeatModel Entry Setting) (turned position number : ℕ) (granted : List (Option ℕ)) (h : IsDriver root turned position granted)
     (seat_is : seat ≡ next_seat root) (number_is : number ≡ root.made + 1) where
@@ -41,13 +40,6 @@ module _ (root : RootModel Entry Setting) (seat : TurnSeatModel Entry Setting) (
             (subst (λ (x : SeatModel). IsPass [] x.pulls x.seen) (sym rank_is) (pass_first rank.seen));
         coflow = λ c e. subst (λ (x : SeatModel). All (λ (p : Pull). p.coflow < c.board.coflows) x.pulls) (sym rank_is) (All-nil (λ (p : Pull). p.coflow < c.board.coflows));
       }
-
-nothing_seen : (o : Opening) → IsSeen o []
-nothing_seen o = record {
-  legal = tt;
-  in_range = All-nil (λ (e : Entry). in_range o e.command ≡ true);
-  driven = All-nil (λ (e : Entry). is_driving e.command ≡ true → e.who ≡ 0);
-}
 
 -- a list that was told anew, as a vector
 pub retold : (o : Opening) (journal : List Entry) (n : ℕ) (new old : List (Option ℕ)) → n ≡ o.table.ports → TellsGrants o journal new →

@@ -1,7 +1,6 @@
 -- What the driver is after a turn.
 use Rattle.std.proofs.Common.{◌≡◌, ◌≢◌, ℕ, ◌+◌, ◌-◌, ◌<◌, ◌≤◌, inl, inr, true, false, List, [], ◌∷◌, ◌++◌, Option}
 use Rattle.std.proofs.Common.{Some, length, take, drop, refl, sym, ap, ◌∙◌, subst, arith, length-append, append_assoc, append-nil, Result, Ok, Err, true≢false}
-use Rattle.std.specs.Prelude.{All}
 use Rattle.std.proofs.lemmas.List.{drop_all, take_all, take-append-drop}
 use Rattle.std.proofs.lemmas.List.Elements.{All-append, All-head, All-nil, All-push, All-tail}
 use Rattle.turnstile.specs.Histories.{AddsAtMostOne, GoesOn, NoneAbove, NoneBy}
@@ -12,15 +11,14 @@ use Rattle.journal.specs.declared.opening.Opening.{Opening}
 use Rattle.journal.specs.Answer.{room}
 use Rattle.journal.specs.Journal.{entry, version_of}
 use Rattle.rank_board.specs.Models.{SeatModel}
-use Rattle.client_session.specs.declared.desk.Setting.{Setting}
-use Rattle.client_session.specs.declared.receipt.Receipt.{Receipt}
-use Rattle.client_session.specs.declared.receipt.Answer.{Answer}
-use Rattle.client_session.specs.declared.receipt.Answer.TheVariants.{Done, Full}
-use Rattle.client_session.specs.Answers.{answer_of}
-use Rattle.client_session.specs.Desk.{AddsEntry, IsSeen}
-use Rattle.client_session.specs.Drivers.{GrownByOthers, IsDrivenOn, IsDriver, IsDriverTurn, IsStopped, StaysInHall, TellsGrants, who_of}
+use Rattle.master_desk.specs.declared.desk.Setting.{Setting}
+use Rattle.master_desk.specs.declared.receipt.Receipt.{Receipt}
+use Rattle.master_desk.specs.Answers.{answer_of}
+use Rattle.master_desk.specs.Desk.{AddsEntry, IsSeen}
+use Rattle.master_desk.specs.Grants.{TellsGrants}
+use Rattle.client_session.specs.Drivers.{GrownByOthers, IsDrivenOn, IsDriver, IsDriverTurn, IsStopped, StaysInHall, who_of}
 use Rattle.client_session.specs.Models.{DriverModel}
-use Rattle.client_session.proofs.Agreement.{room_met}
+use Rattle.master_desk.proofs.Agreement.{room_met}
 use Rattle.client_session.proofs.Turning.{done_in, full_in, is_done, is_full_answer}
 
 abbrev pub Roots : Type 0

@@ -11,15 +11,15 @@ use Rattle.journal.specs.declared.command.Entry.{Entry}
 use Rattle.journal.specs.declared.opening.Opening.{Opening}
 use Rattle.journal.specs.Journal.{version_of}
 use Rattle.master_core.specs.Master.{MasterFacts}
-use Rattle.client_session.specs.declared.desk.Setting.{Setting}
+use Rattle.master_desk.specs.declared.desk.Setting.{Setting}
 use Rattle.client_session.specs.Closes.{HasEnded, IsClosed, IsOfCaller, StandsAt}
-use Rattle.client_session.specs.Desk.{IsSeen}
+use Rattle.master_desk.specs.Desk.{IsSeen}
 use Rattle.client_session.specs.Drivers.{GrownByOthers, who_of}
 use Rattle.client_session.specs.Models.{DriverModel, HallModel, SessionModel}
-use Rattle.client_session.specs.Own.{own_entries, own_entry, OwnEntry}
+use Rattle.master_desk.specs.Own.{own_entries, own_entry, OwnEntry}
 use Rattle.client_session.specs.Returns.{AreReturned, IsReturned, IsRootOf, WasMet}
 use Rattle.client_session.proofs.Driving.{all_right, alone}
-use Rattle.client_session.proofs.OwnSteps.{own_same}
+use Rattle.master_desk.proofs.OwnSteps.{own_same}
 use Rattle.client_session.proofs.Standing.{is_own, note_is_true, own_rise, own_stand}
 
 abbrev pub Back : Type 0

@@ -1,6 +1,6 @@
 -- The driver meets the sessions in turn.
 use Rattle.std.proofs.Common.{◌≡◌, ◌≢◌, ℕ, ◌+◌, ◌<◌, ◌≤◌, inl, inr, Bool, true, false, cond, List, [], ◌∷◌, ◌++◌}
-use Rattle.std.proofs.Common.{Option, Some, length, get_or, set, map, take, drop, get_or-set_other, refl, sym, ap, ◌∙◌, subst, arith, length-append, append_assoc}
+use Rattle.std.proofs.Common.{Option, length, get_or, set, map, take, drop, get_or-set_other, refl, sym, ap, ◌∙◌, subst, arith, length-append}
 use Rattle.std.specs.Prelude.{All, if◌then◌else◌, nat_lt}
 use Rattle.std.proofs.lemmas.Bool.{cases_Bool, ltb-false, ltb-true}
 use Rattle.std.proofs.lemmas.List.{drop-append-le, take_more, take_more_set, take-append-le}
@@ -10,16 +10,17 @@ use Rattle.turnstile.specs.Models.{RootModel, SeatModel as TurnSeatModel}
 use Rattle.journal.specs.declared.command.Entry.{Entry}
 use Rattle.rank_board.specs.Models.{saw_front, SeatModel}
 use Rattle.rank_board.specs.declared.pulls.Pull.{Pull}
-use Rattle.client_session.specs.declared.desk.Setting.{Setting}
-use Rattle.client_session.specs.declared.receipt.Receipt.{Receipt}
-use Rattle.client_session.specs.Desk.{IsSeen, KeepsLooks}
-use Rattle.client_session.specs.Drivers.{IsDriver, TellsGrants, who_of}
-use Rattle.client_session.specs.Levels.{AreRaised, IsLevel, IsLongest, IsMetByEach, IsMetByOne, IsNewest, IsRaised}
+use Rattle.master_desk.specs.declared.desk.Setting.{Setting}
+use Rattle.master_desk.specs.declared.receipt.Receipt.{Receipt}
+use Rattle.master_desk.specs.Desk.{IsSeen}
+use Rattle.master_desk.specs.Grants.{TellsGrants}
+use Rattle.client_session.specs.Drivers.{IsDriver, who_of}
+use Rattle.client_session.specs.Levels.{AreRaised, IsLevel, IsMetByEach, IsMetByOne, IsNewest, IsRaised}
 use Rattle.client_session.specs.Models.{DriverModel, HallModel, IsDriverOf, IsSessionOf, SessionModel}
-use Rattle.client_session.specs.Own.{IsPass, own_entries, receipt_of}
+use Rattle.master_desk.specs.Own.{IsPass, own_entries, receipt_of}
 use Rattle.client_session.specs.Turns.{IsSession}
-use Rattle.client_session.proofs.OwnSteps.{own_same}
-use Rattle.client_session.proofs.Passes.{keeps_more, pass_later}
+use Rattle.master_desk.proofs.OwnSteps.{own_same}
+use Rattle.master_desk.proofs.Passes.{keeps_more, pass_later}
 use Rattle.client_session.proofs.Driving.{driver_model}
 use Rattle.client_session.proofs.Turning.{model}
 

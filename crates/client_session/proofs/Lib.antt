@@ -1,6 +1,3 @@
-pub mod OwnSteps
-pub mod Passes
-pub mod Agreement
 pub mod Answered
 pub mod Turning
 pub mod Pulling

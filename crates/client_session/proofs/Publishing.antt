@@ -11,24 +11,19 @@ use Rattle.journal.specs.declared.command.Reply.TheVariants.{Version}
 use Rattle.journal.specs.declared.opening.Opening.{Opening}
 use Rattle.journal.specs.State.{State, what_is_left}
 use Rattle.journal.specs.Fold.{after as state_after, state_of}
-use Rattle.journal.specs.Answer.{reply_of}
 use Rattle.journal.specs.Journal.{entry, is_version, left_at, LegalFrom, IsLegal, order_in, version_of}
 use Rattle.journal.proofs.Growth.{state_snoc, version_append}
 use Rattle.journal.proofs.Legal.{legal_rest}
 use Rattle.journal.proofs.Versions.{version_is_next}
-use Rattle.master_core.specs.Published.{last_of, ranked, TellsPlaces}
-use Rattle.client_session.specs.declared.receipt.Answer.{Answer}
-use Rattle.client_session.specs.declared.receipt.Answer.TheVariants.{Done, Full}
-use Rattle.client_session.specs.declared.receipt.Receipt.{Receipt}
-use Rattle.client_session.specs.Answers.{answer_of, makes_version}
-use Rattle.client_session.specs.Desk.{AddsEntry, IsSeen}
-use Rattle.client_session.specs.Drivers.{AnswersVersion, HandsOut}
-use Rattle.client_session.proofs.Agreement.{not_version}
+use Rattle.master_core.specs.Published.{ranked, TellsPlaces}
+use Rattle.master_core.proofs.PublishTells.{last_is}
+use Rattle.master_desk.specs.declared.receipt.Answer.{Answer}
+use Rattle.master_desk.specs.declared.receipt.Receipt.{Receipt}
+use Rattle.master_desk.specs.Answers.{answer_of, makes_version}
+use Rattle.master_desk.specs.Desk.{AddsEntry, IsSeen}
+use Rattle.client_session.specs.Drivers.{HandsOut}
+use Rattle.master_desk.proofs.Agreement.{not_version}
 use Rattle.client_session.proofs.Turning.{done_in, is_done}
-
-last_is : (j : Instance) (js : List Instance) (i : Instance) → last_of j (js ++ i ∷ []) ≡ i
-last_is j [] i = refl
-last_is j (k ∷ ks) i = last_is k ks i
 
 -- the places of the last publishing
 places_of_last : (published : List Instance) (i : Instance) (places : List Place) → TellsPlaces (published ++ i ∷ []) places → IsOrder i places

@@ -1,5 +1,5 @@
 -- What the driver keeps, and what its turns make of it.
-use Rattle.std.specs.Prelude.{◌≡◌, ℕ, ◌+◌, ◌<◌, ◌≤◌, false, List, [], ◌∷◌, ◌++◌, drop, length, None, Option, Some, slice_index_or, take}
+use Rattle.std.specs.Prelude.{◌≡◌, ℕ, ◌+◌, ◌<◌, ◌≤◌, false, List, [], ◌∷◌, ◌++◌, drop, length, Option, Some, take}
 use Rattle.coflow_units.specs.declared.plan.Place.{Place}
 use Rattle.bssi_order.specs.Order.{IsOrder}
 use Rattle.journal.specs.declared.command.Command.{Command}
@@ -7,31 +7,20 @@ use Rattle.journal.specs.declared.command.Entry.{Entry}
 use Rattle.journal.specs.declared.command.Reply.TheVariants.{Version}
 use Rattle.journal.specs.declared.opening.Opening.{Opening}
 use Rattle.journal.specs.Answer.{room}
-use Rattle.journal.specs.Fold.{state_of}
 use Rattle.journal.specs.Journal.{entry, is_full, left_at, order_in, version_of}
-use Rattle.journal.specs.Runs.{flow_at}
 use Rattle.master_core.specs.Published.{ranked}
 use Rattle.turnstile.specs.Histories.{NoneAbove, NoneBy}
 use Rattle.turnstile.specs.Models.{RootModel}
-use Rattle.client_session.specs.declared.desk.Setting.{Setting}
-use Rattle.client_session.specs.declared.receipt.Answer.{Answer}
-use Rattle.client_session.specs.declared.receipt.Answer.TheVariants.{Done, Full, Spent}
-use Rattle.client_session.specs.declared.receipt.Receipt.{Receipt}
-use Rattle.client_session.specs.Desk.{IsSeen}
+use Rattle.master_desk.specs.declared.desk.Setting.{Setting}
+use Rattle.master_desk.specs.declared.receipt.Answer.{Answer}
+use Rattle.master_desk.specs.declared.receipt.Answer.TheVariants.{Done, Full, Spent}
+use Rattle.master_desk.specs.declared.receipt.Receipt.{Receipt}
+use Rattle.master_desk.specs.Desk.{IsSeen}
+use Rattle.master_desk.specs.Grants.{TellsGrants}
 use Rattle.client_session.specs.Models.{DriverModel}
 
 abbrev pub who_of : Entry → ℕ
 who_of e = e.who
-
--- for each ingress the flow that is granted there in the run that is open after the journal
-abbrev pub flow_granted : Opening → List Entry → ℕ → Option ℕ
-flow_granted o journal ingress = flow_at o.table.flows (state_of o journal).run ingress
-
--- the list tells this for each ingress of the table
-pub record TellsGrants (o : Opening) (journal : List Entry) (granted : List (Option ℕ)) : Type 0 where
-  pub ports : length granted ≡ o.table.ports
-  pub flow : (ingress : ℕ) → ingress < o.table.ports →
-      slice_index_or granted ingress None ≡ flow_granted o journal ingress
 
 -- The driver has no turn, and no session came back yet. Each entry that it has seen is its own or of a session that it
 -- made. The journal at the end of its last turn begins the longest that it has seen, with no entry of its own behind

@@ -1,7 +1,7 @@
 -- What the driver and sessions are after they told each other what they have seen.
 use Rattle.std.specs.Prelude.{◌≡◌, ℕ, ◌≤◌, List, [], ◌∷◌, All}
 use Rattle.rank_board.specs.Models.{SeatModel}
-use Rattle.client_session.specs.Desk.{KeepsLooks}
+use Rattle.master_desk.specs.Desk.{KeepsLooks}
 use Rattle.client_session.specs.Models.{DriverModel, SessionModel}
 
 -- the session has seen a journal at least as long and a version at least as new, and may have loaded further words;
@@ -41,8 +41,8 @@ pub record IsLevel (driver new_driver : DriverModel) (sessions new_sessions : Li
 
 -- The driver and a session met, and with it the seat that hears the versions. Both have seen the longer of their
 -- journals, and the session a version that is not below one that the seat has seen.
-pub record IsMetByOne (driver new_driver : DriverModel) (heard new_heard : SeatModel) (session new_session : SessionModel)
-    : Type 0 where
+pub record IsMetByOne (driver new_driver : DriverModel) (heard new_heard : SeatModel)
+    (session new_session : SessionModel) : Type 0 where
   pub driver_is : new_driver ≡ record driver { position = new_driver.position }
   pub board : new_heard.table ≡ heard.table
   pub raised : IsRaised session new_session

@@ -1,7 +1,4 @@
-pub mod Own
-pub mod Answers
 pub mod Models
-pub mod Desk
 pub mod Turns
 pub mod Drivers
 pub mod Halls

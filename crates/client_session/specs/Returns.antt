@@ -7,11 +7,11 @@ use Rattle.rank_board.specs.Models.{SeatModel}
 use Rattle.rank_board.specs.declared.pulls.Pull.{Pull}
 use Rattle.turnstile.specs.declared.view.Returned.{Returned}
 use Rattle.turnstile.specs.Models.{RootModel, SeatModel as TurnSeatModel}
-use Rattle.client_session.specs.declared.desk.Setting.{Setting}
-use Rattle.client_session.specs.Desk.{IsRanked}
+use Rattle.master_desk.specs.declared.desk.Setting.{Setting}
+use Rattle.master_desk.specs.Desk.{IsRanked}
 use Rattle.client_session.specs.Drivers.{GrownByOthers}
 use Rattle.client_session.specs.Models.{DriverModel, SessionModel}
-use Rattle.client_session.specs.Own.{IsPass, own_entries}
+use Rattle.master_desk.specs.Own.{IsPass, own_entries}
 
 -- what a session keeps of its noted pulls: they stand between its entries, and are of coflows of the table
 pub record KeepsNotes (s : SessionModel) : Type 0 where

@@ -7,11 +7,11 @@ ghost use Rattle.client_session.specs.Drivers.{who_of};
 ghost use Rattle.client_session.specs.Models.{IsDriverOf, IsSessionOf, SessionModel};
 ghost use Rattle.client_session.specs.Returns.{AreReturned, WasMet};
 
-use crate::desk::Desk;
 use crate::driver::Driver;
 use crate::hall::Hall;
 use crate::session::Session;
 use master_core::Master;
+use master_desk::Desk;
 use rank_board::{RankBoard, RankSeat};
 use std::alloc::Global;
 use std::marker::Model;

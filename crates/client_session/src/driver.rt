@@ -3,17 +3,17 @@ ghost use Rattle.std.specs.Prelude.{◌≡◌, ℕ, ◌+◌, ◌-◌, ◌<◌, �
 ghost use Rattle.journal.specs.Answer.{IsInRange};
 ghost use Rattle.journal.specs.declared.command.Command.TheVariants.{Close, Open, Publish, Register, Short, Skip, Withdraw};
 ghost use Rattle.turnstile.specs.Histories.{AddsAtMostOne, NoneAbove};
-ghost use Rattle.client_session.specs.declared.desk.Setting.{Setting};
-ghost use Rattle.client_session.specs.Desk.{IsSeen};
+ghost use Rattle.master_desk.specs.declared.desk.Setting.{Setting};
+ghost use Rattle.master_desk.specs.Desk.{IsSeen};
 ghost use Rattle.client_session.specs.Models.{IsDriverOf};
-ghost use Rattle.client_session.specs.Drivers.{flow_granted, HandsOut, IsDriverTurn, TellsGrants, who_of};
+ghost use Rattle.master_desk.specs.Grants.{flow_granted, TellsGrants};
+ghost use Rattle.client_session.specs.Drivers.{HandsOut, IsDriverTurn, who_of};
 ghost use Rattle.client_session.specs.Returns.{IsRootOf};
 
-use crate::desk::Desk;
 use crate::hall::Hall;
-use crate::receipt::{Answer, is_version};
 use coflow_units::Place;
 use journal::{Command, Reply};
+use master_desk::{Answer, Desk, is_version};
 use rank_board::RankSeat;
 use std::marker::Model;
 use std::sync::Wait;

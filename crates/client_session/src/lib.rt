@@ -2,16 +2,14 @@
 #![tactic(auto)]
 
 mod close;
-mod desk;
 mod driver;
 mod hall;
-mod receipt;
 mod session;
 
 pub use close::{CloseFault, Closing};
 pub use driver::Driver;
 pub use hall::Hall;
 pub use journal::{Command, Entry, Opening, Reply};
+pub use master_desk::{Answer, Receipt};
 pub use rank_board::Pulled;
-pub use receipt::{Answer, Receipt};
 pub use session::Session;

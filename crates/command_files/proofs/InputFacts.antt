@@ -32,6 +32,11 @@ given_before : (old mid : Option Told) (file : Option (List ℕ)) (coflows : Lis
     IfSome mid (λ t. GiveWeights (bytes_if t file) coflows weights) → IfSome old (λ t. GiveWeights (bytes_if t file) coflows weights)
 given_before old mid file coflows weights keeps h = told_before old mid file (λ b. GiveWeights b coflows weights) keeps h
 
+-- a file gives one list of weights
+pub weights_one : (file : Option (List ℕ)) (coflows : List CoflowLine) (a b : List ℕ) → GiveWeights file coflows a → GiveWeights file coflows b → a ≡ b
+weights_one None coflows a b x y = x ∙ sym y
+weights_one (Some text) coflows a b (short, passes, x) (low, good, y) = x ∙ sym y
+
 -- what was read of a trace
 abbrev pub ReadAs : List ℕ → Trace → Told → Type 0
 ReadAs name trace t = IsTraceText (bytes_of t name) × (trace ≡ trace_of (bytes_of t name))

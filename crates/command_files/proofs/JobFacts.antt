@@ -3,7 +3,6 @@ use Rattle.std.proofs.Common.{◌≡◌, ◌<◌, ℕ, List, Option, arith}
 use Rattle.command_words.specs.Jobs.{Job, trace_name}
 use Rattle.command_words.specs.Jobs.Job.{audit_job, check_job, classes_job, compare_job, live_job, make_job, online_job, plan_job}
 use Rattle.command_words.specs.Words.{Said}
-use Rattle.live_text.specs.Reading.{IsBadAt}
 use Rattle.outside.specs.Shelf.{Told}
 use Rattle.verdicts.proofs.OneReport.{any_line_one}
 use Rattle.command_files.specs.declared.status.Status.{Status}
@@ -19,9 +18,6 @@ from_input before now old new said s h = input_cause (IsBadFor said.job) before 
 
 -- ---- a text that is bad is bad at one line
 
-journal_not_before : (bytes : List ℕ) (m n : ℕ) → IsBadAt bytes m → IsBadAt bytes n → m < n → ⊥
-journal_not_before bytes m n at_m at_n less = at_m.here (at_n.before m less)
-
 pub bad_line_one : (k : Job) (bytes : List ℕ) (m n : ℕ) → IsBadFor k bytes m → IsBadFor k bytes n → m ≡ n
 bad_line_one (plan_job trace) bytes m n x y = any_line_one bytes m n x y
 bad_line_one (check_job trace report) bytes m n x y = any_line_one bytes m n x y
@@ -30,4 +26,7 @@ bad_line_one (compare_job trace) bytes m n x y = any_line_one bytes m n x y
 bad_line_one (classes_job trace) bytes m n x y = any_line_one bytes m n x y
 bad_line_one (online_job trace) bytes m n x y = any_line_one bytes m n x y
 bad_line_one (live_job trace script) bytes m n x y = any_line_one bytes m n x y
-bad_line_one (audit_job trace journal) bytes m n x y = grind (arith, journal_not_before bytes m n x y, journal_not_before bytes n m y x)
+bad_line_one (audit_job trace journal) bytes m n x y =
+    let not_less : (m < n → ⊥) = λ less. x.here (y.before m less) in
+    let not_more : (n < m → ⊥) = λ less. y.here (x.before n less) in
+    grind (arith, not_less, not_more)

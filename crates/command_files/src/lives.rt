@@ -41,8 +41,8 @@ pub fn read_live_files<'a, H: Shelf>(
 ) -> Result<LiveInput, Status>
     requires some { 1 ≤ options.unit }
     requires unit_limit { options.unit ≤ MAX_UNIT }
-    ensures input { IfOk result (λ l. IsInput (H.told shelf.old) trace.now (option_map (λ s. s.now) options.entry.weights)
-        options.entry.unit l.input.table l.input.weights) }
+    ensures input { IfOk result (λ l. IsInput (H.told shelf.old) trace.now
+        (option_map (λ s. s.now) options.entry.weights) options.entry.unit l.input.table l.input.weights) }
     ensures shared { IfOk result (λ l. IsShared l.input.table) }
     ensures script { IfOk result (λ l. IsScriptOf (H.told shelf.old) script.now l.input.table.ids l.script) }
     ensures read_out { OnOk result (OfBoth (H.told shelf.old) (H.told shelf.new)

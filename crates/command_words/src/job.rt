@@ -29,44 +29,36 @@ pub enum Job<'a> {
 pub(crate) fn job_of<'a>(name: &str, first: &'a str, second: Option<&'a str>) -> Option<Job<'a>>
     ensures { option_map job_by result ≡ job_of name.now first.now (option_map (λ s. s.now) second.entry) }
 {
-    match name {
-        "plan" => {
-            let trace = file_alone(first, second)?;
-            Some(Job::Plan { trace })
-        }
-        "check" => {
-            let trace = file_of(first)?;
-            let report = file_of(second?)?;
-            Some(Job::Check { trace, report })
-        }
-        "make" => {
-            let seed = seed_alone(first, second)?;
-            Some(Job::Make { seed })
-        }
-        "compare" => {
-            let trace = file_alone(first, second)?;
-            Some(Job::Compare { trace })
-        }
-        "classes" => {
-            let trace = file_alone(first, second)?;
-            Some(Job::Classes { trace })
-        }
-        "audit" => {
-            let trace = file_of(first)?;
-            let journal = file_of(second?)?;
-            Some(Job::Audit { trace, journal })
-        }
-        "online" => {
-            let trace = file_alone(first, second)?;
-            Some(Job::Online { trace })
-        }
-        "live" => {
-            let trace = file_of(first)?;
-            let script = file_of(second?)?;
-            Some(Job::Live { trace, script })
-        }
-        _ => None,
-    }
+    Some(match name {
+        "plan" => Job::Plan {
+            trace: file_alone(first, second)?,
+        },
+        "check" => Job::Check {
+            trace: file_of(first)?,
+            report: file_of(second?)?,
+        },
+        "make" => Job::Make {
+            seed: seed_alone(first, second)?,
+        },
+        "compare" => Job::Compare {
+            trace: file_alone(first, second)?,
+        },
+        "classes" => Job::Classes {
+            trace: file_alone(first, second)?,
+        },
+        "audit" => Job::Audit {
+            trace: file_of(first)?,
+            journal: file_of(second?)?,
+        },
+        "online" => Job::Online {
+            trace: file_alone(first, second)?,
+        },
+        "live" => Job::Live {
+            trace: file_of(first)?,
+            script: file_of(second?)?,
+        },
+        _ => return None,
+    })
 }
 
 /// The first word as the name of a file, where there is no second one.

@@ -1,5 +1,5 @@
 //! How the hall of a game is closed.
-ghost use Rattle.std.specs.Prelude.{All, IfOk};
+ghost use Rattle.std.specs.Prelude.{◌≡◌, All, IfOk};
 ghost use Rattle.client_session.specs.Models.{IsDriverOf, IsSessionOf};
 
 use client_session::{CloseFault, Driver, Hall, Session};
@@ -29,6 +29,7 @@ pub fn closed(
 ) -> Result<Master, Stop>
     requires driver { IsDriverOf hall driver }
     requires clients { All (λ c. IsSessionOf hall c.session) clients.items }
+    ensures opening { IfOk result (λ master. master.opening ≡ hall.setting.opening) }
 {
     let sessions = sessions_of(alloc, &hall, clients)?;
     match hall.close(alloc, driver, sessions) {

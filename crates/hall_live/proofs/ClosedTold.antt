@@ -24,8 +24,8 @@ use Rattle.script_reader.specs.declared.script.ScriptLine.{ScriptLine}
 use Rattle.client_session.specs.Closes.{HasEnded, IsClosed}
 use Rattle.client_session.specs.Drivers.{who_of}
 use Rattle.client_session.specs.Models.{DriverModel, HallModel, SessionModel}
-use Rattle.client_session.specs.Own.{own_entries, OwnEntry}
-use Rattle.client_session.proofs.OwnSteps.{own_above}
+use Rattle.master_desk.specs.Own.{own_entries, OwnEntry}
+use Rattle.master_desk.proofs.OwnSteps.{own_above}
 use Rattle.live_model.specs.Clause.{CarriesOut, Course}
 use Rattle.live_model.specs.Deeds.{Deed}
 use Rattle.live_model.specs.Levels.{AreLevelled, AreSessions, IsSpellBetween, Levels}

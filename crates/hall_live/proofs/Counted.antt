@@ -23,10 +23,10 @@ use Rattle.turnstile.specs.Histories.{NoneAbove}
 use Rattle.script_reader.specs.declared.script.Script.{Script}
 use Rattle.script_reader.specs.declared.script.ScriptLine.{ScriptLine}
 use Rattle.client_session.specs.Closes.{HasEnded, IsClosed}
-use Rattle.client_session.specs.Desk.{IsSeen}
+use Rattle.master_desk.specs.Desk.{IsSeen}
 use Rattle.client_session.specs.Drivers.{who_of}
 use Rattle.client_session.specs.Models.{DriverModel, HallModel, SessionModel}
-use Rattle.client_session.specs.Own.{own_entries, OwnEntry}
+use Rattle.master_desk.specs.Own.{own_entries, OwnEntry}
 use Rattle.live_model.specs.Deeds.{entries_by, numbered}
 use Rattle.live_model.specs.Rounds.{closing_entries, FitsAnswer, Spell, spell_entries}
 use Rattle.live_model.specs.Script.{limit_of, lines_by, lines_of}

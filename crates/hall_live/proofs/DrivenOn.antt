@@ -8,10 +8,10 @@ use Rattle.journal.specs.declared.command.Reply.TheVariants.{NothingLeft}
 use Rattle.journal.specs.declared.opening.Opening.{Opening}
 use Rattle.journal.specs.Driven.{closed_in, closing, Drive, is_other, IsSentWhole, opened_in, opening}
 use Rattle.journal.specs.Journal.{entry}
-use Rattle.client_session.specs.Desk.{DrivenByRoot}
+use Rattle.master_desk.specs.Desk.{DrivenByRoot}
 use Rattle.client_session.specs.Drivers.{IsDrivenOn}
 use Rattle.client_session.specs.Models.{DriverModel}
-use Rattle.client_session.specs.declared.receipt.Receipt.{Receipt}
+use Rattle.master_desk.specs.declared.receipt.Receipt.{Receipt}
 use Rattle.slot_runner.specs.Models.{RunnerModel}
 use Rattle.slot_runner.specs.Slots.{HasRun, IsAnswered}
 use Rattle.slot_runner.proofs.Turns.{others_are_other}

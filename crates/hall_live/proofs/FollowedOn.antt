@@ -1,32 +1,22 @@
 -- What the clients carried out, with one round more.
-use Rattle.std.proofs.Common.{◌≡◌, ◌≢◌, ℕ, ◌+◌, ◌<◌, ◌≤◌, ◌==◌, ◌⊎◌, inl, inr, Bool, true, false, cond, List, [], ◌∷◌, ◌++◌, length, length-append, map, flat_map, filter}
-use Rattle.std.proofs.Common.{get_or, refl, sym, ap, subst, ◌∙◌, arith, append-nil, append_assoc, Option, Some, None, true≢false}
-use Rattle.std.specs.Prelude.{All, if◌then◌else◌, nat_lt}
-use Rattle.std.proofs.lemmas.Bool.{cases_lt, eq-eqb, eqb-true, le-ltb, lt-ltb, ne_eqb}
-use Rattle.std.proofs.lemmas.List.{map-append}
-use Rattle.std.proofs.lemmas.List.Elements.{All-append, All-cons, All-head, All-nil, All-tail, All-weaker, filter-append}
+use Rattle.std.proofs.Common.{◌≡◌, ◌≢◌, ℕ, ◌+◌, ◌<◌, ◌≤◌, ◌==◌, ◌⊎◌, Bool, true, false, List, [], ◌∷◌, ◌++◌, length, length-append, map}
+use Rattle.std.proofs.Common.{refl, sym, ap, subst, ◌∙◌, arith, append-nil, Option, Some, None, true≢false}
+use Rattle.std.specs.Prelude.{All, if◌then◌else◌}
+use Rattle.std.proofs.lemmas.List.Elements.{All-append, All-cons, All-head, All-nil, All-tail, All-weaker}
 use Rattle.journal.specs.declared.opening.Opening.{Opening}
 use Rattle.script_reader.specs.declared.script.Round.{Round}
 use Rattle.script_reader.specs.declared.script.ScriptLine.{ScriptLine}
-use Rattle.client_session.specs.Levels.{AreRaised, IsLevel, IsRaised}
-use Rattle.client_session.specs.Models.{DriverModel, SessionModel}
-use Rattle.client_session.specs.Own.{OwnEntry}
-use Rattle.live_model.specs.Levels.{IsSpellBetween, Levels}
-use Rattle.live_model.specs.Rounds.{Spell}
-use Rattle.live_model.specs.Script.{is_pull, lines_from, slot_rounds_from}
-use Rattle.live_rounds.specs.declared.answer.PullDone.{PullDone}
-use Rattle.live_rounds.specs.Acts.{Act, entries_in, HasActed, IsOver, pull_done, pulls_in}
+use Rattle.client_session.specs.Levels.{AreRaised, IsRaised}
+use Rattle.client_session.specs.Models.{SessionModel}
+use Rattle.live_model.specs.Levels.{Levels}
+use Rattle.live_rounds.specs.Acts.{Act, entries_in, HasActed}
 use Rattle.live_rounds.specs.Parts.{lines_for}
-use Rattle.live_rounds.specs.Rounds.{ArePlayed, IsPlayed, IsRoundDone, Played}
+use Rattle.live_rounds.specs.Rounds.{ArePlayed, IsPlayed, Played}
 use Rattle.live_rounds.specs.Stops.{Ends, first_stop}
-use Rattle.live_rounds.proofs.Acting.{acted_none, acted_on, stays}
-use Rattle.live_course.specs.Drivers.{AreOpenings}
-use Rattle.live_course.specs.Told.{acts_of, ForEntry, IsRoundBetween, LiesBetween, lines_of}
+use Rattle.live_rounds.proofs.Acting.{acted_on}
+use Rattle.live_course.specs.Told.{acts_of, IsRoundBetween}
 use Rattle.live_course.proofs.ActsTold.{raised_acted, round_lies_between}
-use Rattle.live_course.proofs.DriversTold.{none_opened}
-use Rattle.hall_live.specs.Driven.{HasDriven, StandsAfter}
-use Rattle.hall_live.specs.Followed.{AreBegun, AreFollowed, IsFollowed, lines_in, pulls_for, told_from}
-use Rattle.hall_live.specs.Rounds.{AreLevelAt, AreRoundsDone}
+use Rattle.hall_live.specs.Followed.{AreFollowed, IsFollowed, told_from}
 use Rattle.hall_live.proofs.LevelsOn.{acts_more, all_told, cut_high, cut_low, IsDoneBy, levels_on, Lies, lines_in_more, lines_told, numbered, still_between, told_in}
 
 -- ---- one session
@@ -93,7 +83,8 @@ none_head : {T : Type 0} (F : List (Option T) → Option T) → ((t : T) (ts : L
 none_head F some none None stops e = (refl, sym (none stops) ∙ e)
 none_head F some none (Some t) stops e = absurd (true≢false (ap is_there (sym (some t stops) ∙ e)))
 
-pub none_first : (p : Played) (ps : List Played) → first_stop (map (λ (q : Played). q.stop) (p ∷ ps)) ≡ None → (p.stop ≡ None) × (first_stop (map (λ (q : Played). q.stop) ps) ≡ None)
+pub none_first : (p : Played) (ps : List Played) → first_stop (map (λ (q : Played). q.stop) (p ∷ ps)) ≡ None →
+    (p.stop ≡ None) × (first_stop (map (λ (q : Played). q.stop) ps) ≡ None)
 none_first p ps e = none_head first_stop (λ t ts. refl) (λ ts. refl) p.stop (map (λ (q : Played). q.stop) ps) e
 
 -- what the client of a number did in the round, where clients count from this one

@@ -1,32 +1,20 @@
 -- Levels, and the lines of rounds, with one round more.
-use Rattle.std.proofs.Common.{◌≡◌, ◌≢◌, ℕ, ◌+◌, ◌<◌, ◌≤◌, ◌==◌, ◌⊎◌, inl, inr, Bool, true, false, cond, List, [], ◌∷◌, ◌++◌, length, length-append, map, flat_map, filter}
-use Rattle.std.proofs.Common.{get_or, refl, sym, ap, subst, ◌∙◌, arith, append-nil, append_assoc, Option, Some, None, true≢false}
+use Rattle.std.proofs.Common.{◌≡◌, ◌≢◌, ℕ, ◌+◌, ◌<◌, ◌≤◌, ◌==◌, ◌⊎◌, inl, inr, Bool, true, false, cond, List, [], ◌∷◌, ◌++◌, length, map, filter}
+use Rattle.std.proofs.Common.{get_or, refl, sym, ap, subst, ◌∙◌, arith, append-nil, append_assoc}
 use Rattle.std.specs.Prelude.{All, if◌then◌else◌, nat_lt}
-use Rattle.std.proofs.lemmas.Bool.{cases_lt, eq-eqb, eqb-true, le-ltb, lt-ltb, ne_eqb}
+use Rattle.std.proofs.lemmas.Bool.{cases_lt, le-ltb, lt-ltb}
 use Rattle.std.proofs.lemmas.List.{map-append}
-use Rattle.std.proofs.lemmas.List.Elements.{All-append, All-cons, All-head, All-nil, All-tail, All-weaker, filter-append}
-use Rattle.journal.specs.declared.opening.Opening.{Opening}
+use Rattle.std.proofs.lemmas.List.Elements.{All-cons, All-head, All-nil, All-tail, filter-append}
 use Rattle.script_reader.specs.declared.script.Round.{Round}
 use Rattle.script_reader.specs.declared.script.ScriptLine.{ScriptLine}
-use Rattle.client_session.specs.Levels.{AreRaised, IsLevel, IsRaised}
-use Rattle.client_session.specs.Models.{DriverModel, SessionModel}
-use Rattle.client_session.specs.Own.{OwnEntry}
-use Rattle.live_model.specs.Levels.{IsSpellBetween, Levels}
-use Rattle.live_model.specs.Rounds.{Spell}
-use Rattle.live_model.specs.Script.{is_pull, lines_from, slot_rounds_from}
-use Rattle.live_rounds.specs.declared.answer.PullDone.{PullDone}
-use Rattle.live_rounds.specs.Acts.{Act, entries_in, HasActed, IsOver, pull_done, pulls_in}
+use Rattle.client_session.specs.Models.{SessionModel}
+use Rattle.master_desk.specs.Own.{OwnEntry}
+use Rattle.live_model.specs.Levels.{Levels}
+use Rattle.live_model.specs.Script.{lines_from, slot_rounds_from}
+use Rattle.live_rounds.specs.Acts.{Act, IsOver}
 use Rattle.live_rounds.specs.Parts.{lines_for}
-use Rattle.live_rounds.specs.Rounds.{ArePlayed, IsPlayed, IsRoundDone, Played}
-use Rattle.live_rounds.specs.Stops.{Ends, first_stop}
-use Rattle.live_rounds.proofs.Acting.{acted_none, acted_on, stays}
-use Rattle.live_course.specs.Drivers.{AreOpenings}
-use Rattle.live_course.specs.Told.{acts_of, ForEntry, IsRoundBetween, LiesBetween, lines_of}
-use Rattle.live_course.proofs.ActsTold.{raised_acted, round_lies_between}
-use Rattle.live_course.proofs.DriversTold.{none_opened}
-use Rattle.hall_live.specs.Driven.{HasDriven, StandsAfter}
-use Rattle.hall_live.specs.Followed.{AreBegun, AreFollowed, IsFollowed, lines_in, pulls_for, told_from}
-use Rattle.hall_live.specs.Rounds.{AreLevelAt, AreRoundsDone}
+use Rattle.live_course.specs.Told.{acts_of, ForEntry, LiesBetween, lines_of}
+use Rattle.hall_live.specs.Followed.{lines_in}
 
 -- ---- levels go on
 
@@ -110,7 +98,8 @@ numbered_for n client (l ∷ ls) = go (l.client == client) (numbered_for n clien
     go true e = ap (λ l'. (n, l) ∷ l') e
     go false e = e
 
-pub lines_in_more : (rounds : List Round) (r : Round) (client : ℕ) → lines_in (rounds ++ r ∷ []) client ≡ lines_in rounds client ++ numbered (length rounds) (lines_for client r.lines)
+pub lines_in_more : (rounds : List Round) (r : Round) (client : ℕ) →
+    lines_in (rounds ++ r ∷ []) client ≡ lines_in rounds client ++ numbered (length rounds) (lines_for client r.lines)
 lines_in_more rounds r client =
     let p = λ (x : ℕ × ScriptLine). x.1.client == client in
     let e : 0 + length rounds ≡ length rounds = omega arith in

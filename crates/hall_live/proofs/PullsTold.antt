@@ -14,7 +14,7 @@ use Rattle.script_reader.specs.declared.script.Asked.{Asked}
 use Rattle.script_reader.specs.declared.script.Asked.TheVariants.{Pull, Publish, Register, Reweigh, Withdraw}
 use Rattle.script_reader.specs.declared.script.Script.{Script}
 use Rattle.client_session.specs.Closes.{IsTrueNote, StandsAt}
-use Rattle.client_session.specs.Own.{OwnEntry}
+use Rattle.master_desk.specs.Own.{OwnEntry}
 use Rattle.live_model.specs.Deeds.{Deed}
 use Rattle.live_model.specs.Levels.{Levels}
 use Rattle.live_model.specs.Printed.{told_pull, told_pulls}

@@ -1,32 +1,21 @@
 -- The pulls of one round more.
-use Rattle.std.proofs.Common.{◌≡◌, ◌≢◌, ℕ, ◌+◌, ◌<◌, ◌≤◌, ◌==◌, ◌⊎◌, inl, inr, Bool, true, false, cond, List, [], ◌∷◌, ◌++◌, length, length-append, map, flat_map, filter}
-use Rattle.std.proofs.Common.{get_or, refl, sym, ap, subst, ◌∙◌, arith, append-nil, append_assoc, Option, Some, None, true≢false}
-use Rattle.std.specs.Prelude.{All, if◌then◌else◌, nat_lt}
-use Rattle.std.proofs.lemmas.Bool.{cases_lt, eq-eqb, eqb-true, le-ltb, lt-ltb, ne_eqb}
-use Rattle.std.proofs.lemmas.List.{map-append}
-use Rattle.std.proofs.lemmas.List.Elements.{All-append, All-cons, All-head, All-nil, All-tail, All-weaker, filter-append}
+use Rattle.std.proofs.Common.{◌≡◌, ◌≢◌, ℕ, ◌+◌, ◌<◌, ◌≤◌, ◌==◌, ◌⊎◌, inl, inr, Bool, true, false, cond, List, [], ◌∷◌, ◌++◌, map, flat_map, filter}
+use Rattle.std.proofs.Common.{refl, sym, ap, subst, ◌∙◌, arith, append-nil, None}
+use Rattle.std.specs.Prelude.{All, if◌then◌else◌}
+use Rattle.std.proofs.lemmas.Bool.{cases_lt, eq-eqb, eqb-true, ne_eqb}
+use Rattle.std.proofs.lemmas.List.Elements.{All-cons, All-head, All-nil, All-tail, filter-append}
 use Rattle.journal.specs.declared.opening.Opening.{Opening}
-use Rattle.script_reader.specs.declared.script.Round.{Round}
 use Rattle.script_reader.specs.declared.script.ScriptLine.{ScriptLine}
-use Rattle.client_session.specs.Levels.{AreRaised, IsLevel, IsRaised}
-use Rattle.client_session.specs.Models.{DriverModel, SessionModel}
-use Rattle.client_session.specs.Own.{OwnEntry}
-use Rattle.live_model.specs.Levels.{IsSpellBetween, Levels}
-use Rattle.live_model.specs.Rounds.{Spell}
-use Rattle.live_model.specs.Script.{is_pull, lines_from, slot_rounds_from}
+use Rattle.client_session.specs.Models.{SessionModel}
+use Rattle.live_model.specs.Script.{is_pull}
 use Rattle.live_rounds.specs.declared.answer.PullDone.{PullDone}
-use Rattle.live_rounds.specs.Acts.{Act, entries_in, HasActed, IsOver, pull_done, pulls_in}
+use Rattle.live_rounds.specs.Acts.{Act, pull_done, pulls_in}
 use Rattle.live_rounds.specs.Parts.{lines_for}
-use Rattle.live_rounds.specs.Rounds.{ArePlayed, IsPlayed, IsRoundDone, Played}
-use Rattle.live_rounds.specs.Stops.{Ends, first_stop}
-use Rattle.live_rounds.proofs.Acting.{acted_none, acted_on, stays}
-use Rattle.live_course.specs.Drivers.{AreOpenings}
-use Rattle.live_course.specs.Told.{acts_of, ForEntry, IsRoundBetween, LiesBetween, lines_of}
-use Rattle.live_course.proofs.ActsTold.{raised_acted, round_lies_between}
-use Rattle.live_course.proofs.DriversTold.{none_opened}
-use Rattle.hall_live.specs.Driven.{HasDriven, StandsAfter}
-use Rattle.hall_live.specs.Followed.{AreBegun, AreFollowed, IsFollowed, lines_in, pulls_for, told_from}
-use Rattle.hall_live.specs.Rounds.{AreLevelAt, AreRoundsDone}
+use Rattle.live_rounds.specs.Rounds.{ArePlayed, IsPlayed, Played}
+use Rattle.live_rounds.specs.Stops.{first_stop}
+use Rattle.live_rounds.proofs.Steps.{pulls_append}
+use Rattle.live_course.specs.Told.{acts_of}
+use Rattle.hall_live.specs.Followed.{pulls_for, told_from}
 use Rattle.hall_live.proofs.LevelsOn.{acts_more, told_in}
 use Rattle.hall_live.proofs.FollowedOn.{acts_from, ends_whole, none_first}
 
@@ -119,11 +108,6 @@ round_pulls o lines client k (s ∷ ss) (m ∷ ms) (p ∷ ps) each going =
       | inr other ↦
           (λ i. other_pulls client k p.acts other own i ++ again i) ∙ ap (λ b. pulls_in (if b then p.acts else acts_from (client + 1) ps k)) (sym (ne_eqb client k other))
     ]
-
-pulls_append : (xs ys : List Act) → pulls_in (xs ++ ys) ≡ pulls_in xs ++ pulls_in ys
-pulls_append xs ys =
-    ap (map pull_done) (filter-append (λ (a : Act). is_pull a.line.asked) xs ys)
-    ∙ map-append pull_done (filter (λ (a : Act). is_pull a.line.asked) xs) (filter (λ (a : Act). is_pull a.line.asked) ys)
 
 pub told_on : (told next : List (List (ℕ × Act))) (played : List Played) (pulls more : List PullDone) (n k : ℕ) → pulls_for k pulls ≡ pulls_in (acts_of (told_from 1 told k)) →
     told_from 1 next k ≡ told_from 1 told k ++ told_in n (acts_from 1 played k) → pulls_for k more ≡ pulls_in (acts_from 1 played k) →

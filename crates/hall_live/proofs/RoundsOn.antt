@@ -1,31 +1,26 @@
 -- One round more.
-use Rattle.std.proofs.Common.{◌≡◌, ◌≢◌, ℕ, ◌+◌, ◌<◌, ◌≤◌, ◌==◌, ◌⊎◌, inl, inr, Bool, true, false, cond, List, [], ◌∷◌, ◌++◌, length, length-append, map, flat_map, filter}
-use Rattle.std.proofs.Common.{get_or, refl, sym, ap, subst, ◌∙◌, arith, append-nil, append_assoc, Option, Some, None, true≢false}
-use Rattle.std.specs.Prelude.{All, if◌then◌else◌, nat_lt}
-use Rattle.std.proofs.lemmas.Bool.{cases_lt, eq-eqb, eqb-true, le-ltb, lt-ltb, ne_eqb}
+use Rattle.std.proofs.Common.{◌≡◌, ◌≢◌, ℕ, ◌+◌, ◌<◌, ◌≤◌, ◌==◌, ◌⊎◌, Bool, true, false, List, [], ◌∷◌, ◌++◌, length, length-append}
+use Rattle.std.proofs.Common.{get_or, refl, sym, ap, subst, ◌∙◌, arith}
+use Rattle.std.specs.Prelude.{All, if◌then◌else◌}
 use Rattle.std.proofs.lemmas.List.{map-append}
-use Rattle.std.proofs.lemmas.List.Elements.{All-append, All-cons, All-head, All-nil, All-tail, All-weaker, filter-append}
+use Rattle.std.proofs.lemmas.List.Elements.{All-append, All-cons, All-nil, All-weaker}
 use Rattle.journal.specs.declared.opening.Opening.{Opening}
 use Rattle.script_reader.specs.declared.script.Round.{Round}
-use Rattle.script_reader.specs.declared.script.ScriptLine.{ScriptLine}
-use Rattle.client_session.specs.Levels.{AreRaised, IsLevel, IsRaised}
+use Rattle.client_session.specs.Levels.{IsLevel}
 use Rattle.client_session.specs.Models.{DriverModel, SessionModel}
-use Rattle.client_session.specs.Own.{OwnEntry}
+use Rattle.master_desk.specs.Own.{OwnEntry}
 use Rattle.live_model.specs.Levels.{IsSpellBetween, Levels}
 use Rattle.live_model.specs.Rounds.{Spell}
-use Rattle.live_model.specs.Script.{is_pull, lines_from, slot_rounds_from}
+use Rattle.live_model.specs.Script.{slot_rounds_from}
 use Rattle.live_rounds.specs.declared.answer.PullDone.{PullDone}
-use Rattle.live_rounds.specs.Acts.{Act, entries_in, HasActed, IsOver, pull_done, pulls_in}
-use Rattle.live_rounds.specs.Parts.{lines_for}
-use Rattle.live_rounds.specs.Rounds.{ArePlayed, IsPlayed, IsRoundDone, Played}
-use Rattle.live_rounds.specs.Stops.{Ends, first_stop}
-use Rattle.live_rounds.proofs.Acting.{acted_none, acted_on, stays}
+use Rattle.live_rounds.specs.Acts.{Act, pulls_in}
+use Rattle.live_rounds.specs.Rounds.{IsRoundDone}
+use Rattle.live_rounds.proofs.Acting.{acted_none, stays}
 use Rattle.live_course.specs.Drivers.{AreOpenings}
-use Rattle.live_course.specs.Told.{acts_of, ForEntry, IsRoundBetween, LiesBetween, lines_of}
-use Rattle.live_course.proofs.ActsTold.{raised_acted, round_lies_between}
+use Rattle.live_course.specs.Told.{acts_of}
 use Rattle.live_course.proofs.DriversTold.{none_opened}
 use Rattle.hall_live.specs.Driven.{HasDriven, StandsAfter}
-use Rattle.hall_live.specs.Followed.{AreBegun, AreFollowed, IsFollowed, lines_in, pulls_for, told_from}
+use Rattle.hall_live.specs.Followed.{AreBegun, AreFollowed, pulls_for, told_from}
 use Rattle.hall_live.specs.Rounds.{AreLevelAt, AreRoundsDone}
 use Rattle.hall_live.proofs.LevelsOn.{cut, cut_high, cut_low, cut_rises, greatest, greatest_is_over, greatest_over, greatest_within, IsDoneBy, levels_on, Lies, slots_more}
 use Rattle.hall_live.proofs.FollowedOn.{all_followed, HasSeen, IsHigh, IsLow, seen_on}

@@ -19,7 +19,8 @@ use Rattle.journal.specs.declared.opening.Opening.{Opening}
 use Rattle.journal.specs.Closed.{schedule_of, wire_of}
 use Rattle.journal.specs.Fold.{state_of}
 use Rattle.journal.specs.State.{IsOpening, owed}
-use Rattle.client_session.specs.Desk.{IsSeen}
+use Rattle.master_desk.specs.Desk.{IsSeen}
+use Rattle.master_desk.proofs.Agreement.{nothing_seen}
 use Rattle.client_session.specs.Halls.{IsFirstDriver}
 use Rattle.client_session.specs.Models.{DriverModel, HallModel}
 use Rattle.slot_runner.specs.Models.{first_runner, RunnerModel}
@@ -42,9 +43,6 @@ abbrev opening : TableFacts → List ℕ → ℕ → Opening
 opening t weights limit = record { table = t; weights = weights; limit = limit }
 
 -- ---- the hall
-
-nothing_seen : (o : Opening) → IsSeen o []
-nothing_seen o = record { legal = tt; in_range = λ k d lt. absurd (omega (arith, lt)); driven = λ k d lt. absurd (omega (arith, lt)) }
 
 pub first_ready : (hall : HallModel) (driver : DriverModel) (ports : ℕ) → IsFirstDriver hall (2 ^ 40) driver → IsOpening hall.setting.opening → HasRoom hall.setting.opening →
     ports ≡ hall.setting.opening.table.ports → IsReady hall (first_runner driver ports)

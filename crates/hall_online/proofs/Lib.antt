@@ -1,3 +1,4 @@
+pub mod HandedOn
 pub mod OwnTurns
 pub mod OwnRuns
 pub mod Actions

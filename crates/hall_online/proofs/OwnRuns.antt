@@ -1,9 +1,9 @@
 -- The runs of a driver that is alone: what a slot of the runner makes of its journal and of the wires.
-use Rattle.std.proofs.Common.{◌≡◌, ℕ, ◌+◌, ◌-◌, ◌≤◌, ◌<◌, inl, inr, Bool, true, true≢false, List, [], ◌∷◌, ◌++◌, get_or, length, refl, sym, ap, subst, ◌∙◌, arith, suc}
-use Rattle.std.proofs.Common.{cond, append_assoc, append-nil, replicate}
-use Rattle.std.specs.Prelude.{All, if◌then◌else◌, map, nat_lt, not}
+use Rattle.std.proofs.Common.{◌≡◌, ℕ, ◌+◌, ◌-◌, ◌≤◌, ◌<◌, inl, inr, Bool, true, true≢false, List, [], ◌∷◌, ◌++◌, get_or, length, refl, sym, ap, subst, ◌∙◌, arith}
+use Rattle.std.proofs.Common.{append_assoc, append-nil, replicate}
+use Rattle.std.specs.Prelude.{All, if◌then◌else◌, map, nat_lt}
 use Rattle.std.specs.List.{filter, range_with_len}
-use Rattle.std.proofs.lemmas.Bool.{and_parts, cases_lt, eq-eqb, lt-leb, lt-ltb, ltb-true}
+use Rattle.std.proofs.lemmas.Bool.{cases_lt, lt-leb, lt-ltb}
 use Rattle.std.proofs.lemmas.List.{get_or-append-add, get_or_append_left, get_or_past, get_or-replicate, length-append}
 use Rattle.std.proofs.lemmas.List.Elements.{All-append, All-cons, All-nil}
 use Rattle.std.proofs.lemmas.List.FromFn.{get_or-map-range_with_len, length-map-range_with_len}
@@ -17,8 +17,7 @@ use Rattle.journal.specs.declared.command.Reply.TheVariants.{Closed, Full, NoneO
 use Rattle.journal.specs.declared.opening.Opening.{Opening}
 use Rattle.journal.specs.Answer.{answer, on_run, reply_of}
 use Rattle.journal.specs.Closed.{schedule_of}
-use Rattle.journal.specs.Driven.{closed_in, closing, Drive, driven, driven_slots, driver_entries, is_other, IsSentWhole, opened_in, opening, sent_from}
-use Rattle.journal.specs.Entries.{is_driving}
+use Rattle.journal.specs.Driven.{closed_in, closing, Drive, driven, driven_slots, IsSentWhole, opened_in, opening, sent_from}
 use Rattle.journal.specs.Fold.{state_of}
 use Rattle.journal.specs.Journal.{entry, IsLegal}
 use Rattle.journal.specs.Runs.{granted}
@@ -33,38 +32,10 @@ use Rattle.client_session.specs.Models.{HallModel}
 use Rattle.slot_runner.specs.Models.{MayRun, RunnerModel}
 use Rattle.slot_runner.specs.Slots.{HasRun}
 use Rattle.hall_plan.specs.Plans.{IsPartOf}
+use Rattle.hall_plan.proofs.NobodyElse.{all_back, all_own, no_others, Own, shape}
 use Rattle.hall_online.specs.Halls.{IsReady}
 use Rattle.online_runs.proofs.Shapes.{drive_of, run_entries, run_is_driven}
 use Rattle.online_runs.proofs.Standing.{Fits}
-
--- ---- nobody else has entries
-
-all_back : {X : Type 0} (P : X → Type 0) (xs ys : List X) → All P (xs ++ ys) → All P ys
-all_back P xs ys all k d lt = subst P (get_or-append-add xs ys k d) (all (length xs + k) d (omega (arith, lt, length-append xs ys)))
-
-abbrev Own : Entry → Type 0
-Own e = e.who ≤ 0
-
-no_others : (es : List Entry) → All Own es → All (λ e. is_other e ≡ true) es → es ≡ []
-no_others [] own others = refl
-no_others (e ∷ es) own others =
-    absurd (
-    let some = ltb-true 0 e.who (and_parts (nat_lt 0 e.who) (not (is_driving e.command)) (others 0 e (omega arith))).0 in
-    let none = own 0 e (omega arith) in
-    omega (arith, some, none)
-    )
-
-all_own : (es : List Entry) → All Own es → driver_entries es ≡ es
-all_own [] own = refl
-all_own (e ∷ es) own =
-    let mine : e.who ≡ 0 = let le = own 0 e (omega arith) in omega (arith, le) in
-    ap (λ b. cond b (e ∷ driver_entries es) (driver_entries es)) (eq-eqb e.who 0 mine) ∙ ap (λ l. e ∷ l) (all_own es (λ k d lt. own (suc k) d (omega arith)))
-
-shape : (before earlier between : List Entry) (a b : Entry) → earlier ≡ [] → between ≡ [] → (((before ++ earlier) ++ a ∷ []) ++ between) ++ b ∷ [] ≡ before ++ (a ∷ b ∷ [])
-shape before earlier between a b e m =
-    ap (λ l. (((before ++ l) ++ a ∷ []) ++ between) ++ b ∷ []) e ∙ ap (λ l. (((before ++ []) ++ a ∷ []) ++ l) ++ b ∷ []) m ∙
-    ap (λ l. l ++ b ∷ []) (append-nil ((before ++ []) ++ a ∷ [])) ∙ ap (λ l. (l ++ a ∷ []) ++ b ∷ []) (append-nil before) ∙
-    append_assoc before (a ∷ []) (b ∷ [])
 
 -- ---- one run
 

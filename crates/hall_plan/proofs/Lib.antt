@@ -6,4 +6,5 @@ pub mod WireSteps
 pub mod FirstShort
 pub mod CutRuns
 pub mod PlanTurns
+pub mod NobodyElse
 pub mod PlanSlots

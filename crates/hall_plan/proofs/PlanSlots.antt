@@ -1,11 +1,10 @@
 -- What a slot of the runner comes to in a plan: a driver that is alone goes on by whole runs, until nothing is left.
 use Rattle.std.proofs.Common.{Some, ◌≡◌, ℕ, ◌+◌, ◌-◌, ◌≤◌, ◌<◌, inl, inr, Bool, true, false, true≢false}
-use Rattle.std.proofs.Common.{List, [], ◌∷◌, ◌++◌, Option, length, refl, replicate, sym, ap, subst, ◌∙◌, arith, suc, cond, append_assoc, append-nil}
-use Rattle.std.specs.Prelude.{All, Contains, flat_map, nat_lt, not}
+use Rattle.std.proofs.Common.{List, [], ◌∷◌, ◌++◌, Option, length, refl, replicate, sym, ap, subst, ◌∙◌, arith}
+use Rattle.std.specs.Prelude.{All, Contains, flat_map}
 use Rattle.std.specs.List.{slice_index_or}
 use Rattle.std.specs.List.Sorted.{IsStrictlyIncreasing}
-use Rattle.std.proofs.lemmas.Bool.{eq-eqb, ltb-true, and_parts}
-use Rattle.std.proofs.lemmas.List.{get_or-append-add, length-append, length-replicate}
+use Rattle.std.proofs.lemmas.List.{length-append, length-replicate}
 use Rattle.std.proofs.lemmas.List.Elements.{All-contains, Contains-append_right}
 use Rattle.coflow_units.specs.declared.limits.TheConstants.{MAX_SLOT, MAX_UNITS}
 use Rattle.coflow_units.specs.Served.{IsServed}
@@ -19,8 +18,7 @@ use Rattle.journal.specs.declared.command.Reply.TheVariants.{Late, NothingLeft, 
 use Rattle.journal.specs.declared.opening.Opening.{Opening}
 use Rattle.journal.specs.State.{IsOpening, owed, Run, slot_end}
 use Rattle.journal.specs.Closed.{closed_runs, IsClosedRun, schedule_of, sent_at, wire_of}
-use Rattle.journal.specs.Driven.{closed_in, closing, Drive, driven, driven_run, driver_entries, is_other, IsDriven, IsSentWhole, opened_in, opening}
-use Rattle.journal.specs.Entries.{is_driving}
+use Rattle.journal.specs.Driven.{closed_in, closing, Drive, driven, driven_run, IsDriven, IsSentWhole, opened_in, opening}
 use Rattle.journal.specs.Fold.{state_of}
 use Rattle.journal.specs.Journal.{entry, IsLegal, line_of}
 use Rattle.journal.specs.Runs.{grant_in}
@@ -32,11 +30,12 @@ use Rattle.journal.proofs.EntryTells.{entry_tells}
 use Rattle.journal.proofs.OwnEntries.{own_close, own_whole}
 use Rattle.journal.proofs.RunsInOrder.{closed_sound}
 use Rattle.journal.proofs.Schedules.{schedule_length}
-use Rattle.client_session.specs.Desk.{IsSeen}
+use Rattle.master_desk.specs.Desk.{IsSeen}
 use Rattle.client_session.specs.Models.{HallModel}
 use Rattle.slot_runner.specs.Models.{MayRun, RunnerModel}
 use Rattle.slot_runner.specs.Slots.{AreSent, HasRun, IsAnswered, IsFaulted, IsFullAt, IsRan}
 use Rattle.hall_plan.proofs.FirstShort.{stops}
+use Rattle.hall_plan.proofs.NobodyElse.{all_back, all_own, no_others, Own, shape}
 use Rattle.coflow_units.proofs.ServedLaws.{grants_clear}
 use Rattle.coflow_units.specs.Schedule.{IsClear}
 use Rattle.hall_plan.specs.Cuts.{AllSentWhole, HaveStopped, IsPlanBegun}
@@ -51,35 +50,6 @@ use Rattle.hall_plan.proofs.PlanParts.{IsNextRun, next_is_part, runs_are_parts}
 use Rattle.hall_plan.proofs.PlanRuns.{few_entries, few_slots, nothing_yet, serves_all, split}
 use Rattle.hall_plan.proofs.PlanTurns.{added, not_stopped}
 use Rattle.hall_plan.proofs.WireSteps.{all_units, are_units, fell_next, have_next, have_none, have_so, none_fell}
-
--- ---- nobody else has entries
-
-all_back : {X : Type 0} (P : X → Type 0) (xs ys : List X) → All P (xs ++ ys) → All P ys
-all_back P xs ys all k d lt = subst P (get_or-append-add xs ys k d) (all (length xs + k) d (omega (arith, lt, length-append xs ys)))
-
-abbrev Own : Entry → Type 0
-Own e = e.who ≤ 0
-
-no_others : (es : List Entry) → All Own es → All (λ e. is_other e ≡ true) es → es ≡ []
-no_others [] own others = refl
-no_others (e ∷ es) own others =
-    absurd (
-    let some = ltb-true 0 e.who (and_parts (nat_lt 0 e.who) (not (is_driving e.command)) (others 0 e (omega arith))).0 in
-    let none = own 0 e (omega arith) in
-    omega (arith, some, none)
-    )
-
-all_own : (es : List Entry) → All Own es → driver_entries es ≡ es
-all_own [] own = refl
-all_own (e ∷ es) own =
-    let mine : e.who ≡ 0 = let le = own 0 e (omega arith) in omega (arith, le) in
-    ap (λ b. cond b (e ∷ driver_entries es) (driver_entries es)) (eq-eqb e.who 0 mine) ∙ ap (λ l. e ∷ l) (all_own es (λ k d lt. own (suc k) d (omega arith)))
-
-shape : (before earlier between : List Entry) (a b : Entry) → earlier ≡ [] → between ≡ [] → (((before ++ earlier) ++ a ∷ []) ++ between) ++ b ∷ [] ≡ before ++ (a ∷ b ∷ [])
-shape before earlier between a b e m =
-    ap (λ l. (((before ++ l) ++ a ∷ []) ++ between) ++ b ∷ []) e ∙ ap (λ l. (((before ++ []) ++ a ∷ []) ++ l) ++ b ∷ []) m ∙
-    ap (λ l. l ++ b ∷ []) (append-nil ((before ++ []) ++ a ∷ [])) ∙ ap (λ l. (l ++ a ∷ []) ++ b ∷ []) (append-nil before) ∙
-    append_assoc before (a ∷ []) (b ∷ [])
 
 -- ---- one run of a driver that is alone
 

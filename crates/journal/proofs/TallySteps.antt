@@ -1,5 +1,5 @@
 -- How a tally of runs goes on by an entry.
-use Rattle.std.proofs.Common.{◌≡◌, ◌≢◌, ℕ, ◌+◌, ◌<◌, inl, inr, Bool, true, false, List, [], ◌∷◌, ◌++◌, Contains, drop, get_or, length, map, set, take, zero, suc, refl, sym}
+use Rattle.std.proofs.Common.{◌≡◌, ◌≢◌, ℕ, ◌+◌, ◌<◌, inl, inr, List, [], ◌∷◌, ◌++◌, Contains, drop, get_or, length, map, set, take, zero, suc, refl, sym}
 use Rattle.std.proofs.Common.{ap, subst, ◌∙◌, arith, append-nil, Option, Some, None, unwrap_or}
 use Rattle.std.specs.Prelude.{◌==◌, if◌then◌else◌, option_map, option_to_list}
 use Rattle.std.proofs.lemmas.Bool.{cases_eq, eq-eqb, ne_eqb}
@@ -31,7 +31,7 @@ tallied flows granted k (Noted n) x = record x { current = with_note x.current (
 tallied flows granted k (Closed slot) x = record { closed = x.closed ++ option_to_list x.current; current = None }
 tallied flows granted k reply x = x
 
-map_same : {X : Type 0} (f g : ℕ → X) (xs : List ℕ) → ((x : ℕ) → Contains xs x → f x ≡ g x) → map f xs ≡ map g xs
+pub map_same : {X : Type 0} (f g : ℕ → X) (xs : List ℕ) → ((x : ℕ) → Contains xs x → f x ≡ g x) → map f xs ≡ map g xs
 map_same f g [] same = refl
 map_same f g (x ∷ xs) same = ap (λ y. y ∷ map f xs) (same x (in_first x xs)) ∙ ap (λ l. g x ∷ l) (map_same f g xs (λ y has. same y (in_tail x xs y has)))
 

@@ -18,7 +18,7 @@ use Rattle.script_reader.specs.declared.script.Script.{Script}
 use Rattle.client_session.specs.Closes.{HasEnded, IsTrueNote}
 use Rattle.client_session.specs.Levels.{IsRaised}
 use Rattle.client_session.specs.Models.{SessionModel}
-use Rattle.client_session.specs.Own.{own_entries, OwnEntry}
+use Rattle.master_desk.specs.Own.{own_entries, OwnEntry}
 use Rattle.live_model.specs.Script.{command_of, is_pull, lines_by}
 use Rattle.live_model.specs.Deeds.{Deed, HasEntry, IsPull, version_after}
 use Rattle.live_model.specs.Levels.{AreKept, IsBetween, IsSession, IsSteady, kept_at, Levels, RisesOver, version_before}

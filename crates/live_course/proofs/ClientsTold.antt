@@ -7,7 +7,7 @@ use Rattle.journal.specs.declared.command.Entry.{Entry}
 use Rattle.journal.specs.declared.opening.Opening.{Opening}
 use Rattle.journal.specs.Journal.{version_of}
 use Rattle.script_reader.specs.declared.script.Script.{Script}
-use Rattle.client_session.specs.Own.{own_entries, OwnEntry}
+use Rattle.master_desk.specs.Own.{own_entries, OwnEntry}
 use Rattle.live_model.specs.Script.{is_pull, lines_by}
 use Rattle.live_model.specs.Deeds.{Deed, HasEntry, IsPull}
 use Rattle.live_model.specs.Levels.{AreSessions, IsBetween, IsSession, IsSteady, Levels}

@@ -11,8 +11,8 @@ use Rattle.journal.specs.Journal.{entry, IsLegal}
 use Rattle.journal.specs.Driven.{closed_in, closing, Drive, IsDriven, is_other, IsSentWhole, opened_in, opening}
 use Rattle.journal.proofs.OwnEntries.{own_close}
 use Rattle.client_session.specs.Drivers.{GrownByOthers}
-use Rattle.client_session.specs.Own.{OwnEntry}
-use Rattle.client_session.proofs.OwnSteps.{own_same}
+use Rattle.master_desk.specs.Own.{OwnEntry}
+use Rattle.master_desk.proofs.OwnSteps.{own_same}
 use Rattle.live_model.specs.Levels.{IsSpellBetween, Levels, spell_driven, spell_for_nothing}
 use Rattle.live_model.specs.Rounds.{FitsAnswer, Spell, spell_entries}
 use Rattle.live_model.proofs.DriverSteps.{driven_is_spell, nothing_is_spell}

@@ -5,7 +5,7 @@ use Rattle.journal.specs.declared.opening.Opening.{Opening}
 use Rattle.script_reader.specs.declared.script.Script.{Script}
 use Rattle.client_session.specs.Closes.{HasEnded}
 use Rattle.client_session.specs.Models.{SessionModel}
-use Rattle.client_session.specs.Own.{own_entries}
+use Rattle.master_desk.specs.Own.{own_entries}
 use Rattle.live_model.specs.Levels.{Levels}
 use Rattle.live_model.specs.Script.{lines_by}
 use Rattle.live_rounds.specs.Acts.{Act, HasActed}

@@ -2,7 +2,7 @@
 use Rattle.std.specs.Prelude.{◌≡◌, ℕ, ◌+◌, ◌<◌, ◌≤◌, List, [], map, Option, Some, None}
 use Rattle.script_reader.specs.declared.script.ScriptLine.{ScriptLine}
 use Rattle.client_session.specs.Models.{SessionModel}
-use Rattle.client_session.specs.Own.{OwnEntry}
+use Rattle.master_desk.specs.Own.{OwnEntry}
 use Rattle.live_model.specs.Deeds.{Deed}
 use Rattle.live_model.specs.Levels.{Levels}
 use Rattle.live_rounds.specs.Acts.{Act, entered, IsOver, IsPullByTurn, noted, Outcome, version_at}

@@ -11,7 +11,7 @@ ghost use Rattle.client_session.specs.Closes.{HasEnded};
 ghost use Rattle.client_session.specs.Drivers.{GrownByOthers};
 ghost use Rattle.client_session.specs.Levels.{IsRaised};
 ghost use Rattle.client_session.specs.Models.{SessionModel};
-ghost use Rattle.client_session.specs.Own.{own_entries};
+ghost use Rattle.master_desk.specs.Own.{own_entries};
 ghost use Rattle.live_model.specs.Levels.{AreSessions, IsBetween, IsSession, IsSpellBetween, Levels, spell_driven, spell_for_nothing};
 ghost use Rattle.live_model.specs.Rounds.{Spell};
 ghost use Rattle.live_model.specs.Script.{lines_by};

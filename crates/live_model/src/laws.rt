@@ -6,7 +6,7 @@ ghost use Rattle.journal.specs.declared.opening.Opening.{Opening};
 ghost use Rattle.journal.specs.Journal.{IsLegal};
 ghost use Rattle.journal.specs.Sound.{InRange};
 ghost use Rattle.journal.specs.Closed.{schedule_of, wire_of};
-ghost use Rattle.client_session.specs.Own.{own_entries, OwnEntry};
+ghost use Rattle.master_desk.specs.Own.{own_entries, OwnEntry};
 ghost use Rattle.live_model.specs.Deeds.{asked_by, asked_in, Deed, DoesScript, ForLaterRounds, HasEntry, IsPull};
 ghost use Rattle.live_model.specs.Deeds.{Deeds, entries_by, HasNewest, IsTwoAbove};
 ghost use Rattle.live_model.specs.Pulls.{IsAnswered, IsMadeBefore, IsMadeFor, TellVersions};

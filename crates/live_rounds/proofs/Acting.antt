@@ -17,9 +17,9 @@ use Rattle.rank_board.specs.Pulls.{pull_of}
 use Rattle.rank_board.specs.Words.{rank_word, word_at}
 use Rattle.script_reader.specs.declared.script.Asked.TheVariants.{Pull}
 use Rattle.script_reader.specs.declared.script.ScriptLine.{ScriptLine}
-use Rattle.client_session.specs.declared.receipt.Receipt.{Receipt}
+use Rattle.master_desk.specs.declared.receipt.Receipt.{Receipt}
 use Rattle.client_session.specs.Models.{SessionModel}
-use Rattle.client_session.specs.Own.{look_version, own_entry, OwnEntry}
+use Rattle.master_desk.specs.Own.{look_version, own_entry, OwnEntry}
 use Rattle.client_session.specs.Turns.{IsDone, KeepsPlace}
 use Rattle.live_model.specs.Script.{command_of, is_pull}
 use Rattle.live_model.proofs.Given.{pull_is_answered}

@@ -1,11 +1,11 @@
 -- How much the clients of a round ask, and what those met that stopped.
-use Rattle.std.proofs.Common.{◌≡◌, ℕ, ◌+◌, ◌<◌, ◌≤◌, inl, inr, Bool, true, false, true≢false, List, [], ◌∷◌, ◌++◌, length, length-append, map, refl, sym, ap, subst, arith, suc, Option, Some, None}
-use Rattle.std.proofs.lemmas.List.{length-map}
+use Rattle.std.proofs.Common.{◌≡◌, ℕ, ◌+◌, ◌<◌, ◌≤◌, inl, inr, Bool, true, false, true≢false, List, [], ◌∷◌, ◌++◌, length, length-append, map}
+use Rattle.std.proofs.Common.{refl, sym, ap, subst, arith, suc, Option, Some, None}
 use Rattle.std.proofs.lemmas.Option.{none-some, same_Some}
 use Rattle.journal.specs.declared.opening.Opening.{Opening}
 use Rattle.script_reader.specs.declared.script.ScriptLine.{ScriptLine}
 use Rattle.client_session.specs.Models.{SessionModel}
-use Rattle.client_session.specs.Own.{OwnEntry}
+use Rattle.master_desk.specs.Own.{OwnEntry}
 use Rattle.live_rounds.specs.declared.answer.PullDone.{PullDone}
 use Rattle.live_rounds.specs.declared.answer.RoundStop.{RoundStop}
 use Rattle.live_rounds.specs.declared.answer.RoundStop.TheVariants as round
@@ -15,7 +15,8 @@ use Rattle.live_rounds.specs.Acts.{Act, entries_at, entries_in, Outcome, entered
 use Rattle.live_rounds.specs.Asking.{AddFew, AddsFew, LackCalls, MetFull}
 use Rattle.live_rounds.specs.Parts.{lines_for}
 use Rattle.live_rounds.specs.Rounds.{ArePlayed, IsCutShort, IsPlayed, IsRoundDone, Played}
-use Rattle.live_rounds.specs.Stops.{Ends, first_stop, IsStoppedAt, stop_for}
+use Rattle.live_rounds.specs.Stops.{Ends, first_stop, stop_for}
+use Rattle.live_rounds.proofs.Steps.{few_acts}
 
 at_most_one : (x : Outcome) → length (entries_at x) ≤ 1
 at_most_one (entered e) = omega arith
@@ -25,10 +26,6 @@ at_most_one (noted n) = omega arith
 pub few_entries : (acts : List Act) → length (entries_in acts) ≤ length acts
 few_entries [] = omega arith
 few_entries (a ∷ acts) = omega (arith, at_most_one a.outcome, few_entries acts, length-append (entries_at a.outcome) (entries_in acts))
-
-few_acts : (o : Opening) (lines : List ScriptLine) (s m : SessionModel) (acts : List Act) (stop : Option TurnStop) → Ends o lines s m acts stop → length acts ≤ length lines
-few_acts o lines s m acts None ends = omega (arith, length-map acts (λ (a : Act). a.line), ap (λ (l : List ScriptLine). length l) ends.0)
-few_acts o lines s m acts (Some stop) ends = let lt = ends.1 in omega (arith, lt)
 
 one_few : (o : Opening) (lines : List ScriptLine) (s m : SessionModel) (p : Played) → IsPlayed o lines s m p → AddsFew lines s m
 one_few o lines s m p h = record {
@@ -80,7 +77,8 @@ met_later : (o : Opening) (lines : List ScriptLine) (client : ℕ) (s m : Sessio
 met_later o lines client s m ss ms (Full entries) met = let (k, x, lt, at, full) = met in (suc k, x, omega (arith, lt), at, full)
 met_later o lines client s m ss ms Spent met = inr met
 
-first_met : (o : Opening) (lines : List ScriptLine) (client : ℕ) (olds news : List SessionModel) (played : List Played) (by : TurnStop) → ArePlayed o lines client olds news played →
+first_met : (o : Opening) (lines : List ScriptLine) (client : ℕ) (olds news : List SessionModel) (played : List Played) (by : TurnStop) →
+    ArePlayed o lines client olds news played →
     first_stop (map (λ (p : Played). p.stop) played) ≡ Some by → Met o lines client olds news by
 first_met o lines client [] [] [] by each first = absurd (none-some by first)
 first_met o lines client [] [] (p ∷ ps) by each first = absurd each
@@ -92,7 +90,8 @@ first_met o lines client (s ∷ ss) (m ∷ ms) (p ∷ ps) by each first = go p.s
     rest : List (Option TurnStop)
     rest = map (λ (q : Played). q.stop) ps
 
-    go : (stop : Option TurnStop) → (first_stop rest ≡ Some by → Met o lines (client + 1) ss ms by) → first_stop (stop ∷ rest) ≡ Some by → Ends o (lines_for client lines) s m p.acts stop →
+    go : (stop : Option TurnStop) → (first_stop rest ≡ Some by → Met o lines (client + 1) ss ms by) →
+        first_stop (stop ∷ rest) ≡ Some by → Ends o (lines_for client lines) s m p.acts stop →
         Met o lines client (s ∷ ss) (m ∷ ms) by
     go None more first ends = met_later o lines client s m ss ms by (more first)
     go (Some stop) more first ends = subst (Met o lines client (s ∷ ss) (m ∷ ms)) (same_Some stop by first) (met_here o lines client s m ss ms p.acts stop ends)

@@ -10,10 +10,10 @@ use Rattle.rank_board.specs.Models.{pulled}
 use Rattle.rank_board.specs.Pulls.{pull_of}
 use Rattle.script_reader.specs.declared.script.Asked.TheVariants.{Pull}
 use Rattle.script_reader.specs.declared.script.ScriptLine.{ScriptLine}
-use Rattle.client_session.specs.declared.receipt.Answer.{Answer}
-use Rattle.client_session.specs.declared.receipt.Answer.TheVariants.{Done, Full, Spent}
+use Rattle.master_desk.specs.declared.receipt.Answer.{Answer}
+use Rattle.master_desk.specs.declared.receipt.Answer.TheVariants.{Done, Full, Spent}
 use Rattle.client_session.specs.Models.{SessionModel}
-use Rattle.client_session.specs.Own.{own_entry}
+use Rattle.master_desk.specs.Own.{own_entry}
 use Rattle.client_session.specs.Turns.{IsFull, IsTurn, KeepsPlace}
 use Rattle.live_model.specs.Script.{command_of, coflow_pulled, is_pull}
 use Rattle.live_rounds.specs.declared.answer.TurnStop.{TurnStop}

@@ -1,8 +1,7 @@
 -- The parts of a round: how they are made, and what they come to together.
 use Rattle.std.proofs.Common.{◌≡◌, ℕ, ◌+◌, ◌≤◌, Bool, true, false, cond, List, [], ◌∷◌, ◌++◌, length, map, filter, refl, sym, ap, subst, arith}
-use Rattle.std.proofs.Common.{Option, Some, None, length-append, flat_map, nat_le, ◌==◌}
+use Rattle.std.proofs.Common.{length-append, flat_map, nat_le, ◌==◌}
 use Rattle.std.specs.Prelude.{All}
-use Rattle.std.proofs.lemmas.List.{length-map}
 use Rattle.std.proofs.lemmas.List.Elements.{All-cons, All-filter, All-nil, All-weaker}
 use Rattle.std.proofs.lemmas.Bool.{eqb-true, le-leb, leb-true, lt-leb}
 use Rattle.journal.specs.declared.opening.Opening.{Opening}
@@ -10,13 +9,12 @@ use Rattle.journal.specs.Answer.{IsInRange}
 use Rattle.script_reader.specs.declared.script.ScriptLine.{ScriptLine}
 use Rattle.client_session.specs.Models.{SessionModel}
 use Rattle.live_model.specs.Script.{command_of}
-use Rattle.live_rounds.specs.declared.answer.TurnStop.{TurnStop}
 use Rattle.live_rounds.specs.declared.part.Part.{Part}
-use Rattle.live_rounds.specs.Acts.{Act, pulls_in}
+use Rattle.live_rounds.specs.Acts.{pulls_in}
 use Rattle.live_rounds.specs.Parts.{AreParts, Each, IsPart, IsReady, lines_for, Plays, pulls_together, stops_of}
 use Rattle.live_rounds.specs.Rounds.{ArePlayed, MayAsk, Played}
 use Rattle.live_rounds.specs.Stops.{Ends}
-use Rattle.live_rounds.proofs.Steps.{few_pulls}
+use Rattle.live_rounds.proofs.Steps.{few_acts, few_pulls}
 
 -- one part more
 pub parts_more : (lines : List ScriptLine) (client : ℕ) (ps : List Part) (p : Part) → AreParts lines client ps → IsPart lines (client + length ps) p → AreParts lines client
@@ -67,12 +65,6 @@ pub record Built (o : Opening) (lines : List ScriptLine) (client : ℕ) (olds ne
   pub stops : stops_of parts ≡ map (λ (p : Played). p.stop) played
   pub few : length (pulls_together parts) ≤ length (lines_from client lines)
 
--- no more lines are carried out than there are
-carried_few : (o : Opening) (lines : List ScriptLine) (old new : SessionModel) (acts : List Act) (stop : Option TurnStop) → Ends o lines old new acts stop → length acts ≤
-    length lines
-carried_few o lines old new acts None h = omega (arith, length-map acts (λ (a : Act). a.line), ap (λ l. length l) h.0)
-carried_few o lines old new acts (Some t) h = omega (arith, h.1)
-
 pub built : (o : Opening) (lines : List ScriptLine) (client : ℕ) (olds news : List SessionModel) (ps qs : List Part) → AreParts lines client ps → Each (Plays o) olds news ps
     qs → Built o lines client olds news qs
 built o lines client [] [] [] [] are each = record { played = []; each = tt; pulls = refl; stops = refl; few = omega arith }
@@ -92,7 +84,7 @@ built o lines client (s ∷ olds) (t ∷ news) (p ∷ ps) (q ∷ qs) are each =
         length-append q.pulls.items (pulls_together qs),
         ap (λ l. length l) x.pulls,
         few_pulls x.acts,
-        carried_few o (lines_for client lines) s t x.acts q.stop ends,
+        few_acts o (lines_for client lines) s t x.acts q.stop ends,
       );
     }
 built o lines client [] (t ∷ news) ps qs are each = absurd each

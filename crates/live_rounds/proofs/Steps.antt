@@ -44,7 +44,7 @@ short_filter p (x ∷ xs) = go (p x) (short_filter p xs)
 pub few_pulls : (acts : List Act) → length (pulls_in acts) ≤ length acts
 few_pulls acts = omega (arith, length-map (filter (λ (a : Act). is_pull a.line.asked) acts) pull_done, short_filter (λ (a : Act). is_pull a.line.asked) acts)
 
-pulls_append : (xs ys : List Act) → pulls_in (xs ++ ys) ≡ pulls_in xs ++ pulls_in ys
+pub pulls_append : (xs ys : List Act) → pulls_in (xs ++ ys) ≡ pulls_in xs ++ pulls_in ys
 pulls_append xs ys =
     ap (map pull_done) (filter-append (λ (a : Act). is_pull a.line.asked) xs ys)
     ∙ map-append pull_done (filter (λ (a : Act). is_pull a.line.asked) xs) (filter (λ (a : Act). is_pull a.line.asked) ys)
@@ -148,3 +148,8 @@ pub comes_in_hall : (o : Opening) (hall : HallModel) (line : ScriptLine) (mid ne
     IsSessionOf hall mid → IsSessionOf hall new
 comes_in_hall o hall line mid new (Ok pull) comes own = stays_own hall mid new comes.1.place own
 comes_in_hall o hall line mid new (Err t) comes own = stays_own hall mid new comes.0.place own
+
+-- no more lines are carried out than there are
+pub few_acts : (o : Opening) (lines : List ScriptLine) (s m : SessionModel) (acts : List Act) (stop : Option TurnStop) → Ends o lines s m acts stop → length acts ≤ length lines
+few_acts o lines s m acts None ends = omega (arith, length-map acts (λ (a : Act). a.line), ap (λ (l : List ScriptLine). length l) ends.0)
+few_acts o lines s m acts (Some stop) ends = let lt = ends.1 in omega (arith, lt)

@@ -11,7 +11,7 @@ use Rattle.script_reader.specs.declared.script.Asked.{Asked}
 use Rattle.script_reader.specs.declared.script.Asked.TheVariants.{Pull}
 use Rattle.script_reader.specs.declared.script.ScriptLine.{ScriptLine}
 use Rattle.client_session.specs.Models.{SessionModel}
-use Rattle.client_session.specs.Own.{OwnEntry, versions_in}
+use Rattle.master_desk.specs.Own.{OwnEntry, versions_in}
 use Rattle.live_model.specs.Script.{command_of, coflow_pulled, is_pull}
 use Rattle.live_rounds.specs.declared.answer.PullDone.{PullDone}
 

@@ -3,9 +3,9 @@ use Rattle.std.specs.Prelude.{◌≡◌, ℕ, ◌+◌, ◌∷◌, [], length, op
 use Rattle.journal.specs.declared.opening.Opening.{Opening}
 use Rattle.journal.specs.Answer.{pulled}
 use Rattle.script_reader.specs.declared.script.ScriptLine.{ScriptLine}
-use Rattle.client_session.specs.declared.receipt.Answer.{Answer}
-use Rattle.client_session.specs.declared.receipt.Answer.TheVariants.{Done, Full, Spent}
-use Rattle.client_session.specs.declared.receipt.Receipt.{Receipt}
+use Rattle.master_desk.specs.declared.receipt.Answer.{Answer}
+use Rattle.master_desk.specs.declared.receipt.Answer.TheVariants.{Done, Full, Spent}
+use Rattle.master_desk.specs.declared.receipt.Receipt.{Receipt}
 use Rattle.client_session.specs.Models.{SessionModel}
 use Rattle.live_rounds.specs.declared.answer.PullDone.{PullDone}
 use Rattle.live_rounds.specs.declared.answer.TurnStop.{TurnStop}

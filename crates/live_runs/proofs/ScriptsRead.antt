@@ -13,10 +13,11 @@ use Rattle.text_fields.specs.Fields.{Text, field_at}
 use Rattle.text_fields.specs.Lines.{Line, lines_of as text_lines, without_first}
 use Rattle.text_fields.specs.Numbers.{number}
 use Rattle.text_fields.proofs.CheckLists.{all_hold, passed_parts}
-use Rattle.script_reader.specs.Checks.{ask_checks, client_checks, coflow_checks, count_checks, end_checks, ended_checks, id_checks, line_checks, lines_checks, operand_checks, text_checks, weight_checks, weighing_checks, word_checks}
+use Rattle.script_reader.specs.Checks.{ask_checks, client_checks, coflow_checks, count_checks, end_checks, ended_checks, id_checks}
+use Rattle.script_reader.specs.Checks.{line_checks, lines_checks, text_checks, weight_checks, weighing_checks, word_checks}
 use Rattle.script_reader.specs.Operands.{coflow_in, coflow_with, weight_in}
 use Rattle.script_reader.specs.Script.{asked_by, asked_of, client_of, clients_of, put_first, put_step, rounds_of, script_of, step_by, step_of}
-use Rattle.script_reader.specs.Words.{end_of, is_word, word_of}
+use Rattle.script_reader.specs.Words.{is_word, word_of}
 use Rattle.script_reader.specs.declared.script.Round.{Round}
 use Rattle.script_reader.specs.declared.script.Script.{Script}
 use Rattle.script_reader.specs.declared.script.ScriptLine.{ScriptLine}
@@ -113,7 +114,8 @@ module _ (o : Opening) where
 
   put_ask : (n : ℕ) (x : ScriptLine) (rounds : List Round) → 1 ≤ x.client → x.client ≤ n → IsInRange o (command_of x.asked) → AreAsked n rounds → AreAsked n (put_first x rounds)
   put_ask n x [] some few range all =
-      All-cons (λ (r : Round). All (MayAsk o n) r.lines) _ [] (All-cons (MayAsk o n) x [] (some, few, range) (All-nil (MayAsk o n))) (All-nil (λ (r : Round). All (MayAsk o n) r.lines))
+      All-cons (λ (r : Round). All (MayAsk o n) r.lines) _ [] (All-cons (MayAsk o n) x [] (some, few, range) (All-nil (MayAsk o n)))
+      (All-nil (λ (r : Round). All (MayAsk o n) r.lines))
   put_ask n x (round ∷ rounds) some few range all =
       let P : Round → Type 0 = λ r. All (MayAsk o n) r.lines in
       All-cons P _ rounds (All-cons (MayAsk o n) x round.lines (some, few, range) (All-head P round rounds all)) (All-tail P round rounds all)

@@ -1,15 +1,13 @@
 -- A run of `live` before its first round.
 use Rattle.std.proofs.Common.{◌≡◌, ℕ, ◌^◌, List, [], length, sym, ap, subst, ◌∙◌, arith}
-use Rattle.std.specs.Prelude.{All, true}
+use Rattle.std.specs.Prelude.{All}
 use Rattle.std.proofs.lemmas.List.Elements.{All-nil}
 use Rattle.journal.specs.declared.command.Entry.{Entry}
-use Rattle.journal.specs.declared.opening.Opening.{Opening}
-use Rattle.journal.specs.Answer.{in_range}
 use Rattle.journal.specs.Driven.{driver_entries}
-use Rattle.journal.specs.Entries.{is_driving}
 use Rattle.journal.specs.Fold.{state_of}
 use Rattle.script_reader.specs.declared.script.Script.{Script}
-use Rattle.client_session.specs.Desk.{IsSeen}
+use Rattle.master_desk.specs.Desk.{IsSeen}
+use Rattle.master_desk.proofs.Agreement.{nothing_seen}
 use Rattle.client_session.specs.Halls.{IsFirstDriver}
 use Rattle.client_session.specs.Models.{DriverModel, HallModel, IsDriverOf, IsSessionOf, SessionModel}
 use Rattle.slot_runner.specs.Models.{first_runner}
@@ -18,17 +16,10 @@ use Rattle.live_course.proofs.DriversTold.{none_opened}
 use Rattle.live_course.specs.Drivers.{AreOpenings}
 use Rattle.hall_live.specs.Followed.{AreBegun}
 use Rattle.hall_live.proofs.RoundsOn.{none_done}
-use Rattle.live_serving.specs.Going.{IsFor, IsGoing}
-use Rattle.live_serving.specs.Wires.{AllSentWhole}
-use Rattle.live_serving.proofs.PullsInTable.{InTable}
-use Rattle.live_serving.proofs.SentWhole.{whole_first}
-
-pub nothing_seen : (o : Opening) → IsSeen o []
-nothing_seen o = record {
-  legal = tt;
-  in_range = All-nil (λ (e : Entry). in_range o e.command ≡ true);
-  driven = All-nil (λ (e : Entry). is_driving e.command ≡ true → e.who ≡ 0);
-}
+use Rattle.round_serving.specs.Going.{IsFor, IsGoing}
+use Rattle.hall_plan.specs.Cuts.{AllSentWhole}
+use Rattle.round_serving.proofs.PullsInTable.{InTable}
+use Rattle.round_serving.proofs.SentWhole.{whole_first}
 
 pub begins : (hall : HallModel) (script : Script) (most ports : ℕ) (first driver : DriverModel) (sessions : List SessionModel) → IsFor hall script →
     IsFirstDriver hall (2 ^ 40) first → driver ≡ record first { made = script.clients } → All (IsSessionOf hall) sessions →

@@ -29,11 +29,11 @@ use Rattle.hall_live.specs.Rounds.{AreRoundsDone}
 use Rattle.hall_live.proofs.ClosedTold.{all_there, carries_out}
 use Rattle.hall_live.proofs.Counted.{has_room}
 use Rattle.hall_live.proofs.RunningOut.{first_out, nothing_out, run_out}
-use Rattle.live_serving.specs.Going.{AreSeated, IsEnded, IsEnding, IsFilled, IsGoing}
-use Rattle.live_serving.specs.Openings.{HasMetFull}
+use Rattle.round_serving.specs.Going.{AreSeated, IsEnded, IsEnding, IsFilled, IsGoing}
+use Rattle.round_serving.specs.Openings.{HasMetFull}
 use Rattle.live_serving.specs.Served.{IsTold}
-use Rattle.live_serving.proofs.FewEntries.{all_short, few_found, few_spells, found_append, none_found, none_within, same_few}
-use Rattle.live_serving.proofs.SentWhole.{whole_next}
+use Rattle.round_serving.proofs.FewEntries.{all_short, few_found, few_spells, found_append, none_found, none_within, same_few}
+use Rattle.round_serving.proofs.SentWhole.{whole_next}
 
 -- ---- all rounds are done
 
@@ -108,7 +108,8 @@ module _ (hall : HallModel) (script : Script) (most : ℕ) (old new : RunnerMode
       let spells = done.spells ++ h.running.later in record {
         hall_is = h.hall_is;
         seated = seated_still may full.made;
-        few = all_short script done.levels script.rounds [] calls 1 sessions sessions done.told (none_within script) done.clients (same_few 1 sessions) (omega (arith, h.seated.each));
+        few = all_short script done.levels script.rounds [] calls 1 sessions sessions done.told (none_within script)
+            done.clients (same_few 1 sessions) (omega (arith, h.seated.each));
         spells = spells;
         openings = others_open_none most old.driver.journal new.driver.journal spells full.others (h.running.opened.openings done.spells done.openings);
         none = omega (

@@ -1,10 +1,3 @@
-pub mod DriverTurns
-pub mod SentWhole
-pub mod OpeningSteps
-pub mod WiresOn
-pub mod FewEntries
-pub mod PullsInTable
-pub mod GoingOn
 pub mod EndingRuns
 pub mod Begins
 pub mod Whole

@@ -17,14 +17,14 @@ use Rattle.hall_plan.specs.Wires.{AreAllUnits, HaveMore}
 use Rattle.hall_plan.proofs.WireSteps.{all_units, have_none, have_so}
 use Rattle.live_serving.specs.declared.answer.Served.{Served}
 use Rattle.live_serving.specs.declared.answer.LiveFault.{LiveFault}
-use Rattle.live_serving.specs.declared.answer.Stop.{Stop}
-use Rattle.live_serving.specs.declared.answer.Stop.TheVariants.{WireFault}
-use Rattle.live_serving.specs.Going.{IsEnded, IsFilled}
-use Rattle.live_serving.specs.Openings.{AreServed}
+use Rattle.round_serving.specs.declared.stop.Stop.{Stop}
+use Rattle.round_serving.specs.declared.stop.Stop.TheVariants.{WireFault}
+use Rattle.round_serving.specs.Going.{IsEnded, IsFilled}
+use Rattle.round_serving.specs.Openings.{AreServed}
 use Rattle.live_serving.specs.Served.{IsServed, IsTold}
-use Rattle.live_serving.specs.Wires.{HaveServed, HaveStopped}
-use Rattle.live_serving.proofs.Begins.{nothing_seen}
-use Rattle.live_serving.proofs.WiresOn.{all_sent, all_served, all_stopped}
+use Rattle.round_serving.specs.Wires.{HaveServed, HaveStopped}
+use Rattle.master_desk.proofs.Agreement.{nothing_seen}
+use Rattle.round_serving.proofs.WiresOn.{all_sent, all_served, all_stopped}
 
 -- ---- sessions that are written back
 

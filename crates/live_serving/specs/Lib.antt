@@ -1,6 +1,1 @@
-pub mod Wires
-pub mod Driving
-pub mod Openings
-pub mod Playing
-pub mod Going
 pub mod Served

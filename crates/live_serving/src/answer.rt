@@ -2,7 +2,6 @@
 use coflow_units::{Items, NoMemory};
 use live_text::PullLine;
 use master_core::Master;
-use std::alloc::AllocError;
 
 /// A run of `live` that was served to its end: the master of the closed hall, and the lines of the pulls, by client and
 /// then by line.
@@ -29,38 +28,5 @@ impl From<NoMemory> for LiveFault {
 
     fn from(_error: NoMemory) -> LiveFault {
         LiveFault::NoMemory
-    }
-}
-
-/// Why the clients and the driver go on no further.
-#[derive(Clone, Copy, Debug, PartialEq, Eq)]
-pub(crate) enum Stop {
-    /// A turn found no room in the journal.
-    Full,
-    /// The wire of this ingress port accepted fewer units than it was sent.
-    WireFault { port: u32 },
-    /// No memory was to be had.
-    NoMemory,
-}
-
-impl From<NoMemory> for Stop {
-    ghost use Rattle.std.specs.Prelude.{◌≡◌};
-    ghost use Rattle.live_serving.specs.declared.answer.Stop.TheVariants.{NoMemory};
-
-    ghost from_gives = { λ _ e. e ≡ NoMemory };
-
-    fn from(_error: NoMemory) -> Stop {
-        Stop::NoMemory
-    }
-}
-
-impl From<AllocError> for Stop {
-    ghost use Rattle.std.specs.Prelude.{◌≡◌};
-    ghost use Rattle.live_serving.specs.declared.answer.Stop.TheVariants.{NoMemory};
-
-    ghost from_gives = { λ _ e. e ≡ NoMemory };
-
-    fn from(_error: AllocError) -> Stop {
-        Stop::NoMemory
     }
 }

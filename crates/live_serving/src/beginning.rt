@@ -3,7 +3,7 @@ ghost use Rattle.std.specs.Prelude.{◌≡◌, ◌≤◌, ℕ, [], IfOk};
 ghost use Rattle.coflow_units.specs.declared.limits.TheConstants.{MAX_CLIENTS};
 ghost use Rattle.live_model.specs.Script.{limit_of};
 ghost use Rattle.hall_live.specs.Ends.{MayBeAsked};
-ghost use Rattle.live_serving.specs.Going.{IsGoing};
+ghost use Rattle.round_serving.specs.Going.{IsGoing};
 
 use crate::commands::commands_of;
 use client_session::{Hall, Session};

@@ -4,13 +4,10 @@
 
 mod answer;
 mod beginning;
-mod beside;
 mod commands;
 mod ending;
 mod limit;
 mod live;
-mod rounds;
-mod running;
 mod serving;
 
 pub use answer::{LiveFault, Served};

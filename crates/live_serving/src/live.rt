@@ -6,7 +6,7 @@ ghost use Rattle.live_model.specs.Script.{limit_of};
 ghost use Rattle.hall_live.specs.Ends.{MayBeAsked};
 ghost use Rattle.live_serving.specs.declared.answer.LiveFault.TheVariants.{WireFault};
 ghost use Rattle.live_serving.specs.Served.{IsServed};
-ghost use Rattle.live_serving.specs.Wires.{HaveServed, HaveStopped};
+ghost use Rattle.round_serving.specs.Wires.{HaveServed, HaveStopped};
 
 use crate::answer::{LiveFault, Served};
 use crate::beginning::begin;

@@ -1,9 +1,11 @@
 -- Bits of words: one is set or cleared, and the others stay.
-use Rattle.std.proofs.Common.{◌≡◌, ◌≢◌, ℕ, ◌+◌, ◌-◌, ◌*◌, ◌/◌, ◌%◌, ◌^◌, ◌<◌, ◌≤◌, ◌++◌, inl, inr, List, length, get_or, set, replicate, drop, take, min, w64, sym, ap, subst, ◌∙◌, arith}
+use Rattle.std.proofs.Common.{◌≡◌, ◌≢◌, ℕ, ◌+◌, ◌-◌, ◌*◌, ◌/◌, ◌%◌, ◌^◌, ◌<◌, ◌≤◌, ◌++◌, inl, inr, List, length}
+use Rattle.std.proofs.Common.{get_or, set, replicate, drop, take, min, w64, sym, ap, subst, ◌∙◌, arith}
 use Rattle.std.specs.Prelude.{bit_and, bit_or}
 use Rattle.std.specs.Int.{bit_at, bit_not, trailing_zeros}
 use Rattle.std.proofs.lemmas.Bool.{cases_eq, cases_lt}
-use Rattle.std.proofs.lemmas.List.{get_or-append_right, get_or-drop, get_or-replicate, get_or-set_same, get_or-set_other, get_or-take, get_or_append_left, get_or_past, length-append, length-drop, length-replicate, length-take}
+use Rattle.std.proofs.lemmas.List.{get_or-append_right, get_or-drop, get_or-replicate, get_or-set_same, get_or-set_other, get_or-take, get_or_append_left}
+use Rattle.std.proofs.lemmas.List.{get_or_past, length-append, length-drop, length-replicate, length-take}
 use Rattle.std.proofs.lemmas.Nat.{div-mul-add, mod-mul-add, mul-add-lt}
 use Rattle.std.proofs.lemmas.Nat.Bits.{bit_at-lt, bit_at-zero, bit_at-trailing_zeros, bit_at_and, bit_at_clear_same, bit_at_clear_other, bit_at_set_same, bit_at_set_other}
 use Rattle.matching.specs.Board.{no_rank}

@@ -1,12 +1,13 @@
 -- The lines of completions, and their cost.
-use Rattle.std.proofs.Common.{◌≡◌, ℕ, ◌*◌, List, [], ◌∷◌, map, refl, ap, ◌∙◌, arith, Contains}
+use Rattle.std.proofs.Common.{◌≡◌, ℕ, ◌*◌, List, [], ◌∷◌, map, ap, ◌∙◌, arith, Contains}
 use Rattle.std.specs.Prelude.{slice_index, sum_by}
 use Rattle.std.specs.List.{range_with_len}
 use Rattle.std.proofs.lemmas.List.FromFn.{get_or-map-range_with_len}
 use Rattle.coflow_units.specs.declared.fabric.Flow.{Flow}
 use Rattle.coflow_units.specs.Completion.{completion, cost}
 use Rattle.coflow_units.proofs.Lists.{number_below}
-use Rattle.coflow_units.proofs.Sums.{in_first, in_tail, sum_same}
+use Rattle.coflow_units.proofs.Sums.{sum_same}
+use Rattle.journal.proofs.TallySteps.{map_same}
 use Rattle.online_text.specs.declared.value.DoneLine.{DoneLine}
 
 abbrev pub line_at : List ℕ → List ℕ → ℕ → DoneLine
@@ -14,10 +15,6 @@ line_at ids ends c = record { id = slice_index ids c; slot = slice_index ends c 
 
 abbrev line_of : List ℕ → ℕ → ℕ → DoneLine
 line_of ids slot c = record { id = slice_index ids c; slot = slot }
-
-map_same : {X : Type 0} (f g : ℕ → X) (xs : List ℕ) → ((x : ℕ) → Contains xs x → f x ≡ g x) → map f xs ≡ map g xs
-map_same f g [] same = refl
-map_same f g (x ∷ xs) same = ap (λ y. y ∷ map f xs) (same x (in_first x xs)) ∙ ap (λ l. g x ∷ l) (map_same f g xs (λ y has. same y (in_tail x xs y has)))
 
 module _ (flows : List Flow) (slots : List (List ℕ)) (ends : List ℕ) (n : ℕ) (are : ends ≡ map (λ c. completion flows slots c) (range_with_len 0 n)) where
   end_at : (c : ℕ) → Contains (range_with_len 0 n) c → slice_index ends c ≡ completion flows slots c

@@ -33,7 +33,8 @@ pub judged_names : (t : TableFacts) (order : List ℕ) (judged : Judged) (slots 
 judged_names t order judged slots flows same is holds =
     subst (λ fs. NamesFlows (length fs) slots) (sym same) (valid_names t.flows slots (served_valid t.flows order slots (judged_served t order judged slots is holds).1))
 
-pub served_order : (t : TableFacts) (weights order : List ℕ) (judged : Judged) (slots : List (List ℕ)) → length order ≡ length t.ids → judged ≡ Served slots → IsJudged t order judged →
+pub served_order : (t : TableFacts) (weights order : List ℕ) (judged : Judged) (slots : List (List ℕ)) → length order ≡ length t.ids →
+    judged ≡ Served slots → IsJudged t order judged →
     IsServedOrder (instance_of t weights) order slots
 served_order t weights order judged slots count is holds =
     let (permutation, served) = judged_served t order judged slots is holds in

@@ -8,7 +8,6 @@ use Rattle.cert_check.specs.declared.verdict.Verdict.{Verdict}
 use Rattle.cert_check.specs.declared.verdict.Verdict.TheVariants as verdict
 use Rattle.cert_check.specs.Reasons.{IsVerdict}
 use Rattle.coflow_units.specs.declared.fabric.Flow.{Flow}
-use Rattle.coflow_units.specs.declared.trace.CoflowLine.{CoflowLine}
 use Rattle.flow_table.proofs.TablesOne.{tables_one}
 use Rattle.flow_table.specs.Table.{TableFacts, instance_of}
 use Rattle.outside.specs.Shelf.{Told}
@@ -22,6 +21,7 @@ use Rattle.report.specs.declared.value.Report.{Report}
 use Rattle.report.specs.Reading.{IsBadAt, IsTextOf}
 use Rattle.schedule_model.specs.RunList.{slots_in}
 use Rattle.command_files.proofs.GoodFacts.{files_end, no_script, text_is_good}
+use Rattle.command_files.proofs.InputFacts.{weights_one}
 use Rattle.command_files.proofs.ShelfFacts.{if_some}
 use Rattle.command_files.proofs.FileTurns.{done_in_turn}
 use Rattle.command_files.specs.declared.status.Status.{Status}
@@ -29,7 +29,7 @@ use Rattle.command_files.specs.declared.status.Status.TheVariants as status
 use Rattle.command_files.specs.Causes.{FilesGiveTable, HasCauseInFiles}
 use Rattle.command_files.specs.Reports.{IsReportOf}
 use Rattle.command_files.specs.Ends.{IsStill, IsReadFault}
-use Rattle.command_files.specs.Inputs.{GiveWeights, IsInput, bytes_if}
+use Rattle.command_files.specs.Inputs.{IsInput, bytes_if}
 use Rattle.command_files.specs.Shelves.{OfBoth, ReadsOut}
 use Rattle.command_files.specs.Turns.{FilesInTurn}
 use Rattle.picture_cli.proofs.PictureFacts.{cause_by}
@@ -41,16 +41,12 @@ use Rattle.picture_cli.specs.declared.status.PictureStatus.TheVariants.{Ended, N
 
 -- ---- files have one table, one report and one verdict
 
-one_weights : (file : Option (List ℕ)) (coflows : List CoflowLine) (a b : List ℕ) → GiveWeights file coflows a → GiveWeights file coflows b → a ≡ b
-one_weights None coflows a b p q = p ∙ sym q
-one_weights (Some text) coflows a b p q = p.2 ∙ sym q.2
-
 module _ (said : PictureSaid) (t : Told) (u v : Verdict) (a : Judged (Some t) said u) (b : Judged (Some t) said v) where
   pub one_table : a.table ≡ b.table
   one_table = tables_one _ said.unit a.table b.table a.input.table_fits b.input.table_fits a.input.gives.table_is b.input.gives.table_is
 
   one_list : a.list ≡ b.list
-  one_list = one_weights (bytes_if t said.weights) _ a.list b.list a.input.gives.weights_are b.input.gives.weights_are
+  one_list = weights_one (bytes_if t said.weights) _ a.list b.list a.input.gives.weights_are b.input.gives.weights_are
 
   pub one_report : a.report ≡ b.report
   one_report =

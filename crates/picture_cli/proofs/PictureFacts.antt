@@ -1,5 +1,5 @@
 -- What a right report gives its picture, and the causes of the statuses of the program that draws.
-use Rattle.std.proofs.Common.{◌≡◌, ℕ, ◌^◌, ◌*◌, ◌≤◌, ◌<◌, List, [], Option, Some, None, Result, Ok, Err, length, map, refl, sym, ap, subst, ◌∙◌, arith}
+use Rattle.std.proofs.Common.{◌≡◌, ℕ, ◌^◌, ◌*◌, ◌≤◌, ◌<◌, List, [], Option, Result, Ok, Err, length, map, refl, sym, ap, subst, ◌∙◌, arith}
 use Rattle.std.specs.Prelude.{All, IfErr, IsErrAnd}
 use Rattle.std.proofs.Math.Nat.{mul-le-mul_left}
 use Rattle.std.proofs.lemmas.Grind.{div_ceil_times}
@@ -13,7 +13,7 @@ use Rattle.coflow_units.specs.Completion.{completion, cost}
 use Rattle.coflow_units.specs.Flows.{Instance, end_at}
 use Rattle.coflow_units.specs.Schedule.{IsClear}
 use Rattle.command_words.specs.Line.{Text}
-use Rattle.command_words.specs.Words.{IsSetting}
+use Rattle.command_words.proofs.OneMeaning.{setting_fits}
 use Rattle.cert_check.proofs.EndFacts.{ends_are}
 use Rattle.cert_check.proofs.SlotSteps.{runs_kept}
 use Rattle.cert_check.specs.declared.verdict.Verdict.{Verdict}
@@ -51,15 +51,11 @@ use Rattle.picture_cli.specs.declared.status.PictureStatus.TheVariants as drawn
 
 -- ---- words
 
-setting_within : (most default : ℕ) (value : Option Text) (n : ℕ) → 1 ≤ default → default ≤ most → IsSetting most default value n → (1 ≤ n) × (n ≤ most)
-setting_within most default None n low high is = (omega (arith, is, low), omega (arith, is, high))
-setting_within most default (Some text) n low high (_, least, greatest, is) = (omega (arith, is, least), omega (arith, is, greatest))
-
 pub unit_within : (words : List Text) (said : PictureSaid) → IsPictureWords words said → (1 ≤ said.unit) × (said.unit ≤ 2 ^ 20)
-unit_within words said is = setting_within (2 ^ 20) 1 _ said.unit (omega arith) (omega arith) is.says.unit
+unit_within words said is = setting_fits (2 ^ 20) 1 _ said.unit (omega arith) (omega arith) is.says.unit
 
 pub from_counted : (words : List Text) (said : PictureSaid) → IsPictureWords words said → 1 ≤ said.from
-from_counted words said is = (setting_within 2199023255551 1 _ said.from (omega arith) (omega arith) is.says.from).0
+from_counted words said is = (setting_fits 2199023255551 1 _ said.from (omega arith) (omega arith) is.says.from).0
 
 -- ---- a right report
 

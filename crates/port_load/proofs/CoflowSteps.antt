@@ -1,5 +1,5 @@
 -- A table of loads is filled coflow by coflow.
-use Rattle.std.proofs.Common.{◌≡◌, ◌≢◌, ℕ, ◌+◌, ◌-◌, ◌<◌, ◌≤◌, inl, inr, Bool, true, false, List, length, take, take_all, get_or, zero, suc, refl, sym, ap, subst, ◌∙◌, arith}
+use Rattle.std.proofs.Common.{◌≡◌, ◌≢◌, ℕ, ◌+◌, ◌-◌, ◌<◌, ◌≤◌, inl, inr, Bool, true, false, List, length, take, take_all, zero, suc, refl, sym, ap, subst, ◌∙◌, arith}
 use Rattle.std.specs.Prelude.{if◌then◌else◌, slice_index, sum, sum_by}
 use Rattle.std.proofs.lemmas.Bool.{both_ways, cases_Bool, cases_eq, cases_lt}
 use Rattle.std.proofs.lemmas.List.Sums.{get_or-le-sum_by, sum_by-take-le}
@@ -45,7 +45,8 @@ none_before flows left starts c port is lt =
     let s = slice_index starts c in
     let within : s ≤ length flows = is.within c 0 lt in
     let e : 0 + s ≡ s = omega arith in
-    sym (ap (λ j. load (take j (flows_left left flows)) c port) e) ∙ passed flows left c port 0 s (omega (arith, within)) (λ f from to. before_start flows starts c f is (omega (arith, within, to)) (omega (arith, to)))
+    sym (ap (λ j. load (take j (flows_left left flows)) c port) e) ∙
+    passed flows left c port 0 s (omega (arith, within)) (λ f from to. before_start flows starts c f is (omega (arith, within, to)) (omega (arith, to)))
 
 whole_behind : (flows : List Flow) (left starts : List ℕ) (c : ℕ) (port : Port) (k : ℕ) → IsStarts flows starts → slice_index starts (c + 1) ≤ k → k ≤ length flows →
     load (take k (flows_left left flows)) c port ≡ load (flows_left left flows) c port
@@ -131,7 +132,8 @@ total_at_most t flows left most same port lp =
 pub one_at_most : (left : List ℕ) (k : ℕ) → k < length left → slice_index left k ≤ sum left
 one_at_most left k lt = get_or-le-sum_by (λ n. n) left k 0 lt
 
-pub added_at_most : (old new : LoadTable) (flows : List Flow) (left : List ℕ) (coflow k : ℕ) → AddedSoFar old new flows left coflow k → HasAtMost old flows left → HasAtMost new flows left
+pub added_at_most : (old new : LoadTable) (flows : List Flow) (left : List ℕ) (coflow k : ℕ) → AddedSoFar old new flows left coflow k →
+    HasAtMost old flows left → HasAtMost new flows left
 added_at_most old new flows left coflow k so_far most = λ c port lc lp.
     let lc' = subst (λ n. c < n) so_far.size.coflows lc in
     let lp' = subst (λ n. port.number < n) so_far.size.ports lp in
@@ -193,7 +195,8 @@ present_more old between new flows left present done so_far in' size own others 
       later = λ c port lc lp from. others c port (coflow_in c lc) (λ e. omega (arith, e, from)) (port_in port lp) ∙ so_far.later c port lc lp (omega (arith, from));
     }
 
-pub present_at_most : (old new : LoadTable) (flows : List Flow) (left : List ℕ) (present : List Bool) (done : ℕ) → PresentSoFar old new flows left present done → HasAtMost new flows left
+pub present_at_most : (old new : LoadTable) (flows : List Flow) (left : List ℕ) (present : List Bool) (done : ℕ) → PresentSoFar old new flows left present done →
+    HasAtMost new flows left
 present_at_most old new flows left present done so_far = λ c port lc lp.
     let lc' = subst (λ n. c < n) so_far.size.coflows lc in
     let lp' = subst (λ n. port.number < n) so_far.size.ports lp in

@@ -165,7 +165,8 @@ none_in_row t none c row lc lr = elim (cases_lt row t.ports) [
 ]
 
 pub kept_unmarked : (t : LoadTable) (coflows ports : ℕ) (cells totals : List ℕ) (by_port by_coflow by_port' by_coflow' : MarkTable) →
-    IsKept coflows ports cells totals by_port by_coflow → table_of coflows ports cells ≡ t → ((c : ℕ) (port : Port) → c < t.coflows → port.number < t.ports → load_at t c port ≡ 0) →
+    IsKept coflows ports cells totals by_port by_coflow → table_of coflows ports cells ≡ t →
+    ((c : ℕ) (port : Port) → c < t.coflows → port.number < t.ports → load_at t c port ≡ 0) →
     HasShapeOf by_port by_port' → HasShapeOf by_coflow by_coflow' → IsKept coflows ports cells totals by_port' by_coflow'
 kept_unmarked t coflows ports cells totals by_port by_coflow by_port' by_coflow' kept view none at_port of_coflow =
     let here = subst (λ (x : LoadTable). (c : ℕ) (port : Port) → c < x.coflows → port.number < x.ports → load_at x c port ≡ 0) (sym view) none in

@@ -9,7 +9,7 @@ use Rattle.live_model.specs.Clause.{IsLiveRun}
 use Rattle.live_model.specs.Script.{limit_of}
 use Rattle.live_model.specs.Sent.{Wires}
 use Rattle.live_runs.specs.Run.{opening_with}
-use Rattle.live_serving.specs.Wires.{HaveServed, HaveStopped}
+use Rattle.round_serving.specs.Wires.{HaveServed, HaveStopped}
 use Rattle.live_text.specs.declared.value.Live.{Live}
 use Rattle.live_text.specs.Text.{live_text}
 use Rattle.hall_plan.specs.Wires.{AreAllUnits, HaveMore}
@@ -40,7 +40,8 @@ module _ {W : Type 0} (runs : W → Option (List (ℕ × ℕ × ℕ))) where
   abbrev pub SendsAll : List W → List W → TableFacts → List (List ℕ) → Type 0
   SendsAll before after table slots = HaveMore runs (AreAllUnits table.flows slots) table.ports before after
 
-  -- Each wire has units at its port of the schedule of a legal journal, each once, behind what it had, and nothing else.
+  -- Each wire has units at its port of the schedule of a legal journal, each once, behind what it had, and nothing
+  -- else.
   -- No flow was sent more often than it has units.
   abbrev pub SendsSoFar : List W → List W → TableFacts → List ℕ → Script → Type 0
   SendsSoFar before after table weights script = HaveServed runs (live_opening table weights script) before after

@@ -21,8 +21,9 @@ module _ {W : Type 0} (runs : W → Option (List (ℕ × ℕ × ℕ))) where
 
 module _ {W : Type 0} (faults : W → ℕ) (runs : W → Option (List (ℕ × ℕ × ℕ))) where
   -- The count of faults of the port's wire rose. Of the units of the plan's schedule one at this port is missing in the
-  -- last slot, and of those at lesser ports none up to that slot. A master of the table with these weights has a journal
-  -- that sent what was sent: of a plan whose last run was cut short at the port, and whose earlier runs were sent whole.
+  -- last slot, and of those at lesser ports none up to that slot. A master of the table with these weights has a
+  -- journal that sent what was sent: of a plan whose last run was cut short at the port, and whose earlier runs were
+  -- sent whole.
   pub record StopsShort (before after : List W) (port : ℕ) (t : TableFacts) (weights : List ℕ) : Type 0 where
     pub fits : port < t.ports
     pub wire : port < length before

@@ -1,7 +1,6 @@
 -- What holds of an online run whose text was written, and of one that has none.
 use Rattle.std.proofs.Common.{◌≡◌, ◌∙◌, ℕ, inl, inr, List, refl, subst, sym}
 use Rattle.std.specs.Prelude.{◌⊎◌, IfSome, None, Option, Some}
-use Rattle.coflow_units.specs.declared.trace.CoflowLine.{CoflowLine}
 use Rattle.command_words.specs.Jobs.{Job, trace_name}
 use Rattle.command_words.specs.Jobs.Job.{audit_job, check_job, classes_job, compare_job, live_job, make_job, online_job, plan_job}
 use Rattle.command_words.specs.Line.{Text}
@@ -17,8 +16,9 @@ use Rattle.trace_reader.specs.Trace.{trace_of}
 use Rattle.command_files.specs.declared.status.Status.{Status}
 use Rattle.command_files.specs.declared.status.Status.TheVariants as status
 use Rattle.command_files.specs.Causes.{FilesGiveTable}
+use Rattle.command_files.proofs.InputFacts.{weights_one}
 use Rattle.command_files.specs.Ends.{IsReadFault}
-use Rattle.command_files.specs.Inputs.{GiveWeights, Gives, IsInput, bytes_if}
+use Rattle.command_files.specs.Inputs.{Gives, IsInput, bytes_if}
 use Rattle.command_files.specs.WireCauses.{IsWireCause}
 use Rattle.command_files.specs.Written.{Appends}
 use Rattle.serving_commands.specs.Online.{FilesPublishMore, IsEpochsCause, IsStatusOfOnline, OnlineOf, PublishesFew, PublishesOver, WritesOnline}
@@ -51,10 +51,6 @@ online_cause (online_fault.TooMany count) s Q P E is none wire many =
 online_cause online_fault.NoMemory s Q P E is none wire many = subst (λ (x : Status). Q x ⊎ (IsWireCause P x ⊎ IsEpochsCause E x)) (sym is) (inl none)
 
 -- ---- the files give one table and one list of weights
-
-weights_one : (file : Option (List ℕ)) (coflows : List CoflowLine) (a b : List ℕ) → GiveWeights file coflows a → GiveWeights file coflows b → a ≡ b
-weights_one None coflows a b x y = x ∙ sym y
-weights_one (Some text) coflows a b (short, passes, x) (low, good, y) = x ∙ sym y
 
 module _ (told : Option Told) (said : Said) (table : TableFacts) (weights : List ℕ) (input : IsInput told (trace_name said.job) said.weights said.unit table weights) where
   -- where the table's run does not publish too many orders, that of the files does not

@@ -37,7 +37,8 @@ pub record WritesOnline (Sent : TableFacts → List (List ℕ) → Type 0) (told
     (old new : Option (List ℕ)) : Type 0 where
   pub text : List ℕ
   pub run : OnlineOf Sent told said text
-  pub right : IsSoundOnline (instance_of run.table run.weights) (arrival_of run.table said) run.table.ids run.tells.online
+  pub right : IsSoundOnline (instance_of run.table run.weights) (arrival_of run.table said) run.table.ids
+      run.tells.online
   pub written : Appends old new text
 
 -- ---- too many publishings

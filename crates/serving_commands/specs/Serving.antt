@@ -59,14 +59,15 @@ MayHaveSent status = ⊥
 
 module _ {W : Type 0} (runs : W → Option (List (ℕ × ℕ × ℕ))) where
   -- Behind what each wire had it has units at its port of what is served, none twice, and nothing else: of a plan's
-  -- schedule; of what an online run has served so far, in which no slot at or before its arrival has a flow of a coflow;
-  -- or of what a legal journal has served.
+  -- schedule; of what an online run has served so far, in which no slot at or before its arrival has a flow of a
+  -- coflow; or of what a legal journal has served.
   abbrev pub Sends : List W → List W → Service → Type 0
   Sends before after (plan_of table weights) = SendsPart runs before after table weights
   Sends before after (online_of table weights slot_ms every) = SendsSoFar runs before after table weights slot_ms every
   Sends before after (script_of table weights script) = LiveSends runs before after table weights script
 
-  -- The wires are as before, or the job of the words serves a plan, an online run or a script, and they have units of it.
+  -- The wires are as before, or the job of the words serves a plan, an online run or a script, and they have units of
+  -- it.
   abbrev pub SendsOnly : List W → List W → Option Told → List Text → Type 0
   SendsOnly before after told words =
       (after ≡ before)
@@ -80,7 +81,8 @@ module _ {W : Type 0} (faults : W → ℕ) (runs : W → Option (List (ℕ × �
   Stops before after port (plan_of table weights) = StopsShort faults runs before after port table weights
   Stops before after port (online_of table weights slot_ms every) =
       FailsAt faults before after port table × OnlineStops runs before after port table weights slot_ms every
-  Stops before after port (script_of table weights script) = LiveFails faults runs before after port table weights script
+  Stops before after port (script_of table weights script) =
+      LiveFails faults runs before after port table weights script
 
   -- One wire failed: the job of the words serves a plan, an online run or a script, and stops at this port.
   abbrev pub WireFailed : List W → List W → Option Told → List Text → ℕ → ℕ → Type 0

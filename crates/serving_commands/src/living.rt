@@ -101,9 +101,11 @@ fn serve_script<'a, R: Threads + Wait + Sync, W: Wire + Send, G: Gate + Send>(
         (told : TellsLive files.input.table files.input.weights files.script options.entry.run text.items) ×
         SendsRun W.runs wires.old.items wires.new.items files.input.table
         (served_in files.input.table files.input.weights files.script told.journal)) }
-    ensures sent { SendsSoFar W.runs wires.old.items wires.new.items files.input.table files.input.weights files.script }
+    ensures sent { SendsSoFar W.runs wires.old.items wires.new.items files.input.table files.input.weights
+        files.script }
     ensures fault { (port : ℕ) → result ≡ Err (WireFault port) →
-        FailsAt W.faults W.runs wires.old.items wires.new.items port files.input.table files.input.weights files.script }
+        FailsAt W.faults W.runs wires.old.items wires.new.items port files.input.table files.input.weights
+        files.script }
 {
     let LiveInput { input, script } = files;
     let Input { table, weights } = input;

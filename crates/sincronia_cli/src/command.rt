@@ -1,11 +1,11 @@
 //! The program's job, from the words to the written text.
-ghost use Rattle.std.specs.Prelude.{◌≡◌, ◌≢◌, ◌≤◌, ◌<◌, ◌^◌, ◌⊎◌, ℕ, [], All, Err, IfErr, IfOk, IfSome, IsSomeAnd, List, OnErr, OnOk, drop, length, map, take};
+ghost use Rattle.std.specs.Prelude.{◌≡◌, ◌≢◌, ◌≤◌, ◌<◌, ◌^◌, ◌⊎◌, ℕ, [], All, Err, IfSome, IsSomeAnd, List, OnErr, OnOk, drop, length, map, take};
 ghost use Rattle.coflow_units.specs.declared.limits.TheConstants.{MAX_CLIENTS, MAX_PORTS};
 ghost use Rattle.coflow_units.specs.declared.quantity.Quantity.{Quantity};
 ghost use Rattle.command_words.specs.Jobs.{report_name, script_name};
 ghost use Rattle.command_words.specs.Jobs.Job.{audit_job, check_job, classes_job, compare_job, live_job, make_job, online_job, plan_job};
 ghost use Rattle.command_words.specs.Line.{texts};
-ghost use Rattle.command_words.specs.Words.{IsWords, Said, said_by};
+ghost use Rattle.command_words.specs.Words.{IsWords, Said};
 ghost use Rattle.outside.specs.Rose.{Rose, RoseOnce};
 ghost use Rattle.outside.specs.Sink.{TakesText};
 ghost use Rattle.rankers.specs.FactsTold.{FactsTold};
@@ -13,38 +13,36 @@ ghost use Rattle.trace_reader.specs.declared.fault.TraceFault.{TraceFault};
 ghost use Rattle.weights.specs.declared.fault.WeightsFault.{WeightsFault};
 ghost use Rattle.served_plans.specs.Sent.{SendsAll};
 ghost use Rattle.command_files.specs.Causes.{FileFailed, FilesBadScript, FilesTraceFault, FilesWeightsFault, IsGiven};
-ghost use Rattle.sincronia_cli.specs.Causes.{HasCauseOf};
 ghost use Rattle.command_files.specs.JobCauses.{FilesReportFault};
 ghost use Rattle.command_files.specs.Limits.{MayLimit};
 ghost use Rattle.reading_commands.specs.Audit.{WritesSound};
 ghost use Rattle.reading_commands.specs.Check.{WritesYes};
 ghost use Rattle.reading_commands.specs.Classes.{WritesClasses};
 ghost use Rattle.reading_commands.specs.Compare.{WritesComparison};
-ghost use Rattle.sincronia_cli.specs.Command.{Fits, IsCommand, IsOfFiles};
-ghost use Rattle.sincronia_cli.specs.Complete.{AreGood, EndsWell};
+ghost use Rattle.command_outcomes.specs.Command.{IsCommand, IsOfFiles};
+ghost use Rattle.command_outcomes.specs.Complete.{AreGood, EndsWell};
 ghost use Rattle.command_files.specs.GoodFiles.{HasGoodFiles};
-ghost use Rattle.command_files.specs.Ends.{IsStill, CountsFault, IfPastFiles, IsPastFiles, IsReadFault, IsWriteFault};
+ghost use Rattle.command_files.specs.Ends.{IsStill, IsPastFiles, IsReadFault, IsWriteFault};
 ghost use Rattle.command_files.specs.FileCauses.{ShelfFailed};
-ghost use Rattle.sincronia_cli.specs.FirstCause.{EndsBy, IsFirstCause, IsInterrupted};
+ghost use Rattle.command_outcomes.specs.FirstCause.{EndsBy, IsFirstCause, IsInterrupted};
 ghost use Rattle.serving_commands.specs.Live.{WritesLive};
 ghost use Rattle.serving_commands.specs.Make.{WritesMade};
 ghost use Rattle.serving_commands.specs.Online.{CommandLimit, PublishesFew, WritesOnline};
-ghost use Rattle.sincronia_cli.specs.Outcome.{HasText, IsOutcome, WritesBeginning, WritesNoBy};
+ghost use Rattle.command_outcomes.specs.Outcome.{HasText, WritesBeginning, WritesNoBy};
 ghost use Rattle.serving_commands.specs.Plan.{WritesPlan};
-ghost use Rattle.serving_commands.specs.Serving.{AreStill, MayHaveSent, Sends, SendsOnly, Serves, Stops, WireFailed};
+ghost use Rattle.serving_commands.specs.Serving.{AreStill, MayHaveSent, SendsOnly, WireFailed};
 ghost use Rattle.command_files.specs.Shelves.{KeepsFiles, OfBoth, ReadsOut};
 ghost use Rattle.command_files.specs.TraceCauses.{IsTraceForm};
 ghost use Rattle.command_files.specs.Turns.{FilesInTurn};
 ghost use Rattle.command_files.specs.WeightsCauses.{IsWeightsForm};
 
-use command_files::{Outcome, Status};
-use command_words::{Job, Words, WordsFault, read_words};
+use command_files::Status;
+use command_outcomes::carry_out;
+use command_words::{WordsFault, read_words};
 use live_rounds::Gate;
 use online_check::laws::yes_bounds_released_schedules;
 use outside::{Failed, Shelf, Sink, Wire, write_all};
 use rankers::Ranker;
-use reading_commands::{audit_journal, check_report, compare_rankers, list_classes};
-use serving_commands::{make_workload, plan_trace, run_clients, run_online};
 use std::alloc::Global;
 use std::sync::Wait;
 use std::thread::Threads;
@@ -277,76 +275,4 @@ fn write_text<K: Sink>(out: &mut K, text: Vec<u8>) -> Result<(), Failed>
     ensures taken { TakesText (K.taken out.old) (K.taken out.new) text.items result }
 {
     write_all(out, &text)
-}
-
-/// What the words ask to be written, or the status of why there is nothing to write.
-fn carry_out<'a, R: Threads + Wait + Sync, H: Shelf, W: Wire + Send, G: Gate + Send>(
-    rt: &R,
-    alloc: Global,
-    words: Words<'a>,
-    shelf: &mut H,
-    wires: &mut Vec<W>,
-    gates: &mut Vec<G>,
-    bench: &mut Vec<Box<dyn Ranker>>,
-) -> Result<Outcome, Status>
-    requires fits { Fits (said_by words) }
-    requires few { length bench.old.items < 2 ^ 32 }
-    requires wires { MAX_PORTS < length wires.old.items }
-    requires gates { MAX_CLIENTS ≤ length gates.old.items }
-    ensures outcome { IfOk result (λ o. IsOutcome (SendsAll W.runs wires.old.items wires.new.items)
-        (H.told shelf.old) (said_by words.entry) (map (λ b. meaning b) bench.old.items) o.status o.text.items) }
-    ensures few { OnOk result (IfSome (H.told shelf.old)
-        (PublishesFew (said_by words.entry).job (said_by words.entry))) }
-    ensures empty { OnOk result ((trace : List ℕ) → (said_by words.entry).job ≡ compare_job trace →
-        bench.new.items ≡ []) }
-    ensures left { (reached : ℕ) × (bench.new.items ≡ drop reached bench.old.items) ×
-        All (λ b. (facts : FactsTold) × answered b facts) (take reached bench.old.items) }
-    ensures same_bench { IfErr result (λ status. status ≢ Status.NoMemory → bench.new.items ≡ bench.old.items) }
-    ensures others_bench { ((trace : List ℕ) → (said_by words.entry).job ≡ compare_job trace → ⊥) →
-        bench.new.items ≡ bench.old.items }
-    ensures gates { ((trace script : List ℕ) → (said_by words.entry).job ≡ live_job trace script → ⊥) →
-        gates.new.items ≡ gates.old.items }
-    ensures sent { (wires.new.items ≡ wires.old.items) ⊎ Serves (Sends W.runs wires.old.items wires.new.items)
-        (said_by words.entry).job (H.told shelf.old) (said_by words.entry) }
-    ensures unsent { IfErr result (λ status. (MayHaveSent status → ⊥) → wires.new.items ≡ wires.old.items) }
-    ensures read_out { IfPastFiles result (OfBoth (H.told shelf.old) (H.told shelf.new)
-        (ReadsOut (said_by words.entry).job (said_by words.entry))) }
-    ensures good { IfPastFiles result (IfSome (H.told shelf.old)
-        (HasGoodFiles (said_by words.entry).job (said_by words.entry))) }
-    ensures in_turn { IfErr result (λ status. OfBoth (H.told shelf.old) (H.told shelf.new)
-        (FilesInTurn (said_by words.entry) status)) }
-    ensures cause { IfErr result
-        (HasCauseOf (Stops W.faults W.runs wires.old.items wires.new.items) (H.faults shelf.old)
-        (H.faults shelf.new) (H.told shelf.old) (H.told shelf.new) (said_by words.entry)) }
-    ensures keeps { KeepsFiles (H.told shelf.old) (H.told shelf.new) }
-    ensures counts { CountsFault (H.faults shelf.old) (H.faults shelf.new) result }
-    ensures untouched { (seed : ℕ) → (said_by words.entry).job ≡ make_job seed →
-        (H.told shelf.new ≡ H.told shelf.old) × (H.faults shelf.new ≡ H.faults shelf.old) }
-{
-    match words.job {
-        Job::Plan { trace } => plan_trace(rt, alloc, trace, words.options, shelf, wires),
-        Job::Check { trace, report } => check_report(alloc, trace, report, words.options, shelf),
-        Job::Make { seed } => make_workload(
-            rt,
-            alloc,
-            seed,
-            words.options.unit,
-            words.options.agents,
-            wires,
-        ),
-        Job::Compare { trace } => compare_rankers(alloc, trace, words.options, shelf, bench),
-        Job::Classes { trace } => list_classes(alloc, trace, words.options, shelf),
-        Job::Audit { trace, journal } => audit_journal(alloc, trace, journal, words.options, shelf),
-        Job::Online { trace } => run_online(rt, alloc, trace, words.options, shelf, wires),
-        Job::Live { trace, script } => run_clients(
-            rt,
-            alloc,
-            trace,
-            script,
-            words.options,
-            shelf,
-            wires,
-            gates,
-        ),
-    }
 }

@@ -27,10 +27,10 @@ use Rattle.port_board.specs.Views.{came_of, grant, is_left, is_unsettled, report
 use Rattle.port_board.specs.Agreement.{SharesNothing}
 use Rattle.port_agent.specs.Served.{SentOn}
 use Rattle.turnstile.specs.Histories.{NoneAbove}
-use Rattle.client_session.specs.Desk.{DrivenByRoot, IsSeen}
+use Rattle.master_desk.specs.Desk.{DrivenByRoot, IsSeen}
 use Rattle.client_session.specs.Drivers.{IsDrivenOn, StaysInHall, who_of}
 use Rattle.client_session.specs.Models.{DriverModel}
-use Rattle.client_session.specs.declared.receipt.Receipt.{Receipt}
+use Rattle.master_desk.specs.declared.receipt.Receipt.{Receipt}
 use Rattle.slot_runner.specs.Attended.{IsServedBy}
 use Rattle.slot_runner.specs.Carried.{ended, IsCarriedOut}
 use Rattle.slot_runner.specs.Models.{IsIdle, WasReported}

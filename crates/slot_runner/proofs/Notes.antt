@@ -16,10 +16,10 @@ use Rattle.journal.specs.Journal.{entry}
 use Rattle.journal.specs.Runs.{grant_in}
 use Rattle.journal.proofs.Ingresses.{grant_is}
 use Rattle.journal.proofs.UnderWay.{note_more, noted_both, others_note_none}
-use Rattle.client_session.specs.Desk.{DrivenByRoot}
+use Rattle.master_desk.specs.Desk.{DrivenByRoot}
 use Rattle.client_session.specs.Drivers.{GrownByOthers, IsDrivenOn, StaysInHall, who_of}
 use Rattle.client_session.specs.Models.{DriverModel}
-use Rattle.client_session.specs.declared.receipt.Receipt.{Receipt}
+use Rattle.master_desk.specs.declared.receipt.Receipt.{Receipt}
 use Rattle.slot_runner.specs.Settling.{AreNoted, IsOpenRunOf}
 use Rattle.slot_runner.specs.Slots.{CallsFall}
 use Rattle.slot_runner.proofs.Turns.{met_under_way, others_are_other}

@@ -24,10 +24,11 @@ use Rattle.journal.proofs.Legal.{legal_front}
 use Rattle.journal.proofs.OpenReplies.{open_reply}
 use Rattle.journal.proofs.Sound.{legal_sound}
 use Rattle.journal.proofs.UnderWay.{opens, running}
-use Rattle.client_session.specs.Desk.{DrivenByRoot}
-use Rattle.client_session.specs.Drivers.{flow_granted, IsDrivenOn}
+use Rattle.master_desk.specs.Desk.{DrivenByRoot}
+use Rattle.master_desk.specs.Grants.{flow_granted}
+use Rattle.client_session.specs.Drivers.{IsDrivenOn}
 use Rattle.client_session.specs.Models.{DriverModel}
-use Rattle.client_session.specs.declared.receipt.Receipt.{Receipt}
+use Rattle.master_desk.specs.declared.receipt.Receipt.{Receipt}
 use Rattle.slot_runner.specs.Settling.{IsOpenRunOf}
 use Rattle.slot_runner.proofs.Turns.{others_are_other}
 

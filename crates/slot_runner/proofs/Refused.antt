@@ -11,10 +11,10 @@ use Rattle.journal.specs.State.{State}
 use Rattle.journal.proofs.Driving.{free}
 use Rattle.journal.proofs.Growth.{state_snoc}
 use Rattle.journal.proofs.Leaving.{others_leave}
-use Rattle.client_session.specs.Desk.{DrivenByRoot}
+use Rattle.master_desk.specs.Desk.{DrivenByRoot}
 use Rattle.client_session.specs.Drivers.{IsDrivenOn, IsStopped, StaysInHall}
 use Rattle.client_session.specs.Models.{DriverModel, HallModel}
-use Rattle.client_session.specs.declared.receipt.Receipt.{Receipt}
+use Rattle.master_desk.specs.declared.receipt.Receipt.{Receipt}
 use Rattle.slot_runner.specs.Models.{MayRun, RunnerModel}
 use Rattle.slot_runner.specs.Slots.{IsAnswered, IsFullAt}
 use Rattle.slot_runner.proofs.Notes.{calls_fall}

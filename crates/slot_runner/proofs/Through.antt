@@ -15,10 +15,11 @@ use Rattle.port_board.specs.declared.view.Grant.{Grant}
 use Rattle.port_board.specs.declared.view.Report.{Report}
 use Rattle.port_board.specs.declared.view.View.{View}
 use Rattle.port_board.specs.Agreement.{EachPosted, SharesNothing}
-use Rattle.client_session.specs.Desk.{IsSeen}
-use Rattle.client_session.specs.Drivers.{flow_granted, IsDrivenOn, StaysInHall}
+use Rattle.master_desk.specs.Desk.{IsSeen}
+use Rattle.master_desk.specs.Grants.{flow_granted}
+use Rattle.client_session.specs.Drivers.{IsDrivenOn, StaysInHall}
 use Rattle.client_session.specs.Models.{DriverModel}
-use Rattle.client_session.specs.declared.receipt.Receipt.{Receipt}
+use Rattle.master_desk.specs.declared.receipt.Receipt.{Receipt}
 use Rattle.slot_runner.specs.Attended.{IsServedBy}
 use Rattle.slot_runner.specs.Carried.{IsCarriedOut}
 use Rattle.slot_runner.specs.Models.{IsIdle}

@@ -15,12 +15,12 @@ use Rattle.journal.specs.Entries.{is_driving}
 use Rattle.journal.specs.Journal.{is_full}
 use Rattle.journal.proofs.Legal.{full_is}
 use Rattle.journal.proofs.UnderWay.{others_more, room_to_end}
-use Rattle.client_session.specs.Desk.{DrivenByRoot}
+use Rattle.master_desk.specs.Desk.{DrivenByRoot}
 use Rattle.client_session.specs.Drivers.{GrownByOthers, IsDrivenOn, IsDriverTurn, IsStopped, who_of}
-use Rattle.client_session.specs.declared.receipt.Answer.{Answer}
-use Rattle.client_session.specs.declared.receipt.Answer.TheVariants.{Done, Full, Spent}
+use Rattle.master_desk.specs.declared.receipt.Answer.{Answer}
+use Rattle.master_desk.specs.declared.receipt.Answer.TheVariants.{Done, Full, Spent}
 use Rattle.client_session.specs.Models.{DriverModel}
-use Rattle.client_session.specs.declared.receipt.Receipt.{Receipt}
+use Rattle.master_desk.specs.declared.receipt.Receipt.{Receipt}
 
 above_zero : (n : ℕ) → n ≢ 0 → 0 < n
 above_zero n far = omega (arith, far)

@@ -6,7 +6,7 @@ use Rattle.journal.specs.declared.opening.Opening.{Opening}
 use Rattle.journal.specs.Driven.{Drive, driven, IsDriven}
 use Rattle.journal.specs.Runs.{grant_in}
 use Rattle.turnstile.specs.Histories.{NoneAbove}
-use Rattle.client_session.specs.Desk.{IsSeen}
+use Rattle.master_desk.specs.Desk.{IsSeen}
 use Rattle.client_session.specs.Drivers.{StaysInHall, who_of}
 use Rattle.slot_runner.specs.Models.{RunnerModel}
 use Rattle.slot_runner.specs.Posts.{posts_of, settlements_of}

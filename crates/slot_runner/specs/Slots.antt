@@ -10,10 +10,10 @@ use Rattle.journal.specs.Runs.{grant_in}
 use Rattle.turnstile.specs.Histories.{NoneAbove}
 use Rattle.port_board.specs.Views.{grant, report}
 use Rattle.port_agent.specs.Served.{SentOn}
-use Rattle.client_session.specs.Desk.{IsSeen}
+use Rattle.master_desk.specs.Desk.{IsSeen}
 use Rattle.client_session.specs.Drivers.{IsDrivenOn, IsStopped, StaysInHall, who_of}
 use Rattle.client_session.specs.Models.{DriverModel}
-use Rattle.client_session.specs.declared.receipt.Receipt.{Receipt}
+use Rattle.master_desk.specs.declared.receipt.Receipt.{Receipt}
 use Rattle.slot_runner.specs.Models.{RunnerModel}
 use Rattle.slot_runner.specs.Posts.{posts_of, settlements_of}
 use Rattle.slot_runner.specs.declared.answer.Ran.{Ran}

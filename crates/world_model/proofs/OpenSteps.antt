@@ -5,6 +5,7 @@ use Rattle.std.proofs.lemmas.Bool.{eqb-true, ne_eqb}
 use Rattle.std.proofs.lemmas.List.{length-map}
 use Rattle.coflow_units.specs.declared.fabric.Flow.{Flow}
 use Rattle.coflow_units.specs.Flows.{ingress_of}
+use Rattle.coflow_units.proofs.Bools.{part}
 use Rattle.journal.specs.State.{Run, has}
 use Rattle.journal.specs.Runs.{note_in}
 use Rattle.world_model.specs.declared.sent.SentRun.{SentRun}
@@ -42,10 +43,6 @@ none_at flows next (x ∷ xs) p all =
     let other : (x.slot ≡ next → ⊥) = λ e. omega (arith, e, first.in_time, first.units_some) in
     omega (arith, none_at flows next xs p (λ k d lt. all (suc k) d (omega arith)), if_not (x.port == p) (x.slot == next) x.units (ne_eqb x.slot next other))
 
-now_none : (b : Bool) (n : ℕ) → n ≡ 0 → (if b then n else 0) ≡ 0
-now_none true n e = e
-now_none false n e = refl
-
 pub kept_open : (flows : List Flow) (ports : ℕ) (credited : ℕ → ℕ) (next slots : ℕ) (gs : List ℕ) (xs : List PortFacts) (sent : List SentRun) →
     IsKept flows ports credited next None xs sent →
     IsKept flows ports credited next (Some (record { first = next; slots = slots; granted = gs; notes = [] })) (map (λ (x : PortFacts). record x { settled = None }) xs) sent
@@ -55,7 +52,7 @@ kept_open flows ports credited next slots gs xs sent h =
       wide = length-map xs (λ (x : PortFacts). record x { settled = None }) ∙ h.wide;
       each_sent = λ k d low. let x = h.each_sent k d low in record { slot_some = x.slot_some; units_some = x.units_some; at_ingress = x.at_ingress; in_time = inl x.in_time };
       apart = h.apart;
-      accounted = λ f. omega (arith, h.accounted f, now_none (has gs f) (sent_for sent (ingress_of flows f) next) (none (ingress_of flows f)));
+      accounted = λ f. omega (arith, h.accounted f, part (has gs f) (sent_for sent (ingress_of flows f) next), none (ingress_of flows f));
       port = λ q low.
           subst (λ (y : PortFacts). IsPort flows next (Some (record { first = next; slots = slots; granted = gs; notes = [] })) sent q y)
           (sym (cleared_at xs q (omega (arith, low, h.wide))))

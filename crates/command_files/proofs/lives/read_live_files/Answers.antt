@@ -1,9 +1,7 @@
 use Rattle.std.proofs.Common.{◌≡◌, refl, subst}
-use Rattle.coflow_units.specs.declared.quantity.Quantity.TheVariants.{Units}
 use Rattle.command_words.specs.Jobs.Job.{live_job}
 use Rattle.command_words.specs.Words.{Said, said_with}
 use Rattle.verdicts.specs.AnyReport.{IsAnyBadAt}
-use Rattle.command_files.specs.declared.status.Status.{Status}
 use Rattle.command_files.specs.Ends.{IsReadFault}
 use Rattle.command_files.specs.Shelves.{OfBoth}
 use Rattle.command_files.specs.Turns.{FilesInTurn}
@@ -34,7 +32,8 @@ returns-in_err-share-clause-cause g c =
     let said : Said = said_with (live_job c.args.trace.now c.args.script.now) c.args.options in
     passed_on c.from_residual-in_err-share.result c.in_err-share.field-0.0 _ c.from_residual-in_err-share.ensures.1
     (from_units (g.H.Shelf.told c.args.shelf.now) said c.in_ok-input.input.table c.in_ok-input.input.weights c.in_ok-input.ensures.input c.in_ok-input.ensures.table
-    IsAnyBadAt (g.H.Shelf.faults c.args.shelf.now) (g.H.Shelf.faults c.read_input.new.shelf) (g.H.Shelf.told c.read_input.new.shelf) c.args.script.now _ c.in_err-share.field-0.0 refl
+    IsAnyBadAt (g.H.Shelf.faults c.args.shelf.now) (g.H.Shelf.faults c.read_input.new.shelf) (g.H.Shelf.told c.read_input.new.shelf)
+    c.args.script.now _ c.in_err-share.field-0.0 refl
     c.in_err-share.ensures.limit.0 c.in_err-share.ensures.limit.1)
 
 pub returns-in_err-share-clause-in_turn : goal.returns-in_err-share-clause-in_turn

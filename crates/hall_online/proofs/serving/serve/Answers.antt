@@ -5,15 +5,11 @@ use Rattle.epochs.specs.declared.action.Action.{Action}
 use Rattle.online_progress.specs.declared.progress.Progress.{Progress}
 use Rattle.epochs.specs.declared.action.Action.TheVariants.{Publish, Register, Run, Skip, TooMany, Withdraw}
 use Rattle.hall_online.specs.Serving.{ComesFirst}
+use Rattle.hall_online.proofs.HandedOn.{carried}
 use Rattle.hall_online.proofs.ServeSteps.{all_sent, ends_so, falls, may_do, owed_each, served_so, serving_first, serving_on, serving_quiet, time_fits, too_many}
-use Rattle.std.specs.Result.{IsErrAnd}
 use Rattle.hall_online.specs.declared.answer.OnlineFault.{OnlineFault}
 use Rattle.hall_online.specs.declared.answer.OnlineFault.TheVariants.{TooMany as Many, WireFault}
 use Rattle.hall_online.proofs.serving.serve.Goals as goal
-
--- what a fault that is handed on is
-carried : {S : Type 0} (P : OnlineFault → Type 0) (x : Result S OnlineFault) (f : OnlineFault) → IsErrAnd x P → x ≡ Err f → P f
-carried P x f h e = subst (λ r. IsErrAnd r P) e h
 
 abbrev count_of : {S : Type 0} → Result S OnlineFault → ℕ
 count_of (Err (Many count)) = count

@@ -1,5 +1,5 @@
 use Rattle.std.proofs.Common.{Ok}
-use Rattle.live_serving.proofs.WiresOn.{served_on}
+use Rattle.round_serving.proofs.WiresOn.{served_on}
 use Rattle.live_serving.proofs.serving.serve.Goals as goal
 
 pub returns-in-Ok-clause-wires : goal.returns-in-Ok-clause-wires

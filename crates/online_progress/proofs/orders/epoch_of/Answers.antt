@@ -30,7 +30,8 @@ bound-bound-requires-clause-certificate c =
     let ports : t.ports ≡ c.args.table.now.ports = c.fill_by_coflow.ensures.size.ports ∙ c.requires.ports in
     let filled : (x : ℕ) (port : Port) → x < t.coflows → port.number < t.ports → is_present c.args.present.now x ≡ true →
     load_at t x port ≡ load (with_units (λ f. slice_index c.args.left.now f) c.args.table.now.flows) x port =
-    λ x port lt lt' yes. c.fill_by_coflow.ensures.present_are x port (omega (arith, lt, c.fill_by_coflow.ensures.size.coflows)) (omega (arith, lt', c.fill_by_coflow.ensures.size.ports)) yes ∙
+    λ x port lt lt' yes. c.fill_by_coflow.ensures.present_are x port
+    (omega (arith, lt, c.fill_by_coflow.ensures.size.coflows)) (omega (arith, lt', c.fill_by_coflow.ensures.size.ports)) yes ∙
     ap (λ (fs : List Flow). load (with_units (λ f. slice_index c.args.left.now f) fs) x port) c.flows.ensures.flows in
     subst (IsCertificateOf t) (sym c.in_ok-cert.ensures.from_last)
     (certificate i c.args.table.now.flows c.args.left.now weights c.args.present.now c.args.table.now.ports c.args.places.now inst order is t coflows ports filled)
@@ -43,7 +44,8 @@ bound-bound-requires-clause-feasible c =
     let ports : t.ports ≡ c.args.table.now.ports = c.fill_by_coflow.ensures.size.ports ∙ c.requires.ports in
     let filled : (x : ℕ) (port : Port) → x < t.coflows → port.number < t.ports → is_present c.args.present.now x ≡ true →
     load_at t x port ≡ load (with_units (λ f. slice_index c.args.left.now f) c.args.table.now.flows) x port =
-    λ x port lt lt' yes. c.fill_by_coflow.ensures.present_are x port (omega (arith, lt, c.fill_by_coflow.ensures.size.coflows)) (omega (arith, lt', c.fill_by_coflow.ensures.size.ports)) yes ∙
+    λ x port lt lt' yes. c.fill_by_coflow.ensures.present_are x port
+    (omega (arith, lt, c.fill_by_coflow.ensures.size.coflows)) (omega (arith, lt', c.fill_by_coflow.ensures.size.ports)) yes ∙
     ap (λ (fs : List Flow). load (with_units (λ f. slice_index c.args.left.now f) fs) x port) c.flows.ensures.flows in (
       weights,
       small,
@@ -64,7 +66,8 @@ returns-clause-epoch c = λ i weights inst order is.
     let ports : t.ports ≡ c.args.table.now.ports = c.fill_by_coflow.ensures.size.ports ∙ c.requires.ports in
     let filled : (x : ℕ) (port : Port) → x < t.coflows → port.number < t.ports → is_present c.args.present.now x ≡ true →
     load_at t x port ≡ load (with_units (λ f. slice_index c.args.left.now f) c.args.table.now.flows) x port =
-    λ x port lt lt' yes. c.fill_by_coflow.ensures.present_are x port (omega (arith, lt, c.fill_by_coflow.ensures.size.coflows)) (omega (arith, lt', c.fill_by_coflow.ensures.size.ports)) yes ∙
+    λ x port lt lt' yes. c.fill_by_coflow.ensures.present_are x port
+    (omega (arith, lt, c.fill_by_coflow.ensures.size.coflows)) (omega (arith, lt', c.fill_by_coflow.ensures.size.ports)) yes ∙
     ap (λ (fs : List Flow). load (with_units (λ f. slice_index c.args.left.now f) fs) x port) c.flows.ensures.flows in
     let same : entries_of c.args.places.now ≡ the_ordering i = is_ordering i c.args.table.now.flows c.args.left.now weights c.args.present.now c.args.table.now.ports
     c.args.places.now inst order is in

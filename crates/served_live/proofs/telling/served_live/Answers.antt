@@ -1,10 +1,10 @@
-use Rattle.std.proofs.Common.{◌≡◌, ℕ, ◌≤◌, ◌<◌, Result, Err, ap, arith, length, refl, subst, sym}
+use Rattle.std.proofs.Common.{◌≡◌, ℕ, ◌≤◌, ◌<◌, Result, Err, ap, arith, refl, subst, sym}
 use Rattle.std.specs.Result.{IsErrAnd}
 use Rattle.live_model.specs.Clause.{IsLiveRun}
 use Rattle.live_runs.specs.Run.{opening_with}
 use Rattle.live_serving.specs.declared.answer.LiveFault.{LiveFault}
 use Rattle.live_serving.specs.declared.answer.LiveFault.TheVariants.{WireFault}
-use Rattle.live_serving.specs.Wires.{HaveServed, HaveStopped}
+use Rattle.round_serving.specs.Wires.{HaveServed, HaveStopped}
 use Rattle.served_live.specs.Told.{live_opening}
 use Rattle.served_live.proofs.SentFacts.{all_sent}
 use Rattle.served_live.proofs.telling.served_live.Goals as goal

@@ -1,14 +1,9 @@
-use Rattle.std.proofs.Common.{◌≡◌, ◌∙◌, Result, Err, length, sym, subst, ap}
-use Rattle.std.specs.Result.{IsErrAnd}
-use Rattle.hall_online.specs.declared.answer.OnlineFault.{OnlineFault}
+use Rattle.std.proofs.Common.{◌≡◌, ◌∙◌, Err, length, sym, ap}
 use Rattle.hall_online.specs.declared.answer.OnlineFault.TheVariants.{TooMany, WireFault}
+use Rattle.hall_online.proofs.HandedOn.{carried}
 use Rattle.served_online.specs.Told.{SendsAll}
 use Rattle.served_online.proofs.TextFacts.{fails_at, in_range, may_serve, sent_nothing, sent_so_far, stops_short, told_of, too_many}
 use Rattle.served_online.proofs.telling.served_online.Goals as goal
-
--- what a fault that is handed on is
-carried : {S : Type 0} (P : OnlineFault → Type 0) (x : Result S OnlineFault) (f : OnlineFault) → IsErrAnd x P → x ≡ Err f → P f
-carried P x f h e = subst (λ r. IsErrAnd r P) e h
 
 pub serve_online-requires-clause-arrival_each : goal.serve_online-requires-clause-arrival_each
 serve_online-requires-clause-arrival_each g c κs within = ap length c.deref.ensures.value ∙ c.in_ok-arrivals.ensures.each
@@ -22,7 +17,8 @@ returns-clause-text g c =
     told_of c.args.table.now c.args.weights.now c.args.slot_ms c.args.every
     (may_serve _ _ c.args.slot_ms _ c.coflows-within.ensures.table c.requires.weight_each c.requires.weight_range c.requires.epoch_some c.requires.epoch_fits)
     c.in_ok-arrivals.arrivals.items c.deref.result.now c.in_ok-arrivals.ensures.arrivals c.in_ok-arrivals.ensures.each c.in_ok-arrivals.ensures.range c.deref.ensures.value
-    c.online_runs_are_one.ensures.too_many c.released_is_bound.ensures.total c.released_ordering_is_feasible.ensures (SendsAll g.W.Wire.runs c.args.wires.now c.serve_online.new.wires c.args.table.now)
+    c.online_runs_are_one.ensures.too_many c.released_is_bound.ensures.total c.released_ordering_is_feasible.ensures
+    (SendsAll g.W.Wire.runs c.args.wires.now c.serve_online.new.wires c.args.table.now)
     c.in_ok-online.online c.in_ok-text.text.items c.in_ok-online.ensures.online c.in_ok-text.ensures.text c.in_ok-online.ensures.sent
 
 pub returns-clause-sent : goal.returns-clause-sent

@@ -1,6 +1,6 @@
 -- The port at which a post is made is free, and its last post was earlier.
 use Rattle.std.proofs.Common.{◌≡◌, ℕ, ◌<◌, List, [], ◌∷◌, ◌++◌, length, Some, None, refl, sym, ap, ◌∙◌, arith}
-use Rattle.client_session.specs.Drivers.{flow_granted}
+use Rattle.master_desk.specs.Grants.{flow_granted}
 use Rattle.slot_runner.proofs.GrantedFlows.{few_flows}
 use Rattle.slot_runner.proofs.PostSteps.{begins_posted, flows_more, flows_none, is_free, is_later, posts_port, skips_port}
 use Rattle.slot_runner.proofs.posting.post_grants.Goals as goal

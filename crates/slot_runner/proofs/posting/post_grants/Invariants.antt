@@ -1,6 +1,6 @@
 -- the ports so far are posted
 use Rattle.std.proofs.Common.{◌≡◌, vec_capacity}
-use Rattle.client_session.specs.Drivers.{flow_granted}
+use Rattle.master_desk.specs.Grants.{flow_granted}
 use Rattle.slot_runner.specs.Posts.{flows_by_port, IsPosted}
 use Rattle.slot_runner.proofs.posting.post_grants.Given as goal
 

@@ -3,9 +3,9 @@ use Rattle.std.proofs.Common.{◌≡◌, length, map, sym, ap, ◌∙◌, subst}
 use Rattle.std.specs.Prelude.{All}
 use Rattle.std.proofs.lemmas.List.Elements.{All-map}
 use Rattle.rank_board.specs.Models.{SeatModel}
-use Rattle.client_session.specs.declared.desk.Setting.{Setting}
+use Rattle.master_desk.specs.declared.desk.Setting.{Setting}
 use Rattle.client_session.specs.Closes.{IsClosed}
-use Rattle.client_session.specs.Desk.{DeskModel, IsSeen}
+use Rattle.master_desk.specs.Desk.{DeskModel, IsSeen}
 use Rattle.client_session.specs.Models.{ClosingModel, HallModel, SessionModel}
 use Rattle.client_session.specs.Returns.{WasMet}
 use Rattle.client_session.proofs.Endings.{all_back, hall_closed}

@@ -1,14 +1,15 @@
 -- A turn adds the driver's entry, or finds no room.
-use Rattle.std.proofs.Common.{rules, ◌≡◌, ℕ, ◌+◌, ◌-◌, ◌<◌, ◌≤◌, List, [], ◌∷◌, ◌++◌, take, length, sym, ap, ◌∙◌, subst, arith, refl, Some, Ok, Err, true, false, true≢false}
+use Rattle.std.proofs.Common.{◌≡◌, ℕ, ◌+◌, ◌-◌, ◌<◌, ◌≤◌, List, [], ◌∷◌, ◌++◌, take, length, sym, ap, ◌∙◌, subst, arith, Err, true, false, true≢false}
 use Rattle.std.specs.Prelude.{unwrap_or}
 use Rattle.journal.specs.Answer.{room}
 use Rattle.turnstile.specs.Models.{RootModel}
 use Rattle.journal.specs.declared.command.Entry.{Entry}
-use Rattle.client_session.specs.declared.desk.Setting.{Setting}
-use Rattle.client_session.specs.declared.receipt.Answer.{Answer}
-use Rattle.client_session.specs.Answers.{answer_of, makes_version}
-use Rattle.client_session.specs.Desk.{IsSeen}
-use Rattle.client_session.specs.Drivers.{HandsOut, IsDriverTurn, TellsGrants}
+use Rattle.master_desk.specs.declared.desk.Setting.{Setting}
+use Rattle.master_desk.specs.declared.receipt.Answer.{Answer}
+use Rattle.master_desk.specs.Answers.{answer_of, makes_version}
+use Rattle.master_desk.specs.Desk.{IsSeen}
+use Rattle.master_desk.specs.Grants.{TellsGrants}
+use Rattle.client_session.specs.Drivers.{HandsOut, IsDriverTurn}
 use Rattle.client_session.specs.Models.{DriverModel}
 use Rattle.client_session.proofs.Driving.{driver_kept, driver_model, driver_turned, numbers_after, root_left, root_may_leave}
 use Rattle.std.proofs.lemmas.List.{take_all}
@@ -17,7 +18,7 @@ use Rattle.journal.specs.declared.command.Command.TheVariants.{Publish}
 use Rattle.journal.specs.Fold.{state_of}
 use Rattle.journal.specs.Journal.{order_in, version_of}
 use Rattle.master_core.specs.Published.{ranked, TellsPlaces}
-use Rattle.client_session.proofs.Publishing.{hands_out, hands_nothing}
+use Rattle.client_session.proofs.Publishing.{hands_out}
 use Rattle.client_session.proofs.driver.Driver.publish_out.Goals.{then-is_version, else-is_version}
 use Rattle.client_session.proofs.driver.Driver.publish_out.Goals as goal
 

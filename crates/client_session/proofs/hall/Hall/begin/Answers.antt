@@ -1,7 +1,7 @@
 -- The driver of a new hall keeps that nothing is granted.
-use Rattle.std.proofs.Common.{◌≡◌, ℕ, ap, sym, subst, ◌∙◌, arith}
-use Rattle.client_session.specs.declared.desk.Setting.{Setting}
-use Rattle.client_session.specs.Drivers.{TellsGrants}
+use Rattle.std.proofs.Common.{◌≡◌, ap, subst, ◌∙◌, arith}
+use Rattle.master_desk.specs.declared.desk.Setting.{Setting}
+use Rattle.master_desk.specs.Grants.{TellsGrants}
 use Rattle.client_session.proofs.Beginning.{first_driver, retold}
 use Rattle.client_session.proofs.hall.Hall.begin.Goals as goal
 

@@ -1,12 +1,12 @@
 -- A pull is noted with the number of receipts as its mark.
-use Rattle.std.proofs.Common.{rules, ◌≡◌, ℕ, ◌+◌, ◌<◌, ◌≤◌, List, length, map, sym, ap, ◌∙◌, subst, arith, Some}
+use Rattle.std.proofs.Common.{◌≡◌, ◌+◌, ◌<◌, ◌≤◌, List, length, sym, ap, ◌∙◌, subst, arith}
 use Rattle.std.specs.Prelude.{unwrap_or}
 use Rattle.std.proofs.lemmas.List.{length-map}
 use Rattle.rank_board.specs.Models.{pulled}
-use Rattle.client_session.specs.declared.receipt.Receipt.{Receipt}
-use Rattle.client_session.specs.declared.desk.Setting.{Setting}
+use Rattle.master_desk.specs.declared.receipt.Receipt.{Receipt}
+use Rattle.master_desk.specs.declared.desk.Setting.{Setting}
 use Rattle.client_session.specs.Models.{HallModel, SessionModel}
-use Rattle.client_session.specs.Own.{own_entries, receipt_of}
+use Rattle.master_desk.specs.Own.{own_entries, receipt_of}
 use Rattle.client_session.proofs.Pulling.{coflows_pulled, notes_one, pass_pulled}
 use Rattle.client_session.proofs.session.Session.pull.Goals as goal
 
