@@ -12,7 +12,8 @@ import sys
 import tempfile
 
 sys.dont_write_bytecode = True
-from program_runs import CHECK, PROGRAM, READ_FAULT, TWO, TWO_TEXT, WEIGHTED, build
+from program_rows import CHECK, READ_FAULT, TWO, TWO_TEXT, WEIGHTED
+from program_runs import PROGRAM, build
 
 PLAN = ["plan", "t"]
 DIGITS = b"1" * 2**26

@@ -14,7 +14,8 @@ import tempfile
 from concurrent.futures import ThreadPoolExecutor
 
 sys.dont_write_bytecode = True
-from program_runs import JOURNAL, LATE, ONLINE, PROGRAM, TOP, TWO, TWO_TEXT, build
+from program_rows import JOURNAL, LATE, ONLINE, TWO, TWO_TEXT
+from program_runs import PROGRAM, TOP, build
 
 REFUSING = r"""
 #include <stddef.h>
