@@ -1,8 +1,8 @@
-//! Jobs over files in memory, on any wires and gates.
+//! Jobs over files in memory. All have one kind of wires and of gates, so that the call is built for these alone.
+use crate::meeting::{TestGate, TestWire};
 use coflow_units::{MAX_CLIENTS, MAX_PORTS};
 use command_files::Status;
-use live_rounds::{Gate, OpenGate};
-use outside::{MemShelf, MemSink, Wire};
+use outside::{MemShelf, MemSink};
 use sincronia_cli::sincronia;
 use std::alloc::Global;
 use std::process::Abort;
@@ -22,12 +22,12 @@ pub(crate) struct Asked<'a> {
 }
 
 /// The status and the bytes taken.
-pub(crate) fn ask<R: Threads + Wait + Sync + Abort, W: Wire + Send, G: Gate + Send>(
+pub(crate) fn ask<'a, R: Threads + Wait + Sync + Abort>(
     rt: &R,
     alloc: Global,
     asked: Asked<'_>,
-    wires: &mut Vec<W>,
-    gates: &mut Vec<G>,
+    wires: &mut Vec<TestWire<'a>>,
+    gates: &mut Vec<TestGate<'a>>,
 ) -> Result<(Status, MemSink), Fail> {
     let enough = wires.len() > MAX_PORTS as usize && gates.len() >= MAX_CLIENTS as usize;
     assert!(rt; enough);
@@ -56,12 +56,6 @@ fn shelf_of(alloc: Global, asked: Asked<'_>) -> Result<MemShelf, Fail> {
     shelf.put("t", asked.named[0])?;
     shelf.put("s", asked.named[1])?;
     Ok(shelf)
-}
-
-/// A gate for each client, which holds nobody back.
-pub(crate) fn open_gates(alloc: Global) -> Result<Vec<OpenGate>, Fail> {
-    let gates = vec![in alloc; OpenGate; MAX_CLIENTS as usize]?;
-    Ok(gates)
 }
 
 /// Stops where a job came to another status or another text.

@@ -1,6 +1,6 @@
 //! Clients of a script that wait for each other at their gates, and for a wire.
 use crate::asking::{Asked, ask};
-use crate::meeting::{MeetingGate, Pair, Side, meeting_gates, meeting_wires};
+use crate::meeting::{Pair, Side, TestGate, gates_of, wires_of};
 use crate::texts::TWO;
 use command_files::Status;
 use outside::MemSink;
@@ -39,12 +39,12 @@ fn play<R: Threads + Wait + Sync + Abort>(
     } else {
         None
     };
-    let mut wires = meeting_wires(alloc, side, None)?;
+    let mut wires = wires_of(alloc, [0, 0], [side, None])?;
     let (first, second) = (
         at_line(scene.first, pair.first()),
         at_line(scene.second, pair.second()),
     );
-    let mut gates = meeting_gates(alloc, first, second)?;
+    let mut gates = gates_of(alloc, first, second)?;
     let (status, out) = ask(rt, alloc, asked, &mut wires, &mut gates)?;
     let met = [has_met(&gates, 0), has_met(&gates, 1)];
     Ok((status, out, met))
@@ -59,7 +59,7 @@ fn at_line(line: Option<u32>, side: Side<'_>) -> Option<(u32, Side<'_>)> {
 }
 
 /// Whether the gate of a client, counted from 0, was passed where it waits, and did not give up.
-fn has_met(gates: &[MeetingGate<'_>], client: usize) -> bool {
+fn has_met(gates: &[TestGate<'_>], client: usize) -> bool {
     match gates.get(client) {
         Some(gate) => gate.passed && !gate.gave_up,
         None => false,

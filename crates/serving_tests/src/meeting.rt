@@ -1,7 +1,7 @@
 //! Wires and gates that wait for one another.
 use coflow_units::{MAX_CLIENTS, MAX_PORTS};
 use live_rounds::Gate;
-use outside::Wire;
+use outside::{MemWire, Wire};
 use std::alloc::Global;
 use std::sync::atomic::AtomicBool;
 use std::sync::atomic::Ordering::SeqCst;
@@ -60,56 +60,73 @@ impl Side<'_> {
     }
 }
 
-/// A wire that accepts units where the one that it waits for comes. Where it waits for none it accepts all.
+/// A wire in memory. It may wait for another one before each run that it is sent, and notes where it gave up.
 #[derive(Drop)]
-pub(crate) struct MeetingWire<'a> {
+pub(crate) struct TestWire<'a> {
+    pub(crate) kept: MemWire,
     side: Option<Side<'a>>,
-    faults: u64,
+    pub(crate) gave_up: bool,
 }
 
-impl Wire for MeetingWire<'_> {
-    ghost use Rattle.std.specs.Prelude.{None};
+impl Wire for TestWire<'_> {
+    ghost use Rattle.std.specs.Prelude.{Some};
 
-    ghost faults = { λ w. w.faults };
+    ghost faults = { λ w. w.kept.faults };
 
-    ghost runs = { λ _. None };
+    ghost runs = { λ w. Some w.kept.runs.items };
 
-    /// Accepts all units, or none where it gives up. Then the count rises by one, up to 2^64 - 1.
+    /// What the wire in memory accepts.
     fn send(&mut self, slot: u64, flow: u32, length: u64) -> u64 {
-        let _run = (slot, flow);
-        match &self.side {
-            Some(side) if !side.meets() => {
-                self.faults = self.faults.saturating_add(1);
-                0
+        if let Some(side) = &self.side {
+            if !side.meets() {
+                self.gave_up = true;
             }
-            _ => length,
         }
+        self.kept.send(slot, flow, length)
     }
 }
 
-/// A wire for each ingress port. Those of even and of odd ports may wait for others.
-pub(crate) fn meeting_wires<'a>(
+/// A wire for each ingress port, of which the first two do not accept the units with these numbers, counted from 1; 0 is no unit's. Those of even and of odd ports may wait for others.
+pub(crate) fn wires_of<'a>(
     alloc: Global,
-    even: Option<Side<'a>>,
-    odd: Option<Side<'a>>,
-) -> Result<Vec<MeetingWire<'a>>, Fail> {
+    fail_at: [u64; 2],
+    sides: [Option<Side<'a>>; 2],
+) -> Result<Vec<TestWire<'a>>, Fail> {
     let mut wires = Vec::new(alloc);
     for port in 0..=MAX_PORTS {
-        let side = if port % 2 == 1 { odd } else { even };
-        wires.push(MeetingWire { side, faults: 0 })?;
+        let fails = match port {
+            0 => fail_at[0],
+            1 => fail_at[1],
+            _ => 0,
+        };
+        wires.push(TestWire {
+            kept: MemWire::new(alloc, 8, Some(fails))?,
+            side: if port % 2 == 1 { sides[1] } else { sides[0] },
+            gave_up: false,
+        })?;
     }
     Ok(wires)
 }
 
-/// A gate that holds its client back at one line until the other one comes, and notes how often it was passed there.
+/// Whether one of the wires gave up.
+pub(crate) fn has_given_up(wires: &[TestWire<'_>]) -> bool {
+    for wire in wires {
+        if wire.gave_up {
+            return true;
+        }
+    }
+    false
+}
+
+/// A gate that may hold its client back at one line until another one comes, and notes whether it was passed there.
 #[derive(Drop)]
-pub(crate) struct MeetingGate<'a> {
+pub(crate) struct TestGate<'a> {
     side: Option<(u32, Side<'a>)>,
     pub(crate) passed: bool,
     pub(crate) gave_up: bool,
 }
 
-impl Gate for MeetingGate<'_> {
+impl Gate for TestGate<'_> {
     fn pass(&mut self, line: u32) {
         if let Some((at, side)) = &self.side {
             if *at == line {
@@ -120,12 +137,12 @@ impl Gate for MeetingGate<'_> {
     }
 }
 
-/// A gate for each client. The first two may wait for others at a line.
-pub(crate) fn meeting_gates<'a>(
+/// A gate for each client. Those of the first two may wait for others at a line.
+pub(crate) fn gates_of<'a>(
     alloc: Global,
     first: Option<(u32, Side<'a>)>,
     second: Option<(u32, Side<'a>)>,
-) -> Result<Vec<MeetingGate<'a>>, Fail> {
+) -> Result<Vec<TestGate<'a>>, Fail> {
     let mut gates = Vec::new(alloc);
     for client in 1..=MAX_CLIENTS {
         let side = match client {
@@ -133,7 +150,7 @@ pub(crate) fn meeting_gates<'a>(
             2 => second,
             _ => None,
         };
-        gates.push(MeetingGate {
+        gates.push(TestGate {
             side,
             passed: false,
             gave_up: false,

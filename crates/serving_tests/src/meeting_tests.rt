@@ -1,6 +1,6 @@
 //! Agents that wait for each other on the wires of a plan, of an online run and of a script.
-use crate::asking::{Asked, ask, expect, open_gates};
-use crate::meeting::{Pair, meeting_wires};
+use crate::asking::{Asked, ask, expect};
+use crate::meeting::{Pair, gates_of, has_given_up, wires_of};
 use crate::texts::{CROSSED, CROSSED_TEXT};
 use command_files::Status;
 use outside::MemSink;
@@ -64,60 +64,63 @@ const LIVE: Asked<'static> = Asked {
     ..PLAN
 };
 
-/// Wires of even and of odd ports that wait for one another.
+/// The status, what was written, and whether a wire gave up, where those of even and of odd ports wait for one another.
 fn meet<R: Threads + Wait + Sync + Abort>(
     rt: &R,
     alloc: Global,
     asked: Asked<'_>,
-) -> Result<(Status, MemSink), Fail> {
+) -> Result<(Status, MemSink, bool), Fail> {
     let pair = Pair::new();
-    let mut gates = open_gates(alloc)?;
-    let mut wires = meeting_wires(alloc, Some(pair.first()), Some(pair.second()))?;
-    ask(rt, alloc, asked, &mut wires, &mut gates)
+    let (even, odd) = (pair.first(), pair.second());
+    let mut wires = wires_of(alloc, [0, 0], [Some(even), Some(odd)])?;
+    let mut gates = gates_of(alloc, None, None)?;
+    let (status, out) = ask(rt, alloc, asked, &mut wires, &mut gates)?;
+    let gave_up = has_given_up(&wires);
+    Ok((status, out, gave_up))
 }
 
-/// Stops where the job ends otherwise: because a wire gave up, say, or because there was no memory for a thread.
+/// Stops where the job ends otherwise: because there was no memory for a thread, say, or because a wire gave up where none should.
 fn meets<R: Threads + Wait + Sync + Abort>(
     rt: &R,
     alloc: Global,
     asked: Asked<'_>,
-    wanted: (Status, &[u8]),
+    text: &[u8],
+    gives_up: bool,
 ) -> Result<(), Fail> {
-    let (status, out) = meet(rt, alloc, asked)?;
-    expect(rt, status, out.bytes(), wanted);
+    let (status, out, gave_up) = meet(rt, alloc, asked)?;
+    expect(rt, status, out.bytes(), (Status::Ok, text));
+    assert!(rt; gave_up == gives_up);
     Ok(())
 }
+
+/// What is asked, and the text that comes of it.
+const JOBS: &[(Asked<'static>, &[u8])] = &[
+    (PLAN, CROSSED_TEXT),
+    (ONLINE, CROSSED_ONLINE),
+    (LIVE, CROSSED_LIVE),
+];
 
 // No clause says that agents send beside each other. Where one of them ended before another began, the first wire would give up here, as it does where one agent has both.
 #[test]
 fn agents_send_at_the_same_time(rt: HostRuntime) -> Result<(), Fail> {
-    const ROWS: &[(Asked<'static>, &[u8])] = &[
-        (PLAN, CROSSED_TEXT),
-        (
-            Asked {
-                last: "--agents=64",
-                ..PLAN
-            },
-            CROSSED_TEXT,
-        ),
-        (ONLINE, CROSSED_ONLINE),
-        (LIVE, CROSSED_LIVE),
-    ];
-    for (asked, text) in ROWS {
-        meets(&rt, rt.alloc(), *asked, (Status::Ok, *text))?;
+    for (asked, text) in JOBS {
+        meets(&rt, rt.alloc(), *asked, *text, false)?;
     }
-    Ok(())
+    let many = Asked {
+        last: "--agents=64",
+        ..PLAN
+    };
+    meets(&rt, rt.alloc(), many, CROSSED_TEXT, false)
 }
 
 #[test]
 fn one_agent_sends_on_one_wire_after_another(rt: HostRuntime) -> Result<(), Fail> {
-    const GAVE_UP: Status = Status::WireFault { port: 0, count: 1 };
-    for asked in [PLAN, ONLINE, LIVE] {
+    for (asked, text) in JOBS {
         let alone = Asked {
             last: "--agents=1",
-            ..asked
+            ..*asked
         };
-        meets(&rt, rt.alloc(), alone, (GAVE_UP, b""))?;
+        meets(&rt, rt.alloc(), alone, *text, true)?;
     }
     Ok(())
 }

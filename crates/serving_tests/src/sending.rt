@@ -1,6 +1,6 @@
 //! Rows of jobs whose wires tell what they were sent.
-use crate::asking::{Asked, ask, expect, open_gates};
-use coflow_units::MAX_PORTS;
+use crate::asking::{Asked, ask, expect};
+use crate::meeting::{TestWire, gates_of, wires_of};
 use command_files::Status;
 use outside::{MemSink, MemWire};
 use std::alloc::Global;
@@ -64,32 +64,18 @@ fn served<'a, R: Threads + Wait + Sync + Abort>(
         named: row.named,
         after: row.after,
     };
-    let mut gates = open_gates(alloc)?;
-    let mut wires = wires_of(alloc, row.fail_at)?;
+    let mut gates = gates_of(alloc, None, None)?;
+    let mut wires = wires_of(alloc, row.fail_at, [None, None])?;
     let (status, out) = ask(rt, alloc, asked, &mut wires, &mut gates)?;
     let text = tell_wires(alloc, &wires)?;
     Ok((status, out, text))
 }
 
-/// A wire for each ingress port.
-fn wires_of(alloc: Global, fail_at: [u64; 2]) -> Result<Vec<MemWire>, Fail> {
-    let mut wires = Vec::new(alloc);
-    for port in 0..=MAX_PORTS {
-        let fails = match port {
-            0 => fail_at[0],
-            1 => fail_at[1],
-            _ => 0,
-        };
-        wires.push(MemWire::new(alloc, 8, Some(fails))?)?;
-    }
-    Ok(wires)
-}
-
 /// Tells the runs that the wires accepted, wire by wire.
-fn tell_wires(alloc: Global, wires: &[MemWire]) -> Result<String, Fail> {
+fn tell_wires(alloc: Global, wires: &[TestWire<'_>]) -> Result<String, Fail> {
     let mut text = String::new(alloc);
     for port in 0..wires.len() {
-        tell_wire(port, &wires[port], &mut text)?;
+        tell_wire(port, &wires[port].kept, &mut text)?;
     }
     Ok(text)
 }
