@@ -1,6 +1,7 @@
 //! The hall, where clients take turns at one master and read its ranks.
 ghost use Rattle.std.specs.Prelude.{◌≡◌, ℕ, ◌+◌, ◌^◌, ◌<◌, ◌≤◌, if◌then◌else◌, All, length, nat_lt, [], IfOk, OnOk, OnErr, Some};
 ghost use Rattle.journal.specs.State.{IsOpening};
+ghost use Rattle.rank_board.specs.Models.{first_publisher, new_seat};
 ghost use Rattle.client_session.specs.Models.{IsDriverOf, IsSessionOf};
 ghost use Rattle.client_session.specs.Levels.{IsLevel, IsMetByEach, IsMetByOne};
 ghost use Rattle.client_session.specs.Halls.{IsFirstDriver, IsNewSession};
@@ -10,7 +11,7 @@ use crate::session::Session;
 use coflow_units::NoMemory;
 use master_core::Master;
 use master_desk::Desk;
-use rank_board::{RankBoard, RankSeat};
+use rank_board::{Publisher, RankBoard, RankSeat};
 use std::alloc::Global;
 use std::marker::Model;
 use turnstile::Turnstile;
@@ -51,8 +52,8 @@ impl Hall {
         ensures opening { IfOk result (λ made. made.0.setting.opening ≡ master.opening) }
         ensures driver { IfOk result (λ made. IsFirstDriver made.0 driver_calls made.1) }
     {
-        let mut granted = vec![in alloc; None; master.table().ports() as usize]?;
-        let (board, publisher, rank) = RankBoard::new(alloc, master.table().coflows())?;
+        let (ports, coflows) = (master.table().ports(), master.table().coflows());
+        let (mut granted, board, publisher, rank) = first_parts(alloc, ports, coflows)?;
         let desk = Desk::new(master, publisher);
         desk.tell_grants(&mut granted);
         let _none = desk.position();
@@ -142,6 +143,22 @@ impl Hall {
         self.board.tell(&mut session.rank, heard);
         self.board.tell(heard, &mut session.rank);
     }
+}
+
+// A list in which nothing is granted at so many ports, and a board of so many coflows with its publisher and a first seat.
+fn first_parts(
+    alloc: Global,
+    ports: u32,
+    coflows: u32,
+) -> Result<(Vec<Option<u32>>, RankBoard, Publisher, RankSeat), NoMemory>
+    ensures ports { IfOk result (λ made. length made.0.items ≡ ports) }
+    ensures coflows { IfOk result (λ made. made.1.coflows ≡ coflows) }
+    ensures publisher { IfOk result (λ made. made.2 ≡ first_publisher made.1.table) }
+    ensures seat { IfOk result (λ made. made.3 ≡ new_seat made.1.table 0) }
+{
+    let granted = vec![in alloc; None; ports as usize]?;
+    let (board, publisher, rank) = RankBoard::new(alloc, coflows)?;
+    Ok((granted, board, publisher, rank))
 }
 
 // The greater of two numbers.

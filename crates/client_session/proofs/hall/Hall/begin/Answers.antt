@@ -9,7 +9,7 @@ pub invariant_of-driver : goal.invariant_of-driver
 invariant_of-driver c =
     let setting = c.new-desk.result.setting in
     let told = subst (λ j. TellsGrants setting.opening j c.tell_grants.new.granted) c.new-desk.ensures.journal c.tell_grants.ensures.granted in
-    let ports : c.ports.result ≡ setting.opening.table.ports =
-    omega (arith, c.ports.ensures.ports, ap (λ t. t.ports) c.table.ensures, ap (λ (s : Setting). s.opening.table.ports) c.new-desk.ensures.setting) in
+    let ports : c.ports-ports.result ≡ setting.opening.table.ports =
+    omega (arith, c.ports-ports.ensures.ports, ap (λ t. t.ports) c.table.ensures, ap (λ (s : Setting). s.opening.table.ports) c.new-desk.ensures.setting) in
     first_driver c.in_ok-gate.root c.in_ok-gate.gate.table setting _ c.in_ok-gate.ensures.root
-    (retold setting.opening _ _ c.tell_grants.new.granted _ (omega (arith, ports, c.in_ok-granted.ensures.len)) told)
+    (retold setting.opening _ _ c.tell_grants.new.granted _ (omega (arith, ports, c.in_ok-granted.ensures.ports)) told)
