@@ -31,7 +31,7 @@ use Rattle.master_desk.specs.Desk.{DrivenByRoot, IsSeen}
 use Rattle.client_session.specs.Drivers.{IsDrivenOn, StaysInHall, who_of}
 use Rattle.client_session.specs.Models.{DriverModel}
 use Rattle.master_desk.specs.declared.receipt.Receipt.{Receipt}
-use Rattle.slot_runner.specs.Attended.{IsServedBy}
+use Rattle.agent_threads.specs.Attended.{IsServedBy}
 use Rattle.slot_runner.specs.Carried.{ended, IsCarriedOut}
 use Rattle.slot_runner.specs.Models.{IsIdle, WasReported}
 use Rattle.slot_runner.specs.Posts.{flows_by_port, posts_of, settlements_of}

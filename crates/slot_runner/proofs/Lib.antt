@@ -2,14 +2,12 @@ pub mod Answered
 pub mod Carried
 pub mod Concluded
 pub mod GrantedFlows
-pub mod Halves
 pub mod Notes
 pub mod OnePort
 pub mod Opens
 pub mod PortPosts
 pub mod PostSteps
 pub mod Refused
-pub mod Service
 pub mod Settled
 pub mod Through
 pub mod Turns

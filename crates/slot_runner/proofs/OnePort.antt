@@ -19,7 +19,7 @@ use Rattle.port_board.specs.Rule.{DifferAt}
 use Rattle.port_board.specs.Views.{came_of, grant, is_left, is_of, is_unsettled, last_at, report, Sits}
 use Rattle.port_board.proofs.Lists.{is_of-false, last_is}
 use Rattle.port_agent.specs.Served.{SentOn}
-use Rattle.slot_runner.specs.Attended.{HadPort, IsServed, IsServedBy, WireServed}
+use Rattle.agent_threads.specs.Attended.{HadPort, IsServed, IsServedBy, WireServed}
 use Rattle.slot_runner.specs.Models.{IsIdle, WasReported}
 use Rattle.slot_runner.specs.Posts.{posts_of}
 use Rattle.slot_runner.specs.Settling.{AreToSettle}

@@ -20,7 +20,7 @@ use Rattle.master_desk.specs.Grants.{flow_granted}
 use Rattle.client_session.specs.Drivers.{IsDrivenOn, StaysInHall}
 use Rattle.client_session.specs.Models.{DriverModel}
 use Rattle.master_desk.specs.declared.receipt.Receipt.{Receipt}
-use Rattle.slot_runner.specs.Attended.{IsServedBy}
+use Rattle.agent_threads.specs.Attended.{IsServedBy}
 use Rattle.slot_runner.specs.Carried.{IsCarriedOut}
 use Rattle.slot_runner.specs.Models.{IsIdle}
 use Rattle.slot_runner.specs.Posts.{flows_by_port, IsPosted, posts_of}

@@ -1,4 +1,3 @@
-pub mod Attended
 pub mod Carried
 pub mod Models
 pub mod Posts

@@ -13,7 +13,7 @@ ghost use Rattle.slot_runner.specs.Carried.{IsCarriedOut};
 ghost use Rattle.slot_runner.specs.Settling.{IsOpenRunOf};
 ghost use Rattle.slot_runner.specs.Slots.{has_run, IsAnswered, IsFaulted, IsFullAt, IsRan};
 
-use crate::agents::serve_run;
+use agent_threads::serve_run;
 use crate::answer::{Ran, RunnerBack};
 use crate::posting::post_grants;
 use crate::settling::{close_run, settle_ports};

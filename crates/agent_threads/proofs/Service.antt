@@ -8,7 +8,7 @@ use Rattle.port_board.specs.declared.view.Came.{Came}
 use Rattle.port_board.specs.declared.view.Grant.{Grant}
 use Rattle.port_board.specs.declared.view.View.{View}
 use Rattle.port_board.specs.Views.{came_of, Sits}
-use Rattle.slot_runner.specs.Attended.{AreBack, AreServed, IsFresh, IsServedBy, kept_of}
+use Rattle.agent_threads.specs.Attended.{AreBack, AreServed, IsFresh, IsServedBy, kept_of}
 
 from_mapped : {X Y : Type 0} (P : Y → Type 0) (f : X → Y) (xs : List X) → All P (map f xs) → All (λ x. P (f x)) xs
 from_mapped P f [] all = All-nil (λ x. P (f x))

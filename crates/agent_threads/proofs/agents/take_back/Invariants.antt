@@ -1,8 +1,8 @@
 -- the seats so far came back
 use Rattle.std.proofs.Common.{◌≡◌, ◌++◌, length}
 use Rattle.std.specs.Vec.Iter.{into_iter_items, into_iter_len}
-use Rattle.slot_runner.specs.Attended.{AreBack}
-use Rattle.slot_runner.proofs.agents.take_back.Given as goal
+use Rattle.agent_threads.specs.Attended.{AreBack}
+use Rattle.agent_threads.proofs.agents.take_back.Given as goal
 
 abbrev pub invariant-loop-agent : goal.invariant-loop-agent
 invariant-loop-agent l = record {

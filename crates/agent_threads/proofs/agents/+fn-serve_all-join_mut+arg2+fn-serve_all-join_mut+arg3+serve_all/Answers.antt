@@ -2,8 +2,8 @@
 use Rattle.std.proofs.Common.{List, ◌++◌, ap, ◌∙◌, arith}
 use Rattle.port_board.specs.declared.view.Report.{Report}
 use Rattle.port_agent.specs.Served.{taken}
-use Rattle.slot_runner.proofs.Halves.{served_alone}
-use Rattle.slot_runner.proofs.agents.+fn-serve_all-join_mut+arg2+fn-serve_all-join_mut+arg3+serve_all.Goals as goal
+use Rattle.agent_threads.proofs.Halves.{served_alone}
+use Rattle.agent_threads.proofs.agents.+fn-serve_all-join_mut+arg2+fn-serve_all-join_mut+arg3+serve_all.Goals as goal
 
 pub returns-then-agents-eq1-clause-served : goal.returns-then-agents-eq1-clause-served
 returns-then-agents-eq1-clause-served g c c' =

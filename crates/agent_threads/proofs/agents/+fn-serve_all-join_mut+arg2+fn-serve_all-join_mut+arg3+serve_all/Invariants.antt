@@ -1,5 +1,5 @@
 use Rattle.std.proofs.Common.{◌+◌, ◌*◌, length}
-use Rattle.slot_runner.proofs.agents.+fn-serve_all-join_mut+arg2+fn-serve_all-join_mut+arg3+serve_all.Given as goal
+use Rattle.agent_threads.proofs.agents.+fn-serve_all-join_mut+arg2+fn-serve_all-join_mut+arg3+serve_all.Given as goal
 
 abbrev pub decreases-join_mut+arg2 : goal.decreases-join_mut+arg2
 decreases-join_mut+arg2 g l = 2 * length l.a.now + 1

@@ -11,7 +11,7 @@ use Rattle.port_board.specs.declared.view.Report.{Report}
 use Rattle.port_board.specs.declared.view.View.{View}
 use Rattle.port_board.specs.Views.{Sits}
 use Rattle.port_agent.specs.Served.{Attended, Attends, taken}
-use Rattle.slot_runner.specs.Attended.{AreServed, HadPort, IsServed, WireServed}
+use Rattle.agent_threads.specs.Attended.{AreServed, HadPort, IsServed, WireServed}
 
 -- a report of the list of what was drawn stands at a place of it, and one at a place stands in the list
 taken_from : (took : List (Option Report)) (r : Report) → Contains (taken took) r → (i : ℕ) × (i < length took) × (get_or took i None ≡ Some r)

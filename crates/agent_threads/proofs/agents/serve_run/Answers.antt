@@ -5,9 +5,9 @@ use Rattle.coflow_units.proofs.Fronts.{written_back}
 use Rattle.port_board.specs.declared.view.View.{View}
 use Rattle.port_board.specs.Agreement.{EachPosted, SharesNothing}
 use Rattle.port_board.specs.Views.{Sits}
-use Rattle.slot_runner.specs.Attended.{AreBack, IsFresh, kept_of}
-use Rattle.slot_runner.proofs.Service.{kept_seats, may_return, same_many, served_by}
-use Rattle.slot_runner.proofs.agents.serve_run.Goals as goal
+use Rattle.agent_threads.specs.Attended.{AreBack, IsFresh, kept_of}
+use Rattle.agent_threads.proofs.Service.{kept_seats, may_return, same_many, served_by}
+use Rattle.agent_threads.proofs.agents.serve_run.Goals as goal
 
 pub serve_all-requires-clause-fresh : goal.serve_all-requires-clause-fresh
 serve_all-requires-clause-fresh g c κs within = (

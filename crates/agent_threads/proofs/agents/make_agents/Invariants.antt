@@ -1,8 +1,8 @@
 -- the agents so far
 use Rattle.std.proofs.Common.{◌≡◌, ◌+◌, length, vec_capacity}
 use Rattle.std.specs.Prelude.{All}
-use Rattle.slot_runner.specs.Attended.{IsFresh}
-use Rattle.slot_runner.proofs.agents.make_agents.Given as goal
+use Rattle.agent_threads.specs.Attended.{IsFresh}
+use Rattle.agent_threads.proofs.agents.make_agents.Given as goal
 
 abbrev pub invariant-loop-number : goal.invariant-loop-number
 invariant-loop-number l = record {

@@ -3,7 +3,7 @@ ghost use Rattle.std.specs.Prelude.{◌≡◌, ◌⊎◌, ℕ, ◌+◌, ◌-◌,
 ghost use denote.Param.Send.{IsSync};
 ghost use Rattle.port_board.specs.declared.view.Grant.{Grant};
 ghost use Rattle.port_board.specs.Agreement.{EachPosted, SharesNothing};
-ghost use Rattle.slot_runner.specs.Attended.{AreBack, AreServed, IsFresh, IsServedBy, kept_of};
+ghost use Rattle.agent_threads.specs.Attended.{AreBack, AreServed, IsFresh, IsServedBy, kept_of};
 
 use outside::Wire;
 use port_agent::Agent;
@@ -11,8 +11,10 @@ use port_board::{PortBoard, Poster};
 use std::sync::Wait;
 use std::thread::{Threads, join_mut};
 
-// So many new agents, which were shown all posts, serve the ports beside each other, and come back.
-pub(crate) fn serve_run<R: Threads + Sync, W: Wire + Send>(
+/// So many new agents, which were shown all posts of the poster, serve the ports beside each other, each on a thread of its own, and come back.
+///
+/// There is one wire for each port that is to be served, from port 0 on, in units of the grants. The list of seats is empty and has room for the agents. No memory is taken.
+pub fn serve_run<R: Threads + Sync, W: Wire + Send>(
     rt: &R,
     board: &PortBoard,
     poster: &mut Poster,
