@@ -24,30 +24,18 @@ fn ask<R: Wait + Abort>(rt: &R, hall: &Hall, sessions: &mut [Session])
     requires coflows { length hall.now.setting.opening.table.ids ≡ 2 }
     ensures own { All (IsSessionOf hall.entry.now) sessions.new }
 {
-    assert_eq!(rt;
-        sessions[0].register(rt, hall, 0),
-        done(1, 0, Reply::Joined)
+    assert!(rt; sessions[0].register(rt, hall, 0) == done(1, 0, Reply::Joined));
+    assert!(rt; sessions[1].register(rt, hall, 1) == done(2, 0, Reply::Joined));
+    assert!(rt; sessions[1].pull(hall, 1) == Pulled::Unranked { version: 0 });
+    assert!(rt; sessions[0].publish(rt, hall) == done(3, 1, Reply::Version(1)));
+    assert!(rt;
+        sessions[1].pull(hall, 1)
+            == Pulled::Rank {
+                version: 1,
+                rank: 1
+            }
     );
-    assert_eq!(rt;
-        sessions[1].register(rt, hall, 1),
-        done(2, 0, Reply::Joined)
-    );
-    assert_eq!(rt; sessions[1].pull(hall, 1), Pulled::Unranked { version: 0 });
-    assert_eq!(rt;
-        sessions[0].publish(rt, hall),
-        done(3, 1, Reply::Version(1))
-    );
-    assert_eq!(rt;
-        sessions[1].pull(hall, 1),
-        Pulled::Rank {
-            version: 1,
-            rank: 1
-        }
-    );
-    assert_eq!(rt;
-        sessions[1].pull_turn(rt, hall, 0),
-        done(4, 1, Reply::Rank(1, 2))
-    );
+    assert!(rt; sessions[1].pull_turn(rt, hall, 0) == done(4, 1, Reply::Rank(1, 2)));
 }
 
 /// A run of at most five slots: the short coflow's flow is granted at port 0, and one slot ends it.
@@ -55,12 +43,9 @@ fn drive<R: Wait + Abort>(rt: &R, hall: &Hall, driver: &mut Driver)
     requires own { IsDriverOf hall.now driver.old }
     ensures own { IsDriverOf hall.entry.now driver.new }
 {
-    assert_eq!(rt;
-        driver.open_run(rt, hall, 5),
-        done(5, 1, Reply::Opened(1, 1, 1))
-    );
-    assert_eq!(rt; driver.granted(0), Some(1));
-    assert_eq!(rt; driver.close_run(rt, hall), done(6, 1, Reply::Closed(1)));
+    assert!(rt; driver.open_run(rt, hall, 5) == done(5, 1, Reply::Opened(1, 1, 1)));
+    assert!(rt; driver.granted(0) == Some(1));
+    assert!(rt; driver.close_run(rt, hall) == done(6, 1, Reply::Closed(1)));
 }
 
 /// Makes the calls of the page.
@@ -76,7 +61,7 @@ pub(crate) fn show<R: Wait + Abort>(
     ensures driver { IsDriverOf hall.entry.now driver.new }
     ensures sessions { All (IsSessionOf hall.entry.now) sessions.new }
 {
-    assert_eq!(rt; sessions.len(), 2);
+    assert!(rt; sessions.len() == 2);
     ask(rt, hall, sessions);
     drive(rt, hall, driver);
 }
@@ -90,5 +75,5 @@ fn the_example_of_the_page(rt: HostRuntime) {
         limit: 100,
     };
     let journal = agreed(&rt, alloc, size, Game::Example, &mut Vec::new(alloc));
-    assert_eq!(rt; journal.len(), 6);
+    assert!(rt; journal.len() == 6);
 }

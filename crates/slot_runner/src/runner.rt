@@ -13,10 +13,10 @@ ghost use Rattle.slot_runner.specs.Carried.{IsCarriedOut};
 ghost use Rattle.slot_runner.specs.Settling.{IsOpenRunOf};
 ghost use Rattle.slot_runner.specs.Slots.{has_run, IsAnswered, IsFaulted, IsFullAt, IsRan};
 
-use agent_threads::serve_run;
 use crate::answer::{Ran, RunnerBack};
 use crate::posting::post_grants;
 use crate::settling::{close_run, settle_ports};
+use agent_threads::serve_run;
 use client_session::{Answer, Driver, Hall, Reply};
 use outside::Wire;
 use port_agent::Agent;
