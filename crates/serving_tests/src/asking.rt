@@ -5,9 +5,9 @@ use command_files::Status;
 use outside::{MemShelf, MemSink};
 use sincronia_cli::sincronia;
 use std::alloc::Global;
+use std::fmt::Debug;
 use std::process::Abort;
 use std::sync::Wait;
-use std::test::Fail;
 use std::thread::Threads;
 
 /// What is asked of the files `t` and `s`.
@@ -28,34 +28,46 @@ pub(crate) fn ask<'a, R: Threads + Wait + Sync + Abort>(
     asked: Asked<'_>,
     wires: &mut Vec<TestWire<'a>>,
     gates: &mut Vec<TestGate<'a>>,
-) -> Result<(Status, MemSink), Fail> {
+) -> (Status, MemSink) {
     let enough = wires.len() > MAX_PORTS as usize && gates.len() >= MAX_CLIENTS as usize;
     assert!(rt; enough);
-    let words = words_of(alloc, asked)?;
-    let mut shelf = shelf_of(alloc, asked)?;
-    let mut out = MemSink::new(alloc, 4096, asked.after)?;
+    let words = words_of(rt, alloc, asked);
+    let mut shelf = shelf_of(rt, alloc, asked);
+    let mut out = had(rt, MemSink::new(alloc, 4096, asked.after));
     let mut bench = Vec::new(alloc);
     let status = sincronia(
         rt, alloc, &words, &mut shelf, &mut out, wires, gates, &mut bench,
     );
-    Ok((status, out))
+    (status, out)
 }
 
-fn words_of(alloc: Global, asked: Asked<'_>) -> Result<Vec<String>, Fail> {
+fn words_of(rt: &impl Abort, alloc: Global, asked: Asked<'_>) -> Vec<String> {
     let mut words = Vec::new(alloc);
-    words.push(String::from_str(alloc, "sincronia")?)?;
+    push_word(rt, alloc, &mut words, "sincronia");
     for text in asked.words {
-        words.push(String::from_str(alloc, text)?)?;
+        push_word(rt, alloc, &mut words, text);
     }
-    words.push(String::from_str(alloc, asked.last)?)?;
-    Ok(words)
+    push_word(rt, alloc, &mut words, asked.last);
+    words
 }
 
-fn shelf_of(alloc: Global, asked: Asked<'_>) -> Result<MemShelf, Fail> {
-    let mut shelf = MemShelf::new(alloc, 64, Vec::new(alloc))?;
-    shelf.put("t", asked.named[0])?;
-    shelf.put("s", asked.named[1])?;
-    Ok(shelf)
+fn push_word(rt: &impl Abort, alloc: Global, words: &mut Vec<String>, text: &str) {
+    had(rt, words.push(had(rt, String::from_str(alloc, text))));
+}
+
+fn shelf_of(rt: &impl Abort, alloc: Global, asked: Asked<'_>) -> MemShelf {
+    let mut shelf = had(rt, MemShelf::new(alloc, 64, Vec::new(alloc)));
+    had(rt, shelf.put("t", asked.named[0]));
+    had(rt, shelf.put("s", asked.named[1]));
+    shelf
+}
+
+/// The value of an answer. A test stops where memory is wanting.
+pub(crate) fn had<T, E: Debug + Drop>(rt: &impl Abort, answer: Result<T, E>) -> T {
+    match answer {
+        Ok(value) => value,
+        Err(fault) => panic!(rt; "{fault:?}"),
+    }
 }
 
 /// Stops where a job came to another status or another text.

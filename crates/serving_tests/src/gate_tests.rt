@@ -7,7 +7,6 @@ use outside::MemSink;
 use std::alloc::Global;
 use std::process::Abort;
 use std::sync::Wait;
-use std::test::Fail;
 use std::thread::Threads;
 
 /// A command over two flows and a script, and who waits for whom: a client at one of its lines, and another client at one of its, or the wires.
@@ -26,7 +25,7 @@ fn play<R: Threads + Wait + Sync + Abort>(
     rt: &R,
     alloc: Global,
     scene: Scene<'_>,
-) -> Result<(Status, MemSink, [bool; 2]), Fail> {
+) -> (Status, MemSink, [bool; 2]) {
     let asked = Asked {
         words: scene.words,
         last: scene.last,
@@ -39,15 +38,15 @@ fn play<R: Threads + Wait + Sync + Abort>(
     } else {
         None
     };
-    let mut wires = wires_of(alloc, [0, 0], [side, None])?;
+    let mut wires = wires_of(rt, alloc, [0, 0], [side, None]);
     let (first, second) = (
         at_line(scene.first, pair.first()),
         at_line(scene.second, pair.second()),
     );
-    let mut gates = gates_of(alloc, first, second)?;
-    let (status, out) = ask(rt, alloc, asked, &mut wires, &mut gates)?;
+    let mut gates = gates_of(rt, alloc, first, second);
+    let (status, out) = ask(rt, alloc, asked, &mut wires, &mut gates);
     let met = [has_met(&gates, 0), has_met(&gates, 1)];
-    Ok((status, out, met))
+    (status, out, met)
 }
 
 /// Where a client waits, with its side of the pair.
@@ -72,11 +71,10 @@ fn meets<R: Threads + Wait + Sync + Abort>(
     alloc: Global,
     scene: Scene<'_>,
     wanted: [bool; 2],
-) -> Result<(), Fail> {
-    let (status, _out, met) = play(rt, alloc, scene)?;
+) {
+    let (status, _out, met) = play(rt, alloc, scene);
     assert_eq!(rt; status, Status::Ok);
     assert_eq!(rt; met, wanted);
-    Ok(())
 }
 
 /// Two clients that register beside each other.
@@ -91,13 +89,13 @@ const BESIDE: Scene<'static> = Scene {
 
 // No clause says that the clients of a round ask beside each other. Where one of them ended before the other began, a gate would give up here.
 #[test]
-fn two_clients_ask_at_the_same_time(rt: HostRuntime) -> Result<(), Fail> {
-    meets(&rt, rt.alloc(), BESIDE, [true, true])
+fn two_clients_ask_at_the_same_time(rt: HostRuntime) {
+    meets(&rt, rt.alloc(), BESIDE, [true, true]);
 }
 
 // Nor does a clause say that a run is served beside the clients of its round.
 #[test]
-fn a_run_is_served_while_a_client_waits(rt: HostRuntime) -> Result<(), Fail> {
+fn a_run_is_served_while_a_client_waits(rt: HostRuntime) {
     let scene = Scene {
         script: b"1 register 1\n1 publish\nwait\n1 register 2\nslot\n",
         first: Some(4),
@@ -105,7 +103,7 @@ fn a_run_is_served_while_a_client_waits(rt: HostRuntime) -> Result<(), Fail> {
         wires: true,
         ..BESIDE
     };
-    meets(&rt, rt.alloc(), scene, [true, false])
+    meets(&rt, rt.alloc(), scene, [true, false]);
 }
 
 /// Whether the bytes have this line.
@@ -120,25 +118,24 @@ fn has_line(bytes: &[u8], line: &[u8]) -> bool {
 
 // A client reads its rank without a turn. The second client goes on where the first one, behind its own publishing, comes to its pull.
 #[test]
-fn both_pulls_have_the_order_that_was_published_before(rt: HostRuntime) -> Result<(), Fail> {
+fn both_pulls_have_the_order_that_was_published_before(rt: HostRuntime) {
     let scene = Scene {
         script: b"1 register 1\nwait\n1 publish\n1 pull 1\n2 pull 1\nwait\n",
         first: Some(4),
         second: Some(5),
         ..BESIDE
     };
-    let (status, out, met) = play(&rt, rt.alloc(), scene)?;
+    let (status, out, met) = play(&rt, rt.alloc(), scene);
     let first = has_line(out.bytes(), b"pull 1 4 1 1 1");
     let second = has_line(out.bytes(), b"pull 2 5 1 1 1");
     assert_eq!(rt; status, Status::Ok);
     assert_eq!(rt; met, [true, true]);
     assert!(rt; first && second);
-    Ok(())
 }
 
 // The gates of other commands are not passed.
 #[test]
-fn no_other_command_passes_a_gate(rt: HostRuntime) -> Result<(), Fail> {
+fn no_other_command_passes_a_gate(rt: HostRuntime) {
     for word in ["plan", "online", "classes"] {
         let scene = Scene {
             words: &[word],
@@ -146,7 +143,6 @@ fn no_other_command_passes_a_gate(rt: HostRuntime) -> Result<(), Fail> {
             second: None,
             ..BESIDE
         };
-        meets(&rt, rt.alloc(), scene, [false, false])?;
+        meets(&rt, rt.alloc(), scene, [false, false]);
     }
-    Ok(())
 }

@@ -3,7 +3,6 @@ use crate::sending::{Row, send_rows};
 use crate::texts::TWO;
 use coflow_units::Quantity;
 use command_files::Status;
-use std::test::Fail;
 
 /// One client registers both coflows, publishes, and asks for a rank.
 const SCRIPT: &[u8] = b"1 register 1\n1 register 2\n1 publish\n1 pull 2\nwait\n";
@@ -40,7 +39,7 @@ const LIVE: Row<'static> = Row {
 };
 
 #[test]
-fn scripts_are_served_by_any_number_of_agents(rt: HostRuntime) -> Result<(), Fail> {
+fn scripts_are_served_by_any_number_of_agents(rt: HostRuntime) {
     send_rows(&rt, rt.alloc(), &[LIVE])
 }
 
@@ -53,7 +52,7 @@ const UNWRITTEN: Row<'static> = Row {
 };
 
 #[test]
-fn a_script_ends_at_a_unit_that_is_not_accepted(rt: HostRuntime) -> Result<(), Fail> {
+fn a_script_ends_at_a_unit_that_is_not_accepted(rt: HostRuntime) {
     const ENDED: Row<'static> = Row {
         status: Status::WireFault { port: 0, count: 1 },
         ..UNWRITTEN
@@ -78,12 +77,12 @@ fn a_script_ends_at_a_unit_that_is_not_accepted(rt: HostRuntime) -> Result<(), F
             ..LIVE
         },
     ];
-    send_rows(&rt, rt.alloc(), ROWS)
+    send_rows(&rt, rt.alloc(), ROWS);
 }
 
 // A text that is not taken whole was sent all the same.
 #[test]
-fn a_bad_script_sends_nothing(rt: HostRuntime) -> Result<(), Fail> {
+fn a_bad_script_sends_nothing(rt: HostRuntime) {
     const CLIENTS: Status = Status::Limit {
         which: Quantity::Clients,
         count: 65,
@@ -112,5 +111,5 @@ fn a_bad_script_sends_nothing(rt: HostRuntime) -> Result<(), Fail> {
             ..UNWRITTEN
         },
     ];
-    send_rows(&rt, rt.alloc(), ROWS)
+    send_rows(&rt, rt.alloc(), ROWS);
 }

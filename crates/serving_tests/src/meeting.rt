@@ -1,11 +1,12 @@
 //! Wires and gates that wait for one another.
+use crate::asking::had;
 use coflow_units::{MAX_CLIENTS, MAX_PORTS};
 use live_rounds::Gate;
 use outside::{MemWire, Wire};
 use std::alloc::Global;
+use std::process::Abort;
 use std::sync::atomic::AtomicBool;
 use std::sync::atomic::Ordering::SeqCst;
-use std::test::Fail;
 
 /// How often one of them looks whether the other one came, before it gives up.
 const LOOKS: u32 = 1 << 28;
@@ -88,10 +89,11 @@ impl Wire for TestWire<'_> {
 
 /// A wire for each ingress port, of which the first two do not accept the units with these numbers, counted from 1; 0 is no unit's. Those of even and of odd ports may wait for others.
 pub(crate) fn wires_of<'a>(
+    rt: &impl Abort,
     alloc: Global,
     fail_at: [u64; 2],
     sides: [Option<Side<'a>>; 2],
-) -> Result<Vec<TestWire<'a>>, Fail> {
+) -> Vec<TestWire<'a>> {
     let mut wires = Vec::new(alloc);
     for port in 0..=MAX_PORTS {
         let fails = match port {
@@ -99,13 +101,14 @@ pub(crate) fn wires_of<'a>(
             1 => fail_at[1],
             _ => 0,
         };
-        wires.push(TestWire {
-            kept: MemWire::new(alloc, 8, Some(fails))?,
+        let wire = TestWire {
+            kept: had(rt, MemWire::new(alloc, 8, Some(fails))),
             side: if port % 2 == 1 { sides[1] } else { sides[0] },
             gave_up: false,
-        })?;
+        };
+        had(rt, wires.push(wire));
     }
-    Ok(wires)
+    wires
 }
 
 /// Whether one of the wires gave up.
@@ -139,10 +142,11 @@ impl Gate for TestGate<'_> {
 
 /// A gate for each client. Those of the first two may wait for others at a line.
 pub(crate) fn gates_of<'a>(
+    rt: &impl Abort,
     alloc: Global,
     first: Option<(u32, Side<'a>)>,
     second: Option<(u32, Side<'a>)>,
-) -> Result<Vec<TestGate<'a>>, Fail> {
+) -> Vec<TestGate<'a>> {
     let mut gates = Vec::new(alloc);
     for client in 1..=MAX_CLIENTS {
         let side = match client {
@@ -150,11 +154,12 @@ pub(crate) fn gates_of<'a>(
             2 => second,
             _ => None,
         };
-        gates.push(TestGate {
+        let gate = TestGate {
             side,
             passed: false,
             gave_up: false,
-        })?;
+        };
+        had(rt, gates.push(gate));
     }
-    Ok(gates)
+    gates
 }

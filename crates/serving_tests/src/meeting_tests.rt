@@ -7,7 +7,6 @@ use outside::MemSink;
 use std::alloc::Global;
 use std::process::Abort;
 use std::sync::Wait;
-use std::test::Fail;
 use std::thread::Threads;
 
 /// The online run: both coflows are there at once, and nobody owes behind slot 2.
@@ -69,14 +68,14 @@ fn meet<R: Threads + Wait + Sync + Abort>(
     rt: &R,
     alloc: Global,
     asked: Asked<'_>,
-) -> Result<(Status, MemSink, bool), Fail> {
+) -> (Status, MemSink, bool) {
     let pair = Pair::new();
     let (even, odd) = (pair.first(), pair.second());
-    let mut wires = wires_of(alloc, [0, 0], [Some(even), Some(odd)])?;
-    let mut gates = gates_of(alloc, None, None)?;
-    let (status, out) = ask(rt, alloc, asked, &mut wires, &mut gates)?;
+    let mut wires = wires_of(rt, alloc, [0, 0], [Some(even), Some(odd)]);
+    let mut gates = gates_of(rt, alloc, None, None);
+    let (status, out) = ask(rt, alloc, asked, &mut wires, &mut gates);
     let gave_up = has_given_up(&wires);
-    Ok((status, out, gave_up))
+    (status, out, gave_up)
 }
 
 /// Stops where the job ends otherwise: because there was no memory for a thread, say, or because a wire gave up where none should.
@@ -86,11 +85,10 @@ fn meets<R: Threads + Wait + Sync + Abort>(
     asked: Asked<'_>,
     text: &[u8],
     gives_up: bool,
-) -> Result<(), Fail> {
-    let (status, out, gave_up) = meet(rt, alloc, asked)?;
+) {
+    let (status, out, gave_up) = meet(rt, alloc, asked);
     expect(rt, status, out.bytes(), (Status::Ok, text));
     assert!(rt; gave_up == gives_up);
-    Ok(())
 }
 
 /// What is asked, and the text that comes of it.
@@ -102,25 +100,24 @@ const JOBS: &[(Asked<'static>, &[u8])] = &[
 
 // No clause says that agents send beside each other. Where one of them ended before another began, the first wire would give up here, as it does where one agent has both.
 #[test]
-fn agents_send_at_the_same_time(rt: HostRuntime) -> Result<(), Fail> {
+fn agents_send_at_the_same_time(rt: HostRuntime) {
     for (asked, text) in JOBS {
-        meets(&rt, rt.alloc(), *asked, *text, false)?;
+        meets(&rt, rt.alloc(), *asked, *text, false);
     }
     let many = Asked {
         last: "--agents=64",
         ..PLAN
     };
-    meets(&rt, rt.alloc(), many, CROSSED_TEXT, false)
+    meets(&rt, rt.alloc(), many, CROSSED_TEXT, false);
 }
 
 #[test]
-fn one_agent_sends_on_one_wire_after_another(rt: HostRuntime) -> Result<(), Fail> {
+fn one_agent_sends_on_one_wire_after_another(rt: HostRuntime) {
     for (asked, text) in JOBS {
         let alone = Asked {
             last: "--agents=1",
             ..*asked
         };
-        meets(&rt, rt.alloc(), alone, *text, true)?;
+        meets(&rt, rt.alloc(), alone, *text, true);
     }
-    Ok(())
 }

@@ -1,12 +1,11 @@
 //! Rows of jobs whose wires tell what they were sent.
-use crate::asking::{Asked, ask, expect};
+use crate::asking::{Asked, ask, expect, had};
 use crate::meeting::{TestWire, gates_of, wires_of};
 use command_files::Status;
 use outside::{MemSink, MemWire};
 use std::alloc::Global;
 use std::process::Abort;
 use std::sync::Wait;
-use std::test::Fail;
 use std::thread::Threads;
 
 /// A job, and what comes of it with each of its last words.
@@ -28,28 +27,18 @@ pub(crate) struct Row<'a> {
 }
 
 /// Carries the rows out one by one, and stops where one comes to something else.
-pub(crate) fn send_rows<R: Threads + Wait + Sync + Abort>(
-    rt: &R,
-    alloc: Global,
-    rows: &[Row<'_>],
-) -> Result<(), Fail> {
+pub(crate) fn send_rows<R: Threads + Wait + Sync + Abort>(rt: &R, alloc: Global, rows: &[Row<'_>]) {
     for row in rows {
-        send_row(rt, alloc, *row)?;
+        send_row(rt, alloc, *row);
     }
-    Ok(())
 }
 
-fn send_row<R: Threads + Wait + Sync + Abort>(
-    rt: &R,
-    alloc: Global,
-    row: Row<'_>,
-) -> Result<(), Fail> {
+fn send_row<R: Threads + Wait + Sync + Abort>(rt: &R, alloc: Global, row: Row<'_>) {
     for last in row.last {
-        let (status, out, sent) = served(rt, alloc, row, last)?;
+        let (status, out, sent) = served(rt, alloc, row, last);
         expect(rt, status, out.bytes(), (row.status, row.text));
         assert_eq!(rt; sent.as_str(), row.sent);
     }
-    Ok(())
 }
 
 fn served<'a, R: Threads + Wait + Sync + Abort>(
@@ -57,33 +46,32 @@ fn served<'a, R: Threads + Wait + Sync + Abort>(
     alloc: Global,
     row: Row<'a>,
     last: &'a str,
-) -> Result<(Status, MemSink, String), Fail> {
+) -> (Status, MemSink, String) {
     let asked = Asked {
         words: row.words,
         last,
         named: row.named,
         after: row.after,
     };
-    let mut gates = gates_of(alloc, None, None)?;
-    let mut wires = wires_of(alloc, row.fail_at, [None, None])?;
-    let (status, out) = ask(rt, alloc, asked, &mut wires, &mut gates)?;
-    let text = tell_wires(alloc, &wires)?;
-    Ok((status, out, text))
+    let mut gates = gates_of(rt, alloc, None, None);
+    let mut wires = wires_of(rt, alloc, row.fail_at, [None, None]);
+    let (status, out) = ask(rt, alloc, asked, &mut wires, &mut gates);
+    let text = tell_wires(rt, alloc, &wires);
+    (status, out, text)
 }
 
 /// Tells the runs that the wires accepted, wire by wire.
-fn tell_wires(alloc: Global, wires: &[TestWire<'_>]) -> Result<String, Fail> {
+fn tell_wires(rt: &impl Abort, alloc: Global, wires: &[TestWire<'_>]) -> String {
     let mut text = String::new(alloc);
     for port in 0..wires.len() {
-        tell_wire(port, &wires[port].kept, &mut text)?;
+        tell_wire(rt, port, &wires[port].kept, &mut text);
     }
-    Ok(text)
+    text
 }
 
-fn tell_wire(port: usize, wire: &MemWire, text: &mut String) -> Result<(), Fail> {
+fn tell_wire(rt: &impl Abort, port: usize, wire: &MemWire, text: &mut String) {
     for index in 0..wire.len() {
         let (slot, flow, units) = wire.run(index);
-        write!(text, "{port}: {slot} {flow} {units}\n")?;
+        had(rt, write!(text, "{port}: {slot} {flow} {units}\n"));
     }
-    Ok(())
 }

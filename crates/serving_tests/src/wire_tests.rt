@@ -2,7 +2,6 @@
 use crate::sending::{Row, send_rows};
 use crate::texts::{CROSSED, CROSSED_TEXT, TWO, TWO_TEXT};
 use command_files::Status;
-use std::test::Fail;
 use trace_reader::TraceFault;
 
 /// What the wires have of the plan of two flows, and of that of coflows that cross.
@@ -61,7 +60,7 @@ const ONLINE: Row<'static> = Row {
 };
 
 #[test]
-fn plans_are_sent_by_any_number_of_agents(rt: HostRuntime) -> Result<(), Fail> {
+fn plans_are_sent_by_any_number_of_agents(rt: HostRuntime) {
     const ROWS: &[Row<'static>] = &[
         PLAN,
         Row {
@@ -77,7 +76,7 @@ fn plans_are_sent_by_any_number_of_agents(rt: HostRuntime) -> Result<(), Fail> {
             ..PLAN
         },
     ];
-    send_rows(&rt, rt.alloc(), ROWS)
+    send_rows(&rt, rt.alloc(), ROWS);
 }
 
 /// The plan of two flows by one agent, on a wire that fails.
@@ -90,7 +89,7 @@ const FAILED: Row<'static> = Row {
 };
 
 #[test]
-fn each_unit_of_a_wire_fails_in_turn(rt: HostRuntime) -> Result<(), Fail> {
+fn each_unit_of_a_wire_fails_in_turn(rt: HostRuntime) {
     const ROWS: &[Row<'static>] = &[
         Row {
             fail_at: [1, 0],
@@ -119,7 +118,7 @@ fn each_unit_of_a_wire_fails_in_turn(rt: HostRuntime) -> Result<(), Fail> {
             ..PLAN
         },
     ];
-    send_rows(&rt, rt.alloc(), ROWS)
+    send_rows(&rt, rt.alloc(), ROWS);
 }
 
 /// The plan of coflows that cross, where the wire of one of two ports fails.
@@ -132,7 +131,7 @@ const CROSSED_FAILED: Row<'static> = Row {
 };
 
 #[test]
-fn the_least_port_that_fails_is_told(rt: HostRuntime) -> Result<(), Fail> {
+fn the_least_port_that_fails_is_told(rt: HostRuntime) {
     const AT_FIRST: Status = Status::WireFault { port: 0, count: 1 };
     const ROWS: &[Row<'static>] = &[
         Row {
@@ -163,16 +162,16 @@ fn the_least_port_that_fails_is_told(rt: HostRuntime) -> Result<(), Fail> {
             ..CROSSED_FAILED
         },
     ];
-    send_rows(&rt, rt.alloc(), ROWS)
+    send_rows(&rt, rt.alloc(), ROWS);
 }
 
 #[test]
-fn online_runs_are_sent_by_any_number_of_agents(rt: HostRuntime) -> Result<(), Fail> {
+fn online_runs_are_sent_by_any_number_of_agents(rt: HostRuntime) {
     send_rows(&rt, rt.alloc(), &[ONLINE])
 }
 
 #[test]
-fn an_online_run_ends_at_a_unit_that_is_not_accepted(rt: HostRuntime) -> Result<(), Fail> {
+fn an_online_run_ends_at_a_unit_that_is_not_accepted(rt: HostRuntime) {
     const ENDED: Row<'static> = Row {
         last: &["--agents=1"],
         status: Status::WireFault { port: 0, count: 1 },
@@ -196,12 +195,12 @@ fn an_online_run_ends_at_a_unit_that_is_not_accepted(rt: HostRuntime) -> Result<
             ..ENDED
         },
     ];
-    send_rows(&rt, rt.alloc(), ROWS)
+    send_rows(&rt, rt.alloc(), ROWS);
 }
 
 // The sink takes ten bytes, and the units were sent all the same.
 #[test]
-fn a_text_that_is_not_taken_whole_was_sent(rt: HostRuntime) -> Result<(), Fail> {
+fn a_text_that_is_not_taken_whole_was_sent(rt: HostRuntime) {
     const ROWS: &[Row<'static>] = &[
         Row {
             last: &["--agents=1"],
@@ -218,7 +217,7 @@ fn a_text_that_is_not_taken_whole_was_sent(rt: HostRuntime) -> Result<(), Fail> 
             ..ONLINE
         },
     ];
-    send_rows(&rt, rt.alloc(), ROWS)
+    send_rows(&rt, rt.alloc(), ROWS);
 }
 
 /// The classes of two flows, where there is one class.
@@ -243,7 +242,7 @@ const SILENT: Row<'static> = Row {
 };
 
 #[test]
-fn no_other_command_sends(rt: HostRuntime) -> Result<(), Fail> {
+fn no_other_command_sends(rt: HostRuntime) {
     const BAD: Status = Status::BadTrace(TraceFault::BadHeader);
     const ROWS: &[Row<'static>] = &[
         Row {
@@ -281,5 +280,5 @@ fn no_other_command_sends(rt: HostRuntime) -> Result<(), Fail> {
             ..SILENT
         },
     ];
-    send_rows(&rt, rt.alloc(), ROWS)
+    send_rows(&rt, rt.alloc(), ROWS);
 }
