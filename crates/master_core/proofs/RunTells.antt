@@ -7,7 +7,7 @@ use Rattle.std.proofs.Math.ListN.{get_or-eq_default}
 use Rattle.coflow_units.specs.declared.fabric.Flow.{Flow}
 use Rattle.matching.specs.declared.tables.Tables.{Tables}
 use Rattle.matching.specs.Matching.{IsGrantedAt, IsSettled, listed_in, ports_of}
-use Rattle.matching.specs.Ranking.{number_of}
+use Rattle.port_tables.specs.Ranking.{number_of}
 use Rattle.matching.specs.Sound.{rank_at}
 use Rattle.journal.specs.declared.command.Reply.{Reply}
 use Rattle.journal.specs.declared.command.Reply.TheVariants.{NotGranted, Noted}

@@ -6,7 +6,7 @@ use Rattle.coflow_units.specs.Flows.{coflow_of, SharesPort}
 use Rattle.coflow_units.specs.Grants.{ComesBefore, IsBlocked, IsGrants}
 use Rattle.coflow_units.proofs.Sums.{all_of_members}
 use Rattle.coflow_units.proofs.LinePlaces.{not_itself}
-use Rattle.matching.specs.Kept.{Graph, Meets, Touches, IsCovered, IsKept, IsClear, IsPutIn, IsEnded, IsLined, IsTold}
+use Rattle.port_tables.specs.Kept.{Graph, Meets, Touches, IsCovered, IsKept, IsClear, IsPutIn, IsEnded, IsLined, IsTold}
 
 pub meets_or_not : (g : Graph) (r s : ℕ) → Meets g r s ⊎ (Meets g r s → ⊥)
 meets_or_not g r s = elim (cases_eq (g.first r) (g.first s)) [

@@ -1,16 +1,8 @@
 pub mod KeptSteps
-pub mod WaitSteps
-pub mod BoardSteps
-pub mod LookSteps
-pub mod SettleSteps
-pub mod BitSteps
 pub mod PassSteps
-pub mod HeadSteps
-pub mod EndSteps
-pub mod RowSteps
-pub mod RankSteps
 pub mod SourceSteps
 pub mod ListSteps
 pub mod MatchingSteps
 pub mod RoomSteps
 pub mod RunSteps
+pub mod FreeSteps

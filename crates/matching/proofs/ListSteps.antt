@@ -15,9 +15,9 @@ use Rattle.std.specs.Ordering.{nat_cmp}
 use Rattle.coflow_units.specs.Flows.{IsDistinct}
 use Rattle.coflow_units.proofs.Sums.{nothing_in, pairs_from_apart, rising_apart}
 use Rattle.coflow_units.proofs.Bools.{flips}
-use Rattle.matching.specs.declared.ranks.Ranks.{Ranks}
-use Rattle.matching.specs.Board.{no_rank, first_of, IsRanks}
-use Rattle.matching.specs.Ranking.{number_of}
+use Rattle.port_tables.specs.declared.ranks.Ranks.{Ranks}
+use Rattle.port_tables.specs.Board.{no_rank, first_of, IsRanks}
+use Rattle.port_tables.specs.Ranking.{number_of}
 use Rattle.matching.specs.Listing.{IsFirstSide, IsListing}
 use Rattle.matching.proofs.SourceSteps.{IsAmongFirst, IsOneMore, among_all}
 

@@ -1,9 +1,9 @@
 -- The list of what stands at the first ports.
 use Rattle.std.specs.Prelude.{◌≡◌, ℕ, ◌<◌, ◌⊎◌, List, Contains, length, slice_index}
 use Rattle.coflow_units.specs.Flows.{IsDistinct}
-use Rattle.matching.specs.declared.ranks.Ranks.{Ranks}
-use Rattle.matching.specs.Board.{no_rank, first_of}
-use Rattle.matching.specs.Ranking.{number_of}
+use Rattle.port_tables.specs.declared.ranks.Ranks.{Ranks}
+use Rattle.port_tables.specs.Board.{no_rank, first_of}
+use Rattle.port_tables.specs.Ranking.{number_of}
 
 -- at each of the first ports a rank stands that has it, or none
 abbrev pub IsFirstSide : Ranks → List ℕ → Type 0

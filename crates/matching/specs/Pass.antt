@@ -1,10 +1,10 @@
 -- A pass over the rows: the grants of one row after another.
-use Rattle.std.specs.Prelude.{◌≡◌, ◌≢◌, ℕ, ◌+◌, ◌<◌, ◌≤◌, ◌⊎◌, List, length, slice_index}
-use Rattle.matching.specs.declared.rows.Rows.{Rows}
+use Rattle.std.specs.Prelude.{◌≡◌, ◌≢◌, ℕ, ◌+◌, ◌<◌, ◌⊎◌, List, length, slice_index}
+use Rattle.port_tables.specs.declared.rows.Rows.{Rows}
 use Rattle.matching.specs.declared.tables.Tables.{Tables}
-use Rattle.matching.specs.Kept.{Graph, IsCovered}
-use Rattle.matching.specs.Board.{graph_of, no_rank, IsBoard, Stands}
-use Rattle.matching.specs.Rows.{bit_of, row_of}
+use Rattle.port_tables.specs.Kept.{Graph, IsCovered}
+use Rattle.port_tables.specs.Board.{graph_of, no_rank, IsBoard, Stands}
+use Rattle.port_tables.specs.Rows.{bit_of, row_of}
 use Rattle.matching.specs.Sound.{IsFirstOfPair, left_at}
 
 -- the rank is below a bound, or in one of the first k rows
@@ -30,12 +30,6 @@ pub record IsPassing (ports : ℕ) (g : Graph) (left : ℕ → ℕ) (rows : Rows
 abbrev pub IsPassingIn : Tables → List ℕ → ℕ → Type 0
 IsPassingIn m free k =
     IsPassing m.ranks.ports (graph_of m.ranks) (left_at m) m.heads.rows m.board.at.items free m.settled k
-
--- what is below the bound stands where it stood, and nothing else stands
-pub record IsKeptBelow (old new : List ℕ) (bound : ℕ) : Type 0 where
-  pub size : length new ≡ length old
-  pub below : (p : ℕ) → p < length old → slice_index old p < bound → slice_index new p ≡ slice_index old p
-  pub gone : (p : ℕ) → p < length old → bound ≤ slice_index old p → slice_index new p ≡ no_rank
 
 -- a bit is set exactly where nothing stands
 pub record IsFreeBits (at bits : List ℕ) : Type 0 where

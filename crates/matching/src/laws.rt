@@ -2,7 +2,7 @@
 ghost use Rattle.std.specs.Prelude.{ℕ, ◌≡◌, ◌⊎◌, [], List, Contains};
 ghost use Rattle.coflow_units.specs.declared.fabric.Flow.{Flow};
 ghost use Rattle.coflow_units.specs.Grants.{IsGrants};
-ghost use Rattle.matching.specs.Kept.{Graph, IsClear, IsEnded, IsKeptList, IsLined, IsPutIn, IsTold};
+ghost use Rattle.port_tables.specs.Kept.{Graph, IsClear, IsEnded, IsKeptList, IsLined, IsPutIn, IsTold};
 
 /// With no port waiting, kept grants are the grants of the line.
 pub fn settled_is_granted()

@@ -1,7 +1,7 @@
-use Rattle.std.proofs.Common.{◌≡◌, ◌<◌, ◌≤◌, ℕ, inl, inr, get_or, length, set, take, ◌+◌, length-set, refl, subst, sym, ap, ◌∙◌, arith}
+use Rattle.std.proofs.Common.{◌≡◌, ◌<◌, ℕ, inl, inr, get_or, length, set, take, ◌+◌, length-set, refl, subst, sym, ap, ◌∙◌, arith}
 use Rattle.std.proofs.lemmas.List.{get_or_default}
-use Rattle.matching.specs.declared.ranks.Ranked.{Ranked}
-use Rattle.matching.specs.Board.{ranked_at, no_rank}
+use Rattle.port_tables.specs.declared.ranks.Ranked.{Ranked}
+use Rattle.port_tables.specs.Board.{ranked_at, no_rank}
 use Rattle.matching.specs.Listing.{IsListing}
 use Rattle.matching.proofs.ListSteps.{all_listed, list_skips, list_takes, none_listed}
 use Rattle.matching.proofs.SourceSteps.{IsAmongFirst, first_more, none_first}

@@ -1,7 +1,8 @@
 use Rattle.std.proofs.Common.{◌≡◌, ◌/◌, ◌^◌, ◌<◌, get_or, ◌∙◌, arith, rules}
 use Rattle.std.proofs.lemmas.List.{length-set}
-use Rattle.matching.specs.Board.{no_rank}
-use Rattle.matching.proofs.BitSteps.{free_next, set_in, taken_next}
+use Rattle.port_tables.specs.Board.{no_rank}
+use Rattle.port_tables.proofs.BitSteps.{set_in}
+use Rattle.matching.proofs.FreeSteps.{free_next, taken_next}
 use Rattle.matching.proofs.pass.mark_free.Goals as goal
 
 pub loop-port-preserved-then-rank-lt-NONE : goal.loop-port-preserved-then-rank-lt-NONE

@@ -1,6 +1,6 @@
 -- the bits of the ports so far are set where nothing stands, and no later bit is
 use Rattle.std.proofs.Common.{◌≡◌, length}
-use Rattle.matching.proofs.BitSteps.{IsFreeSoFar}
+use Rattle.matching.proofs.FreeSteps.{IsFreeSoFar}
 use Rattle.matching.proofs.pass.mark_free.Given as goal
 
 abbrev pub invariant-loop-port : goal.invariant-loop-port

@@ -1,5 +1,5 @@
 -- the least at the ports so far
-use Rattle.matching.specs.Board.{graph_of}
+use Rattle.port_tables.specs.Board.{graph_of}
 use Rattle.matching.specs.Sound.{left_at}
 use Rattle.matching.proofs.RunSteps.{IsLeastUpto}
 use Rattle.matching.proofs.SourceSteps.{IsAmongFirst}

@@ -1,13 +1,13 @@
 use Rattle.std.proofs.Common.{◌≡◌, ◌<◌, ℕ, List, Contains, length, take, get_or, subst, sym, ap, ◌∙◌, arith}
 use Rattle.coflow_units.proofs.Sums.{nothing_in}
-use Rattle.matching.specs.declared.heads.Heads.{Heads}
-use Rattle.matching.specs.declared.ranks.Ranks.{Ranks}
-use Rattle.matching.specs.Board.{graph_of, Stands}
-use Rattle.matching.specs.Kept.{IsLined, IsTold}
+use Rattle.port_tables.specs.declared.heads.Heads.{Heads}
+use Rattle.port_tables.specs.declared.ranks.Ranks.{Ranks}
+use Rattle.port_tables.specs.Board.{graph_of, Stands}
+use Rattle.port_tables.specs.Kept.{IsLined, IsTold}
 use Rattle.matching.specs.Listing.{IsFirstSide, IsListing}
-use Rattle.matching.specs.Ranking.{number_of}
+use Rattle.port_tables.specs.Ranking.{number_of}
 use Rattle.matching.specs.Sound.{left_at}
-use Rattle.matching.proofs.EndSteps.{IsSameOwing, same_kept}
+use Rattle.port_tables.proofs.EndSteps.{IsSameOwing, same_kept}
 use Rattle.matching.proofs.KeptSteps.{kept_is_granted}
 use Rattle.coflow_units.proofs.Fronts.{written_back}
 use Rattle.matching.proofs.MatchingSteps.{first_side, listed_told}

@@ -1,8 +1,8 @@
 use Rattle.std.proofs.Common.{◌≡◌, ◌+◌, ◌-◌, ◌<◌, length, get_or, refl, sym, ap, subst, ◌∙◌, arith}
 use Rattle.std.proofs.lemmas.List.{get_or_default}
 use Rattle.coflow_units.specs.Flows.{IsDistinct}
-use Rattle.matching.specs.declared.ranks.Ranks.{Ranks}
-use Rattle.matching.specs.Board.{Stands, graph_of}
+use Rattle.port_tables.specs.declared.ranks.Ranks.{Ranks}
+use Rattle.port_tables.specs.Board.{Stands, graph_of}
 use Rattle.matching.specs.Matching.{IsRankTaken}
 use Rattle.matching.specs.Sound.{rank_at}
 use Rattle.matching.proofs.RoomSteps.{room_again, whole_again}

@@ -1,0 +1,9 @@
+pub mod WaitSteps
+pub mod BoardSteps
+pub mod LookSteps
+pub mod SettleSteps
+pub mod BitSteps
+pub mod HeadSteps
+pub mod EndSteps
+pub mod RowSteps
+pub mod RankSteps

@@ -1,0 +1,29 @@
+use Rattle.std.proofs.Common.{◌+◌, length, subst, sym, ap, ◌∙◌, arith}
+use Rattle.port_tables.specs.Board.{graph_of}
+use Rattle.port_tables.specs.Heads.{IsChain}
+use Rattle.port_tables.specs.Rows.{IsRows}
+use Rattle.port_tables.proofs.HeadSteps.{no_heads, no_chain}
+use Rattle.port_tables.proofs.heads.Heads.fill.Goals as goal
+
+pub loop-rank-init : goal.loop-rank-init
+loop-rank-init c =
+    let g = graph_of c.args.ranks.now in
+    record {
+      low = omega arith;
+      size = ap (λ x. length x.items) c.clear.ensures.next;
+      heads = no_heads c.args.ranks.now.ports g c.clear.new.self.least.items c.requires.ranks.graph (c.clear.ensures.size ∙ c.requires.size) c.clear.ensures.none;
+      chain = subst (λ x. IsChain g x.items c.args.ranks.now.count) (sym c.clear.ensures.next) (no_chain g c.args.self.now.next.items c.requires.room);
+      rows = subst (λ x. IsRows c.args.ranks.now.ports g (λ r. r + 1) x) (sym c.clear.ensures.rows) c.fill.ensures.rows;
+    }
+
+pub loop-rank-preserved : goal.loop-rank-preserved
+loop-rank-preserved c =
+    let i = c.loop-rank.invariant in
+    let e = c.put_before.ensures in
+    record {
+      low = omega (arith, i.low);
+      size = e.size ∙ i.size;
+      heads = e.heads;
+      chain = e.chain;
+      rows = subst (λ x. IsRows c.args.ranks.now.ports (graph_of c.args.ranks.now) (λ r. r + 1) x) (sym e.rows) i.rows;
+    }
