@@ -10,9 +10,10 @@ import os
 import subprocess
 import sys
 import tempfile
+from concurrent.futures import ThreadPoolExecutor
 
 sys.dont_write_bytecode = True
-from program_rows import CHECK, READ_FAULT, TWO, TWO_TEXT, WEIGHTED
+from program_rows import AUDIT, CHECK, JOURNAL, LATE, ONLINE, READ_FAULT, TWO, TWO_TEXT, WEIGHTED
 from program_runs import PROGRAM, build
 
 PLAN = ["plan", "t"]
@@ -84,6 +85,37 @@ def rows():
     ]
 
 
+# A script, each line of which has other words.
+SCRIPT = b"1 register 1\n2 withdraw 2\nslot\n1 reweigh 1 2\n2 pull 1\n1 publish\nwait\n"
+
+
+def in_each_field(text):
+    """The text with bytes of 0 or 255 in place of one field, for each field, with the numbers of its line and of the field."""
+    lines = text.split(b"\n")[:-1]
+    for at, line in enumerate(lines):
+        fields = line.split(b" ")
+        for index in range(len(fields)):
+            for byte in (b"\0", b"\xff"):
+                fields_now = fields[:index] + [byte * 3] + fields[index + 1:]
+                yield b"\n".join(lines[:at] + [b" ".join(fields_now)] + lines[at + 1:]) + b"\n", at + 1, index + 1
+
+
+def byte_rows():
+    """Rows with bytes of 0 and of 255 in each field of each kind of file. A strict text is bad at the line of the field; the others tell its field too."""
+    def row(name, line, field, files, words, code, told):
+        return "%s, line %d field %d" % (name, line, field), *files, words, code, b"", bad(told), 8
+
+    for text, line, field in in_each_field(TWO):
+        yield row("a trace", line, field, (text, None, None), PLAN, 3, b"trace: bad header" if line == 1 else b"trace: line %d field %d" % (line, field))
+    for text, line, field in in_each_field(b"1 5\n2 1\n"):
+        yield row("weights", line, field, (TWO, text, None), WEIGHTED, 4, b"weights: line %d field %d" % (line, field))
+    for text, line, field in in_each_field(SCRIPT):
+        yield row("a script", line, field, (TWO, None, text), LIVE, 6, b"script: line %d field %d" % (line, field))
+    for name, trace, whole, words in (("a report", TWO, TWO_TEXT, CHECK), ("an online report", LATE, ONLINE, CHECK), ("a printed journal", TWO, JOURNAL, AUDIT)):
+        for text, line, field in in_each_field(whole):
+            yield row(name, line, field, (trace, None, text), words, 5, b"report: line %d" % line)
+
+
 # Runs the words in a folder, with standard output and standard error in the files `out` and `err` there and so many bytes of addresses (0: no limit), and prints the exit code and the peak of
 # memory in KiB. The peak of a process counts what it had before the program was started in it, which is a copy of its parent: so a small process starts the program.
 STARTER = """
@@ -149,6 +181,8 @@ def main():
         print("0 passed, 1 failed")
         return 1
     results = [run(row) for row in rows()]
+    with ThreadPoolExecutor(4) as pool:
+        results += pool.map(run, byte_rows())
     if "--long" in sys.argv[1:]:
         results.append(run_long_report())
     print("%d passed, %d failed" % (results.count(True), results.count(False)))

@@ -192,13 +192,18 @@ def case(seed):
     return ports, coflows, scripted(r, [coflow.ident for coflow in coflows], seed % 2 == 0), r.choice([1, 2, 3, 2**40])
 
 
-# Rows that were worked by hand, over a coflow of 3 units with id 1 and one of 1 unit with id 2, both from port 0 to port 1, of weight 1: a script, the slots of a run, and the text without its
+# Rows that were worked by hand, over a coflow of 3 units with id 1 and one of 1 unit with id 2, both from port 0 to port 1, of weight 1: a script, the slots of a run (None: what the program
+# takes when it is not told), and the text without its
 # first and its last line
 ROWS = [
     ("", 1, "entry 1 0 open 1 nothing/"),
     ("1 register 1/1 register 2/1 publish/1 pull 2/wait/", 4,
      "entry 1 1 register 1 joined/entry 2 1 register 2 joined/entry 3 1 publish version 1/entry 4 0 open 4 opened 1 1 1/entry 5 0 close closed 1/entry 6 0 open 4 opened 2 3 1/"
      "entry 7 0 close closed 2/entry 8 0 open 4 nothing/order 1 2 1/pull 1 4 2 1 1/run 1 1/run 3 0/"),
+    ("1 register 1/1 register 2/1 publish/1 pull 2/wait/", None,
+     "entry 1 1 register 1 joined/entry 2 1 register 2 joined/entry 3 1 publish version 1/entry 4 0 open 1 opened 1 1 1/entry 5 0 close closed 1/entry 6 0 open 1 opened 2 1 1/"
+     "entry 7 0 close closed 2/entry 8 0 open 1 opened 3 1 1/entry 9 0 close closed 3/entry 10 0 open 1 opened 4 1 1/entry 11 0 close closed 4/entry 12 0 open 1 nothing/"
+     "order 1 2 1/pull 1 4 2 1 1/run 1 1/run 3 0/"),
     ("1 register 1/1 publish/wait/2 pull 1/wait/", 4,
      "entry 1 1 register 1 joined/entry 2 1 publish version 1/entry 3 0 open 4 opened 1 3 1/entry 4 0 close closed 1/entry 5 0 open 4 nothing/order 1 1/pull 2 4 1 1 1/run 3 0/"),
     ("1 register 1/1 register 2/1 reweigh 1 9/1 publish/wait/", 4,
@@ -245,10 +250,11 @@ def ended(trace, script, words, stdout=None):
 
 
 def printed(folder, ports, coflows, script, most, agents):
-    """What the built program prints of the script."""
+    """What the built program prints of the script, whose runs have at most so many slots, or, with None, as many as the program gives them."""
     for name, text in (("trace", trace_text(ports, coflows)), ("weights", weights_text(coflows)), ("script", script)):
         write(folder, name, text)
-    words = ["live", "trace", "script", "--weights", "weights", "--run", str(most), "--agents", str(agents)]
+    run = ["--run", str(most)] if most else []
+    words = ["live", "trace", "script", "--weights", "weights", *run, "--agents", str(agents)]
     ran = subprocess.run([PROGRAM, *words], cwd=folder, stdin=subprocess.DEVNULL, capture_output=True, timeout=120)
     return ran.stdout.decode() if ran.returncode == 0 and not ran.stderr else "exit code %d, %r and %r" % (ran.returncode, ran.stdout, ran.stderr)
 

@@ -1,5 +1,5 @@
 //! Benches of rankers, asked on small traces.
-use crate::counting::{Counting, Stutter, Tally};
+use crate::counting::{Counting, Tally};
 use crate::inputs::{LONG_FIRST, TWO, are_rows, attained, had, rows_on, seat, table_of};
 use coflow_units::NoMemory;
 use rankers::{Bssi0, Fifo, Ranker, Row, Sebf};
@@ -63,24 +63,21 @@ fn attained_learns(rt: HostRuntime) {
     }
 }
 
-/// Two rankers exchange their places, and keep their rows but for the index. One of them answers no order.
+/// Two rankers exchange their places, and keep their rows but for the index. One of them learns.
 #[test]
 fn rows_go_with_their_rankers(rt: HostRuntime) {
-    for (stutter_first, want) in [
-        (
-            true,
-            "1 1 Unfit(2); 1 2 Unfit(2); 2 1 Cost(7); 2 2 Cost(6); ",
-        ),
+    for (fifo_first, want) in [
+        (true, "1 1 Cost(7); 1 2 Cost(7); 2 1 Cost(7); 2 2 Cost(6); "),
         (
             false,
-            "1 1 Cost(7); 1 2 Cost(6); 2 1 Unfit(2); 2 2 Unfit(2); ",
+            "1 1 Cost(7); 1 2 Cost(6); 2 1 Cost(7); 2 2 Cost(7); ",
         ),
     ] {
         let mut bench = Vec::new(rt.alloc());
-        let stutter = had(&rt, Box::new(rt.alloc(), Stutter));
-        seat(&rt, &mut bench, stutter);
+        let fifo = had(&rt, Box::new(rt.alloc(), Fifo));
+        seat(&rt, &mut bench, fifo);
         seat(&rt, &mut bench, attained(&rt, rt.alloc(), 2));
-        if !stutter_first {
+        if !fifo_first {
             bench.reverse();
         }
         are_rows(&rt, rt.alloc(), LONG_FIRST, &[1, 1], bench, want);

@@ -3,9 +3,9 @@ use crate::meeting::{TestGate, TestWire};
 use coflow_units::{MAX_CLIENTS, MAX_PORTS};
 use command_files::Status;
 use outside::{MemShelf, MemSink};
+use rankers::Ranker;
 use sincronia_cli::sincronia;
 use std::alloc::Global;
-use std::fmt::Debug;
 use std::process::Abort;
 use std::sync::Wait;
 use std::thread::Threads;
@@ -17,6 +17,9 @@ pub(crate) struct Asked<'a> {
     pub(crate) words: &'a [&'a str],
     pub(crate) last: &'a str,
     pub(crate) named: [&'a [u8]; 2],
+    /// How many bytes a read gives at most, where that is not 0, and the call of the shelf that fails, counted from 1; 0 is no call's.
+    pub(crate) piece: usize,
+    pub(crate) fails: u32,
     /// How many bytes the sink takes until it fails.
     pub(crate) after: Option<u64>,
 }
@@ -28,16 +31,14 @@ pub(crate) fn ask<'a, R: Threads + Wait + Sync + Abort>(
     asked: Asked<'_>,
     wires: &mut Vec<TestWire<'a>>,
     gates: &mut Vec<TestGate<'a>>,
+    bench: &mut Vec<Box<dyn Ranker>>,
 ) -> (Status, MemSink) {
     let enough = wires.len() > MAX_PORTS as usize && gates.len() >= MAX_CLIENTS as usize;
-    assert!(rt; enough);
+    assert!(rt; enough && bench.len() < 1 << 32);
     let words = words_of(rt, alloc, asked);
     let mut shelf = shelf_of(rt, alloc, asked);
     let mut out = had(rt, MemSink::new(alloc, 4096, asked.after));
-    let mut bench = Vec::new(alloc);
-    let status = sincronia(
-        rt, alloc, &words, &mut shelf, &mut out, wires, gates, &mut bench,
-    );
+    let status = sincronia(rt, alloc, &words, &mut shelf, &mut out, wires, gates, bench);
     (status, out)
 }
 
@@ -56,17 +57,18 @@ fn push_word(rt: &impl Abort, alloc: Global, words: &mut Vec<String>, text: &str
 }
 
 fn shelf_of(rt: &impl Abort, alloc: Global, asked: Asked<'_>) -> MemShelf {
-    let mut shelf = had(rt, MemShelf::new(alloc, 64, Vec::new(alloc)));
+    let fails = had(rt, vec![in alloc; asked.fails; 1]);
+    let mut shelf = had(rt, MemShelf::new(alloc, asked.piece.max(1), fails));
     had(rt, shelf.put("t", asked.named[0]));
     had(rt, shelf.put("s", asked.named[1]));
     shelf
 }
 
 /// The value of an answer. A test stops where memory is wanting.
-pub(crate) fn had<T, E: Debug + Drop>(rt: &impl Abort, answer: Result<T, E>) -> T {
+pub(crate) fn had<T, E: Drop>(rt: &impl Abort, answer: Result<T, E>) -> T {
     match answer {
         Ok(value) => value,
-        Err(fault) => panic!(rt; "{fault:?}"),
+        Err(_) => panic!(rt; "no memory"),
     }
 }
 

@@ -1,6 +1,6 @@
 //! Clients of a script that wait for each other at their gates, and for a wire.
 use crate::asking::{Asked, ask};
-use crate::meeting::{Pair, Side, TestGate, gates_of, wires_of};
+use crate::meeting::{Pair, Side, TestGate, gates_of, has_given_up, wires_of};
 use crate::texts::TWO;
 use command_files::Status;
 use outside::MemSink;
@@ -20,16 +20,18 @@ struct Scene<'a> {
     wires: bool,
 }
 
-/// The status, what was written, and whether the gates of the first two clients were passed where they wait, and did not give up.
+/// The status, what was written, whether the gates of the first two clients were passed where they wait, and did not give up, and whether no wire gave up.
 fn play<R: Threads + Wait + Sync + Abort>(
     rt: &R,
     alloc: Global,
     scene: Scene<'_>,
-) -> (Status, MemSink, [bool; 2]) {
+) -> (Status, MemSink, [bool; 3]) {
     let asked = Asked {
         words: scene.words,
         last: scene.last,
         named: [TWO, scene.script],
+        piece: 64,
+        fails: 0,
         after: None,
     };
     let pair = Pair::new();
@@ -44,8 +46,13 @@ fn play<R: Threads + Wait + Sync + Abort>(
         at_line(scene.second, pair.second()),
     );
     let mut gates = gates_of(rt, alloc, first, second);
-    let (status, out) = ask(rt, alloc, asked, &mut wires, &mut gates);
-    let met = [has_met(&gates, 0), has_met(&gates, 1)];
+    let bench = &mut Vec::new(alloc);
+    let (status, out) = ask(rt, alloc, asked, &mut wires, &mut gates, bench);
+    let met = [
+        has_met(&gates, 0),
+        has_met(&gates, 1),
+        !has_given_up(&wires),
+    ];
     (status, out, met)
 }
 
@@ -65,7 +72,7 @@ fn has_met(gates: &[TestGate<'_>], client: usize) -> bool {
     }
 }
 
-/// Stops where the scene ends otherwise: with another status, or with other gates that were met.
+/// Stops where the scene ends otherwise: with another status, with other gates that were met, or with a wire that gave up.
 fn meets<R: Threads + Wait + Sync + Abort>(
     rt: &R,
     alloc: Global,
@@ -74,7 +81,7 @@ fn meets<R: Threads + Wait + Sync + Abort>(
 ) {
     let (status, _out, met) = play(rt, alloc, scene);
     assert_eq!(rt; status, Status::Ok);
-    assert_eq!(rt; met, wanted);
+    assert_eq!(rt; met, [wanted[0], wanted[1], true]);
 }
 
 /// Two clients that register beside each other.
@@ -129,7 +136,7 @@ fn both_pulls_have_the_order_that_was_published_before(rt: HostRuntime) {
     let first = has_line(out.bytes(), b"pull 1 4 1 1 1");
     let second = has_line(out.bytes(), b"pull 2 5 1 1 1");
     assert_eq!(rt; status, Status::Ok);
-    assert_eq!(rt; met, [true, true]);
+    assert_eq!(rt; met, [true, true, true]);
     assert!(rt; first && second);
 }
 

@@ -1,8 +1,12 @@
-//! Tests of the commands that serve plans, online runs and scripts: what is sent on wires, wires that fail, and agents, clients and runs that wait for one another. The crate has tests alone.
+//! Tests of the top call: what is sent on wires, wires, files and sinks that fail, agents, clients and runs that wait for one another, and benches that are not the program's. The crate has tests alone.
 #![tactic(auto)]
 
 #[cfg(test)]
 mod asking;
+#[cfg(test)]
+mod bench_tests;
+#[cfg(test)]
+mod file_tests;
 #[cfg(test)]
 mod gate_tests;
 #[cfg(test)]

@@ -40,7 +40,7 @@ const LIVE: Row<'static> = Row {
 
 #[test]
 fn scripts_are_served_by_any_number_of_agents(rt: HostRuntime) {
-    send_rows(&rt, rt.alloc(), &[LIVE])
+    send_rows(&rt, rt.alloc(), &[LIVE]);
 }
 
 /// A script of which nothing is written.
@@ -70,6 +70,11 @@ fn a_script_ends_at_a_unit_that_is_not_accepted(rt: HostRuntime) {
         Row {
             fail_at: [3, 0],
             sent: "0: 1 1 1\n0: 2 0 1\n",
+            ..ENDED
+        },
+        Row {
+            fail_at: [4, 0],
+            sent: "0: 1 1 1\n0: 2 0 2\n",
             ..ENDED
         },
         Row {

@@ -50,6 +50,8 @@ const PLAN: Asked<'static> = Asked {
     words: &["plan", "t"],
     last: "--agents=2",
     named: [CROSSED, SCRIPT],
+    piece: 64,
+    fails: 0,
     after: None,
 };
 
@@ -73,7 +75,8 @@ fn meet<R: Threads + Wait + Sync + Abort>(
     let (even, odd) = (pair.first(), pair.second());
     let mut wires = wires_of(rt, alloc, [0, 0], [Some(even), Some(odd)]);
     let mut gates = gates_of(rt, alloc, None, None);
-    let (status, out) = ask(rt, alloc, asked, &mut wires, &mut gates);
+    let bench = &mut Vec::new(alloc);
+    let (status, out) = ask(rt, alloc, asked, &mut wires, &mut gates, bench);
     let gave_up = has_given_up(&wires);
     (status, out, gave_up)
 }

@@ -51,11 +51,14 @@ fn served<'a, R: Threads + Wait + Sync + Abort>(
         words: row.words,
         last,
         named: row.named,
+        piece: 64,
+        fails: 0,
         after: row.after,
     };
     let mut gates = gates_of(rt, alloc, None, None);
     let mut wires = wires_of(rt, alloc, row.fail_at, [None, None]);
-    let (status, out) = ask(rt, alloc, asked, &mut wires, &mut gates);
+    let bench = &mut Vec::new(alloc);
+    let (status, out) = ask(rt, alloc, asked, &mut wires, &mut gates, bench);
     let text = tell_wires(rt, alloc, &wires);
     (status, out, text)
 }

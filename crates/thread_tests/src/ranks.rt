@@ -57,6 +57,30 @@ fn pulls_agree(board: &RankBoard, seat: &mut RankSeat) -> bool
     true
 }
 
+// What a reader of a board finds that has ranks of two coflows.
+#[test]
+fn a_pull_finds_the_rank_that_was_published(rt: HostRuntime) {
+    let Ok((board, mut publisher, mut seat)) = RankBoard::new(rt.alloc(), 2) else {
+        panic!(&rt; "no memory");
+    };
+    board.publish(&mut publisher, &[2, 1]);
+    let second = board.pull(&mut seat, 1, 0);
+    let first = board.pull(&mut seat, 0, 0);
+    assert_eq!(rt;
+        (second, first),
+        (
+            Pulled::Rank {
+                version: 1,
+                rank: 1
+            },
+            Pulled::Rank {
+                version: 1,
+                rank: 2
+            }
+        )
+    );
+}
+
 #[test]
 fn readers_agree_with_what_a_thread_publishes(rt: HostRuntime) {
     let Ok((board, mut publisher, mut one)) = RankBoard::new(rt.alloc(), 3) else {
