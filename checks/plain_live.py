@@ -192,9 +192,8 @@ def case(seed):
     return ports, coflows, scripted(r, [coflow.ident for coflow in coflows], seed % 2 == 0), r.choice([1, 2, 3, 2**40])
 
 
-# Rows that were worked by hand, over a coflow of 3 units with id 1 and one of 1 unit with id 2, both from port 0 to port 1, of weight 1: a script, the slots of a run (None: what the program
-# takes when it is not told), and the text without its
-# first and its last line
+# Rows that were worked by hand, over a coflow of 3 units with id 1 and one of 1 unit with id 2, both from port 0 to port 1, of weight 1: a script, the slots of a run (None: as many as the
+# program takes when it is not told), and the text without its first and its last line
 ROWS = [
     ("", 1, "entry 1 0 open 1 nothing/"),
     ("1 register 1/1 register 2/1 publish/1 pull 2/wait/", 4,
