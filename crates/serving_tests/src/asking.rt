@@ -34,7 +34,8 @@ pub(crate) fn ask<'a, R: Threads + Wait + Sync + Abort>(
     bench: &mut Vec<Box<dyn Ranker>>,
 ) -> (Status, MemSink) {
     let enough = wires.len() > MAX_PORTS as usize && gates.len() >= MAX_CLIENTS as usize;
-    assert!(rt; enough && bench.len() < 1 << 32);
+    assert!(rt; enough);
+    assert!(rt; bench.len() < 1 << 32);
     let words = words_of(rt, alloc, asked);
     let mut shelf = shelf_of(rt, alloc, asked);
     let mut out = had(rt, MemSink::new(alloc, 4096, asked.after));
