@@ -211,6 +211,8 @@ ROWS = [
     ("1 register 1/1 register 1/wait/slot/2 withdraw 1/2 withdraw 2/2 reweigh 1 2/64 pull 1/", 2**40,
      "entry 1 1 register 1 joined/entry 2 1 register 1 already/entry 3 0 open 1099511627776 opened 1 3 1/entry 4 0 close closed 1/entry 5 2 withdraw 1 left/entry 6 2 withdraw 2 nothere/"
      "entry 7 2 reweigh 1 2 nothere/entry 8 0 open 1099511627776 nothing/pull 64 8 1 0 0/run 3 0/"),
+    ("1 register 1/wait/1 reweigh 1 7/1 pull 1/wait/1 withdraw 1/1 withdraw 1/", 3,
+     "entry 1 1 register 1 joined/entry 2 1 reweigh 1 7 weighed 1/entry 3 1 withdraw 1 left/entry 4 1 withdraw 1 nothere/entry 5 0 open 3 nothing/pull 1 4 1 0 0/"),
     ("slot/slot/", 3, "entry 1 0 open 3 nothing/entry 2 0 open 3 nothing/entry 3 0 open 3 nothing/"),
 ]
 

@@ -1,8 +1,8 @@
-//! Jobs over files in memory. All have one kind of wires and of gates, so that the call is built for these alone.
-use crate::meeting::{TestGate, TestWire};
+//! Jobs over files in memory.
 use coflow_units::{MAX_CLIENTS, MAX_PORTS};
 use command_files::Status;
-use outside::{MemShelf, MemSink};
+use live_rounds::OpenGate;
+use outside::{MemShelf, MemSink, MemWire};
 use rankers::Ranker;
 use sincronia_cli::sincronia;
 use std::alloc::Global;
@@ -25,22 +25,38 @@ pub(crate) struct Asked<'a> {
 }
 
 /// The status and the bytes taken.
-pub(crate) fn ask<'a, R: Threads + Wait + Sync + Abort>(
+pub(crate) fn ask<R: Threads + Wait + Sync + Abort>(
     rt: &R,
     alloc: Global,
     asked: Asked<'_>,
-    wires: &mut Vec<TestWire<'a>>,
-    gates: &mut Vec<TestGate<'a>>,
+    wires: &mut Vec<MemWire>,
     bench: &mut Vec<Box<dyn Ranker>>,
 ) -> (Status, MemSink) {
-    let enough = wires.len() > MAX_PORTS as usize && gates.len() >= MAX_CLIENTS as usize;
-    assert!(rt; enough);
+    assert!(rt; wires.len() > MAX_PORTS as usize);
     assert!(rt; bench.len() < 1 << 32);
+    let mut gates = had(rt, vec![in alloc; OpenGate; MAX_CLIENTS as usize]);
     let words = words_of(rt, alloc, asked);
     let mut shelf = shelf_of(rt, alloc, asked);
     let mut out = had(rt, MemSink::new(alloc, 4096, asked.after));
-    let status = sincronia(rt, alloc, &words, &mut shelf, &mut out, wires, gates, bench);
+    let status = sincronia(
+        rt, alloc, &words, &mut shelf, &mut out, wires, &mut gates, bench,
+    );
     (status, out)
+}
+
+/// A wire for each ingress port, of which the first two do not accept the units with these numbers, counted from 1; 0 is no unit's.
+pub(crate) fn wires_of(rt: &impl Abort, alloc: Global, fail_at: [u64; 2]) -> Vec<MemWire> {
+    let mut wires = Vec::new(alloc);
+    for port in 0..=MAX_PORTS {
+        let fails = match port {
+            0 => fail_at[0],
+            1 => fail_at[1],
+            _ => 0,
+        };
+        let wire = had(rt, MemWire::new(alloc, 8, Some(fails)));
+        had(rt, wires.push(wire));
+    }
+    wires
 }
 
 fn words_of(rt: &impl Abort, alloc: Global, asked: Asked<'_>) -> Vec<String> {

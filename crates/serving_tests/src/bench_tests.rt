@@ -1,6 +1,5 @@
 //! Comparisons of benches that are not the program's.
-use crate::asking::{Asked, ask, expect, had};
-use crate::meeting::{gates_of, wires_of};
+use crate::asking::{Asked, ask, expect, had, wires_of};
 use crate::texts::TWO;
 use command_files::Status;
 use rankers::{Attained, Facts, Fifo, Ranker};
@@ -47,9 +46,8 @@ fn is_compared<R: Threads + Wait + Sync + Abort>(
         fails: 0,
         after: None,
     };
-    let mut wires = wires_of(rt, alloc, [0, 0], [None, None]);
-    let mut gates = gates_of(rt, alloc, None, None);
-    let (status, out) = ask(rt, alloc, asked, &mut wires, &mut gates, bench);
+    let mut wires = wires_of(rt, alloc, [0, 0]);
+    let (status, out) = ask(rt, alloc, asked, &mut wires, bench);
     expect(rt, status, out.bytes(), (Status::Ok, text));
     assert!(rt; bench.is_empty());
 }

@@ -1,4 +1,4 @@
-//! Tests of the top call: what is sent on wires, wires, files and sinks that fail, agents, clients and runs that wait for one another, and benches that are not the program's. The crate has tests alone.
+//! Tests of the top call: what is sent on wires, wires, files and sinks that fail, and benches that are not the program's. The crate has tests alone.
 #![tactic(auto)]
 
 #[cfg(test)]
@@ -8,13 +8,7 @@ mod bench_tests;
 #[cfg(test)]
 mod file_tests;
 #[cfg(test)]
-mod gate_tests;
-#[cfg(test)]
 mod live_wire_tests;
-#[cfg(test)]
-mod meeting;
-#[cfg(test)]
-mod meeting_tests;
 #[cfg(test)]
 mod sending;
 #[cfg(test)]

@@ -38,9 +38,44 @@ const LIVE: Row<'static> = Row {
     sent: SCRIPT_SENT,
 };
 
+/// Rounds of three clients, one of them beside a run, and a withdrawal behind it.
+const ROUNDS: &[u8] =
+    b"1 register 1\nwait\n2 register 2\nwait\n2 publish\nwait\n1 pull 2\n3 pull 1\nslot\n1 withdraw 2\n";
+
+/// Runs of at most two slots.
+const ROUNDS_TEXT: &[u8] = b"sincronia live 1
+entry 1 1 register 1 joined
+entry 2 2 register 2 joined
+entry 3 2 publish version 1
+entry 4 0 open 2 opened 1 1 1
+entry 5 0 close closed 1
+entry 6 1 withdraw 2 left
+entry 7 0 open 2 opened 2 2 1
+entry 8 0 close closed 2
+entry 9 0 open 2 opened 4 1 1
+entry 10 0 close closed 4
+entry 11 0 open 2 nothing
+order 1 2 1
+pull 1 7 2 1 1
+pull 3 8 1 1 2
+run 1 1
+run 3 0
+end
+";
+
 #[test]
 fn scripts_are_served_by_any_number_of_agents(rt: HostRuntime) {
-    send_rows(&rt, rt.alloc(), &[LIVE]);
+    const ROWS: &[Row<'static>] = &[
+        LIVE,
+        Row {
+            words: &["live", "t", "s", "--run=2"],
+            named: [TWO, ROUNDS],
+            text: ROUNDS_TEXT,
+            sent: "0: 1 1 1\n0: 2 0 2\n0: 4 0 1\n",
+            ..LIVE
+        },
+    ];
+    send_rows(&rt, rt.alloc(), ROWS);
 }
 
 /// A script of which nothing is written.

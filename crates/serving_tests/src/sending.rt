@@ -1,6 +1,5 @@
 //! Rows of jobs whose wires tell what they were sent.
-use crate::asking::{Asked, ask, expect, had};
-use crate::meeting::{TestWire, gates_of, wires_of};
+use crate::asking::{Asked, ask, expect, had, wires_of};
 use command_files::Status;
 use outside::{MemSink, MemWire};
 use std::alloc::Global;
@@ -55,19 +54,18 @@ fn served<'a, R: Threads + Wait + Sync + Abort>(
         fails: 0,
         after: row.after,
     };
-    let mut gates = gates_of(rt, alloc, None, None);
-    let mut wires = wires_of(rt, alloc, row.fail_at, [None, None]);
+    let mut wires = wires_of(rt, alloc, row.fail_at);
     let bench = &mut Vec::new(alloc);
-    let (status, out) = ask(rt, alloc, asked, &mut wires, &mut gates, bench);
+    let (status, out) = ask(rt, alloc, asked, &mut wires, bench);
     let text = tell_wires(rt, alloc, &wires);
     (status, out, text)
 }
 
 /// Tells the runs that the wires accepted, wire by wire.
-fn tell_wires(rt: &impl Abort, alloc: Global, wires: &[TestWire<'_>]) -> String {
+fn tell_wires(rt: &impl Abort, alloc: Global, wires: &[MemWire]) -> String {
     let mut text = String::new(alloc);
     for port in 0..wires.len() {
-        tell_wire(rt, port, &wires[port].kept, &mut text);
+        tell_wire(rt, port, &wires[port], &mut text);
     }
     text
 }

@@ -30,9 +30,6 @@ fn play<R: Threads + Wait + Sync + Abort>(
         words: scene.words,
         last: scene.last,
         named: [TWO, scene.script],
-        piece: 64,
-        fails: 0,
-        after: None,
     };
     let pair = Pair::new();
     let side = if scene.wires {
@@ -40,14 +37,13 @@ fn play<R: Threads + Wait + Sync + Abort>(
     } else {
         None
     };
-    let mut wires = wires_of(rt, alloc, [0, 0], [side, None]);
+    let mut wires = wires_of(rt, alloc, [side, None]);
     let (first, second) = (
         at_line(scene.first, pair.first()),
         at_line(scene.second, pair.second()),
     );
     let mut gates = gates_of(rt, alloc, first, second);
-    let bench = &mut Vec::new(alloc);
-    let (status, out) = ask(rt, alloc, asked, &mut wires, &mut gates, bench);
+    let (status, out) = ask(rt, alloc, asked, &mut wires, &mut gates);
     let met = [
         has_met(&gates, 0),
         has_met(&gates, 1),

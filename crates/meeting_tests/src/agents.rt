@@ -50,9 +50,6 @@ const PLAN: Asked<'static> = Asked {
     words: &["plan", "t"],
     last: "--agents=2",
     named: [CROSSED, SCRIPT],
-    piece: 64,
-    fails: 0,
-    after: None,
 };
 
 const ONLINE: Asked<'static> = Asked {
@@ -73,10 +70,9 @@ fn meet<R: Threads + Wait + Sync + Abort>(
 ) -> (Status, MemSink, bool) {
     let pair = Pair::new();
     let (even, odd) = (pair.first(), pair.second());
-    let mut wires = wires_of(rt, alloc, [0, 0], [Some(even), Some(odd)]);
+    let mut wires = wires_of(rt, alloc, [Some(even), Some(odd)]);
     let mut gates = gates_of(rt, alloc, None, None);
-    let bench = &mut Vec::new(alloc);
-    let (status, out) = ask(rt, alloc, asked, &mut wires, &mut gates, bench);
+    let (status, out) = ask(rt, alloc, asked, &mut wires, &mut gates);
     let gave_up = has_given_up(&wires);
     (status, out, gave_up)
 }

@@ -87,22 +87,16 @@ impl Wire for TestWire<'_> {
     }
 }
 
-/// A wire for each ingress port, of which the first two do not accept the units with these numbers, counted from 1; 0 is no unit's. Those of even and of odd ports may wait for others.
+/// A wire for each ingress port. Those of even and of odd ports may wait for others.
 pub(crate) fn wires_of<'a>(
     rt: &impl Abort,
     alloc: Global,
-    fail_at: [u64; 2],
     sides: [Option<Side<'a>>; 2],
 ) -> Vec<TestWire<'a>> {
     let mut wires = Vec::new(alloc);
     for port in 0..=MAX_PORTS {
-        let fails = match port {
-            0 => fail_at[0],
-            1 => fail_at[1],
-            _ => 0,
-        };
         let wire = TestWire {
-            kept: had(rt, MemWire::new(alloc, 8, Some(fails))),
+            kept: had(rt, MemWire::new(alloc, 8, None)),
             side: if port % 2 == 1 { sides[1] } else { sides[0] },
             gave_up: false,
         };
