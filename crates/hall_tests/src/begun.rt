@@ -3,7 +3,7 @@ ghost use Rattle.std.specs.Prelude.{◌≡◌, ◌≤◌, ◌^◌, [], All, leng
 ghost use Rattle.client_session.specs.Halls.{IsFirstDriver};
 ghost use Rattle.client_session.specs.Models.{IsDriverOf, IsSessionOf};
 
-use client_session::{CloseFault, Driver, Entry, Hall, Session};
+use client_session::{CloseFault, Driver, Hall, Session};
 use coflow_units::{Items, MAX_TEXT};
 use flow_table::Table;
 use master_core::Master;
@@ -91,7 +91,7 @@ pub(crate) fn seat(
 }
 
 /// Closes a hall of which all sessions are given. Where the close finds no memory it is tried once more.
-pub(crate) fn closed(
+fn closed(
     rt: &impl Abort,
     alloc: Global,
     hall: Hall,
@@ -111,20 +111,16 @@ pub(crate) fn closed(
     }
 }
 
-/// Closes a hall, and answers the journal.
-pub(crate) fn journal_of(
+/// Closes a hall: how many entries its journal has.
+pub(crate) fn length_of(
     rt: &impl Abort,
     alloc: Global,
     hall: Hall,
     driver: Driver,
     sessions: Vec<Session>,
-) -> Vec<Entry>
+) -> usize
     requires driver { IsDriverOf hall driver }
     requires sessions { All (IsSessionOf hall) sessions.items }
 {
-    let master = closed(rt, alloc, hall, driver, sessions);
-    let Ok(journal) = Vec::from_slice(alloc, master.journal()) else {
-        panic!(rt; "no memory");
-    };
-    journal
+    closed(rt, alloc, hall, driver, sessions).journal().len()
 }

@@ -2,7 +2,7 @@
 ghost use Rattle.std.specs.Prelude.{◌≡◌, All, length};
 ghost use Rattle.client_session.specs.Models.{IsDriverOf, IsSessionOf};
 
-use crate::games::{Game, Size, agreed};
+use crate::games::{Game, Size, played};
 use client_session::{Answer, Driver, Hall, Pulled, Receipt, Reply, Session};
 use std::process::Abort;
 use std::sync::Wait;
@@ -74,6 +74,6 @@ fn the_example_of_the_page(rt: HostRuntime) {
         calls: 3,
         limit: 100,
     };
-    let journal = agreed(&rt, alloc, size, Game::Example, &mut Vec::new(alloc));
-    assert!(rt; journal.len() == 6);
+    let entries = played(&rt, alloc, size, Game::Example);
+    assert!(rt; entries == 6);
 }

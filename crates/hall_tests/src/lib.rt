@@ -1,4 +1,4 @@
-//! Tests of halls. Clauses say what each call may answer; here is that calls in a known order answer what was worked out by hand, that what sessions were told stands in the closed journal, and
+//! Tests of halls. Clauses say what each call may answer; here is that calls in a known order answer what was worked out by hand, and
 //! that a hall from which a session is missing stays open.
 #![tactic(auto)]
 
@@ -16,5 +16,3 @@ mod games;
 mod orders;
 #[cfg(test)]
 mod rows;
-#[cfg(test)]
-mod told;

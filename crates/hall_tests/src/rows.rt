@@ -3,7 +3,7 @@ ghost use Rattle.std.specs.Prelude.{◌≡◌, ◌≤◌, ◌^◌, All, length, 
 ghost use Rattle.client_session.specs.Models.{IsDriverOf, IsSessionOf};
 
 use crate::asks::{Ask, Said, answered};
-use crate::games::{Game, Size, agreed};
+use crate::games::{Game, Size, played};
 use crate::orders::{Order, obeyed};
 use client_session::{Driver, Hall, Session};
 use coflow_units::Place;
@@ -28,10 +28,6 @@ pub(crate) enum Call {
 pub(crate) struct Case<'a> {
     call: Call,
     want: &'a str,
-}
-
-fn row(call: Call, want: &str) -> Case<'_> {
-    Case { call, want }
 }
 
 /// The text of an answer.
@@ -149,7 +145,7 @@ pub(crate) fn play_rows<R: Wait + Abort>(
     }
 }
 
-/// Makes the calls of the rows in a new hall of two sessions, and closes it. The receipts are those of the closed journal.
+/// Makes the calls of the rows in a new hall of two sessions, and closes it.
 fn play<R: Wait + Abort>(rt: &R, alloc: Global, limit: u32, calls: u32, rows: &[Case<'_>])
     requires some { 1 ≤ limit }
     requires few { limit ≤ 2 ^ 23 }
@@ -159,241 +155,292 @@ fn play<R: Wait + Abort>(rt: &R, alloc: Global, limit: u32, calls: u32, rows: &[
         calls,
         limit,
     };
-    agreed(rt, alloc, size, Game::Rows(rows), &mut Vec::new(alloc));
-}
-
-/// A call of the session at a place.
-fn client(at: usize, ask: Ask, want: &str) -> Case<'_> {
-    row(Call::Client(at, ask), want)
-}
-
-/// A call of the driver.
-fn driver(order: Order, want: &str) -> Case<'_> {
-    row(Call::Driver(order), want)
+    played(rt, alloc, size, Game::Rows(rows));
 }
 
 #[test]
 fn a_session_makes_no_more_calls_than_it_has(rt: HostRuntime) {
-    let rows = [
-        client(
-            0,
-            Ask::Register(0),
-            "Done(Receipt { position: 1, version: 0, reply: Joined }), 1 0 0",
-        ),
-        client(0, Ask::Register(1), "Spent, 1 0 0"),
-        client(0, Ask::Publish, "Spent, 1 0 0"),
-        client(0, Ask::Pull(1), "Unranked { version: 0 }, 1 0 0"),
+    const ROWS: &[Case<'static>] = &[
+        Case {
+            call: Call::Client(0, Ask::Register(0)),
+            want: "Done(Receipt { position: 1, version: 0, reply: Joined }), 1 0 0",
+        },
+        Case {
+            call: Call::Client(0, Ask::Register(1)),
+            want: "Spent, 1 0 0",
+        },
+        Case {
+            call: Call::Client(0, Ask::Publish),
+            want: "Spent, 1 0 0",
+        },
+        Case {
+            call: Call::Client(0, Ask::Pull(1)),
+            want: "Unranked { version: 0 }, 1 0 0",
+        },
     ];
-    play(&rt, rt.alloc(), 100, 1, &rows);
+    play(&rt, rt.alloc(), 100, 1, ROWS);
 }
 
 // The journal has room for one entry. A call that finds it full shows its length and is used up, and one more call is none.
 #[test]
 fn a_full_journal_uses_a_call_up(rt: HostRuntime) {
-    let rows = [
-        client(
-            0,
-            Ask::Register(0),
-            "Done(Receipt { position: 1, version: 0, reply: Joined }), 1 0 1",
-        ),
-        client(0, Ask::Register(1), "Full(1), 1 0 0"),
-        client(0, Ask::Register(1), "Spent, 1 0 0"),
-        client(1, Ask::Register(1), "Full(1), 1 0 1"),
+    const ROWS: &[Case<'static>] = &[
+        Case {
+            call: Call::Client(0, Ask::Register(0)),
+            want: "Done(Receipt { position: 1, version: 0, reply: Joined }), 1 0 1",
+        },
+        Case {
+            call: Call::Client(0, Ask::Register(1)),
+            want: "Full(1), 1 0 0",
+        },
+        Case {
+            call: Call::Client(0, Ask::Register(1)),
+            want: "Spent, 1 0 0",
+        },
+        Case {
+            call: Call::Client(1, Ask::Register(1)),
+            want: "Full(1), 1 0 1",
+        },
     ];
-    play(&rt, rt.alloc(), 1, 2, &rows);
+    play(&rt, rt.alloc(), 1, 2, ROWS);
 }
 
 #[test]
 fn pulls_read_the_newest_ranks(rt: HostRuntime) {
-    let rows = [
-        client(
-            0,
-            Ask::Register(0),
-            "Done(Receipt { position: 1, version: 0, reply: Joined }), 1 0 8",
-        ),
-        client(
-            0,
-            Ask::Register(1),
-            "Done(Receipt { position: 2, version: 0, reply: Joined }), 2 0 7",
-        ),
-        client(
-            0,
-            Ask::Publish,
-            "Done(Receipt { position: 3, version: 1, reply: Version(1) }), 3 1 6",
-        ),
-        client(1, Ask::Pull(1), "Rank { version: 1, rank: 1 }, 0 1 9"),
-        client(1, Ask::Pull(0), "Rank { version: 1, rank: 2 }, 0 1 9"),
-        row(Call::Seen(0), ", 3 1 6"),
-        client(
-            0,
-            Ask::Withdraw(1),
-            "Done(Receipt { position: 4, version: 1, reply: Left }), 4 1 5",
-        ),
-        client(
-            0,
-            Ask::Publish,
-            "Done(Receipt { position: 5, version: 2, reply: Version(2) }), 5 2 4",
-        ),
-        client(1, Ask::Pull(1), "Unranked { version: 2 }, 0 2 9"),
-        client(1, Ask::Pull(0), "Rank { version: 2, rank: 1 }, 0 2 9"),
-        client(
-            1,
-            Ask::PullTurn(0),
-            "Done(Receipt { position: 6, version: 2, reply: Rank(2, 1) }), 6 2 8",
-        ),
+    const ROWS: &[Case<'static>] = &[
+        Case {
+            call: Call::Client(0, Ask::Register(0)),
+            want: "Done(Receipt { position: 1, version: 0, reply: Joined }), 1 0 8",
+        },
+        Case {
+            call: Call::Client(0, Ask::Register(1)),
+            want: "Done(Receipt { position: 2, version: 0, reply: Joined }), 2 0 7",
+        },
+        Case {
+            call: Call::Client(0, Ask::Publish),
+            want: "Done(Receipt { position: 3, version: 1, reply: Version(1) }), 3 1 6",
+        },
+        Case {
+            call: Call::Client(1, Ask::Pull(1)),
+            want: "Rank { version: 1, rank: 1 }, 0 1 9",
+        },
+        Case {
+            call: Call::Client(1, Ask::Pull(0)),
+            want: "Rank { version: 1, rank: 2 }, 0 1 9",
+        },
+        Case {
+            call: Call::Seen(0),
+            want: ", 3 1 6",
+        },
+        Case {
+            call: Call::Client(0, Ask::Withdraw(1)),
+            want: "Done(Receipt { position: 4, version: 1, reply: Left }), 4 1 5",
+        },
+        Case {
+            call: Call::Client(0, Ask::Publish),
+            want: "Done(Receipt { position: 5, version: 2, reply: Version(2) }), 5 2 4",
+        },
+        Case {
+            call: Call::Client(1, Ask::Pull(1)),
+            want: "Unranked { version: 2 }, 0 2 9",
+        },
+        Case {
+            call: Call::Client(1, Ask::Pull(0)),
+            want: "Rank { version: 2, rank: 1 }, 0 2 9",
+        },
+        Case {
+            call: Call::Client(1, Ask::PullTurn(0)),
+            want: "Done(Receipt { position: 6, version: 2, reply: Rank(2, 1) }), 6 2 8",
+        },
     ];
-    play(&rt, rt.alloc(), 100, 9, &rows);
+    play(&rt, rt.alloc(), 100, 9, ROWS);
 }
 
 #[test]
 fn a_weight_counts_from_the_next_version_on(rt: HostRuntime) {
-    let rows = [
-        client(
-            0,
-            Ask::Register(0),
-            "Done(Receipt { position: 1, version: 0, reply: Joined }), 1 0 8",
-        ),
-        client(
-            0,
-            Ask::Register(1),
-            "Done(Receipt { position: 2, version: 0, reply: Joined }), 2 0 7",
-        ),
-        client(
-            0,
-            Ask::Publish,
-            "Done(Receipt { position: 3, version: 1, reply: Version(1) }), 3 1 6",
-        ),
-        client(
-            1,
-            Ask::Reweigh(0, 5),
-            "Done(Receipt { position: 4, version: 1, reply: Weighed(1) }), 4 1 8",
-        ),
-        client(
-            1,
-            Ask::PullTurn(0),
-            "Done(Receipt { position: 5, version: 1, reply: Rank(1, 2) }), 5 1 7",
-        ),
-        client(1, Ask::Pull(0), "Rank { version: 1, rank: 2 }, 5 1 7"),
-        client(
-            0,
-            Ask::Publish,
-            "Done(Receipt { position: 6, version: 2, reply: Version(2) }), 6 2 5",
-        ),
-        client(
-            1,
-            Ask::PullTurn(0),
-            "Done(Receipt { position: 7, version: 2, reply: Rank(2, 1) }), 7 2 6",
-        ),
-        client(1, Ask::Pull(0), "Rank { version: 2, rank: 1 }, 7 2 6"),
-        client(
-            0,
-            Ask::Withdraw(1),
-            "Done(Receipt { position: 8, version: 2, reply: Left }), 8 2 4",
-        ),
-        client(
-            1,
-            Ask::Reweigh(1, 2),
-            "Done(Receipt { position: 9, version: 2, reply: NotHere }), 9 2 5",
-        ),
+    const ROWS: &[Case<'static>] = &[
+        Case {
+            call: Call::Client(0, Ask::Register(0)),
+            want: "Done(Receipt { position: 1, version: 0, reply: Joined }), 1 0 8",
+        },
+        Case {
+            call: Call::Client(0, Ask::Register(1)),
+            want: "Done(Receipt { position: 2, version: 0, reply: Joined }), 2 0 7",
+        },
+        Case {
+            call: Call::Client(0, Ask::Publish),
+            want: "Done(Receipt { position: 3, version: 1, reply: Version(1) }), 3 1 6",
+        },
+        Case {
+            call: Call::Client(1, Ask::Reweigh(0, 5)),
+            want: "Done(Receipt { position: 4, version: 1, reply: Weighed(1) }), 4 1 8",
+        },
+        Case {
+            call: Call::Client(1, Ask::PullTurn(0)),
+            want: "Done(Receipt { position: 5, version: 1, reply: Rank(1, 2) }), 5 1 7",
+        },
+        Case {
+            call: Call::Client(1, Ask::Pull(0)),
+            want: "Rank { version: 1, rank: 2 }, 5 1 7",
+        },
+        Case {
+            call: Call::Client(0, Ask::Publish),
+            want: "Done(Receipt { position: 6, version: 2, reply: Version(2) }), 6 2 5",
+        },
+        Case {
+            call: Call::Client(1, Ask::PullTurn(0)),
+            want: "Done(Receipt { position: 7, version: 2, reply: Rank(2, 1) }), 7 2 6",
+        },
+        Case {
+            call: Call::Client(1, Ask::Pull(0)),
+            want: "Rank { version: 2, rank: 1 }, 7 2 6",
+        },
+        Case {
+            call: Call::Client(0, Ask::Withdraw(1)),
+            want: "Done(Receipt { position: 8, version: 2, reply: Left }), 8 2 4",
+        },
+        Case {
+            call: Call::Client(1, Ask::Reweigh(1, 2)),
+            want: "Done(Receipt { position: 9, version: 2, reply: NotHere }), 9 2 5",
+        },
     ];
-    play(&rt, rt.alloc(), 100, 9, &rows);
+    play(&rt, rt.alloc(), 100, 9, ROWS);
 }
 
 #[test]
 fn a_driver_runs_while_sessions_ask(rt: HostRuntime) {
-    let rows = [
-        client(
-            0,
-            Ask::Register(0),
-            "Done(Receipt { position: 1, version: 0, reply: Joined }), 1 0 8",
-        ),
-        driver(
-            Order::Register(1),
-            "Done(Receipt { position: 2, version: 0, reply: Joined }), 19",
-        ),
-        driver(
-            Order::Close,
-            "Done(Receipt { position: 3, version: 0, reply: NoneOpen }), 18",
-        ),
-        driver(
-            Order::Publish,
-            "Done(Receipt { position: 4, version: 1, reply: Version(1) }), 17",
-        ),
-        row(Call::Granted(0), "None"),
-        driver(
-            Order::Open(5),
-            "Done(Receipt { position: 5, version: 1, reply: Opened(1, 1, 1) }), 16",
-        ),
-        row(Call::Granted(0), "Some(1)"),
-        row(Call::Granted(1), "None"),
-        driver(
-            Order::Skip(9),
-            "Done(Receipt { position: 6, version: 1, reply: StillOpen(1) }), 15",
-        ),
-        client(
-            1,
-            Ask::Withdraw(1),
-            "Done(Receipt { position: 7, version: 1, reply: Left }), 7 1 8",
-        ),
-        driver(
-            Order::Short(0, 0),
-            "Done(Receipt { position: 8, version: 1, reply: Noted(0) }), 14",
-        ),
-        driver(
-            Order::Close,
-            "Done(Receipt { position: 9, version: 1, reply: Closed(1) }), 13",
-        ),
-        row(Call::Granted(0), "None"),
-        driver(
-            Order::Withdraw(0),
-            "Done(Receipt { position: 10, version: 1, reply: Left }), 12",
-        ),
-        driver(
-            Order::Skip(9),
-            "Done(Receipt { position: 11, version: 1, reply: Skipped(9) }), 11",
-        ),
-        driver(
-            Order::Open(9),
-            "Done(Receipt { position: 12, version: 1, reply: NothingLeft }), 10",
-        ),
-        row(Call::Seen(0), ", 1 0 8"),
-        row(Call::Seen(1), ", 7 1 8"),
-        row(Call::Level, ""),
-        row(Call::Seen(0), ", 12 1 8"),
-        row(Call::Seen(1), ", 12 1 8"),
+    const ROWS: &[Case<'static>] = &[
+        Case {
+            call: Call::Client(0, Ask::Register(0)),
+            want: "Done(Receipt { position: 1, version: 0, reply: Joined }), 1 0 8",
+        },
+        Case {
+            call: Call::Driver(Order::Register(1)),
+            want: "Done(Receipt { position: 2, version: 0, reply: Joined }), 19",
+        },
+        Case {
+            call: Call::Driver(Order::Close),
+            want: "Done(Receipt { position: 3, version: 0, reply: NoneOpen }), 18",
+        },
+        Case {
+            call: Call::Driver(Order::Publish),
+            want: "Done(Receipt { position: 4, version: 1, reply: Version(1) }), 17",
+        },
+        Case {
+            call: Call::Granted(0),
+            want: "None",
+        },
+        Case {
+            call: Call::Driver(Order::Open(5)),
+            want: "Done(Receipt { position: 5, version: 1, reply: Opened(1, 1, 1) }), 16",
+        },
+        Case {
+            call: Call::Granted(0),
+            want: "Some(1)",
+        },
+        Case {
+            call: Call::Granted(1),
+            want: "None",
+        },
+        Case {
+            call: Call::Driver(Order::Skip(9)),
+            want: "Done(Receipt { position: 6, version: 1, reply: StillOpen(1) }), 15",
+        },
+        Case {
+            call: Call::Client(1, Ask::Withdraw(1)),
+            want: "Done(Receipt { position: 7, version: 1, reply: Left }), 7 1 8",
+        },
+        Case {
+            call: Call::Driver(Order::Short(0, 0)),
+            want: "Done(Receipt { position: 8, version: 1, reply: Noted(0) }), 14",
+        },
+        Case {
+            call: Call::Driver(Order::Close),
+            want: "Done(Receipt { position: 9, version: 1, reply: Closed(1) }), 13",
+        },
+        Case {
+            call: Call::Granted(0),
+            want: "None",
+        },
+        Case {
+            call: Call::Driver(Order::Withdraw(0)),
+            want: "Done(Receipt { position: 10, version: 1, reply: Left }), 12",
+        },
+        Case {
+            call: Call::Driver(Order::Skip(9)),
+            want: "Done(Receipt { position: 11, version: 1, reply: Skipped(9) }), 11",
+        },
+        Case {
+            call: Call::Driver(Order::Open(9)),
+            want: "Done(Receipt { position: 12, version: 1, reply: NothingLeft }), 10",
+        },
+        Case {
+            call: Call::Seen(0),
+            want: ", 1 0 8",
+        },
+        Case {
+            call: Call::Seen(1),
+            want: ", 7 1 8",
+        },
+        Case {
+            call: Call::Level,
+            want: "",
+        },
+        Case {
+            call: Call::Seen(0),
+            want: ", 12 1 8",
+        },
+        Case {
+            call: Call::Seen(1),
+            want: ", 12 1 8",
+        },
     ];
-    play(&rt, rt.alloc(), 100, 9, &rows);
+    play(&rt, rt.alloc(), 100, 9, ROWS);
 }
 
 #[test]
 fn a_full_journal_takes_what_ends_a_run(rt: HostRuntime) {
-    let rows = [
-        driver(
-            Order::Register(0),
-            "Done(Receipt { position: 1, version: 0, reply: Joined }), 19",
-        ),
-        driver(
-            Order::Open(2),
-            "Done(Receipt { position: 2, version: 0, reply: Opened(1, 2, 1) }), 18",
-        ),
-        client(
-            0,
-            Ask::Register(1),
-            "Done(Receipt { position: 3, version: 0, reply: Joined }), 3 0 8",
-        ),
-        client(1, Ask::Register(1), "Full(3), 3 0 8"),
-        driver(Order::Register(1), "Full(3), 17"),
-        driver(
-            Order::Short(0, 1),
-            "Done(Receipt { position: 4, version: 0, reply: Noted(1) }), 16",
-        ),
-        driver(
-            Order::Close,
-            "Done(Receipt { position: 5, version: 0, reply: Closed(1) }), 15",
-        ),
-        client(1, Ask::Pull(1), "Unranked { version: 0 }, 3 0 8"),
-        row(Call::Level, ""),
-        row(Call::Seen(0), ", 5 0 8"),
+    const ROWS: &[Case<'static>] = &[
+        Case {
+            call: Call::Driver(Order::Register(0)),
+            want: "Done(Receipt { position: 1, version: 0, reply: Joined }), 19",
+        },
+        Case {
+            call: Call::Driver(Order::Open(2)),
+            want: "Done(Receipt { position: 2, version: 0, reply: Opened(1, 2, 1) }), 18",
+        },
+        Case {
+            call: Call::Client(0, Ask::Register(1)),
+            want: "Done(Receipt { position: 3, version: 0, reply: Joined }), 3 0 8",
+        },
+        Case {
+            call: Call::Client(1, Ask::Register(1)),
+            want: "Full(3), 3 0 8",
+        },
+        Case {
+            call: Call::Driver(Order::Register(1)),
+            want: "Full(3), 17",
+        },
+        Case {
+            call: Call::Driver(Order::Short(0, 1)),
+            want: "Done(Receipt { position: 4, version: 0, reply: Noted(1) }), 16",
+        },
+        Case {
+            call: Call::Driver(Order::Close),
+            want: "Done(Receipt { position: 5, version: 0, reply: Closed(1) }), 15",
+        },
+        Case {
+            call: Call::Client(1, Ask::Pull(1)),
+            want: "Unranked { version: 0 }, 3 0 8",
+        },
+        Case {
+            call: Call::Level,
+            want: "",
+        },
+        Case {
+            call: Call::Seen(0),
+            want: ", 5 0 8",
+        },
     ];
-    play(&rt, rt.alloc(), 3, 9, &rows);
+    play(&rt, rt.alloc(), 3, 9, ROWS);
 }

@@ -5,8 +5,8 @@ use Rattle.std.proofs.lemmas.List.Elements.{All-push, All-same}
 use Rattle.client_session.specs.Models.{HallModel, IsSessionOf, SessionModel}
 use Rattle.hall_tests.proofs.closes.closed_later.Goals as goal
 
-pub journal_of-requires-clause-sessions : goal.journal_of-requires-clause-sessions
-journal_of-requires-clause-sessions g c =
+pub length_of-requires-clause-sessions : goal.length_of-requires-clause-sessions
+length_of-requires-clause-sessions g c =
     let hall : HallModel = c.args.hall in
     let old : List SessionModel = c.args.sessions.items in
     let back : List SessionModel = c.refused-hall.result.2.items in
