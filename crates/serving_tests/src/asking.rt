@@ -35,6 +35,7 @@ pub(crate) fn ask<R: Threads + Wait + Sync + Abort>(
     assert!(rt; wires.len() > MAX_PORTS as usize);
     assert!(rt; bench.len() < 1 << 32);
     let mut gates = had(rt, vec![in alloc; OpenGate; MAX_CLIENTS as usize]);
+    assert!(rt; gates.len() >= MAX_CLIENTS as usize);
     let words = words_of(rt, alloc, asked);
     let mut shelf = shelf_of(rt, alloc, asked);
     let mut out = had(rt, MemSink::new(alloc, 4096, asked.after));
