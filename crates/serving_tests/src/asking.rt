@@ -3,7 +3,6 @@ use coflow_units::{MAX_CLIENTS, MAX_PORTS};
 use command_files::Status;
 use live_rounds::OpenGate;
 use outside::{MemShelf, MemSink, MemWire};
-use rankers::Ranker;
 use sincronia_cli::sincronia;
 use std::alloc::Global;
 use std::process::Abort;
@@ -17,9 +16,6 @@ pub(crate) struct Asked<'a> {
     pub(crate) words: &'a [&'a str],
     pub(crate) last: &'a str,
     pub(crate) named: [&'a [u8]; 2],
-    /// How many bytes a read gives at most, where that is not 0, and the call of the shelf that fails, counted from 1; 0 is no call's.
-    pub(crate) piece: usize,
-    pub(crate) fails: u32,
     /// How many bytes the sink takes until it fails.
     pub(crate) after: Option<u64>,
 }
@@ -30,17 +26,16 @@ pub(crate) fn ask<R: Threads + Wait + Sync + Abort>(
     alloc: Global,
     asked: Asked<'_>,
     wires: &mut Vec<MemWire>,
-    bench: &mut Vec<Box<dyn Ranker>>,
 ) -> (Status, MemSink) {
     assert!(rt; wires.len() > MAX_PORTS as usize);
-    assert!(rt; bench.len() < 1 << 32);
     let mut gates = had(rt, vec![in alloc; OpenGate; MAX_CLIENTS as usize]);
     assert!(rt; gates.len() >= MAX_CLIENTS as usize);
     let words = words_of(rt, alloc, asked);
     let mut shelf = shelf_of(rt, alloc, asked);
     let mut out = had(rt, MemSink::new(alloc, 4096, asked.after));
+    let mut bench = Vec::new(alloc);
     let status = sincronia(
-        rt, alloc, &words, &mut shelf, &mut out, wires, &mut gates, bench,
+        rt, alloc, &words, &mut shelf, &mut out, wires, &mut gates, &mut bench,
     );
     (status, out)
 }
@@ -75,8 +70,7 @@ fn push_word(rt: &impl Abort, alloc: Global, words: &mut Vec<String>, text: &str
 }
 
 fn shelf_of(rt: &impl Abort, alloc: Global, asked: Asked<'_>) -> MemShelf {
-    let fails = had(rt, vec![in alloc; asked.fails; 1]);
-    let mut shelf = had(rt, MemShelf::new(alloc, asked.piece.max(1), fails));
+    let mut shelf = had(rt, MemShelf::new(alloc, 64, Vec::new(alloc)));
     had(rt, shelf.put("t", asked.named[0]));
     had(rt, shelf.put("s", asked.named[1]));
     shelf

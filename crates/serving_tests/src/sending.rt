@@ -50,13 +50,10 @@ fn served<'a, R: Threads + Wait + Sync + Abort>(
         words: row.words,
         last,
         named: row.named,
-        piece: 64,
-        fails: 0,
         after: row.after,
     };
     let mut wires = wires_of(rt, alloc, row.fail_at);
-    let bench = &mut Vec::new(alloc);
-    let (status, out) = ask(rt, alloc, asked, &mut wires, bench);
+    let (status, out) = ask(rt, alloc, asked, &mut wires);
     let text = tell_wires(rt, alloc, &wires);
     (status, out, text)
 }

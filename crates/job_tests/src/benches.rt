@@ -1,5 +1,5 @@
 //! Comparisons of benches that are not the program's.
-use crate::asking::{Asked, ask, expect, had, wires_of};
+use crate::asking::{Asked, ask, expect, had};
 use crate::texts::TWO;
 use command_files::Status;
 use rankers::{Attained, Facts, Fifo, Ranker};
@@ -46,8 +46,7 @@ fn is_compared<R: Threads + Wait + Sync + Abort>(
         fails: 0,
         after: None,
     };
-    let mut wires = wires_of(rt, alloc, [0, 0]);
-    let (status, out) = ask(rt, alloc, asked, &mut wires, bench);
+    let (status, out) = ask(rt, alloc, asked, bench);
     expect(rt, status, out.bytes(), (Status::Ok, text));
     assert!(rt; bench.is_empty());
 }

@@ -1,5 +1,5 @@
 //! Plans of files that fail, of sinks that take a part of the text, and of a text above its limit.
-use crate::asking::{Asked, ask, expect, had, wires_of};
+use crate::asking::{Asked, ask, expect, had};
 use crate::texts::{TWO, TWO_TEXT};
 use coflow_units::{MAX_TEXT, Quantity};
 use command_files::{Status, read_input};
@@ -29,9 +29,8 @@ fn is_answered<R: Threads + Wait + Sync + Abort>(
     asked: Asked<'_>,
     wanted: (Status, &[u8]),
 ) {
-    let mut wires = wires_of(rt, alloc, [0, 0]);
     let bench = &mut Vec::new(alloc);
-    let (status, out) = ask(rt, alloc, asked, &mut wires, bench);
+    let (status, out) = ask(rt, alloc, asked, bench);
     expect(rt, status, out.bytes(), wanted);
 }
 
