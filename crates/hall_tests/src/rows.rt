@@ -24,11 +24,7 @@ pub(crate) enum Call {
 }
 
 /// A call, and what is told then.
-#[derive(Clone, Copy)]
-pub(crate) struct Case<'a> {
-    call: Call,
-    want: &'a str,
-}
+pub(crate) type Case<'a> = (Call, &'a str);
 
 /// The text of an answer.
 fn text_of(rt: &impl Abort, alloc: Global, answer: impl Debug + Drop) -> String {
@@ -140,8 +136,8 @@ pub(crate) fn play_rows<R: Wait + Abort>(
         panic!(rt; "no memory");
     };
     for row in rows {
-        let have = told(rt, alloc, hall, driver, sessions, &mut places, row.call);
-        assert_eq!(rt; have.as_str(), row.want);
+        let have = told(rt, alloc, hall, driver, sessions, &mut places, row.0);
+        assert_eq!(rt; have.as_str(), row.1);
     }
 }
 
@@ -161,22 +157,16 @@ fn play<R: Wait + Abort>(rt: &R, alloc: Global, limit: u32, calls: u32, rows: &[
 #[test]
 fn a_session_makes_no_more_calls_than_it_has(rt: HostRuntime) {
     const ROWS: &[Case<'static>] = &[
-        Case {
-            call: Call::Client(0, Ask::Register(0)),
-            want: "Done(Receipt { position: 1, version: 0, reply: Joined }), 1 0 0",
-        },
-        Case {
-            call: Call::Client(0, Ask::Register(1)),
-            want: "Spent, 1 0 0",
-        },
-        Case {
-            call: Call::Client(0, Ask::Publish),
-            want: "Spent, 1 0 0",
-        },
-        Case {
-            call: Call::Client(0, Ask::Pull(1)),
-            want: "Unranked { version: 0 }, 1 0 0",
-        },
+        (
+            Call::Client(0, Ask::Register(0)),
+            "Done(Receipt { position: 1, version: 0, reply: Joined }), 1 0 0",
+        ),
+        (Call::Client(0, Ask::Register(1)), "Spent, 1 0 0"),
+        (Call::Client(0, Ask::Publish), "Spent, 1 0 0"),
+        (
+            Call::Client(0, Ask::Pull(1)),
+            "Unranked { version: 0 }, 1 0 0",
+        ),
     ];
     play(&rt, rt.alloc(), 100, 1, ROWS);
 }
@@ -185,22 +175,13 @@ fn a_session_makes_no_more_calls_than_it_has(rt: HostRuntime) {
 #[test]
 fn a_full_journal_uses_a_call_up(rt: HostRuntime) {
     const ROWS: &[Case<'static>] = &[
-        Case {
-            call: Call::Client(0, Ask::Register(0)),
-            want: "Done(Receipt { position: 1, version: 0, reply: Joined }), 1 0 1",
-        },
-        Case {
-            call: Call::Client(0, Ask::Register(1)),
-            want: "Full(1), 1 0 0",
-        },
-        Case {
-            call: Call::Client(0, Ask::Register(1)),
-            want: "Spent, 1 0 0",
-        },
-        Case {
-            call: Call::Client(1, Ask::Register(1)),
-            want: "Full(1), 1 0 1",
-        },
+        (
+            Call::Client(0, Ask::Register(0)),
+            "Done(Receipt { position: 1, version: 0, reply: Joined }), 1 0 1",
+        ),
+        (Call::Client(0, Ask::Register(1)), "Full(1), 1 0 0"),
+        (Call::Client(0, Ask::Register(1)), "Spent, 1 0 0"),
+        (Call::Client(1, Ask::Register(1)), "Full(1), 1 0 1"),
     ];
     play(&rt, rt.alloc(), 1, 2, ROWS);
 }
@@ -208,50 +189,47 @@ fn a_full_journal_uses_a_call_up(rt: HostRuntime) {
 #[test]
 fn pulls_read_the_newest_ranks(rt: HostRuntime) {
     const ROWS: &[Case<'static>] = &[
-        Case {
-            call: Call::Client(0, Ask::Register(0)),
-            want: "Done(Receipt { position: 1, version: 0, reply: Joined }), 1 0 8",
-        },
-        Case {
-            call: Call::Client(0, Ask::Register(1)),
-            want: "Done(Receipt { position: 2, version: 0, reply: Joined }), 2 0 7",
-        },
-        Case {
-            call: Call::Client(0, Ask::Publish),
-            want: "Done(Receipt { position: 3, version: 1, reply: Version(1) }), 3 1 6",
-        },
-        Case {
-            call: Call::Client(1, Ask::Pull(1)),
-            want: "Rank { version: 1, rank: 1 }, 0 1 9",
-        },
-        Case {
-            call: Call::Client(1, Ask::Pull(0)),
-            want: "Rank { version: 1, rank: 2 }, 0 1 9",
-        },
-        Case {
-            call: Call::Seen(0),
-            want: ", 3 1 6",
-        },
-        Case {
-            call: Call::Client(0, Ask::Withdraw(1)),
-            want: "Done(Receipt { position: 4, version: 1, reply: Left }), 4 1 5",
-        },
-        Case {
-            call: Call::Client(0, Ask::Publish),
-            want: "Done(Receipt { position: 5, version: 2, reply: Version(2) }), 5 2 4",
-        },
-        Case {
-            call: Call::Client(1, Ask::Pull(1)),
-            want: "Unranked { version: 2 }, 0 2 9",
-        },
-        Case {
-            call: Call::Client(1, Ask::Pull(0)),
-            want: "Rank { version: 2, rank: 1 }, 0 2 9",
-        },
-        Case {
-            call: Call::Client(1, Ask::PullTurn(0)),
-            want: "Done(Receipt { position: 6, version: 2, reply: Rank(2, 1) }), 6 2 8",
-        },
+        (
+            Call::Client(0, Ask::Register(0)),
+            "Done(Receipt { position: 1, version: 0, reply: Joined }), 1 0 8",
+        ),
+        (
+            Call::Client(0, Ask::Register(1)),
+            "Done(Receipt { position: 2, version: 0, reply: Joined }), 2 0 7",
+        ),
+        (
+            Call::Client(0, Ask::Publish),
+            "Done(Receipt { position: 3, version: 1, reply: Version(1) }), 3 1 6",
+        ),
+        (
+            Call::Client(1, Ask::Pull(1)),
+            "Rank { version: 1, rank: 1 }, 0 1 9",
+        ),
+        (
+            Call::Client(1, Ask::Pull(0)),
+            "Rank { version: 1, rank: 2 }, 0 1 9",
+        ),
+        (Call::Seen(0), ", 3 1 6"),
+        (
+            Call::Client(0, Ask::Withdraw(1)),
+            "Done(Receipt { position: 4, version: 1, reply: Left }), 4 1 5",
+        ),
+        (
+            Call::Client(0, Ask::Publish),
+            "Done(Receipt { position: 5, version: 2, reply: Version(2) }), 5 2 4",
+        ),
+        (
+            Call::Client(1, Ask::Pull(1)),
+            "Unranked { version: 2 }, 0 2 9",
+        ),
+        (
+            Call::Client(1, Ask::Pull(0)),
+            "Rank { version: 2, rank: 1 }, 0 2 9",
+        ),
+        (
+            Call::Client(1, Ask::PullTurn(0)),
+            "Done(Receipt { position: 6, version: 2, reply: Rank(2, 1) }), 6 2 8",
+        ),
     ];
     play(&rt, rt.alloc(), 100, 9, ROWS);
 }
@@ -259,50 +237,50 @@ fn pulls_read_the_newest_ranks(rt: HostRuntime) {
 #[test]
 fn a_weight_counts_from_the_next_version_on(rt: HostRuntime) {
     const ROWS: &[Case<'static>] = &[
-        Case {
-            call: Call::Client(0, Ask::Register(0)),
-            want: "Done(Receipt { position: 1, version: 0, reply: Joined }), 1 0 8",
-        },
-        Case {
-            call: Call::Client(0, Ask::Register(1)),
-            want: "Done(Receipt { position: 2, version: 0, reply: Joined }), 2 0 7",
-        },
-        Case {
-            call: Call::Client(0, Ask::Publish),
-            want: "Done(Receipt { position: 3, version: 1, reply: Version(1) }), 3 1 6",
-        },
-        Case {
-            call: Call::Client(1, Ask::Reweigh(0, 5)),
-            want: "Done(Receipt { position: 4, version: 1, reply: Weighed(1) }), 4 1 8",
-        },
-        Case {
-            call: Call::Client(1, Ask::PullTurn(0)),
-            want: "Done(Receipt { position: 5, version: 1, reply: Rank(1, 2) }), 5 1 7",
-        },
-        Case {
-            call: Call::Client(1, Ask::Pull(0)),
-            want: "Rank { version: 1, rank: 2 }, 5 1 7",
-        },
-        Case {
-            call: Call::Client(0, Ask::Publish),
-            want: "Done(Receipt { position: 6, version: 2, reply: Version(2) }), 6 2 5",
-        },
-        Case {
-            call: Call::Client(1, Ask::PullTurn(0)),
-            want: "Done(Receipt { position: 7, version: 2, reply: Rank(2, 1) }), 7 2 6",
-        },
-        Case {
-            call: Call::Client(1, Ask::Pull(0)),
-            want: "Rank { version: 2, rank: 1 }, 7 2 6",
-        },
-        Case {
-            call: Call::Client(0, Ask::Withdraw(1)),
-            want: "Done(Receipt { position: 8, version: 2, reply: Left }), 8 2 4",
-        },
-        Case {
-            call: Call::Client(1, Ask::Reweigh(1, 2)),
-            want: "Done(Receipt { position: 9, version: 2, reply: NotHere }), 9 2 5",
-        },
+        (
+            Call::Client(0, Ask::Register(0)),
+            "Done(Receipt { position: 1, version: 0, reply: Joined }), 1 0 8",
+        ),
+        (
+            Call::Client(0, Ask::Register(1)),
+            "Done(Receipt { position: 2, version: 0, reply: Joined }), 2 0 7",
+        ),
+        (
+            Call::Client(0, Ask::Publish),
+            "Done(Receipt { position: 3, version: 1, reply: Version(1) }), 3 1 6",
+        ),
+        (
+            Call::Client(1, Ask::Reweigh(0, 5)),
+            "Done(Receipt { position: 4, version: 1, reply: Weighed(1) }), 4 1 8",
+        ),
+        (
+            Call::Client(1, Ask::PullTurn(0)),
+            "Done(Receipt { position: 5, version: 1, reply: Rank(1, 2) }), 5 1 7",
+        ),
+        (
+            Call::Client(1, Ask::Pull(0)),
+            "Rank { version: 1, rank: 2 }, 5 1 7",
+        ),
+        (
+            Call::Client(0, Ask::Publish),
+            "Done(Receipt { position: 6, version: 2, reply: Version(2) }), 6 2 5",
+        ),
+        (
+            Call::Client(1, Ask::PullTurn(0)),
+            "Done(Receipt { position: 7, version: 2, reply: Rank(2, 1) }), 7 2 6",
+        ),
+        (
+            Call::Client(1, Ask::Pull(0)),
+            "Rank { version: 2, rank: 1 }, 7 2 6",
+        ),
+        (
+            Call::Client(0, Ask::Withdraw(1)),
+            "Done(Receipt { position: 8, version: 2, reply: Left }), 8 2 4",
+        ),
+        (
+            Call::Client(1, Ask::Reweigh(1, 2)),
+            "Done(Receipt { position: 9, version: 2, reply: NotHere }), 9 2 5",
+        ),
     ];
     play(&rt, rt.alloc(), 100, 9, ROWS);
 }
@@ -310,90 +288,63 @@ fn a_weight_counts_from_the_next_version_on(rt: HostRuntime) {
 #[test]
 fn a_driver_runs_while_sessions_ask(rt: HostRuntime) {
     const ROWS: &[Case<'static>] = &[
-        Case {
-            call: Call::Client(0, Ask::Register(0)),
-            want: "Done(Receipt { position: 1, version: 0, reply: Joined }), 1 0 8",
-        },
-        Case {
-            call: Call::Driver(Order::Register(1)),
-            want: "Done(Receipt { position: 2, version: 0, reply: Joined }), 19",
-        },
-        Case {
-            call: Call::Driver(Order::Close),
-            want: "Done(Receipt { position: 3, version: 0, reply: NoneOpen }), 18",
-        },
-        Case {
-            call: Call::Driver(Order::Publish),
-            want: "Done(Receipt { position: 4, version: 1, reply: Version(1) }), 17",
-        },
-        Case {
-            call: Call::Granted(0),
-            want: "None",
-        },
-        Case {
-            call: Call::Driver(Order::Open(5)),
-            want: "Done(Receipt { position: 5, version: 1, reply: Opened(1, 1, 1) }), 16",
-        },
-        Case {
-            call: Call::Granted(0),
-            want: "Some(1)",
-        },
-        Case {
-            call: Call::Granted(1),
-            want: "None",
-        },
-        Case {
-            call: Call::Driver(Order::Skip(9)),
-            want: "Done(Receipt { position: 6, version: 1, reply: StillOpen(1) }), 15",
-        },
-        Case {
-            call: Call::Client(1, Ask::Withdraw(1)),
-            want: "Done(Receipt { position: 7, version: 1, reply: Left }), 7 1 8",
-        },
-        Case {
-            call: Call::Driver(Order::Short(0, 0)),
-            want: "Done(Receipt { position: 8, version: 1, reply: Noted(0) }), 14",
-        },
-        Case {
-            call: Call::Driver(Order::Close),
-            want: "Done(Receipt { position: 9, version: 1, reply: Closed(1) }), 13",
-        },
-        Case {
-            call: Call::Granted(0),
-            want: "None",
-        },
-        Case {
-            call: Call::Driver(Order::Withdraw(0)),
-            want: "Done(Receipt { position: 10, version: 1, reply: Left }), 12",
-        },
-        Case {
-            call: Call::Driver(Order::Skip(9)),
-            want: "Done(Receipt { position: 11, version: 1, reply: Skipped(9) }), 11",
-        },
-        Case {
-            call: Call::Driver(Order::Open(9)),
-            want: "Done(Receipt { position: 12, version: 1, reply: NothingLeft }), 10",
-        },
-        Case {
-            call: Call::Seen(0),
-            want: ", 1 0 8",
-        },
-        Case {
-            call: Call::Seen(1),
-            want: ", 7 1 8",
-        },
-        Case {
-            call: Call::Level,
-            want: "",
-        },
-        Case {
-            call: Call::Seen(0),
-            want: ", 12 1 8",
-        },
-        Case {
-            call: Call::Seen(1),
-            want: ", 12 1 8",
-        },
+        (
+            Call::Client(0, Ask::Register(0)),
+            "Done(Receipt { position: 1, version: 0, reply: Joined }), 1 0 8",
+        ),
+        (
+            Call::Driver(Order::Register(1)),
+            "Done(Receipt { position: 2, version: 0, reply: Joined }), 19",
+        ),
+        (
+            Call::Driver(Order::Close),
+            "Done(Receipt { position: 3, version: 0, reply: NoneOpen }), 18",
+        ),
+        (
+            Call::Driver(Order::Publish),
+            "Done(Receipt { position: 4, version: 1, reply: Version(1) }), 17",
+        ),
+        (Call::Granted(0), "None"),
+        (
+            Call::Driver(Order::Open(5)),
+            "Done(Receipt { position: 5, version: 1, reply: Opened(1, 1, 1) }), 16",
+        ),
+        (Call::Granted(0), "Some(1)"),
+        (Call::Granted(1), "None"),
+        (
+            Call::Driver(Order::Skip(9)),
+            "Done(Receipt { position: 6, version: 1, reply: StillOpen(1) }), 15",
+        ),
+        (
+            Call::Client(1, Ask::Withdraw(1)),
+            "Done(Receipt { position: 7, version: 1, reply: Left }), 7 1 8",
+        ),
+        (
+            Call::Driver(Order::Short(0, 0)),
+            "Done(Receipt { position: 8, version: 1, reply: Noted(0) }), 14",
+        ),
+        (
+            Call::Driver(Order::Close),
+            "Done(Receipt { position: 9, version: 1, reply: Closed(1) }), 13",
+        ),
+        (Call::Granted(0), "None"),
+        (
+            Call::Driver(Order::Withdraw(0)),
+            "Done(Receipt { position: 10, version: 1, reply: Left }), 12",
+        ),
+        (
+            Call::Driver(Order::Skip(9)),
+            "Done(Receipt { position: 11, version: 1, reply: Skipped(9) }), 11",
+        ),
+        (
+            Call::Driver(Order::Open(9)),
+            "Done(Receipt { position: 12, version: 1, reply: NothingLeft }), 10",
+        ),
+        (Call::Seen(0), ", 1 0 8"),
+        (Call::Seen(1), ", 7 1 8"),
+        (Call::Level, ""),
+        (Call::Seen(0), ", 12 1 8"),
+        (Call::Seen(1), ", 12 1 8"),
     ];
     play(&rt, rt.alloc(), 100, 9, ROWS);
 }
@@ -401,46 +352,34 @@ fn a_driver_runs_while_sessions_ask(rt: HostRuntime) {
 #[test]
 fn a_full_journal_takes_what_ends_a_run(rt: HostRuntime) {
     const ROWS: &[Case<'static>] = &[
-        Case {
-            call: Call::Driver(Order::Register(0)),
-            want: "Done(Receipt { position: 1, version: 0, reply: Joined }), 19",
-        },
-        Case {
-            call: Call::Driver(Order::Open(2)),
-            want: "Done(Receipt { position: 2, version: 0, reply: Opened(1, 2, 1) }), 18",
-        },
-        Case {
-            call: Call::Client(0, Ask::Register(1)),
-            want: "Done(Receipt { position: 3, version: 0, reply: Joined }), 3 0 8",
-        },
-        Case {
-            call: Call::Client(1, Ask::Register(1)),
-            want: "Full(3), 3 0 8",
-        },
-        Case {
-            call: Call::Driver(Order::Register(1)),
-            want: "Full(3), 17",
-        },
-        Case {
-            call: Call::Driver(Order::Short(0, 1)),
-            want: "Done(Receipt { position: 4, version: 0, reply: Noted(1) }), 16",
-        },
-        Case {
-            call: Call::Driver(Order::Close),
-            want: "Done(Receipt { position: 5, version: 0, reply: Closed(1) }), 15",
-        },
-        Case {
-            call: Call::Client(1, Ask::Pull(1)),
-            want: "Unranked { version: 0 }, 3 0 8",
-        },
-        Case {
-            call: Call::Level,
-            want: "",
-        },
-        Case {
-            call: Call::Seen(0),
-            want: ", 5 0 8",
-        },
+        (
+            Call::Driver(Order::Register(0)),
+            "Done(Receipt { position: 1, version: 0, reply: Joined }), 19",
+        ),
+        (
+            Call::Driver(Order::Open(2)),
+            "Done(Receipt { position: 2, version: 0, reply: Opened(1, 2, 1) }), 18",
+        ),
+        (
+            Call::Client(0, Ask::Register(1)),
+            "Done(Receipt { position: 3, version: 0, reply: Joined }), 3 0 8",
+        ),
+        (Call::Client(1, Ask::Register(1)), "Full(3), 3 0 8"),
+        (Call::Driver(Order::Register(1)), "Full(3), 17"),
+        (
+            Call::Driver(Order::Short(0, 1)),
+            "Done(Receipt { position: 4, version: 0, reply: Noted(1) }), 16",
+        ),
+        (
+            Call::Driver(Order::Close),
+            "Done(Receipt { position: 5, version: 0, reply: Closed(1) }), 15",
+        ),
+        (
+            Call::Client(1, Ask::Pull(1)),
+            "Unranked { version: 0 }, 3 0 8",
+        ),
+        (Call::Level, ""),
+        (Call::Seen(0), ", 5 0 8"),
     ];
     play(&rt, rt.alloc(), 3, 9, ROWS);
 }
