@@ -219,7 +219,7 @@ ONLINE_ROWS = [
     ("slots of 2 milliseconds", LATE, ONLINE, CHECK + ["--slot-ms", "2"], 1, b"no early 5 2\n", b""),
     ("a run before an arrival", LATE, ONLINE.replace(b"run 4 0\nrun 1 1\nrun 2 0", b"run 1 0\nrun 1 1\nrun 5 0"), CHECK, 1, b"no early 2 2\n", b""),
     ("a release twice", LATE, ONLINE.replace(b"release 1 2", b"release 1 1"), CHECK, 1, b"no order 2\n", b""),
-    ("a release at a port out of range", LATE, ONLINE.replace(b"release 1 2 in 0", b"release 1 2 in 2"), CHECK, 1, b"no port 1 2\n", b""),
+    ("a release at a port out of range", LATE, ONLINE.replace(b"release 1 2 in 0", b"release 1 2 in 3"), CHECK, 1, b"no port 1 3\n", b""),
     ("a run of a flow that is not there", LATE, ONLINE.replace(b"run 1 1", b"run 1 2"), CHECK, 1, b"no flow 5 2\n", b""),
     ("both flows of a port in a slot of an online run", LATE, ONLINE.replace(b"run 1 1", b"run 1 0 1"), CHECK, 1, b"no clash 5 in 0\n", b""),
     ("an online run that ends a slot early", LATE, ONLINE.replace(b"run 2 0", b"run 1 0"), CHECK, 1, b"no units 0 5 6\n", b""),
