@@ -22,7 +22,7 @@ use Rattle.report.specs.Text.{report_text}
 use Rattle.report.proofs.TextLengths.{text_is_short}
 use Rattle.schedule_model.specs.RunList.{slots_in}
 use Rattle.schedule_model.proofs.SlotLoads.{carried_by_times}
-use Rattle.slot_switch.proofs.ServeSteps.{some_grant}
+use Rattle.coflow_units.proofs.RunLengths.{some_grant}
 use Rattle.plans.specs.PlanReport.{IsPlanOf, coflows_of}
 use Rattle.plans.proofs.CertificateFacts.{places_all}
 use Rattle.plans.proofs.PlannedRuns.{each_run, run_lengths}

@@ -12,7 +12,7 @@ use Rattle.report.specs.declared.value.PlaceLine.{PlaceLine}
 use Rattle.cert_check.specs.Places.{certificate_in, coflow_with, coflows_in, ends_in, entry_for, entry_with}
 use Rattle.cert_check.specs.Stated.{AreReal}
 use Rattle.dual_cert.proofs.FirstPlaces.{map_reverse}
-use Rattle.slot_switch.proofs.RankSteps.{place_at}
+use Rattle.coflow_units.proofs.LinePlaces.{place_at}
 use Rattle.plans.specs.PlanReport.{coflows_of, line_of}
 
 -- where ids differ, the id of a coflow names it

@@ -20,7 +20,7 @@ use Rattle.schedule_model.specs.RunList.{pairs_of, slots_in}
 use Rattle.schedule_model.proofs.LastSlots.{last_push}
 use Rattle.schedule_model.proofs.RunSlots.{after_first, all_here, slots_at}
 use Rattle.schedule_model.proofs.WaitingLaw.{short_law}
-use Rattle.slot_switch.proofs.ServeSteps.{some_grant}
+use Rattle.coflow_units.proofs.RunLengths.{some_grant}
 
 -- ---- the runs
 

@@ -1,6 +1,7 @@
 //! The ports that wait for a look.
-ghost use Rattle.std.specs.Prelude.{◌≡◌, ℕ, ◌+◌, ◌<◌, ◌≤◌, ◌^◌, [], Contains, IfOk};
+ghost use Rattle.std.specs.Prelude.{◌≡◌, ℕ, ◌+◌, ◌-◌, ◌/◌, ◌<◌, ◌≤◌, ◌^◌, [], Contains, IfOk, nat_lt};
 ghost use Rattle.port_tables.specs.Waits.{IsPopped, IsPushed};
+ghost use Rattle.port_tables.specs.declared.waiting.TheConstants.{FEWER};
 
 use crate::stack::Stack;
 use coflow_units::NoMemory;
@@ -13,7 +14,7 @@ const FEWER: u32 = 16;
 /// The ports that wait. Those at which flows begin come first: the others are looked at where none of them waits.
 /// So a look at a port of the second side finds each port of the first side settled, and the looks stay few.
 ///
-/// Contracts see the ports that wait, and how many ports there are.
+/// Contracts see the ports that wait, how many of each side do, and how many ports there are.
 #[derive(Drop)]
 pub struct Waiting {
     ports: u32,
@@ -22,12 +23,17 @@ pub struct Waiting {
 }
 
 impl Model for Waiting {
-    ghost use Rattle.std.specs.Prelude.{◌≡◌, ◌++◌};
-    ghost use Rattle.port_tables.specs.Waits.{Waits};
+    ghost use Rattle.std.specs.Prelude.{◌≡◌, ◌++◌, length};
+    ghost use Rattle.port_tables.specs.Waits.{SidesWait};
 
-    ghost Value = { Waits };
+    ghost Value = { SidesWait };
 
-    ghost view = { λ s. record { room = s.first.room; ports = s.first.ports ++ s.second.ports } };
+    ghost view = { λ s. record {
+      room = s.first.room;
+      ports = s.first.ports ++ s.second.ports;
+      first = length s.first.ports;
+      second = length s.second.ports;
+    } };
 
     ghost invariant = { λ s. s.second.room ≡ s.first.room };
 }
@@ -93,12 +99,16 @@ impl Waiting {
     }
 
     /// How many ports of the second side wait.
-    pub fn second_count(&self) -> u32 {
+    pub fn second_count(&self) -> u32
+        ensures { result ≡ self.now.second }
+    {
         self.second.count()
     }
 
     /// Nearly all ports of the first side, of which there are so many, wait: those that do not are few beside the ports of the second side that wait.
-    pub fn favours_first(&self, ports: u32) -> bool {
+    pub fn favours_first(&self, ports: u32) -> bool
+        ensures { result ≡ nat_lt (ports - self.now.first) (self.now.second / FEWER) }
+    {
         self.second.count() / FEWER > ports.saturating_sub(self.first.count())
     }
 }

@@ -1,5 +1,5 @@
 -- Lists of neighbouring numbers, one number longer.
-use Rattle.std.proofs.Common.{◌≡◌, ℕ, ◌+◌, ◌-◌, ◌≤◌, [], ◌∷◌, ◌++◌, List, ap, ◌∙◌, arith, zero, suc}
+use Rattle.std.proofs.Common.{◌≡◌, ℕ, ◌+◌, [], ◌∷◌, ◌++◌, List, ap, ◌∙◌, arith, zero, suc}
 use Rattle.std.specs.List.{range_with_len}
 
 -- the list grows at its head
@@ -11,6 +11,3 @@ pub range_more : (a n j : ℕ) → a + n ≡ j → range_with_len a (n + 1) ≡ 
 range_more a zero j e = let h : a ≡ j = omega (arith, e) in ap (λ (x : ℕ). x ∷ []) h
 range_more a (suc n) j e =
     range_suc a (suc n) ∙ ap (λ (xs : List ℕ). a ∷ xs) ((let s : suc n ≡ n + 1 = omega arith in ap (range_with_len (a + 1)) s) ∙ range_more (a + 1) n j (omega (arith, e)))
-
-pub range_step : (a n : ℕ) → a ≤ n → range_with_len a (n + 1 - a) ≡ range_with_len a (n - a) ++ n ∷ []
-range_step a n le = let e : n + 1 - a ≡ n - a + 1 = omega (arith, le) in ap (range_with_len a) e ∙ range_more a (n - a) n (omega (arith, le))

@@ -1,7 +1,11 @@
 -- The served schedule, one run after another.
-use Rattle.std.proofs.Common.{◌≡◌, ℕ, ◌+◌, ◌-◌, ◌^◌, ◌≤◌, ◌<◌, ◌==◌, inl, inr, zero, suc, Bool, true, false, cond, List, [], ◌∷◌, ◌++◌, length, get_or, replicate, Contains, refl}
+use Rattle.std.proofs.Common.{◌≡◌, ℕ, ◌+◌, ◌-◌, ◌^◌, ◌≤◌, ◌<◌, ◌==◌, inl, inr, zero, suc, Bool, true, false, cond, List, [], ◌∷◌, ◌++◌, length, get_or, replicate, take, Contains, refl}
 use Rattle.std.proofs.Common.{sym, ap, ◌∙◌, arith, length-append, append-nil, append_assoc}
 use Rattle.std.specs.Prelude.{sum_by, map}
+use Rattle.std.specs.List.{range_with_len}
+use Rattle.std.proofs.lemmas.List.{take_all}
+use Rattle.std.proofs.lemmas.List.Sums.{sum_by_more}
+use Rattle.coflow_units.proofs.Ranges.{sum_next}
 use Rattle.std.proofs.lemmas.List.{get_or-map, get_or_past, length-map, length-replicate, get_or_default}
 use Rattle.std.proofs.lemmas.List.Elements.{All-contains}
 use Rattle.std.proofs.Math.Path.{fun_ext}
@@ -19,7 +23,20 @@ use Rattle.coflow_units.proofs.GrantsExist.{numbers_of}
 use Rattle.coflow_units.proofs.Sums.{any_in, sum_mono, sum_add, picked_one}
 use Rattle.coflow_units.specs.LeastLeft.{IsLeastLeft}
 use Rattle.coflow_units.proofs.RunLengths.{some_grant}
-use Rattle.slot_switch.proofs.ServeSteps.{units_in_all}
+
+-- ---- the units of all flows
+
+sum_below : (flows : List Flow) (n : ℕ) → n ≤ length flows → sum_by (left_after flows []) (range_with_len 0 n) ≡ sum_by (λ (x : Flow). x.units) (take n flows)
+sum_below flows zero le = refl
+sum_below flows (suc n) le =
+    let e : suc n ≡ n + 1 = omega arith in
+    ap (λ (k : ℕ). sum_by (left_after flows []) (range_with_len 0 k)) e ∙ sum_next (left_after flows []) n
+    ∙ (let step : sum_by (left_after flows []) (range_with_len 0 n) + left_after flows [] n ≡ sum_by (λ (x : Flow). x.units) (take (n + 1) flows) =
+    omega (arith, sum_below flows n (omega arith), sum_by_more (λ (x : Flow). x.units) flows n record { coflow = 0; ingress = 0; egress = 0; units = 0 } (omega arith)) in step)
+    ∙ ap (λ (k : ℕ). sum_by (λ (x : Flow). x.units) (take k flows)) (sym e)
+
+pub units_in_all : (flows : List Flow) → left_sum flows [] ≡ sum_by (λ (x : Flow). x.units) flows
+units_in_all flows = sum_below flows (length flows) (omega arith) ∙ ap (λ (xs : List Flow). sum_by (λ (x : Flow). x.units) xs) (take_all (length flows) flows (omega arith))
 
 -- ---- a run of slots
 
