@@ -1,11 +1,11 @@
-//! Orders served by whole runs and slot by slot.
+//! Orders that are served run by run.
 ghost use Rattle.std.specs.Prelude.{◌<◌, ℕ, All, Contains, IsTrue};
 ghost use Rattle.coflow_units.specs.Flows.{IsDistinct};
 
 use crate::inputs::{THREE, TWO, had, table_of};
 use coflow_units::Run;
 use flow_table::Table;
-use slot_switch::{serve_slot_by_slot, simulate};
+use slot_switch::simulate;
 use std::alloc::Global;
 use std::process::Abort;
 
@@ -41,48 +41,63 @@ fn has_all_below(order: &[u32], count: u32) -> bool
     true
 }
 
-/// Serves an order run by run and slot by slot, and compares the schedules.
-fn serve_both(rt: &impl Abort, alloc: Global, table: &Table, order: &[u32]) {
+/// Serves an order, and tells how many slots each run has and which flows.
+fn told(rt: &impl Abort, alloc: Global, table: &Table, order: &[u32]) -> String {
     let fit = is_distinct(order);
     assert!(rt; fit);
     let fit = are_below(order, table.coflows());
     assert!(rt; fit);
     let fit = has_all_below(order, table.coflows());
     assert!(rt; fit);
-    let by_runs = had(rt, simulate(alloc, table, order));
-    let (flows, starts) = (table.flows(), table.starts());
-    let by_slots = serve_slot_by_slot(alloc, flows, starts, order, table.ports());
-    compare(rt, by_runs.runs(), had(rt, by_slots).runs());
+    let schedule = had(rt, simulate(alloc, table, order));
+    runs_told(rt, alloc, schedule.runs())
 }
 
-/// Compares runs.
-fn compare(rt: &impl Abort, runs: &[Run], others: &[Run]) {
-    assert_eq!(rt; runs.len(), others.len());
-    for (run, other) in runs.iter().zip(others) {
-        assert!(rt; run.length == other.length);
-        assert!(rt; run.flows.as_slice() == other.flows.as_slice());
+/// The text of runs.
+fn runs_told(rt: &impl Abort, alloc: Global, runs: &[Run]) -> String {
+    let mut text = String::new(alloc);
+    for run in runs {
+        let written = write!(text, "{} of {:?}; ", run.length, run.flows.as_slice());
+        had(rt, written);
     }
+    text
 }
 
 /// Two coflows whose flows meet at each port.
 const TIES: &str = "1 2\n1 0 2 0 1 1 0:2\n2 0 2 0 1 1 1:2\n";
 
-/// A trace, how many megabytes a unit has, and an order of its coflows.
-const ROWS: [(&str, u64, &[u32]); 7] = [
-    (TWO, 1, &[0, 1]),
-    (TWO, 2, &[1, 0]),
-    (THREE, 1, &[0, 2, 1]),
-    (THREE, 1, &[1, 2, 0]),
-    (THREE, 3, &[2, 0, 1]),
-    (TIES, 1, &[0, 1]),
-    (TIES, 1, &[1, 0]),
+/// A trace, how many megabytes a unit has, an order of its coflows, and the runs that serve it, as they were worked out by hand.
+const ROWS: [(&str, u64, &[u32], &str); 7] = [
+    (TWO, 1, &[0, 1], "3 of [0]; 1 of [1]; "),
+    (TWO, 2, &[1, 0], "1 of [1]; 2 of [0]; "),
+    (
+        THREE,
+        1,
+        &[0, 2, 1],
+        "1 of [0, 1, 5]; 1 of [1, 3]; 2 of [2, 3]; 1 of [4, 5]; 2 of [2, 6]; 1 of [2]; ",
+    ),
+    (
+        THREE,
+        1,
+        &[1, 2, 0],
+        "2 of [1, 3]; 1 of [2, 3]; 2 of [2, 5]; 2 of [2, 6]; 1 of [4]; 1 of [0]; ",
+    ),
+    (
+        THREE,
+        3,
+        &[2, 0, 1],
+        "1 of [1, 3]; 1 of [4, 5]; 1 of [0, 6]; 2 of [2]; ",
+    ),
+    (TIES, 1, &[0, 1], "1 of [0, 3]; 1 of [1, 2]; "),
+    (TIES, 1, &[1, 0], "1 of [1, 2]; 1 of [0, 3]; "),
 ];
 
 #[test]
-fn runs_and_single_slots_make_one_schedule(rt: HostRuntime) {
+fn orders_are_served_in_these_runs(rt: HostRuntime) {
     let alloc = rt.alloc();
-    for (text, unit, order) in ROWS {
+    for (text, unit, order, want) in ROWS {
         let table = table_of(&rt, alloc, text, unit);
-        serve_both(&rt, alloc, &table, order);
+        let have = told(&rt, alloc, &table, order);
+        assert!(&rt; have.as_str() == want);
     }
 }
