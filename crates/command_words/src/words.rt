@@ -66,10 +66,7 @@ pub fn read_words<'a>(alloc: Global, words: &'a [String]) -> Result<Words<'a>, W
     ensures said { IfOk result (λ w. IsWords (texts words.entry.now) (said_by w)) }
     ensures usage { result ≡ Err Usage → (said : Said) → IsWords (texts words.entry.now) said → ⊥ }
 {
-    let matches = match matches_of(alloc, words) {
-        Ok(matches) => matches,
-        Err(fault) => return Err(fault),
-    };
+    let matches = matches_of(alloc, words)?;
     match words_of(&matches) {
         Some(words) => Ok(words),
         None => Err(WordsFault::Usage),

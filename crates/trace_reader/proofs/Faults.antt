@@ -1,5 +1,5 @@
 -- What a part of the checks says of all.
-use Rattle.std.proofs.Common.{◌≡◌, List, ◌++◌, Some, None, sym, ◌∙◌, Err}
+use Rattle.std.proofs.Common.{◌≡◌, List, ◌++◌, Some, None, sym, ap, ◌∙◌, Result, Ok, Err, IsErrAnd}
 use Rattle.text_fields.specs.Checks.{Check, first_fault}
 use Rattle.text_fields.proofs.CheckLists.{pass_first, fail_first}
 use Rattle.trace_reader.specs.Checks.{Answers}
@@ -31,3 +31,8 @@ after_passed P Q xs ys f p a = retold P Q ys (xs ++ ys) f (λ e. pass_first xs y
 pub first_fails : {V W : Type 0} (P : V → Type 0) (Q : W → Type 0) (xs ys all : List (Check TraceFault)) (f : TraceFault) → first_fault (xs ++ ys) ≡ first_fault all →
     Answers xs P (Err f) → Answers all Q (Err f)
 first_fails P Q xs ys all f same a = retold P Q xs all f (λ e. sym same ∙ fail_first xs ys f e) a
+
+-- A fault that is handed on is the answer.
+pub handed_on : {V : Type 0} (r : Result V TraceFault) (f : TraceFault) → IsErrAnd r (λ e. e ≡ f) → r ≡ Err f
+handed_on (Ok v) f is = absurd is
+handed_on (Err e) f is = ap Err is

@@ -24,21 +24,15 @@ pub(crate) fn back_of(
     ensures { Answers (back_checks ports field fields.old) (λ v. v.items ≡ reducers_of fields.old) result }
 {
     let line = fields.line();
-    let count = match number_in(
+    let count = number_in(
         fields.next(),
         line,
         field,
         Quantity::Reducers,
         0,
         MAX_REDUCERS,
-    ) {
-        Ok(count) => count,
-        Err(fault) => return Err(fault),
-    };
-    let reducers = match reducers_in(alloc, fields, field + 1, ports, count) {
-        Ok(reducers) => reducers,
-        Err(fault) => return Err(fault),
-    };
+    )?;
+    let reducers = reducers_in(alloc, fields, field + 1, ports, count)?;
     if fields.is_done() {
         Ok(reducers)
     } else {
@@ -66,10 +60,7 @@ fn reducers_in(
     let line = fields.line();
     let mut reducers = Vec::new(alloc);
     for index in 0..count {
-        let reducer = match reducer_in(fields.next(), line, field + index, ports) {
-            Ok(reducer) => reducer,
-            Err(fault) => return Err(fault),
-        };
+        let reducer = reducer_in(fields.next(), line, field + index, ports)?;
         reducers.push(reducer)?;
     }
     Ok(reducers)

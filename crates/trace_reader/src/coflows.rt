@@ -30,10 +30,7 @@ pub(crate) fn coflows_of(
                 line: fields.line(),
             });
         }
-        let coflow = match coflow_of(alloc, &mut fields, ports, &mut ids) {
-            Ok(coflow) => coflow,
-            Err(fault) => return Err(fault),
-        };
+        let coflow = coflow_of(alloc, &mut fields, ports, &mut ids)?;
         coflows.push(coflow)?;
     }
     Ok(coflows)
@@ -49,15 +46,9 @@ fn coflow_of(
     ensures answer { Answers (line_checks ports ids.old.keys fields.old) (λ v. v ≡ coflow_of_line fields.old) result }
     ensures ids { OnOk result (ids.new.keys ≡ ids.old.keys ++ (id_of fields.old ∷ [])) }
 {
-    let front = match front_of(alloc, fields, ports, ids) {
-        Ok(front) => front,
-        Err(fault) => return Err(fault),
-    };
+    let front = front_of(alloc, fields, ports, ids)?;
     let field = 4 + front.mappers.len() as u32;
-    let reducers = match back_of(alloc, fields, field, ports) {
-        Ok(reducers) => reducers,
-        Err(fault) => return Err(fault),
-    };
+    let reducers = back_of(alloc, fields, field, ports)?;
     Ok(CoflowLine {
         id: front.id,
         arrival: front.arrival,

@@ -36,22 +36,10 @@ pub(crate) fn front_of(
     ensures ids { OnOk result (ids.new.keys ≡ ids.old.keys ++ (id_of fields.old ∷ [])) }
 {
     let line = fields.line();
-    let id = match id_in(fields.next(), line, ids) {
-        Ok(id) => id,
-        Err(fault) => return Err(fault),
-    };
-    let arrival = match number_in(fields.next(), line, 2, Quantity::Arrival, 0, MAX_ARRIVAL) {
-        Ok(arrival) => arrival,
-        Err(fault) => return Err(fault),
-    };
-    let count = match number_in(fields.next(), line, 3, Quantity::Mappers, 1, MAX_MAPPERS) {
-        Ok(count) => count,
-        Err(fault) => return Err(fault),
-    };
-    let mappers = match mappers_in(alloc, fields, ports, count) {
-        Ok(mappers) => mappers,
-        Err(fault) => return Err(fault),
-    };
+    let id = id_in(fields.next(), line, ids)?;
+    let arrival = number_in(fields.next(), line, 2, Quantity::Arrival, 0, MAX_ARRIVAL)?;
+    let count = number_in(fields.next(), line, 3, Quantity::Mappers, 1, MAX_MAPPERS)?;
+    let mappers = mappers_in(alloc, fields, ports, count)?;
     Ok(Front {
         id,
         arrival,
@@ -64,10 +52,7 @@ fn id_in(field: &[u8], line: u32, ids: &mut IndexSet<u32>) -> Result<u32, TraceF
     ensures answer { Answers (id_checks ids.old.keys line field.now) (λ v. v ≡ number field.now) result }
     ensures ids { OnOk result (ids.new.keys ≡ ids.old.keys ++ (number field.now ∷ [])) }
 {
-    let id = match number_in(field, line, 1, Quantity::Id, 0, MAX_ID) {
-        Ok(id) => id,
-        Err(fault) => return Err(fault),
-    };
+    let id = number_in(field, line, 1, Quantity::Id, 0, MAX_ID)?;
     let (_index, added) = ids.insert_full(id)?;
     if added {
         Ok(id)
@@ -104,10 +89,7 @@ fn mappers_in(
     let line = fields.line();
     let mut mappers = Vec::new(alloc);
     for index in 0..count {
-        let mapper = match mapper_in(fields.next(), line, 4 + index, ports) {
-            Ok(mapper) => mapper,
-            Err(fault) => return Err(fault),
-        };
+        let mapper = mapper_in(fields.next(), line, 4 + index, ports)?;
         mappers.push(mapper)?;
     }
     Ok(mappers)

@@ -18,14 +18,8 @@ pub(crate) fn header_of(fields: &mut Fields<'_>) -> Result<(u32, u32), TraceFaul
     let Some((ports, coflows)) = two_numbers(fields) else {
         return Err(TraceFault::BadHeader);
     };
-    let ports = match in_range(ports, line, Quantity::Ports, 1, MAX_PORTS) {
-        Ok(ports) => ports,
-        Err(fault) => return Err(fault),
-    };
-    let coflows = match in_range(coflows, line, Quantity::Coflows, 0, MAX_COFLOWS) {
-        Ok(coflows) => coflows,
-        Err(fault) => return Err(fault),
-    };
+    let ports = in_range(ports, line, Quantity::Ports, 1, MAX_PORTS)?;
+    let coflows = in_range(coflows, line, Quantity::Coflows, 0, MAX_COFLOWS)?;
     Ok((ports, coflows))
 }
 

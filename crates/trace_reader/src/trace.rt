@@ -34,14 +34,8 @@ pub fn read_trace(alloc: Global, bytes: &[u8]) -> Result<Trace, TraceFault>
     let Some(mut header) = lines.next() else {
         return Err(TraceFault::BadHeader);
     };
-    let (number, want) = match header_of(&mut header) {
-        Ok(counts) => counts,
-        Err(fault) => return Err(fault),
-    };
-    let coflows = match coflows_of(alloc, &mut lines, number, want) {
-        Ok(coflows) => coflows,
-        Err(fault) => return Err(fault),
-    };
+    let (number, want) = header_of(&mut header)?;
+    let coflows = coflows_of(alloc, &mut lines, number, want)?;
     let have = coflows.len() as u32;
     if have < want {
         return Err(TraceFault::Missing { have, want });

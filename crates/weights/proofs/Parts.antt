@@ -1,5 +1,5 @@
 -- What a part of the checks says of all.
-use Rattle.std.proofs.Common.{◌≡◌, List, ◌++◌, None, sym, ap, ◌∙◌, Err}
+use Rattle.std.proofs.Common.{◌≡◌, List, ◌++◌, None, sym, ap, ◌∙◌, Result, Ok, Err, IsErrAnd}
 use Rattle.text_fields.specs.Checks.{Check, first_fault}
 use Rattle.text_fields.proofs.CheckLists.{pass_first, fail_first}
 use Rattle.weights.specs.Checks.{Answers}
@@ -43,3 +43,8 @@ first_fails P Q xs ys all (fault.BadLine l f) e a = sym e ∙ fail_first xs ys _
 first_fails P Q xs ys all (fault.UnknownId l f) e a = sym e ∙ fail_first xs ys _ a
 first_fails P Q xs ys all (fault.DuplicateId l f) e a = sym e ∙ fail_first xs ys _ a
 first_fails P Q xs ys all (fault.Limit l w f) e a = sym e ∙ fail_first xs ys _ a
+
+-- A fault that is handed on is the answer.
+pub handed_on : {V : Type 0} (r : Result V WeightsFault) (f : WeightsFault) → IsErrAnd r (λ e. e ≡ f) → r ≡ Err f
+handed_on (Ok v) f is = absurd is
+handed_on (Err e) f is = ap Err is

@@ -21,17 +21,11 @@ pub(crate) fn line_of(
         (λ v. (v.0 ≡ id_of fields.old) × (v.1 ≡ weight_in fields.old)) result }
 {
     let line = fields.line();
-    let id = match known_id(fields.next(), line, known) {
-        Ok(id) => id,
-        Err(fault) => return Err(fault),
-    };
+    let id = known_id(fields.next(), line, known)?;
     if given.contains_key(&id) {
         return Err(WeightsFault::DuplicateId { line, id });
     }
-    let weight = match weight_within(fields.next(), line) {
-        Ok(weight) => weight,
-        Err(fault) => return Err(fault),
-    };
+    let weight = weight_within(fields.next(), line)?;
     if fields.is_done() {
         Ok((id, weight))
     } else {

@@ -24,10 +24,7 @@ pub(crate) fn given_weights(
     let mut lines = Lines::new(bytes);
     let mut given = IndexMap::<u32, u64>::new(alloc);
     while let Some(mut fields) = lines.next() {
-        let (id, weight) = match line_of(&mut fields, known, &given) {
-            Ok(pair) => pair,
-            Err(fault) => return Err(fault),
-        };
+        let (id, weight) = line_of(&mut fields, known, &given)?;
         given.insert(id, weight)?;
     }
     Ok(given)

@@ -26,10 +26,7 @@ pub fn read_weights(alloc: Global, bytes: &[u8], trace: &Trace) -> Result<Items<
 {
     let coflows = trace.coflows.as_slice();
     let known = known_ids(alloc, coflows)?;
-    let given = match given_weights(alloc, bytes, &known) {
-        Ok(given) => given,
-        Err(fault) => return Err(fault),
-    };
+    let given = given_weights(alloc, bytes, &known)?;
     let weights = weights_by_number(alloc, coflows, &given)?;
     Ok(Items::from_vec(weights))
 }

@@ -7,17 +7,18 @@ use Rattle.weights.specs.Checks.{lines_checks}
 use Rattle.coflow_units.specs.Trace.{ids_of}
 use Rattle.weights.specs.Weights.{IsSameIds, text_checks, weights_of}
 use Rattle.weights.proofs.LineLists.{pairs, same_checks, weights_are}
-use Rattle.weights.proofs.Parts.{same_fault}
+use Rattle.weights.proofs.Parts.{handed_on, same_fault}
 use Rattle.weights.proofs.weights.read_weights.Goals as goal
 
-pub returns-in-Err : goal.returns-in-Err
-returns-in-Err c =
+pub returns-in_err-given : goal.returns-in_err-given
+returns-in_err-given c =
     let coflows : List CoflowLine = c.args.trace.now.coflows in
     let ids : IsSameIds c.in_ok-known.known.keys (ids_of coflows) =
     subst (λ (x : List CoflowLine). IsSameIds c.in_ok-known.known.keys (ids_of x)) c.as_slice-coflows.ensures c.in_ok-known.ensures.0 in
     let lines : List Line = lines_of c.args.bytes.now in
-    same_fault {W = List ℕ} (λ (es : List (ℕ × ℕ)). es ≡ pairs lines) (λ w. w ≡ weights_of c.args.bytes.now coflows) (lines_checks c.in_ok-known.known.keys [] lines)
-    (text_checks c.args.bytes.now coflows) c.in-Err.fault (same_checks c.in_ok-known.known.keys (ids_of coflows) [] lines ids) c.in-Err.ensures
+    rw (handed_on c.from_residual-in_err-given.result c.in_err-given.field-0.0 c.from_residual-in_err-given.ensures.1)
+    (same_fault {W = List ℕ} (λ (es : List (ℕ × ℕ)). es ≡ pairs lines) (λ w. w ≡ weights_of c.args.bytes.now coflows) (lines_checks c.in_ok-known.known.keys [] lines)
+    (text_checks c.args.bytes.now coflows) c.in_err-given.field-0.0 (same_checks c.in_ok-known.known.keys (ids_of coflows) [] lines ids) c.in_err-given.ensures)
 
 pub returns : goal.returns
 returns c =
@@ -25,9 +26,9 @@ returns c =
     let ids : IsSameIds c.in_ok-known.known.keys (ids_of coflows) =
     subst (λ (x : List CoflowLine). IsSameIds c.in_ok-known.known.keys (ids_of x)) c.as_slice-coflows.ensures c.in_ok-known.ensures.0 in
     let lines : List Line = lines_of c.args.bytes.now in
-    let given : c.in_ok-weights.weights.items ≡ map (λ (x : CoflowLine). unwrap_or (get nat_eq c.in-Ok.given x.id) 1) coflows =
-    c.in_ok-weights.ensures ∙ ap (map (λ (x : CoflowLine). unwrap_or (get nat_eq c.in-Ok.given x.id) 1)) c.as_slice-coflows.ensures in (
-      ap first_fault (sym (same_checks c.in_ok-known.known.keys (ids_of coflows) [] lines ids)) ∙ c.in-Ok.ensures.0,
+    let given : c.in_ok-weights.weights.items ≡ map (λ (x : CoflowLine). unwrap_or (get nat_eq c.in_ok-given.given x.id) 1) coflows =
+    c.in_ok-weights.ensures ∙ ap (map (λ (x : CoflowLine). unwrap_or (get nat_eq c.in_ok-given.given x.id) 1)) c.as_slice-coflows.ensures in (
+      ap first_fault (sym (same_checks c.in_ok-known.known.keys (ids_of coflows) [] lines ids)) ∙ c.in_ok-given.ensures.0,
       c.from_vec.ensures ∙
-          (given ∙ weights_are lines c.in-Ok.given.entries coflows c.in-Ok.ensures.1),
+          (given ∙ weights_are lines c.in_ok-given.given.entries coflows c.in_ok-given.ensures.1),
     )
