@@ -4,7 +4,8 @@ use Rattle.std.specs.Prelude.{is_some, option_map, slice_index}
 use Rattle.std.proofs.lemmas.List.{length-take-le, take_more}
 use Rattle.std.proofs.lemmas.List.Elements.{All-more}
 use Rattle.std.proofs.lemmas.Bool.Decides.{nat_tests}
-use Rattle.script_reader.specs.Operands.{AreIds, coflow_with, or_else}
+use Rattle.text_fields.specs.Numbers.{AreIds}
+use Rattle.script_reader.specs.Operands.{coflow_with, or_else}
 
 -- A number beyond 32 bits is no id.
 pub large_is_unknown : (ids : List ℕ) (n : ℕ) → AreIds ids → 2 ^ 32 ≤ n → coflow_with n ids ≡ None

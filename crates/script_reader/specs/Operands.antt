@@ -1,12 +1,8 @@
 -- What the fields behind the word of a command say.
-use Rattle.std.specs.Prelude.{ℕ, ◌+◌, ◌<◌, ◌^◌, All, List, [], ◌∷◌, Option, Some, None, cond, nat_eq, option_map, unwrap_or}
+use Rattle.std.specs.Prelude.{ℕ, ◌+◌, List, [], ◌∷◌, Option, Some, None, cond, nat_eq, option_map, unwrap_or}
 use Rattle.text_fields.specs.Fields.{Text, field_at}
-use Rattle.text_fields.specs.Lines.{Line}
+use Rattle.text_fields.specs.Lines.{Line, number_in_field}
 use Rattle.text_fields.specs.Numbers.{number}
-
--- Ids have 32 bits.
-abbrev pub AreIds : List ℕ → Type 0
-AreIds ids = All (λ n. n < 2 ^ 32) ids
 
 -- The first coflow that has the id, by number.
 abbrev pub coflow_with : ℕ → List ℕ → Option ℕ
@@ -28,4 +24,4 @@ coflow_in ids line = coflow_at ids (field_at line.texts 0)
 
 -- The weight behind the coflow.
 abbrev pub weight_in : Line → ℕ
-weight_in line = number (field_at line.texts 1)
+weight_in line = number_in_field 1 line

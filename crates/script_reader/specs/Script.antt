@@ -1,8 +1,7 @@
 -- The script that a text gives.
 use Rattle.std.specs.Prelude.{ℕ, List, [], ◌∷◌, Option, Some, None, false, max}
 use Rattle.text_fields.specs.Fields.{Text, field_at}
-use Rattle.text_fields.specs.Lines.{Line, lines_of, without_first}
-use Rattle.text_fields.specs.Numbers.{number}
+use Rattle.text_fields.specs.Lines.{Line, lines_of, number_in_field, without_first}
 use Rattle.script_reader.specs.Operands.{coflow_in, weight_in}
 use Rattle.script_reader.specs.Words.{end_of, runs_at, word_of}
 use Rattle.script_reader.specs.declared.script.Asked.{Asked}
@@ -35,7 +34,7 @@ step_by ids (Some end) line = Ends end
 step_by ids None line =
     Ask record {
       line = line.number;
-      client = number (field_at line.texts 0);
+      client = number_in_field 0 line;
       asked = asked_of ids (without_first line);
     }
 

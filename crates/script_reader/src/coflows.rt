@@ -1,8 +1,8 @@
 //! The coflows of a table by their ids.
 ghost use Rattle.std.specs.Prelude.{◌≡◌, ℕ, List, Some, None, IfOk, OnOk, cond, nat_eq};
-ghost use Rattle.text_fields.specs.Numbers.{capped};
+ghost use Rattle.text_fields.specs.Numbers.{AreIds, capped};
 ghost use Rattle.indexmap.specs.IndexMap.{get};
-ghost use Rattle.script_reader.specs.Operands.{AreIds, coflow_with, or_else};
+ghost use Rattle.script_reader.specs.Operands.{coflow_with, or_else};
 
 use coflow_units::{MAX_ID, NoMemory};
 use flow_table::Table;

@@ -1,7 +1,8 @@
 -- The lines of a text.
 use Rattle.std.specs.Prelude.{◌≡◌, ℕ, ◌+◌, ◌==◌, Bool, List, [], ◌∷◌, Option, Some, None, length, drop, true, ◌^◌, ◌<◌}
 use Rattle.std.specs.List.{filter, slice_split}
-use Rattle.text_fields.specs.Fields.{Text, fields, is_full}
+use Rattle.text_fields.specs.Fields.{Text, field_at, fields, is_full}
+use Rattle.text_fields.specs.Numbers.{number}
 
 -- A line is cut off by a line feed.
 abbrev pub is_line_feed : ℕ → Bool
@@ -28,6 +29,10 @@ lines_from n text = filter has_fields (numbered n (slice_split is_line_feed text
 -- The lines of a text that have fields, counted from 1.
 abbrev pub lines_of : Text → List Line
 lines_of text = lines_from 1 text
+
+-- The number that field k of a line spells, from 0.
+abbrev pub number_in_field : ℕ → Line → ℕ
+number_in_field k line = number (field_at line.texts k)
 
 -- The line without its first field.
 abbrev pub without_first : Line → Line

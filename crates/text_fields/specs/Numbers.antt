@@ -1,6 +1,6 @@
 -- Numbers of fields.
 use Rattle.std.specs.Prelude.{◌≡◌, ℕ, ◌-◌, ◌^◌, ◌&&◌, Bool, true, false, Option, Some, None, length, min, nat_le}
-use Rattle.std.specs.Prelude.{nat_lt}
+use Rattle.std.specs.Prelude.{nat_lt, ◌<◌, All, List}
 use Rattle.std.specs.List.{list_all}
 use Rattle.std.specs.Str.Parse.{digits_value}
 use Rattle.text_fields.specs.Fields.{Text}
@@ -24,6 +24,10 @@ is_number field = nat_lt 0 (length field) && list_all is_digit field
 -- The value of decimal digits.
 abbrev pub number : Text → ℕ
 number field = digits_value 10 field
+
+-- Ids have 32 bits.
+abbrev pub AreIds : List ℕ → Type 0
+AreIds ids = All (λ n. n < 2 ^ 32) ids
 
 -- The field is no number, or n is its value, capped.
 abbrev pub IsNumberOf : Text → Option ℕ → Type 0

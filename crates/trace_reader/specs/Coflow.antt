@@ -9,7 +9,7 @@ use Rattle.coflow_units.specs.declared.trace.Reducer.{Reducer}
 use Rattle.text_fields.specs.Checks.{Check}
 use Rattle.text_fields.specs.Decimals.{is_decimal, scaled_up}
 use Rattle.text_fields.specs.Fields.{Text, field_at}
-use Rattle.text_fields.specs.Lines.{Line}
+use Rattle.text_fields.specs.Lines.{Line, number_in_field}
 use Rattle.text_fields.specs.Numbers.{capped, is_number, number}
 use Rattle.trace_reader.specs.Checks.{each, number_checks, values}
 use Rattle.trace_reader.specs.declared.fault.TraceFault.{TraceFault}
@@ -66,15 +66,15 @@ reducer_of field = record {
 
 -- The first field of a line is the id.
 abbrev pub id_of : Line → ℕ
-id_of line = number (field_at line.texts 0)
+id_of line = number_in_field 0 line
 
 -- The second field of a line is the arrival.
 abbrev pub arrival_of : Line → ℕ
-arrival_of line = number (field_at line.texts 1)
+arrival_of line = number_in_field 1 line
 
 -- The third field of a line is the number of mappers.
 abbrev pub mapper_count : Line → ℕ
-mapper_count line = number (field_at line.texts 2)
+mapper_count line = number_in_field 2 line
 
 -- The checks of a line up to its last mapper, where the lines before it have the earlier ids.
 abbrev pub front_checks : ℕ → List ℕ → Line → List (Check TraceFault)
@@ -94,7 +94,7 @@ behind_mappers line = without (3 + mapper_count line) line
 
 -- Where the fields up to the last mapper are gone, the number of reducers is the first.
 abbrev pub reducer_count : Line → ℕ
-reducer_count line = number (field_at line.texts 0)
+reducer_count line = number_in_field 0 line
 
 -- The checks of a line behind its last mapper, where the number of reducers is field k of the whole line: this number,
 -- each reducer, and then that there is no field.

@@ -4,8 +4,8 @@ use Rattle.coflow_units.specs.declared.limits.TheConstants.{MAX_COFLOWS, MAX_POR
 use Rattle.coflow_units.specs.declared.quantity.Quantity.TheVariants as quantity
 use Rattle.text_fields.specs.Checks.{Check}
 use Rattle.text_fields.specs.Fields.{field_at}
-use Rattle.text_fields.specs.Lines.{Line}
-use Rattle.text_fields.specs.Numbers.{capped, is_number, number}
+use Rattle.text_fields.specs.Lines.{Line, number_in_field}
+use Rattle.text_fields.specs.Numbers.{capped, is_number}
 use Rattle.trace_reader.specs.Checks.{range}
 use Rattle.trace_reader.specs.declared.fault.TraceFault.{TraceFault}
 use Rattle.trace_reader.specs.declared.fault.TraceFault.TheVariants as fault
@@ -16,11 +16,11 @@ is_header line = is_number (field_at line.texts 0) && (is_number (field_at line.
 
 -- The first field of the header is the number of ports.
 abbrev pub ports_of : Line → ℕ
-ports_of line = number (field_at line.texts 0)
+ports_of line = number_in_field 0 line
 
 -- The second field of the header is the number of coflows.
 abbrev pub coflow_count : Line → ℕ
-coflow_count line = number (field_at line.texts 1)
+coflow_count line = number_in_field 1 line
 
 -- The checks of the header: its form, then the range of the ports, then that of the coflows.
 abbrev pub header_checks : Line → List (Check TraceFault)

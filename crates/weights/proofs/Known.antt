@@ -3,7 +3,7 @@ use Rattle.std.proofs.Common.{◌≡◌, ℕ, ◌-◌, ◌<◌, ◌^◌, List, [
 use Rattle.std.specs.Prelude.{nat_eq}
 use Rattle.std.specs.List.{list_any}
 use Rattle.std.proofs.lemmas.Bool.Decides.{nat_tests}
-use Rattle.weights.specs.Checks.{AreIds}
+use Rattle.text_fields.specs.Numbers.{AreIds}
 
 -- A number of more than 32 bits is no id.
 pub large_is_unknown : (ids : List ℕ) (n : ℕ) → AreIds ids → 2 ^ 32 - 1 < n → list_any (nat_eq n) ids ≡ false

@@ -1,30 +1,26 @@
 -- The checks of a weights file, in reading order.
-use Rattle.std.specs.Prelude.{◌≡◌, ℕ, ◌^◌, ◌==◌, ◌<◌, All, ◌&&◌, nat_le, nat_eq, Bool, not, List, [], ◌∷◌, ◌++◌, Some}
+use Rattle.std.specs.Prelude.{◌≡◌, ℕ, ◌^◌, ◌==◌, ◌&&◌, nat_le, nat_eq, Bool, not, List, [], ◌∷◌, ◌++◌, Some}
 use Rattle.std.specs.Prelude.{None, Result, Ok, Err, length, drop}
 use Rattle.std.specs.List.{list_any}
 use Rattle.coflow_units.specs.declared.quantity.Quantity.TheVariants as quantity
 use Rattle.text_fields.specs.Checks.{Check, first_fault}
 use Rattle.text_fields.specs.Fields.{Text, field_at}
-use Rattle.text_fields.specs.Lines.{Line}
+use Rattle.text_fields.specs.Lines.{Line, number_in_field}
 use Rattle.text_fields.specs.Numbers.{capped, is_number, number}
 use Rattle.weights.specs.declared.fault.WeightsFault.{WeightsFault}
 use Rattle.weights.specs.declared.fault.WeightsFault.TheVariants as fault
 
 -- The first field of a line is the id of a coflow.
 abbrev pub id_of : Line → ℕ
-id_of line = number (field_at line.texts 0)
+id_of line = number_in_field 0 line
 
 -- The second field of a line is a weight.
 abbrev pub weight_in : Line → ℕ
-weight_in line = number (field_at line.texts 1)
+weight_in line = number_in_field 1 line
 
 -- The number is one of these ids.
 abbrev pub is_known : List ℕ → ℕ → Bool
 is_known ids n = list_any (nat_eq n) ids
-
--- Ids have 32 bits.
-abbrev pub AreIds : List ℕ → Type 0
-AreIds ids = All (λ n. n < 2 ^ 32) ids
 
 -- The checks of an id: its form, and that the trace has it.
 abbrev pub id_checks : List ℕ → ℕ → Text → List (Check WeightsFault)

@@ -2,8 +2,8 @@
 ghost use Rattle.std.specs.Prelude.{◌≡◌, ◌≤◌, ◌<◌, ◌^◌, ◌-◌, ◌==◌, ℕ, List, drop};
 ghost use Rattle.indexmap.specs.IndexMap.{keys};
 ghost use Rattle.text_fields.specs.Fields.{field_at};
-ghost use Rattle.text_fields.specs.Numbers.{number};
-ghost use Rattle.weights.specs.Checks.{Answers, AreIds, id_checks, id_of, line_checks, weight_checks, weight_in};
+ghost use Rattle.text_fields.specs.Numbers.{AreIds, number};
+ghost use Rattle.weights.specs.Checks.{Answers, id_checks, id_of, line_checks, weight_checks, weight_in};
 
 use crate::fault::WeightsFault;
 use coflow_units::{MAX_ID, MAX_WEIGHT, Quantity};

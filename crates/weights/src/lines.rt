@@ -2,7 +2,8 @@
 ghost use Rattle.std.specs.Prelude.{◌≡◌, ◌≤◌, ◌^◌, ℕ, List, [], ◌∷◌, length, map};
 ghost use Rattle.coflow_units.specs.declared.limits.TheConstants.{MAX_TEXT};
 ghost use Rattle.text_fields.specs.Lines.{Line, lines_of};
-ghost use Rattle.weights.specs.Checks.{Answers, AreIds, id_of, lines_checks, weight_in};
+ghost use Rattle.text_fields.specs.Numbers.{AreIds};
+ghost use Rattle.weights.specs.Checks.{Answers, id_of, lines_checks, weight_in};
 
 use crate::fault::WeightsFault;
 use crate::line::line_of;

@@ -3,7 +3,8 @@ ghost use Rattle.std.specs.Prelude.{◌≡◌, ◌≤◌, ◌^◌, ℕ, List, If
 ghost use Rattle.coflow_units.specs.declared.limits.TheConstants.{MAX_TEXT};
 ghost use Rattle.coflow_units.specs.declared.trace.CoflowLine.{CoflowLine};
 ghost use Rattle.indexmap.specs.IndexMap.{get};
-ghost use Rattle.weights.specs.Checks.{Answers, AreIds};
+ghost use Rattle.text_fields.specs.Numbers.{AreIds};
+ghost use Rattle.weights.specs.Checks.{Answers};
 ghost use Rattle.coflow_units.specs.Trace.{ids_of};
 ghost use Rattle.weights.specs.Weights.{IsSameIds, text_checks, weights_of};
 

@@ -1,5 +1,5 @@
 use Rattle.std.proofs.Common.{take}
-use Rattle.weights.specs.Checks.{AreIds}
+use Rattle.text_fields.specs.Numbers.{AreIds}
 use Rattle.coflow_units.specs.Trace.{ids_of}
 use Rattle.weights.specs.Weights.{IsSameIds}
 use Rattle.weights.proofs.weights.known_ids.Given as goal

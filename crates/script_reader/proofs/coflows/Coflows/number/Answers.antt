@@ -1,5 +1,5 @@
 use Rattle.std.proofs.Common.{◌≤◌, ◌^◌, arith, sym, subst}
-use Rattle.script_reader.specs.Operands.{AreIds}
+use Rattle.text_fields.specs.Numbers.{AreIds}
 use Rattle.script_reader.proofs.Numbers.{large_is_unknown}
 use Rattle.script_reader.proofs.coflows.Coflows.number.Goals as goal
 

@@ -1,5 +1,6 @@
 use Rattle.std.proofs.Common.{◌≡◌, ℕ, nat_eq, take}
-use Rattle.script_reader.specs.Operands.{AreIds, coflow_with}
+use Rattle.text_fields.specs.Numbers.{AreIds}
+use Rattle.script_reader.specs.Operands.{coflow_with}
 use Rattle.indexmap.specs.IndexMap.{get}
 use Rattle.script_reader.proofs.coflows.Coflows.of.Given as goal
 
