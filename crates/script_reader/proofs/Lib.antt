@@ -1,4 +1,3 @@
-pub mod Faults
 pub mod Numbers
 pub mod Rounds
 pub mod ScriptSteps

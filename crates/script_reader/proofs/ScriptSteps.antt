@@ -7,7 +7,7 @@ use Rattle.coflow_units.specs.declared.quantity.Quantity.TheVariants as quantity
 use Rattle.text_fields.specs.Checks.{first_fault}
 use Rattle.text_fields.specs.Lines.{Line}
 use Rattle.text_fields.proofs.CheckLists.{pass_first, fail_first}
-use Rattle.script_reader.specs.Checks.{Answers, count_checks, line_checks, lines_checks}
+use Rattle.script_reader.specs.Checks.{Answers, count_checks, is_no_memory, line_checks, lines_checks}
 use Rattle.script_reader.specs.Draft.{all_rounds}
 use Rattle.script_reader.specs.Script.{client_of, clients_of, put_step, rounds_of, step_of}
 use Rattle.script_reader.specs.declared.fault.ScriptFault.{ScriptFault}
@@ -15,7 +15,7 @@ use Rattle.script_reader.specs.declared.fault.ScriptFault.TheVariants as fault
 use Rattle.script_reader.specs.declared.script.Round.{Round}
 use Rattle.script_reader.specs.declared.script.ScriptLine.{ScriptLine}
 use Rattle.script_reader.specs.declared.step.Step.{Step}
-use Rattle.script_reader.proofs.Faults.{first_fails}
+use Rattle.text_fields.proofs.PartAnswers.{first_fails}
 
 -- So many lines passed and stand in the draft, and the others are left.
 pub record SoFar (ids : List ℕ) (lines left : List Line) (count clients : ℕ) (rounds : List Round) (asked : List ScriptLine) : Type 0 where
@@ -31,7 +31,7 @@ module _ (ids : List ℕ) (lines left rest : List Line) (line : Line) (count cli
 
   -- A line fails.
   pub line_fails : {V W : Type 0} (P : V → Type 0) (Q : W → Type 0) (f : ScriptFault) → Answers (line_checks ids line) P (Err f) → Answers (lines_checks ids 0 lines) Q (Err f)
-  line_fails P Q f a = first_fails P Q (line_checks ids line) (count_checks count ++ lines_checks ids (count + 1) rest) (lines_checks ids 0 lines) f behind a
+  line_fails P Q f a = first_fails is_no_memory P Q (line_checks ids line) (count_checks count ++ lines_checks ids (count + 1) rest) (lines_checks ids 0 lines) f behind a
 
   -- A line that passes is one too many.
   pub too_many : first_fault (line_checks ids line) ≡ None → count ≡ MAX_COMMANDS →

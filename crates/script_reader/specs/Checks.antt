@@ -1,9 +1,9 @@
 -- The checks of a script, in reading order.
-use Rattle.std.specs.Prelude.{◌≡◌, ℕ, ◌+◌, ◌==◌, ◌&&◌, nat_le, is_some, List, [], ◌∷◌, ◌++◌, Option, Some, None, Result, Ok, Err}
-use Rattle.std.specs.Prelude.{false, length}
+use Rattle.std.specs.Prelude.{ℕ, ◌+◌, ◌==◌, ◌&&◌, nat_le, is_some, Bool, true, false, List, [], ◌∷◌, ◌++◌, Option, Some, None}
+use Rattle.std.specs.Prelude.{Result, length}
 use Rattle.coflow_units.specs.declared.limits.TheConstants.{MAX_CLIENTS, MAX_COMMANDS, MAX_WEIGHT}
 use Rattle.coflow_units.specs.declared.quantity.Quantity.TheVariants as quantity
-use Rattle.text_fields.specs.Checks.{Check, first_fault}
+use Rattle.text_fields.specs.Checks.{AnswersChecks, Check}
 use Rattle.text_fields.specs.Fields.{Text, field_at}
 use Rattle.text_fields.specs.Lines.{Line, lines_of, without_first}
 use Rattle.text_fields.specs.Numbers.{capped, is_number, number}
@@ -91,8 +91,11 @@ lines_checks ids count (line ∷ lines) =
 abbrev pub text_checks : List ℕ → Text → List (Check ScriptFault)
 text_checks ids text = lines_checks ids 0 (lines_of text)
 
+-- Memory ran out.
+abbrev pub is_no_memory : ScriptFault → Bool
+is_no_memory fault.NoMemory = true
+is_no_memory f = false
+
 -- All checks hold and the value is as said, or the fault is that of the first check that fails, or memory ran out.
 abbrev pub Answers : {V : Type 0} → List (Check ScriptFault) → (V → Type 0) → Result V ScriptFault → Type 0
-Answers checks P (Ok v) = (first_fault checks ≡ None) × P v
-Answers checks P (Err fault.NoMemory) = Unit {0}
-Answers checks P (Err f) = first_fault checks ≡ Some f
+Answers checks P result = AnswersChecks is_no_memory checks P result

@@ -3,3 +3,4 @@ pub mod LineCuts
 pub mod Digits
 pub mod DecimalDigits
 pub mod CheckLists
+pub mod PartAnswers

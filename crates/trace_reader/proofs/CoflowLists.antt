@@ -6,11 +6,11 @@ use Rattle.coflow_units.specs.declared.trace.CoflowLine.{CoflowLine}
 use Rattle.text_fields.specs.Checks.{Check, first_fault}
 use Rattle.text_fields.specs.Lines.{Line}
 use Rattle.text_fields.proofs.CheckLists.{pass_first, fail_first}
-use Rattle.trace_reader.specs.Checks.{Answers}
+use Rattle.trace_reader.specs.Checks.{Answers, is_no_memory}
 use Rattle.trace_reader.specs.Coflow.{coflow_of, id_of, line_checks}
 use Rattle.trace_reader.specs.Trace.{coflow_checks}
 use Rattle.trace_reader.specs.declared.fault.TraceFault.{TraceFault}
-use Rattle.trace_reader.proofs.Faults.{retold}
+use Rattle.text_fields.proofs.PartAnswers.{retold}
 
 -- The lines before those that are left passed, and gave these ids and coflows.
 pub record SoFar (ports count : ℕ) (all left : List Line) (ids : List ℕ) (coflows : List CoflowLine) : Type 0 where
@@ -33,7 +33,7 @@ module _ (ports count : ℕ) (all left lines : List Line) (line : Line) (ids : L
   -- The line fails.
   pub line_fails : {V W : Type 0} (P : V → Type 0) (Q : W → Type 0) (f : TraceFault) → length coflows < count → Answers (line_checks ports ids line) P (Err f) →
       Answers (coflow_checks ports count [] all) Q (Err f)
-  line_fails P Q f few told = retold P Q (line_checks ports ids line) (coflow_checks ports count [] all) f
+  line_fails P Q f few told = retold is_no_memory P Q (line_checks ports ids line) (coflow_checks ports count [] all) f
       (λ e. sym (line_decides few) ∙ fail_first (line_checks ports ids line) others f e) told
 
   -- The loop goes on by the line.

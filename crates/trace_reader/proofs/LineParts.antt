@@ -11,12 +11,12 @@ use Rattle.text_fields.specs.Fields.{Text, field_at}
 use Rattle.text_fields.specs.Lines.{Line, without_first}
 use Rattle.text_fields.specs.Numbers.{number}
 use Rattle.text_fields.proofs.CheckLists.{pass_first, fail_first}
-use Rattle.trace_reader.specs.Checks.{Answers, each, number_checks, values}
+use Rattle.trace_reader.specs.Checks.{Answers, each, is_no_memory, number_checks, values}
 use Rattle.trace_reader.specs.Coflow.{arrival_of, back_checks, behind_mappers, coflow_of, front_checks, id_checks, id_of, line_checks, mapper_checks, mappers_of, mapper_count}
 use Rattle.trace_reader.specs.Coflow.{reducer_checks, reducer_of, reducers_of, reducer_count, without}
 use Rattle.trace_reader.specs.declared.fault.TraceFault.{TraceFault}
 use Rattle.trace_reader.specs.declared.fault.TraceFault.TheVariants as fault
-use Rattle.trace_reader.proofs.Faults.{retold}
+use Rattle.text_fields.proofs.PartAnswers.{retold}
 
 -- The number of a field was read.
 pub number_passed : (l line k least most v : ℕ) (which : Quantity) (field f : Text) → l ≡ line → field ≡ f
@@ -39,7 +39,7 @@ module _ (ports k : ℕ) (line : Line) where
     pub rows_fail : {V W : Type 0} (P : V → Type 0) (Q : W → Type 0) (f : TraceFault) → Answers (each (reducer_checks ports left.number) (k + 1) left.texts count) P (Err f) →
         Answers (back_checks ports k line) Q (Err f)
     rows_fail P Q f a =
-        retold P Q (each (reducer_checks ports left.number) (k + 1) left.texts count) (back_checks ports k line) f
+        retold is_no_memory P Q (each (reducer_checks ports left.number) (k + 1) left.texts count) (back_checks ports k line) f
         (λ e. pass_first counted (rows ++ ended) passed.0 ∙ fail_first rows ended f (rw (next, passed.1) at e)) a
 
     -- All reducers were read, and the end decides.
@@ -89,7 +89,7 @@ module _ (ports : ℕ) (earlier : List ℕ) (line : Line) where
       → first_fault named ≡ None → first_fault arrived ≡ None → (first_fault mapped ≡ None) × (count ≡ mapper_count line)
       → Answers (each (mapper_checks ports d.number) 4 d.texts count) P (Err f) → Answers (front_checks ports earlier line) Q (Err f)
   mapper_fails P Q f a b d count p q r p1 p2 p3 told =
-      retold P Q (each (mapper_checks ports d.number) 4 d.texts count) (front_checks ports earlier line) f
+      retold is_no_memory P Q (each (mapper_checks ports d.number) 4 d.texts count) (front_checks ports earlier line) f
       (λ e. pass_first named (arrived ++ (mapped ++ mappers)) p1 ∙
       (pass_first arrived (mapped ++ mappers) p2 ∙ (pass_first mapped mappers p3.0 ∙ (rw (third_left line a b d p q r, p3.1) at e)))) told
 
@@ -105,7 +105,7 @@ module _ (ports : ℕ) (earlier : List ℕ) (line : Line) where
     -- The rest of the line fails.
     pub back_fails : {V W : Type 0} (P : V → Type 0) (Q : W → Type 0) (f : TraceFault) → first_fault (front_checks ports earlier line) ≡ None →
         Answers (back_checks ports k left) P (Err f) → Answers (line_checks ports earlier line) Q (Err f)
-    back_fails P Q f passed told = retold P Q (back_checks ports k left) (line_checks ports earlier line) f (λ e. back_decides passed ∙ e) told
+    back_fails P Q f passed told = retold is_no_memory P Q (back_checks ports k left) (line_checks ports earlier line) f (λ e. back_decides passed ∙ e) told
 
 -- The parts of a line say what the whole line says.
 pub coflow_is : (line left : Line) (id arrival : ℕ) (mappers : List ℕ) (reducers : List Reducer) → left ≡ behind_mappers line

@@ -9,10 +9,10 @@ use Rattle.text_fields.specs.Checks.{Check, first_fault}
 use Rattle.text_fields.specs.Fields.{Text, field_at}
 use Rattle.text_fields.specs.Lines.{Line, without_first}
 use Rattle.text_fields.proofs.CheckLists.{pass_first, fail_first, passed_parts}
-use Rattle.trace_reader.specs.Checks.{Answers, each, values}
+use Rattle.trace_reader.specs.Checks.{Answers, each, is_no_memory, values}
 use Rattle.trace_reader.specs.Coflow.{without}
 use Rattle.trace_reader.specs.declared.fault.TraceFault.{TraceFault}
-use Rattle.trace_reader.proofs.Faults.{retold}
+use Rattle.text_fields.proofs.PartAnswers.{retold}
 use Rattle.coflow_units.proofs.Ranges.{range_append}
 
 -- The fields before field j passed and say the items, and those from there on are left.
@@ -101,5 +101,5 @@ pub fault_here : {X W : Type 0} (checks : ℕ → ℕ → Text → List (Check T
     → Answers (checks line (k + j) field) P (Err f) → Answers (each (checks start.number) k start.texts count) Q (Err f)
 fault_here checks value k start now items j count line field P Q f l e less s a =
     let here : field ≡ field_at start.texts j = e ∙ field_left start now j s.left in
-    retold P Q (checks line (k + j) field) (each (checks start.number) k start.texts count) f
+    retold is_no_memory P Q (checks line (k + j) field) (each (checks start.number) k start.texts count) f
     (λ t. one_failed (checks start.number) k start.texts j count f less s.passed (rw (← l, ← here) t)) a

@@ -10,14 +10,14 @@ use Rattle.text_fields.specs.Checks.{Check, first_fault}
 use Rattle.text_fields.specs.Fields.{Text}
 use Rattle.text_fields.specs.Lines.{Line, lines_of}
 use Rattle.text_fields.proofs.CheckLists.{pass_first, fail_first}
-use Rattle.trace_reader.specs.Checks.{Answers}
+use Rattle.trace_reader.specs.Checks.{Answers, is_no_memory}
 use Rattle.trace_reader.specs.Coflow.{coflow_of}
 use Rattle.trace_reader.specs.Header.{coflow_count, header_checks, ports_of}
 use Rattle.trace_reader.specs.Trace.{coflow_checks, lines_checks, lines_trace, missing, trace_checks, trace_of}
 use Rattle.trace_reader.specs.declared.fault.TraceFault.{TraceFault}
 use Rattle.trace_reader.specs.declared.fault.TraceFault.TheVariants as fault
 use Rattle.trace_reader.proofs.Accepted.{accepted, counts_in, lines_in, none_differ}
-use Rattle.trace_reader.proofs.Faults.{retold}
+use Rattle.text_fields.proofs.PartAnswers.{retold}
 
 -- So many lines of coflows pass, behind a header that passes, as the header may say at most.
 pub few_lines : (header : Line) (lines : List Line) (counts : ℕ × ℕ) (items : List CoflowLine) →
@@ -45,7 +45,7 @@ module _ (text : Text) (header : Line) (lines : List Line) (counts : ℕ × ℕ)
 
   -- A line of a coflow fails.
   pub coflows_fail : {V W : Type 0} (P : V → Type 0) (Q : W → Type 0) (f : TraceFault) → Answers coflows P (Err f) → Answers (trace_checks text) Q (Err f)
-  coflows_fail P Q f told = retold P Q coflows (trace_checks text) f (λ e. header_decides ∙ fail_first coflows ended f e) told
+  coflows_fail P Q f told = retold is_no_memory P Q coflows (trace_checks text) f (λ e. header_decides ∙ fail_first coflows ended f e) told
 
   module _ (have : ℕ) (items : List CoflowLine) (count : have ≡ length items) (read : (first_fault coflows ≡ None) × (items ≡ map coflow_of lines)) where
     have_is : have ≡ length lines

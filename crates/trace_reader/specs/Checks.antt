@@ -1,18 +1,21 @@
 -- Checks of the fields of a line.
-use Rattle.std.specs.Prelude.{◌≡◌, ℕ, ◌+◌, ◌&&◌, nat_le, List, [], ◌∷◌, None, Some, Result, Ok, Err, map}
+use Rattle.std.specs.Prelude.{ℕ, ◌+◌, ◌&&◌, nat_le, Bool, true, false, List, [], ◌∷◌, Result, map}
 use Rattle.std.specs.List.{flat_map, range_with_len}
 use Rattle.coflow_units.specs.declared.quantity.Quantity.{Quantity}
-use Rattle.text_fields.specs.Checks.{Check, first_fault}
+use Rattle.text_fields.specs.Checks.{AnswersChecks, Check}
 use Rattle.text_fields.specs.Fields.{Text, field_at}
 use Rattle.text_fields.specs.Numbers.{capped, is_number, number}
 use Rattle.trace_reader.specs.declared.fault.TraceFault.{TraceFault}
 use Rattle.trace_reader.specs.declared.fault.TraceFault.TheVariants as fault
 
+-- Memory ran out.
+abbrev pub is_no_memory : TraceFault → Bool
+is_no_memory fault.NoMemory = true
+is_no_memory f = false
+
 -- All checks hold and the value is as said, or the fault is that of the first check that fails, or memory ran out.
 abbrev pub Answers : {V : Type 0} → List (Check TraceFault) → (V → Type 0) → Result V TraceFault → Type 0
-Answers checks P (Ok v) = (first_fault checks ≡ None) × P v
-Answers checks P (Err fault.NoMemory) = Unit {0}
-Answers checks P (Err f) = first_fault checks ≡ Some f
+Answers checks P result = AnswersChecks is_no_memory checks P result
 
 -- The number of a field is from least to most.
 abbrev pub range : ℕ → Quantity → ℕ → ℕ → Text → Check TraceFault

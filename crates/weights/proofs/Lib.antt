@@ -1,4 +1,3 @@
-pub mod Parts
 pub mod LineParts
 pub mod LineLists
 pub mod Known

@@ -8,10 +8,10 @@ use Rattle.text_fields.specs.Fields.{Text, field_at}
 use Rattle.text_fields.specs.Lines.{Line}
 use Rattle.text_fields.specs.Numbers.{number}
 use Rattle.text_fields.proofs.CheckLists.{pass_first, fail_first}
-use Rattle.weights.specs.Checks.{Answers, id_checks, fresh_checks, weight_checks, end_checks, line_checks}
+use Rattle.weights.specs.Checks.{Answers, id_checks, fresh_checks, weight_checks, end_checks, is_no_memory, line_checks}
 use Rattle.weights.specs.declared.fault.WeightsFault.{WeightsFault}
 use Rattle.weights.specs.declared.fault.WeightsFault.TheVariants as fault
-use Rattle.weights.proofs.Parts.{part_fails, after_passed}
+use Rattle.text_fields.proofs.PartAnswers.{part_fails, after_passed}
 
 -- A map has a key just where its keys list it.
 pub found_key : (test : ℕ → Bool) (es : List (ℕ × ℕ)) → is_some (lookup test es) ≡ list_any test (keys_of es)
@@ -77,7 +77,9 @@ module _ (ids earlier : List ℕ) (line : Line) where
   -- The line fails at its weight.
   pub third_fails : {V W : Type 0} (P : V → Type 0) (Q : W → Type 0) (f : WeightsFault) → first_fault first ≡ None → first_fault second ≡ None → Answers third P (Err f) →
       Answers (line_checks ids earlier line) Q (Err f)
-  third_fails P Q f p1 p2 e = after_passed Q Q first (second ++ (third ++ fourth)) f p1 (after_passed Q Q second (third ++ fourth) f p2 (part_fails P Q third fourth f e))
+  third_fails P Q f p1 p2 e =
+      after_passed is_no_memory Q Q first (second ++ (third ++ fourth)) f p1
+      (after_passed is_no_memory Q Q second (third ++ fourth) f p2 (part_fails is_no_memory P Q third fourth f e))
 
   -- The line fails at its end, or passes.
   pub fourth_decides : first_fault first ≡ None → first_fault second ≡ None → first_fault third ≡ None → first_fault (line_checks ids earlier line) ≡ first_fault fourth

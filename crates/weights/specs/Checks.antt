@@ -1,9 +1,8 @@
 -- The checks of a weights file, in reading order.
-use Rattle.std.specs.Prelude.{◌≡◌, ℕ, ◌^◌, ◌==◌, ◌&&◌, nat_le, nat_eq, Bool, not, List, [], ◌∷◌, ◌++◌, Some}
-use Rattle.std.specs.Prelude.{None, Result, Ok, Err, length, drop}
+use Rattle.std.specs.Prelude.{ℕ, ◌^◌, ◌==◌, ◌&&◌, nat_le, nat_eq, Bool, true, false, not, List, [], ◌∷◌, ◌++◌, Result, length, drop}
 use Rattle.std.specs.List.{list_any}
 use Rattle.coflow_units.specs.declared.quantity.Quantity.TheVariants as quantity
-use Rattle.text_fields.specs.Checks.{Check, first_fault}
+use Rattle.text_fields.specs.Checks.{AnswersChecks, Check}
 use Rattle.text_fields.specs.Fields.{Text, field_at}
 use Rattle.text_fields.specs.Lines.{Line, number_in_field}
 use Rattle.text_fields.specs.Numbers.{capped, is_number, number}
@@ -62,8 +61,11 @@ lines_checks ids earlier [] = []
 lines_checks ids earlier (line ∷ lines) = line_checks ids earlier line ++
     lines_checks ids (earlier ++ (id_of line ∷ [])) lines
 
+-- Memory ran out.
+abbrev pub is_no_memory : WeightsFault → Bool
+is_no_memory fault.NoMemory = true
+is_no_memory f = false
+
 -- All checks hold and the value is as said, or the fault is that of the first check that fails, or memory ran out.
 abbrev pub Answers : {V : Type 0} → List (Check WeightsFault) → (V → Type 0) → Result V WeightsFault → Type 0
-Answers checks P (Ok v) = (first_fault checks ≡ None) × P v
-Answers checks P (Err fault.NoMemory) = Unit {0}
-Answers checks P (Err f) = first_fault checks ≡ Some f
+Answers checks P result = AnswersChecks is_no_memory checks P result

@@ -1,13 +1,14 @@
 use Rattle.std.proofs.Common.{rules, ◌≡◌, ℕ, List, None, Err, subst}
+use Rattle.std.proofs.lemmas.Result.{err_from_is_err_and}
 use Rattle.text_fields.specs.Checks.{first_fault}
 use Rattle.text_fields.specs.Fields.{Text, field_at}
 use Rattle.text_fields.specs.Lines.{Line, without_first}
 use Rattle.text_fields.specs.Numbers.{number}
-use Rattle.script_reader.specs.Checks.{Answers, end_checks, id_checks, weighing_checks, weight_checks}
+use Rattle.script_reader.specs.Checks.{Answers, end_checks, id_checks, is_no_memory, weight_checks}
 use Rattle.script_reader.specs.Operands.{coflow_in, weight_in}
 use Rattle.script_reader.specs.declared.script.Asked.{Asked}
 use Rattle.script_reader.specs.declared.script.Asked.TheVariants as asked
-use Rattle.script_reader.proofs.Faults.{handed_on, second_fails}
+use Rattle.text_fields.proofs.PartAnswers.{second_fails}
 use Rattle.script_reader.proofs.line.reweighing.Goals as goal
 
 pub returns-in_err-weight : goal.returns-in_err-weight
@@ -20,8 +21,8 @@ returns-in_err-weight c =
     subst (λ (x : Text). Answers {V = ℕ} (weight_checks line.number x) (λ w. w ≡ number x) (Err c.in_err-weight.field-0.0)) second
     (subst (λ (x : ℕ). Answers {V = ℕ} (weight_checks x c.next-2.result.now) (λ w. w ≡ number c.next-2.result.now) (Err c.in_err-weight.field-0.0)) c.line-line.ensures
     c.in_err-weight.ensures) in
-    handed_on {W = Asked} (λ a. a ≡ asked.Reweigh (coflow_in ids line) (weight_in line)) (weighing_checks ids line) c.from_residual-in_err-weight.result c.in_err-weight.field-0.0
-    c.from_residual-in_err-weight.ensures.1
-    (second_fails {V = ℕ} {W = Asked} (λ w. w ≡ number (field_at line.texts 1)) (λ a. a ≡ asked.Reweigh (coflow_in ids line) (weight_in line))
+    let (_, is, same) = err_from_is_err_and c.from_residual-in_err-weight.result c.from_residual-in_err-weight.ensures.1 in
+    rw (is, same)
+    (second_fails {V = ℕ} {W = Asked} is_no_memory (λ w. w ≡ number (field_at line.texts 1)) (λ a. a ≡ asked.Reweigh (coflow_in ids line) (weight_in line))
     (id_checks ids line.number (field_at line.texts 0)) (weight_checks line.number (field_at line.texts 1)) (end_checks (without_first (without_first line)) 5)
     c.in_err-weight.field-0.0 passed refused)

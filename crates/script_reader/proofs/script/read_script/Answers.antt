@@ -1,13 +1,13 @@
 use Rattle.std.proofs.Common.{◌≡◌, ◌<◌, List, ℕ, None, Err, arith, subst}
 use Rattle.coflow_units.specs.declared.limits.TheConstants.{MAX_COMMANDS}
 use Rattle.std.proofs.lemmas.Bool.Decides.{nat_tests}
+use Rattle.std.proofs.lemmas.Result.{err_from_is_err_and}
 use Rattle.text_fields.specs.Checks.{first_fault}
 use Rattle.text_fields.specs.Lines.{Line, lines_of}
-use Rattle.script_reader.specs.Checks.{Answers, line_checks, text_checks}
+use Rattle.script_reader.specs.Checks.{Answers, line_checks}
 use Rattle.script_reader.specs.Script.{script_of, step_of}
 use Rattle.script_reader.specs.declared.script.Script.{Script}
 use Rattle.script_reader.specs.declared.step.Step.{Step}
-use Rattle.script_reader.proofs.Faults.{handed_on}
 use Rattle.script_reader.proofs.ScriptSteps.{goes_on, line_fails, too_many}
 use Rattle.script_reader.proofs.script.read_script.Goals as goal
 
@@ -17,8 +17,8 @@ returns-in_err-step c =
     let line : Line = c.in-Some.fields in
     let refused : Answers {V = Step} (line_checks ids line) (λ step. step ≡ step_of ids line) (Err c.in_err-step.field-0.0) =
     subst (λ (x : List ℕ). Answers {V = Step} (line_checks x line) (λ step. step ≡ step_of x line) (Err c.in_err-step.field-0.0)) c.in_ok-coflows.ensures c.in_err-step.ensures in
-    handed_on {W = Script} (λ script. script ≡ script_of ids c.args.bytes.now) (text_checks ids c.args.bytes.now) c.from_residual-in_err-step.result c.in_err-step.field-0.0
-    c.from_residual-in_err-step.ensures.1
+    let (_, is, same) = err_from_is_err_and c.from_residual-in_err-step.result c.from_residual-in_err-step.ensures.1 in
+    rw (is, same)
     (line_fails ids (lines_of c.args.bytes.now) c.loop-fields.lines c.next.new.self line c.loop-fields.count c.loop-fields.draft.clients
     c.loop-fields.draft.rounds.items c.loop-fields.draft.lines.items c.in-Some.ensures c.loop-fields.invariant {V = Step} {W = Script} (λ step. step ≡ step_of ids line)
     (λ script. script ≡ script_of ids c.args.bytes.now) c.in_err-step.field-0.0 refused)

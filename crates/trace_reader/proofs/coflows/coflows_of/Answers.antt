@@ -1,14 +1,15 @@
 use Rattle.std.proofs.Common.{◌≡◌, ◌<◌, Vec, Global, arith, length, map}
+use Rattle.std.proofs.lemmas.Result.{err_from_is_err_and}
 use Rattle.coflow_units.specs.declared.trace.CoflowLine.{CoflowLine}
 use Rattle.trace_reader.specs.Coflow.{coflow_of}
 use Rattle.trace_reader.proofs.CoflowLists.{goes_on, line_fails}
-use Rattle.trace_reader.proofs.Faults.{handed_on}
 use Rattle.trace_reader.proofs.coflows.coflows_of.Goals as goal
 
 pub returns-in_err-coflow : goal.returns-in_err-coflow
 returns-in_err-coflow c =
     let few : length c.loop-fields.coflows.items < c.args.count = omega (arith, c.if-len-count.false, c.len.ensures, c.loop-fields.coflows.ok.0) in
-    rw (handed_on c.from_residual.result c.in_err-coflow.field-0.0 c.from_residual.ensures.1)
+    let (_, is, same) = err_from_is_err_and c.from_residual.result c.from_residual.ensures.1 in
+    rw (is, same)
     (line_fails c.args.ports c.args.count c.args.lines.now c.loop-fields.lines c.next.new.self c.in-Some.fields c.loop-fields.ids.keys c.loop-fields.coflows.items c.in-Some.ensures
     c.loop-fields.invariant
     (λ (v : CoflowLine). v ≡ coflow_of c.in-Some.fields) (λ (v : Vec CoflowLine Global). v.items ≡ map coflow_of c.args.lines.now)

@@ -1,14 +1,15 @@
 use Rattle.std.proofs.Common.{◌≡◌, ℕ, Vec, Global, arith}
+use Rattle.std.proofs.lemmas.Result.{err_from_is_err_and}
 use Rattle.text_fields.specs.Numbers.{number}
 use Rattle.trace_reader.specs.Checks.{values}
 use Rattle.trace_reader.specs.Coflow.{mapper_checks}
 use Rattle.trace_reader.proofs.Rows.{fault_here, goes_on}
-use Rattle.trace_reader.proofs.Faults.{handed_on}
 use Rattle.trace_reader.proofs.front.mappers_in.Goals as goal
 
 pub returns-in_err-mapper-clause-answer : goal.returns-in_err-mapper-clause-answer
 returns-in_err-mapper-clause-answer c =
-    rw (handed_on c.from_residual.result c.in_err-mapper.field-0.0 c.from_residual.ensures.1)
+    let (_, is, same) = err_from_is_err_and c.from_residual.result c.from_residual.ensures.1 in
+    rw (is, same)
     (fault_here (mapper_checks c.args.ports) number 4 c.args.fields.now c.loop-index.fields c.loop-index.mappers.items c.loop-index.index c.args.count c.line-line.result
     c.next.result.now
     (λ (v : ℕ). v ≡ number c.next.result.now) (λ (v : Vec ℕ Global). v.items ≡ values number c.args.fields.now.texts c.args.count) c.in_err-mapper.field-0.0

@@ -1,18 +1,19 @@
 use Rattle.std.proofs.Common.{◌≡◌, ℕ, ◌∷◌, sym, ◌∙◌, Vec, Global, arith, length, map}
+use Rattle.std.proofs.lemmas.Result.{err_from_is_err_and}
 use Rattle.coflow_units.specs.declared.trace.CoflowLine.{CoflowLine}
 use Rattle.coflow_units.specs.declared.trace.Trace.{Trace}
 use Rattle.text_fields.specs.Lines.{lines_of}
 use Rattle.trace_reader.specs.Coflow.{coflow_of}
 use Rattle.trace_reader.specs.Trace.{trace_of}
 use Rattle.trace_reader.proofs.TraceParts.{coflows_fail, few_lines, none_missing, some_missing, trace_is, within_limits}
-use Rattle.trace_reader.proofs.Faults.{handed_on}
 use Rattle.trace_reader.proofs.trace.read_trace.Goals as goal
 
 pub returns-in_err-coflows-clause-answer : goal.returns-in_err-coflows-clause-answer
 returns-in_err-coflows-clause-answer c =
     let counts : ℕ × ℕ = (c.in_ok-number.number, c.in_ok-number.want) in
     let cut : lines_of c.args.bytes.now ≡ c.in-Some.header ∷ c.next.new.self = sym c.new-lines.ensures ∙ c.in-Some.ensures in
-    rw (handed_on c.from_residual-in_err-coflows.result c.in_err-coflows.field-0.0 c.from_residual-in_err-coflows.ensures.1)
+    let (_, is, same) = err_from_is_err_and c.from_residual-in_err-coflows.result c.from_residual-in_err-coflows.ensures.1 in
+    rw (is, same)
     (coflows_fail c.args.bytes.now c.in-Some.header c.next.new.self counts cut c.in_ok-number.ensures
     (λ (v : Vec CoflowLine Global). v.items ≡ map coflow_of c.next.new.self) (λ (t : Trace). t ≡ trace_of c.args.bytes.now) c.in_err-coflows.field-0.0 c.in_err-coflows.ensures)
 

@@ -1,11 +1,11 @@
 use Rattle.std.proofs.Common.{rules, ◌≡◌, ℕ, drop, ◌∙◌}
+use Rattle.std.proofs.lemmas.Result.{err_from_is_err_and}
 use Rattle.indexmap.specs.IndexMap.{keys}
 use Rattle.text_fields.specs.Fields.{field_at}
 use Rattle.text_fields.specs.Lines.{Line}
 use Rattle.weights.specs.Checks.{id_of, weight_in}
 use Rattle.text_fields.specs.Numbers.{number}
 use Rattle.weights.proofs.LineParts.{id_passed, weight_passed, weight_refused, fresh_passed, fresh_fails, end_passed, end_fails, second_fails, third_fails, fourth_decides}
-use Rattle.weights.proofs.Parts.{handed_on}
 use Rattle.weights.proofs.line.line_of.Goals as goal
 
 pub returns-then-contains_key : goal.returns-then-contains_key
@@ -25,7 +25,8 @@ returns-in_err-weight c =
     let second : c.next-2.result.now ≡ field_at line.texts 1 = search rules in
     let refused = weight_refused c.line-line.result line.number c.next-2.result.now (field_at line.texts 1) c.in_err-weight.field-0.0 c.line-line.ensures second
     c.in_err-weight.ensures in
-    rw (handed_on c.from_residual-in_err-weight.result c.in_err-weight.field-0.0 c.from_residual-in_err-weight.ensures.1)
+    let (_, is, same) = err_from_is_err_and c.from_residual-in_err-weight.result c.from_residual-in_err-weight.ensures.1 in
+    rw (is, same)
     (third_fails c.args.known.now.keys (keys c.args.given.now) line {V = ℕ} (λ v. v ≡ number (field_at line.texts 1)) (λ (v : ℕ × ℕ). (v.0 ≡ id_of line) × (v.1 ≡ weight_in line))
     c.in_err-weight.field-0.0 id.0 fresh refused)
 
