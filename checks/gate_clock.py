@@ -31,20 +31,20 @@ def read(path):
 
 
 def stats():
-    """Each process: its parent and the ticks of it and of those that it waited for."""
+    """Each process: its parent, the ticks of it and of those that it waited for, and when it began, since a number may be used again."""
     found = {}
     for name in os.listdir("/proc"):
         if name.isdigit():
             said = read(f"/proc/{name}/stat").rpartition(")")[2].split()
-            if len(said) > 14:
-                found[int(name)] = int(said[1]), sum(map(int, said[11:15]))
+            if len(said) > 19:
+                found[int(name)] = int(said[1]), sum(map(int, said[11:15])), int(said[19])
     return found
 
 
 def below(root, all_stats):
     """The processes that the root started, with those that these started."""
     children = {}
-    for pid, (parent, _) in all_stats.items():
+    for pid, (parent, _, _) in all_stats.items():
         children.setdefault(parent, []).append(pid)
     found, waiting = [], [root]
     while waiting:
@@ -77,11 +77,12 @@ class Clock:
         """Notes for each check that runs now when it was seen first and last, and its ticks."""
         now, all_stats = time.monotonic(), stats()
         for pid in below(self.root, all_stats):
-            parent, ticks = all_stats[pid]
-            if pid in self.seen:
-                self.seen[pid][2:] = [now, ticks]
-            elif parent not in self.seen and (task := task_of(pid)):
-                self.seen[pid] = [task, now, now, ticks]
+            parent, ticks, began = all_stats[pid]
+            above = parent, all_stats[parent][2] if parent in all_stats else 0
+            if (pid, began) in self.seen:
+                self.seen[pid, began][2:] = [now, ticks]
+            elif above not in self.seen and (task := task_of(pid)):
+                self.seen[pid, began] = [task, now, now, ticks]
 
     def watch(self, ended):
         while not ended.wait(EACH):
