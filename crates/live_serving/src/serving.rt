@@ -38,14 +38,12 @@ pub(crate) fn serve<R: Threads + Wait + Sync, W: Wire + Send, G: Gate + Send>(
     ensures filled { result ≡ Err Full → IsFilled hall.now script.now most runner.new.driver sessions.new }
     ensures wires { AreServed W.faults W.runs hall.now runner.old runner.new wires.old wires.new result }
 {
-    match play_all(
+    play_all(
         alloc, rt, hall, script, most, agents, runner, sessions, pulls, gates, wires,
-    ) {
-        Ok(()) => run_out(
-            alloc, rt, hall, script, most, agents, runner, sessions, pulls, wires,
-        ),
-        Err(stop) => Err(stop),
-    }
+    )?;
+    run_out(
+        alloc, rt, hall, script, most, agents, runner, sessions, pulls, wires,
+    )
 }
 
 // Plays all rounds of the script.
@@ -73,12 +71,9 @@ fn play_all<R: Threads + Wait + Sync, W: Wire + Send, G: Gate + Send>(
     ensures wires { AreServed W.faults W.runs hall.now runner.old runner.new wires.old wires.new result }
 {
     for done in 0..script.rounds.as_slice().len() {
-        match play_round(
+        play_round(
             alloc, rt, hall, script, done, most, agents, runner, sessions, pulls, gates, wires,
-        ) {
-            Ok(()) => {}
-            Err(stop) => return Err(stop),
-        }
+        )?;
     }
     Ok(())
 }
@@ -106,10 +101,7 @@ fn run_out<R: Threads + Wait + Sync, W: Wire + Send>(
     ensures wires { AreServed W.faults W.runs hall.now runner.old runner.new wires.old wires.new result }
 {
     'runs: loop {
-        let some = match open_once(alloc, rt, hall, most, agents, runner, wires) {
-            Ok(some) => some,
-            Err(stop) => return Err(stop),
-        };
+        let some = open_once(alloc, rt, hall, most, agents, runner, wires)?;
         if !some {
             return Ok(());
         }

@@ -36,10 +36,7 @@ pub(crate) fn read_words<'a>(
     ensures said { IfOk result (λ w. IsPictureWords (texts words.entry.now) (said_by w)) }
     ensures usage { result ≡ Err Usage → (said : PictureSaid) → IsPictureWords (texts words.entry.now) said → ⊥ }
 {
-    let matches = match matches_of(alloc, words) {
-        Ok(matches) => matches,
-        Err(fault) => return Err(fault),
-    };
+    let matches = matches_of(alloc, words)?;
     match words_of(&matches) {
         Some(words) => Ok(words),
         None => Err(WordsFault::Usage),

@@ -49,10 +49,7 @@ pub fn play_round<R: Threads + Wait + Sync, W: Wire + Send, G: Gate + Send>(
     let came = advance(
         alloc, rt, hall, round, most, agents, runner, sessions, gates, wires,
     );
-    let more = match pulls_of(came) {
-        Ok(more) => more,
-        Err(stop) => return Err(stop),
-    };
+    let more = pulls_of(came)?;
     hall.level(runner.driver(), sessions);
     pulls.extend_from_slice(&more)?;
     Ok(())

@@ -1,4 +1,5 @@
 use Rattle.std.proofs.Common.{ap, arith, length, List, Ok, Err, refl}
+use Rattle.std.proofs.lemmas.Result.{err_from_is_err_and}
 use Rattle.script_reader.specs.declared.script.Round.{Round}
 use Rattle.live_serving.proofs.EndingRuns.{all_done}
 use Rattle.round_serving.proofs.WiresOn.{served_first, served_on}
@@ -13,19 +14,21 @@ loop-done-init g c =
       wires = served_first g.W.Wire.faults g.W.Wire.runs c.args.hall.now (Ok tt) c.args.runner.now c.args.wires.now refl h.drives.may h.drives.seen c.requires.wires;
     }
 
-pub returns-in-Err-clause-wires : goal.returns-in-Err-clause-wires
-returns-in-Err-clause-wires g c =
-    served_on g.W.Wire.faults g.W.Wire.runs c.args.hall.now (Ok tt) (Err c.in-Err.stop) c.args.runner.now c.loop-done.runner c.play_round.new.runner c.args.wires.now
-    c.loop-done.wires c.play_round.new.wires c.loop-done.invariant.wires c.in-Err.ensures.wires
+pub returns-in_err-play_round-clause-wires : goal.returns-in_err-play_round-clause-wires
+returns-in_err-play_round-clause-wires g c =
+    let (_, is, same) = err_from_is_err_and c.from_residual.result c.from_residual.ensures.1 in
+    rw (is, same)
+    (served_on g.W.Wire.faults g.W.Wire.runs c.args.hall.now (Ok tt) (Err c.in_err-play_round.field-0.0) c.args.runner.now c.loop-done.runner c.play_round.new.runner
+    c.args.wires.now c.loop-done.wires c.play_round.new.wires c.loop-done.invariant.wires c.in_err-play_round.ensures.wires)
 
 pub loop-done-preserved : goal.loop-done-preserved
 loop-done-preserved g c =
-    let next = c.in-Ok.ensures.going in
+    let next = c.in_ok-play_round.ensures.going in
     record {
       going = next;
       gates = omega (arith, c.loop-done.invariant.gates, c.loop-done.invariant.going.seated.each, next.seated.each);
       wires = served_on g.W.Wire.faults g.W.Wire.runs c.args.hall.now (Ok tt) (Ok tt) c.args.runner.now c.loop-done.runner c.play_round.new.runner c.args.wires.now
-          c.loop-done.wires c.play_round.new.wires c.loop-done.invariant.wires c.in-Ok.ensures.wires;
+          c.loop-done.wires c.play_round.new.wires c.loop-done.invariant.wires c.in_ok-play_round.ensures.wires;
     }
 
 pub returns-clause-ending : goal.returns-clause-ending

@@ -1,4 +1,5 @@
-use Rattle.std.proofs.Common.{Ok, Err, ap, refl, subst}
+use Rattle.std.proofs.Common.{Ok, Err, ap, refl, subst, sym, ◌∙◌}
+use Rattle.std.proofs.lemmas.Result.{err_from_is_err_and}
 use Rattle.round_serving.specs.Openings.{IsOpening}
 use Rattle.live_serving.proofs.EndingRuns.{ending_filled, ending_on, ends, slots_fall}
 use Rattle.round_serving.proofs.OpeningSteps.{stop_in}
@@ -13,47 +14,50 @@ runs-init g c =
       wires = served_first g.W.Wire.faults g.W.Wire.runs c.args.hall.now (Ok tt) c.args.runner.now c.args.wires.now refl h.drives.may h.drives.seen c.requires.wires;
     }
 
-pub returns-in-Err-clause-filled : goal.returns-in-Err-clause-filled
-returns-in-Err-clause-filled g c = λ e.
+pub returns-in_err-some-clause-filled : goal.returns-in_err-some-clause-filled
+returns-in_err-some-clause-filled g c = λ e.
+    let (_, is, same) = err_from_is_err_and c.from_residual.result c.from_residual.ensures.1 in
     ending_filled c.args.hall.now c.args._script.now c.args.most c.runs.runner c.open_once.new.runner c.args._sessions.now c.args._pulls.now c.runs.invariant.ending
     c.open_once.ensures.wires.may
-    (subst (λ s. IsOpening c.args.hall.now c.args.most c.runs.runner c.open_once.new.runner (Err s)) (ap stop_in e) c.in-Err.ensures.opening)
+    (subst (λ s. IsOpening c.args.hall.now c.args.most c.runs.runner c.open_once.new.runner (Err s)) (sym same ∙ ap stop_in (sym is ∙ e)) c.in_err-some.ensures.opening)
 
-pub returns-in-Err-clause-wires : goal.returns-in-Err-clause-wires
-returns-in-Err-clause-wires g c =
-    served_err g.W.Wire.faults g.W.Wire.runs c.args.hall.now c.in-Err.stop c.args.runner.now c.open_once.new.runner c.args.wires.now c.open_once.new.wires
-    (served_on g.W.Wire.faults g.W.Wire.runs c.args.hall.now (Ok tt) (Err c.in-Err.stop) c.args.runner.now c.runs.runner c.open_once.new.runner c.args.wires.now c.runs.wires
-    c.open_once.new.wires c.runs.invariant.wires c.in-Err.ensures.wires)
+pub returns-in_err-some-clause-wires : goal.returns-in_err-some-clause-wires
+returns-in_err-some-clause-wires g c =
+    let (_, is, same) = err_from_is_err_and c.from_residual.result c.from_residual.ensures.1 in
+    rw (is, same)
+    (served_err g.W.Wire.faults g.W.Wire.runs c.args.hall.now c.in_err-some.field-0.0 c.args.runner.now c.open_once.new.runner c.args.wires.now c.open_once.new.wires
+    (served_on g.W.Wire.faults g.W.Wire.runs c.args.hall.now (Ok tt) (Err c.in_err-some.field-0.0) c.args.runner.now c.runs.runner c.open_once.new.runner c.args.wires.now
+    c.runs.wires c.open_once.new.wires c.runs.invariant.wires c.in_err-some.ensures.wires))
 
 pub returns-then-not-some-clause-ended : goal.returns-then-not-some-clause-ended
 returns-then-not-some-clause-ended g c =
     ends c.args.hall.now c.args._script.now c.args.most c.runs.runner c.open_once.new.runner c.args._sessions.now c.args._pulls.now c.runs.invariant.ending
     c.open_once.ensures.wires.may
-    (subst (λ some. IsOpening c.args.hall.now c.args.most c.runs.runner c.open_once.new.runner (Ok some)) c.if-not-some.true c.in-Ok.ensures.opening)
+    (subst (λ some. IsOpening c.args.hall.now c.args.most c.runs.runner c.open_once.new.runner (Ok some)) c.if-not-some.true c.in_ok-some.ensures.opening)
 
 pub returns-then-not-some-clause-wires : goal.returns-then-not-some-clause-wires
 returns-then-not-some-clause-wires g c =
     let h = c.open_once.ensures.wires in
-    served_still g.W.Wire.faults g.W.Wire.runs c.args.hall.now (Ok c.in-Ok.some) (Ok tt) c.args.runner.now c.open_once.new.runner c.open_once.new.runner c.args.wires.now
+    served_still g.W.Wire.faults g.W.Wire.runs c.args.hall.now (Ok c.in_ok-some.some) (Ok tt) c.args.runner.now c.open_once.new.runner c.open_once.new.runner c.args.wires.now
     c.open_once.new.wires refl h.may refl
-    (served_on g.W.Wire.faults g.W.Wire.runs c.args.hall.now (Ok tt) (Ok c.in-Ok.some) c.args.runner.now c.runs.runner c.open_once.new.runner c.args.wires.now c.runs.wires
-    c.open_once.new.wires c.runs.invariant.wires c.in-Ok.ensures.wires)
+    (served_on g.W.Wire.faults g.W.Wire.runs c.args.hall.now (Ok tt) (Ok c.in_ok-some.some) c.args.runner.now c.runs.runner c.open_once.new.runner c.args.wires.now c.runs.wires
+    c.open_once.new.wires c.runs.invariant.wires c.in_ok-some.ensures.wires)
 
 pub runs-smaller : goal.runs-smaller
 runs-smaller g c =
-    let h = subst (λ some. IsOpening c.args.hall.now c.args.most c.runs.runner c.open_once.new.runner (Ok some)) c.if-not-some.false c.in-Ok.ensures.opening in
+    let h = subst (λ some. IsOpening c.args.hall.now c.args.most c.runs.runner c.open_once.new.runner (Ok some)) c.if-not-some.false c.in_ok-some.ensures.opening in
     slots_fall c.args.hall.now c.args._script.now c.args.most c.runs.runner c.open_once.new.runner c.args._sessions.now c.args._pulls.now c.runs.invariant.ending h.0 h.1 h.2
     c.open_once.ensures.wires.may
 
 pub runs-preserved : goal.runs-preserved
 runs-preserved g c =
-    let h = subst (λ some. IsOpening c.args.hall.now c.args.most c.runs.runner c.open_once.new.runner (Ok some)) c.if-not-some.false c.in-Ok.ensures.opening in
+    let h = subst (λ some. IsOpening c.args.hall.now c.args.most c.runs.runner c.open_once.new.runner (Ok some)) c.if-not-some.false c.in_ok-some.ensures.opening in
     let may = c.open_once.ensures.wires.may in
     record {
       ending = ending_on c.args.hall.now c.args._script.now c.args.most c.runs.runner c.open_once.new.runner c.args._sessions.now c.args._pulls.now c.runs.invariant.ending
           h.0 h.1 h.2 may;
-      wires = served_still g.W.Wire.faults g.W.Wire.runs c.args.hall.now (Ok c.in-Ok.some) (Ok tt) c.args.runner.now c.open_once.new.runner c.open_once.new.runner
+      wires = served_still g.W.Wire.faults g.W.Wire.runs c.args.hall.now (Ok c.in_ok-some.some) (Ok tt) c.args.runner.now c.open_once.new.runner c.open_once.new.runner
           c.args.wires.now c.open_once.new.wires refl may refl
-          (served_on g.W.Wire.faults g.W.Wire.runs c.args.hall.now (Ok tt) (Ok c.in-Ok.some) c.args.runner.now c.runs.runner c.open_once.new.runner c.args.wires.now
-          c.runs.wires c.open_once.new.wires c.runs.invariant.wires c.in-Ok.ensures.wires);
+          (served_on g.W.Wire.faults g.W.Wire.runs c.args.hall.now (Ok tt) (Ok c.in_ok-some.some) c.args.runner.now c.runs.runner c.open_once.new.runner c.args.wires.now
+          c.runs.wires c.open_once.new.wires c.runs.invariant.wires c.in_ok-some.ensures.wires);
     }
