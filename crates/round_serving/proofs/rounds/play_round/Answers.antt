@@ -48,5 +48,6 @@ returns-clause-going g c =
     subst (IsGoing c.args.hall.now c.args.script.now c.args.most (c.args.done + 1) new c.level.new.sessions) (sym items)
     (next_going c.args.hall.now c.args.script.now c.args.most c.args.done c.args.runner.now mid c.args.sessions.now c.advance-came.new.sessions c.args.pulls.now.items r
     c.requires.going c.requires.one_more (c.index-as_slice-done.is ∙ ap (λ l. slice_index_or l c.args.done r) c.as_slice.ensures) c.advance-came.ensures.wires.may new
-    c.level.new.sessions c.in_ok-more.more settled.1 (subst (HasPlayed c.args.hall.now r.lines c.args.sessions.now c.advance-came.new.sessions) settled.0 c.advance-came.ensures.clients)
+    c.level.new.sessions c.in_ok-more.more settled.1
+    (subst (HasPlayed c.args.hall.now r.lines c.args.sessions.now c.advance-came.new.sessions) settled.0 c.advance-came.ensures.clients)
     (subst (GoesOn c.args.hall.now c.args.most r.runs c.args.runner.now mid) settled.2 c.advance-came.ensures.driver) level refl)
