@@ -2,7 +2,7 @@
 ghost use Rattle.std.specs.Prelude.{◌≡◌, All, length};
 ghost use Rattle.client_session.specs.Models.{IsDriverOf, IsSessionOf};
 
-use crate::games::{Game, Size, played};
+use crate::games::{Game, played};
 use client_session::{Answer, Driver, Hall, Pulled, Receipt, Reply, Session};
 use std::process::Abort;
 use std::sync::Wait;
@@ -17,16 +17,26 @@ fn done(position: u32, version: u32, reply: Reply) -> Answer {
     })
 }
 
-/// Both coflows join. The short one comes first in the first version.
-fn ask<R: Wait + Abort>(rt: &R, hall: &Hall, sessions: &mut [Session])
+/// Both coflows join. There is no version yet.
+fn join<R: Wait + Abort>(rt: &R, hall: &Hall, sessions: &mut [Session])
+    requires own { All (IsSessionOf hall.now) sessions.old }
+    requires two { length sessions.old ≡ 2 }
+    requires coflows { length hall.now.setting.opening.table.ids ≡ 2 }
+    ensures own { All (IsSessionOf hall.entry.now) sessions.new }
+    ensures two { length sessions.new ≡ 2 }
+{
+    assert!(rt; sessions[0].register(rt, hall, 0) == done(1, 0, Reply::Joined));
+    assert!(rt; sessions[1].register(rt, hall, 1) == done(2, 0, Reply::Joined));
+    assert!(rt; sessions[1].pull(hall, 1) == Pulled::Unranked { version: 0 });
+}
+
+/// The short coflow comes first in the first version.
+fn rank<R: Wait + Abort>(rt: &R, hall: &Hall, sessions: &mut [Session])
     requires own { All (IsSessionOf hall.now) sessions.old }
     requires two { length sessions.old ≡ 2 }
     requires coflows { length hall.now.setting.opening.table.ids ≡ 2 }
     ensures own { All (IsSessionOf hall.entry.now) sessions.new }
 {
-    assert!(rt; sessions[0].register(rt, hall, 0) == done(1, 0, Reply::Joined));
-    assert!(rt; sessions[1].register(rt, hall, 1) == done(2, 0, Reply::Joined));
-    assert!(rt; sessions[1].pull(hall, 1) == Pulled::Unranked { version: 0 });
     assert!(rt; sessions[0].publish(rt, hall) == done(3, 1, Reply::Version(1)));
     assert!(rt;
         sessions[1].pull(hall, 1)
@@ -62,18 +72,13 @@ pub(crate) fn show<R: Wait + Abort>(
     ensures sessions { All (IsSessionOf hall.entry.now) sessions.new }
 {
     assert!(rt; sessions.len() == 2);
-    ask(rt, hall, sessions);
+    join(rt, hall, sessions);
+    rank(rt, hall, sessions);
     drive(rt, hall, driver);
 }
 
 #[test]
 fn the_example_of_the_page(rt: HostRuntime) {
-    let alloc = rt.alloc();
-    let size = Size {
-        sessions: 2,
-        calls: 3,
-        limit: 100,
-    };
-    let entries = played(&rt, alloc, size, Game::Example);
+    let entries = played(&rt, rt.alloc(), 100, 3, Game::Example);
     assert!(rt; entries == 6);
 }

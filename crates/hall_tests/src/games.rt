@@ -2,21 +2,13 @@
 ghost use Rattle.std.specs.Prelude.{◌≡◌, ◌≤◌, ◌^◌, All, length};
 ghost use Rattle.client_session.specs.Models.{IsDriverOf, IsSessionOf};
 
-use crate::begun::{hall_of_two, length_of, seat};
 use crate::example::show;
 use crate::rows::{Case, play_rows};
 use client_session::{Driver, Hall, Session};
+use small_halls::{SmallHall, SmallSize};
 use std::alloc::Global;
 use std::process::Abort;
 use std::sync::Wait;
-
-/// How many sessions a game has, how many turns each of them may take, and how many entries the journal has at most.
-#[derive(Clone, Copy, Debug)]
-pub(crate) struct Size {
-    pub(crate) sessions: u32,
-    pub(crate) calls: u32,
-    pub(crate) limit: u32,
-}
 
 /// What is played.
 #[derive(Clone, Copy)]
@@ -49,22 +41,36 @@ fn play<R: Wait + Abort>(
     }
 }
 
-/// Plays a game in a new hall, and closes it: how many entries its journal has.
-pub(crate) fn played<R: Wait + Abort>(rt: &R, alloc: Global, size: Size, game: Game<'_>) -> usize
-    requires some { 1 ≤ size.limit }
-    requires few { (size.limit ≤ 2 ^ 23) × (size.sessions ≤ 64) }
+/// Plays a game in a new hall of two sessions, and closes it: how many entries its journal has.
+pub(crate) fn played<R: Wait + Abort>(
+    rt: &R,
+    alloc: Global,
+    limit: u32,
+    calls: u32,
+    game: Game<'_>,
+) -> usize
+    requires some { 1 ≤ limit }
+    requires few { limit ≤ 2 ^ 23 }
 {
-    let mut sessions = Vec::new(alloc);
-    let (hall, mut driver) = hall_of_two(rt, alloc, size.limit);
-    seat(
+    let size = SmallSize {
+        limit,
+        driver_calls: 20,
+        sessions: 2,
+        calls,
+    };
+    let Some(mut small) = SmallHall::of_two(alloc, size) else {
+        panic!(rt; "no memory");
+    };
+    play(
         rt,
         alloc,
-        &hall,
-        &mut driver,
-        &mut sessions,
-        size.sessions,
-        size.calls,
+        &small.hall,
+        &mut small.driver,
+        &mut small.sessions,
+        game,
     );
-    play(rt, alloc, &hall, &mut driver, &mut sessions, game);
-    length_of(rt, alloc, hall, driver, sessions)
+    let Some(journal) = small.journal(alloc) else {
+        panic!(rt; "no memory");
+    };
+    journal.len()
 }

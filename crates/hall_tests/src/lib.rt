@@ -5,8 +5,6 @@
 #[cfg(test)]
 mod asks;
 #[cfg(test)]
-mod begun;
-#[cfg(test)]
 mod closes;
 #[cfg(test)]
 mod example;

@@ -3,7 +3,7 @@ ghost use Rattle.std.specs.Prelude.{◌≡◌, ◌≤◌, ◌^◌, All, length, 
 ghost use Rattle.client_session.specs.Models.{IsDriverOf, IsSessionOf};
 
 use crate::asks::{Ask, Said, answered};
-use crate::games::{Game, Size, played};
+use crate::games::{Game, played};
 use crate::orders::{Order, obeyed};
 use client_session::{Driver, Hall, Session};
 use coflow_units::Place;
@@ -146,12 +146,7 @@ fn play<R: Wait + Abort>(rt: &R, alloc: Global, limit: u32, calls: u32, rows: &[
     requires some { 1 ≤ limit }
     requires few { limit ≤ 2 ^ 23 }
 {
-    let size = Size {
-        sessions: 2,
-        calls,
-        limit,
-    };
-    played(rt, alloc, size, Game::Rows(rows));
+    played(rt, alloc, limit, calls, Game::Rows(rows));
 }
 
 #[test]

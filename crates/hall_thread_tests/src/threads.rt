@@ -3,10 +3,10 @@ ghost use Rattle.std.specs.Prelude.{◌≡◌, ◌≤◌, All, length};
 ghost use Rattle.client_session.specs.Models.{IsSessionOf};
 
 use crate::asks::{Ask, Said, answered};
-use crate::begun::{hall_of_two, journal_of, seat};
 use crate::told::{Told, tell, tell_entries};
 use crate::versions::{Note, is_true, versions_of};
 use client_session::{Entry, Hall, Pulled, Session};
+use small_halls::{SmallHall, SmallSize};
 use std::alloc::Global;
 use std::process::Abort;
 use std::sync::{Mutex, Wait};
@@ -186,12 +186,21 @@ fn played<R: Threads + Wait + Sync + Abort>(
 ) -> Vec<Entry>
     requires few { count ≤ 64 }
 {
-    let mut sessions = Vec::new(alloc);
-    let (hall, mut driver) = hall_of_two(rt, alloc, LIMIT);
-    seat(rt, alloc, &hall, &mut driver, &mut sessions, count, TURNS);
-    play_all(rt, alloc, &hall, &mut sessions, crowd);
-    tell(rt, &sessions, told);
-    journal_of(rt, alloc, hall, driver, sessions)
+    let size = SmallSize {
+        limit: LIMIT,
+        driver_calls: 0,
+        sessions: count,
+        calls: TURNS,
+    };
+    let Some(mut small) = SmallHall::of_two(alloc, size) else {
+        panic!(rt; "no memory");
+    };
+    play_all(rt, alloc, &small.hall, &mut small.sessions, crowd);
+    tell(rt, &small.sessions, told);
+    let Some(journal) = small.journal(alloc) else {
+        panic!(rt; "no memory");
+    };
+    journal
 }
 
 /// The receipts are those of the entries of so many sessions in the journal.

@@ -1,10 +1,10 @@
 //! What sessions noted, and what a plain master makes of the commands of the closed journal.
 ghost use Rattle.std.specs.Prelude.{◌≤◌, ◌^◌};
 
-use crate::begun::master_of_two;
 use crate::told::Told;
 use client_session::{Entry, Reply};
 use master_core::Master;
+use small_halls::{let_master_go, master_of_two};
 use std::alloc::Global;
 use std::process::Abort;
 
@@ -41,8 +41,11 @@ pub(crate) fn versions_of(
         ranks: [0, 0],
     };
     keep(rt, &mut versions, first);
-    let mut master = master_of_two(rt, alloc, limit);
+    let Some(mut master) = master_of_two(alloc, limit) else {
+        panic!(rt; "no memory");
+    };
     replay(rt, &mut master, journal, &mut versions);
+    let_master_go(master);
     versions
 }
 

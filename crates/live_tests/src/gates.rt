@@ -2,7 +2,7 @@
 ghost use Rattle.std.specs.Prelude.{◌≡◌, All, length};
 ghost use Rattle.client_session.specs.Models.{IsSessionOf};
 
-use crate::begun::{scene_of, tell_journal};
+use crate::begun::{small_of, tell_journal};
 use crate::rounds::{line, tell_round};
 use client_session::{Hall, Session};
 use live_rounds::{Gate, OpenGate};
@@ -96,7 +96,7 @@ fn tell_held<R: Threads + Wait + Sync + Abort>(
 #[test]
 fn clients_of_a_round_are_on_threads_at_the_same_time(rt: HostRuntime) {
     let mut text = String::new(rt.alloc());
-    let mut scene = scene_of(&rt, rt.alloc(), 100, 4);
+    let mut small = small_of(&rt, rt.alloc(), 100, 4);
     let lines = [
         line(1, 1, Asked::Register(0)),
         line(2, 2, Asked::Register(1)),
@@ -104,13 +104,14 @@ fn clients_of_a_round_are_on_threads_at_the_same_time(rt: HostRuntime) {
     tell_held(
         &rt,
         rt.alloc(),
-        &scene.hall,
-        &mut scene.sessions,
+        &small.hall,
+        &mut small.sessions,
         &lines,
         (1, 2),
         true,
         &mut text,
     );
+    small.let_go();
     assert_eq!(&rt;
         text.as_str(),
         "Ok([])\n1 false\n1 false\n",
@@ -122,14 +123,14 @@ fn clients_of_a_round_are_on_threads_at_the_same_time(rt: HostRuntime) {
 #[test]
 fn a_pull_that_a_gate_holds_back_is_told_the_new_version(rt: HostRuntime) {
     let mut text = String::new(rt.alloc());
-    let mut scene = scene_of(&rt, rt.alloc(), 100, 4);
+    let mut small = small_of(&rt, rt.alloc(), 100, 4);
     let first = [line(1, 1, Asked::Register(0))];
     let mut open = [OpenGate, OpenGate];
     tell_round(
         &rt,
         rt.alloc(),
-        &scene.hall,
-        &mut scene.sessions,
+        &small.hall,
+        &mut small.sessions,
         &first,
         &mut open,
         &mut text,
@@ -142,14 +143,14 @@ fn a_pull_that_a_gate_holds_back_is_told_the_new_version(rt: HostRuntime) {
     tell_held(
         &rt,
         rt.alloc(),
-        &scene.hall,
-        &mut scene.sessions,
+        &small.hall,
+        &mut small.sessions,
         &second,
         (4, 5),
         false,
         &mut text,
     );
-    tell_journal(&rt, rt.alloc(), scene, &mut text);
+    tell_journal(&rt, rt.alloc(), small, &mut text);
     let want = "\
 Ok([])
 Ok([PullDone { client: 1, line: 4, coflow: 0, version: 1, rank: 1 }, PullDone { client: 2, line: 5, coflow: 0, version: 1, rank: 1 }])

@@ -6,7 +6,7 @@ ghost use Rattle.live_model.specs.Script.{command_of};
 ghost use Rattle.client_session.specs.Models.{IsSessionOf};
 ghost use Rattle.live_rounds.specs.Rounds.{MayAsk};
 
-use crate::begun::{scene_of, tell_journal};
+use crate::begun::{small_of, tell_journal};
 use client_session::{Hall, Session};
 use coflow_units::MAX_WEIGHT;
 use live_rounds::{Gate, OpenGate, round};
@@ -99,18 +99,18 @@ fn told<R: Threads + Wait + Sync + Abort>(
     requires limit { (1 ≤ limit) × (limit ≤ 100) }
 {
     let mut text = String::new(alloc);
-    let mut scene = scene_of(rt, alloc, limit, calls);
+    let mut small = small_of(rt, alloc, limit, calls);
     let mut gates = [OpenGate, OpenGate];
     tell_round(
         rt,
         alloc,
-        &scene.hall,
-        &mut scene.sessions,
+        &small.hall,
+        &mut small.sessions,
         lines,
         &mut gates,
         &mut text,
     );
-    tell_journal(rt, alloc, scene, &mut text);
+    tell_journal(rt, alloc, small, &mut text);
     text
 }
 

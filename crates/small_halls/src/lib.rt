@@ -1,0 +1,9 @@
+//! Small halls, as tests and examples begin and close them: a master of two coflows, a driver and some sessions.
+#![tactic(auto)]
+
+mod begun;
+mod closed;
+mod small;
+
+pub use begun::{let_master_go, let_session_go, master_of_two};
+pub use small::{SmallHall, SmallSize};
