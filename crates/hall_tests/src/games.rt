@@ -72,5 +72,7 @@ pub(crate) fn played<R: Wait + Abort>(
     let Some(journal) = small.journal(alloc) else {
         panic!(rt; "no memory");
     };
-    journal.len()
+    let entries = journal.len();
+    drop(journal);
+    entries
 }

@@ -20,7 +20,7 @@ const TURNS: u32 = 400;
 const LIMIT: u32 = 4000;
 
 /// Which calls they are.
-#[derive(Clone, Copy, Debug, PartialEq, Eq)]
+#[derive(Clone, Copy)]
 pub(crate) enum Mode {
     /// Each session takes turns of all kinds.
     Turns,
@@ -174,6 +174,7 @@ fn are_true(rt: &impl Abort, alloc: Global, journal: &[Entry], told: &[Told], lo
     for note in log.notes.as_slice() {
         assert!(rt; is_true(note, versions.as_slice(), told));
     }
+    drop(versions);
 }
 
 /// Makes the calls of a crowd in a new hall, and closes it. The receipts are told, and the journal is answered.
@@ -208,7 +209,8 @@ fn are_entries(rt: &impl Abort, alloc: Global, journal: &[Entry], count: u32, to
     let mut entries = Vec::new(alloc);
     tell_entries(rt, journal, count, &mut entries);
     assert!(rt; told == entries.as_slice());
-    assert_eq!(rt; told.len(), journal.len());
+    drop(entries);
+    assert!(rt; told.len() == journal.len());
 }
 
 /// Plays a crowd in a new hall. What was told and noted is compared with the closed journal.
@@ -234,7 +236,11 @@ fn compare<R: Threads + Wait + Sync + Abort>(
     let mut told = Vec::new(alloc);
     let journal = played(rt, alloc, count, crowd, &mut told);
     are_entries(rt, alloc, &journal, count, &told);
-    are_true(rt, alloc, &journal, &told, &log.into_inner());
+    let log = log.into_inner();
+    are_true(rt, alloc, &journal, &told, &log);
+    drop(log);
+    drop(journal);
+    drop(told);
 }
 
 #[test]

@@ -3,7 +3,7 @@ use client_session::{Entry, Receipt, Reply, Session};
 use std::process::Abort;
 
 /// A receipt of a caller.
-#[derive(Clone, Copy, Debug, PartialEq, Eq)]
+#[derive(Clone, Copy, PartialEq)]
 pub(crate) struct Told {
     pub(crate) who: u32,
     pub(crate) receipt: Receipt,

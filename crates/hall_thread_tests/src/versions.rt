@@ -9,7 +9,7 @@ use std::alloc::Global;
 use std::process::Abort;
 
 /// A pull without a turn: the version and the rank that were answered, and how many receipts the caller had then. The rank is 0 where the coflow had none.
-#[derive(Clone, Copy, Debug)]
+#[derive(Clone, Copy)]
 pub(crate) struct Note {
     pub(crate) who: u32,
     pub(crate) coflow: u32,
@@ -19,7 +19,7 @@ pub(crate) struct Note {
 }
 
 /// A version of the journal: the position of the entry that made it, 0 for the first, and the ranks of both coflows.
-#[derive(Clone, Copy, Debug)]
+#[derive(Clone, Copy)]
 pub(crate) struct Version {
     position: u32,
     ranks: [u32; 2],
@@ -61,7 +61,7 @@ fn replay(rt: &impl Abort, master: &mut Master, journal: &[Entry], versions: &mu
     for entry in journal {
         let fits = master.is_in_range(entry.command);
         assert!(rt; fits);
-        assert_eq!(rt; master.step(entry.who, entry.command), entry.reply);
+        assert!(rt; master.step(entry.who, entry.command) == entry.reply);
         if let Reply::Version(_) = entry.reply {
             keep(rt, versions, version_of(master));
         }

@@ -45,6 +45,10 @@ pub(crate) fn ask<R: Threads + Wait + Sync + Abort>(
     let status = sincronia(
         rt, alloc, &words, &mut shelf, &mut out, &mut wires, &mut gates, bench,
     );
+    drop(wires);
+    drop(gates);
+    drop(words);
+    drop(shelf);
     (status, out)
 }
 

@@ -48,6 +48,7 @@ fn is_compared<R: Threads + Wait + Sync + Abort>(
     };
     let (status, out) = ask(rt, alloc, asked, bench);
     expect(rt, status, out.bytes(), (Status::Ok, text));
+    drop(out);
     assert!(rt; bench.is_empty());
 }
 

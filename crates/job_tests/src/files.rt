@@ -29,9 +29,11 @@ fn is_answered<R: Threads + Wait + Sync + Abort>(
     asked: Asked<'_>,
     wanted: (Status, &[u8]),
 ) {
-    let bench = &mut Vec::new(alloc);
-    let (status, out) = ask(rt, alloc, asked, bench);
+    let mut bench = Vec::new(alloc);
+    let (status, out) = ask(rt, alloc, asked, &mut bench);
+    drop(bench);
     expect(rt, status, out.bytes(), wanted);
+    drop(out);
 }
 
 // A plan of 32 bytes makes 34 calls: one start, 32 reads of one byte, and one read of none.

@@ -39,4 +39,5 @@ pub(crate) fn tell_journal(rt: &impl Abort, alloc: Global, small: SmallHall, tex
             panic!(rt; "no memory");
         };
     }
+    drop(journal);
 }

@@ -114,6 +114,21 @@ fn told<R: Threads + Wait + Sync + Abort>(
     text
 }
 
+/// Stops where a round comes to something else, by the room for entries and the turns of each client.
+fn is_told<R: Threads + Wait + Sync + Abort>(
+    rt: &R,
+    alloc: Global,
+    size: (u32, u32),
+    lines: &[ScriptLine],
+    want: &str,
+)
+    requires limit { (1 ≤ size.0) × (size.0 ≤ 100) }
+{
+    let have = told(rt, alloc, size.0, size.1, lines);
+    assert_eq!(rt; have.as_str(), want);
+    drop(have);
+}
+
 #[test]
 fn a_client_carries_out_its_lines_in_order(rt: HostRuntime) {
     let lines = [
@@ -128,7 +143,7 @@ Ok([PullDone { client: 1, line: 4, coflow: 1, version: 1, rank: 1 }])
 1 Register(1) Joined
 1 Publish Version(1)
 ";
-    assert_eq!(&rt; told(&rt, rt.alloc(), 100, 4, &lines).as_str(), want);
+    is_told(&rt, rt.alloc(), (100, 4), &lines, want);
 }
 
 #[test]
@@ -141,7 +156,7 @@ fn pulls_are_told_by_client_and_then_by_line(rt: HostRuntime) {
     let want = "\
 Ok([PullDone { client: 1, line: 2, coflow: 0, version: 0, rank: 0 }, PullDone { client: 1, line: 3, coflow: 1, version: 0, rank: 0 }, PullDone { client: 2, line: 1, coflow: 1, version: 0, rank: 0 }])
 ";
-    assert_eq!(&rt; told(&rt, rt.alloc(), 100, 4, &lines).as_str(), want);
+    is_told(&rt, rt.alloc(), (100, 4), &lines, want);
 }
 
 #[test]
@@ -157,7 +172,7 @@ Err(Full(2))
 2 Register(0) Joined
 2 Reweigh { coflow: 0, weight: 5 } Weighed(1)
 ";
-    assert_eq!(&rt; told(&rt, rt.alloc(), 2, 4, &lines).as_str(), want);
+    is_told(&rt, rt.alloc(), (2, 4), &lines, want);
 }
 
 #[test]
@@ -171,10 +186,10 @@ fn a_client_without_calls_stops(rt: HostRuntime) {
 Err(Spent)
 1 Register(0) Joined
 ";
-    assert_eq!(&rt; told(&rt, rt.alloc(), 100, 1, &lines).as_str(), want);
+    is_told(&rt, rt.alloc(), (100, 1), &lines, want);
 }
 
 #[test]
 fn a_round_without_lines_asks_nothing(rt: HostRuntime) {
-    assert_eq!(&rt; told(&rt, rt.alloc(), 100, 1, &[]).as_str(), "Ok([])\n");
+    is_told(&rt, rt.alloc(), (100, 1), &[], "Ok([])\n");
 }

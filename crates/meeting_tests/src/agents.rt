@@ -74,6 +74,8 @@ fn meet<R: Threads + Wait + Sync + Abort>(
     let mut gates = gates_of(rt, alloc, None, None);
     let (status, out) = ask(rt, alloc, asked, &mut wires, &mut gates);
     let gave_up = has_given_up(&wires);
+    drop(wires);
+    drop(gates);
     (status, out, gave_up)
 }
 
@@ -87,6 +89,7 @@ fn meets<R: Threads + Wait + Sync + Abort>(
 ) {
     let (status, out, gave_up) = meet(rt, alloc, asked);
     expect(rt, status, out.bytes(), (Status::Ok, text));
+    drop(out);
     assert!(rt; gave_up == gives_up);
 }
 

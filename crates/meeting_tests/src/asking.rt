@@ -35,6 +35,9 @@ pub(crate) fn ask<'a, R: Threads + Wait + Sync + Abort>(
     let status = sincronia(
         rt, alloc, &words, &mut shelf, &mut out, wires, gates, &mut bench,
     );
+    drop(words);
+    drop(shelf);
+    drop(bench);
     (status, out)
 }
 

@@ -49,6 +49,8 @@ fn play<R: Threads + Wait + Sync + Abort>(
         has_met(&gates, 1),
         !has_given_up(&wires),
     ];
+    drop(wires);
+    drop(gates);
     (status, out, met)
 }
 
@@ -75,7 +77,8 @@ fn meets<R: Threads + Wait + Sync + Abort>(
     scene: Scene<'_>,
     wanted: [bool; 2],
 ) {
-    let (status, _out, met) = play(rt, alloc, scene);
+    let (status, out, met) = play(rt, alloc, scene);
+    drop(out);
     assert_eq!(rt; status, Status::Ok);
     assert_eq!(rt; met, [wanted[0], wanted[1], true]);
 }
@@ -131,6 +134,7 @@ fn both_pulls_have_the_order_that_was_published_before(rt: HostRuntime) {
     let (status, out, met) = play(&rt, rt.alloc(), scene);
     let first = has_line(out.bytes(), b"pull 1 4 1 1 1");
     let second = has_line(out.bytes(), b"pull 2 5 1 1 1");
+    drop(out);
     assert_eq!(rt; status, Status::Ok);
     assert_eq!(rt; met, [true, true, true]);
     assert!(rt; first && second);

@@ -37,6 +37,10 @@ pub(crate) fn ask<R: Threads + Wait + Sync + Abort>(
     let status = sincronia(
         rt, alloc, &words, &mut shelf, &mut out, wires, &mut gates, &mut bench,
     );
+    drop(gates);
+    drop(words);
+    drop(shelf);
+    drop(bench);
     (status, out)
 }
 
