@@ -5,12 +5,13 @@ Use: bench/run.py [--peer 'PROGRAM WORD ..'] [SHAPE ..]
      bench/run.py picture      draws windows of 1000 slots of a large plan alone; the exit code is 1 where one takes more than its bound
      bench/run.py compare      times a comparison alone, beside the serving of one order
      bench/run.py [--peer 'PROGRAM WORD ..'] online      times online runs alone, and the check of one
+     bench/run.py [--peer 'PROGRAM WORD ..'] hall        times plans by a hall alone, beside the same plans without one; the exit code is 1 where one takes more than its bound
 
 First, on each shape of load, the commands `plan` and `check`, output to /dev/null: seconds of the processor, the least of three runs, and the peak of memory. `--peer` names another program
 with the same commands, words behind it included; it runs in turn with ours, and the ratios to it are printed beside. Shapes on the command line are the only ones that run.
 At the end the figures stand as one table in Markdown, with the date, the machine and how busy it was, and beside it how `plan` grows with the units and with the coflows.
-Then, with no shape named, the limits of the text and of the table, the benchmarks of parts of the program, one run each, the windows of a large plan, and `compare` beside the serving of one order, which `perf` tells
-apart where it is there.
+Then, with no shape named, the limits of the text and of the table, the benchmarks of parts of the program, one run each, plans by a hall beside plans without one, the windows of a large plan, and `compare` beside the
+serving of one order, which `perf` tells apart where it is there.
 """
 import datetime
 import os
@@ -32,6 +33,7 @@ PROGRAM = os.path.join(TOP, "crates", "sincronia", "out", "sincronia")
 PICTURE = os.path.join(TOP, "crates", "sincronia_picture", "out", "sincronia_picture")
 ORDER = os.path.join(TOP, "crates", "order_bench", "out", "order_bench")
 MASTER = os.path.join(TOP, "crates", "master_bench", "out", "master_bench")
+PLAN = os.path.join(TOP, "crates", "plan_bench", "out", "plan_bench")
 
 RUNS = 3
 
@@ -227,6 +229,40 @@ def comparison(folder):
     print(line, flush=True)
 
 
+# shapes of which the plan by a hall is timed beside that without one, and how many times its time one agent is to take at most
+HALLS = ["fb-16", "fb"]
+HALL_BOUND = 2
+
+
+def printed(command, folder):
+    return subprocess.run(command, cwd=folder, stdout=subprocess.PIPE, stderr=subprocess.DEVNULL, check=False).stdout
+
+
+def halls(peer, folder):
+    """Times `plan`, which a hall serves, by one agent and by four, in turn with `plan_bench`, which serves the same order without a hall. Answers how many traces have another text so, or take one
+    agent more than the bound."""
+    over = 0
+    for name in HALLS:
+        make, options = SHAPES[name]
+        put(folder, "t", make)
+        plan = [PROGRAM, "plan", "t", *options, "--agents"]
+        commands = {"one agent": [*plan, "1"], "four agents": [*plan, "4"], "no hall": [PLAN, "t", options[-1]]}
+        if peer:
+            commands["peer"] = [*peer, "plan", "t", *options]
+        least = {}
+        for _ in range(RUNS):
+            for who, command in commands.items():
+                found = measured(command, folder)
+                least[who] = min(least.get(who, found), found)
+        base = least["no hall"][0]
+        for who, (seconds, memory, code) in least.items():
+            print("  %-6s %-12s %8.3f s  %5d MiB  code %d   %.2f times that without a hall" % (name, who, seconds, memory, code, seconds / base), flush=True)
+        is_same = printed(commands["one agent"], folder) == printed(commands["no hall"], folder)
+        print("  %-6s the texts %s; one agent is to take at most %d times that without a hall" % (name, "are equal" if is_same else "DIFFER", HALL_BOUND), flush=True)
+        over += not is_same or least["one agent"][0] > HALL_BOUND * base
+    return over
+
+
 # what is said behind `online t --unit 16`, and how many times the peer's time it is to take at most
 ONLINE = [([], 4), (["--epoch", "64"], 6)]
 
@@ -278,7 +314,7 @@ def main():
         if len(words) < 2:
             sys.exit(__doc__)
         peer, words = shlex.split(words[1]), words[2:]
-    alone = words[0] if words in (["picture"], ["compare"], ["online"]) else None
+    alone = words[0] if words in (["picture"], ["compare"], ["online"], ["hall"]) else None
     if not alone and any(name not in SHAPES for name in words):
         sys.exit("bench: the shapes are %s" % " ".join(SHAPES))
     build(PROGRAM)
@@ -293,9 +329,14 @@ def main():
             comparison(folder)
         if alone == "online" or not words:
             online(peer, folder)
+        over = 0
+        if alone == "hall" or not words:
+            build(PLAN)
+            over += halls(peer, folder)
         if alone == "picture" or not words:
             build(PICTURE)
-            sys.exit(1 if windows(folder) else 0)
+            over += windows(folder)
+        sys.exit(1 if over else 0)
 
 
 if __name__ == "__main__":
