@@ -1,5 +1,5 @@
 //! The plan of a table, without a hall.
-ghost use Rattle.std.specs.Prelude.{◌≡◌, ◌<◌, ◌≤◌, ℕ, All, Contains, IfOk, length};
+ghost use Rattle.std.specs.Prelude.{◌≡◌, ◌<◌, ◌≤◌, ℕ, All, Contains, IfOk, length, replicate};
 ghost use Rattle.coflow_units.specs.declared.limits.TheConstants.{MAX_UNITS, MAX_WEIGHT};
 ghost use Rattle.coflow_units.specs.declared.fabric.Port.{Port};
 ghost use Rattle.port_load.specs.LoadTable.{HasLoads, total_at};
@@ -24,7 +24,9 @@ use std::alloc::Global;
 
 /// The text of the plan of a table's coflows, each of weight 1. The error is want of memory.
 pub(crate) fn text_of_plan(alloc: Global, table: &Table) -> Result<Vec<u8>, NoMemory>
-    ensures { IfOk result (λ text. (report : Report) × (text.items ≡ report_text report)) }
+    ensures { IfOk result (λ text. (report : Report) ×
+        IsPlanOf (instance_of table.now (replicate (length table.now.ids) 1)) table.now.ids report ×
+        (text.items ≡ report_text report)) }
 {
     let weights = vec![in alloc; 1u64; table.coflows() as usize]?;
     let report = plan_of(alloc, table, &weights)?;
