@@ -79,8 +79,8 @@ fn meets<R: Threads + Wait + Sync + Abort>(
 ) {
     let (status, out, met) = play(rt, alloc, scene);
     drop(out);
-    assert_eq!(rt; status, Status::Ok);
-    assert_eq!(rt; met, [wanted[0], wanted[1], true]);
+    assert!(rt; status == Status::Ok, "another status");
+    assert!(rt; met == [wanted[0], wanted[1], true], "another meeting");
 }
 
 /// Two clients that register beside each other.
@@ -135,8 +135,8 @@ fn both_pulls_have_the_order_that_was_published_before(rt: HostRuntime) {
     let first = has_line(out.bytes(), b"pull 1 4 1 1 1");
     let second = has_line(out.bytes(), b"pull 2 5 1 1 1");
     drop(out);
-    assert_eq!(rt; status, Status::Ok);
-    assert_eq!(rt; met, [true, true, true]);
+    assert!(rt; status == Status::Ok, "another status");
+    assert!(rt; met == [true, true, true], "another meeting");
     assert!(rt; first && second);
 }
 
