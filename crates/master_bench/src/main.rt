@@ -5,17 +5,16 @@
 
 ghost use Rattle.std.specs.Prelude.{◌≡◌, ◌≤◌, [], IfOk, length};
 ghost use Rattle.coflow_units.specs.declared.limits.TheConstants.{MAX_UNIT};
-ghost use Rattle.coflow_units.specs.Trace.{IsTrace};
 ghost use Rattle.master_bench.specs.Answered.{IsLastAnswer};
 
-use coflow_units::{Items, MAX_FLOWS, MAX_SLOT, MAX_TEXT, MAX_UNIT, NoMemory, Trace};
+use coflow_units::{Items, MAX_FLOWS, MAX_SLOT, MAX_TEXT, MAX_UNIT, NoMemory};
 use flow_table::Table;
 use master_core::{Command, Master, Reply};
 use outside::{DiskShelf, Place4, Shelf, read_all};
 use std::alloc::Global;
 use std::env;
 use std::process::ExitCode;
-use trace_reader::read_trace;
+use trace_tables::{TextFault, table_of_text};
 
 /// What is printed where nothing is left.
 #[derive(Clone, Copy)]
@@ -31,10 +30,8 @@ enum Stop {
     Usage,
     #[error("no file is read")]
     File,
-    #[error("no trace is read")]
-    Trace,
-    #[error("the trace makes no table")]
-    Table,
+    #[error("{0}")]
+    Text(#[from] TextFault),
     #[error("no memory")]
     NoMemory,
     #[error("the last opening was answered {0:?}")]
@@ -107,10 +104,19 @@ fn table_of<H: Shelf>(alloc: Global, name: &str, unit: u64, shelf: &mut H) -> Re
     requires some { 1 ≤ unit }
     requires limit { unit ≤ MAX_UNIT }
 {
-    let trace = read_file(alloc, name, shelf)?;
-    match Table::build(alloc, &trace, unit) {
-        Ok(table) => Ok(table),
-        Err(_) => Err(Stop::Table),
+    let bytes = bytes_of(alloc, name, shelf)?;
+    let table = table_of_text(alloc, &bytes, unit)?;
+    Ok(table)
+}
+
+/// The bytes of a file, at most 2^26.
+fn bytes_of<H: Shelf>(alloc: Global, name: &str, shelf: &mut H) -> Result<Vec<u8>, Stop> {
+    let Ok(()) = shelf.start(Place4::Trace, name) else {
+        return Err(Stop::File);
+    };
+    match read_all(alloc, shelf, Place4::Trace, MAX_TEXT) {
+        Ok(bytes) => Ok(bytes),
+        Err(_) => Err(Stop::File),
     }
 }
 
@@ -131,22 +137,6 @@ fn summary_of(master: &Master, end: Reply) -> Result<Summary, Stop> {
             commands: master.journal().len(),
         }),
         _ => Err(Stop::Refused(end)),
-    }
-}
-
-/// Reads the trace of a file.
-fn read_file<H: Shelf>(alloc: Global, name: &str, shelf: &mut H) -> Result<Trace, Stop>
-    ensures { IfOk result IsTrace }
-{
-    let Ok(()) = shelf.start(Place4::Trace, name) else {
-        return Err(Stop::File);
-    };
-    let Ok(bytes) = read_all(alloc, shelf, Place4::Trace, MAX_TEXT) else {
-        return Err(Stop::File);
-    };
-    match read_trace(alloc, &bytes) {
-        Ok(trace) => Ok(trace),
-        Err(_) => Err(Stop::Trace),
     }
 }
 

@@ -16,7 +16,6 @@ mod stop;
 mod telling;
 
 ghost use Rattle.std.specs.Prelude.{◌≡◌, ◌≤◌, [], All, IfOk, length, vec_len};
-ghost use Rattle.coflow_units.specs.Trace.{IsTrace};
 ghost use Rattle.master_runs.specs.declared.setting.TheConstants.{MAX_LIMIT};
 ghost use Rattle.coflow_units.specs.declared.limits.TheConstants.{MAX_TEXT, MAX_WEIGHT};
 
@@ -24,7 +23,7 @@ use crate::game::{play_master, play_world};
 use crate::line::{index, word};
 use crate::setting::{Setting, setting_of};
 use crate::stop::Stop;
-use coflow_units::{Items, MAX_TEXT, NoMemory, Trace};
+use coflow_units::{Items, MAX_TEXT, NoMemory};
 use flow_table::Table;
 use master_core::Master;
 use outside::{DiskShelf, Place4, Shelf, read_all};
@@ -32,7 +31,7 @@ use std::alloc::Global;
 use std::env;
 use std::process::ExitCode;
 use text_fields::{Fields, Lines};
-use trace_reader::read_trace;
+use trace_tables::table_of_text;
 use world_model::World;
 
 fn main(rt: HostRuntime) -> ExitCode {
@@ -98,22 +97,9 @@ fn bytes_of<H: Shelf>(
 
 /// The table of a file's trace, in units of a megabyte.
 fn table_of<H: Shelf>(alloc: Global, shelf: &mut H, name: &str) -> Result<Table, Stop> {
-    let trace = trace_of(alloc, shelf, name)?;
-    match Table::build(alloc, &trace, 1) {
-        Ok(table) => Ok(table),
-        Err(_) => Err(Stop::Table),
-    }
-}
-
-/// The trace of a file.
-fn trace_of<H: Shelf>(alloc: Global, shelf: &mut H, name: &str) -> Result<Trace, Stop>
-    ensures limits { IfOk result IsTrace }
-{
     let bytes = bytes_of(alloc, shelf, Place4::Trace, name)?;
-    match read_trace(alloc, &bytes) {
-        Ok(trace) => Ok(trace),
-        Err(_) => Err(Stop::Trace),
-    }
+    let table = table_of_text(alloc, &bytes, 1)?;
+    Ok(table)
 }
 
 /// Plays the lines, the first of which says who plays.

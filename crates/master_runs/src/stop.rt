@@ -2,6 +2,7 @@
 use coflow_units::NoMemory;
 use std::alloc::AllocFailed;
 use std::io;
+use trace_tables::TextFault;
 
 /// Why a list is not played to its end.
 #[derive(Debug, Drop, thiserror::Error)]
@@ -10,10 +11,8 @@ pub enum Stop {
     Usage,
     #[error("no file is read")]
     File,
-    #[error("no trace is read")]
-    Trace,
-    #[error("the trace makes no table")]
-    Table,
+    #[error("{0}")]
+    Text(#[from] TextFault),
     /// The line with this number is not as it should be.
     #[error("line {0}")]
     Line(u32),

@@ -5,18 +5,17 @@
 
 mod planning;
 
-ghost use Rattle.std.specs.Prelude.{◌≡◌, ◌≤◌, IfOk, length};
+ghost use Rattle.std.specs.Prelude.{◌≤◌};
 ghost use Rattle.coflow_units.specs.declared.limits.TheConstants.{MAX_UNIT};
-ghost use Rattle.coflow_units.specs.Trace.{IsTrace};
 
-use coflow_units::{MAX_TEXT, MAX_UNIT, NoMemory, Trace};
+use coflow_units::{MAX_TEXT, MAX_UNIT, NoMemory};
 use flow_table::Table;
 use outside::{DiskShelf, Place4, Shelf, StdSink, read_all, write_all};
 use planning::text_of_plan;
 use std::alloc::Global;
 use std::env;
 use std::process::ExitCode;
-use trace_reader::read_trace;
+use trace_tables::{TextFault, table_of_text};
 
 /// Why no plan was printed.
 #[derive(Debug, Drop, thiserror::Error)]
@@ -25,14 +24,18 @@ enum Stop {
     Usage,
     #[error("no file is read")]
     File,
-    #[error("no trace is read")]
-    Trace,
-    #[error("the trace makes no table")]
-    Table,
+    #[error("{0}")]
+    Text(#[from] TextFault),
     #[error("no memory")]
     NoMemory,
     #[error("the report is not written")]
     Output,
+}
+
+impl From<NoMemory> for Stop {
+    fn from(_: NoMemory) -> Stop {
+        Stop::NoMemory
+    }
 }
 
 fn main(rt: HostRuntime) -> ExitCode {
@@ -83,10 +86,8 @@ fn planned<H: Shelf>(alloc: Global, name: &str, unit: u64, shelf: &mut H) -> Res
     requires limit { unit ≤ MAX_UNIT }
 {
     let table = table_of(alloc, name, unit, shelf)?;
-    match text_of_plan(alloc, &table) {
-        Ok(text) => Ok(text),
-        Err(NoMemory) => Err(Stop::NoMemory),
-    }
+    let text = text_of_plan(alloc, &table)?;
+    Ok(text)
 }
 
 /// The table of a file's trace.
@@ -94,25 +95,18 @@ fn table_of<H: Shelf>(alloc: Global, name: &str, unit: u64, shelf: &mut H) -> Re
     requires some { 1 ≤ unit }
     requires limit { unit ≤ MAX_UNIT }
 {
-    let trace = read_file(alloc, name, shelf)?;
-    match Table::build(alloc, &trace, unit) {
-        Ok(table) => Ok(table),
-        Err(_) => Err(Stop::Table),
-    }
+    let bytes = bytes_of(alloc, name, shelf)?;
+    let table = table_of_text(alloc, &bytes, unit)?;
+    Ok(table)
 }
 
-/// Reads the trace of a file.
-fn read_file<H: Shelf>(alloc: Global, name: &str, shelf: &mut H) -> Result<Trace, Stop>
-    ensures { IfOk result IsTrace }
-{
+/// The bytes of a file, at most 2^26.
+fn bytes_of<H: Shelf>(alloc: Global, name: &str, shelf: &mut H) -> Result<Vec<u8>, Stop> {
     let Ok(()) = shelf.start(Place4::Trace, name) else {
         return Err(Stop::File);
     };
-    let Ok(bytes) = read_all(alloc, shelf, Place4::Trace, MAX_TEXT) else {
-        return Err(Stop::File);
-    };
-    match read_trace(alloc, &bytes) {
-        Ok(trace) => Ok(trace),
-        Err(_) => Err(Stop::Trace),
+    match read_all(alloc, shelf, Place4::Trace, MAX_TEXT) {
+        Ok(bytes) => Ok(bytes),
+        Err(_) => Err(Stop::File),
     }
 }

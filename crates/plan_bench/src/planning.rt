@@ -1,22 +1,18 @@
 //! The plan of a table, without a hall.
 ghost use Rattle.std.specs.Prelude.{◌≡◌, ◌<◌, ◌≤◌, ℕ, All, Contains, IfOk, length, replicate};
-ghost use Rattle.coflow_units.specs.declared.limits.TheConstants.{MAX_UNITS, MAX_WEIGHT};
-ghost use Rattle.coflow_units.specs.declared.fabric.Port.{Port};
-ghost use Rattle.port_load.specs.LoadTable.{HasLoads, total_at};
+ghost use Rattle.coflow_units.specs.declared.limits.TheConstants.{MAX_WEIGHT};
 ghost use Rattle.coflow_units.specs.Flows.{IsDistinct};
 ghost use Rattle.coflow_units.specs.Served.{IsServed};
-ghost use Rattle.bssi_order.specs.Order.{IsOrder};
 ghost use Rattle.flow_table.specs.Table.{instance_of};
 ghost use Rattle.plans.specs.PlanReport.{IsPlanOf, coflows_of};
 ghost use Rattle.report.specs.Report.{HasSmallNumbers, HasWeights, IsReport};
 ghost use Rattle.report.specs.declared.value.Report.{Report};
 ghost use Rattle.report.specs.Text.{report_text};
 
-use bssi_order::Bssi;
+use coflow_facts::order_of;
 use coflow_units::{NoMemory, Place};
 use flow_table::Table;
 use plans::report_of;
-use port_load::Loads;
 use report::{Report, write_report};
 use schedule_model::Schedule;
 use slot_switch::simulate;
@@ -49,31 +45,6 @@ fn plan_of(alloc: Global, table: &Table, weights: &[u64]) -> Result<Report, NoMe
     let schedule = served(alloc, table, places)?;
     let report = report_of(alloc, table, weights, places, schedule)?;
     Ok(report)
-}
-
-/// The order of all coflows of the table, one weight for each, with the places of the ordering certificate.
-fn order_of(alloc: Global, table: &Table, weights: &[u64]) -> Result<Bssi, NoMemory>
-    requires count { length weights.now ≡ length table.now.ids }
-    requires weights { All (λ w. w ≤ MAX_WEIGHT) weights.now }
-    ensures order { IfOk result (λ order. IsOrder (instance_of table.now weights.now) order.places) }
-{
-    let mut loads = loads_of(alloc, table)?;
-    let present = vec![in alloc; true; weights.len()]?;
-    let mut order = Bssi::with_room(alloc, table.coflows(), table.ports())?;
-    order.run(&mut loads, weights, &present);
-    Ok(order)
-}
-
-/// The loads of all coflows of the table on its ports.
-fn loads_of(alloc: Global, table: &Table) -> Result<Loads, NoMemory>
-    ensures coflows_are { IfOk result (λ loads. loads.coflows ≡ length table.now.ids) }
-    ensures ports_are { IfOk result (λ loads. loads.ports ≡ table.now.ports) }
-    ensures loads_are { IfOk result (λ loads. HasLoads table.now.flows loads) }
-    ensures totals_fit { IfOk result (λ loads. (port : Port) → port.number < loads.ports →
-        total_at loads port ≤ MAX_UNITS) }
-{
-    let loads = Loads::of(alloc, table.flows(), table.coflows(), table.ports())?;
-    Ok(loads)
 }
 
 /// The schedule that serves the order of the places.

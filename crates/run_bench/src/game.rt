@@ -7,7 +7,7 @@ use flow_table::Table;
 use outside::{DiskShelf, Place4, Shelf, read_all};
 use std::alloc::Global;
 use std::env;
-use trace_reader::read_trace;
+use trace_tables::table_of_text;
 
 /// The greatest number of runs.
 const MAX_RUNS: u32 = 1_000_000;
@@ -78,11 +78,6 @@ fn table_of<H: Shelf>(alloc: Global, shelf: &mut H, name: &str) -> Result<Table,
     let Ok(bytes) = read_all(alloc, shelf, Place4::Trace, MAX_TEXT) else {
         return Err(Stop::File);
     };
-    let Ok(trace) = read_trace(alloc, &bytes) else {
-        return Err(Stop::Trace);
-    };
-    match Table::build(alloc, &trace, 1) {
-        Ok(table) => Ok(table),
-        Err(_) => Err(Stop::Table),
-    }
+    let table = table_of_text(alloc, &bytes, 1)?;
+    Ok(table)
 }

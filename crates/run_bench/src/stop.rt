@@ -3,6 +3,7 @@ use coflow_units::NoMemory;
 use slot_runner::Ran;
 use std::alloc::{AllocError, AllocFailed};
 use std::io;
+use trace_tables::TextFault;
 
 /// Why nothing was measured.
 #[derive(Debug, Drop, thiserror::Error)]
@@ -11,10 +12,8 @@ pub enum Stop {
     Usage,
     #[error("no file is read")]
     File,
-    #[error("no trace is read")]
-    Trace,
-    #[error("the trace makes no table")]
-    Table,
+    #[error("{0}")]
+    Text(#[from] TextFault),
     #[error("a run came to {0:?}")]
     Ended(Ran),
     #[error("no memory")]

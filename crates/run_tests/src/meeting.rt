@@ -2,7 +2,7 @@
 ghost use Rattle.std.specs.Prelude.{◌≤◌};
 
 use crate::stage::{CROSSED, stage_of};
-use crate::told::{tell_journal, tell_run};
+use crate::told::{is_told, tell_journal, tell_run};
 use outside::Wire;
 use std::alloc::Global;
 use std::process::Abort;
@@ -72,23 +72,21 @@ fn met<R: Threads + Wait + Sync + Abort>(rt: &R, alloc: Global, agents: u32) -> 
 // No clause says that agents run beside each other. Where one of them ended before another began, the first wire would give up here, as it does where one agent has both.
 #[test]
 fn agents_of_a_run_are_on_threads_at_the_same_time(rt: HostRuntime) {
-    let whole = "\
+    const WHOLE: &str = "\
 Ran { slot: 1, length: 1, count: 2 } [0, 3] 18
 Open(1) Opened(1, 1, 2)
 Close Closed(1)
 ";
-    let gave_up = "\
+    const GAVE_UP: &str = "\
 WireFault { port: 0, sent: 0 } [0, 3] 17
 Open(1) Opened(1, 1, 2)
 Short(0, 0) Noted(0)
 Close Closed(1)
 ";
-    for (agents, want) in [(2, whole), (64, whole), (1, gave_up)] {
+    for (agents, want) in [(2, WHOLE), (64, WHOLE), (1, GAVE_UP)] {
         let text = met(&rt, rt.alloc(), agents);
-        assert_eq!(rt;
-            text.as_str(),
-            want,
-            "a wire gave up, or there was no memory for a thread"
-        );
+        // A wire gave up, or there was no memory for a thread.
+        is_told(&rt, &text, want);
+        drop(text);
     }
 }

@@ -3,7 +3,7 @@ ghost use Rattle.std.specs.Prelude.{◌≡◌};
 ghost use Rattle.slot_runner.specs.Models.{MayRun};
 
 use crate::stage::{CROSSED, stage_of};
-use crate::told::{tell_journal, tell_run, tell_wire};
+use crate::told::{is_told, tell_journal, tell_run, tell_wire};
 use client_session::Hall;
 use coflow_units::MAX_SLOT;
 use outside::MemWire;
@@ -70,6 +70,7 @@ fn run_all<R: Threads + Wait + Sync + Abort>(
     }
     tell_wire(rt, 0, &wires[0], text);
     tell_wire(rt, 1, &wires[1], text);
+    drop(wires);
 }
 
 /// Makes the runs in a new hall, and tells what they came to.
@@ -86,13 +87,14 @@ fn told<R: Threads + Wait + Sync + Abort>(rt: &R, alloc: Global, row: Row<'_>) -
 fn play_all<R: Threads + Wait + Sync + Abort>(rt: &R, alloc: Global, rows: &[Row<'_>]) {
     for row in rows {
         let text = told(rt, alloc, *row);
-        assert_eq!(rt; text.as_str(), row.want);
+        is_told(rt, &text, row.want);
+        drop(text);
     }
 }
 
 #[test]
 fn a_fault_is_noted_and_the_next_run_goes_on(rt: HostRuntime) {
-    let four = "\
+    const FOUR_TEXT: &str = "\
 WireFault { port: 0, sent: 1 } [0] 17
 Ran { slot: 5, length: 3, count: 1 } [0] 15
 Nothing [0] 14
@@ -105,7 +107,7 @@ Open(4) Opened(5, 3, 1)
 Close Closed(5)
 Open(4) NothingLeft
 ";
-    let one = "\
+    const ONE_TEXT: &str = "\
 Ran { slot: 1, length: 1, count: 1 } [0] 18
 WireFault { port: 0, sent: 0 } [0] 15
 Ran { slot: 3, length: 1, count: 1 } [0] 13
@@ -119,48 +121,48 @@ Close Closed(2)
 Open(1) Opened(3, 1, 1)
 Close Closed(3)
 ";
-    let first = Row {
+    const FIRST: Row<'static> = Row {
         trace: ONE,
         limit: 100,
         calls: 20,
         fail_at: [2, 0],
         agents: 2,
         most: &[4, 4, 4],
-        want: four,
+        want: FOUR_TEXT,
     };
-    let rows = [
-        first,
+    const ROWS: &[Row<'static>] = &[
+        FIRST,
         Row {
             agents: 64,
-            ..first
+            ..FIRST
         },
-        Row { agents: 1, ..first },
+        Row { agents: 1, ..FIRST },
         Row {
             most: &[1, 1, 1],
-            want: one,
-            ..first
+            want: ONE_TEXT,
+            ..FIRST
         },
     ];
-    play_all(&rt, rt.alloc(), &rows);
+    play_all(&rt, rt.alloc(), ROWS);
 }
 
 #[test]
 fn each_short_port_is_noted(rt: HostRuntime) {
-    let both = "\
+    const BOTH_TEXT: &str = "\
 WireFault { port: 0, sent: 0 } [0, 3] 16
 Open(1) Opened(1, 1, 2)
 Short(0, 0) Noted(0)
 Short(1, 0) Noted(0)
 Close Closed(1)
 ";
-    let second = "\
+    const SECOND_TEXT: &str = "\
 WireFault { port: 1, sent: 0 } [0, 3] 17
 0: (1, 0, 1)
 Open(1) Opened(1, 1, 2)
 Short(1, 0) Noted(0)
 Close Closed(1)
 ";
-    let longer = "\
+    const LONGER_TEXT: &str = "\
 WireFault { port: 0, sent: 2 } [0, 1] 16
 Ran { slot: 4, length: 3, count: 2 } [0, 1] 14
 Ran { slot: 7, length: 1, count: 1 } [1] 12
@@ -177,42 +179,42 @@ Close Closed(4)
 Open(9) Opened(7, 1, 1)
 Close Closed(7)
 ";
-    let first = Row {
+    const FIRST: Row<'static> = Row {
         trace: CROSSED,
         limit: 100,
         calls: 20,
         fail_at: [1, 1],
         agents: 2,
         most: &[1],
-        want: both,
+        want: BOTH_TEXT,
     };
-    let rows = [
-        first,
+    const ROWS: &[Row<'static>] = &[
+        FIRST,
         Row {
             fail_at: [0, 1],
-            want: second,
-            ..first
+            want: SECOND_TEXT,
+            ..FIRST
         },
         Row {
             trace: APART,
             fail_at: [3, 1],
             most: &[3, 9, 9],
-            want: longer,
-            ..first
+            want: LONGER_TEXT,
+            ..FIRST
         },
     ];
-    play_all(&rt, rt.alloc(), &rows);
+    play_all(&rt, rt.alloc(), ROWS);
 }
 
 #[test]
 fn a_wire_fails_at_the_first_unit_of_a_run_or_later(rt: HostRuntime) {
-    let first = "\
+    const FIRST_TEXT: &str = "\
 WireFault { port: 0, sent: 0 } [1] 17
 Open(2199023255551) Opened(1, 1, 1)
 Short(0, 0) Noted(0)
 Close Closed(1)
 ";
-    let second = "\
+    const SECOND_TEXT: &str = "\
 Ran { slot: 1, length: 1, count: 1 } [1] 18
 WireFault { port: 0, sent: 0 } [0] 15
 0: (1, 1, 1)
@@ -222,7 +224,7 @@ Open(2199023255551) Opened(2, 3, 1)
 Short(0, 0) Noted(0)
 Close Closed(2)
 ";
-    let last = "\
+    const LAST_TEXT: &str = "\
 Ran { slot: 1, length: 1, count: 1 } [1] 18
 WireFault { port: 0, sent: 2 } [0] 15
 0: (1, 1, 1)
@@ -233,38 +235,38 @@ Open(2199023255551) Opened(2, 3, 1)
 Short(0, 2) Noted(2)
 Close Closed(2)
 ";
-    let one = Row {
+    const SINGLE: Row<'static> = Row {
         trace: SAME,
         limit: 100,
         calls: 20,
         fail_at: [1, 0],
         agents: 1,
         most: &[MAX_SLOT],
-        want: first,
+        want: FIRST_TEXT,
     };
-    let two = Row {
+    const DOUBLE: Row<'static> = Row {
         most: &[MAX_SLOT, MAX_SLOT],
-        ..one
+        ..SINGLE
     };
-    let rows = [
-        one,
+    const ROWS: &[Row<'static>] = &[
+        SINGLE,
         Row {
             fail_at: [2, 0],
-            want: second,
-            ..two
+            want: SECOND_TEXT,
+            ..DOUBLE
         },
         Row {
             fail_at: [4, 0],
-            want: last,
-            ..two
+            want: LAST_TEXT,
+            ..DOUBLE
         },
     ];
-    play_all(&rt, rt.alloc(), &rows);
+    play_all(&rt, rt.alloc(), ROWS);
 }
 
 #[test]
 fn runs_go_on_until_nothing_is_left(rt: HostRuntime) {
-    let same = "\
+    const SAME_TEXT: &str = "\
 Ran { slot: 1, length: 1, count: 1 } [1] 18
 Ran { slot: 2, length: 3, count: 1 } [0] 16
 Nothing [0] 15
@@ -276,7 +278,7 @@ Open(2199023255551) Opened(2, 3, 1)
 Close Closed(2)
 Open(2199023255551) NothingLeft
 ";
-    let crossed = "\
+    const CROSSED_TEXT: &str = "\
 Ran { slot: 1, length: 1, count: 2 } [0, 3] 18
 Ran { slot: 2, length: 1, count: 2 } [1, 2] 16
 Nothing [1, 2] 15
@@ -290,44 +292,44 @@ Open(2199023255551) Opened(2, 1, 2)
 Close Closed(2)
 Open(2199023255551) NothingLeft
 ";
-    let most = &[MAX_SLOT, MAX_SLOT, MAX_SLOT];
-    let first = Row {
+    const MOST: &[u64] = &[MAX_SLOT, MAX_SLOT, MAX_SLOT];
+    const FIRST: Row<'static> = Row {
         trace: SAME,
         limit: 100,
         calls: 20,
         fail_at: [0, 0],
         agents: 4,
-        most,
-        want: same,
+        most: MOST,
+        want: SAME_TEXT,
     };
-    let rows = [
-        first,
+    const ROWS: &[Row<'static>] = &[
+        FIRST,
         Row {
             trace: CROSSED,
-            want: crossed,
-            ..first
+            want: CROSSED_TEXT,
+            ..FIRST
         },
     ];
-    play_all(&rt, rt.alloc(), &rows);
+    play_all(&rt, rt.alloc(), ROWS);
 }
 
 #[test]
 fn answers_without_a_run_say_why(rt: HostRuntime) {
-    let spent = "\
+    const SPENT_TEXT: &str = "\
 Ran { slot: 1, length: 1, count: 1 } [0] 3
 Spent [0] 3
 0: (1, 0, 1)
 Open(1) Opened(1, 1, 1)
 Close Closed(1)
 ";
-    let full = "\
+    const FULL_TEXT: &str = "\
 Ran { slot: 1, length: 1, count: 1 } [0] 18
 Full(4) [0] 17
 0: (1, 0, 1)
 Open(1) Opened(1, 1, 1)
 Close Closed(1)
 ";
-    let late = "\
+    const LATE_TEXT: &str = "\
 WireFault { port: 0, sent: 0 } [0] 17
 Ran { slot: 1099511627777, length: 1099511627775, count: 1 } [0] 15
 Late(2199023255552) [0] 14
@@ -339,42 +341,42 @@ Open(2199023255551) Opened(1099511627777, 1099511627775, 1)
 Close Closed(1099511627777)
 Open(2199023255551) Late(2199023255552)
 ";
-    let first = Row {
+    const FIRST: Row<'static> = Row {
         trace: ONE,
         limit: 100,
         calls: 5,
         fail_at: [0, 0],
         agents: 2,
         most: &[1, 1],
-        want: spent,
+        want: SPENT_TEXT,
     };
-    let rows = [
-        first,
+    const ROWS: &[Row<'static>] = &[
+        FIRST,
         Row {
             calls: 3,
             want: "Spent [] 3\nSpent [] 3\n",
-            ..first
+            ..FIRST
         },
         Row {
             limit: 3,
             calls: 20,
-            want: full,
-            ..first
+            want: FULL_TEXT,
+            ..FIRST
         },
         Row {
             limit: 2,
             calls: 20,
             want: "Full(2) [] 19\nFull(2) [] 18\n",
-            ..first
+            ..FIRST
         },
         Row {
             trace: LONG,
             calls: 20,
             fail_at: [1, 0],
             most: &[MAX_SLOT, MAX_SLOT, MAX_SLOT],
-            want: late,
-            ..first
+            want: LATE_TEXT,
+            ..FIRST
         },
     ];
-    play_all(&rt, rt.alloc(), &rows);
+    play_all(&rt, rt.alloc(), ROWS);
 }

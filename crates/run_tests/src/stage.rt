@@ -4,14 +4,14 @@ ghost use Rattle.client_session.specs.Models.{IsDriverOf, IsSessionOf};
 ghost use Rattle.slot_runner.specs.Models.{MayRun};
 
 use client_session::{Driver, Hall, Session};
-use coflow_units::{Items, MAX_TEXT};
+use coflow_units::Items;
 use flow_table::Table;
 use master_core::Master;
 use slot_runner::Runner;
 use std::alloc::Global;
 use std::process::Abort;
 use std::sync::Wait;
-use trace_reader::read_trace;
+use trace_tables::table_of_text;
 
 /// Two coflows, each of a unit from both ingress ports to one egress port. Each slot grants both ports.
 pub const CROSSED: &str = "1 2\n1 0 2 0 1 1 0:2\n2 0 2 0 1 1 1:2\n";
@@ -28,13 +28,7 @@ pub struct Stage {
 pub fn table_of(alloc: Global, trace: &str) -> Option<Table>
     ensures ports { IfSome result (λ t. t.ports ≡ 2) }
 {
-    if trace.len() > MAX_TEXT {
-        return None;
-    }
-    let Ok(trace) = read_trace(alloc, trace.as_bytes()) else {
-        return None;
-    };
-    match Table::build(alloc, &trace, 1) {
+    match table_of_text(alloc, trace.as_bytes(), 1) {
         Ok(table) if table.ports() == 2 => Some(table),
         _ => None,
     }

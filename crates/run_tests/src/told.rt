@@ -84,4 +84,10 @@ pub fn tell_journal<R: Abort>(rt: &R, alloc: Global, stage: Stage, text: &mut St
 {
     let master = closed(rt, alloc, stage);
     tell_entries(rt, master.journal(), text);
+    drop(master);
+}
+
+/// Stops where another text is told.
+pub fn is_told<R: Abort>(rt: &R, text: &str, want: &str) {
+    assert_eq!(rt; text, want);
 }
