@@ -1,5 +1,7 @@
 //! Released certificates and their totals.
-use crate::stated::{LATER_WRONG, are_weights, had, loads_of, online_with, table_of, verdict_of};
+use crate::stated::{
+    LATER_WRONG, are_weights, expect, had, loads_of, online_with, table_of, verdict_of,
+};
 use coflow_units::{Items, Side};
 use flow_table::Table;
 use online_check::{OnlineReason, OnlineVerdict};
@@ -32,6 +34,7 @@ fn order_of(
         panic!(rt; "no memory");
     };
     order.run(&mut loads, weights, arrivals);
+    drop(loads);
     order
 }
 
@@ -85,14 +88,18 @@ fn try_row(rt: &impl Abort, alloc: Global, row: Row<'_>) {
     let table = table_of(rt, alloc, trace);
     let order = order_of(rt, alloc, &table, weights, arrivals);
     let lines = lines_of(rt, alloc, &table, order.places());
+    drop(order);
     let have = told(rt, alloc, &lines);
-    assert_eq!(rt; have.as_str(), places);
+    expect(rt, &have, places);
+    drop(have);
     let online = online_with(rt, alloc, Items::from_vec(lines), LATER_WRONG);
     let verdict = verdict_of(rt, alloc, &table, weights, arrivals, &online);
+    drop(online);
+    drop(table);
     assert_eq!(rt; total_in(rt, verdict), total);
 }
 
-const CERTIFICATES: [Row<'static>; 9] = [
+const CERTIFICATES: &[Row<'static>] = &[
     (
         LONG_AND_SHORT,
         &[1, 1],
@@ -166,6 +173,6 @@ const CERTIFICATES: [Row<'static>; 9] = [
 #[test]
 fn certificates(rt: HostRuntime) {
     for row in CERTIFICATES {
-        try_row(&rt, rt.alloc(), row);
+        try_row(&rt, rt.alloc(), *row);
     }
 }

@@ -194,10 +194,9 @@ pub(crate) fn verdict_of(
     let fit = are_weights(weights) && are_arrivals(arrivals);
     assert!(rt; fit);
     let loads = loads_of(rt, alloc, table);
-    had(
-        rt,
-        check_online(alloc, table, &loads, weights, arrivals, online),
-    )
+    let verdict = check_online(alloc, table, &loads, weights, arrivals, online);
+    drop(loads);
+    had(rt, verdict)
 }
 
 /// The verdict on what a row states of the two coflows, with weights 1.
@@ -205,7 +204,14 @@ pub(crate) fn told(rt: &impl Abort, alloc: Global, stated: Stated) -> String {
     let table = table_of(rt, alloc, LATE);
     let online = online_of(rt, alloc, stated);
     let verdict = verdict_of(rt, alloc, &table, &[1, 1], &[0, 2], &online);
+    drop(online);
+    drop(table);
     had(rt, format!(in alloc; "{verdict:?}"))
+}
+
+/// Stops where another text is told.
+pub(crate) fn expect(rt: &impl Abort, have: &str, want: &str) {
+    assert_eq!(rt; have, want);
 }
 
 /// What the online run of the two coflows states where orders are published each four slots.

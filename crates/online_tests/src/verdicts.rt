@@ -1,5 +1,5 @@
 //! Verdicts on online runs.
-use crate::stated::{LATER_WRONG, RIGHT, Stated, told};
+use crate::stated::{LATER_WRONG, RIGHT, Stated, expect, told};
 use std::alloc::Global;
 use std::process::Abort;
 
@@ -7,11 +7,12 @@ use std::process::Abort;
 fn try_rows(rt: &impl Abort, alloc: Global, rows: &[(Stated, &str)]) {
     for (stated, want) in rows {
         let have = told(rt, alloc, *stated);
-        assert_eq!(rt; have.as_str(), *want);
+        expect(rt, &have, want);
+        drop(have);
     }
 }
 
-const RIGHT_RUNS: [(Stated<'static>, &str); 4] = [
+const RIGHT_RUNS: &[(Stated<'static>, &str)] = &[
     (RIGHT, "Yes"),
     (Stated { total: 9, ..RIGHT }, "Yes"),
     (Stated { total: 0, ..RIGHT }, "Yes"),
@@ -29,10 +30,10 @@ const RIGHT_RUNS: [(Stated<'static>, &str); 4] = [
 /// A total may be below that of the certificate, and the short coflow may be served in the slot behind its arrival.
 #[test]
 fn right_runs(rt: HostRuntime) {
-    try_rows(&rt, rt.alloc(), &RIGHT_RUNS);
+    try_rows(&rt, rt.alloc(), RIGHT_RUNS);
 }
 
-const WRONG_CERTIFICATES: [(Stated<'static>, &str); 11] = [
+const WRONG_CERTIFICATES: &[(Stated<'static>, &str)] = &[
     (
         Stated {
             release: &[],
@@ -106,7 +107,7 @@ const WRONG_CERTIFICATES: [(Stated<'static>, &str); 11] = [
 /// The certificate spends all that both coflows have, so one part more is too much. What is looked at later is wrong too.
 #[test]
 fn wrong_certificates(rt: HostRuntime) {
-    try_rows(&rt, rt.alloc(), &WRONG_CERTIFICATES);
+    try_rows(&rt, rt.alloc(), WRONG_CERTIFICATES);
 }
 
 const LATER_SCHEDULES: Stated<'static> = Stated {
@@ -115,7 +116,7 @@ const LATER_SCHEDULES: Stated<'static> = Stated {
     ..RIGHT
 };
 
-const WRONG_SCHEDULES: [(Stated<'static>, &str); 6] = [
+const WRONG_SCHEDULES: &[(Stated<'static>, &str)] = &[
     (
         Stated {
             runs: "run 1 1/run 6 0/run 1 2",
@@ -163,12 +164,12 @@ const WRONG_SCHEDULES: [(Stated<'static>, &str); 6] = [
 /// The short coflow arrives at time 2, so the first slot that may hold it is the third.
 #[test]
 fn wrong_schedules(rt: HostRuntime) {
-    try_rows(&rt, rt.alloc(), &WRONG_SCHEDULES);
+    try_rows(&rt, rt.alloc(), WRONG_SCHEDULES);
 }
 
 const LATER_COMPLETIONS: Stated<'static> = Stated { cost: 99, ..RIGHT };
 
-const WRONG_COMPLETIONS: [(Stated<'static>, &str); 9] = [
+const WRONG_COMPLETIONS: &[(Stated<'static>, &str)] = &[
     (
         Stated {
             done: &[],
@@ -228,5 +229,5 @@ const WRONG_COMPLETIONS: [(Stated<'static>, &str); 9] = [
 /// The lines of the completions go by coflow.
 #[test]
 fn wrong_completions(rt: HostRuntime) {
-    try_rows(&rt, rt.alloc(), &WRONG_COMPLETIONS);
+    try_rows(&rt, rt.alloc(), WRONG_COMPLETIONS);
 }

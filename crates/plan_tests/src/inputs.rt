@@ -41,6 +41,11 @@ pub(crate) fn table_of(rt: &impl Abort, alloc: Global, trace: &str, unit: u64) -
     had(rt, built(rt, alloc, trace, unit))
 }
 
+/// Stops where another text is told.
+pub(crate) fn is_told(rt: &impl Abort, have: &str, want: &str) {
+    assert_eq!(rt; have, want);
+}
+
 /// Tests what calls require of weights.
 pub(crate) fn are_weights(weights: &[u64]) -> bool
     ensures { IsTrue result → All (λ w. w ≤ MAX_WEIGHT) weights.now }

@@ -2,7 +2,7 @@
 use coflow_units::*;
 
 /// What each limit is.
-const LIMITS: [(&str, u128, u128); 19] = [
+const LIMITS: &[(&str, u128, u128)] = &[
     ("text", MAX_TEXT as u128, 67_108_864),
     ("report", MAX_REPORT as u128, 1_073_741_824),
     ("ports", MAX_PORTS as u128, 1024),
@@ -27,6 +27,6 @@ const LIMITS: [(&str, u128, u128); 19] = [
 #[test]
 fn limits_have_these_values(rt: HostRuntime) {
     for (name, limit, want) in LIMITS {
-        assert_eq!(rt; limit, want, "{name}");
+        assert_eq!(rt; *limit, *want, "{name}");
     }
 }

@@ -3,7 +3,7 @@ ghost use Rattle.std.specs.Prelude.{◌≡◌, ◌+◌, ◌++◌, ◌≤◌, ◌
 ghost use Rattle.std.specs.List.Sorted.{IsStrictlyIncreasing};
 ghost use Rattle.coflow_units.specs.declared.limits.TheConstants.{MAX_SLOT, MAX_WEIGHT};
 
-use crate::inputs::{THREE, TWO, are_weights, had, table_of};
+use crate::inputs::{THREE, TWO, are_weights, had, is_told, table_of};
 use coflow_units::{Flow, Run};
 use schedule_model::{Schedule, completions, cost, find_fault, is_patient};
 use std::alloc::Global;
@@ -68,10 +68,9 @@ fn told(
     let cost = cost(flows, weights, schedule);
     let patient = had(rt, is_patient(alloc, flows, order, schedule));
     let ends = had(rt, completions(alloc, flows, coflows, schedule));
-    had(
-        rt,
-        format!(in alloc; "{cost} {patient} {:?}", ends.as_slice()),
-    )
+    let text = format!(in alloc; "{cost} {patient} {:?}", ends.as_slice());
+    drop(ends);
+    had(rt, text)
 }
 
 /// Tests the same of a schedule of a trace.
@@ -90,7 +89,9 @@ fn expect(
     assert!(rt; fit);
     let coflows = table.coflows();
     let have = told(rt, alloc, table.flows(), coflows, weights, order, schedule);
-    assert_eq!(rt; have.as_str(), want);
+    drop(table);
+    is_told(rt, &have, want);
+    drop(have);
 }
 
 /// Two runs of the same flows are one.
@@ -109,6 +110,7 @@ fn cost_patience_and_completions(rt: HostRuntime) {
     ] {
         expect(&rt, rt.alloc(), THREE, &[1, 1, 1], &order, &schedule, want);
     }
+    drop(schedule);
     for (weights, order, idle, want) in [
         ([1, 1], [1, 0], false, "5 true [4, 1]"),
         ([1, 1], [0, 1], false, "5 false [4, 1]"),
@@ -117,5 +119,6 @@ fn cost_patience_and_completions(rt: HostRuntime) {
     ] {
         let schedule = shorter_first(&rt, rt.alloc(), idle);
         expect(&rt, rt.alloc(), TWO, &weights, &order, &schedule, want);
+        drop(schedule);
     }
 }

@@ -1,5 +1,5 @@
 //! Tables of flows, which are told by their traces.
-use crate::inputs::{THREE, built, had, table_of};
+use crate::inputs::{THREE, built, had, is_told, table_of};
 use coflow_units::Flow;
 use flow_table::Table;
 use std::alloc::Global;
@@ -8,9 +8,18 @@ use std::process::Abort;
 /// The fault of a trace, where a unit has so many megabytes, or its coflows and flows, as a copy of the table tells them.
 fn told(rt: &impl Abort, alloc: Global, trace: &str, unit: u64) -> String {
     match built(rt, alloc, trace, unit) {
-        Ok(table) => shown(rt, alloc, &had(rt, table.copy(alloc))),
+        Ok(table) => shown_of_copy(rt, alloc, table),
         Err(fault) => had(rt, format!(in alloc; "{fault}")),
     }
+}
+
+/// What a copy of a table tells.
+fn shown_of_copy(rt: &impl Abort, alloc: Global, table: Table) -> String {
+    let copy = had(rt, table.copy(alloc));
+    drop(table);
+    let text = shown(rt, alloc, &copy);
+    drop(copy);
+    text
 }
 
 /// For each coflow its id, its arrival, and its flows with their ports and units.
@@ -38,11 +47,12 @@ fn tell_flows(rt: &impl Abort, text: &mut String, flows: &[Flow]) {
 /// Tests what is told of a trace.
 fn expect(rt: &impl Abort, alloc: Global, trace: &str, unit: u64, want: &str) {
     let have = told(rt, alloc, trace, unit);
-    assert_eq!(rt; have.as_str(), want);
+    is_told(rt, &have, want);
+    drop(have);
 }
 
 /// The reducers of a coflow, how many megabytes a unit has, and what is told.
-const UNITS: [(&str, u64, &str); 9] = [
+const UNITS: &[(&str, u64, &str)] = &[
     ("1:0.000001", 1, "7 0, 0 1 1; "),
     ("1:1", 1, "7 0, 0 1 1; "),
     ("1:1.000001", 1, "7 0, 0 1 2; "),
@@ -64,7 +74,9 @@ fn units_of_megabytes(rt: HostRuntime) {
     for (reducers, unit, want) in UNITS {
         let count = reducers.split(' ').count();
         let trace = format!(in rt.alloc(); "1 1\n7 0 1 0 {count} {reducers}\n");
-        expect(&rt, rt.alloc(), had(&rt, trace).as_str(), unit, want);
+        let trace = had(&rt, trace);
+        expect(&rt, rt.alloc(), &trace, *unit, want);
+        drop(trace);
     }
 }
 
@@ -86,7 +98,9 @@ fn try_share(rt: &impl Abort, alloc: Global, line: &str, want: &str) {
     let trace = format!(in alloc; "1 3\n3 5 {line}\n9 0 1 1 0\n4 8 {line}\n");
     let trace = had(rt, trace);
     let want = had(rt, format!(in alloc; "3 5{want}; 9 0; 4 8{want}; "));
-    expect(rt, alloc, trace.as_str(), 1, want.as_str());
+    expect(rt, alloc, &trace, 1, &want);
+    drop(trace);
+    drop(want);
 }
 
 #[test]
@@ -131,8 +145,12 @@ fn are_crowded(rt: &impl Abort, flows: &[Flow]) {
 #[test]
 fn flows_have_a_limit(rt: HostRuntime) {
     let most = crowded(&rt, rt.alloc(), "2 0 1 0 0");
-    are_crowded(&rt, table_of(&rt, rt.alloc(), most.as_str(), 1).flows());
+    let table = table_of(&rt, rt.alloc(), &most, 1);
+    drop(most);
+    are_crowded(&rt, table.flows());
+    drop(table);
     let more = crowded(&rt, rt.alloc(), "2 0 1 0 1 1024:1");
     let fault = "Flows of 1048577 are too many";
-    expect(&rt, rt.alloc(), more.as_str(), 1, fault);
+    expect(&rt, rt.alloc(), &more, 1, fault);
+    drop(more);
 }

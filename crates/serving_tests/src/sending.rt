@@ -36,8 +36,15 @@ fn send_row<R: Threads + Wait + Sync + Abort>(rt: &R, alloc: Global, row: Row<'_
     for last in row.last {
         let (status, out, sent) = served(rt, alloc, row, last);
         expect(rt, status, out.bytes(), (row.status, row.text));
-        assert_eq!(rt; sent.as_str(), row.sent);
+        expect_units(rt, &sent, row.sent);
+        drop(sent);
+        drop(out);
     }
+}
+
+/// Stops where the wires accepted other units.
+fn expect_units<R: Abort>(rt: &R, sent: &str, wanted: &str) {
+    assert_eq!(rt; sent, wanted);
 }
 
 fn served<'a, R: Threads + Wait + Sync + Abort>(
@@ -55,6 +62,7 @@ fn served<'a, R: Threads + Wait + Sync + Abort>(
     let mut wires = wires_of(rt, alloc, row.fail_at);
     let (status, out) = ask(rt, alloc, asked, &mut wires);
     let text = tell_wires(rt, alloc, &wires);
+    drop(wires);
     (status, out, text)
 }
 
