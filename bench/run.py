@@ -298,12 +298,8 @@ def beside(name, ours, theirs, bound):
 
 
 def build(program):
-    """Proves and builds a program anew, so that none of an earlier tree is timed."""
-    if os.path.exists(program):
-        os.remove(program)
-    subprocess.run(["rt", "run"], cwd=os.path.dirname(os.path.dirname(program)), check=False,
-                   stdout=subprocess.DEVNULL, stderr=subprocess.DEVNULL)
-    if not os.path.exists(program):
+    """Proves and builds a program where there is none or a source is newer, so that none of an earlier tree is timed."""
+    if subprocess.run([os.path.join(TOP, "checks", "build"), os.path.basename(program)], check=False).returncode:
         sys.exit("bench: %s was not built" % os.path.basename(program))
 
 

@@ -12,16 +12,15 @@ import tempfile
 
 sys.dont_write_bytecode = True  # the folder stays as it is
 TOP = os.path.dirname(os.path.dirname(os.path.abspath(__file__)))
-FOLDER = os.path.join(TOP, "crates", "run_bench")
-PROGRAM = os.path.join(FOLDER, "out", "run_bench")
+PROGRAM = os.path.join(TOP, "crates", "run_bench", "out", "run_bench")
 TIMES = 5
 AGENTS = (1, 2, 4)
 PORTS = (16, 150)
 
 
 def build():
-    """Proves and builds the program. What was proved before is kept."""
-    subprocess.run(["rt", "run", "--", "data/t", "2", "50"], cwd=FOLDER, stdout=subprocess.DEVNULL, check=True)
+    """Proves and builds the program, where there is none or a source is newer."""
+    subprocess.run([os.path.join(TOP, "checks", "build"), os.path.basename(PROGRAM)], check=True)
 
 
 def trace(ports, runs):

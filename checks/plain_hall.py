@@ -18,22 +18,16 @@ from plain_master import CUBE, DRAWN, command, compared
 from plain_plan import Coflow, certificate, drawn, grants, trace_text, write
 from refused_memory import TOP
 
-FOLDER = os.path.join(TOP, "crates", "hall_runs")
-PROGRAM = os.path.join(FOLDER, "out", "hall_runs")
+PROGRAM = os.path.join(TOP, "crates", "hall_runs", "out", "hall_runs")
 CALLERS = 8
 
 
 def build():
     """Proves and builds the program, where there is none or a source is newer. Where that fails the script ends, and leaves no program of an earlier tree."""
-    made = os.path.getmtime(PROGRAM) if os.path.exists(PROGRAM) else 0
-    sources = [os.path.join(at, name) for at, _, names in os.walk(os.path.join(TOP, "crates")) for name in names if name.endswith((".rt", ".antt")) and "out" not in at.split(os.sep)]
-    if any(os.path.getmtime(source) > made for source in sources):
-        if made:
-            os.remove(PROGRAM)
-        built = subprocess.run(["rt", "run", "--", "data/t", "1", "50"], cwd=FOLDER, stdout=subprocess.DEVNULL, check=False)
-        if built.returncode or not os.path.exists(PROGRAM):
-            print("the program could not be built\n0 passed, 1 failed")
-            sys.exit(1)
+    built = subprocess.run([os.path.join(TOP, "checks", "build"), os.path.basename(PROGRAM)], check=False)
+    if built.returncode:
+        print("the program could not be built\n0 passed, 1 failed")
+        sys.exit(1)
 
 
 # A plain master for long journals

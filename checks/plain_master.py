@@ -18,8 +18,7 @@ from plain_plan import Coflow, Kind, drawn, trace_text, write
 from refused_memory import make_library, refusing
 
 TOP = os.path.dirname(os.path.dirname(os.path.abspath(__file__)))
-FOLDER = os.path.join(TOP, "crates", "master_runs")
-PROGRAM = os.path.join(FOLDER, "out", "master_runs")
+PROGRAM = os.path.join(TOP, "crates", "master_runs", "out", "master_runs")
 
 
 # The built program
@@ -32,15 +31,10 @@ def written(line):
 
 def build():
     """Proves and builds the program, where there is none or a source is newer. Where that fails the script ends, and leaves no program of an earlier tree."""
-    made = os.path.getmtime(PROGRAM) if os.path.exists(PROGRAM) else 0
-    sources = [os.path.join(at, name) for at, _, names in os.walk(os.path.join(TOP, "crates")) for name in names if name.endswith((".rt", ".antt")) and "out" not in at.split(os.sep)]
-    if any(os.path.getmtime(source) > made for source in sources):
-        if made:
-            os.remove(PROGRAM)
-        built = subprocess.run(["rt", "run", "--", "data/t", "data/s"], cwd=FOLDER, stdout=subprocess.DEVNULL, check=False)
-        if built.returncode or not os.path.exists(PROGRAM):
-            print("the program could not be built\n0 passed, 1 failed")
-            sys.exit(1)
+    built = subprocess.run([os.path.join(TOP, "checks", "build"), os.path.basename(PROGRAM)], check=False)
+    if built.returncode:
+        print("the program could not be built\n0 passed, 1 failed")
+        sys.exit(1)
 
 
 def ran(folder, ports, coflows, lines):
