@@ -7,10 +7,8 @@ The command's lines go on as they come. Beside it the script looks twice a secon
 comes a line for each crate and kind, which checks/gate_times reads:
 
     clock: CRATE KIND SECONDS PROCESSOR_SECONDS CHECKS
-    clock: pace TIMES
     clock: whole SECONDS
 
-The pace says how many times as long as on the machine that the budgets are for a fixed piece of work takes on this one, before the command and after it: machines differ by a factor of two.
 KIND is `proof`, `tests` or `edits`, and CHECKS says how many checks there were. The check of an edit runs in a folder of its own, by which it is known. The edits of a crate are tried one after
 another; the first of them proves the whole crate again, and a last check has no edit.
 """
@@ -22,19 +20,6 @@ import time
 
 EACH = 0.5
 TICK = os.sysconf("SC_CLK_TCK")
-# The processor seconds of the fixed piece of work on the machine that the budgets are for (docs/CHANGING.md).
-USUAL = 0.4
-
-
-def piece():
-    """The processor seconds of a fixed piece of work, which takes and sorts what is spread over much memory, as a check does: the least of three."""
-    least = float("inf")
-    for _ in range(3):
-        begin = time.process_time()
-        table = {number * 2654435761 % 1048583: (number, [number]) for number in range(1, 400001)}
-        sum(number for number, _ in sorted(table.values(), key=lambda it: it[0]))
-        least = min(least, time.process_time() - begin)
-    return least
 
 
 def read(path):
@@ -113,7 +98,6 @@ class Clock:
 
 
 def main(words):
-    before = piece()
     begin = time.monotonic()
     ran = subprocess.Popen(words, stdout=subprocess.PIPE)
     clock, ended = Clock(ran.pid), threading.Event()
@@ -127,9 +111,7 @@ def main(words):
     watcher.join()
     for (crate, kind), (seconds, used, checks) in sorted(clock.totals().items()):
         print(f"clock: {crate} {kind} {seconds:.0f} {used:.0f} {checks}")
-    whole = time.monotonic() - begin
-    print(f"clock: pace {(before + piece()) / 2 / USUAL:.2f}")
-    print(f"clock: whole {whole:.0f}", flush=True)
+    print(f"clock: whole {time.monotonic() - begin:.0f}", flush=True)
     return status if status >= 0 else 128 - status
 
 
