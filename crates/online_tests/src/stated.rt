@@ -136,10 +136,10 @@ fn report_of(rt: &impl Abort, alloc: Global, runs: &str) -> Report
 {
     let text = report_text(rt, alloc, runs);
     assert!(rt; text.len() <= MAX_TEXT);
-    let Ok(report) = read_report(alloc, text.as_bytes()) else {
-        panic!(rt; "no report");
-    };
-    report
+    match read_report(alloc, text.as_bytes()) {
+        Ok(report) => report,
+        Err(fault) => panic!(rt; "{fault:?}"),
+    }
 }
 
 /// The lines of the completions.

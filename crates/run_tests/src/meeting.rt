@@ -2,7 +2,7 @@
 ghost use Rattle.std.specs.Prelude.{◌≤◌};
 
 use crate::stage::{CROSSED, stage_of};
-use crate::told::{is_told, tell_journal, tell_run};
+use crate::told::{tell_journal, tell_run};
 use outside::Wire;
 use std::alloc::Global;
 use std::process::Abort;
@@ -69,6 +69,15 @@ fn met<R: Threads + Wait + Sync + Abort>(rt: &R, alloc: Global, agents: u32) -> 
     text
 }
 
+/// Stops where another text is told.
+fn is_met(rt: &impl Abort, text: &str, want: &str) {
+    assert_eq!(rt;
+        text,
+        want,
+        "a wire gave up, or there was no memory for a thread"
+    );
+}
+
 // No clause says that agents run beside each other. Where one of them ended before another began, the first wire would give up here, as it does where one agent has both.
 #[test]
 fn agents_of_a_run_are_on_threads_at_the_same_time(rt: HostRuntime) {
@@ -85,8 +94,7 @@ Close Closed(1)
 ";
     for (agents, want) in [(2, WHOLE), (64, WHOLE), (1, GAVE_UP)] {
         let text = met(&rt, rt.alloc(), agents);
-        // A wire gave up, or there was no memory for a thread.
-        is_told(&rt, &text, want);
+        is_met(&rt, &text, want);
         drop(text);
     }
 }
