@@ -10,6 +10,7 @@ mod plain;
 mod plan;
 mod quantity;
 mod trace;
+mod unit_size;
 
 pub use fabric::{Flow, Port, Side};
 pub use items::Items;
@@ -23,3 +24,4 @@ pub use plain::load_of;
 pub use plan::{Place, Run};
 pub use quantity::Quantity;
 pub use trace::{CoflowLine, Reducer, Trace};
+pub use unit_size::UnitSize;

@@ -1,6 +1,6 @@
 //! The flows of a trace.
 ghost use Rattle.std.specs.Prelude.{◌≡◌, ℕ, ◌+◌, ◌*◌, ◌^◌, ◌<◌, ◌≤◌, All, IfErr, IfOk, OnOk, length};
-ghost use Rattle.coflow_units.specs.declared.limits.TheConstants.{MAX_FLOWS, MAX_MAPPERS, MAX_MEGABYTES, MAX_UNIT, MAX_UNITS};
+ghost use Rattle.coflow_units.specs.declared.limits.TheConstants.{MAX_FLOWS, MAX_MAPPERS, MAX_MEGABYTES, MAX_UNITS};
 ghost use Rattle.coflow_units.specs.Trace.{IsCoflowLine, IsTrace};
 ghost use Rattle.flow_table.specs.declared.spots.Spot.{Spot};
 ghost use Rattle.flow_table.specs.FlowsOf.{HaveUnitsBefore, IsFlowsOf, IsTooMany};
@@ -14,18 +14,16 @@ use crate::below::pairs_below;
 use crate::spots::{Spot, end_of, mapper_places, reducer_rests};
 use crate::stop::Stop;
 use crate::targets::{Target, targets_of};
-use coflow_units::{CoflowLine, Flow, MAX_FLOWS, Trace};
+use coflow_units::{CoflowLine, Flow, MAX_FLOWS, Trace, UnitSize};
 use std::alloc::Global;
 
 /// The flows of a trace, by coflow, ingress and egress.
-pub(crate) fn flows_of(alloc: Global, trace: &Trace, unit: u64) -> Result<Vec<Flow>, Stop>
+pub(crate) fn flows_of(alloc: Global, trace: &Trace, unit: UnitSize) -> Result<Vec<Flow>, Stop>
     requires trace { IsTrace trace.now }
-    requires some { 1 ≤ unit }
-    requires unit_limit { unit ≤ MAX_UNIT }
-    requires units { units_in_all trace.now unit ≤ MAX_UNITS }
-    ensures flows { IfOk result (λ flows. IsFlowsOf trace.now unit flows.items) }
+    requires units { units_in_all trace.now unit.megabytes ≤ MAX_UNITS }
+    ensures flows { IfOk result (λ flows. IsFlowsOf trace.now unit.megabytes flows.items) }
     ensures few { IfOk result (λ flows. length flows.items ≤ MAX_FLOWS) }
-    ensures full { IfErr result (StopsFor (IsTooMany (sent trace.now unit))) }
+    ensures full { IfErr result (StopsFor (IsTooMany (sent trace.now unit.megabytes))) }
 {
     let ports = trace.number + 1;
     let mut flows = Vec::new(alloc);
@@ -41,19 +39,18 @@ fn push_coflow(
     flows: &mut Vec<Flow>,
     coflow: u32,
     line: &CoflowLine,
-    unit: u64,
+    unit: UnitSize,
     ports: u32,
 ) -> Result<(), Stop>
-    requires some { 1 ≤ unit }
-    requires unit_limit { unit ≤ MAX_UNIT }
     requires line { (number : ℕ) × (ports ≡ number + 1) × IsCoflowLine number line.now }
-    requires units { units_of_line unit line.now ≤ MAX_UNITS }
+    requires units { units_of_line unit.megabytes line.now ≤ MAX_UNITS }
     requires few { length flows.old.items ≤ MAX_FLOWS }
     ensures few_still { OnOk result (length flows.new.items ≤ MAX_FLOWS) }
-    ensures pushed { OnOk result ((sends : ℕ → ℕ → ℕ → ℕ) → ((i e : ℕ) → sends coflow i e ≡ sent_by unit line.now i e) →
+    ensures pushed { OnOk result ((sends : ℕ → ℕ → ℕ → ℕ) →
+        ((i e : ℕ) → sends coflow i e ≡ sent_by unit.megabytes line.now i e) →
         HaveUnitsBefore sends coflow 0 0 flows.old.items → HaveUnitsBefore sends (coflow + 1) 0 0 flows.new.items) }
     ensures full { IfErr result (StopsFor ((sends : ℕ → ℕ → ℕ → ℕ) →
-        ((i e : ℕ) → sends coflow i e ≡ sent_by unit line.now i e) →
+        ((i e : ℕ) → sends coflow i e ≡ sent_by unit.megabytes line.now i e) →
         HaveUnitsBefore sends coflow 0 0 flows.old.items → IsTooMany sends)) }
 {
     let places = mapper_places(alloc, line)?;

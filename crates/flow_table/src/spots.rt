@@ -1,6 +1,6 @@
 //! Numbers that stand at locations, sorted so that those of one location stand together.
 ghost use Rattle.std.specs.Prelude.{◌≡◌, ℕ, ◌%◌, ◌^◌, ◌<◌, ◌≤◌, ◌==◌, All, IfOk, OnOk, if◌then◌else◌, length, slice_index, sum_by};
-ghost use Rattle.coflow_units.specs.declared.limits.TheConstants.{MAX_MAPPERS, MAX_UNIT};
+ghost use Rattle.coflow_units.specs.declared.limits.TheConstants.{MAX_MAPPERS};
 ghost use Rattle.std.specs.List.Sorted.{IsPermutation};
 ghost use Rattle.coflow_units.specs.declared.trace.Reducer.{Reducer};
 ghost use Rattle.flow_table.specs.declared.spots.Spot.{Spot};
@@ -9,7 +9,7 @@ ghost use Rattle.flow_table.specs.Spots.{EndsAt, IsByLocation, sum_at};
 ghost use Rattle.flow_table.specs.Units.{units_of_reducer};
 
 use crate::units::units_of_reducer;
-use coflow_units::CoflowLine;
+use coflow_units::{CoflowLine, UnitSize};
 use std::alloc::{AllocError, Global};
 
 /// A number at a location.
@@ -45,10 +45,8 @@ pub(crate) fn mapper_places(alloc: Global, line: &CoflowLine) -> Result<Vec<Spot
 pub(crate) fn reducer_rests(
     alloc: Global,
     line: &CoflowLine,
-    unit: u64,
+    unit: UnitSize,
 ) -> Result<Vec<Spot>, AllocError>
-    requires some { 1 ≤ unit }
-    requires unit_limit { unit ≤ MAX_UNIT }
     requires has_mapper { 1 ≤ length line.now.mappers }
     requires few { length line.now.mappers ≤ MAX_MAPPERS }
     ensures sorted { IfOk result (λ spots. IsByLocation spots.items) }
@@ -58,7 +56,7 @@ pub(crate) fn reducer_rests(
     ensures sums { IfOk result (λ spots. (f : ℕ → ℕ) (location : ℕ) →
         sum_at f spots.items location ≡
         sum_by (λ (r : Reducer).
-        if r.location == location then f (units_of_reducer unit r % length line.now.mappers) else 0)
+        if r.location == location then f (units_of_reducer unit.megabytes r % length line.now.mappers) else 0)
         line.now.reducers) }
 {
     let mappers = line.mappers.as_slice().len() as u64;

@@ -14,7 +14,7 @@ use crate::flows::flows_of;
 use crate::starts::starts_of;
 use crate::stop::Stop;
 use crate::units::units_in_all;
-use coflow_units::{CoflowLine, Flow, MAX_FLOWS, MAX_UNITS, NoMemory, Quantity, Trace};
+use coflow_units::{CoflowLine, Flow, MAX_FLOWS, MAX_UNITS, NoMemory, Quantity, Trace, UnitSize};
 use std::alloc::{AllocError, Global};
 use std::marker::Model;
 
@@ -74,14 +74,15 @@ impl Table {
         ensures cause { IfErr result (HasCause trace.now unit) }
         ensures limit { IsLimitExactly trace.now unit result }
     {
-        let units = units_in_all(trace, unit);
+        let size = UnitSize { megabytes: unit };
+        let units = units_in_all(trace, size);
         if units > MAX_UNITS {
             return Err(TableFault::Limit {
                 which: Quantity::Units,
                 count: units,
             });
         }
-        let flows = match flows_of(alloc, trace, unit) {
+        let flows = match flows_of(alloc, trace, size) {
             Ok(flows) => flows,
             Err(Stop::Full) => {
                 return Err(TableFault::Limit {

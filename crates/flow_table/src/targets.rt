@@ -1,6 +1,6 @@
 //! The egress ports to which a coflow sends.
 ghost use Rattle.std.specs.Prelude.{◌≡◌, ◌≢◌, ℕ, ◌+◌, ◌^◌, ◌<◌, ◌≤◌, All, IfOk, length, slice_index};
-ghost use Rattle.coflow_units.specs.declared.limits.TheConstants.{MAX_UNIT, MAX_UNITS};
+ghost use Rattle.coflow_units.specs.declared.limits.TheConstants.{MAX_UNITS};
 ghost use Rattle.coflow_units.specs.Trace.{IsCoflowLine};
 ghost use Rattle.flow_table.specs.declared.targets.Target.{Target};
 ghost use Rattle.flow_table.specs.declared.spots.Spot.{Spot};
@@ -10,7 +10,7 @@ ghost use Rattle.flow_table.specs.Units.{units_of_line};
 
 use crate::spots::{Spot, end_of};
 use crate::units::units_of_reducer;
-use coflow_units::CoflowLine;
+use coflow_units::{CoflowLine, UnitSize};
 use std::alloc::{AllocError, Global};
 
 /// An egress with a reducer of a coflow.
@@ -28,18 +28,16 @@ pub(crate) struct Target {
 pub(crate) fn targets_of(
     alloc: Global,
     line: &CoflowLine,
-    unit: u64,
+    unit: UnitSize,
     ports: u32,
     rests: &[Spot],
 ) -> Result<Vec<Target>, AllocError>
-    requires some { 1 ≤ unit }
-    requires unit_limit { unit ≤ MAX_UNIT }
     requires line { (number : ℕ) × (ports ≡ number + 1) × IsCoflowLine number line.now }
-    requires units { units_of_line unit line.now ≤ MAX_UNITS }
+    requires units { units_of_line unit.megabytes line.now ≤ MAX_UNITS }
     requires sorted { IsByLocation rests.now }
     requires within { All (λ (s : Spot). s.location < ports) rests.now }
     ensures targets { IfOk result (λ targets. AreTargets rests.now targets.items) }
-    ensures wholes { IfOk result (λ targets. All (λ (t : Target). t.whole ≡ whole_to unit line.now t.egress)
+    ensures wholes { IfOk result (λ targets. All (λ (t : Target). t.whole ≡ whole_to unit.megabytes line.now t.egress)
         targets.items) }
     ensures all { IfOk result (λ targets. (egress : ℕ) → All (λ (t : Target). t.egress ≢ egress) targets.items →
         All (λ (s : Spot). s.location ≢ egress) rests.now) }
@@ -65,16 +63,14 @@ pub(crate) fn targets_of(
 fn wholes_of(
     alloc: Global,
     line: &CoflowLine,
-    unit: u64,
+    unit: UnitSize,
     ports: u32,
 ) -> Result<Vec<u64>, AllocError>
-    requires some { 1 ≤ unit }
-    requires unit_limit { unit ≤ MAX_UNIT }
     requires line { (number : ℕ) × (ports ≡ number + 1) × IsCoflowLine number line.now }
-    requires units { units_of_line unit line.now ≤ MAX_UNITS }
+    requires units { units_of_line unit.megabytes line.now ≤ MAX_UNITS }
     ensures count { IfOk result (λ wholes. length wholes.items ≡ ports) }
     ensures wholes { IfOk result (λ wholes. (egress : ℕ) → egress < ports →
-        slice_index wholes.items egress ≡ whole_to unit line.now egress) }
+        slice_index wholes.items egress ≡ whole_to unit.megabytes line.now egress) }
 {
     let mappers = line.mappers.as_slice().len() as u64;
     let mut wholes = vec![in alloc; 0; ports as usize]?;

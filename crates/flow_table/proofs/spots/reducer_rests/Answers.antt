@@ -7,7 +7,7 @@ use Rattle.flow_table.proofs.SpotSteps.{sum_made}
 use Rattle.flow_table.proofs.spots.reducer_rests.Goals as goal
 
 abbrev make : goal.In_ok-sort_spots → Reducer → Spot
-make c = rest_of c.args.unit (length c.args.line.now.mappers)
+make c = rest_of c.args.unit.megabytes (length c.args.line.now.mappers)
 
 moved : (c : goal.In_ok-sort_spots) → IsPermutation (map (make c) c.args.line.now.reducers) c.sort_spots.new.spots.items
 moved c =

@@ -4,4 +4,4 @@ use Rattle.flow_table.proofs.MadeSpots.{rest_of}
 use Rattle.flow_table.proofs.spots.reducer_rests.Given as goal
 
 abbrev pub invariant-loop-reducer : goal.invariant-loop-reducer
-invariant-loop-reducer l = l.spots.items ≡ map (rest_of l.unit (length l.line.mappers)) (take l.reducer-index l.line.reducers)
+invariant-loop-reducer l = l.spots.items ≡ map (rest_of l.unit.megabytes (length l.line.mappers)) (take l.reducer-index l.line.reducers)

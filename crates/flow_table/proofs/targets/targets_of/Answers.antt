@@ -9,15 +9,15 @@ use Rattle.flow_table.proofs.targets.targets_of.Goals as goal
 pub targets-init : goal.targets-init
 targets-init c = (
   0,
-  subst (λ l. TargetsSoFar c.args.rests.now (whole_to c.args.unit c.args.line.now) 0 0 l) (sym c.new-targets.ensures.items)
-      (targets_begin c.args.rests.now (whole_to c.args.unit c.args.line.now)),
+  subst (λ l. TargetsSoFar c.args.rests.now (whole_to c.args.unit.megabytes c.args.line.now) 0 0 l) (sym c.new-targets.ensures.items)
+      (targets_begin c.args.rests.now (whole_to c.args.unit.megabytes c.args.line.now)),
 )
 
 pub targets-preserved : goal.targets-preserved
 targets-preserved c =
     let (egress, so_far) = c.targets.invariant in
     let rests = c.args.rests.now in
-    let wholes = whole_to c.args.unit c.args.line.now in
+    let wholes = whole_to c.args.unit.megabytes c.args.line.now in
     let first = c.targets.first in
     let x : Spot = get_or rests first record { location = 0; number = 0 } in
     let is : x ≡ get_or rests first x = get_or_default rests first record { location = 0; number = 0 } x c.targets-test.true in
@@ -34,9 +34,9 @@ targets-preserved c =
 
 pub returns-clause-targets : goal.returns-clause-targets
 returns-clause-targets c = let (egress, so_far) = c.targets.invariant in
-    targets_all c.args.rests.now (whole_to c.args.unit c.args.line.now) egress c.targets.first c.targets.targets.items c.requires.sorted
-    (λ e. omega (arith, whole_bound c.args.unit c.args.line.now e, c.requires.units)) so_far
+    targets_all c.args.rests.now (whole_to c.args.unit.megabytes c.args.line.now) egress c.targets.first c.targets.targets.items c.requires.sorted
+    (λ e. omega (arith, whole_bound c.args.unit.megabytes c.args.line.now e, c.requires.units)) so_far
 
 pub returns-clause-all : goal.returns-clause-all
 returns-clause-all c = let (egress, so_far) = c.targets.invariant in
-    targets_reach_all c.args.rests.now (whole_to c.args.unit c.args.line.now) egress c.targets.first c.targets.targets.items so_far (omega (arith, c.targets-test.false))
+    targets_reach_all c.args.rests.now (whole_to c.args.unit.megabytes c.args.line.now) egress c.targets.first c.targets.targets.items so_far (omega (arith, c.targets-test.false))

@@ -18,7 +18,7 @@ overflow_add-index_mut c =
     omega (
       arith,
       c.requires.units,
-      whole_fits c.args.unit c.args.line.now k none r c.args.ports c.index_mut.result.now c.units_of_reducer.result (length c.as_slice.result.now) c.loop-reducer.wholes.items lt is
-          in' (c.index_mut.ensures.value ∙ at) c.units_of_reducer.ensures (ap length c.as_slice.ensures)
+      whole_fits c.args.unit.megabytes c.args.line.now k none r c.args.ports c.index_mut.result.now c.units_of_reducer.result (length c.as_slice.result.now)
+          c.loop-reducer.wholes.items lt is in' (c.index_mut.ensures.value ∙ at) c.units_of_reducer.ensures (ap length c.as_slice.ensures)
           c.loop-reducer.invariant.so_far,
     )

@@ -7,5 +7,5 @@ use Rattle.flow_table.proofs.targets.wholes_of.Given as goal
 abbrev pub invariant-loop-reducer : goal.invariant-loop-reducer
 invariant-loop-reducer l = record {
   count : length l.wholes.items ≡ l.ports;
-  so_far : (e : ℕ) → e < l.ports → slice_index l.wholes.items e ≡ wholes_upto l.unit l.line l.reducer-index e;
+  so_far : (e : ℕ) → e < l.ports → slice_index l.wholes.items e ≡ wholes_upto l.unit.megabytes l.line l.reducer-index e;
 }

@@ -6,4 +6,4 @@ use Rattle.flow_table.specs.Units.{units_of_line}
 use Rattle.flow_table.proofs.units.units_in_all.Given as goal
 
 abbrev pub invariant-loop-line : goal.invariant-loop-line
-invariant-loop-line l = l.total ≡ min (sum_by (λ (x : CoflowLine). units_of_line l.unit x) (take l.line-index l.trace.coflows)) (2 ^ 64 - 1)
+invariant-loop-line l = l.total ≡ min (sum_by (λ (x : CoflowLine). units_of_line l.unit.megabytes x) (take l.line-index l.trace.coflows)) (2 ^ 64 - 1)

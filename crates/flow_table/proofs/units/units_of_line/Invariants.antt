@@ -6,4 +6,4 @@ use Rattle.flow_table.specs.Units.{units_of_reducer}
 use Rattle.flow_table.proofs.units.units_of_line.Given as goal
 
 abbrev pub invariant-loop-reducer : goal.invariant-loop-reducer
-invariant-loop-reducer l = l.total ≡ min (sum_by (λ (r : Reducer). units_of_reducer l.unit r) (take l.reducer-index l.line.reducers)) (2 ^ 64 - 1)
+invariant-loop-reducer l = l.total ≡ min (sum_by (λ (r : Reducer). units_of_reducer l.unit.megabytes r) (take l.reducer-index l.line.reducers)) (2 ^ 64 - 1)
