@@ -3,7 +3,6 @@ use Rattle.std.proofs.Common.{◌≡◌, ◌≢◌, IsErrAnd, IfErr, ℕ, ◌≤
 use Rattle.std.specs.Prelude.{IfSome}
 use Rattle.std.specs.declared.vec.Vec.{Vec}
 use Rattle.std.specs.declared.alloc.Global.{Global}
-use Rattle.outside.specs.declared.reading.ReadStop.TheVariants.{TooLong}
 use Rattle.outside.specs.declared.shelf.Place4.{Place4}
 use Rattle.outside.specs.Rose.{Rose}
 use Rattle.outside.specs.Shelf.{Keeps, ReadsWhole, Starts, Told, bytes_of}
@@ -100,14 +99,6 @@ module _ {X : Type 0} (E : Type 0) (old mid new : Option Told) (place : Place4) 
     go (Some o) (t, is, at) =
         let whole : ReadsWhole (Some t) new place most res = subst (λ m. ReadsWhole m new place most res) is read in
         (whole.0, whole.1, keeps_both o t whole.0 at.keeps whole.2.keeps)
-
-  pub too_long : (x : X) → Starts {E = E} old mid place name (Ok x) → ReadsWhole mid new place most (Err TooLong) → IfSome old (λ t. most < length (bytes_of t name))
-  too_long x started read = go old started where
-    go : (o : Option Told) → Starts {E = E} o mid place name (Ok x) → IfSome o (λ t. most < length (bytes_of t name))
-    go None none = tt
-    go (Some o) (t, is, at) =
-        let whole : ReadsWhole (Some t) new place most (Err TooLong) = subst (λ m. ReadsWhole m new place most (Err TooLong)) is read in
-        omega (arith, whole.2.takes.0, ap (λ (xs : List ℕ). length xs) at.left)
 
   pub start_elsewhere : (r : Result X E) → Starts {E = E} old mid place name r → OfBoth old mid (KeepsOthers place)
   start_elsewhere r started = go old started where

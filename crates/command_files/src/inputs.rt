@@ -1,6 +1,6 @@
 //! The files of a command: the trace, the weights of its coflows, and a report, a printed journal or a script.
 ghost use Rattle.std.specs.Prelude.{◌≡◌, ◌≤◌, ℕ, None, IfErr, IfOk, IfSome, OnOk, length, option_map, replicate};
-ghost use Rattle.coflow_units.specs.declared.limits.TheConstants.{MAX_REPORT, MAX_UNIT};
+ghost use Rattle.coflow_units.specs.declared.limits.TheConstants.{MAX_REPORT};
 ghost use Rattle.coflow_units.specs.Trace.{IsTrace};
 ghost use Rattle.flow_table.specs.Table.{IsTable, IsTableOf};
 ghost use Rattle.outside.specs.declared.shelf.Place4.{Place4};
@@ -22,7 +22,7 @@ ghost use Rattle.command_files.specs.Turns.{InputInTurn};
 ghost use Rattle.command_files.specs.WeightsCauses.{IsWeightsCause};
 
 use crate::status::Status;
-use coflow_units::{Items, MAX_REPORT, MAX_TEXT, NoMemory, Quantity, Trace};
+use coflow_units::{Items, MAX_REPORT, MAX_TEXT, NoMemory, Quantity, Trace, UnitSize};
 use flow_table::{Table, TableFault};
 use live_text::{Live, read_live};
 use outside::{Place4, ReadStop, Shelf, read_all};
@@ -40,22 +40,19 @@ pub struct Input {
     pub weights: Items<u64>,
 }
 
-/// Reads the trace under a name, the weights under another where one is given, and makes the table of flows with `unit`
-/// megabytes to a unit, from 1 to 2^20. The error is the status that
-/// says why there is none.
+/// Reads the trace under a name, the weights under another where one is given, and makes the table of flows with units of that size.
+/// The error is the status that says why there is none.
 pub fn read_input<H: Shelf>(
     alloc: Global,
     name: &str,
     weights_name: Option<&str>,
-    unit: u64,
+    unit: UnitSize,
     shelf: &mut H,
 ) -> Result<Input, Status>
-    requires some { 1 ≤ unit }
-    requires unit_limit { unit ≤ MAX_UNIT }
-    ensures input { IfOk result (λ i.
-        IsInput (H.told shelf.old) name.now (option_map (λ s. s.now) weights_name.entry) unit i.table i.weights) }
+    ensures input { IfOk result (λ i. IsInput (H.told shelf.old) name.now
+        (option_map (λ s. s.now) weights_name.entry) unit.megabytes i.table i.weights) }
     ensures table { OnOk result (IfSome (H.told shelf.old) (λ t.
-        GiveTable (bytes_of t name.now) (bytes_if t (option_map (λ s. s.now) weights_name.entry)) unit)) }
+        GiveTable (bytes_of t name.now) (bytes_if t (option_map (λ s. s.now) weights_name.entry)) unit.megabytes)) }
     ensures read_out { OnOk result (OfBoth (H.told shelf.old) (H.told shelf.new)
         (AreReadOut name.now (option_map (λ s. s.now) weights_name.entry))) }
     ensures in_turn { IfErr result (λ status. OfBoth (H.told shelf.old) (H.told shelf.new)
@@ -67,11 +64,11 @@ pub fn read_input<H: Shelf>(
     ensures counts { CountsFault (H.faults shelf.old) (H.faults shelf.new) result }
     ensures cause { IfErr result
         (HasInputCause (H.faults shelf.old) (H.faults shelf.new) (H.told shelf.old) (H.told shelf.new) name.now
-        (option_map (λ s. s.now) weights_name.entry) unit) }
+        (option_map (λ s. s.now) weights_name.entry) unit.megabytes) }
 {
     let trace = trace_of_file(alloc, name, shelf)?;
     let weights = weights_of_file(alloc, weights_name, &trace, shelf)?;
-    let table = Table::build(alloc, &trace, unit)?;
+    let table = Table::build(alloc, &trace, unit.megabytes)?;
     Ok(Input { table, weights })
 }
 

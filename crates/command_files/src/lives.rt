@@ -1,6 +1,5 @@
 //! The files of a command in which clients share a trace live: the trace, the weights of its coflows, and a script.
-ghost use Rattle.std.specs.Prelude.{◌≡◌, ◌≤◌, IfErr, IfOk, IfSome, OnOk, option_map};
-ghost use Rattle.coflow_units.specs.declared.limits.TheConstants.{MAX_UNIT};
+ghost use Rattle.std.specs.Prelude.{◌≡◌, IfErr, IfOk, IfSome, OnOk, option_map};
 ghost use Rattle.coflow_units.specs.declared.quantity.Quantity.TheVariants.{Units};
 ghost use Rattle.command_words.specs.Jobs.Job.{live_job};
 ghost use Rattle.command_words.specs.Words.{said_with};
@@ -39,10 +38,8 @@ pub fn read_live_files<'a, H: Shelf>(
     options: Options<'a>,
     shelf: &mut H,
 ) -> Result<LiveInput, Status>
-    requires some { 1 ≤ options.unit }
-    requires unit_limit { options.unit ≤ MAX_UNIT }
     ensures input { IfOk result (λ l. IsInput (H.told shelf.old) trace.now
-        (option_map (λ s. s.now) options.entry.weights) options.entry.unit l.input.table l.input.weights) }
+        (option_map (λ s. s.now) options.entry.weights) options.entry.unit.megabytes l.input.table l.input.weights) }
     ensures shared { IfOk result (λ l. IsShared l.input.table) }
     ensures script { IfOk result (λ l. IsScriptOf (H.told shelf.old) script.now l.input.table.ids l.script) }
     ensures read_out { OnOk result (OfBoth (H.told shelf.old) (H.told shelf.new)

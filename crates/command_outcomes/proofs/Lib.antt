@@ -1,4 +1,3 @@
-pub mod WordFacts
 pub mod OutcomeFacts
 pub mod BenchFacts
 pub mod TurnFacts

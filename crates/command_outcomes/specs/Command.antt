@@ -1,9 +1,7 @@
 -- The words of each command.
-use Rattle.std.specs.Prelude.{◌≡◌, ◌<◌, ◌≤◌, ◌^◌, List}
-use Rattle.coflow_units.specs.declared.limits.TheConstants.{MAX_OPTION_SLOTS, MAX_UNIT}
+use Rattle.std.specs.Prelude.{◌≡◌, List}
 use Rattle.command_words.specs.Jobs.{Job}
 use Rattle.command_words.specs.Jobs.Job.{audit_job, check_job, classes_job, compare_job, live_job, make_job, online_job, plan_job}
-use Rattle.command_words.specs.declared.words.TheConstants.{MAX_OPTION_CLASSES}
 use Rattle.command_words.specs.Line.{Text}
 use Rattle.command_words.specs.Words.{IsWords, Said}
 
@@ -27,17 +25,3 @@ ReadsFiles (live_job trace script) = Unit {0}
 pub record IsOfFiles (words : List Text) (said : Said) : Type 0 where
   pub words_say : IsWords words said
   pub reads : ReadsFiles said.job
-
--- the unit, the agents, the slots of an epoch and of a run, the milliseconds of a slot and the classes of what is said
--- are in their ranges
-pub record Fits (said : Said) : Type 0 where
-  pub some : 1 ≤ said.unit
-  pub unit_limit : said.unit ≤ MAX_UNIT
-  pub some_agents : 1 ≤ said.agents
-  pub few_agents : said.agents < 2 ^ 32
-  pub some_epoch : 1 ≤ said.epoch
-  pub epoch_limit : said.epoch ≤ MAX_OPTION_SLOTS
-  pub some_slots : 1 ≤ said.run
-  pub some_time : 1 ≤ said.slot_ms
-  pub some_classes : 1 ≤ said.classes
-  pub few_classes : said.classes ≤ MAX_OPTION_CLASSES

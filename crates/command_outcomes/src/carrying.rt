@@ -6,7 +6,6 @@ ghost use Rattle.command_words.specs.Words.{said_by};
 ghost use Rattle.rankers.specs.FactsTold.{FactsTold};
 ghost use Rattle.served_plans.specs.Sent.{SendsAll};
 ghost use Rattle.command_outcomes.specs.Causes.{HasCauseOf};
-ghost use Rattle.command_outcomes.specs.Command.{Fits};
 ghost use Rattle.command_files.specs.GoodFiles.{HasGoodFiles};
 ghost use Rattle.command_files.specs.Ends.{CountsFault, IfPastFiles};
 ghost use Rattle.serving_commands.specs.Online.{PublishesFew};
@@ -28,7 +27,7 @@ use std::thread::Threads;
 
 /// Does what a job asks for: the text to be written, with the status that the job ends with. Nothing is written yet.
 ///
-/// The options are in their ranges. There is a wire for each ingress port that a trace may have, and a gate for each number that a client of a script may have. The bench has
+/// There is a wire for each ingress port that a trace may have, and a gate for each number that a client of a script may have. The bench has
 /// fewer than 2^32 rankers.
 ///
 /// The error is the status of why there is nothing to write: what is wrong first with the files, in the order in which they are read; a call to the shelf that failed, by which
@@ -42,7 +41,6 @@ pub fn carry_out<'a, R: Threads + Wait + Sync, H: Shelf, W: Wire + Send, G: Gate
     gates: &mut Vec<G>,
     bench: &mut Vec<Box<dyn Ranker>>,
 ) -> Result<Outcome, Status>
-    requires fits { Fits (said_by words) }
     requires few { length bench.old.items < 2 ^ 32 }
     requires wires { MAX_PORTS < length wires.old.items }
     requires gates { MAX_CLIENTS ≤ length gates.old.items }
@@ -79,14 +77,7 @@ pub fn carry_out<'a, R: Threads + Wait + Sync, H: Shelf, W: Wire + Send, G: Gate
     match words.job {
         Job::Plan { trace } => plan_trace(rt, alloc, trace, words.options, shelf, wires),
         Job::Check { trace, report } => check_report(alloc, trace, report, words.options, shelf),
-        Job::Make { seed } => make_workload(
-            rt,
-            alloc,
-            seed,
-            words.options.unit,
-            words.options.agents,
-            wires,
-        ),
+        Job::Make { seed } => make_workload(rt, alloc, seed, words.options, wires),
         Job::Compare { trace } => compare_rankers(alloc, trace, words.options, shelf, bench),
         Job::Classes { trace } => list_classes(alloc, trace, words.options, shelf),
         Job::Audit { trace, journal } => audit_journal(alloc, trace, journal, words.options, shelf),

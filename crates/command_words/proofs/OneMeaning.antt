@@ -1,5 +1,5 @@
--- Words say one thing at most, and their numbers are in range.
-use Rattle.std.proofs.Common.{◌≡◌, ℕ, ◌≤◌, List, Option, Some, None, sym, ◌∙◌, subst, arith}
+-- Words say one thing at most.
+use Rattle.std.proofs.Common.{◌≡◌, ℕ, List, Option, Some, None, sym, ◌∙◌, subst}
 use Rattle.command_words.specs.Jobs.{Job}
 use Rattle.command_words.specs.Line.{Text, Use, value_of}
 use Rattle.command_words.specs.Words.{IsSaid, IsSetting, IsWords, Said}
@@ -7,11 +7,6 @@ use Rattle.command_words.specs.Words.{IsSaid, IsSetting, IsWords, Said}
 one_setting : (most default : ℕ) (value : Option Text) (m n : ℕ) → IsSetting most default value m → IsSetting most default value n → m ≡ n
 one_setting most default None m n p q = p ∙ sym q
 one_setting most default (Some text) m n p q = p.3 ∙ sym q.3
-
--- a number that words say, or that holds where they say none, is in its range
-pub setting_fits : (most default : ℕ) (value : Option Text) (n : ℕ) → 1 ≤ default → default ≤ most → IsSetting most default value n → (1 ≤ n) × (n ≤ most)
-setting_fits most default None n low high is = (omega (arith, is, low), omega (arith, is, high))
-setting_fits most default (Some text) n low high (_, least, greatest, is) = (omega (arith, is, least), omega (arith, is, greatest))
 
 one_job : (o : Option Job) (a b : Job) → o ≡ Some a → o ≡ Some b → a ≡ b
 one_job o a b p q = cc

@@ -4,8 +4,8 @@ use Rattle.coflow_units.specs.declared.limits.TheConstants.{MAX_OPTION_SLOTS, MA
 use Rattle.text_fields.specs.Numbers.{is_number, number}
 use Rattle.command_words.specs.Line.{IsOnce, Text, Use, uses, value_of}
 use Rattle.command_words.specs.Jobs.{IsFileName, Job, job_by, job_in}
-use Rattle.command_words.specs.declared.words.Options.{Options}
-use Rattle.command_words.specs.declared.words.TheConstants.{MAX_OPTION_CLASSES}
+use Rattle.command_words.specs.declared.limits.TheConstants.{MAX_OPTION_AGENTS, MAX_OPTION_CLASSES}
+use Rattle.command_words.specs.declared.options.Options.{Options}
 use Rattle.command_words.specs.declared.words.Words.{Words}
 
 -- What a command line says.
@@ -24,7 +24,7 @@ abbrev pub said_with : Job → Options → Said
 said_with job o = record {
   job = job;
   weights = option_map (λ s. s.now) o.weights;
-  unit = o.unit;
+  unit = o.unit.megabytes;
   agents = o.agents;
   epoch = o.epoch;
   run = o.run;
@@ -47,7 +47,7 @@ pub record IsSaid (value : Text → Option Text) (said : Said) : Type 0 where
   pub job : job_in (value (codes "COMMAND")) (value (codes "FIRST")) (value (codes "SECOND")) ≡ Some said.job
   pub weights : value (codes "weights") ≡ said.weights
   pub unit : IsSetting MAX_UNIT 1 (value (codes "unit")) said.unit
-  pub agents : IsSetting 64 4 (value (codes "agents")) said.agents
+  pub agents : IsSetting MAX_OPTION_AGENTS 4 (value (codes "agents")) said.agents
   pub epoch : IsSetting MAX_OPTION_SLOTS 1024 (value (codes "epoch")) said.epoch
   pub run : IsSetting MAX_OPTION_SLOTS 1 (value (codes "run")) said.run
   pub slot_ms : IsSetting MAX_SLOT_MS 8 (value (codes "slot-ms")) said.slot_ms

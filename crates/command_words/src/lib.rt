@@ -4,11 +4,15 @@
 mod arguments;
 mod job;
 pub mod laws;
+mod limits;
+mod options;
 mod parser;
 mod values;
 mod words;
 
 pub use arguments::{fault_by, needed_name, option_named, with_arg};
 pub use job::Job;
-pub use values::{is_file_name, setting_of};
-pub use words::{MAX_OPTION_CLASSES, Options, Words, WordsFault, read_words};
+pub use limits::{MAX_OPTION_AGENTS, MAX_OPTION_CLASSES};
+pub use options::Options;
+pub use values::{is_file_name, setting_of, unit_of};
+pub use words::{Words, WordsFault, read_words};

@@ -1,8 +1,10 @@
 //! The values of names and options.
-ghost use Rattle.std.specs.Prelude.{◌≡◌, ◌<◌, ◌-◌, ◌^◌, ℕ, IfNone, IfSome, option_map};
+ghost use Rattle.std.specs.Prelude.{◌≡◌, ◌<◌, ◌≤◌, ◌-◌, ◌^◌, ℕ, IfNone, IfSome, option_map};
+ghost use Rattle.coflow_units.specs.declared.limits.TheConstants.{MAX_UNIT};
 ghost use Rattle.command_words.specs.Jobs.{file_of, is_file_name, seed_of};
 ghost use Rattle.command_words.specs.Words.{IsSetting};
 
+use coflow_units::{MAX_UNIT, UnitSize};
 use text_fields::{is_number, number_of};
 
 /// The name is not empty and is not `-`.
@@ -36,6 +38,8 @@ pub(crate) fn seed_of(text: &str) -> Option<u64>
 pub fn setting_of(text: Option<&str>, most: u64, default: u64) -> Option<u64>
     requires { most < 2 ^ 64 - 1 }
     ensures some { IfSome result (IsSetting most default (option_map (λ s. s.now) text.entry)) }
+    ensures least { 1 ≤ default → IfSome result (λ n. 1 ≤ n) }
+    ensures within { default ≤ most → IfSome result (λ n. n ≤ most) }
     ensures none { IfNone result ((n : ℕ) → IsSetting most default (option_map (λ s. s.now) text.entry) n → ⊥) }
 {
     let Some(text) = text else {
@@ -46,4 +50,13 @@ pub fn setting_of(text: Option<&str>, most: u64, default: u64) -> Option<u64>
         return None;
     }
     Some(number)
+}
+
+/// The size of a unit that an option is given in megabytes, or one megabyte where the option is not used. `None` for another text.
+pub fn unit_of(text: Option<&str>) -> Option<UnitSize>
+    ensures some { IfSome result (λ unit. IsSetting MAX_UNIT 1 (option_map (λ s. s.now) text.entry) unit.megabytes) }
+    ensures none { IfNone result ((n : ℕ) → IsSetting MAX_UNIT 1 (option_map (λ s. s.now) text.entry) n → ⊥) }
+{
+    let megabytes = setting_of(text, MAX_UNIT, 1)?;
+    Some(UnitSize { megabytes })
 }

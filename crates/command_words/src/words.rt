@@ -7,40 +7,20 @@ ghost use Rattle.command_words.specs.Words.{IsSaid, IsWords, Said, said_by};
 ghost use Rattle.command_words.specs.declared.words.WordsFault.TheVariants.{Usage};
 
 use crate::job::{Job, job_of};
+use crate::limits::{MAX_OPTION_AGENTS, MAX_OPTION_CLASSES};
+use crate::options::Options;
 use crate::parser::matches_of;
-use crate::values::{is_file_name, setting_of};
+use crate::values::{is_file_name, setting_of, unit_of};
 use clap::ArgMatches;
-use coflow_units::{MAX_OPTION_SLOTS, MAX_SLOT_MS, MAX_UNIT};
+use coflow_units::{MAX_OPTION_SLOTS, MAX_SLOT_MS};
 use std::alloc::Global;
 use thiserror::Error;
-
-/// The greatest value of the option `--classes`.
-pub const MAX_OPTION_CLASSES: u64 = 64;
 
 /// What a command line says: the job and the options.
 #[derive(Clone, Copy, Debug, PartialEq, Eq)]
 pub struct Words<'a> {
     pub job: Job<'a>,
     pub options: Options<'a>,
-}
-
-/// The value of each option, or its default.
-#[derive(Clone, Copy, Debug, PartialEq, Eq)]
-pub struct Options<'a> {
-    /// The name of a file of weights.
-    pub weights: Option<&'a str>,
-    /// The megabytes of a unit, from 1 to 2^20.
-    pub unit: u64,
-    /// The number of agents, who send the units of the ports, from 1 to 64.
-    pub agents: u64,
-    /// The slots of an epoch, from 1 to 2^40.
-    pub epoch: u64,
-    /// The slots of a run, from 1 to 2^40.
-    pub run: u64,
-    /// The milliseconds of a slot, from 1 to 2^20.
-    pub slot_ms: u64,
-    /// The classes that an order is folded into, from 1 to 64.
-    pub classes: u64,
 }
 
 /// Why there are no words.
@@ -85,8 +65,8 @@ fn words_of<'a>(matches: &ArgMatches<'a>) -> Option<Words<'a>>
     if !is_optional_name(weights) {
         return None;
     }
-    let unit = setting_of(matches.get_str("unit"), MAX_UNIT, 1)?;
-    let agents = setting_of(matches.get_str("agents"), 64, 4)?;
+    let unit = unit_of(matches.get_str("unit"))?;
+    let agents = setting_of(matches.get_str("agents"), MAX_OPTION_AGENTS, 4)?;
     let epoch = setting_of(matches.get_str("epoch"), MAX_OPTION_SLOTS, 1024)?;
     let run = setting_of(matches.get_str("run"), MAX_OPTION_SLOTS, 1)?;
     let slot_ms = setting_of(matches.get_str("slot-ms"), MAX_SLOT_MS, 8)?;

@@ -1,7 +1,7 @@
 //! Plans of files that fail, of sinks that take a part of the text, and of a text above its limit.
 use crate::asking::{Asked, ask, expect, had};
 use crate::texts::{TWO, TWO_TEXT};
-use coflow_units::{MAX_TEXT, Quantity};
+use coflow_units::{MAX_TEXT, Quantity, UnitSize};
 use command_files::{Status, read_input};
 use outside::SureShelf;
 use std::alloc::Global;
@@ -80,7 +80,7 @@ fn status_of(rt: &impl Abort, alloc: Global, digits: usize) -> Status {
     let mut shelf = had(rt, SureShelf::new(alloc, 1 << 20));
     let bytes = had(rt, vec![in alloc; b'1'; digits]);
     had(rt, shelf.put("t", &bytes));
-    match read_input(alloc, "t", None, 1, &mut shelf) {
+    match read_input(alloc, "t", None, UnitSize::MEGABYTE, &mut shelf) {
         Ok(_) => Status::Ok,
         Err(status) => status,
     }

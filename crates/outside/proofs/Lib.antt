@@ -3,3 +3,4 @@ pub mod WriteSteps
 pub mod ReadSteps
 pub mod FileSteps
 pub mod MemorySteps
+pub mod WholeFiles

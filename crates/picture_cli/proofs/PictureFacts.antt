@@ -12,8 +12,6 @@ use Rattle.coflow_units.specs.declared.plan.Run.{Run}
 use Rattle.coflow_units.specs.Completion.{completion, cost}
 use Rattle.coflow_units.specs.Flows.{Instance, end_at}
 use Rattle.coflow_units.specs.Schedule.{IsClear}
-use Rattle.command_words.specs.Line.{Text}
-use Rattle.command_words.proofs.OneMeaning.{setting_fits}
 use Rattle.cert_check.proofs.EndFacts.{ends_are}
 use Rattle.cert_check.proofs.SlotSteps.{runs_kept}
 use Rattle.cert_check.specs.declared.verdict.Verdict.{Verdict}
@@ -45,17 +43,9 @@ use Rattle.command_files.specs.Ends.{IsReadFault, IsWriteFault}
 use Rattle.command_files.specs.Inputs.{IsInput}
 use Rattle.picture_cli.specs.Picture.{Draws, HasNoPicture, HasPictureCause, HasVerdictCause, IsNearBest, IsPictureOf, Judged, check_of, window_of}
 use Rattle.picture_cli.specs.Status.{IsStatusOfBars, as_check}
-use Rattle.picture_cli.specs.Words.{IsPictureWords, PictureSaid}
+use Rattle.picture_cli.specs.Words.{PictureSaid}
 use Rattle.picture_cli.specs.declared.status.PictureStatus.{PictureStatus}
 use Rattle.picture_cli.specs.declared.status.PictureStatus.TheVariants as drawn
-
--- ---- words
-
-pub unit_within : (words : List Text) (said : PictureSaid) → IsPictureWords words said → (1 ≤ said.unit) × (said.unit ≤ 2 ^ 20)
-unit_within words said is = setting_fits (2 ^ 20) 1 _ said.unit (omega arith) (omega arith) is.says.unit
-
-pub from_counted : (words : List Text) (said : PictureSaid) → IsPictureWords words said → 1 ≤ said.from
-from_counted words said is = (setting_fits 2199023255551 1 _ said.from (omega arith) (omega arith) is.says.from).0
 
 -- ---- a right report
 

@@ -8,7 +8,7 @@ use Rattle.command_words.specs.Jobs.{IsFileName}
 use Rattle.command_words.specs.Line.{Text}
 use Rattle.command_words.specs.Words.{IsSetting}
 use Rattle.picture_cli.specs.Parser.{app}
-use Rattle.picture_cli.specs.declared.words.PictureWords.{PictureWords}
+use Rattle.picture_cli.specs.declared.picture_words.PictureWords.{PictureWords}
 
 -- What a command line says.
 pub record PictureSaid : Type 0 where
@@ -26,7 +26,7 @@ said_by w = record {
   trace = w.trace.now;
   report = w.report.now;
   weights = option_map (λ s. s.now) w.weights;
-  unit = w.unit;
+  unit = w.unit.megabytes;
   from = w.from;
   to = w.to;
   side = w.side;

@@ -85,7 +85,9 @@ pub fn sincronia_picture<H: Shelf, K: Sink>(
         Ok(files) => files,
         Err(status) => return PictureStatus::Ended(status),
     };
-    let text = match picture_of(alloc, words, &files.input, &files.report) {
+    let drawn = picture_of(alloc, words, &files.input, &files.report);
+    drop(files);
+    let text = match drawn {
         Ok(text) => text,
         Err(status) => return status,
     };

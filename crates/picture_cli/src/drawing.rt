@@ -13,8 +13,8 @@ ghost use Rattle.schedule_model.specs.RunList.{slots_in};
 ghost use Rattle.picture_cli.specs.Picture.{HasNoPicture, HasVerdictCause, IsPictureOf};
 ghost use Rattle.picture_cli.specs.Words.{said_by};
 
+use crate::picture_words::PictureWords;
 use crate::status::PictureStatus;
-use crate::words::PictureWords;
 use cert_check::Verdict;
 use coflow_units::{Items, NoMemory, Run};
 use command_files::Input;
@@ -36,7 +36,6 @@ pub(crate) fn picture_of<'a>(
     requires count { length input.now.weights ≡ length input.now.table.ids }
     requires weights { All (λ w. w ≤ MAX_WEIGHT) input.now.weights }
     requires report { IsReport report.now }
-    requires from { 1 ≤ words.from }
     ensures drawn { IfOk result (λ text.
         IsVerdict (instance_of input.now.table input.now.weights) input.now.table.ids report.now Verdict.Yes ×
         IsSound (instance_of input.now.table input.now.weights) input.now.table.ids report.now × (p : Picture) ×
@@ -61,7 +60,6 @@ fn draw_right<'a>(
     requires weights { All (λ w. w ≤ MAX_WEIGHT) input.now.weights }
     requires report { IsReport report.now }
     requires right { IsSound (instance_of input.now.table input.now.weights) input.now.table.ids report.now }
-    requires from { 1 ≤ words.from }
     ensures drawn { IfOk result (λ text. (p : Picture) ×
         IsPictureOf input.now.table input.now.weights report.now (said_by words.entry) p ×
         (text.items ≡ picture_text p)) }
@@ -83,7 +81,6 @@ fn picture_in<'a>(
     requires weights { All (λ w. w ≤ MAX_WEIGHT) input.now.weights }
     requires report { IsReport report.now }
     requires right { IsSound (instance_of input.now.table input.now.weights) input.now.table.ids report.now }
-    requires from { 1 ≤ words.from }
     ensures shows { IfOk result
         (IsPictureOf input.now.table input.now.weights report.now (said_by words.entry)) }
     ensures drawable { IfOk result IsDrawable }

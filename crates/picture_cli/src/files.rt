@@ -1,6 +1,5 @@
 //! The files of a picture.
-ghost use Rattle.std.specs.Prelude.{◌≤◌, IfErr, IfOk, IfSome, OnOk};
-ghost use Rattle.coflow_units.specs.declared.limits.TheConstants.{MAX_UNIT};
+ghost use Rattle.std.specs.Prelude.{IfErr, IfOk, IfSome, OnOk};
 ghost use Rattle.report.specs.Reading.{IsBadAt};
 ghost use Rattle.command_files.specs.Causes.{HasCauseInFiles};
 ghost use Rattle.command_files.specs.Reports.{IsReportOf};
@@ -12,7 +11,7 @@ ghost use Rattle.picture_cli.specs.Complete.{AreGoodFiles};
 ghost use Rattle.picture_cli.specs.Picture.{check_of};
 ghost use Rattle.picture_cli.specs.Words.{said_by};
 
-use crate::words::PictureWords;
+use crate::picture_words::PictureWords;
 use command_files::{Input, Status, read_input, read_report_file};
 use outside::Shelf;
 use report::Report;
@@ -31,8 +30,6 @@ pub(crate) fn read_files<'a, H: Shelf>(
     words: PictureWords<'a>,
     shelf: &mut H,
 ) -> Result<Files, Status>
-    requires some { 1 ≤ words.unit }
-    requires unit_limit { words.unit ≤ MAX_UNIT }
     ensures input { IfOk result (λ f. IsInput (H.told shelf.old) (said_by words.entry).trace
         (said_by words.entry).weights (said_by words.entry).unit f.input.table f.input.weights) }
     ensures report { IfOk result (λ f. IsReportOf (H.told shelf.old) (said_by words.entry).report f.report) }

@@ -7,6 +7,7 @@ mod files;
 pub mod laws;
 mod messages;
 mod parser;
+mod picture_words;
 mod status;
 mod words;
 

@@ -7,26 +7,11 @@ ghost use Rattle.coflow_units.specs.declared.fabric.Side.{Side};
 ghost use Rattle.picture_cli.specs.Words.{IsPictureWords, IsSaid, IsSide, PictureSaid, said_by};
 
 use crate::parser::matches_of;
+use crate::picture_words::PictureWords;
 use clap::ArgMatches;
-use coflow_units::{MAX_SLOT, MAX_UNIT, Side};
-use command_words::{WordsFault, is_file_name, setting_of};
+use coflow_units::{MAX_SLOT, Side};
+use command_words::{WordsFault, is_file_name, setting_of, unit_of};
 use std::alloc::Global;
-
-/// What a command line says: the names of a trace and of a report, and the value of each option or its default.
-#[derive(Clone, Copy, Debug, PartialEq, Eq)]
-pub(crate) struct PictureWords<'a> {
-    pub(crate) trace: &'a str,
-    pub(crate) report: &'a str,
-    /// The name of a file of weights.
-    pub(crate) weights: Option<&'a str>,
-    /// The megabytes of a unit, from 1 to 2^20.
-    pub(crate) unit: u64,
-    /// The first slot of the window, from 1 to 2^41 - 1.
-    pub(crate) from: u64,
-    /// The last slot of the window, from 1 to 2^41 - 1.
-    pub(crate) to: u64,
-    pub(crate) side: Side,
-}
 
 /// Reads the words of a command line, the first of which is the program's name.
 pub(crate) fn read_words<'a>(
@@ -62,7 +47,7 @@ fn words_of<'a>(matches: &ArgMatches<'a>) -> Option<PictureWords<'a>>
             return None;
         }
     }
-    let unit = setting_of(matches.get_str("unit"), MAX_UNIT, 1)?;
+    let unit = unit_of(matches.get_str("unit"))?;
     let from = setting_of(matches.get_str("from"), MAX_SLOT, 1)?;
     let to = setting_of(matches.get_str("to"), MAX_SLOT, MAX_SLOT)?;
     let side = side_of(matches.get_str("side"))?;

@@ -1,6 +1,5 @@
 //! The command `audit`: the verdict on a printed journal.
-ghost use Rattle.std.specs.Prelude.{◌≡◌, ◌≤◌, Bool, IfErr, IfOk, IfSome, OnOk};
-ghost use Rattle.coflow_units.specs.declared.limits.TheConstants.{MAX_UNIT};
+ghost use Rattle.std.specs.Prelude.{◌≡◌, Bool, IfErr, IfOk, IfSome, OnOk};
 ghost use Rattle.command_words.specs.Jobs.Job.{audit_job};
 ghost use Rattle.command_words.specs.Words.{said_with};
 ghost use Rattle.reading_commands.specs.Audit.{AuditOf, is_yes};
@@ -26,8 +25,6 @@ pub fn audit_journal<'a, H: Shelf>(
     options: Options<'a>,
     shelf: &mut H,
 ) -> Result<Outcome, Status>
-    requires some { 1 ≤ options.unit }
-    requires unit_limit { options.unit ≤ MAX_UNIT }
     ensures outcome { IfOk result (λ o. (yes : Bool) × (o.status ≡ status_for yes) ×
         AuditOf (H.told shelf.old) (said_with (audit_job trace.now journal.now) options.entry) yes o.text.items) }
     ensures read_out { OnOk result (OfBoth (H.told shelf.old) (H.told shelf.new)

@@ -1,6 +1,5 @@
 //! The command `check`: the verdict on a report.
-ghost use Rattle.std.specs.Prelude.{◌≡◌, ◌≤◌, Bool, IfErr, IfOk, IfSome, OnOk};
-ghost use Rattle.coflow_units.specs.declared.limits.TheConstants.{MAX_UNIT};
+ghost use Rattle.std.specs.Prelude.{◌≡◌, Bool, IfErr, IfOk, IfSome, OnOk};
 ghost use Rattle.command_words.specs.Jobs.Job.{check_job};
 ghost use Rattle.command_words.specs.Words.{said_with};
 ghost use Rattle.command_files.specs.JobCauses.{HasFilesCause};
@@ -25,9 +24,6 @@ pub fn check_report<'a, H: Shelf>(
     options: Options<'a>,
     shelf: &mut H,
 ) -> Result<Outcome, Status>
-    requires some { 1 ≤ options.unit }
-    requires unit_limit { options.unit ≤ MAX_UNIT }
-    requires some_time { 1 ≤ options.slot_ms }
     ensures outcome { IfOk result (λ o. (yes : Bool) × (o.status ≡ status_for yes) ×
         CheckOf (H.told shelf.old) (said_with (check_job trace.now report.now) options.entry) yes o.text.items) }
     ensures read_out { OnOk result (OfBoth (H.told shelf.old) (H.told shelf.new)

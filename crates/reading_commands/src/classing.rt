@@ -1,9 +1,7 @@
 //! The command `classes`: the order of a trace, folded into classes.
-ghost use Rattle.std.specs.Prelude.{◌≡◌, ◌≤◌, IfErr, IfOk, IfSome, OnOk};
-ghost use Rattle.coflow_units.specs.declared.limits.TheConstants.{MAX_UNIT};
+ghost use Rattle.std.specs.Prelude.{◌≡◌, IfErr, IfOk, IfSome, OnOk};
 ghost use Rattle.command_words.specs.Jobs.Job.{classes_job};
 ghost use Rattle.command_words.specs.Words.{said_with};
-ghost use Rattle.command_words.specs.declared.words.TheConstants.{MAX_OPTION_CLASSES};
 ghost use Rattle.command_files.specs.JobCauses.{HasFilesCause};
 ghost use Rattle.reading_commands.specs.Classes.{ClassesOf};
 ghost use Rattle.command_files.specs.GoodFiles.{HasGoodFiles};
@@ -24,10 +22,6 @@ pub fn list_classes<'a, H: Shelf>(
     options: Options<'a>,
     shelf: &mut H,
 ) -> Result<Outcome, Status>
-    requires some { 1 ≤ options.unit }
-    requires unit_limit { options.unit ≤ MAX_UNIT }
-    requires some_classes { 1 ≤ options.classes }
-    requires few_classes { options.classes ≤ MAX_OPTION_CLASSES }
     ensures outcome { IfOk result (λ o. (o.status ≡ Status.Ok) ×
         ClassesOf (H.told shelf.old) (said_with (classes_job trace.now) options.entry) o.text.items) }
     ensures read_out { OnOk result (OfBoth (H.told shelf.old) (H.told shelf.new)

@@ -1,6 +1,5 @@
 //! The command `compare`: rankers side by side on a trace.
-ghost use Rattle.std.specs.Prelude.{◌≡◌, ◌≢◌, ◌≤◌, ◌<◌, ◌^◌, ℕ, [], All, IfErr, IfOk, IfSome, OnOk, drop, length, map, take};
-ghost use Rattle.coflow_units.specs.declared.limits.TheConstants.{MAX_UNIT};
+ghost use Rattle.std.specs.Prelude.{◌≡◌, ◌≢◌, ◌<◌, ◌^◌, ℕ, [], All, IfErr, IfOk, IfSome, OnOk, drop, length, map, take};
 ghost use Rattle.command_words.specs.Jobs.Job.{compare_job};
 ghost use Rattle.command_words.specs.Words.{said_with};
 ghost use Rattle.rankers.specs.FactsTold.{FactsTold};
@@ -28,8 +27,6 @@ pub fn compare_rankers<'a, H: Shelf>(
     shelf: &mut H,
     bench: &mut Vec<Box<dyn Ranker>>,
 ) -> Result<Outcome, Status>
-    requires some { 1 ≤ options.unit }
-    requires unit_limit { options.unit ≤ MAX_UNIT }
     requires few { length bench.old.items < 2 ^ 32 }
     ensures outcome { IfOk result (λ o. (o.status ≡ Status.Ok) ×
         ComparisonOf (H.told shelf.old) (said_with (compare_job trace.now) options.entry)

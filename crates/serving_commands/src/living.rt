@@ -1,6 +1,6 @@
 //! The command `live`: a script of clients over a trace, served, as a text.
 ghost use Rattle.std.specs.Prelude.{◌≡◌, ℕ, ◌<◌, ◌≤◌, ◌^◌, ◌⊎◌, All, Err, IfErr, IfOk, IfSome, OnOk, length};
-ghost use Rattle.coflow_units.specs.declared.limits.TheConstants.{MAX_CLIENTS, MAX_PORTS, MAX_UNIT, MAX_WEIGHT};
+ghost use Rattle.coflow_units.specs.declared.limits.TheConstants.{MAX_CLIENTS, MAX_PORTS, MAX_WEIGHT};
 ghost use Rattle.command_words.specs.Jobs.Job.{live_job};
 ghost use Rattle.command_words.specs.Words.{said_with};
 ghost use Rattle.live_serving.specs.declared.answer.LiveFault.TheVariants.{WireFault};
@@ -39,11 +39,6 @@ pub fn run_clients<'a, R: Threads + Wait + Sync, H: Shelf, W: Wire + Send, G: Ga
     wires: &mut Vec<W>,
     gates: &mut Vec<G>,
 ) -> Result<Outcome, Status>
-    requires some { 1 ≤ options.unit }
-    requires unit_limit { options.unit ≤ MAX_UNIT }
-    requires agents { 1 ≤ options.agents }
-    requires few_agents { options.agents < 2 ^ 32 }
-    requires some_slots { 1 ≤ options.run }
     requires wires { MAX_PORTS < length wires.old.items }
     requires gates { MAX_CLIENTS ≤ length gates.old.items }
     ensures outcome { IfOk result (λ o. (o.status ≡ Status.Ok) ×
@@ -92,9 +87,6 @@ fn serve_script<'a, R: Threads + Wait + Sync, W: Wire + Send, G: Gate + Send>(
     requires weights { All (λ w. w ≤ MAX_WEIGHT) files.input.weights }
     requires shared { IsShared files.input.table }
     requires script { IsRead files.input.table.ids files.script }
-    requires agents { 1 ≤ options.agents }
-    requires few_agents { options.agents < 2 ^ 32 }
-    requires some_slots { 1 ≤ options.run }
     requires wires { MAX_PORTS < length wires.old.items }
     requires gates { MAX_CLIENTS ≤ length gates.old.items }
     ensures text { IfOk result (λ text.

@@ -1,6 +1,6 @@
 //! The command `make`: the plan of a made trace, read back and checked.
 ghost use Rattle.std.specs.Prelude.{◌≡◌, ◌≤◌, ◌<◌, ◌^◌, ◌⊎◌, ℕ, All, IfErr, IfOk, None, length, sum_by};
-ghost use Rattle.coflow_units.specs.declared.limits.TheConstants.{MAX_PORTS, MAX_REPORT, MAX_TEXT, MAX_UNIT, MAX_UNITS, MAX_WEIGHT};
+ghost use Rattle.coflow_units.specs.declared.limits.TheConstants.{MAX_PORTS, MAX_REPORT, MAX_TEXT, MAX_UNITS, MAX_WEIGHT};
 ghost use Rattle.cert_check.specs.Sound.{IsSound};
 ghost use Rattle.coflow_units.specs.declared.fabric.Flow.{Flow};
 ghost use Rattle.coflow_units.specs.declared.quantity.Quantity.{Quantity};
@@ -23,8 +23,9 @@ ghost use Rattle.serving_commands.specs.Serving.{Sends, ServesMade, Stops};
 
 use crate::serving::serve;
 use cert_check::Verdict;
-use coflow_units::{Flow, Items, NoMemory, Trace};
+use coflow_units::{Flow, Items, NoMemory, Trace, UnitSize};
 use command_files::{Input, Outcome, Status};
+use command_words::Options;
 use flow_table::{Table, TableFault};
 use outside::Wire;
 use report::{Made, Report, ReportFault, read_report, write_made, write_report};
@@ -38,28 +39,25 @@ use workload::made;
 
 /// The summary of the plan of the trace that is made from a seed, whose units were sent on the wires, and whose report was read back and found right.
 /// There is one where there is memory and no wire fails.
-pub fn make_workload<R: Threads + Wait + Sync, W: Wire + Send>(
+pub fn make_workload<'a, R: Threads + Wait + Sync, W: Wire + Send>(
     rt: &R,
     alloc: Global,
     seed: u64,
-    unit: u64,
-    agents: u64,
+    options: Options<'a>,
     wires: &mut Vec<W>,
 ) -> Result<Outcome, Status>
-    requires some { 1 ≤ unit }
-    requires unit_limit { unit ≤ MAX_UNIT }
-    requires agents { 1 ≤ agents }
-    requires few_agents { agents < 2 ^ 32 }
     requires wires { MAX_PORTS < length wires.old.items }
     ensures outcome { IfOk result (λ o. (o.status ≡ Status.Ok) ×
-        MadeOf (SendsAll W.runs wires.old.items wires.new.items) seed unit o.text.items) }
+        MadeOf (SendsAll W.runs wires.old.items wires.new.items) seed options.entry.unit.megabytes
+        o.text.items) }
     ensures sent { (wires.new.items ≡ wires.old.items) ⊎ ServesMade (Sends W.runs wires.old.items wires.new.items)
-        seed unit }
+        seed options.entry.unit.megabytes }
     ensures cause { IfErr result (λ status. HasMadeCause status ⊎ IsWireCause
-        (λ port. ServesMade (Stops W.faults W.runs wires.old.items wires.new.items port) seed unit) status) }
+        (λ port. ServesMade (Stops W.faults W.runs wires.old.items wires.new.items port) seed
+        options.entry.unit.megabytes) status) }
 {
-    let input = made_input(alloc, seed, unit)?;
-    let planned = serve(rt, alloc, &input, agents as u32, wires)?;
+    let input = made_input(alloc, seed, options.unit)?;
+    let planned = serve(rt, alloc, &input, options.agents as u32, wires)?;
     let text = write_report(alloc, &planned)?;
     let report = read_back(alloc, &text)?;
     let text = summary(alloc, seed, &input, &report)?;
@@ -70,10 +68,8 @@ pub fn make_workload<R: Threads + Wait + Sync, W: Wire + Send>(
 }
 
 /// The flows and the weights of the texts of a seed. They are read as files are.
-fn made_input(alloc: Global, seed: u64, unit: u64) -> Result<Input, NoMemory>
-    requires some { 1 ≤ unit }
-    requires unit_limit { unit ≤ MAX_UNIT }
-    ensures gives { IfOk result (λ i. GivesMade seed unit i.table i.weights) }
+fn made_input(alloc: Global, seed: u64, unit: UnitSize) -> Result<Input, NoMemory>
+    ensures gives { IfOk result (λ i. GivesMade seed unit.megabytes i.table i.weights) }
     ensures table { IfOk result (λ i. IsTable i.table) }
     ensures units { IfOk result (λ i. sum_by (λ (x : Flow). x.units) i.table.flows ≤ 102400) }
     ensures ids { IfOk result (λ i. IsDistinct i.table.ids) }
@@ -120,15 +116,14 @@ fn weights_of_text(alloc: Global, text: &[u8], trace: &Trace) -> Result<Items<u6
 }
 
 /// The table of the flows of a trace that has neither too many units nor too many flows.
-fn small_table(alloc: Global, trace: &Trace, unit: u64) -> Result<Table, NoMemory>
+fn small_table(alloc: Global, trace: &Trace, unit: UnitSize) -> Result<Table, NoMemory>
     requires trace { IsTrace trace.now }
-    requires some { 1 ≤ unit }
-    requires unit_limit { unit ≤ MAX_UNIT }
-    requires fits { (which : Quantity) (count : ℕ) → HasCause trace.now unit (TableFault.Limit which count) → ⊥ }
-    ensures of { IfOk result (IsTableOf trace.now unit) }
+    requires fits { (which : Quantity) (count : ℕ) →
+        HasCause trace.now unit.megabytes (TableFault.Limit which count) → ⊥ }
+    ensures of { IfOk result (IsTableOf trace.now unit.megabytes) }
     ensures table { IfOk result IsTable }
 {
-    match Table::build(alloc, trace, unit) {
+    match Table::build(alloc, trace, unit.megabytes) {
         Ok(table) => Ok(table),
         Err(TableFault::Limit { which: _, count: _ }) => unreachable!(),
         Err(TableFault::NoMemory) => Err(NoMemory),

@@ -1,6 +1,6 @@
 //! The command `online`: the online run of a trace, served, as a text.
 ghost use Rattle.std.specs.Prelude.{◌≡◌, ℕ, ◌<◌, ◌≤◌, ◌^◌, ◌⊎◌, All, Err, IfErr, IfOk, IfSome, OnOk, length};
-ghost use Rattle.coflow_units.specs.declared.limits.TheConstants.{MAX_OPTION_SLOTS, MAX_PORTS, MAX_UNIT, MAX_WEIGHT};
+ghost use Rattle.coflow_units.specs.declared.limits.TheConstants.{MAX_PORTS, MAX_WEIGHT};
 ghost use Rattle.command_words.specs.Jobs.Job.{online_job};
 ghost use Rattle.command_words.specs.Words.{said_with};
 ghost use Rattle.flow_table.specs.Table.{IsTable};
@@ -35,13 +35,6 @@ pub fn run_online<'a, R: Threads + Wait + Sync, H: Shelf, W: Wire + Send>(
     shelf: &mut H,
     wires: &mut Vec<W>,
 ) -> Result<Outcome, Status>
-    requires some { 1 ≤ options.unit }
-    requires unit_limit { options.unit ≤ MAX_UNIT }
-    requires agents { 1 ≤ options.agents }
-    requires few_agents { options.agents < 2 ^ 32 }
-    requires some_time { 1 ≤ options.slot_ms }
-    requires some_epoch { 1 ≤ options.epoch }
-    requires epoch_limit { options.epoch ≤ MAX_OPTION_SLOTS }
     requires wires { MAX_PORTS < length wires.old.items }
     ensures outcome { IfOk result (λ o. (o.status ≡ Status.Ok) ×
         OnlineOf (SendsAll W.runs wires.old.items wires.new.items) (H.told shelf.old)
@@ -91,11 +84,6 @@ fn serve_run<'a, R: Threads + Wait + Sync, W: Wire + Send>(
     requires count { length input.now.weights ≡ length input.now.table.ids }
     requires least { All (λ w. 1 ≤ w) input.now.weights }
     requires weights { All (λ w. w ≤ MAX_WEIGHT) input.now.weights }
-    requires some_time { 1 ≤ options.slot_ms }
-    requires some_epoch { 1 ≤ options.epoch }
-    requires epoch_limit { options.epoch ≤ MAX_OPTION_SLOTS }
-    requires agents { 1 ≤ options.agents }
-    requires few_agents { options.agents < 2 ^ 32 }
     requires wires { MAX_PORTS < length wires.old.items }
     ensures text { IfOk result (λ text.
         (told : TellsOnline input.now.table input.now.weights options.entry.slot_ms options.entry.epoch text.items) ×

@@ -1,6 +1,6 @@
 //! The command `plan`: the plan of a trace, served, as a report.
-ghost use Rattle.std.specs.Prelude.{◌≡◌, ℕ, ◌<◌, ◌≤◌, ◌^◌, ◌⊎◌, IfErr, IfOk, IfSome, OnOk, length};
-ghost use Rattle.coflow_units.specs.declared.limits.TheConstants.{MAX_PORTS, MAX_UNIT};
+ghost use Rattle.std.specs.Prelude.{◌≡◌, ℕ, ◌<◌, ◌^◌, ◌⊎◌, IfErr, IfOk, IfSome, OnOk, length};
+ghost use Rattle.coflow_units.specs.declared.limits.TheConstants.{MAX_PORTS};
 ghost use Rattle.command_words.specs.Jobs.Job.{plan_job};
 ghost use Rattle.command_words.specs.Words.{said_with};
 ghost use Rattle.served_plans.specs.Sent.{SendsAll};
@@ -31,10 +31,6 @@ pub fn plan_trace<'a, R: Threads + Wait + Sync, H: Shelf, W: Wire + Send>(
     shelf: &mut H,
     wires: &mut Vec<W>,
 ) -> Result<Outcome, Status>
-    requires some { 1 ≤ options.unit }
-    requires unit_limit { options.unit ≤ MAX_UNIT }
-    requires agents { 1 ≤ options.agents }
-    requires few_agents { options.agents < 2 ^ 32 }
     requires wires { MAX_PORTS < length wires.old.items }
     ensures outcome { IfOk result (λ o. (o.status ≡ Status.Ok) ×
         PlanOf (SendsAll W.runs wires.old.items wires.new.items) (H.told shelf.old)

@@ -61,7 +61,7 @@ fn job_text(rt: &impl Abort, alloc: Global, job: Job<'_>) -> String {
 fn tell_options(rt: &impl Abort, text: &mut String, options: Options<'_>) {
     let weights = options.weights.unwrap_or("-");
     let values = [
-        options.unit,
+        options.unit.megabytes,
         options.agents,
         options.epoch,
         options.run,

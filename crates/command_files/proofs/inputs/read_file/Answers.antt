@@ -1,6 +1,7 @@
 use Rattle.std.proofs.Common.{refl, subst, Err}
 use Rattle.outside.specs.Shelf.{ReadsWhole}
-use Rattle.command_files.proofs.ShelfFacts.{file_kept, read_elsewhere, too_long}
+use Rattle.outside.proofs.WholeFiles.{too_long}
+use Rattle.command_files.proofs.ShelfFacts.{file_kept, read_elsewhere}
 use Rattle.command_files.proofs.inputs.read_file.Goals as goal
 
 pub returns-in-Err-TooLong-clause-keeps : goal.returns-in-Err-TooLong-clause-keeps

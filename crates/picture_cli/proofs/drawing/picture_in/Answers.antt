@@ -64,7 +64,7 @@ returns-clause-drawable c =
     let rows : length c.from_vec.result ≡ table.ports = ap (λ (xs : List (List Bar)). length xs) c.from_vec.ensures ∙ c.in_ok-rows.ensures.bars.row_each ∙ c.ports.ensures.ports in
     let heavy : length c.from_vec-3.result ≡ length c.in_ok-heavy.heavy.items = ap (λ (xs : List ℕ). length xs) c.from_vec-3.ensures in
     record {
-      counted = omega (arith, c.window_in-window.ensures.first, c.requires.from);
+      counted = omega (arith, c.window_in-window.ensures.first, c.args.words.some_first);
       some = omega arith;
       short = omega (arith, last, short);
       has_ports = omega (arith, rows, c.ports.ensures.table.has_ports);

@@ -19,18 +19,19 @@ weights_of_text-requires-clause-passes c =
 
 pub small_table-requires-clause-fits : goal.small_table-requires-clause-fits
 small_table-requires-clause-fits c =
-    few_flows c.args.seed c.args.unit c.as_slice.result.now c.in_ok-trace.trace (c.as_slice.ensures ∙ c.in_ok-made.ensures.trace) c.in_ok-trace.ensures.trace c.requires.some
+    few_flows c.args.seed c.args.unit.megabytes c.as_slice.result.now c.in_ok-trace.trace (c.as_slice.ensures ∙ c.in_ok-made.ensures.trace) c.in_ok-trace.ensures.trace
+    c.args.unit.some
 
 pub returns-clause-gives : goal.returns-clause-gives
 returns-clause-gives c =
-    made_gives c.args.seed c.as_slice.result.now c.as_slice-2.result.now c.in_ok-trace.trace c.in_ok-weights.weights c.args.unit c.in_ok-table.table
+    made_gives c.args.seed c.as_slice.result.now c.as_slice-2.result.now c.in_ok-trace.trace c.in_ok-weights.weights c.args.unit.megabytes c.in_ok-table.table
     (c.as_slice.ensures ∙ c.in_ok-made.ensures.trace) c.in_ok-trace.ensures.trace (c.as_slice-2.ensures ∙ c.in_ok-made.ensures.weights) c.in_ok-weights.ensures
     c.in_ok-table.ensures.of
 
 pub returns-clause-units : goal.returns-clause-units
 returns-clause-units c =
-    few_units c.args.seed c.args.unit c.as_slice.result.now c.in_ok-trace.trace c.in_ok-table.table (c.as_slice.ensures ∙ c.in_ok-made.ensures.trace) c.in_ok-trace.ensures.trace
-    c.requires.some c.in_ok-trace.ensures.fits c.in_ok-table.ensures.of
+    few_units c.args.seed c.args.unit.megabytes c.as_slice.result.now c.in_ok-trace.trace c.in_ok-table.table (c.as_slice.ensures ∙ c.in_ok-made.ensures.trace)
+    c.in_ok-trace.ensures.trace c.args.unit.some c.in_ok-trace.ensures.fits c.in_ok-table.ensures.of
 
 pub returns-clause-least : goal.returns-clause-least
 returns-clause-least c = λ k d lt.
@@ -43,4 +44,4 @@ returns-clause-most c = λ k d lt.
     c.in_ok-trace.ensures.trace (c.as_slice-2.ensures ∙ c.in_ok-made.ensures.weights) c.in_ok-weights.ensures k d lt).1
 
 pub returns-clause-ids : goal.returns-clause-ids
-returns-clause-ids c = ids_differ c.in_ok-trace.trace c.args.unit c.in_ok-table.table c.in_ok-trace.ensures.fits c.in_ok-table.ensures.of
+returns-clause-ids c = ids_differ c.in_ok-trace.trace c.args.unit.megabytes c.in_ok-table.table c.in_ok-trace.ensures.fits c.in_ok-table.ensures.of

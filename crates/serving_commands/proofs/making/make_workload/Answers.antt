@@ -24,7 +24,7 @@ summary-requires-clause-sound g c =
 pub returns-clause-outcome : goal.returns-clause-outcome
 returns-clause-outcome g c = (
   refl,
-  made_of c.in_ok-input.input.table c.in_ok-input.input.weights c.in_ok-planned.planned c.in_ok-report.report _ c.args.seed c.args.unit
+  made_of c.in_ok-input.input.table c.in_ok-input.input.weights c.in_ok-planned.planned c.in_ok-report.report _ c.args.seed c.args.options.unit.megabytes
       c.in_ok-text-2.text.items
       c.in_ok-input.ensures.table c.in_ok-input.ensures.ids c.in_ok-input.ensures.count c.in_ok-input.ensures.least c.in_ok-planned.ensures.plan.0 c.in_ok-planned.ensures.plan.1
       (read_is_planned c.in_ok-planned.planned c.in_ok-report.report c.in_ok-text.text.items c.deref.result.now c.in_ok-planned.ensures.report c.in_ok-planned.ensures.small
