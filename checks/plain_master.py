@@ -55,7 +55,7 @@ def first_difference(have, want):
 
 
 # What the program ends with where there was no memory: no words, file, trace or table, or that itself
-NO_MEMORY = re.compile(rb"master_runs: (usage: master_runs TRACE LIST|no file is read|no memory)\n")
+NO_MEMORY = re.compile(rb"master_runs: (usage: master_runs TRACE LIST|the file is not read|no memory)\n")
 
 
 def fault_of_refusals(folder, said, answer=None):

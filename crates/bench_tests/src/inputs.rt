@@ -2,7 +2,7 @@
 ghost use Rattle.std.specs.Prelude.{◌≤◌, All, IsTrue};
 ghost use Rattle.coflow_units.specs.declared.limits.TheConstants.{MAX_WEIGHT};
 
-use coflow_units::{MAX_WEIGHT, NoMemory};
+use coflow_units::{MAX_WEIGHT, NoMemory, UnitSize};
 use flow_table::Table;
 use rankers::{Attained, Facts, Ranker, Row, compare};
 use std::alloc::Global;
@@ -94,7 +94,7 @@ pub(crate) fn rows_on(
 
 /// The flows of a trace.
 pub(crate) fn table_of(rt: &impl Abort, alloc: Global, trace: &str) -> Table {
-    let Ok(table) = table_of_text(alloc, trace.as_bytes(), 1) else {
+    let Ok(table) = table_of_text(alloc, trace.as_bytes(), UnitSize::MEGABYTE) else {
         panic!(rt; "no table");
     };
     table

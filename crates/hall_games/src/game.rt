@@ -1,14 +1,13 @@
 //! What the words of the call ask for.
-ghost use Rattle.std.specs.Prelude.{◌≤◌, IfOk, vec_len};
-ghost use Rattle.coflow_units.specs.declared.limits.TheConstants.{MAX_TEXT};
+ghost use Rattle.std.specs.Prelude.{◌≤◌, IfOk};
 ghost use Rattle.hall_callers.specs.declared.callers.TheConstants.{MAX_EACH};
 
-use coflow_units::MAX_TEXT;
+use coflow_units::UnitSize;
 use flow_table::Table;
 use hall_callers::{MAX_EACH, Stop};
-use outside::{Place4, Shelf, read_all};
+use outside::Shelf;
 use std::alloc::Global;
-use trace_tables::{TextFault, table_of_text};
+use trace_tables::{FileFault, TextFault, table_of_file};
 
 /// What is printed.
 #[derive(Clone, Copy, Debug, PartialEq, Eq)]
@@ -69,23 +68,11 @@ fn mode_of(word: Option<&String>) -> Result<Mode, Stop> {
 
 /// The table of a file's trace, in units of a megabyte.
 fn table_of<H: Shelf>(alloc: Global, shelf: &mut H, name: &str) -> Result<Table, Stop> {
-    let bytes = bytes_of(alloc, shelf, name)?;
-    match table_of_text(alloc, &bytes, 1) {
+    match table_of_file(alloc, shelf, name, UnitSize::MEGABYTE) {
         Ok(table) => Ok(table),
-        Err(TextFault::Table(_)) => Err(Stop::Table),
-        Err(_) => Err(Stop::Trace),
-    }
-}
-
-/// The bytes of a file, at most 2^26.
-fn bytes_of<H: Shelf>(alloc: Global, shelf: &mut H, name: &str) -> Result<Vec<u8>, Stop>
-    ensures { IfOk result (λ bytes. vec_len bytes ≤ MAX_TEXT) }
-{
-    let Ok(()) = shelf.start(Place4::Trace, name) else {
-        return Err(Stop::File);
-    };
-    match read_all(alloc, shelf, Place4::Trace, MAX_TEXT) {
-        Ok(bytes) => Ok(bytes),
-        Err(_) => Err(Stop::File),
+        Err(FileFault::NotRead) => Err(Stop::File),
+        Err(FileFault::NoMemory) => Err(Stop::NoMemory),
+        Err(FileFault::Text(TextFault::Table(_))) => Err(Stop::Table),
+        Err(FileFault::Text(_)) => Err(Stop::Trace),
     }
 }

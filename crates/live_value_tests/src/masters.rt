@@ -5,7 +5,7 @@ ghost use Rattle.journal.specs.declared.command.Entry.{Entry};
 ghost use Rattle.journal.specs.declared.opening.Opening.{Opening};
 ghost use Rattle.live_model.specs.Printed.{told_entry};
 
-use coflow_units::Items;
+use coflow_units::{Items, UnitSize};
 use journal::{Command, Entry, Reply};
 use master_core::Master;
 use std::alloc::Global;
@@ -38,7 +38,7 @@ pub(crate) fn master_of_two(rt: &impl Abort, alloc: Global) -> Master
     ensures limit { result.opening.limit ≡ 100 }
 {
     let weights = weights_of_two(rt, alloc);
-    let table = had(rt, table_of_text(alloc, TWO.as_bytes(), 1));
+    let table = had(rt, table_of_text(alloc, TWO.as_bytes(), UnitSize::MEGABYTE));
     assert!(rt; table.coflows() == 2);
     had(rt, Master::new(alloc, table, weights, 100))
 }

@@ -1,20 +1,20 @@
 //! Measures the master: all coflows of a trace join, an order is published, and then runs are opened and closed until nothing is left. Prints how many slots the runs had and how many commands
 //! were asked. Its exit code is 0 where it came to that end, and 1 where it did not.
-//! Its arguments are the file of the trace and the megabytes of a unit.
+//! Its arguments are the file of the trace and, where they are not 1, the megabytes of a unit.
 #![tactic(auto)]
 
 ghost use Rattle.std.specs.Prelude.{◌≡◌, ◌≤◌, [], IfOk, length};
-ghost use Rattle.coflow_units.specs.declared.limits.TheConstants.{MAX_UNIT};
 ghost use Rattle.master_bench.specs.Answered.{IsLastAnswer};
 
-use coflow_units::{Items, MAX_FLOWS, MAX_SLOT, MAX_TEXT, MAX_UNIT, NoMemory};
+use coflow_units::{Items, MAX_FLOWS, MAX_SLOT, NoMemory};
+use command_words::unit_of;
 use flow_table::Table;
 use master_core::{Command, Master, Reply};
-use outside::{DiskShelf, Place4, Shelf, read_all};
+use outside::DiskShelf;
 use std::alloc::Global;
 use std::env;
 use std::process::ExitCode;
-use trace_tables::{TextFault, table_of_text};
+use trace_tables::{FileFault, table_of_file};
 
 /// What is printed where nothing is left.
 #[derive(Clone, Copy)]
@@ -28,10 +28,8 @@ struct Summary {
 enum Stop {
     #[error("usage: master_bench TRACE [UNIT]")]
     Usage,
-    #[error("no file is read")]
-    File,
     #[error("{0}")]
-    Text(#[from] TextFault),
+    File(#[from] FileFault),
     #[error("no memory")]
     NoMemory,
     #[error("the last opening was answered {0:?}")]
@@ -72,52 +70,20 @@ fn run(rt: &HostRuntime) -> Result<Summary, Stop> {
     let Some(name) = words.get(1) else {
         return Err(Stop::Usage);
     };
-    let mut shelf = DiskShelf::new(*rt);
-    measured(alloc, name, unit_of(&words), &mut shelf)
+    let Some(unit) = unit_of(words.get(2).map(|word| word.as_str())) else {
+        return Err(Stop::Usage);
+    };
+    let table = table_of_file(alloc, &mut DiskShelf::new(*rt), name, unit)?;
+    measured(alloc, table)
 }
 
-/// The megabytes of a unit: the second argument, from 1 to 2^20, or 1.
-fn unit_of(words: &[String]) -> u64
-    ensures some { 1 ≤ result }
-    ensures limit { result ≤ MAX_UNIT }
-{
-    match words.get(2) {
-        Some(word) => word.parse::<u64>().unwrap_or(1).clamp(1, MAX_UNIT),
-        None => 1,
-    }
-}
-
-fn measured<H: Shelf>(alloc: Global, name: &str, unit: u64, shelf: &mut H) -> Result<Summary, Stop>
-    requires some { 1 ≤ unit }
-    requires limit { unit ≤ MAX_UNIT }
-{
-    let table = table_of(alloc, name, unit, shelf)?;
+/// Measures the master of a table.
+fn measured(alloc: Global, table: Table) -> Result<Summary, Stop> {
     let Ok(mut master) = master_of(alloc, table) else {
         return Err(Stop::NoMemory);
     };
     let end = play(&mut master);
     summary_of(&master, end)
-}
-
-/// The table of a file's trace.
-fn table_of<H: Shelf>(alloc: Global, name: &str, unit: u64, shelf: &mut H) -> Result<Table, Stop>
-    requires some { 1 ≤ unit }
-    requires limit { unit ≤ MAX_UNIT }
-{
-    let bytes = bytes_of(alloc, name, shelf)?;
-    let table = table_of_text(alloc, &bytes, unit)?;
-    Ok(table)
-}
-
-/// The bytes of a file, at most 2^26.
-fn bytes_of<H: Shelf>(alloc: Global, name: &str, shelf: &mut H) -> Result<Vec<u8>, Stop> {
-    let Ok(()) = shelf.start(Place4::Trace, name) else {
-        return Err(Stop::File);
-    };
-    match read_all(alloc, shelf, Place4::Trace, MAX_TEXT) {
-        Ok(bytes) => Ok(bytes),
-        Err(_) => Err(Stop::File),
-    }
 }
 
 /// All coflows join, an order is published, and then runs are opened and closed. Tells what the last opening was answered.

@@ -23,15 +23,15 @@ use crate::game::{play_master, play_world};
 use crate::line::{index, word};
 use crate::setting::{Setting, setting_of};
 use crate::stop::Stop;
-use coflow_units::{Items, MAX_TEXT, NoMemory};
+use coflow_units::{Items, NoMemory, UnitSize};
 use flow_table::Table;
 use master_core::Master;
-use outside::{DiskShelf, Place4, Shelf, read_all};
+use outside::{DiskShelf, Place4, Shelf};
 use std::alloc::Global;
 use std::env;
 use std::process::ExitCode;
 use text_fields::{Fields, Lines};
-use trace_tables::table_of_text;
+use trace_tables::{bytes_of_file, table_of_file};
 use world_model::World;
 
 fn main(rt: HostRuntime) -> ExitCode {
@@ -72,34 +72,9 @@ fn files_of<H: Shelf>(
     let Some(list) = words.get(2) else {
         return Err(Stop::Usage);
     };
-    let text = bytes_of(alloc, shelf, Place4::Script, list)?;
-    let table = table_of(alloc, shelf, trace)?;
+    let text = bytes_of_file(alloc, shelf, Place4::Script, list)?;
+    let table = table_of_file(alloc, shelf, trace, UnitSize::MEGABYTE)?;
     Ok((text, table))
-}
-
-/// The bytes of a file, at most 2^26.
-fn bytes_of<H: Shelf>(
-    alloc: Global,
-    shelf: &mut H,
-    place: Place4,
-    name: &str,
-) -> Result<Vec<u8>, Stop>
-    ensures { IfOk result (λ bytes. vec_len bytes ≤ MAX_TEXT) }
-{
-    let Ok(()) = shelf.start(place, name) else {
-        return Err(Stop::File);
-    };
-    match read_all(alloc, shelf, place, MAX_TEXT) {
-        Ok(bytes) => Ok(bytes),
-        Err(_) => Err(Stop::File),
-    }
-}
-
-/// The table of a file's trace, in units of a megabyte.
-fn table_of<H: Shelf>(alloc: Global, shelf: &mut H, name: &str) -> Result<Table, Stop> {
-    let bytes = bytes_of(alloc, shelf, Place4::Trace, name)?;
-    let table = table_of_text(alloc, &bytes, 1)?;
-    Ok(table)
 }
 
 /// Plays the lines, the first of which says who plays.

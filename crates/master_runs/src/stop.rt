@@ -2,17 +2,15 @@
 use coflow_units::NoMemory;
 use std::alloc::AllocFailed;
 use std::io;
-use trace_tables::TextFault;
+use trace_tables::FileFault;
 
 /// Why a list is not played to its end.
 #[derive(Debug, Drop, thiserror::Error)]
 pub enum Stop {
     #[error("usage: master_runs TRACE LIST")]
     Usage,
-    #[error("no file is read")]
-    File,
     #[error("{0}")]
-    Text(#[from] TextFault),
+    File(#[from] FileFault),
     /// The line with this number is not as it should be.
     #[error("line {0}")]
     Line(u32),

@@ -9,7 +9,7 @@ ghost use Rattle.port_load.specs.LoadTable.{total_at};
 ghost use Rattle.online_text.specs.declared.value.Epoch.{Epoch};
 ghost use Rattle.report.specs.Report.{HasSmallNumbers, IsReport};
 
-use coflow_units::{Items, MAX_ARRIVAL, MAX_TEXT, MAX_WEIGHT, Port, Side};
+use coflow_units::{Items, MAX_ARRIVAL, MAX_TEXT, MAX_WEIGHT, Port, Side, UnitSize};
 use flow_table::Table;
 use online_check::{OnlineVerdict, check_online};
 use online_text::{DoneLine, Epoch, Online, ReleaseLine};
@@ -33,7 +33,10 @@ pub(crate) fn had<T, E: Debug + Drop>(rt: &impl Abort, answer: Result<T, E>) -> 
 
 /// The flows of a trace, where a unit has one megabyte.
 pub(crate) fn table_of(rt: &impl Abort, alloc: Global, trace: &str) -> Table {
-    had(rt, table_of_text(alloc, trace.as_bytes(), 1))
+    had(
+        rt,
+        table_of_text(alloc, trace.as_bytes(), UnitSize::MEGABYTE),
+    )
 }
 
 /// The loads of a table.

@@ -2,7 +2,7 @@
 ghost use Rattle.std.specs.Prelude.{◌≤◌, All, IsTrue};
 ghost use Rattle.coflow_units.specs.declared.limits.TheConstants.{MAX_WEIGHT};
 
-use coflow_units::{MAX_UNIT, MAX_WEIGHT};
+use coflow_units::{MAX_UNIT, MAX_WEIGHT, UnitSize};
 use flow_table::Table;
 use std::alloc::Global;
 use std::fmt::Debug;
@@ -33,7 +33,7 @@ pub(crate) fn built(
 ) -> Result<Table, TextFault> {
     assert!(rt; unit >= 1);
     assert!(rt; unit <= MAX_UNIT);
-    table_of_text(alloc, trace.as_bytes(), unit)
+    table_of_text(alloc, trace.as_bytes(), UnitSize { megabytes: unit })
 }
 
 /// The flows of a trace, where a unit has so many megabytes.

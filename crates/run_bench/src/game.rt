@@ -2,12 +2,11 @@
 ghost use Rattle.std.specs.Prelude.{◌≤◌, IfOk};
 
 use crate::stop::Stop;
-use coflow_units::MAX_TEXT;
+use coflow_units::UnitSize;
 use flow_table::Table;
-use outside::{DiskShelf, Place4, Shelf, read_all};
-use std::alloc::Global;
+use outside::DiskShelf;
 use std::env;
-use trace_tables::table_of_text;
+use trace_tables::table_of_file;
 
 /// The greatest number of runs.
 const MAX_RUNS: u32 = 1_000_000;
@@ -44,7 +43,7 @@ pub fn game_of(rt: &HostRuntime) -> Result<Game, Stop>
         agents: number_of(words.get(2))?.clamp(1, MAX_AGENTS),
         runs: number_of(words.get(3))?.min(MAX_RUNS),
         timed: is_time(words.get(4))?,
-        table: table_of(alloc, &mut DiskShelf::new(*rt), trace)?,
+        table: table_of_file(alloc, &mut DiskShelf::new(*rt), trace, UnitSize::MEGABYTE)?,
     })
 }
 
@@ -68,16 +67,4 @@ fn is_time(word: Option<&String>) -> Result<bool, Stop> {
         "time" => Ok(true),
         _ => Err(Stop::Usage),
     }
-}
-
-/// The table of a file's trace, in units of a megabyte.
-fn table_of<H: Shelf>(alloc: Global, shelf: &mut H, name: &str) -> Result<Table, Stop> {
-    let Ok(()) = shelf.start(Place4::Trace, name) else {
-        return Err(Stop::File);
-    };
-    let Ok(bytes) = read_all(alloc, shelf, Place4::Trace, MAX_TEXT) else {
-        return Err(Stop::File);
-    };
-    let table = table_of_text(alloc, &bytes, 1)?;
-    Ok(table)
 }

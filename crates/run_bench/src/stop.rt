@@ -3,17 +3,15 @@ use coflow_units::NoMemory;
 use slot_runner::Ran;
 use std::alloc::{AllocError, AllocFailed};
 use std::io;
-use trace_tables::TextFault;
+use trace_tables::FileFault;
 
 /// Why nothing was measured.
 #[derive(Debug, Drop, thiserror::Error)]
 pub enum Stop {
     #[error("usage: run_bench TRACE AGENTS RUNS [time]")]
     Usage,
-    #[error("no file is read")]
-    File,
     #[error("{0}")]
-    Text(#[from] TextFault),
+    File(#[from] FileFault),
     #[error("a run came to {0:?}")]
     Ended(Ran),
     #[error("no memory")]

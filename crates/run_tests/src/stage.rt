@@ -4,7 +4,7 @@ ghost use Rattle.client_session.specs.Models.{IsDriverOf, IsSessionOf};
 ghost use Rattle.slot_runner.specs.Models.{MayRun};
 
 use client_session::{Driver, Hall, Session};
-use coflow_units::Items;
+use coflow_units::{Items, UnitSize};
 use flow_table::Table;
 use master_core::Master;
 use slot_runner::Runner;
@@ -28,7 +28,7 @@ pub struct Stage {
 pub fn table_of(alloc: Global, trace: &str) -> Option<Table>
     ensures ports { IfSome result (λ t. t.ports ≡ 2) }
 {
-    match table_of_text(alloc, trace.as_bytes(), 1) {
+    match table_of_text(alloc, trace.as_bytes(), UnitSize::MEGABYTE) {
         Ok(table) if table.ports() == 2 => Some(table),
         _ => None,
     }

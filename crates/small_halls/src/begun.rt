@@ -4,7 +4,7 @@ ghost use Rattle.client_session.specs.Models.{IsDriverOf, IsSessionOf};
 ghost use Rattle.small_halls.specs.Begun.{HasTurns};
 
 use client_session::{Driver, Hall, Session};
-use coflow_units::Items;
+use coflow_units::{Items, UnitSize};
 use flow_table::Table;
 use master_core::Master;
 use std::alloc::Global;
@@ -18,7 +18,7 @@ fn table_of_two(alloc: Global) -> Option<Table>
     ensures coflows { IfSome result (λ table. length table.ids ≡ 2) }
     ensures ports { IfSome result (λ table. 2 ≤ table.ports) }
 {
-    let Ok(table) = table_of_text(alloc, TWO.as_bytes(), 1) else {
+    let Ok(table) = table_of_text(alloc, TWO.as_bytes(), UnitSize::MEGABYTE) else {
         return None;
     };
     if table.coflows() == 2 && table.ports() >= 2 {

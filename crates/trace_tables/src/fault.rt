@@ -16,3 +16,17 @@ pub enum TextFault {
     #[error("{0}")]
     Table(TableFault),
 }
+
+/// Why a file gives no table.
+#[derive(Clone, Copy, Debug, PartialEq, Eq, Error)]
+pub enum FileFault {
+    /// A call to the shelf failed.
+    #[error("the file is not read")]
+    NotRead,
+    /// No memory was to be had for the bytes.
+    #[error("no memory")]
+    NoMemory,
+    /// The bytes give no table.
+    #[error("{0}")]
+    Text(TextFault),
+}
