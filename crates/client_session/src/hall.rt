@@ -53,11 +53,20 @@ impl Hall {
         ensures driver { IfOk result (λ made. IsFirstDriver made.0 driver_calls made.1) }
     {
         let (ports, coflows) = (master.table().ports(), master.table().coflows());
-        let (mut granted, board, publisher, rank) = first_parts(alloc, ports, coflows)?;
+        let Ok(parts) = first_parts(alloc, ports, coflows) else {
+            drop(master);
+            return Err(NoMemory);
+        };
+        let (mut granted, board, publisher, rank) = parts;
         let desk = Desk::new(master, publisher);
         desk.tell_grants(&mut granted);
         let _none = desk.position();
-        let (gate, root) = Turnstile::new(alloc, desk)?;
+        let Ok((gate, root)) = Turnstile::new(alloc, desk) else {
+            drop(granted);
+            drop(board);
+            drop(rank);
+            return Err(NoMemory);
+        };
         let hall = Hall { gate, board };
         let driver = Driver {
             root,

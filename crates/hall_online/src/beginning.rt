@@ -58,7 +58,12 @@ pub(crate) fn begin(
     let course = course_of(alloc, arrivals, every)?;
     let orders = no_orders(alloc, table)?;
     let progress = no_progress(alloc, table)?;
-    let (hall, runner) = hall_of(alloc, table, weights)?;
+    let Ok((hall, runner)) = hall_of(alloc, table, weights) else {
+        drop(course);
+        drop(orders);
+        drop(progress);
+        return Err(NoMemory);
+    };
     Ok(Begun {
         hall,
         runner,
@@ -72,7 +77,17 @@ pub(crate) fn begin(
 pub(crate) fn kept_of(run: Begun) -> Progress
     ensures { result ≡ run.progress }
 {
-    let Begun { progress, .. } = run;
+    let Begun {
+        hall,
+        runner,
+        course,
+        orders,
+        progress,
+    } = run;
+    drop(hall);
+    drop(runner);
+    drop(course);
+    drop(orders);
     progress
 }
 
@@ -86,13 +101,20 @@ fn hall_of(alloc: Global, table: &Table, weights: &[u64]) -> Result<(Hall, Runne
 {
     let limit = 4 * table.coflows() + 2 * table.flows().len() as u32 + FURTHER_ENTRIES;
     let copied = table.copy(alloc)?;
-    let list = Vec::from_slice(alloc, weights)?;
-    let master = Master::new(alloc, copied, Items::from_vec(list), limit)?;
-    let (hall, driver) = Hall::begin(alloc, master, CALLS)?;
-    let Ok(runner) = Runner::new(alloc, driver, table.ports()) else {
+    let Ok(list) = Vec::from_slice(alloc, weights) else {
+        drop(copied);
         return Err(NoMemory);
     };
-    Ok((hall, runner))
+    let master = Master::new(alloc, copied, Items::from_vec(list), limit)?;
+    let (hall, driver) = Hall::begin(alloc, master, CALLS)?;
+    match Runner::new(alloc, driver, table.ports()) {
+        Ok(runner) => Ok((hall, runner)),
+        Err(back) => {
+            drop(hall);
+            drop(back);
+            Err(NoMemory)
+        }
+    }
 }
 
 /// The course of a run over these arrivals, before its first action.

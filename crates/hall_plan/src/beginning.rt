@@ -32,14 +32,25 @@ pub(crate) fn begin<R: Wait>(
     ensures order { IfOk result (λ made. ranked made.2.items ≡ plan_order master.opening) }
 {
     let ports = master.table().ports();
-    let mut places = Vec::with_capacity(alloc, master.table().coflows() as usize)?;
-    let (hall, mut driver) = Hall::begin(alloc, master, CALLS)?;
-    register_all(rt, &hall, &mut driver);
-    publish(rt, &hall, &mut driver, &mut places);
-    let Ok(runner) = Runner::new(alloc, driver, ports) else {
+    let Ok(mut places) = Vec::with_capacity(alloc, master.table().coflows() as usize) else {
+        drop(master);
         return Err(NoMemory);
     };
-    Ok((hall, runner, places))
+    let Ok((hall, mut driver)) = Hall::begin(alloc, master, CALLS) else {
+        drop(places);
+        return Err(NoMemory);
+    };
+    register_all(rt, &hall, &mut driver);
+    publish(rt, &hall, &mut driver, &mut places);
+    match Runner::new(alloc, driver, ports) {
+        Ok(runner) => Ok((hall, runner, places)),
+        Err(back) => {
+            drop(hall);
+            drop(places);
+            drop(back);
+            Err(NoMemory)
+        }
+    }
 }
 
 /// Registers all coflows, in number order.

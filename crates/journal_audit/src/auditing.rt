@@ -84,7 +84,9 @@ fn audit_commands(
 {
     let limit = (live.entries.as_slice().len() as u32).max(1);
     let mut master = Master::new(alloc, table, weights, limit)?;
-    audit_by_master(alloc, &mut master, live, coflows, commands)
+    let audited = audit_by_master(alloc, &mut master, live, coflows, commands);
+    drop(master);
+    audited
 }
 
 /// The same, by a master without entries that begins with the opening.

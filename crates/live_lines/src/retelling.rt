@@ -49,7 +49,9 @@ pub(crate) fn retold_of(
     let journal = closed.journal();
     let table = closed.table().copy(alloc)?;
     let mut master = Master::new(alloc, table, weights, limit)?;
-    retold_by(alloc, &mut master, journal)
+    let retold = retold_by(alloc, &mut master, journal);
+    drop(master);
+    retold
 }
 
 /// The same, by a master without entries that begins in the same way. The error is want of memory.

@@ -24,7 +24,9 @@ pub(crate) fn value_of(
     ensures { IfOk result (IsValueOf served.master.opening served.master.journal served.pulls) }
 {
     let Served { master, pulls } = served;
-    live_value(alloc, &master, weights, limit, pulls)
+    let value = live_value(alloc, &master, weights, limit, pulls);
+    drop(master);
+    value
 }
 
 /// The same weights. The error is want of memory.

@@ -42,20 +42,24 @@ pub(crate) fn begin(alloc: Global, master: Master, script: &Script) -> Result<Be
     let ports = master.table().ports();
     let (hall, mut driver) = Hall::begin(alloc, master, CALLS)?;
     let _within = hall.coflows();
-    let sessions = seat_clients(
-        alloc,
-        &hall,
-        &mut driver,
-        script.clients,
-        commands_of(script),
-    )?;
-    let Ok(runner) = Runner::new(alloc, driver, ports) else {
+    let calls = commands_of(script);
+    let Ok(sessions) = seat_clients(alloc, &hall, &mut driver, script.clients, calls) else {
+        drop(hall);
+        drop(driver);
         return Err(NoMemory);
     };
-    Ok(Begun {
-        hall,
-        runner,
-        sessions,
-        pulls: Vec::new(alloc),
-    })
+    match Runner::new(alloc, driver, ports) {
+        Ok(runner) => Ok(Begun {
+            hall,
+            runner,
+            sessions,
+            pulls: Vec::new(alloc),
+        }),
+        Err(back) => {
+            drop(hall);
+            drop(sessions);
+            drop(back);
+            Err(NoMemory)
+        }
+    }
 }

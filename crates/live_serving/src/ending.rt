@@ -70,7 +70,10 @@ fn tell(
 {
     let _within = hall.coflows();
     let master = close(alloc, hall, driver, sessions)?;
-    let lines = pull_lines(alloc, master.table(), pulls, script.clients)?;
+    let Ok(lines) = pull_lines(alloc, master.table(), pulls, script.clients) else {
+        drop(master);
+        return Err(LiveFault::NoMemory);
+    };
     Ok(Served {
         master,
         pulls: Items::from_vec(lines),

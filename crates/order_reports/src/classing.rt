@@ -1,5 +1,5 @@
 //! The classes of coflows.
-ghost use Rattle.std.specs.Prelude.{◌≡◌, ◌<◌, ◌≤◌, All, IfOk, length, map};
+ghost use Rattle.std.specs.Prelude.{◌≡◌, ◌<◌, ◌≤◌, All, IfOk, OnOk, length, map};
 ghost use Rattle.coflow_units.specs.declared.limits.TheConstants.{MAX_WEIGHT};
 ghost use Rattle.class_rates.specs.Classes.{class_of};
 ghost use Rattle.class_rates.specs.declared.classes.TheConstants.{MAX_CLASSES};
@@ -35,11 +35,28 @@ pub fn classes_text(
         (text.items ≡ class_text c)) }
 {
     let facts = Facts::of(alloc, table, weights)?;
-    let order = order_in(alloc, &facts)?;
-    let folded = fold(alloc, &order, classes)?;
-    let schedule = simulate(alloc, table, folded.class_order())?;
-    let members = members_of(alloc, table, &folded)?;
-    let cap = cap(alloc, table, weights, &folded)?;
+    let ordered = order_in(alloc, &facts);
+    drop(facts);
+    let order = ordered?;
+    let sorted = fold(alloc, &order, classes);
+    drop(order);
+    let folded = sorted?;
+    let Ok(schedule) = simulate(alloc, table, folded.class_order()) else {
+        drop(folded);
+        return Err(NoMemory);
+    };
+    let Ok(members) = members_of(alloc, table, &folded) else {
+        drop(folded);
+        drop(schedule);
+        return Err(NoMemory);
+    };
+    let capped = cap(alloc, table, weights, &folded);
+    drop(folded);
+    let Ok(cap) = capped else {
+        drop(schedule);
+        drop(members);
+        return Err(NoMemory);
+    };
     let cost = cost(table.flows(), weights, &schedule);
     let list = ClassText {
         members: Items::from_vec(members),
@@ -54,6 +71,7 @@ pub fn classes_text(
 /// The order by bottleneck, select, scale, iterate.
 fn order_in(alloc: Global, facts: &Facts) -> Result<Vec<u32>, NoMemory>
     ensures order { IfOk result (λ order. order.items ≡ facts.now.order) }
+    ensures facts { OnOk result (IsFacts facts.now) }
 {
     let mut order = Vec::new(alloc);
     for before in 0..facts.coflows() {

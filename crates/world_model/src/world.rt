@@ -52,7 +52,10 @@ impl World {
         ensures kept { IfOk result (λ w. IsWorld w) }
     {
         prove!(master.journal().is_empty());
-        let ports = vec![in alloc; PortState::idle(); master.table().ports() as usize]?;
+        let Ok(ports) = vec![in alloc; PortState::idle(); master.table().ports() as usize] else {
+            drop(master);
+            return Err(NoMemory);
+        };
         Ok(World {
             master,
             agents,

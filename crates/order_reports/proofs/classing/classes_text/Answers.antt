@@ -14,7 +14,7 @@ use Rattle.order_reports.proofs.classing.classes_text.Goals as goal
 
 pub simulate-requires-clause-known : goal.simulate-requires-clause-known
 simulate-requires-clause-known c =
-    let fit : IsFacts c.in_ok-facts.facts = subst IsFacts c.facts.view_is c.facts.invariant in
+    let fit : IsFacts c.in_ok-facts.facts = c.in_ok-order.ensures.facts in
     let order : List ℕ = c.deref.result.now in
     let is : order ≡ c.in_ok-facts.facts.order = c.deref.ensures.value ∙ c.in_ok-order.ensures.order in
     let count : length order ≡ length c.args.table.now.ids = ap (λ (xs : List ℕ). length xs) is ∙ fit.order_len ∙
@@ -25,7 +25,7 @@ simulate-requires-clause-known c =
 
 pub simulate-requires-clause-all : goal.simulate-requires-clause-all
 simulate-requires-clause-all c = λ n lt.
-    let fit : IsFacts c.in_ok-facts.facts = subst IsFacts c.facts.view_is c.facts.invariant in
+    let fit : IsFacts c.in_ok-facts.facts = c.in_ok-order.ensures.facts in
     let order : List ℕ = c.deref.result.now in
     let is : order ≡ c.in_ok-facts.facts.order = c.deref.ensures.value ∙ c.in_ok-order.ensures.order in
     let count : length order ≡ length c.args.table.now.ids = ap (λ (xs : List ℕ). length xs) is ∙ fit.order_len ∙
@@ -36,27 +36,27 @@ simulate-requires-clause-all c = λ n lt.
 
 pub cost-cost-requires-clause-names : goal.cost-cost-requires-clause-names
 cost-cost-requires-clause-names c =
-    subst (λ n. All (All (λ f. f < n)) c.in_ok-schedule.schedule) (ap (λ (xs : List Flow). length xs) (sym c.flows.ensures.flows))
-    (served_names c.args.table.now.flows c.class_order.result.now c.in_ok-schedule.schedule c.in_ok-schedule.ensures)
+    subst (λ n. All (All (λ f. f < n)) c.in-Ok.schedule) (ap (λ (xs : List Flow). length xs) (sym c.flows.ensures.flows))
+    (served_names c.args.table.now.flows c.class_order.result.now c.in-Ok.schedule c.in-Ok.ensures)
 
 pub returns : goal.returns
 returns c =
     let t = c.args.table.now in
-    let fit : IsFacts c.in_ok-facts.facts = subst IsFacts c.facts.view_is c.facts.invariant in
+    let fit : IsFacts c.in_ok-facts.facts = c.in_ok-order.ensures.facts in
     let order : List ℕ = c.deref.result.now in
     let is : order ≡ c.in_ok-facts.facts.order = c.deref.ensures.value ∙ c.in_ok-order.ensures.order in
     let count : length order ≡ length c.args.table.now.ids = ap (λ (xs : List ℕ). length xs) is ∙ fit.order_len ∙
     ap (λ (xs : List ℕ). length xs) c.in_ok-facts.ensures.weights_are ∙ c.requires.count in
-    let list : ClassText = record { members = c.from_vec.result; cap = c.in_ok-cap.cap; cost = c.cost-cost.result; runs = c.from_vec-2.result } in (
+    let list : ClassText = record { members = c.from_vec.result; cap = c.in-Ok-capped.cap; cost = c.cost-cost.result; runs = c.from_vec-2.result } in (
       list,
-      listed t c.args.weights.now order c.args.classes c.in_ok-folded.folded c.in_ok-schedule.schedule list
+      listed t c.args.weights.now order c.args.classes c.in_ok-folded.folded c.in-Ok.schedule list
           c.flows.ensures.table c.requires.count c.requires.least (subst IsPermutation (sym is) fit.order_is) count
           (subst (IsBssiOrder t c.args.weights.now) (sym is) c.in_ok-facts.ensures.order_is)
-          c.in_ok-folded.ensures (subst (λ (l : List ℕ). IsServed t.flows l c.in_ok-schedule.schedule) c.class_order.ensures.order c.in_ok-schedule.ensures)
-          (c.from_vec.ensures ∙ c.in_ok-members.ensures) c.in_ok-cap.ensures
+          c.in_ok-folded.ensures (subst (λ (l : List ℕ). IsServed t.flows l c.in-Ok.schedule) c.class_order.ensures.order c.in-Ok.ensures)
+          (c.from_vec.ensures ∙ c.in-Ok-members_of.ensures) c.in-Ok-capped.ensures
           (c.cost-cost.ensures
-          ∙ (ap (λ (fs : List Flow). cost fs (λ k. slice_index c.args.weights.now k) (range_with_len 0 (length c.args.weights.now)) c.in_ok-schedule.schedule) c.flows.ensures.flows
-          ∙ ap (λ n. cost t.flows (λ k. slice_index c.args.weights.now k) (range_with_len 0 n) c.in_ok-schedule.schedule) c.requires.count))
-          (subst (λ rs. IsRuns c.in_ok-schedule.schedule (pairs_of rs)) (sym c.from_vec-2.ensures) c.into_runs.ensures.runs),
+          ∙ (ap (λ (fs : List Flow). cost fs (λ k. slice_index c.args.weights.now k) (range_with_len 0 (length c.args.weights.now)) c.in-Ok.schedule) c.flows.ensures.flows
+          ∙ ap (λ n. cost t.flows (λ k. slice_index c.args.weights.now k) (range_with_len 0 n) c.in-Ok.schedule) c.requires.count))
+          (subst (λ rs. IsRuns c.in-Ok.schedule (pairs_of rs)) (sym c.from_vec-2.ensures) c.into_runs.ensures.runs),
       c.in_ok-text.ensures.text,
     )

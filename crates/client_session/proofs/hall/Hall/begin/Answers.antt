@@ -11,5 +11,5 @@ invariant_of-driver c =
     let told = subst (λ j. TellsGrants setting.opening j c.tell_grants.new.granted) c.new-desk.ensures.journal c.tell_grants.ensures.granted in
     let ports : c.ports-ports.result ≡ setting.opening.table.ports =
     omega (arith, c.ports-ports.ensures.ports, ap (λ t. t.ports) c.table.ensures, ap (λ (s : Setting). s.opening.table.ports) c.new-desk.ensures.setting) in
-    first_driver c.in_ok-gate.root c.in_ok-gate.gate.table setting _ c.in_ok-gate.ensures.root
-    (retold setting.opening _ _ c.tell_grants.new.granted _ (omega (arith, ports, c.in_ok-granted.ensures.ports)) told)
+    first_driver c.in-Ok-new.root c.in-Ok-new.gate.table setting _ c.in-Ok-new.ensures.root
+    (retold setting.opening _ _ c.tell_grants.new.granted _ (omega (arith, ports, c.in-Ok.ensures.ports)) told)
