@@ -119,7 +119,8 @@ fn clients_of_a_round_are_on_threads_at_the_same_time(rt: HostRuntime) {
     );
 }
 
-// The second client reads the board only after the first one has published. A client that was told a version from before would tell version 0.
+// The second client reads the board only after the first one has published. A client that was told a version from before would tell version 0. Where no thread is to be had the clients go one
+// after another, and the gate gives up.
 #[test]
 fn a_pull_that_a_gate_holds_back_is_told_the_new_version(rt: HostRuntime) {
     let mut text = String::new(rt.alloc());
@@ -159,5 +160,9 @@ Ok([PullDone { client: 1, line: 4, coflow: 0, version: 1, rank: 1 }, PullDone { 
 1 Register(0) Joined
 1 Publish Version(1)
 ";
-    assert_eq!(&rt; text.as_str(), want);
+    assert_eq!(&rt;
+        text.as_str(),
+        want,
+        "a gate gave up, or there was no memory"
+    );
 }
