@@ -1,5 +1,5 @@
 //! Clients of a script that wait for each other at their gates, and for a wire.
-use crate::asking::{Asked, ask};
+use crate::asking::{Asked, ask, expect};
 use crate::meeting::{Pair, Side, TestGate, gates_of, has_given_up, wires_of};
 use crate::texts::TWO;
 use command_files::Status;
@@ -112,15 +112,23 @@ fn a_run_is_served_while_a_client_waits(rt: HostRuntime) {
     meets(&rt, rt.alloc(), scene, [true, false]);
 }
 
-/// Whether the bytes have this line.
-fn has_line(bytes: &[u8], line: &[u8]) -> bool {
-    for found in bytes.split(|byte| *byte == b'\n') {
-        if found == line {
-            return true;
-        }
-    }
-    false
-}
+/// The journal of two pulls behind a publishing, and of the runs of the coflow that was registered.
+const PULLS_TEXT: &[u8] = b"sincronia live 1
+entry 1 1 register 1 joined
+entry 2 1 publish version 1
+entry 3 0 open 1 opened 1 1 1
+entry 4 0 close closed 1
+entry 5 0 open 1 opened 2 1 1
+entry 6 0 close closed 2
+entry 7 0 open 1 opened 3 1 1
+entry 8 0 close closed 3
+entry 9 0 open 1 nothing
+order 1 1
+pull 1 4 1 1 1
+pull 2 5 1 1 1
+run 3 0
+end
+";
 
 // A client reads its rank without a turn. The second client goes on where the first one, behind its own publishing, comes to its pull.
 #[test]
@@ -132,12 +140,9 @@ fn both_pulls_have_the_order_that_was_published_before(rt: HostRuntime) {
         ..BESIDE
     };
     let (status, out, met) = play(&rt, rt.alloc(), scene);
-    let first = has_line(out.bytes(), b"pull 1 4 1 1 1");
-    let second = has_line(out.bytes(), b"pull 2 5 1 1 1");
+    expect(&rt, status, out.bytes(), (Status::Ok, PULLS_TEXT));
     drop(out);
-    assert!(rt; status == Status::Ok, "another status");
     assert!(rt; met == [true, true, true], "another meeting");
-    assert!(rt; first && second);
 }
 
 // The gates of other commands are not passed.
