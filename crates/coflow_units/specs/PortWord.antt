@@ -1,5 +1,7 @@
 -- The word that an ingress port shows to all threads: what became of the last grant that was posted there.
-use Rattle.std.specs.Prelude.{ℕ, ◌+◌, ◌*◌, ◌<◌, ◌==◌, Bool, true, false}
+use Rattle.std.specs.Prelude.{ℕ, ◌+◌, ◌*◌, ◌/◌, ◌%◌, ◌<◌, ◌==◌, Bool, true, false, Option, Some, None}
+use Rattle.coflow_units.specs.declared.port_word.PostStage.{PostStage}
+use Rattle.coflow_units.specs.declared.port_word.PostStage.TheVariants.{Granted, Drawn, Reported}
 
 -- no grant was posted; it is posted and nobody drew it; the agent of this number drew it; that agent reported so many
 -- units; it was taken back, drawn by nobody
@@ -31,3 +33,38 @@ is_drawn_by agent stage = false
 -- a slot of 41 bits and a flow of 20 bits
 abbrev pub FitsWord : ℕ → ℕ → Type 0
 FitsWord slot flow = (slot < 2199023255552) × (flow < 1048576)
+
+-- what a word shows: granted and not drawn, drawn and not reported, or reported
+abbrev pub shows_granted : ℕ → Bool
+shows_granted word = word / 2305843009213693952 == 1
+
+abbrev pub shows_drawn : ℕ → Bool
+shows_drawn word = word / 2305843009213693952 == 2
+
+abbrev pub shows_reported : ℕ → Bool
+shows_reported word = word / 2305843009213693952 == 3
+
+abbrev pub slot_of : ℕ → ℕ
+slot_of word = (word / 1048576) % 2199023255552
+
+abbrev pub flow_of : ℕ → ℕ
+flow_of word = word % 1048576
+
+-- the number of a stage in a word
+abbrev pub code_of : PostStage → ℕ
+code_of Granted = 1
+code_of Drawn = 2
+code_of Reported = 3
+
+-- the word shows a post in this stage
+abbrev pub shows : PostStage → ℕ → Bool
+shows stage word = word / 2305843009213693952 == code_of stage
+
+-- what the word of a port tells of its stage: nothing where nothing was posted or the post was taken back, and never
+-- the agent or the units
+abbrev pub told_stage : PortStage → Option PostStage
+told_stage unposted = None
+told_stage granted = Some Granted
+told_stage (drawn agent) = Some Drawn
+told_stage (reported agent units) = Some Reported
+told_stage taken_back = None

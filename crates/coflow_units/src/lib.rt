@@ -8,6 +8,7 @@ mod limits;
 mod memory;
 mod plain;
 mod plan;
+mod port_word;
 mod quantity;
 mod trace;
 mod unit_size;
@@ -22,6 +23,7 @@ pub use limits::{
 pub use memory::NoMemory;
 pub use plain::load_of;
 pub use plan::{Place, Run};
+pub use port_word::{PortWord, PostStage};
 pub use quantity::Quantity;
 pub use trace::{CoflowLine, Reducer, Trace};
 pub use unit_size::UnitSize;

@@ -1,5 +1,5 @@
 -- An agent reads the length of a grant that it drew, counts its units and reports them.
-use Rattle.std.proofs.Common.{◌≡◌, ◌≢◌, inl, ℕ, ◌+◌, ◌<◌, ◌≤◌, eqb, List, [], ◌∷◌, length, get_or, set, sym, refl, ap, ◌∙◌, subst, arith, Bool, true}
+use Rattle.std.proofs.Common.{◌≡◌, ◌≢◌, inl, ℕ, ◌+◌, ◌<◌, ◌≤◌, eqb, List, [], ◌∷◌, get_or, set, sym, refl, ap, ◌∙◌, subst, arith, Bool, true}
 use Rattle.std.proofs.Common.{filter, not, true≢false, length-set, get_or-set_other, get_or-set_same, eq-eqb, ne_eqb}
 use Rattle.std.specs.Prelude.{All, Contains, slice_index}
 use Rattle.std.proofs.lemmas.List.Elements.{All-push, All-weaker, All-filter, filter_passes, All-contains, Contains-push, Contains-append_left}
@@ -10,7 +10,7 @@ use mathlib.Core.Logic.{dite}
 use mathlib.Core.Option.{none}
 use native.Mathlib.Decide.{ℕ_discrete}
 use Rattle.atomic_table.specs.Table.{step, keeps, Allows}
-use Rattle.coflow_units.specs.PortWord.{PortStage, word_of}
+use Rattle.coflow_units.specs.PortWord.{PortStage, word_of, slot_of}
 use Rattle.coflow_units.specs.PortWord.PortStage.{unposted, drawn, reported}
 use Rattle.port_board.specs.declared.view.Grant.{Grant}
 use Rattle.port_board.specs.declared.view.Report.{Report}
@@ -18,12 +18,11 @@ use Rattle.port_board.specs.declared.view.Step.{Step}
 use Rattle.port_board.specs.declared.view.Step.TheVariants.{Rests, Won, Counted}
 use Rattle.port_board.specs.declared.view.View.{View}
 use Rattle.port_board.specs.declared.view.Kind.TheVariants.{Agent}
-use Rattle.port_board.specs.Words.{slot_of}
-use Rattle.port_board.specs.Views.{grant, report, number_of, is_of, reported_as}
+use Rattle.port_board.specs.Views.{report, number_of, is_of, reported_as}
 use Rattle.port_board.specs.Rule.{grant_at, count_after, DifferAt, ReportsDiffer, Posted, Out, Back, Gone, Closed, CameOk, StepOk, Counts, Knows}
 use Rattle.port_board.specs.Rule.{Kept}
 use Rattle.port_board.specs.Tells.{won_count, after_length, reads_length, counts, counted, reports}
-use Rattle.port_board.proofs.Words.{IsDrawn, IsReported, drawer, reporter, units, slot_of-reported}
+use Rattle.coflow_units.proofs.PortWords.{IsDrawn, IsReported, drawer, reporter, units, slot_of-reported}
 use Rattle.port_board.proofs.Puts.{put2, put2_here, put2_other}
 use Rattle.port_board.proofs.Lists.{is_of-same, is_of-false, filter_keeps}
 use Rattle.port_board.proofs.Stays.{Follows, posted_stays, back_stays, gone_stays, closed_stays, came_stays, knows_stays_counted, ByAgent}

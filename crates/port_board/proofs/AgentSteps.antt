@@ -1,6 +1,6 @@
 -- Each step of an agent keeps the rule.
 use Rattle.std.proofs.Common.{◌≡◌, ◌≢◌, ◌⊎◌, inl, inr, ℕ, ◌+◌, ◌<◌, ◌≤◌, eqb, List, [], ◌∷◌, ◌++◌, length, get_or, set, sym, refl, ap, ◌∙◌, subst, ⊎_elim, arith, Bool, true, false}
-use Rattle.std.proofs.Common.{cond, not, true≢false, length-set, get_or-set_other, get_or-set_same, eq-eqb, ne_eqb}
+use Rattle.std.proofs.Common.{cond, true≢false, length-set, get_or-set_other, get_or-set_same, eq-eqb, ne_eqb}
 use Rattle.std.specs.Prelude.{All, Contains, slice_index}
 use Rattle.std.proofs.lemmas.List.Elements.{All-push, All-weaker, All-contains_itself, Contains-push, Contains-append_left}
 use Rattle.std.proofs.lemmas.List.Quantifiers.{all_pairs_push}
@@ -11,7 +11,7 @@ use native.Mathlib.Decide.{ℕ_discrete, dec_le}
 use lib.ListN.{get_elem?}
 use prog.Atomic.{either}
 use Rattle.atomic_table.specs.Table.{Me, step, keeps, stepped, Allows}
-use Rattle.coflow_units.specs.PortWord.{PortStage, word_of}
+use Rattle.coflow_units.specs.PortWord.{PortStage, word_of, shows_granted, slot_of, flow_of}
 use Rattle.coflow_units.specs.PortWord.PortStage.{unposted, granted, drawn, reported}
 use Rattle.port_board.specs.declared.view.Grant.{Grant}
 use Rattle.port_board.specs.declared.view.Report.{Report}
@@ -21,13 +21,11 @@ use Rattle.port_board.specs.declared.view.View.{View}
 use Rattle.port_board.specs.declared.view.Came.{Came}
 use Rattle.port_board.specs.declared.view.Kind.{Kind}
 use Rattle.port_board.specs.declared.view.Kind.TheVariants.{Agent, Poster}
-use Rattle.port_board.specs.Words.{shows_granted, slot_of, flow_of}
 use Rattle.port_board.specs.Views.{grant, IsNewest, report, number_of, missed_after}
 use Rattle.port_board.specs.Rule.{Cargo, PortOk, grant_at, DifferAt, HoldsOnce, Posted, Out, Gone, StepOk, Counts, Knows, HasOut}
 use Rattle.port_board.specs.Rule.{HasDone, Seated, Kept}
-use Rattle.port_board.specs.Tells.{loads, after_win, after_miss, draws, counts, counted, reports}
-use Rattle.port_board.proofs.Words.{IsGranted, IsDrawn, IsReported, drawer, slot_of-granted, flow_of-granted, granted_only}
-use Rattle.port_board.proofs.Words.{shows_granted-granted, stage_is}
+use Rattle.port_board.specs.Tells.{loads, after_win, after_miss, draws}
+use Rattle.coflow_units.proofs.PortWords.{IsGranted, IsDrawn, IsReported, drawer, slot_of-granted, flow_of-granted, granted_only, shows_granted-granted, stage_is}
 use Rattle.coflow_units.proofs.Changes.{put, put_else}
 use Rattle.port_board.proofs.Puts.{put2, put2_here, put2_keeps, put2_cases}
 use Rattle.port_board.proofs.Lists.{misses, misses_once}

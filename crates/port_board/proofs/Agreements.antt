@@ -9,7 +9,7 @@ use mathlib.Core.Logic.{dite}
 use mathlib.Core.Option.{some, some-injective}
 use native.Mathlib.Decide.{dec_le, ℕ_discrete}
 use lib.ListN.{get_elem?}
-use Rattle.coflow_units.specs.PortWord.{PortStage, word_of}
+use Rattle.coflow_units.specs.PortWord.{PortStage, word_of, shows_granted, shows_drawn, shows_reported, slot_of, flow_of}
 use Rattle.coflow_units.specs.PortWord.PortStage.{unposted, granted, drawn, reported, taken_back}
 use Rattle.port_board.specs.declared.view.Grant.{Grant}
 use Rattle.port_board.specs.declared.view.Report.{Report}
@@ -17,13 +17,12 @@ use Rattle.port_board.specs.declared.view.Settlement.{Settlement}
 use Rattle.port_board.specs.declared.view.View.{View}
 use Rattle.port_board.specs.declared.view.Came.{Came}
 use Rattle.port_board.specs.declared.view.Kind.TheVariants.{Agent, Poster}
-use Rattle.port_board.specs.Words.{shows_granted, shows_drawn, shows_reported, slot_of, flow_of}
 use Rattle.port_board.specs.Views.{report, settlement, is_of, last_at, slot_or_none, is_settled, is_left, is_unsettled, ShowsLast}
 use Rattle.port_board.specs.Rule.{grant_at, stage_after, DifferAt, StandOnce, Posted, Back, Gone, Closed, CameOk, Knows, PosterOk, agent, agents, IsNumber, Seated, Kept}
 use Rattle.port_board.specs.Agreement.{SharesNothing, EachPosted, EachMissedPosted, AnswersAgree, SentCameBack, SentByAgent, Agrees, NobodyHad}
 use Rattle.port_board.specs.Tells.{IsPending}
-use Rattle.port_board.proofs.Words.{IsGranted, IsDrawn, IsReported, IsTaken, reporter, units, shows_post, shows_granted-granted, shows_drawn-drawn, shows_reported-reported}
-use Rattle.port_board.proofs.Words.{stage_is}
+use Rattle.coflow_units.proofs.PortWords.{IsGranted, IsDrawn, IsReported, IsTaken, reporter, units, shows_post}
+use Rattle.coflow_units.proofs.PortWords.{shows_granted-granted, shows_drawn-drawn, shows_reported-reported, stage_is}
 use Rattle.port_board.proofs.Lists.{last_is, is_of-true, is_of-same}
 use Rattle.port_board.proofs.Moves.{St, total_none}
 use Rattle.port_board.proofs.AgentSteps.{not_poster}

@@ -1,4 +1,3 @@
-pub mod Words
 pub mod Puts
 pub mod Lists
 pub mod Stays

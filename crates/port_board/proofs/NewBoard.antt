@@ -11,7 +11,7 @@ use Rattle.port_board.specs.declared.view.Came.{Came}
 use Rattle.port_board.specs.declared.view.Kind.TheVariants.{Poster}
 use Rattle.port_board.specs.Rule.{Posted, Knows, PosterOk, IsNumber}
 use Rattle.port_board.specs.Rule.{Seated, Kept, first_poster}
-use Rattle.port_board.proofs.Words.{IsUnposted}
+use Rattle.coflow_units.proofs.PortWords.{IsUnposted}
 use Rattle.port_board.proofs.Seats.{none_pairs, blank_knows}
 
 module _ (n : ℕ) where

@@ -9,18 +9,17 @@ use mathlib.Core.Logic.{dite}
 use mathlib.Core.Option.{none}
 use native.Mathlib.Decide.{ℕ_discrete}
 use Rattle.atomic_table.specs.Table.{step, keeps, Allows}
-use Rattle.coflow_units.specs.PortWord.{PortStage, word_of, FitsWord}
+use Rattle.coflow_units.specs.PortWord.{PortStage, word_of, FitsWord, slot_of, flow_of}
 use Rattle.coflow_units.specs.PortWord.PortStage.{unposted, granted, drawn, reported, taken_back}
 use Rattle.port_board.specs.declared.view.Grant.{Grant}
 use Rattle.port_board.specs.declared.view.Settlement.{Settlement}
 use Rattle.port_board.specs.declared.view.Step.TheVariants.{Rests, Counted}
 use Rattle.port_board.specs.declared.view.View.{View}
 use Rattle.port_board.specs.declared.view.Kind.TheVariants.{Poster}
-use Rattle.port_board.specs.Words.{slot_of, flow_of}
 use Rattle.port_board.specs.Views.{grant, report, settlement, number_of, is_of, last_at, last_slot, slot_or_none, is_left, is_unsettled, posted_too}
 use Rattle.port_board.specs.Rule.{Cargo, PortOk, grant_at, count_after, stage_after, Posted, Out, Closed, Knows, PosterStep, PosterOk, HasOut, HasDone, Kept}
 use Rattle.port_board.specs.Tells.{counts, counted, posts}
-use Rattle.port_board.proofs.Words.{IsUnposted, IsGranted, IsDrawn, IsReported, IsTaken, slot_of-granted, flow_of-granted}
+use Rattle.coflow_units.proofs.PortWords.{IsUnposted, IsGranted, IsDrawn, IsReported, IsTaken, slot_of-granted, flow_of-granted}
 use Rattle.coflow_units.proofs.Changes.{put, put_here, put_else}
 use Rattle.port_board.proofs.Puts.{put2, put2_here, put2_other, put2_cases}
 use Rattle.port_board.proofs.Lists.{last_pushed, is_of-false}

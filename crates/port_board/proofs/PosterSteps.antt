@@ -1,6 +1,6 @@
 -- Each step of the poster keeps the rule.
 use Rattle.std.proofs.Common.{◌≡◌, ◌≢◌, ◌⊎◌, inl, ℕ, ◌+◌, ◌/◌, ◌<◌, eqb, List, [], ◌∷◌, ◌++◌, get_or, set, sym, refl, ap, ◌∙◌, subst, ⊎_elim, arith, Option, Some, None, Bool}
-use Rattle.std.proofs.Common.{true, false, cond, not, true≢false, ◌||◌, length-set, get_or-set_other, eq-eqb, ne_eqb}
+use Rattle.std.proofs.Common.{true, false, cond, true≢false, ◌||◌, length-set, get_or-set_other, eq-eqb, ne_eqb}
 use Rattle.std.specs.Prelude.{All, Contains, slice_index}
 use Rattle.std.proofs.lemmas.List.Elements.{All-push, All-weaker, Contains-push, Contains-append_left}
 use Rattle.std.proofs.lemmas.Bool.{cond_both, cond-true, cond-false, cases_Bool, eqb-true}
@@ -11,7 +11,7 @@ use lib.ListN.{get_elem?}
 use prog.Atomic.{either}
 use Rattle.atomic_table.specs.Table.{step, keeps, stepped, Allows}
 use Rattle.atomic_table.proofs.Lists.{set_here}
-use Rattle.coflow_units.specs.PortWord.{PortStage, word_of}
+use Rattle.coflow_units.specs.PortWord.{PortStage, word_of, shows_granted, shows_drawn, shows_reported}
 use Rattle.coflow_units.specs.PortWord.PortStage.{unposted, granted, drawn, reported, taken_back}
 use Rattle.port_board.specs.declared.view.Grant.{Grant}
 use Rattle.port_board.specs.declared.view.Settlement.{Settlement}
@@ -19,12 +19,11 @@ use Rattle.port_board.specs.declared.view.Step.{Step}
 use Rattle.port_board.specs.declared.view.Step.TheVariants.{Rests, Offered, Ready}
 use Rattle.port_board.specs.declared.view.View.{View}
 use Rattle.port_board.specs.declared.view.Kind.TheVariants.{Poster}
-use Rattle.port_board.specs.Words.{shows_granted, shows_drawn, shows_reported}
 use Rattle.port_board.specs.Views.{report, settlement, number_of, last_at, looked, settled_if, settled_as}
 use Rattle.port_board.specs.Rule.{Cargo, grant_at, count_after, Closed, StepOk, Counts, Knows, PosterStep, PosterOk, HasOut, HasDone, Kept}
 use Rattle.port_board.specs.Agreement.{NobodyHad}
-use Rattle.port_board.specs.Tells.{counts, posts, poster_step, seen_by_poster, poster_loads, takes_back, ready_port, reads_sent, learns}
-use Rattle.port_board.proofs.Words.{IsGranted, IsReported, IsTaken, granted_only, stage_is}
+use Rattle.port_board.specs.Tells.{poster_step, seen_by_poster, poster_loads, takes_back, ready_port, reads_sent, learns}
+use Rattle.coflow_units.proofs.PortWords.{IsGranted, IsReported, IsTaken, granted_only, stage_is}
 use Rattle.port_board.proofs.Puts.{put2, put2_here, put2_keeps, put2_cases}
 use Rattle.port_board.proofs.Stays.{Follows, knows_stays}
 use Rattle.port_board.proofs.Moves.{St, rebuilt, unmoved, inside_of}
@@ -277,9 +276,9 @@ module _ (n : ℕ) where
       ))
 
 -- what an unsettled word shows, where it is not granted
-pub is_reported : (word : ℕ) → shows_granted word ≡ false → (shows_granted word || (shows_drawn word || shows_reported word)) ≡ true → word / 2305843009213693952 ≢ 2 →
+pub is_reported : (word : ℕ) → shows_granted word ≡ false → (shows_granted word || (shows_drawn word || shows_reported word)) ≡ true → shows_drawn word ≡ false →
     shows_reported word ≡ true
-is_reported word idle any other = go (shows_granted word) (shows_drawn word) (shows_reported word) idle (ne_eqb (word / 2305843009213693952) 2 other) any
+is_reported word idle any other = go (shows_granted word) (shows_drawn word) (shows_reported word) idle other any
   where
     go : (a b c : Bool) → a ≡ false → b ≡ false → (a || (b || c)) ≡ true → c ≡ true
     go true b c x y e = absurd (true≢false x)

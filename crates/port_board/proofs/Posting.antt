@@ -15,7 +15,7 @@ use Rattle.port_board.specs.Views.{IsPoster, settlement, is_of, last_at, is_sett
 use Rattle.port_board.specs.Views.{agents_out}
 use Rattle.port_board.specs.declared.answer.Settled.{Settled}
 use Rattle.port_board.specs.declared.answer.Settled.TheVariants.{Sent, TakenBack, Busy}
-use Rattle.port_board.specs.Words.{shows_granted}
+use Rattle.coflow_units.specs.PortWord.{shows_granted}
 use Rattle.port_board.proofs.Lists.{last_is, last_pushed, is_of-same, is_of-false, any_pushed}
 use Rattle.port_board.proofs.AgentSteps.{M}
 

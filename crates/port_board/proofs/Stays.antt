@@ -14,7 +14,7 @@ use Rattle.port_board.specs.declared.view.View.{View}
 use Rattle.port_board.specs.declared.view.Came.{Came}
 use Rattle.port_board.specs.Views.{number_of}
 use Rattle.port_board.specs.Rule.{Cargo, grant_at, count_after, stage_after, Posted, Out, Back, Gone, Closed, CameOk, StepOk, Counts, Knows, PosterStep, PosterOk}
-use Rattle.port_board.proofs.Words.{IsDrawn, IsReported, IsTaken}
+use Rattle.coflow_units.proofs.PortWords.{IsDrawn, IsReported, IsTaken}
 use Rattle.port_board.proofs.Puts.{put2, put2_keeps}
 
 -- a post may be made, drawn, reported and taken back, and a made one is no longer unposted

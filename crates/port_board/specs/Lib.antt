@@ -1,4 +1,3 @@
-pub mod Words
 pub mod Views
 pub mod Rule
 pub mod Agreement

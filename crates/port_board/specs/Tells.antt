@@ -7,7 +7,7 @@ use Rattle.port_board.specs.declared.view.Step.{Step}
 use Rattle.port_board.specs.declared.view.Step.TheVariants.{Rests, Loaded, Won, Counted, Offered, Ready}
 use Rattle.port_board.specs.declared.view.Kind.TheVariants.{Note}
 use Rattle.port_board.specs.declared.view.View.{View}
-use Rattle.port_board.specs.Words.{shows_granted, shows_drawn, shows_reported, slot_of, flow_of}
+use Rattle.coflow_units.specs.PortWord.{shows_granted, shows_drawn, shows_reported, slot_of, flow_of}
 use Rattle.port_board.specs.Views.{grant, missed_after, found_idle, looked, reported_as, posted_too, settled_as}
 use Rattle.port_board.specs.Views.{last_at, is_unsettled, blank, sees, IsNewest, ShowsLast}
 use Rattle.port_board.specs.Rule.{HoldsOnce}

@@ -11,7 +11,7 @@ use Rattle.port_board.specs.declared.view.Kind.{Kind}
 use Rattle.port_board.specs.declared.view.Kind.TheVariants.{Note, Agent, Poster}
 use Rattle.port_board.specs.declared.view.Step.TheVariants.{Rests}
 use Rattle.port_board.specs.declared.view.View.{View}
-use Rattle.port_board.specs.Words.{shows_granted, slot_of, flow_of}
+use Rattle.coflow_units.specs.PortWord.{shows_granted, slot_of, flow_of}
 
 -- a board: which table it is, and how many ports it has
 pub record Board : Type 0 where

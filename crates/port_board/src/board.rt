@@ -1,14 +1,13 @@
 //! The board of port words, its poster and its agents.
 ghost use Rattle.std.specs.Prelude.{◌≡◌, ◌≢◌, ◌⊎◌, ℕ, ◌+◌, ◌-◌, ◌*◌, ◌/◌, ◌%◌, ◌^◌, ◌<◌, ◌≤◌, [], ◌∷◌, length, true, false, ◌||◌, AllPairs, Contains, Some, None, IfOk, Result};
 ghost use Rattle.coflow_units.specs.declared.limits.TheConstants.{MAX_FLOWS, MAX_PORTS, MAX_SLOT};
-ghost use Rattle.coflow_units.specs.PortWord.{word_of, FitsWord};
+ghost use Rattle.coflow_units.specs.PortWord.{word_of, FitsWord, shows_granted, shows_drawn, shows_reported};
 ghost use Rattle.coflow_units.specs.PortWord.PortStage.{granted};
 ghost use Rattle.port_board.specs.declared.view.Came.{Came};
 ghost use Rattle.port_board.specs.declared.view.Grant.{Grant};
 ghost use Rattle.port_board.specs.declared.view.Kind.TheVariants.{Agent};
 ghost use Rattle.port_board.specs.declared.view.Step.TheVariants.{Rests, Loaded};
 ghost use Rattle.port_board.specs.declared.view.View.{View};
-ghost use Rattle.port_board.specs.Words.{shows_granted, shows_drawn, shows_reported};
 ghost use Rattle.port_board.specs.Views.{grant, IsPoster, number_of, agents_out, is_unsettled, last_slot, last_at, LastIsListed, one_more, newcomer, sees, takes_in, looked, posted_too, settled_as, found_idle, found_other, drew, reported_as, Tried, IsLength, IsNewest, ShowsLast};
 ghost use Rattle.port_board.specs.Rule.{first_poster, HoldsOnce};
 ghost use Rattle.port_board.specs.Answers.{is_busy};
@@ -23,25 +22,12 @@ use crate::plays::{
 use crate::seat::{AgentSeat, Poster};
 use crate::view::{Place, Ports, View};
 use atomic_table::Table;
-use coflow_units::NoMemory;
+use coflow_units::{NoMemory, PortWord, PostStage};
 use std::alloc::Global;
 use std::marker::Model;
 
 #[cfg(test)]
 mod tests;
-
-// A port word is its state times 2^61, its slot times 2^20, and its flow.
-const STATE: u64 = 1 << 61;
-
-const SLOT: u64 = 1 << 20;
-
-const SLOTS: u64 = 1 << 41;
-
-const GRANTED: u64 = 1;
-
-const DRAWN: u64 = 2;
-
-const REPORTED: u64 = 3;
 
 /// A word and a count word for each ingress port, which any number of threads share.
 ///
@@ -160,7 +146,12 @@ impl PortBoard {
         let shared = &self.table.shared;
         let count = count_place(self.ports, port);
         shared.store::<Counts>(&mut poster.place, count, length);
-        let word = GRANTED * STATE + (slot * SLOT + u64::from(flow));
+        let word = PortWord {
+            stage: PostStage::Granted,
+            slot,
+            flow,
+        }
+        .bits();
         shared.store::<Posts>(&mut poster.place, port as usize, word);
         poster.posted[port as usize] = true;
     }
@@ -218,7 +209,7 @@ impl PortBoard {
         ensures once { HoldsOnce place.new.me.0 }
     {
         let loaded = self.table.shared.load::<Loads>(place, port as usize);
-        if loaded / STATE == GRANTED {
+        if PostStage::Granted.is_shown(loaded) {
             Ok(loaded)
         } else {
             Err(loaded)
@@ -245,7 +236,14 @@ impl PortBoard {
         ensures tried { (word : ℕ) → result ≢ Draw.Idle word }
     {
         let shared = &self.table.shared;
-        let drawn = loaded + STATE;
+        let Some(post) = PortWord::of_bits(loaded) else {
+            unreachable!();
+        };
+        let drawn = PortWord {
+            stage: PostStage::Drawn,
+            ..post
+        }
+        .bits();
         let found = shared.compare_exchange::<Draws>(place, port as usize, loaded, drawn);
         if found != loaded {
             return Draw::Missed { loaded, found };
@@ -253,8 +251,8 @@ impl PortBoard {
         let length = shared.load::<ReadsLength>(place, count_place(self.ports, port));
         Draw::Drawn(Drawn {
             port,
-            slot: found / SLOT % SLOTS,
-            flow: (found % SLOT) as u32,
+            slot: post.slot,
+            flow: post.flow,
             length,
         })
     }
@@ -276,7 +274,12 @@ impl PortBoard {
         let shared = &self.table.shared;
         let count = count_place(seat.ports, port);
         shared.store::<Counts>(&mut seat.place, count, sent);
-        let word = REPORTED * STATE + (slot * SLOT + u64::from(flow));
+        let word = PortWord {
+            stage: PostStage::Reported,
+            slot,
+            flow,
+        }
+        .bits();
         shared.store::<Reports>(&mut seat.place, port as usize, word);
     }
 
@@ -337,7 +340,7 @@ impl PortBoard {
     {
         let shared = &self.table.shared;
         let loaded = shared.load::<PosterLoads>(place, port as usize);
-        if loaded / STATE != GRANTED {
+        if !PostStage::Granted.is_shown(loaded) {
             return self.conclude(place, port, loaded);
         }
         let found = shared.compare_exchange::<TakesBack>(place, port as usize, loaded, 0);
@@ -365,7 +368,7 @@ impl PortBoard {
         ensures taken_back { result ≢ Settled.TakenBack }
         ensures agrees { Agrees place.new.me.0 }
     {
-        if word / STATE == DRAWN {
+        if PostStage::Drawn.is_shown(word) {
             return Settled::Busy(word);
         }
         let shared = &self.table.shared;

@@ -1,9 +1,10 @@
 //! An ingress port of a world: its word, its count, and what was settled.
-ghost use Rattle.std.specs.Prelude.{◌≡◌};
-ghost use Rattle.coflow_units.specs.PortWord.{FitsWord, is_drawn_by, is_granted, word_of};
+ghost use Rattle.std.specs.Prelude.{◌≡◌, Some};
+ghost use Rattle.coflow_units.specs.PortWord.{FitsWord, PortStage, is_drawn_by, is_granted, told_stage, word_of};
 ghost use Rattle.world_model.specs.Port.{answered_by, idle_port, port_of, settled_by, stage_of};
 
 use crate::event::Happened;
+use coflow_units::{PortWord, PostStage};
 
 /// What became of the last grant that was posted at a port.
 #[derive(Clone, Copy, Debug, PartialEq, Eq)]
@@ -31,10 +32,6 @@ pub struct PortState {
     pub settled: Option<u64>,
     pub sent: u64,
 }
-
-const SLOT: u64 = 1 << 20;
-
-const STATE: u64 = 1 << 61;
 
 impl PortState {
     /// A port at which nothing was posted.
@@ -77,13 +74,25 @@ impl PortState {
         requires { FitsWord self.now.slot self.now.flow }
         ensures { result ≡ word_of (stage_of self.now.stage) self.now.slot self.now.flow }
     {
-        let post = self.slot * SLOT + u64::from(self.flow);
         match self.stage {
             Stage::Unposted | Stage::TakenBack => 0,
-            Stage::Granted => STATE + post,
-            Stage::Drawn(_) => 2 * STATE + post,
-            Stage::Reported { .. } => 3 * STATE + post,
+            Stage::Granted => self.shown(PostStage::Granted),
+            Stage::Drawn(_) => self.shown(PostStage::Drawn),
+            Stage::Reported { .. } => self.shown(PostStage::Reported),
         }
+    }
+
+    // The word of the last post in a stage.
+    fn shown(&self, stage: PostStage) -> u64
+        requires fits { FitsWord self.now.slot self.now.flow }
+        ensures word { (x : PortStage) → told_stage x ≡ Some stage → result ≡ word_of x self.now.slot self.now.flow }
+    {
+        PortWord {
+            stage,
+            slot: self.slot,
+            flow: self.flow,
+        }
+        .bits()
     }
 
     /// Settles the last post: by the count where it was reported, and by 0 where nobody drew it, which takes it back. Where an agent has drawn it and has not reported, the

@@ -3,7 +3,7 @@ use Rattle.std.specs.Prelude.{Contains}
 use Rattle.std.proofs.lemmas.List.Elements.{Contains-push}
 use Rattle.port_board.specs.declared.view.Kind.TheVariants.{Agent}
 use Rattle.atomic_table.specs.Seated.{TableId}
-use Rattle.port_board.specs.Words.{shows_granted}
+use Rattle.coflow_units.specs.PortWord.{shows_granted}
 use Rattle.port_board.specs.Views.{number_of, IsNewest, LastIsListed}
 use Rattle.port_board.specs.Tells.{loaded_now, drawn_now, after_miss}
 use Rattle.port_board.proofs.AgentSteps.{M}

@@ -1,14 +1,14 @@
-use Rattle.std.proofs.Common.{◌≡◌, ℕ, ◌+◌, ◌*◌, ◌<◌, sym, ap, ◌∙◌, subst, refl}
+use Rattle.std.proofs.Common.{◌≡◌, ℕ, ◌+◌, ◌<◌, sym, ap, ◌∙◌, subst, refl}
 use Rattle.std.specs.Prelude.{Contains}
 use Rattle.std.proofs.lemmas.List.Elements.{All-contains}
-use Rattle.coflow_units.specs.PortWord.{FitsWord}
+use Rattle.coflow_units.specs.PortWord.{FitsWord, slot_of}
+use Rattle.coflow_units.specs.PortWord.PortStage.{reported}
 use Rattle.port_board.specs.declared.view.Grant.{Grant}
 use Rattle.port_board.specs.declared.view.View.{View}
 use Rattle.port_board.specs.declared.view.Step.TheVariants.{Counted}
 use Rattle.port_board.specs.Views.{grant, reported_as}
-use Rattle.port_board.specs.Words.{slot_of}
 use Rattle.port_board.specs.Tells.{counted}
-use Rattle.port_board.proofs.Words.{slot_of-reported}
+use Rattle.coflow_units.proofs.PortWords.{slot_of-reported}
 use Rattle.port_board.proofs.AgentSteps.{M}
 use Rattle.port_board.proofs.AgentReports.{counting, reporting}
 use Rattle.port_board.proofs.Sitting.{SeatOk, in_board, after_report, carry}
@@ -52,7 +52,7 @@ store-requires-2 c =
       range.3,
       reporting _ _ _ _ _ _ c.args.sent _ g (ap (λ (m : M). m.0.kind) e ∙ c.seat.invariant.2) (ap (λ (m : M). m.0.step) e ∙ ap (λ z. Counted z c.args.sent) at)
           (subst (λ (m : M). Contains m.0.out g) (sym e) has.0) refl range.1
-          (ap (λ z. 6917529027641081856 + (c.drawn.inside.slot * 1048576 + z)) c.from.ensures),
+          (c.bits-word.ensures.word (reported 0 c.args.sent) refl),
     )
 
 pub invariant_of-seat : goal.invariant_of-seat
@@ -63,8 +63,7 @@ invariant_of-seat c =
     in
     let e = c.store.ensures.2 in
     let now = subst (λ (m : M). Contains m.0.out g) (sym e) has.0 in
-    let word : ℕ → ℕ = λ z. 6917529027641081856 + (c.drawn.inside.slot * 1048576 + z) in
-    let slot_is = sym (ap (λ z. slot_of (word z)) c.from.ensures ∙ slot_of-reported 0 0 c.drawn.inside.slot c.drawn.inside.flow has.2) in
+    let slot_is = sym (ap slot_of (c.bits-word.ensures.word (reported 0 0) refl) ∙ slot_of-reported 0 0 c.drawn.inside.slot c.drawn.inside.flow has.2) in
     let went = c.store-2.ensures.2 g now refl slot_is ∙ ap (λ (m : M). (reported_as g (counted m.0.step) m.0, m.1)) e in
     carry _ _ _ _ _ (c.store-2.ensures.0 ∙ c.store.ensures.0) went (after_report c.seat.inside.ports _ c.args.sent g c.seat.inside.place.me c.seat.invariant)
 
@@ -76,7 +75,6 @@ returns-clause-report c =
     in
     let e = c.store.ensures.2 in
     let now = subst (λ (m : M). Contains m.0.out g) (sym e) has.0 in
-    let word : ℕ → ℕ = λ z. 6917529027641081856 + (c.drawn.inside.slot * 1048576 + z) in
-    let slot_is = sym (ap (λ z. slot_of (word z)) c.from.ensures ∙ slot_of-reported 0 0 c.drawn.inside.slot c.drawn.inside.flow has.2) in
+    let slot_is = sym (ap slot_of (c.bits-word.ensures.word (reported 0 0) refl) ∙ slot_of-reported 0 0 c.drawn.inside.slot c.drawn.inside.flow has.2) in
     let went = c.store-2.ensures.2 g now refl slot_is ∙ ap (λ (m : M). (reported_as g (counted m.0.step) m.0, m.1)) e in
     ap (λ (m : M). m.0) went ∙ (λ i. reported_as (c.drawn.view_is i) c.args.sent (view i))

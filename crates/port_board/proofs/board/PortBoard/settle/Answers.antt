@@ -3,7 +3,7 @@ use Rattle.port_board.specs.declared.view.View.{View}
 use Rattle.port_board.specs.declared.answer.Settled.{Settled}
 use Rattle.port_board.specs.Views.{last_at, is_unsettled, looked, settled_as, Tried, ShowsLast}
 use Rattle.port_board.specs.declared.answer.Settled.TheVariants.{Sent, TakenBack, Busy}
-use Rattle.port_board.specs.Words.{shows_granted, shows_drawn, shows_reported}
+use Rattle.coflow_units.specs.PortWord.{shows_granted, shows_drawn, shows_reported}
 use Rattle.port_board.specs.Answers.{is_busy}
 use Rattle.port_board.specs.Agreement.{NobodyHad}
 use Rattle.port_board.proofs.AgentSteps.{M}

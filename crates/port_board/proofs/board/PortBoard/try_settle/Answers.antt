@@ -1,6 +1,6 @@
-use Rattle.std.proofs.Common.{rules, ◌≡◌, ℕ, inl, inr, ◌+◌, ◌∙◌, sym, ap, refl, subst, cond, true, eq-eqb, ne_eqb, Some, None}
+use Rattle.std.proofs.Common.{rules, ◌≡◌, ℕ, inl, inr, ◌+◌, ◌∙◌, sym, ap, refl, subst, cond, true, ne_eqb, Some, None}
 use Rattle.port_board.specs.declared.view.Grant.{Grant}
-use Rattle.port_board.specs.Words.{shows_drawn}
+use Rattle.coflow_units.specs.PortWord.{shows_drawn}
 use Rattle.port_board.specs.Views.{last_at, looked, settled_as, ShowsLast}
 use Rattle.port_board.specs.Agreement.{NobodyHad}
 use Rattle.port_board.specs.Tells.{seen_by_poster, IsPending}
@@ -11,8 +11,8 @@ use Rattle.port_board.proofs.board.PortBoard.try_settle.Goals as goal
 pub load-loaded-requires : goal.load-loaded-requires
 load-loaded-requires c = (search rules, search rules, poster_loading _ _ _ _ _ c.requires.poster.0 c.requires.poster.1 (search rules))
 
-pub returns-then-loaded-ne-GRANTED-clause-sent : goal.returns-then-loaded-ne-GRANTED-clause-sent
-returns-then-loaded-ne-GRANTED-clause-sent c n is =
+pub returns-then-not-is_shown-clause-sent : goal.returns-then-not-is_shown-clause-sent
+returns-then-not-is_shown-clause-sent c n is =
     let e = c.load-loaded.ensures.2.0 in
     let t = c.conclude.ensures.sent n is in (
       c.load-loaded.result,
@@ -29,7 +29,7 @@ compare_exchange-found-requires c =
       search rules,
       search rules,
       taking _ _ _ _ _ _ (ap (λ (m : M). m.0.kind) e ∙ c.requires.poster.0)
-          (ap (λ (m : M). m.0.step) e ∙ step_offered _ _ (eq-eqb _ _ c.if-loaded-ne-GRANTED.false)) (search rules),
+          (ap (λ (m : M). m.0.step) e ∙ step_offered _ _ (sym c.is_shown.ensures ∙ c.if-not-is_shown.false)) (search rules),
     )
 
 pub returns-then-found-loaded-clause-nobody : goal.returns-then-found-loaded-clause-nobody
@@ -50,7 +50,7 @@ returns-clause-sent c n is =
     let t = c.conclude-2.ensures.sent n is in (
       c.compare_exchange-found.result,
       looked c.args.port c.load-loaded.result c.args.place.now.me.0,
-      inr (c.load-loaded.result, eq-eqb _ _ c.if-loaded-ne-GRANTED.false, refl),
+      inr (c.load-loaded.result, sym c.is_shown.ensures ∙ c.if-not-is_shown.false, refl),
       t.0,
       t.1 ∙ (ap (λ (m : M). looked (c.args.self.now.ports + c.args.port) n (settled_as c.args.port (Some n) m.0)) x
           ∙ ap (λ (m : M). looked (c.args.self.now.ports + c.args.port) n (settled_as c.args.port (Some n) (seen_by_poster c.args.port c.compare_exchange-found.result m.0))) e),
@@ -69,7 +69,7 @@ returns-clause-busy c word is =
     let t = c.conclude-2.ensures.busy word is in
     let shown = subst (λ z. shows_drawn z ≡ true) (sym t.0) t.1 in (
       looked c.args.port c.load-loaded.result c.args.place.now.me.0,
-      inr (c.load-loaded.result, eq-eqb _ _ c.if-loaded-ne-GRANTED.false, refl),
+      inr (c.load-loaded.result, sym c.is_shown.ensures ∙ c.if-not-is_shown.false, refl),
       shown,
       ap (λ (m : M). m.0) (t.2 ∙ (x ∙ ap (λ (m : M). (seen_by_poster c.args.port c.compare_exchange-found.result m.0, m.1)) e))
           ∙ (λ i. record (looked c.args.port (sym t.0 i) (looked c.args.port c.load-loaded.result c.args.place.now.me.0))

@@ -1,8 +1,7 @@
 -- Port words: each stands for one stage, slot and flow.
-use Rattle.std.proofs.Common.{◌≡◌, ◌≢◌, ℕ, ◌/◌, arith, refl, true, eq-eqb}
-use Rattle.coflow_units.specs.PortWord.{PortStage, word_of, FitsWord}
+use Rattle.std.proofs.Common.{◌≡◌, ◌≢◌, ℕ, ◌+◌, ◌/◌, arith, refl, true, eq-eqb, eqb-true}
+use Rattle.coflow_units.specs.PortWord.{PortStage, word_of, FitsWord, shows_granted, shows_drawn, shows_reported, slot_of, flow_of}
 use Rattle.coflow_units.specs.PortWord.PortStage.{unposted, granted, drawn, reported, taken_back}
-use Rattle.port_board.specs.Words.{shows_granted, shows_drawn, shows_reported, slot_of, flow_of}
 
 -- the stages told apart
 abbrev pub IsUnposted : PortStage → Type 0
@@ -80,3 +79,10 @@ stage_is granted k f state a e = ((λ s. refl), (λ s. absurd (omega (arith, a.0
 stage_is (drawn j) k f state a e = ((λ s. absurd (omega (arith, a.0, a.1, e, s))), (λ s. (j, refl)), (λ s. absurd (omega (arith, a.0, a.1, e, s))))
 stage_is (reported j n) k f state a e = ((λ s. absurd (omega (arith, a.0, a.1, e, s))), (λ s. absurd (omega (arith, a.0, a.1, e, s))), (λ s. (j, n, refl)))
 stage_is taken_back k f state a e = ((λ s. absurd (omega (arith, a.0, a.1, e, s))), (λ s. absurd (omega (arith, a.0, a.1, e, s))), (λ s. absurd (omega (arith, a.0, a.1, e, s))))
+
+-- a drawn word has what the granted one has, and the stage that follows
+pub draws_the_word : (word a slot flow : ℕ) → shows_granted word ≡ true → slot ≡ slot_of word → flow ≡ flow_of word →
+    word_of (drawn a) slot flow ≡ word + 2305843009213693952
+draws_the_word word a slot flow shown at of =
+    let one : word / 2305843009213693952 ≡ 1 = eqb-true _ 1 shown in
+    omega (arith, one, at, of)
