@@ -8,7 +8,7 @@ use Rattle.port_board.specs.declared.view.Step.TheVariants.{Rests, Loaded, Won, 
 use Rattle.port_board.specs.declared.view.Kind.TheVariants.{Note}
 use Rattle.port_board.specs.declared.view.View.{View}
 use Rattle.coflow_units.specs.PortWord.{shows_granted, shows_drawn, shows_reported, slot_of, flow_of}
-use Rattle.port_board.specs.Views.{grant, missed_after, found_idle, looked, reported_as, posted_too, settled_as}
+use Rattle.port_board.specs.Views.{grant, found_idle, looked, reported_as, posted_too, settled_as}
 use Rattle.port_board.specs.Views.{last_at, is_unsettled, blank, sees, IsNewest, ShowsLast}
 use Rattle.port_board.specs.Rule.{HoldsOnce}
 use Rattle.port_board.specs.Agreement.{Agrees, NobodyHad}
@@ -38,7 +38,7 @@ after_win port word count v = record v {
 }
 
 abbrev pub after_miss : ℕ → ℕ → View → View
-after_miss port word v = record v { step = Rests; looks = v.looks ++ (port, word) ∷ []; missed = missed_after v port }
+after_miss port word v = found_idle port word v
 
 abbrev pub after_draw : ℕ → ℕ → ℕ → ℕ → View → View
 after_draw port old count found v = cond (found == old) (after_win port found count v) (after_miss port found v)
