@@ -34,16 +34,6 @@ is_drawn_by agent stage = false
 abbrev pub FitsWord : ℕ → ℕ → Type 0
 FitsWord slot flow = (slot < 2199023255552) × (flow < 1048576)
 
--- what a word shows: granted and not drawn, drawn and not reported, or reported
-abbrev pub shows_granted : ℕ → Bool
-shows_granted word = word / 2305843009213693952 == 1
-
-abbrev pub shows_drawn : ℕ → Bool
-shows_drawn word = word / 2305843009213693952 == 2
-
-abbrev pub shows_reported : ℕ → Bool
-shows_reported word = word / 2305843009213693952 == 3
-
 abbrev pub slot_of : ℕ → ℕ
 slot_of word = (word / 1048576) % 2199023255552
 
@@ -56,9 +46,18 @@ code_of Granted = 1
 code_of Drawn = 2
 code_of Reported = 3
 
--- the word shows a post in this stage
+-- the word shows a post in this stage: granted and not drawn, drawn and not reported, or reported
 abbrev pub shows : PostStage → ℕ → Bool
 shows stage word = word / 2305843009213693952 == code_of stage
+
+abbrev pub shows_granted : ℕ → Bool
+shows_granted = shows Granted
+
+abbrev pub shows_drawn : ℕ → Bool
+shows_drawn = shows Drawn
+
+abbrev pub shows_reported : ℕ → Bool
+shows_reported = shows Reported
 
 -- what the word of a port tells of its stage: nothing where nothing was posted or the post was taken back, and never
 -- the agent or the units
