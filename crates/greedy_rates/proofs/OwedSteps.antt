@@ -174,12 +174,16 @@ egress_closes table busy e lt in_range some free =
 -- ---- the first flow of a group that owes and finds its egress free
 
 -- a number of a flow of the group that begins with the first flow
-pub record IsFound (flows : List Flow) (o : Owed) (at : List (Option ℕ)) (busy : List Bool) (first behind number : ℕ) : Type 0 where
+pub record IsOfGroup (flows : List Flow) (o : Owed) (first behind number : ℕ) : Type 0 where
   pub owed : IsOwed flows o
   pub first_in : first < length flows
   pub behind_is : behind ≡ get_or o.behind first 0
   pub from : first ≤ number
   pub below : number < behind
+
+-- the flow owes, and its ports are free
+pub record IsFound (flows : List Flow) (o : Owed) (at : List (Option ℕ)) (busy : List Bool) (first behind number : ℕ) : Type 0 where
+  pub group : IsOfGroup flows o first behind number
   pub some : 0 < get_or o.left number 0
   pub in_range : ingress_of flows number < length at
   pub out_range : egress_of flows number < length busy
@@ -197,27 +201,29 @@ same_ingress flows o first behind number owed lt is from below = owed.groups.ing
 pub found_closes_ingress : (flows : List Flow) (o : Owed) (at : List (Option ℕ)) (busy : List Bool) (first behind number : ℕ) → IsFound flows o at busy first behind number →
     open_ingresses o.at_ingress (set at (ingress_of flows number) (Some number)) + 1 ≡ open_ingresses o.at_ingress at
 found_closes_ingress flows o at busy first behind number found =
-    let lt : number < length o.left = omega (arith, number_in_flows flows o first behind number found.owed found.first_in found.behind_is found.below, found.owed.count) in
-    ingress_closes o.at_ingress at (ingress_of flows number) number (found.owed.ingresses.within number lt) found.in_range
-    (owes_at (ingress_of flows) o.left o.at_ingress number found.owed.ingresses lt found.some) found.in_free
+    let lt : number < length o.left =
+    omega (arith, number_in_flows flows o first behind number found.group.owed found.group.first_in found.group.behind_is found.group.below, found.group.owed.count) in
+    ingress_closes o.at_ingress at (ingress_of flows number) number (found.group.owed.ingresses.within number lt) found.in_range
+    (owes_at (ingress_of flows) o.left o.at_ingress number found.group.owed.ingresses lt found.some) found.in_free
 
 pub found_closes_egress : (flows : List Flow) (o : Owed) (at : List (Option ℕ)) (busy : List Bool) (first behind number : ℕ) → IsFound flows o at busy first behind number →
     open_egresses o.at_egress (set busy (egress_of flows number) true) + 1 ≡ open_egresses o.at_egress busy
 found_closes_egress flows o at busy first behind number found =
-    let lt : number < length o.left = omega (arith, number_in_flows flows o first behind number found.owed found.first_in found.behind_is found.below, found.owed.count) in
-    egress_closes o.at_egress busy (egress_of flows number) (found.owed.egresses.within number lt) found.out_range
-    (owes_at (egress_of flows) o.left o.at_egress number found.owed.egresses lt found.some) found.out_free
+    let lt : number < length o.left =
+    omega (arith, number_in_flows flows o first behind number found.group.owed found.group.first_in found.group.behind_is found.group.below, found.group.owed.count) in
+    egress_closes o.at_egress busy (egress_of flows number) (found.group.owed.egresses.within number lt) found.out_range
+    (owes_at (egress_of flows) o.left o.at_egress number found.group.owed.egresses lt found.some) found.out_free
 
 pub found_is_granted : (flows : List Flow) (line : List ℕ) (o : Owed) (k : ℕ) (at : List (Option ℕ)) (busy : List Bool) (first behind number : ℕ) →
     IsFound flows o at busy first behind number →
     ((f : ℕ) → first ≤ f → f < behind → place_in line (coflow_of flows f) ≡ k) → IsGranting flows line (λ f. get_or o.left f 0) k number at busy →
     IsGranting flows line (λ f. get_or o.left f 0) k behind (set at (ingress_of flows number) (Some number)) (set busy (egress_of flows number) true)
 found_is_granted flows line o k at busy first behind number found placed so_far =
-    let here = same_ingress flows o first behind number found.owed found.first_in found.behind_is found.from found.below in
-    group_is_granted flows line (λ f. get_or o.left f 0) k number behind at busy found.below
-    (number_in_flows flows o first behind number found.owed found.first_in found.behind_is found.below)
-    (λ f from to. placed f (omega (arith, from, found.from)) to)
-    (λ f from to. same_ingress flows o first behind f found.owed found.first_in found.behind_is (omega (arith, from, found.from)) to ∙ sym here)
+    let here = same_ingress flows o first behind number found.group.owed found.group.first_in found.group.behind_is found.group.from found.group.below in
+    group_is_granted flows line (λ f. get_or o.left f 0) k number behind at busy found.group.below
+    (number_in_flows flows o first behind number found.group.owed found.group.first_in found.group.behind_is found.group.below)
+    (λ f from to. placed f (omega (arith, from, found.group.from)) to)
+    (λ f from to. same_ingress flows o first behind f found.group.owed found.group.first_in found.group.behind_is (omega (arith, from, found.group.from)) to ∙ sym here)
     found.some found.in_range found.out_range found.in_free found.out_free so_far
 
 -- what was read from a list that is lent

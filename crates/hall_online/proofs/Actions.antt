@@ -96,7 +96,7 @@ module _ (hall : HallModel) (old : RunnerModel) (arrivals : List ℕ) (every : �
 
   -- the coflow that joins or leaves is one of the table's
   pub joins_low : (c : ℕ) → ComesFirst s p (Join c) → c < length o.table.ids
-  joins_low c first = omega (arith, (first_here (Join c) first).applies.waits.coflow_in, now_holds.stands.arrivals_len)
+  joins_low c first = omega (arith, (first_here (Join c) first).applies.waits.coflow_in, now_holds.stands.given.each_arrival)
 
   pub leaves_low : (c : ℕ) → ComesFirst s p (Leave c) → c < length o.table.ids
   leaves_low c first = below o s j now_holds.stands c (first_here (Leave c) first).applies.served.is_present.joined
@@ -160,7 +160,7 @@ module _ (hall : HallModel) (old new : RunnerModel) (arrivals : List ℕ) (every
         is_marked q.present.items d ≡ (is_marked (slice_set s.registered c true) d && not (is_marked s.withdrawn d))
     joined_present is d = elim (cases_eq d c) [
       | inl same ↦
-          let low : c < length p.present.items = omega (arith, here_joins.applies.waits.coflow_in, h.tells.each_present, holds'.stands.arrivals_len) in
+          let low : c < length p.present.items = omega (arith, here_joins.applies.waits.coflow_in, h.tells.each_present, holds'.stands.given.each_arrival) in
           let low' : c < length s.registered = omega (arith, here_joins.applies.waits.coflow_in, holds'.stands.registered_len) in
           let yes : is_marked q.present.items d ≡ true =
           ap (λ l. is_marked l d) is ∙ ap (is_marked (slice_set p.present.items c true)) same ∙ get_or-set_same p.present.items c true false low in
@@ -210,7 +210,7 @@ module _ (hall : HallModel) (old new : RunnerModel) (arrivals : List ℕ) (every
       | inl same ↦
           let low' : c < length o'.table.ids = below o' s j' holds'.stands c here_leaves.applies.served.is_present.joined in
           let low : c < length p.present.items = omega (arith, low', h.tells.each_present) in
-          let low'' : c < length s.withdrawn = omega (arith, low', holds'.stands.withdrawn_len, holds'.stands.arrivals_len) in
+          let low'' : c < length s.withdrawn = omega (arith, low', holds'.stands.withdrawn_len, holds'.stands.given.each_arrival) in
           let no' : is_marked q.present.items d ≡ false =
           ap (λ l. is_marked l d) is ∙ ap (is_marked (slice_set p.present.items c false)) same ∙ get_or-set_same p.present.items c false false low in
           no' ∙
@@ -290,7 +290,7 @@ module _ (hall : HallModel) (old new : RunnerModel) (arrivals : List ℕ) (every
   fits = arrival_fits o'' s j'' holds''.stands at here_skips.applies.arrival.1.arrival
 
   nobody : SomeOwes s.registered s.withdrawn (owed_after o'' j'') → ⊥
-  nobody = skip_none_owes s (time_of o'' j'') (owed_after o'' j'') to holds''.stands.epoch_some here_skips
+  nobody = skip_none_owes s (time_of o'' j'') (owed_after o'' j'') to holds''.stands.given.epoch_some here_skips
 
   later : time_of o'' j'' < at
   later = here_skips.applies.arrival.1.later
@@ -300,7 +300,7 @@ module _ (hall : HallModel) (old new : RunnerModel) (arrivals : List ℕ) (every
 
   pub pass_answer : answer o'' (state_of o'' j'') (Skip to) ≡ Skipped to
   pass_answer =
-      ap (λ x. on_run x (λ r. StillOpen r.first) (skipped o'' (state_of o'' j'') to)) holds''.stands.closed ∙
+      ap (λ x. on_run x (λ r. StillOpen r.first) (skipped o'' (state_of o'' j'') to)) holds''.stands.journal.closed ∙
       ap {B = Reply}
       (λ n. if nat_lt 0 n then StillOwed (slice_index_or (owing o'' (state_of o'' j'')) 0 0) else if nat_le slot_end to then Late to else Skipped (max (state_of o'' j'').next to))
       (none_owing o'' s j'' holds''.stands nobody) ∙

@@ -93,7 +93,7 @@ module _ (hall : HallModel) (r : RunnerModel) (arrivals : List ℕ) (every : ℕ
     room = room;
     ready = ready;
     journal_is = none;
-    so_far = record { done = tt; legal = (holds_first o arrivals every input).stands.legal };
+    so_far = record { done = tt; legal = (holds_first o arrivals every input).stands.journal.legal };
     course_is = refl;
     tells = subst (λ l. TellsRun o (at_first arrivals every) l p) (sym none)
         (record {

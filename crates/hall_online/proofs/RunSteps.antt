@@ -316,6 +316,6 @@ module _ (hall : HallModel) (old : RunnerModel) (arrivals : List â„•) (every : â
     goes_on = x.run.journal;
     alone = none_earlier hall old new most x.drive h.ready x.run;
     legal = x.run.seen.legal;
-    cut = cut_at faults wruns o most old new mid after' port units x (whole_unnoted o j held.stands.legal held.stands.no_notes);
+    cut = cut_at faults wruns o most old new mid after' port units x (whole_unnoted o j held.stands.journal.legal held.stands.journal.no_notes);
     sent = sent_more new x.drive x.run faults wruns before mid after' x.wires had;
   }

@@ -27,7 +27,7 @@ time_fits hall r arrivals every s p h =
 pub owed_each : (hall : HallModel) (r : RunnerModel) (arrivals : List ℕ) (every : ℕ) (s : Course) (p : Progress) → IsUnderWay hall r arrivals every s p →
     length p.owed.items ≡ length s.arrivals
 owed_each hall r arrivals every s p h =
-    omega (arith, owed_length hall.setting.opening s r.driver.journal p h.tells, (now_holds hall r arrivals every s p h).stands.arrivals_len)
+    omega (arith, owed_length hall.setting.opening s r.driver.journal p h.tells, (now_holds hall r arrivals every s p h).stands.given.each_arrival)
 
 pub ends_so : (hall : HallModel) (r : RunnerModel) (arrivals : List ℕ) (every : ℕ) (s : Course) (p : Progress) → IsUnderWay hall r arrivals every s p → ComesFirst s p End →
     EndsAs hall.setting.opening arrivals every p
@@ -55,7 +55,8 @@ module _ {W : Type 0} (faults : W → ℕ) (wruns : W → Option (List (ℕ × �
         slots = schedule_of o j;
         served = record { deeds = h.deeds; so_far = h.so_far; slots_are = ap (schedule_of o) h.journal_is };
         units = have_so faults wruns (λ port x. x ≡ wire_of o j port) (AreUnits o.table.flows (schedule_of o j)) o.table.ports before now
-            (λ port x e. subst (AreUnits o.table.flows (schedule_of o j) port) (sym e) (are_units o j (schedule_of o j) port st.legal st.in_range (λ k f is. is))) had;
+            (λ port x e. subst (AreUnits o.table.flows (schedule_of o j) port) (sym e)
+            (are_units o j (schedule_of o j) port st.journal.legal st.journal.in_range (λ k f is. is))) had;
       }
 
   pub all_sent : (hall : HallModel) (r : RunnerModel) (arrivals : List ℕ) (every : ℕ) (s : Course) (p : Progress) (before now : List W) → IsUnderWay hall r arrivals every s p →
@@ -67,7 +68,7 @@ module _ {W : Type 0} (faults : W → ℕ) (wruns : W → Option (List (ℕ × �
       have_so faults wruns (λ port x. x ≡ wire_of o j port) (AreAllUnits o.table.flows p.schedule) o.table.ports before now
       (λ port x e.
       subst (λ l. AreAllUnits o.table.flows l port x) (sym h.tells.schedule_is)
-      (subst (AreAllUnits o.table.flows (schedule_of o j) port) (sym e) (all_units o j port st.legal st.in_range))) had
+      (subst (AreAllUnits o.table.flows (schedule_of o j) port) (sym e) (all_units o j port st.journal.legal st.journal.in_range))) had
 
   pub sends_on : (hall : HallModel) (r t : RunnerModel) (before now : List W) → SendsNothing hall r t → HaveSent wruns hall r before now → HaveSent wruns hall t before now
   sends_on hall r t before now same had =

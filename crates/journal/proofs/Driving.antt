@@ -62,16 +62,20 @@ on_wire flows d r port (Some f) first e sent =
 
 -- ---- the closing
 
--- What is known of a journal that ends with the closing of a run: the run that was open, and that the rest is as it was before.
-record IsEnd (o : Opening) (before j : List Entry) (d : Drive) (r : Run) : Type 0 where
-  run : (state_of o j).run ≡ Some r
-  leaves : LeavesSlots o before j
-  none : (state_of o before).run ≡ None
-  at_next : d.first ≡ (state_of o before).next
+-- the run is the driven one, with the units that were sent
+record IsRunOf (o : Opening) (before : List Entry) (d : Drive) (r : Run) : Type 0 where
   first : r.first ≡ d.first
   slots : r.slots ≡ d.slots
   granted : r.granted ≡ driven o before d
   credits : CreditsAsSent o.table.flows d r
+
+-- What is known of a journal that ends with the closing of a run: the run that was open, and that the rest is as it was before.
+record IsEnd (o : Opening) (before j : List Entry) (d : Drive) (r : Run) : Type 0 where
+  run : (state_of o j).run ≡ Some r
+  as_driven : IsRunOf o before d r
+  leaves : LeavesSlots o before j
+  none : (state_of o before).run ≡ None
+  at_next : d.first ≡ (state_of o before).next
   grants : IsGrants o.table.flows (line_of o (opened_in before d)) (owed o (state_of o (opened_in before d))) (driven o before d)
   count : d.count ≡ length (driven o before d)
 
@@ -92,23 +96,33 @@ ends o before d r legal ok h =
       run_before = h.none;
       run_after = ap (λ (t : State). t.run) state;
       first = h.at_next;
-      next = ap (λ (t : State). t.next) state ∙ omega (arith, h.first, h.at_next, h.slots);
+      next = ap (λ (t : State). t.next) state ∙ omega (arith, h.as_driven.first, h.at_next, h.as_driven.slots);
       sent = λ f.
           ap (λ (t : State). t.sent f) state ∙ ap (λ n. n + credit flows r f) (h.leaves.sent f)
           ∙ ap (λ n. (state_of o before).sent f + n)
           (same_if (has r.granted f) (unwrap_or (note_in r.notes (ingress_of flows f)) r.slots) (d.sent (ingress_of flows f))
-          (λ t. sym (ap {B = ℕ} (λ b. if b then unwrap_or (note_in r.notes (ingress_of flows f)) r.slots else 0) t) ∙ h.credits f (any_has r.granted f t)) ∙
-          ap (λ gs. if has gs f then d.sent (ingress_of flows f) else 0) h.granted);
-      closed = (r, h.run, closed_push o j (closing d) ∙ ap (λ l. closed_runs o j ++ l) added ∙ ap (λ l. l ++ r ∷ []) h.leaves.closed, h.first, h.slots, h.granted, h.credits);
+          (λ t. sym (ap {B = ℕ} (λ b. if b then unwrap_or (note_in r.notes (ingress_of flows f)) r.slots else 0) t) ∙ h.as_driven.credits f (any_has r.granted f t)) ∙
+          ap (λ gs. if has gs f then d.sent (ingress_of flows f) else 0) h.as_driven.granted);
+      closed = (
+        r,
+        h.run,
+        closed_push o j (closing d) ∙ ap (λ l. closed_runs o j ++ l) added ∙ ap (λ l. l ++ r ∷ []) h.leaves.closed,
+        h.as_driven.first,
+        h.as_driven.slots,
+        h.as_driven.granted,
+        h.as_driven.credits,
+      );
       schedule =
           schedule_push o j (closing d) legal low ∙ ap (λ x. schedule_of o j ++ slots_added flows s.next s.run x) reply ∙
           ap (λ x. schedule_of o j ++ slots_added flows s.next x (Closed r.first)) h.run
-          ∙ ap (λ l. schedule_of o j ++ l) (append-nil (slots_in flows r) ∙ own flows d r h.slots h.credits ∙ ap (λ gs. driven_slots flows gs d) h.granted)
+          ∙ ap (λ l. schedule_of o j ++ l) (append-nil (slots_in flows r) ∙ own flows d r h.as_driven.slots h.as_driven.credits ∙
+          ap (λ gs. driven_slots flows gs d) h.as_driven.granted)
           ∙ ap (λ l. l ++ driven_slots flows (driven o before d) d) h.leaves.schedule;
       wire = λ port.
           wire_push o j (closing d) port ∙ ap (λ l. wire_of o j port ++ flat_map (sent_at flows port) l) added
-          ∙ ap (λ l. wire_of o j port ++ l) (append-nil (sent_at flows port r) ∙ on_wire flows d r port (grant_in flows r.granted port) h.first refl h.credits ∙
-          ap (λ gs. driven_run d port (grant_in flows gs port)) h.granted)
+          ∙ ap (λ l. wire_of o j port ++ l) (append-nil (sent_at flows port r) ∙
+          on_wire flows d r port (grant_in flows r.granted port) h.as_driven.first refl h.as_driven.credits ∙
+          ap (λ gs. driven_run d port (grant_in flows gs port)) h.as_driven.granted)
           ∙ ap (λ l. l ++ driven_run d port (grant_in flows (driven o before d) port)) (h.leaves.wire port);
     }
 
@@ -175,18 +189,20 @@ goes o before d legal ok h =
       leaves = x.leaves;
       none = x.none;
       at_next = x.at_next;
-      first = refl;
-      slots = refl;
-      granted = refl;
+      as_driven = record {
+        first = refl;
+        slots = refl;
+        granted = refl;
+        credits = λ f in'.
+            let p = ingress_of flows f in
+            let grant = (grant_at flows gs p f clear).1 (in', refl) in
+            let hit = λ (lt : d.sent p < d.slots). any_counted (λ (e : Entry). notes_port p e.command) d.between
+            (omega (arith, h.noted f in', ap {B = ℕ} (λ b. if b then 1 else 0) (lt-ltb (d.sent p) d.slots lt))) in
+            ap {B = ℕ} (λ b. if b then unwrap_or (note_in x.mid.notes p) d.slots else 0) (any_in gs f in')
+            ∙ from_note d p (note_in x.mid.notes p) (h.within f in') (x.mid.only p (inl refl)) (λ lt. x.mid.told p f grant (inr (hit lt)));
+      };
       grants = x.grants;
       count = x.count;
-      credits = λ f in'.
-          let p = ingress_of flows f in
-          let grant = (grant_at flows gs p f clear).1 (in', refl) in
-          let hit = λ (lt : d.sent p < d.slots). any_counted (λ (e : Entry). notes_port p e.command) d.between
-          (omega (arith, h.noted f in', ap {B = ℕ} (λ b. if b then 1 else 0) (lt-ltb (d.sent p) d.slots lt))) in
-          ap {B = ℕ} (λ b. if b then unwrap_or (note_in x.mid.notes p) d.slots else 0) (any_in gs f in')
-          ∙ from_note d p (note_in x.mid.notes p) (h.within f in') (x.mid.only p (inl refl)) (λ lt. x.mid.told p f grant (inr (hit lt)));
     })
 
 pub driven_goes_on : (o : Opening) (before after : List Entry) (d : Drive) → IsLegal o after → InRange o after → IsDriven o before after d → GoesOnByRun o before after d

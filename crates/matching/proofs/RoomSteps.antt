@@ -31,24 +31,32 @@ pub whole_again : (old new : Tables) → IsWhole old → IsSameRoom old new → 
     IsWhole new
 whole_again old new w s within sound = record { sound = sound; room = room_stays old new s w.room; within = within }
 
--- no flow owes
-pub record IsEmpty (m : Tables) (flows : ℕ) : Type 0 where
-  pub none : m.ranks.count ≡ 0
+-- there is room for so many flows and for the ports
+pub record HasRoomFor (m : Tables) (flows : ℕ) : Type 0 where
   pub sources : m.ranks.sources.room ≡ m.ranks.ports
-  pub granted : m.granted ≡ 0
   pub few_ports : m.ranks.ports + m.ranks.ports < 2 ^ 32
   pub few : flows < 2 ^ 32
   pub ranked : length m.ranks.flows.items ≡ flows
   pub lefts : length m.left.items ≡ flows
   pub nexts : length m.heads.next.items ≡ flows
-  pub heads : m.heads.least.items ≡ replicate ((m.ranks.ports + m.ranks.ports) * m.ranks.ports) no_rank
-  pub board : m.board.at.items ≡ replicate (m.ranks.ports + m.ranks.ports) no_rank
   pub waiting : m.board.waiting.room ≡ m.ranks.ports + m.ranks.ports
   pub listed : length m.listed.items ≡ m.ranks.ports
+
+-- the rows of heads hold no rank
+pub record HasNoRows (m : Tables) : Type 0 where
   pub shape : IsShaped m.ranks.ports m.heads.rows
   pub blank : IsBlank m.heads.rows
   pub rowless : m.heads.rows.count ≡ 0
-  pub rowless' : m.heads.rows.ranked ≡ 0
+  pub rankless : m.heads.rows.ranked ≡ 0
+
+-- no flow owes
+pub record IsEmpty (m : Tables) (flows : ℕ) : Type 0 where
+  pub none : m.ranks.count ≡ 0
+  pub granted : m.granted ≡ 0
+  pub heads : m.heads.least.items ≡ replicate ((m.ranks.ports + m.ranks.ports) * m.ranks.ports) no_rank
+  pub board : m.board.at.items ≡ replicate (m.ranks.ports + m.ranks.ports) no_rank
+  pub room : HasRoomFor m flows
+  pub rows : HasNoRows m
 
 filled_with : (xs : List ℕ) (n k : ℕ) → xs ≡ replicate n no_rank → k < n → get_or xs k 0 ≡ no_rank
 filled_with xs n k e lt = ap (λ ys. get_or ys k 0) e ∙ get_or-replicate n k no_rank 0 lt
@@ -65,7 +73,7 @@ empty_whole m flows e = record {
         second = λ r lt. absurd (omega (arith, lt, e.none));
       };
       apart = λ r s less lt. absurd (omega (arith, lt, e.none));
-      source_room = e.sources;
+      source_room = e.room.sources;
       sources = λ r lt. absurd (omega (arith, lt, e.none));
     };
     lefts = omega (arith, e.none);
@@ -78,14 +86,15 @@ empty_whole m flows e = record {
     };
     chain = record { fits = omega (arith, e.none); next_is = λ r from lt. absurd (omega (arith, lt, e.none)) };
     behind = λ r s less lt. absurd (omega (arith, lt, e.none));
-    rows = no_rows m.ranks.ports (graph_of m.ranks) (left_at m) m.heads.rows (blank_holds m.ranks.ports m.heads.rows e.shape e.blank e.rowless) e.rowless e.rowless';
+    rows = no_rows m.ranks.ports (graph_of m.ranks) (left_at m) m.heads.rows (blank_holds m.ranks.ports m.heads.rows e.rows.shape e.rows.blank e.rows.rowless)
+        e.rows.rowless e.rows.rankless;
     board = record {
       size = ap (λ (xs : List ℕ). length xs) e.board ∙ length-replicate (ports + ports) no_rank;
       own = λ p lt. inl (filled_with m.board.at.items (ports + ports) p e.board lt);
       across = λ r lt. absurd (omega (arith, lt, e.none));
       back = λ r lt. absurd (omega (arith, lt, e.none));
     };
-    room = e.waiting;
+    room = e.room.waiting;
     kept = record {
       known = λ r has. has.0;
       owed = λ r has. absurd (omega (arith, has.0, e.none));
@@ -96,11 +105,11 @@ empty_whole m flows e = record {
     settled = λ r low lt. absurd (omega (arith, lt, e.none));
   };
   room = record {
-    few_ports = e.few_ports;
-    few = omega (arith, e.few, e.lefts);
-    ranked = omega (arith, e.ranked, e.lefts);
-    nexts = omega (arith, e.nexts, e.lefts);
-    listed = omega (arith, e.listed);
+    few_ports = e.room.few_ports;
+    few = omega (arith, e.room.few, e.room.lefts);
+    ranked = omega (arith, e.room.ranked, e.room.lefts);
+    nexts = omega (arith, e.room.nexts, e.room.lefts);
+    listed = omega (arith, e.room.listed);
   };
   within = omega (arith, e.granted);
 } where

@@ -168,7 +168,7 @@ module _ (o : Opening) (s : Course) (j : List JournalEntry) (p : Progress) (st :
     coflows_are = filter_same (is_here (state_of o j)) (is_present p.present.items) (range_with_len 0 (length o.table.ids)) (λ c in'. here_too c) ∙
         ap (λ n. filter (is_present p.present.items) (range_with_len 0 n)) (sym h.each_present);
     ports_are = refl;
-    weight = λ c in'. st.weights c;
+    weight = λ c in'. st.journal.weights c;
     load = left_loads;
   }
 

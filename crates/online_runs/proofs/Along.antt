@@ -57,7 +57,7 @@ pub no_run_epochs : (o : Opening) (j : List Entry) (most : ℕ) (r : ℕ × ℕ 
 no_run_epochs o j most r = epochs_more o j (run_entries most r) ∙ append-nil (epochs_of o j)
 
 pub arrival_fits : (o : Opening) (s : Course) (j : List Entry) → Stands o s j → (at : ℕ) → IsArrival s.arrivals at → at ≤ 2 ^ 32
-arrival_fits o s j st at (c, lt, is) = omega (arith, is, st.arrivals_fit c 0 lt)
+arrival_fits o s j st at (c, lt, is) = omega (arith, is, st.given.arrivals_fit c 0 lt)
 
 module _ (o : Opening) (s : Course) (j : List Entry) (h : Holds o s j) where
   abbrev st : Stands o s j
@@ -102,7 +102,7 @@ module _ (o : Opening) (s : Course) (j : List Entry) (h : Holds o s j) where
       (record {
         stands = leaves_more o s j st c present es asks legal;
         times = time_leaves o s j (j ++ e ∷ []) h.times leaves.slots c present.joined (nobody c low x.served.served);
-        few = few_leaves o s j (j ++ e ∷ []) h.few leaves.slots (length_push j e) c (omega (arith, low, st.withdrawn_len, st.arrivals_len)) present.stays x.served.served;
+        few = few_leaves o s j (j ++ e ∷ []) h.few leaves.slots (length_push j e) c (omega (arith, low, st.withdrawn_len, st.given.each_arrival)) present.stays x.served.served;
         rises = subst (Rises (after s time (Leave c))) (sym (no_epoch o j e refl)) (rises_same s (after s time (Leave c)) (epochs_of o j) refl h.rises);
       })
   holds_on PublishOrder es first asks legal =
@@ -133,7 +133,7 @@ module _ (o : Opening) (s : Course) (j : List Entry) (h : Holds o s j) where
   holds_on (Pass to) es first asks legal =
       let x = first.applies in
       let (at, next, to_is) = x.arrival in
-      let none = skip_none_owes s time all_owed to st.epoch_some first in
+      let none = skip_none_owes s time all_owed to st.given.epoch_some first in
       let fits = arrival_fits o s j st at next.arrival in
       let is = skips_by o s j st to at to_is next.later fits none es asks legal in
       let e = entry 0 (Skip to) (Skipped to) in

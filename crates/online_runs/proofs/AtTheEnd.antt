@@ -62,7 +62,11 @@ module _ (o : Opening) (arrivals : List ℕ) (every : ℕ) (ds : List Deed) (i :
   not_early c k is = omega (arith, holds.times.late c k is, ap (λ l. slice_index l c) (arrivals_of o arrivals every ds))
 
   pub within_units : (f : ℕ) → times (schedule_of o j) f ≤ units_of o.table.flows f
-  within_units f = omega (arith, times_is_sent o j f holds.stands.legal holds.stands.in_range, (legal_sound o j holds.stands.legal holds.stands.in_range).within f)
+  within_units f = omega (
+    arith,
+    times_is_sent o j f holds.stands.journal.legal holds.stands.journal.in_range,
+    (legal_sound o j holds.stands.journal.legal holds.stands.journal.in_range).within f,
+  )
 
   pub none_early : (c : ℕ) → All (λ slot. holds_coflow o.table.flows slot c ≡ false) (take (slice_index arrivals c) (schedule_of o j))
   none_early c k d lt =
@@ -80,7 +84,7 @@ module _ (o : Opening) (arrivals : List ℕ) (every : ℕ) (ds : List Deed) (i :
       | inl is ↦ is
       | inr not' ↦
           absurd
-          (end_none_waits course (time_of o j) (owed_after o j) c ends (record { coflow_in = omega (arith, lt, holds.stands.arrivals_len); waits = not' }))
+          (end_none_waits course (time_of o j) (owed_after o j) c ends (record { coflow_in = omega (arith, lt, holds.stands.given.each_arrival); waits = not' }))
     ]
 
     nothing_owed : (f : ℕ) → f < length o.table.flows → owed o (state_of o j) f ≡ 0
@@ -94,7 +98,7 @@ module _ (o : Opening) (arrivals : List ℕ) (every : ℕ) (ds : List Deed) (i :
                 | inl nought ↦ nought
                 | inr some ↦
                     absurd
-                    (end_none_owes course (time_of o j) (owed_after o j) holds.stands.epoch_some ends
+                    (end_none_owes course (time_of o j) (owed_after o j) holds.stands.given.epoch_some ends
                     (c, record { joined = all_joined c low; stays = stays }, owes_by_flow o j c f low (record { flow_in = lt; of_coflow = refl; owes = some })))
               ]
         ]
@@ -102,11 +106,11 @@ module _ (o : Opening) (arrivals : List ℕ) (every : ℕ) (ds : List Deed) (i :
     pub all_served : IsReleased o.table.flows (slice_index arrivals) (schedule_of o j)
     all_served = record {
       valid = record {
-        clear = slots_clear o j holds.stands.legal holds.stands.in_range;
+        clear = slots_clear o j holds.stands.journal.legal holds.stands.journal.in_range;
         served = λ f lt. omega (
           arith,
-          times_is_sent o j f holds.stands.legal holds.stands.in_range,
-          (legal_sound o j holds.stands.legal holds.stands.in_range).within f,
+          times_is_sent o j f holds.stands.journal.legal holds.stands.journal.in_range,
+          (legal_sound o j holds.stands.journal.legal holds.stands.journal.in_range).within f,
           nothing_owed f lt,
         );
       };
@@ -129,7 +133,7 @@ pub served_clear : (o : Opening) (arrivals : List ℕ) (every : ℕ) (slots : Li
     All (IsClear o.table.flows) slots
 served_clear o arrivals every slots i h =
     let st = (holds_so_far o arrivals every h.deeds i h.so_far).stands in
-    subst (All (IsClear o.table.flows)) (sym h.slots_are) (slots_clear o (journal_of h.deeds) st.legal st.in_range)
+    subst (All (IsClear o.table.flows)) (sym h.slots_are) (slots_clear o (journal_of h.deeds) st.journal.legal st.journal.in_range)
 
 pub served_times : (o : Opening) (arrivals : List ℕ) (every : ℕ) (slots : List (List ℕ)) (f : ℕ) → IsOnlineInput o arrivals every → IsServedOnline o arrivals every slots →
     times slots f ≤ units_of o.table.flows f

@@ -314,5 +314,5 @@ few_entries o s j st h =
       length-range_with_len 0 (length s.arrivals),
       st.registered_len,
       st.withdrawn_len,
-      st.arrivals_len,
+      st.given.each_arrival,
     )

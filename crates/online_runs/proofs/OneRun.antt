@@ -176,8 +176,8 @@ is_part one o arrivals every ds journal i h run k f is =
       | inl (rest, e) ↦
           let longer : journal ≡ journal_of ds ++ journal_of rest = run.journal_is ∙ ap journal_of e ∙ journal_append one o ds rest in
           let st = (holds_so_far o arrivals every es i run.so_far).stands in
-          let legal = subst (IsLegal o) (sym run.journal_is ∙ longer) st.legal in
-          let fit = subst (InRange o) (sym run.journal_is ∙ longer) st.in_range in
+          let legal = subst (IsLegal o) (sym run.journal_is ∙ longer) st.journal.legal in
+          let fit = subst (InRange o) (sym run.journal_is ∙ longer) st.journal.in_range in
           let low = inside_front (length (schedule_of o (journal_of ds))) k past in
           ap (λ s. holds s f) (ap (λ l. get_or (schedule_of o l) k []) longer ∙ schedule_front o (journal_of ds) (journal_of rest) legal fit k low) ∙ is
       | inr (rest, e) ↦

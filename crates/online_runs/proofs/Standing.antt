@@ -6,7 +6,7 @@ use Rattle.std.specs.Prelude.{All, Contains, ◌==◌, ◌&&◌, if◌then◌els
 use Rattle.std.proofs.lemmas.Bool.{and_from, and_parts, lt-leb, lt-ltb, not-true, not_from_false}
 use Rattle.std.proofs.lemmas.List.{length-replicate, length-set}
 use Rattle.std.proofs.lemmas.List.Elements.{All-append, All-cons, All-get_or, All-nil, All-push}
-use Rattle.coflow_units.specs.declared.limits.TheConstants.{MAX_OPTION_SLOTS, MAX_PUBLISHINGS, MAX_UNITS}
+use Rattle.coflow_units.specs.declared.limits.TheConstants.{MAX_PUBLISHINGS, MAX_UNITS}
 use Rattle.coflow_units.specs.Flows.{coflow_of}
 use Rattle.coflow_units.proofs.Numbers.{zero_or_more}
 use Rattle.epochs.specs.declared.action.Action.{Action}
@@ -30,7 +30,7 @@ use Rattle.journal.specs.Line.{owing, version}
 use Rattle.journal.specs.Runs.{granted, slots_for}
 use Rattle.journal.specs.Moves.{SkipsSlots}
 use Rattle.journal.specs.Sound.{InRange}
-use Rattle.journal.specs.State.{has, IsOpening, is_present, owed, Run, slot_end, State}
+use Rattle.journal.specs.State.{has, is_present, owed, Run, slot_end, State}
 use Rattle.journal.proofs.Between.{answered}
 use Rattle.journal.proofs.Counting.{units_within}
 use Rattle.journal.proofs.Driving.{driven_goes_on}
@@ -56,44 +56,43 @@ Fits o e = in_range o e.command ≡ true
 abbrev pub NoNote : Entry → Type 0
 NoNote e = is_noting e.command ≡ false
 
-pub record Stands (o : Opening) (s : Course) (j : List Entry) : Type 0 where
-  pub opening : IsOpening o
+-- No run is open. The journal is legal, and nobody took note in it, skipped far, or weighed a coflow anew.
+pub record IsBetweenRuns (o : Opening) (j : List Entry) : Type 0 where
   pub legal : IsLegal o j
   pub in_range : InRange o j
   pub no_notes : All NoNote j
   pub closed : (state_of o j).run ≡ None
-  pub arrivals_len : length s.arrivals ≡ length o.table.ids
-  pub arrivals_fit : All (λ a. a ≤ 2 ^ 32) s.arrivals
-  pub epoch_some : 1 ≤ s.every
-  pub epoch_fits : s.every ≤ MAX_OPTION_SLOTS
+  pub skips : furthest_skip j ≤ 2 ^ 32 + 1
+  pub weights : (c : ℕ) → (state_of o j).weight c ≡ slice_index o.weights c
+
+-- what holds between the actions of an online run
+pub record Stands (o : Opening) (s : Course) (j : List Entry) : Type 0 where
+  pub journal : IsBetweenRuns o j
+  pub given : IsOnlineInput o s.arrivals s.every
   pub registered_len : length s.registered ≡ length s.arrivals
   pub withdrawn_len : length s.withdrawn ≡ length s.arrivals
   pub few_published : s.published ≤ MAX_PUBLISHINGS
   pub joined : HasMarked (state_of o j).joined s.registered
   pub left : HasMarked (state_of o j).left s.withdrawn
-  pub skips : furthest_skip j ≤ 2 ^ 32 + 1
-  pub weights : (c : ℕ) → (state_of o j).weight c ≡ slice_index o.weights c
 
 -- ---- the beginning
 
 pub stands_first : (o : Opening) (arrivals : List ℕ) (every : ℕ) → IsOnlineInput o arrivals every → Stands o (at_first arrivals every) []
 stands_first o arrivals every i = record {
-  opening = i.opening;
-  legal = tt;
-  in_range = All-nil (Fits o);
-  no_notes = All-nil NoNote;
-  closed = refl;
-  arrivals_len = i.each_arrival;
-  arrivals_fit = i.arrivals_fit;
-  epoch_some = i.epoch_some;
-  epoch_fits = i.epoch_fits;
+  journal = record {
+    legal = tt;
+    in_range = All-nil (Fits o);
+    no_notes = All-nil NoNote;
+    closed = refl;
+    skips = omega arith;
+    weights = λ c. refl;
+  };
+  given = i;
   registered_len = omega (arith, length-replicate (length arrivals) false);
   withdrawn_len = omega (arith, length-replicate (length arrivals) false);
   few_published = omega arith;
   joined = marks_none (length arrivals);
   left = marks_none (length arrivals);
-  skips = omega arith;
-  weights = λ c. refl;
 }
 
 -- an entry skips no further than it tells
@@ -111,10 +110,16 @@ module _ (o : Opening) (s : Course) (j : List Entry) (h : Stands o s j) where
   -- ---- the time
 
   pub few_slots : now.next ≤ 2 ^ 32 + 1 + MAX_UNITS
-  few_slots = omega (arith, few_by_units o j h.legal h.in_range h.no_notes, h.skips, units_within o j h.legal h.in_range, h.opening.table.few_units)
+  few_slots = omega (
+    arith,
+    few_by_units o j h.journal.legal h.journal.in_range h.journal.no_notes,
+    h.journal.skips,
+    units_within o j h.journal.legal h.journal.in_range,
+    h.given.opening.table.few_units,
+  )
 
   pub next_some : 1 ≤ now.next
-  next_some = (legal_sound o j h.legal h.in_range).next_some
+  next_some = (legal_sound o j h.journal.legal h.journal.in_range).next_some
 
   -- ---- who is present
 
@@ -122,7 +127,7 @@ module _ (o : Opening) (s : Course) (j : List Entry) (h : Stands o s j) where
   here c p = and_from (has now.joined c) (not (has now.left c)) (h.joined c ∙ p.joined) (not_from_false (has now.left c) (h.left c ∙ p.stays))
 
   pub below : (c : ℕ) → is_marked s.registered c ≡ true → c < length o.table.ids
-  below c is = omega (arith, marked_below s.registered c is, h.registered_len, h.arrivals_len)
+  below c is = omega (arith, marked_below s.registered c is, h.registered_len, h.given.each_arrival)
 
   -- ---- a coflow joins
 
@@ -140,23 +145,21 @@ module _ (o : Opening) (s : Course) (j : List Entry) (h : Stands o s j) where
 
     pub joins_more : Stands o (after s time (Join c)) (j ++ joining ∷ [])
     joins_more = record {
-      opening = h.opening;
-      legal = subst (λ l. IsLegal o (j ++ l)) joins_by legal;
-      in_range = All-push (Fits o) j joining h.in_range (lt-ltb c (length o.table.ids) (omega (arith, low, h.arrivals_len)));
-      no_notes = All-push NoNote j joining h.no_notes refl;
-      closed = (leaves_push o j joining refl).run ∙ h.closed;
-      arrivals_len = h.arrivals_len;
-      arrivals_fit = h.arrivals_fit;
-      epoch_some = h.epoch_some;
-      epoch_fits = h.epoch_fits;
+      journal = record {
+        legal = subst (λ l. IsLegal o (j ++ l)) joins_by legal;
+        in_range = All-push (Fits o) j joining h.journal.in_range (lt-ltb c (length o.table.ids) (omega (arith, low, h.given.each_arrival)));
+        no_notes = All-push NoNote j joining h.journal.no_notes refl;
+        closed = (leaves_push o j joining refl).run ∙ h.journal.closed;
+        skips = omega (arith, furthest_more j joining, h.journal.skips);
+        weights = λ c. ap (λ (t : State). t.weight c) (state_snoc o j joining) ∙ h.journal.weights c;
+      };
+      given = h.given;
       registered_len = length-set s.registered c true ∙ h.registered_len;
       withdrawn_len = h.withdrawn_len;
       few_published = h.few_published;
       joined = subst (λ (t : State). HasMarked t.joined (slice_set s.registered c true)) (sym (state_snoc o j joining))
           (marks_more now.joined s.registered c (omega (arith, low, h.registered_len)) h.joined);
       left = subst (λ (t : State). HasMarked t.left s.withdrawn) (sym (state_snoc o j joining)) h.left;
-      skips = omega (arith, furthest_more j joining, h.skips);
-      weights = λ c. ap (λ (t : State). t.weight c) (state_snoc o j joining) ∙ h.weights c;
     }
 
   -- ---- a coflow leaves
@@ -174,23 +177,21 @@ module _ (o : Opening) (s : Course) (j : List Entry) (h : Stands o s j) where
 
     pub leaves_more : Stands o (after s time (Leave c)) (j ++ leaving ∷ [])
     leaves_more = record {
-      opening = h.opening;
-      legal = subst (λ l. IsLegal o (j ++ l)) leaves_by legal;
-      in_range = All-push (Fits o) j leaving h.in_range (lt-ltb c (length o.table.ids) (below c present.joined));
-      no_notes = All-push NoNote j leaving h.no_notes refl;
-      closed = (leaves_push o j leaving refl).run ∙ h.closed;
-      arrivals_len = h.arrivals_len;
-      arrivals_fit = h.arrivals_fit;
-      epoch_some = h.epoch_some;
-      epoch_fits = h.epoch_fits;
+      journal = record {
+        legal = subst (λ l. IsLegal o (j ++ l)) leaves_by legal;
+        in_range = All-push (Fits o) j leaving h.journal.in_range (lt-ltb c (length o.table.ids) (below c present.joined));
+        no_notes = All-push NoNote j leaving h.journal.no_notes refl;
+        closed = (leaves_push o j leaving refl).run ∙ h.journal.closed;
+        skips = omega (arith, furthest_more j leaving, h.journal.skips);
+        weights = λ c. ap (λ (t : State). t.weight c) (state_snoc o j leaving) ∙ h.journal.weights c;
+      };
+      given = h.given;
       registered_len = h.registered_len;
       withdrawn_len = length-set s.withdrawn c true ∙ h.withdrawn_len;
       few_published = h.few_published;
       joined = subst (λ (t : State). HasMarked t.joined s.registered) (sym (state_snoc o j leaving)) h.joined;
       left = subst (λ (t : State). HasMarked t.left (slice_set s.withdrawn c true)) (sym (state_snoc o j leaving))
-          (marks_more now.left s.withdrawn c (omega (arith, below c present.joined, h.withdrawn_len, h.arrivals_len)) h.left);
-      skips = omega (arith, furthest_more j leaving, h.skips);
-      weights = λ c. ap (λ (t : State). t.weight c) (state_snoc o j leaving) ∙ h.weights c;
+          (marks_more now.left s.withdrawn c (omega (arith, below c present.joined, h.withdrawn_len, h.given.each_arrival)) h.left);
     }
 
   -- ---- an order is published
@@ -203,27 +204,25 @@ module _ (o : Opening) (s : Course) (j : List Entry) (h : Stands o s j) where
     publishes_by =
         let (r, is) = one_asked es Publish asks in
         let reply : r ≡ Version (version now + 1) =
-        answered o j [] (entry 0 Publish r) (subst (λ l. IsLegal o (j ++ l)) is legal) ∙ ap (λ x. on_run x (λ r. StillOpen r.first) (Version (version now + 1))) h.closed in
+        answered o j [] (entry 0 Publish r) (subst (λ l. IsLegal o (j ++ l)) is legal) ∙ ap (λ x. on_run x (λ r. StillOpen r.first) (Version (version now + 1))) h.journal.closed in
         is ∙ ap (λ x. entry 0 Publish x ∷ []) reply
 
     pub publishes_more : Stands o (after s time PublishOrder) (j ++ publishing ∷ [])
     publishes_more = record {
-      opening = h.opening;
-      legal = subst (λ l. IsLegal o (j ++ l)) publishes_by legal;
-      in_range = All-push (Fits o) j publishing h.in_range refl;
-      no_notes = All-push NoNote j publishing h.no_notes refl;
-      closed = (leaves_push o j publishing refl).run ∙ h.closed;
-      arrivals_len = h.arrivals_len;
-      arrivals_fit = h.arrivals_fit;
-      epoch_some = h.epoch_some;
-      epoch_fits = h.epoch_fits;
+      journal = record {
+        legal = subst (λ l. IsLegal o (j ++ l)) publishes_by legal;
+        in_range = All-push (Fits o) j publishing h.journal.in_range refl;
+        no_notes = All-push NoNote j publishing h.journal.no_notes refl;
+        closed = (leaves_push o j publishing refl).run ∙ h.journal.closed;
+        skips = omega (arith, furthest_more j publishing, h.journal.skips);
+        weights = λ c. ap (λ (t : State). t.weight c) (state_snoc o j publishing) ∙ h.journal.weights c;
+      };
+      given = h.given;
       registered_len = h.registered_len;
       withdrawn_len = h.withdrawn_len;
       few_published = omega (arith, few);
       joined = subst (λ (t : State). HasMarked t.joined s.registered) (sym (state_snoc o j publishing)) h.joined;
       left = subst (λ (t : State). HasMarked t.left s.withdrawn) (sym (state_snoc o j publishing)) h.left;
-      skips = omega (arith, furthest_more j publishing, h.skips);
-      weights = λ c. ap (λ (t : State). t.weight c) (state_snoc o j publishing) ∙ h.weights c;
     }
 
   -- ---- who owes
@@ -233,7 +232,7 @@ module _ (o : Opening) (s : Course) (j : List Entry) (h : Stands o s j) where
       let (f, by) = flow_owes o j c owes in
       elim (zero_or_more (length (owing o now))) [
         | inl none ↦
-            let nought = (nothing_owing o j h.opening).0 none f by.flow_in (ap (is_present now) by.of_coflow ∙ here c present) in
+            let nought = (nothing_owing o j h.given.opening).0 none f by.flow_in (ap (is_present now) by.of_coflow ∙ here c present) in
             absurd (omega (arith, nought, by.owes))
         | inr some ↦ some
       ]
@@ -245,7 +244,7 @@ module _ (o : Opening) (s : Course) (j : List Entry) (h : Stands o s j) where
 
   pub none_owing : (SomeOwes s.registered s.withdrawn (owed_after o j) → ⊥) → length (owing o now) ≡ 0
   none_owing none =
-      (nothing_owing o j h.opening).1
+      (nothing_owing o j h.given.opening).1
       (λ f low there.
       let c = coflow_of o.table.flows f in
       let present = parts_here c there in
@@ -260,7 +259,7 @@ module _ (o : Opening) (s : Course) (j : List Entry) (h : Stands o s j) where
   module _ (most : ℕ) (some : 1 ≤ most) (owes : SomeOwes s.registered s.withdrawn (owed_after o j)) (es : List Entry) (asks : map asked es ≡ (0, Open most) ∷ (0, Close) ∷ [])
       (legal : IsLegal o (j ++ es)) where
     opened_by : (r : Reply) (more : List Entry) → IsLegal o (j ++ (entry 0 (Open most) r ∷ more)) → (x : ℕ × ℕ × ℕ) × (r ≡ Opened x.0 x.1 x.2)
-    opened_by r more fine = elim (open_reply o j more 0 most r fine h.closed) [
+    opened_by r more fine = elim (open_reply o j more 0 most r fine h.journal.closed) [
       | inl (is, none) ↦ absurd (omega (arith, none, some_owing owes))
       | inr rest ↦
           elim rest [
@@ -292,7 +291,7 @@ module _ (o : Opening) (s : Course) (j : List Entry) (h : Stands o s j) where
 
     pub range_later : InRange o later
     range_later =
-        All-append (Fits o) j (run_entries most r) h.in_range
+        All-append (Fits o) j (run_entries most r) h.journal.in_range
         (All-cons (Fits o) (entry 0 (Open most) (Opened r.0 r.1 r.2)) (entry 0 Close (Closed r.0) ∷ []) (lt-ltb 0 most (omega (arith, some)))
         (All-cons (Fits o) (entry 0 Close (Closed r.0)) [] refl (All-nil (Fits o))))
 
@@ -323,28 +322,26 @@ module _ (o : Opening) (s : Course) (j : List Entry) (h : Stands o s j) where
         let opened = entry 0 (Open most) (Opened r.0 r.1 r.2) in
         let closed' = entry 0 Close (Closed r.0) in
         let split : furthest_skip ((j ++ opened ∷ []) ++ closed' ∷ []) ≡ furthest_skip later = ap furthest_skip (append_assoc j (opened ∷ []) (closed' ∷ [])) in
-        omega (arith, split, furthest_more (j ++ opened ∷ []) closed', furthest_more j opened, h.skips)
+        omega (arith, split, furthest_more (j ++ opened ∷ []) closed', furthest_more j opened, h.journal.skips)
 
     pub runs_more : Stands o (after s time (Serve most)) later
     runs_more = record {
-      opening = h.opening;
-      legal = legal;
-      in_range = range_later;
-      no_notes = All-append NoNote j (run_entries most r) h.no_notes
-          (All-cons NoNote (entry 0 (Open most) (Opened r.0 r.1 r.2)) (entry 0 Close (Closed r.0) ∷ []) refl
-          (All-cons NoNote (entry 0 Close (Closed r.0)) [] refl (All-nil NoNote)));
-      closed = run_goes.run_after;
-      arrivals_len = h.arrivals_len;
-      arrivals_fit = h.arrivals_fit;
-      epoch_some = h.epoch_some;
-      epoch_fits = h.epoch_fits;
+      journal = record {
+        legal = legal;
+        in_range = range_later;
+        no_notes = All-append NoNote j (run_entries most r) h.journal.no_notes
+            (All-cons NoNote (entry 0 (Open most) (Opened r.0 r.1 r.2)) (entry 0 Close (Closed r.0) ∷ []) refl
+            (All-cons NoNote (entry 0 Close (Closed r.0)) [] refl (All-nil NoNote)));
+        closed = run_goes.run_after;
+        skips = run_skips;
+        weights = λ c. same_weight c ∙ h.journal.weights c;
+      };
+      given = h.given;
       registered_len = h.registered_len;
       withdrawn_len = h.withdrawn_len;
       few_published = h.few_published;
       joined = same_marks.0;
       left = same_marks.1;
-      skips = run_skips;
-      weights = λ c. same_weight c ∙ h.weights c;
     }
 
   -- ---- slots are skipped
@@ -366,31 +363,30 @@ module _ (o : Opening) (s : Course) (j : List Entry) (h : Stands o s j) where
     skips_by =
         let (r, shape) = one_asked es (Skip to) asks in
         let reply : r ≡ Skipped to =
-        answered o j [] (entry 0 (Skip to) r) (subst (λ l. IsLegal o (j ++ l)) shape legal) ∙ ap (λ x. on_run x (λ r. StillOpen r.first) (skipped o now to)) h.closed ∙ skips_to in
+        answered o j [] (entry 0 (Skip to) r) (subst (λ l. IsLegal o (j ++ l)) shape legal) ∙
+        ap (λ x. on_run x (λ r. StillOpen r.first) (skipped o now to)) h.journal.closed ∙ skips_to in
         shape ∙ ap (λ x. entry 0 (Skip to) x ∷ []) reply
 
     skips_legal : IsLegal o (j ++ skipping ∷ [])
     skips_legal = subst (λ l. IsLegal o (j ++ l)) skips_by legal
 
     pub skip_goes : SkipsSlots o j (j ++ skipping ∷ []) to
-    skip_goes = by_skip o j skipping to skips_legal h.in_range refl
+    skip_goes = by_skip o j skipping to skips_legal h.journal.in_range refl
 
     pub skips_more : Stands o (after s time (Pass to)) (j ++ skipping ∷ [])
     skips_more = record {
-      opening = h.opening;
-      legal = skips_legal;
-      in_range = All-push (Fits o) j skipping h.in_range refl;
-      no_notes = All-push NoNote j skipping h.no_notes refl;
-      closed = skip_goes.run_after;
-      arrivals_len = h.arrivals_len;
-      arrivals_fit = h.arrivals_fit;
-      epoch_some = h.epoch_some;
-      epoch_fits = h.epoch_fits;
+      journal = record {
+        legal = skips_legal;
+        in_range = All-push (Fits o) j skipping h.journal.in_range refl;
+        no_notes = All-push NoNote j skipping h.journal.no_notes refl;
+        closed = skip_goes.run_after;
+        skips = omega (arith, furthest_more j skipping, h.journal.skips, is, fits);
+        weights = λ c. ap (λ (t : State). t.weight c) (state_snoc o j skipping) ∙ h.journal.weights c;
+      };
+      given = h.given;
       registered_len = h.registered_len;
       withdrawn_len = h.withdrawn_len;
       few_published = h.few_published;
       joined = subst (λ (t : State). HasMarked t.joined s.registered) (sym (state_snoc o j skipping)) h.joined;
       left = subst (λ (t : State). HasMarked t.left s.withdrawn) (sym (state_snoc o j skipping)) h.left;
-      skips = omega (arith, furthest_more j skipping, h.skips, is, fits);
-      weights = λ c. ap (λ (t : State). t.weight c) (state_snoc o j skipping) ∙ h.weights c;
     }

@@ -121,7 +121,7 @@ in_slot : (flows : List Flow) (slot : List ℕ) (c : ℕ) → holds_coflow flows
 in_slot flows slot c is = let (f, in', same) = any_where (λ f. coflow_of flows f == c) slot is in (f, in', eqb-true (coflow_of flows f) c same)
 
 pub time_is : (o : Opening) (s : Course) (j : List Entry) → Stands o s j → time_of o j ≡ length (schedule_of o j)
-time_is o s j st = omega (arith, schedule_length o j st.legal st.in_range)
+time_is o s j st = omega (arith, schedule_length o j st.journal.legal st.journal.in_range)
 
 in_even : (n : ℕ) (gs : List ℕ) (i : ℕ) (flows : List Flow) (c : ℕ) → holds_coflow flows (get_or (replicate n gs) i []) c ≡ true → holds_coflow flows gs c ≡ true
 in_even n gs i flows c is = elim (cases_lt i n) [
@@ -154,7 +154,7 @@ module _ (o : Opening) (s : Course) (j : List Entry) (st : Stands o s j) (h : Ke
       let c = coflow_of o.table.flows f in
       let same : j ++ [] ≡ j = append-nil j in
       let named : Contains (line_of o (j ++ [])) c = All-contains (λ f. Contains (line_of o (j ++ [])) (coflow_of o.table.flows f)) gs f goes.grants.in_line in' in
-      parts_here o s j st c (sym (line_present o j st.opening c) ∙ any_in (line_of o j) c (subst (λ l. Contains (line_of o l) c) same named))
+      parts_here o s j st c (sym (line_present o j st.given.opening c) ∙ any_in (line_of o j) c (subst (λ l. Contains (line_of o l) c) same named))
 
   granted_came : (c : ℕ) → holds_coflow o.table.flows gs c ≡ true → arrival_of s c ≤ time_of o j
   granted_came c is =

@@ -20,6 +20,21 @@ taken_append (Some r ∷ xs) ys = ap (λ l. r ∷ l) (taken_append xs ys)
 still_listed : (v w : View) (more : List Report) (port : ℕ) → GoesOn v w more → LastIsListed port v → LastIsListed port w
 still_listed v w more port goes h g e = goes.listed port g.slot (h g (subst (λ l. last_at port l ≡ Some g) goes.shown e))
 
+-- what the view shows of the reports that were taken
+pub record IsSeen (v w : View) (took : List (Option Report)) : Type 0 where
+  pub out : w.out ≡ v.out
+  pub shown : w.shown ≡ v.shown
+  pub done : w.done ≡ v.done ++ taken took
+
+-- what was counted of the reports that were taken at i ports
+pub record IsCounted (i : ℕ) (took : List (Option Report)) (s : Served) : Type 0 where
+  pub drawn : s.drawn ≡ length (taken took)
+  pub sent : s.sent ≡ units_of (taken took)
+  pub short : s.short ≡ shorts_of (taken took)
+  pub few : s.drawn ≤ i
+  pub few_short : s.short ≤ i
+  pub small : s.sent ≤ i * 2199023255552
+
 module _ {W : Type 0} (faults : W → ℕ) (runs : W → Option (List (ℕ × ℕ × ℕ))) where
   -- after the first i ports
   pub record SoFar (first i : ℕ) (v w : View) (old now : List W) (s : Served) : Type 0 where
@@ -28,15 +43,8 @@ module _ {W : Type 0} (faults : W → ℕ) (runs : W → Option (List (ℕ × �
     pub wires : length now ≡ length old
     pub each : (j : ℕ) (d e : W) → j < i → Attends faults runs w (first + j) (get_or old j d) (get_or now j e) (get_or took j None)
     pub rest : (j : ℕ) (d : W) → i ≤ j → get_or now j d ≡ get_or old j d
-    pub out : w.out ≡ v.out
-    pub shown : w.shown ≡ v.shown
-    pub done : w.done ≡ v.done ++ taken took
-    pub drawn : s.drawn ≡ length (taken took)
-    pub sent : s.sent ≡ units_of (taken took)
-    pub short : s.short ≡ shorts_of (taken took)
-    pub few : s.drawn ≤ i
-    pub few_short : s.short ≤ i
-    pub small : s.sent ≤ i * 2199023255552
+    pub seen : IsSeen v w took
+    pub counted : IsCounted i took s
 
   pub begins : (first : ℕ) (v : View) (old : List W) (s : Served) → s.drawn ≡ 0 → s.sent ≡ 0 → s.short ≡ 0 → SoFar first 0 v v old old s
   begins first v old s a b c = record {
@@ -45,15 +53,19 @@ module _ {W : Type 0} (faults : W → ℕ) (runs : W → Option (List (ℕ × �
     wires = refl;
     each = λ j d e lt. absurd (omega arith);
     rest = λ j d le. refl;
-    out = refl;
-    shown = refl;
-    done = sym (append-nil v.done);
-    drawn = a;
-    sent = b;
-    short = c;
-    few = omega arith;
-    few_short = omega arith;
-    small = omega arith;
+    seen = record {
+      out = refl;
+      shown = refl;
+      done = sym (append-nil v.done);
+    };
+    counted = record {
+      drawn = a;
+      sent = b;
+      short = c;
+      few = omega arith;
+      few_short = omega arith;
+      small = omega arith;
+    };
   }
 
   pub ends : (first i : ℕ) (v w : View) (old now : List W) (s : Served) → i ≡ length old → SoFar first i v w old now s
@@ -62,10 +74,10 @@ module _ {W : Type 0} (faults : W → ℕ) (runs : W → Option (List (ℕ × �
   ends first i v w old now s all so = (
     so.took,
     record { as_many = so.as_many ∙ all; wires = so.wires; each = λ j d e lt. so.each j d e (omega arith) },
-    so.done,
-    so.drawn,
-    so.sent,
-    so.short,
+    so.seen.done,
+    so.counted.drawn,
+    so.counted.sent,
+    so.counted.short,
   )
 
   -- what was attended stays so where the lists grow
@@ -96,24 +108,28 @@ module _ {W : Type 0} (faults : W → ℕ) (runs : W → Option (List (ℕ × �
     goes_idle s x so at h =
         let long = length-append so.took (None ∷ []) in
         let many = so.as_many in
-        let few = so.few in
-        let few_short = so.few_short in
-        let small = so.small in
+        let few = so.counted.few in
+        let few_short = so.counted.few_short in
+        let small = so.counted.small in
         let list : taken (so.took ++ None ∷ []) ≡ taken so.took = taken_append so.took (None ∷ []) ∙ append-nil (taken so.took) in record {
           took = so.took ++ None ∷ [];
           as_many = omega arith;
           wires = length-set now i y ∙ so.wires;
           each = each_more so.took [] None so.as_many so.wires so.each h.2 (λ d. (h.0 ∙ (at d ∙ so.rest i d (omega arith)), h.1));
           rest = rest_more so.rest;
-          out = h.2.out ∙ so.out;
-          shown = h.2.shown ∙ so.shown;
-          done = h.2.done ∙ (append-nil w.done ∙ (so.done ∙ ap (λ l. v.done ++ l) (sym list)));
-          drawn = so.drawn ∙ ap (λ (l : List Report). length l) (sym list);
-          sent = so.sent ∙ ap units_of (sym list);
-          short = so.short ∙ ap shorts_of (sym list);
-          few = omega arith;
-          few_short = omega arith;
-          small = omega arith;
+          seen = record {
+            out = h.2.out ∙ so.seen.out;
+            shown = h.2.shown ∙ so.seen.shown;
+            done = h.2.done ∙ (append-nil w.done ∙ (so.seen.done ∙ ap (λ l. v.done ++ l) (sym list)));
+          };
+          counted = record {
+            drawn = so.counted.drawn ∙ ap (λ (l : List Report). length l) (sym list);
+            sent = so.counted.sent ∙ ap units_of (sym list);
+            short = so.counted.short ∙ ap shorts_of (sym list);
+            few = omega arith;
+            few_short = omega arith;
+            small = omega arith;
+          };
         }
 
     -- a grant was drawn at the port
@@ -126,9 +142,9 @@ module _ {W : Type 0} (faults : W → ℕ) (runs : W → Option (List (ℕ × �
         let goes = h.6 in
         let long = length-append so.took (Some r ∷ []) in
         let many = so.as_many in
-        let few = so.few in
-        let few_short = so.few_short in
-        let small = so.small in
+        let few = so.counted.few in
+        let few_short = so.counted.few_short in
+        let small = so.counted.small in
         let list : taken (so.took ++ Some r ∷ []) ≡ taken so.took ++ r ∷ [] = taken_append so.took (Some r ∷ []) in
         let a = add.0 in
         let b = add.1 in
@@ -142,16 +158,20 @@ module _ {W : Type 0} (faults : W → ℕ) (runs : W → Option (List (ℕ × �
           each = each_more so.took (r ∷ []) (Some r) so.as_many so.wires so.each goes
               (λ d. (h.1, subst (λ (z : W). SentOn faults runs z y r) (at d ∙ so.rest i d (omega arith)) on, subst (IsNewest r.grant) (sym goes.shown) h.7));
           rest = rest_more so.rest;
-          out = goes.out ∙ so.out;
-          shown = goes.shown ∙ so.shown;
-          done = goes.done ∙ (ap (λ l. l ++ r ∷ []) so.done ∙ (append_assoc v.done (taken so.took) (r ∷ []) ∙ ap (λ l. v.done ++ l) (sym list)));
-          drawn = add.0 ∙ (ap (λ z. z + 1) so.drawn ∙ (sym one_more ∙ ap (λ (l : List Report). length l) (sym list)));
-          sent = add.1 ∙ ((λ t. so.sent t + sym h.3 t) ∙ (sym (sum_by_push (λ (q : Report). q.sent) (taken so.took) r) ∙ ap units_of (sym list)));
-          short = add.2 ∙ ((λ t. so.short t + (if nat_lt (sym h.3 t) (sym h.2 t) then 1 else 0)) ∙
-              (sym (sum_by_push (λ (q : Report). if nat_lt q.sent q.grant.length then 1 else 0) (taken so.took) r) ∙ ap shorts_of (sym list)));
-          few = omega arith;
-          few_short = omega arith;
-          small = omega arith;
+          seen = record {
+            out = goes.out ∙ so.seen.out;
+            shown = goes.shown ∙ so.seen.shown;
+            done = goes.done ∙ (ap (λ l. l ++ r ∷ []) so.seen.done ∙ (append_assoc v.done (taken so.took) (r ∷ []) ∙ ap (λ l. v.done ++ l) (sym list)));
+          };
+          counted = record {
+            drawn = add.0 ∙ (ap (λ z. z + 1) so.counted.drawn ∙ (sym one_more ∙ ap (λ (l : List Report). length l) (sym list)));
+            sent = add.1 ∙ ((λ t. so.counted.sent t + sym h.3 t) ∙ (sym (sum_by_push (λ (q : Report). q.sent) (taken so.took) r) ∙ ap units_of (sym list)));
+            short = add.2 ∙ ((λ t. so.counted.short t + (if nat_lt (sym h.3 t) (sym h.2 t) then 1 else 0)) ∙
+                (sym (sum_by_push (λ (q : Report). if nat_lt q.sent q.grant.length then 1 else 0) (taken so.took) r) ∙ ap shorts_of (sym list)));
+            few = omega arith;
+            few_short = omega arith;
+            small = omega arith;
+          };
         }
       where
         small_if : (b : Bool) → (if b then 1 else 0) ≤ 1

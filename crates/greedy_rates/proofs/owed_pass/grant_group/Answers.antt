@@ -41,11 +41,13 @@ overflow_sub-ports c =
     let lt = number_in_flows c.args.flows.now c.args.owing.now c.args.first c.args.behind c.loop-number.number c.requires.owed c.requires.first c.requires.behind
     c.loop-number-test.true in
     let found : IsFound c.args.flows.now c.args.owing.now c.args.at.now c.args.busy.now c.args.first c.args.behind c.loop-number.number = record {
-      owed = c.requires.owed;
-      first_in = c.requires.first;
-      behind_is = c.requires.behind;
-      from = c.loop-number.invariant.from;
-      below = c.loop-number-test.true;
+      group = record {
+        owed = c.requires.owed;
+        first_in = c.requires.first;
+        behind_is = c.requires.behind;
+        from = c.loop-number.invariant.from;
+        below = c.loop-number-test.true;
+      };
       some = owes c.args.owing.now.left c.left-left.result.now c.loop-number.number c.left-left.ensures c.if-left-number-eq0.false;
       in_range = c.requires.ingress_in_range c.loop-number.number record { coflow = 0; ingress = 0; egress = 0; units = 0 } lt;
       out_range = c.requires.egress_in_range c.loop-number.number record { coflow = 0; ingress = 0; egress = 0; units = 0 } lt;
@@ -66,11 +68,13 @@ overflow_sub-ports-in-loop-number c =
     let lt = number_in_flows c.args.flows.now c.args.owing.now c.args.first c.args.behind c.loop-number.number c.requires.owed c.requires.first c.requires.behind
     c.loop-number-test.true in
     let found : IsFound c.args.flows.now c.args.owing.now c.args.at.now c.args.busy.now c.args.first c.args.behind c.loop-number.number = record {
-      owed = c.requires.owed;
-      first_in = c.requires.first;
-      behind_is = c.requires.behind;
-      from = c.loop-number.invariant.from;
-      below = c.loop-number-test.true;
+      group = record {
+        owed = c.requires.owed;
+        first_in = c.requires.first;
+        behind_is = c.requires.behind;
+        from = c.loop-number.invariant.from;
+        below = c.loop-number-test.true;
+      };
       some = owes c.args.owing.now.left c.left-left.result.now c.loop-number.number c.left-left.ensures c.if-left-number-eq0.false;
       in_range = c.requires.ingress_in_range c.loop-number.number record { coflow = 0; ingress = 0; egress = 0; units = 0 } lt;
       out_range = c.requires.egress_in_range c.loop-number.number record { coflow = 0; ingress = 0; egress = 0; units = 0 } lt;
@@ -91,11 +95,13 @@ returns-in-loop-number-clause-open_ingress c =
     let lt = number_in_flows c.args.flows.now c.args.owing.now c.args.first c.args.behind c.loop-number.number c.requires.owed c.requires.first c.requires.behind
     c.loop-number-test.true in
     let found : IsFound c.args.flows.now c.args.owing.now c.args.at.now c.args.busy.now c.args.first c.args.behind c.loop-number.number = record {
-      owed = c.requires.owed;
-      first_in = c.requires.first;
-      behind_is = c.requires.behind;
-      from = c.loop-number.invariant.from;
-      below = c.loop-number-test.true;
+      group = record {
+        owed = c.requires.owed;
+        first_in = c.requires.first;
+        behind_is = c.requires.behind;
+        from = c.loop-number.invariant.from;
+        below = c.loop-number-test.true;
+      };
       some = owes c.args.owing.now.left c.left-left.result.now c.loop-number.number c.left-left.ensures c.if-left-number-eq0.false;
       in_range = c.requires.ingress_in_range c.loop-number.number record { coflow = 0; ingress = 0; egress = 0; units = 0 } lt;
       out_range = c.requires.egress_in_range c.loop-number.number record { coflow = 0; ingress = 0; egress = 0; units = 0 } lt;
@@ -118,11 +124,13 @@ returns-in-loop-number-clause-open_egress c =
     let lt = number_in_flows c.args.flows.now c.args.owing.now c.args.first c.args.behind c.loop-number.number c.requires.owed c.requires.first c.requires.behind
     c.loop-number-test.true in
     let found : IsFound c.args.flows.now c.args.owing.now c.args.at.now c.args.busy.now c.args.first c.args.behind c.loop-number.number = record {
-      owed = c.requires.owed;
-      first_in = c.requires.first;
-      behind_is = c.requires.behind;
-      from = c.loop-number.invariant.from;
-      below = c.loop-number-test.true;
+      group = record {
+        owed = c.requires.owed;
+        first_in = c.requires.first;
+        behind_is = c.requires.behind;
+        from = c.loop-number.invariant.from;
+        below = c.loop-number-test.true;
+      };
       some = owes c.args.owing.now.left c.left-left.result.now c.loop-number.number c.left-left.ensures c.if-left-number-eq0.false;
       in_range = c.requires.ingress_in_range c.loop-number.number record { coflow = 0; ingress = 0; egress = 0; units = 0 } lt;
       out_range = c.requires.egress_in_range c.loop-number.number record { coflow = 0; ingress = 0; egress = 0; units = 0 } lt;
@@ -144,11 +152,13 @@ returns-in-loop-number-clause-granting c = λ line k placed so_far.
     let lt = number_in_flows c.args.flows.now c.args.owing.now c.args.first c.args.behind c.loop-number.number c.requires.owed c.requires.first c.requires.behind
     c.loop-number-test.true in
     let found : IsFound c.args.flows.now c.args.owing.now c.args.at.now c.args.busy.now c.args.first c.args.behind c.loop-number.number = record {
-      owed = c.requires.owed;
-      first_in = c.requires.first;
-      behind_is = c.requires.behind;
-      from = c.loop-number.invariant.from;
-      below = c.loop-number-test.true;
+      group = record {
+        owed = c.requires.owed;
+        first_in = c.requires.first;
+        behind_is = c.requires.behind;
+        from = c.loop-number.invariant.from;
+        below = c.loop-number-test.true;
+      };
       some = owes c.args.owing.now.left c.left-left.result.now c.loop-number.number c.left-left.ensures c.if-left-number-eq0.false;
       in_range = c.requires.ingress_in_range c.loop-number.number record { coflow = 0; ingress = 0; egress = 0; units = 0 } lt;
       out_range = c.requires.egress_in_range c.loop-number.number record { coflow = 0; ingress = 0; egress = 0; units = 0 } lt;

@@ -19,19 +19,23 @@ returns-clause-whole c =
     let ports : c.in_ok-ranks.ranks.ports ≡ c.args.ports = c.in_ok-ranks.ensures.ports in
     empty_whole made c.args.flows (record {
       none = c.in_ok-ranks.ensures.none;
-      sources = c.in_ok-ranks.ensures.sources ∙ sym ports;
+      room = record {
+        sources = c.in_ok-ranks.ensures.sources ∙ sym ports;
+        few_ports = omega (arith, c.requires, ports);
+        few = c.ranges.flows.fits;
+        ranked = c.in_ok-ranks.ensures.flows;
+        lefts = omega (arith, c.in_ok-left.ensures.len);
+        nexts = c.in_ok-heads.ensures.next;
+        waiting = omega (arith, c.in_ok-board.ensures.waiting, ports);
+        listed = omega (arith, c.in_ok-listed.ensures.len, ports);
+      };
       granted = refl;
-      few_ports = omega (arith, c.requires, ports);
-      few = c.ranges.flows.fits;
-      ranked = c.in_ok-ranks.ensures.flows;
-      lefts = omega (arith, c.in_ok-left.ensures.len);
-      nexts = c.in_ok-heads.ensures.next;
       heads = subst (λ (n : ℕ). c.in_ok-heads.heads.least.items ≡ replicate ((n + n) * n) no_rank) (sym ports) c.in_ok-heads.ensures.least;
       board = subst (λ (n : ℕ). c.in_ok-board.board.at.items ≡ replicate (n + n) no_rank) (sym ports) c.in_ok-board.ensures.at;
-      waiting = omega (arith, c.in_ok-board.ensures.waiting, ports);
-      listed = omega (arith, c.in_ok-listed.ensures.len, ports);
-      shape = subst (λ (n : ℕ). IsShaped n c.in_ok-heads.heads.rows) (sym ports) c.in_ok-heads.ensures.shaped;
-      blank = c.in_ok-heads.ensures.zeros;
-      rowless = c.in_ok-heads.ensures.none.0;
-      rowless' = c.in_ok-heads.ensures.none.1;
+      rows = record {
+        shape = subst (λ (n : ℕ). IsShaped n c.in_ok-heads.heads.rows) (sym ports) c.in_ok-heads.ensures.shaped;
+        blank = c.in_ok-heads.ensures.zeros;
+        rowless = c.in_ok-heads.ensures.none.0;
+        rankless = c.in_ok-heads.ensures.none.1;
+      };
     })
