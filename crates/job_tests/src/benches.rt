@@ -1,8 +1,9 @@
 //! Comparisons of benches that are not the program's.
-use crate::asking::{Asked, ask, expect, had};
+use crate::asking::{ask, expect, had};
 use crate::texts::TWO;
 use command_files::Status;
 use rankers::{Attained, Facts, Fifo, Ranker};
+use small_jobs::{Asked, NOTHING};
 use std::alloc::Global;
 use std::process::Abort;
 use std::sync::Wait;
@@ -41,10 +42,8 @@ fn is_compared<R: Threads + Wait + Sync + Abort>(
     let asked = Asked {
         words: &["compare"],
         last: "t",
-        named: [trace, b""],
-        piece: 64,
-        fails: 0,
-        after: None,
+        trace,
+        ..NOTHING
     };
     let (status, out) = ask(rt, alloc, asked, bench);
     expect(rt, status, out.bytes(), (Status::Ok, text));

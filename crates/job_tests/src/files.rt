@@ -1,9 +1,10 @@
 //! Plans of files that fail, of sinks that take a part of the text, and of a text above its limit.
-use crate::asking::{Asked, ask, expect, had};
+use crate::asking::{ask, expect, had};
 use crate::texts::{TWO, TWO_TEXT};
 use coflow_units::{MAX_TEXT, Quantity, UnitSize};
 use command_files::{Status, read_input};
 use outside::SureShelf;
+use small_jobs::{Asked, NOTHING};
 use std::alloc::Global;
 use std::process::Abort;
 use std::sync::Wait;
@@ -13,14 +14,13 @@ use std::thread::Threads;
 const PLAN: Asked<'static> = Asked {
     words: &["plan"],
     last: "t",
-    named: [TWO, b""],
+    trace: TWO,
     piece: 1,
-    fails: 0,
-    after: None,
+    ..NOTHING
 };
 
 /// No text.
-const NOTHING: &[u8] = b"";
+const UNWRITTEN: &[u8] = b"";
 
 /// Stops where a job came to another status or another text.
 fn is_answered<R: Threads + Wait + Sync + Abort>(
@@ -39,16 +39,22 @@ fn is_answered<R: Threads + Wait + Sync + Abort>(
 // A plan of 32 bytes makes 34 calls: one start, 32 reads of one byte, and one read of none.
 #[test]
 fn each_call_of_a_shelf_fails_in_turn(rt: HostRuntime) {
-    for fails in 1..=34 {
-        let asked = Asked { fails, ..PLAN };
+    for failing_call in 1..=34 {
+        let asked = Asked {
+            failing_call,
+            ..PLAN
+        };
         is_answered(
             &rt,
             rt.alloc(),
             asked,
-            (Status::ReadFault { count: 1 }, NOTHING),
+            (Status::ReadFault { count: 1 }, UNWRITTEN),
         );
     }
-    let asked = Asked { fails: 35, ..PLAN };
+    let asked = Asked {
+        failing_call: 35,
+        ..PLAN
+    };
     is_answered(&rt, rt.alloc(), asked, (Status::Ok, TWO_TEXT));
 }
 
@@ -59,7 +65,7 @@ fn a_name_without_a_file(rt: HostRuntime) {
         &rt,
         rt.alloc(),
         asked,
-        (Status::ReadFault { count: 1 }, NOTHING),
+        (Status::ReadFault { count: 1 }, UNWRITTEN),
     );
 }
 
@@ -67,7 +73,7 @@ fn a_name_without_a_file(rt: HostRuntime) {
 fn a_sink_takes_each_part_of_the_text(rt: HostRuntime) {
     for taken in 0..TWO_TEXT.len() {
         let asked = Asked {
-            after: Some(taken as u64),
+            fail_after: Some(taken as u64),
             ..PLAN
         };
         let wanted = (Status::WriteFault { count: 1 }, &TWO_TEXT[..taken]);

@@ -1,9 +1,9 @@
 //! Agents that wait for each other on the wires of a plan, of an online run and of a script.
-use crate::asking::{Asked, ask, expect};
-use crate::meeting::{Pair, gates_of, has_given_up, wires_of};
+use crate::asking::{expect, play};
+use crate::meeting::Waiting;
 use crate::texts::{CROSSED, CROSSED_TEXT};
 use command_files::Status;
-use outside::MemSink;
+use small_jobs::{Asked, NOTHING};
 use std::alloc::Global;
 use std::process::Abort;
 use std::sync::Wait;
@@ -49,7 +49,9 @@ const SCRIPT: &[u8] = b"1 register 1\n1 register 2\n1 publish\nwait\nslot\n";
 const PLAN: Asked<'static> = Asked {
     words: &["plan", "t"],
     last: "--agents=2",
-    named: [CROSSED, SCRIPT],
+    trace: CROSSED,
+    beside: SCRIPT,
+    ..NOTHING
 };
 
 const ONLINE: Asked<'static> = Asked {
@@ -62,24 +64,7 @@ const LIVE: Asked<'static> = Asked {
     ..PLAN
 };
 
-/// The status, what was written, and whether a wire gave up, where those of even and of odd ports wait for one another.
-fn meet<R: Threads + Wait + Sync + Abort>(
-    rt: &R,
-    alloc: Global,
-    asked: Asked<'_>,
-) -> (Status, MemSink, bool) {
-    let pair = Pair::new();
-    let (even, odd) = (pair.first(), pair.second());
-    let mut wires = wires_of(rt, alloc, [Some(even), Some(odd)]);
-    let mut gates = gates_of(rt, alloc, None, None);
-    let (status, out) = ask(rt, alloc, asked, &mut wires, &mut gates);
-    let gave_up = has_given_up(&wires);
-    drop(wires);
-    drop(gates);
-    (status, out, gave_up)
-}
-
-/// Stops where the job ends otherwise: because there was no memory for a thread, say, or because a wire gave up where none should.
+/// Wires of even and of odd ports wait for one another. Stops if the job ends otherwise: there was no memory for a thread, say, or a wire gave up and none should.
 fn meets<R: Threads + Wait + Sync + Abort>(
     rt: &R,
     alloc: Global,
@@ -87,10 +72,10 @@ fn meets<R: Threads + Wait + Sync + Abort>(
     text: &[u8],
     gives_up: bool,
 ) {
-    let (status, out, gave_up) = meet(rt, alloc, asked);
+    let (status, out, met) = play(rt, alloc, asked, Waiting::Wires);
     expect(rt, status, out.bytes(), (Status::Ok, text));
     drop(out);
-    assert!(rt; gave_up == gives_up);
+    assert!(rt; met == [false, false, !gives_up], "another meeting");
 }
 
 /// What is asked, and the text that comes of it.

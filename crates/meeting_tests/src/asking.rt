@@ -1,25 +1,40 @@
 //! Jobs over files in memory. All have one kind of wires and of gates, so that the call is built for these alone.
-use crate::meeting::{TestGate, TestWire};
+use crate::meeting::{
+    Pair, TestGate, TestWire, Waiting, gates_of, has_given_up, has_met, wires_of,
+};
 use coflow_units::{MAX_CLIENTS, MAX_PORTS};
 use command_files::Status;
-use outside::{MemShelf, MemSink};
+use outside::MemSink;
 use sincronia_cli::sincronia;
+use small_jobs::{Asked, SmallJob};
 use std::alloc::Global;
 use std::process::Abort;
 use std::sync::Wait;
 use std::thread::Threads;
 
-/// What is asked of the files `t` and `s`.
-#[derive(Clone, Copy)]
-pub(crate) struct Asked<'a> {
-    /// The words behind the program's name, but for the last one.
-    pub(crate) words: &'a [&'a str],
-    pub(crate) last: &'a str,
-    pub(crate) named: [&'a [u8]; 2],
+/// The status, what was written, whether the gates of the first two clients were passed where they wait, and did not give up, and whether no wire gave up.
+pub(crate) fn play<R: Threads + Wait + Sync + Abort>(
+    rt: &R,
+    alloc: Global,
+    asked: Asked<'_>,
+    waiting: Waiting,
+) -> (Status, MemSink, [bool; 3]) {
+    let pair = Pair::new();
+    let mut wires = wires_of(rt, alloc, waiting.at_wires(&pair));
+    let mut gates = gates_of(rt, alloc, waiting.at_gates(&pair));
+    let (status, out) = ask(rt, alloc, asked, &mut wires, &mut gates);
+    let met = [
+        has_met(&gates, 0),
+        has_met(&gates, 1),
+        !has_given_up(&wires),
+    ];
+    drop(wires);
+    drop(gates);
+    (status, out, met)
 }
 
 /// The status and the bytes taken.
-pub(crate) fn ask<'a, R: Threads + Wait + Sync + Abort>(
+fn ask<'a, R: Threads + Wait + Sync + Abort>(
     rt: &R,
     alloc: Global,
     asked: Asked<'_>,
@@ -28,38 +43,22 @@ pub(crate) fn ask<'a, R: Threads + Wait + Sync + Abort>(
 ) -> (Status, MemSink) {
     let enough = wires.len() > MAX_PORTS as usize && gates.len() >= MAX_CLIENTS as usize;
     assert!(rt; enough);
-    let words = words_of(rt, alloc, asked);
-    let mut shelf = shelf_of(rt, alloc, asked);
-    let mut out = had(rt, MemSink::new(alloc, 4096, None));
+    let Some(mut job) = SmallJob::new(alloc, asked) else {
+        panic!(rt; "no memory");
+    };
     let mut bench = Vec::new(alloc);
     let status = sincronia(
-        rt, alloc, &words, &mut shelf, &mut out, wires, gates, &mut bench,
+        rt,
+        alloc,
+        &job.words,
+        &mut job.shelf,
+        &mut job.out,
+        wires,
+        gates,
+        &mut bench,
     );
-    drop(words);
-    drop(shelf);
     drop(bench);
-    (status, out)
-}
-
-fn words_of(rt: &impl Abort, alloc: Global, asked: Asked<'_>) -> Vec<String> {
-    let mut words = Vec::new(alloc);
-    push_word(rt, alloc, &mut words, "sincronia");
-    for text in asked.words {
-        push_word(rt, alloc, &mut words, text);
-    }
-    push_word(rt, alloc, &mut words, asked.last);
-    words
-}
-
-fn push_word(rt: &impl Abort, alloc: Global, words: &mut Vec<String>, text: &str) {
-    had(rt, words.push(had(rt, String::from_str(alloc, text))));
-}
-
-fn shelf_of(rt: &impl Abort, alloc: Global, asked: Asked<'_>) -> MemShelf {
-    let mut shelf = had(rt, MemShelf::new(alloc, 64, Vec::new(alloc)));
-    had(rt, shelf.put("t", asked.named[0]));
-    had(rt, shelf.put("s", asked.named[1]));
-    shelf
+    (status, job.into_sink())
 }
 
 /// The value of an answer. A test stops where memory is wanting.

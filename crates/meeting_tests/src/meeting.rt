@@ -2,7 +2,7 @@
 use crate::asking::had;
 use coflow_units::{MAX_CLIENTS, MAX_PORTS};
 use live_rounds::Gate;
-use outside::{MemWire, Wire};
+use outside::Wire;
 use std::alloc::Global;
 use std::process::Abort;
 use std::sync::atomic::AtomicBool;
@@ -26,14 +26,14 @@ impl Pair {
         }
     }
 
-    pub(crate) fn first(&self) -> Side<'_> {
+    fn first(&self) -> Side<'_> {
         Side {
             mine: &self.first,
             other: &self.second,
         }
     }
 
-    pub(crate) fn second(&self) -> Side<'_> {
+    fn second(&self) -> Side<'_> {
         Side {
             mine: &self.second,
             other: &self.first,
@@ -61,29 +61,65 @@ impl Side<'_> {
     }
 }
 
-/// A wire in memory. It may wait for another one before each run that it is sent, and notes where it gave up.
-#[derive(Drop)]
+/// Who waits for one another.
+#[derive(Clone, Copy)]
+pub(crate) enum Waiting {
+    /// The first client, at the first of these lines of the script, and the second client, at the other line.
+    Clients(u32, u32),
+    /// The first client alone, at this line of the script: nobody else comes.
+    Client(u32),
+    /// The first client, at this line of the script, and the wires of even ports.
+    ClientAndWires(u32),
+    /// The wires of even ports and those of odd ones.
+    Wires,
+}
+
+impl Waiting {
+    /// The sides of the wires of even and of odd ports.
+    pub(crate) fn at_wires<'a>(&self, pair: &'a Pair) -> [Option<Side<'a>>; 2] {
+        match self {
+            Waiting::Clients(_, _) | Waiting::Client(_) => [None, None],
+            Waiting::ClientAndWires(_) => [Some(pair.second()), None],
+            Waiting::Wires => [Some(pair.first()), Some(pair.second())],
+        }
+    }
+
+    /// The lines of the first and the second client, and their sides.
+    pub(crate) fn at_gates<'a>(&self, pair: &'a Pair) -> [Option<(u32, Side<'a>)>; 2] {
+        match self {
+            Waiting::Clients(first, second) => [
+                Some((*first, pair.first())),
+                Some((*second, pair.second())),
+            ],
+            Waiting::Client(line) | Waiting::ClientAndWires(line) => {
+                [Some((*line, pair.first())), None]
+            }
+            Waiting::Wires => [None, None],
+        }
+    }
+}
+
+/// A wire that accepts all units. It may wait for another one before each run that it is sent, and notes where it gave up.
+#[derive(Clone, Copy)]
 pub(crate) struct TestWire<'a> {
-    pub(crate) kept: MemWire,
     side: Option<Side<'a>>,
-    pub(crate) gave_up: bool,
+    gave_up: bool,
 }
 
 impl Wire for TestWire<'_> {
-    ghost use Rattle.std.specs.Prelude.{Some};
+    ghost use Rattle.std.specs.Prelude.{None};
 
-    ghost faults = { λ w. w.kept.faults };
+    ghost faults = { λ _. 0 };
 
-    ghost runs = { λ w. Some w.kept.runs.items };
+    ghost runs = { λ _. None };
 
-    /// What the wire in memory accepts.
-    fn send(&mut self, slot: u64, flow: u32, length: u64) -> u64 {
+    fn send(&mut self, _slot: u64, _flow: u32, length: u64) -> u64 {
         if let Some(side) = &self.side {
             if !side.meets() {
                 self.gave_up = true;
             }
         }
-        self.kept.send(slot, flow, length)
+        length
     }
 }
 
@@ -96,7 +132,6 @@ pub(crate) fn wires_of<'a>(
     let mut wires = Vec::new(alloc);
     for port in 0..=MAX_PORTS {
         let wire = TestWire {
-            kept: had(rt, MemWire::new(alloc, 8, None)),
             side: if port % 2 == 1 { sides[1] } else { sides[0] },
             gave_up: false,
         };
@@ -116,11 +151,11 @@ pub(crate) fn has_given_up(wires: &[TestWire<'_>]) -> bool {
 }
 
 /// A gate that may hold its client back at one line until another one comes, and notes whether it was passed there.
-#[derive(Drop)]
+#[derive(Clone, Copy)]
 pub(crate) struct TestGate<'a> {
     side: Option<(u32, Side<'a>)>,
-    pub(crate) passed: bool,
-    pub(crate) gave_up: bool,
+    passed: bool,
+    gave_up: bool,
 }
 
 impl Gate for TestGate<'_> {
@@ -138,14 +173,13 @@ impl Gate for TestGate<'_> {
 pub(crate) fn gates_of<'a>(
     rt: &impl Abort,
     alloc: Global,
-    first: Option<(u32, Side<'a>)>,
-    second: Option<(u32, Side<'a>)>,
+    sides: [Option<(u32, Side<'a>)>; 2],
 ) -> Vec<TestGate<'a>> {
     let mut gates = Vec::new(alloc);
     for client in 1..=MAX_CLIENTS {
         let side = match client {
-            1 => first,
-            2 => second,
+            1 => sides[0],
+            2 => sides[1],
             _ => None,
         };
         let gate = TestGate {
@@ -156,4 +190,12 @@ pub(crate) fn gates_of<'a>(
         had(rt, gates.push(gate));
     }
     gates
+}
+
+/// Whether the gate of a client, counted from 0, was passed where it waits, and did not give up.
+pub(crate) fn has_met(gates: &[TestGate<'_>], client: usize) -> bool {
+    match gates.get(client) {
+        Some(gate) => gate.passed && !gate.gave_up,
+        None => false,
+    }
 }

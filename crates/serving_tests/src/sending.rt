@@ -1,7 +1,8 @@
 //! Rows of jobs whose wires tell what they were sent.
-use crate::asking::{Asked, ask, expect, had, wires_of};
+use crate::asking::{ask, expect};
 use command_files::Status;
-use outside::{MemSink, MemWire};
+use outside::MemSink;
+use small_jobs::{Asked, NOTHING, tell_wires, wires_failing};
 use std::alloc::Global;
 use std::process::Abort;
 use std::sync::Wait;
@@ -56,28 +57,18 @@ fn served<'a, R: Threads + Wait + Sync + Abort>(
     let asked = Asked {
         words: row.words,
         last,
-        named: row.named,
-        after: row.after,
+        trace: row.named[0],
+        beside: row.named[1],
+        fail_after: row.after,
+        ..NOTHING
     };
-    let mut wires = wires_of(rt, alloc, row.fail_at);
+    let Some(mut wires) = wires_failing(alloc, row.fail_at) else {
+        panic!(rt; "no memory");
+    };
     let (status, out) = ask(rt, alloc, asked, &mut wires);
-    let text = tell_wires(rt, alloc, &wires);
+    let Some(sent) = tell_wires(alloc, &wires) else {
+        panic!(rt; "no memory");
+    };
     drop(wires);
-    (status, out, text)
-}
-
-/// Tells the runs that the wires accepted, wire by wire.
-fn tell_wires(rt: &impl Abort, alloc: Global, wires: &[MemWire]) -> String {
-    let mut text = String::new(alloc);
-    for port in 0..wires.len() {
-        tell_wire(rt, port, &wires[port], &mut text);
-    }
-    text
-}
-
-fn tell_wire(rt: &impl Abort, port: usize, wire: &MemWire, text: &mut String) {
-    for index in 0..wire.len() {
-        let (slot, flow, units) = wire.run(index);
-        had(rt, write!(text, "{port}: {slot} {flow} {units}\n"));
-    }
+    (status, out, sent)
 }
