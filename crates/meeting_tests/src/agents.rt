@@ -75,7 +75,8 @@ fn meets<R: Threads + Wait + Sync + Abort>(
     let (status, out, met) = play(rt, alloc, asked, Waiting::Wires);
     expect(rt, status, out.bytes(), (Status::Ok, text));
     drop(out);
-    assert!(rt; met == [false, false, !gives_up], "another meeting");
+    let same = met == [false, false, !gives_up];
+    assert!(rt; same, "another meeting, or no memory for a thread");
 }
 
 /// What is asked, and the text that comes of it.

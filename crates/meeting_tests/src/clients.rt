@@ -20,7 +20,8 @@ fn meets<R: Threads + Wait + Sync + Abort>(
     let (status, out, met) = play(rt, alloc, asked, waiting);
     drop(out);
     assert!(rt; status == Status::Ok, "another status, or no memory");
-    assert!(rt; met == [wanted[0], wanted[1], true], "another meeting");
+    let same = met == [wanted[0], wanted[1], true];
+    assert!(rt; same, "another meeting, or no memory for a thread");
 }
 
 /// A script of two clients that register at the same time.
@@ -86,9 +87,10 @@ fn both_pulls_have_the_order_that_was_published_before(rt: HostRuntime) {
         ..TOGETHER
     };
     let (status, out, met) = play(&rt, rt.alloc(), asked, Waiting::Clients(4, 5));
+    let same = met == [true, true, true] || status != Status::Ok;
+    assert!(rt; same, "another meeting, or no memory for a thread");
     expect(&rt, status, out.bytes(), (Status::Ok, PULLS_TEXT));
     drop(out);
-    assert!(rt; met == [true, true, true], "another meeting");
 }
 
 // The gates of other commands are not passed.
