@@ -22,7 +22,9 @@ pub fn play_master(
     ensures opening { master.new.opening ≡ master.old.opening }
 {
     let mut tally = RunTally::new(alloc);
-    play_lines(rt, alloc, master, &mut tally, lines)
+    let played = play_lines(rt, alloc, master, &mut tally, lines);
+    drop(tally);
+    played
 }
 
 /// A master answers the commands of the lines, and the tally takes them down. Then what they tell is printed.

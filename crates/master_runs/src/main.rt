@@ -54,8 +54,12 @@ fn run(rt: &HostRuntime) -> Result<(), Stop> {
     let Ok(words) = words.collect::<Vec<String>>(alloc) else {
         return Err(Stop::NoMemory);
     };
-    let (text, table) = files_of(alloc, &mut DiskShelf::new(*rt), &words)?;
-    play(rt, alloc, table, &mut Lines::new(&text))
+    let files = files_of(alloc, &mut DiskShelf::new(*rt), &words);
+    drop(words);
+    let (text, table) = files?;
+    let played = play(rt, alloc, table, &mut Lines::new(&text));
+    drop(text);
+    played
 }
 
 /// The bytes of the list, and the table of the trace, whose files the words name.
@@ -80,12 +84,16 @@ fn files_of<H: Shelf>(
 /// Plays the lines, the first of which says who plays.
 fn play(rt: &HostRuntime, alloc: Global, table: Table, lines: &mut Lines<'_>) -> Result<(), Stop> {
     let Some(mut first) = lines.next() else {
+        drop(table);
         return Err(Stop::Line(1));
     };
     match word(&mut first) {
         "master" => with_master(rt, alloc, table, &mut first, lines),
         "world" => with_world(rt, alloc, table, &mut first, lines),
-        _ => Err(Stop::Line(1)),
+        _ => {
+            drop(table);
+            Err(Stop::Line(1))
+        }
     }
 }
 
@@ -98,7 +106,9 @@ fn with_master(
     lines: &mut Lines<'_>,
 ) -> Result<(), Stop> {
     let mut master = master_of(alloc, table, fields)?;
-    play_master(rt, alloc, &mut master, lines)
+    let played = play_master(rt, alloc, &mut master, lines);
+    drop(master);
+    played
 }
 
 /// A world plays the lines behind the first one, whose next fields are these.
@@ -110,13 +120,23 @@ fn with_world(
     lines: &mut Lines<'_>,
 ) -> Result<(), Stop> {
     let mut world = world_of(alloc, table, fields)?;
-    play_world(rt, &mut world, lines)
+    let played = play_world(rt, &mut world, lines);
+    drop(world);
+    played
 }
 
 /// A new world of the master that comes next, and of the agents behind it.
 fn world_of(alloc: Global, table: Table, fields: &mut Fields<'_>) -> Result<World, Stop> {
-    let setting = setting_of(alloc, table.coflows(), fields)?;
+    let setting = match setting_of(alloc, table.coflows(), fields) {
+        Ok(setting) => setting,
+        Err(stop) => {
+            drop(table);
+            return Err(stop);
+        }
+    };
     let Some(agents) = index(fields) else {
+        drop(setting);
+        drop(table);
         return Err(Stop::Line(1));
     };
     let master = master_with(alloc, table, setting)?;
@@ -125,7 +145,13 @@ fn world_of(alloc: Global, table: Table, fields: &mut Fields<'_>) -> Result<Worl
 
 /// A master of the table with the limit and the weights that come next.
 fn master_of(alloc: Global, table: Table, fields: &mut Fields<'_>) -> Result<Master, Stop> {
-    let setting = setting_of(alloc, table.coflows(), fields)?;
+    let setting = match setting_of(alloc, table.coflows(), fields) {
+        Ok(setting) => setting,
+        Err(stop) => {
+            drop(table);
+            return Err(stop);
+        }
+    };
     Ok(master_with(alloc, table, setting)?)
 }
 

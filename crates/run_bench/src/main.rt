@@ -55,12 +55,18 @@ fn run<R: Runtime + Threads + Wait + Sync>(rt: &R, alloc: Global, game: Game) ->
         runs,
         timed,
     } = game;
-    let mut wires = vec![in alloc; CountWire { sent: 0 }; table.ports() as usize]?;
-    let took = measured(rt, alloc, table, agents, runs, &mut wires)?;
+    let Ok(mut wires) = vec![in alloc; CountWire { sent: 0 }; table.ports() as usize] else {
+        drop(table);
+        return Err(Stop::NoMemory);
+    };
+    let measured = measured(rt, alloc, table, agents, runs, &mut wires);
+    let units = sent_on(&wires);
+    drop(wires);
+    let took = measured?;
     if timed {
         println!(rt; "nanoseconds {}", took.as_nanos())?;
     } else {
-        println!(rt; "runs {runs} units {}", sent_on(&wires))?;
+        println!(rt; "runs {runs} units {units}")?;
     }
     Ok(())
 }
@@ -80,10 +86,14 @@ fn measured<R: Runtime + Threads + Wait + Sync>(
 {
     let ports = table.ports();
     let (hall, driver) = begun(alloc, table, runs)?;
-    match runner_of(rt, alloc, &hall, driver, ports) {
-        Ok(mut runner) => timed(rt, alloc, &hall, &mut runner, agents, runs, wires),
-        Err(stop) => Err(stop),
-    }
+    let Ok(mut runner) = runner_of(rt, alloc, &hall, driver, ports) else {
+        drop(hall);
+        return Err(Stop::NoMemory);
+    };
+    let took = timed(rt, alloc, &hall, &mut runner, agents, runs, wires);
+    drop(runner);
+    drop(hall);
+    took
 }
 
 /// Makes the runs. It answers how long they took.
@@ -112,7 +122,10 @@ fn begun(alloc: Global, table: Table, runs: u32) -> Result<(Hall, Driver), NoMem
     ensures driver { IfOk result (λ made. IsFirstDriver made.0 (runs * 2 + table.ports) made.1) }
 {
     let (coflows, ports) = (table.coflows(), table.ports());
-    let weights = vec![in alloc; 1; coflows as usize]?;
+    let Ok(weights) = vec![in alloc; 1; coflows as usize] else {
+        drop(table);
+        return Err(NoMemory);
+    };
     let limit = 2 * runs + coflows + 2;
     let master = Master::new(alloc, table, Items::from_vec(weights), limit)?;
     Hall::begin(alloc, master, u64::from(2 * runs + ports))
@@ -125,18 +138,25 @@ fn runner_of<R: Wait>(
     hall: &Hall,
     mut driver: Driver,
     ports: u32,
-) -> Result<Runner, Stop>
+) -> Result<Runner, NoMemory>
     requires own { IsDriverOf hall.now driver }
     requires new { (driver.made ≡ 0) × (driver.journal ≡ []) }
     requires ports { ports ≡ hall.now.setting.opening.table.ports }
     ensures may { IfOk result (MayRun hall.entry.now) }
 {
     let coflows = hall.coflows();
-    let mut session = hall.session(alloc, &mut driver, coflows + 1)?;
+    let Ok(mut session) = hall.session(alloc, &mut driver, coflows + 1) else {
+        drop(driver);
+        return Err(NoMemory);
+    };
     join_all(rt, hall, &mut session);
+    drop(session);
     match Runner::new(alloc, driver, ports) {
         Ok(runner) => Ok(runner),
-        Err(_) => Err(Stop::NoMemory),
+        Err(back) => {
+            drop(back);
+            Err(NoMemory)
+        }
     }
 }
 
