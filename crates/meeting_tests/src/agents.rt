@@ -1,13 +1,8 @@
 //! Agents that wait for each other on the wires of a plan, of an online run and of a script.
-use crate::asking::{expect, play};
+use crate::asking::meets;
 use crate::meeting::Waiting;
 use crate::texts::{CROSSED, CROSSED_TEXT};
-use command_files::Status;
 use small_jobs::{Asked, NOTHING};
-use std::alloc::Global;
-use std::process::Abort;
-use std::sync::Wait;
-use std::thread::Threads;
 
 /// The online run: both coflows are there at once, and nobody owes behind slot 2.
 const CROSSED_ONLINE: &[u8] = b"sincronia online 2
@@ -64,48 +59,53 @@ const LIVE: Asked<'static> = Asked {
     ..PLAN
 };
 
-/// Wires of even and of odd ports wait for one another. Stops if the job ends otherwise: there was no memory for a thread, say, or a wire gave up and none should.
-fn meets<R: Threads + Wait + Sync + Abort>(
-    rt: &R,
-    alloc: Global,
-    asked: Asked<'_>,
-    text: &[u8],
-    gives_up: bool,
-) {
-    let (status, out, met) = play(rt, alloc, asked, Waiting::Wires);
-    expect(rt, status, out.bytes(), (Status::Ok, text));
-    drop(out);
-    let same = met == [false, false, !gives_up];
-    assert!(rt; same, "another meeting, or no memory for a thread");
-}
-
-/// What is asked, and the text that comes of it.
-const JOBS: &[(Asked<'static>, &[u8])] = &[
+/// What several agents are asked, and the text that comes of it.
+const BESIDE: &[(Asked<'static>, &[u8])] = &[
     (PLAN, CROSSED_TEXT),
     (ONLINE, CROSSED_ONLINE),
     (LIVE, CROSSED_LIVE),
+    (
+        Asked {
+            last: "--agents=64",
+            ..PLAN
+        },
+        CROSSED_TEXT,
+    ),
 ];
 
 // No clause says that agents send beside each other. Where one of them ended before another began, the first wire would give up here, as it does where one agent has both.
 #[test]
 fn agents_send_at_the_same_time(rt: HostRuntime) {
-    for (asked, text) in JOBS {
-        meets(&rt, rt.alloc(), *asked, *text, false);
+    for (asked, text) in BESIDE {
+        meets(
+            &rt,
+            rt.alloc(),
+            *asked,
+            Waiting::Wires,
+            [false, false, true],
+            Some(*text),
+        );
     }
-    let many = Asked {
-        last: "--agents=64",
-        ..PLAN
-    };
-    meets(&rt, rt.alloc(), many, CROSSED_TEXT, false);
 }
 
 #[test]
 fn one_agent_sends_on_one_wire_after_another(rt: HostRuntime) {
-    for (asked, text) in JOBS {
+    for (asked, text) in [
+        (PLAN, CROSSED_TEXT),
+        (ONLINE, CROSSED_ONLINE),
+        (LIVE, CROSSED_LIVE),
+    ] {
         let alone = Asked {
             last: "--agents=1",
-            ..*asked
+            ..asked
         };
-        meets(&rt, rt.alloc(), alone, *text, true);
+        meets(
+            &rt,
+            rt.alloc(),
+            alone,
+            Waiting::Wires,
+            [false, false, false],
+            Some(text),
+        );
     }
 }

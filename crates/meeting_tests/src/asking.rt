@@ -12,13 +12,16 @@ use std::process::Abort;
 use std::sync::Wait;
 use std::thread::Threads;
 
-/// The status, what was written, whether the gates of the first two clients were passed where they wait, and did not give up, and whether no wire gave up.
-pub(crate) fn play<R: Threads + Wait + Sync + Abort>(
+/// Carries out a job that ends with status Ok. Stops where it ends otherwise: with another text, where one is wanted, or where another of these three holds than is wanted.
+/// They are whether the gate of the first client, and of the second one, was passed where it waits, and did not give up, and whether no wire gave up.
+pub(crate) fn meets<R: Threads + Wait + Sync + Abort>(
     rt: &R,
     alloc: Global,
     asked: Asked<'_>,
     waiting: Waiting,
-) -> (Status, MemSink, [bool; 3]) {
+    wanted: [bool; 3],
+    text: Option<&[u8]>,
+) {
     let pair = Pair::new();
     let mut wires = wires_of(rt, alloc, waiting.at_wires(&pair));
     let mut gates = gates_of(rt, alloc, waiting.at_gates(&pair));
@@ -30,7 +33,11 @@ pub(crate) fn play<R: Threads + Wait + Sync + Abort>(
     ];
     drop(wires);
     drop(gates);
-    (status, out, met)
+    let same = out.bytes() == text.unwrap_or(out.bytes());
+    drop(out);
+    assert!(rt; status == Status::Ok, "another status, or no memory");
+    assert!(rt; met == wanted, "another meeting, or no memory for a thread");
+    assert!(rt; same, "another text");
 }
 
 /// The status and the bytes taken.
@@ -67,10 +74,4 @@ pub(crate) fn had<T, E: Drop>(rt: &impl Abort, answer: Result<T, E>) -> T {
         Ok(value) => value,
         Err(_) => panic!(rt; "no memory"),
     }
-}
-
-/// Stops where a job came to another status or another text.
-pub(crate) fn expect<R: Abort>(rt: &R, status: Status, text: &[u8], wanted: (Status, &[u8])) {
-    assert!(rt; status == wanted.0, "another status, or no memory");
-    assert!(rt; text == wanted.1, "another text");
 }

@@ -1,28 +1,8 @@
 //! Clients of a script that wait for each other at their gates, and for a wire.
-use crate::asking::{expect, play};
+use crate::asking::meets;
 use crate::meeting::Waiting;
 use crate::texts::TWO;
-use command_files::Status;
 use small_jobs::{Asked, NOTHING};
-use std::alloc::Global;
-use std::process::Abort;
-use std::sync::Wait;
-use std::thread::Threads;
-
-/// Stops where the job ends otherwise: with another status, with other gates that were met, or with a wire that gave up.
-fn meets<R: Threads + Wait + Sync + Abort>(
-    rt: &R,
-    alloc: Global,
-    asked: Asked<'_>,
-    waiting: Waiting,
-    wanted: [bool; 2],
-) {
-    let (status, out, met) = play(rt, alloc, asked, waiting);
-    drop(out);
-    assert!(rt; status == Status::Ok, "another status, or no memory");
-    let same = met == [wanted[0], wanted[1], true];
-    assert!(rt; same, "another meeting, or no memory for a thread");
-}
 
 /// A script of two clients that register at the same time.
 const TOGETHER: Asked<'static> = Asked {
@@ -41,7 +21,8 @@ fn two_clients_ask_at_the_same_time(rt: HostRuntime) {
         rt.alloc(),
         TOGETHER,
         Waiting::Clients(1, 2),
-        [true, true],
+        [true, true, true],
+        None,
     );
 }
 
@@ -57,7 +38,8 @@ fn a_run_is_served_while_a_client_waits(rt: HostRuntime) {
         rt.alloc(),
         asked,
         Waiting::ClientAndWires(4),
-        [true, false],
+        [true, false, true],
+        None,
     );
 }
 
@@ -86,11 +68,14 @@ fn both_pulls_have_the_order_that_was_published_before(rt: HostRuntime) {
         beside: b"1 register 1\nwait\n1 publish\n1 pull 1\n2 pull 1\nwait\n",
         ..TOGETHER
     };
-    let (status, out, met) = play(&rt, rt.alloc(), asked, Waiting::Clients(4, 5));
-    let same = met == [true, true, true] || status != Status::Ok;
-    assert!(rt; same, "another meeting, or no memory for a thread");
-    expect(&rt, status, out.bytes(), (Status::Ok, PULLS_TEXT));
-    drop(out);
+    meets(
+        &rt,
+        rt.alloc(),
+        asked,
+        Waiting::Clients(4, 5),
+        [true, true, true],
+        Some(PULLS_TEXT),
+    );
 }
 
 // The gates of other commands are not passed.
@@ -102,6 +87,13 @@ fn no_other_command_passes_a_gate(rt: HostRuntime) {
             last: "t",
             ..TOGETHER
         };
-        meets(&rt, rt.alloc(), asked, Waiting::Client(1), [false, false]);
+        meets(
+            &rt,
+            rt.alloc(),
+            asked,
+            Waiting::Client(1),
+            [false, false, true],
+            None,
+        );
     }
 }

@@ -62,6 +62,6 @@ fn had<T, E: Drop>(rt: &impl Abort, answer: Result<T, E>) -> T {
 
 /// Stops where a job came to another status or another text.
 pub(crate) fn expect<R: Abort>(rt: &R, status: Status, text: &[u8], wanted: (Status, &[u8])) {
-    assert_eq!(rt; status, wanted.0);
-    assert_eq!(rt; text, wanted.1);
+    assert!(rt; status == wanted.0, "another status, or no memory");
+    assert!(rt; text == wanted.1, "another text");
 }

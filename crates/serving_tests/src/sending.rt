@@ -45,7 +45,7 @@ fn send_row<R: Threads + Wait + Sync + Abort>(rt: &R, alloc: Global, row: Row<'_
 
 /// Stops where the wires accepted other units.
 fn expect_units<R: Abort>(rt: &R, sent: &str, wanted: &str) {
-    assert_eq!(rt; sent, wanted);
+    assert!(rt; sent == wanted, "other units");
 }
 
 fn served<'a, R: Threads + Wait + Sync + Abort>(
