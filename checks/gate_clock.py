@@ -3,8 +3,8 @@
 
 Use: checks/gate_clock.py rt ci            The exit code is that of the command.
 
-The command's lines go on as they come. Beside it the script looks twice a second which checks are running: `rt ci` says only when one has ended. Behind the last line
-comes a line for each crate and kind, which checks/gate_times reads:
+The command's lines go on as they come. Beside it the script looks twice a second which checks are running: `rt ci` says only when one has ended. When a check has ended, and behind the last
+line for each crate and kind, comes a line which checks/gate_times reads, so that a run that is cut off has told what it took:
 
     clock: CRATE KIND SECONDS PROCESSOR_SECONDS CHECKS
     clock: whole SECONDS
@@ -72,21 +72,33 @@ class Clock:
     def __init__(self, root):
         self.root = root
         self.seen = {}
+        self.running = set()
 
     def look(self):
-        """Notes for each check that runs now when it was seen first and last, and its ticks."""
-        now, all_stats = time.monotonic(), stats()
+        """Notes for each check that runs now when it was seen first and last, and its ticks. The tasks of those that have ended."""
+        now, all_stats, running = time.monotonic(), stats(), set()
         for pid in below(self.root, all_stats):
             parent, ticks, began = all_stats[pid]
             above = parent, all_stats[parent][2] if parent in all_stats else 0
             if (pid, began) in self.seen:
                 self.seen[pid, began][2:] = [now, ticks]
+                running.add((pid, began))
             elif above not in self.seen and (task := task_of(pid)):
                 self.seen[pid, began] = [task, now, now, ticks]
+                running.add((pid, began))
+        over, self.running = self.running - running, running
+        return {self.seen[it][0] for it in over}
 
     def watch(self, ended):
         while not ended.wait(EACH):
-            self.look()
+            if over := self.look():
+                self.tell(over)
+
+    def tell(self, tasks):
+        totals = self.totals()
+        for crate, kind in sorted(tasks):
+            seconds, used, checks = totals[crate, kind]
+            print(f"clock: {crate} {kind} {seconds:.0f} {used:.0f} {checks}", flush=True)
 
     def totals(self):
         """The seconds, the processor seconds and the number of checks of each crate and kind."""
@@ -109,8 +121,7 @@ def main(words):
     status = ran.wait()
     ended.set()
     watcher.join()
-    for (crate, kind), (seconds, used, checks) in sorted(clock.totals().items()):
-        print(f"clock: {crate} {kind} {seconds:.0f} {used:.0f} {checks}")
+    clock.tell(clock.totals())
     print(f"clock: whole {time.monotonic() - begin:.0f}", flush=True)
     return status if status >= 0 else 128 - status
 
