@@ -128,8 +128,15 @@ impl Pilot {
         ensures room { IfOk result (λ p. length p.said.items + size.commands ≤ vec_capacity p.said) }
         ensures places { IfOk result (λ p. size.coflows ≤ vec_capacity p.places) }
     {
-        let places = Vec::with_capacity(alloc, size.coflows as usize)?;
-        let said = Vec::with_capacity(alloc, size.commands as usize)?;
+        let Ok(places) = Vec::with_capacity(alloc, size.coflows as usize) else {
+            drop(driver);
+            return Err(NoMemory);
+        };
+        let Ok(said) = Vec::with_capacity(alloc, size.commands as usize) else {
+            drop(places);
+            drop(driver);
+            return Err(NoMemory);
+        };
         Ok(Pilot {
             driver,
             draw,

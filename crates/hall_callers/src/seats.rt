@@ -21,7 +21,10 @@ pub fn master_of(alloc: Global, table: Table, commands: u32) -> Result<Master, N
     ensures table { IfOk result (λ m. m.opening.table ≡ table) }
     ensures journal { IfOk result (λ m. m.journal ≡ []) }
 {
-    let weights = vec![in alloc; 1; table.coflows() as usize]?;
+    let Ok(weights) = vec![in alloc; 1; table.coflows() as usize] else {
+        drop(table);
+        return Err(NoMemory);
+    };
     let limit = (CLIENTS + 1) * commands + 1;
     Master::new(alloc, table, Items::from_vec(weights), limit)
 }
@@ -52,8 +55,14 @@ pub fn seated(
     ensures pilot { IfOk result (λ made. IsPilotOf hall.now size.commands made.0) }
     ensures clients { IfOk result (λ made. All (IsClientOf hall.now size.commands) made.1.items) }
 {
-    let clients = clients_of(alloc, hall, &mut driver, seed, size.commands)?;
-    let pilot = Pilot::new(alloc, driver, Draw::of(seed, 0), size)?;
+    let Ok(clients) = clients_of(alloc, hall, &mut driver, seed, size.commands) else {
+        drop(driver);
+        return Err(NoMemory);
+    };
+    let Ok(pilot) = Pilot::new(alloc, driver, Draw::of(seed, 0), size) else {
+        drop(clients);
+        return Err(NoMemory);
+    };
     Ok((pilot, clients))
 }
 
@@ -73,7 +82,11 @@ fn clients_of(
     let mut clients = Vec::with_capacity(alloc, CLIENTS as usize)?;
     for before in 0..CLIENTS {
         let draw = Draw::of(seed, before + 1);
-        clients.push_reserved(Client::new(alloc, hall, driver, draw, commands)?);
+        let Ok(client) = Client::new(alloc, hall, driver, draw, commands) else {
+            drop(clients);
+            return Err(NoMemory);
+        };
+        clients.push_reserved(client);
     }
     Ok(clients)
 }

@@ -31,10 +31,18 @@ pub fn closed(
     requires clients { All (λ c. IsSessionOf hall c.session) clients.items }
     ensures opening { IfOk result (λ master. master.opening ≡ hall.setting.opening) }
 {
-    let sessions = sessions_of(alloc, &hall, clients)?;
+    let Ok(sessions) = sessions_of(alloc, &hall, clients) else {
+        drop(driver);
+        drop(hall);
+        return Err(Stop::NoMemory);
+    };
     match hall.close(alloc, driver, sessions) {
         Ok(master) => Ok(master),
-        Err(fault) => Err(stop_of(&fault)),
+        Err(fault) => {
+            let stop = stop_of(&fault);
+            drop(fault);
+            Err(stop)
+        }
     }
 }
 

@@ -41,7 +41,13 @@ fn run<R: Runtime + Threads + Wait + Sync>(rt: &R, alloc: Global, game: Game) ->
         commands,
         mode,
     } = game;
-    let size = size_of(&table, commands)?;
+    let size = match size_of(&table, commands) {
+        Ok(size) => size,
+        Err(stop) => {
+            drop(table);
+            return Err(stop);
+        }
+    };
     match mode {
         Mode::Mutex => contend(rt, alloc, master_of(alloc, table, commands)?, seed, size),
         _ => play(rt, alloc, table, seed, size, mode),
@@ -62,7 +68,10 @@ fn play<R: Runtime + Threads + Wait + Sync>(
     requires ports { (size.ports ≡ table.ports) × (1 ≤ size.ports) }
 {
     let (hall, driver) = begun(alloc, table, size)?;
-    let (pilot, clients) = seated(alloc, &hall, driver, seed, size)?;
+    let Ok((pilot, clients)) = seated(alloc, &hall, driver, seed, size) else {
+        drop(hall);
+        return Err(Stop::NoMemory);
+    };
     host(rt, alloc, hall, pilot, clients, size, mode)
 }
 
@@ -84,7 +93,9 @@ fn host<R: Runtime + Threads + Wait + Sync>(
 {
     let took = asked(rt, &hall, &mut pilot, &mut clients, size, mode);
     let master = closed(alloc, hall, pilot.into_driver(), clients)?;
-    tell_end(rt, &master, size, mode, took)
+    let told = tell_end(rt, &master, size, mode, took);
+    drop(master);
+    told
 }
 
 /// The driver and the clients ask their commands, and what they were told is printed where the mode asks for it. It answers how long the asking took.

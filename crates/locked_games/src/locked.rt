@@ -31,9 +31,15 @@ pub fn contend<R: Runtime + Threads + Wait + Sync>(
 ) -> Result<(), Stop>
     requires some { (1 ≤ size.coflows) × (1 ≤ size.ports) }
 {
-    let mut callers = callers_of(alloc, seed)?;
-    let took = timed(rt, master, &mut callers, size)?;
-    if have_answers(&callers, size.commands) {
+    let Ok(mut callers) = callers_of(alloc, seed) else {
+        drop(master);
+        return Err(Stop::NoMemory);
+    };
+    let took = timed(rt, master, &mut callers, size);
+    let answered = have_answers(&callers, size.commands);
+    drop(callers);
+    let took = took?;
+    if answered {
         return Ok(println!(rt; "nanoseconds {}", took.as_nanos())?);
     }
     Err(Stop::Missing)
@@ -61,9 +67,17 @@ fn timed<R: Runtime + Threads + Wait + Sync>(
 ) -> io::Result<Duration>
     requires some { (1 ≤ size.coflows) × (1 ≤ size.ports) }
 {
-    let start = Instant::now(rt)?;
-    lock_all(rt, &Mutex::new(master), callers, size);
-    start.elapsed(rt)
+    let locked = Mutex::new(master);
+    let start = Instant::now(rt);
+    lock_all(rt, &locked, callers, size);
+    let took = elapsed(rt, start);
+    drop(locked);
+    took
+}
+
+/// How long it is since the start.
+fn elapsed<R: Runtime>(rt: &R, start: io::Result<Instant>) -> io::Result<Duration> {
+    start?.elapsed(rt)
 }
 
 /// Whether each caller had so many commands carried out.
