@@ -27,3 +27,8 @@ pub(crate) fn parts_of<'a>(rt: &impl Abort, alloc: Global, row: &'a str) -> (Str
     }
     (text, want)
 }
+
+/// Stops where a row has another answer.
+pub(crate) fn is_told(rt: &impl Abort, row: &str, have: &str, want: &str) {
+    assert_eq!(rt; have, want, "{row}");
+}

@@ -1,5 +1,5 @@
 //! Texts of scripts, over a trace with the coflows 1 and 2.
-use crate::rows::{had, parts_of};
+use crate::rows::{had, is_told, parts_of};
 use coflow_units::MAX_TEXT;
 use flow_table::Table;
 use script_reader::{Script, read_script};
@@ -79,7 +79,7 @@ fn scripts_and_first_faults(rt: HostRuntime) {
     for row in ROWS.split('\n') {
         let (text, want) = parts_of(&rt, rt.alloc(), row);
         let have = answer(&rt, rt.alloc(), text.as_bytes());
-        assert_eq!(rt; have.as_str(), want, "{row}");
+        is_told(&rt, row, &have, want);
     }
 }
 
@@ -97,5 +97,6 @@ fn a_script_has_65536_lines(rt: HostRuntime) {
     let whole = waits(&rt, rt.alloc(), 65_536);
     assert!(rt; whole.starts_with("script 0 wait"));
     let long = waits(&rt, rt.alloc(), 65_537);
-    assert_eq!(rt; long.as_str(), "Commands of 65537 is outside its range");
+    let want = "Commands of 65537 is outside its range";
+    is_told(&rt, "65537 lines", &long, want);
 }

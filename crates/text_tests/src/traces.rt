@@ -1,5 +1,5 @@
 //! Texts of traces.
-use crate::rows::{had, parts_of};
+use crate::rows::{had, is_told, parts_of};
 use coflow_units::{CoflowLine, MAX_TEXT, Trace};
 use std::alloc::Global;
 use std::process::Abort;
@@ -113,8 +113,8 @@ fn texts_of_traces(rt: HostRuntime) {
     for row in VALUES.split('\n').chain(FAULTS.split('\n')) {
         let (text, want) = parts_of(&rt, rt.alloc(), row);
         let have = answer(&rt, rt.alloc(), text.as_bytes());
-        assert_eq!(rt; have.as_str(), want, "{row}");
+        is_told(&rt, row, &have, want);
     }
     let have = answer(&rt, rt.alloc(), b"1 1\n\xff 0 1 0 1 1:1");
-    assert_eq!(rt; have.as_str(), "line 2 field 1");
+    is_told(&rt, "bytes that are no UTF-8", &have, "line 2 field 1");
 }

@@ -1,5 +1,5 @@
 //! Texts of weights, for a trace with the coflows 1 and 2.
-use crate::rows::{had, parts_of};
+use crate::rows::{had, is_told, parts_of};
 use coflow_units::MAX_TEXT;
 use std::alloc::Global;
 use std::process::Abort;
@@ -59,6 +59,6 @@ fn weights_and_first_faults(rt: HostRuntime) {
     for row in ROWS.split('\n') {
         let (text, want) = parts_of(&rt, rt.alloc(), row);
         let have = answer(&rt, rt.alloc(), text.as_bytes());
-        assert_eq!(rt; have.as_str(), want, "{row}");
+        is_told(&rt, row, &have, want);
     }
 }
