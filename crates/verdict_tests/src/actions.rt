@@ -32,46 +32,71 @@ fn step(rt: &impl Abort, epochs: &mut Epochs, time: u64, owed: [u64; 2], action:
     assert_eq!(rt; epochs.next(time, &owed), action);
 }
 
+/// A time, the units that the coflows owe then, and what is done.
+type Row = (u64, [u64; 2], Action);
+
+/// The rows, in order.
+fn follow(rt: &impl Abort, epochs: &mut Epochs, rows: &[Row])
+    requires coflows { length epochs.old.arrivals ≡ 2 }
+{
+    for row in rows {
+        let (time, owed, action) = *row;
+        step(rt, epochs, time, owed, action);
+    }
+}
+
 /// The first coflow has 6 units, the second 1 unit, at the same ports. The second arrives at time 2, and goes first from
 /// the epoch at 4 on.
 #[test]
 fn late_coflow_is_ordered_at_the_next_epoch(rt: HostRuntime) {
+    const ROWS: &[Row] = &[
+        (0, [6, 1], Action::Register(0)),
+        (0, [6, 1], Action::Publish),
+        (0, [6, 1], Action::Run(2)),
+        (2, [4, 1], Action::Register(1)),
+        (2, [4, 1], Action::Run(2)),
+        (4, [2, 1], Action::Publish),
+        (4, [2, 1], Action::Run(4)),
+        (5, [2, 0], Action::Run(3)),
+        (7, [0, 0], Action::End),
+    ];
     let mut epochs = two_coflows(&rt, rt.alloc(), 2, 4);
-    step(&rt, &mut epochs, 0, [6, 1], Action::Register(0));
-    step(&rt, &mut epochs, 0, [6, 1], Action::Publish);
-    step(&rt, &mut epochs, 0, [6, 1], Action::Run(2));
-    step(&rt, &mut epochs, 2, [4, 1], Action::Register(1));
-    step(&rt, &mut epochs, 2, [4, 1], Action::Run(2));
-    step(&rt, &mut epochs, 4, [2, 1], Action::Publish);
-    step(&rt, &mut epochs, 4, [2, 1], Action::Run(4));
-    step(&rt, &mut epochs, 5, [2, 0], Action::Run(3));
-    step(&rt, &mut epochs, 7, [0, 0], Action::End);
+    follow(&rt, &mut epochs, ROWS);
+    drop(epochs);
 }
 
 /// The first coflow is served at time 1, and leaves before the epoch at 2 is published. At time 4 nobody owes anything, so
 /// nobody leaves.
 #[test]
 fn served_coflow_leaves_before_a_publishing(rt: HostRuntime) {
+    const ROWS: &[Row] = &[
+        (0, [1, 3], Action::Register(0)),
+        (0, [1, 3], Action::Register(1)),
+        (0, [1, 3], Action::Publish),
+        (1, [0, 3], Action::Run(1)),
+        (2, [0, 2], Action::Withdraw(0)),
+        (2, [0, 2], Action::Publish),
+        (2, [0, 2], Action::Run(2)),
+        (4, [0, 0], Action::End),
+    ];
     let mut epochs = two_coflows(&rt, rt.alloc(), 0, 2);
-    step(&rt, &mut epochs, 0, [1, 3], Action::Register(0));
-    step(&rt, &mut epochs, 0, [1, 3], Action::Register(1));
-    step(&rt, &mut epochs, 0, [1, 3], Action::Publish);
-    step(&rt, &mut epochs, 1, [0, 3], Action::Run(1));
-    step(&rt, &mut epochs, 2, [0, 2], Action::Withdraw(0));
-    step(&rt, &mut epochs, 2, [0, 2], Action::Publish);
-    step(&rt, &mut epochs, 2, [0, 2], Action::Run(2));
-    step(&rt, &mut epochs, 4, [0, 0], Action::End);
+    follow(&rt, &mut epochs, ROWS);
+    drop(epochs);
 }
 
 /// The first coflow is served at time 1, and the second arrives at time 9: the next slot is 10.
 #[test]
 fn idle_time_is_skipped(rt: HostRuntime) {
+    const ROWS: &[Row] = &[
+        (0, [1, 2], Action::Register(0)),
+        (0, [1, 2], Action::Publish),
+        (0, [1, 2], Action::Run(4)),
+        (1, [0, 2], Action::Skip(10)),
+        (9, [0, 2], Action::Register(1)),
+        (9, [0, 2], Action::Run(3)),
+        (11, [0, 0], Action::End),
+    ];
     let mut epochs = two_coflows(&rt, rt.alloc(), 9, 4);
-    step(&rt, &mut epochs, 0, [1, 2], Action::Register(0));
-    step(&rt, &mut epochs, 0, [1, 2], Action::Publish);
-    step(&rt, &mut epochs, 0, [1, 2], Action::Run(4));
-    step(&rt, &mut epochs, 1, [0, 2], Action::Skip(10));
-    step(&rt, &mut epochs, 9, [0, 2], Action::Register(1));
-    step(&rt, &mut epochs, 9, [0, 2], Action::Run(3));
-    step(&rt, &mut epochs, 11, [0, 0], Action::End);
+    follow(&rt, &mut epochs, ROWS);
+    drop(epochs);
 }
