@@ -244,7 +244,7 @@ end
 ";
     let mut wires = wires_of(&rt, rt.alloc(), [0, 0, 0]);
     let text = tell_run(&rt, rt.alloc(), "1 1\n1 0 1 0 1 1:8192\n", 1, 1, &mut wires);
-    assert!(rt; text.as_str().ends_with(end));
+    assert!(rt; text.as_str().ends_with(end), "another text, or no memory");
     let mut wires = wires_of(&rt, rt.alloc(), [0, 0, 0]);
     let text = tell_run(&rt, rt.alloc(), "1 1\n1 0 1 0 1 1:8193\n", 1, 1, &mut wires);
     assert_eq!(rt; text.as_str(), "TooMany { count: 8193 }\n");

@@ -143,9 +143,11 @@ fn a_new_seat_finds_what_the_root_left(rt: HostRuntime) {
     let Ok(log) = gate.close(root) else {
         unreachable!();
     };
-    assert_eq!(rt; found, Some(1));
-    assert_eq!(rt; lines_in_order(&log, 0), Some(1));
-    assert_eq!(rt; log.lines.len(), 1);
+    let left = lines_in_order(&log, 0);
+    let count = log.lines.len();
+    drop(log);
+    let same = found == Some(1) && left == Some(1) && count == 1;
+    assert!(rt; same, "other lines, or no memory for them");
 }
 
 // No clause says that a thread that sleeps is woken. Where the end of a turn wakes at another word, or wakes one thread alone, or a wait sleeps past
@@ -169,6 +171,8 @@ fn the_root_and_two_seats_take_many_turns(rt: HostRuntime) {
         unreachable!();
     };
     for who in 0..3 {
-        assert_eq!(rt; lines_in_order(&log, who), Some(TURNS));
+        let same = lines_in_order(&log, who) == Some(TURNS);
+        assert!(rt; same, "other lines, or no memory for them");
     }
+    drop(log);
 }
