@@ -1,10 +1,12 @@
-//! Texts of comparisons of rankers and of the classes of traces.
+//! Texts of comparisons of rankers, of the classes of traces and of the summaries of made workloads.
 ghost use Rattle.std.specs.Prelude.{All, IsTrue};
-ghost use Rattle.report.specs.Compared.{IsName};
-ghost use Rattle.report.specs.declared.compared.RowLine.{RowLine};
+ghost use Rattle.list_text.specs.Compared.{IsName};
+ghost use Rattle.list_text.specs.declared.compared.RowLine.{RowLine};
 
 use coflow_units::{Items, Run};
-use report::{ClassText, Compare, Member, RowLine, RowText, write_classes, write_compare};
+use list_text::{
+    ClassText, Compare, Made, Member, RowLine, RowText, write_classes, write_compare, write_made,
+};
 use std::process::Abort;
 
 /// The value of an answer that only want of memory can refuse.
@@ -83,5 +85,21 @@ fn texts_of_classes(rt: HostRuntime) {
     let text = had(&rt, write_classes(alloc, &classes));
     let want =
         b"sincronia classes 1\nmember 1 2\nmember 2 1\ncap 6\ncost 5\nrun 1 1\nrun 3 0\nend\n";
+    assert!(rt; text.as_slice() == want.as_slice());
+}
+
+#[test]
+fn texts_of_summaries(rt: HostRuntime) {
+    let made = Made {
+        seed: 7,
+        flows: 1_200,
+        units: 10_305,
+        bound: 908_070,
+        slack: 16,
+        cost: u128::MAX,
+    };
+    let want =
+        b"sincronia make 7\ncoflows 200 flows 1200 units 10305\nbound 908070\nslack 16\ncost 340282366920938463463374607431768211455\ncheck yes\nend\n";
+    let text = had(&rt, write_made(rt.alloc(), &made));
     assert!(rt; text.as_slice() == want.as_slice());
 }

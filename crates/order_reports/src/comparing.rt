@@ -4,15 +4,15 @@ ghost use Rattle.coflow_units.specs.declared.limits.TheConstants.{MAX_WEIGHT};
 ghost use Rattle.flow_table.specs.Table.{instance_of};
 ghost use Rattle.rankers.specs.FactsTold.{FactsTold, IsFactsOf};
 ghost use Rattle.rankers.specs.declared.row.Row.{Row};
-ghost use Rattle.report.specs.declared.compared.Compare.{Compare};
-ghost use Rattle.report.specs.declared.compared.RowLine.{RowLine};
-ghost use Rattle.report.specs.Compared.{IsName, compare_text};
+ghost use Rattle.list_text.specs.declared.compared.Compare.{Compare};
+ghost use Rattle.list_text.specs.declared.compared.RowLine.{RowLine};
+ghost use Rattle.list_text.specs.Compared.{IsName, compare_text};
 ghost use Rattle.order_reports.specs.Comparison.{IsComparison, line_of, names_of, worth_of};
 
 use coflow_units::{Items, NoMemory};
 use flow_table::Table;
+use list_text::{Compare, RowLine, RowText, write_compare};
 use rankers::{Facts, Ranker, Row, Scored, compare};
-use report::{Compare, RowLine, RowText, write_compare};
 use std::alloc::Global;
 
 /// The text of the comparison of the rankers of a bench on a table, under a lower bound on the cost of its schedules.

@@ -4,7 +4,7 @@ ghost use Rattle.coflow_units.specs.Completion.{cost};
 ghost use Rattle.coflow_units.specs.Schedule.{IsValid};
 ghost use Rattle.flow_table.specs.Table.{TableFacts, instance_of};
 ghost use Rattle.rankers.specs.Meaning.{Meaning};
-ghost use Rattle.report.specs.declared.compared.Compare.{Compare};
+ghost use Rattle.list_text.specs.declared.compared.Compare.{Compare};
 ghost use Rattle.order_reports.specs.Comparison.{IsBelowCosts, IsComparison};
 
 /// Each cost of a comparison is that of a valid schedule. So where the bound is at most the cost of every valid schedule, no cost of a row is below it.

@@ -2,7 +2,7 @@
 ghost use Rattle.std.specs.Prelude.{◌≡◌, ⊤, length};
 ghost use Rattle.coflow_facts.specs.FactsTold.{FactsTold, coflows_in};
 ghost use Rattle.ranker_kinds.specs.Meaning.{Meaning, after_note, after_question, answer_of};
-ghost use Rattle.report.specs.Compared.{IsName};
+ghost use Rattle.list_text.specs.Compared.{IsName};
 
 use coflow_facts::Facts;
 

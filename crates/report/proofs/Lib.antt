@@ -1,6 +1,4 @@
 pub mod TextSteps
-pub mod MadeSteps
-pub mod BenchText
 pub mod LineText
 pub mod NumberText
 pub mod TextLengths
@@ -17,5 +15,3 @@ pub mod LastLine
 pub mod WholeLines
 pub mod ReadingSteps
 pub mod TextLaws
-pub mod MadeOne
-pub mod BenchOne

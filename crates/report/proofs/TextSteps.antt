@@ -5,7 +5,6 @@ use Rattle.std.specs.List.{range_with_len}
 use Rattle.std.proofs.lemmas.Grind.{flat_map-append}
 use Rattle.std.proofs.lemmas.List.{map_more}
 use Rattle.std.proofs.lemmas.List.FromFn.{map-range_with_len_more}
-use Rattle.coflow_units.specs.declared.plan.Run.{Run}
 use Rattle.report.specs.declared.value.Report.{Report}
 use Rattle.report.specs.Text.{ended, place_line_at, place_lines, report_text, run_line, text_of, total_lines, version_line}
 
@@ -35,11 +34,6 @@ pub each_step : {X : Type 0} (line : X → List ℕ) (xs : List X) (k : ℕ) (x 
 each_step line xs k x front text new lt here old step =
     one_more_behind front text new (map line (take k xs)) (map line (take (k + 1) xs)) (line x) old step
     (map_more line xs k x lt ∙ ap (λ y. map line (take k xs) ++ (line y ∷ [])) (sym here))
-
--- the lines of one run more
-pub run_step : (runs : List Run) (k : ℕ) (run : Run) (front text new : List ℕ) → k < length runs → run ≡ get_or runs k run → text ≡ front ++ text_of (map run_line (take k runs)) →
-    new ≡ text ++ ended (run_line run) → new ≡ front ++ text_of (map run_line (take (k + 1) runs))
-run_step = each_step run_line
 
 -- more lines stand at the end of the text
 pub lines_more : (lines more : List (List ℕ)) (text new : List ℕ) → text ≡ text_of lines → new ≡ text ++ text_of more → new ≡ text_of (lines ++ more)

@@ -1,28 +1,21 @@
-//! The texts of the program: the report of a plan, written and read strictly, and the summary of a made workload, a comparison of rankers and the classes of a trace, written. Each value has one text, and each text
-//! stands for at most one value.
+//! The text of the report of a plan, written and read strictly. Each report has one text, and each text stands for at most one report. Other texts are written with the calls that write its numbers and its runs.
 #![tactic(auto)]
 
-mod classed;
-mod compared;
 mod draft;
 mod fault;
 pub mod laws;
 mod lines;
-mod made;
 mod numbers;
 mod parts;
 mod reading;
 mod value;
 mod writing;
 
-pub use classed::{ClassText, Member, push_served, write_classes};
-pub use compared::{Compare, RowLine, RowText, write_compare};
 pub use draft::differs;
 pub use fault::ReportFault;
 pub use lines::{count_then, line_then, number_then, side_then};
-pub use made::{Made, write_made};
 pub use numbers::{push_flows, push_named, push_number};
 pub use parts::{is_end, run_of, total_of};
 pub use reading::read_report;
 pub use value::{PlaceLine, Report};
-pub use writing::{word_of, write_report};
+pub use writing::{push_served, word_of, write_report};

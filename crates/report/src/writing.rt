@@ -23,7 +23,7 @@ pub fn write_report(alloc: Global, report: &Report) -> Result<Vec<u8>, NoMemory>
     push_version(&mut text, report)?;
     push_places(&mut text, report)?;
     push_totals(&mut text, report)?;
-    push_runs(&mut text, report)?;
+    push_served(&mut text, report.runs.as_slice())?;
     text.extend_from_slice(b"end\n")?;
     Ok(text)
 }
@@ -130,18 +130,18 @@ fn push_totals(text: &mut Vec<u8>, report: &Report) -> Result<(), NoMemory>
     push_named(text, b"cost", report.cost)
 }
 
-/// The lines of the runs.
-fn push_runs(text: &mut Vec<u8>, report: &Report) -> Result<(), NoMemory>
-    ensures { OnOk result (text.new.items ≡ text.old.items ++ text_of (map run_line report.now.runs)) }
+/// Writes the lines of the runs at the end of the text. The error is want of memory.
+pub fn push_served(text: &mut Vec<u8>, runs: &[Run]) -> Result<(), NoMemory>
+    ensures { OnOk result (text.new.items ≡ text.old.items ++ text_of (map run_line runs.now)) }
 {
-    for run in report.runs.as_slice() {
+    for run in runs {
         push_run(text, run)?;
     }
     Ok(())
 }
 
 /// The line of a run.
-pub(crate) fn push_run(text: &mut Vec<u8>, run: &Run) -> Result<(), NoMemory>
+fn push_run(text: &mut Vec<u8>, run: &Run) -> Result<(), NoMemory>
     ensures { OnOk result (text.new.items ≡ text.old.items ++ ended (run_line run.now)) }
 {
     text.extend_from_slice(b"run")?;

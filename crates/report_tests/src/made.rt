@@ -1,6 +1,4 @@
-//! Made workloads and their summary.
-use crate::reports::had;
-use report::{Made, write_made};
+//! Made workloads.
 use workload::made;
 
 /// How the trace and the weights of some seeds begin and end, by the rule.
@@ -38,20 +36,4 @@ fn texts_of_seeds(rt: HostRuntime) {
         assert!(rt; weights.starts_with(weights_start.as_bytes()));
         assert!(rt; weights.ends_with(weights_end.as_bytes()));
     }
-}
-
-#[test]
-fn summary(rt: HostRuntime) {
-    let made = Made {
-        seed: 7,
-        flows: 1_200,
-        units: 10_305,
-        bound: 908_070,
-        slack: 16,
-        cost: u128::MAX,
-    };
-    let want =
-        b"sincronia make 7\ncoflows 200 flows 1200 units 10305\nbound 908070\nslack 16\ncost 340282366920938463463374607431768211455\ncheck yes\nend\n";
-    let text = had(&rt, write_made(rt.alloc(), &made));
-    assert!(rt; text.as_slice() == want.as_slice());
 }

@@ -8,7 +8,7 @@ use std::fmt::Debug;
 use std::process::Abort;
 
 /// The value of an answer. A test that finds no memory stops at once.
-pub(crate) fn had<T, E: Debug + Drop>(rt: &impl Abort, answer: Result<T, E>) -> T {
+fn had<T, E: Debug + Drop>(rt: &impl Abort, answer: Result<T, E>) -> T {
     match answer {
         Ok(value) => value,
         Err(fault) => panic!(rt; "{fault:?}"),

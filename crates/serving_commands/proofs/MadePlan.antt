@@ -5,7 +5,7 @@ use Rattle.coflow_units.specs.Flows.{IsDistinct}
 use Rattle.cert_check.specs.Sound.{IsSound}
 use Rattle.flow_table.specs.Table.{IsTable, TableFacts, instance_of}
 use Rattle.report.specs.declared.value.Report.{Report}
-use Rattle.report.specs.Made.{made_text}
+use Rattle.list_text.specs.Made.{made_text}
 use Rattle.report.specs.Reading.{IsTextOf}
 use Rattle.report.specs.Report.{HasSmallNumbers, IsReport}
 use Rattle.report.specs.Text.{report_text}

@@ -5,7 +5,7 @@ use Rattle.flow_table.specs.Table.{instance_of}
 use Rattle.rankers.specs.declared.row.Row.{Row}
 use Rattle.rankers.specs.FactsTold.{IsFacts, IsFactsOf}
 use Rattle.rankers.specs.Meaning.{Meaning}
-use Rattle.report.specs.declared.compared.Compare.{Compare}
+use Rattle.list_text.specs.declared.compared.Compare.{Compare}
 use Rattle.order_reports.specs.Comparison.{line_of, names_of}
 use Rattle.order_reports.proofs.RowFacts.{left_asked, names_count, rows_count, rows_known}
 use Rattle.order_reports.proofs.comparing.comparison_text.Goals as goal

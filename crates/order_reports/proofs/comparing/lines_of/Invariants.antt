@@ -1,8 +1,8 @@
 -- the lines so far
 use Rattle.std.proofs.Common.{◌≡◌, take}
 use Rattle.std.specs.Prelude.{All, map}
-use Rattle.report.specs.declared.compared.RowLine.{RowLine}
-use Rattle.report.specs.Compared.{IsName}
+use Rattle.list_text.specs.declared.compared.RowLine.{RowLine}
+use Rattle.list_text.specs.Compared.{IsName}
 use Rattle.order_reports.specs.Comparison.{line_of}
 use Rattle.order_reports.proofs.comparing.lines_of.Given as goal
 

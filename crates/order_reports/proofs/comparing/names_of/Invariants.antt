@@ -1,7 +1,7 @@
 -- the names so far
 use Rattle.std.proofs.Common.{◌≡◌, take}
 use Rattle.std.specs.Prelude.{All, map}
-use Rattle.report.specs.Compared.{IsName}
+use Rattle.list_text.specs.Compared.{IsName}
 use Rattle.order_reports.proofs.comparing.names_of.Given as goal
 
 abbrev pub invariant-loop-ranker : goal.invariant-loop-ranker

@@ -1,0 +1,4 @@
+pub mod MadeSteps
+pub mod BenchText
+pub mod MadeOne
+pub mod BenchOne

@@ -1,8 +1,0 @@
-use Rattle.std.proofs.Common.{arith}
-use Rattle.report.proofs.TextSteps.{run_step}
-use Rattle.report.proofs.writing.push_runs.Goals as goal
-
-pub loop-run-preserved : goal.loop-run-preserved
-loop-run-preserved c =
-    run_step c.as_slice-run-items.result.now c.loop-run.run-index c.run-item.result c.args.text.now.items c.loop-run.text.items c.push_run.new.text.items (omega arith)
-    c.run-item.is c.loop-run.invariant c.in_ok-push_run.ensures

@@ -1,0 +1,7 @@
+-- the lines so far stand behind the text
+use Rattle.std.proofs.Common.{◌≡◌, ◌++◌, take, map}
+use Rattle.report.specs.Text.{run_line, text_of}
+use Rattle.report.proofs.writing.push_served.Given as goal
+
+abbrev pub invariant-loop-run : goal.invariant-loop-run
+invariant-loop-run l = l.text.items ≡ l.fn.text.items ++ text_of (map run_line (take l.run-index l.runs))
