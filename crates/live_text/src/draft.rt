@@ -12,7 +12,7 @@ use report::{differs, is_end, run_of};
 use std::alloc::Global;
 
 /// The line that comes next: the first one, one behind it, or none.
-#[derive(Clone, Copy, Debug, PartialEq, Eq)]
+#[derive(Clone, Copy)]
 pub(crate) enum Stage {
     First,
     Lines,

@@ -26,9 +26,15 @@ pub fn read_live(alloc: Global, bytes: &[u8]) -> Result<Live, ReportFault>
     let mut line_number: u32 = 1;
     while !rest.is_empty() {
         let Some((line, behind)) = line_then(rest) else {
+            drop(draft);
             return Err(ReportFault::BadText { line: line_number });
         };
-        if !draft.accept(alloc, line)? {
+        let Ok(taken) = draft.accept(alloc, line) else {
+            drop(draft);
+            return Err(ReportFault::NoMemory);
+        };
+        if !taken {
+            drop(draft);
             return Err(ReportFault::BadText { line: line_number });
         }
         rest = behind;

@@ -43,9 +43,7 @@ fn push_entries(text: &mut Vec<u8>, entries: &[EntryLine]) -> Result<(), NoMemor
 fn push_entry(text: &mut Vec<u8>, position: u128, entry: EntryLine) -> Result<(), NoMemory>
     ensures { OnOk result (text.new.items ≡ text.old.items ++ ended (entry_line position entry)) }
 {
-    text.extend_from_slice(b"entry")?;
-    push_number(text, position)?;
-    push_number(text, u128::from(entry.who))?;
+    push_pair(text, b"entry", position, u128::from(entry.who))?;
     push_command(text, entry.word)?;
     push_reply(text, entry.said)?;
     text.extend_from_slice(b"\n")?;
@@ -59,13 +57,12 @@ fn push_command(text: &mut Vec<u8>, word: Word) -> Result<(), NoMemory>
     match word {
         Word::Register(id) => push_words(text, b" register", u64::from(id)),
         Word::Withdraw(id) => push_words(text, b" withdraw", u64::from(id)),
-        Word::Publish => Ok(text.extend_from_slice(b" publish")?),
+        Word::Publish => push_word(text, b" publish"),
         Word::Pull(id) => push_words(text, b" pull", u64::from(id)),
         Word::Open(most) => push_words(text, b" open", most),
-        Word::Close => Ok(text.extend_from_slice(b" close")?),
+        Word::Close => push_word(text, b" close"),
         Word::Reweigh(id, weight) => {
-            push_words(text, b" reweigh", u64::from(id))?;
-            push_number(text, u128::from(weight))
+            push_pair(text, b" reweigh", u128::from(id), u128::from(weight))
         }
     }
 }
@@ -75,26 +72,41 @@ fn push_reply(text: &mut Vec<u8>, said: Said) -> Result<(), NoMemory>
     ensures { OnOk result (text.new.items ≡ text.old.items ++ reply_words said) }
 {
     match said {
-        Said::Joined => Ok(text.extend_from_slice(b" joined")?),
-        Said::Already => Ok(text.extend_from_slice(b" already")?),
-        Said::Left => Ok(text.extend_from_slice(b" left")?),
-        Said::NotHere => Ok(text.extend_from_slice(b" nothere")?),
+        Said::Joined => push_word(text, b" joined"),
+        Said::Already => push_word(text, b" already"),
+        Said::Left => push_word(text, b" left"),
+        Said::NotHere => push_word(text, b" nothere"),
         Said::Version(version) => push_words(text, b" version", u64::from(version)),
         Said::StillOpen(slot) => push_words(text, b" stillopen", slot),
         Said::Rank(version, rank) => {
-            push_words(text, b" rank", u64::from(version))?;
-            push_number(text, u128::from(rank))
+            push_pair(text, b" rank", u128::from(version), u128::from(rank))
         }
         Said::Unranked(version) => push_words(text, b" unranked", u64::from(version)),
         Said::Opened(slot, slots, count) => {
-            push_words(text, b" opened", slot)?;
-            push_number(text, u128::from(slots))?;
+            push_pair(text, b" opened", u128::from(slot), u128::from(slots))?;
             push_number(text, u128::from(count))
         }
-        Said::Nothing => Ok(text.extend_from_slice(b" nothing")?),
+        Said::Nothing => push_word(text, b" nothing"),
         Said::Closed(slot) => push_words(text, b" closed", slot),
         Said::Weighed(weight) => push_words(text, b" weighed", weight),
     }
+}
+
+/// Some bytes.
+fn push_word(text: &mut Vec<u8>, word: &[u8]) -> Result<(), NoMemory>
+    ensures { OnOk result (text.new.items ≡ text.old.items ++ word.now) }
+{
+    text.extend_from_slice(word)?;
+    Ok(())
+}
+
+/// Some bytes, and two numbers, each behind a space.
+fn push_pair(text: &mut Vec<u8>, word: &[u8], first: u128, second: u128) -> Result<(), NoMemory>
+    ensures { OnOk result (text.new.items ≡ text.old.items ++ (word.now ++ spaced first ++ spaced second)) }
+{
+    text.extend_from_slice(word)?;
+    push_number(text, first)?;
+    push_number(text, second)
 }
 
 /// Some bytes, and a number behind a space.
@@ -140,12 +152,13 @@ fn push_pulls(text: &mut Vec<u8>, pulls: &[PullLine]) -> Result<(), NoMemory>
 fn push_pull(text: &mut Vec<u8>, pull: PullLine) -> Result<(), NoMemory>
     ensures { OnOk result (text.new.items ≡ text.old.items ++ ended (pull_line pull)) }
 {
-    text.extend_from_slice(b"pull")?;
-    push_number(text, u128::from(pull.client))?;
-    push_number(text, u128::from(pull.line))?;
-    push_number(text, u128::from(pull.id))?;
-    push_number(text, u128::from(pull.version))?;
+    push_pair(
+        text,
+        b"pull",
+        u128::from(pull.client),
+        u128::from(pull.line),
+    )?;
+    push_pair(text, b"", u128::from(pull.id), u128::from(pull.version))?;
     push_number(text, u128::from(pull.rank))?;
-    text.extend_from_slice(b"\n")?;
-    Ok(())
+    push_word(text, b"\n")
 }

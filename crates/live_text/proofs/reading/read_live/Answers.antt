@@ -22,14 +22,14 @@ returns-in_default c =
       live = bad_at bytes n (cut_at IsLiveText are_lines bytes rest ls n c.loop-rest.invariant.1 (not_empty rest c.loop-rest-test.ensures) c.in_default.ensures);
     }
 
-pub returns-then-not-branch : goal.returns-then-not-branch
-returns-then-not-branch c =
+pub returns-then-not-taken : goal.returns-then-not-taken
+returns-then-not-taken c =
     let bytes = c.args.bytes.now in
     let rest = c.loop-rest.rest.now in
     let d = c.loop-rest.draft in
     let n = c.loop-rest.line_number in
     let line = c.in-Some.line.now in
-    let refuses : Refuses d line = rw c.if-not-branch.true at c.in_ok-accept.ensures in
+    let refuses : Refuses d line = rw (c.in-Ok.is, c.if-not-taken.true) at c.accept.ensures in
     record {
       live = bad_at bytes n (refused_at IsLiveText are_lines bytes rest line c.in-Some.behind.now (draft_lines d) n c.loop-rest.invariant.1
           (not_empty rest c.loop-rest-test.ensures) c.in-Some.ensures.0 c.in-Some.ensures.1 (refused d line refuses));
@@ -47,7 +47,7 @@ loop-rest-preserved c =
     let line = c.in-Some.line.now in
     let old = c.loop-rest.draft in
     let new = c.accept.new.self in
-    let taken : IsDraft new × (draft_lines new ≡ draft_lines old ++ (line ∷ [])) = rw c.if-not-branch.false at c.in_ok-accept.ensures in (
+    let taken : IsDraft new × (draft_lines new ≡ draft_lines old ++ (line ∷ [])) = rw (c.in-Ok.is, c.if-not-taken.false) at c.accept.ensures in (
       taken.0,
       one_more IsLiveText bytes rest behind line (draft_lines old) (draft_lines new) (lines_after new.stage (live_of new)) c.loop-rest.line_number c.loop-rest.invariant.1
           taken.1 (draft_begins new taken.0) c.in-Some.ensures.0 c.in-Some.ensures.1,
