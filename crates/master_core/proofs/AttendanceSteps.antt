@@ -1,5 +1,5 @@
 -- One more coflow joins.
-use Rattle.std.proofs.Common.{◌≡◌, ℕ, ◌<◌, ◌≤◌, Bool, true, false, List, [], ◌∷◌, ◌++◌, length, inl, inr, sym, ap, subst, ◌∙◌, arith, true≢false}
+use Rattle.std.proofs.Common.{◌≡◌, ℕ, ◌<◌, ◌≤◌, Bool, true, false, List, [], ◌∷◌, ◌++◌, length, inl, inr, refl, sym, ap, subst, ◌∙◌, arith, true≢false}
 use Rattle.std.specs.Prelude.{All, ◌==◌, ◌||◌, slice_set, slice_index_or}
 use Rattle.std.proofs.lemmas.Bool.{cases_eq, eqb-true, ne_eqb}
 use Rattle.std.proofs.lemmas.Bool.Decides.{Decides-eqb}
@@ -10,11 +10,11 @@ use Rattle.std.proofs.lemmas.List.Quantifiers.{all_pairs_push}
 use Rattle.std.proofs.lemmas.Map.Made.{IsDistinct-from_AllPairs}
 use Rattle.std.proofs.lemmas.Map.Steps.{length-le_from_distinct_below}
 use Rattle.coflow_units.specs.Flows.{IsDistinct}
+use Rattle.coflow_units.proofs.Bools.{or_not}
 use Rattle.coflow_units.proofs.Lists.{any_where}
 use Rattle.coflow_units.proofs.Sums.{any_in}
 use Rattle.journal.specs.State.{has}
 use Rattle.master_core.specs.Attendance.{IsAttendance}
-use Rattle.master_core.proofs.Bools.{or_false}
 
 pub distinct_more : (xs : List ℕ) (c : ℕ) → IsDistinct xs → has xs c ≡ false → IsDistinct (xs ++ c ∷ [])
 distinct_more xs c once away = all_pairs_push (λ (x : ℕ) (y : ℕ). x ≡ y → ⊥) xs c once (λ k d lt e.
@@ -39,7 +39,7 @@ seen_more xs marks c x lt old =
     elim (cases_eq x c) [
       | inl e ↦ subst (λ z. slice_index_or (slice_set marks c true) z false ≡ has (xs ++ c ∷ []) z) (sym e)
           (get_or-set_same marks c true false lt ∙ sym (any_in (xs ++ c ∷ []) c (Contains-push xs c)))
-      | inr ne ↦ get_or-set_other marks c x true false ne ∙ old ∙ sym (more ∙ ap (λ b. has xs x || (b || false)) (ne_eqb c x (λ e. ne (sym e))) ∙ or_false (has xs x))
+      | inr ne ↦ get_or-set_other marks c x true false ne ∙ old ∙ sym (more ∙ ap (λ b. has xs x || (b || false)) (ne_eqb c x (λ e. ne (sym e))) ∙ or_not (has xs x) false refl)
     ]
 
 there_more : (xs : List ℕ) (marks : List Bool) (c x : ℕ) → c < length marks → ((y : ℕ) → slice_index_or marks y false ≡ true → has xs y ≡ true) →

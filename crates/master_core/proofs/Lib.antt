@@ -5,7 +5,6 @@ pub mod RankSteps
 pub mod LineSteps
 pub mod PlaceSteps
 pub mod OwingSteps
-pub mod CreditSteps
 pub mod RunTells
 pub mod CloseTells
 pub mod StartTells
@@ -14,5 +13,3 @@ pub mod OpenTells
 pub mod PublishTells
 pub mod OwingTells
 pub mod TellSteps
-pub mod RunSteps
-pub mod KeptSteps

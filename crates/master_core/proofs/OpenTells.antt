@@ -15,7 +15,7 @@ use Rattle.master_core.specs.Attendance.{marked}
 use Rattle.journal.specs.Line.{line, newest}
 use Rattle.master_core.specs.Waiting.{line_of, waits}
 use Rattle.journal.specs.Runs.{granted, least_of, slots_for}
-use Rattle.master_core.specs.OpenRun.{FitsRun, IsBegun, KeptRun, TellsIngresses}
+use Rattle.open_runs.specs.OpenRun.{FitsRun, IsBegun, KeptRun, TellsIngresses}
 use Rattle.master_core.specs.Standing.{IsFit, Tells, TellsCoflows, TellsOpen, TellsOrders}
 use Rattle.master_core.proofs.Bools.{both}
 use Rattle.journal.proofs.Instances.{only_grants}

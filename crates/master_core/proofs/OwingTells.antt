@@ -19,7 +19,8 @@ use Rattle.master_core.specs.Attendance.{marked}
 use Rattle.journal.specs.Line.{line, owing}
 use Rattle.journal.specs.Runs.{granted, slots_for}
 use Rattle.journal.specs.Answer.{on_run, opened, skipped}
-use Rattle.master_core.specs.OpenRun.{KeptRun}
+use Rattle.open_runs.specs.OpenRun.{KeptRun}
+use Rattle.open_runs.proofs.RunSteps.{some_of}
 use Rattle.master_core.specs.Standing.{IsFit, IsNoneOwing, Tells, TellsRun, is_owing}
 use Rattle.master_core.proofs.OwingSteps.{filter_first, filter_none}
 use Rattle.journal.proofs.Present.{line_members}
@@ -78,10 +79,6 @@ ungranted_none o s got h none =
           absurd (nothing_in g (subst (λ l. Contains l g) none in'))
       | inr e ↦ e
     ])
-
-pub some_of : (l : List ℕ) → 0 < length l → (g : ℕ) × Contains l g
-some_of [] some = absurd (omega (arith, some))
-some_of (g ∷ rest) some = (g, (0, omega arith, refl))
 
 first_of : (l : List ℕ) (f : ℕ) → Contains l f → (g : ℕ) × (rest : List ℕ) × (l ≡ g ∷ rest)
 first_of [] f in' = absurd (nothing_in f in')

@@ -13,7 +13,7 @@ use Rattle.master_core.specs.Attendance.{marked}
 use Rattle.master_core.specs.Published.{ranked}
 use Rattle.journal.specs.Fold.{start}
 use Rattle.journal.specs.State.{IsOpening}
-use Rattle.master_core.specs.OpenRun.{FitsOpen}
+use Rattle.open_runs.specs.OpenRun.{FitsOpen}
 use Rattle.master_core.specs.Standing.{IsFit, Tells, TellsRun}
 
 units_listed : (flows : List Flow) (f : ℕ) → get_or (map (λ (x : Flow). x.units) flows) f 0 ≡ units_of flows f

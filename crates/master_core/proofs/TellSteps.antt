@@ -20,7 +20,7 @@ use Rattle.master_core.specs.Attendance.{Attendance, marked}
 use Rattle.journal.specs.Line.{newest_in, rank_in}
 use Rattle.master_core.specs.Published.{Published, ranked}
 use Rattle.master_core.specs.Waiting.{Waiting, line_of}
-use Rattle.master_core.specs.OpenRun.{FitsOpen, KeepsGrants, KeptRuns}
+use Rattle.open_runs.specs.OpenRun.{FitsOpen, KeepsGrants, KeptRuns}
 use Rattle.journal.specs.Fold.{after}
 use Rattle.journal.specs.Answer.{answer, pulled}
 use Rattle.master_core.specs.Standing.{Follows, IsFit, Tells, TellsCoflows, TellsOrders, TellsRun}

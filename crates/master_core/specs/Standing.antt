@@ -12,7 +12,7 @@ use Rattle.journal.specs.State.{has, IsOpening, owed, Run, slot_end, State}
 use Rattle.master_core.specs.Attendance.{Attendance, marked}
 use Rattle.journal.specs.Line.{newest_in}
 use Rattle.master_core.specs.Published.{Published, TellsPlaces, ranked}
-use Rattle.master_core.specs.OpenRun.{FitsOpen, KeepsGrants, KeptRun, TellsIngresses, note_at}
+use Rattle.open_runs.specs.OpenRun.{FitsOpen, KeepsGrants, KeptRun, TellsIngresses, note_at}
 use Rattle.matching.specs.Matching.{room_of}
 use Rattle.master_core.specs.Waiting.{line_of}
 use Rattle.journal.specs.Runs.{note_in}

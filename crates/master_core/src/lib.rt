@@ -5,7 +5,6 @@ mod line;
 mod master;
 mod orders;
 mod roster;
-mod runs;
 mod search;
 mod standing;
 

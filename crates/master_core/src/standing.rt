@@ -14,12 +14,12 @@ ghost use Rattle.journal.specs.declared.command.Command.TheVariants.{Register, W
 use crate::line::Line;
 use crate::orders::Orders;
 use crate::roster::Roster;
-use crate::runs::Runs;
 use crate::search::first_owing;
 use coflow_units::{MAX_SLOT, NoMemory};
 use flow_table::Table;
 use grant_ledger::Ledger;
 use journal::{Command, Opening, Reply};
+use open_runs::Runs;
 use std::alloc::Global;
 
 /// What a master keeps beside its journal.

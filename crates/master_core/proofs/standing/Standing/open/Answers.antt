@@ -9,7 +9,7 @@ use Rattle.journal.specs.State.{Run, slot_end}
 use Rattle.journal.specs.Runs.{granted, slots_for}
 use Rattle.journal.specs.Answer.{on_run, opened}
 use Rattle.matching.specs.Matching.{listed_in}
-use Rattle.master_core.specs.OpenRun.{FitsOpen, IsBegun, KeptRun}
+use Rattle.open_runs.specs.OpenRun.{FitsOpen, IsBegun, KeptRun}
 use Rattle.master_core.specs.Standing.{TellsRun}
 use Rattle.master_core.specs.Waiting.{line_of}
 use Rattle.master_core.proofs.OpenTells.{begun_fits, begun_told, kept_granted, line_told, open_kept}

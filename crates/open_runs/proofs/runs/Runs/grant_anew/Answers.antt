@@ -2,7 +2,7 @@ use Rattle.std.proofs.Common.{List, subst}
 use Rattle.std.specs.Prelude.{slice_index}
 use Rattle.coflow_units.specs.declared.fabric.Flow.{Flow}
 use Rattle.matching.specs.Matching.{IsSettled}
-use Rattle.master_core.proofs.runs.Runs.grant_anew.Goals as goal
+use Rattle.open_runs.proofs.runs.Runs.grant_anew.Goals as goal
 
 pub returns-clause-settled : goal.returns-clause-settled
 returns-clause-settled c =

@@ -2,8 +2,8 @@
 use Rattle.std.specs.Prelude.{◌≡◌, ℕ, Bool, false, List, Option, Some, None, length}
 use Rattle.matching.specs.declared.tables.Tables.{Tables}
 use Rattle.matching.specs.Matching.{listed_in, ports_of}
-use Rattle.master_core.specs.declared.runs.OpenRun.{OpenRun}
-use Rattle.master_core.specs.OpenRun.{KeptRun, note_at}
+use Rattle.open_runs.specs.declared.runs.OpenRun.{OpenRun}
+use Rattle.open_runs.specs.OpenRun.{KeptRun, note_at}
 
 -- where a run is open, the number of its grants is kept with it
 abbrev pub KeepsCount : Tables → Option OpenRun → Type 0

@@ -6,9 +6,9 @@ use Rattle.coflow_units.specs.Flows.{ingress_of}
 use Rattle.journal.specs.State.{has}
 use Rattle.matching.specs.declared.tables.Tables.{Tables}
 use Rattle.matching.specs.Matching.{IsRunLess, listed_in}
-use Rattle.master_core.specs.declared.runs.OpenRun.{OpenRun}
-use Rattle.master_core.specs.KeptRuns.{KeepsCount, kept_run}
-use Rattle.master_core.specs.OpenRun.{KeptRun, credit_of, granted_at, note_at, note_of, number_noted}
+use Rattle.open_runs.specs.declared.runs.OpenRun.{OpenRun}
+use Rattle.open_runs.specs.KeptRuns.{KeepsCount, kept_run}
+use Rattle.open_runs.specs.OpenRun.{KeptRun, credit_of, granted_at, note_at, note_of, number_noted}
 
 -- an open run with the grants that are kept
 abbrev pub run_of : Tables → List (Option ℕ) → OpenRun → KeptRun

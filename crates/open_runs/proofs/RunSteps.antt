@@ -1,5 +1,5 @@
 -- The length of a run, and its notes.
-use Rattle.std.proofs.Common.{◌≡◌, ℕ, ◌≤◌, inl, inr, List, [], min, replicate, Contains, None, refl, subst, arith, zero, suc}
+use Rattle.std.proofs.Common.{◌≡◌, ℕ, ◌<◌, ◌≤◌, inl, inr, List, [], ◌∷◌, length, min, replicate, Contains, None, refl, subst, arith, zero, suc}
 use Rattle.std.proofs.lemmas.Bool.{cases_lt}
 use Rattle.std.proofs.lemmas.List.Elements.{All-contains}
 use Rattle.coflow_units.specs.Grants.{IsRunLength}
@@ -7,7 +7,7 @@ use Rattle.coflow_units.proofs.RunLengths.{one_run_length}
 use Rattle.coflow_units.proofs.Sums.{nothing_in}
 use Rattle.greedy_rates.specs.Room.{IsLeastLeft}
 use Rattle.journal.specs.Runs.{least_of}
-use Rattle.master_core.specs.OpenRun.{note_at}
+use Rattle.open_runs.specs.OpenRun.{note_at}
 use Rattle.journal.proofs.Opened.{least_longest}
 use Rattle.journal.proofs.Sound.{least_below, least_each}
 
@@ -31,6 +31,10 @@ least_is left granted n most room g least in' =
       ];
     } in
     one_run_length left granted m (min (min n most) room) (least_of left granted m) short (longest_is left granted m)
+
+pub some_of : (l : List ℕ) → 0 < length l → (g : ℕ) × Contains l g
+some_of [] some = absurd (omega (arith, some))
+some_of (g ∷ rest) some = (g, (0, omega arith, refl))
 
 pub none_noted : (n ingress : ℕ) → note_at (replicate n None) ingress ≡ None
 none_noted zero ingress = refl

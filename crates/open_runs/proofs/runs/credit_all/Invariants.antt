@@ -1,7 +1,7 @@
 use Rattle.std.proofs.Common.{◌≡◌, ℕ, ◌+◌, length, take}
 use Rattle.std.specs.Prelude.{slice_index}
-use Rattle.master_core.specs.OpenRun.{credit_of}
-use Rattle.master_core.proofs.runs.credit_all.Given as goal
+use Rattle.open_runs.specs.OpenRun.{credit_of}
+use Rattle.open_runs.proofs.runs.credit_all.Given as goal
 
 abbrev pub invariant-loop-flow : goal.invariant-loop-flow
 invariant-loop-flow l = record {

@@ -1,9 +1,9 @@
 -- The open run is closed.
 use Rattle.std.proofs.Common.{◌∙◌, ap, get_or, refl, subst, sym}
 use Rattle.matching.specs.Matching.{IsSettled, listed_in}
-use Rattle.master_core.specs.OpenRun.{KeptRuns}
-use Rattle.master_core.proofs.KeptSteps.{paid_along, run_is, run_less, run_of}
-use Rattle.master_core.proofs.runs.Runs.end.Goals as goal
+use Rattle.open_runs.specs.OpenRun.{KeptRuns}
+use Rattle.open_runs.proofs.KeptSteps.{paid_along, run_is, run_less, run_of}
+use Rattle.open_runs.proofs.runs.Runs.end.Goals as goal
 
 pub returns-then-self-clause-run : goal.returns-then-self-clause-run
 returns-then-self-clause-run c =

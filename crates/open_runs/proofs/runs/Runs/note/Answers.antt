@@ -1,9 +1,9 @@
 -- A note at an ingress that has a grant.
 use Rattle.std.proofs.Common.{ap}
-use Rattle.master_core.specs.OpenRun.{KeptRuns}
-use Rattle.master_core.proofs.KeptSteps.{none_noted_at, run_is, some_noted}
-use Rattle.master_core.proofs.RunTells.{at_told}
-use Rattle.master_core.proofs.runs.Runs.note.Goals as goal
+use Rattle.open_runs.specs.OpenRun.{KeptRuns}
+use Rattle.open_runs.proofs.KeptSteps.{none_noted_at, run_is, some_noted}
+use Rattle.open_runs.proofs.GrantSteps.{at_told}
+use Rattle.open_runs.proofs.runs.Runs.note.Goals as goal
 
 pub returns-then-is_none-clause-noted : goal.returns-then-is_none-clause-noted
 returns-then-is_none-clause-noted c =

@@ -1,5 +1,5 @@
 -- One more granted flow is credited.
-use Rattle.std.proofs.Common.{◌≡◌, ℕ, ◌+◌, ◌-◌, ◌<◌, ◌≤◌, inl, inr, Bool, true, false, List, [], ◌∷◌, length, take, get_or, Option, sym, ap, ◌∙◌, arith, length-take}
+use Rattle.std.proofs.Common.{◌≡◌, ℕ, ◌+◌, ◌-◌, ◌<◌, ◌≤◌, inl, inr, Bool, true, false, List, [], ◌∷◌, length, take, get_or, Option, refl, sym, ap, ◌∙◌, arith, length-take}
 use Rattle.std.specs.Prelude.{◌==◌, ◌||◌, if◌then◌else◌, slice_set, unwrap_or}
 use Rattle.std.specs.List.Sorted.{IsStrictlyIncreasing}
 use Rattle.std.proofs.lemmas.Bool.{cases_eq, eq-eqb, ne_eqb}
@@ -8,10 +8,10 @@ use Rattle.std.proofs.lemmas.List.Folds.{list_any-append}
 use Rattle.std.proofs.lemmas.List.Kept.{AllPairs-from_increasing}
 use Rattle.coflow_units.specs.declared.fabric.Flow.{Flow}
 use Rattle.coflow_units.specs.Flows.{ingress_of}
+use Rattle.coflow_units.proofs.Bools.{or_not}
 use Rattle.coflow_units.proofs.Sums.{any_not}
 use Rattle.journal.specs.State.{has}
-use Rattle.master_core.specs.OpenRun.{credit_of, note_at}
-use Rattle.master_core.proofs.Bools.{or_false}
+use Rattle.open_runs.specs.OpenRun.{credit_of, note_at}
 
 not_yet : (granted : List ℕ) (k g : ℕ) → IsStrictlyIncreasing granted → k < length granted → get_or granted k 0 ≡ g → has (take k granted) g ≡ false
 not_yet granted k g up lt is = any_not (take k granted) g (λ in'.
@@ -22,7 +22,7 @@ not_yet granted k g up lt is = any_not (take k granted) g (λ in'.
 has_more : (granted : List ℕ) (k g f : ℕ) → k < length granted → get_or granted k 0 ≡ g → has (take (k + 1) granted) f ≡ (has (take k granted) f || (g == f))
 has_more granted k g f lt is =
     ap (λ l. has l f) (take_more granted k 0 lt) ∙ list_any-append (λ (y : ℕ). y == f) (take k granted) (get_or granted k 0 ∷ [])
-    ∙ ap (λ b. has (take k granted) f || b) (or_false (get_or granted k 0 == f) ∙ ap (λ y. y == f) is)
+    ∙ ap (λ b. has (take k granted) f || b) (or_not (get_or granted k 0 == f) false refl ∙ ap (λ y. y == f) is)
 
 not_credited : (flows : List Flow) (granted : List ℕ) (noted : List (Option ℕ)) (slots k g : ℕ) → IsStrictlyIncreasing granted → k < length granted → get_or granted k 0 ≡ g →
     credit_of flows (take k granted) noted slots g ≡ 0
@@ -55,6 +55,6 @@ credited_more flows before owed granted noted slots k g n up lt is in' note fits
           omega (arith, paid, left, old, fits)
       | inr ne ↦
           let same : credit_of flows (take (k + 1) granted) noted slots f ≡ credit_of flows (take k granted) noted slots f =
-          ap (λ b. pay b f) (more ∙ ap (λ b. has (take k granted) f || b) (ne_eqb g f (λ e. ne (sym e))) ∙ or_false (has (take k granted) f)) in
+          ap (λ b. pay b f) (more ∙ ap (λ b. has (take k granted) f || b) (ne_eqb g f (λ e. ne (sym e))) ∙ or_not (has (take k granted) f) false refl) in
           ap (λ x. x + credit_of flows (take (k + 1) granted) noted slots f) (get_or-set_other owed g f (get_or owed g 0 - n) 0 ne) ∙ ap (λ x. get_or owed f 0 + x) same ∙ so_far f
     ]

@@ -2,12 +2,11 @@
 use Rattle.std.proofs.Common.{◌-◌, ◌∙◌, ℕ, List, Option, ap, arith, length, min, refl, subst, sym}
 use Rattle.matching.specs.declared.tables.Tables.{Tables}
 use Rattle.matching.specs.Matching.{IsSettled, listed_in}
-use Rattle.master_core.specs.OpenRun.{KeptRuns, note_at}
+use Rattle.open_runs.specs.OpenRun.{KeptRuns, note_at}
 use Rattle.coflow_units.proofs.Fronts.{written_back}
-use Rattle.master_core.proofs.OwingTells.{some_of}
-use Rattle.master_core.proofs.RunSteps.{least_is}
-use Rattle.master_core.proofs.RunTells.{settled_at}
-use Rattle.master_core.proofs.runs.Runs.begin.Goals as goal
+use Rattle.open_runs.proofs.RunSteps.{least_is, some_of}
+use Rattle.open_runs.proofs.GrantSteps.{settled_at}
+use Rattle.open_runs.proofs.runs.Runs.begin.Goals as goal
 
 pub returns-clause-begun : goal.returns-clause-begun
 returns-clause-begun c =

@@ -1,7 +1,7 @@
 use Rattle.std.proofs.Common.{ap}
-use Rattle.master_core.specs.OpenRun.{KeptRuns}
-use Rattle.master_core.proofs.KeptSteps.{current_told}
-use Rattle.master_core.proofs.runs.Runs.current.Goals as goal
+use Rattle.open_runs.specs.OpenRun.{KeptRuns}
+use Rattle.open_runs.proofs.KeptSteps.{current_told}
+use Rattle.open_runs.proofs.runs.Runs.current.Goals as goal
 
 pub returns : goal.returns
 returns c =

@@ -1,9 +1,9 @@
 -- The flow at an ingress, where a run is open.
 use Rattle.std.proofs.Common.{◌∙◌, Option, ap, sym}
-use Rattle.master_core.specs.OpenRun.{KeptRun, KeptRuns, flow_kept}
-use Rattle.master_core.proofs.KeptSteps.{run_is}
-use Rattle.master_core.proofs.RunTells.{at_told}
-use Rattle.master_core.proofs.runs.Runs.at.Goals as goal
+use Rattle.open_runs.specs.OpenRun.{KeptRun, KeptRuns, flow_kept}
+use Rattle.open_runs.proofs.KeptSteps.{run_is}
+use Rattle.open_runs.proofs.GrantSteps.{at_told}
+use Rattle.open_runs.proofs.runs.Runs.at.Goals as goal
 
 pub returns-in-Some : goal.returns-in-Some
 returns-in-Some c =

@@ -2,9 +2,9 @@
 use Rattle.std.proofs.Common.{◌+◌, ◌-◌, ◌∙◌, ◌<◌, ℕ, List, ap, arith, get_or, length, refl, sym, take}
 use Rattle.std.proofs.lemmas.List.{length-set, take_all}
 use Rattle.coflow_units.specs.Flows.{ingress_of}
-use Rattle.master_core.specs.OpenRun.{credit_of}
-use Rattle.master_core.proofs.CreditSteps.{credit_fits, credited_more}
-use Rattle.master_core.proofs.runs.credit_all.Goals as goal
+use Rattle.open_runs.specs.OpenRun.{credit_of}
+use Rattle.open_runs.proofs.CreditSteps.{credit_fits, credited_more}
+use Rattle.open_runs.proofs.runs.credit_all.Goals as goal
 
 pub loop-flow-init : goal.loop-flow-init
 loop-flow-init c = record { units = refl; owed_len = refl; so_far = λ f. omega arith }

@@ -1,12 +1,11 @@
 //! The grants that are kept from run to run, and the open run with its notes.
-ghost use Rattle.std.specs.Prelude.{◌≡◌, ℕ, ◌+◌, ◌-◌, ◌^◌, ◌<◌, ◌≤◌, List, [], true, false, None, Some, All, IfOk, IsTrue, MatchOption, length, slice_index, unwrap_or};
+ghost use Rattle.std.specs.Prelude.{◌≡◌, ℕ, ◌+◌, ◌-◌, ◌<◌, ◌≤◌, List, [], true, false, None, Some, All, IfOk, IsTrue, MatchOption, length, slice_index, unwrap_or};
 ghost use Rattle.std.specs.List.Sorted.{IsStrictlyIncreasing};
 ghost use Rattle.coflow_units.specs.declared.fabric.Flow.{Flow};
 ghost use Rattle.coflow_units.specs.Flows.{IsDistinct};
-ghost use Rattle.flow_table.specs.Table.{IsTable};
 ghost use Rattle.journal.specs.State.{slot_end};
 ghost use Rattle.matching.specs.Matching.{IsSettled, listed_in, room_of};
-ghost use Rattle.master_core.specs.OpenRun.{FitsOpen, IsBegun, KeepsGrants, KeptRun, credit_of, flow_kept, flows_kept, kept_credit, kept_note, note_at, number_noted, with_note};
+ghost use Rattle.open_runs.specs.OpenRun.{FitsOpen, IsBegun, KeepsGrants, KeptRun, credit_of, flow_kept, flows_kept, kept_credit, kept_note, note_at, number_noted, with_note};
 
 use coflow_units::{Flow, MAX_SLOT, NoMemory};
 use flow_table::Table;
@@ -41,8 +40,8 @@ pub struct Runs {
 impl Model for Runs {
     ghost use Rattle.std.specs.Prelude.{◌≡◌, length};
     ghost use Rattle.matching.specs.Matching.{ports_of};
-    ghost use Rattle.master_core.specs.KeptRuns.{AreRuns, kept_run};
-    ghost use Rattle.master_core.specs.OpenRun.{KeptRuns};
+    ghost use Rattle.open_runs.specs.KeptRuns.{AreRuns, kept_run};
+    ghost use Rattle.open_runs.specs.OpenRun.{KeptRuns};
 
     ghost Value = { KeptRuns };
 

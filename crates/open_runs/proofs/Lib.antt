@@ -1,0 +1,5 @@
+pub mod CreditSteps
+pub mod GrantSteps
+pub mod NoteSteps
+pub mod RunSteps
+pub mod KeptSteps

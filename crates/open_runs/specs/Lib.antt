@@ -1,0 +1,2 @@
+pub mod OpenRun
+pub mod KeptRuns
