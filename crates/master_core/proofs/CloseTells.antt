@@ -1,6 +1,6 @@
 -- The state after the open run is closed.
-use Rattle.std.proofs.Common.{◌≡◌, ℕ, ◌+◌, ◌-◌, ◌<◌, List, length, inl, inr, Option, Some, None, refl, sym, ap, subst, ◌∙◌, arith, unwrap_or}
-use Rattle.std.specs.Prelude.{if◌then◌else◌}
+use Rattle.std.proofs.Common.{◌≡◌, ℕ, ◌+◌, ◌-◌, ◌<◌, List, length, inl, inr, Option, Some, None, refl, sym, ap, subst, ◌∙◌, arith, unwrap_or, true≢false}
+use Rattle.std.specs.Prelude.{if◌then◌else◌, is_some}
 use Rattle.std.proofs.lemmas.Bool.{cases_lt}
 use Rattle.std.proofs.Math.ListN.{get_or-eq_default}
 use Rattle.coflow_units.specs.declared.fabric.Flow.{Flow}
@@ -22,10 +22,10 @@ ingress_low t f ok = elim (cases_lt f (length t.flows)) [
 -- the open run of the state, where one is kept
 pub open_of : (flows : List Flow) (ports : ℕ) (r : Option Run) (x : Option KeptRun) (k : KeptRun) → TellsRun flows ports r x → x ≡ Some k →
     (z : Run) × (r ≡ Some z) × TellsOpen flows ports z k
-open_of flows ports None None k t e = absurd (cc)
+open_of flows ports None None k t e = absurd (true≢false (sym (ap is_some e)))
 open_of flows ports None (Some x) k t e = absurd t
 open_of flows ports (Some r) None k t e = absurd t
-open_of flows ports (Some r) (Some x) k t e = let is : x ≡ k = cc in (r, refl, subst (TellsOpen flows ports r) is t)
+open_of flows ports (Some r) (Some x) k t e = let is : x ≡ k = ap (λ (z : Option KeptRun). unwrap_or z k) e in (r, refl, subst (TellsOpen flows ports r) is t)
 
 pub credit_told : (flows : List Flow) (ports : ℕ) (r : Run) (k : KeptRun) (f : ℕ) → TellsOpen flows ports r k → ingress_of flows f < ports →
     kept_credit flows k f ≡ credit flows r f
@@ -38,8 +38,8 @@ pub still_owed : (units sent paid new old : ℕ) → old ≡ units - sent → ne
 still_owed units sent paid new old e f = omega arith
 
 pub fits_kept : (flows : List Flow) (owed : List ℕ) (x : Option KeptRun) (k : KeptRun) → FitsOpen flows owed x → x ≡ Some k → FitsRun flows owed k
-fits_kept flows owed None k h e = absurd (cc)
-fits_kept flows owed (Some x) k h e = let is : x ≡ k = cc in subst (FitsRun flows owed) is h
+fits_kept flows owed None k h e = absurd (true≢false (sym (ap is_some e)))
+fits_kept flows owed (Some x) k h e = let is : x ≡ k = ap (λ (z : Option KeptRun). unwrap_or z k) e in subst (FitsRun flows owed) is h
 
 pub close_none : (r : Option Run) → r ≡ None → on_run r (λ r. Closed r.first) NoneOpen ≡ NoneOpen
 close_none r e = ap (λ (z : Option Run). on_run z (λ r. Closed r.first) NoneOpen) e

@@ -1,6 +1,6 @@
 -- The flows of the line that owe units, as they are kept.
-use Rattle.std.proofs.Common.{◌≡◌, ℕ, ◌<◌, Bool, true, inl, inr, List, [], ◌∷◌, Contains, length, max, Option, Some, None, refl, sym, ap, subst, ◌∙◌, arith}
-use Rattle.std.specs.Prelude.{◌==◌, ◌&&◌, if◌then◌else◌, MatchOption, nat_le, nat_lt, slice_index_or}
+use Rattle.std.proofs.Common.{◌≡◌, ℕ, ◌<◌, Bool, true, inl, inr, List, [], ◌∷◌, Contains, length, max, Option, Some, None, refl, sym, ap, subst, ◌∙◌, arith, true≢false, unwrap_or}
+use Rattle.std.specs.Prelude.{◌==◌, ◌&&◌, if◌then◌else◌, MatchOption, is_some, nat_le, nat_lt, slice_index_or}
 use Rattle.std.proofs.lemmas.Bool.{and_from, and_parts, cases_Bool, lt-ltb, ltb-true, ne_eqb}
 use Rattle.std.specs.List.{range_with_len}
 use Rattle.std.proofs.lemmas.List.Elements.{All-contains}
@@ -29,15 +29,15 @@ use Rattle.journal.proofs.Present.{line_members}
 
 pub run_told : (flows : List Flow) (ports : ℕ) (r : Option Run) (x : Option KeptRun) (k : KeptRun) (other : Reply) → TellsRun flows ports r x → x ≡ Some k →
     on_run r (λ r. StillOpen r.first) other ≡ StillOpen k.first
-run_told flows ports None None k other t e = absurd (cc)
+run_told flows ports None None k other t e = absurd (true≢false (sym (ap is_some e)))
 run_told flows ports None (Some x) k other t e = absurd t
 run_told flows ports (Some r) None k other t e = absurd t
-run_told flows ports (Some r) (Some x) k other t e = let is : x ≡ k = cc in ap StillOpen (sym t.first ∙ ap (λ (y : KeptRun). y.first) is)
+run_told flows ports (Some r) (Some x) k other t e = let is : x ≡ k = ap (λ (z : Option KeptRun). unwrap_or z k) e in ap StillOpen (sym t.first ∙ ap (λ (y : KeptRun). y.first) is)
 
 pub none_told : (flows : List Flow) (ports : ℕ) (r : Option Run) (x : Option KeptRun) → TellsRun flows ports r x → x ≡ None → r ≡ None
 none_told flows ports None x t e = refl
 none_told flows ports (Some r) None t e = absurd t
-none_told flows ports (Some r) (Some x) t e = absurd (cc)
+none_told flows ports (Some r) (Some x) t e = absurd (true≢false (ap is_some e))
 
 -- ---- who owes
 
