@@ -60,13 +60,21 @@ impl Master {
         ensures journal { IfOk result (λ m. m.journal ≡ []) }
     {
         let room = journal_limit as usize + table.ports() as usize + 1;
-        let journal = Vec::with_capacity(alloc, room)?;
+        let Ok(journal) = Vec::with_capacity(alloc, room) else {
+            drop(table);
+            drop(weights);
+            return Err(NoMemory);
+        };
         let opening = Opening {
             table,
             weights,
             limit: journal_limit,
         };
-        let standing = Standing::new(alloc, &opening)?;
+        let Ok(standing) = Standing::new(alloc, &opening) else {
+            drop(journal);
+            drop(opening);
+            return Err(NoMemory);
+        };
         Ok(Master {
             opening,
             journal,

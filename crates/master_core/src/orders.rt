@@ -55,8 +55,15 @@ impl Orders {
         ensures ports_are { IfOk result (λ r. r.ports ≡ ports) }
     {
         let ranks = vec![in alloc; 0; coflows as usize]?;
-        let bssi = Bssi::with_room(alloc, coflows, ports)?;
-        let loads = Loads::of(alloc, &[], coflows, ports)?;
+        let Ok(bssi) = Bssi::with_room(alloc, coflows, ports) else {
+            drop(ranks);
+            return Err(NoMemory);
+        };
+        let Ok(loads) = Loads::of(alloc, &[], coflows, ports) else {
+            drop(ranks);
+            drop(bssi);
+            return Err(NoMemory);
+        };
         Ok(Orders {
             bssi,
             loads,

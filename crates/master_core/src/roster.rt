@@ -38,8 +38,15 @@ impl Roster {
         ensures present_len { IfOk result (λ r. length r.present ≡ coflows) }
     {
         let joined = Vec::with_capacity(alloc, coflows as usize)?;
-        let seen = vec![in alloc; false; coflows as usize]?;
-        let present = vec![in alloc; false; coflows as usize]?;
+        let Ok(seen) = vec![in alloc; false; coflows as usize] else {
+            drop(joined);
+            return Err(NoMemory);
+        };
+        let Ok(present) = vec![in alloc; false; coflows as usize] else {
+            drop(joined);
+            drop(seen);
+            return Err(NoMemory);
+        };
         Ok(Roster {
             joined,
             seen,

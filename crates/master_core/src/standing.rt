@@ -45,8 +45,15 @@ impl Standing {
     {
         let table = &opening.table;
         let weights = opening.weights.as_slice().to_vec(alloc)?;
-        let units = units_kept(alloc, table)?;
-        let coflows = coflows_kept(alloc, table.coflows(), table.ports())?;
+        let Ok(units) = units_kept(alloc, table) else {
+            drop(weights);
+            return Err(NoMemory);
+        };
+        let Ok(coflows) = coflows_kept(alloc, table.coflows(), table.ports()) else {
+            drop(weights);
+            drop(units);
+            return Err(NoMemory);
+        };
         Ok(Standing::of(coflows, weights, units))
     }
 
@@ -272,8 +279,15 @@ fn coflows_kept(alloc: Global, coflows: u32, ports: u32) -> Result<(Roster, Orde
     ensures room { IfOk result (λ x. coflows + coflows ≤ x.2.room) }
 {
     let line = Line::new(alloc, coflows)?;
-    let roster = Roster::new(alloc, coflows)?;
-    let orders = Orders::new(alloc, coflows, ports)?;
+    let Ok(roster) = Roster::new(alloc, coflows) else {
+        drop(line);
+        return Err(NoMemory);
+    };
+    let Ok(orders) = Orders::new(alloc, coflows, ports) else {
+        drop(line);
+        drop(roster);
+        return Err(NoMemory);
+    };
     Ok((roster, orders, line))
 }
 
@@ -287,6 +301,9 @@ fn units_kept(alloc: Global, table: &Table) -> Result<(Ledger, Runs), NoMemory>
     ensures run { IfOk result (λ x. x.1.run ≡ None) }
 {
     let ledger = Ledger::new(alloc, table)?;
-    let runs = Runs::new(alloc, table)?;
+    let Ok(runs) = Runs::new(alloc, table) else {
+        drop(ledger);
+        return Err(NoMemory);
+    };
     Ok((ledger, runs))
 }

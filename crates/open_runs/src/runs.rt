@@ -64,8 +64,11 @@ impl Runs {
         ensures run { IfOk result (λ r. r.run ≡ None) }
     {
         let ports = table.ports();
-        let grants = Matching::with_room(alloc, table.flows().len() as u32, ports)?;
         let noted = vec![in alloc; None; ports as usize]?;
+        let Ok(grants) = Matching::with_room(alloc, table.flows().len() as u32, ports) else {
+            drop(noted);
+            return Err(NoMemory);
+        };
         Ok(Runs {
             grants,
             fresh: false,

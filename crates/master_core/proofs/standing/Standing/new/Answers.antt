@@ -10,34 +10,34 @@ pub returns-clause-tells : goal.returns-clause-tells
 returns-clause-tells c =
     let o = c.args.opening.now in
     let x : Standing = record {
-      roster = c.in_ok-coflows.coflows.0;
+      roster = c.in-Ok-coflows_kept.coflows.0;
       weights = c.in_ok-weights.weights;
-      orders = c.in_ok-coflows.coflows.1;
-      line = c.in_ok-coflows.coflows.2;
-      ledger = c.in_ok-units.units.0;
-      runs = c.in_ok-units.units.1;
+      orders = c.in-Ok-coflows_kept.coflows.1;
+      line = c.in-Ok-coflows_kept.coflows.2;
+      ledger = c.in-Ok.units.0;
+      runs = c.in-Ok.units.1;
       next = 1;
     } in
     let weights : c.in_ok-weights.weights.items ≡ o.weights = c.in_ok-weights.ensures.items_if_clones_equal (search rules) ∙ c.as_slice.ensures in
     subst (Tells o (start o)) (sym c.of.ensures)
-    (start_told o x c.in_ok-coflows.ensures.joined c.in_ok-coflows.ensures.present weights c.in_ok-coflows.ensures.version c.in_ok-coflows.ensures.places
-    (c.in_ok-units.ensures.owed ∙ c.in_ok-units.ensures.units) c.in_ok-units.ensures.run refl)
+    (start_told o x c.in-Ok-coflows_kept.ensures.joined c.in-Ok-coflows_kept.ensures.present weights c.in-Ok-coflows_kept.ensures.version c.in-Ok-coflows_kept.ensures.places
+    (c.in-Ok.ensures.owed ∙ c.in-Ok.ensures.units) c.in-Ok.ensures.run refl)
 
 pub returns-clause-fit : goal.returns-clause-fit
 returns-clause-fit c =
     let o = c.args.opening.now in
     let x : Standing = record {
-      roster = c.in_ok-coflows.coflows.0;
+      roster = c.in-Ok-coflows_kept.coflows.0;
       weights = c.in_ok-weights.weights;
-      orders = c.in_ok-coflows.coflows.1;
-      line = c.in_ok-coflows.coflows.2;
-      ledger = c.in_ok-units.units.0;
-      runs = c.in_ok-units.units.1;
+      orders = c.in-Ok-coflows_kept.coflows.1;
+      line = c.in-Ok-coflows_kept.coflows.2;
+      ledger = c.in-Ok.units.0;
+      runs = c.in-Ok.units.1;
       next = 1;
     } in
     let weights : c.in_ok-weights.weights.items ≡ o.weights = c.in_ok-weights.ensures.items_if_clones_equal (search rules) ∙ c.as_slice.ensures in
     subst (IsFit o) (sym c.of.ensures)
-    (start_fits o x c.requires (c.in_ok-coflows.ensures.present_len ∙ c.coflows.ensures.coflows) weights (c.in_ok-coflows.ensures.coflows_are ∙ c.coflows.ensures.coflows)
-    (c.in_ok-coflows.ensures.ports_are ∙ c.ports.ensures.ports) (omega (arith, c.in_ok-coflows.ensures.room, c.coflows.ensures.coflows)) c.in_ok-units.ensures.units
-    c.in_ok-units.ensures.owed c.in_ok-units.ensures.ports c.in_ok-units.ensures.room
-    c.in_ok-units.ensures.stale c.in_ok-units.ensures.run refl)
+    (start_fits o x c.requires (c.in-Ok-coflows_kept.ensures.present_len ∙ c.coflows.ensures.coflows) weights (c.in-Ok-coflows_kept.ensures.coflows_are ∙ c.coflows.ensures.coflows)
+    (c.in-Ok-coflows_kept.ensures.ports_are ∙ c.ports.ensures.ports) (omega (arith, c.in-Ok-coflows_kept.ensures.room, c.coflows.ensures.coflows)) c.in-Ok.ensures.units
+    c.in-Ok.ensures.owed c.in-Ok.ensures.ports c.in-Ok.ensures.room
+    c.in-Ok.ensures.stale c.in-Ok.ensures.run refl)
