@@ -1,6 +1,6 @@
 //! Arguments of a simple command, and the fault of a parser that refuses words.
 ghost use Rattle.std.specs.Prelude.{◌≡◌, ◌≢◌, ◌↔◌, IfOk, false};
-ghost use Rattle.clap.specs.Words.{app_of, rule_of, with_rule};
+ghost use Rattle.clap.specs.Words.{App, app_of, rule_of, with_rule};
 ghost use Rattle.command_words.specs.Parser.{name_rule, needed_rule, option_rule};
 ghost use Rattle.command_words.specs.declared.words.WordsFault.TheVariants.{Usage};
 
@@ -19,12 +19,22 @@ pub fn fault_by(kind: ErrorKind) -> WordsFault
     }
 }
 
-/// The command with one argument more. The error is want of memory.
-pub fn with_arg<'a>(command: Command<'a>, arg: Arg<'a>) -> Result<Command<'a>, AllocError>
-    requires { arg.global ≡ false }
-    ensures { IfOk result (λ c. app_of c ≡ with_rule (app_of command.entry) (rule_of arg.entry)) }
+/// The command with one argument more, where there is a command. The error is want of memory.
+pub fn with_arg<'a>(
+    command: Result<Command<'a>, AllocError>,
+    arg: Arg<'a>,
+) -> Result<Command<'a>, AllocError>
+    requires local { arg.global ≡ false }
+    ensures arg { (a : App) → IfOk command.entry (λ c. app_of c ≡ a) →
+        IfOk result (λ c. app_of c ≡ with_rule a (rule_of arg.entry)) }
 {
-    command.arg(arg)
+    match command {
+        Ok(command) => command.arg(arg),
+        Err(error) => {
+            drop(arg);
+            Err(error)
+        }
+    }
 }
 
 /// A word by its place, which must be there.

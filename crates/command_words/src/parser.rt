@@ -2,7 +2,7 @@
 ghost use Rattle.std.specs.Prelude.{◌≡◌, Err, IfOk, List, Some, drop};
 ghost use Rattle.clap.specs.Words.{app_of, found_of};
 ghost use Rattle.command_words.specs.Line.{Use, texts, uses};
-ghost use Rattle.command_words.specs.Parser.{Finds, IsAccepted, app, app_with_names};
+ghost use Rattle.command_words.specs.Parser.{Finds, IsAccepted, app, app_with_names, empty_app};
 ghost use Rattle.command_words.specs.declared.words.WordsFault.TheVariants.{Usage};
 
 use crate::arguments::{fault_by, name_of, needed_name, option_named, with_arg};
@@ -28,25 +28,28 @@ pub fn matches_of<'a>(alloc: Global, words: &'a [String]) -> Result<ArgMatches<'
 fn command<'a>(alloc: Global) -> Result<Command<'a>, AllocError>
     ensures { IfOk result (λ c. app_of c ≡ app) }
 {
-    let command = command_with_names(alloc)?;
-    let command = with_arg(command, option_named(alloc, "weights"))?;
-    let command = with_arg(command, option_named(alloc, "unit"))?;
-    let command = with_arg(command, option_named(alloc, "agents"))?;
-    let command = with_arg(command, option_named(alloc, "epoch"))?;
-    let command = with_arg(command, option_named(alloc, "run"))?;
-    let command = with_arg(command, option_named(alloc, "slot-ms"))?;
-    let command = with_arg(command, option_named(alloc, "classes"))?;
-    Ok(command)
+    let command = command_with_names(alloc);
+    let command = with_arg(command, option_named(alloc, "weights"));
+    let command = with_arg(command, option_named(alloc, "unit"));
+    let command = with_arg(command, option_named(alloc, "agents"));
+    let command = with_arg(command, option_named(alloc, "epoch"));
+    let command = with_arg(command, option_named(alloc, "run"));
+    let command = with_arg(command, option_named(alloc, "slot-ms"));
+    with_arg(command, option_named(alloc, "classes"))
 }
 
 fn command_with_names<'a>(alloc: Global) -> Result<Command<'a>, AllocError>
     ensures { IfOk result (λ c. app_of c ≡ app_with_names) }
 {
-    let command = Command::new(alloc, "sincronia")
+    let command = with_arg(Ok(empty_command(alloc)), needed_name(alloc, "COMMAND"));
+    let command = with_arg(command, needed_name(alloc, "FIRST"));
+    with_arg(command, name_of(alloc, "SECOND"))
+}
+
+fn empty_command<'a>(alloc: Global) -> Command<'a>
+    ensures { app_of result ≡ empty_app }
+{
+    Command::new(alloc, "sincronia")
         .disable_help_flag(true)
-        .disable_version_flag(true);
-    let command = with_arg(command, needed_name(alloc, "COMMAND"))?;
-    let command = with_arg(command, needed_name(alloc, "FIRST"))?;
-    let command = with_arg(command, name_of(alloc, "SECOND"))?;
-    Ok(command)
+        .disable_version_flag(true)
 }
