@@ -3,7 +3,7 @@ ghost use Rattle.std.specs.Prelude.{◌≡◌, ◌≢◌, Err, IfOk, []};
 ghost use Rattle.clap.specs.Words.{app_of, fault_of, found_of};
 ghost use Rattle.command_words.specs.Line.{texts};
 ghost use Rattle.command_words.specs.declared.words.WordsFault.TheVariants.{Usage};
-ghost use Rattle.picture_cli.specs.Parser.{IsFound, app, app_with_names};
+ghost use Rattle.picture_cli.specs.Parser.{IsFound, app, app_with_names, empty_app};
 
 use clap::{ArgMatches, Command};
 use command_words::{WordsFault, fault_by, needed_name, option_named, with_arg};
@@ -30,22 +30,25 @@ pub(crate) fn matches_of<'a>(
 fn picture_command<'a>(alloc: Global) -> Result<Command<'a>, AllocError>
     ensures { IfOk result (λ c. app_of c ≡ app) }
 {
-    let command = command_with_names(alloc)?;
-    let command = with_arg(command, option_named(alloc, "weights"))?;
-    let command = with_arg(command, option_named(alloc, "unit"))?;
-    let command = with_arg(command, option_named(alloc, "from"))?;
-    let command = with_arg(command, option_named(alloc, "to"))?;
-    let command = with_arg(command, option_named(alloc, "side"))?;
-    Ok(command)
+    let command = command_with_names(alloc);
+    let command = with_arg(command, option_named(alloc, "weights"));
+    let command = with_arg(command, option_named(alloc, "unit"));
+    let command = with_arg(command, option_named(alloc, "from"));
+    let command = with_arg(command, option_named(alloc, "to"));
+    with_arg(command, option_named(alloc, "side"))
 }
 
 fn command_with_names<'a>(alloc: Global) -> Result<Command<'a>, AllocError>
     ensures { IfOk result (λ c. app_of c ≡ app_with_names) }
 {
-    let command = Command::new(alloc, "sincronia_picture")
+    let command = with_arg(Ok(empty_command(alloc)), needed_name(alloc, "TRACE"));
+    with_arg(command, needed_name(alloc, "REPORT"))
+}
+
+fn empty_command<'a>(alloc: Global) -> Command<'a>
+    ensures { app_of result ≡ empty_app }
+{
+    Command::new(alloc, "sincronia_picture")
         .disable_help_flag(true)
-        .disable_version_flag(true);
-    let command = with_arg(command, needed_name(alloc, "TRACE"))?;
-    let command = with_arg(command, needed_name(alloc, "REPORT"))?;
-    Ok(command)
+        .disable_version_flag(true)
 }
