@@ -1,7 +1,6 @@
 -- The steps of reading to the end.
 use Rattle.std.proofs.Common.{◌≡◌, ℕ, ◌+◌, ◌≤◌, ◌++◌, List, length, take, drop, sym, ◌∙◌, ap, subst, append_assoc, arith, length-append}
 use Rattle.std.specs.Prelude.{Option, Some, None, Result, Ok, Err}
-use Rattle.std.specs.Result.{IsErrAnd}
 use Rattle.std.proofs.lemmas.List.{length-take-le}
 use Rattle.std.proofs.Math.Seq.{drop-append_seam}
 use Rattle.outside.specs.declared.shelf.Place4.{Place4}
@@ -100,11 +99,6 @@ read_no_memory (Some x) new place bytes most short s =
         others_left = s.2.others_left;
       },
     )
-
--- a result whose error is known
-pub err_is : {T E : Type 0} (r : Result T E) (e : E) → IsErrAnd r (λ x. x ≡ e) → r ≡ Err e
-err_is (Ok x) e h = absurd h
-err_is (Err x) e h = ap Err h
 
 -- how many bytes have come after a read
 pub length_step : (bytes buffer : List ℕ) (n : ℕ) → n ≤ length buffer → length (bytes ++ take n buffer) ≡ length bytes + n

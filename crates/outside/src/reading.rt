@@ -62,13 +62,20 @@ pub fn read_all<H: Shelf>(
     let mut buffer = [0u8; 4096];
     loop {
         let room = (most - bytes.len()).min(buffer.len() - 1) + 1;
-        let count = shelf.read(place, &mut buffer[..room])?;
+        let Ok(count) = shelf.read(place, &mut buffer[..room]) else {
+            drop(bytes);
+            return Err(ReadStop::Fault);
+        };
         if count == 0 {
             return Ok(bytes);
         }
         if count > most - bytes.len() {
+            drop(bytes);
             return Err(ReadStop::TooLong);
         }
-        bytes.extend_from_slice(&buffer[..count])?;
+        let Ok(()) = bytes.extend_from_slice(&buffer[..count]) else {
+            drop(bytes);
+            return Err(ReadStop::NoMemory);
+        };
     }
 }
