@@ -251,3 +251,15 @@ no_chain g next fits = record {
   fits = fits;
   next_is = λ r from lr. absurd (omega (arith, from, lr));
 }
+
+-- when all ranks are there, each of them owes
+pub heads_all : (ports : ℕ) (g : Graph) (heads : List ℕ) → IsHeads ports g (from_on 0) heads → IsHeads ports g (λ r. r + 1) heads
+heads_all ports g heads h = record {
+  size = h.size;
+  head = λ p k lp lk.
+      let of = h.head p k lp lk in
+      record {
+        one = elim of.one [ inl none ↦ inl none | inr (lt, _, a, b) ↦ inr (lt, omega arith, a, b) ];
+        least = λ r lr _ a b. of.least r lr (omega arith) a b;
+      };
+}

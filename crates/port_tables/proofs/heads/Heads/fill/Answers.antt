@@ -1,8 +1,8 @@
-use Rattle.std.proofs.Common.{◌+◌, length, subst, sym, ap, ◌∙◌, arith}
+use Rattle.std.proofs.Common.{◌≡◌, ◌+◌, length, subst, sym, ap, ◌∙◌, arith}
 use Rattle.port_tables.specs.Board.{graph_of}
-use Rattle.port_tables.specs.Heads.{IsChain}
+use Rattle.port_tables.specs.Heads.{IsChain, IsHeads, from_on}
 use Rattle.port_tables.specs.Rows.{IsRows}
-use Rattle.port_tables.proofs.HeadSteps.{no_heads, no_chain}
+use Rattle.port_tables.proofs.HeadSteps.{heads_all, no_heads, no_chain}
 use Rattle.port_tables.proofs.heads.Heads.fill.Goals as goal
 
 pub loop-rank-init : goal.loop-rank-init
@@ -26,4 +26,17 @@ loop-rank-preserved c =
       heads = e.heads;
       chain = e.chain;
       rows = subst (λ x. IsRows c.args.ranks.now.ports (graph_of c.args.ranks.now) (λ r. r + 1) x) (sym e.rows) i.rows;
+    }
+
+pub returns : goal.returns
+returns c =
+    let g = graph_of c.args.ranks.now in
+    let ports = c.args.ranks.now.ports in
+    let i = c.loop-rank.invariant in
+    let done : c.loop-rank.rank ≡ 0 = omega (arith, c.loop-rank-test.false) in
+    record {
+      size = i.size;
+      heads = heads_all ports g c.loop-rank.self.least.items (subst (λ k. IsHeads ports g (from_on k) c.loop-rank.self.least.items) done i.heads);
+      chain = subst (λ k. IsChain g c.loop-rank.self.next.items k) done i.chain;
+      rows = i.rows;
     }

@@ -50,3 +50,22 @@ returns c = record {
       } in
       rank_cleared ports g left lower old new across rank c.requires.ranks.graph w known at_rank ended others (subst (λ j. IsCleared old new j across) row_is cleared);
 }
+
+pub index_mut-requires : goal.index_mut-requires
+index_mut-requires c =
+    let old = c.args.self.now in
+    let g = graph_of c.args.ranks.now in
+    let ports = c.args.ranks.now.ports in
+    let rank = c.args.rank in
+    let w = c.requires.rows.1 in
+    let flow_is : c.index.result.now ≡ ranked_at c.args.ranks.now.flows.items c.args.rank =
+    c.index.ensures ∙ get_or_default c.args.ranks.now.flows.items c.args.rank c.index.result.now record { first = 0; second = 0; number = 0 }
+    (omega (arith, c.requires.rank, c.requires.ranks.fits)) in
+    let known : rank < old.ranked = omega (arith, c.if-rank-self.false) in
+    let row_is : c.index-2.result.now ≡ row_of old rank = c.index-2.ensures ∙ get_or_default_zero old.row.items rank c.index-2.result.now (omega (arith, known, w.known)) in
+    let across = c.index.result.now.second - ports in
+    let at_rank : g.second rank ≡ ports + across = omega (arith, ap (λ (x : Ranked). x.second) flow_is, c.requires.ranks.graph.second_from rank c.requires.rank) in
+    let low : across < 64 * old.width = omega (arith, at_rank, c.requires.ranks.graph.second rank c.requires.rank, w.shape.wide) in
+    let k = c.index-2.result.now in
+    let lk : k < length old.first.items = omega (arith, row_is, w.row rank known, w.fits) in
+    omega (arith, place_in old.width k across (length old.first.items) lk low, w.shape.words)
