@@ -1,7 +1,7 @@
 -- The pass over the flows that owe, group after group.
 use Rattle.std.proofs.Common.{◌≡◌, ℕ, ◌+◌, ◌-◌, ◌≤◌, ◌<◌, inl, inr, zero, suc, Bool, true, false, true≢false, List, Option, Some, None, length, get_or, set, refl, sym, ap, subst}
 use Rattle.std.proofs.Common.{◌∙◌, arith}
-use Rattle.std.specs.Prelude.{◌&&◌, not, nat_lt}
+use Rattle.std.specs.Prelude.{◌&&◌, not, nat_lt, All}
 use Rattle.std.specs.Option.{is_some}
 use Rattle.std.proofs.lemmas.Bool.{cases_lt, lt-ltb}
 use Rattle.std.proofs.lemmas.Grind.{get_or-set_at}
@@ -197,6 +197,23 @@ number_in_flows flows o first behind number owed lt is below = omega (arith, bel
 pub same_ingress : (flows : List Flow) (o : Owed) (first behind number : ℕ) → IsOwed flows o → first < length flows → behind ≡ get_or o.behind first 0 → first ≤ number →
     number < behind → ingress_of flows number ≡ ingress_of flows first
 same_ingress flows o first behind number owed lt is from below = owed.groups.ingress first number lt from (omega (arith, below, is))
+
+pub found_at : (flows : List Flow) (o : Owed) (at : List (Option ℕ)) (busy now : List Bool) (first behind number : ℕ) → IsOwed flows o → first < length flows →
+    behind ≡ get_or o.behind first 0 → first ≤ number → number < behind → 0 < get_or o.left number 0 → All (λ (x : Flow). x.ingress < length at) flows →
+    All (λ (x : Flow). x.egress < length busy) flows → flow_at_ingress at (ingress_of flows first) ≡ None → now ≡ busy → get_or now (egress_of flows number) false ≡ false →
+    IsFound flows o at busy first behind number
+found_at flows o at busy now first behind number owed first_in behind_is from below some in_range out_range free same out_free =
+    let lt = number_in_flows flows o first behind number owed first_in behind_is below in
+    let none : Flow = record { coflow = 0; ingress = 0; egress = 0; units = 0 } in
+    record {
+      group = record { owed = owed; first_in = first_in; behind_is = behind_is; from = from; below = below };
+      some = some;
+      in_range = in_range number none lt;
+      out_range = out_range number none lt;
+      in_free =
+          ap (flow_at_ingress at) (same_ingress flows o first behind number owed first_in behind_is from below) ∙ free;
+      out_free = ap (λ (bs : List Bool). get_or bs (egress_of flows number) false) (sym same) ∙ out_free;
+    }
 
 pub found_closes_ingress : (flows : List Flow) (o : Owed) (at : List (Option ℕ)) (busy : List Bool) (first behind number : ℕ) → IsFound flows o at busy first behind number →
     open_ingresses o.at_ingress (set at (ingress_of flows number) (Some number)) + 1 ≡ open_ingresses o.at_ingress at

@@ -1,11 +1,10 @@
 -- The first flow that owes and finds its egress free is granted.
 use Rattle.std.proofs.Common.{◌≡◌, ℕ, Bool, true, false, List, Option, Some, get_or, set, sym, ap, subst, ◌∙◌, arith}
 use Rattle.coflow_units.specs.Flows.{ingress_of, egress_of}
-use Rattle.greedy_rates.specs.Room.{flow_at_ingress}
 use Rattle.greedy_rates.specs.Pass.{IsGranting}
 use Rattle.greedy_rates.specs.OpenPorts.{open_ingresses, open_egresses}
 use Rattle.greedy_rates.proofs.PassSteps.{skip_flow, skip_received}
-use Rattle.greedy_rates.proofs.OwedSteps.{IsFound, found_closes_ingress, found_closes_egress, found_is_granted, number_in_flows, same_ingress, owes, owes_not, ends_at}
+use Rattle.greedy_rates.proofs.OwedSteps.{found_at, found_closes_ingress, found_closes_egress, found_is_granted, owes, owes_not, ends_at}
 use Rattle.greedy_rates.proofs.owed_pass.grant_group.Goals as goal
 
 pub loop-number-preserved-then-left-number-eq0 : goal.loop-number-preserved-then-left-number-eq0
@@ -38,24 +37,10 @@ loop-number-preserved c =
 
 pub overflow_sub-ports : goal.overflow_sub-ports
 overflow_sub-ports c =
-    let lt = number_in_flows c.args.flows.now c.args.owing.now c.args.first c.args.behind c.loop-number.number c.requires.owed c.requires.first c.requires.behind
-    c.loop-number-test.true in
-    let found : IsFound c.args.flows.now c.args.owing.now c.args.at.now c.args.busy.now c.args.first c.args.behind c.loop-number.number = record {
-      group = record {
-        owed = c.requires.owed;
-        first_in = c.requires.first;
-        behind_is = c.requires.behind;
-        from = c.loop-number.invariant.from;
-        below = c.loop-number-test.true;
-      };
-      some = owes c.args.owing.now.left c.left-left.result.now c.loop-number.number c.left-left.ensures c.if-left-number-eq0.false;
-      in_range = c.requires.ingress_in_range c.loop-number.number record { coflow = 0; ingress = 0; egress = 0; units = 0 } lt;
-      out_range = c.requires.egress_in_range c.loop-number.number record { coflow = 0; ingress = 0; egress = 0; units = 0 } lt;
-      in_free = ap (flow_at_ingress c.args.at.now)
-          (same_ingress c.args.flows.now c.args.owing.now c.args.first c.args.behind c.loop-number.number c.requires.owed c.requires.first c.requires.behind
-          c.loop-number.invariant.from c.loop-number-test.true) ∙ c.requires.free;
-      out_free = ap (λ (bs : List Bool). get_or bs (egress_of c.args.flows.now c.loop-number.number) false) (sym c.loop-number.invariant.busy_is) ∙ c.if-busy-flow.false;
-    } in
+    let found = found_at c.args.flows.now c.args.owing.now c.args.at.now c.args.busy.now c.loop-number.busy c.args.first c.args.behind c.loop-number.number c.requires.owed
+    c.requires.first c.requires.behind c.loop-number.invariant.from c.loop-number-test.true
+    (owes c.args.owing.now.left c.left-left.result.now c.loop-number.number c.left-left.ensures c.if-left-number-eq0.false) c.requires.ingress_in_range
+    c.requires.egress_in_range c.requires.free c.loop-number.invariant.busy_is c.if-busy-flow.false in
     omega (
       arith,
       found_closes_ingress c.args.flows.now c.args.owing.now c.args.at.now c.args.busy.now c.args.first c.args.behind c.loop-number.number found,
@@ -65,24 +50,10 @@ overflow_sub-ports c =
 
 pub overflow_sub-ports-in-loop-number : goal.overflow_sub-ports-in-loop-number
 overflow_sub-ports-in-loop-number c =
-    let lt = number_in_flows c.args.flows.now c.args.owing.now c.args.first c.args.behind c.loop-number.number c.requires.owed c.requires.first c.requires.behind
-    c.loop-number-test.true in
-    let found : IsFound c.args.flows.now c.args.owing.now c.args.at.now c.args.busy.now c.args.first c.args.behind c.loop-number.number = record {
-      group = record {
-        owed = c.requires.owed;
-        first_in = c.requires.first;
-        behind_is = c.requires.behind;
-        from = c.loop-number.invariant.from;
-        below = c.loop-number-test.true;
-      };
-      some = owes c.args.owing.now.left c.left-left.result.now c.loop-number.number c.left-left.ensures c.if-left-number-eq0.false;
-      in_range = c.requires.ingress_in_range c.loop-number.number record { coflow = 0; ingress = 0; egress = 0; units = 0 } lt;
-      out_range = c.requires.egress_in_range c.loop-number.number record { coflow = 0; ingress = 0; egress = 0; units = 0 } lt;
-      in_free = ap (flow_at_ingress c.args.at.now)
-          (same_ingress c.args.flows.now c.args.owing.now c.args.first c.args.behind c.loop-number.number c.requires.owed c.requires.first c.requires.behind
-          c.loop-number.invariant.from c.loop-number-test.true) ∙ c.requires.free;
-      out_free = ap (λ (bs : List Bool). get_or bs (egress_of c.args.flows.now c.loop-number.number) false) (sym c.loop-number.invariant.busy_is) ∙ c.if-busy-flow.false;
-    } in
+    let found = found_at c.args.flows.now c.args.owing.now c.args.at.now c.args.busy.now c.loop-number.busy c.args.first c.args.behind c.loop-number.number c.requires.owed
+    c.requires.first c.requires.behind c.loop-number.invariant.from c.loop-number-test.true
+    (owes c.args.owing.now.left c.left-left.result.now c.loop-number.number c.left-left.ensures c.if-left-number-eq0.false) c.requires.ingress_in_range
+    c.requires.egress_in_range c.requires.free c.loop-number.invariant.busy_is c.if-busy-flow.false in
     omega (
       arith,
       found_closes_egress c.args.flows.now c.args.owing.now c.args.at.now c.args.busy.now c.args.first c.args.behind c.loop-number.number found,
@@ -92,24 +63,10 @@ overflow_sub-ports-in-loop-number c =
 
 pub returns-in-loop-number-clause-open_ingress : goal.returns-in-loop-number-clause-open_ingress
 returns-in-loop-number-clause-open_ingress c =
-    let lt = number_in_flows c.args.flows.now c.args.owing.now c.args.first c.args.behind c.loop-number.number c.requires.owed c.requires.first c.requires.behind
-    c.loop-number-test.true in
-    let found : IsFound c.args.flows.now c.args.owing.now c.args.at.now c.args.busy.now c.args.first c.args.behind c.loop-number.number = record {
-      group = record {
-        owed = c.requires.owed;
-        first_in = c.requires.first;
-        behind_is = c.requires.behind;
-        from = c.loop-number.invariant.from;
-        below = c.loop-number-test.true;
-      };
-      some = owes c.args.owing.now.left c.left-left.result.now c.loop-number.number c.left-left.ensures c.if-left-number-eq0.false;
-      in_range = c.requires.ingress_in_range c.loop-number.number record { coflow = 0; ingress = 0; egress = 0; units = 0 } lt;
-      out_range = c.requires.egress_in_range c.loop-number.number record { coflow = 0; ingress = 0; egress = 0; units = 0 } lt;
-      in_free = ap (flow_at_ingress c.args.at.now)
-          (same_ingress c.args.flows.now c.args.owing.now c.args.first c.args.behind c.loop-number.number c.requires.owed c.requires.first c.requires.behind
-          c.loop-number.invariant.from c.loop-number-test.true) ∙ c.requires.free;
-      out_free = ap (λ (bs : List Bool). get_or bs (egress_of c.args.flows.now c.loop-number.number) false) (sym c.loop-number.invariant.busy_is) ∙ c.if-busy-flow.false;
-    } in
+    let found = found_at c.args.flows.now c.args.owing.now c.args.at.now c.args.busy.now c.loop-number.busy c.args.first c.args.behind c.loop-number.number c.requires.owed
+    c.requires.first c.requires.behind c.loop-number.invariant.from c.loop-number-test.true
+    (owes c.args.owing.now.left c.left-left.result.now c.loop-number.number c.left-left.ensures c.if-left-number-eq0.false) c.requires.ingress_in_range
+    c.requires.egress_in_range c.requires.free c.loop-number.invariant.busy_is c.if-busy-flow.false in
     omega (
       arith,
       found_closes_ingress c.args.flows.now c.args.owing.now c.args.at.now c.args.busy.now c.args.first c.args.behind c.loop-number.number found,
@@ -121,24 +78,10 @@ returns-in-loop-number-clause-open_ingress c =
 
 pub returns-in-loop-number-clause-open_egress : goal.returns-in-loop-number-clause-open_egress
 returns-in-loop-number-clause-open_egress c =
-    let lt = number_in_flows c.args.flows.now c.args.owing.now c.args.first c.args.behind c.loop-number.number c.requires.owed c.requires.first c.requires.behind
-    c.loop-number-test.true in
-    let found : IsFound c.args.flows.now c.args.owing.now c.args.at.now c.args.busy.now c.args.first c.args.behind c.loop-number.number = record {
-      group = record {
-        owed = c.requires.owed;
-        first_in = c.requires.first;
-        behind_is = c.requires.behind;
-        from = c.loop-number.invariant.from;
-        below = c.loop-number-test.true;
-      };
-      some = owes c.args.owing.now.left c.left-left.result.now c.loop-number.number c.left-left.ensures c.if-left-number-eq0.false;
-      in_range = c.requires.ingress_in_range c.loop-number.number record { coflow = 0; ingress = 0; egress = 0; units = 0 } lt;
-      out_range = c.requires.egress_in_range c.loop-number.number record { coflow = 0; ingress = 0; egress = 0; units = 0 } lt;
-      in_free = ap (flow_at_ingress c.args.at.now)
-          (same_ingress c.args.flows.now c.args.owing.now c.args.first c.args.behind c.loop-number.number c.requires.owed c.requires.first c.requires.behind
-          c.loop-number.invariant.from c.loop-number-test.true) ∙ c.requires.free;
-      out_free = ap (λ (bs : List Bool). get_or bs (egress_of c.args.flows.now c.loop-number.number) false) (sym c.loop-number.invariant.busy_is) ∙ c.if-busy-flow.false;
-    } in
+    let found = found_at c.args.flows.now c.args.owing.now c.args.at.now c.args.busy.now c.loop-number.busy c.args.first c.args.behind c.loop-number.number c.requires.owed
+    c.requires.first c.requires.behind c.loop-number.invariant.from c.loop-number-test.true
+    (owes c.args.owing.now.left c.left-left.result.now c.loop-number.number c.left-left.ensures c.if-left-number-eq0.false) c.requires.ingress_in_range
+    c.requires.egress_in_range c.requires.free c.loop-number.invariant.busy_is c.if-busy-flow.false in
     omega (
       arith,
       found_closes_egress c.args.flows.now c.args.owing.now c.args.at.now c.args.busy.now c.args.first c.args.behind c.loop-number.number found,
@@ -149,24 +92,10 @@ returns-in-loop-number-clause-open_egress c =
 
 pub returns-in-loop-number-clause-granting : goal.returns-in-loop-number-clause-granting
 returns-in-loop-number-clause-granting c = λ line k placed so_far.
-    let lt = number_in_flows c.args.flows.now c.args.owing.now c.args.first c.args.behind c.loop-number.number c.requires.owed c.requires.first c.requires.behind
-    c.loop-number-test.true in
-    let found : IsFound c.args.flows.now c.args.owing.now c.args.at.now c.args.busy.now c.args.first c.args.behind c.loop-number.number = record {
-      group = record {
-        owed = c.requires.owed;
-        first_in = c.requires.first;
-        behind_is = c.requires.behind;
-        from = c.loop-number.invariant.from;
-        below = c.loop-number-test.true;
-      };
-      some = owes c.args.owing.now.left c.left-left.result.now c.loop-number.number c.left-left.ensures c.if-left-number-eq0.false;
-      in_range = c.requires.ingress_in_range c.loop-number.number record { coflow = 0; ingress = 0; egress = 0; units = 0 } lt;
-      out_range = c.requires.egress_in_range c.loop-number.number record { coflow = 0; ingress = 0; egress = 0; units = 0 } lt;
-      in_free = ap (flow_at_ingress c.args.at.now)
-          (same_ingress c.args.flows.now c.args.owing.now c.args.first c.args.behind c.loop-number.number c.requires.owed c.requires.first c.requires.behind
-          c.loop-number.invariant.from c.loop-number-test.true) ∙ c.requires.free;
-      out_free = ap (λ (bs : List Bool). get_or bs (egress_of c.args.flows.now c.loop-number.number) false) (sym c.loop-number.invariant.busy_is) ∙ c.if-busy-flow.false;
-    } in
+    let found = found_at c.args.flows.now c.args.owing.now c.args.at.now c.args.busy.now c.loop-number.busy c.args.first c.args.behind c.loop-number.number c.requires.owed
+    c.requires.first c.requires.behind c.loop-number.invariant.from c.loop-number-test.true
+    (owes c.args.owing.now.left c.left-left.result.now c.loop-number.number c.left-left.ensures c.if-left-number-eq0.false) c.requires.ingress_in_range
+    c.requires.egress_in_range c.requires.free c.loop-number.invariant.busy_is c.if-busy-flow.false in
     let i = ingress_of c.args.flows.now c.loop-number.number in
     let e = egress_of c.args.flows.now c.loop-number.number in
     subst (λ (a : List (Option ℕ)). IsGranting c.args.flows.now line (λ f. get_or c.args.owing.now.left f 0) k c.args.behind (set a i (Some c.loop-number.number))
