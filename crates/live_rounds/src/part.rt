@@ -25,7 +25,10 @@ pub(crate) fn parts_of(
 {
     let mut parts = Vec::with_capacity(alloc, clients)?;
     for index in 0..clients {
-        let part = part_of(alloc, lines, index + 1)?;
+        let Ok(part) = part_of(alloc, lines, index + 1) else {
+            drop(parts);
+            return Err(NoMemory);
+        };
         parts.push_reserved(part);
     }
     Ok(parts)

@@ -45,6 +45,7 @@ pub fn round<R: Threads + Wait + Sync, G: Gate + Send>(
         return Err(RoundStop::NoMemory);
     };
     let Ok(pulls) = Vec::with_capacity(alloc, lines.len()) else {
+        drop(parts);
         return Err(RoundStop::NoMemory);
     };
     play_all(rt, hall, sessions, gates, &mut parts);
@@ -60,9 +61,12 @@ fn collect(parts: Vec<Part>, pulls: Vec<PullDone>) -> Result<Vec<PullDone>, Roun
     let mut pulls = pulls;
     for part in parts {
         if let Some(stop) = part.stop {
+            drop(part);
+            drop(pulls);
             return Err(stop.of_round());
         }
         push_all(&mut pulls, &part.pulls);
+        drop(part);
     }
     Ok(pulls)
 }
