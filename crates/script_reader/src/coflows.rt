@@ -33,7 +33,10 @@ impl<'a> Coflows<'a> {
     {
         let mut numbers = IndexMap::<u32, u32>::new(alloc);
         for coflow in 0..table.coflows() {
-            add(&mut numbers, table.id(coflow), coflow)?;
+            let Ok(()) = add(&mut numbers, table.id(coflow), coflow) else {
+                drop(numbers);
+                return Err(NoMemory);
+            };
         }
         Ok(Coflows { table, numbers })
     }

@@ -74,7 +74,10 @@ impl Draft {
         if self.lines.is_empty() {
             return Ok(self.into_script());
         }
-        self.end_round(false)?;
+        let Ok(()) = self.end_round(false) else {
+            drop(self);
+            return Err(NoMemory);
+        };
         Ok(self.into_script())
     }
 

@@ -74,14 +74,13 @@ fn asked_in(fields: &mut Fields<'_>, coflows: &Coflows<'_>) -> Result<Asked, Scr
             field: 2,
         });
     };
-    let asked = match word {
-        Word::Publish => publishing(fields)?,
-        Word::Reweigh => reweighing(fields, coflows)?,
-        Word::Register => Asked::Register(only_coflow(fields, coflows)?),
-        Word::Withdraw => Asked::Withdraw(only_coflow(fields, coflows)?),
-        Word::Pull => Asked::Pull(only_coflow(fields, coflows)?),
-    };
-    Ok(asked)
+    match word {
+        Word::Publish => publishing(fields),
+        Word::Reweigh => reweighing(fields, coflows),
+        Word::Register => Ok(Asked::Register(only_coflow(fields, coflows)?)),
+        Word::Withdraw => Ok(Asked::Withdraw(only_coflow(fields, coflows)?)),
+        Word::Pull => Ok(Asked::Pull(only_coflow(fields, coflows)?)),
+    }
 }
 
 /// A line that has no field behind the word.

@@ -61,19 +61,39 @@ pub fn read_script(alloc: Global, bytes: &[u8], table: &Table) -> Result<Script,
         (λ script. script ≡ script_of table.now.ids bytes.now) result }
 {
     let coflows = Coflows::of(alloc, table)?;
+    let script = read_with(alloc, bytes, &coflows);
+    drop(coflows);
+    script
+}
+
+/// Reads a script over these coflows.
+fn read_with(alloc: Global, bytes: &[u8], coflows: &Coflows<'_>) -> Result<Script, ScriptFault>
+    requires { length bytes.now ≤ MAX_TEXT }
+    ensures { Answers (text_checks coflows.now bytes.now) (λ script. script ≡ script_of coflows.now bytes.now) result }
+{
     let mut lines = Lines::new(bytes);
     let mut draft = Draft::new(alloc);
     let mut count = 0;
     while let Some(mut fields) = lines.next() {
-        let step = step_of(&mut fields, &coflows)?;
+        let step = match step_of(&mut fields, coflows) {
+            Ok(step) => step,
+            Err(fault) => {
+                drop(draft);
+                return Err(fault);
+            }
+        };
         if count == MAX_COMMANDS {
+            drop(draft);
             return Err(ScriptFault::Limit {
                 which: Quantity::Commands,
                 count: u64::from(MAX_COMMANDS) + 1,
             });
         }
         count += 1;
-        draft.take(step)?;
+        let Ok(()) = draft.take(step) else {
+            drop(draft);
+            return Err(ScriptFault::NoMemory);
+        };
     }
     let script = draft.finish()?;
     Ok(script)

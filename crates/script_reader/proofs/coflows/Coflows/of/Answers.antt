@@ -8,7 +8,7 @@ pub loop-coflow-preserved : goal.loop-coflow-preserved
 loop-coflow-preserved c =
     let inside : c.loop-coflow.coflow < length c.args.table.now.ids = omega (arith, c.loop-coflow-test.true, c.coflows-coflow-end.ensures.coflows) in
     one_more (λ n. get nat_eq c.loop-coflow.numbers n) (λ n. get nat_eq c.add.new.numbers n) c.args.table.now.ids c.loop-coflow.coflow c.id.result inside c.id.ensures (omega arith)
-    c.loop-coflow.invariant c.in_ok-add.ensures
+    c.loop-coflow.invariant c.in-Ok.ensures
 
 pub invariant_of-result : goal.invariant_of-result
 invariant_of-result c =

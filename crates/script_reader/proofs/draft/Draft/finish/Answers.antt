@@ -6,4 +6,4 @@ use Rattle.script_reader.proofs.draft.Draft.finish.Goals as goal
 pub returns : goal.returns
 returns c =
     let some : 1 ≤ length c.args.self.lines.items = grind (arith, nat_tests) in
-    rw (c.into_script-2.ensures, c.in_ok-end_round.ensures.clients, c.in_ok-end_round.ensures.rounds, last_round c.args.self.rounds.items c.args.self.lines.items some) refl
+    rw (c.into_script-2.ensures, c.in-Ok.ensures.clients, c.in-Ok.ensures.rounds, last_round c.args.self.rounds.items c.args.self.lines.items some) refl
