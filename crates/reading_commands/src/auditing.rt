@@ -40,8 +40,16 @@ pub fn audit_journal<'a, H: Shelf>(
         (H.told shelf.new) (said_with (audit_job trace.now journal.now) options.entry) status) }
 {
     let input = read_input(alloc, trace, options.weights, options.unit, shelf)?;
-    let live = read_journal_file(alloc, journal, shelf)?;
-    let verdict = audit(alloc, input.table, input.weights, &live)?;
+    let live = match read_journal_file(alloc, journal, shelf) {
+        Ok(live) => live,
+        Err(status) => {
+            drop(input);
+            return Err(status);
+        }
+    };
+    let audited = audit(alloc, input.table, input.weights, &live);
+    drop(live);
+    let verdict = audited?;
     let text = audit_text(alloc, verdict)?;
     Ok(Outcome {
         text,

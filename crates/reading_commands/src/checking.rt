@@ -39,9 +39,18 @@ pub fn check_report<'a, H: Shelf>(
         (H.told shelf.new) (said_with (check_job trace.now report.now) options.entry) status) }
 {
     let input = read_input(alloc, trace, options.weights, options.unit, shelf)?;
-    let report = read_any_report_file(alloc, report, shelf)?;
+    let report = match read_any_report_file(alloc, report, shelf) {
+        Ok(report) => report,
+        Err(status) => {
+            drop(input);
+            return Err(status);
+        }
+    };
     let weights = input.weights.as_slice();
-    let judged = judge(alloc, &input.table, weights, options.slot_ms, &report)?;
+    let verdict = judge(alloc, &input.table, weights, options.slot_ms, &report);
+    drop(input);
+    drop(report);
+    let judged = verdict?;
     Ok(Outcome {
         text: judged.line,
         status: status_of(judged.yes),

@@ -37,12 +37,14 @@ pub fn list_classes<'a, H: Shelf>(
         (said_with (classes_job trace.now) options.entry)) }
 {
     let input = read_input(alloc, trace, options.weights, options.unit, shelf)?;
-    let text = classes_text(
+    let written = classes_text(
         alloc,
         &input.table,
         input.weights.as_slice(),
         options.classes as u32,
-    )?;
+    );
+    drop(input);
+    let text = written?;
     Ok(Outcome {
         text,
         status: Status::Ok,

@@ -48,8 +48,13 @@ pub fn compare_rankers<'a, H: Shelf>(
         (said_with (compare_job trace.now) options.entry)) }
 {
     let input = read_input(alloc, trace, options.weights, options.unit, shelf)?;
-    let bound = bound_of(alloc, &input.table, input.weights.as_slice())?;
-    let text = comparison_text(alloc, &input.table, input.weights.as_slice(), bound, bench)?;
+    let Ok(bound) = bound_of(alloc, &input.table, input.weights.as_slice()) else {
+        drop(input);
+        return Err(Status::NoMemory);
+    };
+    let written = comparison_text(alloc, &input.table, input.weights.as_slice(), bound, bench);
+    drop(input);
+    let text = written?;
     Ok(Outcome {
         text,
         status: Status::Ok,

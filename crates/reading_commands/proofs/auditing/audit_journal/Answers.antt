@@ -29,8 +29,8 @@ returns-in_err-input-clause-in_turn g c =
     passed_on c.from_residual.result c.in_err-input.field-0.0 (λ status. OfBoth old new (FilesInTurn said status)) c.from_residual.ensures.1
     (input_in_turn old new said c.in_err-input.field-0.0 c.in_err-input.ensures.in_turn c.read_input.ensures.no_report c.read_input.ensures.no_script)
 
-pub returns-in_err-live-clause-keeps : goal.returns-in_err-live-clause-keeps
-returns-in_err-live-clause-keeps g c = files_kept (g.H.Shelf.told c.args.shelf.now) (g.H.Shelf.told c.read_input.new.shelf) (g.H.Shelf.told c.read_journal_file.new.shelf)
+pub returns-in-Err-clause-keeps : goal.returns-in-Err-clause-keeps
+returns-in-Err-clause-keeps g c = files_kept (g.H.Shelf.told c.args.shelf.now) (g.H.Shelf.told c.read_input.new.shelf) (g.H.Shelf.told c.read_journal_file.new.shelf)
     c.read_input.ensures.keeps c.read_journal_file.ensures.keeps
 
 pub returns-in_err-verdict-clause-keeps : goal.returns-in_err-verdict-clause-keeps
@@ -45,26 +45,24 @@ pub returns-clause-keeps : goal.returns-clause-keeps
 returns-clause-keeps g c = files_kept (g.H.Shelf.told c.args.shelf.now) (g.H.Shelf.told c.read_input.new.shelf) (g.H.Shelf.told c.read_journal_file.new.shelf)
     c.read_input.ensures.keeps c.read_journal_file.ensures.keeps
 
-pub returns-in_err-live-clause-cause : goal.returns-in_err-live-clause-cause
-returns-in_err-live-clause-cause g c =
-    passed_on c.from_residual-in_err-live.result c.in_err-live.field-0.0 _ c.from_residual-in_err-live.ensures.1
+pub returns-in-Err-clause-cause : goal.returns-in-Err-clause-cause
+returns-in-Err-clause-cause g c =
     (from_report IsBadAt (g.H.Shelf.faults c.args.shelf.now) (g.H.Shelf.faults c.read_input.new.shelf) (g.H.Shelf.faults c.read_journal_file.new.shelf)
     (g.H.Shelf.told c.args.shelf.now) (g.H.Shelf.told c.read_input.new.shelf) (g.H.Shelf.told c.read_journal_file.new.shelf)
     (said_with (audit_job c.args.trace.now c.args.journal.now) c.args.options) c.args.journal.now
-    c.in_err-live.field-0.0
-    refl c.read_input.ensures.later c.read_input.ensures.keeps c.in_ok-input.ensures.table c.in_err-live.ensures.cause)
+    c.in-Err.status
+    refl c.read_input.ensures.later c.read_input.ensures.keeps c.in_ok-input.ensures.table c.in-Err.ensures.cause)
 
-pub returns-in_err-live-clause-in_turn : goal.returns-in_err-live-clause-in_turn
-returns-in_err-live-clause-in_turn g c =
+pub returns-in-Err-clause-in_turn : goal.returns-in-Err-clause-in_turn
+returns-in-Err-clause-in_turn g c =
     let old = g.H.Shelf.told c.args.shelf.now in
     let mid = g.H.Shelf.told c.read_input.new.shelf in
     let new = g.H.Shelf.told c.read_journal_file.new.shelf in
     let said : Said = said_with (audit_job c.args.trace.now c.args.journal.now) c.args.options in
-    passed_on c.from_residual-in_err-live.result c.in_err-live.field-0.0 (λ status. OfBoth old new (FilesInTurn said status)) c.from_residual-in_err-live.ensures.1
-    (report_in_turn IsBadAt old mid new said c.args.journal.now c.in_err-live.field-0.0
+    (report_in_turn IsBadAt old mid new said c.args.journal.now c.in-Err.status
     (g.H.Shelf.faults c.read_input.new.shelf) (g.H.Shelf.faults c.read_journal_file.new.shelf)
     refl c.read_input.ensures.keeps c.in_ok-input.ensures.table c.in_ok-input.ensures.read_out c.read_input.ensures.no_script
-    c.read_journal_file.ensures.others c.in_err-live.ensures.cause)
+    c.read_journal_file.ensures.others c.in-Err.ensures.cause)
 
 pub returns-in_err-verdict-clause-in_turn : goal.returns-in_err-verdict-clause-in_turn
 returns-in_err-verdict-clause-in_turn g c =
@@ -75,7 +73,7 @@ returns-in_err-verdict-clause-in_turn g c =
     passed_as c.from_residual-in_err-verdict.result (λ (s : Status). s ≡ NoMemory) (λ status. OfBoth old new (FilesInTurn said status)) c.from_residual-in_err-verdict.ensures.1
     (λ s is. done_in_turn old new said s refl (λ read. subst IsReadFault is read) c.in_ok-input.ensures.table
     (checked_out old mid new said c.args.trace.now c.args.journal.now refl refl c.read_input.ensures.keeps c.in_ok-input.ensures.read_out c.read_input.ensures.no_script
-    c.read_journal_file.ensures.others c.in_ok-live.ensures.read_out))
+    c.read_journal_file.ensures.others c.in-Ok.ensures.read_out))
 
 pub returns-in_err-text-clause-in_turn : goal.returns-in_err-text-clause-in_turn
 returns-in_err-text-clause-in_turn g c =
@@ -86,7 +84,7 @@ returns-in_err-text-clause-in_turn g c =
     passed_as c.from_residual-in_err-text.result (λ (s : Status). s ≡ NoMemory) (λ status. OfBoth old new (FilesInTurn said status)) c.from_residual-in_err-text.ensures.1
     (λ s is. done_in_turn old new said s refl (λ read. subst IsReadFault is read) c.in_ok-input.ensures.table
     (checked_out old mid new said c.args.trace.now c.args.journal.now refl refl c.read_input.ensures.keeps c.in_ok-input.ensures.read_out c.read_input.ensures.no_script
-    c.read_journal_file.ensures.others c.in_ok-live.ensures.read_out))
+    c.read_journal_file.ensures.others c.in-Ok.ensures.read_out))
 
 pub returns-clause-outcome : goal.returns-clause-outcome
 returns-clause-outcome g c = (
@@ -96,9 +94,9 @@ returns-clause-outcome g c = (
     table = c.in_ok-input.input.table;
     weights = c.in_ok-input.input.weights;
     input = c.in_ok-input.ensures.input;
-    live = c.in_ok-live.live;
-    live_is = journal_before (g.H.Shelf.told c.args.shelf.now) (g.H.Shelf.told c.read_input.new.shelf) c.args.journal.now c.in_ok-live.live
-        c.read_input.ensures.keeps c.in_ok-live.ensures.journal;
+    live = c.in-Ok.live;
+    live_is = journal_before (g.H.Shelf.told c.args.shelf.now) (g.H.Shelf.told c.read_input.new.shelf) c.args.journal.now c.in-Ok.live
+        c.read_input.ensures.keeps c.in-Ok.ensures.journal;
     verdict = c.in_ok-verdict.verdict;
     audited = c.in_ok-verdict.ensures.audit;
     yes_is = refl;
@@ -110,9 +108,9 @@ pub returns-clause-read_out : goal.returns-clause-read_out
 returns-clause-read_out g c =
     checked_out (g.H.Shelf.told c.args.shelf.now) (g.H.Shelf.told c.read_input.new.shelf) (g.H.Shelf.told c.read_journal_file.new.shelf)
     (said_with (audit_job c.args.trace.now c.args.journal.now) c.args.options) c.args.trace.now c.args.journal.now refl refl
-    c.read_input.ensures.keeps c.in_ok-input.ensures.read_out c.read_input.ensures.no_script c.read_journal_file.ensures.others c.in_ok-live.ensures.read_out
+    c.read_input.ensures.keeps c.in_ok-input.ensures.read_out c.read_input.ensures.no_script c.read_journal_file.ensures.others c.in-Ok.ensures.read_out
 
 pub returns-clause-good : goal.returns-clause-good
 returns-clause-good g c =
     text_good IsTextOf (g.H.Shelf.told c.args.shelf.now) (g.H.Shelf.told c.read_input.new.shelf) (said_with (audit_job c.args.trace.now c.args.journal.now) c.args.options)
-    c.args.journal.now c.in_ok-live.live refl c.read_input.ensures.keeps c.in_ok-input.ensures.table c.in_ok-live.ensures.journal.reads
+    c.args.journal.now c.in-Ok.live refl c.read_input.ensures.keeps c.in_ok-input.ensures.table c.in-Ok.ensures.journal.reads

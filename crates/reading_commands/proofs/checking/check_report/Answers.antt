@@ -33,34 +33,32 @@ returns-in_err-input-clause-in_turn g c =
     passed_on c.from_residual.result c.in_err-input.field-0.0 (λ status. OfBoth old new (FilesInTurn said status)) c.from_residual.ensures.1
     (input_in_turn old new said c.in_err-input.field-0.0 c.in_err-input.ensures.in_turn c.read_input.ensures.no_report c.read_input.ensures.no_script)
 
-pub returns-in_err-report-clause-keeps : goal.returns-in_err-report-clause-keeps
-returns-in_err-report-clause-keeps g c = files_kept (g.H.Shelf.told c.args.shelf.now) (g.H.Shelf.told c.read_input.new.shelf) (g.H.Shelf.told c.read_any_report_file.new.shelf)
+pub returns-in-Err-clause-keeps : goal.returns-in-Err-clause-keeps
+returns-in-Err-clause-keeps g c = files_kept (g.H.Shelf.told c.args.shelf.now) (g.H.Shelf.told c.read_input.new.shelf) (g.H.Shelf.told c.read_any_report_file.new.shelf)
     c.read_input.ensures.keeps c.read_any_report_file.ensures.keeps
 
 pub returns-clause-keeps : goal.returns-clause-keeps
 returns-clause-keeps g c = files_kept (g.H.Shelf.told c.args.shelf.now) (g.H.Shelf.told c.read_input.new.shelf) (g.H.Shelf.told c.read_any_report_file.new.shelf)
     c.read_input.ensures.keeps c.read_any_report_file.ensures.keeps
 
-pub returns-in_err-report-clause-cause : goal.returns-in_err-report-clause-cause
-returns-in_err-report-clause-cause g c =
-    passed_on c.from_residual-in_err-report.result c.in_err-report.field-0.0 _ c.from_residual-in_err-report.ensures.1
+pub returns-in-Err-clause-cause : goal.returns-in-Err-clause-cause
+returns-in-Err-clause-cause g c =
     (from_report IsAnyBadAt (g.H.Shelf.faults c.args.shelf.now) (g.H.Shelf.faults c.read_input.new.shelf) (g.H.Shelf.faults c.read_any_report_file.new.shelf)
     (g.H.Shelf.told c.args.shelf.now) (g.H.Shelf.told c.read_input.new.shelf) (g.H.Shelf.told c.read_any_report_file.new.shelf)
     (said_with (check_job c.args.trace.now c.args.report.now) c.args.options) c.args.report.now
-    c.in_err-report.field-0.0
-    refl c.read_input.ensures.later c.read_input.ensures.keeps c.in_ok-input.ensures.table c.in_err-report.ensures.cause)
+    c.in-Err.status
+    refl c.read_input.ensures.later c.read_input.ensures.keeps c.in_ok-input.ensures.table c.in-Err.ensures.cause)
 
-pub returns-in_err-report-clause-in_turn : goal.returns-in_err-report-clause-in_turn
-returns-in_err-report-clause-in_turn g c =
+pub returns-in-Err-clause-in_turn : goal.returns-in-Err-clause-in_turn
+returns-in-Err-clause-in_turn g c =
     let old = g.H.Shelf.told c.args.shelf.now in
     let mid = g.H.Shelf.told c.read_input.new.shelf in
     let new = g.H.Shelf.told c.read_any_report_file.new.shelf in
     let said : Said = said_with (check_job c.args.trace.now c.args.report.now) c.args.options in
-    passed_on c.from_residual-in_err-report.result c.in_err-report.field-0.0 (λ status. OfBoth old new (FilesInTurn said status)) c.from_residual-in_err-report.ensures.1
-    (report_in_turn IsAnyBadAt old mid new said c.args.report.now c.in_err-report.field-0.0
+    (report_in_turn IsAnyBadAt old mid new said c.args.report.now c.in-Err.status
     (g.H.Shelf.faults c.read_input.new.shelf) (g.H.Shelf.faults c.read_any_report_file.new.shelf)
     refl c.read_input.ensures.keeps c.in_ok-input.ensures.table c.in_ok-input.ensures.read_out c.read_input.ensures.no_script
-    c.read_any_report_file.ensures.others c.in_err-report.ensures.cause)
+    c.read_any_report_file.ensures.others c.in-Err.ensures.cause)
 
 pub returns-in_err-judged-clause-in_turn : goal.returns-in_err-judged-clause-in_turn
 returns-in_err-judged-clause-in_turn g c =
@@ -71,7 +69,7 @@ returns-in_err-judged-clause-in_turn g c =
     passed_as c.from_residual-in_err-judged.result (λ (s : Status). s ≡ NoMemory) (λ status. OfBoth old new (FilesInTurn said status)) c.from_residual-in_err-judged.ensures.1
     (λ s is. done_in_turn old new said s refl (λ read. subst IsReadFault is read) c.in_ok-input.ensures.table
     (checked_out old mid new said c.args.trace.now c.args.report.now refl refl c.read_input.ensures.keeps c.in_ok-input.ensures.read_out c.read_input.ensures.no_script
-    c.read_any_report_file.ensures.others c.in_ok-report.ensures.read_out))
+    c.read_any_report_file.ensures.others c.in-Ok.ensures.read_out))
 
 pub returns-in_err-judged-clause-keeps : goal.returns-in_err-judged-clause-keeps
 returns-in_err-judged-clause-keeps g c = files_kept (g.H.Shelf.told c.args.shelf.now) (g.H.Shelf.told c.read_input.new.shelf) (g.H.Shelf.told c.read_any_report_file.new.shelf)
@@ -80,7 +78,7 @@ returns-in_err-judged-clause-keeps g c = files_kept (g.H.Shelf.told c.args.shelf
 pub returns-clause-outcome : goal.returns-clause-outcome
 returns-clause-outcome g c =
     let table = c.in_ok-input.input.table in
-    let report = c.in_ok-report.report in
+    let report = c.in-Ok.report in
     let judged = c.in_ok-judged.judged in (
       judged.yes,
       c.status_of.ensures,
@@ -90,7 +88,7 @@ returns-clause-outcome g c =
         input = c.in_ok-input.ensures.input;
         report = report;
         report_is = any_report_before (g.H.Shelf.told c.args.shelf.now) (g.H.Shelf.told c.read_input.new.shelf) c.args.report.now report
-            c.read_input.ensures.keeps c.in_ok-report.ensures.report;
+            c.read_input.ensures.keeps c.in-Ok.ensures.report;
         judged = subst
             (λ (ws : List ℕ). IsJudged (instance_of table ws) (slice_index (arrivals_in table c.args.options.slot_ms)) table.ids report judged.yes judged.line.items)
             c.as_slice-weights.ensures c.in_ok-judged.ensures.judged;
@@ -101,9 +99,9 @@ pub returns-clause-read_out : goal.returns-clause-read_out
 returns-clause-read_out g c =
     checked_out (g.H.Shelf.told c.args.shelf.now) (g.H.Shelf.told c.read_input.new.shelf) (g.H.Shelf.told c.read_any_report_file.new.shelf)
     (said_with (check_job c.args.trace.now c.args.report.now) c.args.options) c.args.trace.now c.args.report.now refl refl
-    c.read_input.ensures.keeps c.in_ok-input.ensures.read_out c.read_input.ensures.no_script c.read_any_report_file.ensures.others c.in_ok-report.ensures.read_out
+    c.read_input.ensures.keeps c.in_ok-input.ensures.read_out c.read_input.ensures.no_script c.read_any_report_file.ensures.others c.in-Ok.ensures.read_out
 
 pub returns-clause-good : goal.returns-clause-good
 returns-clause-good g c =
     report_good (g.H.Shelf.told c.args.shelf.now) (g.H.Shelf.told c.read_input.new.shelf) (said_with (check_job c.args.trace.now c.args.report.now) c.args.options)
-    c.args.trace.now c.args.report.now c.in_ok-report.report refl c.read_input.ensures.keeps c.in_ok-input.ensures.table c.in_ok-report.ensures.report
+    c.args.trace.now c.args.report.now c.in-Ok.report refl c.read_input.ensures.keeps c.in_ok-input.ensures.table c.in-Ok.ensures.report

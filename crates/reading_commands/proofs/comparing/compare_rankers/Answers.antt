@@ -28,15 +28,15 @@ returns-in_err-input-clause-in_turn g c =
 pub returns-in_err-input-clause-left : goal.returns-in_err-input-clause-left
 returns-in_err-input-clause-left g c = (0, refl, All-nil _)
 
-pub returns-in_err-bound-clause-left : goal.returns-in_err-bound-clause-left
-returns-in_err-bound-clause-left g c = (0, refl, All-nil _)
+pub returns-in_default-clause-left : goal.returns-in_default-clause-left
+returns-in_default-clause-left g c = (0, refl, All-nil _)
 
 pub returns-in_err-text-clause-left : goal.returns-in_err-text-clause-left
 returns-in_err-text-clause-left g c =
     left_of_table (λ b f. (goal.Ranker-dyn g (b.vtable, b.value)).answered b.value f) (IsFactsOf c.in_ok-input.input.table c.as_slice-2.result.now) c.args.bench.now.items
-    c.comparison_text.new.bench.items c.comparison_text.ensures.left
+    c.comparison_text-written.new.bench.items c.comparison_text-written.ensures.left
 
 pub returns-clause-left : goal.returns-clause-left
 returns-clause-left g c =
     left_of_table (λ b f. (goal.Ranker-dyn g (b.vtable, b.value)).answered b.value f) (IsFactsOf c.in_ok-input.input.table c.as_slice-2.result.now) c.args.bench.now.items
-    c.comparison_text.new.bench.items c.comparison_text.ensures.left
+    c.comparison_text-written.new.bench.items c.comparison_text-written.ensures.left
