@@ -59,9 +59,22 @@ pub fn make_workload<'a, R: Threads + Wait + Sync, W: Wire + Send>(
 {
     let input = made_input(alloc, seed, options.unit)?;
     let planned = serve(rt, alloc, &input, options.agents as u32, wires)?;
-    let text = write_report(alloc, &planned)?;
-    let report = read_back(alloc, &text)?;
-    let text = summary(alloc, seed, &input, &report)?;
+    let written = write_report(alloc, &planned);
+    drop(planned);
+    let Ok(text) = written else {
+        drop(input);
+        return Err(Status::NoMemory);
+    };
+    let read = read_back(alloc, &text);
+    drop(text);
+    let Ok(report) = read else {
+        drop(input);
+        return Err(Status::NoMemory);
+    };
+    let told = summary(alloc, seed, &input, &report);
+    drop(input);
+    drop(report);
+    let text = told?;
     Ok(Outcome {
         text,
         status: Status::Ok,
@@ -79,9 +92,22 @@ fn made_input(alloc: Global, seed: u64, unit: UnitSize) -> Result<Input, NoMemor
     ensures most { IfOk result (λ i. All (λ w. w ≤ MAX_WEIGHT) i.weights) }
 {
     let made = made(alloc, seed)?;
-    let trace = trace_of_text(alloc, made.trace.as_slice())?;
-    let weights = weights_of_text(alloc, made.weights.as_slice(), &trace)?;
-    let table = small_table(alloc, &trace, unit)?;
+    let Ok(trace) = trace_of_text(alloc, made.trace.as_slice()) else {
+        drop(made);
+        return Err(NoMemory);
+    };
+    let read = weights_of_text(alloc, made.weights.as_slice(), &trace);
+    drop(made);
+    let Ok(weights) = read else {
+        drop(trace);
+        return Err(NoMemory);
+    };
+    let built = small_table(alloc, &trace, unit);
+    drop(trace);
+    let Ok(table) = built else {
+        drop(weights);
+        return Err(NoMemory);
+    };
     Ok(Input { table, weights })
 }
 

@@ -62,7 +62,9 @@ pub fn run_online<'a, R: Threads + Wait + Sync, H: Shelf, W: Wire + Send>(
         (said_with (online_job trace.now) options.entry) count)) status)) }
 {
     let input = read_input(alloc, trace, options.weights, options.unit, shelf)?;
-    match serve_run(rt, alloc, &input, options, wires) {
+    let ran = serve_run(rt, alloc, &input, options, wires);
+    drop(input);
+    match ran {
         Ok(text) => Ok(Outcome {
             text,
             status: Status::Ok,

@@ -54,8 +54,12 @@ pub fn plan_trace<'a, R: Threads + Wait + Sync, H: Shelf, W: Wire + Send>(
         (plan_job trace.now) (H.told shelf.old) (said_with (plan_job trace.now) options.entry)) status) }
 {
     let input = read_input(alloc, trace, options.weights, options.unit, shelf)?;
-    let report = serve(rt, alloc, &input, options.agents as u32, wires)?;
-    let text = write_report(alloc, &report)?;
+    let served = serve(rt, alloc, &input, options.agents as u32, wires);
+    drop(input);
+    let report = served?;
+    let written = write_report(alloc, &report);
+    drop(report);
+    let text = written?;
     Ok(Outcome {
         text,
         status: Status::Ok,

@@ -1,4 +1,4 @@
-use Rattle.std.proofs.Common.{Err, ap, inl, refl}
+use Rattle.std.proofs.Common.{Err, ap, inl, inr, refl}
 use Rattle.command_words.specs.Jobs.Job.{live_job}
 use Rattle.command_words.specs.Words.{said_with}
 use Rattle.command_files.proofs.ShelfFacts.{passed_on}
@@ -42,3 +42,25 @@ returns-in-Err-clause-cause g c =
       c.in_ok-files.ensures.script,
       c.in-Err.ensures.fault port (ap Err is),
     ))
+
+pub returns-in-Ok-clause-sent : goal.returns-in-Ok-clause-sent
+returns-in-Ok-clause-sent g c =
+    inr (
+      c.in_ok-files.files.input.table,
+      c.in_ok-files.files.input.weights,
+      c.in_ok-files.ensures.input,
+      c.in_ok-files.files.script,
+      c.in_ok-files.ensures.script,
+      c.serve_script.ensures.sent,
+    )
+
+pub returns-in-Err-clause-sent : goal.returns-in-Err-clause-sent
+returns-in-Err-clause-sent g c =
+    inr (
+      c.in_ok-files.files.input.table,
+      c.in_ok-files.files.input.weights,
+      c.in_ok-files.ensures.input,
+      c.in_ok-files.files.script,
+      c.in_ok-files.ensures.script,
+      c.serve_script.ensures.sent,
+    )

@@ -1,7 +1,7 @@
 use Rattle.std.proofs.Common.{◌∙◌, IfOk, ap, arith, length, refl}
 use Rattle.coflow_units.proofs.Fronts.{written_back}
 use Rattle.live_runs.proofs.ScriptsRead.{read_clients}
-use Rattle.served_live.specs.Told.{FailsAt, SendsAll, TellsLive, served_in}
+use Rattle.served_live.specs.Told.{FailsAt, SendsAll, SendsSoFar, TellsLive, served_in}
 use Rattle.serving_commands.proofs.WireFacts.{moved}
 use Rattle.serving_commands.proofs.living.serve_script.Goals as goal
 
@@ -20,3 +20,8 @@ pub returns-clause-fault : goal.returns-clause-fault
 returns-clause-fault g c = λ port e.
     moved (λ before after weights. FailsAt g.W.Wire.faults g.W.Wire.runs before after port c.args.files.input.table weights c.args.files.script) _ _ _ _ _ _
     c.deref_mut-2.ensures.value (written_back _ _ _ (c.served_live.auto.wires ∙ c.deref_mut-2.ensures.len)) refl (c.served_live.ensures.fault port e)
+
+pub returns-clause-sent : goal.returns-clause-sent
+returns-clause-sent g c =
+    moved (λ before after weights. SendsSoFar g.W.Wire.runs before after c.args.files.input.table weights c.args.files.script) _ _ _ _ _ _
+    c.deref_mut-2.ensures.value (written_back _ _ _ (c.served_live.auto.wires ∙ c.deref_mut-2.ensures.len)) refl c.served_live.ensures.sent

@@ -1,4 +1,4 @@
-use Rattle.std.proofs.Common.{Err, ap, inl}
+use Rattle.std.proofs.Common.{Err, ap, inl, inr, refl}
 use Rattle.command_words.specs.Jobs.Job.{online_job}
 use Rattle.command_words.specs.Words.{Said, said_with}
 use Rattle.command_files.proofs.ShelfFacts.{passed_on}
@@ -29,8 +29,8 @@ returns-in-Ok-clause-few g c =
     publishes_few (g.H.Shelf.told c.args.shelf.now) (said_with (online_job c.args.trace.now) c.args.options) c.in_ok-input.input.table c.in_ok-input.input.weights
     c.in_ok-input.ensures.input c.args.trace.now c.in-Ok.ensures.text.0.few
 
-pub returns-clause-cause : goal.returns-clause-cause
-returns-clause-cause g c =
+pub returns-in-Err-clause-cause : goal.returns-in-Err-clause-cause
+returns-in-Err-clause-cause g c =
     online_cause c.in-Err.fault c.status_of.result
     (HasFilesCause (g.H.Shelf.faults c.args.shelf.now) (g.H.Shelf.faults c.read_input.new.shelf) (g.H.Shelf.told c.args.shelf.now) (g.H.Shelf.told c.read_input.new.shelf)
     (said_with (online_job c.args.trace.now) c.args.options)) _ _ c.status_of.ensures tt
@@ -42,3 +42,21 @@ returns-clause-cause g c =
     ))
     (λ count is. publishes_more (g.H.Shelf.told c.args.shelf.now) (said_with (online_job c.args.trace.now) c.args.options) c.in_ok-input.input.table
     c.in_ok-input.input.weights c.in_ok-input.ensures.input count c.in_ok-input.ensures.table (c.in-Err.ensures.too_many count (ap Err is)))
+
+pub returns-in-Ok-clause-outcome : goal.returns-in-Ok-clause-outcome
+returns-in-Ok-clause-outcome g c = (
+  refl,
+  record {
+    table = c.in_ok-input.input.table;
+    weights = c.in_ok-input.input.weights;
+    input = c.in_ok-input.ensures.input;
+    tells = c.in-Ok.ensures.text.0;
+    sent = c.in-Ok.ensures.text.1;
+  },
+)
+
+pub returns-in-Ok-clause-sent : goal.returns-in-Ok-clause-sent
+returns-in-Ok-clause-sent g c = inr (c.in_ok-input.input.table, c.in_ok-input.input.weights, c.in_ok-input.ensures.input, c.serve_run-ran.ensures.sent)
+
+pub returns-in-Err-clause-sent : goal.returns-in-Err-clause-sent
+returns-in-Err-clause-sent g c = inr (c.in_ok-input.input.table, c.in_ok-input.input.weights, c.in_ok-input.ensures.input, c.serve_run-ran.ensures.sent)

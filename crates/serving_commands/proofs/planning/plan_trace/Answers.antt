@@ -74,10 +74,24 @@ returns-in_err-report-clause-counts g c =
     c.from_residual-in_err-report.ensures.1 (plan_reads c.in_err-report.field-0.0) c.in_ok-input.ensures.counts
 
 pub returns-in_err-report-clause-sent : goal.returns-in_err-report-clause-sent
-returns-in_err-report-clause-sent g c = inr (c.in_ok-input.input.table, c.in_ok-input.input.weights, c.in_ok-input.ensures.input, c.serve.ensures.sent)
+returns-in_err-report-clause-sent g c = inr (c.in_ok-input.input.table, c.in_ok-input.input.weights, c.in_ok-input.ensures.input, c.serve-served.ensures.sent)
 
 pub returns-in_err-text-clause-sent : goal.returns-in_err-text-clause-sent
-returns-in_err-text-clause-sent g c = inr (c.in_ok-input.input.table, c.in_ok-input.input.weights, c.in_ok-input.ensures.input, c.serve.ensures.sent)
+returns-in_err-text-clause-sent g c = inr (c.in_ok-input.input.table, c.in_ok-input.input.weights, c.in_ok-input.ensures.input, c.serve-served.ensures.sent)
 
 pub returns-clause-sent : goal.returns-clause-sent
-returns-clause-sent g c = inr (c.in_ok-input.input.table, c.in_ok-input.input.weights, c.in_ok-input.ensures.input, c.serve.ensures.sent)
+returns-clause-sent g c = inr (c.in_ok-input.input.table, c.in_ok-input.input.weights, c.in_ok-input.ensures.input, c.serve-served.ensures.sent)
+
+pub returns-clause-outcome : goal.returns-clause-outcome
+returns-clause-outcome g c = (
+  refl,
+  record {
+    table = c.in_ok-input.input.table;
+    weights = c.in_ok-input.input.weights;
+    input = c.in_ok-input.ensures.input;
+    report = c.in_ok-report.report;
+    planned = c.in_ok-report.ensures.plan.0;
+    sent = c.in_ok-report.ensures.plan.1;
+    text_is = c.in_ok-text.ensures.text;
+  },
+)
