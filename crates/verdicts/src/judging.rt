@@ -129,8 +129,14 @@ fn online_verdict_on(
     ensures coflow { IfOk result (NamesOneOfIfAny (length table.now.ids)) }
 {
     let arrivals = arrivals_of(alloc, table, slot_ms)?;
-    let loads = Loads::of(alloc, table.flows(), table.coflows(), table.ports())?;
-    let verdict = check_online(alloc, table, &loads, weights, &arrivals, online)?;
+    let Ok(loads) = Loads::of(alloc, table.flows(), table.coflows(), table.ports()) else {
+        drop(arrivals);
+        return Err(NoMemory);
+    };
+    let checked = check_online(alloc, table, &loads, weights, &arrivals, online);
+    drop(arrivals);
+    drop(loads);
+    let verdict = checked?;
     Ok(verdict)
 }
 
@@ -151,6 +157,8 @@ pub fn verdict_on(
     ensures coflow { IfOk result (NamesCoflowIfAny (length table.now.ids)) }
 {
     let loads = Loads::of(alloc, table.flows(), table.coflows(), table.ports())?;
-    let verdict = check(alloc, table, &loads, weights, report)?;
+    let checked = check(alloc, table, &loads, weights, report);
+    drop(loads);
+    let verdict = checked?;
     Ok(verdict)
 }

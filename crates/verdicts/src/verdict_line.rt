@@ -37,42 +37,42 @@ pub(crate) fn reason_text(alloc: Global, table: &Table, reason: Reason) -> Resul
     ensures { IfOk result (λ line. line.bytes.items ≡ reason_text table.now.ids reason) }
 {
     let line = match reason {
-        Reason::NotPermutation { place } => format!(in alloc; "no order {place}\n")?,
-        Reason::PortRange { place, number } => format!(in alloc; "no port {place} {number}\n")?,
+        Reason::NotPermutation { place } => format!(in alloc; "no order {place}\n"),
+        Reason::PortRange { place, number } => format!(in alloc; "no port {place} {number}\n"),
         Reason::WeightWrong {
             coflow,
             stated,
             real,
         } => {
             let id = table.id(coflow);
-            format!(in alloc; "no weight {id} {stated} {real}\n")?
+            format!(in alloc; "no weight {id} {stated} {real}\n")
         }
         Reason::Infeasible { coflow } => {
             let id = table.id(coflow);
-            format!(in alloc; "no infeasible {id}\n")?
+            format!(in alloc; "no infeasible {id}\n")
         }
-        Reason::BoundTooHigh { stated, real } => format!(in alloc; "no bound {stated} {real}\n")?,
-        Reason::SlackWrong { stated, real } => format!(in alloc; "no slack {stated} {real}\n")?,
-        Reason::NoFlow { slot, flow } => format!(in alloc; "no flow {slot} {flow}\n")?,
+        Reason::BoundTooHigh { stated, real } => format!(in alloc; "no bound {stated} {real}\n"),
+        Reason::SlackWrong { stated, real } => format!(in alloc; "no slack {stated} {real}\n"),
+        Reason::NoFlow { slot, flow } => format!(in alloc; "no flow {slot} {flow}\n"),
         Reason::ClashIn { slot, port } => {
             let (side, number) = (side_word(port.side), port.number);
-            format!(in alloc; "no clash {slot} {side} {number}\n")?
+            format!(in alloc; "no clash {slot} {side} {number}\n")
         }
         Reason::UnitsOf { flow, have, want } => format!(in alloc;
             "no units {flow} {have} {want}\n"
-        )?,
+        ),
         Reason::DoneWrong {
             coflow,
             stated,
             real,
         } => {
             let id = table.id(coflow);
-            format!(in alloc; "no done {id} {stated} {real}\n")?
+            format!(in alloc; "no done {id} {stated} {real}\n")
         }
-        Reason::CostWrong { stated, real } => format!(in alloc; "no cost {stated} {real}\n")?,
-        Reason::RatioBroken { cost, most } => format!(in alloc; "no ratio {cost} {most}\n")?,
+        Reason::CostWrong { stated, real } => format!(in alloc; "no cost {stated} {real}\n"),
+        Reason::RatioBroken { cost, most } => format!(in alloc; "no ratio {cost} {most}\n"),
     };
-    Ok(line)
+    Ok(line?)
 }
 
 /// The word of a side.
