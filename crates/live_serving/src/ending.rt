@@ -36,20 +36,37 @@ pub(crate) fn end(
         IsTold run.hall.setting.opening script.now most s.master.journal run.runner.driver.journal s.pulls) }
     ensures fault { (port : ℕ) → result ≡ Err (fault.WireFault port) → answer ≡ Err (WireFault port) }
 {
-    let Begun {
-        hall,
-        runner,
-        sessions,
-        pulls,
-    } = run;
     match answer {
-        Ok(()) => tell(alloc, hall, runner.into_driver(), sessions, &pulls, script),
+        Ok(()) => {
+            let Begun {
+                hall,
+                runner,
+                sessions,
+                pulls,
+            } = run;
+            let told = tell(alloc, hall, runner.into_driver(), sessions, &pulls, script);
+            drop(pulls);
+            told
+        }
         Err(Stop::Full) => {
+            let Begun {
+                hall,
+                runner,
+                sessions,
+                pulls,
+            } = run;
+            drop(pulls);
             refuse(alloc, hall, runner.into_driver(), sessions, script);
             Err(LiveFault::NoMemory)
         }
-        Err(Stop::WireFault { port }) => Err(LiveFault::WireFault { port }),
-        Err(Stop::NoMemory) => Err(LiveFault::NoMemory),
+        Err(Stop::WireFault { port }) => {
+            drop(run);
+            Err(LiveFault::WireFault { port })
+        }
+        Err(Stop::NoMemory) => {
+            drop(run);
+            Err(LiveFault::NoMemory)
+        }
     }
 }
 
@@ -102,7 +119,10 @@ fn close(
 {
     match hall.close(alloc, driver, sessions) {
         Ok(master) => Ok(master),
-        Err(CloseFault::NoMemory(_)) => Err(NoMemory),
+        Err(CloseFault::NoMemory(closing)) => {
+            drop(closing);
+            Err(NoMemory)
+        }
         Err(CloseFault::Missing { .. }) => unreachable!(),
     }
 }

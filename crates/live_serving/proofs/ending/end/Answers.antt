@@ -8,7 +8,7 @@ use Rattle.live_serving.proofs.ending.end.Goals as goal
 
 pub returns-in-Ok-clause-told : goal.returns-in-Ok-clause-told
 returns-in-Ok-clause-told c = λ most.
-    subst (λ (x : DriverModel × List PullDone). IfOk c.tell.result
+    subst (λ (x : DriverModel × List PullDone). IfOk c.tell-told.result
     (λ s. IsEnded c.args.run.hall c.args.script.now most x.0 c.args.run.sessions.items x.1 →
     IsTold c.args.run.hall.setting.opening c.args.script.now most s.master.journal x.0.journal s.pulls))
-    (λ i. (c.into_driver.ensures i, c.deref.ensures.value i)) (c.tell.ensures.told most)
+    (λ i. (c.into_driver.ensures i, c.deref.ensures.value i)) (c.tell-told.ensures.told most)
