@@ -39,8 +39,14 @@ pub fn audit(
     requires live { IsLive live.now }
     ensures audit { IfOk result (IsAudit table weights live.now) }
 {
-    let coflows = coflows_by_id(alloc, &table)?;
-    audit_entries(alloc, table, weights, live, &coflows)
+    let Ok(coflows) = coflows_by_id(alloc, &table) else {
+        drop(table);
+        drop(weights);
+        return Err(NoMemory);
+    };
+    let audited = audit_entries(alloc, table, weights, live, &coflows);
+    drop(coflows);
+    audited
 }
 
 /// The same, where the coflows are looked up by their ids.
@@ -57,11 +63,22 @@ fn audit_entries(
     requires coflows { Finds table.ids (get nat_eq coflows.now) }
     ensures { IfOk result (IsAudit table weights live.now) }
 {
-    match commands_of(alloc, coflows, live.entries.as_slice())? {
+    let Ok(stated) = commands_of(alloc, coflows, live.entries.as_slice()) else {
+        drop(table);
+        drop(weights);
+        return Err(NoMemory);
+    };
+    match stated {
         Stated::Commands(commands) => {
-            audit_commands(alloc, table, weights, live, coflows, &commands)
+            let audited = audit_commands(alloc, table, weights, live, coflows, &commands);
+            drop(commands);
+            audited
         }
-        Stated::Unknown(position) => Ok(Audit::No(AuditReason::NoId { position })),
+        Stated::Unknown(position) => {
+            drop(table);
+            drop(weights);
+            Ok(Audit::No(AuditReason::NoId { position }))
+        }
     }
 }
 
@@ -109,7 +126,9 @@ fn audit_by_master(
 {
     let _coflows = master.table().coflows();
     let mut replayed = Replayed::new(alloc);
-    audit_replay(alloc, master, &mut replayed, live, coflows, commands)
+    let audited = audit_replay(alloc, master, &mut replayed, live, coflows, commands);
+    drop(replayed);
+    audited
 }
 
 /// The same, where nothing is taken down yet.

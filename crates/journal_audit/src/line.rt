@@ -26,22 +26,22 @@ fn reason_text(alloc: Global, reason: AuditReason) -> Result<String, NoMemory>
     ensures { IfOk result (λ line. line.bytes.items ≡ reason_text reason) }
 {
     let line = match reason {
-        AuditReason::NoId { position } => format!(in alloc; "no id {position}\n")?,
-        AuditReason::NoEntry { position, .. } => format!(in alloc; "no entry {position}\n")?,
-        AuditReason::NoClose { slot } => format!(in alloc; "no close {slot}\n")?,
+        AuditReason::NoId { position } => format!(in alloc; "no id {position}\n"),
+        AuditReason::NoEntry { position, .. } => format!(in alloc; "no entry {position}\n"),
+        AuditReason::NoClose { slot } => format!(in alloc; "no close {slot}\n"),
         AuditReason::NoOrder { version, place } => {
-            format!(in alloc; "no order {version} {place}\n")?
+            format!(in alloc; "no order {version} {place}\n")
         }
         AuditReason::NoPull {
             client,
             line,
             stated,
             real,
-        } => format!(in alloc; "no pull {client} {line} {stated} {real}\n")?,
+        } => format!(in alloc; "no pull {client} {line} {stated} {real}\n"),
         AuditReason::NoVersion { client, line } => {
-            format!(in alloc; "no version {client} {line}\n")?
+            format!(in alloc; "no version {client} {line}\n")
         }
-        AuditReason::NoRun { slot } => format!(in alloc; "no run {slot}\n")?,
+        AuditReason::NoRun { slot } => format!(in alloc; "no run {slot}\n"),
     };
-    Ok(line)
+    Ok(line?)
 }

@@ -34,7 +34,9 @@ pub(crate) fn commands_of(
     let mut commands = Vec::new(alloc);
     for line in entries {
         let Some(command) = command_of(coflows, line.word) else {
-            return Ok(Stated::Unknown(commands.len() as u32 + 1));
+            let position = commands.len() as u32 + 1;
+            drop(commands);
+            return Ok(Stated::Unknown(position));
         };
         commands.push(command)?;
     }
