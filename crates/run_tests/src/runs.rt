@@ -68,9 +68,11 @@ fn run_all<R: Threads + Wait + Sync + Abort>(
         let (most, agents) = ((*most).max(1), row.agents.max(1));
         tell_run(rt, alloc, hall, runner, most, agents, &mut wires, text);
     }
-    tell_wire(rt, 0, &wires[0], text);
-    tell_wire(rt, 1, &wires[1], text);
-    drop(wires);
+    let [one, two] = wires;
+    tell_wire(rt, 0, &one, text);
+    tell_wire(rt, 1, &two, text);
+    drop(one);
+    drop(two);
 }
 
 /// Makes the runs in a new hall, and tells what they came to.

@@ -17,7 +17,6 @@ use trace_tables::table_of_text;
 pub const CROSSED: &str = "1 2\n1 0 2 0 1 1 0:2\n2 0 2 0 1 1 1:2\n";
 
 /// A hall, its runner, and its one session, which has asked that the coflows join and are ordered.
-#[derive(Drop)]
 pub struct Stage {
     pub hall: Hall,
     pub runner: Runner,
@@ -63,6 +62,20 @@ fn join_all<R: Wait>(rt: &R, hall: &Hall, session: &mut Session)
     session.publish(rt, hall);
 }
 
+/// The first session of a hall.
+fn session_of<R: Abort>(rt: &R, alloc: Global, hall: &Hall, driver: &mut Driver) -> Session
+    requires own { IsDriverOf hall.now driver.old }
+    requires new { driver.old.made ≡ 0 }
+    ensures own { IsDriverOf hall.entry.now driver.new }
+    ensures journal { driver.new.journal ≡ driver.old.journal }
+    ensures session { IsSessionOf hall.entry.now result }
+{
+    match hall.session(alloc, driver, 8) {
+        Ok(session) => session,
+        Err(_) => panic!(rt; "no memory"),
+    }
+}
+
 /// A runner of a driver that has seen no entry. It may run.
 fn runner_of<R: Abort>(rt: &R, alloc: Global, _hall: &Hall, driver: Driver) -> Runner
     requires own { IsDriverOf _hall.now driver }
@@ -94,9 +107,7 @@ pub fn stage_of<R: Wait + Abort>(
     let Ok((hall, mut driver)) = Hall::begin(alloc, master, calls) else {
         panic!(rt; "no memory");
     };
-    let Ok(mut session) = hall.session(alloc, &mut driver, 8) else {
-        panic!(rt; "no memory");
-    };
+    let mut session = session_of(rt, alloc, &hall, &mut driver);
     join_all(rt, &hall, &mut session);
     let runner = runner_of(rt, alloc, &hall, driver);
     Stage {

@@ -5,9 +5,10 @@ ghost use Rattle.slot_runner.specs.Models.{MayRun};
 
 use crate::stage::Stage;
 use client_session::Hall;
-use master_core::{Entry, Master};
+use master_core::Entry;
 use outside::{MemWire, Wire};
-use slot_runner::Runner;
+use slot_runner::{Ran, Runner};
+use small_halls::SmallHall;
 use std::alloc::Global;
 use std::process::Abort;
 use std::sync::Wait;
@@ -31,8 +32,19 @@ pub fn tell_run<R: Threads + Wait + Sync + Abort, W: Wire + Send>(
 {
     let ran = runner.slot(alloc, rt, hall, most, agents, wires);
     let left = runner.driver().calls_left();
-    let flows = runner.granted();
+    tell_ran(rt, ran, runner.granted(), left, text);
+}
+
+/// Tells what a run came to, its flows, and how many calls are left.
+fn tell_ran(rt: &impl Abort, ran: Ran, flows: &[u32], left: u64, text: &mut String) {
     let Ok(()) = write!(text, "{ran:?} {flows:?} {left}\n") else {
+        panic!(rt; "no memory");
+    };
+}
+
+/// Tells an entry.
+fn tell_entry<R: Abort>(rt: &R, entry: &Entry, text: &mut String) {
+    let Ok(()) = write!(text, "{:?} {:?}\n", entry.command, entry.reply) else {
         panic!(rt; "no memory");
     };
 }
@@ -40,12 +52,9 @@ pub fn tell_run<R: Threads + Wait + Sync + Abort, W: Wire + Send>(
 /// Tells the driver's entries among these.
 fn tell_entries<R: Abort>(rt: &R, entries: &[Entry], text: &mut String) {
     for entry in entries {
-        if entry.who > 0 {
-            continue;
+        if entry.who == 0 {
+            tell_entry(rt, entry, text);
         }
-        let Ok(()) = write!(text, "{:?} {:?}\n", entry.command, entry.reply) else {
-            panic!(rt; "no memory");
-        };
     }
 }
 
@@ -58,8 +67,8 @@ pub fn tell_wire<R: Abort>(rt: &R, port: u32, wire: &MemWire, text: &mut String)
     }
 }
 
-/// Closes the hall, whose one session is given.
-fn closed<R: Abort>(rt: &R, alloc: Global, stage: Stage) -> Master
+/// Closes the hall, whose one session is given: its journal.
+fn closed<R: Abort>(rt: &R, alloc: Global, stage: Stage) -> Vec<Entry>
     requires may { MayRun stage.hall stage.runner }
     requires session { IsSessionOf stage.hall stage.session }
 {
@@ -68,13 +77,19 @@ fn closed<R: Abort>(rt: &R, alloc: Global, stage: Stage) -> Master
         runner,
         session,
     } = stage;
-    let Ok(sessions) = Vec::from_array(alloc, [session]) else {
+    let Ok(mut sessions) = Vec::with_capacity(alloc, 1) else {
         panic!(rt; "no memory");
     };
-    match hall.close(alloc, runner.into_driver(), sessions) {
-        Ok(master) => master,
-        Err(_) => panic!(rt; "no memory"),
-    }
+    sessions.push_reserved(session);
+    let small = SmallHall {
+        hall,
+        driver: runner.into_driver(),
+        sessions,
+    };
+    let Some(journal) = small.journal(alloc) else {
+        panic!(rt; "no memory");
+    };
+    journal
 }
 
 /// Tells the driver's entries, once the hall is closed.
@@ -82,12 +97,14 @@ pub fn tell_journal<R: Abort>(rt: &R, alloc: Global, stage: Stage, text: &mut St
     requires may { MayRun stage.hall stage.runner }
     requires session { IsSessionOf stage.hall stage.session }
 {
-    let master = closed(rt, alloc, stage);
-    tell_entries(rt, master.journal(), text);
-    drop(master);
+    let journal = closed(rt, alloc, stage);
+    tell_entries(rt, &journal, text);
+    drop(journal);
 }
 
 /// Stops where another text is told.
 pub fn is_told<R: Abort>(rt: &R, text: &str, want: &str) {
-    assert_eq!(rt; text, want);
+    if text != want {
+        panic!(rt; "{text} is told in place of {want}");
+    }
 }
