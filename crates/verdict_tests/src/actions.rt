@@ -23,26 +23,39 @@ fn two_coflows(rt: &impl Abort, alloc: Global, second: u64, every: u64) -> Epoch
     epochs
 }
 
-/// At the time, where the coflows owe so many units, this is done.
-fn step(rt: &impl Abort, epochs: &mut Epochs, time: u64, owed: [u64; 2], action: Action)
-    requires coflows { length epochs.old.arrivals ≡ 2 }
-    ensures { length epochs.new.arrivals ≡ 2 }
-{
-    assert!(rt; time < MAX_SLOT);
-    assert_eq!(rt; epochs.next(time, &owed), action);
-}
-
 /// A time, the units that the coflows owe then, and what is done.
 type Row = (u64, [u64; 2], Action);
 
-/// The rows, in order.
-fn follow(rt: &impl Abort, epochs: &mut Epochs, rows: &[Row])
+/// What is done at the time of a row.
+fn done(rt: &impl Abort, epochs: &mut Epochs, row: &Row) -> Action
     requires coflows { length epochs.old.arrivals ≡ 2 }
+    ensures { length epochs.new.arrivals ≡ 2 }
 {
-    for row in rows {
-        let (time, owed, action) = *row;
-        step(rt, epochs, time, owed, action);
+    let (time, owed, _) = *row;
+    assert!(rt; time < MAX_SLOT);
+    epochs.next(time, &owed)
+}
+
+/// Stops where another thing is done at the time of a row.
+fn is_done(rt: &impl Abort, have: Action, row: &Row) {
+    let (time, _, want) = *row;
+    if have != want {
+        panic!(rt; "{have:?} is done at {time}");
     }
+}
+
+/// The rows in order, in a run over two coflows that arrive at time 0 and at the time `second`.
+fn follow(rt: &impl Abort, alloc: Global, second: u64, every: u64, rows: &[Row])
+    requires second_fits { second ≤ 2 ^ 32 }
+    requires epoch_some { 1 ≤ every }
+    requires epoch_fits { every ≤ MAX_OPTION_SLOTS }
+{
+    let mut epochs = two_coflows(rt, alloc, second, every);
+    for row in rows {
+        let have = done(rt, &mut epochs, row);
+        is_done(rt, have, row);
+    }
+    drop(epochs);
 }
 
 /// The first coflow has 6 units, the second 1 unit, at the same ports. The second arrives at time 2, and goes first from
@@ -60,9 +73,7 @@ fn late_coflow_is_ordered_at_the_next_epoch(rt: HostRuntime) {
         (5, [2, 0], Action::Run(3)),
         (7, [0, 0], Action::End),
     ];
-    let mut epochs = two_coflows(&rt, rt.alloc(), 2, 4);
-    follow(&rt, &mut epochs, ROWS);
-    drop(epochs);
+    follow(&rt, rt.alloc(), 2, 4, ROWS);
 }
 
 /// The first coflow is served at time 1, and leaves before the epoch at 2 is published. At time 4 nobody owes anything, so
@@ -79,9 +90,7 @@ fn served_coflow_leaves_before_a_publishing(rt: HostRuntime) {
         (2, [0, 2], Action::Run(2)),
         (4, [0, 0], Action::End),
     ];
-    let mut epochs = two_coflows(&rt, rt.alloc(), 0, 2);
-    follow(&rt, &mut epochs, ROWS);
-    drop(epochs);
+    follow(&rt, rt.alloc(), 0, 2, ROWS);
 }
 
 /// The first coflow is served at time 1, and the second arrives at time 9: the next slot is 10.
@@ -96,7 +105,5 @@ fn idle_time_is_skipped(rt: HostRuntime) {
         (9, [0, 2], Action::Run(3)),
         (11, [0, 0], Action::End),
     ];
-    let mut epochs = two_coflows(&rt, rt.alloc(), 9, 4);
-    follow(&rt, &mut epochs, ROWS);
-    drop(epochs);
+    follow(&rt, rt.alloc(), 9, 4, ROWS);
 }

@@ -26,7 +26,16 @@ pub(crate) fn table_of(rt: &impl Abort, alloc: Global, trace: &str) -> Table {
     let Ok(trace) = read_trace(alloc, trace.as_bytes()) else {
         panic!(rt; "no table");
     };
-    had(rt, Table::build(alloc, &trace, 1))
+    let table = Table::build(alloc, &trace, 1);
+    drop(trace);
+    had(rt, table)
+}
+
+/// Stops where another text is told.
+pub(crate) fn is_told(rt: &impl Abort, have: &str, want: &str) {
+    if have != want {
+        panic!(rt; "{have} is told in place of {want}");
+    }
 }
 
 /// Tests what calls require of weights.

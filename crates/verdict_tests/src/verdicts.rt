@@ -3,7 +3,7 @@ ghost use Rattle.std.specs.Prelude.{◌≡◌, ◌≤◌, All, length};
 ghost use Rattle.coflow_units.specs.declared.limits.TheConstants.{MAX_WEIGHT};
 ghost use Rattle.report.specs.Report.{IsReport};
 
-use crate::inputs::{TWO, are_weights, had, table_of};
+use crate::inputs::{TWO, are_weights, had, is_told, table_of};
 use cert_check::{Verdict, check};
 use coflow_units::MAX_TEXT;
 use flow_table::Table;
@@ -12,17 +12,15 @@ use report::{Report, read_report};
 use std::alloc::Global;
 use std::process::Abort;
 
-/// The verdict on the report with this text.
-fn verdict_of(rt: &impl Abort, alloc: Global, trace: &str, weights: &[u64], text: &str) -> Verdict {
-    let table = table_of(rt, alloc, trace);
-    assert!(rt; weights.len() == table.coflows() as usize);
-    let fit = are_weights(weights);
-    assert!(rt; fit);
+/// The report with this text.
+fn report_of(rt: &impl Abort, alloc: Global, text: &str) -> Report
+    ensures report { IsReport result }
+{
     assert!(rt; text.len() <= MAX_TEXT);
-    let Ok(report) = read_report(alloc, text.as_bytes()) else {
-        panic!(rt; "no memory");
-    };
-    verdict_on(rt, alloc, &table, weights, &report)
+    match read_report(alloc, text.as_bytes()) {
+        Ok(report) => report,
+        Err(_) => panic!(rt; "no memory"),
+    }
 }
 
 /// The verdict on a report of a table.
@@ -41,21 +39,40 @@ fn verdict_on(
     let Ok(loads) = loads else {
         panic!(rt; "no memory");
     };
-    had(rt, check(alloc, table, &loads, weights, report))
+    let verdict = check(alloc, table, &loads, weights, report);
+    drop(loads);
+    had(rt, verdict)
 }
 
-/// Compares the text of a verdict.
-fn compare(rt: &impl Abort, alloc: Global, have: Verdict, want: &str) {
+/// The verdict on the report with this text.
+fn verdict_of(rt: &impl Abort, alloc: Global, trace: &str, weights: &[u64], text: &str) -> Verdict {
+    let fit = are_weights(weights);
+    assert!(rt; fit);
+    let report = report_of(rt, alloc, text);
+    let table = table_of(rt, alloc, trace);
+    assert!(rt; weights.len() == table.coflows() as usize);
+    let verdict = verdict_on(rt, alloc, &table, weights, &report);
+    drop(table);
+    drop(report);
+    verdict
+}
+
+/// Tests the verdict on the report with this text.
+fn expect(rt: &impl Abort, alloc: Global, trace: &str, weights: &[u64], text: &str, want: &str) {
+    let have = verdict_of(rt, alloc, trace, weights, text);
     let have = had(rt, format!(in alloc; "{have:?}"));
-    assert_eq!(rt; have.as_str(), want);
+    is_told(rt, &have, want);
+    drop(have);
 }
 
-/// The places, the totals and the runs of the right report of two coflows.
-const RIGHT: [&str; 3] = [
-    "place 1 2 in 0 733007751851 1/place 2 1 in 0 366503875925 4/",
-    "bound 5/slack 1/cost 5/",
-    "run 1 1/run 3 0/",
-];
+/// The places of the right report of two coflows.
+const PLACES: &str = "place 1 2 in 0 733007751851 1/place 2 1 in 0 366503875925 4/";
+
+/// Its totals.
+const TOTALS: &str = "bound 5/slack 1/cost 5/";
+
+/// Its runs.
+const RUNS: &str = "run 1 1/run 3 0/";
 
 /// Places, totals and runs, and the verdict on the report that has them. A `-` stands for those of the right report, and a `/` for a line end. What is looked at later
 /// than what is told is wrong too. At the end are prices that charge nothing, a price that is free since its front has no load, and as many idle slots as there may be.
@@ -89,17 +106,6 @@ place 1 2 in 2 340282366920938463463374607431768211455 1/place 2 1 in 0 36650387
 place 1 2 in 0 733007751851 2/place 2 1 in 0 366503875925 6/ | bound 5/slack 1/cost 8/ | run 1/run 1 1/run 1/run 3 0/run 2199023255545/ => Yes
 place 1 2 in 0 733007751851 2199023255548/place 2 1 in 0 366503875925 2199023255551/ | bound 5/slack 1/cost 4398046511099/ | run 2199023255547/run 1 1/run 3 0/ => No(RatioBroken { cost: 4398046511099, most: 21 })";
 
-/// The text of the report that a row of the edits tells.
-fn edited(rt: &impl Abort, alloc: Global, row: &str) -> String {
-    let mut text = had(rt, String::from_str(alloc, "sincronia 1\n"));
-    for (part, right) in row.split(" | ").zip(RIGHT) {
-        let part = if part == "-" { right } else { part };
-        push_lines(rt, &mut text, part);
-    }
-    had(rt, text.push_str("end\n"));
-    text
-}
-
 /// Appends a text, in which a `/` stands for a line end.
 fn push_lines(rt: &impl Abort, text: &mut String, short: &str) {
     let mut pieces = short.split('/');
@@ -112,26 +118,72 @@ fn push_lines(rt: &impl Abort, text: &mut String, short: &str) {
     }
 }
 
+/// Appends a part of a report. A `-` stands for the part of the right one.
+fn push_part(rt: &impl Abort, text: &mut String, part: &str, right: &str) {
+    if part == "-" {
+        push_lines(rt, text, right);
+    } else {
+        push_lines(rt, text, part);
+    }
+}
+
+/// Appends the places, the totals and the runs of a report.
+fn push_parts(rt: &impl Abort, text: &mut String, parts: &str) {
+    let Some((places, rest)) = parts.split_once(" | ") else {
+        panic!(rt; "a row without totals");
+    };
+    let Some((totals, runs)) = rest.split_once(" | ") else {
+        panic!(rt; "a row without runs");
+    };
+    push_part(rt, text, places, PLACES);
+    push_part(rt, text, totals, TOTALS);
+    push_part(rt, text, runs, RUNS);
+}
+
+/// Tests a row of the edits.
+fn try_edit(rt: &impl Abort, alloc: Global, row: &str) {
+    let Some((parts, want)) = row.split_once(" => ") else {
+        panic!(rt; "a row without an arrow");
+    };
+    let mut text = String::new(alloc);
+    push_lines(rt, &mut text, "sincronia 1/");
+    push_parts(rt, &mut text, parts);
+    push_lines(rt, &mut text, "end/");
+    expect(rt, alloc, TWO, &[1, 1], &text, want);
+    drop(text);
+}
+
 #[test]
 fn edits_of_a_right_report(rt: HostRuntime) {
     for row in EDITS.split('\n') {
-        let Some((parts, want)) = row.split_once(" => ") else {
-            panic!(&rt; "a row without an arrow");
-        };
-        let text = edited(&rt, rt.alloc(), parts);
-        let have = verdict_of(&rt, rt.alloc(), TWO, &[1, 1], text.as_str());
-        compare(&rt, rt.alloc(), have, want);
+        try_edit(&rt, rt.alloc(), row);
     }
+}
+
+/// A trace, weights, what stands between the first word and the last line of a report, and the verdict on it.
+type Row = (&'static str, &'static [u64], &'static str, &'static str);
+
+/// A report of two coflows, of which the first has weight 5.
+const WEIGHTED: &str =
+    "2/place 1 1 in 0 733007751850 3 5/place 2 2 in 0 1099511627776 4 1/bound 19/slack 1/cost 19/run 3 0/run 1 1/";
+
+/// Tests a row.
+fn try_row(rt: &impl Abort, alloc: Global, row: &Row) {
+    let (trace, weights, short, want) = *row;
+    let mut text = String::new(alloc);
+    push_lines(rt, &mut text, "sincronia ");
+    push_lines(rt, &mut text, short);
+    push_lines(rt, &mut text, "end/");
+    expect(rt, alloc, trace, weights, &text, want);
+    drop(text);
 }
 
 /// Weights that are stated, and other coflows: of the first two rows without weights one flow meets another at its egress, and one coflow pays too much at a port where the
 /// last place has no load. The slack is more than 2 where a port has more than 2^20 units.
 #[test]
 fn other_weights_and_coflows(rt: HostRuntime) {
-    let weighted =
-        "2/place 1 1 in 0 733007751850 3 5/place 2 2 in 0 1099511627776 4 1/bound 19/slack 1/cost 19/run 3 0/run 1 1/";
-    let rows: [(&str, &[u64], &str, &str); 10] = [
-        (TWO, &[5, 1], weighted, "Yes"),
+    const ROWS: &[Row] = &[
+        (TWO, &[5, 1], WEIGHTED, "Yes"),
         (
             TWO,
             &[5, 1],
@@ -141,7 +193,7 @@ fn other_weights_and_coflows(rt: HostRuntime) {
         (
             TWO,
             &[1, 1],
-            weighted,
+            WEIGHTED,
             "No(WeightWrong { coflow: 0, stated: 5, real: 1 })",
         ),
         (
@@ -182,11 +234,7 @@ fn other_weights_and_coflows(rt: HostRuntime) {
             "No(NotPermutation { place: 1 })",
         ),
     ];
-    for (trace, weights, short, want) in rows {
-        let mut text = had(&rt, String::from_str(rt.alloc(), "sincronia "));
-        push_lines(&rt, &mut text, short);
-        had(&rt, text.push_str("end\n"));
-        let have = verdict_of(&rt, rt.alloc(), trace, weights, text.as_str());
-        compare(&rt, rt.alloc(), have, want);
+    for row in ROWS {
+        try_row(&rt, rt.alloc(), row);
     }
 }
