@@ -39,10 +39,28 @@ impl Tables {
         ensures none { IfOk result (λ m. listed_in m ≡ []) }
     {
         let left = vec![in alloc; 0u64; flows as usize]?;
-        let board = Board::with_room(alloc, ports)?;
-        let listed = vec![in alloc; 0u32; ports as usize]?;
-        let ranks = Ranks::with_room(alloc, flows, ports)?;
-        let heads = Heads::with_room(alloc, flows, ports)?;
+        let Ok(board) = Board::with_room(alloc, ports) else {
+            drop(left);
+            return Err(NoMemory);
+        };
+        let Ok(listed) = vec![in alloc; 0u32; ports as usize] else {
+            drop(left);
+            drop(board);
+            return Err(NoMemory);
+        };
+        let Ok(ranks) = Ranks::with_room(alloc, flows, ports) else {
+            drop(left);
+            drop(board);
+            drop(listed);
+            return Err(NoMemory);
+        };
+        let Ok(heads) = Heads::with_room(alloc, flows, ports) else {
+            drop(left);
+            drop(board);
+            drop(listed);
+            drop(ranks);
+            return Err(NoMemory);
+        };
         Ok(Tables {
             ranks,
             left,

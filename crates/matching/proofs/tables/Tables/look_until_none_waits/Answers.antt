@@ -40,3 +40,31 @@ turn_to_first-requires c =
       top = s.top;
       settled = λ r low. absurd (omega (arith, low));
     }
+
+pub loop-port-init : goal.loop-port-init
+loop-port-init c =
+    let turned = c.turn_to_first.ensures in
+    record {
+      sound = turned.sound;
+      ranks = turned.ranks;
+      left = turned.left;
+      heads = turned.heads;
+      listed = turned.listed;
+      settled = turned.settled;
+    }
+
+pub loop-port-preserved : goal.loop-port-preserved
+loop-port-preserved c =
+    let before = c.loop-port.invariant in
+    let looked = c.look_at.ensures in
+    record {
+      sound = looked.sound;
+      ranks = looked.ranks ∙ before.ranks;
+      left = looked.left ∙ before.left;
+      heads = looked.heads ∙ before.heads;
+      listed = looked.listed ∙ before.listed;
+      settled = looked.settled;
+    }
+
+pub loop-port-smaller : goal.loop-port-smaller
+loop-port-smaller c = omega (arith, c.look_at.ensures.budget, c.in-Some.ensures.popped.one_less)
