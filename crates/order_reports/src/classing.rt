@@ -64,7 +64,9 @@ pub fn classes_text(
         cost,
         runs: Items::from_vec(schedule.into_runs()),
     };
-    let text = write_classes(alloc, &list)?;
+    let written = write_classes(alloc, &list);
+    drop(list);
+    let text = written?;
     Ok(text)
 }
 

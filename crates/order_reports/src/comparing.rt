@@ -38,14 +38,28 @@ pub fn comparison_text(
         (take reached bench.old.items) }
 {
     let names = names_of(alloc, bench)?;
-    let facts = Facts::of(alloc, table, weights)?;
-    let rows = compare(alloc, table, weights, &facts, bench)?;
-    let lines = lines_of(alloc, &names, &rows)?;
+    let Ok(facts) = Facts::of(alloc, table, weights) else {
+        drop(names);
+        return Err(NoMemory);
+    };
+    let _within = facts.coflows();
+    let compared = compare(alloc, table, weights, &facts, bench);
+    drop(facts);
+    let Ok(rows) = compared else {
+        drop(names);
+        return Err(NoMemory);
+    };
+    let listed = lines_of(alloc, &names, &rows);
+    drop(names);
+    drop(rows);
+    let lines = listed?;
     let comparison = Compare {
         bound,
         rows: Items::from_vec(lines),
     };
-    let text = write_compare(alloc, &comparison)?;
+    let written = write_compare(alloc, &comparison);
+    drop(comparison);
+    let text = written?;
     Ok(text)
 }
 
