@@ -1,13 +1,17 @@
-use Rattle.std.proofs.Common.{Err, ap, inl, inr, refl}
+use Rattle.std.proofs.Common.{Err, ap, inl, inr, refl, ℕ}
 use Rattle.command_words.specs.Jobs.Job.{online_job}
 use Rattle.command_words.specs.Words.{Said, said_with}
 use Rattle.command_files.proofs.ShelfFacts.{passed_on}
 use Rattle.command_files.specs.JobCauses.{HasFilesCause}
 use Rattle.command_files.proofs.JobFacts.{from_input}
-use Rattle.serving_commands.proofs.OnlineFacts.{online_cause, publishes_few, publishes_more}
+use Rattle.serving_commands.proofs.OnlineFacts.{online_cause, online_may_send, online_reads, publishes_few, publishes_more}
 use Rattle.command_files.specs.Shelves.{OfBoth}
 use Rattle.command_files.specs.Turns.{FilesInTurn}
-use Rattle.command_files.proofs.FileTurns.{input_in_turn}
+use Rattle.command_files.proofs.FileTurns.{done_in_turn, input_in_turn}
+use Rattle.command_files.proofs.CauseFacts.{input_out}
+use Rattle.command_files.proofs.InputTurns.{counts_none}
+use Rattle.serving_commands.specs.Online.{IsStatusOfOnline}
+use Rattle.serving_commands.proofs.WireFacts.{input_no_wire, past_none}
 use Rattle.serving_commands.proofs.onlining.run_online.Goals as goal
 
 pub returns-in_err-input-clause-cause : goal.returns-in_err-input-clause-cause
@@ -60,3 +64,46 @@ returns-in-Ok-clause-sent g c = inr (c.in_ok-input.input.table, c.in_ok-input.in
 
 pub returns-in-Err-clause-sent : goal.returns-in-Err-clause-sent
 returns-in-Err-clause-sent g c = inr (c.in_ok-input.input.table, c.in_ok-input.input.weights, c.in_ok-input.ensures.input, c.serve_run-ran.ensures.sent)
+
+pub returns-in_err-input-clause-read_out : goal.returns-in_err-input-clause-read_out
+returns-in_err-input-clause-read_out g c =
+    past_none c.from_residual.result c.in_err-input.field-0.0 _ c.from_residual.ensures.1
+    (input_no_wire (g.H.Shelf.faults c.args.shelf.now) (g.H.Shelf.faults c.read_input.new.shelf) (g.H.Shelf.told c.args.shelf.now) (g.H.Shelf.told c.read_input.new.shelf)
+    _ _ _ c.in_err-input.field-0.0 c.in_err-input.ensures.cause)
+
+pub returns-in_err-input-clause-good : goal.returns-in_err-input-clause-good
+returns-in_err-input-clause-good g c =
+    past_none c.from_residual.result c.in_err-input.field-0.0 _ c.from_residual.ensures.1
+    (input_no_wire (g.H.Shelf.faults c.args.shelf.now) (g.H.Shelf.faults c.read_input.new.shelf) (g.H.Shelf.told c.args.shelf.now) (g.H.Shelf.told c.read_input.new.shelf)
+    _ _ _ c.in_err-input.field-0.0 c.in_err-input.ensures.cause)
+
+pub returns-in-Ok-clause-read_out : goal.returns-in-Ok-clause-read_out
+returns-in-Ok-clause-read_out g c =
+    input_out (g.H.Shelf.told c.args.shelf.now) (g.H.Shelf.told c.read_input.new.shelf) (said_with (online_job c.args.trace.now) c.args.options) refl refl
+    c.in_ok-input.ensures.read_out c.read_input.ensures.no_report c.read_input.ensures.no_script
+
+pub returns-in-Ok-clause-good : goal.returns-in-Ok-clause-good
+returns-in-Ok-clause-good g c = c.in_ok-input.ensures.table
+
+pub returns-in-Err-clause-read_out : goal.returns-in-Err-clause-read_out
+returns-in-Err-clause-read_out g c = λ wire.
+    input_out (g.H.Shelf.told c.args.shelf.now) (g.H.Shelf.told c.read_input.new.shelf) (said_with (online_job c.args.trace.now) c.args.options) refl refl
+    c.in_ok-input.ensures.read_out c.read_input.ensures.no_report c.read_input.ensures.no_script
+
+pub returns-in-Err-clause-good : goal.returns-in-Err-clause-good
+returns-in-Err-clause-good g c = λ wire. c.in_ok-input.ensures.table
+
+pub returns-in-Err-clause-unsent : goal.returns-in-Err-clause-unsent
+returns-in-Err-clause-unsent g c = λ none. absurd (none (online_may_send c.in-Err.fault c.status_of.result c.status_of.ensures))
+
+pub returns-in-Err-clause-in_turn : goal.returns-in-Err-clause-in_turn
+returns-in-Err-clause-in_turn g c =
+    done_in_turn (g.H.Shelf.told c.args.shelf.now) (g.H.Shelf.told c.read_input.new.shelf) (said_with (online_job c.args.trace.now) c.args.options) c.status_of.result refl
+    (online_reads c.in-Err.fault c.status_of.result c.status_of.ensures) c.in_ok-input.ensures.table
+    (input_out (g.H.Shelf.told c.args.shelf.now) (g.H.Shelf.told c.read_input.new.shelf) (said_with (online_job c.args.trace.now) c.args.options) refl refl
+    c.in_ok-input.ensures.read_out c.read_input.ensures.no_report c.read_input.ensures.no_script)
+
+pub returns-in-Err-clause-counts : goal.returns-in-Err-clause-counts
+returns-in-Err-clause-counts g c =
+    counts_none {T = ℕ} (g.H.Shelf.faults c.args.shelf.now) (g.H.Shelf.faults c.read_input.new.shelf) (Err c.status_of.result) (IsStatusOfOnline c.in-Err.fault)
+    c.status_of.ensures (online_reads c.in-Err.fault) c.in_ok-input.ensures.counts

@@ -1,7 +1,11 @@
-use Rattle.std.proofs.Common.{inl, inr, ap, refl, Err}
+use Rattle.std.proofs.Common.{◌≡◌, inl, inr, ap, refl, subst, sym, Err}
 use Rattle.command_words.specs.Jobs.Job.{plan_job}
 use Rattle.command_words.specs.Words.{Said, said_with}
+use Rattle.command_files.specs.declared.status.Status.{Status}
+use Rattle.command_files.specs.declared.status.Status.TheVariants.{NoMemory}
+use Rattle.command_files.specs.Ends.{IsReadFault}
 use Rattle.command_files.specs.JobCauses.{HasFilesCause}
+use Rattle.serving_commands.specs.Serving.{MayHaveSent}
 use Rattle.command_files.specs.WireCauses.{IsStatusOfPlan}
 use Rattle.command_files.specs.Shelves.{OfBoth}
 use Rattle.command_files.specs.Turns.{FilesInTurn}
@@ -95,3 +99,39 @@ returns-clause-outcome g c = (
     text_is = c.in_ok-text.ensures.text;
   },
 )
+
+pub returns-in_err-text-clause-read_out : goal.returns-in_err-text-clause-read_out
+returns-in_err-text-clause-read_out g c =
+    past_anyhow c.from_residual-in_err-text.result _
+    (input_out (g.H.Shelf.told c.args.shelf.now) (g.H.Shelf.told c.read_input.new.shelf) (said_with (plan_job c.args.trace.now) c.args.options) refl refl
+    c.in_ok-input.ensures.read_out c.read_input.ensures.no_report c.read_input.ensures.no_script)
+
+pub returns-in_err-text-clause-good : goal.returns-in_err-text-clause-good
+returns-in_err-text-clause-good g c = past_anyhow c.from_residual-in_err-text.result _ c.in_ok-input.ensures.table
+
+pub returns-in_err-text-clause-unsent : goal.returns-in_err-text-clause-unsent
+returns-in_err-text-clause-unsent g c =
+    passed_as c.from_residual-in_err-text.result (λ (s : Status). s ≡ NoMemory) _ c.from_residual-in_err-text.ensures.1
+    (λ s is none. absurd (none (subst MayHaveSent (sym is) tt)))
+
+pub returns-in_err-text-clause-in_turn : goal.returns-in_err-text-clause-in_turn
+returns-in_err-text-clause-in_turn g c =
+    let old = g.H.Shelf.told c.args.shelf.now in
+    let new = g.H.Shelf.told c.read_input.new.shelf in
+    let said : Said = said_with (plan_job c.args.trace.now) c.args.options in
+    passed_as c.from_residual-in_err-text.result (λ (s : Status). s ≡ NoMemory) (λ status. OfBoth old new (FilesInTurn said status)) c.from_residual-in_err-text.ensures.1
+    (λ s is. done_in_turn old new said s refl (λ read. subst IsReadFault is read) c.in_ok-input.ensures.table
+    (input_out old new said refl refl c.in_ok-input.ensures.read_out c.read_input.ensures.no_report c.read_input.ensures.no_script))
+
+pub returns-in_err-text-clause-counts : goal.returns-in_err-text-clause-counts
+returns-in_err-text-clause-counts g c =
+    counts_none (g.H.Shelf.faults c.args.shelf.now) (g.H.Shelf.faults c.read_input.new.shelf) c.from_residual-in_err-text.result (λ (s : Status). s ≡ NoMemory)
+    c.from_residual-in_err-text.ensures.1 (λ s is read. subst IsReadFault is read) c.in_ok-input.ensures.counts
+
+pub returns-clause-read_out : goal.returns-clause-read_out
+returns-clause-read_out g c =
+    input_out (g.H.Shelf.told c.args.shelf.now) (g.H.Shelf.told c.read_input.new.shelf) (said_with (plan_job c.args.trace.now) c.args.options) refl refl
+    c.in_ok-input.ensures.read_out c.read_input.ensures.no_report c.read_input.ensures.no_script
+
+pub returns-clause-good : goal.returns-clause-good
+returns-clause-good g c = c.in_ok-input.ensures.table
