@@ -56,8 +56,15 @@ pub(crate) fn begin(
 {
     let _within = table.coflows();
     let course = course_of(alloc, arrivals, every)?;
-    let orders = no_orders(alloc, table)?;
-    let progress = no_progress(alloc, table)?;
+    let Ok(orders) = no_orders(alloc, table) else {
+        drop(course);
+        return Err(NoMemory);
+    };
+    let Ok(progress) = no_progress(alloc, table) else {
+        drop(course);
+        drop(orders);
+        return Err(NoMemory);
+    };
     let Ok((hall, runner)) = hall_of(alloc, table, weights) else {
         drop(course);
         drop(orders);
@@ -137,6 +144,9 @@ fn no_orders(alloc: Global, table: &Table) -> Result<Orders, NoMemory>
     ensures ports { IfOk result (λ orders. orders.loads.ports ≡ table.now.ports) }
 {
     let places = Vec::with_capacity(alloc, table.coflows() as usize)?;
-    let loads = Loads::of(alloc, table.flows(), table.coflows(), table.ports())?;
+    let Ok(loads) = Loads::of(alloc, table.flows(), table.coflows(), table.ports()) else {
+        drop(places);
+        return Err(NoMemory);
+    };
     Ok(Orders { places, loads })
 }

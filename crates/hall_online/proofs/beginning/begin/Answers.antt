@@ -7,7 +7,7 @@ course_of-requires-clause-coflows c = omega (arith, c.requires.arrival_each, c.c
 
 pub returns-clause-under_way : goal.returns-clause-under_way
 returns-clause-under_way c =
-    begins_so c.in-Ok.hall c.in-Ok.runner c.args.table.now c.args.weights.now c.args.arrivals.now c.args.every c.in_ok-course.course c.in_ok-progress.progress
-    c.in-Ok.ensures.opening c.in-Ok.ensures.ready c.in-Ok.ensures.none c.requires.arrival_each c.requires.arrival_range c.requires.epoch_some
-    c.requires.epoch_fits c.in_ok-course.ensures c.in_ok-progress.ensures.time c.in_ok-progress.ensures.left c.in_ok-progress.ensures.each c.in_ok-progress.ensures.owed
-    c.in_ok-progress.ensures.present c.in_ok-progress.ensures.epochs c.in_ok-progress.ensures.schedule
+    begins_so c.in-Ok-hall_of.hall c.in-Ok-hall_of.runner c.args.table.now c.args.weights.now c.args.arrivals.now c.args.every c.in_ok-course.course c.in-Ok-no_progress.progress
+    c.in-Ok-hall_of.ensures.opening c.in-Ok-hall_of.ensures.ready c.in-Ok-hall_of.ensures.none c.requires.arrival_each c.requires.arrival_range c.requires.epoch_some
+    c.requires.epoch_fits c.in_ok-course.ensures c.in-Ok-no_progress.ensures.time c.in-Ok-no_progress.ensures.left c.in-Ok-no_progress.ensures.each c.in-Ok-no_progress.ensures.owed
+    c.in-Ok-no_progress.ensures.present c.in-Ok-no_progress.ensures.epochs c.in-Ok-no_progress.ensures.schedule
