@@ -35,3 +35,11 @@ pub returns-clause-ending : goal.returns-clause-ending
 returns-clause-ending g c =
     all_done c.args.hall.now c.args.script.now c.args.most c.loop-done.done c.loop-done.runner c.loop-done.sessions c.loop-done.pulls.items c.loop-done.invariant.going
     (omega (arith, c.loop-done.auto.done-end, c.loop-done-test.false, ap (λ (l : List Round). length l) c.as_slice-done-end.ensures))
+
+pub returns-in_err-play_round-clause-filled : goal.returns-in_err-play_round-clause-filled
+returns-in_err-play_round-clause-filled g c =
+    let (_, is, same) = err_from_is_err_and c.from_residual.result c.from_residual.ensures.1 in
+    rw (is, same) c.in_err-play_round.ensures.filled
+
+pub returns-clause-wires : goal.returns-clause-wires
+returns-clause-wires g c = c.loop-done.invariant.wires
