@@ -43,7 +43,9 @@ pub(crate) fn table_of(rt: &impl Abort, alloc: Global, trace: &str, unit: u64) -
 
 /// Stops where another text is told.
 pub(crate) fn is_told(rt: &impl Abort, have: &str, want: &str) {
-    assert_eq!(rt; have, want);
+    if have != want {
+        panic!(rt; "{have} is told in place of {want}");
+    }
 }
 
 /// Tests what calls require of weights.

@@ -45,6 +45,11 @@ fn shorter_first(rt: &impl Abort, alloc: Global, idle: bool) -> Schedule {
     schedule
 }
 
+/// The text of a cost, of whether a schedule is patient, and of completions.
+fn text_of(rt: &impl Abort, alloc: Global, cost: u128, patient: bool, ends: &[u64]) -> String {
+    had(rt, format!(in alloc; "{cost} {patient} {ends:?}"))
+}
+
 /// The cost of a valid schedule, whether it is patient for the order, and its completions.
 fn told(
     rt: &impl Abort,
@@ -68,9 +73,9 @@ fn told(
     let cost = cost(flows, weights, schedule);
     let patient = had(rt, is_patient(alloc, flows, order, schedule));
     let ends = had(rt, completions(alloc, flows, coflows, schedule));
-    let text = format!(in alloc; "{cost} {patient} {:?}", ends.as_slice());
+    let text = text_of(rt, alloc, cost, patient, ends.as_slice());
     drop(ends);
-    had(rt, text)
+    text
 }
 
 /// Tests the same of a schedule of a trace.
@@ -83,10 +88,10 @@ fn expect(
     schedule: &Schedule,
     want: &str,
 ) {
-    let table = table_of(rt, alloc, trace, 1);
-    assert!(rt; weights.len() == table.coflows() as usize);
     let fit = are_weights(weights);
     assert!(rt; fit);
+    let table = table_of(rt, alloc, trace, 1);
+    assert!(rt; weights.len() == table.coflows() as usize);
     let coflows = table.coflows();
     let have = told(rt, alloc, table.flows(), coflows, weights, order, schedule);
     drop(table);
@@ -96,29 +101,48 @@ fn expect(
 
 /// Two runs of the same flows are one.
 fn are_joined(rt: &impl Abort, runs: &[Run]) {
-    assert_eq!(rt; runs.len(), 6);
-    assert_eq!(rt; runs[2].length, 2);
+    assert!(rt; runs.len() == 6);
+    assert!(rt; runs[2].length == 2);
+}
+
+/// An order, and what is told of the schedule of three coflows.
+const ORDERS: &[(&[u32], &str)] = &[
+    (&[0, 2, 1], "16 true [1, 8, 7]"),
+    (&[0, 1, 2], "16 false [1, 8, 7]"),
+];
+
+/// The weights and an order of two coflows, whether the first slot is idle, and what is told of the schedule that serves the shorter one first.
+type Shorter = (&'static [u64], &'static [u32], bool, &'static str);
+
+const SHORTER: &[Shorter] = &[
+    (&[1, 1], &[1, 0], false, "5 true [4, 1]"),
+    (&[1, 1], &[0, 1], false, "5 false [4, 1]"),
+    (&[5, 1], &[1, 0], false, "21 true [4, 1]"),
+    (&[1, 1], &[1, 0], true, "7 false [5, 2]"),
+];
+
+/// Tests the schedule of three coflows.
+fn try_worked(rt: &impl Abort, alloc: Global) {
+    let schedule = worked(rt, alloc);
+    are_joined(rt, schedule.runs());
+    for (order, want) in ORDERS {
+        expect(rt, alloc, THREE, &[1, 1, 1], order, &schedule, want);
+    }
+    drop(schedule);
+}
+
+/// Tests a row of two coflows.
+fn try_shorter(rt: &impl Abort, alloc: Global, row: &Shorter) {
+    let (weights, order, idle, want) = *row;
+    let schedule = shorter_first(rt, alloc, idle);
+    expect(rt, alloc, TWO, weights, order, &schedule, want);
+    drop(schedule);
 }
 
 #[test]
 fn cost_patience_and_completions(rt: HostRuntime) {
-    let schedule = worked(&rt, rt.alloc());
-    are_joined(&rt, schedule.runs());
-    for (order, want) in [
-        ([0, 2, 1], "16 true [1, 8, 7]"),
-        ([0, 1, 2], "16 false [1, 8, 7]"),
-    ] {
-        expect(&rt, rt.alloc(), THREE, &[1, 1, 1], &order, &schedule, want);
-    }
-    drop(schedule);
-    for (weights, order, idle, want) in [
-        ([1, 1], [1, 0], false, "5 true [4, 1]"),
-        ([1, 1], [0, 1], false, "5 false [4, 1]"),
-        ([5, 1], [1, 0], false, "21 true [4, 1]"),
-        ([1, 1], [1, 0], true, "7 false [5, 2]"),
-    ] {
-        let schedule = shorter_first(&rt, rt.alloc(), idle);
-        expect(&rt, rt.alloc(), TWO, &weights, &order, &schedule, want);
-        drop(schedule);
+    try_worked(&rt, rt.alloc());
+    for row in SHORTER {
+        try_shorter(&rt, rt.alloc(), row);
     }
 }

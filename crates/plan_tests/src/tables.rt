@@ -27,21 +27,24 @@ fn shown(rt: &impl Abort, alloc: Global, table: &Table) -> String {
     let mut text = String::new(alloc);
     for coflow in 0..table.coflows() {
         let (id, arrival) = (table.id(coflow), table.arrival(coflow));
-        had(rt, write!(text, "{id} {arrival}"));
-        tell_flows(rt, &mut text, table.of_coflow(coflow));
+        tell_coflow(rt, &mut text, id, arrival, table.of_coflow(coflow));
     }
     text
 }
 
-/// Adds flows with their ports and units.
-fn tell_flows(rt: &impl Abort, text: &mut String, flows: &[Flow]) {
+/// Adds a coflow.
+fn tell_coflow(rt: &impl Abort, text: &mut String, id: u32, arrival: u32, flows: &[Flow]) {
+    had(rt, write!(text, "{id} {arrival}"));
     for flow in flows {
-        had(
-            rt,
-            write!(text, ", {} {} {}", flow.ingress, flow.egress, flow.units),
-        );
+        tell_flow(rt, text, flow);
     }
     had(rt, text.push_str("; "));
+}
+
+/// Adds a flow with its ports and units.
+fn tell_flow(rt: &impl Abort, text: &mut String, flow: &Flow) {
+    let told = write!(text, ", {} {} {}", flow.ingress, flow.egress, flow.units);
+    had(rt, told);
 }
 
 /// Tests what is told of a trace.
@@ -51,82 +54,128 @@ fn expect(rt: &impl Abort, alloc: Global, trace: &str, unit: u64, want: &str) {
     drop(have);
 }
 
-/// The reducers of a coflow, how many megabytes a unit has, and what is told.
-const UNITS: &[(&str, u64, &str)] = &[
-    ("1:0.000001", 1, "7 0, 0 1 1; "),
-    ("1:1", 1, "7 0, 0 1 1; "),
-    ("1:1.000001", 1, "7 0, 0 1 2; "),
-    ("1:3", 2, "7 0, 0 1 2; "),
-    ("1:1048576", 1_048_576, "7 0, 0 1 1; "),
-    ("1:1048576.000001", 1_048_576, "7 0, 0 1 2; "),
-    ("1:1099511627776", 1, "7 0, 0 1 1099511627776; "),
-    ("1:1099511627776 0:1", 2, "7 0, 0 0 1, 0 1 549755813888; "),
-    (
-        "1:1099511627776 0:1",
-        1,
-        "Units of 1099511627777 are too many",
-    ),
-];
+/// A trace, how many megabytes a unit has, and what is told.
+type Row = (&'static str, u64, &'static str);
+
+/// Tests the rows.
+fn expect_all(rt: &impl Abort, alloc: Global, rows: &[Row]) {
+    for (trace, unit, want) in rows {
+        expect(rt, alloc, trace, *unit, want);
+    }
+}
 
 /// Units are rounded up, and have a limit.
 #[test]
 fn units_of_megabytes(rt: HostRuntime) {
-    for (reducers, unit, want) in UNITS {
-        let count = reducers.split(' ').count();
-        let trace = format!(in rt.alloc(); "1 1\n7 0 1 0 {count} {reducers}\n");
-        let trace = had(&rt, trace);
-        expect(&rt, rt.alloc(), &trace, *unit, want);
-        drop(trace);
-    }
+    const ROWS: &[Row] = &[
+        ("1 1\n7 0 1 0 1 1:0.000001\n", 1, "7 0, 0 1 1; "),
+        ("1 1\n7 0 1 0 1 1:1\n", 1, "7 0, 0 1 1; "),
+        ("1 1\n7 0 1 0 1 1:1.000001\n", 1, "7 0, 0 1 2; "),
+        ("1 1\n7 0 1 0 1 1:3\n", 2, "7 0, 0 1 2; "),
+        ("1 1\n7 0 1 0 1 1:1048576\n", 1_048_576, "7 0, 0 1 1; "),
+        (
+            "1 1\n7 0 1 0 1 1:1048576.000001\n",
+            1_048_576,
+            "7 0, 0 1 2; ",
+        ),
+        (
+            "1 1\n7 0 1 0 1 1:1099511627776\n",
+            1,
+            "7 0, 0 1 1099511627776; ",
+        ),
+        (
+            "1 1\n7 0 1 0 2 1:1099511627776 0:1\n",
+            2,
+            "7 0, 0 0 1, 0 1 549755813888; ",
+        ),
+        (
+            "1 1\n7 0 1 0 2 1:1099511627776 0:1\n",
+            1,
+            "Units of 1099511627777 are too many",
+        ),
+    ];
+    expect_all(&rt, rt.alloc(), ROWS);
 }
 
-/// The mappers and the reducers of a coflow, and its flows: the first mappers send what is left over, a location that stands again sends again, each reducer is shared by
-/// itself, what goes to one location is one flow, and where nothing is sent there is no flow.
-const SHARES: &str = "2 0 1 1 1:1 => , 0 1 1
-2 1 0 1 1:1 => , 1 1 1
-1 1 1 0:1 => , 1 0 1
-2 0 0 1 1:4 => , 0 1 4
-3 1 0 1 1 0:2 => , 0 0 1, 1 0 1
-2 0 1 2 0:1 0:1 => , 0 0 2
-5 0 1 0 1 0 3 0:1 0:3 0:7 => , 0 0 7, 1 0 4
-3 1 0 1 4 1:1 1:2 1:5 1:2 => , 0 1 4, 1 1 6
-1 0 1 1:0 => 
-1 1 0 => ";
-
-/// Tests the flows of a coflow that stands before and behind one without units.
-fn try_share(rt: &impl Abort, alloc: Global, line: &str, want: &str) {
-    let trace = format!(in alloc; "1 3\n3 5 {line}\n9 0 1 1 0\n4 8 {line}\n");
-    let trace = had(rt, trace);
-    let want = had(rt, format!(in alloc; "3 5{want}; 9 0; 4 8{want}; "));
-    expect(rt, alloc, &trace, 1, &want);
-    drop(trace);
-    drop(want);
-}
-
+/// The first mappers send what is left over, a location that stands again sends again, each reducer is shared by itself, what goes to one location is one flow, and where
+/// nothing is sent there is no flow. In all rows but the last one a coflow stands before and behind one without units.
 #[test]
 fn mappers_share_units(rt: HostRuntime) {
-    for row in SHARES.split('\n') {
-        let Some((line, want)) = row.split_once(" => ") else {
-            panic!(&rt; "a row without an arrow");
-        };
-        try_share(&rt, rt.alloc(), line, want);
-    }
-    let want = "1 0, 20 93 1; 2 120, 7 7 2, 7 93 5; 3 250, 20 38 3, 20 93 1, 64 38 2, 110 38 2; ";
-    expect(&rt, rt.alloc(), THREE, 1, want);
+    const ROWS: &[Row] = &[
+        (
+            "1 3\n3 5 2 0 1 1 1:1\n9 0 1 1 0\n4 8 2 0 1 1 1:1\n",
+            1,
+            "3 5, 0 1 1; 9 0; 4 8, 0 1 1; ",
+        ),
+        (
+            "1 3\n3 5 2 1 0 1 1:1\n9 0 1 1 0\n4 8 2 1 0 1 1:1\n",
+            1,
+            "3 5, 1 1 1; 9 0; 4 8, 1 1 1; ",
+        ),
+        (
+            "1 3\n3 5 1 1 1 0:1\n9 0 1 1 0\n4 8 1 1 1 0:1\n",
+            1,
+            "3 5, 1 0 1; 9 0; 4 8, 1 0 1; ",
+        ),
+        (
+            "1 3\n3 5 2 0 0 1 1:4\n9 0 1 1 0\n4 8 2 0 0 1 1:4\n",
+            1,
+            "3 5, 0 1 4; 9 0; 4 8, 0 1 4; ",
+        ),
+        (
+            "1 3\n3 5 3 1 0 1 1 0:2\n9 0 1 1 0\n4 8 3 1 0 1 1 0:2\n",
+            1,
+            "3 5, 0 0 1, 1 0 1; 9 0; 4 8, 0 0 1, 1 0 1; ",
+        ),
+        (
+            "1 3\n3 5 2 0 1 2 0:1 0:1\n9 0 1 1 0\n4 8 2 0 1 2 0:1 0:1\n",
+            1,
+            "3 5, 0 0 2; 9 0; 4 8, 0 0 2; ",
+        ),
+        (
+            "1 3\n3 5 5 0 1 0 1 0 3 0:1 0:3 0:7\n9 0 1 1 0\n4 8 5 0 1 0 1 0 3 0:1 0:3 0:7\n",
+            1,
+            "3 5, 0 0 7, 1 0 4; 9 0; 4 8, 0 0 7, 1 0 4; ",
+        ),
+        (
+            "1 3\n3 5 3 1 0 1 4 1:1 1:2 1:5 1:2\n9 0 1 1 0\n4 8 3 1 0 1 4 1:1 1:2 1:5 1:2\n",
+            1,
+            "3 5, 0 1 4, 1 1 6; 9 0; 4 8, 0 1 4, 1 1 6; ",
+        ),
+        (
+            "1 3\n3 5 1 0 1 1:0\n9 0 1 1 0\n4 8 1 0 1 1:0\n",
+            1,
+            "3 5; 9 0; 4 8; ",
+        ),
+        (
+            "1 3\n3 5 1 1 0\n9 0 1 1 0\n4 8 1 1 0\n",
+            1,
+            "3 5; 9 0; 4 8; ",
+        ),
+        (
+            THREE,
+            1,
+            "1 0, 20 93 1; 2 120, 7 7 2, 7 93 5; 3 250, 20 38 3, 20 93 1, 64 38 2, 110 38 2; ",
+        ),
+    ];
+    expect_all(&rt, rt.alloc(), ROWS);
 }
 
 /// A trace in which from each of 1024 locations goes one unit to each of them, and what is said of a second coflow.
 fn crowded(rt: &impl Abort, alloc: Global, second: &str) -> String {
-    let mut trace = had(rt, String::from_str(alloc, "1024 2\n1 0 1024"));
-    for location in 0..1024 {
-        had(rt, write!(trace, " {location}"));
-    }
-    had(rt, trace.push_str(" 1024"));
-    for location in 0..1024 {
-        had(rt, write!(trace, " {location}:1024"));
-    }
+    let mut trace = String::new(alloc);
+    crowd(rt, &mut trace, "1024 2\n1 0 1024", "");
+    crowd(rt, &mut trace, " 1024", ":1024");
     had(rt, write!(trace, "\n{second}\n"));
     trace
+}
+
+/// Adds a text, and 1024 locations, each with what follows it.
+fn crowd(rt: &impl Abort, trace: &mut String, before: &str, behind: &str) {
+    had(rt, trace.push_str(before));
+    for location in 0..1024 {
+        had(rt, write!(trace, " {location}{behind}"));
+    }
 }
 
 /// Tests as many flows as there may be.
@@ -138,7 +187,7 @@ fn are_crowded(rt: &impl Abort, flows: &[Flow]) {
         egress: 0,
         units: 1,
     };
-    assert_eq!(rt; flows[1024], second);
+    assert!(rt; flows[1024] == second);
 }
 
 /// As many flows as there may be, where the second coflow has none, and one too many.
