@@ -1,17 +1,19 @@
 //! Halls from which a session is missing.
-ghost use Rattle.std.specs.Prelude.{◌≡◌, All, length};
+ghost use Rattle.std.specs.Prelude.{◌≡◌, All};
 ghost use Rattle.client_session.specs.Models.{IsDriverOf, IsSessionOf};
 
-use client_session::{CloseFault, Driver, Hall, Session};
+use crate::games::entries_of;
+use client_session::{CloseFault, Hall, Session};
 use small_halls::{SmallHall, SmallSize, let_session_go};
 use std::alloc::Global;
 use std::process::Abort;
 use std::test::*;
 
-/// A hall of one session, of one turn.
-fn hall_of_one(rt: &impl Abort, alloc: Global) -> SmallHall
-    ensures driver { IsDriverOf result.hall result.driver × (result.driver.made ≡ 1) }
-    ensures sessions { All (IsSessionOf result.hall) result.sessions.items }
+/// A hall that has made two sessions of one turn each: with it stands the first one, and behind it the last one.
+fn hall_of_two(rt: &impl Abort, alloc: Global) -> (SmallHall, Session)
+    ensures driver { IsDriverOf result.0.hall result.0.driver }
+    ensures sessions { All (IsSessionOf result.0.hall) result.0.sessions.items }
+    ensures last { IsSessionOf result.0.hall result.1 }
 {
     let size = SmallSize {
         limit: 100,
@@ -19,22 +21,18 @@ fn hall_of_one(rt: &impl Abort, alloc: Global) -> SmallHall
         sessions: 1,
         calls: 1,
     };
-    let Some(small) = SmallHall::of_two(alloc, size) else {
+    let Some(mut small) = SmallHall::of_two(alloc, size) else {
         panic!(rt; "no memory");
     };
-    small
+    let Ok(last) = small.hall.session(alloc, &mut small.driver, 1) else {
+        panic!(rt; "no memory");
+    };
+    (small, last)
 }
 
-/// The second session of a hall, of one turn.
-fn second(rt: &impl Abort, alloc: Global, hall: &Hall, driver: &mut Driver) -> Session
-    requires driver { IsDriverOf hall.now driver.old × (driver.old.made ≡ 1) }
-    ensures driver { IsDriverOf hall.entry.now driver.new }
-    ensures session { IsSessionOf hall.entry.now result }
-{
-    let Ok(session) = hall.session(alloc, driver, 1) else {
-        panic!(rt; "no memory");
-    };
-    session
+/// Stops where not one of two sessions is given.
+fn is_one_of_two(rt: &impl Abort, made: u32, given: u32) {
+    assert!(rt; made == 2 && given == 1);
 }
 
 /// A close of a hall of two sessions, of which one is given. All is handed back.
@@ -60,7 +58,7 @@ fn refused(rt: &impl Abort, alloc: Global, small: SmallHall) -> SmallHall
                 sessions,
             },
         ) => {
-            assert!(rt; made == 2 && given == 1);
+            is_one_of_two(rt, made, given);
             SmallHall {
                 hall,
                 driver,
@@ -75,10 +73,22 @@ fn refused(rt: &impl Abort, alloc: Global, small: SmallHall) -> SmallHall
 #[test]
 fn a_hall_stays_open_where_a_session_was_dropped(rt: HostRuntime) {
     let alloc = rt.alloc();
-    let mut small = hall_of_one(&rt, alloc);
-    let_session_go(second(&rt, alloc, &small.hall, &mut small.driver));
+    let (small, last) = hall_of_two(&rt, alloc);
+    let_session_go(last);
     let small = refused(&rt, alloc, small);
     refused(&rt, alloc, small).let_go();
+}
+
+/// Gives a session back.
+fn give(rt: &impl Abort, _hall: &Hall, sessions: &mut Vec<Session>, last: Session)
+    requires sessions { All (IsSessionOf _hall.now) sessions.old.items }
+    requires last { IsSessionOf _hall.now last }
+    ensures sessions { All (IsSessionOf _hall.entry.now) sessions.new.items }
+{
+    let Ok(()) = sessions.reserve(1) else {
+        panic!(rt; "no memory");
+    };
+    sessions.push_reserved(last);
 }
 
 /// Closes a hall of two sessions, of which the last one is kept back at first: how many entries its journal has.
@@ -88,20 +98,13 @@ fn closed_later(rt: &impl Abort, alloc: Global, small: SmallHall, last: Session)
     requires last { IsSessionOf small.hall last }
 {
     let mut open = refused(rt, alloc, small);
-    let Ok(()) = open.sessions.reserve(1) else {
-        panic!(rt; "no memory");
-    };
-    open.sessions.push_reserved(last);
-    let Some(journal) = open.journal(alloc) else {
-        panic!(rt; "no memory");
-    };
-    journal.len()
+    give(rt, &open.hall, &mut open.sessions, last);
+    entries_of(rt, alloc, open)
 }
 
 #[test]
 fn a_hall_closes_once_all_sessions_are_given(rt: HostRuntime) {
-    let alloc = rt.alloc();
-    let mut small = hall_of_one(&rt, alloc);
-    let last = second(&rt, alloc, &small.hall, &mut small.driver);
-    assert!(rt; closed_later(&rt, alloc, small, last) == 0);
+    let (small, last) = hall_of_two(&rt, rt.alloc());
+    let entries = closed_later(&rt, rt.alloc(), small, last);
+    assert!(rt; entries == 0);
 }

@@ -69,6 +69,14 @@ pub(crate) fn played<R: Wait + Abort>(
         &mut small.sessions,
         game,
     );
+    entries_of(rt, alloc, small)
+}
+
+/// Closes a hall: how many entries its journal has.
+pub(crate) fn entries_of(rt: &impl Abort, alloc: Global, small: SmallHall) -> usize
+    requires driver { IsDriverOf small.hall small.driver }
+    requires sessions { All (IsSessionOf small.hall) small.sessions.items }
+{
     let Some(journal) = small.journal(alloc) else {
         panic!(rt; "no memory");
     };

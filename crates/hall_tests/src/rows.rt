@@ -47,7 +47,12 @@ fn tell_seen(rt: &impl Abort, text: &mut String, sessions: &[Session], at: usize
         panic!(rt; "no such session");
     };
     let (position, version) = (session.seen_position(), session.seen_version());
-    let Ok(()) = write!(text, ", {position} {version} {}", session.calls_left()) else {
+    tell_numbers(rt, text, position, version, session.calls_left());
+}
+
+/// Adds a position, a version, and how many calls are left.
+fn tell_numbers(rt: &impl Abort, text: &mut String, position: u32, version: u32, left: u32) {
+    let Ok(()) = write!(text, ", {position} {version} {left}") else {
         panic!(rt; "no memory");
     };
 }
@@ -145,7 +150,9 @@ pub(crate) fn play_rows<R: Wait + Abort>(
 
 /// Stops where another answer is told.
 fn is_told(rt: &impl Abort, have: &str, want: &str) {
-    assert_eq!(rt; have, want);
+    if have != want {
+        panic!(rt; "{have} is told in place of {want}");
+    }
 }
 
 /// Makes the calls of the rows in a new hall of two sessions, and closes it.
