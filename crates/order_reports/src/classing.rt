@@ -64,9 +64,7 @@ pub fn classes_text(
         cost,
         runs: Items::from_vec(schedule.into_runs()),
     };
-    let written = write_classes(alloc, &list);
-    drop(list);
-    let text = written?;
+    let text = write_classes(alloc, &list)?;
     Ok(text)
 }
 

@@ -25,4 +25,5 @@ returns c =
     let start = c.args.port * ports in
     let row = rw c.deref.ensures.value at c.least_open-least-2.ensures in
     let both = rw c.deref-2.ensures.value at row in
-    looked_second ports c.args.port c.least_open-least-2.result (start + ports - start) heads at c.requires.port c.requires.size (omega arith) (omega (arith, c.if-port-ranks.false)) both
+    looked_second ports c.args.port c.least_open-least-2.result (start + ports - start) heads at c.requires.port c.requires.size (omega arith)
+    (omega (arith, c.if-port-ranks.false)) both
