@@ -1,5 +1,5 @@
 -- Digits that are read one by one.
-use Rattle.std.proofs.Common.{◌≡◌, ◌⊎◌, inl, inr, ℕ, zero, suc, ◌+◌, ◌-◌, ◌*◌, ◌/◌, ◌%◌, ◌<◌, ◌≤◌, ◌^◌, List, [], ◌∷◌, ◌++◌, true, length}
+use Rattle.std.proofs.Common.{◌≡◌, ◌⊎◌, inl, inr, ℕ, zero, suc, ◌+◌, ◌-◌, ◌*◌, ◌/◌, ◌%◌, ◌<◌, ◌≤◌, ◌^◌, List, [], ◌∷◌, ◌++◌, true, false, length}
 use Rattle.std.proofs.Common.{append-nil, append_assoc, length-append, replicate, take, drop, get_or, refl, sym, ap, ◌∙◌, arith}
 use Rattle.std.proofs.lemmas.Bool.Decides.{nat_tests}
 use Rattle.std.proofs.lemmas.Fmt.{decimal-digits_value, decimal_digit, decimal_is_IsNumeral_wide, decimal_nonempty, decimal_step, first_decimal, length-decimal-le}
@@ -157,3 +157,13 @@ pushed_there text filled buffer n at end count e grown long all start behind fro
 
 pub is_short : (n : ℕ) → n < 2 ^ 32 → length (decimal n) ≤ 10
 is_short n small = length-decimal-le 10 n (omega arith) (omega arith) (omega arith)
+
+-- a number ends at a byte that is no digit
+pub stops_there : (bytes : List ℕ) (count : ℕ) → count < length bytes → is_ascii_digit (get_or bytes count 0) ≡ false → Stops (drop count bytes)
+stops_there [] count lt e = absurd (omega arith)
+stops_there (b ∷ bs) zero lt e = e
+stops_there (b ∷ bs) (suc k) lt e = stops_there bs k (omega arith) e
+
+-- and at the end
+pub stops_at_end : (bytes : List ℕ) (count : ℕ) → length bytes ≤ count → Stops (drop count bytes)
+stops_at_end bytes count le = rw (drop_all count bytes le) tt

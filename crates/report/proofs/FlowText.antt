@@ -11,7 +11,7 @@ use Rattle.std.proofs.lemmas.List.{get_or_append_left, get_or_push}
 use Rattle.std.proofs.lemmas.List.Elements.{All-push}
 use Rattle.coflow_units.specs.declared.plan.Run.{Run}
 use Rattle.report.specs.Text.{run_line, spaced}
-use Rattle.report.specs.Readers.{AreFlows, IsRun, Stops, Rises}
+use Rattle.report.specs.Readers.{AreFlows, IsFlowsOf, IsRun, Stops, Rises}
 use Rattle.report.proofs.NumberText.{spaced_unique}
 
 push_rises : (flows : List ℕ) (flow last : ℕ) → IsStrictlyIncreasing flows → 0 < length flows → get_or flows (length flows - 1) 0 ≡ last → last < flow →
@@ -139,3 +139,7 @@ length_is run line rest r n h f e small g stops =
 pub same_flow : (rest flows ys behind : List ℕ) (flow : ℕ) (n : NextFlow rest flows ys) → flow < 2 ^ 128 → rest ≡ spaced flow ++ behind → Stops behind → flow ≡ n.flow
 same_flow rest flows ys behind flow n small e stops =
     (spaced_unique behind (flat_map spaced n.others) flow n.flow small (omega (arith, n.small)) stops (stops_flows n.others) (sym e ∙ n.here)).0
+
+-- where nothing is left, the flows are those of the bytes
+pub flows_read : (bytes rest flows : List ℕ) → FlowsSoFar bytes rest flows → rest ≡ [] → IsFlowsOf bytes (Some flows)
+flows_read bytes rest flows far none = (far.flows_are, far.text ∙ (ap (λ x. flat_map spaced flows ++ x) none ∙ append-nil (flat_map spaced flows)))

@@ -41,6 +41,15 @@ regroup a b c d e f r = simp append_assoc
 pub charge_parts : (p : PlaceLine) (rest : List ℕ) → charge_words p ++ rest ≡ spaced p.id ++ after_id p rest
 charge_parts p rest = regroup (spaced p.id) (codes " ") (side_word p.port.side) (spaced p.port.number) (spaced p.y) (spaced p.done) rest
 
+-- the words of a place that was read part by part
+pub charge_found : (p : PlaceLine) (bytes r1 r2 r3 r4 rest : List ℕ) → bytes ≡ spaced p.id ++ r1 → r1 ≡ codes " " ++ side_word p.port.side ++ r2 →
+    r2 ≡ spaced p.port.number ++ r3 → r3 ≡ spaced p.y ++ r4 → r4 ≡ spaced p.done ++ rest → bytes ≡ charge_words p ++ rest
+charge_found p bytes r1 r2 r3 r4 rest a b d e f =
+    let from_y = e ∙ ap (λ x. spaced p.y ++ x) f in
+    let from_number = d ∙ ap (λ x. spaced p.port.number ++ x) from_y in
+    let from_side = b ∙ ap (λ x. codes " " ++ side_word p.port.side ++ x) from_number in
+    a ∙ (ap (λ x. spaced p.id ++ x) from_side ∙ sym (charge_parts p rest))
+
 -- a part that was read is that of any place whose words the bytes begin with
 pub id_is : (p : PlaceLine) (bytes rest r : List ℕ) (n : ℕ) → IsSmallPlace p → bytes ≡ charge_words p ++ rest → n < 2 ^ 128 → bytes ≡ spaced n ++ r → Stops r →
     (n ≡ p.id) × (r ≡ after_id p rest)
@@ -89,12 +98,26 @@ only_weight true bytes rest n is small f stops (Some w) h e =
 only_weight true bytes rest n is small f stops None h e = absurd h
 only_weight false bytes rest n is small f stops weight h e = let bad : false ≡ true = is in cc
 
+-- bytes that are a number and no more are a weight
+pub weight_found : (weighed : Bool) (bytes rest : List ℕ) (n : ℕ) → weighed ≡ true → (n ≡ 0 → ⊥) → n ≤ 2 ^ 32 → bytes ≡ spaced n ++ rest → rest ≡ [] →
+    IsWeight weighed (Some n) × (bytes ≡ weight_word (Some n))
+weight_found true bytes rest n is some le f none = ((omega (arith, some), le), f ∙ (ap (λ x. spaced n ++ x) none ∙ append-nil (spaced n)))
+weight_found false bytes rest n is some le f none = let bad : false ≡ true = is in cc
+
 -- the parts of a place line behind its first word
 place_regroup : (a b c d : List ℕ) → a ++ b ++ c ++ d ≡ a ++ (b ++ (c ++ d))
 place_regroup a b c d = simp append_assoc
 
 pub place_parts : (k : ℕ) (p : PlaceLine) (weight : Option ℕ) → place_line k p weight ≡ codes "place" ++ (spaced k ++ (charge_words p ++ weight_word weight))
 place_parts k p weight = place_regroup (codes "place") (spaced k) (charge_words p) (weight_word weight)
+
+-- the line of a place that was read part by part
+pub place_found : (k : ℕ) (p : PlaceLine) (weight : Option ℕ) (line r s t : List ℕ) → line ≡ codes "place" ++ r → r ≡ spaced k ++ s → s ≡ charge_words p ++ t →
+    t ≡ weight_word weight → line ≡ place_line k p weight
+place_found k p weight line r s t a b d e =
+    let from_charge = d ∙ ap (λ x. charge_words p ++ x) e in
+    let from_number = b ∙ ap (λ x. spaced k ++ x) from_charge in
+    a ∙ (ap (λ x. codes "place" ++ x) from_number ∙ sym (place_parts k p weight))
 
 pub behind_place : (k : ℕ) (p : PlaceLine) (weight : Option ℕ) (line rest : List ℕ) → line ≡ codes "place" ++ rest → line ≡ place_line k p weight →
     rest ≡ spaced k ++ (charge_words p ++ weight_word weight)

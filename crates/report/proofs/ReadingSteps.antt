@@ -1,16 +1,16 @@
 -- What was read of the bytes begins a report, and where no report goes on the line is wrong.
-use Rattle.std.proofs.Common.{◌≡◌, ◌≢◌, ℕ, ◌<◌, List, ◌∷◌, ◌++◌, refl, subst, arith}
+use Rattle.std.proofs.Common.{◌≡◌, ◌≢◌, ℕ, ◌<◌, List, [], ◌∷◌, ◌++◌, append-nil, refl, subst, ap, ◌∙◌, arith}
 use Rattle.report.specs.declared.draft.Draft.{Draft}
 use Rattle.report.specs.declared.draft.Stage.TheVariants.{Done}
 use Rattle.report.specs.declared.value.Report.{Report}
 use Rattle.report.specs.Report.{HasSmallNumbers, IsReport}
-use Rattle.report.specs.Text.{report_lines}
-use Rattle.report.specs.Draft.{IsDraft, Refuses, draft_lines, report_of}
-use Rattle.report.specs.Reading.{IsBadAt, IsBeginning}
+use Rattle.report.specs.Text.{report_lines, report_text, text_of}
+use Rattle.report.specs.Draft.{IsDraft, Refuses, draft_lines, lines_before, report_of}
+use Rattle.report.specs.Reading.{IsBadAt, IsBeginning, IsTextOf}
 use Rattle.report.proofs.OneLine.{report_is_lines}
 use Rattle.report.proofs.LastLine.{lines_after, lines_parted, unfinished}
 use Rattle.report.proofs.ReadingText.{AreLines}
-use Rattle.report.proofs.WholeLines.{IsBegun, IsStopped}
+use Rattle.report.proofs.WholeLines.{IsBegun, IsRead, IsStopped}
 
 -- the lines of a report
 abbrev pub IsReportText : List (List ℕ) → Type 0
@@ -28,6 +28,14 @@ refused d line refuses more (r, report, small, is) = refuses r more report small
 
 pub no_whole : (d : Draft) → d.stage ≢ Done → IsReportText (draft_lines d) → ⊥
 no_whole d early (r, report, small, is) = unfinished d.stage (report_of d) r early is
+
+-- a report that was read to its end is that of the bytes
+pub all_read : (d : Draft) (r : Report) (bytes rest : List ℕ) (n : ℕ) → IsDraft d → d.stage ≡ Done → r ≡ report_of d → IsRead IsReportText bytes rest (draft_lines d) n →
+    rest ≡ [] → IsTextOf bytes r
+all_read d r bytes rest n h done is read none =
+    let lines : text_of (draft_lines d) ≡ report_text (report_of d) = ap (λ s. text_of (lines_before s (report_of d))) done in
+    let text : bytes ≡ report_text (report_of d) = read.text ∙ (ap (λ x. text_of (draft_lines d) ++ x) none ∙ (append-nil (text_of (draft_lines d)) ∙ lines)) in
+    rw is (record { report = h.report; small = h.small; text = text })
 
 pub bad_at : (bytes : List ℕ) (n : ℕ) → IsStopped IsReportText bytes n → IsBadAt bytes n
 bad_at bytes n stopped = record {

@@ -1,12 +1,14 @@
 -- A text that grows by a line, or by lines.
-use Rattle.std.proofs.Common.{◌≡◌, ℕ, ◌<◌, ◌+◌, List, [], ◌∷◌, ◌++◌, append_assoc, append-nil, length, map, take, get_or, sym, ap, ◌∙◌, zero-add}
+use Rattle.std.proofs.Common.{◌≡◌, ℕ, ◌<◌, ◌≤◌, ◌+◌, Option, List, [], ◌∷◌, ◌++◌, append_assoc, append-nil, length, map, take, get_or, sym, ap, ◌∙◌, zero-add}
 use Rattle.std.specs.Prelude.{codes}
-use Rattle.std.specs.List.{range_with_len}
+use Rattle.std.specs.List.{flat_map, range_with_len}
 use Rattle.std.proofs.lemmas.Grind.{flat_map-append}
-use Rattle.std.proofs.lemmas.List.{map_more}
+use Rattle.std.proofs.lemmas.List.{map_more, take_all}
 use Rattle.std.proofs.lemmas.List.FromFn.{map-range_with_len_more}
+use Rattle.coflow_units.specs.declared.plan.Run.{Run}
+use Rattle.report.specs.declared.value.PlaceLine.{PlaceLine}
 use Rattle.report.specs.declared.value.Report.{Report}
-use Rattle.report.specs.Text.{ended, place_line_at, place_lines, report_text, run_line, text_of, total_lines, version_line}
+use Rattle.report.specs.Text.{charge_words, ended, place_line, place_line_at, place_lines, report_text, run_line, spaced, text_of, total_lines, version_line, weight_word}
 
 text_more : (lines : List (List ℕ)) (line : List ℕ) → text_of (lines ++ (line ∷ [])) ≡ text_of lines ++ ended line
 text_more lines line = flat_map-append ended lines (line ∷ []) ∙ ap (λ x. text_of lines ++ x) (append-nil (ended line))
@@ -48,3 +50,34 @@ whole r version places totals runs all v p t u e =
     let to_totals = lines_more (first ++ place_lines r) (total_lines r) places totals to_places t in
     let to_runs = lines_more (first ++ place_lines r ++ total_lines r) (map run_line r.runs) totals runs to_totals u in
     lines_more (first ++ place_lines r ++ total_lines r ++ map run_line r.runs) (codes "end" ∷ []) runs all to_runs e
+
+-- the lines of all elements
+pub each_done : {X : Type 0} (line : X → List ℕ) (xs : List X) (k : ℕ) (front text : List ℕ) → length xs ≤ k → text ≡ front ++ text_of (map line (take k xs)) →
+    text ≡ front ++ text_of (map line xs)
+each_done line xs k front text le old = old ∙ ap (λ ys. front ++ text_of (map line ys)) (take_all k xs le)
+
+-- the lines of all places
+pub places_done : (r : Report) (k : ℕ) (front text : List ℕ) → k ≡ length r.places → text ≡ front ++ text_of (map (place_line_at r) (range_with_len 0 k)) →
+    text ≡ front ++ text_of (place_lines r)
+places_done r k front text is old = old ∙ ap (λ n. front ++ text_of (map (place_line_at r) (range_with_len 0 n))) is
+
+-- one more word stands at the end of the text
+grown : (text a b x y : List ℕ) → a ≡ text ++ x → b ≡ a ++ y → b ≡ text ++ (x ++ y)
+grown text a b x y first next = next ∙ (ap (λ z. z ++ y) first ∙ append_assoc text x y)
+
+-- the words of a place line in turn
+pub place_written : (k : ℕ) (p : PlaceLine) (weight : Option ℕ) (text a b c d e : List ℕ) → a ≡ text ++ codes "place" → b ≡ a ++ spaced k → c ≡ b ++ charge_words p →
+    d ≡ c ++ weight_word weight → e ≡ d ++ codes "\n" → e ≡ text ++ ended (place_line k p weight)
+place_written k p weight text a b c d e ha hb hc hd he =
+    let number = grown text a b (codes "place") (spaced k) ha hb in
+    let charge = grown text b c (codes "place" ++ spaced k) (charge_words p) number hc in
+    let words = grown text c d (codes "place" ++ spaced k ++ charge_words p) (weight_word weight) charge hd in
+    grown text d e (place_line k p weight) (codes "\n") words he
+
+-- the words of a run line in turn
+pub run_written : (run : Run) (text a b c d : List ℕ) → a ≡ text ++ codes "run" → b ≡ a ++ spaced run.length → c ≡ b ++ flat_map spaced run.flows → d ≡ c ++ codes "\n" →
+    d ≡ text ++ ended (run_line run)
+run_written run text a b c d ha hb hc hd =
+    let number = grown text a b (codes "run") (spaced run.length) ha hb in
+    let words = grown text b c (codes "run" ++ spaced run.length) (flat_map spaced run.flows) number hc in
+    grown text c d (run_line run) (codes "\n") words hd

@@ -37,7 +37,7 @@ few_lines : (xs : List (List ℕ)) → length xs ≤ length (text_of xs)
 few_lines [] = omega arith
 few_lines (x ∷ xs) = omega (arith, few_lines xs, length-append (ended x) (text_of xs), length-append x (10 ∷ []))
 
-shorter : (rest behind line : List ℕ) → rest ≡ ended line ++ behind → length behind < length rest
+pub shorter : (rest behind line : List ℕ) → rest ≡ ended line ++ behind → length behind < length rest
 shorter rest behind line e = omega (arith, ap length e, length-append (ended line) behind, length-append line (10 ∷ []))
 
 module _ (IsText : List (List ℕ) → Type 0) where

@@ -10,7 +10,7 @@ use coflow_units::{Items, MAX_SLOT, NoMemory, Run};
 use std::alloc::Global;
 
 /// The line that comes next: the first one, that of a place or the bound, those of the slack and the cost, that of a run or the last one, or none.
-#[derive(Clone, Copy, Debug, PartialEq, Eq)]
+#[derive(Clone, Copy)]
 pub(crate) enum Stage {
     Version,
     Places,

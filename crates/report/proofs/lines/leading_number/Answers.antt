@@ -1,5 +1,5 @@
-use Rattle.std.proofs.Common.{◌+◌, ◌*◌, sym, ap, ◌∙◌, arith}
-use Rattle.report.proofs.DigitText.{one_more_digit}
+use Rattle.std.proofs.Common.{◌+◌, ◌*◌, inl, inr, sym, ap, ◌∙◌, arith}
+use Rattle.report.proofs.DigitText.{one_more_digit, stops_at_end, stops_there}
 use Rattle.report.proofs.lines.leading_number.Goals as goal
 
 pub digits-preserved : goal.digits-preserved
@@ -11,3 +11,16 @@ digits-preserved c =
       digits = more.0;
       value = more.1 ∙ ap (λ x. c.digits.number * 10 + x) (sym c.from.ensures);
     }
+
+pub returns-then-not-is_ascii_digit : goal.returns-then-not-is_ascii_digit
+returns-then-not-is_ascii_digit c =
+    let stops =
+        stops_there c.args.digits.now c.digits.count c.digits-test.true (sym c.is_ascii_digit.ensures.value ∙ c.if-not-is_ascii_digit.true) in
+    (c.digits.invariant.within, c.digits.invariant.digits, c.digits.invariant.value, inr stops)
+
+pub returns-then-number-most : goal.returns-then-number-most
+returns-then-number-most c = (c.digits.invariant.within, c.digits.invariant.digits, c.digits.invariant.value, inl c.if-number-most.true)
+
+pub returns : goal.returns
+returns c =
+    (c.digits.invariant.within, c.digits.invariant.digits, c.digits.invariant.value, inr (stops_at_end c.args.digits.now c.digits.count c.digits-test.false))

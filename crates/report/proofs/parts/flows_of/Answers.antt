@@ -2,8 +2,8 @@ use Rattle.std.proofs.Common.{◌≡◌, ◌<◌, ◌^◌, ◌∷◌, [], ◌++�
 use Rattle.std.specs.List.{flat_map}
 use Rattle.std.specs.List.Sorted.{IsStrictlyIncreasing}
 use Rattle.report.specs.Text.{spaced}
-use Rattle.report.proofs.PartText.{not_empty}
-use Rattle.report.proofs.FlowText.{next_flow, one_more, same_flow, stops_flows}
+use Rattle.report.proofs.PartText.{empty_is, not_empty}
+use Rattle.report.proofs.FlowText.{flows_read, next_flow, none_yet, one_more, same_flow, shorter, stops_flows}
 use Rattle.report.proofs.parts.flows_of.Goals as goal
 
 pub returns-in_default : goal.returns-in_default
@@ -27,3 +27,13 @@ loop-rest-preserved c =
     let small : c.in-Some.flow < 2 ^ 32 = omega (arith, c.in-Some.ensures.0) in
     rw c.in_ok-push.ensures.items (one_more c.args.bytes.now c.loop-rest.rest.now c.loop-rest.flows.items c.in-Some.behind.now c.in-Some.flow c.loop-rest.invariant small
     c.in-Some.ensures.1 c.in-Some.ensures.2 after)
+
+pub loop-rest-init : goal.loop-rest-init
+loop-rest-init c = none_yet c.args.bytes.now c.in_ok-flows.flows.items c.in_ok-flows.ensures.items c.requires
+
+pub loop-rest-smaller : goal.loop-rest-smaller
+loop-rest-smaller c = shorter c.loop-rest.rest.now c.in-Some.behind.now c.in-Some.flow c.in-Some.ensures.1
+
+pub returns : goal.returns
+returns c =
+    rw c.from_vec.ensures (flows_read c.args.bytes.now c.loop-rest.rest.now c.loop-rest.flows.items c.loop-rest.invariant (empty_is c.loop-rest.rest.now c.loop-rest-test.ensures))

@@ -1,8 +1,8 @@
-use Rattle.std.proofs.Common.{◌≡◌, ◌++◌, arith, sym, ◌∙◌}
+use Rattle.std.proofs.Common.{◌≡◌, ◌++◌, arith, refl, sym, ap, ◌∙◌}
 use Rattle.std.specs.Prelude.{codes}
-use Rattle.report.specs.Text.{weight_word}
-use Rattle.report.proofs.LineText.{prefix_found}
-use Rattle.report.proofs.PartText.{charge_unique, place_is, weight_stops}
+use Rattle.report.specs.Text.{charge_words, spaced, weight_word}
+use Rattle.report.proofs.LineText.{not_there, prefix_found}
+use Rattle.report.proofs.PartText.{behind_place, charge_unique, place_found, place_is, place_parts, weight_stops}
 use Rattle.report.proofs.parts.place_of.Goals as goal
 
 pub returns-then-read-number : goal.returns-then-read-number
@@ -30,3 +30,26 @@ returns-in_default-weight_of c = λ p weight small h e.
     let b = charge_unique c.in-Some-charge_then.place p c.in-Some-charge_then.rest.now (weight_word weight) c.in-Some-charge_then.ensures.0 small c.in-Some-charge_then.ensures.2
     (weight_stops weight) (sym c.in-Some-charge_then.ensures.1 ∙ a.1) in
     c.in_default-weight_of.ensures weight h b.1
+
+pub returns-in_default : goal.returns-in_default
+returns-in_default c = λ p weight small h e.
+    not_there (codes "place") (spaced c.args.number ++ (charge_words p ++ weight_word weight)) c.args.line.now c.in_default.ensures.cases (e ∙ place_parts c.args.number p weight)
+
+pub returns-in_default-number_then : goal.returns-in_default-number_then
+returns-in_default-number_then c = λ p weight small h e.
+    let word : c.args.line.now ≡ codes "place" ++ c.in-Some.rest.now =
+    prefix_found (codes "place") c.args.line.now c.in-Some.rest.now c.in-Some.ensures.cases.0 c.in-Some.ensures.cases.1 in
+    c.in_default-number_then.ensures c.args.number (charge_words p ++ weight_word weight) (omega arith) refl
+    (behind_place c.args.number p weight c.args.line.now c.in-Some.rest.now word e)
+
+pub returns : goal.returns
+returns c =
+    let word : c.args.line.now ≡ codes "place" ++ c.in-Some.rest.now =
+    prefix_found (codes "place") c.args.line.now c.in-Some.rest.now c.in-Some.ensures.cases.0 c.in-Some.ensures.cases.1 in
+    let number : c.in-Some.rest.now ≡ spaced c.args.number ++ c.in-Some-number_then.rest.now =
+    c.in-Some-number_then.ensures.1 ∙ ap (λ k. spaced k ++ c.in-Some-number_then.rest.now) c.if-read-number.false in (
+      c.in-Some-charge_then.ensures.0,
+      c.in-Some-weight_of.ensures.0,
+      place_found c.args.number c.in-Some-charge_then.place c.in-Some-weight_of.weight c.args.line.now c.in-Some.rest.now c.in-Some-number_then.rest.now
+          c.in-Some-charge_then.rest.now word number c.in-Some-charge_then.ensures.1 c.in-Some-weight_of.ensures.1,
+    )

@@ -1,5 +1,5 @@
 use Rattle.std.proofs.Common.{arith}
-use Rattle.report.proofs.PartText.{no_weight, only_weight, not_empty}
+use Rattle.report.proofs.PartText.{empty_is, no_weight, not_empty, only_weight, weight_found}
 use Rattle.report.proofs.parts.weight_of.Goals as goal
 
 pub returns-in_default : goal.returns-in_default
@@ -16,3 +16,8 @@ returns-then-not-is_empty c = λ weight h e.
     let only = only_weight c.args.weighed c.args.bytes.now c.in-Some.rest.now c.in-Some.weight c.if-not-weighed.false (omega (arith, c.in-Some.ensures.0)) c.in-Some.ensures.1
     c.in-Some.ensures.2 weight h e in
     not_empty c.in-Some.rest.now c.if-not-is_empty.ensures only.1
+
+pub returns : goal.returns
+returns c =
+    weight_found c.args.weighed c.args.bytes.now c.in-Some.rest.now c.in-Some.weight c.if-not-weighed.false c.if-weight-eq0.false (omega (arith, c.in-Some.ensures.0))
+    c.in-Some.ensures.1 (empty_is c.in-Some.rest.now c.if-not-is_empty.ensures)

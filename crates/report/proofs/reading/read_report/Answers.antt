@@ -2,8 +2,8 @@ use Rattle.std.proofs.Common.{◌≡◌, ◌∷◌, [], ◌++◌, arith}
 use Rattle.report.specs.Draft.{IsDraft, Refuses, draft_lines, report_of}
 use Rattle.report.proofs.LastLine.{lines_after}
 use Rattle.report.proofs.PartText.{empty_is, not_empty}
-use Rattle.report.proofs.ReadingSteps.{IsReportText, are_lines, bad_at, draft_begins, no_whole, refused}
-use Rattle.report.proofs.WholeLines.{cut_at, early_at, few_read, none_yet, one_more, refused_at}
+use Rattle.report.proofs.ReadingSteps.{IsReportText, all_read, are_lines, bad_at, draft_begins, no_whole, refused}
+use Rattle.report.proofs.WholeLines.{cut_at, early_at, few_read, none_yet, one_more, refused_at, shorter}
 use Rattle.report.proofs.reading.read_report.Goals as goal
 
 pub loop-rest-init : goal.loop-rest-init
@@ -63,4 +63,15 @@ returns-in-None c =
     record {
       report = bad_at bytes n (early_at IsReportText are_lines bytes rest (draft_lines d) n c.loop-rest.invariant.1 (empty_is rest c.loop-rest-test.ensures)
           (no_whole d c.in-None.ensures));
+    }
+
+pub loop-rest-smaller : goal.loop-rest-smaller
+loop-rest-smaller c = shorter c.loop-rest.rest.now c.in-Some.behind.now c.in-Some.line.now c.in-Some.ensures.1
+
+pub returns-in-Some-into_report : goal.returns-in-Some-into_report
+returns-in-Some-into_report c =
+    let rest = c.loop-rest.rest.now in
+    record {
+      report = all_read c.loop-rest.draft c.in-Some-into_report.report c.args.bytes.now rest c.loop-rest.line_number c.loop-rest.invariant.0 c.in-Some-into_report.ensures.0
+          c.in-Some-into_report.ensures.1 c.loop-rest.invariant.1 (empty_is rest c.loop-rest-test.ensures);
     }
