@@ -143,3 +143,16 @@ same_flow rest flows ys behind flow n small e stops =
 -- where nothing is left, the flows are those of the bytes
 pub flows_read : (bytes rest flows : List ℕ) → FlowsSoFar bytes rest flows → rest ≡ [] → IsFlowsOf bytes (Some flows)
 flows_read bytes rest flows far none = (far.flows_are, far.text ∙ (ap (λ x. flat_map spaced flows ++ x) none ∙ append-nil (flat_map spaced flows)))
+
+-- one number ascends
+pub rises_first : (flows : List ℕ) (flow : ℕ) → None ≡ slice_get flows (length flows - 1) → Rises flows flow true
+rises_first flows flow e = go (slice_get_cases flows (length flows - 1)).1
+  where
+    go : ((x : ℕ) × (length flows - 1 < length flows) × (slice_get flows (length flows - 1) ≡ Some x) × (get_or flows (length flows - 1) x ≡ x)) ⊎
+        ((length flows ≤ length flows - 1) × (slice_get flows (length flows - 1) ≡ None)) → Rises flows flow true
+    go (inl (x, lt, is, at)) = let bad : None ≡ Some x = e ∙ is in cc
+    go (inr (le, none)) = λ up k lt. absurd (omega (arith, le, lt, length-append flows (flow ∷ [])))
+
+-- the line of a run that was read part by part
+pub run_found : (run : Run) (line r s : List ℕ) → line ≡ codes "run" ++ r → r ≡ spaced run.length ++ s → s ≡ flat_map spaced run.flows → line ≡ run_line run
+run_found run line r s a b e = a ∙ ap (λ x. codes "run" ++ x) (b ∙ ap (λ x. spaced run.length ++ x) e)

@@ -1,6 +1,6 @@
 -- A text that grows by a line, or by lines.
 use Rattle.std.proofs.Common.{◌≡◌, ℕ, ◌<◌, ◌≤◌, ◌+◌, Option, List, [], ◌∷◌, ◌++◌, append_assoc, append-nil, length, map, take, get_or, sym, ap, ◌∙◌, zero-add}
-use Rattle.std.specs.Prelude.{codes}
+use Rattle.std.specs.Prelude.{Err, Ok, OnOk, Result, codes}
 use Rattle.std.specs.List.{flat_map, range_with_len}
 use Rattle.std.proofs.lemmas.Grind.{flat_map-append}
 use Rattle.std.proofs.lemmas.List.{map_more, take_all}
@@ -8,7 +8,8 @@ use Rattle.std.proofs.lemmas.List.FromFn.{map-range_with_len_more}
 use Rattle.coflow_units.specs.declared.plan.Run.{Run}
 use Rattle.report.specs.declared.value.PlaceLine.{PlaceLine}
 use Rattle.report.specs.declared.value.Report.{Report}
-use Rattle.report.specs.Text.{charge_words, ended, place_line, place_line_at, place_lines, report_text, run_line, spaced, text_of, total_lines, version_line, weight_word}
+use Rattle.report.specs.Text.{bound_line, charge_words, cost_line, ended, place_line, place_line_at, place_lines, report_text, run_line, side_word, slack_line, spaced}
+use Rattle.report.specs.Text.{text_of, total_lines, version_line, weight_word}
 
 text_more : (lines : List (List ℕ)) (line : List ℕ) → text_of (lines ++ (line ∷ [])) ≡ text_of lines ++ ended line
 text_more lines line = flat_map-append ended lines (line ∷ []) ∙ ap (λ x. text_of lines ++ x) (append-nil (ended line))
@@ -62,7 +63,7 @@ pub places_done : (r : Report) (k : ℕ) (front text : List ℕ) → k ≡ lengt
 places_done r k front text is old = old ∙ ap (λ n. front ++ text_of (map (place_line_at r) (range_with_len 0 n))) is
 
 -- one more word stands at the end of the text
-grown : (text a b x y : List ℕ) → a ≡ text ++ x → b ≡ a ++ y → b ≡ text ++ (x ++ y)
+pub grown : (text a b x y : List ℕ) → a ≡ text ++ x → b ≡ a ++ y → b ≡ text ++ (x ++ y)
 grown text a b x y first next = next ∙ (ap (λ z. z ++ y) first ∙ append_assoc text x y)
 
 -- the words of a place line in turn
@@ -81,3 +82,29 @@ run_written run text a b c d ha hb hc hd =
     let number = grown text a b (codes "run") (spaced run.length) ha hb in
     let words = grown text b c (codes "run" ++ spaced run.length) (flat_map spaced run.flows) number hc in
     grown text c d (run_line run) (codes "\n") words hd
+
+-- the line of a name and a number
+pub named_written : (name : List ℕ) (n : ℕ) (text a b c : List ℕ) → a ≡ text ++ name → b ≡ a ++ spaced n → c ≡ b ++ codes "\n" → c ≡ text ++ ended (name ++ spaced n)
+named_written name n text a b c ha hb hc = grown text b c (name ++ spaced n) (codes "\n") (grown text a b name (spaced n) ha hb) hc
+
+-- what a place line says of a place, in turn
+pub charge_written : {T E : Type 0} (res : Result T E) (p : PlaceLine) (text a b c d e f : List ℕ) → a ≡ text ++ spaced p.id → b ≡ a ++ codes " " →
+    c ≡ b ++ side_word p.port.side → d ≡ c ++ spaced p.port.number → e ≡ d ++ spaced p.y → OnOk res (f ≡ e ++ spaced p.done) → OnOk res (f ≡ text ++ charge_words p)
+charge_written (Ok x) p text a b c d e f ha hb hc hd he hf =
+    let space = grown text a b (spaced p.id) (codes " ") ha hb in
+    let side = grown text b c (spaced p.id ++ codes " ") (side_word p.port.side) space hc in
+    let number = grown text c d (spaced p.id ++ codes " " ++ side_word p.port.side) (spaced p.port.number) side hd in
+    let own = grown text d e (spaced p.id ++ codes " " ++ side_word p.port.side ++ spaced p.port.number) (spaced p.y) number he in
+    grown text e f (spaced p.id ++ codes " " ++ side_word p.port.side ++ spaced p.port.number ++ spaced p.y) (spaced p.done) own hf
+charge_written (Err x) p text a b c d e f ha hb hc hd he hf = tt
+
+-- the lines of the totals in turn
+pub totals_written : {T E : Type 0} (res : Result T E) (r : Report) (text a b c : List ℕ) → a ≡ text ++ ended (bound_line r.bound) → b ≡ a ++ ended (slack_line r.slack) →
+    OnOk res (c ≡ b ++ ended (cost_line r.cost)) → OnOk res (c ≡ text ++ text_of (total_lines r))
+totals_written (Ok x) r text a b c ha hb hc =
+    let bound = ended (bound_line r.bound) in
+    let slack = ended (slack_line r.slack) in
+    let cost = ended (cost_line r.cost) in
+    let lines : (bound ++ slack) ++ cost ≡ text_of (total_lines r) = append_assoc bound slack cost ∙ ap (λ x. bound ++ (slack ++ x)) (sym (append-nil cost)) in
+    grown text b c (bound ++ slack) cost (grown text a b bound slack ha hb) hc ∙ ap (λ x. text ++ x) lines
+totals_written (Err x) r text a b c ha hb hc = tt
