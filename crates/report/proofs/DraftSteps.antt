@@ -13,11 +13,11 @@ use Rattle.std.specs.declared.vec.Vec.{Vec}
 use Rattle.std.specs.declared.alloc.Global.{Global}
 use Rattle.coflow_units.specs.declared.plan.Run.{Run}
 use Rattle.report.specs.declared.draft.Draft.{Draft}
-use Rattle.report.specs.declared.draft.Stage.TheVariants.{Places, Runs}
+use Rattle.report.specs.declared.draft.Stage.TheVariants.{Cost, Places, Runs, Slack}
 use Rattle.report.specs.declared.value.PlaceLine.{PlaceLine}
 use Rattle.report.specs.declared.value.Report.{Report}
 use Rattle.report.specs.Report.{ForEach, IsSmallPlace}
-use Rattle.report.specs.Text.{place_at, place_line, place_line_at, place_lines, run_line, total_lines, version_line, weight_at}
+use Rattle.report.specs.Text.{bound_line, slack_line, place_at, place_line, place_line_at, place_lines, run_line, total_lines, version_line, weight_at}
 use Rattle.report.specs.Readers.{IsRun, IsWeight, weights_if, weights_list}
 use Rattle.report.specs.Draft.{Differs, HasNothingLater, IsDraft, draft_lines, report_of}
 use Rattle.report.proofs.DraftText.{slots_in}
@@ -200,3 +200,52 @@ run_taken d runs run line h stage rs is_run is few other = (draft, lines)
     lines : draft_lines (with_run d runs (d.slots + run.length)) ≡ draft_lines d ++ (line ∷ [])
     lines = rw stage (ap (λ x. version_line (weights_if d.weighed d.weights.items) ∷ x) (ap (λ x. (place_lines (report_of d) ++ total_lines (report_of d)) ++ x) grown ∙
         sym (append_assoc (place_lines (report_of d) ++ total_lines (report_of d)) (map run_line d.runs.items) (line ∷ []))))
+
+-- the draft with the bound
+abbrev with_bound : Draft → ℕ → Draft
+with_bound d bound = record { stage = Slack; weighed = d.weighed; places = d.places; weights = d.weights; bound = bound; slack = d.slack; cost = d.cost; runs = d.runs; slots = d.slots }
+
+pub bound_taken : (d : Draft) (bound : ℕ) (line : List ℕ) → IsDraft d → d.stage ≡ Places → bound < 2 ^ 128 → line ≡ bound_line bound →
+    IsDraft (with_bound d bound) × (draft_lines (with_bound d bound) ≡ draft_lines d ++ (line ∷ []))
+bound_taken d bound line h stage small is = (
+  record {
+    report = record {
+      weight_each = h.report.weight_each;
+      weight_range = h.report.weight_range;
+      lengths = h.report.lengths;
+      few_slots = h.report.few_slots;
+      ascending = h.report.ascending;
+      maximal = h.report.maximal;
+    };
+    small = record { count = h.small.count; places = h.small.places; bound = small; slack = h.small.slack; cost = h.small.cost; flows = h.small.flows };
+    slots = h.slots;
+    later = rw stage at h.later;
+  },
+  rw (stage, is) refl,
+)
+
+-- the draft with the slack
+abbrev with_slack : Draft → ℕ → Draft
+with_slack d slack = record { stage = Cost; weighed = d.weighed; places = d.places; weights = d.weights; bound = d.bound; slack = slack; cost = d.cost; runs = d.runs; slots = d.slots }
+
+pub slack_taken : (d : Draft) (slack : ℕ) (line : List ℕ) → IsDraft d → d.stage ≡ Slack → slack < 2 ^ 128 → line ≡ slack_line slack →
+    IsDraft (with_slack d slack) × (draft_lines (with_slack d slack) ≡ draft_lines d ++ (line ∷ []))
+slack_taken d slack line h stage small is = (
+  record {
+    report = record {
+      weight_each = h.report.weight_each;
+      weight_range = h.report.weight_range;
+      lengths = h.report.lengths;
+      few_slots = h.report.few_slots;
+      ascending = h.report.ascending;
+      maximal = h.report.maximal;
+    };
+    small = record { count = h.small.count; places = h.small.places; bound = h.small.bound; slack = small; cost = h.small.cost; flows = h.small.flows };
+    slots = h.slots;
+    later = rw stage at h.later;
+  },
+  rw (stage, is) (
+      ap (λ ls. version_line (weights_if d.weighed d.weights.items) ∷ ls)
+      (sym (append_assoc (place_lines (report_of d)) (bound_line d.bound ∷ []) (slack_line slack ∷ [])))
+      ),
+)

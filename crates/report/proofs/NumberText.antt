@@ -1,5 +1,5 @@
 -- A number behind a space, in front of other text.
-use Rattle.std.proofs.Common.{◌≡◌, ℕ, suc, ◌<◌, ◌^◌, List, [], ◌∷◌, ◌++◌, Bool, true, false, not, Result, Ok, length, take, drop, refl, sym, ap, ◌∙◌, arith}
+use Rattle.std.proofs.Common.{◌≡◌, ℕ, suc, ◌<◌, ◌^◌, List, [], ◌∷◌, ◌++◌, Bool, true, false, not, Result, Ok, Err, length, take, drop, refl, sym, ap, ◌∙◌, arith}
 use Rattle.std.proofs.lemmas.Fmt.{IsAscii-decimal_wide, decimal_is_IsNumeral_wide, parse-decimal_wide}
 use Rattle.std.proofs.lemmas.Str.{IsUtf8-from_ascii}
 use Rattle.std.proofs.lemmas.Str.Parse.{IsNumeralModel, numerals_by_value, tells_all_ascii_digits}
@@ -72,6 +72,14 @@ is_text field n small e = rw e (IsUtf8-from_ascii (decimal n) (IsAscii-decimal_w
 -- the digits of a number are read as it
 pub parses : {E : Type 0} (field : List ℕ) (n : ℕ) (r : Result ℕ E) → n < 2 ^ 128 → field ≡ decimal n → ParsesUnsigned 128 10 field r → r ≡ Ok n
 parses field n r small e p = parse-decimal_wide 128 n field r small (wide n small) e p
+
+-- what is read is one number
+abbrev number_in : {E : Type 0} → Result ℕ E → ℕ
+number_in (Ok n) = n
+number_in (Err x) = 0
+
+pub same_read : {E : Type 0} (r : Result ℕ E) (m n : ℕ) → r ≡ Ok m → r ≡ Ok n → m ≡ n
+same_read r m n a b = ap number_in (sym a ∙ b)
 
 -- a space, the digits and what follows make up the bytes
 pub number_found : (bytes digits field rest : List ℕ) (k n : ℕ) → bytes ≡ codes " " ++ digits → field ≡ take k digits → rest ≡ drop k digits → field ≡ decimal n →

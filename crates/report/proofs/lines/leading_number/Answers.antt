@@ -15,7 +15,7 @@ digits-preserved c =
 pub returns-then-not-is_ascii_digit : goal.returns-then-not-is_ascii_digit
 returns-then-not-is_ascii_digit c =
     let stops =
-        stops_there c.args.digits.now c.digits.count c.digits-test.true (sym c.is_ascii_digit.ensures.value ∙ c.if-not-is_ascii_digit.true) in
+    stops_there c.args.digits.now c.digits.count c.digits-test.true (sym c.is_ascii_digit.ensures.value ∙ c.if-not-is_ascii_digit.true) in
     (c.digits.invariant.within, c.digits.invariant.digits, c.digits.invariant.value, inr stops)
 
 pub returns-then-number-most : goal.returns-then-number-most

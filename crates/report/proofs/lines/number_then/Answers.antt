@@ -1,7 +1,7 @@
 use Rattle.std.proofs.Common.{◌≡◌, ◌<◌, ◌^◌, ◌++◌, ◌∷◌, [], sym, ap, ◌∙◌, arith, Ok}
 use Rattle.std.specs.Prelude.{codes, decimal}
 use Rattle.report.proofs.LineText.{not_same, prefix_found, same_list}
-use Rattle.report.proofs.NumberText.{behind_space, digits_stop, is_text, number_found, number_parts, parses}
+use Rattle.report.proofs.NumberText.{behind_space, digits_stop, is_text, number_found, number_parts, parses, same_read}
 use Rattle.report.proofs.lines.number_then.Goals as goal
 
 pub returns-in_default-from_utf8 : goal.returns-in_default-from_utf8
@@ -29,7 +29,7 @@ returns-then-number-most c = λ n rest le stops e.
     let p = number_parts c.in-Some.digits.now rest n c.digits_length.result small stops (behind_space _ _ rest n space e) c.digits_length.ensures.digits in
     let field : c.in-Ok.text.now ≡ decimal n = c.in-Ok.ensures.cases.0 ∙ (c.split_at.ensures.front ∙ p.0) in
     let read : c.parse.result ≡ Ok n = parses c.in-Ok.text.now n c.parse.result small field c.parse.ensures.value.0 in
-    let same : c.in-Ok-parse.number ≡ n = cc in
+    let same : c.in-Ok-parse.number ≡ n = same_read c.parse.result c.in-Ok-parse.number n c.in-Ok-parse.is read in
     absurd (omega arith)
 
 pub returns-then-eq : goal.returns-then-eq
@@ -52,6 +52,6 @@ returns-else-eq c = λ n rest le stops e.
     let p = number_parts c.in-Some.digits.now rest n c.digits_length.result small stops (behind_space _ _ rest n space e) c.digits_length.ensures.digits in
     let text : c.in-Ok.text.now ≡ decimal n = c.in-Ok.ensures.cases.0 ∙ (c.split_at.ensures.front ∙ p.0) in
     let read : c.parse.result ≡ Ok n = parses c.in-Ok.text.now n c.parse.result small text c.parse.ensures.value.0 in
-    let same : c.in-Ok-parse.number ≡ n = cc in
+    let same : c.in-Ok-parse.number ≡ n = same_read c.parse.result c.in-Ok-parse.number n c.in-Ok-parse.is read in
     let printed : c.as_bytes.result.now ≡ c.split_at.result.0.now = c.as_bytes.ensures.value ∙ (c.format.ensures.text ∙ (ap decimal same ∙ sym (c.split_at.ensures.front ∙ p.0))) in
     not_same c.as_bytes.result.now c.split_at.result.0.now (sym c.if-eq.ensures) printed
