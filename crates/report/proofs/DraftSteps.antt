@@ -203,7 +203,17 @@ run_taken d runs run line h stage rs is_run is few other = (draft, lines)
 
 -- the draft with the bound
 abbrev with_bound : Draft → ℕ → Draft
-with_bound d bound = record { stage = Slack; weighed = d.weighed; places = d.places; weights = d.weights; bound = bound; slack = d.slack; cost = d.cost; runs = d.runs; slots = d.slots }
+with_bound d bound = record {
+  stage = Slack;
+  weighed = d.weighed;
+  places = d.places;
+  weights = d.weights;
+  bound = bound;
+  slack = d.slack;
+  cost = d.cost;
+  runs = d.runs;
+  slots = d.slots;
+}
 
 pub bound_taken : (d : Draft) (bound : ℕ) (line : List ℕ) → IsDraft d → d.stage ≡ Places → bound < 2 ^ 128 → line ≡ bound_line bound →
     IsDraft (with_bound d bound) × (draft_lines (with_bound d bound) ≡ draft_lines d ++ (line ∷ []))
@@ -226,7 +236,17 @@ bound_taken d bound line h stage small is = (
 
 -- the draft with the slack
 abbrev with_slack : Draft → ℕ → Draft
-with_slack d slack = record { stage = Cost; weighed = d.weighed; places = d.places; weights = d.weights; bound = d.bound; slack = slack; cost = d.cost; runs = d.runs; slots = d.slots }
+with_slack d slack = record {
+  stage = Cost;
+  weighed = d.weighed;
+  places = d.places;
+  weights = d.weights;
+  bound = d.bound;
+  slack = slack;
+  cost = d.cost;
+  runs = d.runs;
+  slots = d.slots;
+}
 
 pub slack_taken : (d : Draft) (slack : ℕ) (line : List ℕ) → IsDraft d → d.stage ≡ Slack → slack < 2 ^ 128 → line ≡ slack_line slack →
     IsDraft (with_slack d slack) × (draft_lines (with_slack d slack) ≡ draft_lines d ++ (line ∷ []))
