@@ -18,34 +18,35 @@ fn done(position: u32, version: u32, reply: Reply) -> Answer {
 }
 
 /// Both coflows join. There is no version yet.
-fn join<R: Wait + Abort>(rt: &R, hall: &Hall, sessions: &mut [Session])
-    requires own { All (IsSessionOf hall.now) sessions.old }
-    requires two { length sessions.old ≡ 2 }
+fn join<R: Wait + Abort>(rt: &R, hall: &Hall, one: &mut Session, two: &mut Session)
+    requires one { IsSessionOf hall.now one.old }
+    requires two { IsSessionOf hall.now two.old }
     requires coflows { length hall.now.setting.opening.table.ids ≡ 2 }
-    ensures own { All (IsSessionOf hall.entry.now) sessions.new }
-    ensures two { length sessions.new ≡ 2 }
+    ensures one { IsSessionOf hall.entry.now one.new }
+    ensures two { IsSessionOf hall.entry.now two.new }
 {
-    assert!(rt; sessions[0].register(rt, hall, 0) == done(1, 0, Reply::Joined));
-    assert!(rt; sessions[1].register(rt, hall, 1) == done(2, 0, Reply::Joined));
-    assert!(rt; sessions[1].pull(hall, 1) == Pulled::Unranked { version: 0 });
+    assert!(rt; one.register(rt, hall, 0) == done(1, 0, Reply::Joined));
+    assert!(rt; two.register(rt, hall, 1) == done(2, 0, Reply::Joined));
+    assert!(rt; two.pull(hall, 1) == Pulled::Unranked { version: 0 });
 }
 
 /// The short coflow comes first in the first version.
-fn rank<R: Wait + Abort>(rt: &R, hall: &Hall, sessions: &mut [Session])
-    requires own { All (IsSessionOf hall.now) sessions.old }
-    requires two { length sessions.old ≡ 2 }
+fn rank<R: Wait + Abort>(rt: &R, hall: &Hall, one: &mut Session, two: &mut Session)
+    requires one { IsSessionOf hall.now one.old }
+    requires two { IsSessionOf hall.now two.old }
     requires coflows { length hall.now.setting.opening.table.ids ≡ 2 }
-    ensures own { All (IsSessionOf hall.entry.now) sessions.new }
+    ensures one { IsSessionOf hall.entry.now one.new }
+    ensures two { IsSessionOf hall.entry.now two.new }
 {
-    assert!(rt; sessions[0].publish(rt, hall) == done(3, 1, Reply::Version(1)));
+    assert!(rt; one.publish(rt, hall) == done(3, 1, Reply::Version(1)));
     assert!(rt;
-        sessions[1].pull(hall, 1)
+        two.pull(hall, 1)
             == Pulled::Rank {
                 version: 1,
                 rank: 1
             }
     );
-    assert!(rt; sessions[1].pull_turn(rt, hall, 0) == done(4, 1, Reply::Rank(1, 2)));
+    assert!(rt; two.pull_turn(rt, hall, 0) == done(4, 1, Reply::Rank(1, 2)));
 }
 
 /// A run of at most five slots: the short coflow's flow is granted at port 0, and one slot ends it.
@@ -72,8 +73,9 @@ pub(crate) fn show<R: Wait + Abort>(
     ensures sessions { All (IsSessionOf hall.entry.now) sessions.new }
 {
     assert!(rt; sessions.len() == 2);
-    join(rt, hall, sessions);
-    rank(rt, hall, sessions);
+    let (near, far) = sessions.split_at_mut(1);
+    join(rt, hall, &mut near[0], &mut far[0]);
+    rank(rt, hall, &mut near[0], &mut far[0]);
     drive(rt, hall, driver);
 }
 
