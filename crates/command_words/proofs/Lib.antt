@@ -7,3 +7,4 @@ pub mod AcceptedLines
 pub mod RefusedLines
 pub mod UseLists
 pub mod OneMeaning
+pub mod JobNames

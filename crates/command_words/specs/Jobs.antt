@@ -80,6 +80,21 @@ job_of name first second = if bytes_eq name (codes "plan") then option_map plan_
     else (if bytes_eq name (codes "live") then both_in live_job (file_of first) (file_in second)
     else None)))))))
 
+-- The job of a command that takes one file, and none where the name is no such command's.
+abbrev pub file_job : Text → Text → Option Job
+file_job name trace = if bytes_eq name (codes "plan") then Some (plan_job trace)
+    else (if bytes_eq name (codes "compare") then Some (compare_job trace)
+    else (if bytes_eq name (codes "classes") then Some (classes_job trace)
+    else (if bytes_eq name (codes "online") then Some (online_job trace)
+    else None)))
+
+-- The job of a command that takes two files.
+abbrev pub files_job : Text → Text → Text → Option Job
+files_job name trace other = if bytes_eq name (codes "check") then Some (check_job trace other)
+    else (if bytes_eq name (codes "audit") then Some (audit_job trace other)
+    else (if bytes_eq name (codes "live") then Some (live_job trace other)
+    else None))
+
 -- the job of the names by their places, where COMMAND and FIRST stand
 abbrev pub job_in : Option Text → Option Text → Option Text → Option Job
 job_in (Some name) (Some first) second = job_of name first second

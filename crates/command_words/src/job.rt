@@ -1,6 +1,6 @@
 //! The jobs: each command with what it takes.
 ghost use Rattle.std.specs.Prelude.{◌≡◌, option_map};
-ghost use Rattle.command_words.specs.Jobs.{alone, file_in, file_of, job_by, job_of, seed_of};
+ghost use Rattle.command_words.specs.Jobs.{alone, file_job, files_job, job_by, job_of, seed_of};
 
 use crate::values::{file_of, seed_of};
 
@@ -29,45 +29,48 @@ pub enum Job<'a> {
 pub(crate) fn job_of<'a>(name: &str, first: &'a str, second: Option<&'a str>) -> Option<Job<'a>>
     ensures { option_map job_by result ≡ job_of name.now first.now (option_map (λ s. s.now) second.entry) }
 {
-    Some(match name {
-        "plan" => Job::Plan {
-            trace: file_alone(first, second)?,
-        },
-        "check" => Job::Check {
-            trace: file_of(first)?,
-            report: file_of(second?)?,
-        },
-        "make" => Job::Make {
-            seed: seed_alone(first, second)?,
-        },
-        "compare" => Job::Compare {
-            trace: file_alone(first, second)?,
-        },
-        "classes" => Job::Classes {
-            trace: file_alone(first, second)?,
-        },
-        "audit" => Job::Audit {
-            trace: file_of(first)?,
-            journal: file_of(second?)?,
-        },
-        "online" => Job::Online {
-            trace: file_alone(first, second)?,
-        },
-        "live" => Job::Live {
-            trace: file_of(first)?,
-            script: file_of(second?)?,
-        },
-        _ => return None,
-    })
+    if name == "make" {
+        let seed = seed_alone(first, second)?;
+        return Some(Job::Make { seed });
+    }
+    let trace = file_of(first)?;
+    match second {
+        None => job_of_file(name, trace),
+        Some(second) => job_of_files(name, trace, file_of(second)?),
+    }
 }
 
-/// The first word as the name of a file, where there is no second one.
-fn file_alone<'a>(first: &'a str, second: Option<&'a str>) -> Option<&'a str>
-    ensures { option_map (λ s. s.now) result ≡ alone (file_of first.now) (option_map (λ s. s.now) second.entry) }
+/// The job of a command that takes one file.
+fn job_of_file<'a>(name: &str, trace: &'a str) -> Option<Job<'a>>
+    ensures { option_map job_by result ≡ file_job name.now trace.now }
 {
-    match second {
-        Some(_) => None,
-        None => file_of(first),
+    match name {
+        "plan" => Some(Job::Plan { trace }),
+        "compare" => Some(Job::Compare { trace }),
+        "classes" => Some(Job::Classes { trace }),
+        "online" => Some(Job::Online { trace }),
+        _ => None,
+    }
+}
+
+/// The job of a command that takes two files.
+fn job_of_files<'a>(name: &str, trace: &'a str, other: &'a str) -> Option<Job<'a>>
+    ensures { option_map job_by result ≡ files_job name.now trace.now other.now }
+{
+    match name {
+        "check" => Some(Job::Check {
+            trace,
+            report: other,
+        }),
+        "audit" => Some(Job::Audit {
+            trace,
+            journal: other,
+        }),
+        "live" => Some(Job::Live {
+            trace,
+            script: other,
+        }),
+        _ => None,
     }
 }
 
