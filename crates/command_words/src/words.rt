@@ -1,9 +1,10 @@
 //! What a command line says.
-ghost use Rattle.std.specs.Prelude.{◌≡◌, ◌↔◌, Err, IfNone, IfOk, IfSome, IsTrue, option_map};
+ghost use Rattle.std.specs.Prelude.{◌≡◌, ◌↔◌, Err, IfNone, IfOk, IfSome, IsTrue, Some, codes, option_map};
 ghost use Rattle.clap.specs.Words.{first_value, found_of};
-ghost use Rattle.command_words.specs.Jobs.{IsFileName};
+ghost use Rattle.command_words.specs.Jobs.{IsFileName, job_by, job_in};
+ghost use Rattle.command_words.specs.Jobs.{Job as JobSaid};
 ghost use Rattle.command_words.specs.Line.{texts};
-ghost use Rattle.command_words.specs.Words.{IsSaid, IsWords, Said, said_by};
+ghost use Rattle.command_words.specs.Words.{IsSaid, IsWords, Said, said_by, said_with};
 ghost use Rattle.command_words.specs.declared.words.WordsFault.TheVariants.{Usage};
 
 use crate::job::{Job, job_of};
@@ -47,10 +48,9 @@ pub fn read_words<'a>(alloc: Global, words: &'a [String]) -> Result<Words<'a>, W
     ensures usage { result ≡ Err Usage → (said : Said) → IsWords (texts words.entry.now) said → ⊥ }
 {
     let matches = matches_of(alloc, words)?;
-    match words_of(&matches) {
-        Some(words) => Ok(words),
-        None => Err(WordsFault::Usage),
-    }
+    let words = words_of(&matches);
+    drop(matches);
+    words.ok_or(WordsFault::Usage)
 }
 
 /// What the arguments say by their values, or `None` where a value does not fit.
@@ -58,9 +58,28 @@ fn words_of<'a>(matches: &ArgMatches<'a>) -> Option<Words<'a>>
     ensures some { IfSome result (λ w. IsSaid (first_value (found_of matches.now)) (said_by w)) }
     ensures none { IfNone result ((said : Said) → IsSaid (first_value (found_of matches.now)) said → ⊥) }
 {
+    let job = job_in(matches)?;
+    let options = options_of(matches)?;
+    Some(Words { job, options })
+}
+
+/// The job that COMMAND, FIRST and SECOND give, or `None` where they give none.
+fn job_in<'a>(matches: &ArgMatches<'a>) -> Option<Job<'a>>
+    ensures { option_map job_by result ≡ job_in (first_value (found_of matches.now) (codes "COMMAND"))
+        (first_value (found_of matches.now) (codes "FIRST")) (first_value (found_of matches.now) (codes "SECOND")) }
+{
     let name = matches.get_str("COMMAND")?;
     let first = matches.get_str("FIRST")?;
-    let job = job_of(name, first, matches.get_str("SECOND"))?;
+    job_of(name, first, matches.get_str("SECOND"))
+}
+
+/// The options by their values, or `None` where a value does not fit.
+fn options_of<'a>(matches: &ArgMatches<'a>) -> Option<Options<'a>>
+    ensures some { (job : JobSaid) → job_in (first_value (found_of matches.now) (codes "COMMAND"))
+        (first_value (found_of matches.now) (codes "FIRST")) (first_value (found_of matches.now) (codes "SECOND")) ≡
+        Some job → IfSome result (λ o. IsSaid (first_value (found_of matches.now)) (said_with job o)) }
+    ensures none { IfNone result ((said : Said) → IsSaid (first_value (found_of matches.now)) said → ⊥) }
+{
     let weights = matches.get_str("weights");
     if !is_optional_name(weights) {
         return None;
@@ -71,7 +90,7 @@ fn words_of<'a>(matches: &ArgMatches<'a>) -> Option<Words<'a>>
     let run = setting_of(matches.get_str("run"), MAX_OPTION_SLOTS, 1)?;
     let slot_ms = setting_of(matches.get_str("slot-ms"), MAX_SLOT_MS, 8)?;
     let classes = setting_of(matches.get_str("classes"), MAX_OPTION_CLASSES, 8)?;
-    let options = Options {
+    Some(Options {
         weights,
         unit,
         agents,
@@ -79,8 +98,7 @@ fn words_of<'a>(matches: &ArgMatches<'a>) -> Option<Words<'a>>
         run,
         slot_ms,
         classes,
-    };
-    Some(Words { job, options })
+    })
 }
 
 /// There is no name, or it is the name of a file.
