@@ -1,8 +1,18 @@
-//! Small jobs, as tests give them to the top call: the words of a command line, two files, a sink and wires, all in memory.
+//! Small jobs, as the top call is given them to see what comes of them, row by row: two files and a sink in memory, wires that fail, and wires and gates that wait for one another.
 #![tactic(auto)]
 
+mod gates;
 mod job;
+mod meeting;
+mod row;
+mod stage;
+mod telling;
 mod wires;
 
-pub use job::{Asked, NOTHING, SmallJob};
-pub use wires::{tell_wires, wires_failing};
+pub use gates::{MeetingGate, gates_meeting};
+pub use job::{Given, SmallJob, job_of};
+pub use meeting::{Pair, Side, Waiting};
+pub use row::{Bench, Row, row_of, words_of};
+pub use stage::{Stage, stage_of};
+pub use telling::tell;
+pub use wires::{MeetingWire, wires_meeting};

@@ -1,0 +1,108 @@
+//! Carries out commands by the library's one call, over files, a sink, wires and gates in memory, row by row, and prints what comes of each. Its argument is the file of the rows.
+//!
+//! The first line of the file names the columns, which stand in each line below: the file of the trace, which is `t` to the command, and the one beside it, which is `s`; how many bytes a read
+//! gives at most, and which call for a file fails, counted from 1; how many bytes the sink takes, where that is a number; which unit the wires of ports 0 and 1 do not accept, counted from 1;
+//! who waits for one another, with two numbers of lines; which rankers are on the bench; whether the text and the wires are told; and the words of the command.
+//!
+//! For each row it prints the number of its line and the status, the text that the sink took and what each wire accepted, where these are told, whether the gates of the first two clients were passed where they wait and met
+//! the other one there, whether a wire gave up, and how many rankers are left on the bench.
+//!
+//! The exit code is 0 where all rows were carried out, and 1 where a row is not such, or something else was wanting.
+#![tactic(auto)]
+
+mod carrying;
+mod stop;
+mod stutter;
+
+ghost use Rattle.std.specs.Prelude.{◌≤◌, IfOk, length};
+ghost use Rattle.coflow_units.specs.declared.limits.TheConstants.{MAX_TEXT};
+
+use crate::carrying::carry_job;
+use crate::stop::Stop;
+use outside::{DiskShelf, Place4, Shelf};
+use small_jobs::{job_of, row_of, words_of};
+use std::alloc::Global;
+use std::env;
+use std::process::ExitCode;
+use std::rt::Runtime;
+use std::sync::Wait;
+use std::thread::Threads;
+use text_fields::{Fields, Lines};
+use trace_tables::bytes_of_file;
+
+fn main(rt: HostRuntime) -> ExitCode {
+    let mut shelf = DiskShelf::new(rt);
+    let carried = match rows_of(&rt, &mut shelf) {
+        Ok(rows) => carry_rows(&rt, rt.alloc(), &mut shelf, &rows),
+        Err(stop) => Err(stop),
+    };
+    match carried {
+        Ok(()) => ExitCode::from(0),
+        Err(stop) => {
+            // A line that cannot be written changes nothing.
+            let _ = eprintln!(rt; "job_runs: {stop}");
+            ExitCode::from(1)
+        }
+    }
+}
+
+/// The bytes of the file that the words name.
+fn rows_of<H: Shelf>(rt: &HostRuntime, shelf: &mut H) -> Result<Vec<u8>, Stop>
+    ensures { IfOk result (λ rows. length rows.items ≤ MAX_TEXT) }
+{
+    let Ok(words) = env::args(rt) else {
+        return Err(Stop::Usage);
+    };
+    let Ok(words) = words.collect::<Vec<String>>(rt.alloc()) else {
+        return Err(Stop::NoMemory);
+    };
+    let rows = match words.get(1) {
+        Some(name) => bytes_of_file(rt.alloc(), shelf, Place4::Trace, name),
+        None => {
+            drop(words);
+            return Err(Stop::Usage);
+        }
+    };
+    drop(words);
+    Ok(rows?)
+}
+
+/// Carries out the rows of the lines behind the first one.
+fn carry_rows<R: Runtime + Threads + Wait + Sync, H: Shelf>(
+    rt: &R,
+    alloc: Global,
+    shelf: &mut H,
+    rows: &[u8],
+) -> Result<(), Stop>
+    requires { length rows.now ≤ MAX_TEXT }
+{
+    let mut lines = Lines::new(rows);
+    let _columns = lines.next();
+    while let Some(mut fields) = lines.next() {
+        carry_line(rt, alloc, shelf, &mut fields)?;
+    }
+    Ok(())
+}
+
+/// Carries out the row of a line.
+fn carry_line<R: Runtime + Threads + Wait + Sync, H: Shelf>(
+    rt: &R,
+    alloc: Global,
+    shelf: &mut H,
+    fields: &mut Fields<'_>,
+) -> Result<(), Stop> {
+    let line = fields.line();
+    let Some(row) = row_of(fields) else {
+        return Err(Stop::Line(line));
+    };
+    let Some(words) = words_of(alloc, fields) else {
+        return Err(Stop::NoMemory);
+    };
+    let job = job_of(alloc, shelf, row);
+    let carried = match job {
+        Ok(mut job) => carry_job(rt, alloc, (line, row), &words, &mut job),
+        Err(fault) => Err(Stop::File(fault)),
+    };
+    drop(words);
+    carried
+}
