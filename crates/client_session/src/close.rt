@@ -37,11 +37,21 @@ pub enum CloseFault {
 /// A hall that is to close, with its driver and all of its sessions, which have ended: they can take no more turns.
 ///
 /// Contracts see the hall, the driver and the sessions, as they were given.
-#[derive(Drop)]
 pub struct Closing {
     hall: Hall,
     driver: Driver,
     sessions: Vec<Session>,
+}
+
+// Written out, since a derived one is proved anew, with those of all that it holds, in each crate that drops such a value.
+impl Drop for Closing {
+    fn drop(self) {
+        let Closing {
+            hall: _,
+            driver: _,
+            sessions: _,
+        } = self;
+    }
 }
 
 impl Model for Closing {
@@ -107,7 +117,7 @@ impl Closing {
             driver,
             sessions,
         } = self;
-        let Hall { gate, board } = hall;
+        let (gate, board) = hall.into_parts();
         let mut root = driver.into_root();
         rejoin_all(&gate, &mut root, sessions, &mut ranks);
         let Ok(mut desk) = gate.close(root) else {

@@ -19,10 +19,16 @@ use turnstile::Turnstile;
 /// A master that any number of sessions ask in turns, and the board on which its ranks are read without waiting.
 ///
 /// Contracts see which hall it is, and what no call changes: the opening of its master, and its board.
-#[derive(Drop)]
 pub struct Hall {
     pub(crate) gate: Turnstile<Desk>,
     pub(crate) board: RankBoard,
+}
+
+// Written out, since a derived one is proved anew, with those of all that it holds, in each crate that drops such a value.
+impl Drop for Hall {
+    fn drop(self) {
+        let Hall { gate: _, board: _ } = self;
+    }
 }
 
 impl Model for Hall {
@@ -124,6 +130,16 @@ impl Hall {
         let mut heard = self.board.seat(&mut driver.rank);
         self.meet_each(driver, &mut heard, sessions);
         self.meet_each(driver, &mut heard, sessions);
+    }
+
+    // What is left of a hall that ends: its turnstile and its board.
+    pub(crate) fn into_parts(self) -> (Turnstile<Desk>, RankBoard)
+        ensures gate { (result.0.table ≡ self.gate) × (result.0.setting ≡ self.setting) }
+        ensures board { result.1 ≡ self.setting.board }
+        ensures coflows { self.setting.board.coflows ≡ length self.setting.opening.table.ids }
+    {
+        let Hall { gate, board } = self;
+        (gate, board)
     }
 
     // The driver meets each session in turn, and so does a seat that hears their versions.

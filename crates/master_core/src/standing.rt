@@ -23,7 +23,6 @@ use open_runs::Runs;
 use std::alloc::Global;
 
 /// What a master keeps beside its journal.
-#[derive(Drop)]
 pub struct Standing {
     pub roster: Roster,
     /// The weight of each coflow.
@@ -34,6 +33,21 @@ pub struct Standing {
     pub runs: Runs,
     /// The slot with which the next run begins, or with which the open run began.
     pub next: u64,
+}
+
+// Written out, since a derived one is proved anew, with those of all that it holds, in each crate that drops such a value.
+impl Drop for Standing {
+    fn drop(self) {
+        let Standing {
+            roster: _,
+            weights: _,
+            orders: _,
+            line: _,
+            ledger: _,
+            runs: _,
+            next: _,
+        } = self;
+    }
 }
 
 impl Standing {

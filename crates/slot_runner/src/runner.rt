@@ -29,13 +29,25 @@ use std::thread::Threads;
 /// The driver of a hall, with ports of its own on which its runs are granted.
 ///
 /// Contracts see the driver, the number of ports, the posts on them and how each was settled, the slot before which its runs ended, and the flows of its last run.
-#[derive(Drop)]
 pub struct Runner {
     driver: Driver,
     board: PortBoard,
     poster: Poster,
     posted_to: u64,
     granted: Vec<u32>,
+}
+
+// Written out, since a derived one is proved anew, with those of all that it holds, in each crate that drops such a value.
+impl Drop for Runner {
+    fn drop(self) {
+        let Runner {
+            driver: _,
+            board: _,
+            poster: _,
+            posted_to: _,
+            granted: _,
+        } = self;
+    }
 }
 
 impl Model for Runner {
