@@ -1,25 +1,23 @@
 -- What a new session is.
-use Rattle.std.proofs.Common.{◌≡◌, ◌≢◌, ℕ, ◌+◌, ◌<◌, ◌≤◌, ◌^◌, Option, List, [], ◌++◌, length, map, take, drop, refl, sym, ap, ◌∙◌, subst, arith}
+use Rattle.std.proofs.Common.{◌≡◌, ◌≢◌, ℕ, ◌+◌, ◌<◌, ◌≤◌, ◌^◌, List, [], length, map, refl, sym, ap, ◌∙◌, subst, arith}
 use Rattle.std.specs.Prelude.{All, unwrap_or}
-use Rattle.std.proofs.lemmas.List.{take_all, take-append-le}
 use Rattle.std.proofs.lemmas.List.Elements.{All-nil, All-weaker}
 use Rattle.turnstile.specs.Models.{first_root, next_seat, RootModel, SeatModel as TurnSeatModel}
 use Rattle.atomic_table.specs.Seated.{TableId}
 use Rattle.journal.specs.declared.command.Entry.{Entry}
-use Rattle.journal.specs.declared.opening.Opening.{Opening}
 use Rattle.rank_board.specs.declared.pulls.Pull.{Pull}
 use Rattle.rank_board.specs.Models.{new_seat, SeatModel}
 use Rattle.master_desk.specs.declared.desk.Setting.{Setting}
 use Rattle.master_desk.specs.declared.receipt.Receipt.{Receipt}
 use Rattle.master_desk.specs.Own.{IsPass, own_entries, receipt_of}
-use Rattle.master_desk.specs.Grants.{TellsGrants}
+use Rattle.master_desk.specs.Grants.{GrantedModel, TellsGrants}
 use Rattle.client_session.specs.Drivers.{IsDriver, who_of}
 use Rattle.client_session.specs.Turns.{IsSession}
 use Rattle.master_desk.proofs.Agreement.{nothing_seen}
 use Rattle.master_desk.proofs.OwnSteps.{own_above}
 use Rattle.master_desk.proofs.Passes.{pass_first}
 
-module _ (root : RootModel Entry Setting) (seat : TurnSeatModel Entry Setting) (turned position number : ℕ) (granted : List (Option ℕ)) (h : IsDriver root turned position granted)
+module _ (root : RootModel Entry Setting) (seat : TurnSeatModel Entry Setting) (turned position number : ℕ) (granted : GrantedModel) (h : IsDriver root turned position granted)
     (seat_is : seat ≡ next_seat root) (number_is : number ≡ root.made + 1) where
   pub nothing_own : own_entries number seat.seen ≡ []
   nothing_own = ap (λ (s : TurnSeatModel Entry Setting). own_entries number s.seen) seat_is ∙ own_above number root.made root.seen (omega (arith, number_is)) h.numbers
@@ -41,15 +39,8 @@ module _ (root : RootModel Entry Setting) (seat : TurnSeatModel Entry Setting) (
         coflow = λ c e. subst (λ (x : SeatModel). All (λ (p : Pull). p.coflow < c.board.coflows) x.pulls) (sym rank_is) (All-nil (λ (p : Pull). p.coflow < c.board.coflows));
       }
 
--- a list that was told anew, as a vector
-pub retold : (o : Opening) (journal : List Entry) (n : ℕ) (new old : List (Option ℕ)) → n ≡ o.table.ports → TellsGrants o journal new →
-    TellsGrants o journal (take n (new ++ drop (length new) old))
-retold o journal n new old ports told =
-    let long : n ≡ length new = omega (arith, told.ports, ports) in
-    subst (TellsGrants o journal) (sym (take-append-le n new (drop (length new) old) (omega (arith, long)) ∙ take_all n new (omega (arith, long)))) told
-
 -- the driver of a new hall
-pub first_driver : (root : RootModel Entry Setting) (table : TableId) (setting : Setting) (granted : List (Option ℕ)) → root ≡ first_root table setting →
+pub first_driver : (root : RootModel Entry Setting) (table : TableId) (setting : Setting) (granted : GrantedModel) → root ≡ first_root table setting →
     TellsGrants setting.opening [] granted → IsDriver root 0 0 granted
 first_driver root table setting granted is told = subst (λ (r : RootModel Entry Setting). IsDriver r 0 0 granted) (sym is) (record {
   free = refl;
@@ -63,7 +54,7 @@ first_driver root table setting granted is told = subst (λ (r : RootModel Entry
 })
 
 -- the driver once it made one more session
-pub one_more : (root new : RootModel Entry Setting) (turned position : ℕ) (granted : List (Option ℕ)) → new ≡ record root { made = root.made + 1 } →
+pub one_more : (root new : RootModel Entry Setting) (turned position : ℕ) (granted : GrantedModel) → new ≡ record root { made = root.made + 1 } →
     IsDriver root turned position granted → IsDriver new turned position granted
 one_more root new turned position granted is h = subst (λ (r : RootModel Entry Setting). IsDriver r turned position granted) (sym is) (record {
   free = h.free;

@@ -1,5 +1,5 @@
 -- What the driver is after a turn.
-use Rattle.std.proofs.Common.{◌≡◌, ◌≢◌, ℕ, ◌+◌, ◌-◌, ◌<◌, ◌≤◌, inl, inr, true, false, List, [], ◌∷◌, ◌++◌, Option}
+use Rattle.std.proofs.Common.{◌≡◌, ◌≢◌, ℕ, ◌+◌, ◌-◌, ◌<◌, ◌≤◌, inl, inr, true, false, List, [], ◌∷◌, ◌++◌}
 use Rattle.std.proofs.Common.{Some, length, take, drop, refl, sym, ap, ◌∙◌, subst, arith, length-append, append_assoc, append-nil, Result, Ok, Err, true≢false}
 use Rattle.std.proofs.lemmas.List.{drop_all, take_all, take-append-drop}
 use Rattle.std.proofs.lemmas.List.Elements.{All-append, All-head, All-nil, All-push, All-tail}
@@ -12,10 +12,12 @@ use Rattle.journal.specs.Answer.{room}
 use Rattle.journal.specs.Journal.{entry, version_of}
 use Rattle.rank_board.specs.Models.{SeatModel}
 use Rattle.master_desk.specs.declared.desk.Setting.{Setting}
+use Rattle.master_desk.specs.declared.receipt.Answer.{Answer}
+use Rattle.master_desk.specs.declared.receipt.Answer.TheVariants.{Spent}
 use Rattle.master_desk.specs.declared.receipt.Receipt.{Receipt}
 use Rattle.master_desk.specs.Answers.{answer_of}
 use Rattle.master_desk.specs.Desk.{AddsEntry, IsSeen}
-use Rattle.master_desk.specs.Grants.{TellsGrants}
+use Rattle.master_desk.specs.Grants.{GrantedModel, TellsGrants}
 use Rattle.client_session.specs.Drivers.{GrownByOthers, IsDrivenOn, IsDriver, IsDriverTurn, IsStopped, StaysInHall, who_of}
 use Rattle.client_session.specs.Models.{DriverModel}
 use Rattle.master_desk.proofs.Agreement.{room_met}
@@ -80,14 +82,14 @@ alone before after made grown above zero =
     let others = all_right made before grown.0 all in
     grown.1 ∙ (ap (λ l. before ++ l) (none_made grown.0 (subst (λ m. NoneAbove who_of m grown.0) zero others) grown.2) ∙ append-nil before)
 
-module _ (root final : Roots) (rank : SeatModel) (left turned position new_position : ℕ) (granted : List (Option ℕ)) (journal after : List Entry)
+module _ (root final : Roots) (rank : SeatModel) (left turned position new_position : ℕ) (granted : GrantedModel) (journal after : List Entry)
     (h : IsDriver root turned position granted) (final_is : final ≡ record root { in_turn = false; seen = after }) (goes : GoesOn who_of journal 0 root.seen)
     (ends : new_position ≡ length after)
     (numbers : NoneAbove who_of root.made journal) where
   seen_is : take new_position final.seen ≡ after
   seen_is = ap (λ (t : Roots). take new_position t.seen) final_is ∙ take_all new_position after (omega (arith, ends))
 
-  pub driver_kept : (new_granted : List (Option ℕ)) → NoneAbove who_of root.made after →
+  pub driver_kept : (new_granted : GrantedModel) → NoneAbove who_of root.made after →
       ((c : Setting) → root.setting ≡ Some c → IsSeen c.opening after × TellsGrants c.opening after new_granted) →
       IsDriver final new_position new_position new_granted
   driver_kept new_granted above tells = subst (λ (t : Roots). IsDriver t new_position new_position new_granted) (sym final_is) (record {
@@ -179,3 +181,24 @@ module _ (root final : Roots) (rank : SeatModel) (left turned position new_posit
       spent = λ is. absurd (true≢false (ap is_full_answer is));
       calls = λ few. absurd (omega (arith, few, some));
     }
+
+-- a turn for which enough calls are left
+pub enough_left : (o : Opening) (k : Command) (need : ℕ) (old new : DriverModel) (a : Answer) → 1 ≤ need → need ≤ old.left → IsDriverTurn o k 1 old new a →
+    IsDriverTurn o k need old new a
+enough_left o k need old new a some enough t = record {
+  place = t.place;
+  done = t.done;
+  full = t.full;
+  spent = λ e. let low = (t.spent e).0 in absurd (omega (arith, low, some, enough));
+  calls = λ low. absurd (omega (arith, low, enough));
+}
+
+-- a call for which fewer are left than it may need
+pub none_left : (o : Opening) (k : Command) (need : ℕ) (driver : DriverModel) → driver.left < need → IsDriverTurn o k need driver driver Spent
+none_left o k need driver low = record {
+  place = record { gate = refl; setting = refl; rank = refl; made = refl };
+  done = λ r e. absurd (true≢false (sym (ap is_done e)));
+  full = λ n e. absurd (true≢false (sym (ap is_full_answer e)));
+  spent = λ e. (low, refl);
+  calls = λ more. refl;
+}

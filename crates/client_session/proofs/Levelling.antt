@@ -1,6 +1,6 @@
 -- The driver meets the sessions in turn.
 use Rattle.std.proofs.Common.{◌≡◌, ◌≢◌, ℕ, ◌+◌, ◌<◌, ◌≤◌, inl, inr, Bool, true, false, cond, List, [], ◌∷◌, ◌++◌}
-use Rattle.std.proofs.Common.{Option, length, get_or, set, map, take, drop, get_or-set_other, refl, sym, ap, ◌∙◌, subst, arith, length-append}
+use Rattle.std.proofs.Common.{length, get_or, set, map, take, drop, get_or-set_other, refl, sym, ap, ◌∙◌, subst, arith, length-append}
 use Rattle.std.specs.Prelude.{All, if◌then◌else◌, nat_lt}
 use Rattle.std.proofs.lemmas.Bool.{cases_Bool, ltb-false, ltb-true}
 use Rattle.std.proofs.lemmas.List.{drop-append-le, take_more, take_more_set, take-append-le}
@@ -13,7 +13,7 @@ use Rattle.rank_board.specs.declared.pulls.Pull.{Pull}
 use Rattle.master_desk.specs.declared.desk.Setting.{Setting}
 use Rattle.master_desk.specs.declared.receipt.Receipt.{Receipt}
 use Rattle.master_desk.specs.Desk.{IsSeen}
-use Rattle.master_desk.specs.Grants.{TellsGrants}
+use Rattle.master_desk.specs.Grants.{GrantedModel, TellsGrants}
 use Rattle.client_session.specs.Drivers.{IsDriver, who_of}
 use Rattle.client_session.specs.Levels.{AreRaised, IsLevel, IsMetByEach, IsMetByOne, IsNewest, IsRaised}
 use Rattle.client_session.specs.Models.{DriverModel, HallModel, IsDriverOf, IsSessionOf, SessionModel}
@@ -171,7 +171,7 @@ length_longer xs ys = go (nat_lt (length xs) (length ys))
 
 module _ (root new_root : Roots) (seat new_seat : Sits) (root_is : new_root ≡ record root { seen = longer root.seen seat.seen })
     (seat_is : new_seat ≡ record seat { seen = longer root.seen seat.seen }) (same : new_seat.seen ≡ new_root.seen) (position number top : ℕ) where
-  module _ (turned : ℕ) (granted : List (Option ℕ)) (goes : GoesOn who_of new_root.seen 0 root.seen) (numbers : NoneAbove who_of new_root.made new_root.seen)
+  module _ (turned : ℕ) (granted : GrantedModel) (goes : GoesOn who_of new_root.seen 0 root.seen) (numbers : NoneAbove who_of new_root.made new_root.seen)
       (h : IsDriver root turned position granted) (length_is : length new_root.seen ≡ top) where
     longer_is : top ≡ position + length goes.0
     longer_is = omega (arith, length_is, ap (λ (l : List Entry). length l) goes.1, length-append root.seen goes.0, h.position_is)
@@ -241,7 +241,7 @@ length_met xs ys zs a b n is ea eb en =
 -- what one meeting makes of the driver and the session
 module _ (root new_root : Roots) (seat new_seat : Sits) (root_is : new_root ≡ record root { seen = longer root.seen seat.seen })
     (seat_is : new_seat ≡ record seat { seen = longer root.seen seat.seen }) (same : new_seat.seen ≡ new_root.seen) (d_rank : SeatModel) (d_left turned d_position : ℕ)
-    (granted : List (Option ℕ))
+    (granted : GrantedModel)
     (rank new_rank heard new_heard : SeatModel) (number left s_position top : ℕ) (receipts : List Receipt) (room : ℕ) (d : IsDriver root turned d_position granted)
     (s : IsSession seat rank number left s_position receipts room) (root_list : GoesOn who_of new_root.seen 0 root.seen)
     (seat_list : GoesOn who_of new_seat.seen seat.number seat.seen)

@@ -1,5 +1,5 @@
 -- What a driver's publishing hands out.
-use Rattle.std.proofs.Common.{◌≡◌, ℕ, ◌+◌, true, false, List, [], ◌∷◌, ◌++◌, refl, sym, ap, ◌∙◌, subst, arith, Result, Ok, Err, true≢false}
+use Rattle.std.proofs.Common.{◌≡◌, ℕ, true, false, List, [], ◌∷◌, ◌++◌, refl, sym, ap, ◌∙◌, subst, arith, Result, Ok, Err, true≢false}
 use Rattle.std.specs.Prelude.{if◌then◌else◌}
 use Rattle.coflow_units.specs.declared.plan.Place.{Place}
 use Rattle.coflow_units.specs.Flows.{Instance}

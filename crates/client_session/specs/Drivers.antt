@@ -1,5 +1,5 @@
 -- What the driver keeps, and what its turns make of it.
-use Rattle.std.specs.Prelude.{◌≡◌, ℕ, ◌+◌, ◌<◌, ◌≤◌, false, List, [], ◌∷◌, ◌++◌, drop, length, Option, Some, take}
+use Rattle.std.specs.Prelude.{◌≡◌, ℕ, ◌+◌, ◌<◌, ◌≤◌, false, List, [], ◌∷◌, ◌++◌, drop, length, Some, take}
 use Rattle.coflow_units.specs.declared.plan.Place.{Place}
 use Rattle.bssi_order.specs.Order.{IsOrder}
 use Rattle.journal.specs.declared.command.Command.{Command}
@@ -16,7 +16,7 @@ use Rattle.master_desk.specs.declared.receipt.Answer.{Answer}
 use Rattle.master_desk.specs.declared.receipt.Answer.TheVariants.{Done, Full, Spent}
 use Rattle.master_desk.specs.declared.receipt.Receipt.{Receipt}
 use Rattle.master_desk.specs.Desk.{IsSeen}
-use Rattle.master_desk.specs.Grants.{TellsGrants}
+use Rattle.master_desk.specs.Grants.{GrantedModel, TellsGrants}
 use Rattle.client_session.specs.Models.{DriverModel}
 
 abbrev pub who_of : Entry → ℕ
@@ -25,7 +25,7 @@ who_of e = e.who
 -- The driver has no turn, and no session came back yet. Each entry that it has seen is its own or of a session that it
 -- made. The journal at the end of its last turn begins the longest that it has seen, with no entry of its own behind
 -- it. It keeps what is granted in that journal's open run.
-pub record IsDriver (root : RootModel Entry Setting) (turned position : ℕ) (granted : List (Option ℕ)) : Type 0 where
+pub record IsDriver (root : RootModel Entry Setting) (turned position : ℕ) (granted : GrantedModel) : Type 0 where
   pub free : root.in_turn ≡ false
   pub none_back : root.back ≡ []
   pub numbers : NoneAbove who_of root.made root.seen

@@ -1,5 +1,5 @@
 -- What a new hall's driver is, and what a new session is.
-use Rattle.std.specs.Prelude.{◌≡◌, ℕ, ◌+◌, Some, []}
+use Rattle.std.specs.Prelude.{◌≡◌, ℕ, ◌+◌, []}
 use Rattle.rank_board.specs.Models.{new_seat}
 use Rattle.client_session.specs.Models.{DriverModel, HallModel, IsDriverOf, IsSessionOf, SessionModel}
 

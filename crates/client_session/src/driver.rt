@@ -6,14 +6,14 @@ ghost use Rattle.turnstile.specs.Histories.{AddsAtMostOne, NoneAbove};
 ghost use Rattle.master_desk.specs.declared.desk.Setting.{Setting};
 ghost use Rattle.master_desk.specs.Desk.{IsSeen};
 ghost use Rattle.client_session.specs.Models.{IsDriverOf};
-ghost use Rattle.master_desk.specs.Grants.{flow_granted, TellsGrants};
+ghost use Rattle.master_desk.specs.Grants.{all_granted, flow_granted, TellsGrants};
 ghost use Rattle.client_session.specs.Drivers.{HandsOut, IsDriverTurn, who_of};
 ghost use Rattle.client_session.specs.Returns.{IsRootOf};
 
 use crate::hall::Hall;
 use coflow_units::Place;
 use journal::{Command, Reply};
-use master_desk::{Answer, Desk, is_version};
+use master_desk::{Answer, Desk, Granted, is_version};
 use rank_board::RankSeat;
 use std::marker::Model;
 use std::sync::Wait;
@@ -29,8 +29,8 @@ pub struct Driver {
     pub(crate) left: u64,
     pub(crate) turned: u32,
     pub(crate) position: u32,
-    /// For each ingress what is granted there in the open run of that journal.
-    pub(crate) granted: Vec<Option<u32>>,
+    /// What is granted in the open run of that journal.
+    pub(crate) granted: Granted,
 }
 
 // Written out, since a derived one is proved anew, with those of all that it holds, in each crate that drops such a value.
@@ -64,7 +64,7 @@ impl Model for Driver {
       position = d.position;
     } };
 
-    ghost invariant = { λ d. IsDriver d.root d.turned d.position d.granted.items };
+    ghost invariant = { λ d. IsDriver d.root d.turned d.position d.granted };
 }
 
 impl Driver {
@@ -89,10 +89,18 @@ impl Driver {
         ensures { (c : Setting) → self.now.setting ≡ Some c → ingress < c.opening.table.ports →
             result ≡ flow_granted c.opening self.now.journal ingress }
     {
-        match self.granted.get(ingress as usize) {
-            Some(flow) => *flow,
-            None => None,
-        }
+        self.granted.at(ingress)
+    }
+
+    /// Makes the list the flows that are granted in the open run of the journal that the driver has seen, by number. There are none where no run is open in it. There is room for a flow of each port.
+    pub fn list_granted(&self, hall: &Hall, flows: &mut Vec<u32>)
+        requires own { IsDriverOf hall.now self.now }
+        requires room { hall.now.setting.opening.table.ports ≤ vec_capacity flows.old }
+        ensures flows { flows.new.items ≡ all_granted hall.now.setting.opening self.now.journal }
+        ensures room { vec_capacity flows.new ≡ vec_capacity flows.old }
+    {
+        let _within = hall.coflows();
+        self.granted.list_flows(flows);
     }
 
     /// Asks that a run of at most so many slots is opened. It takes one turn, which may wait, and no memory.
@@ -104,7 +112,7 @@ impl Driver {
         ensures turn { IsDriverTurn hall.now.setting.opening (Open most) (hall.now.setting.opening.table.ports + 2)
             self.old self.new result }
     {
-        if self.left < self.granted.len() as u64 + 2 {
+        if self.left < self.granted.ports() as u64 + 2 {
             return Answer::Spent;
         }
         self.ask(rt, hall, Command::Open(most))
@@ -213,17 +221,17 @@ impl Driver {
 fn end_turn(
     gate: &Turnstile<Desk>,
     root: &mut Root<Desk>,
-    granted: &mut Vec<Option<u32>>,
+    granted: &mut Granted,
     turn: Turn<Desk>,
 ) -> u32
     requires own { (root.old.table ≡ gate.now.table) × (root.old.in_turn ≡ true) }
     requires setting { root.old.setting ≡ Some turn.value.setting }
     requires list { AddsAtMostOne who_of turn.value.journal 0 root.old.seen }
-    requires ports { length granted.old.items ≡ turn.value.setting.opening.table.ports }
+    requires ports { length granted.old.at ≡ turn.value.setting.opening.table.ports }
     ensures root { root.new ≡ record root.old { in_turn = false; seen = turn.value.journal } }
     ensures position { result ≡ length turn.value.journal }
     ensures seen { IsSeen turn.value.setting.opening turn.value.journal }
-    ensures granted { TellsGrants turn.value.setting.opening turn.value.journal granted.new.items }
+    ensures granted { TellsGrants turn.value.setting.opening turn.value.journal granted.new }
 {
     let position = turn.value.position();
     turn.value.tell_grants(granted);

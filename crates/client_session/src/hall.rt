@@ -10,7 +10,7 @@ use crate::driver::Driver;
 use crate::session::Session;
 use coflow_units::NoMemory;
 use master_core::Master;
-use master_desk::Desk;
+use master_desk::{Desk, Granted};
 use rank_board::{Publisher, RankBoard, RankSeat};
 use std::alloc::Global;
 use std::marker::Model;
@@ -170,18 +170,18 @@ impl Hall {
     }
 }
 
-// A list in which nothing is granted at so many ports, and a board of so many coflows with its publisher and a first seat.
+// Grants of nothing at so many ports, and a board of so many coflows with its publisher and a first seat.
 fn first_parts(
     alloc: Global,
     ports: u32,
     coflows: u32,
-) -> Result<(Vec<Option<u32>>, RankBoard, Publisher, RankSeat), NoMemory>
-    ensures ports { IfOk result (λ made. length made.0.items ≡ ports) }
+) -> Result<(Granted, RankBoard, Publisher, RankSeat), NoMemory>
+    ensures ports { IfOk result (λ made. length made.0.at ≡ ports) }
     ensures coflows { IfOk result (λ made. made.1.coflows ≡ coflows) }
     ensures publisher { IfOk result (λ made. made.2 ≡ first_publisher made.1.table) }
     ensures seat { IfOk result (λ made. made.3 ≡ new_seat made.1.table 0) }
 {
-    let granted = vec![in alloc; None; ports as usize]?;
+    let granted = Granted::new(alloc, ports)?;
     let (board, publisher, rank) = RankBoard::new(alloc, coflows)?;
     Ok((granted, board, publisher, rank))
 }

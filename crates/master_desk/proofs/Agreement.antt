@@ -1,7 +1,7 @@
 -- The tables that a board published agree with the journal, as it goes on and more is published.
 use Rattle.std.proofs.Common.{◌≡◌, ℕ, ◌+◌, ◌<◌, ◌≤◌, Bool, true, false, List, [], ◌∷◌, ◌++◌}
 use Rattle.std.proofs.Common.{length, get_or, refl, sym, ap, ◌∙◌, subst, arith, length-append, append-nil, true≢false, inl, inr}
-use Rattle.std.specs.Prelude.{All, if◌then◌else◌, nat_le, ◌==◌, ◌/◌}
+use Rattle.std.specs.Prelude.{All, if◌then◌else◌, nat_le, ◌/◌}
 use Rattle.std.proofs.lemmas.Bool.{cases_eq, cases_lt, eq-eqb, leb-false, leb-true, ne_eqb}
 use Rattle.std.proofs.lemmas.List.Elements.{All-nil, All-push, All-weaker}
 use Rattle.journal.specs.declared.command.Command.{Command}

@@ -1,3 +1,4 @@
 pub mod OwnSteps
 pub mod Passes
 pub mod Agreement
+pub mod FewGranted

@@ -1,5 +1,5 @@
 -- A caller's own entries in a journal, and how the pulls that it noted stand between them.
-use Rattle.std.specs.Prelude.{◌≡◌, ℕ, ◌+◌, ◌-◌, ◌==◌, ◌≤◌, ◌/◌, if◌then◌else◌, List, [], ◌∷◌, All, drop, length, take}
+use Rattle.std.specs.Prelude.{ℕ, ◌+◌, ◌-◌, ◌==◌, ◌≤◌, ◌/◌, if◌then◌else◌, List, [], ◌∷◌, All, drop, length, take}
 use Rattle.journal.specs.declared.command.Command.{Command}
 use Rattle.journal.specs.declared.command.Reply.{Reply}
 use Rattle.journal.specs.declared.command.Entry.{Entry}

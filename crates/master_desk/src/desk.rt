@@ -12,6 +12,7 @@ ghost use Rattle.master_desk.specs.Desk.{AddsEntry, IsRanked, IsSeen, KeepsLooks
 ghost use Rattle.master_desk.specs.Grants.{TellsGrants};
 ghost use Rattle.master_desk.specs.declared.receipt.Receipt.{Receipt};
 
+use crate::granted::Granted;
 use crate::receipt::Receipt;
 use coflow_units::Place;
 use journal::{Command, Entry, Opening, Reply};
@@ -89,14 +90,12 @@ impl Desk {
         self.master.journal().len() as u32
     }
 
-    /// Tells for each ingress what is granted there in the open run.
-    pub fn tell_grants(&self, granted: &mut [Option<u32>])
-        requires ports { length granted.old ≡ self.now.setting.opening.table.ports }
+    /// Tells what is granted in the open run.
+    pub fn tell_grants(&self, granted: &mut Granted)
+        requires ports { length granted.old.at ≡ self.now.setting.opening.table.ports }
         ensures granted { TellsGrants self.now.setting.opening self.now.journal granted.new }
     {
-        for ingress in 0..self.master.table().ports() {
-            granted[ingress as usize] = self.master.granted(ingress);
-        }
+        granted.tell(&self.master);
     }
 
     /// Makes the list the places of the newest version.

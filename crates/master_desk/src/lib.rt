@@ -2,7 +2,9 @@
 #![tactic(auto)]
 
 mod desk;
+mod granted;
 mod receipt;
 
 pub use desk::{Desk, Setting};
+pub use granted::Granted;
 pub use receipt::{Answer, Receipt, is_version};

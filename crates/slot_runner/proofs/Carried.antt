@@ -5,7 +5,6 @@ use Rattle.std.specs.Prelude.{All, AllPairs, Contains, map}
 use Rattle.std.proofs.lemmas.Bool.{cases_lt}
 use Rattle.std.proofs.lemmas.List.{get_or_append_left, get_or-append_right}
 use Rattle.std.proofs.lemmas.List.Elements.{All-append, All-contains, Contains-append_left, Contains-get_or}
-use Rattle.coflow_units.specs.declared.fabric.Flow.{Flow}
 use Rattle.coflow_units.specs.Flows.{ingress_of}
 use Rattle.coflow_units.proofs.ServedLaws.{grants_clear}
 use Rattle.journal.specs.declared.command.Command.TheVariants.{Close}
@@ -34,12 +33,9 @@ use Rattle.master_desk.specs.declared.receipt.Receipt.{Receipt}
 use Rattle.agent_threads.specs.Attended.{IsServedBy}
 use Rattle.slot_runner.specs.Carried.{ended, IsCarriedOut}
 use Rattle.slot_runner.specs.Models.{IsIdle, WasReported}
-use Rattle.slot_runner.specs.Posts.{flows_by_port, posts_of, settlements_of}
+use Rattle.slot_runner.specs.Posts.{posts_of, settlements_of}
 use Rattle.slot_runner.specs.Settling.{AreNoted, AreSettled, IsFirstShort, IsOpenRunOf}
 use Rattle.slot_runner.specs.Slots.{AreSent, CallsFall, IsSentAt}
-use Rattle.std.specs.List.Sorted.{IsPermutation, IsSorted}
-use Rattle.std.specs.Ordering.{nat_cmp}
-use Rattle.slot_runner.proofs.GrantedFlows.{sorted_are}
 use Rattle.slot_runner.proofs.Notes.{calls_fall, stays}
 use Rattle.slot_runner.proofs.OnePort.{drew_nothing, reported_is, sent_of, served_at, was_sent}
 use Rattle.slot_runner.proofs.Opens.{OpenFacts}
@@ -191,11 +187,11 @@ module _ {W : Type 0} (faults : W → ℕ) (runs : W → Option (List (ℕ × �
       StaysInHall mid end → ((p f : ℕ) → p < ports → granted p ≡ Some f → sent_of all.served.took p ≤ slots) →
       (short : Option (ℕ × ℕ)) → IsFirstShort granted (sent_of all.served.took) slots ports short → (far : List W) (whole whole' : List W) → whole ≡ ws ++ far → whole' ≡ ws' ++
       far →
-      (sorted before_flows : List ℕ) → IsPermutation (flows_by_port granted ports) sorted → IsSorted nat_cmp sorted →
+      (flows before_flows : List ℕ) → flows ≡ driven o before d →
       IsCarriedOut faults runs o before d (record { driver = driver; ports = ports; posted_to = to; posts = v0.posts; settled = v0.settled; granted = before_flows })
-      (record { driver = end; ports = ports; posted_to = first + slots; posts = u.posts; settled = u.settled; granted = sorted }) whole whole' short
-  carried_out o before now d within facts granted_is first_is slots_is ports_is driver mid end r noted on place low short is_short far whole whole' x y sorted before_flows
-      moved ascends =
+      (record { driver = end; ports = ports; posted_to = first + slots; posts = u.posts; settled = u.settled; granted = flows }) whole whole' short
+  carried_out o before now d within facts granted_is first_is slots_is ports_is driver mid end r noted on place low short is_short far whole whole' x y flows before_flows
+      flows_are =
       let sent = sent_of all.served.took in
       let ended_by = closes_run o before (record d { sent = sent }) now within (record {
         some = facts.some;
@@ -205,9 +201,9 @@ module _ {W : Type 0} (faults : W → ℕ) (runs : W → Option (List (ℕ × �
         next = facts.next;
         grants = facts.grants;
         told = facts.told;
+        flows = facts.flows;
       }) driver mid end r (subst (AreNoted o before (record d { sent = sent }) driver mid) ports_is noted) on place
       (λ p f lt e. subst (λ n. sent p ≤ n) (sym slots_is) (low p f (omega (arith, lt, ports_is)) (ap (λ (h : ℕ → Option ℕ). h p) granted_is ∙ e))) in
-      let inside : All (λ (z : Flow). z.ingress < ports) o.table.flows = subst (λ n. All (λ (z : Flow). z.ingress < n) o.table.flows) (sym ports_is) within.table.ingress in
       record {
         sent = sent;
         between = ended_by.between;
@@ -218,8 +214,7 @@ module _ {W : Type 0} (faults : W → ℕ) (runs : W → Option (List (ℕ × �
         seen = ended_by.seen;
         numbers = ended_by.numbers;
         calls = ended_by.calls;
-        granted = sorted_are o.table.flows (line_of o (opened_in before d)) (owed o (state_of o (opened_in before d))) (driven o before d) sorted ports inside facts.grants
-            (subst (λ (h : ℕ → Option ℕ). IsPermutation (flows_by_port h ports) sorted) granted_is moved) ascends;
+        granted = flows_are;
         ports = refl;
         posts = posts_u ∙ (λ i. v0.posts ++ posts_of (granted_is i) (sym first_is i) (sym slots_is i) ports);
         settled = settled_u ∙ (λ i. v0.settled ++ settlements_of (granted_is i) sent (sym first_is i) (sym slots_is i) ports);

@@ -1,7 +1,6 @@
 pub mod Answered
 pub mod Carried
 pub mod Concluded
-pub mod GrantedFlows
 pub mod Notes
 pub mod OnePort
 pub mod Opens

@@ -13,7 +13,7 @@ use Rattle.journal.specs.Fold.{state_of}
 use Rattle.journal.specs.Journal.{entry, IsLegal}
 use Rattle.coflow_units.specs.Grants.{IsGrants}
 use Rattle.journal.specs.Journal.{line_of}
-use Rattle.journal.specs.Runs.{flow_at, grant_in}
+use Rattle.journal.specs.Runs.{flow_at, flows_granted, grant_in}
 use Rattle.journal.specs.Sound.{InRange, IsOpenRun, OnRun}
 use Rattle.journal.specs.State.{IsOpening, owed, Run}
 use Rattle.journal.proofs.Ingresses.{grant_is}
@@ -25,7 +25,7 @@ use Rattle.journal.proofs.OpenReplies.{open_reply}
 use Rattle.journal.proofs.Sound.{legal_sound}
 use Rattle.journal.proofs.UnderWay.{opens, running}
 use Rattle.master_desk.specs.Desk.{DrivenByRoot}
-use Rattle.master_desk.specs.Grants.{flow_granted}
+use Rattle.master_desk.specs.Grants.{all_granted, flow_granted}
 use Rattle.client_session.specs.Drivers.{IsDrivenOn}
 use Rattle.client_session.specs.Models.{DriverModel}
 use Rattle.master_desk.specs.declared.receipt.Receipt.{Receipt}
@@ -86,7 +86,7 @@ module _ (o : Opening) (most : ℕ) (old new : DriverModel) (r : Receipt) (on : 
     }
 
 -- while the run is open: its slots, its length and its flows are in range, and what the driver tells of each ingress is
--- the run's grant there
+-- the run's grant there, and the flows are the run's
 pub record OpenFacts (o : Opening) (before now : List Entry) (d : Drive) : Type 0 where
   pub some : 1 ≤ d.first
   pub first : d.first ≤ MAX_SLOT
@@ -95,6 +95,7 @@ pub record OpenFacts (o : Opening) (before now : List Entry) (d : Drive) : Type 
   pub next : d.first ≡ (state_of o before).next
   pub grants : IsGrants o.table.flows (line_of o (opened_in before d)) (owed o (state_of o (opened_in before d))) (driven o before d)
   pub told : flow_granted o now ≡ grant_in o.table.flows (driven o before d)
+  pub flows : all_granted o now ≡ driven o before d
 
 on_run : (o : Opening) (now : List Entry) (run : Option Run) (r : Run) → run ≡ Some r → OnRun run (IsOpenRun o.table.flows (state_of o now).sent (state_of o now).next) →
     IsOpenRun o.table.flows (state_of o now).sent (state_of o now).next r
@@ -117,6 +118,7 @@ open_facts o before now d legal ok under =
       next = x.first;
       grants = x.grants;
       told = ap (λ y. λ p. flow_at o.table.flows y p) is ∙ ap (λ l. grant_in o.table.flows l) granted;
+      flows = ap flows_granted is ∙ granted;
     }
 
 -- a granted flow has a number within the limit

@@ -1,7 +1,7 @@
 -- The posts of a run behind earlier ones: which is the last at a port, and which of them wait.
 use Rattle.std.proofs.Common.{◌≡◌, ◌≢◌, inl, inr, ⊎_elim, ℕ, ◌+◌, ◌<◌, ◌≤◌, Bool, true, false, not, List, [], ◌∷◌, ◌++◌, get_or, Option, Some}
 use Rattle.std.proofs.Common.{None, cond, refl, sym, ap, subst, ◌∙◌, arith, append_assoc, append-nil, zero, suc}
-use Rattle.std.specs.Prelude.{All, Contains, flat_map, option_to_list, ◌||◌}
+use Rattle.std.specs.Prelude.{All, Contains, flat_map, ◌||◌}
 use Rattle.std.specs.List.{range_with_len}
 use Rattle.std.proofs.lemmas.Bool.{cases_eq, eq-eqb, ne_eqb}
 use Rattle.std.proofs.lemmas.Grind.{flat_map-append}
@@ -13,7 +13,7 @@ use Rattle.port_board.specs.declared.view.Grant.{Grant}
 use Rattle.port_board.specs.declared.view.Settlement.{Settlement}
 use Rattle.port_board.specs.Views.{grant, is_left, is_of, is_settled, is_unsettled, last_at, settlement}
 use Rattle.port_board.proofs.Lists.{is_of-false, is_of-same, last_pushed}
-use Rattle.slot_runner.specs.Posts.{flows_by_port, post_at, posts_of, settled_at, settlements_of}
+use Rattle.slot_runner.specs.Posts.{post_at, posts_of, settled_at, settlements_of}
 
 -- one port more
 range_next : (n : ℕ) → range_with_len 0 (n + 1) ≡ range_with_len 0 n ++ n ∷ []
@@ -28,9 +28,6 @@ posts_next granted first slots n = next_port (λ p. post_at first slots p (grant
 pub settlements_next : (granted : ℕ → Option ℕ) (sent : ℕ → ℕ) (first slots n : ℕ) →
     settlements_of granted sent first slots (n + 1) ≡ settlements_of granted sent first slots n ++ settled_at first slots (sent n) n (granted n)
 settlements_next granted sent first slots n = next_port (λ p. settled_at first slots (sent p) p (granted p)) n
-
-pub flows_next : (granted : ℕ → Option ℕ) (n : ℕ) → flows_by_port granted (n + 1) ≡ flows_by_port granted n ++ option_to_list (granted n)
-flows_next granted n = next_port (λ p. option_to_list (granted p)) n
 
 module _ (granted : ℕ → Option ℕ) (first slots : ℕ) where
   -- a post of the run is that of a port with a grant

@@ -1,14 +1,14 @@
 -- The posts of a run, one port after the other.
 use Rattle.std.proofs.Common.{◌≡◌, ℕ, ◌+◌, ◌<◌, ◌≤◌, false, List, [], ◌∷◌, ◌++◌, Option, Some, None, refl, sym, ap, subst, ◌∙◌, arith, append_assoc}
 use Rattle.std.proofs.Common.{append-nil}
-use Rattle.std.specs.Prelude.{All, option_to_list}
+use Rattle.std.specs.Prelude.{All}
 use Rattle.std.proofs.lemmas.List.Elements.{All-contains}
 use Rattle.port_board.specs.declared.view.Grant.{Grant}
 use Rattle.port_board.specs.declared.view.View.{View}
 use Rattle.port_board.specs.Views.{grant, is_left, is_unsettled, last_at, last_slot, posted_too, slot_or_none}
-use Rattle.slot_runner.specs.Posts.{flows_by_port, IsPosted, post_at, posts_of}
+use Rattle.slot_runner.specs.Posts.{IsPosted, post_at, posts_of}
 use Rattle.slot_runner.proofs.OnePort.{last_among}
-use Rattle.slot_runner.proofs.PortPosts.{flows_next, last_later, posts_next}
+use Rattle.slot_runner.proofs.PortPosts.{last_later, posts_next}
 
 module _ (granted : ℕ → Option ℕ) (first slots : ℕ) (v : View) where
   pub begins_posted : IsPosted granted first slots 0 v v
@@ -48,9 +48,3 @@ module _ (granted : ℕ → Option ℕ) (first slots : ℕ) (v : View) where
       back = ap (λ (x : View). x.back) is ∙ so_far.back;
       made = ap (λ (x : View). x.made) is ∙ so_far.made;
     }
-
-pub flows_none : (granted : ℕ → Option ℕ) (k : ℕ) → granted k ≡ None → flows_by_port granted (k + 1) ≡ flows_by_port granted k
-flows_none granted k e = flows_next granted k ∙ ap (λ o. flows_by_port granted k ++ option_to_list o) e ∙ append-nil (flows_by_port granted k)
-
-pub flows_more : (granted : ℕ → Option ℕ) (k f : ℕ) → granted k ≡ Some f → flows_by_port granted (k + 1) ≡ flows_by_port granted k ++ f ∷ []
-flows_more granted k f e = flows_next granted k ∙ ap (λ o. flows_by_port granted k ++ option_to_list o) e

@@ -1,8 +1,6 @@
 -- From the posts of an open run to its close, step by step.
 use Rattle.std.proofs.Common.{◌≡◌, ℕ, ◌+◌, ◌≤◌, List, ◌++◌, length, Option, refl, sym, ap, subst, ◌∙◌, arith}
 use Rattle.std.specs.Prelude.{All, AllPairs, Contains}
-use Rattle.std.specs.List.Sorted.{IsPermutation, IsSorted}
-use Rattle.std.specs.Ordering.{nat_cmp}
 use Rattle.std.proofs.lemmas.List.Elements.{All-weaker, Contains-append_left}
 use Rattle.journal.specs.declared.command.Command.TheVariants.{Close}
 use Rattle.journal.specs.declared.command.Entry.{Entry}
@@ -16,14 +14,14 @@ use Rattle.port_board.specs.declared.view.Report.{Report}
 use Rattle.port_board.specs.declared.view.View.{View}
 use Rattle.port_board.specs.Agreement.{EachPosted, SharesNothing}
 use Rattle.master_desk.specs.Desk.{IsSeen}
-use Rattle.master_desk.specs.Grants.{flow_granted}
+use Rattle.master_desk.specs.Grants.{all_granted, flow_granted}
 use Rattle.client_session.specs.Drivers.{IsDrivenOn, StaysInHall}
 use Rattle.client_session.specs.Models.{DriverModel}
 use Rattle.master_desk.specs.declared.receipt.Receipt.{Receipt}
 use Rattle.agent_threads.specs.Attended.{IsServedBy}
 use Rattle.slot_runner.specs.Carried.{IsCarriedOut}
 use Rattle.slot_runner.specs.Models.{IsIdle}
-use Rattle.slot_runner.specs.Posts.{flows_by_port, IsPosted, posts_of}
+use Rattle.slot_runner.specs.Posts.{IsPosted, posts_of}
 use Rattle.slot_runner.specs.Settling.{AreNoted, AreSettled, AreToSettle, IsFirstShort, IsOpenRunOf}
 use Rattle.slot_runner.proofs.Carried.{carried_out, idle_again, told_open}
 use Rattle.slot_runner.proofs.OnePort.{sent_of, to_settle}
@@ -86,14 +84,14 @@ module _ (o : Opening) (before : List Entry) (d : Drive) (driver : DriverModel) 
 
       pub through : (end : DriverModel) (r : Receipt) → IsDrivenOn o Close mid end r → StaysInHall mid end → (far whole whole' : List W) → whole ≡ near ++ far → whole' ≡ near'
           ++ far →
-          (listed sorted before_flows : List ℕ) → listed ≡ flows_by_port (flow_granted o driver.journal) ports → IsPermutation listed sorted → IsSorted nat_cmp sorted →
+          (flows before_flows : List ℕ) → flows ≡ all_granted o driver.journal →
           IsCarriedOut faults runs o before d (record { driver = driver; ports = ports; posted_to = to; posts = v0.posts; settled = v0.settled; granted = before_flows })
-          (record { driver = end; ports = ports; posted_to = slot + slots; posts = v3.posts; settled = v3.settled; granted = sorted }) whole whole' short
-      through end r on place far whole whole' x y listed sorted before_flows listed_is moved ascends =
+          (record { driver = end; ports = ports; posted_to = slot + slots; posts = v3.posts; settled = v3.settled; granted = flows }) whole whole' short
+      through end r on place far whole whole' x y flows before_flows flows_are =
           let it = carried_out faults runs granted d.first d.slots ports to v0 v1 v2 v3 near near' idle late posted'.posts posted'.settled posted'.back all many settled o
           before driver.journal d within
-          facts refl refl refl ports_is driver mid end r noted on place waiting.within short is_short far whole whole' x y sorted before_flows
-          (subst (λ l. IsPermutation l sorted) (listed_is ∙ ap (λ h. flows_by_port h ports) facts.told) moved) ascends in
+          facts refl refl refl ports_is driver mid end r noted on place waiting.within short is_short far whole whole' x y flows before_flows
+          (flows_are ∙ facts.flows) in
           subst (λ n. IsCarriedOut faults runs o before d (record {
             driver = driver;
             ports = ports;
@@ -103,5 +101,5 @@ module _ (o : Opening) (before : List Entry) (d : Drive) (driver : DriverModel) 
             granted =
                 before_flows;
           })
-          (record { driver = end; ports = ports; posted_to = n; posts = v3.posts; settled = v3.settled; granted = sorted }) whole whole' short)
+          (record { driver = end; ports = ports; posted_to = n; posts = v3.posts; settled = v3.settled; granted = flows }) whole whole' short)
           (λ i. sym first_is i + sym slots_is i) it

@@ -1,5 +1,5 @@
 -- The posts of a run, one for each ingress port that has a grant in it, in the order of the ports.
-use Rattle.std.specs.Prelude.{◌≡◌, ℕ, List, [], ◌∷◌, ◌++◌, flat_map, option_to_list, Option, Some, None}
+use Rattle.std.specs.Prelude.{◌≡◌, ℕ, List, [], ◌∷◌, ◌++◌, flat_map, Option, Some, None}
 use Rattle.std.specs.List.{range_with_len}
 use Rattle.port_board.specs.declared.view.Grant.{Grant}
 use Rattle.port_board.specs.declared.view.Settlement.{Settlement}
@@ -25,10 +25,6 @@ posts_of granted first slots ports =
 abbrev pub settlements_of : (ℕ → Option ℕ) → (ℕ → ℕ) → ℕ → ℕ → ℕ → List Settlement
 settlements_of granted sent first slots ports =
     flat_map (λ port. settled_at first slots (sent port) port (granted port)) (range_with_len 0 ports)
-
--- the granted flows, in the order of their ports
-abbrev pub flows_by_port : (ℕ → Option ℕ) → ℕ → List ℕ
-flows_by_port granted ports = flat_map (λ port. option_to_list (granted port)) (range_with_len 0 ports)
 
 -- the grants of so many ports were posted, and all else of the poster is as before
 pub record IsPosted (granted : ℕ → Option ℕ) (first slots ports : ℕ) (v w : View) : Type 0 where

@@ -1,22 +1,21 @@
 //! The posts of a run.
-ghost use Rattle.std.specs.Prelude.{◌≡◌, ℕ, ◌+◌, ◌<◌, ◌≤◌, false, ◌++◌, All, Some, vec_capacity};
+ghost use Rattle.std.specs.Prelude.{◌≡◌, ℕ, ◌+◌, ◌<◌, ◌≤◌, false, ◌++◌, All, Some};
 ghost use Rattle.coflow_units.specs.declared.limits.TheConstants.{MAX_FLOWS, MAX_SLOT};
 ghost use Rattle.port_board.specs.declared.view.Grant.{Grant};
 ghost use Rattle.port_board.specs.Views.{is_unsettled};
 ghost use Rattle.master_desk.specs.Grants.{flow_granted};
 ghost use Rattle.client_session.specs.Models.{IsDriverOf};
-ghost use Rattle.slot_runner.specs.Posts.{flows_by_port, IsPosted};
+ghost use Rattle.slot_runner.specs.Posts.{IsPosted};
 
 use client_session::{Driver, Hall};
 use port_board::{PortBoard, Poster};
 
-// Posts the grant of each port, and lists the granted flows in the order of their ports.
+// Posts the grant of each port.
 pub(crate) fn post_grants(
     _hall: &Hall,
     driver: &Driver,
     board: &PortBoard,
     poster: &mut Poster,
-    granted: &mut Vec<u32>,
     slot: u64,
     length: u64,
 )
@@ -27,20 +26,14 @@ pub(crate) fn post_grants(
     requires slot { (1 ≤ slot) × (slot ≤ MAX_SLOT) × All (λ (g : Grant). g.slot < slot) poster.old.view.posts }
     requires length { (1 ≤ length) × (length ≤ MAX_SLOT + 1) }
     requires settled { (port : ℕ) → is_unsettled port poster.old.view.posts poster.old.view.settled ≡ false }
-    requires room { board.now.ports ≤ vec_capacity granted.old }
     ensures own { poster.new.at ≡ poster.old.at }
     ensures posted { IsPosted (flow_granted _hall.now.setting.opening driver.now.journal) slot length board.now.ports
         poster.old.view poster.new.view }
-    ensures granted { granted.new.items ≡
-        flows_by_port (flow_granted _hall.now.setting.opening driver.now.journal) board.now.ports }
-    ensures room { vec_capacity granted.new ≡ vec_capacity granted.old }
 {
-    granted.clear();
     for port in 0..board.ports() {
         let Some(flow) = driver.granted(port) else {
             continue;
         };
         board.post(poster, port, slot, flow, length);
-        granted.push_reserved(flow);
     }
 }

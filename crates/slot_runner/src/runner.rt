@@ -211,10 +211,10 @@ impl Runner {
             &self.driver,
             &self.board,
             &mut self.poster,
-            &mut self.granted,
             slot,
             slots,
         );
+        self.driver.list_granted(hall, &mut self.granted);
         let (near, _far) = wires.split_at_mut(self.board.ports() as usize);
         serve_run(rt, &self.board, &mut self.poster, seats, agents, near);
         let fault = settle_ports(
@@ -226,7 +226,6 @@ impl Runner {
             slots,
         );
         close_run(rt, hall, &mut self.driver);
-        self.granted.sort_unstable();
         self.posted_to = slot + slots;
         fault
     }

@@ -1,16 +1,13 @@
 -- The port at which a post is made is free, and its last post was earlier.
-use Rattle.std.proofs.Common.{◌≡◌, ℕ, ◌<◌, List, [], ◌∷◌, ◌++◌, length, Some, None, refl, sym, ap, ◌∙◌, arith}
+use Rattle.std.proofs.Common.{◌≡◌, ◌<◌, Some, None, refl, sym, ◌∙◌, arith}
 use Rattle.master_desk.specs.Grants.{flow_granted}
-use Rattle.slot_runner.proofs.GrantedFlows.{few_flows}
-use Rattle.slot_runner.proofs.PostSteps.{begins_posted, flows_more, flows_none, is_free, is_later, posts_port, skips_port}
+use Rattle.slot_runner.proofs.PostSteps.{begins_posted, is_free, is_later, posts_port, skips_port}
 use Rattle.slot_runner.proofs.posting.post_grants.Goals as goal
 
 pub loop-port-init : goal.loop-port-init
 loop-port-init c = record {
   at = refl;
   posted = begins_posted (flow_granted c.args._hall.now.setting.opening c.args.driver.now.journal) c.args.slot c.args.length c.args.poster.now.view;
-  flows = c.clear.ensures.items;
-  room = c.clear.ensures.capacity;
 }
 
 pub loop-port-preserved-in_default : goal.loop-port-preserved-in_default
@@ -23,8 +20,6 @@ loop-port-preserved-in_default c =
     record {
       at = c.loop-port.invariant.at;
       posted = skips_port G c.args.slot c.args.length c.args.poster.now.view k c.loop-port.poster.view c.loop-port.invariant.posted none;
-      flows = c.loop-port.invariant.flows ∙ sym (flows_none G k none);
-      room = c.loop-port.invariant.room;
     }
 
 pub post-requires-clause-flow : goal.post-requires-clause-flow
@@ -47,14 +42,6 @@ post-requires-clause-slot c = (
   c.requires.slot.1,
 )
 
-pub push_reserved-requires : goal.push_reserved-requires
-push_reserved-requires c =
-    let k = c.loop-port.port in
-    let few = few_flows (flow_granted c.args._hall.now.setting.opening c.args.driver.now.journal) k in
-    let listed = ap (λ (l : List ℕ). length l) c.loop-port.invariant.flows in
-    let held = c.loop-port.granted.ok.0 in
-    omega (arith, few, listed, c.loop-port-test.true, c.ports-port-end.ensures.ports, c.requires.room, c.loop-port.invariant.room)
-
 pub loop-port-preserved : goal.loop-port-preserved
 loop-port-preserved c =
     let G = flow_granted c.args._hall.now.setting.opening c.args.driver.now.journal in
@@ -66,6 +53,4 @@ loop-port-preserved c =
       at = c.post.ensures.own ∙ c.loop-port.invariant.at;
       posted = posts_port G c.args.slot c.args.length c.args.poster.now.view k c.loop-port.poster.view c.loop-port.invariant.posted c.in-Some.flow c.post.new.poster.view given
           c.post.ensures.post;
-      flows = c.push_reserved.ensures.items ∙ ap (λ (l : List ℕ). l ++ c.in-Some.flow ∷ []) c.loop-port.invariant.flows ∙ sym (flows_more G k c.in-Some.flow given);
-      room = c.push_reserved.ensures.capacity ∙ c.loop-port.invariant.room;
     }

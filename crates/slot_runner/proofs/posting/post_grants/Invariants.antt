@@ -1,13 +1,11 @@
 -- the ports so far are posted
-use Rattle.std.proofs.Common.{◌≡◌, vec_capacity}
+use Rattle.std.proofs.Common.{◌≡◌}
 use Rattle.master_desk.specs.Grants.{flow_granted}
-use Rattle.slot_runner.specs.Posts.{flows_by_port, IsPosted}
+use Rattle.slot_runner.specs.Posts.{IsPosted}
 use Rattle.slot_runner.proofs.posting.post_grants.Given as goal
 
 abbrev pub invariant-loop-port : goal.invariant-loop-port
 invariant-loop-port l = record {
   at : l.poster.at ≡ l.fn.poster.at;
   posted : IsPosted (flow_granted l._hall.setting.opening l.driver.journal) l.slot l.length l.port l.fn.poster.view l.poster.view;
-  flows : l.granted.items ≡ flows_by_port (flow_granted l._hall.setting.opening l.driver.journal) l.port;
-  room : vec_capacity l.granted ≡ vec_capacity l.fn.granted;
 }

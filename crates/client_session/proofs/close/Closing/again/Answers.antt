@@ -1,5 +1,5 @@
 -- All sessions came back, so the turnstile gives the desk out, and its master's journal holds all that they had seen.
-use Rattle.std.proofs.Common.{◌≡◌, length, map, sym, ap, ◌∙◌, subst}
+use Rattle.std.proofs.Common.{◌≡◌, map, sym, ap, ◌∙◌, subst}
 use Rattle.std.specs.Prelude.{All}
 use Rattle.std.proofs.lemmas.List.Elements.{All-map}
 use Rattle.rank_board.specs.Models.{BoardModel, SeatModel}

@@ -1,5 +1,5 @@
 -- A turn adds the driver's entry, or finds no room.
-use Rattle.std.proofs.Common.{◌≡◌, ℕ, ◌+◌, ◌-◌, ◌<◌, ◌≤◌, List, [], ◌∷◌, ◌++◌, take, length, sym, ap, ◌∙◌, subst, arith, Err, true, false, true≢false}
+use Rattle.std.proofs.Common.{◌≡◌, ℕ, ◌-◌, ◌<◌, ◌≤◌, List, take, length, sym, ap, ◌∙◌, subst, arith, Err, true, false, true≢false}
 use Rattle.std.specs.Prelude.{unwrap_or}
 use Rattle.journal.specs.Answer.{room}
 use Rattle.turnstile.specs.Models.{RootModel}
@@ -28,6 +28,12 @@ end_turn-self-inside-requires-clause-list g c =
     root_may_leave c.self.inside.root c.enter_root-turn.new.root c.enter_root-turn.result.value.journal c.drive-answer.new.self.journal Publish c.drive-answer.result
     c.enter_root-turn.ensures.root a.entry (λ n e. (a.full n e).0)
 
+-- the list has a place for each port
+pub end_turn-self-inside-requires-clause-ports : goal.end_turn-self-inside-requires-clause-ports
+end_turn-self-inside-requires-clause-ports g c =
+    let told = c.self.invariant.grants c.enter_root-turn.result.value.setting c.enter_root-turn.ensures.setting in
+    told.ports ∙ ap (λ (x : Setting). x.opening.table.ports) (sym c.drive-answer.ensures.setting)
+
 pub invariant_of-self : goal.invariant_of-self
 invariant_of-self g c =
     let d = c.self.inside in
@@ -42,11 +48,11 @@ invariant_of-self g c =
     let end = c.end_turn-self-inside in
     let final = root_left d.root c.enter_root-turn.new.root end.new.root journal after e.root t.root in
     let above = numbers_after d.root.made journal after k result a.entry (λ n e. (a.full n e).0) e.numbers in
-    driver_kept d.root end.new.root d.rank d.left d.turned d.position end.result d.granted.items journal after c.self.invariant final e.list t.position e.numbers
-    end.new.granted.items above
+    driver_kept d.root end.new.root d.rank d.left d.turned d.position end.result d.granted journal after c.self.invariant final e.list t.position e.numbers
+    end.new.granted above
     (λ s is.
     let same : c.drive-answer.new.self.setting ≡ s = a.setting ∙ ap (λ x. unwrap_or x s) (sym e.setting ∙ is) in
-    (subst (λ (x : Setting). IsSeen x.opening after) same t.seen, subst (λ (x : Setting). TellsGrants x.opening after end.new.granted.items) same t.granted))
+    (subst (λ (x : Setting). IsSeen x.opening after) same t.seen, subst (λ (x : Setting). TellsGrants x.opening after end.new.granted) same t.granted))
 
 pub returns-clause-turn : goal.returns-clause-turn
 returns-clause-turn g c =
@@ -68,7 +74,7 @@ returns-clause-turn g c =
     let some : 0 < d.left = omega (arith, c.if-self-eq0.false) in
     let full : (n : ℕ) → result ≡ Err n → (after ≡ journal) × (n ≡ length journal) × (room o k ≤ n) = λ n err.
     let f = a.full n err in (f.0, f.1, subst (λ (x : Setting). room x.opening k ≤ n) entered f.2) in
-    let turned = driver_turned d.root end.new.root d.rank d.left d.turned d.position end.result d.granted.items journal after c.self.invariant final e.list t.position e.numbers
+    let turned = driver_turned d.root end.new.root d.rank d.left d.turned d.position end.result d.granted journal after c.self.invariant final e.list t.position e.numbers
     o k some seen above result a.entry full in
     let new = driver_model end.new.root d.rank (d.left - 1) end.result end.result in
     subst (λ (x : Answer). IsDriverTurn o k 1 c.args.self.now new x) (sym c.of_turn.ensures)

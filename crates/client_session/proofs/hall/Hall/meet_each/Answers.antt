@@ -1,7 +1,5 @@
 -- The sessions are met one after another.
-use Rattle.std.proofs.Common.{rules, ◌≡◌, ℕ, ◌+◌, ◌<◌, ◌≤◌, length, take, refl, sym, ap, ◌∙◌, subst, arith}
-use Rattle.std.proofs.lemmas.List.{take_all}
-use Rattle.client_session.specs.Levels.{IsMetByEach}
+use Rattle.std.proofs.Common.{rules, refl}
 use Rattle.client_session.proofs.Levelling.{met_next, met_nobody, rest_stays}
 use Rattle.client_session.proofs.hall.Hall.meet_each.Goals as goal
 

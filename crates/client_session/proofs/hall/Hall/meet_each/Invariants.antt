@@ -1,4 +1,4 @@
-use Rattle.std.proofs.Common.{◌≡◌, ℕ, ◌≤◌, length, take}
+use Rattle.std.proofs.Common.{◌≡◌, ℕ, ◌≤◌, take}
 use Rattle.std.specs.Prelude.{slice_index_or}
 use Rattle.client_session.specs.Levels.{IsMetByEach}
 use Rattle.client_session.specs.Models.{SessionModel}

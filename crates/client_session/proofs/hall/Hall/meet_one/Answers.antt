@@ -1,5 +1,5 @@
 -- The driver and the session met, and have seen one list.
-use Rattle.std.proofs.Common.{◌≡◌, ℕ, ◌+◌, ◌-◌, ◌<◌, ◌≤◌, sym, ap, ◌∙◌, subst, arith}
+use Rattle.std.proofs.Common.{◌≡◌, ap, ◌∙◌, subst, arith}
 use Rattle.std.specs.Prelude.{vec_capacity}
 use Rattle.rank_board.specs.Models.{saw_front, SeatModel}
 use Rattle.client_session.specs.Levels.{IsMetByOne}
@@ -14,7 +14,7 @@ invariant_of-driver c =
     let d = c.driver.inside in
     let s = c.session.inside in
     let m = c.meet.ensures in
-    driver_after d.root c.meet.new.root s.seat c.meet.new.seat m.root m.seat m.same d.rank d.left d.turned d.position d.granted.items s.rank s.rank s.rank s.rank s.number s.left
+    driver_after d.root c.meet.new.root s.seat c.meet.new.seat m.root m.seat m.same d.rank d.left d.turned d.position d.granted s.rank s.rank s.rank s.rank s.number s.left
     s.position c.greater-position.result s.receipts.items (vec_capacity s.receipts) c.driver.invariant c.session.invariant m.root_list m.seat_list m.numbers
     c.greater-position.ensures
 
@@ -26,7 +26,7 @@ invariant_of-session c =
     let from = c.tell.ensures.from in
     let rank = c.tell-2.new.to in
     let rank_is : rank ≡ saw_front rank.seen s.rank = c.tell-2.ensures.to ∙ ap (saw_front rank.seen) from in
-    session_after d.root c.meet.new.root s.seat c.meet.new.seat m.root m.seat m.same d.rank d.left d.turned d.position d.granted.items s.rank rank s.rank s.rank s.number s.left
+    session_after d.root c.meet.new.root s.seat c.meet.new.seat m.root m.seat m.same d.rank d.left d.turned d.position d.granted s.rank rank s.rank s.rank s.number s.left
     s.position c.greater-position.result s.receipts.items (vec_capacity s.receipts) c.driver.invariant c.session.invariant m.root_list m.seat_list m.numbers
     c.greater-position.ensures
     rank_is (omega (arith, c.tell-2.ensures.seen.1, ap (λ (x : SeatModel). x.seen) from))
@@ -43,7 +43,7 @@ returns c =
     let last = c.tell-2.new.from in
     let same = ap (λ (x : SeatModel). x.seen) c.tell-2.ensures.from in
     let rank_is : rank ≡ saw_front rank.seen s.rank = c.tell-2.ensures.to ∙ ap (saw_front rank.seen) from in
-    let met = one_met d.root c.meet.new.root s.seat c.meet.new.seat m.root m.seat m.same d.rank d.left d.turned d.position d.granted.items s.rank rank heard last s.number s.left
+    let met = one_met d.root c.meet.new.root s.seat c.meet.new.seat m.root m.seat m.same d.rank d.left d.turned d.position d.granted s.rank rank heard last s.number s.left
     s.position top s.receipts.items (vec_capacity s.receipts) c.driver.invariant c.session.invariant m.root_list m.seat_list m.numbers c.greater-position.ensures
     rank_is (omega (arith, c.tell-2.ensures.seen.1, ap (λ (x : SeatModel). x.seen) from))
     (ap (λ (x : SeatModel). x.table) c.tell-2.ensures.from ∙ ap (λ (x : SeatModel). x.table) c.tell.ensures.to) (omega (arith, same, c.tell.ensures.seen.1))

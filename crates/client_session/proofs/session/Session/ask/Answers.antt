@@ -1,5 +1,5 @@
 -- A turn adds the session's entry, or finds no room.
-use Rattle.std.proofs.Common.{◌≡◌, ◌+◌, ◌-◌, ◌<◌, ◌≤◌, [], ◌∷◌, ◌++◌, sym, ap, ◌∙◌, subst, arith}
+use Rattle.std.proofs.Common.{◌≡◌, ◌-◌, ◌<◌, ◌≤◌, sym, ap, ◌∙◌, subst, arith}
 use Rattle.std.specs.Prelude.{unwrap_or, vec_capacity}
 use Rattle.turnstile.specs.Histories.{GoesOn}
 use Rattle.master_desk.specs.declared.desk.Setting.{Setting}

@@ -1,5 +1,5 @@
 -- A version is published with the ranks of the journal that has it.
-use Rattle.std.proofs.Common.{◌≡◌, ◌+◌, ◌<◌, ◌≤◌, ap, ◌∙◌, arith}
+use Rattle.std.proofs.Common.{ap, arith}
 use Rattle.master_core.proofs.StepTells.{versions_few}
 use Rattle.master_desk.proofs.Agreement.{agrees_published, agrees_unpublished, driven_after}
 use Rattle.master_desk.proofs.desk.Desk.step.Goals as goal

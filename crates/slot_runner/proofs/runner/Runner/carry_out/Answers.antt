@@ -202,7 +202,7 @@ invariant_of-self g c =
     let there = told o before d i.driver within seen open' c.args.slot c.args.slots i.board.ports i.posted_to first long own.1 i.poster.view c.post_grants.new.poster.view idle
     low c.post_grants.ensures.posted g.W.Wire.faults g.W.Wire.runs c.serve_run.new.poster.view _ c.serve_run.new.wires all many in
     let (settled, noted, short) = c.settle_ports-fault.ensures.settled before (record d { sent = sent }) long there here in
-    let room = c.sort_unstable.ensures.capacity ∙ c.post_grants.ensures.room in (
+    let room = c.list_granted.ensures.room in (
       c.settle_ports-fault.ensures.own ∙ c.serve_run.ensures.own ∙ c.post_grants.ensures.own ∙ c.self.invariant.0,
       (let was = c.self.invariant.1 in omega (arith, room, was)),
       idle_then o before d i.driver within seen open' c.args.slot c.args.slots i.board.ports i.posted_to first long own.1 i.poster.view c.post_grants.new.poster.view idle low
@@ -238,13 +238,21 @@ returns g c = record {
         posted_to = c.args.slot + c.args.slots;
         posts = c.settle_ports-fault.new.poster.view.posts;
         settled = c.settle_ports-fault.new.poster.view.settled;
-        granted = c.sort_unstable.new.self.items;
+        granted = c.list_granted.new.flows.items;
       }) c.args.wires.now (c.serve_run.new.wires ++ c.split_at_mut-near.result.1.now) c.settle_ports-fault.result) c.self.view_is
       (through o before d i.driver within seen open' c.args.slot c.args.slots i.board.ports i.posted_to first long own.1 i.poster.view c.post_grants.new.poster.view idle low
       c.post_grants.ensures.posted
       g.W.Wire.faults g.W.Wire.runs c.serve_run.new.poster.view _ c.serve_run.new.wires all many c.settle_ports-fault.new.poster.view c.settle_ports-fault.new.driver
       c.settle_ports-fault.result settled noted short c.close_run.new.driver r on c.close_run.ensures.place c.split_at_mut-near.result.1.now c.args.wires.now
-      (c.serve_run.new.wires ++ c.split_at_mut-near.result.1.now) c.split_at_mut-near.ensures.value refl c.post_grants.new.granted.items c.sort_unstable.new.self.items
-      i.granted.items
-      c.post_grants.ensures.granted c.sort_unstable.ensures.permutation c.sort_unstable.ensures.sorted);
+      (c.serve_run.new.wires ++ c.split_at_mut-near.result.1.now) c.split_at_mut-near.ensures.value refl c.list_granted.new.flows.items i.granted.items
+      c.list_granted.ensures.flows);
 }
+
+-- there is room for a flow of each port
+pub list_granted-requires-clause-room : goal.list_granted-requires-clause-room
+list_granted-requires-clause-room g c =
+    let is = sym c.self.view_is in
+    let ports : c.self.inside.board.ports ≡ c.args.hall.now.setting.opening.table.ports =
+    subst (λ (m : RunnerModel). m.ports ≡ c.args.hall.now.setting.opening.table.ports) is c.requires.own.1 in
+    let room = c.self.invariant.1 in
+    omega (arith, ports, room)

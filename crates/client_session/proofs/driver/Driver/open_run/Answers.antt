@@ -1,0 +1,28 @@
+-- A run may need a note for each port, and its close.
+use Rattle.std.proofs.Common.{◌+◌, ap, ◌∙◌, arith}
+use Rattle.journal.specs.declared.command.Command.TheVariants.{Open}
+use Rattle.client_session.specs.Models.{DriverModel}
+use Rattle.client_session.proofs.Driving.{enough_left, none_left}
+use Rattle.client_session.proofs.driver.Driver.open_run.Goals as goal
+
+pub returns-then-self-ports : goal.returns-then-self-ports
+returns-then-self-ports g c =
+    let s = c.args.hall.now.setting in
+    let own = ap (λ (m : DriverModel). m.setting) c.self.view_is ∙ c.requires.own.1 in
+    let ports = (c.self.invariant.grants s own).ports in
+    let left = ap (λ (m : DriverModel). m.left) c.self.view_is in
+    record {
+      turn = none_left s.opening (Open c.args.most) (s.opening.table.ports + 2) c.args.self.now
+          (omega (arith, ports, left, c.ports.ensures, c.if-self-ports.true));
+    }
+
+pub returns : goal.returns
+returns g c =
+    let s = c.args.hall.now.setting in
+    let own = ap (λ (m : DriverModel). m.setting) c.self.view_is ∙ c.requires.own.1 in
+    let ports = (c.self.invariant.grants s own).ports in
+    let left = ap (λ (m : DriverModel). m.left) c.self.view_is in
+    record {
+      turn = enough_left s.opening (Open c.args.most) (s.opening.table.ports + 2) c.args.self.now c.ask.new.self c.ask.result (omega arith)
+          (omega (arith, ports, left, c.ports.ensures, c.if-self-ports.false)) c.ask.ensures.turn;
+    }
