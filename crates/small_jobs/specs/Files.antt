@@ -4,12 +4,14 @@ use Rattle.outside.specs.declared.mem_shelf.MemShelf.{MemShelf}
 use Rattle.outside.specs.MemShelf.{IsMissing, count_of, mem_faults, mem_told, piece_of}
 use Rattle.outside.specs.Shelf.{bytes_of}
 
+-- the file with this name is there, and has these bytes
+abbrev pub HasBytes : List ℕ → List ℕ → MemShelf → Type 0
+HasBytes name bytes shelf = (bytes_of (mem_told shelf) name ≡ bytes) × (IsMissing shelf name → ⊥)
+
 -- the files `t` and `s` have these bytes, and there is no third
 pub record HasBoth (trace beside : List ℕ) (shelf : MemShelf) : Type 0 where
-  pub trace_is : bytes_of (mem_told shelf) (codes "t") ≡ trace
-  pub beside_is : bytes_of (mem_told shelf) (codes "s") ≡ beside
-  pub trace_there : IsMissing shelf (codes "t") → ⊥
-  pub beside_there : IsMissing shelf (codes "s") → ⊥
+  pub trace_is : HasBytes (codes "t") trace shelf
+  pub beside_is : HasBytes (codes "s") beside shelf
   pub count : count_of shelf ≡ 2
 
 -- No call was made yet, and so none failed. A read gives at most so many bytes, but may give one, and this call alone

@@ -1,7 +1,8 @@
 //! The files and the sink of a job.
-ghost use Rattle.std.specs.Prelude.{◌≡◌, [], IfSome};
+ghost use Rattle.std.specs.Prelude.{◌≡◌, [], codes, IfOk, IfSome};
 ghost use Rattle.outside.specs.MemSink.{limit};
-ghost use Rattle.small_jobs.specs.Files.{HasBoth, IsUnread};
+ghost use Rattle.outside.specs.Shelf.{bytes_of};
+ghost use Rattle.small_jobs.specs.Files.{HasBoth, HasBytes, IsUnread};
 
 use crate::row::Row;
 use outside::{MemShelf, MemSink, Place4, Shelf};
@@ -61,7 +62,15 @@ impl SmallJob {
 }
 
 /// What the command of a row is given. Its files are read at the place of traces.
-pub fn job_of<H: Shelf>(alloc: Global, shelf: &mut H, row: Row<'_>) -> Result<SmallJob, FileFault> {
+///
+/// The error is that of the first file that is not read, or want of memory.
+pub fn job_of<H: Shelf>(alloc: Global, shelf: &mut H, row: Row<'_>) -> Result<SmallJob, FileFault>
+    ensures trace { IfOk result (λ job. IfSome (H.told shelf.old)
+        (λ t. HasBytes (codes "t") (bytes_of t row.entry.trace.now) job.shelf)) }
+    ensures calls { IfOk result (λ job. IsUnread row.entry.piece row.entry.failing_call job.shelf) }
+    ensures written { IfOk result (λ job. job.out.taken.items ≡ []) }
+    ensures room { IfOk result (λ job. job.out.limit ≡ limit ROOM row.entry.fail_after) }
+{
     let trace = bytes_of_file(alloc, shelf, Place4::Trace, row.trace)?;
     let beside = match bytes_of_file(alloc, shelf, Place4::Trace, row.beside) {
         Ok(beside) => beside,
