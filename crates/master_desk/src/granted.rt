@@ -1,5 +1,5 @@
 //! What is granted in the open run.
-ghost use Rattle.std.specs.Prelude.{◌≡◌, ◌≤◌, IfOk, length, None, slice_index_or, vec_capacity};
+ghost use Rattle.std.specs.Prelude.{◌≡◌, ◌≤◌, [], IfOk, length, None, replicate, slice_index_or, vec_capacity};
 ghost use Rattle.master_desk.specs.Grants.{TellsGrants};
 
 use coflow_units::NoMemory;
@@ -31,6 +31,8 @@ impl Granted {
     /// Nothing is granted at so many ingress ports. There is room for a flow of each. The error is want of memory.
     pub fn new(alloc: Global, ports: u32) -> Result<Granted, NoMemory>
         ensures ports { IfOk result (λ g. length g.at ≡ ports) }
+        ensures none { IfOk result (λ g. g.at ≡ replicate ports None) }
+        ensures flows { IfOk result (λ g. g.flows ≡ []) }
     {
         let at = vec![in alloc; None; ports as usize]?;
         let Ok(flows) = Vec::with_capacity(alloc, ports as usize) else {

@@ -14,7 +14,7 @@ use Rattle.master_desk.specs.declared.receipt.Answer.TheVariants.{Done, Spent}
 use Rattle.master_desk.specs.declared.receipt.Receipt.{Receipt}
 use Rattle.client_session.specs.Models.{DriverModel, HallModel}
 use Rattle.slot_runner.specs.declared.answer.Ran.{Ran}
-use Rattle.slot_runner.specs.declared.answer.Ran.TheVariants.{Full as FullAt, Ran as Whole, Late as TooLate, WireFault}
+use Rattle.slot_runner.specs.declared.answer.Ran.TheVariants.{Ran as Whole, Late as TooLate, WireFault}
 use Rattle.slot_runner.specs.Carried.{IsCarriedOut}
 use Rattle.slot_runner.specs.Models.{MayRun, RunnerModel}
 use Rattle.slot_runner.specs.Settling.{IsOpenRunOf}
@@ -26,10 +26,6 @@ use Rattle.slot_runner.proofs.Opens.{is_open, open_facts, OpenFacts, opened_run}
 abbrev pub late_slot : Ran → ℕ
 late_slot (TooLate slot) = slot
 late_slot answer = 0
-
-abbrev pub full_count : Ran → ℕ
-full_count (FullAt count) = count
-full_count answer = 0
 
 abbrev pub run_slot : Ran → ℕ
 run_slot (Whole slot slots count) = slot

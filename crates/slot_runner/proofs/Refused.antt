@@ -1,5 +1,5 @@
 -- A slot in which no run is opened.
-use Rattle.std.proofs.Common.{◌≡◌, ◌<◌, ◌⊎◌, ℕ, List, [], ◌++◌, get_or, None, refl, sym, ap, subst, ◌∙◌, arith, append-nil}
+use Rattle.std.proofs.Common.{◌≡◌, ℕ, List, [], ◌++◌, get_or, None, refl, sym, ap, subst, ◌∙◌, arith, append-nil}
 use Rattle.journal.specs.declared.command.Command.TheVariants.{Open}
 use Rattle.journal.specs.declared.command.Entry.{Entry}
 use Rattle.journal.specs.declared.command.Reply.{Reply}
@@ -15,8 +15,6 @@ use Rattle.master_desk.specs.Desk.{DrivenByRoot}
 use Rattle.client_session.specs.Drivers.{IsDrivenOn, IsStopped, StaysInHall}
 use Rattle.client_session.specs.Models.{DriverModel, HallModel}
 use Rattle.master_desk.specs.declared.receipt.Receipt.{Receipt}
-use Rattle.slot_runner.specs.declared.answer.Ran.{Ran}
-use Rattle.slot_runner.specs.declared.answer.Ran.TheVariants.{NoMemory, Spent}
 use Rattle.slot_runner.specs.Models.{MayRun, RunnerModel}
 use Rattle.slot_runner.specs.Slots.{IsAnswered, IsFullAt}
 use Rattle.slot_runner.proofs.Notes.{calls_fall}
@@ -83,7 +81,3 @@ answered o most old mid r reply place on is = record {
 pub full_at : (o : Opening) (most : ℕ) (old : RunnerModel) (mid : DriverModel) (count : ℕ) → StaysInHall old.driver mid → IsStopped o (Open most) old.driver mid count →
     IsFullAt o most old (record old { driver = mid }) count
 full_at o most old mid count place on = record { place = place; turn = on; rest = refl }
-
--- where enough calls are left, the answer need not tell of them
-pub enough_calls : (answer : Ran) (left need : ℕ) → (left < need → ⊥) → left < need → (answer ≡ Spent) ⊎ (answer ≡ NoMemory)
-enough_calls answer left need enough low = absurd (enough low)

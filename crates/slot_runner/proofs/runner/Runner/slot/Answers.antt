@@ -1,16 +1,15 @@
 -- What the answer of the opening comes to.
-use Rattle.std.proofs.Common.{⊎_elim, ℕ, ◌+◌, Some, sym, ap, ◌∙◌, refl, subst, arith, true≢false}
+use Rattle.std.proofs.Common.{⊎_elim, ℕ, ◌+◌, Some, ap, ◌∙◌, refl, subst}
 use Rattle.journal.specs.declared.command.Command.TheVariants.{Open}
 use Rattle.journal.specs.declared.command.Reply.TheVariants.{Late, NothingLeft}
 use Rattle.journal.specs.State.{slot_end}
 use Rattle.client_session.specs.Drivers.{IsDriverTurn}
 use Rattle.client_session.specs.Models.{DriverModel}
-use Rattle.client_session.proofs.Turning.{is_done, is_full_answer}
-use Rattle.slot_runner.specs.Slots.{IsFullAt, IsRan}
-use Rattle.slot_runner.proofs.Concluded.{fault_port, fault_units, full_count, late_slot, not_before, opened_here, opens_run, run_count, run_slot, run_slots, runs_again}
-use Rattle.slot_runner.proofs.Concluded.{short_run, start, whole_run}
+use Rattle.slot_runner.specs.Slots.{IsRan}
+use Rattle.slot_runner.proofs.Concluded.{fault_port, fault_units, late_slot, not_before, opened_here, opens_run, run_count, run_slot, run_slots, runs_again, short_run, start}
+use Rattle.slot_runner.proofs.Concluded.{whole_run}
 use Rattle.slot_runner.proofs.Opens.{reply_is}
-use Rattle.slot_runner.proofs.Refused.{after_full, after_late, after_nothing, answered, enough_calls, full_at, may_still}
+use Rattle.slot_runner.proofs.Refused.{after_full, after_late, after_nothing, answered, may_still}
 use Rattle.slot_runner.proofs.runner.Runner.slot.Goals as goal
 
 pub returns-in-Full-clause-again : goal.returns-in-Full-clause-again
@@ -144,52 +143,3 @@ returns-in-Some-clause-again g c =
     runs_again c.args.hall.now old c.requires.may c.args.most mid c.open_run.result c.in-Done.receipt turn c.in-Done.is c.in-Opened.slot c.in-Opened.length c.in-Opened.count
     c.in-Opened.is
     g.W.Wire.faults g.W.Wire.runs c.coflows-within.ensures.opening c.carry_out.new.self c.args.wires.now c.carry_out.new.wires c.carry_out.result x
-
-pub returns-in-Full-clause-calls : goal.returns-in-Full-clause-calls
-returns-in-Full-clause-calls g c =
-    let o = c.args.hall.now.setting.opening in
-    let turn = subst (λ (d : DriverModel). IsDriverTurn o (Open c.args.most) (o.table.ports + 2) d c.open_run.new.self c.open_run.result) c.driver.ensures.driver
-    c.open_run.ensures.turn in
-    enough_calls _ c.args.self.now.driver.left (c.args.self.now.ports + 2)
-    (λ low. true≢false (ap is_full_answer (sym c.in-Full.is ∙ turn.calls (omega (arith, low, c.requires.may.ports)))))
-
-pub returns-in-Late-clause-calls : goal.returns-in-Late-clause-calls
-returns-in-Late-clause-calls g c =
-    let o = c.args.hall.now.setting.opening in
-    let turn = subst (λ (d : DriverModel). IsDriverTurn o (Open c.args.most) (o.table.ports + 2) d c.open_run.new.self c.open_run.result) c.driver.ensures.driver
-    c.open_run.ensures.turn in
-    enough_calls _ c.args.self.now.driver.left (c.args.self.now.ports + 2)
-    (λ low. true≢false (ap is_done (sym c.in-Done.is ∙ turn.calls (omega (arith, low, c.requires.may.ports)))))
-
-pub returns-in-NothingLeft-clause-calls : goal.returns-in-NothingLeft-clause-calls
-returns-in-NothingLeft-clause-calls g c =
-    let o = c.args.hall.now.setting.opening in
-    let turn = subst (λ (d : DriverModel). IsDriverTurn o (Open c.args.most) (o.table.ports + 2) d c.open_run.new.self c.open_run.result) c.driver.ensures.driver
-    c.open_run.ensures.turn in
-    enough_calls _ c.args.self.now.driver.left (c.args.self.now.ports + 2)
-    (λ low. true≢false (ap is_done (sym c.in-Done.is ∙ turn.calls (omega (arith, low, c.requires.may.ports)))))
-
-pub returns-in-None-clause-calls : goal.returns-in-None-clause-calls
-returns-in-None-clause-calls g c =
-    let o = c.args.hall.now.setting.opening in
-    let turn = subst (λ (d : DriverModel). IsDriverTurn o (Open c.args.most) (o.table.ports + 2) d c.open_run.new.self c.open_run.result) c.driver.ensures.driver
-    c.open_run.ensures.turn in
-    enough_calls _ c.args.self.now.driver.left (c.args.self.now.ports + 2)
-    (λ low. true≢false (ap is_done (sym c.in-Done.is ∙ turn.calls (omega (arith, low, c.requires.may.ports)))))
-
-pub returns-in-Some-clause-calls : goal.returns-in-Some-clause-calls
-returns-in-Some-clause-calls g c =
-    let o = c.args.hall.now.setting.opening in
-    let turn = subst (λ (d : DriverModel). IsDriverTurn o (Open c.args.most) (o.table.ports + 2) d c.open_run.new.self c.open_run.result) c.driver.ensures.driver
-    c.open_run.ensures.turn in
-    enough_calls _ c.args.self.now.driver.left (c.args.self.now.ports + 2)
-    (λ low. true≢false (ap is_done (sym c.in-Done.is ∙ turn.calls (omega (arith, low, c.requires.may.ports)))))
-
-pub returns-in-Full-clause-full : goal.returns-in-Full-clause-full
-returns-in-Full-clause-full g c = λ count e.
-    let o = c.args.hall.now.setting.opening in
-    let old = c.args.self.now in
-    let mid = c.open_run.new.self in
-    let turn = subst (λ (d : DriverModel). IsDriverTurn o (Open c.args.most) (o.table.ports + 2) d mid c.open_run.result) c.driver.ensures.driver c.open_run.ensures.turn in
-    subst (IsFullAt o c.args.most old (record old { driver = mid })) (ap full_count e)
-    (full_at o c.args.most old mid c.in-Full.count turn.place (turn.full c.in-Full.count c.in-Full.is))
