@@ -1,5 +1,5 @@
 #!/usr/bin/env python3
-"""Runs `rt ci` and tells how long each crate's proof, tests and edits took.
+"""Runs `rt ci` and tells how long each crate's proof, tests, edits and builds took.
 
 Use: checks/gate_clock.py rt ci            The exit code is that of the command.
 
@@ -9,8 +9,9 @@ line for each crate and kind, comes a line which checks/gate_times reads, so tha
     clock: CRATE KIND SECONDS PROCESSOR_SECONDS CHECKS
     clock: whole SECONDS
 
-KIND is `proof`, `tests` or `edits`, and CHECKS says how many checks there were. The check of an edit runs in a folder of its own, by which it is known. The edits of a crate are tried one after
-another; the first of them proves the whole crate again, and a last check has no edit.
+KIND is `proof`, `tests`, `edits` or `builds`, and CHECKS says how many processes there were. The check of an edit runs in a folder of its own, by which it is known. The edits of a crate are tried one
+after another; the first of them proves the whole crate again, and a last check has no edit. A program that was proved is built by two compilers, one after the other: these are its builds, which prove
+nothing. A crate of tests is proved and built at once.
 """
 import os
 import subprocess
@@ -55,7 +56,7 @@ def below(root, all_stats):
 
 
 def task_of(pid):
-    """The crate and the kind of a check, or None for another process."""
+    """The crate and the kind of a check or a build, or None for another process."""
     words = read(f"/proc/{pid}/cmdline").split("\0")
     if "--crate-name" not in words or not words[0].endswith("rattle"):
         return None
@@ -64,8 +65,11 @@ def task_of(pid):
         folder = os.path.basename(os.readlink(f"/proc/{pid}/cwd"))
     except OSError:
         return None
-    kind = "edits" if folder.startswith("rt-edit-") else "tests" if "--test" in words else "proof"
-    return crate, kind
+    if folder.startswith("rt-edit-"):
+        return crate, "edits"
+    if "--test" in words:
+        return crate, "tests"
+    return crate, "builds" if "--backend" in words else "proof"
 
 
 class Clock:
