@@ -13,6 +13,7 @@ import tempfile
 from collections import namedtuple
 
 sys.dont_write_bytecode = True
+from audit_rows import ROWS, SERVED, TEXTS
 from master_journal import Master
 from plain_master import CUBE, SQUARE, TWO
 from plain_plan import Kind, drawn, trace_text, weights_text, write
@@ -114,34 +115,6 @@ def audited(ports, coflows, live):
     if slot:
         return "no run %d" % slot
     return "yes entries %d versions %d slots %d" % (n, len(live.orders), sum(length for length, _ in live.runs))
-
-
-# Rows that were worked by hand, over a coflow of 3 units with id 1 and one of 1 unit with id 2, both from port 0 to port 1, of weight 1
-
-SERVED = ("entry 1 1 register 1 joined/entry 2 1 register 2 joined/entry 3 1 publish version 1/entry 4 0 open 4 opened 1 1 1/entry 5 0 close closed 1/entry 6 0 open 4 opened 2 3 1/"
-          "entry 7 0 close closed 2/entry 8 0 open 4 nothing/order 1 2 1/pull 1 4 2 1 1/run 1 1/run 3 0/")
-
-# an edit of the text, and the line
-ROWS = [
-    (None, "yes entries 8 versions 1 slots 4"),
-    (("register 2", "register 3"), "no id 2"),
-    (("close closed 2", "close closed 3"), "no entry 7"),
-    (("entry 7 0 close closed 2/entry 8 0 open 4 nothing/", ""), "no close 2"),
-    (("order 1 2 1", "order 1 1 2"), "no order 1 1"),
-    (("order 1 2 1/", "order 1 2/"), "no order 1 2"),
-    (("order 1 2 1/", ""), "no order 1 1"),
-    (("order 1 2 1/", "order 1 2 1/order 2 2 1/"), "no order 2 1"),
-    (("pull 1 4 2 1 1", "pull 1 4 2 1 2"), "no pull 1 4 2 1"),
-    (("pull 1 4 2 1 1", "pull 1 4 2 2 1"), "no pull 1 4 1 0"),
-    (("pull 1 4 2 1 1", "pull 1 4 2 2 0"), "no version 1 4"),
-    (("pull 1 4 2 1 1", "pull 1 4 3 1 0"), "no version 1 4"),
-    (("pull 1 4 2 1 1/", "pull 1 4 2 1 1/pull 1 5 2 0 0/"), "no version 1 5"),
-    (("pull 1 4 2 1 1/", "pull 1 4 2 1 1/pull 2 5 2 0 0/"), "yes entries 8 versions 1 slots 4"),
-    (("run 3 0", "run 4 0"), "no run 5"),
-    (("run 3 0", "run 2 0"), "no run 4"),
-    (("run 1 1/run 3 0", "run 1 0/run 3 1"), "no run 1"),
-    ((SERVED, ""), "yes entries 0 versions 0 slots 0"),
-]
 
 
 def live_of(text):
@@ -337,6 +310,12 @@ def results(folder, count, plain):
         yield "row %s" % (edit,), audited(*TWO, live), line
         if not plain:
             yield "row %s, printed" % (edit,), printed(folder, *TWO, live), line
+    for weights, text, line in TEXTS:
+        ports, coflows = TWO
+        weighed, live = [coflow._replace(weight=weight) for coflow, weight in zip(coflows, weights)], live_of(text)
+        yield "text %s" % text, audited(ports, weighed, live), line
+        if not plain:
+            yield "text %s, printed" % text, printed(folder, ports, weighed, live), line
     if not plain:
         put(folder, *TWO, live_of(SERVED))
         ends, number = refused(folder)

@@ -12,6 +12,7 @@ import tempfile
 sys.dont_write_bytecode = True
 from order_rows import CLASSES, CLASS_ROWS, COMPARE, COMPARE_ROWS
 from program_rows import AUDIT, AUDIT_ROWS, CHECK, CHECK_ROWS, CROSSED, ONLINE_ROWS, ROWS, SERVE, SERVED_ROWS, TABLE_ROWS, TOO_MANY, TWO, WEIGHED_ROWS, WRITE_FAULT
+import verdict_rows
 
 TOP = os.path.dirname(os.path.dirname(os.path.abspath(__file__)))
 PROGRAM = os.path.join(TOP, "crates", "sincronia", "out", "sincronia")
@@ -71,6 +72,43 @@ def run_judged(row):
     name, trace, weights, judged, words, *want = row
     with tempfile.TemporaryDirectory() as folder:
         return same(name, started(folder, {"t": trace, "w": weights, "r": judged}, words), tuple(want))
+
+
+def bytes_of(short):
+    """The bytes of a text in which a `/` stands for a line end."""
+    return short.replace("/", "\n").encode()
+
+
+def weights_of(trace, weights):
+    """A file of these weights of a trace's coflows, in their order."""
+    idents = [line.split()[0] for line in trace.split("/")[1:-1]]
+    return "".join("%s %d\n" % pair for pair in zip(idents, weights)).encode()
+
+
+def run_verdict(trace, weights, text, line):
+    """A report and the line that `check` prints of it."""
+    want = 0 if line.startswith("yes") else 1, line.encode() + b"\n", b""
+    return run_judged(("a report " + text, bytes_of(trace), weights_of(trace, weights), bytes_of(text), CHECK + ["--weights", "w"], *want))
+
+
+def run_verdicts():
+    """The rows of reports and of online runs."""
+    def parts(edits, right):
+        return "".join(part if edit is None else edit for edit, part in zip(edits, right))
+
+    made = [(verdict_rows.TWO, (1, 1), "sincronia 1/" + parts(edits, verdict_rows.RIGHT), line) for *edits, line in verdict_rows.EDITS]
+    made += [(trace, weights, "sincronia " + text, line) for trace, weights, text, line in verdict_rows.OTHERS]
+    made += [(verdict_rows.LATE, (1, 1), "sincronia online 2/epoch 9/bound 99/" + parts(edits, verdict_rows.RIGHT_ONLINE), line) for *edits, line in verdict_rows.ONLINE_EDITS]
+    return [run_verdict(trace, weights, text + "end/", line) for trace, weights, text, line in made]
+
+
+def run_certificate(trace, weights, lines):
+    """The certificate of an online run and its total."""
+    with tempfile.TemporaryDirectory() as folder:
+        files = {"t": bytes_of(trace), "w": weights_of(trace, weights)}
+        code, out, err = started(folder, files, ["online", "t", "--weights", "w"])
+        have = b"".join(line + b"\n" for line in out.split(b"\n") if line.split(b" ")[0] in (b"release", b"total"))
+        return same("the certificate of " + trace, (code, have, err), (0, bytes_of(lines), b""))
 
 
 def run_long_report(name, words, trace, limit):
@@ -135,7 +173,7 @@ def main():
     results += [run_judged(row) for row in WEIGHED_ROWS + AUDIT_ROWS]
     results += [run_long_report("a long report", CHECK, TWO, b"text 1073741825"), run_long_report("a long journal", AUDIT, TWO, b"text 1073741825"),
                 run_long_report("a long report of too many units", CHECK, TOO_MANY, b"units 1099511627777")]
-    results += [run(row) for row in SERVED_ROWS]
+    results += [run(row) for row in SERVED_ROWS] + run_verdicts() + [run_certificate(*row) for row in verdict_rows.CERTIFICATES]
     results += [run_shuffle(), run_made(), run_served()]
     with open("/dev/full", "wb") as full:
         results += [run(("a full device for " + words[0], TWO, None, words, 9, b"", WRITE_FAULT), full) for words in (["plan", "t"], COMPARE, CLASSES, SERVE)]

@@ -10,7 +10,7 @@ use std::process::Abort;
 const DRAWN: u64 = 4611686018428436480;
 
 // What an answer was, for a comparison. A grant that is drawn is reported in full.
-#[derive(Clone, Copy, Debug, PartialEq, Eq)]
+#[derive(Clone, Copy, PartialEq)]
 enum Seen {
     Took(u64),
     Idle(u64),
@@ -90,9 +90,9 @@ fn one_of_two_agents_draws(rt: HostRuntime) {
         Seen::Took(1),
         Seen::Settled(Settled::Sent(1)),
     ];
-    assert_eq!(rt; seen, want);
+    assert!(rt; seen == want);
     let left = (poster.posted(0), poster.posted(1), poster.agents());
-    assert_eq!(rt; left, (false, false, 2));
+    assert!(rt; left == (false, false, 2));
 }
 
 #[test]
@@ -103,5 +103,5 @@ fn a_grant_that_nobody_draws_is_taken_back(rt: HostRuntime) {
     let back = settled(&rt, &board, &mut poster);
     let late = board.draw(&mut seat, 0);
     let seen = [back, finish(&board, &mut seat, late)];
-    assert_eq!(rt; seen, [Seen::Settled(Settled::TakenBack), Seen::Idle(0)]);
+    assert!(rt; seen == [Seen::Settled(Settled::TakenBack), Seen::Idle(0)]);
 }

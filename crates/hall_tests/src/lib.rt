@@ -1,15 +1,8 @@
-//! Tests of halls. Clauses say what each call may answer; here is that calls in a known order answer what was worked out by hand, and
-//! that a hall from which a session is missing stays open.
+//! Tests of calls of a hall. Clauses say what each call may answer; here is that calls in a known order answer what was worked out by hand.
 #![tactic(auto)]
 
 #[cfg(test)]
-mod asks;
-#[cfg(test)]
-mod closes;
-#[cfg(test)]
-mod example;
-#[cfg(test)]
-mod games;
+mod calls;
 #[cfg(test)]
 mod orders;
 #[cfg(test)]

@@ -2,11 +2,10 @@
 ghost use Rattle.std.specs.Prelude.{◌≡◌, ◌≤◌, All, length};
 ghost use Rattle.client_session.specs.Models.{IsSessionOf};
 
-use crate::asks::{Ask, Said, answered};
 use crate::told::{Told, tell, tell_entries};
 use crate::versions::{Note, is_true, versions_of};
 use client_session::{Entry, Hall, Pulled, Session};
-use small_halls::{SmallHall, SmallSize};
+use small_halls::{Ask, Said, SmallHall, SmallSize, answered};
 use std::alloc::Global;
 use std::process::Abort;
 use std::sync::{Mutex, Wait};

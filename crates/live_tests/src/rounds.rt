@@ -9,7 +9,7 @@ ghost use Rattle.live_rounds.specs.Rounds.{MayAsk};
 use crate::begun::{small_of, tell_journal};
 use client_session::{Hall, Session};
 use coflow_units::MAX_WEIGHT;
-use live_rounds::{Gate, OpenGate, round};
+use live_rounds::{OpenGate, round};
 use script_reader::{Asked, ScriptLine};
 use std::alloc::Global;
 use std::process::Abort;
@@ -18,7 +18,7 @@ use std::test::*;
 use std::thread::Threads;
 
 /// The line of a client.
-pub(crate) fn line(line: u32, client: u32, asked: Asked) -> ScriptLine {
+fn line(line: u32, client: u32, asked: Asked) -> ScriptLine {
     ScriptLine {
         line,
         client,
@@ -66,23 +66,22 @@ fn check_lines(rt: &impl Abort, hall: &Hall, lines: &[ScriptLine])
 }
 
 /// Carries out a round of two clients, and tells what it comes to.
-pub(crate) fn tell_round<R: Threads + Wait + Sync + Abort, G: Gate + Send>(
+fn tell_round<R: Threads + Wait + Sync + Abort>(
     rt: &R,
     alloc: Global,
     hall: &Hall,
     sessions: &mut Vec<Session>,
     lines: &[ScriptLine],
-    gates: &mut [G],
     text: &mut String,
 )
     requires own { All (IsSessionOf hall.now) sessions.old.items }
     requires two { length sessions.old.items ≡ 2 }
-    requires gates { length gates.old ≡ 2 }
     ensures own { All (IsSessionOf hall.entry.now) sessions.new.items }
     ensures two { length sessions.new.items ≡ 2 }
 {
+    let mut gates = [OpenGate, OpenGate];
     check_lines(rt, hall, lines);
-    let answer = round(alloc, rt, hall, sessions, lines, gates);
+    let answer = round(alloc, rt, hall, sessions, lines, &mut gates);
     let Ok(()) = writeln!(text, "{answer:?}") else {
         panic!(rt; "no memory");
     };
@@ -100,14 +99,12 @@ fn told<R: Threads + Wait + Sync + Abort>(
 {
     let mut text = String::new(alloc);
     let mut small = small_of(rt, alloc, limit, calls);
-    let mut gates = [OpenGate, OpenGate];
     tell_round(
         rt,
         alloc,
         &small.hall,
         &mut small.sessions,
         lines,
-        &mut gates,
         &mut text,
     );
     tell_journal(rt, alloc, small, &mut text);

@@ -9,19 +9,16 @@
 mod game;
 mod stop;
 
-ghost use Rattle.std.specs.Prelude.{◌≡◌, ◌+◌, ◌*◌, ◌≤◌, [], IfOk, length};
-ghost use Rattle.client_session.specs.Halls.{IsFirstDriver};
-ghost use Rattle.client_session.specs.Models.{IsDriverOf, IsSessionOf};
+ghost use Rattle.std.specs.Prelude.{◌≤◌, length};
 ghost use Rattle.slot_runner.specs.Models.{MayRun};
 
 use crate::game::{Game, game_of};
 use crate::stop::Stop;
-use client_session::{Driver, Hall, Session};
-use coflow_units::{Items, NoMemory};
+use client_session::Hall;
 use flow_table::Table;
-use master_core::Master;
 use outside::CountWire;
 use slot_runner::{Ran, Runner};
+use small_runs::SmallRun;
 use std::alloc::Global;
 use std::process::ExitCode;
 use std::rt::Runtime;
@@ -84,15 +81,18 @@ fn measured<R: Runtime + Threads + Wait + Sync>(
     requires runs { runs ≤ 1000000 }
     requires wires { table.ports ≤ length wires.old }
 {
-    let ports = table.ports();
-    let (hall, driver) = begun(alloc, table, runs)?;
-    let Ok(mut runner) = runner_of(rt, alloc, &hall, driver, ports) else {
-        drop(hall);
-        return Err(Stop::NoMemory);
-    };
-    let took = timed(rt, alloc, &hall, &mut runner, agents, runs, wires);
-    drop(runner);
-    drop(hall);
+    let (limit, calls) = (2 * runs + table.coflows() + 2, 2 * runs + table.ports());
+    let mut small = SmallRun::of_table(rt, alloc, table, limit, calls)?;
+    let took = timed(
+        rt,
+        alloc,
+        &small.hall,
+        &mut small.runner,
+        agents,
+        runs,
+        wires,
+    );
+    drop(small);
     took
 }
 
@@ -113,61 +113,6 @@ fn timed<R: Runtime + Threads + Wait + Sync>(
     let start = Instant::now(rt)?;
     run_many(rt, alloc, hall, runner, agents, runs, wires)?;
     Ok(start.elapsed(rt)?)
-}
-
-/// A hall of the table's coflows, each of weight 1, and its driver. The journal has room for so many runs, and the driver calls.
-fn begun(alloc: Global, table: Table, runs: u32) -> Result<(Hall, Driver), NoMemory>
-    requires runs { runs ≤ 1000000 }
-    ensures table { IfOk result (λ made. made.0.setting.opening.table ≡ table) }
-    ensures driver { IfOk result (λ made. IsFirstDriver made.0 (runs * 2 + table.ports) made.1) }
-{
-    let (coflows, ports) = (table.coflows(), table.ports());
-    let Ok(weights) = vec![in alloc; 1; coflows as usize] else {
-        drop(table);
-        return Err(NoMemory);
-    };
-    let limit = 2 * runs + coflows + 2;
-    let master = Master::new(alloc, table, Items::from_vec(weights), limit)?;
-    Hall::begin(alloc, master, u64::from(2 * runs + ports))
-}
-
-/// A runner of a driver that has seen no entry. All coflows joined and were ordered, as a session asked that has ended.
-fn runner_of<R: Wait>(
-    rt: &R,
-    alloc: Global,
-    hall: &Hall,
-    mut driver: Driver,
-    ports: u32,
-) -> Result<Runner, NoMemory>
-    requires own { IsDriverOf hall.now driver }
-    requires new { (driver.made ≡ 0) × (driver.journal ≡ []) }
-    requires ports { ports ≡ hall.now.setting.opening.table.ports }
-    ensures may { IfOk result (MayRun hall.entry.now) }
-{
-    let coflows = hall.coflows();
-    let Ok(mut session) = hall.session(alloc, &mut driver, coflows + 1) else {
-        drop(driver);
-        return Err(NoMemory);
-    };
-    join_all(rt, hall, &mut session);
-    drop(session);
-    match Runner::new(alloc, driver, ports) {
-        Ok(runner) => Ok(runner),
-        Err(back) => {
-            drop(back);
-            Err(NoMemory)
-        }
-    }
-}
-
-/// The coflows join, and are ordered.
-fn join_all<R: Wait>(rt: &R, hall: &Hall, session: &mut Session)
-    requires own { IsSessionOf hall.now session.old }
-{
-    for coflow in 0..hall.coflows() {
-        session.register(rt, hall, coflow);
-    }
-    session.publish(rt, hall);
 }
 
 /// Makes so many runs of one slot. Each is to send a unit from each granted port.

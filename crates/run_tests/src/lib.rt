@@ -1,9 +1,6 @@
-//! Tests of a runner. Clauses say what each answer means; here is that runs in small halls answer what was worked out by hand, and that the agents
-//! of a run are on threads at the same time.
+//! Tests of a runner. Clauses say what each answer means; here is that runs in small halls answer what was worked out by hand.
 #![tactic(auto)]
 
-#[cfg(test)]
-mod meeting;
 #[cfg(test)]
 mod runs;
 #[cfg(test)]

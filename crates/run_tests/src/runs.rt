@@ -2,7 +2,7 @@
 ghost use Rattle.std.specs.Prelude.{◌≡◌};
 ghost use Rattle.slot_runner.specs.Models.{MayRun};
 
-use crate::stage::{CROSSED, stage_of};
+use crate::stage::stage_of;
 use crate::told::{is_told, tell_journal, tell_run, tell_wire};
 use client_session::Hall;
 use coflow_units::MAX_SLOT;
@@ -20,6 +20,9 @@ const ONE: &str = "1 1\n1 0 1 0 1 1:4\n";
 /// A flow of 3 units and one of 1 unit, between the same ports.
 const SAME: &str = "1 2\n1 0 1 0 1 1:3\n2 0 1 0 1 1:1\n";
 
+/// Two coflows, each of a unit from both ingress ports to one egress port. Each slot grants both ports.
+const CROSSED: &str = "1 2\n1 0 2 0 1 1 0:2\n2 0 2 0 1 1 1:2\n";
+
 /// A flow of 5 units and one of 4 units, which share no port.
 const APART: &str = "1 2\n1 0 1 0 1 0:5\n2 0 1 1 1 1:4\n";
 
@@ -32,7 +35,7 @@ const LONG: &str = "1 1\n1 0 1 0 1 1:1099511627776\n";
 struct Row<'a> {
     trace: &'a str,
     limit: u32,
-    calls: u64,
+    calls: u32,
     fail_at: [u64; 2],
     agents: u32,
     most: &'a [u64],

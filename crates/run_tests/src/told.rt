@@ -3,26 +3,25 @@ ghost use Rattle.std.specs.Prelude.{◌≡◌, ◌≤◌};
 ghost use Rattle.client_session.specs.Models.{IsSessionOf};
 ghost use Rattle.slot_runner.specs.Models.{MayRun};
 
-use crate::stage::Stage;
 use client_session::Hall;
 use master_core::Entry;
-use outside::{MemWire, Wire};
+use outside::MemWire;
 use slot_runner::{Ran, Runner};
-use small_halls::SmallHall;
+use small_runs::SmallRun;
 use std::alloc::Global;
 use std::process::Abort;
 use std::sync::Wait;
 use std::thread::Threads;
 
 /// Makes one run, and tells what it came to, the flows of the runner's last run, and how many calls the driver has left.
-pub fn tell_run<R: Threads + Wait + Sync + Abort, W: Wire + Send>(
+pub(crate) fn tell_run<R: Threads + Wait + Sync + Abort>(
     rt: &R,
     alloc: Global,
     hall: &Hall,
     runner: &mut Runner,
     most: u64,
     agents: u32,
-    wires: &mut [W; 2],
+    wires: &mut [MemWire; 2],
     text: &mut String,
 )
     requires may { MayRun hall.now runner.old }
@@ -59,7 +58,7 @@ fn tell_entries<R: Abort>(rt: &R, entries: &[Entry], text: &mut String) {
 }
 
 /// Tells the runs that a wire accepted.
-pub fn tell_wire<R: Abort>(rt: &R, port: u32, wire: &MemWire, text: &mut String) {
+pub(crate) fn tell_wire<R: Abort>(rt: &R, port: u32, wire: &MemWire, text: &mut String) {
     for index in 0..wire.len() {
         let Ok(()) = write!(text, "{port}: {:?}\n", wire.run(index)) else {
             panic!(rt; "no memory");
@@ -67,43 +66,20 @@ pub fn tell_wire<R: Abort>(rt: &R, port: u32, wire: &MemWire, text: &mut String)
     }
 }
 
-/// Closes the hall, whose one session is given: its journal.
-fn closed<R: Abort>(rt: &R, alloc: Global, stage: Stage) -> Vec<Entry>
-    requires may { MayRun stage.hall stage.runner }
-    requires session { IsSessionOf stage.hall stage.session }
+/// Tells the driver's entries, once the hall is closed.
+pub(crate) fn tell_journal<R: Abort>(rt: &R, alloc: Global, small: SmallRun, text: &mut String)
+    requires may { MayRun small.hall small.runner }
+    requires session { IsSessionOf small.hall small.session }
 {
-    let Stage {
-        hall,
-        runner,
-        session,
-    } = stage;
-    let Ok(mut sessions) = Vec::with_capacity(alloc, 1) else {
-        panic!(rt; "no memory");
-    };
-    sessions.push_reserved(session);
-    let small = SmallHall {
-        hall,
-        driver: runner.into_driver(),
-        sessions,
-    };
     let Some(journal) = small.journal(alloc) else {
         panic!(rt; "no memory");
     };
-    journal
-}
-
-/// Tells the driver's entries, once the hall is closed.
-pub fn tell_journal<R: Abort>(rt: &R, alloc: Global, stage: Stage, text: &mut String)
-    requires may { MayRun stage.hall stage.runner }
-    requires session { IsSessionOf stage.hall stage.session }
-{
-    let journal = closed(rt, alloc, stage);
     tell_entries(rt, &journal, text);
     drop(journal);
 }
 
 /// Stops where another text is told.
-pub fn is_told<R: Abort>(rt: &R, text: &str, want: &str) {
+pub(crate) fn is_told<R: Abort>(rt: &R, text: &str, want: &str) {
     if text != want {
         panic!(rt; "{text} is told in place of {want}");
     }

@@ -1,0 +1,110 @@
+//! Halls from which a session is missing.
+ghost use Rattle.std.specs.Prelude.{◌≡◌, All};
+ghost use Rattle.client_session.specs.Models.{IsDriverOf, IsSessionOf};
+
+use crate::ends::entries_of;
+use client_session::{CloseFault, Hall, Session};
+use small_halls::{SmallHall, SmallSize, let_session_go};
+use std::alloc::Global;
+use std::process::Abort;
+use std::test::*;
+
+/// A hall that has made two sessions of one turn each: with it stands the first one, and behind it the last one.
+fn hall_of_two(rt: &impl Abort, alloc: Global) -> (SmallHall, Session)
+    ensures driver { IsDriverOf result.0.hall result.0.driver }
+    ensures sessions { All (IsSessionOf result.0.hall) result.0.sessions.items }
+    ensures last { IsSessionOf result.0.hall result.1 }
+{
+    let size = SmallSize {
+        limit: 100,
+        driver_calls: 20,
+        sessions: 1,
+        calls: 1,
+    };
+    let Some(mut small) = SmallHall::of_two(alloc, size) else {
+        panic!(rt; "no memory");
+    };
+    let Ok(last) = small.hall.session(alloc, &mut small.driver, 1) else {
+        panic!(rt; "no memory");
+    };
+    (small, last)
+}
+
+/// Stops where not one of two sessions is given.
+fn is_one_of_two(rt: &impl Abort, made: u32, given: u32) {
+    assert!(rt; made == 2 && given == 1);
+}
+
+/// A close of a hall of two sessions, of which one is given. All is handed back.
+fn refused(rt: &impl Abort, alloc: Global, small: SmallHall) -> SmallHall
+    requires driver { IsDriverOf small.hall small.driver }
+    requires sessions { All (IsSessionOf small.hall) small.sessions.items }
+    ensures hall { result.hall ≡ small.hall }
+    ensures driver { result.driver ≡ small.driver }
+    ensures sessions { result.sessions.items ≡ small.sessions.items }
+{
+    let SmallHall {
+        hall,
+        driver,
+        sessions,
+    } = small;
+    match hall.close(alloc, driver, sessions) {
+        Err(
+            CloseFault::Missing {
+                made,
+                given,
+                hall,
+                driver,
+                sessions,
+            },
+        ) => {
+            is_one_of_two(rt, made, given);
+            SmallHall {
+                hall,
+                driver,
+                sessions,
+            }
+        }
+        Err(CloseFault::NoMemory(_)) => panic!(rt; "no memory"),
+        Ok(_) => panic!(rt; "no session is missing"),
+    }
+}
+
+#[test]
+fn a_hall_stays_open_where_a_session_was_dropped(rt: HostRuntime) {
+    let alloc = rt.alloc();
+    let (small, last) = hall_of_two(&rt, alloc);
+    let_session_go(last);
+    let small = refused(&rt, alloc, small);
+    refused(&rt, alloc, small).let_go();
+}
+
+/// Gives a session back.
+fn give(rt: &impl Abort, _hall: &Hall, sessions: &mut Vec<Session>, last: Session)
+    requires sessions { All (IsSessionOf _hall.now) sessions.old.items }
+    requires last { IsSessionOf _hall.now last }
+    ensures sessions { All (IsSessionOf _hall.entry.now) sessions.new.items }
+{
+    let Ok(()) = sessions.reserve(1) else {
+        panic!(rt; "no memory");
+    };
+    sessions.push_reserved(last);
+}
+
+/// Closes a hall of two sessions, of which the last one is kept back at first: how many entries its journal has.
+fn closed_later(rt: &impl Abort, alloc: Global, small: SmallHall, last: Session) -> usize
+    requires driver { IsDriverOf small.hall small.driver }
+    requires sessions { All (IsSessionOf small.hall) small.sessions.items }
+    requires last { IsSessionOf small.hall last }
+{
+    let mut open = refused(rt, alloc, small);
+    give(rt, &open.hall, &mut open.sessions, last);
+    entries_of(rt, alloc, open)
+}
+
+#[test]
+fn a_hall_closes_once_all_sessions_are_given(rt: HostRuntime) {
+    let (small, last) = hall_of_two(&rt, rt.alloc());
+    let entries = closed_later(&rt, rt.alloc(), small, last);
+    assert!(rt; entries == 0);
+}

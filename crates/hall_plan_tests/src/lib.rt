@@ -1,5 +1,0 @@
-//! Tests of plans that a hall serves: what the wires accept, and wires that fail. No clause says that there is memory where there is, nor that threads end; each row was worked out by hand.
-#![tactic(auto)]
-
-#[cfg(test)]
-mod hall_plans;
