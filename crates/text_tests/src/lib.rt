@@ -9,6 +9,8 @@ mod rows;
 #[cfg(test)]
 mod scripts;
 #[cfg(test)]
+mod tables;
+#[cfg(test)]
 mod traces;
 #[cfg(test)]
 mod weight_lists;

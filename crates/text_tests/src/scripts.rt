@@ -1,5 +1,6 @@
 //! Texts of scripts, over a trace with the coflows 1 and 2.
-use crate::rows::{had, is_told, parts_of};
+use crate::rows::{had, is_told};
+use crate::tables::{Kind, try_rows};
 use coflow_units::MAX_TEXT;
 use flow_table::Table;
 use script_reader::{Script, read_script};
@@ -26,7 +27,7 @@ fn told(rt: &impl Abort, alloc: Global, script: &Script) -> String {
 }
 
 /// The script that a text gives, or its first fault.
-fn answer(rt: &impl Abort, alloc: Global, bytes: &[u8]) -> String {
+pub(crate) fn script_told(rt: &impl Abort, alloc: Global, bytes: &[u8]) -> String {
     assert!(rt; bytes.len() <= MAX_TEXT);
     let table = table_of_two(rt, alloc);
     match read_script(alloc, bytes, &table) {
@@ -76,11 +77,7 @@ wait/1 pull => line 2: field 3 is not as it should be
 
 #[test]
 fn scripts_and_first_faults(rt: HostRuntime) {
-    for row in ROWS.split('\n') {
-        let (text, want) = parts_of(&rt, rt.alloc(), row);
-        let have = answer(&rt, rt.alloc(), text.as_bytes());
-        is_told(&rt, row, &have, want);
-    }
+    try_rows(&rt, rt.alloc(), Kind::Scripts, ROWS);
 }
 
 /// What so many lines `wait` give.
@@ -89,7 +86,7 @@ fn waits(rt: &impl Abort, alloc: Global, count: u32) -> String {
     for _ in 0..count {
         had(rt, text.push_str("wait\n"));
     }
-    answer(rt, alloc, text.as_bytes())
+    script_told(rt, alloc, text.as_bytes())
 }
 
 #[test]

@@ -1,5 +1,6 @@
 //! Texts of traces.
-use crate::rows::{had, is_told, parts_of};
+use crate::rows::{had, is_told};
+use crate::tables::{Kind, try_rows};
 use coflow_units::{CoflowLine, MAX_TEXT, Trace};
 use std::alloc::Global;
 use std::process::Abort;
@@ -28,7 +29,7 @@ fn told(rt: &impl Abort, alloc: Global, trace: &Trace) -> String {
 }
 
 /// The ports and the coflows that a text says, or its first fault.
-fn answer(rt: &impl Abort, alloc: Global, bytes: &[u8]) -> String {
+pub(crate) fn trace_told(rt: &impl Abort, alloc: Global, bytes: &[u8]) -> String {
     assert!(rt; bytes.len() <= MAX_TEXT);
     match read_trace(alloc, bytes) {
         Ok(trace) => told(rt, alloc, &trace),
@@ -110,11 +111,8 @@ const FAULTS: &str = " => bad header
 
 #[test]
 fn texts_of_traces(rt: HostRuntime) {
-    for row in VALUES.split('\n').chain(FAULTS.split('\n')) {
-        let (text, want) = parts_of(&rt, rt.alloc(), row);
-        let have = answer(&rt, rt.alloc(), text.as_bytes());
-        is_told(&rt, row, &have, want);
-    }
-    let have = answer(&rt, rt.alloc(), b"1 1\n\xff 0 1 0 1 1:1");
+    try_rows(&rt, rt.alloc(), Kind::Traces, VALUES);
+    try_rows(&rt, rt.alloc(), Kind::Traces, FAULTS);
+    let have = trace_told(&rt, rt.alloc(), b"1 1\n\xff 0 1 0 1 1:1");
     is_told(&rt, "bytes that are no UTF-8", &have, "line 2 field 1");
 }

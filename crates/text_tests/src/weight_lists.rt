@@ -1,5 +1,6 @@
 //! Texts of weights, for a trace with the coflows 1 and 2.
-use crate::rows::{had, is_told, parts_of};
+use crate::rows::had;
+use crate::tables::{Kind, try_rows};
 use coflow_units::MAX_TEXT;
 use std::alloc::Global;
 use std::process::Abort;
@@ -9,7 +10,7 @@ use weights::read_weights;
 const TWO_COFLOWS: &[u8] = b"1 2\n1 0 1 0 0\n2 0 1 0 0\n";
 
 /// The weights that a text gives, or its first fault.
-fn answer(rt: &impl Abort, alloc: Global, bytes: &[u8]) -> String {
+pub(crate) fn weights_told(rt: &impl Abort, alloc: Global, bytes: &[u8]) -> String {
     assert!(rt; bytes.len() <= MAX_TEXT);
     let trace = had(rt, read_trace(alloc, TWO_COFLOWS));
     match read_weights(alloc, bytes, &trace) {
@@ -56,9 +57,5 @@ x 1 => line 1: field 1 is not as it should be
 
 #[test]
 fn weights_and_first_faults(rt: HostRuntime) {
-    for row in ROWS.split('\n') {
-        let (text, want) = parts_of(&rt, rt.alloc(), row);
-        let have = answer(&rt, rt.alloc(), text.as_bytes());
-        is_told(&rt, row, &have, want);
-    }
+    try_rows(&rt, rt.alloc(), Kind::Weights, ROWS);
 }
