@@ -87,7 +87,7 @@ fn writes_and_reads_the_greatest_numbers(rt: HostRuntime) {
     let report = greatest(&rt, rt.alloc());
     let text = had(&rt, write_report(rt.alloc(), &report));
     assert!(rt; text.as_slice() == GREATEST.as_bytes());
-    assert_eq!(rt; refused_at(&rt, rt.alloc(), GREATEST), 0);
+    assert!(rt; refused_at(&rt, rt.alloc(), GREATEST) == 0);
 }
 
 /// The line at which a text is refused, or 0 where it is read and written as it was.
@@ -104,52 +104,74 @@ fn refused_at(rt: &impl Abort, alloc: Global, text: &str) -> u32 {
     }
 }
 
-/// Short texts, with the line at which each is refused. The last lines are those of a report without places.
+/// Stops where a text is refused at another line than its row says.
+fn is_refused_at(rt: &impl Abort, alloc: Global, row: &str, text: &str, want: &str) {
+    let have = refused_at(rt, alloc, text);
+    let have = had(rt, format!(in alloc; "{have}"));
+    if have.as_str() != want {
+        panic!(rt; "{row} has {have}");
+    }
+}
+
+/// Appends a text, in which a `/` stands for a line end.
+fn push_lines(rt: &impl Abort, text: &mut String, short: &str) {
+    let mut is_first = true;
+    for piece in short.split('/') {
+        if !is_first {
+            had(rt, text.push_str("\n"));
+        }
+        is_first = false;
+        had(rt, text.push_str(piece));
+    }
+}
+
+/// Texts, in which a `/` stands for a line end, and the line at which each is refused. The last ones are those of a report without places.
+const TEXTS: &str = "/ => 1
+sincronia 3/ => 1
+sincronia 01/ => 1
+sincronia 1 / => 1
+sincronia 1\r/ => 1
+sincronia 1/end/ => 2
+sincronia 1/place 2 2 in 0 1 1/ => 2
+sincronia 1/place 0 2 in 0 1 1/ => 2
+sincronia 1/place 1 2 at 0 1 1/ => 2
+sincronia 1/place 1 2  in 0 1 1/ => 2
+sincronia 1/place 1 2 in 0 1 1 1/ => 2
+sincronia 2/place 1 2 in 0 1 1/ => 2
+sincronia 2/place 1 2 in 0 1 1 0/ => 2
+sincronia 2/place 1 2 in 0 1 1 01/ => 2
+sincronia 2/place 1 2 in 0 1 1 4294967297/ => 2
+sincronia 1/place 1 2 in 0 1 1/place 1 3 in 0 1 1/ => 3
+sincronia 1/bound 0/cost 0/ => 3
+sincronia 1/bound 0/slack 0/cost +0/ => 4
+sincronia 1/bound 0/slack 0/cost 0/end/ => 0
+sincronia 1/bound 0/slack 0/cost 0/end => 5
+sincronia 1/bound 0/slack 0/cost 0/end// => 6
+sincronia 1/bound 0/slack 0/cost 0/end/x => 6
+sincronia 1/bound 0/slack 0/cost 0/run 0/end/ => 5
+sincronia 1/bound 0/slack 0/cost 0/run 1 /end/ => 5
+sincronia 1/bound 0/slack 0/cost 0/run 1 2 2/end/ => 5
+sincronia 1/bound 0/slack 0/cost 0/run 1 3 2/end/ => 5
+sincronia 1/bound 0/slack 0/cost 0/run 2199023255551 4294967295/end/ => 0
+sincronia 1/bound 0/slack 0/cost 0/run 1 4294967296/end/ => 5
+sincronia 1/bound 0/slack 0/cost 0/run 2199023255552/end/ => 5
+sincronia 1/bound 0/slack 0/cost 0/run 2199023255551/run 1 0/end/ => 6
+sincronia 1/bound 0/slack 0/cost 0/run 1 0/run 2 0/end/ => 6";
+
+/// Tries a row of the texts.
+fn try_text(rt: &impl Abort, alloc: Global, row: &str) {
+    let Some((short, want)) = row.split_once(" => ") else {
+        panic!(rt; "a row without an arrow");
+    };
+    let mut text = String::new(alloc);
+    push_lines(rt, &mut text, short);
+    is_refused_at(rt, alloc, row, text.as_str(), want);
+}
+
 #[test]
 fn texts_and_their_first_bad_lines(rt: HostRuntime) {
-    let starts = [
-        ("\n", 1),
-        ("sincronia 3\n", 1),
-        ("sincronia 01\n", 1),
-        ("sincronia 1 \n", 1),
-        ("sincronia 1\r\n", 1),
-        ("sincronia 1\nend\n", 2),
-        ("sincronia 1\nplace 2 2 in 0 1 1\n", 2),
-        ("sincronia 1\nplace 0 2 in 0 1 1\n", 2),
-        ("sincronia 1\nplace 1 2 at 0 1 1\n", 2),
-        ("sincronia 1\nplace 1 2  in 0 1 1\n", 2),
-        ("sincronia 1\nplace 1 2 in 0 1 1 1\n", 2),
-        ("sincronia 2\nplace 1 2 in 0 1 1\n", 2),
-        ("sincronia 2\nplace 1 2 in 0 1 1 0\n", 2),
-        ("sincronia 2\nplace 1 2 in 0 1 1 01\n", 2),
-        ("sincronia 2\nplace 1 2 in 0 1 1 4294967297\n", 2),
-        ("sincronia 1\nplace 1 2 in 0 1 1\nplace 1 3 in 0 1 1\n", 3),
-        ("sincronia 1\nbound 0\ncost 0\n", 3),
-        ("sincronia 1\nbound 0\nslack 0\ncost +0\n", 4),
-    ];
-    for (text, line) in starts {
-        assert_eq!(rt; refused_at(&rt, rt.alloc(), text), line, "{text}");
-    }
-    let ends = [
-        ("end\n", 0),
-        ("end", 5),
-        ("end\n\n", 6),
-        ("end\nx", 6),
-        ("run 0\nend\n", 5),
-        ("run 1 \nend\n", 5),
-        ("run 1 2 2\nend\n", 5),
-        ("run 1 3 2\nend\n", 5),
-        ("run 2199023255551 4294967295\nend\n", 0),
-        ("run 1 4294967296\nend\n", 5),
-        ("run 2199023255552\nend\n", 5),
-        ("run 2199023255551\nrun 1 0\nend\n", 6),
-        ("run 1 0\nrun 2 0\nend\n", 6),
-    ];
-    for (text, line) in ends {
-        let text = format!(in rt.alloc(); "sincronia 1\nbound 0\nslack 0\ncost 0\n{text}");
-        let text = had(&rt, text);
-        let have = refused_at(&rt, rt.alloc(), text.as_str());
-        assert_eq!(rt; have, line, "{text}");
+    for row in TEXTS.split('\n') {
+        try_text(&rt, rt.alloc(), row);
     }
 }
 
@@ -157,57 +179,66 @@ fn texts_and_their_first_bad_lines(rt: HostRuntime) {
 const TWO_COFLOWS: &str =
     "sincronia 1\nplace 1 2 in 0 733007751851 1\nplace 2 1 in 0 366503875925 4\nbound 5\nslack 1\ncost 5\nrun 1 1\nrun 3 0\nend\n";
 
-/// The line at which the plan of two coflows is refused that has other words in place of its line with this number.
-fn edited(rt: &impl Abort, alloc: Global, number: u32, put: &str) -> u32 {
+/// The plan of two coflows with other words in place of its line with this number.
+fn edited(rt: &impl Abort, alloc: Global, number: &str, put: &str) -> String {
     let mut text = String::new(alloc);
-    for (line, this) in TWO_COFLOWS.lines().zip(1..10) {
-        if this == number {
-            had(rt, text.push_str(put));
+    for (this, line) in (1..10).zip(TWO_COFLOWS.lines()) {
+        let this = had(rt, format!(in alloc; "{this}"));
+        if this.as_str() == number {
+            push_lines(rt, &mut text, put);
         } else {
             had(rt, text.push_str(line));
             had(rt, text.push_str("\n"));
         }
     }
-    refused_at(rt, alloc, text.as_str())
+    text
 }
 
-/// Lines left out, doubled or cut, and numbers with a leading zero or past their limits, with the line at which the text is refused.
+/// A line's number, what is put in its place, in which a `/` stands for a line end, and the line at which the text is refused: lines left out, doubled or cut, and numbers with a leading
+/// zero or past their limits.
+const EDITS: &str = "2: => 2
+3: => 0
+3:place 2 1 in 0 366503875925 4 => 3
+4: => 4
+4:bound 5/bound 5/ => 5
+8: => 0
+8:run 3 0/run 3 0/ => 9
+8:run 03 0/ => 8
+9: => 9
+1:sincronia 2/ => 2
+2:place 01 2 in 0 733007751851 1/ => 2
+2:place 1 02 in 0 733007751851 1/ => 2
+2:place 1 2 in 00 733007751851 1/ => 2
+2:place 1 2 in 0 0733007751851 1/ => 2
+2:place 1 2 in 0 733007751851 01/ => 2
+4:bound 05/ => 4
+5:slack 01/ => 5
+6:cost 05/ => 6
+7:run 1 01/ => 7
+2:place 1 4294967296 in 0 733007751851 1/ => 2
+2:place 1 2 in 4294967296 733007751851 1/ => 2
+2:place 1 2 in 0 340282366920938463463374607431768211456 1/ => 2
+2:place 1 2 in 0 733007751851 18446744073709551616/ => 2
+4:bound 340282366920938463463374607431768211456/ => 4
+5:slack 340282366920938463463374607431768211456/ => 5
+6:cost 340282366920938463463374607431768211456/ => 6";
+
+/// Tries a row of the edits.
+fn try_edit(rt: &impl Abort, alloc: Global, row: &str) {
+    let Some((edit, want)) = row.split_once(" => ") else {
+        panic!(rt; "a row without an arrow");
+    };
+    let Some((number, put)) = edit.split_once(':') else {
+        panic!(rt; "an edit without a line");
+    };
+    let text = edited(rt, alloc, number, put);
+    is_refused_at(rt, alloc, row, text.as_str(), want);
+}
+
 #[test]
 fn edited_texts(rt: HostRuntime) {
-    assert_eq!(rt; refused_at(&rt, rt.alloc(), TWO_COFLOWS), 0);
-    for (number, put, line) in [
-        (2, "", 2),
-        (3, "", 0),
-        (3, "place 2 1 in 0 366503875925 4", 3),
-        (4, "", 4),
-        (4, "bound 5\nbound 5\n", 5),
-        (8, "", 0),
-        (8, "run 3 0\nrun 3 0\n", 9),
-        (8, "run 03 0\n", 8),
-        (9, "", 9),
-        (1, "sincronia 2\n", 2),
-        (2, "place 01 2 in 0 733007751851 1\n", 2),
-        (2, "place 1 02 in 0 733007751851 1\n", 2),
-        (2, "place 1 2 in 00 733007751851 1\n", 2),
-        (2, "place 1 2 in 0 0733007751851 1\n", 2),
-        (2, "place 1 2 in 0 733007751851 01\n", 2),
-        (4, "bound 05\n", 4),
-        (5, "slack 01\n", 5),
-        (6, "cost 05\n", 6),
-        (7, "run 1 01\n", 7),
-        (2, "place 1 4294967296 in 0 733007751851 1\n", 2),
-        (2, "place 1 2 in 4294967296 733007751851 1\n", 2),
-        (
-            2,
-            "place 1 2 in 0 340282366920938463463374607431768211456 1\n",
-            2,
-        ),
-        (2, "place 1 2 in 0 733007751851 18446744073709551616\n", 2),
-        (4, "bound 340282366920938463463374607431768211456\n", 4),
-        (5, "slack 340282366920938463463374607431768211456\n", 5),
-        (6, "cost 340282366920938463463374607431768211456\n", 6),
-    ] {
-        let have = edited(&rt, rt.alloc(), number, put);
-        assert_eq!(rt; have, line, "line {number}: {put}");
+    assert!(rt; refused_at(&rt, rt.alloc(), TWO_COFLOWS) == 0);
+    for row in EDITS.split('\n') {
+        try_edit(&rt, rt.alloc(), row);
     }
 }

@@ -1,7 +1,7 @@
 //! Texts of printed journals.
 use crate::rows::{had, is_told, parts_of};
 use coflow_units::MAX_TEXT;
-use live_text::{EntryLine, Live, PullLine, Said, Word, read_live, write_live};
+use live_text::{Live, read_live, write_live};
 use std::alloc::Global;
 use std::process::Abort;
 
@@ -35,29 +35,26 @@ run 3 0
 end
 ";
 
-/// Stops where other entries, orders, pulls or runs were read of the worked text.
-fn is_worked(rt: &impl Abort, live: &Live) {
-    let opened = EntryLine {
-        who: 0,
-        word: Word::Open(4),
-        said: Said::Opened(2, 3, 1),
+/// What was read of the worked text: how many entries, the sixth of them, the pulls and the one order.
+fn worked_told(rt: &impl Abort, alloc: Global, live: &Live) -> String {
+    let entries = live.entries.as_slice();
+    let [order] = live.orders.as_slice() else {
+        panic!(rt; "not one order");
     };
-    let pull = PullLine {
-        client: 1,
-        line: 4,
-        id: 2,
-        version: 1,
-        rank: 1,
-    };
-    assert_eq!(rt; live.entries.as_slice().len(), 8);
-    assert_eq!(rt; live.entries.as_slice().get(5), Some(&opened));
-    assert_eq!(rt; live.pulls.as_slice(), [pull].as_slice());
-    assert_eq!(rt; live.orders.as_slice().len(), 1);
-    for order in live.orders.as_slice() {
-        assert_eq!(rt; order.as_slice(), [2, 1].as_slice());
-    }
-    assert_eq!(rt; live.runs.as_slice().len(), 2);
+    let (pulls, order) = (live.pulls.as_slice(), order.as_slice());
+    had(
+        rt,
+        format!(in alloc;
+            "{} {:?} {pulls:?} {order:?}",
+            entries.len(),
+            entries.get(5)
+        ),
+    )
 }
+
+/// What `worked_told` tells of it.
+const TOLD: &str = "8 Some(EntryLine { who: 0, word: Open(4), said: Opened(2, 3, 1) }) \
+    [PullLine { client: 1, line: 4, id: 2, version: 1, rank: 1 }] [2, 1]";
 
 #[test]
 fn the_worked_text_is_read(rt: HostRuntime) {
@@ -65,8 +62,9 @@ fn the_worked_text_is_read(rt: HostRuntime) {
     is_told(&rt, "the worked text", &have, "read");
     drop(have);
     let live = had(&rt, read_live(rt.alloc(), WORKED));
-    is_worked(&rt, &live);
+    let have = worked_told(&rt, rt.alloc(), &live);
     drop(live);
+    is_told(&rt, "what was read", &have, TOLD);
 }
 
 /// What stands behind the first line, and how it is read. A `/` stands for a line end.

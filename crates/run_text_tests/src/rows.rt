@@ -30,5 +30,7 @@ pub(crate) fn parts_of<'a>(rt: &impl Abort, alloc: Global, row: &'a str) -> (Str
 
 /// Stops where a row has another answer.
 pub(crate) fn is_told(rt: &impl Abort, row: &str, have: &str, want: &str) {
-    assert_eq!(rt; have, want, "{row}");
+    if have != want {
+        panic!(rt; "{row} is told as {have}");
+    }
 }

@@ -74,6 +74,14 @@ fn tell_options(rt: &impl Abort, text: &mut String, options: Options<'_>) {
     }
 }
 
+/// Stops where a line says something else.
+fn try_line(rt: &impl Abort, alloc: Global, line: &str, want: &str) {
+    let have = answer(rt, alloc, line);
+    if have.as_str() != want {
+        panic!(rt; "{line} says {have}");
+    }
+}
+
 /// Lines and what they say.
 const READ: &str = "plan t => Plan t - - 1 4 1024 1 8 8
 --weights w plan t => Plan t - w 1 4 1024 1 8 8
@@ -131,8 +139,7 @@ fn lines_that_are_read(rt: HostRuntime) {
         let Some((line, want)) = row.split_once(" => ") else {
             panic!(&rt; "a row without an arrow");
         };
-        let have = answer(&rt, rt.alloc(), line);
-        assert_eq!(rt; have.as_str(), want, "{row}");
+        try_line(&rt, rt.alloc(), line, want);
     }
 }
 
@@ -246,9 +253,8 @@ fn lines_that_are_refused(rt: HostRuntime) {
     // a word that is empty, and no words at all
     let empty = ["", " ", "plan t -- ", "plan t --weights "];
     for line in REFUSED.split('\n').chain(empty) {
-        let have = answer(&rt, rt.alloc(), line);
-        assert_eq!(rt; have.as_str(), want, "{line}");
+        try_line(&rt, rt.alloc(), line, want);
     }
     let have = said(&rt, rt.alloc(), &[]);
-    assert_eq!(rt; have.as_str(), want);
+    assert!(rt; have.as_str() == want);
 }
