@@ -4,7 +4,7 @@ ghost use Rattle.text_fields.specs.Fields.{field_at};
 ghost use Rattle.text_fields.specs.Lines.{without_first};
 ghost use Rattle.text_fields.specs.Numbers.{IsNumberOf};
 
-use crate::stop::Stop;
+use crate::fault::ListFault;
 use master_core::Command;
 use std::str;
 use text_fields::{Fields, number_of};
@@ -20,14 +20,14 @@ pub enum Said {
 }
 
 /// What the line says. The error is the number of a line that says nothing.
-pub fn said_of(fields: &mut Fields<'_>) -> Result<Said, Stop>
+pub fn said_of(fields: &mut Fields<'_>) -> Result<Said, ListFault>
     ensures end { OnOk result (length fields.new.texts ≡ 0) }
 {
     let line = fields.line();
     let said = said_first(fields);
     match said {
         Some(said) if fields.is_done() => Ok(said),
-        _ => Err(Stop::Line(line)),
+        _ => Err(ListFault::Line(line)),
     }
 }
 
@@ -39,7 +39,7 @@ pub fn word<'a>(fields: &mut Fields<'a>) -> &'a str
 }
 
 /// The number of the next field. A greater one than 2^64 - 1 is read as that.
-pub fn number(fields: &mut Fields<'_>) -> Option<u64>
+pub(crate) fn number(fields: &mut Fields<'_>) -> Option<u64>
     ensures number { IsNumberOf (field_at fields.old.texts 0) result }
     ensures left { fields.new ≡ without_first fields.old }
 {

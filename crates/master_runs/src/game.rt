@@ -1,12 +1,12 @@
 //! Masters and worlds that play the lines of a list.
 ghost use Rattle.std.specs.Prelude.{◌≡◌};
 
-use crate::line::{Said, said_of};
 use crate::stop::Stop;
 use crate::telling::{tell_closed, tell_journal, tell_master, tell_sent, tell_world};
 use coflow_units::NoMemory;
 use journal::RunTally;
 use master_core::{Command, Master};
+use master_lists::{ListFault, Said, said_of};
 use std::alloc::Global;
 use std::io;
 use text_fields::{Fields, Lines};
@@ -92,7 +92,7 @@ fn answer(rt: &HostRuntime, master: &mut Master, line: u32, said: Said) -> Resul
     match said {
         Said::Tell => Ok(tell_master(rt, master)?),
         Said::Step(Event::Ask { who, command }) => Ok(ask(rt, master, who, command)?),
-        Said::Step(_) => Err(Stop::Line(line)),
+        Said::Step(_) => Err(Stop::List(ListFault::Line(line))),
     }
 }
 

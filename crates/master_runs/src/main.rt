@@ -10,22 +10,19 @@
 #![tactic(auto)]
 
 mod game;
-mod line;
-mod setting;
 mod stop;
 mod telling;
 
 ghost use Rattle.std.specs.Prelude.{◌≡◌, ◌≤◌, [], All, IfOk, length, vec_len};
-ghost use Rattle.master_runs.specs.declared.setting.TheConstants.{MAX_LIMIT};
+ghost use Rattle.master_lists.specs.declared.setting.TheConstants.{MAX_LIMIT};
 ghost use Rattle.coflow_units.specs.declared.limits.TheConstants.{MAX_TEXT, MAX_WEIGHT};
 
 use crate::game::{play_master, play_world};
-use crate::line::{index, word};
-use crate::setting::{Setting, setting_of};
 use crate::stop::Stop;
 use coflow_units::{Items, NoMemory, UnitSize};
 use flow_table::Table;
 use master_core::Master;
+use master_lists::{ListFault, Setting, index, setting_of, word};
 use outside::{DiskShelf, Place4, Shelf};
 use std::alloc::Global;
 use std::env;
@@ -85,14 +82,14 @@ fn files_of<H: Shelf>(
 fn play(rt: &HostRuntime, alloc: Global, table: Table, lines: &mut Lines<'_>) -> Result<(), Stop> {
     let Some(mut first) = lines.next() else {
         drop(table);
-        return Err(Stop::Line(1));
+        return Err(Stop::List(ListFault::Line(1)));
     };
     match word(&mut first) {
         "master" => with_master(rt, alloc, table, &mut first, lines),
         "world" => with_world(rt, alloc, table, &mut first, lines),
         _ => {
             drop(table);
-            Err(Stop::Line(1))
+            Err(Stop::List(ListFault::Line(1)))
         }
     }
 }
@@ -129,15 +126,15 @@ fn with_world(
 fn world_of(alloc: Global, table: Table, fields: &mut Fields<'_>) -> Result<World, Stop> {
     let setting = match setting_of(alloc, table.coflows(), fields) {
         Ok(setting) => setting,
-        Err(stop) => {
+        Err(fault) => {
             drop(table);
-            return Err(stop);
+            return Err(Stop::List(fault));
         }
     };
     let Some(agents) = index(fields) else {
         drop(setting);
         drop(table);
-        return Err(Stop::Line(1));
+        return Err(Stop::List(ListFault::Line(1)));
     };
     let master = master_with(alloc, table, setting)?;
     Ok(World::new(alloc, master, agents)?)
@@ -147,9 +144,9 @@ fn world_of(alloc: Global, table: Table, fields: &mut Fields<'_>) -> Result<Worl
 fn master_of(alloc: Global, table: Table, fields: &mut Fields<'_>) -> Result<Master, Stop> {
     let setting = match setting_of(alloc, table.coflows(), fields) {
         Ok(setting) => setting,
-        Err(stop) => {
+        Err(fault) => {
             drop(table);
-            return Err(stop);
+            return Err(Stop::List(fault));
         }
     };
     Ok(master_with(alloc, table, setting)?)

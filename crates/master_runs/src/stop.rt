@@ -1,6 +1,6 @@
 //! Why a list is not played to its end.
 use coflow_units::NoMemory;
-use std::alloc::AllocFailed;
+use master_lists::ListFault;
 use std::io;
 use trace_tables::FileFault;
 
@@ -11,12 +11,8 @@ pub enum Stop {
     Usage,
     #[error("{0}")]
     File(#[from] FileFault),
-    /// The line with this number is not as it should be.
-    #[error("line {0}")]
-    Line(u32),
-    /// The coflow with this number has no weight, or one that is out of range.
-    #[error("no weight of coflow {0}")]
-    Weight(u32),
+    #[error("{0}")]
+    List(#[from] ListFault),
     #[error("no memory")]
     NoMemory,
     #[error("nothing more is printed")]
@@ -25,12 +21,6 @@ pub enum Stop {
 
 impl From<NoMemory> for Stop {
     fn from(_: NoMemory) -> Stop {
-        Stop::NoMemory
-    }
-}
-
-impl<T: Drop> From<AllocFailed<T>> for Stop {
-    fn from(_: AllocFailed<T>) -> Stop {
         Stop::NoMemory
     }
 }

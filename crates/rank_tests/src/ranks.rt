@@ -66,19 +66,15 @@ fn a_pull_finds_the_rank_that_was_published(rt: HostRuntime) {
     board.publish(&mut publisher, &[2, 1]);
     let second = board.pull(&mut seat, 1, 0);
     let first = board.pull(&mut seat, 0, 0);
-    assert_eq!(rt;
-        (second, first),
-        (
-            Pulled::Rank {
-                version: 1,
-                rank: 1
-            },
-            Pulled::Rank {
-                version: 1,
-                rank: 2
-            }
-        )
-    );
+    let one = Pulled::Rank {
+        version: 1,
+        rank: 1,
+    };
+    let two = Pulled::Rank {
+        version: 1,
+        rank: 2,
+    };
+    assert!(rt; second == one && first == two);
 }
 
 #[test]
@@ -99,7 +95,7 @@ fn readers_agree_with_what_a_thread_publishes(rt: HostRuntime) {
         &mut || pulls_agree(shared, &mut one),
         &mut || pulls_agree(shared, &mut two),
     );
-    assert_eq!(rt; agree, (true, true));
+    assert!(rt; agree.0 && agree.1);
     board.meet(&mut publisher, &mut one);
-    assert_eq!(rt; (one.seen(), publisher.version()), (VERSIONS, VERSIONS));
+    assert!(rt; one.seen() == VERSIONS && publisher.version() == VERSIONS);
 }

@@ -1,8 +1,5 @@
-//! Tests of the crates that threads share. Clauses say what each call may answer; here is that a thread that sleeps is woken, that ranks are pulled while others are published,
-//! and that a call that may answer want of memory answers where memory is there.
+//! Tests of the turnstile. Clauses say what each call may answer; here is that a thread that sleeps is woken, and that a call that may answer want of memory answers where memory is there.
 #![tactic(auto)]
 
-#[cfg(test)]
-mod ranks;
 #[cfg(test)]
 mod turns;

@@ -1,6 +1,6 @@
 use Rattle.std.proofs.Common.{◌≡◌, ◌≤◌, ◌^◌, vec_len}
 use Rattle.std.specs.Prelude.{All}
-use Rattle.master_runs.proofs.setting.weights_of.Given as goal
+use Rattle.master_lists.proofs.setting.weights_of.Given as goal
 
 abbrev pub invariant-loop-coflow : goal.invariant-loop-coflow
 invariant-loop-coflow l = record {

@@ -1,5 +1,5 @@
 use Rattle.std.proofs.Common.{◌≡◌, length}
-use Rattle.thread_tests.proofs.ranks.publish_many.Given as goal
+use Rattle.rank_tests.proofs.ranks.publish_many.Given as goal
 
 abbrev pub invariant-loop-before : goal.invariant-loop-before
 invariant-loop-before l =
