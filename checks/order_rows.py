@@ -87,3 +87,10 @@ CLASS_ROWS = [
     ("classes of no such file", None, None, CLASSES, 8, b"", READ_FAULT),
     ("classes of no such weights", TWO, None, CLASSES + ["--weights", "w"], 8, b"", READ_FAULT),
 ]
+
+# a trace, the weights of its coflows, and what the orders of the rankers cost: of the last one before and after it is told. In the first the second coflow is worth ten times as much by its weight, and its
+# bottleneck is the greater one; in the second all five orders cost something else
+COSTS = [
+    (b"2 2\n1 1 1 0 1 1:1\n2 0 1 0 1 1:3\n", b"1 1\n2 10\n", (34, 41, 34, 41, 41)),
+    (b"2 4\n1 20 2 1 2 1 2:6\n2 30 1 2 2 0:1 2:2\n3 10 1 0 1 2:2\n4 0 1 0 1 0:2\n", b"", (19, 20, 24, 27, 26)),
+]

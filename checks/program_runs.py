@@ -10,7 +10,7 @@ import sys
 import tempfile
 
 sys.dont_write_bytecode = True
-from order_rows import CLASSES, CLASS_ROWS, COMPARE, COMPARE_ROWS
+from order_rows import CLASSES, CLASS_ROWS, COMPARE, COMPARE_ROWS, COSTS, comparison
 from program_rows import AUDIT, AUDIT_ROWS, CHECK, CHECK_ROWS, CROSSED, ONLINE_ROWS, ROWS, SERVE, SERVED_ROWS, TABLE_ROWS, TOO_MANY, TWO, WEIGHED_ROWS, WRITE_FAULT
 import verdict_rows
 
@@ -111,6 +111,14 @@ def run_certificate(trace, weights, lines):
         return same("the certificate of " + trace, (code, have, err), (0, bytes_of(lines), b""))
 
 
+def run_costs(trace, weights, costs):
+    """The rows of a comparison, whatever its bound."""
+    with tempfile.TemporaryDirectory() as folder:
+        code, out, err = started(folder, {"t": trace, "w": weights}, COMPARE + ["--weights", "w"])
+        have, want = [[line for line in text.split(b"\n") if line.startswith(b"row ")] for text in (out, comparison(0, *costs))]
+        return same("costs of %r" % trace, (code, have, err), (0, want, b""))
+
+
 def run_long_report(name, words, trace, limit):
     """A report or a printed journal of 2^30 + 1 bytes, which takes no room on the disk."""
     with tempfile.TemporaryDirectory() as folder:
@@ -174,6 +182,7 @@ def main():
     results += [run_long_report("a long report", CHECK, TWO, b"text 1073741825"), run_long_report("a long journal", AUDIT, TWO, b"text 1073741825"),
                 run_long_report("a long report of too many units", CHECK, TOO_MANY, b"units 1099511627777")]
     results += [run(row) for row in SERVED_ROWS] + run_verdicts() + [run_certificate(*row) for row in verdict_rows.CERTIFICATES]
+    results += [run_costs(*row) for row in COSTS]
     results += [run_shuffle(), run_made(), run_served()]
     with open("/dev/full", "wb") as full:
         results += [run(("a full device for " + words[0], TWO, None, words, 9, b"", WRITE_FAULT), full) for words in (["plan", "t"], COMPARE, CLASSES, SERVE)]

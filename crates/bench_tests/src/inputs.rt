@@ -46,7 +46,9 @@ pub(crate) fn are_rows(
 ) {
     let have = shown(rt, alloc, trace, weights, &mut bench);
     assert!(rt; bench.is_empty());
-    assert_eq!(rt; have.as_str(), want);
+    if have.as_str() != want {
+        panic!(rt; "{have} is told in place of {want}");
+    }
 }
 
 /// The rows of a bench on a trace, as a text.

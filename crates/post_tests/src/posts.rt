@@ -2,7 +2,6 @@
 ghost use Rattle.std.specs.Prelude.{◌≡◌, ◌≤◌, [], Contains};
 ghost use Rattle.port_board.specs.declared.view.Grant.{Grant};
 
-use crate::begun::board_of;
 use port_board::{AgentSeat, Draw, PortBoard, Poster, Settled};
 use std::process::Abort;
 
@@ -79,7 +78,9 @@ fn drawn_by_two(
 
 #[test]
 fn one_of_two_agents_draws(rt: HostRuntime) {
-    let (board, mut poster) = board_of(&rt, rt.alloc(), 2);
+    let Ok((board, mut poster)) = PortBoard::new(rt.alloc(), 2) else {
+        panic!(&rt; "no memory");
+    };
     let mut first = board.agent(&mut poster);
     let mut second = board.agent(&mut poster);
     let seen = drawn_by_two(&rt, &board, &mut poster, &mut first, &mut second);
@@ -97,7 +98,9 @@ fn one_of_two_agents_draws(rt: HostRuntime) {
 
 #[test]
 fn a_grant_that_nobody_draws_is_taken_back(rt: HostRuntime) {
-    let (board, mut poster) = board_of(&rt, rt.alloc(), 2);
+    let Ok((board, mut poster)) = PortBoard::new(rt.alloc(), 2) else {
+        panic!(&rt; "no memory");
+    };
     let mut seat = board.agent(&mut poster);
     post_first(&board, &mut poster);
     let back = settled(&rt, &board, &mut poster);
