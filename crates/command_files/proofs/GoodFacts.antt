@@ -8,7 +8,7 @@ use Rattle.coflow_units.specs.declared.quantity.Quantity.{Quantity}
 use Rattle.coflow_units.specs.declared.trace.CoflowLine.{CoflowLine}
 use Rattle.flow_table.specs.Sent.{sent}
 use Rattle.flow_table.proofs.FlowsOne.{flows_one}
-use Rattle.live_text.specs.Reading.{IsBadAt, IsTextOf}
+use Rattle.live_reader.specs.Reading.{IsBadAt, IsTextOf}
 use Rattle.outside.specs.Shelf.{Told, bytes_of}
 use Rattle.script_reader.specs.declared.fault.ScriptFault.{ScriptFault}
 use Rattle.script_reader.specs.declared.fault.ScriptFault.TheVariants as script_fault

@@ -18,7 +18,7 @@ use Rattle.command_files.specs.Shelves.{HasBytes, KeepsFiles}
 use Rattle.command_files.proofs.LimitFacts.{text_may}
 use Rattle.command_files.proofs.ShelfFacts.{told_before}
 use Rattle.live_text.specs.declared.value.Live.{Live}
-use Rattle.live_text.specs.Reading.{GivesLive, IsBadAt as IsBadJournalAt, IsTextOf as IsJournalTextOf}
+use Rattle.live_reader.specs.Reading.{GivesLive, IsBadAt as IsBadJournalAt, IsTextOf as IsJournalTextOf}
 
 -- ---- a report
 

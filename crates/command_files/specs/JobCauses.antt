@@ -3,7 +3,7 @@ use Rattle.std.specs.Prelude.{ℕ, List, Option}
 use Rattle.command_words.specs.Jobs.{Job}
 use Rattle.command_words.specs.Jobs.Job.{audit_job, check_job, classes_job, compare_job, live_job, make_job, online_job, plan_job}
 use Rattle.command_words.specs.Words.{Said}
-use Rattle.live_text.specs.Reading.{IsBadAt}
+use Rattle.live_reader.specs.Reading.{IsBadAt}
 use Rattle.outside.specs.Shelf.{Told}
 use Rattle.verdicts.specs.AnyReport.{IsAnyBadAt}
 use Rattle.command_files.specs.declared.status.Status.{Status}

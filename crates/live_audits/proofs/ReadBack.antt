@@ -28,7 +28,7 @@ use Rattle.journal.proofs.Sound.{legal_sound}
 use Rattle.script_reader.specs.declared.script.Script.{Script}
 use Rattle.live_text.specs.declared.value.Live.{Live}
 use Rattle.live_text.specs.Live.{IsBefore, IsEntry, IsLive, IsPull, IsSmall}
-use Rattle.live_text.specs.Reading.{GivesLive}
+use Rattle.live_reader.specs.Reading.{GivesLive}
 use Rattle.live_text.specs.Text.{live_text}
 use Rattle.live_text.proofs.OneText.{live_one}
 use Rattle.live_model.specs.Clause.{CarriesOut, IsLiveRun}

@@ -12,7 +12,7 @@ ghost use Rattle.journal.specs.State.{IsOpening};
 ghost use Rattle.script_reader.specs.declared.script.Script.{Script};
 ghost use Rattle.live_text.specs.declared.value.Live.{Live};
 ghost use Rattle.live_text.specs.Live.{IsLive};
-ghost use Rattle.live_text.specs.Reading.{GivesLive};
+ghost use Rattle.live_reader.specs.Reading.{GivesLive};
 ghost use Rattle.live_text.specs.Text.{live_text};
 ghost use Rattle.live_model.specs.Clause.{IsLiveRun};
 ghost use Rattle.live_model.specs.Script.{limit_of};

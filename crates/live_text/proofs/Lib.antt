@@ -4,9 +4,3 @@ pub mod Words
 pub mod LineParts
 pub mod NextLine
 pub mod OneText
-pub mod FieldText
-pub mod DraftSteps
-pub mod Refusals
-pub mod ReadingSteps
-pub mod DealText
-pub mod LineReading

@@ -14,8 +14,7 @@ use Rattle.live_text.specs.declared.value.EntryLine.{EntryLine}
 use Rattle.live_text.specs.declared.value.Live.{Live}
 use Rattle.live_text.specs.declared.value.PullLine.{PullLine}
 use Rattle.live_text.specs.Live.{IsEntry, IsLive, IsPull, IsSmall}
-use Rattle.live_text.specs.Readers.{mark}
-use Rattle.live_text.specs.Text.{body_lines, entry_line, live_lines, numbered, order_line, pull_line}
+use Rattle.live_text.specs.Text.{body_lines, entry_line, live_lines, mark, numbered, order_line, pull_line}
 use Rattle.live_text.proofs.LineParts.{entry_one, entry_unique, numbered_lines, order_one, order_unique, pull_unique, pulls_lines}
 
 -- ---- one list of lines

@@ -5,8 +5,7 @@ use Rattle.coflow_units.proofs.Fronts.{head_of}
 use Rattle.report.proofs.TextLaws.{lines_one}
 use Rattle.live_text.specs.declared.value.Live.{Live}
 use Rattle.live_text.specs.Live.{IsLive}
-use Rattle.live_text.specs.Readers.{mark}
-use Rattle.live_text.specs.Text.{live_lines, live_text}
+use Rattle.live_text.specs.Text.{live_lines, live_text, mark}
 use Rattle.live_text.proofs.NextLine.{Next, live_are_lines, next_end, next_entry, next_of, next_order, next_pull, next_run}
 
 pub live_one : (a b : Live) → IsLive a → IsLive b → live_text a ≡ live_text b → a ≡ b

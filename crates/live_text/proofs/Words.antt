@@ -11,8 +11,7 @@ use Rattle.live_text.specs.declared.value.Said.TheVariants.{Unranked, Opened, No
 use Rattle.live_text.specs.declared.value.Word.{Word}
 use Rattle.live_text.specs.declared.value.Word.TheVariants.{Register, Withdraw, Publish, Pull, Open, Close, Reweigh}
 use Rattle.live_text.specs.Live.{IsAnswerOf, IsWord}
-use Rattle.live_text.specs.Readers.{mark}
-use Rattle.live_text.specs.Text.{command_words, reply_words}
+use Rattle.live_text.specs.Text.{command_words, mark, reply_words}
 use Rattle.live_text.proofs.NumberLists.{AreWide, StopsBehind, numbers_unique, one_number, three_numbers, two_numbers}
 
 -- ---- commands

@@ -1,5 +1,2 @@
 pub mod Text
 pub mod Live
-pub mod Readers
-pub mod Draft
-pub mod Reading

@@ -1,6 +1,6 @@
 -- The text of a printed journal, line by line.
 use Rattle.std.specs.Prelude.{ℕ, ◌+◌, ◌++◌, List, [], ◌∷◌, codes, map}
-use Rattle.std.specs.List.{flat_map}
+use Rattle.std.specs.List.{flat_map, slice_index_or}
 use Rattle.report.specs.Text.{run_line, spaced, text_of}
 use Rattle.live_text.specs.declared.value.EntryLine.{EntryLine}
 use Rattle.live_text.specs.declared.value.Live.{Live}
@@ -47,6 +47,10 @@ order_line version ids = codes "order" ++ spaced version ++ flat_map spaced ids
 -- the line of a pull
 abbrev pub pull_line : PullLine → List ℕ
 pull_line p = codes "pull" ++ spaced p.client ++ spaced p.line ++ spaced p.id ++ spaced p.version ++ spaced p.rank
+
+-- the fourth byte of a line or of a command's words, or 0 where there is none
+abbrev pub mark : List ℕ → ℕ
+mark bytes = slice_index_or bytes 3 0
 
 -- the lines of a list whose elements are counted from k on
 abbrev pub numbered : {X : Type 0} → (ℕ → X → List ℕ) → ℕ → List X → List (List ℕ)

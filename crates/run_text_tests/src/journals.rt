@@ -1,7 +1,8 @@
 //! Texts of printed journals.
 use crate::rows::{had, is_told, parts_of};
 use coflow_units::MAX_TEXT;
-use live_text::{Live, read_live, write_live};
+use live_reader::read_live;
+use live_text::{Live, write_live};
 use std::alloc::Global;
 use std::process::Abort;
 

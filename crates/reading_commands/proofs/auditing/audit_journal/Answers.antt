@@ -1,7 +1,7 @@
 use Rattle.std.proofs.Common.{◌≡◌, refl, subst}
 use Rattle.command_words.specs.Jobs.Job.{audit_job}
 use Rattle.command_words.specs.Words.{Said, said_with}
-use Rattle.live_text.specs.Reading.{IsBadAt, IsTextOf}
+use Rattle.live_reader.specs.Reading.{IsBadAt, IsTextOf}
 use Rattle.command_files.specs.declared.status.Status.{Status}
 use Rattle.command_files.specs.declared.status.Status.TheVariants.{NoMemory}
 use Rattle.reading_commands.specs.Audit.{is_yes}
