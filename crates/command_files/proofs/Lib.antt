@@ -9,7 +9,5 @@ pub mod JobFacts
 pub mod InputTurns
 pub mod FileTurns
 pub mod ScriptFacts
-pub mod LiveCauses
-pub mod LiveTurns
 pub mod GoodFacts
 pub mod SinkFacts

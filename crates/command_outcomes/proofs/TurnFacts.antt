@@ -22,7 +22,7 @@ use Rattle.command_files.specs.Turns.{FilesInTurn}
 use Rattle.serving_commands.proofs.EndCauses.{of_served}
 use Rattle.command_files.proofs.ShelfFacts.{if_some}
 use Rattle.command_files.proofs.FileTurns.{done_in_turn, untouched_in_turn}
-use Rattle.command_files.proofs.LiveTurns.{live_in_turn}
+use Rattle.live_files.proofs.LiveTurns.{live_in_turn}
 
 -- ---- all files in turn
 

@@ -17,8 +17,9 @@ ghost use Rattle.command_files.specs.GoodFiles.{HasGoodFiles};
 ghost use Rattle.serving_commands.specs.Live.{IsStatusOfLive, LiveOf};
 ghost use Rattle.serving_commands.specs.Serving.{MayHaveSent, Sends, Serves, Stops};
 
-use command_files::{Input, LiveInput, Outcome, Status, read_live_files};
+use command_files::{Input, Outcome, Status};
 use command_words::Options;
+use live_files::{LiveInput, read_live_files};
 use live_rounds::Gate;
 use live_serving::LiveFault;
 use outside::{Shelf, Wire};

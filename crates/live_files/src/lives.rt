@@ -1,4 +1,4 @@
-//! The files of a command in which clients share a trace live: the trace, the weights of its coflows, and a script.
+//! The trace, the weights of its coflows, and a script.
 ghost use Rattle.std.specs.Prelude.{◌≡◌, IfErr, IfOk, IfSome, OnOk, option_map};
 ghost use Rattle.coflow_units.specs.declared.quantity.Quantity.TheVariants.{Units};
 ghost use Rattle.command_words.specs.Jobs.Job.{live_job};
@@ -12,9 +12,8 @@ ghost use Rattle.command_files.specs.Shelves.{KeepsFiles, OfBoth, ReadsOut};
 ghost use Rattle.command_files.specs.Turns.{FilesInTurn};
 ghost use Rattle.verdicts.specs.AnyReport.{IsAnyBadAt};
 
-use crate::inputs::{Input, read_input, read_script_file};
-use crate::status::Status;
 use coflow_units::{MAX_LIVE_UNITS, Quantity};
+use command_files::{Input, Status, read_input, read_script_file};
 use command_words::Options;
 use flow_table::Table;
 use outside::Shelf;

@@ -17,7 +17,7 @@ use Rattle.command_files.specs.Turns.FilesInTurn.{at_script}
 use Rattle.command_files.specs.Turns.InputInTurn.{at_weights}
 use Rattle.command_files.proofs.FileTurns.{input_in_turn}
 use Rattle.command_files.proofs.InputTurns.{fails_if, no_read}
-use Rattle.command_files.proofs.LiveCauses.{report_not_script, still_before_script}
+use Rattle.live_files.proofs.LiveCauses.{report_not_script, still_before_script}
 use Rattle.command_files.proofs.ShelfFacts.{both_and, both_joined, left_unless, named_before, of_both, still_before}
 
 module _ (old new : Option Told) (said : Said) (s : Status) where

@@ -7,11 +7,11 @@ use Rattle.command_files.specs.Shelves.{OfBoth}
 use Rattle.command_files.specs.Turns.{FilesInTurn}
 use Rattle.command_files.proofs.CauseFacts.{input_cause}
 use Rattle.command_files.proofs.FileTurns.{input_in_turn}
-use Rattle.command_files.proofs.LiveCauses.{from_script, from_units, script_good, scripted_out, shared_as, shared_given}
-use Rattle.command_files.proofs.LiveTurns.{script_in_turn, units_in_turn}
+use Rattle.live_files.proofs.LiveCauses.{from_script, from_units, script_good, scripted_out, shared_as, shared_given}
+use Rattle.live_files.proofs.LiveTurns.{script_in_turn, units_in_turn}
 use Rattle.command_files.proofs.ScriptFacts.{script_before}
 use Rattle.command_files.proofs.ShelfFacts.{files_kept, passed_on}
-use Rattle.command_files.proofs.lives.read_live_files.Goals as goal
+use Rattle.live_files.proofs.lives.read_live_files.Goals as goal
 
 pub returns-in_err-input-clause-cause : goal.returns-in_err-input-clause-cause
 returns-in_err-input-clause-cause g c =

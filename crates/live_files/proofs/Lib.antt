@@ -1,0 +1,2 @@
+mod LiveCauses
+pub mod LiveTurns
