@@ -7,7 +7,7 @@ use flow_table::Table;
 use std::alloc::Global;
 use std::fmt::Debug;
 use std::process::Abort;
-use trace_tables::{TextFault, table_of_text};
+use trace_tables::table_of_text;
 
 /// Two coflows that share both ports, of 3 units and of 1 unit.
 pub(crate) const TWO: &str = "2 2\n1 0 1 0 1 1:3\n2 0 1 0 1 1:1\n";
@@ -24,21 +24,12 @@ pub(crate) fn had<T, E: Debug + Drop>(rt: &impl Abort, answer: Result<T, E>) -> 
     }
 }
 
-/// The flows of a trace, where a unit has so many megabytes, or the fault.
-pub(crate) fn built(
-    rt: &impl Abort,
-    alloc: Global,
-    trace: &str,
-    unit: u64,
-) -> Result<Table, TextFault> {
-    assert!(rt; unit >= 1);
-    assert!(rt; unit <= MAX_UNIT);
-    table_of_text(alloc, trace.as_bytes(), UnitSize { megabytes: unit })
-}
-
 /// The flows of a trace, where a unit has so many megabytes.
 pub(crate) fn table_of(rt: &impl Abort, alloc: Global, trace: &str, unit: u64) -> Table {
-    had(rt, built(rt, alloc, trace, unit))
+    assert!(rt; unit >= 1);
+    assert!(rt; unit <= MAX_UNIT);
+    let size = UnitSize { megabytes: unit };
+    had(rt, table_of_text(alloc, trace.as_bytes(), size))
 }
 
 /// Stops where another text is told.

@@ -1,5 +1,5 @@
-//! Tables of flows, which are told by their traces.
-use crate::inputs::{THREE, built, had, is_told, table_of};
+//! Tables of flows.
+use crate::inputs::{built, had, is_told};
 use coflow_units::Flow;
 use flow_table::Table;
 use std::alloc::Global;
@@ -153,7 +153,7 @@ fn mappers_share_units(rt: HostRuntime) {
             "3 5; 9 0; 4 8; ",
         ),
         (
-            THREE,
+            "150 3\n1 0 2 20 38 1 93:1.0\n2 120 1 7 2 93:4.5 7:2\n3 250 3 20 64 110 2 38:6.25 93:1\n",
             1,
             "1 0, 20 93 1; 2 120, 7 7 2, 7 93 5; 3 250, 20 38 3, 20 93 1, 64 38 2, 110 38 2; ",
         ),
@@ -194,7 +194,7 @@ fn are_crowded(rt: &impl Abort, flows: &[Flow]) {
 #[test]
 fn flows_have_a_limit(rt: HostRuntime) {
     let most = crowded(&rt, rt.alloc(), "2 0 1 0 0");
-    let table = table_of(&rt, rt.alloc(), &most, 1);
+    let table = had(&rt, built(&rt, rt.alloc(), &most, 1));
     drop(most);
     are_crowded(&rt, table.flows());
     drop(table);
