@@ -4,7 +4,3 @@
 
 #[cfg(test)]
 mod threads;
-#[cfg(test)]
-mod told;
-#[cfg(test)]
-mod versions;

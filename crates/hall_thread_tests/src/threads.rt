@@ -2,9 +2,8 @@
 ghost use Rattle.std.specs.Prelude.{◌≡◌, ◌≤◌, All, length};
 ghost use Rattle.client_session.specs.Models.{IsSessionOf};
 
-use crate::told::{Told, tell, tell_entries};
-use crate::versions::{Note, is_true, versions_of};
 use client_session::{Entry, Hall, Pulled, Session};
+use hall_notes::{Note, Told, is_true, tell, tell_entries, versions_of};
 use small_halls::{Ask, Said, SmallHall, SmallSize, answered};
 use std::alloc::Global;
 use std::process::Abort;
@@ -169,7 +168,9 @@ pub(crate) fn play_all<R: Threads + Wait + Sync + Abort>(
 /// All notes are true in a closed journal.
 fn are_true(rt: &impl Abort, alloc: Global, journal: &[Entry], told: &[Told], log: &Log) {
     assert!(rt; log.whole, "no memory");
-    let versions = versions_of(rt, alloc, journal, LIMIT);
+    let Ok(versions) = versions_of(alloc, journal, LIMIT) else {
+        panic!(rt; "a master answers otherwise, or no memory");
+    };
     for note in log.notes.as_slice() {
         assert!(rt; is_true(note, versions.as_slice(), told));
     }
@@ -196,7 +197,8 @@ fn played<R: Threads + Wait + Sync + Abort>(
         panic!(rt; "no memory");
     };
     play_all(rt, alloc, &small.hall, &mut small.sessions, crowd);
-    tell(rt, &small.sessions, told);
+    let whole = tell(&small.sessions, told).is_ok();
+    assert!(rt; whole, "no memory");
     let Some(journal) = small.journal(alloc) else {
         panic!(rt; "no memory");
     };
@@ -206,7 +208,8 @@ fn played<R: Threads + Wait + Sync + Abort>(
 /// The receipts are those of the entries of so many sessions in the journal.
 fn are_entries(rt: &impl Abort, alloc: Global, journal: &[Entry], count: u32, told: &[Told]) {
     let mut entries = Vec::new(alloc);
-    tell_entries(rt, journal, count, &mut entries);
+    let whole = tell_entries(journal, count, &mut entries).is_ok();
+    assert!(rt; whole, "no memory");
     assert!(rt; told == entries.as_slice());
     drop(entries);
     assert!(rt; told.len() == journal.len());

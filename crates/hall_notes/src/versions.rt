@@ -1,71 +1,71 @@
 //! What sessions noted, and what a plain master makes of the commands of the closed journal.
 ghost use Rattle.std.specs.Prelude.{◌≤◌, ◌^◌};
 
+use crate::fault::ReplayFault;
 use crate::told::Told;
 use client_session::{Entry, Reply};
 use master_core::Master;
 use small_halls::{let_master_go, master_of_two};
 use std::alloc::Global;
-use std::process::Abort;
 
 /// A pull without a turn: the version and the rank that were answered, and how many receipts the caller had then. The rank is 0 where the coflow had none.
 #[derive(Clone, Copy)]
-pub(crate) struct Note {
-    pub(crate) who: u32,
-    pub(crate) coflow: u32,
-    pub(crate) version: u32,
-    pub(crate) rank: u32,
-    pub(crate) mark: usize,
+pub struct Note {
+    pub who: u32,
+    pub coflow: u32,
+    pub version: u32,
+    pub rank: u32,
+    pub mark: usize,
 }
 
 /// A version of the journal: the position of the entry that made it, 0 for the first, and the ranks of both coflows.
 #[derive(Clone, Copy)]
-pub(crate) struct Version {
+pub struct Version {
     position: u32,
     ranks: [u32; 2],
 }
 
-/// The versions of a journal whose commands a plain master answers alike.
-pub(crate) fn versions_of(
-    rt: &impl Abort,
+/// The versions of a journal of a hall with at most so many entries, whose commands a plain master answers alike.
+pub fn versions_of(
     alloc: Global,
     journal: &[Entry],
     limit: u32,
-) -> Vec<Version>
+) -> Result<Vec<Version>, ReplayFault>
     requires some { 1 ≤ limit }
     requires few { limit ≤ 2 ^ 23 }
 {
     let mut versions = Vec::new(alloc);
-    let first = Version {
+    versions.push(Version {
         position: 0,
         ranks: [0, 0],
-    };
-    keep(rt, &mut versions, first);
+    })?;
     let Some(mut master) = master_of_two(alloc, limit) else {
-        panic!(rt; "no memory");
+        return Err(ReplayFault::NoMemory);
     };
-    replay(rt, &mut master, journal, &mut versions);
+    let replayed = replay(&mut master, journal, &mut versions);
     let_master_go(master);
-    versions
-}
-
-/// Adds a version.
-fn keep(rt: &impl Abort, versions: &mut Vec<Version>, version: Version) {
-    let Ok(()) = versions.push(version) else {
-        panic!(rt; "no memory");
-    };
+    replayed?;
+    Ok(versions)
 }
 
 /// Carries out the commands of a journal, and adds the versions that they make.
-fn replay(rt: &impl Abort, master: &mut Master, journal: &[Entry], versions: &mut Vec<Version>) {
+fn replay(
+    master: &mut Master,
+    journal: &[Entry],
+    versions: &mut Vec<Version>,
+) -> Result<(), ReplayFault> {
     for entry in journal {
-        let fits = master.is_in_range(entry.command);
-        assert!(rt; fits);
-        assert!(rt; master.step(entry.who, entry.command) == entry.reply);
+        if !master.is_in_range(entry.command) {
+            return Err(ReplayFault::OtherReply);
+        }
+        if master.step(entry.who, entry.command) != entry.reply {
+            return Err(ReplayFault::OtherReply);
+        }
         if let Reply::Version(_) = entry.reply {
-            keep(rt, versions, version_of(master));
+            versions.push(version_of(master))?;
         }
     }
+    Ok(())
 }
 
 /// The newest version of a master.
@@ -86,7 +86,7 @@ fn rank_at(ranks: &[u32], coflow: usize) -> u32 {
 
 /// Whether what was noted is true in a journal of these versions: the rank is the coflow's in the version, which is not below that of an earlier receipt of the caller, and was made before each later
 /// one.
-pub(crate) fn is_true(note: &Note, versions: &[Version], told: &[Told]) -> bool {
+pub fn is_true(note: &Note, versions: &[Version], told: &[Told]) -> bool {
     let Some(version) = versions.get(note.version as usize) else {
         return false;
     };
