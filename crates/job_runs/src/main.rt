@@ -10,17 +10,15 @@
 //! The exit code is 0 where all rows were carried out, and 1 where a row is not such, or something else was wanting.
 #![tactic(auto)]
 
-mod carrying;
 mod stop;
-mod stutter;
 
 ghost use Rattle.std.specs.Prelude.{◌≤◌, IfOk, length};
 ghost use Rattle.coflow_units.specs.declared.limits.TheConstants.{MAX_TEXT};
 
-use crate::carrying::carry_job;
 use crate::stop::Stop;
+use carried_jobs::carry_job;
 use outside::{DiskShelf, Place4, Shelf};
-use small_jobs::{job_of, row_of, words_of};
+use small_jobs::{Row, job_of, row_of, words_of};
 use std::alloc::Global;
 use std::env;
 use std::process::ExitCode;
@@ -98,11 +96,21 @@ fn carry_line<R: Runtime + Threads + Wait + Sync, H: Shelf>(
     let Some(words) = words_of(alloc, fields) else {
         return Err(Stop::NoMemory);
     };
-    let job = job_of(alloc, shelf, row);
-    let carried = match job {
-        Ok(mut job) => carry_job(rt, alloc, (line, row), &words, &mut job),
-        Err(fault) => Err(Stop::File(fault)),
-    };
+    let carried = carry_row(rt, alloc, shelf, (line, row), &words);
     drop(words);
     carried
+}
+
+/// Carries out the row with these words of its command. With it stands the number of its line.
+fn carry_row<R: Runtime + Threads + Wait + Sync, H: Shelf>(
+    rt: &R,
+    alloc: Global,
+    shelf: &mut H,
+    row: (u32, Row<'_>),
+    words: &[String],
+) -> Result<(), Stop> {
+    let mut job = job_of(alloc, shelf, row.1)?;
+    let carried = carry_job(rt, alloc, row, words, &mut job);
+    drop(job);
+    Ok(carried?)
 }

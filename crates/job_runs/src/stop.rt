@@ -1,7 +1,5 @@
 //! Why rows are not carried out to their end.
-use coflow_units::NoMemory;
-use std::alloc::{AllocError, AllocFailed};
-use std::io;
+use carried_jobs::JobFault;
 use trace_tables::FileFault;
 
 /// Why rows are not carried out to their end.
@@ -16,24 +14,6 @@ pub(crate) enum Stop {
     Line(u32),
     #[error("no memory")]
     NoMemory,
-    #[error("nothing more is printed")]
-    Output(#[from] io::Error),
-}
-
-impl From<NoMemory> for Stop {
-    fn from(_: NoMemory) -> Stop {
-        Stop::NoMemory
-    }
-}
-
-impl From<AllocError> for Stop {
-    fn from(_: AllocError) -> Stop {
-        Stop::NoMemory
-    }
-}
-
-impl<T: Drop> From<AllocFailed<T>> for Stop {
-    fn from(_: AllocFailed<T>) -> Stop {
-        Stop::NoMemory
-    }
+    #[error("{0}")]
+    Job(#[from] JobFault),
 }

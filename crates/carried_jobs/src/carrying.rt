@@ -1,7 +1,7 @@
 //! Carrying out a row.
 ghost use Rattle.std.specs.Prelude.{◌≤◌, length};
 
-use crate::stop::Stop;
+use crate::fault::JobFault;
 use crate::stutter::Stutter;
 use coflow_units::MAX_COFLOWS;
 use rankers::{Attained, Fifo, Ranker};
@@ -12,14 +12,16 @@ use std::rt::Runtime;
 use std::sync::Wait;
 use std::thread::Threads;
 
-/// Carries out the command of a row with these words, the program's name first, and prints what comes of it. With the row stands the number of its line.
-pub(crate) fn carry_job<R: Runtime + Threads + Wait + Sync>(
+/// Carries out the command of a row with these words, the program's name first, and prints what comes of it. With the row stands the number of its line, which is printed too.
+///
+/// The error is want of memory, or that nothing more is printed.
+pub fn carry_job<R: Runtime + Threads + Wait + Sync>(
     rt: &R,
     alloc: Global,
     row: (u32, Row<'_>),
     words: &[String],
     job: &mut SmallJob,
-) -> Result<(), Stop> {
+) -> Result<(), JobFault> {
     let mut bench: Vec<Box<dyn Ranker>> = Vec::new(alloc);
     match row.1.bench {
         Bench::Empty => (),
@@ -47,12 +49,12 @@ fn carry_with<R: Runtime + Threads + Wait + Sync>(
     words: &[String],
     job: &mut SmallJob,
     bench: &mut Vec<Box<dyn Ranker>>,
-) -> Result<(), Stop>
+) -> Result<(), JobFault>
     requires few { length bench.old.items ≤ 2 }
 {
     let pair = Pair::new();
     let Some(stage) = stage_of(alloc, row.1, &pair) else {
-        return Err(Stop::NoMemory);
+        return Err(JobFault::NoMemory);
     };
     let Stage {
         mut wires,
