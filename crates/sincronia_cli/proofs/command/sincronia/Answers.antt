@@ -332,3 +332,9 @@ returns-in_default-clause-good g c = λ past. (said_by c.in-Ok.words, c.in-Ok.en
 
 pub returns-clause-good : goal.returns-clause-good
 returns-clause-good g c = λ past. (said_by c.in-Ok.words, c.in-Ok.ensures.said, c.in-Ok-carry_out.ensures.good)
+
+pub returns-in-Err-clause-still_sink : goal.returns-in-Err-clause-still_sink
+returns-in-Err-clause-still_sink g c = λ no. refl
+
+pub returns-in-Err-clause-unwritten : goal.returns-in-Err-clause-unwritten
+returns-in-Err-clause-unwritten g c = λ none. refl
