@@ -3,7 +3,7 @@ use Rattle.std.proofs.Common.{◌≡◌, ℕ, List, refl, sym, subst, ◌∙◌}
 use Rattle.std.specs.Prelude.{Bool, Option, Ok, false, true}
 use Rattle.command_words.specs.Jobs.{Job}
 use Rattle.command_words.specs.Jobs.Job.{audit_job, check_job, classes_job, compare_job, live_job, make_job, online_job, plan_job}
-use Rattle.command_words.specs.Line.{Text}
+use Rattle.command_lines.specs.Line.{Text}
 use Rattle.command_words.specs.Words.{IsWords, Said}
 use Rattle.flow_table.specs.Table.{TableFacts}
 use Rattle.outside.specs.Shelf.{Told}

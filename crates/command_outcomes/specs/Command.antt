@@ -2,7 +2,7 @@
 use Rattle.std.specs.Prelude.{◌≡◌, List}
 use Rattle.command_words.specs.Jobs.{Job}
 use Rattle.command_words.specs.Jobs.Job.{audit_job, check_job, classes_job, compare_job, live_job, make_job, online_job, plan_job}
-use Rattle.command_words.specs.Line.{Text}
+use Rattle.command_lines.specs.Line.{Text}
 use Rattle.command_words.specs.Words.{IsWords, Said}
 
 -- the words are those of a command, and ask for this job

@@ -1,4 +1,2 @@
-pub mod Line
 pub mod Jobs
 pub mod Words
-pub mod Parser

@@ -1,18 +1,16 @@
 //! Reads the words of a command line: the job, which is a command with the names behind it, and the options.
 #![tactic(auto)]
 
-mod arguments;
 mod job;
 pub mod laws;
 mod limits;
 mod options;
-mod parser;
 mod values;
 mod words;
 
-pub use arguments::{fault_by, needed_name, option_named, with_arg};
+pub use command_lines::WordsFault;
 pub use job::Job;
 pub use limits::{MAX_OPTION_AGENTS, MAX_OPTION_CLASSES};
 pub use options::Options;
 pub use values::{is_file_name, setting_of, unit_of};
-pub use words::{Words, WordsFault, read_words};
+pub use words::{Words, read_words};

@@ -3,36 +3,24 @@ ghost use Rattle.std.specs.Prelude.{◌≡◌, ◌↔◌, Err, IfNone, IfOk, IfS
 ghost use Rattle.clap.specs.Words.{first_value, found_of};
 ghost use Rattle.command_words.specs.Jobs.{IsFileName, job_by, job_in};
 ghost use Rattle.command_words.specs.Jobs.{Job as JobSaid};
-ghost use Rattle.command_words.specs.Line.{texts};
+ghost use Rattle.command_lines.specs.Line.{texts};
 ghost use Rattle.command_words.specs.Words.{IsSaid, IsWords, Said, said_by, said_with};
-ghost use Rattle.command_words.specs.declared.words.WordsFault.TheVariants.{Usage};
+ghost use Rattle.command_lines.specs.declared.fault.WordsFault.TheVariants.{Usage};
 
 use crate::job::{Job, job_of};
 use crate::limits::{MAX_OPTION_AGENTS, MAX_OPTION_CLASSES};
 use crate::options::Options;
-use crate::parser::matches_of;
 use crate::values::{is_file_name, setting_of, unit_of};
 use clap::ArgMatches;
 use coflow_units::{MAX_OPTION_SLOTS, MAX_SLOT_MS};
+use command_lines::{WordsFault, matches_of};
 use std::alloc::Global;
-use thiserror::Error;
 
 /// What a command line says: the job and the options.
 #[derive(Clone, Copy, Debug, PartialEq, Eq)]
 pub struct Words<'a> {
     pub job: Job<'a>,
     pub options: Options<'a>,
-}
-
-/// Why there are no words.
-#[derive(Clone, Copy, Debug, PartialEq, Eq, Error)]
-pub enum WordsFault {
-    /// The words are no command line.
-    #[error("the words are no command line")]
-    Usage,
-    /// No memory was to be had.
-    #[error("no memory")]
-    NoMemory,
 }
 
 /// Reads the words of a command line, the first of which is the program's name.

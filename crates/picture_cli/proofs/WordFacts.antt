@@ -2,7 +2,7 @@
 use Rattle.std.proofs.Common.{◌≡◌, ℕ, List, Option, Some, None, codes, refl, sym, ◌∙◌}
 use Rattle.coflow_units.specs.declared.fabric.Side.{Side}
 use Rattle.coflow_units.specs.declared.fabric.Side.TheVariants.{Egress, Ingress}
-use Rattle.command_words.specs.Line.{Text}
+use Rattle.command_lines.specs.Line.{Text}
 use Rattle.command_words.specs.Words.{IsSetting}
 use Rattle.picture_cli.specs.Words.{IsPictureWords, IsSaid, IsSide, PictureSaid}
 

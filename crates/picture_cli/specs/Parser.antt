@@ -3,8 +3,8 @@ use Rattle.std.specs.Prelude.{◌≡◌, List, [], codes}
 use Rattle.clap.specs.Words.{App, fault_of, first_of, first_value, matches_of, new_app, with_rule}
 use Rattle.clap.specs.Simple.{on_top}
 use Rattle.clap.specs.declared.parser.matches.Found.{Found}
-use Rattle.command_words.specs.Line.{Text}
-use Rattle.command_words.specs.Parser.{needed_rule, with_option}
+use Rattle.command_lines.specs.Line.{Text}
+use Rattle.command_lines.specs.Parser.{needed_rule, with_option}
 use Rattle.std.specs.Prelude.{true}
 
 -- The command before it has arguments. No word asks for help or for the version.

@@ -5,7 +5,7 @@ use Rattle.coflow_units.specs.declared.limits.TheConstants.{MAX_SLOT, MAX_UNIT}
 use Rattle.coflow_units.specs.declared.fabric.Side.{Side}
 use Rattle.coflow_units.specs.declared.fabric.Side.TheVariants.{Egress, Ingress}
 use Rattle.command_words.specs.Jobs.{IsFileName}
-use Rattle.command_words.specs.Line.{Text}
+use Rattle.command_lines.specs.Line.{Text}
 use Rattle.command_words.specs.Words.{IsSetting}
 use Rattle.picture_cli.specs.Parser.{app}
 use Rattle.picture_cli.specs.declared.picture_words.PictureWords.{PictureWords}

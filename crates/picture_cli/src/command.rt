@@ -1,6 +1,6 @@
 //! The job of drawing, from the words to the written picture.
 ghost use Rattle.std.specs.Prelude.{◌≡◌, ◌≢◌, ◌⊎◌, ℕ, IfSome, IsSomeAnd};
-ghost use Rattle.command_words.specs.Line.{texts};
+ghost use Rattle.command_lines.specs.Line.{texts};
 ghost use Rattle.outside.specs.Rose.{Rose, RoseOnce};
 ghost use Rattle.command_files.specs.Ends.{IsStill, IsReadFault, IsWriteFault};
 ghost use Rattle.command_files.specs.Shelves.{KeepsFiles, OfBoth, ReadsOut};

@@ -2,7 +2,7 @@
 ghost use Rattle.std.specs.Prelude.{◌≡◌, ℕ, List};
 ghost use Rattle.cert_check.specs.Sound.{IsSound};
 ghost use Rattle.coflow_units.specs.Flows.{Instance};
-ghost use Rattle.command_words.specs.Line.{Text};
+ghost use Rattle.command_lines.specs.Line.{Text};
 ghost use Rattle.outside.specs.Shelf.{Told};
 ghost use Rattle.report.specs.declared.value.Report.{Report};
 ghost use Rattle.picture_cli.specs.Complete.{IsAnswer};

@@ -1,12 +1,12 @@
 //! The words as one simple command.
 ghost use Rattle.std.specs.Prelude.{◌≡◌, ◌≢◌, Err, IfOk, []};
 ghost use Rattle.clap.specs.Words.{app_of, fault_of, found_of};
-ghost use Rattle.command_words.specs.Line.{texts};
-ghost use Rattle.command_words.specs.declared.words.WordsFault.TheVariants.{Usage};
+ghost use Rattle.command_lines.specs.Line.{texts};
+ghost use Rattle.command_lines.specs.declared.fault.WordsFault.TheVariants.{Usage};
 ghost use Rattle.picture_cli.specs.Parser.{IsFound, app, app_with_names, empty_app};
 
 use clap::{ArgMatches, Command};
-use command_words::{WordsFault, fault_by, needed_name, option_named, with_arg};
+use command_lines::{WordsFault, fault_by, needed_name, option_named, with_arg};
 use std::alloc::{AllocError, Global};
 
 /// What the words give each argument. `Usage` comes where a word is refused, an argument is used twice, or TRACE or REPORT is missing.

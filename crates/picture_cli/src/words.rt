@@ -1,8 +1,8 @@
 //! What a command line says.
 ghost use Rattle.std.specs.Prelude.{◌≡◌, Err, IfNone, IfOk, IfSome, option_map};
 ghost use Rattle.clap.specs.Words.{first_value, found_of};
-ghost use Rattle.command_words.specs.Line.{texts};
-ghost use Rattle.command_words.specs.declared.words.WordsFault.TheVariants.{Usage};
+ghost use Rattle.command_lines.specs.Line.{texts};
+ghost use Rattle.command_lines.specs.declared.fault.WordsFault.TheVariants.{Usage};
 ghost use Rattle.coflow_units.specs.declared.fabric.Side.{Side};
 ghost use Rattle.picture_cli.specs.Words.{IsPictureWords, IsSaid, IsSide, PictureSaid, said_by};
 

@@ -4,7 +4,7 @@ use Rattle.std.specs.List.{slice_index_or}
 use Rattle.coflow_units.specs.declared.quantity.Quantity.TheVariants.{Epochs}
 use Rattle.command_words.specs.Jobs.{Job, script_name, trace_name}
 use Rattle.command_words.specs.Jobs.Job.{live_job, make_job, online_job, plan_job}
-use Rattle.command_words.specs.Line.{Text}
+use Rattle.command_lines.specs.Line.{Text}
 use Rattle.command_words.specs.Words.{IsWords, Said}
 use Rattle.flow_table.specs.Table.{TableFacts}
 use Rattle.outside.specs.Rose.{Rose}

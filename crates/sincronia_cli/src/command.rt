@@ -4,7 +4,7 @@ ghost use Rattle.coflow_units.specs.declared.limits.TheConstants.{MAX_CLIENTS, M
 ghost use Rattle.coflow_units.specs.declared.quantity.Quantity.{Quantity};
 ghost use Rattle.command_words.specs.Jobs.{report_name, script_name};
 ghost use Rattle.command_words.specs.Jobs.Job.{audit_job, check_job, classes_job, compare_job, live_job, make_job, online_job, plan_job};
-ghost use Rattle.command_words.specs.Line.{texts};
+ghost use Rattle.command_lines.specs.Line.{texts};
 ghost use Rattle.command_words.specs.Words.{IsWords, Said};
 ghost use Rattle.outside.specs.Rose.{Rose, RoseOnce};
 ghost use Rattle.outside.specs.Sink.{TakesText};

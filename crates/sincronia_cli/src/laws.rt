@@ -1,6 +1,6 @@
 //! Laws of what a command finds of its files.
 ghost use Rattle.std.specs.Prelude.{◌≡◌, List};
-ghost use Rattle.command_words.specs.Line.{Text};
+ghost use Rattle.command_lines.specs.Line.{Text};
 ghost use Rattle.command_words.specs.Words.{Said};
 ghost use Rattle.outside.specs.Shelf.{Told};
 ghost use Rattle.command_files.specs.declared.status.Status.{Status};

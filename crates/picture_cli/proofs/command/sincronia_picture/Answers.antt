@@ -1,5 +1,5 @@
 use Rattle.std.proofs.Common.{ap, inl, subst, Err}
-use Rattle.command_words.specs.Line.{texts}
+use Rattle.command_lines.specs.Line.{texts}
 use Rattle.command_files.proofs.SinkFacts.{appended, begun}
 use Rattle.command_files.specs.declared.status.Status.TheVariants as status
 use Rattle.command_files.specs.Shelves.{OfBoth, ReadsOut}

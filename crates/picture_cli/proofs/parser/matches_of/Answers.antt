@@ -7,7 +7,7 @@ use Rattle.clap.specs.declared.error.kind.ErrorKind.TheVariants as kind
 use Rattle.clap.specs.declared.parser.matches.Found.{Found}
 use Rattle.std.specs.declared.alloc.Global.{Global}
 use Rattle.std.specs.declared.string.String.{String}
-use Rattle.command_words.specs.Line.{texts}
+use Rattle.command_lines.specs.Line.{texts}
 use Rattle.picture_cli.specs.Parser.{IsFound, app}
 use Rattle.picture_cli.proofs.parser.matches_of.Goals as goal
 

@@ -2,7 +2,7 @@ use Rattle.std.proofs.Common.{◌≡◌, ap, refl, subst, Err}
 use Rattle.std.proofs.lemmas.List.Elements.{All-nil}
 use Rattle.std.specs.Prelude.{map}
 use Rattle.command_words.specs.Jobs.Job.{compare_job}
-use Rattle.command_words.specs.Line.{texts}
+use Rattle.command_lines.specs.Line.{texts}
 use Rattle.command_words.specs.Words.{Said, said_by}
 use Rattle.command_files.specs.declared.status.Status.TheVariants.{WriteFault}
 use Rattle.served_plans.specs.Sent.{SendsAll}

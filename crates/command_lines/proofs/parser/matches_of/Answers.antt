@@ -7,13 +7,13 @@ use Rattle.clap.specs.Words.{App, HasKind, Kinds, app_of, fault_of, first_of, is
 use Rattle.clap.specs.declared.error.Error.{Error}
 use Rattle.clap.specs.declared.error.kind.ErrorKind.TheVariants as kind
 use Rattle.clap.specs.declared.parser.matches.Found.{Found}
-use Rattle.command_words.specs.Line.{Use, texts, uses}
-use Rattle.command_words.specs.Parser.{Finds, IsAccepted, app}
-use Rattle.command_words.proofs.AcceptedLines.{fault_is, rows_are}
-use Rattle.command_words.proofs.RefusedLines.{not_none}
-use Rattle.command_words.proofs.UseLists.{found_is, is_accepted, not_refused}
-use Rattle.command_words.proofs.Utf8.{utf8_behind}
-use Rattle.command_words.proofs.parser.matches_of.Goals as goal
+use Rattle.command_lines.specs.Line.{Use, texts, uses}
+use Rattle.command_lines.specs.Parser.{Finds, IsAccepted, app}
+use Rattle.command_lines.proofs.AcceptedLines.{fault_is, rows_are}
+use Rattle.command_lines.proofs.RefusedLines.{not_none}
+use Rattle.command_lines.proofs.UseLists.{found_is, is_accepted, not_refused}
+use Rattle.command_lines.proofs.Utf8.{utf8_behind}
+use Rattle.command_lines.proofs.parser.matches_of.Goals as goal
 
 simple : is_simple app ≡ true
 unfolding clap_on_literals

@@ -5,16 +5,16 @@ use Rattle.clap.specs.Words.{Kinds, Row, fault_of}
 use Rattle.clap.specs.Kinds.{or_else}
 use Rattle.clap.specs.Walk.{Walk, settled, walked}
 use Rattle.clap.specs.Faults.{turn_fault, walk_fault}
-use Rattle.command_words.specs.Line.{Form, Text, Use, plain as is_plain, ends as is_end, apart as is_apart, joined as is_joined, wrong as is_wrong, form_of, name_at, named, uses}
-use Rattle.command_words.specs.Line.{uses_by, value_by, with_use}
-use Rattle.command_words.specs.Parser.{app}
-use Rattle.command_words.proofs.AcceptedLines.{one_turn}
-use Rattle.command_words.proofs.Forms.{IsWrong, Sees, sees}
-use Rattle.command_words.proofs.ParserArguments.{IsOption, name_of, not_option, option_of, put, settles_none}
-use Rattle.command_words.proofs.ParserState.{held, ready, rest_fault, rules, shape, trails, waits, whole_fault}
-use Rattle.command_words.proofs.Turns.{Fails, apart_late, apart_walk, ends_walk, joined_late, joined_walk, late, late_4, late_name, late_walk, name_4, name_walk, short_late}
-use Rattle.command_words.proofs.Turns.{short_ready, trail_4, trail_walk, unknown_late, unknown_ready, value_walk}
-use Rattle.command_words.proofs.Utf8.{AllUtf8}
+use Rattle.command_lines.specs.Line.{Form, Text, Use, plain as is_plain, ends as is_end, apart as is_apart, joined as is_joined, wrong as is_wrong, form_of, name_at, named, uses}
+use Rattle.command_lines.specs.Line.{uses_by, value_by, with_use}
+use Rattle.command_lines.specs.Parser.{app}
+use Rattle.command_lines.proofs.AcceptedLines.{one_turn}
+use Rattle.command_lines.proofs.Forms.{IsWrong, Sees, sees}
+use Rattle.command_lines.proofs.ParserArguments.{IsOption, name_of, not_option, option_of, put, settles_none}
+use Rattle.command_lines.proofs.ParserState.{held, ready, rest_fault, rules, shape, trails, waits, whole_fault}
+use Rattle.command_lines.proofs.Turns.{Fails, apart_late, apart_walk, ends_walk, joined_late, joined_walk, late, late_4, late_name, late_walk, name_4, name_walk, short_late}
+use Rattle.command_lines.proofs.Turns.{short_ready, trail_4, trail_walk, unknown_late, unknown_ready, value_walk}
+use Rattle.command_lines.proofs.Utf8.{AllUtf8}
 
 -- The parser fails from here on.
 abbrev Refuses : Walk → List Text → Type 0

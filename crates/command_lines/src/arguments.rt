@@ -1,10 +1,10 @@
 //! Arguments of a simple command, and the fault of a parser that refuses words.
 ghost use Rattle.std.specs.Prelude.{◌≡◌, ◌≢◌, ◌↔◌, IfOk, false};
 ghost use Rattle.clap.specs.Words.{App, app_of, rule_of, with_rule};
-ghost use Rattle.command_words.specs.Parser.{name_rule, needed_rule, option_rule};
-ghost use Rattle.command_words.specs.declared.words.WordsFault.TheVariants.{Usage};
+ghost use Rattle.command_lines.specs.Parser.{name_rule, needed_rule, option_rule};
+ghost use Rattle.command_lines.specs.declared.fault.WordsFault.TheVariants.{Usage};
 
-use crate::words::WordsFault;
+use crate::fault::WordsFault;
 use clap::error::ErrorKind;
 use clap::{Arg, ArgAction, Command};
 use std::alloc::{AllocError, Global};

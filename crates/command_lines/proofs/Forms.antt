@@ -4,9 +4,9 @@ use Rattle.std.proofs.lemmas.Bool.Decides.{nat_tests}
 use Rattle.std.specs.Prelude.{◌==◌}
 use Rattle.std.specs.List.{after_first, before_first, list_any}
 use Rattle.std.specs.Str.{IsUtf8}
-use Rattle.command_words.specs.Line.{Form, Text, plain, ends, apart, joined, wrong, form_of, dashed_form, option_form, is_equals, is_option}
-use Rattle.command_words.proofs.Turns.{IsPlain, IsShort, Names}
-use Rattle.command_words.proofs.Utf8.{second_character}
+use Rattle.command_lines.specs.Line.{Form, Text, plain, ends, apart, joined, wrong, form_of, dashed_form, option_form, is_equals, is_option}
+use Rattle.command_lines.proofs.Turns.{IsPlain, IsShort, Names}
+use Rattle.command_lines.proofs.Utf8.{second_character}
 
 -- The word names what is no option, or is one dash and a text.
 abbrev pub IsWrong : Text → Type 0

@@ -2,8 +2,8 @@
 use Rattle.std.proofs.Common.{◌≡◌, IfOk, map, take}
 use Rattle.std.specs.List.{fold}
 use Rattle.clap.specs.Words.{App, app_of}
-use Rattle.command_words.specs.Parser.{with_option}
-use Rattle.command_words.proofs.parser.with_options.Given as goal
+use Rattle.command_lines.specs.Parser.{with_option}
+use Rattle.command_lines.proofs.parser.with_options.Given as goal
 
 abbrev pub invariant-loop-name : goal.invariant-loop-name
 invariant-loop-name l = record {

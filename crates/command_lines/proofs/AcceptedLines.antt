@@ -5,14 +5,14 @@ use Rattle.clap.specs.Words.{Kinds, Row, fault_of, matches_of}
 use Rattle.clap.specs.Kinds.{or_else}
 use Rattle.clap.specs.Walk.{Walk, finished, settled, walked}
 use Rattle.clap.specs.Faults.{check_fault, defaults_fault, settle_fault, turn_fault, walk_fault}
-use Rattle.command_words.specs.Line.{Form, Text, Use, plain as is_plain, ends as is_end, apart as is_apart, joined as is_joined, wrong as is_wrong, form_of, name_at, named, uses}
-use Rattle.command_words.specs.Line.{uses_by, value_by, with_use}
-use Rattle.command_words.specs.Parser.{app}
-use Rattle.command_words.proofs.Forms.{Sees, sees}
-use Rattle.command_words.proofs.ParserArguments.{IsArgument, IsOption, clash, name_of, option_of, put, puts, settles}
-use Rattle.command_words.proofs.ParserState.{held, ready, rest_fault, rest_rows, rules, shape, trails, waits, whole_fault}
-use Rattle.command_words.proofs.Turns.{apart_turn, apart_walk, ends_turn, ends_walk, joined_turn, joined_walk, name_turn, name_walk, trail_turn, trail_walk, value_turn, value_walk}
-use Rattle.command_words.proofs.Utf8.{AllUtf8}
+use Rattle.command_lines.specs.Line.{Form, Text, Use, plain as is_plain, ends as is_end, apart as is_apart, joined as is_joined, wrong as is_wrong, form_of, name_at, named, uses}
+use Rattle.command_lines.specs.Line.{uses_by, value_by, with_use}
+use Rattle.command_lines.specs.Parser.{app}
+use Rattle.command_lines.proofs.Forms.{Sees, sees}
+use Rattle.command_lines.proofs.ParserArguments.{IsArgument, IsOption, clash, name_of, option_of, put, puts, settles}
+use Rattle.command_lines.proofs.ParserState.{held, ready, rest_fault, rest_rows, rules, shape, trails, waits, whole_fault}
+use Rattle.command_lines.proofs.Turns.{apart_turn, apart_walk, ends_turn, ends_walk, joined_turn, joined_walk, name_turn, name_walk, trail_turn, trail_walk, value_turn, value_walk}
+use Rattle.command_lines.proofs.Utf8.{AllUtf8}
 
 -- The fault, where these are used in turn.
 abbrev pub outcome : List Row → List Use → Kinds

@@ -2,12 +2,12 @@
 ghost use Rattle.std.specs.Prelude.{◌≡◌, Err, IfOk, List, Some, drop, map};
 ghost use Rattle.std.specs.List.{fold};
 ghost use Rattle.clap.specs.Words.{App, app_of, found_of};
-ghost use Rattle.command_words.specs.Line.{Use, texts, uses};
-ghost use Rattle.command_words.specs.Parser.{Finds, IsAccepted, app, app_with_names, empty_app, with_option};
-ghost use Rattle.command_words.specs.declared.words.WordsFault.TheVariants.{Usage};
+ghost use Rattle.command_lines.specs.Line.{Use, texts, uses};
+ghost use Rattle.command_lines.specs.Parser.{Finds, IsAccepted, app, app_with_names, empty_app, with_option};
+ghost use Rattle.command_lines.specs.declared.fault.WordsFault.TheVariants.{Usage};
 
 use crate::arguments::{fault_by, name_of, needed_name, option_named, with_arg};
-use crate::words::WordsFault;
+use crate::fault::WordsFault;
 use clap::{ArgMatches, Command};
 use std::alloc::{AllocError, Global};
 

@@ -14,8 +14,8 @@ use Rattle.clap.specs.declared.builder.value_parser.ValueParser.TheVariants as p
 use Rattle.clap.specs.declared.parser.matches.ValueSource.TheVariants.{CommandLine}
 use Rattle.clap.specs.declared.error.kind.ErrorKind.TheVariants as kind
 use Rattle.clap.specs.Words.{new_rule}
-use Rattle.command_words.specs.Line.{Use, is_option, name_at}
-use Rattle.command_words.proofs.ParserState.{held, rules}
+use Rattle.command_lines.specs.Line.{Use, is_option, name_at}
+use Rattle.command_lines.proofs.ParserState.{held, rules}
 
 -- An argument with one value.
 abbrev pub rule_with : Text → Option Text → Bool → Option ℕ → Rule

@@ -6,7 +6,7 @@ use Rattle.clap.specs.Kinds.{or_else}
 use Rattle.clap.specs.Walk.{Held, Walk, finished, idle, nothing_held, option, settled, walk, walked}
 use Rattle.clap.specs.Faults.{check_fault, defaults_fault, entered_fault, level_fault, settle_fault, walk_fault}
 use Rattle.clap.specs.Simple.{entered}
-use Rattle.command_words.specs.Parser.{app}
+use Rattle.command_lines.specs.Parser.{app}
 
 abbrev pub shape : Shape
 shape = (built app).top

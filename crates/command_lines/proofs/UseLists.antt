@@ -15,11 +15,11 @@ use Rattle.clap.specs.Faults.{check_fault, defaults_fault}
 use Rattle.clap.specs.declared.builder.value_parser.ValueParser.TheVariants as parser
 use Rattle.clap.specs.declared.error.kind.ErrorKind.TheVariants as kind
 use Rattle.clap.specs.declared.parser.matches.ValueSource.TheVariants.{CommandLine}
-use Rattle.command_words.specs.Line.{IsOnce, Text, Use, value_of}
-use Rattle.command_words.specs.Parser.{IsAccepted}
-use Rattle.command_words.proofs.AcceptedLines.{after, outcome}
-use Rattle.command_words.proofs.ParserArguments.{clash, put}
-use Rattle.command_words.proofs.ParserState.{rules, shape}
+use Rattle.command_lines.specs.Line.{IsOnce, Text, Use, value_of}
+use Rattle.command_lines.specs.Parser.{IsAccepted}
+use Rattle.command_lines.proofs.AcceptedLines.{after, outcome}
+use Rattle.command_lines.proofs.ParserArguments.{clash, put}
+use Rattle.command_lines.proofs.ParserState.{rules, shape}
 
 -- ---- the row of a use
 

@@ -1,7 +1,7 @@
 use Rattle.std.proofs.Common.{◌≡◌, IfOk, subst}
 use Rattle.clap.specs.Words.{App, app_of}
-use Rattle.command_words.specs.Parser.{empty_app}
-use Rattle.command_words.proofs.parser.command_with_names.Goals as goal
+use Rattle.command_lines.specs.Parser.{empty_app}
+use Rattle.command_lines.proofs.parser.command_with_names.Goals as goal
 
 pub returns : goal.returns
 returns c =

@@ -4,9 +4,9 @@ use Rattle.std.proofs.Math.Seq.{take-length}
 use Rattle.std.proofs.lemmas.List.{get_or-map, length-map}
 use Rattle.std.proofs.lemmas.List.Sums.{fold_more}
 use Rattle.clap.specs.Words.{App, app_of, with_rule}
-use Rattle.command_words.specs.Line.{Text}
-use Rattle.command_words.specs.Parser.{with_option, option_rule}
-use Rattle.command_words.proofs.parser.with_options.Goals as goal
+use Rattle.command_lines.specs.Line.{Text}
+use Rattle.command_lines.specs.Parser.{with_option, option_rule}
+use Rattle.command_lines.proofs.parser.with_options.Goals as goal
 
 abbrev text : Bor Text → Text
 text s = s.now

@@ -5,7 +5,7 @@ use Rattle.std.specs.Prelude.{slice_get}
 use Rattle.std.specs.Str.{IsUtf8, chars}
 use Rattle.std.specs.declared.string.String.{String}
 use Rattle.std.specs.declared.alloc.Global.{Global}
-use Rattle.command_words.specs.Line.{Text, texts}
+use Rattle.command_lines.specs.Line.{Text, texts}
 
 -- Each word is a text of UTF-8.
 abbrev pub AllUtf8 : List Text → Type 0

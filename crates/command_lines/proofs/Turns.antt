@@ -11,8 +11,8 @@ use Rattle.clap.specs.Walk.{Walk, arg_by_long, has_row, option, settled, walked}
 use Rattle.clap.specs.Faults.{settle_fault, turn_fault}
 use Rattle.clap.specs.declared.error.kind.ErrorKind.TheVariants as kind
 use Rattle.clap.proofs.OnLiterals.{clap_on_literals}
-use Rattle.command_words.proofs.ParserState.{held, ready, rules, shape, trails, waits}
-use Rattle.command_words.proofs.ParserArguments.{IsArgument, IsName, IsOption, clash, put}
+use Rattle.command_lines.proofs.ParserState.{held, ready, rules, shape, trails, waits}
+use Rattle.command_lines.proofs.ParserArguments.{IsArgument, IsName, IsOption, clash, put}
 
 pub record IsPlain (w : Text) : Type 0 where
   pub long : long_of w ≡ None

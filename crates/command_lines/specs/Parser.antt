@@ -4,7 +4,7 @@ use Rattle.clap.specs.Words.{App, Rule, first_value, new_app, new_rule, with_rul
 use Rattle.clap.specs.Simple.{on_top}
 use Rattle.clap.specs.declared.builder.ArgAction.TheVariants.{Set}
 use Rattle.clap.specs.declared.parser.matches.Found.{Found}
-use Rattle.command_words.specs.Line.{IsOnce, Text, Use, uses, value_of}
+use Rattle.command_lines.specs.Line.{IsOnce, Text, Use, uses, value_of}
 
 -- An argument with one value, by its place.
 abbrev pub name_rule : Text → Rule
