@@ -1,5 +1,5 @@
 //! Wires in memory, one for each ingress port.
-ghost use Rattle.std.specs.Prelude.{◌≡◌, ◌+◌, All, IfSome, false, length};
+ghost use Rattle.std.specs.Prelude.{◌≡◌, ◌↔◌, ◌+◌, ◌≤◌, All, IfSome, IsTrue, length};
 ghost use Rattle.coflow_units.specs.declared.limits.TheConstants.{MAX_PORTS};
 ghost use Rattle.small_jobs.specs.Wires.{IsFresh};
 
@@ -14,12 +14,12 @@ const PORTS: u32 = MAX_PORTS + 1;
 /// How many runs a wire has room for. One more is a fault.
 const ROOM: usize = 8;
 
-/// A wire in memory. It may wait for another one before each run that it is sent, and notes where it gave up.
+/// A wire in memory. It may wait for another one before each run that it is sent. Where that one does not come it gives up: it accepts nothing, which is a fault.
 #[derive(Drop)]
 pub struct MeetingWire<'a> {
     wire: MemWire,
     side: Option<Side<'a>>,
-    gave_up: bool,
+    given_up: u64,
 }
 
 impl MeetingWire<'_> {
@@ -32,24 +32,31 @@ impl MeetingWire<'_> {
 
     /// Whether it waited for another one who did not come.
     pub fn gave_up(&self) -> bool
-        ensures { result ≡ self.now.gave_up }
+        ensures { IsTrue result ↔ (1 ≤ self.now.given_up) }
     {
-        self.gave_up
+        self.given_up > 0
+    }
+
+    /// Whether it need not wait, or the other one came.
+    fn meets(&self) -> bool {
+        match &self.side {
+            Some(side) => side.meets(),
+            None => true,
+        }
     }
 }
 
 impl Wire for MeetingWire<'_> {
     ghost use Rattle.std.specs.Prelude.{Some};
 
-    ghost faults = { λ w. w.wire.faults };
+    ghost faults = { λ w. w.wire.faults + w.given_up };
 
     ghost runs = { λ w. Some w.wire.runs.items };
 
     fn send(&mut self, slot: u64, flow: u32, length: u64) -> u64 {
-        if let Some(side) = &self.side {
-            if !side.meets() {
-                self.gave_up = true;
-            }
+        if !self.meets() {
+            self.given_up = self.given_up.saturating_add(1);
+            return 0;
         }
         self.wire.send(slot, flow, length)
     }
@@ -64,7 +71,7 @@ pub fn wires_meeting<'a>(
 ) -> Option<Vec<MeetingWire<'a>>>
     ensures count { IfSome result (λ wires. length wires.items ≡ MAX_PORTS + 1) }
     ensures fresh { IfSome result (λ wires. All (λ w. IsFresh w.wire) wires.items) }
-    ensures nobody { IfSome result (λ wires. All (λ w. w.gave_up ≡ false) wires.items) }
+    ensures nobody { IfSome result (λ wires. All (λ w. w.given_up ≡ 0) wires.items) }
 {
     let Ok(mut wires) = Vec::with_capacity(alloc, PORTS as usize) else {
         return None;
@@ -77,7 +84,7 @@ pub fn wires_meeting<'a>(
         wires.push_reserved(MeetingWire {
             wire,
             side: if port % 2 == 1 { sides[1] } else { sides[0] },
-            gave_up: false,
+            given_up: 0,
         });
     }
     Some(wires)
