@@ -5,7 +5,7 @@
 //! who waits for one another, with two numbers of lines; which rankers are on the bench; whether the text and the wires are told; and the words of the command.
 //!
 //! For each row it prints the number of its line and the status, the text that the sink took and what each wire accepted, where these are told, whether the gates of the first two clients were passed where they wait and met
-//! the other one there, whether a wire gave up, and how many rankers are left on the bench.
+//! the other one there, whether a wire gave up, and how many rankers are left on the bench. Then it plans two traces on a shelf that never fails, one of them with a byte more than a text may have.
 //!
 //! The exit code is 0 where all rows were carried out, and 1 where a row is not such, or something else was wanting.
 #![tactic(auto)]
@@ -16,7 +16,8 @@ ghost use Rattle.std.specs.Prelude.{◌≤◌, IfOk, length};
 ghost use Rattle.coflow_units.specs.declared.limits.TheConstants.{MAX_TEXT};
 
 use crate::stop::Stop;
-use carried_jobs::carry_job;
+use carried_jobs::{SureEnd, carry_job, sure_plan};
+use coflow_units::MAX_TEXT;
 use outside::{DiskShelf, Place4, Shelf};
 use small_jobs::{Row, job_of, row_of, words_of};
 use std::alloc::Global;
@@ -28,10 +29,13 @@ use std::thread::Threads;
 use text_fields::{Fields, Lines};
 use trace_tables::bytes_of_file;
 
+/// Two coflows that share both ports, of 3 units and of 1 unit.
+const TWO: &[u8] = b"2 2\n1 0 1 0 1 1:3\n2 0 1 0 1 1:1\n";
+
 fn main(rt: HostRuntime) -> ExitCode {
     let mut shelf = DiskShelf::new(rt);
     let carried = match rows_of(&rt, &mut shelf) {
-        Ok(rows) => carry_rows(&rt, rt.alloc(), &mut shelf, &rows),
+        Ok(rows) => carry_all(&rt, rt.alloc(), &mut shelf, &rows),
         Err(stop) => Err(stop),
     };
     match carried {
@@ -63,6 +67,34 @@ fn rows_of<H: Shelf>(rt: &HostRuntime, shelf: &mut H) -> Result<Vec<u8>, Stop>
     };
     drop(words);
     Ok(rows?)
+}
+
+/// Carries out the rows, and plans two traces on a shelf that never fails.
+fn carry_all<R: Runtime + Threads + Wait + Sync, H: Shelf>(
+    rt: &R,
+    alloc: Global,
+    shelf: &mut H,
+    rows: &[u8],
+) -> Result<(), Stop>
+    requires { length rows.now ≤ MAX_TEXT }
+{
+    carry_rows(rt, alloc, shelf, rows)?;
+    tell_sure(rt, sure_plan(rt, alloc, TWO)?)?;
+    let Ok(long) = vec![in alloc; 0u8; MAX_TEXT as usize + 1] else {
+        return Err(Stop::NoMemory);
+    };
+    let end = sure_plan(rt, alloc, &long);
+    drop(long);
+    tell_sure(rt, end?)
+}
+
+/// Prints how a plan ended on a shelf that never fails.
+fn tell_sure(rt: &impl Print, end: SureEnd) -> Result<(), Stop> {
+    let SureEnd { status, written } = end;
+    match println!(rt; "sure: {status:?}, {written} bytes written") {
+        Ok(()) => Ok(()),
+        Err(_) => Err(Stop::Output),
+    }
 }
 
 /// Carries out the rows of the lines behind the first one.

@@ -14,6 +14,8 @@ pub(crate) enum Stop {
     Line(u32),
     #[error("no memory")]
     NoMemory,
+    #[error("nothing more is printed")]
+    Output,
     #[error("{0}")]
     Job(#[from] JobFault),
 }
