@@ -34,6 +34,7 @@ PICTURE = os.path.join(TOP, "crates", "sincronia_picture", "out", "sincronia_pic
 ORDER = os.path.join(TOP, "crates", "order_bench", "out", "order_bench")
 MASTER = os.path.join(TOP, "crates", "master_bench", "out", "master_bench")
 PLAN = os.path.join(TOP, "crates", "plan_bench", "out", "plan_bench")
+THREADS = os.path.join(TOP, "crates", "thread_bench", "out", "thread_bench")
 
 RUNS = 3
 
@@ -257,7 +258,11 @@ def halls(peer, folder):
         base = least["no hall"][0]
         for who, (seconds, memory, code) in least.items():
             print("  %-6s %-12s %8.3f s  %5d MiB  code %d   %.2f times that without a hall" % (name, who, seconds, memory, code, seconds / base), flush=True)
-        is_same = printed(commands["one agent"], folder) == printed(commands["no hall"], folder)
+        text = printed(commands["one agent"], folder)
+        is_same = text == printed(commands["no hall"], folder)
+        runs = text.count(b"\nrun ")
+        started, _, _ = min(measured([THREADS, str(runs)], folder) for _ in range(RUNS))
+        print("  %-6s to start three threads and join them %d times, as four agents do, takes %.3f s, %.2f of what four agents take" % (name, runs, started, started / least["four agents"][0]), flush=True)
         print("  %-6s the texts %s; one agent is to take at most %d times that without a hall" % (name, "are equal" if is_same else "DIFFER", HALL_BOUND), flush=True)
         over += not is_same or least["one agent"][0] > HALL_BOUND * base
     return over
@@ -328,6 +333,7 @@ def main():
         over = 0
         if alone == "hall" or not words:
             build(PLAN)
+            build(THREADS)
             over += halls(peer, folder)
         if alone == "picture" or not words:
             build(PICTURE)
