@@ -1,12 +1,13 @@
 //! Halls from which a session is missing.
-ghost use Rattle.std.specs.Prelude.{◌≡◌, All};
+ghost use Rattle.std.specs.Prelude.{◌≡◌, All, length};
 ghost use Rattle.client_session.specs.Models.{IsDriverOf, IsSessionOf};
 
 use crate::ends::entries_of;
-use client_session::{CloseFault, Hall, Session};
+use client_session::{Answer, CloseFault, Hall, Receipt, Reply, Session};
 use small_halls::{SmallHall, SmallSize, let_session_go};
 use std::alloc::Global;
 use std::process::Abort;
+use std::sync::Wait;
 use std::test::*;
 
 /// A hall that has made two sessions of one turn each: with it stands the first one, and behind it the last one.
@@ -14,6 +15,7 @@ fn hall_of_two(rt: &impl Abort, alloc: Global) -> (SmallHall, Session)
     ensures driver { IsDriverOf result.0.hall result.0.driver }
     ensures sessions { All (IsSessionOf result.0.hall) result.0.sessions.items }
     ensures last { IsSessionOf result.0.hall result.1 }
+    ensures coflows { length result.0.hall.setting.opening.table.ids ≡ 2 }
 {
     let size = SmallSize {
         limit: 100,
@@ -79,6 +81,21 @@ fn a_hall_stays_open_where_a_session_was_dropped(rt: HostRuntime) {
     refused(&rt, alloc, small).let_go();
 }
 
+/// The session takes its one turn. A second one is none.
+fn takes_its_turn<R: Wait + Abort>(rt: &R, hall: &Hall, session: &mut Session)
+    requires own { IsSessionOf hall.now session.old }
+    requires coflows { length hall.now.setting.opening.table.ids ≡ 2 }
+    ensures own { IsSessionOf hall.entry.now session.new }
+{
+    let joined = Answer::Done(Receipt {
+        position: 1,
+        version: 0,
+        reply: Reply::Joined,
+    });
+    assert!(rt; session.register(rt, hall, 0) == joined);
+    assert!(rt; session.register(rt, hall, 1) == Answer::Spent);
+}
+
 /// Gives a session back.
 fn give(rt: &impl Abort, _hall: &Hall, sessions: &mut Vec<Session>, last: Session)
     requires sessions { All (IsSessionOf _hall.now) sessions.old.items }
@@ -91,12 +108,15 @@ fn give(rt: &impl Abort, _hall: &Hall, sessions: &mut Vec<Session>, last: Sessio
     sessions.push_reserved(last);
 }
 
-/// Closes a hall of two sessions, of which the last one is kept back at first: how many entries its journal has.
-fn closed_later(rt: &impl Abort, alloc: Global, small: SmallHall, last: Session) -> usize
+/// Closes a hall of two sessions, of which the last one takes its turn, and is kept back at first: how many entries the journal has.
+fn closed_later<R: Wait + Abort>(rt: &R, alloc: Global, small: SmallHall, last: Session) -> usize
     requires driver { IsDriverOf small.hall small.driver }
     requires sessions { All (IsSessionOf small.hall) small.sessions.items }
     requires last { IsSessionOf small.hall last }
+    requires coflows { length small.hall.setting.opening.table.ids ≡ 2 }
 {
+    let mut last = last;
+    takes_its_turn(rt, &small.hall, &mut last);
     let mut open = refused(rt, alloc, small);
     give(rt, &open.hall, &mut open.sessions, last);
     entries_of(rt, alloc, open)
@@ -106,5 +126,5 @@ fn closed_later(rt: &impl Abort, alloc: Global, small: SmallHall, last: Session)
 fn a_hall_closes_once_all_sessions_are_given(rt: HostRuntime) {
     let (small, last) = hall_of_two(&rt, rt.alloc());
     let entries = closed_later(&rt, rt.alloc(), small, last);
-    assert!(rt; entries == 0);
+    assert!(rt; entries == 1);
 }
