@@ -66,9 +66,8 @@ pub fn kept_worlds_are_lawful()
     ensures patient { (w : WorldFacts) → OpensPatiently w }
 {}
 
-/// A run of the driver among entries of others is a list of steps, from a world that has an agent: the opening, then a
-/// post, a draw, a sending, a report and a settling for each grant, then the notes and the closing, with the commands of
-/// others between. It makes the journal of that run, and sends what the run says.
+/// A run of the driver among entries of others is a list of steps, from a world that has an agent: they make the journal of
+/// that run, with the commands of others between, and send what the run says.
 pub fn runs_are_played()
     ensures { (w : WorldFacts) (after : List Entry) (d : Drive) → IsWorld w → 0 < w.agents → IsLegal w.opening after →
         InRange w.opening after → IsDriven w.opening w.journal after d →
