@@ -15,7 +15,7 @@ use text_fields::Fields;
 const PIECE: usize = 65_536;
 
 /// Nobody waits, and no wire fails.
-const QUIET: Row = Row {
+const QUIET: Row<'static> = Row {
     trace: "t",
     beside: "t",
     piece: 1,
