@@ -14,8 +14,8 @@ use Rattle.script_reader.specs.declared.fault.ScriptFault.{ScriptFault}
 use Rattle.script_reader.specs.declared.fault.ScriptFault.TheVariants as script_fault
 use Rattle.trace_reader.specs.Trace.{trace_of}
 use Rattle.weights.specs.declared.fault.WeightsFault.{WeightsFault}
-use Rattle.command_files.specs.declared.status.Status.{Status}
-use Rattle.command_files.specs.declared.status.Status.TheVariants as status
+use Rattle.command_status.specs.declared.status.Status.{Status}
+use Rattle.command_status.specs.declared.status.Status.TheVariants as status
 use Rattle.command_files.specs.Causes.{FilesBadScript, FilesGiveScript, FilesGiveShared, FilesGiveTable, HasCauseInFiles, IsGiven}
 use Rattle.command_files.specs.Causes.FilesLimit.{in_input, in_report, in_script, in_shared}
 use Rattle.command_files.specs.Reports.{HasReportText, IsJournalText, IsReportText}

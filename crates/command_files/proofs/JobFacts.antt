@@ -5,7 +5,7 @@ use Rattle.command_words.specs.Jobs.Job.{audit_job, check_job, classes_job, comp
 use Rattle.command_words.specs.Words.{Said}
 use Rattle.outside.specs.Shelf.{Told}
 use Rattle.verdicts.proofs.OneReport.{any_line_one}
-use Rattle.command_files.specs.declared.status.Status.{Status}
+use Rattle.command_status.specs.declared.status.Status.{Status}
 use Rattle.command_files.specs.InputCauses.{HasInputCause}
 use Rattle.command_files.specs.JobCauses.{HasFilesCause, IsBadFor}
 use Rattle.command_files.proofs.CauseFacts.{input_cause}

@@ -10,10 +10,11 @@ use Rattle.script_reader.specs.declared.fault.ScriptFault.{ScriptFault}
 use Rattle.script_reader.specs.declared.fault.ScriptFault.TheVariants as script_fault
 use Rattle.script_reader.specs.declared.script.Script.{Script}
 use Rattle.text_fields.specs.Checks.{first_fault}
-use Rattle.command_files.specs.declared.status.Status.{Status}
-use Rattle.command_files.specs.declared.status.Status.TheVariants as status
+use Rattle.command_status.specs.declared.status.Status.{Status}
+use Rattle.command_status.specs.declared.status.Status.TheVariants as status
 use Rattle.command_files.specs.FileCauses.{IsFileCause}
-use Rattle.command_files.specs.ScriptCauses.{HasScriptFault, IsScriptCause, IsStatusOfScript, ScriptLimit}
+use Rattle.command_files.specs.ScriptCauses.{HasScriptFault, IsScriptCause, ScriptLimit}
+use Rattle.command_status.specs.Faults.{IsStatusOfScript}
 use Rattle.command_files.specs.Scripts.{IsScriptOf}
 use Rattle.command_files.specs.Shelves.{HasBytes, KeepsFiles}
 use Rattle.command_files.specs.TraceCauses.{IsTooLong}

@@ -1,15 +1,14 @@
 -- Why trace and weights gave no table. They are looked at in this order: the trace, the weights, the table.
 use Rattle.std.specs.Prelude.{◌≡◌, ℕ, List, Option, IfSome}
 use Rattle.coflow_units.specs.declared.quantity.Quantity.{Quantity}
-use Rattle.flow_table.specs.declared.fault.TableFault.{TableFault}
 use Rattle.flow_table.specs.declared.fault.TableFault.TheVariants as table_fault
 use Rattle.flow_table.specs.Causes.{HasCause}
 use Rattle.flow_table.specs.Table.{TableFacts}
 use Rattle.outside.specs.Shelf.{Told, bytes_of}
 use Rattle.trace_reader.specs.Trace.{trace_of}
 use Rattle.weights.specs.declared.fault.WeightsFault.{WeightsFault}
-use Rattle.command_files.specs.declared.status.Status.{Status}
-use Rattle.command_files.specs.declared.status.Status.TheVariants.{BadTrace, BadWeights, Limit, NoMemory, ReadFault}
+use Rattle.command_status.specs.declared.status.Status.{Status}
+use Rattle.command_status.specs.declared.status.Status.TheVariants.{BadTrace, BadWeights, Limit, NoMemory, ReadFault}
 use Rattle.command_files.specs.FileCauses.{NameFailed, NameFailedIf, ShelfFailed}
 use Rattle.command_files.specs.Inputs.{GiveWeights, Gives, IsTraceText, bytes_if}
 use Rattle.command_files.specs.Limits.{EachMayLimit}
@@ -42,11 +41,6 @@ pub record GiveTable (trace : List ℕ) (weights : Option (List ℕ)) (unit : �
 pub data InputFailed (trace : List ℕ) (weights : Option (List ℕ)) (old new : Told) : Type 0 where
   at_trace : NameFailed trace old new → InputFailed trace weights old new
   at_weights : IsTraceText (bytes_of old trace) → NameFailedIf weights old new → InputFailed trace weights old new
-
--- the status says the fault
-abbrev pub IsStatusOfTable : TableFault → Status → Type 0
-IsStatusOfTable (table_fault.Limit which count) status = status ≡ Limit which count
-IsStatusOfTable table_fault.NoMemory status = status ≡ NoMemory
 
 -- The cause of a status that says why trace and weights gave no table.
 -- The shelf had and has these counts of faults, and told and tells these files.

@@ -6,7 +6,7 @@ use Rattle.command_words.specs.Words.{Said}
 use Rattle.live_reader.specs.Reading.{IsBadAt}
 use Rattle.outside.specs.Shelf.{Told}
 use Rattle.verdicts.specs.AnyReport.{IsAnyBadAt}
-use Rattle.command_files.specs.declared.status.Status.{Status}
+use Rattle.command_status.specs.declared.status.Status.{Status}
 use Rattle.command_files.specs.Causes.{FilesBadReport, HasCauseInFiles}
 
 -- Where a text of the other file of a job is bad. That of `audit` is a printed journal. All others are reports: of an

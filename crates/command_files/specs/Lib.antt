@@ -17,5 +17,3 @@ pub mod Causes
 pub mod JobCauses
 pub mod GoodFiles
 pub mod Turns
-pub mod Code
-pub mod Messages

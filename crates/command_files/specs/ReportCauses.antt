@@ -5,10 +5,8 @@ use Rattle.coflow_units.specs.declared.limits.TheConstants.{MAX_REPORT}
 use Rattle.coflow_units.specs.declared.quantity.Quantity.{Quantity}
 use Rattle.coflow_units.specs.declared.quantity.Quantity.TheVariants.{Text}
 use Rattle.outside.specs.Shelf.{Told, bytes_of}
-use Rattle.report.specs.declared.fault.ReportFault.{ReportFault}
-use Rattle.report.specs.declared.fault.ReportFault.TheVariants as report_fault
-use Rattle.command_files.specs.declared.status.Status.{Status}
-use Rattle.command_files.specs.declared.status.Status.TheVariants.{BadReport, Limit, NoMemory, ReadFault}
+use Rattle.command_status.specs.declared.status.Status.{Status}
+use Rattle.command_status.specs.declared.status.Status.TheVariants.{BadReport, Limit, NoMemory, ReadFault}
 use Rattle.command_files.specs.FileCauses.{NameFailed, ShelfFailed}
 use Rattle.command_files.specs.Limits.{EachMayLimit}
 
@@ -25,11 +23,6 @@ IsLongReport (Some text) = MAX_REPORT < length text
 -- the bytes of the report are too many
 abbrev pub ReportLimit : Option (List ℕ) → Quantity → ℕ → Type 0
 ReportLimit report which count = (which ≡ Text) × (count ≡ MAX_REPORT + 1) × IsLongReport report
-
--- the status says the fault
-abbrev pub IsStatusOfReport : ReportFault → Status → Type 0
-IsStatusOfReport (report_fault.BadText line) status = status ≡ BadReport line
-IsStatusOfReport report_fault.NoMemory status = status ≡ NoMemory
 
 -- the cause of a status that says why the report of a file was not read
 abbrev pub IsReportCause : (List ℕ → ℕ → Type 0) → ℕ → ℕ → Option Told → Option Told → List ℕ → Status → Type 0

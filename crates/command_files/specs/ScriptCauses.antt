@@ -8,8 +8,8 @@ use Rattle.script_reader.specs.Checks.{text_checks}
 use Rattle.script_reader.specs.declared.fault.ScriptFault.{ScriptFault}
 use Rattle.script_reader.specs.declared.fault.ScriptFault.TheVariants as script_fault
 use Rattle.text_fields.specs.Checks.{first_fault}
-use Rattle.command_files.specs.declared.status.Status.{Status}
-use Rattle.command_files.specs.declared.status.Status.TheVariants.{BadScript, Limit, NoMemory, ReadFault}
+use Rattle.command_status.specs.declared.status.Status.{Status}
+use Rattle.command_status.specs.declared.status.Status.TheVariants.{BadScript, Limit, NoMemory, ReadFault}
 use Rattle.command_files.specs.FileCauses.{NameFailed, ShelfFailed}
 use Rattle.command_files.specs.Limits.{ClientsMayLimit}
 use Rattle.command_files.specs.WeightsCauses.{AreTooLong}
@@ -28,12 +28,6 @@ IsBadScript ids script line field = HasScriptFault ids script (script_fault.Bad 
 abbrev pub ScriptLimit : List ℕ → Option (List ℕ) → Quantity → ℕ → Type 0
 ScriptLimit ids script which count = ((which ≡ Text) × (count ≡ MAX_TEXT + 1) × AreTooLong script)
     ⊎ HasScriptFault ids script (script_fault.Limit which count)
-
--- the status says the fault
-abbrev pub IsStatusOfScript : ScriptFault → Status → Type 0
-IsStatusOfScript (script_fault.Bad line field) status = status ≡ BadScript line field
-IsStatusOfScript (script_fault.Limit which count) status = status ≡ Limit which count
-IsStatusOfScript script_fault.NoMemory status = status ≡ NoMemory
 
 -- the cause of a status that says why the script of a file, over the coflows of these ids, was not read
 abbrev pub IsScriptCause : List ℕ → ℕ → ℕ → Option Told → Option Told → List ℕ → Status → Type 0

@@ -8,8 +8,8 @@ use Rattle.text_fields.specs.Checks.{first_fault}
 use Rattle.trace_reader.specs.Trace.{trace_checks}
 use Rattle.trace_reader.specs.declared.fault.TraceFault.{TraceFault}
 use Rattle.trace_reader.specs.declared.fault.TraceFault.TheVariants as trace_fault
-use Rattle.command_files.specs.declared.status.Status.{Status}
-use Rattle.command_files.specs.declared.status.Status.TheVariants.{BadTrace, Limit, NoMemory, ReadFault}
+use Rattle.command_status.specs.declared.status.Status.{Status}
+use Rattle.command_status.specs.declared.status.Status.TheVariants.{BadTrace, Limit, NoMemory, ReadFault}
 use Rattle.command_files.specs.FileCauses.{NameFailed, ShelfFailed}
 use Rattle.command_files.specs.Limits.{EachMayLimit}
 
@@ -32,12 +32,6 @@ pub record HasTraceFault (trace : List ℕ) (fault : TraceFault) : Type 0 where
 abbrev pub TraceLimit : List ℕ → Quantity → ℕ → Type 0
 TraceLimit trace which count = ((which ≡ Text) × (count ≡ MAX_TEXT + 1) × IsTooLong trace)
     ⊎ ((line : ℕ) × HasTraceFault trace (trace_fault.Limit line which count))
-
--- the status says the fault
-abbrev pub IsStatusOfTrace : TraceFault → Status → Type 0
-IsStatusOfTrace (trace_fault.Limit line which count) status = status ≡ Limit which count
-IsStatusOfTrace trace_fault.NoMemory status = status ≡ NoMemory
-IsStatusOfTrace fault status = status ≡ BadTrace fault
 
 -- the cause of a status that says why the trace of a file was not read
 abbrev pub IsTraceCause : ℕ → ℕ → Option Told → Option Told → List ℕ → Status → Type 0

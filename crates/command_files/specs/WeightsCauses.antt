@@ -9,8 +9,8 @@ use Rattle.text_fields.specs.Checks.{first_fault}
 use Rattle.weights.specs.Weights.{text_checks}
 use Rattle.weights.specs.declared.fault.WeightsFault.{WeightsFault}
 use Rattle.weights.specs.declared.fault.WeightsFault.TheVariants as weights_fault
-use Rattle.command_files.specs.declared.status.Status.{Status}
-use Rattle.command_files.specs.declared.status.Status.TheVariants.{BadWeights, Limit, NoMemory, ReadFault}
+use Rattle.command_status.specs.declared.status.Status.{Status}
+use Rattle.command_status.specs.declared.status.Status.TheVariants.{BadWeights, Limit, NoMemory, ReadFault}
 use Rattle.command_files.specs.FileCauses.{NameFailed, ShelfFailed}
 use Rattle.command_files.specs.Limits.{EachMayLimit}
 use Rattle.command_files.specs.Inputs.{bytes_if}
@@ -37,12 +37,6 @@ AreTooLong (Some text) = IsTooLong text
 abbrev pub WeightsLimit : Option (List ℕ) → List CoflowLine → Quantity → ℕ → Type 0
 WeightsLimit weights coflows which count = ((which ≡ Text) × (count ≡ MAX_TEXT + 1) × AreTooLong weights)
     ⊎ ((line : ℕ) × IsFaultOf weights coflows (weights_fault.Limit line which count))
-
--- the status says the fault
-abbrev pub IsStatusOfWeights : WeightsFault → Status → Type 0
-IsStatusOfWeights (weights_fault.Limit line which count) status = status ≡ Limit which count
-IsStatusOfWeights weights_fault.NoMemory status = status ≡ NoMemory
-IsStatusOfWeights fault status = status ≡ BadWeights fault
 
 -- the cause of a status that says why the weights of a file were not read
 abbrev pub IsWeightsCause : ℕ → ℕ → Option Told → Option Told → Option (List ℕ) → List CoflowLine → Status → Type 0

@@ -21,8 +21,8 @@ ghost use Rattle.command_files.specs.TraceCauses.{IsTraceCause};
 ghost use Rattle.command_files.specs.Turns.{InputInTurn};
 ghost use Rattle.command_files.specs.WeightsCauses.{IsWeightsCause};
 
-use crate::status::Status;
 use coflow_units::{Items, MAX_REPORT, MAX_TEXT, NoMemory, Quantity, Trace, UnitSize};
+use command_status::Status;
 use flow_table::{Table, TableFault};
 use live_reader::read_live;
 use live_text::Live;

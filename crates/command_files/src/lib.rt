@@ -2,12 +2,10 @@
 #![tactic(auto)]
 
 mod inputs;
-mod messages;
 mod outcome;
-mod status;
 
+pub use command_status::Status;
 pub use inputs::{
     Input, read_any_report_file, read_input, read_journal_file, read_report_file, read_script_file,
 };
 pub use outcome::Outcome;
-pub use status::Status;

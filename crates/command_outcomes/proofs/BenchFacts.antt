@@ -9,8 +9,8 @@ use Rattle.std.specs.Prelude.{Bool, IfSome, false, true}
 use Rattle.flow_table.specs.Table.{TableFacts}
 use Rattle.outside.specs.Shelf.{Told}
 use Rattle.rankers.specs.Meaning.{Meaning}
-use Rattle.command_files.specs.declared.status.Status.{Status}
-use Rattle.command_files.specs.declared.status.Status.TheVariants as status
+use Rattle.command_status.specs.declared.status.Status.{Status}
+use Rattle.command_status.specs.declared.status.Status.TheVariants as status
 use Rattle.command_outcomes.specs.Causes.{CauseBy, HasCauseOf}
 use Rattle.command_files.specs.JobCauses.{HasFilesCause}
 use Rattle.reading_commands.specs.Check.{status_for}

@@ -13,8 +13,8 @@ use Rattle.outside.specs.Shelf.{Told, bytes_of}
 use Rattle.script_reader.specs.declared.fault.ScriptFault.{ScriptFault}
 use Rattle.script_reader.specs.declared.fault.ScriptFault.TheVariants as script_fault
 use Rattle.trace_reader.specs.Trace.{trace_of}
-use Rattle.command_files.specs.declared.status.Status.{Status}
-use Rattle.command_files.specs.declared.status.Status.TheVariants as status
+use Rattle.command_status.specs.declared.status.Status.{Status}
+use Rattle.command_status.specs.declared.status.Status.TheVariants as status
 use Rattle.command_files.specs.Causes.{FilesGiveScript, FilesGiveShared, FilesGiveTable, IsGiven}
 use Rattle.command_files.specs.Inputs.{bytes_if}
 use Rattle.command_files.specs.ScriptCauses.{HasScriptFault}

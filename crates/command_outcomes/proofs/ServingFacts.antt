@@ -8,8 +8,8 @@ use Rattle.command_words.specs.Words.{IsWords, Said}
 use Rattle.flow_table.specs.Table.{TableFacts}
 use Rattle.outside.specs.Shelf.{Told}
 use Rattle.rankers.specs.Meaning.{Meaning}
-use Rattle.command_files.specs.declared.status.Status.{Status}
-use Rattle.command_files.specs.declared.status.Status.TheVariants as status
+use Rattle.command_status.specs.declared.status.Status.{Status}
+use Rattle.command_status.specs.declared.status.Status.TheVariants as status
 use Rattle.command_outcomes.specs.Causes.{CauseBy, HasCauseOf}
 use Rattle.command_files.specs.Ends.{IsPastFiles, IsWireFault}
 use Rattle.command_outcomes.specs.Outcome.{HasText, IsOutcome, OutcomeBy}

@@ -9,7 +9,7 @@ use Rattle.command_words.proofs.OneMeaning.{words_one}
 use Rattle.flow_table.specs.Table.{TableFacts}
 use Rattle.rankers.specs.Meaning.{Meaning}
 use Rattle.outside.specs.Shelf.{Told}
-use Rattle.command_files.specs.declared.status.Status.{Status}
+use Rattle.command_status.specs.declared.status.Status.{Status}
 use Rattle.command_files.specs.Causes.{FilesGiveShared, FilesGiveTable, IsGiven}
 use Rattle.serving_commands.specs.Make.{HasMadeCause}
 use Rattle.reading_commands.specs.Check.{status_for}

@@ -9,8 +9,8 @@ use Rattle.flow_table.specs.Table.{TableFacts}
 use Rattle.outside.specs.Shelf.{Told}
 use Rattle.rankers.specs.Meaning.{Meaning}
 use Rattle.outside.specs.Sink.{TakesText}
-use Rattle.command_files.specs.declared.status.Status.{Status}
-use Rattle.command_files.specs.declared.status.Status.TheVariants as status
+use Rattle.command_status.specs.declared.status.Status.{Status}
+use Rattle.command_status.specs.declared.status.Status.TheVariants as status
 use Rattle.reading_commands.specs.Audit.{AuditOf, WritesSound, WritesUnsound}
 use Rattle.reading_commands.specs.Check.{CheckOf, WritesNo, WritesYes, status_for}
 use Rattle.command_outcomes.specs.Command.{IsCommand}

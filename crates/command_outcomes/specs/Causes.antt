@@ -4,7 +4,7 @@ use Rattle.command_words.specs.Jobs.{Job}
 use Rattle.command_words.specs.Jobs.Job.{audit_job, check_job, classes_job, compare_job, live_job, make_job, online_job, plan_job}
 use Rattle.command_words.specs.Words.{Said}
 use Rattle.outside.specs.Shelf.{Told}
-use Rattle.command_files.specs.declared.status.Status.{Status}
+use Rattle.command_status.specs.declared.status.Status.{Status}
 use Rattle.command_files.specs.JobCauses.{HasFilesCause}
 use Rattle.command_files.specs.WireCauses.{IsWireCause}
 use Rattle.serving_commands.specs.Make.{HasMadeCause}

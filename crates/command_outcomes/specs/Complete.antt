@@ -4,8 +4,8 @@ use Rattle.command_words.specs.Jobs.{Job}
 use Rattle.command_words.specs.Jobs.Job.{audit_job, check_job, classes_job, compare_job, live_job, make_job, online_job, plan_job}
 use Rattle.command_words.specs.Words.{Said}
 use Rattle.outside.specs.Shelf.{Told}
-use Rattle.command_files.specs.declared.status.Status.{Status}
-use Rattle.command_files.specs.declared.status.Status.TheVariants.{No, Ok}
+use Rattle.command_status.specs.declared.status.Status.{Status}
+use Rattle.command_status.specs.declared.status.Status.TheVariants.{No, Ok}
 use Rattle.command_files.specs.GoodFiles.{HasGoodFiles}
 use Rattle.serving_commands.specs.Online.{PublishesFew}
 

@@ -3,8 +3,8 @@ use Rattle.std.specs.Prelude.{◌≡◌}
 use Rattle.command_words.specs.Jobs.{Job}
 use Rattle.command_words.specs.Words.{Said}
 use Rattle.outside.specs.Shelf.{Told}
-use Rattle.command_files.specs.declared.status.Status.{Status}
-use Rattle.command_files.specs.declared.status.Status.TheVariants.{BadReport, BadScript, BadTrace, BadWeights, Limit, NoMemory, Ok, ReadFault, WireFault, WriteFault}
+use Rattle.command_status.specs.declared.status.Status.{Status}
+use Rattle.command_status.specs.declared.status.Status.TheVariants.{BadReport, BadScript, BadTrace, BadWeights, Limit, NoMemory, Ok, ReadFault, WireFault, WriteFault}
 use Rattle.command_files.specs.Causes.{FilesBadScript, FilesTraceFault, FilesWeightsFault}
 use Rattle.command_files.specs.JobCauses.{FilesReportFault}
 use Rattle.command_outcomes.specs.Complete.{EndsWell}

@@ -6,8 +6,8 @@ use Rattle.command_words.specs.Words.{Said}
 use Rattle.flow_table.specs.Table.{TableFacts}
 use Rattle.outside.specs.Shelf.{Told}
 use Rattle.rankers.specs.Meaning.{Meaning}
-use Rattle.command_files.specs.declared.status.Status.{Status}
-use Rattle.command_files.specs.declared.status.Status.TheVariants.{No, Ok, WriteFault}
+use Rattle.command_status.specs.declared.status.Status.{Status}
+use Rattle.command_status.specs.declared.status.Status.TheVariants.{No, Ok, WriteFault}
 use Rattle.reading_commands.specs.Audit.{AuditOf, WritesUnsound}
 use Rattle.reading_commands.specs.Check.{CheckOf, WritesNo, status_for}
 use Rattle.reading_commands.specs.Classes.{ClassesOf}

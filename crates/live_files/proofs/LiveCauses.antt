@@ -10,8 +10,8 @@ use Rattle.flow_table.specs.Table.{TableFacts}
 use Rattle.outside.specs.declared.shelf.Place4.TheVariants as place
 use Rattle.outside.specs.Shelf.{Told, bytes_of}
 use Rattle.script_reader.specs.declared.script.Script.{Script}
-use Rattle.command_files.specs.declared.status.Status.{Status}
-use Rattle.command_files.specs.declared.status.Status.TheVariants as status
+use Rattle.command_status.specs.declared.status.Status.{Status}
+use Rattle.command_status.specs.declared.status.Status.TheVariants as status
 use Rattle.command_files.specs.Causes.{FileFailed, FilesBadScript, FilesGiveScript, FilesGiveShared, FilesGiveTable, FilesLimit, HasCauseInFiles, IsGiven}
 use Rattle.command_files.specs.Causes.FileFailed.{at_script}
 use Rattle.command_files.specs.Causes.FilesLimit.{in_script, in_shared}

@@ -3,7 +3,7 @@ ghost use Rattle.std.specs.Prelude.{◌≡◌, IfErr, IfOk, IfSome, OnOk, option
 ghost use Rattle.coflow_units.specs.declared.quantity.Quantity.TheVariants.{Units};
 ghost use Rattle.command_words.specs.Jobs.Job.{live_job};
 ghost use Rattle.command_words.specs.Words.{said_with};
-ghost use Rattle.command_files.specs.declared.status.Status.TheVariants.{Limit};
+ghost use Rattle.command_status.specs.declared.status.Status.TheVariants.{Limit};
 ghost use Rattle.command_files.specs.Causes.{FilesGiveScript, HasCauseInFiles};
 ghost use Rattle.command_files.specs.Ends.{CountsFault};
 ghost use Rattle.command_files.specs.Inputs.{IsInput};

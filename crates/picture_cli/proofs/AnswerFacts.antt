@@ -24,8 +24,8 @@ use Rattle.command_files.proofs.GoodFacts.{files_end, no_script, text_is_good}
 use Rattle.command_files.proofs.InputFacts.{weights_one}
 use Rattle.command_files.proofs.ShelfFacts.{if_some}
 use Rattle.command_files.proofs.FileTurns.{done_in_turn}
-use Rattle.command_files.specs.declared.status.Status.{Status}
-use Rattle.command_files.specs.declared.status.Status.TheVariants as status
+use Rattle.command_status.specs.declared.status.Status.{Status}
+use Rattle.command_status.specs.declared.status.Status.TheVariants as status
 use Rattle.command_files.specs.Causes.{FilesGiveTable, HasCauseInFiles}
 use Rattle.command_files.specs.Reports.{IsReportOf}
 use Rattle.command_files.specs.Ends.{IsStill, IsReadFault}

@@ -28,7 +28,7 @@ use Rattle.command_files.specs.Reports.{IsReportOf}
 use Rattle.command_files.specs.Ends.{IsWriteFault}
 use Rattle.command_files.specs.Inputs.{IsInput}
 use Rattle.plans.specs.Totals.{BoundsEverySchedule}
-use Rattle.command_files.specs.declared.status.Status.TheVariants as status
+use Rattle.command_status.specs.declared.status.Status.TheVariants as status
 use Rattle.command_words.specs.Jobs.Job.{check_job}
 use Rattle.command_words.specs.Words.{Said}
 use Rattle.picture_cli.specs.Words.{PictureSaid}

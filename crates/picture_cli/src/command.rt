@@ -5,7 +5,7 @@ ghost use Rattle.outside.specs.Rose.{Rose, RoseOnce};
 ghost use Rattle.command_files.specs.Ends.{IsStill, IsReadFault, IsWriteFault};
 ghost use Rattle.command_files.specs.Shelves.{KeepsFiles, OfBoth, ReadsOut};
 ghost use Rattle.command_files.specs.Turns.{FilesInTurn};
-ghost use Rattle.command_files.specs.declared.status.Status.{Status};
+ghost use Rattle.command_status.specs.declared.status.Status.{Status};
 ghost use Rattle.picture_cli.specs.Complete.{AreGoodFiles, CallFor, IsPastFiles};
 ghost use Rattle.picture_cli.specs.Picture.{HasPicture, HasPictureCause, check_of};
 ghost use Rattle.picture_cli.specs.Status.{as_check};

@@ -10,8 +10,8 @@ use Rattle.plans.specs.Totals.{BoundsEverySchedule}
 use Rattle.verdicts.specs.declared.any_report.AnyReport.{AnyReport}
 use Rattle.verdicts.specs.declared.any_report.AnyReport.TheVariants.{Online, Plan}
 use Rattle.verdicts.specs.Judged.{IsJudged, IsRight}
-use Rattle.command_files.specs.declared.status.Status.{Status}
-use Rattle.command_files.specs.declared.status.Status.TheVariants as status
+use Rattle.command_status.specs.declared.status.Status.{Status}
+use Rattle.command_status.specs.declared.status.Status.TheVariants as status
 use Rattle.command_files.specs.Arrivals.{arrival_of}
 use Rattle.command_files.specs.Inputs.{IsInput}
 use Rattle.command_files.specs.Written.{Appends}

@@ -1,8 +1,8 @@
 -- The statuses with which a plan or an online run that is served ends before its text is there.
 use Rattle.std.proofs.Common.{◌≡◌, ℕ, ap, inl, inr, refl, sym, subst}
 use Rattle.std.specs.Prelude.{◌⊎◌}
-use Rattle.command_files.specs.declared.status.Status.{Status}
-use Rattle.command_files.specs.declared.status.Status.TheVariants as status
+use Rattle.command_status.specs.declared.status.Status.{Status}
+use Rattle.command_status.specs.declared.status.Status.TheVariants as status
 use Rattle.coflow_units.specs.declared.quantity.Quantity.TheVariants.{Epochs}
 use Rattle.serving_commands.specs.Make.{HasMadeCause}
 use Rattle.serving_commands.specs.Online.{IsEpochsCause}

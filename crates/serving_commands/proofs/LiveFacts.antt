@@ -6,8 +6,8 @@ use Rattle.live_serving.specs.declared.answer.LiveFault.{LiveFault}
 use Rattle.live_serving.specs.declared.answer.LiveFault.TheVariants as live_fault
 use Rattle.outside.specs.Shelf.{Told}
 use Rattle.script_reader.specs.declared.script.Script.{Script}
-use Rattle.command_files.specs.declared.status.Status.{Status}
-use Rattle.command_files.specs.declared.status.Status.TheVariants as status
+use Rattle.command_status.specs.declared.status.Status.{Status}
+use Rattle.command_status.specs.declared.status.Status.TheVariants as status
 use Rattle.command_files.specs.Ends.{IsReadFault}
 use Rattle.command_files.specs.Scripts.{IsScriptOf}
 use Rattle.command_files.specs.WireCauses.{IsWireCause}

@@ -13,8 +13,8 @@ use Rattle.hall_online.specs.declared.answer.OnlineFault.TheVariants as online_f
 use Rattle.outside.specs.Shelf.{Told, bytes_of}
 use Rattle.served_online.specs.Told.{PublishesMore}
 use Rattle.trace_reader.specs.Trace.{trace_of}
-use Rattle.command_files.specs.declared.status.Status.{Status}
-use Rattle.command_files.specs.declared.status.Status.TheVariants as status
+use Rattle.command_status.specs.declared.status.Status.{Status}
+use Rattle.command_status.specs.declared.status.Status.TheVariants as status
 use Rattle.command_files.specs.Causes.{FilesGiveTable}
 use Rattle.command_files.proofs.InputFacts.{weights_one}
 use Rattle.command_files.specs.Ends.{IsReadFault}

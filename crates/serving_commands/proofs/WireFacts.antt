@@ -5,13 +5,14 @@ use Rattle.command_words.specs.Words.{Said}
 use Rattle.hall_plan.specs.declared.answer.PlanFault.{PlanFault}
 use Rattle.hall_plan.specs.declared.answer.PlanFault.TheVariants as plan_fault
 use Rattle.outside.specs.Shelf.{Told}
-use Rattle.command_files.specs.declared.status.Status.{Status}
-use Rattle.command_files.specs.declared.status.Status.TheVariants as status
+use Rattle.command_status.specs.declared.status.Status.{Status}
+use Rattle.command_status.specs.declared.status.Status.TheVariants as status
 use Rattle.command_files.specs.JobCauses.{HasFilesCause}
 use Rattle.serving_commands.specs.Make.{HasMadeCause}
 use Rattle.command_files.specs.Ends.{IfPastFiles, IsReadFault, IsWireFault}
 use Rattle.command_files.specs.InputCauses.{HasInputCause}
-use Rattle.command_files.specs.WireCauses.{IsStatusOfPlan, IsWireCause}
+use Rattle.command_files.specs.WireCauses.{IsWireCause}
+use Rattle.command_status.specs.Faults.{IsStatusOfPlan}
 use Rattle.serving_commands.specs.Serving.{MayHaveSent}
 use Rattle.serving_commands.proofs.EndCauses.{of_served}
 use Rattle.command_files.proofs.ShelfFacts.{passed_as}

@@ -8,8 +8,8 @@ use Rattle.live_serving.specs.declared.answer.LiveFault.TheVariants as live_faul
 use Rattle.outside.specs.Shelf.{Told}
 use Rattle.script_reader.specs.declared.script.Script.{Script}
 use Rattle.served_live.specs.Told.{TellsLive, served_in}
-use Rattle.command_files.specs.declared.status.Status.{Status}
-use Rattle.command_files.specs.declared.status.Status.TheVariants.{NoMemory, WireFault}
+use Rattle.command_status.specs.declared.status.Status.{Status}
+use Rattle.command_status.specs.declared.status.Status.TheVariants.{NoMemory, WireFault}
 use Rattle.command_files.specs.Inputs.{IsInput}
 use Rattle.command_files.specs.Scripts.{IsScriptOf, IsShared}
 use Rattle.command_files.specs.Written.{Appends}

@@ -9,8 +9,8 @@ use Rattle.report.specs.declared.value.Report.{Report}
 use Rattle.list_text.specs.Made.{made_text}
 use Rattle.workload.specs.Coflows.{made_coflows}
 use Rattle.workload.specs.Text.{trace_text, weights_text}
-use Rattle.command_files.specs.declared.status.Status.{Status}
-use Rattle.command_files.specs.declared.status.Status.TheVariants.{NoMemory}
+use Rattle.command_status.specs.declared.status.Status.{Status}
+use Rattle.command_status.specs.declared.status.Status.TheVariants.{NoMemory}
 use Rattle.command_files.specs.Inputs.{Gives}
 use Rattle.command_files.specs.Written.{Appends}
 

@@ -12,8 +12,8 @@ use Rattle.online_check.specs.Sound.{IsSoundOnline}
 use Rattle.outside.specs.Shelf.{Told}
 use Rattle.schedule_model.specs.RunList.{slots_in}
 use Rattle.served_online.specs.Told.{PublishesMore, TellsOnline}
-use Rattle.command_files.specs.declared.status.Status.{Status}
-use Rattle.command_files.specs.declared.status.Status.TheVariants.{Limit, NoMemory, WireFault}
+use Rattle.command_status.specs.declared.status.Status.{Status}
+use Rattle.command_status.specs.declared.status.Status.TheVariants.{Limit, NoMemory, WireFault}
 use Rattle.command_files.specs.Causes.{FilesGiveTable, FilesLimit}
 use Rattle.command_files.specs.Inputs.{IsInput}
 use Rattle.command_files.specs.Written.{Appends}

@@ -13,8 +13,8 @@ use Rattle.script_reader.specs.declared.script.Script.{Script}
 use Rattle.served_live.specs.Told.{FailsAt as LiveFails, SendsSoFar as LiveSends}
 use Rattle.served_online.specs.Told.{FailsAt, SendsSoFar, StopsShort as OnlineStops}
 use Rattle.served_plans.specs.Sent.{SendsPart, StopsShort}
-use Rattle.command_files.specs.declared.status.Status.{Status}
-use Rattle.command_files.specs.declared.status.Status.TheVariants.{Limit, NoMemory, Ok, WireFault, WriteFault}
+use Rattle.command_status.specs.declared.status.Status.{Status}
+use Rattle.command_status.specs.declared.status.Status.TheVariants.{Limit, NoMemory, Ok, WireFault, WriteFault}
 use Rattle.command_files.specs.Inputs.{IsInput}
 use Rattle.serving_commands.specs.Live.{IsScriptIfNamed}
 use Rattle.serving_commands.specs.Make.{GivesMade}

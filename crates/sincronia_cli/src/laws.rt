@@ -3,7 +3,7 @@ ghost use Rattle.std.specs.Prelude.{◌≡◌, List};
 ghost use Rattle.command_lines.specs.Line.{Text};
 ghost use Rattle.command_words.specs.Words.{Said};
 ghost use Rattle.outside.specs.Shelf.{Told};
-ghost use Rattle.command_files.specs.declared.status.Status.{Status};
+ghost use Rattle.command_status.specs.declared.status.Status.{Status};
 ghost use Rattle.command_outcomes.specs.Command.{IsOfFiles};
 ghost use Rattle.command_outcomes.specs.FirstCause.{IsFirstCause};
 

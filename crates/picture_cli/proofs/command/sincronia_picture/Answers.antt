@@ -1,7 +1,7 @@
 use Rattle.std.proofs.Common.{ap, inl, subst, Err}
 use Rattle.command_lines.specs.Line.{texts}
 use Rattle.command_files.proofs.SinkFacts.{appended, begun}
-use Rattle.command_files.specs.declared.status.Status.TheVariants as status
+use Rattle.command_status.specs.declared.status.Status.TheVariants as status
 use Rattle.command_files.specs.Shelves.{OfBoth, ReadsOut}
 use Rattle.command_files.specs.Turns.{FilesInTurn}
 use Rattle.picture_cli.specs.Picture.{check_of}

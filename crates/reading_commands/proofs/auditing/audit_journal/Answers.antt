@@ -2,8 +2,8 @@ use Rattle.std.proofs.Common.{◌≡◌, refl, subst}
 use Rattle.command_words.specs.Jobs.Job.{audit_job}
 use Rattle.command_words.specs.Words.{Said, said_with}
 use Rattle.live_reader.specs.Reading.{IsBadAt, IsTextOf}
-use Rattle.command_files.specs.declared.status.Status.{Status}
-use Rattle.command_files.specs.declared.status.Status.TheVariants.{NoMemory}
+use Rattle.command_status.specs.declared.status.Status.{Status}
+use Rattle.command_status.specs.declared.status.Status.TheVariants.{NoMemory}
 use Rattle.reading_commands.specs.Audit.{is_yes}
 use Rattle.command_files.specs.Ends.{IsReadFault}
 use Rattle.command_files.specs.Shelves.{OfBoth}

@@ -7,8 +7,8 @@ use Rattle.command_files.proofs.CauseFacts.{checked_out, from_report}
 use Rattle.command_files.proofs.JobFacts.{from_input}
 use Rattle.flow_table.specs.Table.{instance_of}
 use Rattle.online_check.specs.Arrivals.{arrivals_in}
-use Rattle.command_files.specs.declared.status.Status.{Status}
-use Rattle.command_files.specs.declared.status.Status.TheVariants.{NoMemory}
+use Rattle.command_status.specs.declared.status.Status.{Status}
+use Rattle.command_status.specs.declared.status.Status.TheVariants.{NoMemory}
 use Rattle.command_files.specs.Ends.{IsReadFault}
 use Rattle.command_files.specs.Shelves.{OfBoth}
 use Rattle.verdicts.specs.Judged.{IsJudged}

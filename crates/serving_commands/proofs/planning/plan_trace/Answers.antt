@@ -1,12 +1,12 @@
 use Rattle.std.proofs.Common.{◌≡◌, inl, inr, ap, refl, subst, sym, Err}
 use Rattle.command_words.specs.Jobs.Job.{plan_job}
 use Rattle.command_words.specs.Words.{Said, said_with}
-use Rattle.command_files.specs.declared.status.Status.{Status}
-use Rattle.command_files.specs.declared.status.Status.TheVariants.{NoMemory}
+use Rattle.command_status.specs.declared.status.Status.{Status}
+use Rattle.command_status.specs.declared.status.Status.TheVariants.{NoMemory}
 use Rattle.command_files.specs.Ends.{IsReadFault}
 use Rattle.command_files.specs.JobCauses.{HasFilesCause}
 use Rattle.serving_commands.specs.Serving.{MayHaveSent}
-use Rattle.command_files.specs.WireCauses.{IsStatusOfPlan}
+use Rattle.command_status.specs.Faults.{IsStatusOfPlan}
 use Rattle.command_files.specs.Shelves.{OfBoth}
 use Rattle.command_files.specs.Turns.{FilesInTurn}
 use Rattle.command_files.proofs.CauseFacts.{input_out}

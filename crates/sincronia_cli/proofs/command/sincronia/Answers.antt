@@ -4,7 +4,7 @@ use Rattle.std.specs.Prelude.{map}
 use Rattle.command_words.specs.Jobs.Job.{compare_job}
 use Rattle.command_lines.specs.Line.{texts}
 use Rattle.command_words.specs.Words.{Said, said_by}
-use Rattle.command_files.specs.declared.status.Status.TheVariants.{WriteFault}
+use Rattle.command_status.specs.declared.status.Status.TheVariants.{WriteFault}
 use Rattle.served_plans.specs.Sent.{SendsAll}
 use Rattle.command_outcomes.specs.Outcome.{HasText}
 use Rattle.serving_commands.specs.Serving.{Sends, Stops}

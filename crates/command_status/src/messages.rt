@@ -1,7 +1,7 @@
 //! The line on standard error.
 ghost use Rattle.std.specs.Prelude.{◌≡◌};
 ghost use Rattle.std.specs.Fmt.{WritesOnOk};
-ghost use Rattle.command_files.specs.Messages.{limit_text, name_of, trace_text, weights_text};
+ghost use Rattle.command_status.specs.Messages.{limit_text, name_of, trace_text, weights_text};
 
 use crate::status::Status;
 use coflow_units::Quantity;
@@ -12,7 +12,7 @@ use weights::WeightsFault;
 /// What the program prints on standard error behind its name, where its exit code is above 1.
 impl fmt::Display for Status {
     ghost use Rattle.std.specs.Prelude.{Some};
-    ghost use Rattle.command_files.specs.Messages.{status_text};
+    ghost use Rattle.command_status.specs.Messages.{status_text};
 
     ghost output = { λ s. Some (status_text s) };
 

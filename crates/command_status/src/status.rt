@@ -1,6 +1,6 @@
 //! How the program's job ended.
 ghost use Rattle.std.specs.Prelude.{◌≡◌};
-ghost use Rattle.command_files.specs.Code.{code_of};
+ghost use Rattle.command_status.specs.Code.{code_of};
 
 use coflow_units::{NoMemory, Quantity};
 use flow_table::TableFault;
@@ -67,7 +67,7 @@ impl Status {
 }
 
 impl From<NoMemory> for Status {
-    ghost use Rattle.command_files.specs.declared.status.Status.TheVariants.{NoMemory};
+    ghost use Rattle.command_status.specs.declared.status.Status.TheVariants.{NoMemory};
 
     ghost from_gives = { λ _ e. e ≡ NoMemory };
 
@@ -77,7 +77,7 @@ impl From<NoMemory> for Status {
 }
 
 impl From<TraceFault> for Status {
-    ghost use Rattle.command_files.specs.TraceCauses.{IsStatusOfTrace};
+    ghost use Rattle.command_status.specs.Faults.{IsStatusOfTrace};
 
     ghost from_gives = { λ fault status. IsStatusOfTrace fault status };
 
@@ -95,7 +95,7 @@ impl From<TraceFault> for Status {
 }
 
 impl From<WeightsFault> for Status {
-    ghost use Rattle.command_files.specs.WeightsCauses.{IsStatusOfWeights};
+    ghost use Rattle.command_status.specs.Faults.{IsStatusOfWeights};
 
     ghost from_gives = { λ fault status. IsStatusOfWeights fault status };
 
@@ -113,7 +113,7 @@ impl From<WeightsFault> for Status {
 }
 
 impl From<TableFault> for Status {
-    ghost use Rattle.command_files.specs.InputCauses.{IsStatusOfTable};
+    ghost use Rattle.command_status.specs.Faults.{IsStatusOfTable};
 
     ghost from_gives = { λ fault status. IsStatusOfTable fault status };
 
@@ -126,7 +126,7 @@ impl From<TableFault> for Status {
 }
 
 impl From<PlanFault> for Status {
-    ghost use Rattle.command_files.specs.WireCauses.{IsStatusOfPlan};
+    ghost use Rattle.command_status.specs.Faults.{IsStatusOfPlan};
 
     ghost from_gives = { λ fault status. IsStatusOfPlan fault status };
 
@@ -139,7 +139,7 @@ impl From<PlanFault> for Status {
 }
 
 impl From<ReportFault> for Status {
-    ghost use Rattle.command_files.specs.ReportCauses.{IsStatusOfReport};
+    ghost use Rattle.command_status.specs.Faults.{IsStatusOfReport};
 
     ghost from_gives = { λ fault status. IsStatusOfReport fault status };
 
@@ -152,7 +152,7 @@ impl From<ReportFault> for Status {
 }
 
 impl From<ScriptFault> for Status {
-    ghost use Rattle.command_files.specs.ScriptCauses.{IsStatusOfScript};
+    ghost use Rattle.command_status.specs.Faults.{IsStatusOfScript};
 
     ghost from_gives = { λ fault status. IsStatusOfScript fault status };
 

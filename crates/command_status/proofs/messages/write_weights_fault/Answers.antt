@@ -1,4 +1,4 @@
-use Rattle.command_files.proofs.messages.write_weights_fault.Goals as goal
+use Rattle.command_status.proofs.messages.write_weights_fault.Goals as goal
 
 pub returns-in-UnknownId : goal.returns-in-UnknownId
 returns-in-UnknownId g c = λ plain ok. rw c.in-UnknownId.is (c.write-in-UnknownId.ensures.writes plain ok)
