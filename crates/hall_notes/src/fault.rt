@@ -1,5 +1,5 @@
 //! Why a journal is not replayed to its end.
-use std::alloc::AllocError;
+use std::alloc::AllocFailed;
 
 /// Why a journal is not replayed to its end.
 #[derive(Clone, Copy, Debug, PartialEq)]
@@ -9,8 +9,8 @@ pub enum ReplayFault {
     NoMemory,
 }
 
-impl From<AllocError> for ReplayFault {
-    fn from(_: AllocError) -> ReplayFault {
+impl<T: Drop> From<AllocFailed<T>> for ReplayFault {
+    fn from(_: AllocFailed<T>) -> ReplayFault {
         ReplayFault::NoMemory
     }
 }
