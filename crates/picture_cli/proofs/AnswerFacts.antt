@@ -35,7 +35,7 @@ use Rattle.command_files.specs.Turns.{FilesInTurn}
 use Rattle.picture_cli.proofs.PictureFacts.{cause_by}
 use Rattle.picture_cli.specs.Complete.{AreGoodFiles, CallFor, CanBeDrawn, IsAnswer}
 use Rattle.picture_cli.specs.Picture.{Draws, HasNoPicture, HasPictureCause, HasVerdictCause, Judged, check_of, window_of}
-use Rattle.picture_cli.specs.Words.{PictureSaid}
+use Rattle.picture_words.specs.Words.{PictureSaid}
 use Rattle.picture_cli.specs.declared.status.PictureStatus.{PictureStatus}
 use Rattle.picture_cli.specs.declared.status.PictureStatus.TheVariants.{Ended, No, NoSlots, Ok, TooManyBars, Usage}
 

@@ -1,3 +1,2 @@
 pub mod PictureFacts
-pub mod WordFacts
 pub mod AnswerFacts

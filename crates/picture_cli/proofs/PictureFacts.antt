@@ -43,7 +43,7 @@ use Rattle.command_files.specs.Ends.{IsReadFault, IsWriteFault}
 use Rattle.command_files.specs.Inputs.{IsInput}
 use Rattle.picture_cli.specs.Picture.{Draws, HasNoPicture, HasPictureCause, HasVerdictCause, IsNearBest, IsPictureOf, Judged, check_of, window_of}
 use Rattle.picture_cli.specs.Status.{IsStatusOfBars, as_check}
-use Rattle.picture_cli.specs.Words.{PictureSaid}
+use Rattle.picture_words.specs.Words.{PictureSaid}
 use Rattle.picture_cli.specs.declared.status.PictureStatus.{PictureStatus}
 use Rattle.picture_cli.specs.declared.status.PictureStatus.TheVariants as drawn
 

@@ -13,7 +13,7 @@ use Rattle.command_files.specs.Reports.{HasReportText}
 use Rattle.command_files.specs.Inputs.{bytes_if}
 use Rattle.command_files.specs.Ends.{IsWriteFault}
 use Rattle.picture_cli.specs.Picture.{HasNoPicture, Judged, check_of, window_of}
-use Rattle.picture_cli.specs.Words.{PictureSaid}
+use Rattle.picture_words.specs.Words.{PictureSaid}
 use Rattle.picture_cli.specs.declared.status.PictureStatus.{PictureStatus}
 use Rattle.picture_cli.specs.declared.status.PictureStatus.TheVariants.{Ended, No, NoSlots, Ok, TooManyBars, Usage}
 

@@ -1,5 +1,3 @@
-pub mod Parser
-pub mod Words
 pub mod Status
 pub mod Picture
 pub mod Complete

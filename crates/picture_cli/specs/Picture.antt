@@ -31,7 +31,7 @@ use Rattle.plans.specs.Totals.{BoundsEverySchedule}
 use Rattle.command_status.specs.declared.status.Status.TheVariants as status
 use Rattle.command_words.specs.Jobs.Job.{check_job}
 use Rattle.command_words.specs.Words.{Said}
-use Rattle.picture_cli.specs.Words.{PictureSaid}
+use Rattle.picture_words.specs.Words.{PictureSaid}
 use Rattle.picture_cli.specs.declared.status.PictureStatus.{PictureStatus}
 use Rattle.picture_cli.specs.declared.status.PictureStatus.TheVariants.{Ended, No, NoSlots, Ok, TooManyBars}
 

@@ -11,9 +11,8 @@ ghost use Rattle.picture_text.specs.Svg.{picture_text};
 ghost use Rattle.report.specs.Report.{IsReport};
 ghost use Rattle.schedule_model.specs.RunList.{slots_in};
 ghost use Rattle.picture_cli.specs.Picture.{HasNoPicture, HasVerdictCause, IsPictureOf};
-ghost use Rattle.picture_cli.specs.Words.{said_by};
+ghost use Rattle.picture_words.specs.Words.{said_by};
 
-use crate::picture_words::PictureWords;
 use crate::status::PictureStatus;
 use cert_check::Verdict;
 use coflow_units::{Items, NoMemory, Run};
@@ -21,6 +20,7 @@ use command_files::Input;
 use flow_table::Table;
 use picture::{Window, bars_of, curve_of};
 use picture_text::{Picture, heaviest, write_picture};
+use picture_words::PictureWords;
 use report::Report;
 use schedule_model::completions_of_runs;
 use std::alloc::Global;

@@ -2,18 +2,12 @@
 ghost use Rattle.std.specs.Prelude.{◌≡◌, ℕ, List};
 ghost use Rattle.cert_check.specs.Sound.{IsSound};
 ghost use Rattle.coflow_units.specs.Flows.{Instance};
-ghost use Rattle.command_lines.specs.Line.{Text};
 ghost use Rattle.outside.specs.Shelf.{Told};
 ghost use Rattle.report.specs.declared.value.Report.{Report};
 ghost use Rattle.picture_cli.specs.Complete.{IsAnswer};
 ghost use Rattle.picture_cli.specs.Picture.{IsNearBest};
-ghost use Rattle.picture_cli.specs.Words.{IsPictureWords, PictureSaid};
+ghost use Rattle.picture_words.specs.Words.{PictureSaid};
 ghost use Rattle.picture_cli.specs.declared.status.PictureStatus.{PictureStatus};
-
-/// Words say one thing at most.
-pub fn words_are_one()
-    ensures { (words : List Text) (a b : PictureSaid) → IsPictureWords words a → IsPictureWords words b → a ≡ b }
-{}
 
 /// What the files of a command line call for is one status at most.
 pub fn answer_is_one()

@@ -6,10 +6,7 @@ mod drawing;
 mod files;
 pub mod laws;
 mod messages;
-mod parser;
-mod picture_words;
 mod status;
-mod words;
 
 pub use command::sincronia_picture;
 pub use status::PictureStatus;

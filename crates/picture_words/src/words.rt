@@ -4,20 +4,20 @@ ghost use Rattle.clap.specs.Words.{first_value, found_of};
 ghost use Rattle.command_lines.specs.Line.{texts};
 ghost use Rattle.command_lines.specs.declared.fault.WordsFault.TheVariants.{Usage};
 ghost use Rattle.coflow_units.specs.declared.fabric.Side.{Side};
-ghost use Rattle.picture_cli.specs.Words.{IsPictureWords, IsSaid, IsSide, PictureSaid, said_by};
+ghost use Rattle.picture_words.specs.Words.{IsPictureWords, IsSaid, IsSide, PictureSaid, said_by};
 
 use crate::parser::matches_of;
-use crate::picture_words::PictureWords;
+use crate::value::PictureWords;
 use clap::ArgMatches;
 use coflow_units::{MAX_SLOT, Side};
-use command_words::{WordsFault, is_file_name, setting_of, unit_of};
+use command_lines::WordsFault;
+use command_words::{is_file_name, setting_of, unit_of};
 use std::alloc::Global;
 
 /// Reads the words of a command line, the first of which is the program's name.
-pub(crate) fn read_words<'a>(
-    alloc: Global,
-    words: &'a [String],
-) -> Result<PictureWords<'a>, WordsFault>
+///
+/// `Usage` comes exactly where the words say nothing, and `NoMemory` where no memory was to be had.
+pub fn read_words<'a>(alloc: Global, words: &'a [String]) -> Result<PictureWords<'a>, WordsFault>
     ensures said { IfOk result (λ w. IsPictureWords (texts words.entry.now) (said_by w)) }
     ensures usage { result ≡ Err Usage → (said : PictureSaid) → IsPictureWords (texts words.entry.now) said → ⊥ }
 {

@@ -8,8 +8,8 @@ use Rattle.clap.specs.declared.parser.matches.Found.{Found}
 use Rattle.std.specs.declared.alloc.Global.{Global}
 use Rattle.std.specs.declared.string.String.{String}
 use Rattle.command_lines.specs.Line.{texts}
-use Rattle.picture_cli.specs.Parser.{IsFound, app}
-use Rattle.picture_cli.proofs.parser.matches_of.Goals as goal
+use Rattle.picture_words.specs.Parser.{IsFound, app}
+use Rattle.picture_words.proofs.parser.matches_of.Goals as goal
 
 simple : is_simple app ≡ true
 unfolding clap_on_literals

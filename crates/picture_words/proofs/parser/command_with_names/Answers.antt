@@ -1,7 +1,7 @@
 use Rattle.std.proofs.Common.{◌≡◌, IfOk, subst}
 use Rattle.clap.specs.Words.{App, app_of}
-use Rattle.picture_cli.specs.Parser.{empty_app}
-use Rattle.picture_cli.proofs.parser.command_with_names.Goals as goal
+use Rattle.picture_words.specs.Parser.{empty_app}
+use Rattle.picture_words.proofs.parser.command_with_names.Goals as goal
 
 pub returns : goal.returns
 returns c =

@@ -7,8 +7,8 @@ use Rattle.coflow_units.specs.declared.fabric.Side.TheVariants.{Egress, Ingress}
 use Rattle.command_words.specs.Jobs.{IsFileName}
 use Rattle.command_lines.specs.Line.{Text}
 use Rattle.command_words.specs.Words.{IsSetting}
-use Rattle.picture_cli.specs.Parser.{app}
-use Rattle.picture_cli.specs.declared.picture_words.PictureWords.{PictureWords}
+use Rattle.picture_words.specs.Parser.{app}
+use Rattle.picture_words.specs.declared.value.PictureWords.{PictureWords}
 
 -- What a command line says.
 pub record PictureSaid : Type 0 where

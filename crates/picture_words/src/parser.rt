@@ -3,7 +3,7 @@ ghost use Rattle.std.specs.Prelude.{◌≡◌, ◌≢◌, Err, IfOk, []};
 ghost use Rattle.clap.specs.Words.{app_of, fault_of, found_of};
 ghost use Rattle.command_lines.specs.Line.{texts};
 ghost use Rattle.command_lines.specs.declared.fault.WordsFault.TheVariants.{Usage};
-ghost use Rattle.picture_cli.specs.Parser.{IsFound, app, app_with_names, empty_app};
+ghost use Rattle.picture_words.specs.Parser.{IsFound, app, app_with_names, empty_app};
 
 use clap::{ArgMatches, Command};
 use command_lines::{WordsFault, fault_by, needed_name, option_named, with_arg};

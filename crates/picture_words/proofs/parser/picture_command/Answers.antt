@@ -1,7 +1,7 @@
 use Rattle.std.proofs.Common.{◌≡◌, IfOk, subst}
 use Rattle.clap.specs.Words.{App, app_of}
-use Rattle.picture_cli.specs.Parser.{app_with_names}
-use Rattle.picture_cli.proofs.parser.picture_command.Goals as goal
+use Rattle.picture_words.specs.Parser.{app_with_names}
+use Rattle.picture_words.proofs.parser.picture_command.Goals as goal
 
 pub returns : goal.returns
 returns c =

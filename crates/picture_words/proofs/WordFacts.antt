@@ -4,7 +4,7 @@ use Rattle.coflow_units.specs.declared.fabric.Side.{Side}
 use Rattle.coflow_units.specs.declared.fabric.Side.TheVariants.{Egress, Ingress}
 use Rattle.command_lines.specs.Line.{Text}
 use Rattle.command_words.specs.Words.{IsSetting}
-use Rattle.picture_cli.specs.Words.{IsPictureWords, IsSaid, IsSide, PictureSaid}
+use Rattle.picture_words.specs.Words.{IsPictureWords, IsSaid, IsSide, PictureSaid}
 
 sides_differ : (word : Text) → word ≡ codes "in" → word ≡ codes "out" → ⊥
 sides_differ word p q = let e : codes "in" ≡ codes "out" = sym p ∙ q in cc
