@@ -74,7 +74,7 @@ def rows():
          .replace(b":", b":" + zeros) + b"\n2 0 1 0 1 1:1\n", None, None, PLAN, 0, TWO_TEXT, b"", 16),
         ("10^6 zeros before a number of a report", TWO, None, TWO_TEXT.replace(b"bound 5", b"bound " + zeros + b"5"), CHECK, 5, b"", bad(b"report: line 4"), 8),
         ("4096 coflows of 4096 mappers", many_mappers(), None, None, PLAN, 0, many_mappers_text(), b"", 120),
-        ("2^20 flows and one more", many_flows(), None, None, PLAN, 7, b"", bad(b"limit: flows 1048577"), 64),
+        ("2^20 flows and one more", many_flows(), None, None, PLAN, 7, b"", bad(b"limit: flows 1048577"), 40),
         ("a script of 65536 commands", TWO, None, PULLS, LIVE, 0, script_text(PULLS), b"", 16),
         ("a script of 65537 commands", TWO, None, PULLS + b"1 pull 2\n", LIVE, 7, b"", bad(b"limit: commands 65537"), 16),
         ("2^26 digits as a script", TWO, None, DIGITS, LIVE, 7, b"", bad(b"limit: clients 18446744073709551615"), 80),
