@@ -2,7 +2,8 @@
 
 use crate::fault::JobFault;
 use command_files::Status;
-use outside::{SureShelf, SureSink};
+use memory_shelves::SureShelf;
+use outside::SureSink;
 use rankers::Ranker;
 use sincronia_cli::sincronia;
 use small_jobs::{Bench, Pair, Row, Stage, Waiting, stage_of, words_of};

@@ -6,14 +6,14 @@ ghost use Rattle.turnstile.specs.Histories.{AddsAtMostOne, NoneAbove};
 ghost use Rattle.master_desk.specs.declared.desk.Setting.{Setting};
 ghost use Rattle.master_desk.specs.Desk.{IsSeen};
 ghost use Rattle.client_session.specs.Models.{IsDriverOf};
-ghost use Rattle.master_desk.specs.Grants.{all_granted, flow_granted, TellsGrants};
+ghost use Rattle.turn_answers.specs.Grants.{all_granted, flow_granted, TellsGrants};
 ghost use Rattle.client_session.specs.Drivers.{HandsOut, IsDriverTurn, who_of};
 ghost use Rattle.client_session.specs.Returns.{IsRootOf};
 
 use crate::hall::Hall;
 use coflow_units::Place;
 use journal::{Command, Reply};
-use master_desk::{Answer, Desk, Granted, is_version};
+use master_desk::{Answer, Desk, Granted, is_spent, is_version};
 use rank_board::RankSeat;
 use std::marker::Model;
 use std::sync::Wait;
@@ -112,7 +112,7 @@ impl Driver {
         ensures turn { IsDriverTurn hall.now.setting.opening (Open most) (hall.now.setting.opening.table.ports + 2)
             self.old self.new result }
     {
-        if self.left < self.granted.ports() as u64 + 2 {
+        if is_spent(self.left, self.granted.ports() as u64 + 2) {
             return Answer::Spent;
         }
         self.ask(rt, hall, Command::Open(most))
@@ -170,7 +170,7 @@ impl Driver {
         ensures places { HandsOut hall.now.setting.opening self.new.journal result places.old.items places.new.items }
         ensures room { vec_capacity places.new ≡ vec_capacity places.old }
     {
-        if self.left == 0 {
+        if is_spent(self.left, 1) {
             return Answer::Spent;
         }
         let mut turn = hall.gate.enter_root(rt, &mut self.root);
@@ -205,7 +205,7 @@ impl Driver {
         requires range { IsInRange hall.now.setting.opening command }
         ensures turn { IsDriverTurn hall.now.setting.opening command 1 self.old self.new result }
     {
-        if self.left == 0 {
+        if is_spent(self.left, 1) {
             return Answer::Spent;
         }
         let mut turn = hall.gate.enter_root(rt, &mut self.root);

@@ -12,7 +12,7 @@ ghost use Rattle.client_session.specs.Turns.{IsTurn};
 
 use crate::hall::Hall;
 use journal::Command;
-use master_desk::{Answer, Desk, Receipt};
+use master_desk::{Answer, Desk, Receipt, is_spent};
 use rank_board::{Pulled, RankSeat};
 use std::marker::Model;
 use std::sync::Wait;
@@ -196,7 +196,7 @@ impl Session {
         requires kind { is_driving command ≡ false }
         ensures turn { IsTurn hall.now.setting.opening command self.old self.new result }
     {
-        if self.left == 0 {
+        if is_spent(self.left as u64, 1) {
             return Answer::Spent;
         }
         let mut turn = hall.gate.enter(rt, &mut self.seat);

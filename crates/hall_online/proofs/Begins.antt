@@ -9,7 +9,7 @@ use Rattle.coflow_units.specs.declared.limits.TheConstants.{MAX_ARRIVAL, MAX_OPT
 use Rattle.coflow_units.specs.Completion.{cost}
 use Rattle.coflow_units.specs.Schedule.{IsRuns}
 use Rattle.flow_table.specs.Table.{instance_of, TableFacts}
-use Rattle.schedule_model.specs.RunList.{NamesFlows, pairs_of}
+use Rattle.slot_schedule.specs.RunList.{NamesFlows, pairs_of}
 use Rattle.release_bound.specs.declared.place.ReleasePlace.{ReleasePlace}
 use Rattle.release_bound.specs.Release.{released_total}
 use Rattle.release_bound.specs.ReleaseOrder.{IsReleasedOrdering}

@@ -15,7 +15,7 @@ use Rattle.live_text.specs.declared.value.Live.{Live}
 use Rattle.live_text.specs.declared.value.Said.{Said}
 use Rattle.live_text.specs.declared.value.Said.TheVariants.{Joined}
 use Rattle.live_text.specs.declared.value.Word.TheVariants.{Publish}
-use Rattle.schedule_model.specs.RunList.{slots_in}
+use Rattle.slot_schedule.specs.RunList.{slots_in}
 use Rattle.journal_claims.specs.Parted.{IsFirstWrongOrder, IsPartedAt}
 use Rattle.journal_claims.specs.Pulls.{IsFirstWrongRank, IsFirstWrongVersion}
 use Rattle.journal_claims.specs.Orders.{orders_of}

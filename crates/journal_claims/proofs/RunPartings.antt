@@ -4,8 +4,8 @@ use Rattle.std.specs.Prelude.{Some, min, slice_get}
 use Rattle.std.proofs.lemmas.Bool.{cases_lt}
 use Rattle.std.proofs.lemmas.List.{append-nil, drop_more, get_or-drop, get_or_default, length-drop}
 use Rattle.coflow_units.specs.declared.plan.Run.{Run}
-use Rattle.schedule_model.specs.RunList.{IsKept, slots_in}
-use Rattle.schedule_model.proofs.RunSlots.{all_runs, run_at, run_some, slots_parts}
+use Rattle.slot_schedule.specs.RunList.{IsKept, slots_in}
+use Rattle.slot_schedule.proofs.RunSlots.{all_runs, run_at, run_some, slots_parts}
 use Rattle.journal_claims.specs.Looked.{HaveInCommon}
 use Rattle.journal_claims.specs.Parted.{IsPartedAt}
 use Rattle.journal_claims.proofs.Partings.{end_parts, fewer_part, heads_part, none_is_not_some, parted_back, parted_behind, same_some}

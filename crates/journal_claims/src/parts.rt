@@ -1,7 +1,7 @@
 //! Where two schedules part.
 ghost use Rattle.std.specs.Prelude.{◌≡◌, ◌-◌, ◌≤◌, IsTrue, ◌↔◌, MatchOption, length};
 ghost use Rattle.coflow_units.specs.declared.limits.TheConstants.{MAX_SLOT};
-ghost use Rattle.schedule_model.specs.RunList.{IsKept, slots_in};
+ghost use Rattle.slot_schedule.specs.RunList.{IsKept, slots_in};
 ghost use Rattle.journal_claims.specs.Looked.{HaveInCommon};
 ghost use Rattle.journal_claims.specs.Parted.{IsPartedAt};
 

@@ -9,7 +9,7 @@ use Rattle.coflow_units.specs.declared.fabric.Flow.{Flow}
 use Rattle.coflow_units.specs.declared.limits.TheConstants.{MAX_LIVE_UNITS, MAX_SLOT, MAX_TEXT, MAX_WEIGHT}
 use Rattle.coflow_units.specs.Flows.{IsDistinct}
 use Rattle.flow_table.specs.Table.{IsTable}
-use Rattle.schedule_model.specs.RunList.{slots_in}
+use Rattle.slot_schedule.specs.RunList.{slots_in}
 use Rattle.journal.specs.declared.command.Entry.{Entry}
 use Rattle.journal.specs.declared.opening.Opening.{Opening}
 use Rattle.journal.specs.Answer.{in_range}

@@ -18,7 +18,7 @@ use Rattle.live_model.specs.Sent.{Wires}
 use Rattle.hall_live.specs.Ends.{MayBeAsked}
 use Rattle.journal_claims.specs.Pulls.{HasVersion, pull_at}
 use Rattle.journal_claims.proofs.PullSteps.{rank_made}
-use Rattle.schedule_model.specs.RunList.{slots_in}
+use Rattle.slot_schedule.specs.RunList.{slots_in}
 use Rattle.journal_audit.specs.declared.verdict.Audit.TheVariants.{Yes}
 use Rattle.journal_audit.specs.Reasons.{IsAudit}
 use Rattle.journal_audit.specs.Sound.{IsRightFor, IsSoundLive}

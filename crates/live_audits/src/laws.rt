@@ -1,7 +1,7 @@
 //! What is printed of a run of `live` is right, and so the audit's verdict on it is yes.
 ghost use Rattle.std.specs.Prelude.{◌≡◌, ℕ, List, length};
 ghost use Rattle.coflow_units.specs.Flows.{IsDistinct};
-ghost use Rattle.schedule_model.specs.RunList.{slots_in};
+ghost use Rattle.slot_schedule.specs.RunList.{slots_in};
 ghost use Rattle.journal.specs.declared.command.Entry.{Entry};
 ghost use Rattle.journal.specs.declared.opening.Opening.{Opening};
 ghost use Rattle.script_reader.specs.declared.script.Script.{Script};

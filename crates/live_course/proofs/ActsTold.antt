@@ -6,7 +6,7 @@ use Rattle.std.specs.Option.{IfSome, IsSome}
 use Rattle.std.proofs.lemmas.List.{map-append, take-append-drop}
 use Rattle.std.proofs.lemmas.List.Elements.{All-contains, All-cons, All-head, All-nil, All-tail}
 use Rattle.std.proofs.lemmas.List.Kept.{AllPairs-cons}
-use Rattle.live_rounds.proofs.Acting.{acted_none, over_less}
+use Rattle.live_turns.proofs.Acting.{acted_none, over_less}
 use Rattle.journal.specs.declared.command.Command.{Command}
 use Rattle.journal.specs.declared.command.Entry.{Entry}
 use Rattle.journal.specs.declared.opening.Opening.{Opening}
@@ -23,8 +23,8 @@ use Rattle.live_model.specs.Script.{command_of, is_pull, lines_by}
 use Rattle.live_model.specs.Deeds.{Deed, HasEntry, IsPull, version_after}
 use Rattle.live_model.specs.Levels.{AreKept, IsBetween, IsSession, IsSteady, kept_at, Levels, RisesOver, version_before}
 use Rattle.live_model.proofs.OwnStands.{own_have, own_rise_over}
-use Rattle.live_rounds.specs.Acts.{Act, entered, entries_at, entries_in, FitsLine, HasActed, has_entry, IsOver, IsPullByTurn, noted, notes_at, notes_in, Outcome, StaysPut}
-use Rattle.live_rounds.specs.Acts.{version_at}
+use Rattle.live_turns.specs.Acts.{Act, entered, entries_at, entries_in, FitsLine, HasActed, has_entry, IsOver, IsPullByTurn, noted, notes_at, notes_in, Outcome, StaysPut}
+use Rattle.live_turns.specs.Acts.{version_at}
 use Rattle.live_course.specs.Told.{acts_of, deed_of, deeds_of, ForEntry, IsNew, IsRoundBetween, LiesBetween, lines_of, position_at}
 
 -- ---- what holds of all entries, and of all noted pulls, line by line

@@ -11,7 +11,7 @@ use Rattle.master_desk.specs.Own.{own_entries, OwnEntry}
 use Rattle.live_model.specs.Script.{is_pull, lines_by}
 use Rattle.live_model.specs.Deeds.{Deed, HasEntry, IsPull}
 use Rattle.live_model.specs.Levels.{AreSessions, IsBetween, IsSession, IsSteady, Levels}
-use Rattle.live_rounds.specs.Acts.{Act, entries_in}
+use Rattle.live_turns.specs.Acts.{Act, entries_in}
 use Rattle.live_course.specs.Clients.{AreClients, IsClient, IsNobody}
 use Rattle.live_course.specs.Told.{acts_of, deeds_of}
 use Rattle.live_course.proofs.ActsTold.{lines_lie_between, session_carries_out}

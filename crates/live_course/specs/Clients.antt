@@ -8,7 +8,7 @@ use Rattle.client_session.specs.Models.{SessionModel}
 use Rattle.master_desk.specs.Own.{own_entries}
 use Rattle.live_model.specs.Levels.{Levels}
 use Rattle.live_model.specs.Script.{lines_by}
-use Rattle.live_rounds.specs.Acts.{Act, HasActed}
+use Rattle.live_turns.specs.Acts.{Act, HasActed}
 use Rattle.live_course.specs.Told.{acts_of, IsNew, LiesBetween, lines_of}
 
 -- The client of this number carried out its lines in a session that was new, each between the levels of its round.

@@ -5,7 +5,7 @@ use Rattle.client_session.specs.Models.{SessionModel}
 use Rattle.master_desk.specs.Own.{OwnEntry}
 use Rattle.live_model.specs.Deeds.{Deed}
 use Rattle.live_model.specs.Levels.{Levels}
-use Rattle.live_rounds.specs.Acts.{Act, entered, IsOver, IsPullByTurn, noted, Outcome, version_at}
+use Rattle.live_turns.specs.Acts.{Act, entered, IsOver, IsPullByTurn, noted, Outcome, version_at}
 
 -- the position of the entry, where there is one
 abbrev pub position_at : Outcome → Option ℕ

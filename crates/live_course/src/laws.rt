@@ -15,7 +15,7 @@ ghost use Rattle.master_desk.specs.Own.{own_entries};
 ghost use Rattle.live_model.specs.Levels.{AreSessions, IsBetween, IsSession, IsSpellBetween, Levels, spell_driven, spell_for_nothing};
 ghost use Rattle.live_model.specs.Rounds.{Spell};
 ghost use Rattle.live_model.specs.Script.{lines_by};
-ghost use Rattle.live_rounds.specs.Acts.{Act, entries_in, HasActed};
+ghost use Rattle.live_turns.specs.Acts.{Act, entries_in, HasActed};
 ghost use Rattle.live_course.specs.Clients.{AreClients};
 ghost use Rattle.live_course.specs.Drivers.{AreOpenings};
 ghost use Rattle.live_course.specs.Told.{acts_of, deeds_of, IsNew, IsRoundBetween, LiesBetween, lines_of};

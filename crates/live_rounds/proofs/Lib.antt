@@ -1,7 +1,5 @@
-pub mod Acting
-pub mod Halves
-pub mod Steps
-pub mod PartsBuilt
-pub mod Coming
-pub mod Collecting
 pub mod AskingLittle
+pub mod Collecting
+pub mod Halves
+pub mod PartsBuilt
+pub mod Steps

@@ -10,10 +10,10 @@ use Rattle.script_reader.specs.declared.script.ScriptLine.{ScriptLine}
 use Rattle.client_session.specs.Models.{SessionModel}
 use Rattle.live_model.specs.Script.{command_of}
 use Rattle.live_rounds.specs.declared.part.Part.{Part}
-use Rattle.live_rounds.specs.Acts.{pulls_in}
+use Rattle.live_turns.specs.Acts.{pulls_in}
 use Rattle.live_rounds.specs.Parts.{AreParts, Each, IsPart, IsReady, lines_for, Plays, pulls_together, stops_of}
 use Rattle.live_rounds.specs.Rounds.{ArePlayed, MayAsk, Played}
-use Rattle.live_rounds.specs.Stops.{Ends}
+use Rattle.live_turns.specs.Stops.{Ends}
 use Rattle.live_rounds.proofs.Steps.{few_acts, few_pulls}
 
 -- one part more

@@ -1,6 +1,3 @@
-pub mod Acts
-pub mod Stops
-pub mod Lines
+pub mod Asking
 pub mod Parts
 pub mod Rounds
-pub mod Asking

@@ -2,15 +2,13 @@
 //! their order.
 #![tactic(auto)]
 
-mod answer;
 mod client;
 mod gate;
 pub mod laws;
-mod line;
 mod part;
 mod playing;
 mod rounds;
 
-pub use answer::{PullDone, RoundStop};
 pub use gate::{Gate, OpenGate};
+pub use live_turns::{PullDone, RoundStop};
 pub use rounds::round;

@@ -1,15 +1,15 @@
 //! A round of a script.
 ghost use Rattle.std.specs.Prelude.{◌≡◌, ◌+◌, ◌≤◌, ◌++◌, IfOk, Err, length, All, vec_capacity, []};
 ghost use Rattle.client_session.specs.Models.{IsSessionOf};
-ghost use Rattle.live_rounds.specs.declared.answer.RoundStop.{RoundStop};
+ghost use Rattle.live_turns.specs.declared.answer.RoundStop.{RoundStop};
 ghost use Rattle.live_rounds.specs.Parts.{Collects, pulls_together};
 ghost use Rattle.live_rounds.specs.Rounds.{IsRoundDone, IsRoundStopped, MayAsk};
 
-use crate::answer::{PullDone, RoundStop};
 use crate::gate::Gate;
 use crate::part::{Part, parts_of};
 use crate::playing::play_all;
 use client_session::{Hall, Session};
+use live_turns::{PullDone, RoundStop};
 use script_reader::ScriptLine;
 use std::alloc::Global;
 use std::sync::Wait;

@@ -12,7 +12,7 @@ ghost use Rattle.live_model.specs.Clause.{IsLiveRun};
 ghost use Rattle.live_model.specs.Printed.{run_of, told_entry, told_order};
 ghost use Rattle.live_model.specs.Script.{limit_of};
 ghost use Rattle.live_model.specs.Sent.{Wires};
-ghost use Rattle.live_rounds.specs.declared.answer.PullDone.{PullDone};
+ghost use Rattle.live_turns.specs.declared.answer.PullDone.{PullDone};
 ghost use Rattle.live_text.specs.declared.value.Live.{Live};
 ghost use Rattle.script_reader.specs.declared.script.Script.{Script};
 ghost use Rattle.hall_live.specs.Ends.{IsCarriedOut, MayBeAsked, pull_line};

@@ -1,6 +1,5 @@
 pub mod Bools
 pub mod Members
-pub mod AttendanceSteps
 pub mod RankSteps
 pub mod LineSteps
 pub mod PlaceSteps

@@ -13,7 +13,7 @@ use Rattle.coflow_units.proofs.Lists.{filter_in, keeps}
 use Rattle.coflow_units.proofs.Sums.{Apart, all_of_members, any_has, any_in, apart_from_pairs, in_first, in_tail, pairs_from_apart}
 use Rattle.journal.specs.State.{has}
 use Rattle.journal.specs.Line.{rank_in}
-use Rattle.master_core.specs.Attendance.{marked}
+use Rattle.coflow_roster.specs.Attendance.{marked}
 use Rattle.master_core.specs.Published.{ranked}
 use Rattle.master_core.specs.Waiting.{waits}
 

@@ -11,7 +11,7 @@ use Rattle.coflow_units.proofs.Lists.{filter_same}
 use Rattle.journal.specs.declared.opening.Opening.{Opening}
 use Rattle.master_core.specs.declared.standing.Standing.{Standing}
 use Rattle.journal.specs.State.{has, owed, slot_end, State}
-use Rattle.master_core.specs.Attendance.{marked}
+use Rattle.coflow_roster.specs.Attendance.{marked}
 use Rattle.journal.specs.Line.{line, newest}
 use Rattle.master_core.specs.Waiting.{line_of, waits}
 use Rattle.journal.specs.Runs.{granted, least_of, slots_for}

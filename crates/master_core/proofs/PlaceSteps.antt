@@ -15,7 +15,7 @@ use Rattle.coflow_units.proofs.Sums.{Apart, apart_from_pairs, in_first, in_tail,
 use Rattle.port_load.specs.LoadTable.{IsSameSize, LoadTable, is_present, load_at}
 use Rattle.bssi_order.specs.Order.{IsOf, IsOrder, entries_of, present_coflows}
 use Rattle.master_core.specs.Published.{IsLeft, ranked}
-use Rattle.master_core.proofs.AttendanceSteps.{joined_few}
+use Rattle.coflow_roster.proofs.AttendanceSteps.{joined_few}
 use Rattle.master_core.proofs.LineSteps.{places_within}
 use Rattle.master_core.proofs.RankSteps.{ranked_len}
 

@@ -20,7 +20,7 @@ use Rattle.journal.specs.declared.opening.Opening.{Opening}
 use Rattle.master_core.specs.declared.standing.Standing.{Standing}
 use Rattle.journal.specs.Chosen.{the_order}
 use Rattle.journal.specs.State.{has, is_present, owed, present, State, what_is_left}
-use Rattle.master_core.specs.Attendance.{marked}
+use Rattle.coflow_roster.specs.Attendance.{marked}
 use Rattle.journal.specs.Line.{newest_in}
 use Rattle.master_core.specs.Published.{IsLeft, Published, TellsPlaces, last_of, ranked}
 use Rattle.master_core.specs.Standing.{IsFit, Tells, TellsOrders}

@@ -9,7 +9,7 @@ use Rattle.coflow_units.proofs.Sums.{nothing_in}
 use Rattle.matching.specs.Matching.{room_of}
 use Rattle.journal.specs.declared.opening.Opening.{Opening}
 use Rattle.master_core.specs.declared.standing.Standing.{Standing}
-use Rattle.master_core.specs.Attendance.{marked}
+use Rattle.coflow_roster.specs.Attendance.{marked}
 use Rattle.master_core.specs.Published.{ranked}
 use Rattle.journal.specs.Fold.{start}
 use Rattle.journal.specs.State.{IsOpening}

@@ -16,7 +16,7 @@ use Rattle.journal.specs.declared.command.Reply.{Reply}
 use Rattle.journal.specs.declared.opening.Opening.{Opening}
 use Rattle.master_core.specs.declared.standing.Standing.{Standing}
 use Rattle.journal.specs.State.{has, Run, slot_end, State}
-use Rattle.master_core.specs.Attendance.{Attendance, marked}
+use Rattle.coflow_roster.specs.Attendance.{Attendance, marked}
 use Rattle.journal.specs.Line.{newest_in, rank_in}
 use Rattle.master_core.specs.Published.{Published, ranked}
 use Rattle.master_core.specs.Waiting.{Waiting, line_of}

@@ -1,4 +1,3 @@
-pub mod Attendance
 pub mod Published
 pub mod Waiting
 pub mod Standing

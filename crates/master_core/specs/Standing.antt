@@ -3,13 +3,13 @@ use Rattle.std.specs.Prelude.{◌≡◌, ℕ, ◌+◌, ◌<◌, ◌≤◌, ◌&&
 use Rattle.std.specs.Prelude.{length, map, slice_index, Option, Some, None}
 use Rattle.coflow_units.specs.declared.limits.TheConstants.{MAX_WEIGHT}
 use Rattle.coflow_units.specs.declared.fabric.Flow.{Flow}
-use Rattle.coflow_units.specs.Flows.{Instance, coflow_of}
+use Rattle.coflow_units.specs.Flows.{Instance}
 use Rattle.journal.specs.declared.command.Command.{Command}
 use Rattle.journal.specs.declared.command.Reply.{Reply}
 use Rattle.journal.specs.declared.opening.Opening.{Opening}
 use Rattle.master_core.specs.declared.standing.Standing.{Standing}
 use Rattle.journal.specs.State.{has, IsOpening, owed, Run, slot_end, State}
-use Rattle.master_core.specs.Attendance.{Attendance, marked}
+use Rattle.coflow_roster.specs.Attendance.{Attendance, marked}
 use Rattle.journal.specs.Line.{newest_in}
 use Rattle.master_core.specs.Published.{Published, TellsPlaces, ranked}
 use Rattle.open_runs.specs.OpenRun.{FitsOpen, KeepsGrants, KeptRun, TellsIngresses, note_at}
@@ -46,14 +46,6 @@ TellsRun flows ports None None = Unit {0}
 TellsRun flows ports None (Some x) = ⊥
 TellsRun flows ports (Some r) None = ⊥
 TellsRun flows ports (Some r) (Some x) = TellsOpen flows ports r x
-
--- the flow is of a coflow that is marked as present, and owes units
-abbrev pub is_owing : List Flow → List Bool → List ℕ → ℕ → Bool
-is_owing flows present owed f = marked present (coflow_of flows f) && nat_lt 0 (slice_index owed f)
-
--- none of the first n flows is such a one
-abbrev pub IsNoneOwing : List Flow → List Bool → List ℕ → ℕ → Type 0
-IsNoneOwing flows present owed n = (f : ℕ) → f < n → is_owing flows present owed f ≡ false
 
 -- what is kept tells the state
 pub record Tells (o : Opening) (s : State) (x : Standing) : Type 0 where

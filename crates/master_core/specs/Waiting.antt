@@ -1,7 +1,7 @@
 -- A line with its room, and which line it is.
 use Rattle.std.specs.Prelude.{ℕ, ◌==◌, ◌&&◌, ◌++◌, Bool, List}
 use Rattle.std.specs.List.{filter}
-use Rattle.master_core.specs.Attendance.{Attendance, marked}
+use Rattle.coflow_roster.specs.Attendance.{Attendance, marked}
 use Rattle.master_core.specs.Published.{Published, ranked}
 use Rattle.journal.specs.Line.{rank_in}
 

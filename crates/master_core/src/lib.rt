@@ -4,8 +4,6 @@
 mod line;
 mod master;
 mod orders;
-mod roster;
-mod search;
 mod standing;
 
 pub use journal::{Command, Entry, Opening, Reply, laws};

@@ -4,12 +4,12 @@ ghost use Rattle.std.specs.List.{filter};
 ghost use Rattle.coflow_units.specs.declared.plan.Place.{Place};
 ghost use Rattle.coflow_units.specs.Flows.{IsDistinct};
 ghost use Rattle.journal.specs.State.{has};
-ghost use Rattle.master_core.specs.Attendance.{marked};
+ghost use Rattle.coflow_roster.specs.Attendance.{marked};
 ghost use Rattle.master_core.specs.Published.{ranked};
 ghost use Rattle.master_core.specs.Waiting.{line_of, waits};
 
 use crate::orders::Orders;
-use crate::roster::Roster;
+use coflow_roster::Roster;
 use coflow_units::{NoMemory, Place};
 use std::alloc::Global;
 use std::marker::Model;

@@ -1,4 +1,3 @@
+pub mod Agreement
 pub mod OwnSteps
 pub mod Passes
-pub mod Agreement
-pub mod FewGranted

@@ -10,7 +10,7 @@ use Rattle.rank_board.specs.Models.{SeatModel}
 use Rattle.rank_board.specs.Words.{rank_of as published_rank}
 use Rattle.rank_board.specs.declared.pulls.Pull.{Pull}
 use Rattle.master_desk.specs.declared.desk.Setting.{Setting}
-use Rattle.master_desk.specs.declared.receipt.Receipt.{Receipt}
+use Rattle.turn_answers.specs.declared.receipt.Receipt.{Receipt}
 use Rattle.master_desk.specs.Own.{look_version}
 
 -- what contracts see of it: what no turn changes, and the master's journal

@@ -1,4 +1,2 @@
-pub mod Own
-pub mod Answers
 pub mod Desk
-pub mod Grants
+pub mod Own

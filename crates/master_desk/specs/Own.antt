@@ -5,7 +5,7 @@ use Rattle.journal.specs.declared.command.Reply.{Reply}
 use Rattle.journal.specs.declared.command.Entry.{Entry}
 use Rattle.journal.specs.Journal.{is_version}
 use Rattle.rank_board.specs.declared.pulls.Pull.{Pull}
-use Rattle.master_desk.specs.declared.receipt.Receipt.{Receipt}
+use Rattle.turn_answers.specs.declared.receipt.Receipt.{Receipt}
 
 -- an entry of a caller: its position in the journal, counted from 1, the newest version after it, what was asked, and
 -- what was answered

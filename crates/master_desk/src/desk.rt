@@ -9,16 +9,15 @@ ghost use Rattle.master_core.specs.Published.{TellsPlaces, ranked};
 ghost use Rattle.rank_board.specs.Models.{saw_front};
 ghost use Rattle.master_desk.specs.Own.{look_version};
 ghost use Rattle.master_desk.specs.Desk.{AddsEntry, IsRanked, IsSeen, KeepsLooks, MetAt};
-ghost use Rattle.master_desk.specs.Grants.{TellsGrants};
-ghost use Rattle.master_desk.specs.declared.receipt.Receipt.{Receipt};
+ghost use Rattle.turn_answers.specs.Grants.{TellsGrants};
+ghost use Rattle.turn_answers.specs.declared.receipt.Receipt.{Receipt};
 
-use crate::granted::Granted;
-use crate::receipt::Receipt;
 use coflow_units::Place;
 use journal::{Command, Entry, Opening, Reply};
 use master_core::Master;
 use rank_board::{Publisher, RankBoard, RankSeat};
 use std::marker::Model;
+use turn_answers::{Granted, Receipt};
 use turnstile::Chronicle;
 
 /// What no turn changes: what the master began with, and the board that its ranks are published on. No value of it is made.

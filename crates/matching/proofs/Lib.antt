@@ -1,8 +1,5 @@
-pub mod KeptSteps
-pub mod PassSteps
-pub mod SourceSteps
-pub mod ListSteps
+pub mod FreeSteps
 pub mod MatchingSteps
+pub mod PassSteps
 pub mod RoomSteps
 pub mod RunSteps
-pub mod FreeSteps

@@ -2,15 +2,15 @@
 use Rattle.std.proofs.Common.{◌≡◌, ◌≢◌, ℕ, ◌+◌, ◌-◌, ◌*◌, ◌≤◌, ◌<◌, ◌⊎◌, inl, inr, List, length, get_or, None, Some, refl, sym, ap, subst, ◌∙◌, arith}
 use Rattle.std.proofs.lemmas.Bool.{cases_eq, cases_lt}
 use Rattle.port_tables.specs.declared.heads.Heads.{Heads}
-use Rattle.port_tables.specs.declared.ranks.Ranks.{Ranks}
-use Rattle.port_tables.specs.declared.rows.Rows.{Rows}
-use Rattle.port_tables.specs.Kept.{Graph, IsCovered, Meets}
-use Rattle.port_tables.specs.Board.{graph_of, no_rank, IsGraph, IsRanks, Stands, IsBoard, IsKeptBelow, IsPlaced}
+use Rattle.port_rows.specs.declared.ranks.Ranks.{Ranks}
+use Rattle.port_rows.specs.declared.rows.Rows.{Rows}
+use Rattle.port_rows.specs.Kept.{Graph, IsCovered, Meets}
+use Rattle.port_rows.specs.Board.{graph_of, no_rank, IsGraph, IsRanks, Stands, IsBoard, IsKeptBelow, IsPlaced}
 use Rattle.port_tables.specs.Heads.{IsChain, IsHead, IsHeads, IsOwingBehind}
-use Rattle.port_tables.specs.Rows.{bit_of, owes_at, row_of, IsLeastFree, IsRows}
+use Rattle.port_rows.specs.Rows.{bit_of, owes_at, row_of, IsLeastFree, IsRows}
 use Rattle.matching.specs.Pass.{IsFree, IsPassed, IsPassing}
 use Rattle.matching.specs.Sound.{IsFirstOfPair, IsSettledBelow}
-use Rattle.port_tables.proofs.BoardSteps.{stands_at}
+use Rattle.port_rows.proofs.BoardSteps.{stands_at}
 use Rattle.port_tables.proofs.SettleSteps.{meets_at, opposite_first}
 
 -- what a row of the pass begins with

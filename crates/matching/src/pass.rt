@@ -1,9 +1,9 @@
 //! A pass over the rows, where many flows end at once.
 ghost use Rattle.std.specs.Prelude.{◌≡◌, ℕ, ◌+◌, ◌*◌, ◌<◌, ◌≤◌, [], Contains, length, true};
-ghost use Rattle.port_tables.specs.declared.rows.TheConstants.{WORDS};
-ghost use Rattle.port_tables.specs.Board.{IsRanks, graph_of};
+ghost use Rattle.port_rows.specs.declared.rows.TheConstants.{WORDS};
+ghost use Rattle.port_rows.specs.Board.{IsRanks, graph_of};
 ghost use Rattle.port_tables.specs.Heads.{IsHeads};
-ghost use Rattle.port_tables.specs.Rows.{IsRows, bit_of};
+ghost use Rattle.port_rows.specs.Rows.{IsRows, bit_of};
 ghost use Rattle.matching.specs.Pass.{IsFreeBits, IsPassingIn};
 ghost use Rattle.matching.specs.Sound.{IsSound, left_at};
 

@@ -5,7 +5,7 @@ ghost use Rattle.coflow_units.specs.declared.limits.TheConstants.{MAX_ARRIVAL, M
 ghost use Rattle.coflow_units.specs.Completion.{completion, cost};
 ghost use Rattle.coflow_units.specs.Schedule.{IsRuns};
 ghost use Rattle.flow_table.specs.Table.{instance_of, TableFacts};
-ghost use Rattle.schedule_model.specs.RunList.{NamesFlows, pairs_of};
+ghost use Rattle.slot_schedule.specs.RunList.{NamesFlows, pairs_of};
 ghost use Rattle.online_text.specs.declared.value.DoneLine.{DoneLine};
 ghost use Rattle.release_bound.specs.declared.place.ReleasePlace.{ReleasePlace};
 ghost use Rattle.release_bound.specs.Release.{IsReleasedFeasible, released_total};

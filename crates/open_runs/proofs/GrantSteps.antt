@@ -5,7 +5,7 @@ use Rattle.std.proofs.lemmas.Bool.{lt-ltb, ltb-true}
 use Rattle.coflow_units.specs.declared.fabric.Flow.{Flow}
 use Rattle.matching.specs.declared.tables.Tables.{Tables}
 use Rattle.matching.specs.Matching.{IsGrantedAt, IsSettled, listed_in, ports_of}
-use Rattle.port_tables.specs.Ranking.{number_of}
+use Rattle.port_rows.specs.Ranking.{number_of}
 use Rattle.matching.specs.Sound.{rank_at}
 use Rattle.journal.specs.Runs.{grant_in}
 use Rattle.journal.proofs.Ingresses.{grant_is, grant_none}

@@ -11,7 +11,7 @@ use Rattle.journal.specs.State.{has, slot_end}
 use Rattle.journal.specs.Runs.{least_of}
 use Rattle.matching.specs.declared.tables.Tables.{Tables}
 use Rattle.matching.specs.Matching.{IsSettled, ports_of}
-use Rattle.port_tables.specs.Ranking.{number_of}
+use Rattle.port_rows.specs.Ranking.{number_of}
 use Rattle.matching.specs.Sound.{rank_at}
 
 -- the flow that is granted at an ingress

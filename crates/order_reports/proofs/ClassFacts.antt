@@ -20,7 +20,7 @@ use Rattle.flow_table.proofs.Whole.{whole}
 use Rattle.rankers.specs.FactsTold.{IsBssiOrder}
 use Rattle.list_text.specs.declared.classed.ClassText.{ClassText}
 use Rattle.list_text.specs.declared.classed.Member.{Member}
-use Rattle.schedule_model.specs.RunList.{pairs_of}
+use Rattle.slot_schedule.specs.RunList.{pairs_of}
 use Rattle.order_reports.specs.ClassList.{IsClassList, member_of}
 
 module _ (order line : List ℕ) (class : ℕ → ℕ) (n : ℕ) where

@@ -8,12 +8,12 @@ use Rattle.coflow_units.specs.Flows.{Instance}
 use Rattle.coflow_units.specs.Schedule.{IsValid}
 use Rattle.coflow_units.proofs.ServedLaws.{served_valid}
 use Rattle.flow_table.specs.Table.{TableFacts, instance_of}
-use Rattle.rankers.specs.declared.row.Row.{Row}
+use Rattle.ranker_rounds.specs.declared.row.Row.{Row}
 use Rattle.order_scores.specs.declared.scored.Scored.{Scored}
 use Rattle.order_scores.specs.declared.scored.Scored.TheVariants as scored
 use Rattle.rankers.specs.FactsTold.{FactsTold}
 use Rattle.rankers.specs.Meaning.{Meaning}
-use Rattle.rankers.specs.Rounds.{IsRowsFrom}
+use Rattle.ranker_rounds.specs.Rounds.{IsRowsFrom}
 use Rattle.order_scores.specs.Scores.{IsScore}
 use Rattle.list_text.specs.declared.compared.Compare.{Compare}
 use Rattle.list_text.specs.declared.compared.RowLine.{RowLine}

@@ -10,7 +10,7 @@ use Rattle.flow_table.specs.Table.{TableFacts, instance_of}
 use Rattle.rankers.specs.FactsTold.{IsBssiOrder}
 use Rattle.list_text.specs.declared.classed.ClassText.{ClassText}
 use Rattle.list_text.specs.declared.classed.Member.{Member}
-use Rattle.schedule_model.specs.RunList.{pairs_of}
+use Rattle.slot_schedule.specs.RunList.{pairs_of}
 
 -- the member that a coflow is, by the classes of the coflows and their ids
 abbrev pub member_of : (ℕ → ℕ) → List ℕ → ℕ → Member

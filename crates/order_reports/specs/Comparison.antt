@@ -2,12 +2,12 @@
 use Rattle.std.specs.Prelude.{◌≡◌, ℕ, ◌-◌, ◌≤◌, List, [], All, map}
 use Rattle.std.specs.List.{slice_index_or}
 use Rattle.flow_table.specs.Table.{TableFacts, instance_of}
-use Rattle.rankers.specs.declared.row.Row.{Row}
+use Rattle.ranker_rounds.specs.declared.row.Row.{Row}
 use Rattle.order_scores.specs.declared.scored.Scored.{Scored}
 use Rattle.order_scores.specs.declared.scored.Scored.TheVariants as scored
 use Rattle.rankers.specs.FactsTold.{FactsTold, IsFacts, IsFactsOf}
 use Rattle.rankers.specs.Meaning.{Meaning}
-use Rattle.rankers.specs.Rounds.{IsRowsFrom}
+use Rattle.ranker_rounds.specs.Rounds.{IsRowsFrom}
 use Rattle.list_text.specs.declared.compared.Compare.{Compare}
 use Rattle.list_text.specs.declared.compared.RowLine.{RowLine}
 use Rattle.list_text.specs.declared.compared.RowText.{RowText}

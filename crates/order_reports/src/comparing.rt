@@ -3,7 +3,7 @@ ghost use Rattle.std.specs.Prelude.{◌≡◌, ◌<◌, ◌≤◌, ◌^◌, ℕ,
 ghost use Rattle.coflow_units.specs.declared.limits.TheConstants.{MAX_WEIGHT};
 ghost use Rattle.flow_table.specs.Table.{instance_of};
 ghost use Rattle.rankers.specs.FactsTold.{FactsTold, IsFactsOf};
-ghost use Rattle.rankers.specs.declared.row.Row.{Row};
+ghost use Rattle.ranker_rounds.specs.declared.row.Row.{Row};
 ghost use Rattle.list_text.specs.declared.compared.Compare.{Compare};
 ghost use Rattle.list_text.specs.declared.compared.RowLine.{RowLine};
 ghost use Rattle.list_text.specs.Compared.{IsName, compare_text};

@@ -9,8 +9,8 @@ use Rattle.coflow_units.specs.Served.{IsServed}
 use Rattle.coflow_units.proofs.ServedLaws.{served_valid}
 use Rattle.class_rates.specs.Classes.{IsPermutation}
 use Rattle.flow_table.specs.Table.{TableFacts, instance_of}
-use Rattle.schedule_model.specs.RunList.{NamesFlows}
-use Rattle.schedule_model.specs.Weights.{weighted_cost}
+use Rattle.slot_schedule.specs.RunList.{NamesFlows}
+use Rattle.slot_schedule.specs.Weights.{weighted_cost}
 use Rattle.schedule_model.proofs.ValidSteps.{valid_names}
 use Rattle.order_scores.specs.declared.scored.Scored.TheVariants.{Cost}
 use Rattle.order_scores.specs.declared.scoring.Judged.{Judged}

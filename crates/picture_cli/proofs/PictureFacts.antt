@@ -34,8 +34,8 @@ use Rattle.picture_text.specs.Svg.{picture_text}
 use Rattle.picture_text.specs.Title.{hundredths}
 use Rattle.report.specs.declared.value.Report.{Report}
 use Rattle.report.specs.Report.{IsReport}
-use Rattle.schedule_model.proofs.CostSums.{parts_small}
-use Rattle.schedule_model.specs.RunList.{NamesFlows, slots_in}
+use Rattle.slot_schedule.proofs.CostSums.{parts_small}
+use Rattle.slot_schedule.specs.RunList.{NamesFlows, slots_in}
 use Rattle.report.specs.Reading.{IsBadAt}
 use Rattle.command_files.specs.Causes.{HasCauseInFiles}
 use Rattle.command_files.specs.Reports.{IsReportOf}

@@ -21,7 +21,7 @@ use Rattle.picture_text.specs.Heaviest.{IsHeaviest}
 use Rattle.picture_text.specs.Svg.{picture_text}
 use Rattle.picture_text.specs.Title.{hundredths}
 use Rattle.report.specs.declared.value.Report.{Report}
-use Rattle.schedule_model.specs.RunList.{slots_in}
+use Rattle.slot_schedule.specs.RunList.{slots_in}
 use Rattle.report.specs.Reading.{IsBadAt}
 use Rattle.command_files.specs.Causes.{HasCauseInFiles}
 use Rattle.command_files.specs.Reports.{IsReportOf}

@@ -9,7 +9,7 @@ ghost use Rattle.picture_text.specs.declared.value.Picture.{Picture};
 ghost use Rattle.picture_text.specs.Layout.{IsDrawable};
 ghost use Rattle.picture_text.specs.Svg.{picture_text};
 ghost use Rattle.report.specs.Report.{IsReport};
-ghost use Rattle.schedule_model.specs.RunList.{slots_in};
+ghost use Rattle.slot_schedule.specs.RunList.{slots_in};
 ghost use Rattle.picture_cli.specs.Picture.{HasNoPicture, HasVerdictCause, IsPictureOf};
 ghost use Rattle.picture_words.specs.Words.{said_by};
 

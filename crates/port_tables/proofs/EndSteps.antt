@@ -4,15 +4,12 @@ use Rattle.std.specs.Prelude.{if◌then◌else◌, ◌==◌}
 use Rattle.std.proofs.lemmas.Bool.{cases_eq, eq-eqb, ne_eqb}
 use Rattle.std.proofs.lemmas.Grind.{get_or-set_at}
 use Rattle.std.proofs.lemmas.List.{get_or-set_other}
-use Rattle.port_tables.specs.Kept.{Graph, IsKept, IsEnded}
-use Rattle.port_tables.specs.Waits.{IsPushed}
-use Rattle.port_tables.specs.Board.{IsGraph, IsBoard, IsFreed, Stands}
+use Rattle.port_rows.specs.Kept.{Graph, IsKept, IsEnded}
+use Rattle.port_rows.specs.Waits.{IsPushed}
+use Rattle.port_rows.specs.Board.{IsGraph, IsBoard, IsFreed, Stands}
 use Rattle.port_tables.specs.Heads.{head_at, IsHeads, IsOwingBehind}
-use Rattle.port_tables.proofs.BoardSteps.{survived, remains, first_low, sides_apart, stands_at}
-
--- the same ranks owe
-abbrev pub IsSameOwing : ℕ → (ℕ → ℕ) → (ℕ → ℕ) → Type 0
-IsSameOwing count left lower = (r : ℕ) → r < count → (0 < left r → 0 < lower r) × (0 < lower r → 0 < left r)
+use Rattle.port_rows.proofs.RowSteps.{IsSameOwing}
+use Rattle.port_rows.proofs.BoardSteps.{survived, remains, first_low, sides_apart, stands_at}
 
 pub same_kept : (g : Graph) (left lower : ℕ → ℕ) (granted waits : ℕ → Type 0) → IsSameOwing g.count left lower → IsKept g left granted waits → IsKept g lower granted waits
 same_kept g left lower granted waits same k = record {

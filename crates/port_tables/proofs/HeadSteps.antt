@@ -4,10 +4,10 @@ use Rattle.std.proofs.lemmas.Bool.{cases_eq}
 use Rattle.std.proofs.lemmas.Grind.{get_or-set_at}
 use Rattle.std.proofs.lemmas.List.{get_or-set_other}
 use Rattle.std.proofs.lemmas.Nat.{div-mul-add, mod-mul-add, mul-add-lt}
-use Rattle.port_tables.specs.Kept.{Graph, Touches}
-use Rattle.port_tables.specs.Board.{no_rank, IsGraph}
+use Rattle.port_rows.specs.Kept.{Graph, Touches}
+use Rattle.port_rows.specs.Board.{no_rank, IsGraph}
 use Rattle.port_tables.specs.Heads.{opposite, head_at, IsHead, IsHeads, IsBetween, IsReplaced, IsNext, IsChain, IsOwingBehind, from_on}
-use Rattle.port_tables.proofs.BoardSteps.{with_two, cells, sides_apart}
+use Rattle.port_rows.proofs.BoardSteps.{with_two, cells, sides_apart}
 use Rattle.port_tables.proofs.SettleSteps.{opposite_first, opposite_second, sided, touches_as}
 
 -- ---- places in the table

@@ -1,9 +1,4 @@
-pub mod WaitSteps
-pub mod BoardSteps
+pub mod EndSteps
+pub mod HeadSteps
 pub mod LookSteps
 pub mod SettleSteps
-pub mod BitSteps
-pub mod HeadSteps
-pub mod EndSteps
-pub mod RowSteps
-pub mod RankSteps

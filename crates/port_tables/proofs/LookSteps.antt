@@ -3,7 +3,7 @@ use Rattle.std.proofs.Common.{◌≡◌, ℕ, ◌+◌, ◌-◌, ◌*◌, ◌≤�
 use Rattle.std.proofs.lemmas.Bool.{cases_eq, cases_lt}
 use Rattle.std.proofs.lemmas.List.{get_or-drop, get_or-take, length-drop, length-take-le}
 use Rattle.std.proofs.lemmas.Nat.{mul-add-lt}
-use Rattle.port_tables.specs.Board.{no_rank}
+use Rattle.port_rows.specs.Board.{no_rank}
 use Rattle.port_tables.specs.Heads.{opposite, IsLeastOpen, IsLooked}
 use Rattle.port_tables.proofs.SettleSteps.{opposite_first, opposite_second}
 

@@ -4,10 +4,10 @@ use Rattle.std.specs.Prelude.{All, if◌then◌else◌}
 use Rattle.std.proofs.Math.Pow.{pow_mono}
 use Rattle.std.proofs.lemmas.Bool.{cases_lt, lt-ltb, le-ltb}
 use Rattle.std.proofs.lemmas.List.Sums.{sum_by-le}
-use Rattle.port_tables.specs.Kept.{Graph, Meets, Touches, IsCovered, IsClear, IsKept, IsPutIn}
-use Rattle.port_tables.specs.Board.{no_rank, IsGraph, Stands, IsBoard, IsPlaced, weight, total_weight}
+use Rattle.port_rows.specs.Kept.{Graph, Meets, Touches, IsCovered, IsClear, IsKept, IsPutIn}
+use Rattle.port_rows.specs.Board.{no_rank, IsGraph, Stands, IsBoard, IsPlaced, weight, total_weight}
 use Rattle.port_tables.specs.Heads.{opposite, head_at, IsLooked, IsHeads}
-use Rattle.port_tables.proofs.BoardSteps.{stands_at, sides_apart}
+use Rattle.port_rows.proofs.BoardSteps.{stands_at, sides_apart}
 
 pub waits_more : (g : Graph) (left : ℕ → ℕ) (granted waits more : ℕ → Type 0) → ((p : ℕ) → waits p → more p) → IsKept g left granted waits → IsKept g left granted more
 waits_more g left granted waits more to k = record {

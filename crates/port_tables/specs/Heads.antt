@@ -1,7 +1,7 @@
 -- For two ports, the least rank between them that owes.
 use Rattle.std.specs.Prelude.{◌≡◌, ℕ, ◌+◌, ◌-◌, ◌*◌, ◌<◌, ◌≤◌, ◌⊎◌, if◌then◌else◌, List, length, nat_lt, slice_index}
-use Rattle.port_tables.specs.Kept.{Graph, Touches}
-use Rattle.port_tables.specs.Board.{no_rank}
+use Rattle.port_rows.specs.Kept.{Graph, Touches}
+use Rattle.port_rows.specs.Board.{no_rank}
 
 -- the least of the heads that are below the numbers at their places
 pub record IsLeastOpen (heads others : List ℕ) (least : ℕ) : Type 0 where

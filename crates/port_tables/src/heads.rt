@@ -1,13 +1,11 @@
 //! The first flow between two ports that owes.
 ghost use Rattle.std.specs.Prelude.{◌≡◌, ℕ, ◌+◌, ◌*◌, ◌^◌, ◌<◌, ◌≤◌, IfOk, length, replicate, slice_index};
-ghost use Rattle.port_tables.specs.Board.{IsRanks, graph_of, no_rank};
+ghost use Rattle.port_rows.specs.Board.{IsRanks, graph_of, no_rank};
 ghost use Rattle.port_tables.specs.Heads.{IsChain, IsHeads, IsLeastOpen, IsLooked, IsReplaced, from_on};
-ghost use Rattle.port_tables.specs.Rows.{HoldsRows, IsBlank, IsRows, IsShaped};
+ghost use Rattle.port_rows.specs.Rows.{HoldsRows, IsBlank, IsRows, IsShaped};
 
-use crate::board::Board;
-use crate::ranks::{NONE, Ranked, Ranks};
-use crate::rows::Rows;
 use coflow_units::NoMemory;
+use port_rows::{Board, NONE, Ranked, Ranks, Rows};
 use std::alloc::Global;
 
 /// For each port, and each port of the other side, the least rank between them that owes, or `NONE`.

@@ -1,4 +1,2 @@
-pub mod Noted
-pub mod OneRow
 pub mod Benches
-pub mod ToldOrders
+pub mod OneRow

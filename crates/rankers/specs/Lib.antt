@@ -1,5 +1,4 @@
-pub mod FactsTold
-pub mod Meaning
 pub mod ByKey
+pub mod FactsTold
 pub mod Kinds
-pub mod Rounds
+pub mod Meaning

@@ -3,11 +3,9 @@
 
 mod comparing;
 pub mod laws;
-mod rounds;
-mod row;
 
 pub use coflow_facts::{Facts, loads_of, order_of};
 pub use comparing::compare;
 pub use order_scores::Scored;
 pub use ranker_kinds::{Attained, Bssi0, Fifo, Ranker, Sebf};
-pub use row::Row;
+pub use ranker_rounds::Row;

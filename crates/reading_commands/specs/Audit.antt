@@ -21,7 +21,7 @@ use Rattle.journal_audit.specs.Sound.{IsSoundLive}
 use Rattle.journal_audit.specs.Stated.{journal_in, opening_for}
 use Rattle.live_text.specs.declared.value.Live.{Live}
 use Rattle.outside.specs.Shelf.{Told}
-use Rattle.schedule_model.specs.RunList.{slots_in}
+use Rattle.slot_schedule.specs.RunList.{slots_in}
 use Rattle.command_files.specs.Inputs.{IsInput}
 use Rattle.command_files.specs.Written.{Appends}
 use Rattle.command_files.specs.Reports.{IsJournalIfNamed}

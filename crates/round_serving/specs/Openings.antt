@@ -8,7 +8,8 @@ use Rattle.master_desk.specs.Desk.{IsSeen}
 use Rattle.client_session.specs.Drivers.{GrownByOthers, StaysInHall}
 use Rattle.client_session.specs.Models.{DriverModel, HallModel}
 use Rattle.slot_runner.specs.Models.{MayRun, RunnerModel}
-use Rattle.slot_runner.specs.Slots.{CallsFall, HasRun, IsAnswered}
+use Rattle.run_ports.specs.Settling.{CallsFall}
+use Rattle.slot_runner.specs.Slots.{HasRun, IsAnswered}
 use Rattle.hall_live.specs.Driven.{HasDriven}
 use Rattle.hall_plan.specs.Halls.{NoneFell}
 use Rattle.round_serving.specs.declared.stop.Stop.{Stop}

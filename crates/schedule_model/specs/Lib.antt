@@ -1,5 +1,3 @@
-pub mod RunList
-pub mod Repeat
 pub mod Fault
-pub mod Weights
+pub mod Repeat
 pub mod Waiting

@@ -7,7 +7,7 @@ use Rattle.coflow_units.specs.Flows.{IsDistinct}
 use Rattle.coflow_units.specs.Schedule.{IsValid}
 use Rattle.flow_table.specs.Table.{TableFacts, instance_of}
 use Rattle.release_bound.specs.Release.{IsReleased}
-use Rattle.schedule_model.specs.RunList.{slots_in}
+use Rattle.slot_schedule.specs.RunList.{slots_in}
 use Rattle.online_text.specs.declared.value.Epoch.{Epoch}
 use Rattle.online_text.specs.declared.value.Online.{Online}
 use Rattle.online_text.specs.Text.{online_text}

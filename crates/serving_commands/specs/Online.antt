@@ -10,7 +10,7 @@ use Rattle.hall_online.specs.declared.answer.OnlineFault.{OnlineFault}
 use Rattle.hall_online.specs.declared.answer.OnlineFault.TheVariants as online_fault
 use Rattle.online_check.specs.Sound.{IsSoundOnline}
 use Rattle.outside.specs.Shelf.{Told}
-use Rattle.schedule_model.specs.RunList.{slots_in}
+use Rattle.slot_schedule.specs.RunList.{slots_in}
 use Rattle.served_online.specs.Told.{PublishesMore, TellsOnline}
 use Rattle.command_status.specs.declared.status.Status.{Status}
 use Rattle.command_status.specs.declared.status.Status.TheVariants.{Limit, NoMemory, WireFault}

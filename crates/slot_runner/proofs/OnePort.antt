@@ -21,9 +21,9 @@ use Rattle.port_board.proofs.Lists.{is_of-false, last_is}
 use Rattle.port_agent.specs.Served.{SentOn}
 use Rattle.agent_threads.specs.Attended.{HadPort, IsServed, IsServedBy, WireServed}
 use Rattle.slot_runner.specs.Models.{IsIdle, WasReported}
-use Rattle.slot_runner.specs.Posts.{posts_of}
-use Rattle.slot_runner.specs.Settling.{AreToSettle}
-use Rattle.slot_runner.proofs.PortPosts.{in_posts, last_with, last_without, waits_now}
+use Rattle.run_ports.specs.Posts.{posts_of}
+use Rattle.run_ports.specs.Settling.{AreToSettle}
+use Rattle.run_ports.proofs.PortPosts.{in_posts, last_among, last_with, last_without, waits_now}
 
 -- the units that a report tells, and none without one
 abbrev pub units : Option Report → ℕ
@@ -60,10 +60,6 @@ with_wire : {W X : Type 0} (before after : List W) → length after ≡ length b
 with_wire [] after e p lt f = absurd (omega (arith, lt))
 with_wire (b ∷ bs) [] e p lt f = let none : 0 ≡ suc (length bs) = e in absurd (omega arith)
 with_wire (b ∷ bs) (a ∷ more) e p lt f = f b a
-
--- the last post of a port is one of the posts
-pub last_among : (port : ℕ) (g : Grant) (posts : List Grant) → last_at port posts ≡ Some g → Contains posts g × (g.port ≡ port)
-last_among port g posts e = last_is (Contains posts) port g posts (All-contains_itself posts) e
 
 none_listed : (a b c : Bool) → a ≡ false → b ≡ false → c ≡ false → (a || (b || c)) ≡ true → ⊥
 none_listed a b c p q r e = true≢false (sym e ∙ rw (p, q, r) refl)

@@ -14,12 +14,12 @@ use Rattle.journal.proofs.Leaving.{others_leave}
 use Rattle.master_desk.specs.Desk.{DrivenByRoot}
 use Rattle.client_session.specs.Drivers.{IsDrivenOn, IsStopped, StaysInHall}
 use Rattle.client_session.specs.Models.{DriverModel, HallModel}
-use Rattle.master_desk.specs.declared.receipt.Receipt.{Receipt}
+use Rattle.turn_answers.specs.declared.receipt.Receipt.{Receipt}
 use Rattle.slot_runner.specs.Models.{MayRun, RunnerModel}
 use Rattle.slot_runner.specs.Slots.{IsAnswered, IsFullAt}
-use Rattle.slot_runner.proofs.Notes.{calls_fall}
+use Rattle.run_ports.proofs.Notes.{calls_fall}
 use Rattle.slot_runner.proofs.Opens.{left_next, left_runs}
-use Rattle.slot_runner.proofs.Turns.{others_are_other}
+use Rattle.run_ports.proofs.Turns.{others_are_other}
 
 -- no run is open, and the next slot is as before
 pub record IsAsBefore (o : Opening) (old new : List Entry) : Type 0 where

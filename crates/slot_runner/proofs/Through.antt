@@ -14,15 +14,15 @@ use Rattle.port_board.specs.declared.view.Report.{Report}
 use Rattle.port_board.specs.declared.view.View.{View}
 use Rattle.port_board.specs.Agreement.{EachPosted, SharesNothing}
 use Rattle.master_desk.specs.Desk.{IsSeen}
-use Rattle.master_desk.specs.Grants.{all_granted, flow_granted}
+use Rattle.turn_answers.specs.Grants.{all_granted, flow_granted}
 use Rattle.client_session.specs.Drivers.{IsDrivenOn, StaysInHall}
 use Rattle.client_session.specs.Models.{DriverModel}
-use Rattle.master_desk.specs.declared.receipt.Receipt.{Receipt}
+use Rattle.turn_answers.specs.declared.receipt.Receipt.{Receipt}
 use Rattle.agent_threads.specs.Attended.{IsServedBy}
 use Rattle.slot_runner.specs.Carried.{IsCarriedOut}
 use Rattle.slot_runner.specs.Models.{IsIdle}
-use Rattle.slot_runner.specs.Posts.{IsPosted, posts_of}
-use Rattle.slot_runner.specs.Settling.{AreNoted, AreSettled, AreToSettle, IsFirstShort, IsOpenRunOf}
+use Rattle.run_ports.specs.Posts.{IsPosted, posts_of}
+use Rattle.run_ports.specs.Settling.{AreNoted, AreSettled, AreToSettle, IsFirstShort, IsOpenRunOf}
 use Rattle.slot_runner.proofs.Carried.{carried_out, idle_again, told_open}
 use Rattle.slot_runner.proofs.OnePort.{sent_of, to_settle}
 use Rattle.slot_runner.proofs.Opens.{open_facts, OpenFacts}

@@ -1,5 +1,3 @@
 pub mod Carried
 pub mod Models
-pub mod Posts
-pub mod Settling
 pub mod Slots

@@ -13,9 +13,10 @@ use Rattle.port_agent.specs.Served.{SentOn}
 use Rattle.master_desk.specs.Desk.{IsSeen}
 use Rattle.client_session.specs.Drivers.{IsDrivenOn, IsStopped, StaysInHall, who_of}
 use Rattle.client_session.specs.Models.{DriverModel}
-use Rattle.master_desk.specs.declared.receipt.Receipt.{Receipt}
+use Rattle.turn_answers.specs.declared.receipt.Receipt.{Receipt}
 use Rattle.slot_runner.specs.Models.{RunnerModel}
-use Rattle.slot_runner.specs.Posts.{posts_of, settlements_of}
+use Rattle.run_ports.specs.Posts.{posts_of, settlements_of}
+use Rattle.run_ports.specs.Settling.{CallsFall}
 use Rattle.slot_runner.specs.declared.answer.Ran.{Ran}
 use Rattle.slot_runner.specs.declared.answer.Ran.TheVariants.{Ran as Whole, WireFault}
 
@@ -24,11 +25,6 @@ abbrev pub has_run : Ran → Bool
 has_run (Whole slot slots count) = true
 has_run (WireFault port sent) = true
 has_run answer = false
-
--- the driver's calls that are left fell by the number of its new entries
-abbrev pub CallsFall : DriverModel → DriverModel → Type 0
-CallsFall old new =
-    new.left + length (driver_entries new.journal) ≡ old.left + length (driver_entries old.journal)
 
 module _ {W : Type 0} (faults : W → ℕ) (runs : W → Option (List (ℕ × ℕ × ℕ))) where
   -- The wire of a port in a run: without a grant it is as before; with one it was sent the grant once, and accepted so

@@ -2,9 +2,7 @@
 #![tactic(auto)]
 
 mod answer;
-mod posting;
 mod runner;
-mod settling;
 
 pub use answer::{Ran, RunnerBack};
 pub use runner::Runner;

@@ -10,7 +10,7 @@ ghost use Rattle.journal.specs.Driven.{Drive};
 ghost use Rattle.client_session.specs.Models.{IsDriverOf};
 ghost use Rattle.slot_runner.specs.Models.{first_runner, MayRun};
 ghost use Rattle.slot_runner.specs.Carried.{IsCarriedOut};
-ghost use Rattle.slot_runner.specs.Settling.{IsOpenRunOf};
+ghost use Rattle.run_ports.specs.Settling.{IsOpenRunOf};
 ghost use Rattle.slot_runner.specs.Slots.{has_run, IsAnswered, IsFaulted, IsFullAt, IsRan};
 
 use crate::answer::{Ran, RunnerBack};

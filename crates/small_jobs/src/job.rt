@@ -5,7 +5,8 @@ ghost use Rattle.outside.specs.Shelf.{bytes_of};
 ghost use Rattle.small_jobs.specs.Files.{HasBoth, HasBytes, IsUnread};
 
 use crate::row::Row;
-use outside::{MemShelf, MemSink, Place4, Shelf};
+use memory_shelves::MemShelf;
+use outside::{MemSink, Place4, Shelf};
 use std::alloc::Global;
 use trace_tables::{FileFault, bytes_of_file};
 

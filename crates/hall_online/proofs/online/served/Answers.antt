@@ -1,7 +1,7 @@
 use Rattle.std.proofs.Common.{◌≡◌, ◌<◌, ◌≤◌, Result, Err, length, slice_index_or, sym, subst, ap}
 use Rattle.outside.specs.Rose.{Rose}
 use Rattle.journal.specs.declared.opening.Opening.{Opening}
-use Rattle.schedule_model.specs.RunList.{NamesFlows}
+use Rattle.slot_schedule.specs.RunList.{NamesFlows}
 use Rattle.hall_plan.specs.Cuts.{HaveStopped}
 use Rattle.hall_plan.specs.Wires.{AreAllUnits, HaveMore}
 use Rattle.online_runs.specs.Deeds.{PublishesTooMany}

@@ -7,7 +7,7 @@ use Rattle.journal.specs.Journal.{version_of}
 use Rattle.journal.specs.Runs.{slots_of as run_slots}
 use Rattle.journal.proofs.Sound.{legal_sound}
 use Rattle.live_text.specs.declared.value.PullLine.{PullLine}
-use Rattle.schedule_model.specs.RunList.{IsKept, slots_in}
+use Rattle.slot_schedule.specs.RunList.{IsKept, slots_in}
 use Rattle.journal_claims.specs.Parted.{IsFirstWrongOrder, IsPartedAt}
 use Rattle.journal_claims.specs.Pulls.{HasVersion, IsFirstWrongRank, IsFirstWrongVersion, real_rank}
 use Rattle.journal_claims.specs.Ranks.{AreRanks}

@@ -1,6 +1,6 @@
 use Rattle.std.proofs.Common.{◌≡◌, ◌+◌, ◌-◌, ◌<◌, ℕ, length, min, arith, subst, take}
-use Rattle.schedule_model.specs.RunList.{slots_in}
-use Rattle.schedule_model.proofs.RunSlots.{count_more, count_within, run_fits}
+use Rattle.slot_schedule.specs.RunList.{slots_in}
+use Rattle.slot_schedule.proofs.RunSlots.{count_more, count_within, run_fits}
 use Rattle.journal_claims.specs.Parted.{IsPartedAt}
 use Rattle.journal_claims.proofs.RunPartings.{common_few, one_ended, runs_part}
 use Rattle.journal_claims.proofs.parts.first_parted_slot.Goals as goal

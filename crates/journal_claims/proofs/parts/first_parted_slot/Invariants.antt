@@ -1,6 +1,6 @@
 -- the runs so far have the same slots
 use Rattle.std.proofs.Common.{◌≡◌, length, take}
-use Rattle.schedule_model.specs.RunList.{slots_in}
+use Rattle.slot_schedule.specs.RunList.{slots_in}
 use Rattle.journal_claims.proofs.parts.first_parted_slot.Given as goal
 
 abbrev pub invariant-loop-index : goal.invariant-loop-index

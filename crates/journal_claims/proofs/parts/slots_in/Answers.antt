@@ -1,5 +1,5 @@
 use Rattle.std.proofs.Common.{◌+◌, arith}
-use Rattle.schedule_model.proofs.RunSlots.{count_within, run_count}
+use Rattle.slot_schedule.proofs.RunSlots.{count_within, run_count}
 use Rattle.journal_claims.proofs.parts.slots_in.Goals as goal
 
 pub overflow_add-slots : goal.overflow_add-slots

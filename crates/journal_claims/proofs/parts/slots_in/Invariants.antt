@@ -1,6 +1,6 @@
 -- the slots so far
 use Rattle.std.proofs.Common.{◌≡◌, length, take}
-use Rattle.schedule_model.specs.RunList.{slots_in}
+use Rattle.slot_schedule.specs.RunList.{slots_in}
 use Rattle.journal_claims.proofs.parts.slots_in.Given as goal
 
 abbrev pub invariant-loop-run : goal.invariant-loop-run

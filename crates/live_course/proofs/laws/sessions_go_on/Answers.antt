@@ -1,4 +1,4 @@
-use Rattle.live_rounds.proofs.Acting.{acted_on}
+use Rattle.live_turns.proofs.Acting.{acted_on}
 use Rattle.live_course.proofs.ActsTold.{raised_acted}
 use Rattle.live_course.proofs.laws.sessions_go_on.Goals as goal
 

@@ -8,7 +8,7 @@ use Rattle.coflow_units.specs.Schedule.{IsRuns}
 use Rattle.coflow_units.specs.Served.{IsServed}
 use Rattle.rankers.specs.FactsTold.{IsBssiOrder, IsFacts}
 use Rattle.list_text.specs.declared.classed.ClassText.{ClassText}
-use Rattle.schedule_model.specs.RunList.{pairs_of}
+use Rattle.slot_schedule.specs.RunList.{pairs_of}
 use Rattle.order_reports.proofs.ClassFacts.{line_all, line_known, listed, served_names}
 use Rattle.order_reports.proofs.classing.classes_text.Goals as goal
 

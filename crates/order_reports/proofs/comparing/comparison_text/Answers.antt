@@ -2,7 +2,7 @@ use Rattle.std.proofs.Common.{◌≡◌, ◌≤◌, ℕ, List, length, refl, sym
 use Rattle.std.specs.Prelude.{All, map}
 use Rattle.std.proofs.lemmas.List.Elements.{All-nil}
 use Rattle.flow_table.specs.Table.{instance_of}
-use Rattle.rankers.specs.declared.row.Row.{Row}
+use Rattle.ranker_rounds.specs.declared.row.Row.{Row}
 use Rattle.rankers.specs.FactsTold.{IsFactsOf}
 use Rattle.rankers.specs.Meaning.{Meaning}
 use Rattle.list_text.specs.declared.compared.Compare.{Compare}

@@ -1,7 +1,7 @@
 use Rattle.std.proofs.Common.{◌≡◌, ◌≤◌, ◌∙◌, ℕ, List, length, min, refl, ap, sym, subst, arith}
 use Rattle.coflow_units.specs.declared.plan.Run.{Run}
 use Rattle.cert_check.proofs.SlotSteps.{runs_kept}
-use Rattle.schedule_model.specs.RunList.{IsKept, slots_in}
+use Rattle.slot_schedule.specs.RunList.{IsKept, slots_in}
 use Rattle.picture.specs.declared.value.Bar.{Bar}
 use Rattle.picture.specs.declared.value.TheConstants.{MAX_BARS}
 use Rattle.picture.specs.Bars.{bar_count}

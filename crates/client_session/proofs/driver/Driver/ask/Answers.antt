@@ -1,16 +1,23 @@
 -- A turn adds the driver's entry, or finds no room.
 use Rattle.std.proofs.Common.{◌≡◌, ℕ, ◌-◌, ◌<◌, ◌≤◌, length, sym, ap, ◌∙◌, subst, arith, Err}
 use Rattle.std.specs.Prelude.{unwrap_or}
+use Rattle.std.proofs.lemmas.Bool.{ltb-false, ltb-true}
 use Rattle.journal.specs.Answer.{room}
 use Rattle.master_desk.specs.declared.desk.Setting.{Setting}
-use Rattle.master_desk.specs.declared.receipt.Answer.{Answer}
-use Rattle.master_desk.specs.Answers.{answer_of}
+use Rattle.turn_answers.specs.declared.receipt.Answer.{Answer}
+use Rattle.turn_answers.specs.Answers.{answer_of}
 use Rattle.master_desk.specs.Desk.{IsSeen}
-use Rattle.master_desk.specs.Grants.{TellsGrants}
+use Rattle.turn_answers.specs.Grants.{TellsGrants}
 use Rattle.client_session.specs.Drivers.{IsDriverTurn}
 use Rattle.client_session.specs.Models.{DriverModel}
-use Rattle.client_session.proofs.Driving.{driver_kept, driver_model, driver_turned, numbers_after, root_left, root_may_leave}
+use Rattle.client_session.proofs.Driving.{driver_kept, driver_model, driver_turned, none_left, numbers_after, root_left, root_may_leave}
 use Rattle.client_session.proofs.driver.Driver.ask.Goals as goal
+
+pub returns-then-is_spent : goal.returns-then-is_spent
+returns-then-is_spent g c =
+    let left = ap (λ (m : DriverModel). m.left) c.self.view_is in
+    let low = ltb-true c.self.inside.left 1 (sym c.is_spent.ensures ∙ c.if-is_spent.true) in
+    record { turn = none_left c.args.hall.now.setting.opening c.args.command 1 c.args.self.now (omega (arith, left, low)) }
 
 pub end_turn-self-inside-requires-clause-list : goal.end_turn-self-inside-requires-clause-list
 end_turn-self-inside-requires-clause-list g c =
@@ -61,7 +68,7 @@ returns g c =
     let entered : c.enter_root-turn.result.value.setting ≡ c.args.hall.now.setting =
     ap (λ x. unwrap_or x c.args.hall.now.setting) (sym e.setting ∙ (ap (λ (m : DriverModel). m.setting) c.self.view_is ∙ c.requires.own.1)) in
     let seen = subst (λ (x : Setting). IsSeen x.opening after) (a.setting ∙ entered) t.seen in
-    let some : 0 < d.left = omega (arith, c.if-self-eq0.false) in
+    let some : 0 < d.left = omega (arith, ltb-false d.left 1 (sym c.is_spent.ensures ∙ c.if-is_spent.false)) in
     let full : (n : ℕ) → result ≡ Err n → (after ≡ journal) × (n ≡ length journal) × (room o k ≤ n) = λ n err.
     let f = a.full n err in (f.0, f.1, subst (λ (x : Setting). room x.opening k ≤ n) entered f.2) in
     let turned = driver_turned d.root end.new.root d.rank d.left d.turned d.position end.result d.granted journal after c.self.invariant final e.list t.position e.numbers

@@ -1,10 +1,11 @@
 -- A turn adds the session's entry, or finds no room.
 use Rattle.std.proofs.Common.{◌≡◌, ◌-◌, ◌<◌, ◌≤◌, sym, ap, ◌∙◌, subst, arith}
 use Rattle.std.specs.Prelude.{unwrap_or, vec_capacity}
+use Rattle.std.proofs.lemmas.Bool.{ltb-false}
 use Rattle.turnstile.specs.Histories.{GoesOn}
 use Rattle.master_desk.specs.declared.desk.Setting.{Setting}
 use Rattle.client_session.specs.Models.{SessionModel}
-use Rattle.master_desk.specs.declared.receipt.Answer.TheVariants.{Done, Full}
+use Rattle.turn_answers.specs.declared.receipt.Answer.TheVariants.{Done, Full}
 use Rattle.master_desk.specs.Desk.{IsSeen}
 use Rattle.client_session.specs.Turns.{IsTurn}
 use Rattle.client_session.proofs.Turning.{left_is, may_leave, model, session_answered, session_refused, turn_done, turn_full, who_of}
@@ -25,7 +26,7 @@ invariant_of-self g c =
     let a = c.answer-answer.ensures in
     let final = left_is seat c.enter-turn.new.seat c.leave.new.seat journal after c.enter-turn.ensures.seat c.leave.ensures.seat in
     let goes = subst (λ n. GoesOn who_of journal n seat.seen) c.self.invariant.number_is c.enter-turn.ensures.list in
-    let some : 0 < c.self.inside.left = omega (arith, c.if-self-eq0.false) in
+    let some : 0 < c.self.inside.left = omega (arith, ltb-false c.self.inside.left 1 (sym c.is_spent.ensures ∙ c.if-is_spent.false)) in
     session_answered seat c.leave.new.seat c.self.inside.rank c.answer-answer.new.seat number c.self.inside.left c.self.inside.position c.position-self-inside.result journal
     after final goes some
     c.position-self-inside.ensures.position c.self.inside.receipts.items c.push_reserved.new.self.items _ _ c.self.invariant c.args.command c.in-Ok.receipt
@@ -41,7 +42,7 @@ invariant_of-self-in-Err g c =
     let a = c.answer-answer.ensures in
     let final = left_is seat c.enter-turn.new.seat c.leave.new.seat journal after c.enter-turn.ensures.seat c.leave.ensures.seat in
     let goes = subst (λ n. GoesOn who_of journal n seat.seen) c.self.invariant.number_is c.enter-turn.ensures.list in
-    let some : 0 < c.self.inside.left = omega (arith, c.if-self-eq0.false) in
+    let some : 0 < c.self.inside.left = omega (arith, ltb-false c.self.inside.left 1 (sym c.is_spent.ensures ∙ c.if-is_spent.false)) in
     session_refused seat c.leave.new.seat c.self.inside.rank c.answer-answer.new.seat number c.self.inside.left c.self.inside.position c.position-self-inside.result journal
     after final goes some
     c.position-self-inside.ensures.position c.self.inside.receipts.items c.self.inside.receipts.items (vec_capacity c.self.inside.receipts) (vec_capacity c.self.inside.receipts)
@@ -57,7 +58,7 @@ returns-in-Ok g c =
     let a = c.answer-answer.ensures in
     let final = left_is seat c.enter-turn.new.seat c.leave.new.seat journal after c.enter-turn.ensures.seat c.leave.ensures.seat in
     let goes = subst (λ n. GoesOn who_of journal n seat.seen) c.self.invariant.number_is c.enter-turn.ensures.list in
-    let some : 0 < c.self.inside.left = omega (arith, c.if-self-eq0.false) in
+    let some : 0 < c.self.inside.left = omega (arith, ltb-false c.self.inside.left 1 (sym c.is_spent.ensures ∙ c.if-is_spent.false)) in
     let setting : c.answer-answer.new.self.setting ≡ c.args.hall.now.setting =
     a.setting ∙ ap (λ x. unwrap_or x c.args.hall.now.setting) (sym c.enter-turn.ensures.setting ∙ (ap (λ (m : SessionModel). m.setting) c.self.view_is ∙ c.requires.own.1)) in
     let seen = subst (λ (x : Setting). IsSeen x.opening after) setting c.position-self-inside.ensures.seen in
@@ -77,7 +78,7 @@ returns-in-Err g c =
     let a = c.answer-answer.ensures in
     let final = left_is seat c.enter-turn.new.seat c.leave.new.seat journal after c.enter-turn.ensures.seat c.leave.ensures.seat in
     let goes = subst (λ n. GoesOn who_of journal n seat.seen) c.self.invariant.number_is c.enter-turn.ensures.list in
-    let some : 0 < c.self.inside.left = omega (arith, c.if-self-eq0.false) in
+    let some : 0 < c.self.inside.left = omega (arith, ltb-false c.self.inside.left 1 (sym c.is_spent.ensures ∙ c.if-is_spent.false)) in
     let f = a.full c.in-Err.entries c.in-Err.is in
     let entered : c.enter-turn.result.value.setting ≡ c.args.hall.now.setting =
     ap (λ x. unwrap_or x c.args.hall.now.setting) (sym c.enter-turn.ensures.setting ∙ (ap (λ (m : SessionModel). m.setting) c.self.view_is ∙ c.requires.own.1)) in

@@ -3,7 +3,7 @@ use Rattle.std.proofs.Common.{◌∙◌, ◌∷◌, ℕ, true, false, List, [], 
 use Rattle.std.specs.Prelude.{◌==◌, ◌&&◌}
 use Rattle.std.proofs.lemmas.Bool.{ne_eqb, eq-eqb}
 use Rattle.std.proofs.lemmas.List.{length-append}
-use Rattle.master_core.specs.Attendance.{marked}
+use Rattle.coflow_roster.specs.Attendance.{marked}
 use Rattle.master_core.specs.Published.{ranked}
 use Rattle.master_core.specs.Waiting.{Waiting, waits}
 use Rattle.master_core.proofs.Bools.{both}

@@ -3,7 +3,7 @@ use Rattle.std.proofs.Common.{◌∙◌, ◌∷◌, ℕ, List, [], ap, arith, ge
 use Rattle.std.proofs.lemmas.List.{length-append}
 use Rattle.coflow_units.specs.declared.fabric.Side.TheVariants.{Ingress}
 use Rattle.coflow_units.specs.declared.plan.Place.{Place}
-use Rattle.master_core.specs.Attendance.{marked}
+use Rattle.coflow_roster.specs.Attendance.{marked}
 use Rattle.master_core.specs.Published.{ranked}
 use Rattle.master_core.specs.Waiting.{Waiting}
 use Rattle.master_core.proofs.RankSteps.{place_at, ranked_len}

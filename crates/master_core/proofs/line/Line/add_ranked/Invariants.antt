@@ -1,7 +1,7 @@
 use Rattle.std.proofs.Common.{◌≡◌, ◌≤◌, length, take}
 use Rattle.std.specs.Prelude.{vec_capacity}
 use Rattle.std.specs.List.{filter}
-use Rattle.master_core.specs.Attendance.{marked}
+use Rattle.coflow_roster.specs.Attendance.{marked}
 use Rattle.master_core.specs.Published.{ranked}
 use Rattle.master_core.proofs.line.Line.add_ranked.Given as goal
 

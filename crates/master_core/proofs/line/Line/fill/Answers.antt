@@ -4,7 +4,7 @@ use Rattle.std.specs.Prelude.{All}
 use Rattle.coflow_units.specs.declared.plan.Place.{Place}
 use Rattle.coflow_units.specs.Flows.{IsDistinct}
 use Rattle.journal.specs.State.{has}
-use Rattle.master_core.specs.Attendance.{marked}
+use Rattle.coflow_roster.specs.Attendance.{marked}
 use Rattle.master_core.specs.Published.{ranked}
 use Rattle.master_core.specs.Waiting.{waits}
 use Rattle.master_core.proofs.LineSteps.{line_all, line_made, line_once, line_within, places_within}

@@ -1,7 +1,7 @@
 use Rattle.std.proofs.Common.{ap, ◌∙◌, arith}
 use Rattle.std.proofs.lemmas.List.{get_or-replicate}
 use Rattle.std.specs.List.{slice_index}
-use Rattle.port_tables.specs.Board.{no_rank}
+use Rattle.port_rows.specs.Board.{no_rank}
 use Rattle.port_tables.proofs.heads.Heads.clear.Goals as goal
 
 pub returns-clause-none : goal.returns-clause-none

@@ -1,7 +1,7 @@
 use Rattle.std.proofs.Common.{◌≡◌, ◌+◌, length, subst, sym, ap, ◌∙◌, arith}
-use Rattle.port_tables.specs.Board.{graph_of}
+use Rattle.port_rows.specs.Board.{graph_of}
 use Rattle.port_tables.specs.Heads.{IsChain, IsHeads, from_on}
-use Rattle.port_tables.specs.Rows.{IsRows}
+use Rattle.port_rows.specs.Rows.{IsRows}
 use Rattle.port_tables.proofs.HeadSteps.{heads_all, no_heads, no_chain}
 use Rattle.port_tables.proofs.heads.Heads.fill.Goals as goal
 

@@ -1,8 +1,8 @@
 -- the heads among the ranks from the present one on
 use Rattle.std.proofs.Common.{◌≡◌, ◌+◌, ◌≤◌, length}
-use Rattle.port_tables.specs.Board.{graph_of}
+use Rattle.port_rows.specs.Board.{graph_of}
 use Rattle.port_tables.specs.Heads.{IsChain, IsHeads, from_on}
-use Rattle.port_tables.specs.Rows.{IsRows}
+use Rattle.port_rows.specs.Rows.{IsRows}
 use Rattle.port_tables.proofs.heads.Heads.fill.Given as goal
 
 abbrev pub invariant-loop-rank : goal.invariant-loop-rank

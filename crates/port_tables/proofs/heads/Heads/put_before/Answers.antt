@@ -1,7 +1,7 @@
 use Rattle.std.proofs.Common.{◌≡◌, ◌<◌, ◌+◌, ◌-◌, ◌*◌, inl, refl, get_or, subst, sym, ap, ◌∙◌, arith}
 use Rattle.std.proofs.lemmas.List.{get_or_default}
-use Rattle.port_tables.specs.declared.ranks.Ranked.{Ranked}
-use Rattle.port_tables.specs.Board.{ranked_at, graph_of}
+use Rattle.port_rows.specs.declared.ranks.Ranked.{Ranked}
+use Rattle.port_rows.specs.Board.{ranked_at, graph_of}
 use Rattle.port_tables.specs.Heads.{IsChain, IsNext, IsReplaced, head_at}
 use Rattle.port_tables.proofs.HeadSteps.{IsPair, place_first, filled_heads, head_is_next, next_chain}
 use Rattle.port_tables.proofs.SettleSteps.{opposite_first}

@@ -1,0 +1,2 @@
+pub mod RunList
+pub mod Weights
