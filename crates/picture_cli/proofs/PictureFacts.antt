@@ -28,10 +28,10 @@ use Rattle.picture.specs.declared.value.Step.{Step}
 use Rattle.picture.specs.declared.value.Window.{Window}
 use Rattle.picture.specs.Bars.{IsBar, IsBars, IsTooMany, Serves}
 use Rattle.picture.specs.Curve.{IsCurve}
-use Rattle.picture_text.specs.declared.value.Picture.{Picture}
-use Rattle.picture_text.specs.Layout.{IsInside}
-use Rattle.picture_text.specs.Svg.{picture_text}
-use Rattle.picture_text.specs.Title.{hundredths}
+use Rattle.picture_parts.specs.declared.value.Picture.{Picture}
+use Rattle.picture_parts.specs.Layout.{IsInside}
+use Rattle.picture_parts.specs.Svg.{picture_text}
+use Rattle.picture_parts.specs.Title.{hundredths}
 use Rattle.report.specs.declared.value.Report.{Report}
 use Rattle.report.specs.Report.{IsReport}
 use Rattle.slot_schedule.proofs.CostSums.{parts_small}

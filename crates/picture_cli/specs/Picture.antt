@@ -16,10 +16,10 @@ use Rattle.picture.specs.declared.value.TheConstants.{MAX_BARS}
 use Rattle.picture.specs.declared.value.Window.{Window}
 use Rattle.picture.specs.Bars.{IsBars, IsTooMany, bar_count}
 use Rattle.picture.specs.Curve.{IsCurve}
-use Rattle.picture_text.specs.declared.value.Picture.{Picture}
-use Rattle.picture_text.specs.Heaviest.{IsHeaviest}
-use Rattle.picture_text.specs.Svg.{picture_text}
-use Rattle.picture_text.specs.Title.{hundredths}
+use Rattle.picture_parts.specs.declared.value.Picture.{Picture}
+use Rattle.picture_parts.specs.Heaviest.{IsHeaviest}
+use Rattle.picture_parts.specs.Svg.{picture_text}
+use Rattle.picture_parts.specs.Title.{hundredths}
 use Rattle.report.specs.declared.value.Report.{Report}
 use Rattle.slot_schedule.specs.RunList.{slots_in}
 use Rattle.report.specs.Reading.{IsBadAt}

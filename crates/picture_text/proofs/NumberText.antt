@@ -9,7 +9,7 @@ use Rattle.std.specs.Char.{is_ascii_digit}
 use Rattle.std.specs.List.{position_or_len}
 use Rattle.std.specs.Str.{all_ascii_digits}
 use Rattle.std.specs.Str.Parse.{digits_value}
-use Rattle.picture_text.specs.Text.{numbered}
+use Rattle.picture_parts.specs.Text.{numbered}
 
 -- no digit is in front
 abbrev pub EndsNumber : List ℕ → Type 0

@@ -7,12 +7,12 @@ use Rattle.std.proofs.lemmas.List.{append_cancel_left}
 use Rattle.coflow_units.specs.declared.fabric.Side.{Side}
 use Rattle.coflow_units.specs.declared.fabric.Side.TheVariants.{Ingress, Egress}
 use Rattle.picture.specs.declared.value.Bar.{Bar}
-use Rattle.picture_text.specs.declared.value.Picture.{Picture}
-use Rattle.picture_text.specs.Layout.{IsDrawable, IsInside, bars_height, height, slot_count}
-use Rattle.picture_text.specs.Palette.{colour_at, colour_if, fill_of}
-use Rattle.picture_text.specs.Svg.{axes_text, bar_text, bars_head, curve_text, head_text, id_of, legend_text, picture_text, rows_text, side_word, title_text}
-use Rattle.picture_text.specs.Text.{numbered}
-use Rattle.picture_text.specs.Title.{ratio_words}
+use Rattle.picture_parts.specs.declared.value.Picture.{Picture}
+use Rattle.picture_parts.specs.Layout.{IsDrawable, IsInside, bars_height, height, slot_count}
+use Rattle.picture_parts.specs.Palette.{colour_at, colour_if, fill_of}
+use Rattle.picture_parts.specs.Svg.{axes_text, bar_text, bars_head, curve_text, head_text, id_of, legend_text, picture_text, rows_text, side_word, title_text}
+use Rattle.picture_parts.specs.Text.{numbered}
+use Rattle.picture_parts.specs.Title.{ratio_words}
 use Rattle.picture_text.specs.Told.{HasSmallNumbers, ToldBar, told_bars}
 use Rattle.picture_text.proofs.NumberText.{EndsNumber, equal_fronts, numbers_equal}
 

@@ -2,8 +2,8 @@
 use Rattle.std.specs.Prelude.{ℕ, ◌<◌, ◌^◌, List, [], All, length, map}
 use Rattle.std.specs.List.{flat_map, range_with_len, slice_index_or}
 use Rattle.picture.specs.declared.value.Bar.{Bar}
-use Rattle.picture_text.specs.declared.value.Picture.{Picture}
-use Rattle.picture_text.specs.Svg.{id_of}
+use Rattle.picture_parts.specs.declared.value.Picture.{Picture}
+use Rattle.picture_parts.specs.Svg.{id_of}
 
 -- a bar as a text tells it: with its port, and its coflow by id
 pub record ToldBar : Type 0 where

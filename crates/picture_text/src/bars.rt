@@ -1,15 +1,12 @@
 //! The bars.
 ghost use Rattle.std.specs.Prelude.{◌≡◌, ◌<◌, ◌≤◌, ◌+◌, ◌++◌, OnOk, length};
 ghost use Rattle.coflow_units.specs.declared.limits.TheConstants.{MAX_PORTS};
-ghost use Rattle.picture_text.specs.Layout.{IsDrawable};
-ghost use Rattle.picture_text.specs.Svg.{bar_text, bars_head, bars_text, id_of, row_text, rows_text, side_word};
+ghost use Rattle.picture_parts.specs.Layout.{IsDrawable};
+ghost use Rattle.picture_parts.specs.Svg.{bar_text, bars_head, bars_text, id_of, row_text, rows_text, side_word};
 
-use crate::layout::{bars_height, slot_count};
-use crate::number::push_number;
-use crate::palette::fill_of;
-use crate::value::Picture;
 use coflow_units::{NoMemory, Side};
 use picture::Bar;
+use picture_parts::{Picture, bars_height, fill_of, push_number, slot_count};
 
 /// The bars, with what they show.
 pub(crate) fn push_bars(text: &mut Vec<u8>, picture: &Picture) -> Result<(), NoMemory>

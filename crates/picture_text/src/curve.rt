@@ -1,14 +1,12 @@
 //! The curve of completed coflows.
 ghost use Rattle.std.specs.Prelude.{◌≡◌, ◌++◌, OnOk};
 ghost use Rattle.std.specs.List.{flat_map};
-ghost use Rattle.picture_text.specs.Layout.{IsDrawable, curve_end, curve_top};
-ghost use Rattle.picture_text.specs.Svg.{curve_head, curve_text, step_text};
+ghost use Rattle.picture_parts.specs.Layout.{IsDrawable, curve_end, curve_top};
+ghost use Rattle.picture_parts.specs.Svg.{curve_head, curve_text, step_text};
 
-use crate::layout::{curve_top, slot_count};
-use crate::number::push_number;
-use crate::value::Picture;
 use coflow_units::NoMemory;
 use picture::Step;
+use picture_parts::{Picture, curve_top, push_number, slot_count};
 
 /// The curve as an area.
 pub(crate) fn push_curve(text: &mut Vec<u8>, picture: &Picture) -> Result<(), NoMemory>

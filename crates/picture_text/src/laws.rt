@@ -1,9 +1,9 @@
 //! Laws of the title's ratio and of the bars that a text tells.
 ghost use Rattle.std.specs.Prelude.{◌≡◌, ℕ, ◌+◌, ◌*◌, ◌<◌, ◌≤◌};
-ghost use Rattle.picture_text.specs.declared.value.Picture.{Picture};
-ghost use Rattle.picture_text.specs.Layout.{IsDrawable};
-ghost use Rattle.picture_text.specs.Svg.{picture_text};
-ghost use Rattle.picture_text.specs.Title.{hundredths};
+ghost use Rattle.picture_parts.specs.declared.value.Picture.{Picture};
+ghost use Rattle.picture_parts.specs.Layout.{IsDrawable};
+ghost use Rattle.picture_parts.specs.Svg.{picture_text};
+ghost use Rattle.picture_parts.specs.Title.{hundredths};
 ghost use Rattle.picture_text.specs.Told.{HasSmallNumbers, told_bars};
 
 /// The hundredths that the title tells are the least ones that are not below cost by bound.

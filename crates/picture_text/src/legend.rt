@@ -1,15 +1,13 @@
 //! The legend.
 ghost use Rattle.std.specs.Prelude.{◌≡◌, ◌<◌, ◌≤◌, ◌++◌, OnOk, length};
 ghost use Rattle.std.specs.List.{flat_map, range_with_len, slice_index_or};
-ghost use Rattle.picture_text.specs.declared.value.TheConstants.{LEGEND};
-ghost use Rattle.picture_text.specs.Layout.{IsDrawable};
-ghost use Rattle.picture_text.specs.Svg.{entry_head, entry_text, legend_text, others_text, weight_of};
+ghost use Rattle.picture_parts.specs.declared.value.TheConstants.{LEGEND};
+ghost use Rattle.picture_parts.specs.Layout.{IsDrawable};
+ghost use Rattle.picture_parts.specs.Svg.{entry_head, entry_text, legend_text, others_text, weight_of};
 
 use crate::bars::id_of;
-use crate::number::push_number;
-use crate::palette::colour_at;
-use crate::value::Picture;
 use coflow_units::NoMemory;
+use picture_parts::{Picture, colour_at, push_number};
 
 /// The legend.
 pub(crate) fn push_legend(text: &mut Vec<u8>, picture: &Picture) -> Result<(), NoMemory>

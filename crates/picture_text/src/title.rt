@@ -1,12 +1,11 @@
 //! The title.
 ghost use Rattle.std.specs.Prelude.{◌≡◌, ◌<◌, ◌≤◌, ◌^◌, ◌++◌, OnOk};
-ghost use Rattle.picture_text.specs.Layout.{IsDrawable};
-ghost use Rattle.picture_text.specs.Svg.{title_text};
-ghost use Rattle.picture_text.specs.Title.{hundredths, ratio_words, title_words, two_digits};
+ghost use Rattle.picture_parts.specs.Layout.{IsDrawable};
+ghost use Rattle.picture_parts.specs.Svg.{title_text};
+ghost use Rattle.picture_parts.specs.Title.{hundredths, ratio_words, title_words, two_digits};
 
-use crate::number::push_total;
-use crate::value::Picture;
 use coflow_units::NoMemory;
+use picture_parts::{Picture, push_total};
 
 /// The title.
 pub(crate) fn push_title(text: &mut Vec<u8>, picture: &Picture) -> Result<(), NoMemory>

@@ -1,17 +1,14 @@
 //! The text of a picture.
 ghost use Rattle.std.specs.Prelude.{◌≡◌, ◌++◌, IfOk, OnOk};
-ghost use Rattle.picture_text.specs.Layout.{IsDrawable};
-ghost use Rattle.picture_text.specs.Svg.{head_text, picture_text};
+ghost use Rattle.picture_parts.specs.Layout.{IsDrawable};
+ghost use Rattle.picture_parts.specs.Svg.{head_text, picture_text};
 
-use crate::axes::push_axes;
 use crate::bars::push_bars;
 use crate::curve::push_curve;
-use crate::layout::curve_end;
 use crate::legend::push_legend;
-use crate::number::push_number;
 use crate::title::push_title;
-use crate::value::Picture;
 use coflow_units::NoMemory;
+use picture_parts::{Picture, curve_end, push_axes, push_number};
 use std::alloc::Global;
 
 /// The text of a picture: SVG 1.1, without scripts, and with nothing that lies outside of it.

@@ -44,17 +44,17 @@ fn said(rt: &impl Abort, alloc: Global, words: &[String]) -> String {
 
 /// A job: its command, with the names or the number behind it, `-` where there is no second one.
 fn job_text(rt: &impl Abort, alloc: Global, job: Job<'_>) -> String {
-    let text = match job {
-        Job::Plan { trace } => format!(in alloc; "Plan {trace} -"),
-        Job::Check { trace, report } => format!(in alloc; "Check {trace} {report}"),
-        Job::Make { seed } => format!(in alloc; "Make {seed} -"),
-        Job::Compare { trace } => format!(in alloc; "Compare {trace} -"),
-        Job::Classes { trace } => format!(in alloc; "Classes {trace} -"),
-        Job::Audit { trace, journal } => format!(in alloc; "Audit {trace} {journal}"),
-        Job::Online { trace } => format!(in alloc; "Online {trace} -"),
-        Job::Live { trace, script } => format!(in alloc; "Live {trace} {script}"),
+    let (command, first, second) = match job {
+        Job::Plan { trace } => ("Plan", trace, "-"),
+        Job::Check { trace, report } => ("Check", trace, report),
+        Job::Make { seed } => return had(rt, format!(in alloc; "Make {seed} -")),
+        Job::Compare { trace } => ("Compare", trace, "-"),
+        Job::Classes { trace } => ("Classes", trace, "-"),
+        Job::Audit { trace, journal } => ("Audit", trace, journal),
+        Job::Online { trace } => ("Online", trace, "-"),
+        Job::Live { trace, script } => ("Live", trace, script),
     };
-    had(rt, text)
+    had(rt, format!(in alloc; "{command} {first} {second}"))
 }
 
 /// Adds the weights, `-` where there are none, and the values of `--unit`, `--agents`, `--epoch`, `--run`, `--slot-ms` and `--classes`.

@@ -1,10 +1,8 @@
+pub mod Credited
+pub mod Guards
+pub mod Kept
+pub mod Lawful
 pub mod Port
 pub mod Sent
-pub mod World
-pub mod Guards
 pub mod Steps
-pub mod Kept
-pub mod Credited
-pub mod Lawful
-pub mod Played
-pub mod Rows
+pub mod World

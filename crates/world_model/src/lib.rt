@@ -2,7 +2,6 @@
 #![tactic(auto)]
 
 mod event;
-pub mod laws;
 mod port;
 mod sent;
 mod world;

@@ -5,7 +5,7 @@ use Rattle.slot_schedule.specs.RunList.{IsKept, slots_in}
 use Rattle.picture.specs.declared.value.Bar.{Bar}
 use Rattle.picture.specs.declared.value.TheConstants.{MAX_BARS}
 use Rattle.picture.specs.Bars.{bar_count}
-use Rattle.picture_text.specs.Heaviest.{IsHeaviest}
+use Rattle.picture_parts.specs.Heaviest.{IsHeaviest}
 use Rattle.picture_words.specs.Words.{said_by}
 use Rattle.picture_cli.proofs.PictureFacts.{bars_along, bars_inside, clear_along, cost_small, curve_along, names_along, names_flows, slots_short, window_same}
 use Rattle.picture_cli.proofs.drawing.picture_in.Goals as goal

@@ -1,6 +1,6 @@
 use Rattle.std.proofs.Common.{zero-add}
-use Rattle.picture_text.specs.Svg.{row_text}
-use Rattle.picture_text.proofs.TextSteps.{number_more}
+use Rattle.picture_parts.specs.Svg.{row_text}
+use Rattle.picture_parts.proofs.TextSteps.{number_more}
 use Rattle.picture_text.proofs.bars.push_rows.Goals as goal
 
 pub loop-port-preserved : goal.loop-port-preserved

@@ -1,6 +1,6 @@
 use Rattle.std.proofs.Common.{zero-add}
-use Rattle.picture_text.specs.Svg.{entry_text}
-use Rattle.picture_text.proofs.TextSteps.{number_more}
+use Rattle.picture_parts.specs.Svg.{entry_text}
+use Rattle.picture_parts.proofs.TextSteps.{number_more}
 use Rattle.picture_text.proofs.legend.push_entries.Goals as goal
 
 pub loop-place-preserved : goal.loop-place-preserved

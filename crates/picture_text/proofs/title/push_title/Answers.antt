@@ -1,4 +1,4 @@
-use Rattle.picture_text.proofs.TextSteps.{more}
+use Rattle.picture_parts.proofs.TextSteps.{more}
 use Rattle.picture_text.proofs.title.push_title.Goals as goal
 
 pub returns : goal.returns

@@ -1,6 +1,6 @@
 use Rattle.std.proofs.Common.{◌≡◌, ◌++◌, []}
-use Rattle.picture_text.specs.Svg.{head_text}
-use Rattle.picture_text.proofs.TextSteps.{more}
+use Rattle.picture_parts.specs.Svg.{head_text}
+use Rattle.picture_parts.proofs.TextSteps.{more}
 use Rattle.picture_text.proofs.writing.write_picture.Goals as goal
 
 pub returns : goal.returns

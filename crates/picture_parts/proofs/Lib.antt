@@ -1,0 +1,3 @@
+pub mod TextSteps
+pub mod TickSteps
+pub mod WeightSteps
