@@ -8,9 +8,9 @@ use Rattle.journal.specs.declared.command.Entry.{Entry}
 use Rattle.rank_board.specs.declared.pulls.Pull.{Pull}
 use Rattle.rank_board.specs.Models.{new_seat, SeatModel}
 use Rattle.master_desk.specs.declared.desk.Setting.{Setting}
-use Rattle.turn_answers.specs.declared.receipt.Receipt.{Receipt}
+use Rattle.master_desk.specs.Answers.{Receipt}
 use Rattle.master_desk.specs.Own.{IsPass, own_entries, receipt_of}
-use Rattle.turn_answers.specs.Grants.{GrantedModel, TellsGrants}
+use Rattle.master_desk.specs.Grants.{GrantedModel, TellsGrants}
 use Rattle.client_session.specs.Drivers.{IsDriver, who_of}
 use Rattle.client_session.specs.Turns.{IsSession}
 use Rattle.master_desk.proofs.Agreement.{nothing_seen}

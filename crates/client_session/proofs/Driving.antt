@@ -12,12 +12,9 @@ use Rattle.journal.specs.Answer.{room}
 use Rattle.journal.specs.Journal.{entry, version_of}
 use Rattle.rank_board.specs.Models.{SeatModel}
 use Rattle.master_desk.specs.declared.desk.Setting.{Setting}
-use Rattle.turn_answers.specs.declared.receipt.Answer.{Answer}
-use Rattle.turn_answers.specs.declared.receipt.Answer.TheVariants.{Spent}
-use Rattle.turn_answers.specs.declared.receipt.Receipt.{Receipt}
-use Rattle.turn_answers.specs.Answers.{answer_of}
+use Rattle.master_desk.specs.Answers.{Answer, answer_of, Receipt, Spent}
 use Rattle.master_desk.specs.Desk.{AddsEntry, IsSeen}
-use Rattle.turn_answers.specs.Grants.{GrantedModel, TellsGrants}
+use Rattle.master_desk.specs.Grants.{GrantedModel, TellsGrants}
 use Rattle.client_session.specs.Drivers.{GrownByOthers, IsDrivenOn, IsDriver, IsDriverTurn, IsStopped, StaysInHall, who_of}
 use Rattle.client_session.specs.Models.{DriverModel}
 use Rattle.master_desk.proofs.Agreement.{room_met}

@@ -11,9 +11,9 @@ use Rattle.journal.specs.declared.command.Entry.{Entry}
 use Rattle.rank_board.specs.Models.{saw_front, SeatModel}
 use Rattle.rank_board.specs.declared.pulls.Pull.{Pull}
 use Rattle.master_desk.specs.declared.desk.Setting.{Setting}
-use Rattle.turn_answers.specs.declared.receipt.Receipt.{Receipt}
+use Rattle.master_desk.specs.Answers.{Receipt}
 use Rattle.master_desk.specs.Desk.{IsSeen}
-use Rattle.turn_answers.specs.Grants.{GrantedModel, TellsGrants}
+use Rattle.master_desk.specs.Grants.{GrantedModel, TellsGrants}
 use Rattle.client_session.specs.Drivers.{IsDriver, who_of}
 use Rattle.client_session.specs.Levels.{AreRaised, IsLevel, IsMetByEach, IsMetByOne, IsNewest, IsRaised}
 use Rattle.client_session.specs.Models.{DriverModel, HallModel, IsDriverOf, IsSessionOf, SessionModel}

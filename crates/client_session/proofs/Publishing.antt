@@ -17,9 +17,7 @@ use Rattle.journal.proofs.Legal.{legal_rest}
 use Rattle.journal.proofs.Versions.{version_is_next}
 use Rattle.master_core.specs.Published.{ranked, TellsPlaces}
 use Rattle.master_core.proofs.PublishTells.{last_is}
-use Rattle.turn_answers.specs.declared.receipt.Answer.{Answer}
-use Rattle.turn_answers.specs.declared.receipt.Receipt.{Receipt}
-use Rattle.turn_answers.specs.Answers.{answer_of, makes_version}
+use Rattle.master_desk.specs.Answers.{Answer, answer_of, makes_version, Receipt}
 use Rattle.master_desk.specs.Desk.{AddsEntry, IsSeen}
 use Rattle.client_session.specs.Drivers.{HandsOut}
 use Rattle.master_desk.proofs.Agreement.{not_version}

@@ -12,9 +12,7 @@ use Rattle.journal.specs.Journal.{entry, version_of}
 use Rattle.rank_board.specs.declared.pulls.Pull.{Pull}
 use Rattle.rank_board.specs.Models.{SeatModel}
 use Rattle.master_desk.specs.declared.desk.Setting.{Setting}
-use Rattle.turn_answers.specs.declared.receipt.Receipt.{Receipt}
-use Rattle.turn_answers.specs.declared.receipt.Answer.{Answer}
-use Rattle.turn_answers.specs.declared.receipt.Answer.TheVariants.{Done, Full}
+use Rattle.master_desk.specs.Answers.{Answer, Done, Full, Receipt}
 use Rattle.master_desk.specs.Own.{IsPass, own_entries, receipt_of}
 use Rattle.client_session.specs.Models.{SessionModel}
 use Rattle.master_desk.specs.Desk.{AddsEntry, IsSeen, KeepsLooks, MetAt}

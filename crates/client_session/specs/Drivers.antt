@@ -12,11 +12,9 @@ use Rattle.master_core.specs.Published.{ranked}
 use Rattle.turnstile.specs.Histories.{NoneAbove, NoneBy}
 use Rattle.turnstile.specs.Models.{RootModel}
 use Rattle.master_desk.specs.declared.desk.Setting.{Setting}
-use Rattle.turn_answers.specs.declared.receipt.Answer.{Answer}
-use Rattle.turn_answers.specs.declared.receipt.Answer.TheVariants.{Done, Full, Spent}
-use Rattle.turn_answers.specs.declared.receipt.Receipt.{Receipt}
+use Rattle.master_desk.specs.Answers.{Answer, Done, Full, Receipt, Spent}
 use Rattle.master_desk.specs.Desk.{IsSeen}
-use Rattle.turn_answers.specs.Grants.{GrantedModel, TellsGrants}
+use Rattle.master_desk.specs.Grants.{GrantedModel, TellsGrants}
 use Rattle.client_session.specs.Models.{DriverModel}
 
 abbrev pub who_of : Entry → ℕ

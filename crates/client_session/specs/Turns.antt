@@ -8,9 +8,7 @@ use Rattle.rank_board.specs.declared.pulls.Pull.{Pull}
 use Rattle.rank_board.specs.Models.{SeatModel}
 use Rattle.turnstile.specs.Models.{SeatModel as TurnSeatModel}
 use Rattle.master_desk.specs.declared.desk.Setting.{Setting}
-use Rattle.turn_answers.specs.declared.receipt.Answer.{Answer}
-use Rattle.turn_answers.specs.declared.receipt.Answer.TheVariants.{Done, Full, Spent}
-use Rattle.turn_answers.specs.declared.receipt.Receipt.{Receipt}
+use Rattle.master_desk.specs.Answers.{Answer, Done, Full, Receipt, Spent}
 use Rattle.master_desk.specs.Desk.{IsSeen, KeepsLooks}
 use Rattle.master_desk.specs.Own.{IsPass, look_version, own_entries, own_entry, receipt_of}
 use Rattle.client_session.specs.Models.{SessionModel}

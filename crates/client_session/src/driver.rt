@@ -6,7 +6,7 @@ ghost use Rattle.turnstile.specs.Histories.{AddsAtMostOne, NoneAbove};
 ghost use Rattle.master_desk.specs.declared.desk.Setting.{Setting};
 ghost use Rattle.master_desk.specs.Desk.{IsSeen};
 ghost use Rattle.client_session.specs.Models.{IsDriverOf};
-ghost use Rattle.turn_answers.specs.Grants.{all_granted, flow_granted, TellsGrants};
+ghost use Rattle.master_desk.specs.Grants.{all_granted, flow_granted, TellsGrants};
 ghost use Rattle.client_session.specs.Drivers.{HandsOut, IsDriverTurn, who_of};
 ghost use Rattle.client_session.specs.Returns.{IsRootOf};
 

@@ -1,8 +1,9 @@
-pub mod OutcomeFacts
 pub mod BenchFacts
+pub mod BeyondFacts
+pub mod CompleteFacts
+pub mod FewOrders
+pub mod FirstFacts
+pub mod OutcomeFacts
+pub mod ServingFacts
 pub mod TurnFacts
 pub mod WrittenFacts
-pub mod CompleteFacts
-pub mod ServingFacts
-pub mod BeyondFacts
-pub mod FirstFacts

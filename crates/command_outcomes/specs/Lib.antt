@@ -1,5 +1,6 @@
-pub mod Command
-pub mod Outcome
 pub mod Causes
+pub mod Command
 pub mod Complete
 pub mod FirstCause
+pub mod Outcome
+pub mod Written

@@ -35,14 +35,14 @@ use Rattle.live_model.specs.Sent.{EndsWork, Wires}
 use Rattle.live_model.proofs.Given.{journal_is_sent, legal_is_granted}
 use Rattle.live_model.proofs.LevelSteps.{levels_keep_rounds}
 use Rattle.live_model.proofs.Translated.{sessions_do_script, sessions_tell_versions}
-use Rattle.live_turns.specs.Acts.{Act, entries_in}
+use Rattle.live_rounds.specs.Acts.{Act, entries_in}
 use Rattle.live_rounds.specs.Rounds.{MayAsk}
 use Rattle.live_course.specs.Clients.{AreClients, IsClient}
 use Rattle.live_course.specs.Drivers.{AreOpenings}
 use Rattle.live_course.specs.Told.{acts_of, deeds_of}
 use Rattle.live_course.proofs.ClientsTold.{clients_are_sessions, clients_keep_levels}
 use Rattle.hall_live.specs.Driven.{StandsAfter}
-use Rattle.live_turns.specs.declared.answer.PullDone.{PullDone}
+use Rattle.live_rounds.specs.Answers.{PullDone}
 use Rattle.hall_live.specs.Ends.{HasRunOut, IsCarriedOut, MayBeAsked, pull_line}
 use Rattle.hall_live.specs.Followed.{AreFollowed, IsFollowed, told_from}
 use Rattle.hall_live.specs.Rounds.{AreRoundsDone}

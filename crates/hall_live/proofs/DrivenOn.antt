@@ -11,10 +11,10 @@ use Rattle.journal.specs.Journal.{entry}
 use Rattle.master_desk.specs.Desk.{DrivenByRoot}
 use Rattle.client_session.specs.Drivers.{IsDrivenOn}
 use Rattle.client_session.specs.Models.{DriverModel}
-use Rattle.turn_answers.specs.declared.receipt.Receipt.{Receipt}
+use Rattle.master_desk.specs.Answers.{Receipt}
 use Rattle.slot_runner.specs.Models.{RunnerModel}
 use Rattle.slot_runner.specs.Slots.{HasRun, IsAnswered}
-use Rattle.run_ports.proofs.Turns.{others_are_other}
+use Rattle.slot_runner.proofs.Turns.{others_are_other}
 use Rattle.live_model.specs.Levels.{spell_driven, spell_for_nothing}
 use Rattle.live_model.specs.Rounds.{Spell}
 use Rattle.live_course.specs.Drivers.{AreOpenings}

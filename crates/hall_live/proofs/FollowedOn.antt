@@ -9,11 +9,11 @@ use Rattle.script_reader.specs.declared.script.ScriptLine.{ScriptLine}
 use Rattle.client_session.specs.Levels.{AreRaised, IsRaised}
 use Rattle.client_session.specs.Models.{SessionModel}
 use Rattle.live_model.specs.Levels.{Levels}
-use Rattle.live_turns.specs.Acts.{Act, entries_in, HasActed}
+use Rattle.live_rounds.specs.Acts.{Act, entries_in, HasActed}
 use Rattle.live_rounds.specs.Parts.{lines_for}
 use Rattle.live_rounds.specs.Rounds.{ArePlayed, IsPlayed, Played}
-use Rattle.live_turns.specs.Stops.{Ends, first_stop}
-use Rattle.live_turns.proofs.Acting.{acted_on}
+use Rattle.live_rounds.specs.Stops.{Ends, first_stop}
+use Rattle.live_rounds.proofs.Acting.{acted_on}
 use Rattle.live_course.specs.Told.{acts_of, IsRoundBetween}
 use Rattle.live_course.proofs.ActsTold.{raised_acted, round_lies_between}
 use Rattle.hall_live.specs.Followed.{AreFollowed, IsFollowed, told_from}

@@ -11,7 +11,7 @@ use Rattle.client_session.specs.Models.{SessionModel}
 use Rattle.master_desk.specs.Own.{OwnEntry}
 use Rattle.live_model.specs.Levels.{Levels}
 use Rattle.live_model.specs.Script.{lines_from, slot_rounds_from}
-use Rattle.live_turns.specs.Acts.{Act, IsOver}
+use Rattle.live_rounds.specs.Acts.{Act, IsOver}
 use Rattle.live_rounds.specs.Parts.{lines_for}
 use Rattle.live_course.specs.Told.{acts_of, ForEntry, LiesBetween, lines_of}
 use Rattle.hall_live.specs.Followed.{lines_in}

@@ -20,7 +20,7 @@ use Rattle.live_model.specs.Levels.{Levels}
 use Rattle.live_model.specs.Printed.{told_pull, told_pulls}
 use Rattle.live_model.specs.Script.{command_of, coflow_pulled, is_pull}
 use Rattle.live_model.proofs.Given.{pull_is_answered}
-use Rattle.live_turns.specs.Acts.{Act, entered, entries_at, entries_in, FitsLine, noted, notes_at, notes_in, Outcome, pull_done, pulls_in, rank_at, rank_in, version_at}
+use Rattle.live_rounds.specs.Acts.{Act, entered, entries_at, entries_in, FitsLine, noted, notes_at, notes_in, Outcome, pull_done, pulls_in, rank_at, rank_in, version_at}
 use Rattle.live_course.specs.Clients.{AreClients, IsClient}
 use Rattle.live_course.specs.Told.{acts_of, deed_of, deeds_of}
 use Rattle.hall_live.specs.Ends.{pull_line}

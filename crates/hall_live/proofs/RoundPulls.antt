@@ -8,11 +8,11 @@ use Rattle.journal.specs.declared.opening.Opening.{Opening}
 use Rattle.script_reader.specs.declared.script.ScriptLine.{ScriptLine}
 use Rattle.client_session.specs.Models.{SessionModel}
 use Rattle.live_model.specs.Script.{is_pull}
-use Rattle.live_turns.specs.declared.answer.PullDone.{PullDone}
-use Rattle.live_turns.specs.Acts.{Act, pull_done, pulls_in}
+use Rattle.live_rounds.specs.Answers.{PullDone}
+use Rattle.live_rounds.specs.Acts.{Act, pull_done, pulls_in}
 use Rattle.live_rounds.specs.Parts.{lines_for}
 use Rattle.live_rounds.specs.Rounds.{ArePlayed, IsPlayed, Played}
-use Rattle.live_turns.specs.Stops.{first_stop}
+use Rattle.live_rounds.specs.Stops.{first_stop}
 use Rattle.live_rounds.proofs.Steps.{pulls_append}
 use Rattle.live_course.specs.Told.{acts_of}
 use Rattle.hall_live.specs.Followed.{pulls_for, told_from}

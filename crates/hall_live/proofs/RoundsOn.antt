@@ -12,10 +12,10 @@ use Rattle.master_desk.specs.Own.{OwnEntry}
 use Rattle.live_model.specs.Levels.{IsSpellBetween, Levels}
 use Rattle.live_model.specs.Rounds.{Spell}
 use Rattle.live_model.specs.Script.{slot_rounds_from}
-use Rattle.live_turns.specs.declared.answer.PullDone.{PullDone}
-use Rattle.live_turns.specs.Acts.{Act, pulls_in}
+use Rattle.live_rounds.specs.Answers.{PullDone}
+use Rattle.live_rounds.specs.Acts.{Act, pulls_in}
 use Rattle.live_rounds.specs.Rounds.{IsRoundDone}
-use Rattle.live_turns.proofs.Acting.{acted_none, stays}
+use Rattle.live_rounds.proofs.Acting.{acted_none, stays}
 use Rattle.live_course.specs.Drivers.{AreOpenings}
 use Rattle.live_course.specs.Told.{acts_of}
 use Rattle.live_course.proofs.DriversTold.{none_opened}

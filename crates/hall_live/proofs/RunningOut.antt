@@ -11,7 +11,7 @@ use Rattle.slot_runner.specs.Models.{RunnerModel}
 use Rattle.slot_runner.specs.Slots.{HasRun, IsAnswered}
 use Rattle.live_model.specs.Levels.{spell_driven, spell_for_nothing}
 use Rattle.live_model.specs.Rounds.{Spell}
-use Rattle.live_turns.specs.declared.answer.PullDone.{PullDone}
+use Rattle.live_rounds.specs.Answers.{PullDone}
 use Rattle.live_course.specs.Drivers.{AreOpenings}
 use Rattle.hall_live.specs.Driven.{HasOpened, StandsAfter}
 use Rattle.hall_live.specs.Ends.{HasRunOut, IsRunningOut}

@@ -15,7 +15,7 @@ use Rattle.live_model.specs.Clause.{CarriesOut, Course}
 use Rattle.live_model.specs.Printed.{told_pulls}
 use Rattle.live_model.specs.Rounds.{Spell}
 use Rattle.live_model.specs.Sent.{Wires}
-use Rattle.live_turns.specs.declared.answer.PullDone.{PullDone}
+use Rattle.live_rounds.specs.Answers.{PullDone}
 use Rattle.live_rounds.specs.Rounds.{MayAsk}
 use Rattle.hall_live.specs.Driven.{HasOpened}
 use Rattle.hall_live.specs.Followed.{pulls_for}

@@ -6,8 +6,8 @@ use Rattle.script_reader.specs.declared.script.ScriptLine.{ScriptLine}
 use Rattle.client_session.specs.Models.{SessionModel}
 use Rattle.live_model.specs.Levels.{Levels}
 use Rattle.live_model.specs.Script.{lines_from}
-use Rattle.live_turns.specs.declared.answer.PullDone.{PullDone}
-use Rattle.live_turns.specs.Acts.{Act, HasActed, pulls_in}
+use Rattle.live_rounds.specs.Answers.{PullDone}
+use Rattle.live_rounds.specs.Acts.{Act, HasActed, pulls_in}
 use Rattle.live_course.specs.Told.{acts_of, IsNew, LiesBetween, lines_of}
 
 -- the lines of one client in these rounds, which are numbered from 0

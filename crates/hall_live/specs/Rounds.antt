@@ -5,8 +5,8 @@ use Rattle.client_session.specs.Models.{DriverModel, SessionModel}
 use Rattle.live_model.specs.Levels.{IsSpellBetween, Levels}
 use Rattle.live_model.specs.Rounds.{Spell}
 use Rattle.live_model.specs.Script.{slot_rounds_from}
-use Rattle.live_turns.specs.declared.answer.PullDone.{PullDone}
-use Rattle.live_turns.specs.Acts.{Act}
+use Rattle.live_rounds.specs.Answers.{PullDone}
+use Rattle.live_rounds.specs.Acts.{Act}
 use Rattle.live_course.specs.Drivers.{AreOpenings}
 use Rattle.hall_live.specs.Followed.{AreFollowed, TellPulls}
 

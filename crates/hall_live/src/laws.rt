@@ -17,7 +17,7 @@ ghost use Rattle.live_model.specs.Rounds.{Spell};
 ghost use Rattle.live_model.specs.Script.{limit_of};
 ghost use Rattle.live_course.specs.Drivers.{AreOpenings};
 ghost use Rattle.live_model.specs.Sent.{Wires};
-ghost use Rattle.live_turns.specs.declared.answer.PullDone.{PullDone};
+ghost use Rattle.live_rounds.specs.Answers.{PullDone};
 ghost use Rattle.live_rounds.specs.Rounds.{IsRoundDone};
 ghost use Rattle.hall_live.specs.Driven.{HasDriven};
 ghost use Rattle.hall_live.specs.Ends.{HasRunOut, IsCarriedOut, IsRunningOut, MayBeAsked};

@@ -1,7 +1,7 @@
 //! The lines of pulls.
 ghost use Rattle.std.specs.Prelude.{◌≡◌, ◌<◌, ◌++◌, All, IfOk, OnOk, flat_map, length, map};
 ghost use Rattle.std.specs.List.{range_with_len};
-ghost use Rattle.live_turns.specs.declared.answer.PullDone.{PullDone};
+ghost use Rattle.live_rounds.specs.Answers.{PullDone};
 ghost use Rattle.hall_live.specs.Followed.{pulls_for};
 ghost use Rattle.hall_live.specs.Ends.{pull_line};
 

@@ -18,7 +18,7 @@ use Rattle.live_model.specs.Deeds.{Deed}
 use Rattle.live_model.specs.Printed.{told_pull, told_pulls}
 use Rattle.live_model.specs.Script.{coflow_pulled, is_pull, lines_of}
 use Rattle.live_model.specs.Sent.{Wires}
-use Rattle.live_turns.proofs.Acting.{pairs_append}
+use Rattle.live_rounds.proofs.Acting.{pairs_append}
 use Rattle.hall_live.specs.Ends.{MayBeAsked}
 use Rattle.live_audits.proofs.EntryRanges.{id_small}
 use Rattle.live_audits.proofs.Lines.{deeds_may, IsOwnDeed}

@@ -1,3 +1,4 @@
+pub mod Acting
 pub mod AskingLittle
 pub mod Collecting
 pub mod Halves

@@ -23,7 +23,7 @@ use Rattle.script_reader.specs.declared.script.Script.{Script}
 use Rattle.script_reader.specs.declared.script.ScriptLine.{ScriptLine}
 use Rattle.live_model.specs.Script.{command_of, limit_of, lines_from}
 use Rattle.live_rounds.specs.Rounds.{MayAsk}
-use Rattle.hall_live.specs.Ends.{MayBeAsked}
+use Rattle.live_serving.specs.Ends.{MayBeAsked}
 use Rattle.live_runs.specs.Read.{IsRead}
 
 max_left : (a b n : ℕ) → max a b ≤ n → a ≤ n

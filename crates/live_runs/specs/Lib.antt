@@ -1,3 +1,5 @@
-pub mod Value
-pub mod Run
+pub mod LiveFaults
 pub mod Read
+pub mod Run
+pub mod Value
+pub mod Wires

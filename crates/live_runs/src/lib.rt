@@ -7,4 +7,5 @@ mod running;
 mod value;
 
 pub use limit::limit_of_read;
+pub use live_serving::LiveFault;
 pub use running::run_live;

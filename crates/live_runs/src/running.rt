@@ -3,9 +3,9 @@ ghost use Rattle.std.specs.Prelude.{◌≡◌, ◌<◌, ◌≤◌, ◌^◌, ℕ,
 ghost use Rattle.coflow_units.specs.declared.limits.TheConstants.{MAX_CLIENTS, MAX_WEIGHT};
 ghost use Rattle.outside.specs.Rose.{Rose};
 ghost use Rattle.live_model.specs.Script.{limit_of};
-ghost use Rattle.hall_live.specs.Ends.{MayBeAsked};
+ghost use Rattle.live_serving.specs.Ends.{MayBeAsked};
 ghost use Rattle.live_serving.specs.declared.answer.LiveFault.TheVariants.{WireFault};
-ghost use Rattle.round_serving.specs.Wires.{HaveServed, HaveStopped};
+ghost use Rattle.live_serving.specs.Wires.{HaveServed, HaveStopped};
 ghost use Rattle.live_runs.specs.Run.{IsToldRun, opening_with};
 
 use crate::value::{copy_of, value_of};

@@ -22,7 +22,7 @@ use Rattle.slot_runner.specs.Models.{MayRun, RunnerModel}
 use Rattle.slot_runner.specs.Slots.{HasRun, IsAnswered}
 use Rattle.live_model.specs.Script.{limit_of, lines_of}
 use Rattle.live_course.proofs.DriversTold.{others_open_none}
-use Rattle.live_turns.specs.declared.answer.PullDone.{PullDone}
+use Rattle.live_rounds.specs.Answers.{PullDone}
 use Rattle.hall_live.specs.Ends.{IsCarriedOut, IsRunningOut, MayBeAsked, pull_line}
 use Rattle.hall_live.specs.Followed.{pulls_for}
 use Rattle.hall_live.specs.Rounds.{AreRoundsDone}

@@ -11,7 +11,7 @@ use Rattle.journal.proofs.Sound.{legal_sound}
 use Rattle.script_reader.specs.declared.script.Script.{Script}
 use Rattle.client_session.specs.Models.{DriverModel, HallModel, SessionModel}
 use Rattle.slot_runner.specs.Models.{RunnerModel}
-use Rattle.live_turns.specs.declared.answer.PullDone.{PullDone}
+use Rattle.live_rounds.specs.Answers.{PullDone}
 use Rattle.live_text.specs.declared.value.PullLine.{PullLine}
 use Rattle.hall_plan.specs.Wires.{AreAllUnits, HaveMore}
 use Rattle.hall_plan.proofs.WireSteps.{all_units, have_none, have_so}

@@ -17,7 +17,7 @@ use Rattle.rank_board.specs.Pulls.{pull_of}
 use Rattle.rank_board.specs.Words.{rank_word, word_at}
 use Rattle.script_reader.specs.declared.script.Asked.TheVariants.{Pull}
 use Rattle.script_reader.specs.declared.script.ScriptLine.{ScriptLine}
-use Rattle.turn_answers.specs.declared.receipt.Receipt.{Receipt}
+use Rattle.master_desk.specs.Answers.{Receipt}
 use Rattle.client_session.specs.Models.{SessionModel}
 use Rattle.master_desk.specs.Own.{look_version, own_entry, OwnEntry}
 use Rattle.client_session.specs.Turns.{IsDone, KeepsPlace}

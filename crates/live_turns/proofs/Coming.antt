@@ -10,8 +10,7 @@ use Rattle.rank_board.specs.Models.{pulled}
 use Rattle.rank_board.specs.Pulls.{pull_of}
 use Rattle.script_reader.specs.declared.script.Asked.TheVariants.{Pull}
 use Rattle.script_reader.specs.declared.script.ScriptLine.{ScriptLine}
-use Rattle.turn_answers.specs.declared.receipt.Answer.{Answer}
-use Rattle.turn_answers.specs.declared.receipt.Answer.TheVariants.{Done, Full, Spent}
+use Rattle.master_desk.specs.Answers.{Answer, Done, Full, Spent}
 use Rattle.client_session.specs.Models.{SessionModel}
 use Rattle.master_desk.specs.Own.{own_entry}
 use Rattle.client_session.specs.Turns.{IsFull, IsTurn, KeepsPlace}

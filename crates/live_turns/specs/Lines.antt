@@ -3,9 +3,7 @@ use Rattle.std.specs.Prelude.{◌≡◌, ℕ, ◌+◌, ◌∷◌, [], length, op
 use Rattle.journal.specs.declared.opening.Opening.{Opening}
 use Rattle.journal.specs.Answer.{pulled}
 use Rattle.script_reader.specs.declared.script.ScriptLine.{ScriptLine}
-use Rattle.turn_answers.specs.declared.receipt.Answer.{Answer}
-use Rattle.turn_answers.specs.declared.receipt.Answer.TheVariants.{Done, Full, Spent}
-use Rattle.turn_answers.specs.declared.receipt.Receipt.{Receipt}
+use Rattle.master_desk.specs.Answers.{Answer, Done, Full, Receipt, Spent}
 use Rattle.client_session.specs.Models.{SessionModel}
 use Rattle.live_turns.specs.declared.answer.PullDone.{PullDone}
 use Rattle.live_turns.specs.declared.answer.TurnStop.{TurnStop}

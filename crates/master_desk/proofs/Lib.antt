@@ -1,3 +1,4 @@
 pub mod Agreement
+pub mod FewGranted
 pub mod OwnSteps
 pub mod Passes

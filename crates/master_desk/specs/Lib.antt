@@ -1,2 +1,4 @@
+pub mod Answers
 pub mod Desk
+pub mod Grants
 pub mod Own

@@ -29,7 +29,7 @@ use Rattle.client_session.specs.Drivers.{GrownByOthers}
 use Rattle.client_session.specs.Models.{HallModel}
 use Rattle.slot_runner.specs.Models.{RunnerModel}
 use Rattle.slot_runner.specs.Slots.{IsAnswered}
-use Rattle.run_ports.proofs.Turns.{others_are_other}
+use Rattle.slot_runner.proofs.Turns.{others_are_other}
 use Rattle.live_model.specs.Rounds.{Spell}
 use Rattle.live_course.specs.Drivers.{AreOpenings}
 use Rattle.live_course.proofs.DriversTold.{others_open_none}

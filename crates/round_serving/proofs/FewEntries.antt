@@ -14,7 +14,7 @@ use Rattle.master_desk.specs.Own.{OwnEntry}
 use Rattle.live_model.specs.Levels.{Levels}
 use Rattle.live_model.specs.Rounds.{Spell}
 use Rattle.live_model.specs.Script.{lines_by, lines_from, lines_of, slot_rounds_from}
-use Rattle.live_turns.specs.Acts.{Act, entries_in}
+use Rattle.live_rounds.specs.Acts.{Act, entries_in}
 use Rattle.live_rounds.specs.Asking.{AddFew, LackCalls}
 use Rattle.live_rounds.specs.Parts.{lines_for}
 use Rattle.live_rounds.proofs.AskingLittle.{few_entries}

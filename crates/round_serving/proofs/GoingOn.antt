@@ -18,8 +18,8 @@ use Rattle.client_session.specs.Models.{DriverModel, HallModel, SessionModel}
 use Rattle.slot_runner.specs.Models.{MayRun, RunnerModel}
 use Rattle.live_model.specs.Script.{lines_of}
 use Rattle.live_course.proofs.DriversTold.{others_open_none}
-use Rattle.live_turns.specs.declared.answer.PullDone.{PullDone}
-use Rattle.live_turns.specs.declared.answer.RoundStop.TheVariants as round
+use Rattle.live_rounds.specs.Answers.{PullDone}
+use Rattle.live_rounds.specs.Answers as round
 use Rattle.live_rounds.specs.Asking.{AddFew}
 use Rattle.live_rounds.specs.Rounds.{MayAsk}
 use Rattle.live_rounds.proofs.AskingLittle.{cut_few, done_few, full_met, spent_lacks}

@@ -9,11 +9,11 @@ use Rattle.script_reader.specs.declared.script.Asked.TheVariants.{Publish, Pull,
 use Rattle.script_reader.specs.declared.script.ScriptLine.{ScriptLine}
 use Rattle.client_session.specs.Models.{SessionModel}
 use Rattle.live_model.specs.Script.{command_of, coflow_pulled, is_pull}
-use Rattle.live_turns.specs.declared.answer.PullDone.{PullDone}
-use Rattle.live_turns.specs.Acts.{Act, pull_done, pulls_in}
+use Rattle.live_rounds.specs.Answers.{PullDone}
+use Rattle.live_rounds.specs.Acts.{Act, pull_done, pulls_in}
 use Rattle.live_rounds.specs.Parts.{lines_for}
 use Rattle.live_rounds.specs.Rounds.{ArePlayed, IsRoundDone, MayAsk, Played}
-use Rattle.live_turns.specs.Stops.{first_stop}
+use Rattle.live_rounds.specs.Stops.{first_stop}
 use Rattle.hall_live.proofs.FollowedOn.{ends_whole, none_first}
 
 abbrev pub InTable : ℕ → PullDone → Type 0

@@ -6,7 +6,7 @@ use Rattle.slot_runner.specs.Models.{RunnerModel}
 use Rattle.live_model.specs.Rounds.{Spell}
 use Rattle.live_model.specs.Script.{limit_of, lines_of}
 use Rattle.live_course.specs.Drivers.{AreOpenings}
-use Rattle.live_turns.specs.declared.answer.PullDone.{PullDone}
+use Rattle.live_rounds.specs.Answers.{PullDone}
 use Rattle.live_rounds.specs.Asking.{MetFull}
 use Rattle.hall_live.specs.Ends.{HasRunOut, IsRunningOut, MayBeAsked}
 use Rattle.hall_live.specs.Room.{found_none, IsShort}

@@ -8,7 +8,7 @@ use Rattle.master_desk.specs.Desk.{IsSeen}
 use Rattle.client_session.specs.Drivers.{GrownByOthers, StaysInHall}
 use Rattle.client_session.specs.Models.{DriverModel, HallModel}
 use Rattle.slot_runner.specs.Models.{MayRun, RunnerModel}
-use Rattle.run_ports.specs.Settling.{CallsFall}
+use Rattle.slot_runner.specs.Settling.{CallsFall}
 use Rattle.slot_runner.specs.Slots.{HasRun, IsAnswered}
 use Rattle.hall_live.specs.Driven.{HasDriven}
 use Rattle.hall_plan.specs.Halls.{NoneFell}

@@ -4,9 +4,8 @@ use Rattle.std.specs.declared.vec.Vec.{Vec}
 use Rattle.std.specs.declared.alloc.Global.{Global}
 use Rattle.script_reader.specs.declared.script.ScriptLine.{ScriptLine}
 use Rattle.client_session.specs.Models.{HallModel, IsSessionOf, SessionModel}
-use Rattle.live_turns.specs.declared.answer.PullDone.{PullDone}
-use Rattle.live_turns.specs.declared.answer.RoundStop.{RoundStop}
-use Rattle.live_turns.specs.declared.answer.RoundStop.TheVariants as round
+use Rattle.live_rounds.specs.Answers.{PullDone, RoundStop}
+use Rattle.live_rounds.specs.Answers as round
 use Rattle.live_rounds.specs.Rounds.{IsRoundDone, IsRoundStopped}
 use Rattle.round_serving.specs.declared.stop.Stop.{Stop}
 use Rattle.round_serving.specs.declared.stop.Stop.TheVariants.{Full, NoMemory}

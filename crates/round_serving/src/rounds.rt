@@ -3,7 +3,7 @@ ghost use Rattle.std.specs.Prelude.{◌≡◌, ◌+◌, ◌<◌, ◌≤◌, Err,
 ghost use Rattle.round_serving.specs.declared.stop.Stop.TheVariants.{Full};
 ghost use Rattle.round_serving.specs.Going.{IsFilled, IsGoing};
 ghost use Rattle.round_serving.specs.Openings.{AreServed};
-ghost use Rattle.live_turns.specs.declared.answer.RoundStop.TheVariants.{Spent};
+ghost use Rattle.live_rounds.specs.Answers.{Spent};
 ghost use Rattle.round_serving.specs.Playing.{Settles};
 
 use crate::beside::{Came, advance};

@@ -19,7 +19,7 @@ use Rattle.journal.proofs.UnderWay.{note_more, noted_both, others_note_none}
 use Rattle.master_desk.specs.Desk.{DrivenByRoot}
 use Rattle.client_session.specs.Drivers.{GrownByOthers, IsDrivenOn, StaysInHall, who_of}
 use Rattle.client_session.specs.Models.{DriverModel}
-use Rattle.turn_answers.specs.declared.receipt.Receipt.{Receipt}
+use Rattle.master_desk.specs.Answers.{Receipt}
 use Rattle.run_ports.specs.Settling.{AreNoted, CallsFall, IsOpenRunOf}
 use Rattle.run_ports.proofs.Turns.{met_under_way, others_are_other}
 

@@ -17,10 +17,8 @@ use Rattle.journal.proofs.Legal.{full_is}
 use Rattle.journal.proofs.UnderWay.{others_more, room_to_end}
 use Rattle.master_desk.specs.Desk.{DrivenByRoot}
 use Rattle.client_session.specs.Drivers.{GrownByOthers, IsDrivenOn, IsDriverTurn, IsStopped, who_of}
-use Rattle.turn_answers.specs.declared.receipt.Answer.{Answer}
-use Rattle.turn_answers.specs.declared.receipt.Answer.TheVariants.{Done, Full, Spent}
+use Rattle.master_desk.specs.Answers.{Answer, Done, Full, Receipt, Spent}
 use Rattle.client_session.specs.Models.{DriverModel}
-use Rattle.turn_answers.specs.declared.receipt.Receipt.{Receipt}
 
 above_zero : (n : ℕ) → n ≢ 0 → 0 < n
 above_zero n far = omega (arith, far)

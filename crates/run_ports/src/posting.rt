@@ -3,7 +3,7 @@ ghost use Rattle.std.specs.Prelude.{◌≡◌, ℕ, ◌+◌, ◌<◌, ◌≤◌,
 ghost use Rattle.coflow_units.specs.declared.limits.TheConstants.{MAX_FLOWS, MAX_SLOT};
 ghost use Rattle.port_board.specs.declared.view.Grant.{Grant};
 ghost use Rattle.port_board.specs.Views.{is_unsettled};
-ghost use Rattle.turn_answers.specs.Grants.{flow_granted};
+ghost use Rattle.master_desk.specs.Grants.{flow_granted};
 ghost use Rattle.client_session.specs.Models.{IsDriverOf};
 ghost use Rattle.run_ports.specs.Posts.{IsPosted};
 

@@ -7,7 +7,7 @@ ghost use Rattle.journal.specs.Runs.{grant_in};
 ghost use Rattle.port_board.specs.declared.view.Grant.{Grant};
 ghost use Rattle.port_board.specs.Agreement.{NobodyHad};
 ghost use Rattle.port_board.specs.Views.{is_unsettled, last_at};
-ghost use Rattle.turn_answers.specs.declared.receipt.Receipt.{Receipt};
+ghost use Rattle.master_desk.specs.Answers.{Receipt};
 ghost use Rattle.client_session.specs.Drivers.{IsDrivenOn, StaysInHall};
 ghost use Rattle.client_session.specs.Models.{IsDriverOf};
 ghost use Rattle.run_ports.specs.Settling.{AreNoted, AreSettled, AreToSettle, IsFirstShort, IsOpenRunOf, IsSettledBy};

@@ -1,1 +1,2 @@
+pub mod ScriptsRead
 pub mod SentFacts

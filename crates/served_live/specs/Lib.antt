@@ -1,1 +1,3 @@
+pub mod LiveFaults
+pub mod Read
 pub mod Told

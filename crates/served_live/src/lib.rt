@@ -3,4 +3,5 @@
 
 mod telling;
 
+pub use live_runs::LiveFault;
 pub use telling::served_live;

@@ -2,7 +2,7 @@
 ghost use Rattle.std.specs.Prelude.{◌≡◌, ℕ, ◌≤◌, All, Err, IfOk, length, sum_by};
 ghost use Rattle.coflow_units.specs.declared.fabric.Flow.{Flow};
 ghost use Rattle.coflow_units.specs.declared.limits.TheConstants.{MAX_LIVE_UNITS, MAX_WEIGHT};
-ghost use Rattle.live_serving.specs.declared.answer.LiveFault.TheVariants.{WireFault};
+ghost use Rattle.live_runs.specs.LiveFaults.{WireFault};
 ghost use Rattle.live_runs.specs.Read.{IsRead};
 ghost use Rattle.served_live.specs.Told.{FailsAt, SendsAll, SendsSoFar, TellsLive, served_in};
 
@@ -10,8 +10,7 @@ use coflow_units::Items;
 use flow_table::Table;
 use live_rounds::Gate;
 use live_runs::laws::scripts_may_be_asked;
-use live_runs::{limit_of_read, run_live};
-use live_serving::LiveFault;
+use live_runs::{LiveFault, limit_of_read, run_live};
 use live_text::write_live;
 use outside::Wire;
 use script_reader::Script;

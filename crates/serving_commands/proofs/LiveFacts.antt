@@ -1,9 +1,9 @@
 -- What holds of a run of a script that has no text.
 use Rattle.std.proofs.Common.{◌≡◌, ℕ, inl, inr, List, Option, refl, subst, sym}
 use Rattle.std.specs.Prelude.{◌⊎◌}
-use Rattle.live_runs.specs.Read.{IsRead}
-use Rattle.live_serving.specs.declared.answer.LiveFault.{LiveFault}
-use Rattle.live_serving.specs.declared.answer.LiveFault.TheVariants as live_fault
+use Rattle.served_live.specs.Read.{IsRead}
+use Rattle.served_live.specs.LiveFaults.{LiveFault}
+use Rattle.served_live.specs.LiveFaults as live_fault
 use Rattle.outside.specs.Shelf.{Told}
 use Rattle.script_reader.specs.declared.script.Script.{Script}
 use Rattle.command_status.specs.declared.status.Status.{Status}

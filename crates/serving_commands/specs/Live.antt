@@ -3,8 +3,8 @@ use Rattle.std.specs.Prelude.{◌≡◌, ℕ, List, None, Option, Some}
 use Rattle.command_words.specs.Jobs.{script_name, trace_name}
 use Rattle.command_words.specs.Words.{Said}
 use Rattle.flow_table.specs.Table.{TableFacts}
-use Rattle.live_serving.specs.declared.answer.LiveFault.{LiveFault}
-use Rattle.live_serving.specs.declared.answer.LiveFault.TheVariants as live_fault
+use Rattle.served_live.specs.LiveFaults.{LiveFault}
+use Rattle.served_live.specs.LiveFaults as live_fault
 use Rattle.outside.specs.Shelf.{Told}
 use Rattle.script_reader.specs.declared.script.Script.{Script}
 use Rattle.served_live.specs.Told.{TellsLive, served_in}

@@ -14,7 +14,7 @@ use Rattle.journal.proofs.Driving.{driven_goes_on}
 use Rattle.outside.specs.Rose.{Rose}
 use Rattle.client_session.specs.Drivers.{IsDrivenOn, StaysInHall}
 use Rattle.client_session.specs.Models.{DriverModel, HallModel, IsDriverOf}
-use Rattle.turn_answers.specs.declared.receipt.Receipt.{Receipt}
+use Rattle.master_desk.specs.Answers.{Receipt}
 use Rattle.slot_runner.specs.Carried.{ended, IsCarriedOut}
 use Rattle.slot_runner.specs.Models.{MayRun, RunnerModel}
 use Rattle.run_ports.specs.Posts.{posts_of, settlements_of}

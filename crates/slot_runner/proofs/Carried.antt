@@ -29,7 +29,7 @@ use Rattle.turnstile.specs.Histories.{NoneAbove}
 use Rattle.master_desk.specs.Desk.{DrivenByRoot, IsSeen}
 use Rattle.client_session.specs.Drivers.{IsDrivenOn, StaysInHall, who_of}
 use Rattle.client_session.specs.Models.{DriverModel}
-use Rattle.turn_answers.specs.declared.receipt.Receipt.{Receipt}
+use Rattle.master_desk.specs.Answers.{Receipt}
 use Rattle.agent_threads.specs.Attended.{IsServedBy}
 use Rattle.slot_runner.specs.Carried.{ended, IsCarriedOut}
 use Rattle.slot_runner.specs.Models.{IsIdle, WasReported}

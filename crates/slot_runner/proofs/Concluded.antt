@@ -9,9 +9,7 @@ use Rattle.journal.specs.declared.opening.Opening.{Opening}
 use Rattle.journal.specs.Driven.{Drive}
 use Rattle.journal.specs.State.{IsOpening}
 use Rattle.client_session.specs.Drivers.{IsDrivenOn, IsDriverTurn}
-use Rattle.turn_answers.specs.declared.receipt.Answer.{Answer}
-use Rattle.turn_answers.specs.declared.receipt.Answer.TheVariants.{Done, Spent}
-use Rattle.turn_answers.specs.declared.receipt.Receipt.{Receipt}
+use Rattle.master_desk.specs.Answers.{Answer, Done, Receipt, Spent}
 use Rattle.client_session.specs.Models.{DriverModel, HallModel}
 use Rattle.slot_runner.specs.declared.answer.Ran.{Ran}
 use Rattle.slot_runner.specs.declared.answer.Ran.TheVariants.{Ran as Whole, Late as TooLate, WireFault}

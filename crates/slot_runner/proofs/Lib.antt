@@ -5,3 +5,4 @@ pub mod OnePort
 pub mod Opens
 pub mod Refused
 pub mod Through
+pub mod Turns

@@ -25,10 +25,10 @@ use Rattle.journal.proofs.OpenReplies.{open_reply}
 use Rattle.journal.proofs.Sound.{legal_sound}
 use Rattle.journal.proofs.UnderWay.{opens, running}
 use Rattle.master_desk.specs.Desk.{DrivenByRoot}
-use Rattle.turn_answers.specs.Grants.{all_granted, flow_granted}
+use Rattle.master_desk.specs.Grants.{all_granted, flow_granted}
 use Rattle.client_session.specs.Drivers.{IsDrivenOn}
 use Rattle.client_session.specs.Models.{DriverModel}
-use Rattle.turn_answers.specs.declared.receipt.Receipt.{Receipt}
+use Rattle.master_desk.specs.Answers.{Receipt}
 use Rattle.run_ports.specs.Settling.{IsOpenRunOf}
 use Rattle.run_ports.proofs.Turns.{others_are_other}
 

@@ -14,7 +14,7 @@ use Rattle.journal.proofs.Leaving.{others_leave}
 use Rattle.master_desk.specs.Desk.{DrivenByRoot}
 use Rattle.client_session.specs.Drivers.{IsDrivenOn, IsStopped, StaysInHall}
 use Rattle.client_session.specs.Models.{DriverModel, HallModel}
-use Rattle.turn_answers.specs.declared.receipt.Receipt.{Receipt}
+use Rattle.master_desk.specs.Answers.{Receipt}
 use Rattle.slot_runner.specs.Models.{MayRun, RunnerModel}
 use Rattle.slot_runner.specs.Slots.{IsAnswered, IsFullAt}
 use Rattle.run_ports.proofs.Notes.{calls_fall}

@@ -1,3 +1,4 @@
 pub mod Carried
 pub mod Models
+pub mod Settling
 pub mod Slots

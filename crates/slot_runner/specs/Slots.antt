@@ -13,7 +13,7 @@ use Rattle.port_agent.specs.Served.{SentOn}
 use Rattle.master_desk.specs.Desk.{IsSeen}
 use Rattle.client_session.specs.Drivers.{IsDrivenOn, IsStopped, StaysInHall, who_of}
 use Rattle.client_session.specs.Models.{DriverModel}
-use Rattle.turn_answers.specs.declared.receipt.Receipt.{Receipt}
+use Rattle.master_desk.specs.Answers.{Receipt}
 use Rattle.slot_runner.specs.Models.{RunnerModel}
 use Rattle.run_ports.specs.Posts.{posts_of, settlements_of}
 use Rattle.run_ports.specs.Settling.{CallsFall}

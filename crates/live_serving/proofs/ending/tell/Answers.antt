@@ -5,7 +5,7 @@ use Rattle.flow_table.specs.Table.{TableFacts}
 use Rattle.journal.specs.declared.opening.Opening.{Opening}
 use Rattle.hall_live.specs.Ends.{pull_line}
 use Rattle.hall_live.specs.Followed.{pulls_for}
-use Rattle.live_turns.specs.declared.answer.PullDone.{PullDone}
+use Rattle.live_rounds.specs.Answers.{PullDone}
 use Rattle.live_serving.proofs.EndingRuns.{told_end}
 use Rattle.live_serving.proofs.ending.tell.Goals as goal
 

@@ -1,6 +1,6 @@
 -- The port at which a post is made is free, and its last post was earlier.
 use Rattle.std.proofs.Common.{◌≡◌, ◌<◌, Some, None, refl, sym, ◌∙◌, arith}
-use Rattle.turn_answers.specs.Grants.{flow_granted}
+use Rattle.master_desk.specs.Grants.{flow_granted}
 use Rattle.run_ports.proofs.PostSteps.{begins_posted, is_free, is_later, posts_port, skips_port}
 use Rattle.run_ports.proofs.posting.post_grants.Goals as goal
 

@@ -1,6 +1,6 @@
 -- the ports so far are posted
 use Rattle.std.proofs.Common.{◌≡◌}
-use Rattle.turn_answers.specs.Grants.{flow_granted}
+use Rattle.master_desk.specs.Grants.{flow_granted}
 use Rattle.run_ports.specs.Posts.{IsPosted}
 use Rattle.run_ports.proofs.posting.post_grants.Given as goal
 

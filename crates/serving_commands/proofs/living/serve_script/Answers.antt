@@ -1,6 +1,6 @@
 use Rattle.std.proofs.Common.{◌∙◌, IfOk, ap, arith, length, refl}
 use Rattle.coflow_units.proofs.Fronts.{written_back}
-use Rattle.live_runs.proofs.ScriptsRead.{read_clients}
+use Rattle.served_live.proofs.ScriptsRead.{read_clients}
 use Rattle.served_live.specs.Told.{FailsAt, SendsAll, SendsSoFar, TellsLive, served_in}
 use Rattle.serving_commands.proofs.WireFacts.{moved}
 use Rattle.serving_commands.proofs.living.serve_script.Goals as goal

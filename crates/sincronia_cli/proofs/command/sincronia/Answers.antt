@@ -7,11 +7,11 @@ use Rattle.command_words.specs.Words.{Said, said_by}
 use Rattle.command_status.specs.declared.status.Status.TheVariants.{WriteFault}
 use Rattle.served_plans.specs.Sent.{SendsAll}
 use Rattle.command_outcomes.specs.Outcome.{HasText}
-use Rattle.serving_commands.specs.Serving.{Sends, Stops}
+use Rattle.command_outcomes.specs.Written.{Sends, Stops}
 use Rattle.command_outcomes.proofs.BenchFacts.{cause_has_no_text, job_of, outcome_has_text}
 use Rattle.command_outcomes.proofs.CompleteFacts.{good_files_end}
 use Rattle.command_outcomes.proofs.FirstFacts.{first_ends, text_ends}
-use Rattle.serving_commands.proofs.OnlineFacts.{few_for}
+use Rattle.command_outcomes.proofs.FewOrders.{few_for}
 use Rattle.command_outcomes.proofs.OutcomeFacts.{bad_report_given, bad_script_given, limit_given}
 use Rattle.command_files.proofs.SinkFacts.{begun}
 use Rattle.command_outcomes.proofs.ServingFacts.{none_failed, past_by_wire, sent_by, unsent_for, wire_failed}

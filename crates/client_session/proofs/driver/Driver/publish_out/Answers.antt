@@ -6,10 +6,9 @@ use Rattle.journal.specs.Answer.{room}
 use Rattle.turnstile.specs.Models.{RootModel}
 use Rattle.journal.specs.declared.command.Entry.{Entry}
 use Rattle.master_desk.specs.declared.desk.Setting.{Setting}
-use Rattle.turn_answers.specs.declared.receipt.Answer.{Answer}
-use Rattle.turn_answers.specs.Answers.{answer_of, makes_version}
+use Rattle.master_desk.specs.Answers.{Answer, answer_of, makes_version}
 use Rattle.master_desk.specs.Desk.{IsSeen}
-use Rattle.turn_answers.specs.Grants.{TellsGrants}
+use Rattle.master_desk.specs.Grants.{TellsGrants}
 use Rattle.client_session.specs.Drivers.{HandsOut, IsDriverTurn}
 use Rattle.client_session.specs.Models.{DriverModel}
 use Rattle.client_session.proofs.Driving.{driver_kept, driver_model, driver_turned, none_left, numbers_after, root_left, root_may_leave}

@@ -5,7 +5,7 @@ use Rattle.std.proofs.lemmas.Bool.{ltb-false}
 use Rattle.turnstile.specs.Histories.{GoesOn}
 use Rattle.master_desk.specs.declared.desk.Setting.{Setting}
 use Rattle.client_session.specs.Models.{SessionModel}
-use Rattle.turn_answers.specs.declared.receipt.Answer.TheVariants.{Done, Full}
+use Rattle.master_desk.specs.Answers.{Done, Full}
 use Rattle.master_desk.specs.Desk.{IsSeen}
 use Rattle.client_session.specs.Turns.{IsTurn}
 use Rattle.client_session.proofs.Turning.{left_is, may_leave, model, session_answered, session_refused, turn_done, turn_full, who_of}

@@ -2,7 +2,7 @@
 use Rattle.std.proofs.Common.{◌≡◌, ◌+◌, ◌≤◌, List, ◌++◌, sym, ◌∙◌, refl, subst, arith}
 use Rattle.journal.specs.declared.command.Entry.{Entry}
 use Rattle.journal.specs.Driven.{Drive}
-use Rattle.turn_answers.specs.Grants.{flow_granted}
+use Rattle.master_desk.specs.Grants.{flow_granted}
 use Rattle.client_session.specs.Models.{IsDriverOf}
 use Rattle.slot_runner.specs.Carried.{IsCarriedOut}
 use Rattle.slot_runner.specs.Models.{RunnerModel}
