@@ -81,7 +81,7 @@ def is_defined(name, text):
 
 def hall_names():
     """Each name in the last cells of docs/HALL.md, and whether it is there."""
-    crates = "turnstile", "rank_board", "master_desk", "client_session", "slot_runner", "hall_plan", "served_plans", "command_outcomes", "sincronia_cli"
+    crates = "turn_steps", "turnstile", "rank_board", "turn_answers", "master_desk", "client_session", "run_ports", "slot_runner", "hall_plan", "served_plans", "command_outcomes", "sincronia_cli"
     calls, text = {}, "\n".join(map(definitions_of, crates))
     for crate in crates:
         for call, clauses in clauses_of(crate).items():

@@ -4,7 +4,7 @@ use Rattle.std.specs.Prelude.{All, AllPairs, Contains}
 use Rattle.std.proofs.lemmas.Bool.{cases_eq}
 use Rattle.std.proofs.lemmas.List.Elements.{All-append, All-contains, All-cons, All-head, All-nil, All-tail}
 use Rattle.std.proofs.lemmas.List.Elements.{Contains-append_cases, Contains-append_left, Contains-append_right, Contains-push, Contains-push_cases}
-use Rattle.turnstile.specs.declared.view.Returned.{Returned}
+use Rattle.turnstile.specs.Models.{Returned}
 use Rattle.turnstile.specs.Histories.{GoesOn, NoneAbove, NoneBy}
 use Rattle.turnstile.specs.Models.{EachCameBack, GoesOnForEach, RootModel, SeatModel as TurnSeatModel, takes_back}
 use Rattle.journal.specs.declared.command.Entry.{Entry}

@@ -5,7 +5,7 @@ use Rattle.journal.specs.declared.opening.Opening.{Opening}
 use Rattle.journal.specs.Journal.{version_of}
 use Rattle.rank_board.specs.Models.{SeatModel}
 use Rattle.rank_board.specs.declared.pulls.Pull.{Pull}
-use Rattle.turnstile.specs.declared.view.Returned.{Returned}
+use Rattle.turnstile.specs.Models.{Returned}
 use Rattle.turnstile.specs.Models.{RootModel, SeatModel as TurnSeatModel}
 use Rattle.master_desk.specs.declared.desk.Setting.{Setting}
 use Rattle.master_desk.specs.Desk.{IsRanked}

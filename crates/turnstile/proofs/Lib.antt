@@ -1,9 +1,0 @@
-pub mod Totals
-pub mod Beginnings
-pub mod OwnEntries
-pub mod Views
-pub mod Stages
-pub mod TurnSteps
-pub mod SeatSteps
-pub mod NoteSteps
-pub mod Closing

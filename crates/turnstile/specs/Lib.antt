@@ -1,4 +1,2 @@
 pub mod Histories
-pub mod Tickets
-pub mod Tells
 pub mod Models

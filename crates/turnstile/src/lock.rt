@@ -1,38 +1,21 @@
 //! The turnstile and its calls.
 ghost use Rattle.std.specs.Prelude.{◌≡◌, ℕ, ◌+◌, ◌-◌, ◌^◌, ◌<◌, ◌≤◌, true, false, length, [], ◌∷◌, Some, None, IfOk, IsOk};
-ghost use Rattle.turnstile.specs.declared.view.Stage.TheVariants.{Idle, InTurn};
-ghost use Rattle.turnstile.specs.Histories.{GoesOn, Begins, AddsAtMostOne, NoneAbove, longer};
-ghost use Rattle.turnstile.specs.Models.{first_root, next_seat, takes_back, EachCameBack, GoesOnForEach};
-ghost use Rattle.turnstile.specs.Tells.{MayLeave, Has, hears, learned};
-ghost use Rattle.turnstile.specs.Tickets.{number_of, IsNumbered, IsRoot};
+ghost use Rattle.turn_steps.specs.declared.view.Stage.TheVariants.{Idle, InTurn};
+ghost use Rattle.turn_steps.specs.Histories.{GoesOn, Begins, AddsAtMostOne, NoneAbove, longer};
+ghost use Rattle.turn_steps.specs.Models.{first_root, next_seat, takes_back, EachCameBack, GoesOnForEach};
+ghost use Rattle.turn_steps.specs.Tells.{MayLeave, Has, hears, learned};
+ghost use Rattle.turn_steps.specs.Tickets.{number_of, IsNumbered, IsRoot};
 
-use crate::chronicle::Chronicle;
-use crate::plays::{Another, Learns, Leaves, Looks, Reads, Takes, TakesBack, Writes};
-use crate::seats::{Due, Place, Root, Turn, TurnSeat};
-use crate::view::{Tickets, View};
-use atomic_table::{Shared, Table};
+use crate::seats::{Due, Root, Turn, TurnSeat};
+use atomic_table::Table;
 use coflow_units::NoMemory;
 use std::alloc::Global;
 use std::marker::Model;
 use std::snapshot::Snapshot;
 use std::sync::Wait;
-
-// The word with the next ticket to be taken, modulo 2^64.
-const NEXT: usize = 0;
-
-// The word with the ticket that is served, modulo 2^64.
-const SERVING: usize = 1;
-
-// The slot in which the value lies while nobody has the turn.
-const VALUE: usize = 0;
-
-// The table as all threads share it.
-type Steps<T> = Shared<
-    Option<T>,
-    View<<T as Chronicle>::Entry, <T as Chronicle>::Setting>,
-    Snapshot<T>,
-    Tickets,
->;
+use turn_steps::{
+    Another, Chronicle, Learns, SERVING, TakesBack, Tickets, VALUE, View, end_turn, take_turn, tell,
+};
 
 /// One value behind a lock by tickets (Reed and Kanodia, "Synchronization with Eventcounts and Sequencers", CACM 1979): a caller takes the next ticket, and has the turn once that ticket is served.
 /// The value means a list of entries, each made by one caller, and a setting, which stays the one that it had at `new`.
@@ -43,7 +26,7 @@ pub struct Turnstile<T: Chronicle> {
 
 impl<T: Chronicle> Model for Turnstile<T> {
     ghost use Rattle.std.specs.Prelude.{◌≡◌};
-    ghost use Rattle.turnstile.specs.Models.{TurnstileModel};
+    ghost use Rattle.turn_steps.specs.Models.{TurnstileModel};
 
     ghost Value = { TurnstileModel T.Setting };
 
@@ -214,81 +197,4 @@ impl<T: Chronicle> Turnstile<T> {
         closed.free();
         Ok(value.unwrap())
     }
-}
-
-// Takes a ticket, waits until it is served, and takes the value out.
-fn take_turn<T: Chronicle, R: Wait>(rt: &R, steps: &Steps<T>, place: &mut Place<T>) -> T
-    requires table { (place.old.table_id ≡ steps.now.table_id) × (steps.now.table_id.words ≡ 2) ×
-        (steps.now.table_id.slots ≡ 1) }
-    requires free { IsNumbered place.old.me.0.role × (place.old.me.0.stage ≡ Idle) × (place.old.me.1 ≡ []) }
-    ensures same { (place.new.table_id ≡ place.old.table_id) × (place.new.id ≡ place.old.id) }
-    ensures took { (t : ℕ) × (place.new.me ≡
-        (record place.old.me.0 { stage = InTurn t; seen = T.entries result }, (0, None) ∷ [])) }
-    ensures setting { place.old.me.0.setting ≡ Some (T.setting result) }
-    ensures list { GoesOn T.by (T.entries result) (number_of place.old.me.0.role) place.old.me.0.seen }
-    ensures numbers { IsRoot place.old.me.0.role → NoneAbove T.by place.old.me.0.made (T.entries result) }
-{
-    let ticket = steps.fetch_add::<Takes>(place, NEXT, 1);
-    wait_for(rt, steps, place, ticket)
-}
-
-// Waits until this ticket is served, and takes the value out.
-fn wait_for<T: Chronicle, R: Wait>(rt: &R, steps: &Steps<T>, place: &mut Place<T>, ticket: u64) -> T
-    requires table { (place.old.table_id ≡ steps.now.table_id) × (steps.now.table_id.words ≡ 2) ×
-        (steps.now.table_id.slots ≡ 1) }
-    requires waits { IsNumbered place.old.me.0.role × (place.old.me.1 ≡ []) × Has place.old.me.0.stage ticket }
-    ensures same { (place.new.table_id ≡ place.old.table_id) × (place.new.id ≡ place.old.id) }
-    ensures took { (t : ℕ) × (place.new.me ≡
-        (record place.old.me.0 { stage = InTurn t; seen = T.entries result }, (0, None) ∷ [])) }
-    ensures setting { place.old.me.0.setting ≡ Some (T.setting result) }
-    ensures list { GoesOn T.by (T.entries result) (number_of place.old.me.0.role) place.old.me.0.seen }
-    ensures numbers { IsRoot place.old.me.0.role → NoneAbove T.by place.old.me.0.made (T.entries result) }
-{
-    for _ in rt.forever() {
-        let serving = steps.load::<Looks>(place, SERVING);
-        if serving == ticket {
-            return steps.exchange(place, VALUE, None).unwrap();
-        }
-        steps.park(rt, SERVING, (serving % (1 << 32)) as u32);
-    }
-    unreachable!()
-}
-
-// Puts the value back, lets the next ticket be served, and wakes all that wait.
-fn end_turn<T: Chronicle>(steps: &Steps<T>, place: &mut Place<T>, value: T)
-    requires table { (place.old.table_id ≡ steps.now.table_id) × (steps.now.table_id.words ≡ 2) ×
-        (steps.now.table_id.slots ≡ 1) }
-    requires turn { (t : ℕ) × (place.old.me.0.stage ≡ InTurn t) }
-    requires holds { IsNumbered place.old.me.0.role × (place.old.me.1 ≡ (0, None) ∷ []) }
-    requires value { MayLeave T.by T.entries T.setting place.old.me.0 value }
-    ensures same { (place.new.table_id ≡ place.old.table_id) × (place.new.id ≡ place.old.id) }
-    ensures left { place.new.me ≡ (record place.old.me.0 { stage = Idle; seen = T.entries value }, []) }
-{
-    match steps.exchange(place, VALUE, Some(value)) {
-        None => {}
-        Some(_) => unreachable!(),
-    }
-    steps.fetch_add::<Leaves>(place, SERVING, 1);
-    steps.wake_all(SERVING);
-}
-
-// A note of what one place has seen is read at another, which has then seen it too.
-fn tell<T: Chronicle>(steps: &Steps<T>, from: &mut Place<T>, to: &mut Place<T>)
-    requires table { (from.old.table_id ≡ steps.now.table_id) × (to.old.table_id ≡ steps.now.table_id) ×
-        (steps.now.table_id.words ≡ 2) }
-    requires numbered { IsNumbered from.old.me.0.role × IsNumbered to.old.me.0.role }
-    ensures same { (from.new.table_id ≡ from.old.table_id) × (from.new.id ≡ from.old.id) ×
-        (to.new.table_id ≡ to.old.table_id) × (to.new.id ≡ to.old.id) }
-    ensures from { from.new.me ≡ from.old.me }
-    ensures to { to.new.me ≡ (learned (hears to.old.me.0 from.old.me.0), to.old.me.1) }
-    ensures kept { GoesOn T.by (longer to.old.me.0.seen from.old.me.0.seen) (number_of to.old.me.0.role)
-        to.old.me.0.seen }
-    ensures heard { Begins (longer to.old.me.0.seen from.old.me.0.seen) from.old.me.0.seen }
-    ensures numbers { IsRoot to.old.me.0.role →
-        NoneAbove T.by to.old.me.0.made (longer to.old.me.0.seen from.old.me.0.seen) }
-    ensures setting { (x : T.Setting) → from.old.me.0.setting ≡ Some x → to.old.me.0.setting ≡ Some x }
-{
-    let note = steps.split_seat::<Writes>(from);
-    steps.join_seat::<Reads>(to, note);
-    steps.load::<Learns>(to, SERVING);
 }
