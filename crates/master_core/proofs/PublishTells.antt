@@ -22,11 +22,11 @@ use Rattle.journal.specs.Chosen.{the_order}
 use Rattle.journal.specs.State.{has, is_present, owed, present, State, what_is_left}
 use Rattle.coflow_roster.specs.Attendance.{marked}
 use Rattle.journal.specs.Line.{newest_in}
-use Rattle.master_core.specs.Published.{IsLeft, Published, TellsPlaces, last_of, ranked}
+use Rattle.coflow_orders.specs.Published.{IsLeft, Published, TellsPlaces, last_of, ranked}
 use Rattle.master_core.specs.Standing.{IsFit, Tells, TellsOrders}
 use Rattle.journal.proofs.Growth.{made_at}
 use Rattle.journal.proofs.Instances.{left_is_instance, only_ordering}
-use Rattle.master_core.proofs.PlaceSteps.{order_of_places, place_is_of}
+use Rattle.coflow_orders.proofs.PlaceSteps.{order_of_places, place_is_of}
 
 -- ---- the units that are owed
 

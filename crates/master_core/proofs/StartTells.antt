@@ -10,7 +10,7 @@ use Rattle.matching.specs.Matching.{room_of}
 use Rattle.journal.specs.declared.opening.Opening.{Opening}
 use Rattle.master_core.specs.declared.standing.Standing.{Standing}
 use Rattle.coflow_roster.specs.Attendance.{marked}
-use Rattle.master_core.specs.Published.{ranked}
+use Rattle.coflow_orders.specs.Published.{ranked}
 use Rattle.journal.specs.Fold.{start}
 use Rattle.journal.specs.State.{IsOpening}
 use Rattle.open_runs.specs.OpenRun.{FitsOpen}

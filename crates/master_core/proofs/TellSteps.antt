@@ -18,13 +18,13 @@ use Rattle.master_core.specs.declared.standing.Standing.{Standing}
 use Rattle.journal.specs.State.{has, Run, slot_end, State}
 use Rattle.coflow_roster.specs.Attendance.{Attendance, marked}
 use Rattle.journal.specs.Line.{newest_in, rank_in}
-use Rattle.master_core.specs.Published.{Published, ranked}
-use Rattle.master_core.specs.Waiting.{Waiting, line_of}
+use Rattle.coflow_orders.specs.Published.{Published, ranked}
+use Rattle.coflow_orders.specs.Waiting.{Waiting, line_of}
 use Rattle.open_runs.specs.OpenRun.{FitsOpen, KeepsGrants, KeptRuns}
 use Rattle.journal.specs.Fold.{after}
 use Rattle.journal.specs.Answer.{answer, pulled}
 use Rattle.master_core.specs.Standing.{Follows, IsFit, Tells, TellsCoflows, TellsOrders, TellsRun}
-use Rattle.master_core.proofs.Bools.{and_false}
+use Rattle.coflow_orders.proofs.Bools.{and_false}
 use Rattle.master_core.proofs.Members.{has_last, has_more, has_other}
 
 -- the reply is the answer, and what is kept tells the state after it

@@ -1,4 +1,3 @@
-pub mod Published
-pub mod Waiting
-pub mod Standing
 pub mod Master
+pub mod Published
+pub mod Standing

@@ -1,9 +1,7 @@
 //! The master of one thread: it answers commands one by one, and what it answers is told by its journal alone.
 #![tactic(auto)]
 
-mod line;
 mod master;
-mod orders;
 mod standing;
 
 pub use journal::{Command, Entry, Opening, Reply, laws};

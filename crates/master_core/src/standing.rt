@@ -11,8 +11,7 @@ ghost use Rattle.coflow_roster.specs.Attendance.{marked};
 ghost use Rattle.master_core.specs.Standing.{Follows, IsFit, Tells};
 ghost use Rattle.journal.specs.declared.command.Command.TheVariants.{Register, Withdraw, Publish, Pull, Open, Short, Close, Skip, Reweigh};
 
-use crate::line::Line;
-use crate::orders::Orders;
+use coflow_orders::{Line, Orders};
 use coflow_roster::{Roster, first_owing};
 use coflow_units::{MAX_SLOT, NoMemory};
 use flow_table::Table;

@@ -9,7 +9,7 @@ use Rattle.journal.specs.declared.command.Reply.TheVariants.{Closed, NoneOpen}
 use Rattle.journal.specs.State.{Run}
 use Rattle.journal.specs.Fold.{closed}
 use Rattle.open_runs.specs.OpenRun.{KeptRun, kept_credit}
-use Rattle.master_core.specs.Waiting.{line_of}
+use Rattle.coflow_orders.specs.Waiting.{line_of}
 use Rattle.master_core.specs.Standing.{Tells, TellsRun}
 use Rattle.master_core.proofs.CloseTells.{close_none, close_some, credit_told, fits_kept, grants_kept, ingress_low, open_of, still_owed}
 use Rattle.master_core.proofs.OwingTells.{none_told}

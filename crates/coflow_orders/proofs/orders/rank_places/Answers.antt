@@ -3,9 +3,9 @@ use Rattle.std.proofs.Common.{◌≡◌, ◌+◌, ◌∙◌, arith, get_or, leng
 use Rattle.std.proofs.lemmas.List.{length-set}
 use Rattle.coflow_units.specs.declared.fabric.Side.TheVariants.{Ingress}
 use Rattle.coflow_units.specs.declared.plan.Place.{Place}
-use Rattle.master_core.specs.Published.{ranked}
-use Rattle.master_core.proofs.RankSteps.{RanksSoFar, place_at, ranked_len, ranks_all, ranks_more, ranks_none}
-use Rattle.master_core.proofs.orders.rank_places.Goals as goal
+use Rattle.coflow_orders.specs.Published.{ranked}
+use Rattle.coflow_orders.proofs.RankSteps.{RanksSoFar, place_at, ranked_len, ranks_all, ranks_more, ranks_none}
+use Rattle.coflow_orders.proofs.orders.rank_places.Goals as goal
 
 pub loop-number-init : goal.loop-number-init
 loop-number-init c = record {

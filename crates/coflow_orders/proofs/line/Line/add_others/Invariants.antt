@@ -1,9 +1,9 @@
 use Rattle.std.proofs.Common.{◌≡◌, ◌≤◌, ◌+◌, ◌++◌, length, take}
 use Rattle.std.specs.Prelude.{vec_capacity}
 use Rattle.std.specs.List.{filter}
-use Rattle.master_core.specs.Published.{ranked}
-use Rattle.master_core.specs.Waiting.{waits}
-use Rattle.master_core.proofs.line.Line.add_others.Given as goal
+use Rattle.coflow_orders.specs.Published.{ranked}
+use Rattle.coflow_orders.specs.Waiting.{waits}
+use Rattle.coflow_orders.proofs.line.Line.add_others.Given as goal
 
 abbrev pub invariant-loop-coflow : goal.invariant-loop-coflow
 invariant-loop-coflow l = record {

@@ -5,9 +5,9 @@ use Rattle.coflow_units.specs.declared.plan.Place.{Place}
 use Rattle.coflow_units.specs.Flows.{IsDistinct}
 use Rattle.greedy_rates.proofs.ListSteps.{written_back}
 use Rattle.journal.specs.Line.{rank_in}
-use Rattle.master_core.specs.Published.{IsLeft, IsPublished, Published, ranked}
-use Rattle.master_core.proofs.PlaceSteps.{each_within, filled_is_left, left_of, order_is_made, places_few, places_once}
-use Rattle.master_core.proofs.orders.Orders.publish.Goals as goal
+use Rattle.coflow_orders.specs.Published.{IsLeft, IsPublished, Published, ranked}
+use Rattle.coflow_orders.proofs.PlaceSteps.{each_within, filled_is_left, left_of, order_is_made, places_few, places_once}
+use Rattle.coflow_orders.proofs.orders.Orders.publish.Goals as goal
 
 pub rank_places-requires-clause-few : goal.rank_places-requires-clause-few
 rank_places-requires-clause-few c =

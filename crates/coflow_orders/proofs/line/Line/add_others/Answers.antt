@@ -4,11 +4,11 @@ use Rattle.std.specs.Prelude.{◌==◌, ◌&&◌}
 use Rattle.std.proofs.lemmas.Bool.{ne_eqb, eq-eqb}
 use Rattle.std.proofs.lemmas.List.{length-append}
 use Rattle.coflow_roster.specs.Attendance.{marked}
-use Rattle.master_core.specs.Published.{ranked}
-use Rattle.master_core.specs.Waiting.{Waiting, waits}
-use Rattle.master_core.proofs.Bools.{both}
-use Rattle.master_core.proofs.LineSteps.{all_looked_at, joins, passes_by}
-use Rattle.master_core.proofs.line.Line.add_others.Goals as goal
+use Rattle.coflow_orders.specs.Published.{ranked}
+use Rattle.coflow_orders.specs.Waiting.{Waiting, waits}
+use Rattle.coflow_orders.proofs.Bools.{both}
+use Rattle.coflow_orders.proofs.LineSteps.{all_looked_at, joins, passes_by}
+use Rattle.coflow_orders.proofs.line.Line.add_others.Goals as goal
 
 pub loop-coflow-init : goal.loop-coflow-init
 loop-coflow-init c = record {

@@ -14,8 +14,8 @@ use Rattle.coflow_units.proofs.Sums.{Apart, all_of_members, any_has, any_in, apa
 use Rattle.journal.specs.State.{has}
 use Rattle.journal.specs.Line.{rank_in}
 use Rattle.coflow_roster.specs.Attendance.{marked}
-use Rattle.master_core.specs.Published.{ranked}
-use Rattle.master_core.specs.Waiting.{waits}
+use Rattle.coflow_orders.specs.Published.{ranked}
+use Rattle.coflow_orders.specs.Waiting.{waits}
 
 filter_apart : (p : ℕ → Bool) (xs : List ℕ) → Apart xs → Apart (filter p xs)
 filter_apart p [] h = tt

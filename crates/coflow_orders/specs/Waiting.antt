@@ -2,7 +2,7 @@
 use Rattle.std.specs.Prelude.{ℕ, ◌==◌, ◌&&◌, ◌++◌, Bool, List}
 use Rattle.std.specs.List.{filter}
 use Rattle.coflow_roster.specs.Attendance.{Attendance, marked}
-use Rattle.master_core.specs.Published.{Published, ranked}
+use Rattle.coflow_orders.specs.Published.{Published, ranked}
 use Rattle.journal.specs.Line.{rank_in}
 
 -- how many coflows there is room for, and those of the line, the first first

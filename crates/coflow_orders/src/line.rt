@@ -5,8 +5,8 @@ ghost use Rattle.coflow_units.specs.declared.plan.Place.{Place};
 ghost use Rattle.coflow_units.specs.Flows.{IsDistinct};
 ghost use Rattle.journal.specs.State.{has};
 ghost use Rattle.coflow_roster.specs.Attendance.{marked};
-ghost use Rattle.master_core.specs.Published.{ranked};
-ghost use Rattle.master_core.specs.Waiting.{line_of, waits};
+ghost use Rattle.coflow_orders.specs.Published.{ranked};
+ghost use Rattle.coflow_orders.specs.Waiting.{line_of, waits};
 
 use crate::orders::Orders;
 use coflow_roster::Roster;
@@ -24,7 +24,7 @@ pub struct Line {
 
 impl Model for Line {
     ghost use Rattle.std.specs.Prelude.{vec_capacity};
-    ghost use Rattle.master_core.specs.Waiting.{Waiting};
+    ghost use Rattle.coflow_orders.specs.Waiting.{Waiting};
 
     ghost Value = { Waiting };
 

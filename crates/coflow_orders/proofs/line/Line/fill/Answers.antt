@@ -5,10 +5,10 @@ use Rattle.coflow_units.specs.declared.plan.Place.{Place}
 use Rattle.coflow_units.specs.Flows.{IsDistinct}
 use Rattle.journal.specs.State.{has}
 use Rattle.coflow_roster.specs.Attendance.{marked}
-use Rattle.master_core.specs.Published.{ranked}
-use Rattle.master_core.specs.Waiting.{waits}
-use Rattle.master_core.proofs.LineSteps.{line_all, line_made, line_once, line_within, places_within}
-use Rattle.master_core.proofs.line.Line.fill.Goals as goal
+use Rattle.coflow_orders.specs.Published.{ranked}
+use Rattle.coflow_orders.specs.Waiting.{waits}
+use Rattle.coflow_orders.proofs.LineSteps.{line_all, line_made, line_once, line_within, places_within}
+use Rattle.coflow_orders.proofs.line.Line.fill.Goals as goal
 
 pub returns-clause-line : goal.returns-clause-line
 returns-clause-line c =

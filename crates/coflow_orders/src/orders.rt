@@ -7,7 +7,7 @@ ghost use Rattle.coflow_units.specs.Starts.{IsStarts};
 ghost use Rattle.port_load.specs.LoadTable.{IsWithin};
 ghost use Rattle.bssi_order.specs.Order.{IsOrder};
 ghost use Rattle.journal.specs.Line.{rank_in};
-ghost use Rattle.master_core.specs.Published.{IsLeft, ranked};
+ghost use Rattle.coflow_orders.specs.Published.{IsLeft, ranked};
 
 use bssi_order::Bssi;
 use coflow_units::{Flow, NoMemory, Place};
@@ -28,7 +28,7 @@ pub struct Orders {
 }
 
 impl Model for Orders {
-    ghost use Rattle.master_core.specs.Published.{IsPublished, Published};
+    ghost use Rattle.coflow_orders.specs.Published.{IsPublished, Published};
 
     ghost Value = { Published };
 

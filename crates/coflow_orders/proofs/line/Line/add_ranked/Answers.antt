@@ -4,11 +4,11 @@ use Rattle.std.proofs.lemmas.List.{length-append}
 use Rattle.coflow_units.specs.declared.fabric.Side.TheVariants.{Ingress}
 use Rattle.coflow_units.specs.declared.plan.Place.{Place}
 use Rattle.coflow_roster.specs.Attendance.{marked}
-use Rattle.master_core.specs.Published.{ranked}
-use Rattle.master_core.specs.Waiting.{Waiting}
-use Rattle.master_core.proofs.RankSteps.{place_at, ranked_len}
-use Rattle.master_core.proofs.LineSteps.{all_looked_at, joins, passes_by}
-use Rattle.master_core.proofs.line.Line.add_ranked.Goals as goal
+use Rattle.coflow_orders.specs.Published.{ranked}
+use Rattle.coflow_orders.specs.Waiting.{Waiting}
+use Rattle.coflow_orders.proofs.RankSteps.{place_at, ranked_len}
+use Rattle.coflow_orders.proofs.LineSteps.{all_looked_at, joins, passes_by}
+use Rattle.coflow_orders.proofs.line.Line.add_ranked.Goals as goal
 
 abbrev no_place : Place
 no_place = record { coflow = 0; port = record { side = Ingress; number = 0 }; y = 0; rest = 0; load = 0 }

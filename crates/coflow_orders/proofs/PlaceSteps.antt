@@ -14,10 +14,10 @@ use Rattle.coflow_units.proofs.Lists.{filter_in, number_below, reverse-cons, int
 use Rattle.coflow_units.proofs.Sums.{Apart, apart_from_pairs, in_first, in_tail, pairs_from_apart, apart_snoc}
 use Rattle.port_load.specs.LoadTable.{IsSameSize, LoadTable, is_present, load_at}
 use Rattle.bssi_order.specs.Order.{IsOf, IsOrder, entries_of, present_coflows}
-use Rattle.master_core.specs.Published.{IsLeft, ranked}
+use Rattle.coflow_orders.specs.Published.{IsLeft, ranked}
 use Rattle.coflow_roster.proofs.AttendanceSteps.{joined_few}
-use Rattle.master_core.proofs.LineSteps.{places_within}
-use Rattle.master_core.proofs.RankSteps.{ranked_len}
+use Rattle.coflow_orders.proofs.LineSteps.{places_within}
+use Rattle.coflow_orders.proofs.RankSteps.{ranked_len}
 
 map_snoc : {X Y : Type 0} (f : X → Y) (xs : List X) (x : X) → map f (xs ++ x ∷ []) ≡ map f xs ++ f x ∷ []
 map_snoc f [] x = refl

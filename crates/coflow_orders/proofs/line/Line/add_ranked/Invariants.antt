@@ -2,8 +2,8 @@ use Rattle.std.proofs.Common.{◌≡◌, ◌≤◌, length, take}
 use Rattle.std.specs.Prelude.{vec_capacity}
 use Rattle.std.specs.List.{filter}
 use Rattle.coflow_roster.specs.Attendance.{marked}
-use Rattle.master_core.specs.Published.{ranked}
-use Rattle.master_core.proofs.line.Line.add_ranked.Given as goal
+use Rattle.coflow_orders.specs.Published.{ranked}
+use Rattle.coflow_orders.proofs.line.Line.add_ranked.Given as goal
 
 abbrev pub invariant-loop-place : goal.invariant-loop-place
 invariant-loop-place l = record {

@@ -1,0 +1,4 @@
+pub mod Bools
+pub mod LineSteps
+pub mod PlaceSteps
+pub mod RankSteps
