@@ -10,7 +10,7 @@ ghost use Rattle.run_ports.specs.Posts.{IsPosted};
 use client_session::{Driver, Hall};
 use port_board::{PortBoard, Poster};
 
-// Posts the grant of each port.
+/// Posts the grant of each port.
 pub fn post_grants(
     _hall: &Hall,
     driver: &Driver,

@@ -16,7 +16,7 @@ use client_session::{Answer, Driver, Hall};
 use port_board::{PortBoard, Poster, Settled};
 use std::sync::Wait;
 
-// Settles each port that has a post, and notes what was sent from it where that is less than the run has slots: the first such port, and what was sent from it.
+/// Settles each port that has a post, once all agents came back, and notes what was sent from it in units where that is less than the run has slots. The answer is the first such port, with what was sent from it.
 pub fn settle_ports<R: Wait>(
     rt: &R,
     hall: &Hall,
@@ -93,7 +93,7 @@ fn note<R: Wait>(rt: &R, hall: &Hall, driver: &mut Driver, port: u32, sent: u64)
     }
 }
 
-// Closes the run that is under way. The journal has room for the entry, and the driver a call.
+/// Closes the run that is under way. The journal has room for the entry, and the driver a call.
 pub fn close_run<R: Wait>(rt: &R, hall: &Hall, driver: &mut Driver)
     requires own { IsDriverOf hall.now driver.old }
     requires call { 1 ≤ driver.old.left }

@@ -68,8 +68,8 @@ impl Granted {
         copy_flows(&self.flows, to);
     }
 
-    // Becomes what a master's open run grants.
-    pub(crate) fn tell(&mut self, master: &Master)
+    /// Becomes what a master's open run grants.
+    pub fn tell(&mut self, master: &Master)
         requires ports { length self.old.at ≡ master.now.opening.table.ports }
         ensures granted { TellsGrants master.now.opening master.now.journal self.new }
     {
