@@ -17,7 +17,8 @@ use Rattle.master_desk.specs.Desk.{IsSeen}
 use Rattle.client_session.specs.Drivers.{GrownByOthers, who_of}
 use Rattle.client_session.specs.Models.{DriverModel, HallModel, SessionModel}
 use Rattle.master_desk.specs.Own.{own_entries, own_entry, OwnEntry}
-use Rattle.client_session.specs.Returns.{AreReturned, IsReturned, IsRootOf, WasMet}
+use Rattle.client_session.specs.Returns.{AreReturned, IsReturned, IsRootOf}
+use Rattle.master_desk.specs.Desk.{WasMet}
 use Rattle.client_session.proofs.Driving.{all_right, alone}
 use Rattle.master_desk.proofs.OwnSteps.{own_same}
 use Rattle.client_session.proofs.Standing.{is_own, note_is_true, own_rise, own_stand}

@@ -1,14 +1,10 @@
 -- What is left of a driver and of sessions that end.
 use Rattle.std.specs.Prelude.{◌≡◌, ◌<◌, ◌≤◌, false, List, [], ◌∷◌, All, length, Some}
 use Rattle.journal.specs.declared.command.Entry.{Entry}
-use Rattle.journal.specs.declared.opening.Opening.{Opening}
-use Rattle.journal.specs.Journal.{version_of}
-use Rattle.rank_board.specs.Models.{SeatModel}
 use Rattle.rank_board.specs.declared.pulls.Pull.{Pull}
 use Rattle.turnstile.specs.Models.{Returned}
 use Rattle.turnstile.specs.Models.{RootModel, SeatModel as TurnSeatModel}
 use Rattle.master_desk.specs.declared.desk.Setting.{Setting}
-use Rattle.master_desk.specs.Desk.{IsRanked}
 use Rattle.client_session.specs.Drivers.{GrownByOthers}
 use Rattle.client_session.specs.Models.{DriverModel, SessionModel}
 use Rattle.master_desk.specs.Own.{IsPass, own_entries}
@@ -49,7 +45,3 @@ abbrev pub AreReturned : List SessionModel → List (Returned Entry) → Type 0
 AreReturned [] [] = Unit {0}
 AreReturned (s ∷ ss) (p ∷ ps) = IsReturned s p × AreReturned ss ps
 AreReturned ss ps = ⊥
-
--- the seat at the board met the publisher of this journal: it has seen no newer version, and its noted pulls are true
-abbrev pub WasMet : Opening → List Entry → SeatModel → Type 0
-WasMet o journal r = (r.seen ≤ version_of journal) × All (IsRanked o journal) r.pulls

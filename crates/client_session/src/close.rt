@@ -5,14 +5,14 @@ ghost use Rattle.turnstile.specs.Histories.{GoesOn};
 ghost use Rattle.client_session.specs.Closes.{IsClosed, IsLeftOpen, IsMissing};
 ghost use Rattle.client_session.specs.Drivers.{who_of};
 ghost use Rattle.client_session.specs.Models.{IsDriverOf, IsSessionOf, SessionModel};
-ghost use Rattle.client_session.specs.Returns.{AreReturned, WasMet};
+ghost use Rattle.client_session.specs.Returns.{AreReturned};
 
 use crate::driver::Driver;
 use crate::hall::Hall;
 use crate::session::Session;
 use master_core::Master;
-use master_desk::Desk;
-use rank_board::{RankBoard, RankSeat};
+use master_desk::{Desk, meet_all};
+use rank_board::RankSeat;
 use std::alloc::Global;
 use std::marker::Model;
 use turnstile::{Root, Turnstile};
@@ -150,17 +150,5 @@ fn rejoin_all(
         let (seat, rank) = session.into_seats();
         gate.rejoin(root, seat);
         ranks.push_reserved(rank);
-    }
-}
-
-// Lets each seat of the board meet the publisher.
-fn meet_all(board: &RankBoard, desk: &mut Desk, ranks: Vec<RankSeat>)
-    requires board { desk.old.setting.board ≡ board.now }
-    requires ranks { All (λ (r : SeatModel). r.table ≡ board.now.table) ranks.items }
-    ensures desk { desk.new ≡ desk.old }
-    ensures met { All (WasMet desk.old.setting.opening desk.old.journal) ranks.items }
-{
-    for mut rank in ranks {
-        desk.meet(board, &mut rank);
     }
 }

@@ -2,22 +2,22 @@
 ghost use Rattle.std.specs.Prelude.{◌≡◌, ℕ, ◌+◌, ◌-◌, ◌<◌, ◌≤◌, true, false, length, None, Some, Ok, Err, vec_capacity};
 ghost use Rattle.journal.specs.Answer.{IsInRange};
 ghost use Rattle.journal.specs.declared.command.Command.TheVariants.{Close, Open, Publish, Register, Short, Skip, Withdraw};
-ghost use Rattle.turnstile.specs.Histories.{AddsAtMostOne, NoneAbove};
+ghost use Rattle.turnstile.specs.Histories.{NoneAbove};
 ghost use Rattle.master_desk.specs.declared.desk.Setting.{Setting};
 ghost use Rattle.master_desk.specs.Desk.{IsSeen};
 ghost use Rattle.client_session.specs.Models.{IsDriverOf};
-ghost use Rattle.master_desk.specs.Grants.{all_granted, flow_granted, TellsGrants};
+ghost use Rattle.master_desk.specs.Grants.{all_granted, flow_granted};
 ghost use Rattle.client_session.specs.Drivers.{HandsOut, IsDriverTurn, who_of};
 ghost use Rattle.client_session.specs.Returns.{IsRootOf};
 
 use crate::hall::Hall;
 use coflow_units::Place;
 use journal::{Command, Reply};
-use master_desk::{Answer, Desk, Granted, is_spent, is_version};
+use master_desk::{Answer, Desk, Granted, end_turn, is_spent, is_version};
 use rank_board::RankSeat;
 use std::marker::Model;
 use std::sync::Wait;
-use turnstile::{Root, Turn, Turnstile};
+use turnstile::Root;
 
 /// The first caller of a hall, whose number is 0. It makes the sessions, and it alone opens and closes runs.
 ///
@@ -215,26 +215,4 @@ impl Driver {
         self.left -= 1;
         Answer::of_turn(answer)
     }
-}
-
-// Ends the driver's turn, and keeps what is granted in the open run. The answer is the length of the journal, which is one that callers may see.
-fn end_turn(
-    gate: &Turnstile<Desk>,
-    root: &mut Root<Desk>,
-    granted: &mut Granted,
-    turn: Turn<Desk>,
-) -> u32
-    requires own { (root.old.table ≡ gate.now.table) × (root.old.in_turn ≡ true) }
-    requires setting { root.old.setting ≡ Some turn.value.setting }
-    requires list { AddsAtMostOne who_of turn.value.journal 0 root.old.seen }
-    requires ports { length granted.old.at ≡ turn.value.setting.opening.table.ports }
-    ensures root { root.new ≡ record root.old { in_turn = false; seen = turn.value.journal } }
-    ensures position { result ≡ length turn.value.journal }
-    ensures seen { IsSeen turn.value.setting.opening turn.value.journal }
-    ensures granted { TellsGrants turn.value.setting.opening turn.value.journal granted.new }
-{
-    let position = turn.value.position();
-    turn.value.tell_grants(granted);
-    gate.leave_root(root, turn);
-    position
 }

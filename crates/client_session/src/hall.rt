@@ -1,7 +1,6 @@
 //! The hall, where clients take turns at one master and read its ranks.
 ghost use Rattle.std.specs.Prelude.{◌≡◌, ℕ, ◌+◌, ◌^◌, ◌<◌, ◌≤◌, if◌then◌else◌, All, length, nat_lt, [], IfOk, OnOk, OnErr, Some};
 ghost use Rattle.journal.specs.State.{IsOpening};
-ghost use Rattle.rank_board.specs.Models.{first_publisher, new_seat};
 ghost use Rattle.client_session.specs.Models.{IsDriverOf, IsSessionOf};
 ghost use Rattle.client_session.specs.Levels.{IsLevel, IsMetByEach, IsMetByOne};
 ghost use Rattle.client_session.specs.Halls.{IsFirstDriver, IsNewSession};
@@ -10,8 +9,8 @@ use crate::driver::Driver;
 use crate::session::Session;
 use coflow_units::NoMemory;
 use master_core::Master;
-use master_desk::{Desk, Granted};
-use rank_board::{Publisher, RankBoard, RankSeat};
+use master_desk::{Desk, first_parts};
+use rank_board::{RankBoard, RankSeat};
 use std::alloc::Global;
 use std::marker::Model;
 use turnstile::Turnstile;
@@ -168,22 +167,6 @@ impl Hall {
         self.board.tell(&mut session.rank, heard);
         self.board.tell(heard, &mut session.rank);
     }
-}
-
-// Grants of nothing at so many ports, and a board of so many coflows with its publisher and a first seat.
-fn first_parts(
-    alloc: Global,
-    ports: u32,
-    coflows: u32,
-) -> Result<(Granted, RankBoard, Publisher, RankSeat), NoMemory>
-    ensures ports { IfOk result (λ made. length made.0.at ≡ ports) }
-    ensures coflows { IfOk result (λ made. made.1.coflows ≡ coflows) }
-    ensures publisher { IfOk result (λ made. made.2 ≡ first_publisher made.1.table) }
-    ensures seat { IfOk result (λ made. made.3 ≡ new_seat made.1.table 0) }
-{
-    let granted = Granted::new(alloc, ports)?;
-    let (board, publisher, rank) = RankBoard::new(alloc, coflows)?;
-    Ok((granted, board, publisher, rank))
 }
 
 // The greater of two numbers.

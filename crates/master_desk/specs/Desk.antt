@@ -56,3 +56,7 @@ pub record MetAt (before after : List Entry) (old new : SeatModel) : Type 0 wher
   pub seen_before : old.seen ≤ version_of before
   pub seen : new.seen ≡ version_of after
   pub looks : All (λ look. look_version look ≤ version_of after) new.looks
+
+-- the seat at the board met the publisher of this journal: it has seen no newer version, and its noted pulls are true
+abbrev pub WasMet : Opening → List Entry → SeatModel → Type 0
+WasMet o journal r = (r.seen ≤ version_of journal) × All (IsRanked o journal) r.pulls

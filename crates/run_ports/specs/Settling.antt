@@ -2,7 +2,7 @@
 use Rattle.std.specs.Prelude.{◌≡◌, ℕ, ◌+◌, ◌<◌, ◌≤◌, nat_lt, if◌then◌else◌, false, true, List, [], ◌∷◌, ◌++◌, Contains, length, Option, Some, None}
 use Rattle.journal.specs.declared.command.Entry.{Entry}
 use Rattle.journal.specs.declared.opening.Opening.{Opening}
-use Rattle.journal.specs.Driven.{Drive, driven, IsUnderWay, times_noted}
+use Rattle.journal.specs.Driven.{Drive, driven, driver_entries, IsUnderWay, times_noted}
 use Rattle.journal.specs.Runs.{grant_in}
 use Rattle.port_board.specs.declared.view.Came.{Came}
 use Rattle.port_board.specs.declared.view.Grant.{Grant}

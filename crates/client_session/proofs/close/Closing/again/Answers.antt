@@ -7,7 +7,7 @@ use Rattle.master_desk.specs.declared.desk.Setting.{Setting}
 use Rattle.client_session.specs.Closes.{IsClosed}
 use Rattle.master_desk.specs.Desk.{DeskModel, IsSeen}
 use Rattle.client_session.specs.Models.{ClosingModel, SessionModel}
-use Rattle.client_session.specs.Returns.{WasMet}
+use Rattle.master_desk.specs.Desk.{WasMet}
 use Rattle.client_session.proofs.Endings.{all_back, hall_closed}
 use Rattle.client_session.proofs.close.Closing.again.Goals as goal
 

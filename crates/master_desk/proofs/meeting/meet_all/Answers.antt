@@ -4,9 +4,8 @@ use Rattle.std.specs.Prelude.{All}
 use Rattle.std.specs.Vec.Iter.{into_iter_items}
 use Rattle.std.proofs.lemmas.List.Elements.{All-push}
 use Rattle.rank_board.specs.Models.{SeatModel}
-use Rattle.master_desk.specs.Desk.{DeskModel, IsRanked}
-use Rattle.client_session.specs.Returns.{WasMet}
-use Rattle.client_session.proofs.close.meet_all.Goals as goal
+use Rattle.master_desk.specs.Desk.{DeskModel, IsRanked, WasMet}
+use Rattle.master_desk.proofs.meeting.meet_all.Goals as goal
 
 pub loop-rank-preserved : goal.loop-rank-preserved
 loop-rank-preserved c =

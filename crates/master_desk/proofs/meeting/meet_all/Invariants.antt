@@ -1,8 +1,8 @@
 use Rattle.std.proofs.Common.{◌≡◌, ◌++◌, length}
 use Rattle.std.specs.Prelude.{All}
 use Rattle.std.specs.Vec.Iter.{into_iter_items, into_iter_len}
-use Rattle.client_session.specs.Returns.{WasMet}
-use Rattle.client_session.proofs.close.meet_all.Given as goal
+use Rattle.master_desk.specs.Desk.{WasMet}
+use Rattle.master_desk.proofs.meeting.meet_all.Given as goal
 
 abbrev pub invariant-loop-rank : goal.invariant-loop-rank
 invariant-loop-rank l = record {
