@@ -14,13 +14,12 @@ ghost use Rattle.run_ports.specs.Settling.{IsOpenRunOf};
 ghost use Rattle.slot_runner.specs.Slots.{has_run, IsAnswered, IsFaulted, IsFullAt, IsRan};
 
 use crate::answer::{Ran, RunnerBack};
-use crate::posting::post_grants;
-use crate::settling::{close_run, settle_ports};
 use agent_threads::serve_run;
 use client_session::{Answer, Driver, Hall, Reply};
 use outside::Wire;
 use port_agent::Agent;
 use port_board::{PortBoard, Poster};
+use run_ports::{close_run, post_grants, settle_ports};
 use std::alloc::Global;
 use std::marker::Model;
 use std::sync::Wait;
