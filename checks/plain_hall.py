@@ -263,7 +263,7 @@ def fault_of_example():
         with open(os.path.join(TOP, *parts), encoding="utf-8") as it:
             return it.read()
 
-    files = [("small_halls", name) for name in ("begun.rt", "closed.rt", "small.rt")] + [("hall_life_tests", name) for name in ("example.rt", "ends.rt")]
+    files = [("small_halls", name) for name in ("begun.rt", "closed.rt", "small.rt")] + [("hall_life_tests", "example.rt")]
     sources = ["".join(text("crates", crate, "src", name).split()) for crate, name in files]
     blocks = re.findall(r"^```rust\n(.*?)^```", text("docs", "HALL.md"), re.M | re.S)
     if not blocks:

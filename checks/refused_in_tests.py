@@ -16,7 +16,7 @@ sys.dont_write_bytecode = True
 from refused_memory import TOP, make_library, refusing
 
 # crates in which a refusal is got over
-GET_OVER = {"hall_life_tests"}
+GET_OVER = {"hall_close_tests"}
 
 # what a test prints that had no memory; those that make a table stop with `no table` on any error
 NO_MEMORY = (b"NoMemory", b"AllocError", b"AllocFailed", b"no memory", b"OutOfMemory", b"no table")

@@ -2,7 +2,6 @@
 ghost use Rattle.std.specs.Prelude.{◌≡◌, All, length};
 ghost use Rattle.client_session.specs.Models.{IsDriverOf, IsSessionOf};
 
-use crate::ends::entries_of;
 use client_session::{Answer, Driver, Hall, Pulled, Receipt, Reply, Session};
 use small_halls::{SmallHall, SmallSize};
 use std::alloc::Global;
@@ -88,7 +87,12 @@ fn shown<R: Wait + Abort>(rt: &R, alloc: Global) -> usize {
         panic!(rt; "no memory");
     };
     show(rt, &small.hall, &mut small.driver, &mut small.sessions);
-    entries_of(rt, alloc, small)
+    let Some(journal) = small.journal(alloc) else {
+        panic!(rt; "no memory");
+    };
+    let entries = journal.len();
+    drop(journal);
+    entries
 }
 
 #[test]

@@ -40,12 +40,17 @@ run 2 0
 end
 ";
 
+/// The numbers of its lines.
+const NUMBERS: &[&str] = &[
+    "1", "2", "3", "4", "5", "6", "7", "8", "9", "10", "11", "12", "13", "14", "15", "16", "17",
+    "18",
+];
+
 /// The answer to the run of two coflows with other words in place of its line with this number.
 fn edited(rt: &impl Abort, alloc: Global, number: &str, put: &str) -> String {
     let mut text = String::new(alloc);
-    for (this, line) in (1..100).zip(TWO_COFLOWS.lines()) {
-        let this = had(rt, format!(in alloc; "{this}"));
-        if this.as_str() == number {
+    for (this, line) in NUMBERS.iter().zip(TWO_COFLOWS.lines()) {
+        if *this == number {
             had(rt, text.push_str(put));
         } else {
             had(rt, text.push_str(line));
@@ -124,25 +129,27 @@ fn edited_texts(rt: HostRuntime) {
 }
 
 /// Whole texts, whether each begins as that of an online run does, and the answers. The third is that of a trace without coflows.
+const WHOLE: &[(&str, bool, &str)] = &[
+    ("", false, "line 1"),
+    ("sincronia online 2", false, "line 1"),
+    ("sincronia online 2\ncost 0\ntotal 0\nend\n", true, "read"),
+    (
+        "sincronia online 20\ncost 0\ntotal 0\nend\n",
+        false,
+        "line 1",
+    ),
+    (
+        "sincronia 2\nbound 0\nslack 0\ncost 0\nend\n",
+        false,
+        "line 1",
+    ),
+    (TWO_COFLOWS, true, "read"),
+];
+
 #[test]
 fn whole_texts(rt: HostRuntime) {
-    for (text, begins, want) in [
-        ("", false, "line 1"),
-        ("sincronia online 2", false, "line 1"),
-        ("sincronia online 2\ncost 0\ntotal 0\nend\n", true, "read"),
-        (
-            "sincronia online 20\ncost 0\ntotal 0\nend\n",
-            false,
-            "line 1",
-        ),
-        (
-            "sincronia 2\nbound 0\nslack 0\ncost 0\nend\n",
-            false,
-            "line 1",
-        ),
-        (TWO_COFLOWS, true, "read"),
-    ] {
-        assert!(rt; is_online(text.as_bytes()) == begins, "{text}");
+    for (text, begins, want) in WHOLE {
+        assert!(rt; is_online(text.as_bytes()) == *begins);
         let have = answer(&rt, rt.alloc(), text.as_bytes());
         is_told(&rt, text, &have, want);
     }

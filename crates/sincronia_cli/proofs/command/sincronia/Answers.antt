@@ -1,5 +1,4 @@
-use Rattle.std.proofs.Common.{◌≡◌, ap, refl, subst, Err}
-use Rattle.std.proofs.lemmas.List.Elements.{All-nil}
+use Rattle.std.proofs.Common.{◌≡◌, ap, refl, subst, sym, Err}
 use Rattle.std.specs.Prelude.{map}
 use Rattle.command_words.specs.Jobs.Job.{compare_job}
 use Rattle.command_lines.specs.Line.{texts}
@@ -18,6 +17,8 @@ use Rattle.command_outcomes.proofs.ServingFacts.{none_failed, past_by_wire, sent
 use Rattle.command_outcomes.proofs.TurnFacts.{done_by, out_for, text_in_turn, turn_for}
 use Rattle.command_outcomes.proofs.WrittenFacts.{classes_written, comparison_written, live_written, made_written, no_written}
 use Rattle.command_outcomes.proofs.WrittenFacts.{online_written, plan_written, sound_written, yes_written}
+use Rattle.command_files.specs.Ends.{IsWriteFault}
+use Rattle.sincronia_cli.proofs.FilesCauses.{bad_trace_given, bad_weights_given, no_write_fault, read_fault_given, usage_given}
 use Rattle.sincronia_cli.proofs.command.sincronia.Goals as goal
 
 pub returns-in-Err-Usage-clause-usage : goal.returns-in-Err-Usage-clause-usage
@@ -252,24 +253,6 @@ pub returns-clause-empty : goal.returns-clause-empty
 returns-clause-empty g c = λ said trace is text.
     c.in-Ok-carry_out.ensures.empty trace (job_of (texts c.args.words.now) (said_by c.in-Ok.words) said (compare_job trace) c.in-Ok.ensures.said is)
 
-pub returns-in-Err-Usage-clause-left : goal.returns-in-Err-Usage-clause-left
-returns-in-Err-Usage-clause-left g c = (0, refl, All-nil _)
-
-pub returns-in-Err-NoMemory-clause-left : goal.returns-in-Err-NoMemory-clause-left
-returns-in-Err-NoMemory-clause-left g c = (0, refl, All-nil _)
-
-pub returns-in-Err-clause-left : goal.returns-in-Err-clause-left
-returns-in-Err-clause-left g c = c.carry_out.ensures.left
-
-pub returns-in_default-clause-left : goal.returns-in_default-clause-left
-returns-in_default-clause-left g c = c.carry_out.ensures.left
-
-pub returns-clause-left : goal.returns-clause-left
-returns-clause-left g c = c.carry_out.ensures.left
-
-pub returns-in_default-clause-same_bench : goal.returns-in_default-clause-same_bench
-returns-in_default-clause-same_bench g c = λ none other. absurd (none tt)
-
 pub returns-clause-same_bench : goal.returns-clause-same_bench
 returns-clause-same_bench g c = λ none other.
     absurd {A = c.carry_out.new.bench.items ≡ c.args.bench.now.items}
@@ -310,9 +293,6 @@ returns-in-Err-clause-wire g c = λ port count e.
     (g.H.Shelf.faults c.args.shelf.now) (g.H.Shelf.faults c.carry_out.new.shelf) (g.H.Shelf.told c.args.shelf.now) (g.H.Shelf.told c.carry_out.new.shelf)
     port count c.in-Err.status c.in-Ok.ensures.said c.in-Err.ensures.cause e
 
-pub returns-in_default-clause-unsent : goal.returns-in_default-clause-unsent
-returns-in_default-clause-unsent g c = λ none. absurd (none tt)
-
 pub returns-clause-unsent : goal.returns-clause-unsent
 returns-clause-unsent g c =
     unsent_for c.args.wires.now.items c.carry_out.new.wires.items (SendsAll g.W.Wire.runs c.args.wires.now.items c.carry_out.new.wires.items)
@@ -327,11 +307,44 @@ returns-clause-wire g c = λ port count e.
     (map (λ b. (goal.Ranker-dyn g (b.vtable, b.value)).meaning b.value) c.args.bench.now.items)
     c.in-Ok-carry_out.outcome.status c.in-Ok-carry_out.outcome.text.items c.in-Ok-carry_out.ensures.outcome))
 
-pub returns-in_default-clause-good : goal.returns-in_default-clause-good
-returns-in_default-clause-good g c = λ past. (said_by c.in-Ok.words, c.in-Ok.ensures.said, c.in-Ok-carry_out.ensures.good)
+pub returns-in-Err-clause-usage : goal.returns-in-Err-clause-usage
+returns-in-Err-clause-usage g c = λ e said is.
+    absurd (usage_given (Stops g.W.Wire.faults g.W.Wire.runs c.args.wires.now.items c.carry_out.new.wires.items) (said_by c.in-Ok.words)
+    (g.H.Shelf.faults c.args.shelf.now) (g.H.Shelf.faults c.carry_out.new.shelf) (g.H.Shelf.told c.args.shelf.now)
+    (g.H.Shelf.told c.carry_out.new.shelf) c.in-Err.status c.in-Err.ensures.cause e)
 
-pub returns-clause-good : goal.returns-clause-good
-returns-clause-good g c = λ past. (said_by c.in-Ok.words, c.in-Ok.ensures.said, c.in-Ok-carry_out.ensures.good)
+pub returns-in-Err-clause-bad_trace : goal.returns-in-Err-clause-bad_trace
+returns-in-Err-clause-bad_trace g c = λ fault e.
+    let bad = bad_trace_given (Stops g.W.Wire.faults g.W.Wire.runs c.args.wires.now.items c.carry_out.new.wires.items) (said_by c.in-Ok.words)
+    (g.H.Shelf.faults c.args.shelf.now) (g.H.Shelf.faults c.carry_out.new.shelf) (g.H.Shelf.told c.args.shelf.now)
+    (g.H.Shelf.told c.carry_out.new.shelf) fault c.in-Err.status c.in-Err.ensures.cause e in
+    (said_by c.in-Ok.words, record { words_say = c.in-Ok.ensures.said; reads = bad.0 }, bad.1.0, bad.1.1)
+
+pub returns-in-Err-clause-bad_weights : goal.returns-in-Err-clause-bad_weights
+returns-in-Err-clause-bad_weights g c = λ fault e.
+    let bad = bad_weights_given (Stops g.W.Wire.faults g.W.Wire.runs c.args.wires.now.items c.carry_out.new.wires.items) (said_by c.in-Ok.words)
+    (g.H.Shelf.faults c.args.shelf.now) (g.H.Shelf.faults c.carry_out.new.shelf) (g.H.Shelf.told c.args.shelf.now)
+    (g.H.Shelf.told c.carry_out.new.shelf) fault c.in-Err.status c.in-Err.ensures.cause e in
+    (said_by c.in-Ok.words, record { words_say = c.in-Ok.ensures.said; reads = bad.0 }, bad.1.0, bad.1.1)
+
+pub returns-in-Err-clause-read : goal.returns-in-Err-clause-read
+returns-in-Err-clause-read g c = λ count e.
+    let bad = read_fault_given (Stops g.W.Wire.faults g.W.Wire.runs c.args.wires.now.items c.carry_out.new.wires.items) (said_by c.in-Ok.words)
+    (g.H.Shelf.faults c.args.shelf.now) (g.H.Shelf.faults c.carry_out.new.shelf) (g.H.Shelf.told c.args.shelf.now)
+    (g.H.Shelf.told c.carry_out.new.shelf) count c.in-Err.status c.in-Err.ensures.cause e in
+    (said_by c.in-Ok.words, record { words_say = c.in-Ok.ensures.said; reads = bad.0 }, bad.1)
+
+pub returns-in-Err-clause-write : goal.returns-in-Err-clause-write
+returns-in-Err-clause-write g c = λ count e.
+    absurd (no_write_fault (Stops g.W.Wire.faults g.W.Wire.runs c.args.wires.now.items c.carry_out.new.wires.items) (said_by c.in-Ok.words)
+    (g.H.Shelf.faults c.args.shelf.now) (g.H.Shelf.faults c.carry_out.new.shelf) (g.H.Shelf.told c.args.shelf.now)
+    (g.H.Shelf.told c.carry_out.new.shelf) c.in-Err.status c.in-Err.ensures.cause (subst IsWriteFault (sym e) tt))
+
+pub returns-in-Err-clause-once_sink : goal.returns-in-Err-clause-once_sink
+returns-in-Err-clause-once_sink g c = λ is.
+    absurd (no_write_fault (Stops g.W.Wire.faults g.W.Wire.runs c.args.wires.now.items c.carry_out.new.wires.items) (said_by c.in-Ok.words)
+    (g.H.Shelf.faults c.args.shelf.now) (g.H.Shelf.faults c.carry_out.new.shelf) (g.H.Shelf.told c.args.shelf.now)
+    (g.H.Shelf.told c.carry_out.new.shelf) c.in-Err.status c.in-Err.ensures.cause is)
 
 pub returns-in-Err-clause-still_sink : goal.returns-in-Err-clause-still_sink
 returns-in-Err-clause-still_sink g c = λ no. refl

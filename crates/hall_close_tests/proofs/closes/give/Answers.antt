@@ -3,7 +3,7 @@ use Rattle.std.proofs.Common.{◌∷◌, ◌++◌, [], List}
 use Rattle.std.specs.Prelude.{All}
 use Rattle.std.proofs.lemmas.List.Elements.{All-push, All-same}
 use Rattle.client_session.specs.Models.{HallModel, IsSessionOf, SessionModel}
-use Rattle.hall_life_tests.proofs.closes.give.Goals as goal
+use Rattle.hall_close_tests.proofs.closes.give.Goals as goal
 
 pub returns : goal.returns
 returns g c =

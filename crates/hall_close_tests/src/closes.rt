@@ -2,7 +2,6 @@
 ghost use Rattle.std.specs.Prelude.{◌≡◌, All, length};
 ghost use Rattle.client_session.specs.Models.{IsDriverOf, IsSessionOf};
 
-use crate::ends::entries_of;
 use client_session::{Answer, CloseFault, Hall, Receipt, Reply, Session};
 use small_halls::{SmallHall, SmallSize, let_session_go};
 use std::alloc::Global;
@@ -106,6 +105,19 @@ fn give(rt: &impl Abort, _hall: &Hall, sessions: &mut Vec<Session>, last: Sessio
         panic!(rt; "no memory");
     };
     sessions.push_reserved(last);
+}
+
+/// Closes a hall: how many entries its journal has.
+fn entries_of(rt: &impl Abort, alloc: Global, small: SmallHall) -> usize
+    requires driver { IsDriverOf small.hall small.driver }
+    requires sessions { All (IsSessionOf small.hall) small.sessions.items }
+{
+    let Some(journal) = small.journal(alloc) else {
+        panic!(rt; "no memory");
+    };
+    let entries = journal.len();
+    drop(journal);
+    entries
 }
 
 /// Closes a hall of two sessions, of which the last one takes its turn, and is kept back at first: how many entries the journal has.
