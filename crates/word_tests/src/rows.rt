@@ -34,7 +34,8 @@ fn push_word(rt: &impl Abort, alloc: Global, words: &mut Vec<String>, word: &str
 fn said(rt: &impl Abort, alloc: Global, words: &[String]) -> String {
     match read_words(alloc, words) {
         Ok(said) => {
-            let mut text = job_text(rt, alloc, said.job);
+            let mut text = String::new(alloc);
+            tell_job(rt, &mut text, said.job);
             tell_options(rt, &mut text, said.options);
             text
         }
@@ -42,36 +43,47 @@ fn said(rt: &impl Abort, alloc: Global, words: &[String]) -> String {
     }
 }
 
-/// A job: its command, with the names or the number behind it, `-` where there is no second one.
-fn job_text(rt: &impl Abort, alloc: Global, job: Job<'_>) -> String {
-    let (command, first, second) = match job {
-        Job::Plan { trace } => ("Plan", trace, "-"),
-        Job::Check { trace, report } => ("Check", trace, report),
-        Job::Make { seed } => return had(rt, format!(in alloc; "Make {seed} -")),
-        Job::Compare { trace } => ("Compare", trace, "-"),
-        Job::Classes { trace } => ("Classes", trace, "-"),
-        Job::Audit { trace, journal } => ("Audit", trace, journal),
-        Job::Online { trace } => ("Online", trace, "-"),
-        Job::Live { trace, script } => ("Live", trace, script),
-    };
-    had(rt, format!(in alloc; "{command} {first} {second}"))
+/// Adds a job: its command, with the names or the number behind it, `-` where there is no second one, each before a space.
+fn tell_job(rt: &impl Abort, text: &mut String, job: Job<'_>) {
+    match job {
+        Job::Plan { trace } => tell_names(rt, text, "Plan", trace, "-"),
+        Job::Check { trace, report } => tell_names(rt, text, "Check", trace, report),
+        Job::Make { seed } => had(rt, write!(text, "Make {seed} - ")),
+        Job::Compare { trace } => tell_names(rt, text, "Compare", trace, "-"),
+        Job::Classes { trace } => tell_names(rt, text, "Classes", trace, "-"),
+        Job::Audit { trace, journal } => tell_names(rt, text, "Audit", trace, journal),
+        Job::Online { trace } => tell_names(rt, text, "Online", trace, "-"),
+        Job::Live { trace, script } => tell_names(rt, text, "Live", trace, script),
+    }
+}
+
+/// Adds a command and the names behind it, each before a space.
+fn tell_names(rt: &impl Abort, text: &mut String, command: &str, first: &str, second: &str) {
+    tell_name(rt, text, command);
+    tell_name(rt, text, first);
+    tell_name(rt, text, second);
+}
+
+/// Adds a name before a space.
+fn tell_name(rt: &impl Abort, text: &mut String, name: &str) {
+    had(rt, text.push_str(name));
+    had(rt, text.push_str(" "));
 }
 
 /// Adds the weights, `-` where there are none, and the values of `--unit`, `--agents`, `--epoch`, `--run`, `--slot-ms` and `--classes`.
 fn tell_options(rt: &impl Abort, text: &mut String, options: Options<'_>) {
-    let weights = options.weights.unwrap_or("-");
-    let values = [
-        options.unit.megabytes,
-        options.agents,
-        options.epoch,
-        options.run,
-        options.slot_ms,
-        options.classes,
-    ];
-    had(rt, write!(text, " {weights}"));
-    for value in values {
-        had(rt, write!(text, " {value}"));
-    }
+    had(rt, text.push_str(options.weights.unwrap_or("-")));
+    tell_value(rt, text, options.unit.megabytes);
+    tell_value(rt, text, options.agents);
+    tell_value(rt, text, options.epoch);
+    tell_value(rt, text, options.run);
+    tell_value(rt, text, options.slot_ms);
+    tell_value(rt, text, options.classes);
+}
+
+/// Adds a value behind a space.
+fn tell_value(rt: &impl Abort, text: &mut String, value: u64) {
+    had(rt, write!(text, " {value}"));
 }
 
 /// Stops where a line says something else.
