@@ -21,8 +21,8 @@ use crate::plays::{
 };
 use crate::seat::{AgentSeat, Poster};
 use crate::view::{Place, Ports, View};
-use atomic_table::Table;
 use coflow_units::{NoMemory, PortWord, PostStage};
+use observed_table::ObservedTable;
 use std::alloc::Global;
 use std::marker::Model;
 
@@ -34,7 +34,7 @@ mod tests;
 /// One poster grants flows at the ports. Each grant is drawn by at most one agent, which reports how many units it sent, and the poster settles it.
 #[derive(Drop)]
 pub struct PortBoard {
-    table: Table<(), View, u64, Ports, Global>,
+    table: ObservedTable<(), View, u64, Ports, Global>,
     ports: u32,
 }
 
@@ -45,10 +45,10 @@ impl Model for PortBoard {
 
     ghost Value = { Board };
 
-    ghost view = { λ b. record { id = b.table.shared.table_id; ports = b.ports } };
+    ghost view = { λ b. record { id = b.table.table_id; ports = b.ports } };
 
-    ghost invariant = { λ b. (b.table.shared.table_id.words ≡ b.ports + b.ports) × (b.table.shared.key ≡ b.ports) ×
-        (b.table.shared.table_id.slots ≡ 0) × (1 ≤ b.ports) × (b.ports ≤ MAX_PORTS + 1) };
+    ghost invariant = { λ b. (b.table.table_id.words ≡ b.ports + b.ports) × (b.table.key ≡ b.ports) ×
+        (b.table.table_id.slots ≡ 0) × (1 ≤ b.ports) × (b.ports ≤ MAX_PORTS + 1) };
 }
 
 impl PortBoard {
@@ -63,7 +63,7 @@ impl PortBoard {
         let words = vec![in alloc; 0u64; 2 * ports as usize]?;
         let posted = vec![in alloc; false; ports as usize]?;
         let key = u64::from(ports);
-        let (table, place) = Table::of_words(alloc, &words, &key)?;
+        let (table, place) = ObservedTable::of_words(alloc, &words, &key)?;
         let board = PortBoard { table, ports };
         let poster = Poster {
             place,
@@ -84,7 +84,7 @@ impl PortBoard {
         ensures seat { result.view ≡ newcomer poster.old.view }
     {
         poster.agents += 1;
-        let place = self.table.shared.split_seat::<Another>(&mut poster.place);
+        let place = self.table.split_seat::<Another>(&mut poster.place);
         AgentSeat {
             place,
             ports: self.ports,
@@ -98,7 +98,7 @@ impl PortBoard {
         ensures poster { poster.new.view ≡ poster.old.view }
         ensures seat { seat.new.view ≡ sees poster.old.view.posts seat.old.view }
     {
-        let shared = &self.table.shared;
+        let shared = &self.table;
         let note = shared.split_seat::<Notes>(&mut poster.place);
         shared.join_seat::<Hears>(&mut seat.place, note);
     }
@@ -123,7 +123,7 @@ impl PortBoard {
         ensures reporter { SentByAgent poster.new.view }
     {
         let AgentSeat { place, ports: _ } = seat;
-        let shared = &self.table.shared;
+        let shared = &self.table;
         shared.join_seat::<TakesIn>(&mut poster.place, place);
         shared.load::<Learns>(&mut poster.place, 0);
         poster.agents -= 1;
@@ -143,7 +143,7 @@ impl PortBoard {
         ensures post { poster.new.view ≡ posted_too (grant port slot flow length) poster.old.view }
         ensures unsettled { is_unsettled port poster.new.view.posts poster.new.view.settled ≡ true }
     {
-        let shared = &self.table.shared;
+        let shared = &self.table;
         let count = count_place(self.ports, port);
         shared.store::<Counts>(&mut poster.place, count, length);
         let word = PortWord {
@@ -208,7 +208,7 @@ impl PortBoard {
             (shows_granted word ≡ false) × (place.new.me ≡ (found_idle port word place.old.me.0, place.old.me.1)) }
         ensures once { HoldsOnce place.new.me.0 }
     {
-        let loaded = self.table.shared.load::<Loads>(place, port as usize);
+        let loaded = self.table.load::<Loads>(place, port as usize);
         if PostStage::Granted.is_shown(loaded) {
             Ok(loaded)
         } else {
@@ -235,7 +235,7 @@ impl PortBoard {
         ensures once { HoldsOnce place.new.me.0 }
         ensures tried { (word : ℕ) → result ≢ Draw.Idle word }
     {
-        let shared = &self.table.shared;
+        let shared = &self.table;
         let Some(post) = PortWord::of_bits(loaded) else {
             unreachable!();
         };
@@ -271,7 +271,7 @@ impl PortBoard {
             flow,
             length: _,
         } = drawn;
-        let shared = &self.table.shared;
+        let shared = &self.table;
         let count = count_place(seat.ports, port);
         shared.store::<Counts>(&mut seat.place, count, sent);
         let word = PortWord {
@@ -338,7 +338,7 @@ impl PortBoard {
             NobodyHad g place.old.me.0 }
         ensures agrees { Agrees place.new.me.0 }
     {
-        let shared = &self.table.shared;
+        let shared = &self.table;
         let loaded = shared.load::<PosterLoads>(place, port as usize);
         if !PostStage::Granted.is_shown(loaded) {
             return self.conclude(place, port, loaded);
@@ -371,7 +371,7 @@ impl PortBoard {
         if PostStage::Drawn.is_shown(word) {
             return Settled::Busy(word);
         }
-        let shared = &self.table.shared;
+        let shared = &self.table;
         Settled::Sent(shared.load::<ReadsSent>(place, count_place(self.ports, port)))
     }
 }

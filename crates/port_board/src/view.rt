@@ -1,5 +1,6 @@
 //! What a seat at the port words knows. No value of these types is made.
-use atomic_table::{Seat, TableRule};
+use atomic_table::TableRule;
+use observed_table::{Looking, ObservedSeat};
 use std::collections::LinkedList;
 
 /// A post: the flow that may be sent at the port from the slot on, for so many units.
@@ -75,6 +76,10 @@ pub struct View {
     pub looks: LinkedList<(u64, u64)>,
 }
 
+impl Looking for View {
+    ghost looks = { λ v. v.looks };
+}
+
 /// The rule of the port words, for a number of ports.
 pub struct Ports;
 
@@ -87,4 +92,4 @@ impl TableRule<(), View, u64> for Ports {
 }
 
 /// A seat at the table of the words. It knows a view.
-pub type Place = Seat<(), View>;
+pub type Place = ObservedSeat<(), View>;

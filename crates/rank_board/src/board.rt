@@ -8,8 +8,8 @@ ghost use Rattle.rank_board.specs.Words.{word_at, WasPublished};
 use crate::plays::{Another, Gives, Hears, Looks, Meets, Raises, Reads, Takes, Writes};
 use crate::pulls::{Pull, Pulls};
 use crate::view::{Banks, Place, View};
-use atomic_table::{Shared, Table};
 use coflow_units::NoMemory;
+use observed_table::ObservedTable;
 use std::alloc::Global;
 use std::marker::Model;
 
@@ -23,14 +23,14 @@ const FRONT: usize = 0;
 const VERSION: u64 = 1 << 32;
 
 // The table as all threads share it.
-type Steps = Shared<(), View, u64, Banks>;
+type Steps = ObservedTable<(), View, u64, Banks, Global>;
 
 /// The ranks of a fixed number of coflows, which any number of threads read while one publisher replaces them.
 ///
 /// Each version is written beside the one before it, and then the front names it. A rank has its version in its word, so a reader knows which version it read.
 #[derive(Drop)]
 pub struct RankBoard {
-    table: Table<(), View, u64, Banks, Global>,
+    table: Steps,
     coflows: u32,
 }
 
@@ -40,9 +40,9 @@ impl Model for RankBoard {
 
     ghost Value = { BoardModel };
 
-    ghost view = { λ b. record { table = b.table.shared.table_id; coflows = b.coflows } };
+    ghost view = { λ b. record { table = b.table.table_id; coflows = b.coflows } };
 
-    ghost invariant = { λ b. (b.table.shared.table_id.words ≡ 1 + 2 * b.coflows) × (b.table.shared.key ≡ b.coflows) ×
+    ghost invariant = { λ b. (b.table.table_id.words ≡ 1 + 2 * b.coflows) × (b.table.key ≡ b.coflows) ×
         (b.coflows < 4294967296) };
 }
 
@@ -130,8 +130,8 @@ impl RankBoard {
     {
         let words = vec![in alloc; 0u64; 1 + 2 * coflows as usize]?;
         let key = u64::from(coflows);
-        let (table, mut place) = Table::of_words(alloc, &words, &key)?;
-        let first = table.shared.split_seat::<Another>(&mut place);
+        let (table, mut place) = ObservedTable::of_words(alloc, &words, &key)?;
+        let first = table.split_seat::<Another>(&mut place);
         let board = RankBoard { table, coflows };
         let publisher = Publisher { place, version: 0 };
         let seat = RankSeat {
@@ -156,7 +156,7 @@ impl RankBoard {
         ensures seat { result ≡ new_seat from.old.table from.old.seen }
     {
         RankSeat {
-            place: self.table.shared.split_seat::<Another>(&mut from.place),
+            place: self.table.split_seat::<Another>(&mut from.place),
             seen: from.seen,
             pulls: Pulls::new(),
         }
@@ -172,7 +172,7 @@ impl RankBoard {
         ensures published { publisher.new ≡
             record publisher.old { published = publisher.old.published ++ ranks.now ∷ [] } }
     {
-        let steps = &self.table.shared;
+        let steps = &self.table;
         let version = publisher.version + 1;
         write_bank(steps, &mut publisher.place, version, ranks);
         steps.store::<Raises>(&mut publisher.place, FRONT, u64::from(version));
@@ -214,7 +214,7 @@ impl RankBoard {
         ensures looks { All (WasPublished publisher.new.published) seat.new.looks }
         ensures pulls { All (Agrees publisher.new.published) seat.new.pulls }
     {
-        let steps = &self.table.shared;
+        let steps = &self.table;
         hand_on(steps, &mut publisher.place, &mut seat.place);
         steps.load::<Meets>(&mut seat.place, FRONT);
         hand_on(steps, &mut seat.place, &mut publisher.place);
@@ -228,7 +228,7 @@ impl RankBoard {
         ensures to { to.new ≡ saw_front to.new.seen to.old }
         ensures seen { (from.old.seen ≤ to.new.seen) × (to.old.seen ≤ to.new.seen) }
     {
-        let steps = &self.table.shared;
+        let steps = &self.table;
         let note = steps.split_seat::<Another>(&mut from.place);
         steps.join_seat::<Hears>(&mut to.place, note);
         let front = steps.load::<Looks>(&mut to.place, FRONT);
@@ -241,7 +241,7 @@ impl RankBoard {
         ensures seat { seat.new ≡ saw_front seat.new.seen seat.old }
         ensures later { seat.old.seen ≤ seat.new.seen }
     {
-        let front = self.table.shared.load::<Looks>(&mut seat.place, FRONT);
+        let front = self.table.load::<Looks>(&mut seat.place, FRONT);
         seat.seen = front as u32;
     }
 
@@ -265,7 +265,7 @@ impl RankBoard {
         let mut rank = 0;
         if version > 0 {
             let place = place_of(version, coflow as usize);
-            let word = self.table.shared.load::<Reads>(&mut seat.place, place);
+            let word = self.table.load::<Reads>(&mut seat.place, place);
             let found = (word / VERSION) as u32;
             if found > version {
                 return Pulled::Moved {

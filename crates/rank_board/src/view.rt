@@ -1,5 +1,6 @@
 //! What a seat at the board's words knows. No value of these types is made.
-use atomic_table::{Seat, TableRule};
+use atomic_table::TableRule;
+use observed_table::{Looking, ObservedSeat};
 use std::collections::LinkedList;
 
 /// What a seat knows.
@@ -15,6 +16,10 @@ pub struct View {
     pub looks: LinkedList<(u64, u64)>,
 }
 
+impl Looking for View {
+    ghost looks = { λ v. v.looks };
+}
+
 /// The rule of the board's words, for a number of coflows.
 pub struct Banks;
 
@@ -27,4 +32,4 @@ impl TableRule<(), View, u64> for Banks {
 }
 
 /// A seat at the table of the words. It knows a view.
-pub type Place = Seat<(), View>;
+pub type Place = ObservedSeat<(), View>;

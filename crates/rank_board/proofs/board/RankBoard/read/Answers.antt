@@ -11,12 +11,12 @@ use Rattle.rank_board.proofs.Pulling.{still_read, front_of, found_of, saw_it, re
 use Rattle.rank_board.proofs.board.RankBoard.read.Goals as goal
 use Rattle.rank_board.proofs.board.RankBoard.read.Goals.{then-version-gt0+else-found-version, else-version-gt0}
 
-pub load-word-requires : goal.load-word-requires
-load-word-requires c =
-    (search rules, search rules, reads_on _ _ _ _ _ c.args.coflow (search rules) (c.place_of-place.ensures ∙ ap (λ v. word_at v c.args.coflow) (sym c.seat.invariant.0)))
+pub load-word-requires-clause-allowed : goal.load-word-requires-clause-allowed
+load-word-requires-clause-allowed c =
+    reads_on _ _ _ _ _ c.args.coflow (search rules) (c.place_of-place.ensures ∙ ap (λ v. word_at v c.args.coflow) (sym c.seat.invariant.0))
 
 pub invariant_of-seat : goal.invariant_of-seat
-invariant_of-seat c = let e = c.load-word.ensures.2.0 in
+invariant_of-seat c = let e = c.load-word.ensures.told.0 in
     (ap (λ (m : M). m.0.seen) e ∙ c.seat.invariant.0, still_read _ _ _ _ (ap (λ (m : M). m.0.looks) e) c.seat.invariant.1)
 
 pub returns-then-found-version-clause-moved : goal.returns-then-found-version-clause-moved
@@ -24,11 +24,11 @@ returns-then-found-version-clause-moved c = λ front found e.
     let word : ℕ = c.load-word.result in
     let a : c.seat.inside.seen ≡ front = ap (λ (p : Pulled). front_of p) e in
     let b : word / 4294967296 ≡ found = ap (λ (p : Pulled). found_of p) e in
-    let l = c.load-word.ensures in
+    let l = c.load-word.ensures.told in
     let known = c.seat.invariant.0 in
     let pos = c.if-version-gt0.true in
     let later = c.if-found-version.true in
-    let even = l.2.2 in
+    let even = l.2 in
     let w : word ≡ rank_word found (word % 4294967296) = omega arith in (
       omega arith,
       sym a ∙ ap (λ s. s.seen) c.seat.view_is,
@@ -36,7 +36,7 @@ returns-then-found-version-clause-moved c = λ front found e.
       (
         word % 4294967296,
         omega arith,
-        saw_it _ _ _ _ _ _ _ c.args.coflow word l.0 pos (ap (λ (m : M). m.0.looks) l.2.0) c.place_of-place.ensures
+        saw_it _ _ _ _ _ _ _ c.args.coflow word c.load-word.ensures.own.0 pos (ap (λ (m : M). m.0.looks) l.0) c.place_of-place.ensures
             ∙ (λ i. saw_word (a i) c.args.coflow (w i) (c.seat.view_is i)),
       ),
     )
@@ -44,7 +44,7 @@ returns-then-found-version-clause-moved c = λ front found e.
 pub invariant_of-seat-2 : goal.invariant_of-seat-2
 invariant_of-seat-2 c = elim c.if-version-gt0.branch [
   | then-version-gt0+else-found-version w ↦ (
-      let e = w.load-word.ensures.2 in
+      let e = w.load-word.ensures.told in
       let known = c.seat.invariant.0 in
       let below = e.1 in
       let above = w.if-found-version.false in

@@ -1,6 +1,5 @@
-use Rattle.std.proofs.Common.{rules}
 use Rattle.rank_board.proofs.Seats.{makes_another}
 use Rattle.rank_board.proofs.board.RankBoard.seat.Goals as goal
 
-pub split_seat-requires : goal.split_seat-requires
-split_seat-requires c = (search rules, search rules, makes_another _ _ _)
+pub split_seat-requires-clause-allowed : goal.split_seat-requires-clause-allowed
+split_seat-requires-clause-allowed c = makes_another _ _ _
