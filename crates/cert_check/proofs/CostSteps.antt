@@ -4,7 +4,7 @@ use Rattle.std.specs.Prelude.{All}
 use Rattle.std.specs.List.{range_with_len}
 use Rattle.std.proofs.Math.Nat.{mul-le-mul_left}
 use Rattle.coflow_units.proofs.Lists.{range_more}
-use Rattle.slot_schedule.proofs.CostSums.{sum_below, weight_small}
+use Rattle.schedule_model.proofs.CostSums.{sum_below, weight_small}
 
 -- what a coflow costs
 abbrev pub part : List ℕ → List ℕ → ℕ → ℕ

@@ -11,7 +11,7 @@ use Rattle.report.specs.declared.value.Report.{Report}
 use Rattle.schedule_model.specs.declared.fault.ScheduleFault.{ScheduleFault}
 use Rattle.schedule_model.specs.declared.fault.ScheduleFault.TheVariants as fault
 use Rattle.schedule_model.specs.Fault.{IsFirstClash, IsFirstFault, IsFirstMiscount}
-use Rattle.slot_schedule.specs.RunList.{slots_in}
+use Rattle.schedule_model.specs.RunList.{slots_in}
 use Rattle.dual_cert.specs.TableCertificate.{IsLeastInfeasible}
 use Rattle.cert_check.specs.declared.verdict.Reason.{Reason}
 use Rattle.cert_check.specs.declared.verdict.Reason.TheVariants.{BoundTooHigh, ClashIn, CostWrong, DoneWrong, Infeasible, NoFlow, NotPermutation, PortRange, RatioBroken}

@@ -19,7 +19,7 @@ use Rattle.port_load.proofs.LoadSums.{within_units}
 use Rattle.dual_cert.specs.TableCertificate.{HasLoadsOf, HasWeightsOf, IsCertificateOf, StaysInBudget}
 use Rattle.dual_cert.proofs.FirstPlaces.{map_reverse}
 use Rattle.dual_cert.proofs.SizeLaws.{unspent_fits, value_fits}
-use Rattle.slot_schedule.proofs.CostSums.{weight_small}
+use Rattle.schedule_model.proofs.CostSums.{weight_small}
 use Rattle.dual_cert.proofs.OfInstance.{certificate_of, loads_of_coflows, stays_of}
 use Rattle.flow_table.specs.Table.{IsTable, TableFacts, instance_of}
 use Rattle.report.specs.declared.value.PlaceLine.{PlaceLine}

@@ -15,7 +15,7 @@ use Rattle.dual_cert.specs.TableCertificate.{IsLeastInfeasible}
 use Rattle.report.specs.declared.value.PlaceLine.{PlaceLine}
 use Rattle.report.specs.Text.{place_at}
 use Rattle.schedule_model.specs.Fault.{IsFirstClash, IsFirstMiscount, IsFirstNoFlow}
-use Rattle.slot_schedule.specs.RunList.{NamesFlows}
+use Rattle.schedule_model.specs.RunList.{NamesFlows}
 use Rattle.schedule_model.proofs.SlotLoads.{both_use}
 use Rattle.cert_check.specs.Places.{IsFirstOutOfRange, IsFirstWrong, NamesEach, coflow_with, coflows_in, ids_in}
 use Rattle.cert_check.specs.Stated.{AreReal, AreRealIfAny, IsLeastWrong, IsLeastWrongOfAny}

@@ -4,7 +4,7 @@ use Rattle.std.specs.Prelude.{sum_by}
 use Rattle.std.proofs.lemmas.List.{length-append, length-replicate}
 use Rattle.std.proofs.lemmas.List.Sums.{sum_by-cons}
 use Rattle.coflow_units.specs.declared.plan.Run.{Run}
-use Rattle.slot_schedule.specs.RunList.{IsKept, slots_in}
+use Rattle.schedule_model.specs.RunList.{IsKept, slots_in}
 use Rattle.report.specs.declared.value.Report.{Report}
 use Rattle.report.specs.Report.{IsReport}
 

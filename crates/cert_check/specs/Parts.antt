@@ -6,7 +6,7 @@ use Rattle.coflow_units.specs.Flows.{Instance}
 use Rattle.coflow_units.specs.Schedule.{IsValid}
 use Rattle.report.specs.declared.value.PlaceLine.{PlaceLine}
 use Rattle.report.specs.declared.value.Report.{Report}
-use Rattle.slot_schedule.specs.RunList.{slots_in}
+use Rattle.schedule_model.specs.RunList.{slots_in}
 use Rattle.cert_check.specs.declared.places.Named.{Named}
 use Rattle.cert_check.specs.declared.places.Named.TheVariants.{Coflows, Wrong}
 use Rattle.cert_check.specs.declared.verdict.Reason.{Reason}

@@ -6,7 +6,7 @@ use Rattle.coflow_units.specs.Flows.{Instance}
 use Rattle.dual_cert.specs.TableCertificate.{IsLeastInfeasible}
 use Rattle.report.specs.declared.value.Report.{Report}
 use Rattle.schedule_model.specs.Fault.{IsFirstClash, IsFirstMiscount, IsFirstNoFlow}
-use Rattle.slot_schedule.specs.RunList.{slots_in}
+use Rattle.schedule_model.specs.RunList.{slots_in}
 use Rattle.cert_check.specs.declared.verdict.Reason.{Reason}
 use Rattle.cert_check.specs.declared.verdict.Reason.TheVariants.{BoundTooHigh, ClashIn, CostWrong, DoneWrong}
 use Rattle.cert_check.specs.declared.verdict.Reason.TheVariants.{Infeasible, NoFlow, NotPermutation, PortRange}

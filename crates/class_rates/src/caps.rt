@@ -6,7 +6,7 @@ ghost use Rattle.coflow_units.specs.declared.fabric.Flow.{Flow};
 ghost use Rattle.coflow_units.specs.declared.fabric.Port.{Port};
 ghost use Rattle.coflow_units.specs.declared.fabric.Side.TheVariants.{Egress, Ingress};
 ghost use Rattle.coflow_units.specs.Flows.{end_at};
-ghost use Rattle.slot_schedule.specs.Weights.{weight_of};
+ghost use Rattle.schedule_model.specs.Weights.{weight_of};
 ghost use Rattle.class_rates.specs.Cap.{cap, cap_of_coflow};
 ghost use Rattle.class_rates.specs.Classes.{class_of};
 ghost use Rattle.class_rates.specs.Tallies.{HasCapsBelow, HasCapsUpTo, HasLoadsBelow, HasLoadsUpTo, coflows_of, number_at};

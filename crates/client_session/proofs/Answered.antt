@@ -8,11 +8,11 @@ use Rattle.journal.specs.declared.command.Entry.{Entry}
 use Rattle.journal.specs.Journal.{entry, is_version, version_of}
 use Rattle.journal.proofs.Growth.{version_append}
 use Rattle.rank_board.specs.Models.{SeatModel}
-use Rattle.master_desk.specs.Answers.{Receipt}
-use Rattle.master_desk.specs.Own.{IsPass, look_version, own_entries, own_entry, OwnEntry, receipt_of, versions_in}
-use Rattle.master_desk.specs.Desk.{AddsEntry, MetAt}
-use Rattle.master_desk.proofs.OwnSteps.{own_more}
-use Rattle.master_desk.proofs.Passes.{pass_more}
+use Rattle.client_session.specs.declared.receipt.Receipt.{Receipt}
+use Rattle.client_session.specs.Own.{IsPass, look_version, own_entries, own_entry, OwnEntry, receipt_of, versions_in}
+use Rattle.client_session.specs.Desk.{AddsEntry, MetAt}
+use Rattle.client_session.proofs.OwnSteps.{own_more}
+use Rattle.client_session.proofs.Passes.{pass_more}
 
 abbrev who_of : Entry → ℕ
 who_of e = e.who

@@ -7,15 +7,15 @@ use Rattle.atomic_table.specs.Seated.{TableId}
 use Rattle.journal.specs.declared.command.Entry.{Entry}
 use Rattle.rank_board.specs.declared.pulls.Pull.{Pull}
 use Rattle.rank_board.specs.Models.{new_seat, SeatModel}
-use Rattle.master_desk.specs.declared.desk.Setting.{Setting}
-use Rattle.master_desk.specs.Answers.{Receipt}
-use Rattle.master_desk.specs.Own.{IsPass, own_entries, receipt_of}
-use Rattle.master_desk.specs.Grants.{GrantedModel, TellsGrants}
+use Rattle.client_session.specs.declared.desk.Setting.{Setting}
+use Rattle.client_session.specs.declared.receipt.Receipt.{Receipt}
+use Rattle.client_session.specs.Own.{IsPass, own_entries, receipt_of}
+use Rattle.client_session.specs.Grants.{GrantedModel, TellsGrants}
 use Rattle.client_session.specs.Drivers.{IsDriver, who_of}
 use Rattle.client_session.specs.Turns.{IsSession}
-use Rattle.master_desk.proofs.Agreement.{nothing_seen}
-use Rattle.master_desk.proofs.OwnSteps.{own_above}
-use Rattle.master_desk.proofs.Passes.{pass_first}
+use Rattle.client_session.proofs.Agreement.{nothing_seen}
+use Rattle.client_session.proofs.OwnSteps.{own_above}
+use Rattle.client_session.proofs.Passes.{pass_first}
 
 module _ (root : RootModel Entry Setting) (seat : TurnSeatModel Entry Setting) (turned position number : ℕ) (granted : GrantedModel) (h : IsDriver root turned position granted)
     (seat_is : seat ≡ next_seat root) (number_is : number ≡ root.made + 1) where

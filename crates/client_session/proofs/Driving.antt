@@ -11,13 +11,16 @@ use Rattle.journal.specs.declared.opening.Opening.{Opening}
 use Rattle.journal.specs.Answer.{room}
 use Rattle.journal.specs.Journal.{entry, version_of}
 use Rattle.rank_board.specs.Models.{SeatModel}
-use Rattle.master_desk.specs.declared.desk.Setting.{Setting}
-use Rattle.master_desk.specs.Answers.{Answer, answer_of, Receipt, Spent}
-use Rattle.master_desk.specs.Desk.{AddsEntry, IsSeen}
-use Rattle.master_desk.specs.Grants.{GrantedModel, TellsGrants}
+use Rattle.client_session.specs.declared.desk.Setting.{Setting}
+use Rattle.client_session.specs.declared.receipt.Answer.{Answer}
+use Rattle.client_session.specs.Answers.{answer_of}
+use Rattle.client_session.specs.declared.receipt.Receipt.{Receipt}
+use Rattle.client_session.specs.declared.receipt.Answer.TheVariants.{Spent}
+use Rattle.client_session.specs.Desk.{AddsEntry, IsSeen}
+use Rattle.client_session.specs.Grants.{GrantedModel, TellsGrants}
 use Rattle.client_session.specs.Drivers.{GrownByOthers, IsDrivenOn, IsDriver, IsDriverTurn, IsStopped, StaysInHall, who_of}
 use Rattle.client_session.specs.Models.{DriverModel}
-use Rattle.master_desk.proofs.Agreement.{room_met}
+use Rattle.client_session.proofs.Agreement.{room_met}
 use Rattle.client_session.proofs.Turning.{done_in, full_in, is_done, is_full_answer}
 
 abbrev pub Roots : Type 0

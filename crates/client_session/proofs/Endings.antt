@@ -4,23 +4,23 @@ use Rattle.std.specs.Prelude.{All, AllPairs, Contains}
 use Rattle.std.proofs.lemmas.Bool.{cases_eq}
 use Rattle.std.proofs.lemmas.List.Elements.{All-append, All-contains, All-cons, All-head, All-nil, All-tail}
 use Rattle.std.proofs.lemmas.List.Elements.{Contains-append_cases, Contains-append_left, Contains-append_right, Contains-push, Contains-push_cases}
-use Rattle.turnstile.specs.Models.{Returned}
+use Rattle.turnstile.specs.declared.view.Returned.{Returned}
 use Rattle.turnstile.specs.Histories.{GoesOn, NoneAbove, NoneBy}
 use Rattle.turnstile.specs.Models.{EachCameBack, GoesOnForEach, RootModel, SeatModel as TurnSeatModel, takes_back}
 use Rattle.journal.specs.declared.command.Entry.{Entry}
 use Rattle.journal.specs.declared.opening.Opening.{Opening}
 use Rattle.journal.specs.Journal.{version_of}
 use Rattle.master_core.specs.Master.{MasterFacts}
-use Rattle.master_desk.specs.declared.desk.Setting.{Setting}
+use Rattle.client_session.specs.declared.desk.Setting.{Setting}
 use Rattle.client_session.specs.Closes.{HasEnded, IsClosed, IsOfCaller, StandsAt}
-use Rattle.master_desk.specs.Desk.{IsSeen}
+use Rattle.client_session.specs.Desk.{IsSeen}
 use Rattle.client_session.specs.Drivers.{GrownByOthers, who_of}
 use Rattle.client_session.specs.Models.{DriverModel, HallModel, SessionModel}
-use Rattle.master_desk.specs.Own.{own_entries, own_entry, OwnEntry}
+use Rattle.client_session.specs.Own.{own_entries, own_entry, OwnEntry}
 use Rattle.client_session.specs.Returns.{AreReturned, IsReturned, IsRootOf}
-use Rattle.master_desk.specs.Desk.{WasMet}
+use Rattle.client_session.specs.Desk.{WasMet}
 use Rattle.client_session.proofs.Driving.{all_right, alone}
-use Rattle.master_desk.proofs.OwnSteps.{own_same}
+use Rattle.client_session.proofs.OwnSteps.{own_same}
 use Rattle.client_session.proofs.Standing.{is_own, note_is_true, own_rise, own_stand}
 
 abbrev pub Back : Type 0

@@ -10,17 +10,17 @@ use Rattle.turnstile.specs.Models.{RootModel, SeatModel as TurnSeatModel}
 use Rattle.journal.specs.declared.command.Entry.{Entry}
 use Rattle.rank_board.specs.Models.{saw_front, SeatModel}
 use Rattle.rank_board.specs.declared.pulls.Pull.{Pull}
-use Rattle.master_desk.specs.declared.desk.Setting.{Setting}
-use Rattle.master_desk.specs.Answers.{Receipt}
-use Rattle.master_desk.specs.Desk.{IsSeen}
-use Rattle.master_desk.specs.Grants.{GrantedModel, TellsGrants}
+use Rattle.client_session.specs.declared.desk.Setting.{Setting}
+use Rattle.client_session.specs.declared.receipt.Receipt.{Receipt}
+use Rattle.client_session.specs.Desk.{IsSeen}
+use Rattle.client_session.specs.Grants.{GrantedModel, TellsGrants}
 use Rattle.client_session.specs.Drivers.{IsDriver, who_of}
 use Rattle.client_session.specs.Levels.{AreRaised, IsLevel, IsMetByEach, IsMetByOne, IsNewest, IsRaised}
 use Rattle.client_session.specs.Models.{DriverModel, HallModel, IsDriverOf, IsSessionOf, SessionModel}
-use Rattle.master_desk.specs.Own.{IsPass, own_entries, receipt_of}
+use Rattle.client_session.specs.Own.{IsPass, own_entries, receipt_of}
 use Rattle.client_session.specs.Turns.{IsSession}
-use Rattle.master_desk.proofs.OwnSteps.{own_same}
-use Rattle.master_desk.proofs.Passes.{keeps_more, pass_later}
+use Rattle.client_session.proofs.OwnSteps.{own_same}
+use Rattle.client_session.proofs.Passes.{keeps_more, pass_later}
 use Rattle.client_session.proofs.Driving.{driver_model}
 use Rattle.client_session.proofs.Turning.{model}
 

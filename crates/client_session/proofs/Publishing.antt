@@ -17,10 +17,12 @@ use Rattle.journal.proofs.Legal.{legal_rest}
 use Rattle.journal.proofs.Versions.{version_is_next}
 use Rattle.master_core.specs.Published.{ranked, TellsPlaces}
 use Rattle.master_core.proofs.PublishTells.{last_is}
-use Rattle.master_desk.specs.Answers.{Answer, answer_of, makes_version, Receipt}
-use Rattle.master_desk.specs.Desk.{AddsEntry, IsSeen}
+use Rattle.client_session.specs.declared.receipt.Answer.{Answer}
+use Rattle.client_session.specs.Answers.{answer_of, makes_version}
+use Rattle.client_session.specs.declared.receipt.Receipt.{Receipt}
+use Rattle.client_session.specs.Desk.{AddsEntry, IsSeen}
 use Rattle.client_session.specs.Drivers.{HandsOut}
-use Rattle.master_desk.proofs.Agreement.{not_version}
+use Rattle.client_session.proofs.Agreement.{not_version}
 use Rattle.client_session.proofs.Turning.{done_in, is_done}
 
 -- the places of the last publishing

@@ -8,8 +8,8 @@ use Rattle.rank_board.specs.declared.pulls.Pull.{Pull}
 use Rattle.rank_board.specs.Models.{FoundAnother, looked, pulled, saw_front, saw_word, SeatModel}
 use Rattle.rank_board.specs.Pulls.{pull_of}
 use Rattle.rank_board.specs.Words.{rank_word, word_at}
-use Rattle.master_desk.specs.Own.{IsPass, OwnEntry}
-use Rattle.master_desk.proofs.Passes.{pass_later, pass_noted}
+use Rattle.client_session.specs.Own.{IsPass, OwnEntry}
+use Rattle.client_session.proofs.Passes.{pass_later, pass_noted}
 
 saw_pulls : (version coflow word : ℕ) (seat : SeatModel) → (saw_word version coflow word seat).pulls ≡ seat.pulls
 saw_pulls version coflow word seat = go (version == 0)

@@ -12,9 +12,9 @@ use Rattle.journal.specs.Versions.{IsMade}
 use Rattle.journal.proofs.Growth.{version_append}
 use Rattle.journal.proofs.VersionEntries.{made}
 use Rattle.rank_board.specs.declared.pulls.Pull.{Pull}
-use Rattle.master_desk.specs.Own.{own_entries, own_entry, own_from, OwnEntry, StandsBetween, version_before, versions_in}
+use Rattle.client_session.specs.Own.{own_entries, own_entry, own_from, OwnEntry, StandsBetween, version_before, versions_in}
 use Rattle.client_session.specs.Closes.{IsTrueNote, StandsAt}
-use Rattle.master_desk.proofs.OwnSteps.{own_append}
+use Rattle.client_session.proofs.OwnSteps.{own_append}
 
 stands_here : (number : ℕ) (before more : List Entry) (x : Entry) (n v : ℕ) → x.who ≡ number → n ≡ length before → v ≡ version_of before →
     StandsAt (before ++ x ∷ more) number (own_entry (n + 1) (v + versions_in x.reply) x.command x.reply)

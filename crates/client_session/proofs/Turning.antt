@@ -11,15 +11,17 @@ use Rattle.journal.specs.Entries.{is_driving}
 use Rattle.journal.specs.Journal.{entry, version_of}
 use Rattle.rank_board.specs.declared.pulls.Pull.{Pull}
 use Rattle.rank_board.specs.Models.{SeatModel}
-use Rattle.master_desk.specs.declared.desk.Setting.{Setting}
-use Rattle.master_desk.specs.Answers.{Answer, Done, Full, Receipt}
-use Rattle.master_desk.specs.Own.{IsPass, own_entries, receipt_of}
+use Rattle.client_session.specs.declared.desk.Setting.{Setting}
+use Rattle.client_session.specs.declared.receipt.Answer.{Answer}
+use Rattle.client_session.specs.declared.receipt.Answer.TheVariants.{Done, Full}
+use Rattle.client_session.specs.declared.receipt.Receipt.{Receipt}
+use Rattle.client_session.specs.Own.{IsPass, own_entries, receipt_of}
 use Rattle.client_session.specs.Models.{SessionModel}
-use Rattle.master_desk.specs.Desk.{AddsEntry, IsSeen, KeepsLooks, MetAt}
+use Rattle.client_session.specs.Desk.{AddsEntry, IsSeen, KeepsLooks, MetAt}
 use Rattle.client_session.specs.Turns.{IsDone, IsFull, IsSession, IsTurn, KeepsPlace}
-use Rattle.master_desk.proofs.Agreement.{quiet_room, room_met}
-use Rattle.master_desk.proofs.OwnSteps.{own_same}
-use Rattle.master_desk.proofs.Passes.{pass_later}
+use Rattle.client_session.proofs.Agreement.{quiet_room, room_met}
+use Rattle.client_session.proofs.OwnSteps.{own_same}
+use Rattle.client_session.proofs.Passes.{pass_later}
 use Rattle.client_session.proofs.Answered.{later_answered, looks_answered, newer_answered, not_older_answered, own_answered, pass_answered, receipts_answered, version_answered}
 
 abbrev pub who_of : Entry → ℕ

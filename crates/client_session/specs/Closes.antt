@@ -8,10 +8,10 @@ use Rattle.master_core.specs.Master.{MasterFacts}
 use Rattle.rank_board.specs.declared.pulls.Pull.{Pull}
 use Rattle.client_session.specs.declared.close.CloseFault.{CloseFault}
 use Rattle.client_session.specs.declared.close.CloseFault.TheVariants.{Missing, NoMemory}
-use Rattle.master_desk.specs.Desk.{IsSeen}
+use Rattle.client_session.specs.Desk.{IsSeen}
 use Rattle.client_session.specs.Drivers.{GrownByOthers}
 use Rattle.client_session.specs.Models.{DriverModel, HallModel, SessionModel}
-use Rattle.master_desk.specs.Own.{own_entries, own_entry, OwnEntry}
+use Rattle.client_session.specs.Own.{own_entries, own_entry, OwnEntry}
 
 -- the caller's entry stands in the journal at its position, and its version is the newest one after it
 pub record StandsAt (journal : List Entry) (number : ℕ) (e : OwnEntry) : Type 0 where

@@ -11,10 +11,12 @@ use Rattle.journal.specs.Journal.{entry, is_full, left_at, order_in, version_of}
 use Rattle.master_core.specs.Published.{ranked}
 use Rattle.turnstile.specs.Histories.{NoneAbove, NoneBy}
 use Rattle.turnstile.specs.Models.{RootModel}
-use Rattle.master_desk.specs.declared.desk.Setting.{Setting}
-use Rattle.master_desk.specs.Answers.{Answer, Done, Full, Receipt, Spent}
-use Rattle.master_desk.specs.Desk.{IsSeen}
-use Rattle.master_desk.specs.Grants.{GrantedModel, TellsGrants}
+use Rattle.client_session.specs.declared.desk.Setting.{Setting}
+use Rattle.client_session.specs.declared.receipt.Answer.{Answer}
+use Rattle.client_session.specs.declared.receipt.Answer.TheVariants.{Done, Full, Spent}
+use Rattle.client_session.specs.declared.receipt.Receipt.{Receipt}
+use Rattle.client_session.specs.Desk.{IsSeen}
+use Rattle.client_session.specs.Grants.{GrantedModel, TellsGrants}
 use Rattle.client_session.specs.Models.{DriverModel}
 
 abbrev pub who_of : Entry → ℕ

@@ -1,7 +1,7 @@
 -- What the driver and sessions are after they told each other what they have seen.
 use Rattle.std.specs.Prelude.{◌≡◌, ℕ, ◌≤◌, List, [], ◌∷◌, All}
 use Rattle.rank_board.specs.Models.{SeatModel}
-use Rattle.master_desk.specs.Desk.{KeepsLooks}
+use Rattle.client_session.specs.Desk.{KeepsLooks}
 use Rattle.client_session.specs.Models.{DriverModel, SessionModel}
 
 -- the session has seen a journal at least as long and a version at least as new, and may have loaded further words;

@@ -1,7 +1,11 @@
-pub mod Models
-pub mod Turns
+pub mod Answers
+pub mod Closes
+pub mod Desk
 pub mod Drivers
+pub mod Grants
 pub mod Halls
 pub mod Levels
+pub mod Models
+pub mod Own
 pub mod Returns
-pub mod Closes
+pub mod Turns

@@ -3,8 +3,8 @@ use Rattle.std.specs.Prelude.{◌≡◌, ℕ, ◌≤◌, List, Option, Some, All
 use Rattle.atomic_table.specs.Seated.{TableId}
 use Rattle.journal.specs.declared.command.Entry.{Entry}
 use Rattle.rank_board.specs.Models.{SeatModel}
-use Rattle.master_desk.specs.declared.desk.Setting.{Setting}
-use Rattle.master_desk.specs.Own.{OwnEntry}
+use Rattle.client_session.specs.declared.desk.Setting.{Setting}
+use Rattle.client_session.specs.Own.{OwnEntry}
 
 -- a hall: which one it is, and what no call changes of it: the master's opening, and the board of ranks
 pub record HallModel : Type 0 where

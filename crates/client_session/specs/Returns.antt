@@ -2,12 +2,12 @@
 use Rattle.std.specs.Prelude.{◌≡◌, ◌<◌, ◌≤◌, false, List, [], ◌∷◌, All, length, Some}
 use Rattle.journal.specs.declared.command.Entry.{Entry}
 use Rattle.rank_board.specs.declared.pulls.Pull.{Pull}
-use Rattle.turnstile.specs.Models.{Returned}
+use Rattle.turnstile.specs.declared.view.Returned.{Returned}
 use Rattle.turnstile.specs.Models.{RootModel, SeatModel as TurnSeatModel}
-use Rattle.master_desk.specs.declared.desk.Setting.{Setting}
+use Rattle.client_session.specs.declared.desk.Setting.{Setting}
 use Rattle.client_session.specs.Drivers.{GrownByOthers}
 use Rattle.client_session.specs.Models.{DriverModel, SessionModel}
-use Rattle.master_desk.specs.Own.{IsPass, own_entries}
+use Rattle.client_session.specs.Own.{IsPass, own_entries}
 
 -- what a session keeps of its noted pulls: they stand between its entries, and are of coflows of the table
 pub record KeepsNotes (s : SessionModel) : Type 0 where

@@ -7,10 +7,12 @@ use Rattle.journal.specs.Journal.{entry, is_full, is_version, version_of}
 use Rattle.rank_board.specs.declared.pulls.Pull.{Pull}
 use Rattle.rank_board.specs.Models.{SeatModel}
 use Rattle.turnstile.specs.Models.{SeatModel as TurnSeatModel}
-use Rattle.master_desk.specs.declared.desk.Setting.{Setting}
-use Rattle.master_desk.specs.Answers.{Answer, Done, Full, Receipt, Spent}
-use Rattle.master_desk.specs.Desk.{IsSeen, KeepsLooks}
-use Rattle.master_desk.specs.Own.{IsPass, look_version, own_entries, own_entry, receipt_of}
+use Rattle.client_session.specs.declared.desk.Setting.{Setting}
+use Rattle.client_session.specs.declared.receipt.Answer.{Answer}
+use Rattle.client_session.specs.declared.receipt.Answer.TheVariants.{Done, Full, Spent}
+use Rattle.client_session.specs.declared.receipt.Receipt.{Receipt}
+use Rattle.client_session.specs.Desk.{IsSeen, KeepsLooks}
+use Rattle.client_session.specs.Own.{IsPass, look_version, own_entries, own_entry, receipt_of}
 use Rattle.client_session.specs.Models.{SessionModel}
 
 -- a turn call leaves the session in its hall, with its number and its noted pulls; it forgets no word that was loaded

@@ -3,17 +3,20 @@ ghost use Rattle.std.specs.Prelude.{◌≡◌, ℕ, ◌+◌, ◌-◌, ◌<◌, �
 ghost use Rattle.journal.specs.Answer.{IsInRange};
 ghost use Rattle.journal.specs.declared.command.Command.TheVariants.{Close, Open, Publish, Register, Short, Skip, Withdraw};
 ghost use Rattle.turnstile.specs.Histories.{NoneAbove};
-ghost use Rattle.master_desk.specs.declared.desk.Setting.{Setting};
-ghost use Rattle.master_desk.specs.Desk.{IsSeen};
+ghost use Rattle.client_session.specs.declared.desk.Setting.{Setting};
+ghost use Rattle.client_session.specs.Desk.{IsSeen};
 ghost use Rattle.client_session.specs.Models.{IsDriverOf};
-ghost use Rattle.master_desk.specs.Grants.{all_granted, flow_granted};
+ghost use Rattle.client_session.specs.Grants.{all_granted, flow_granted};
 ghost use Rattle.client_session.specs.Drivers.{HandsOut, IsDriverTurn, who_of};
 ghost use Rattle.client_session.specs.Returns.{IsRootOf};
 
+use crate::desk::Desk;
+use crate::granted::Granted;
 use crate::hall::Hall;
+use crate::receipt::{Answer, is_spent, is_version};
+use crate::turn::end_turn;
 use coflow_units::Place;
 use journal::{Command, Reply};
-use master_desk::{Answer, Desk, Granted, end_turn, is_spent, is_version};
 use rank_board::RankSeat;
 use std::marker::Model;
 use std::sync::Wait;

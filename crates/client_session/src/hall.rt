@@ -5,11 +5,12 @@ ghost use Rattle.client_session.specs.Models.{IsDriverOf, IsSessionOf};
 ghost use Rattle.client_session.specs.Levels.{IsLevel, IsMetByEach, IsMetByOne};
 ghost use Rattle.client_session.specs.Halls.{IsFirstDriver, IsNewSession};
 
+use crate::desk::Desk;
 use crate::driver::Driver;
+use crate::parts::first_parts;
 use crate::session::Session;
 use coflow_units::NoMemory;
 use master_core::Master;
-use master_desk::{Desk, first_parts};
 use rank_board::{RankBoard, RankSeat};
 use std::alloc::Global;
 use std::marker::Model;

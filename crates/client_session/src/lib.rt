@@ -2,14 +2,20 @@
 #![tactic(auto)]
 
 mod close;
+mod desk;
 mod driver;
+mod granted;
 mod hall;
+mod meeting;
+mod parts;
+mod receipt;
 mod session;
+mod turn;
 
 pub use close::{CloseFault, Closing};
 pub use driver::Driver;
 pub use hall::Hall;
 pub use journal::{Command, Entry, Opening, Reply};
-pub use master_desk::{Answer, Receipt};
 pub use rank_board::Pulled;
+pub use receipt::{Answer, Receipt};
 pub use session::Session;

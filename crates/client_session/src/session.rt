@@ -6,13 +6,14 @@ ghost use Rattle.journal.specs.Entries.{is_driving};
 ghost use Rattle.journal.specs.declared.command.Command.TheVariants.{Publish, Pull, Register, Reweigh, Withdraw};
 ghost use Rattle.rank_board.specs.Models.{FoundAnother, pulled, saw_front, SeatModel};
 ghost use Rattle.client_session.specs.Models.{IsSessionOf};
-ghost use Rattle.master_desk.specs.Own.{IsPass, receipt_of};
+ghost use Rattle.client_session.specs.Own.{IsPass, receipt_of};
 ghost use Rattle.client_session.specs.Returns.{IsSeatOf, KeepsNotes};
 ghost use Rattle.client_session.specs.Turns.{IsTurn};
 
+use crate::desk::Desk;
 use crate::hall::Hall;
+use crate::receipt::{Answer, Receipt, is_spent};
 use journal::Command;
-use master_desk::{Answer, Desk, Receipt, is_spent};
 use rank_board::{Pulled, RankSeat};
 use std::marker::Model;
 use std::sync::Wait;
@@ -48,7 +49,7 @@ impl Drop for Session {
 impl Model for Session {
     ghost use Rattle.std.specs.Prelude.{vec_capacity};
     ghost use Rattle.client_session.specs.Models.{SessionModel};
-    ghost use Rattle.master_desk.specs.Own.{own_entries};
+    ghost use Rattle.client_session.specs.Own.{own_entries};
     ghost use Rattle.client_session.specs.Turns.{IsSession};
 
     ghost Value = { SessionModel };

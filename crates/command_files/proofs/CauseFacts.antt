@@ -8,8 +8,8 @@ use Rattle.coflow_units.specs.declared.quantity.Quantity.{Quantity}
 use Rattle.outside.specs.declared.shelf.Place4.{Place4}
 use Rattle.outside.specs.declared.shelf.Place4.TheVariants as place
 use Rattle.outside.specs.Shelf.{Told, bytes_of}
-use Rattle.command_status.specs.declared.status.Status.{Status}
-use Rattle.command_status.specs.declared.status.Status.TheVariants as status
+use Rattle.command_files.specs.declared.status.Status.{Status}
+use Rattle.command_files.specs.declared.status.Status.TheVariants as status
 use Rattle.command_files.specs.Causes.{FileFailed, FilesBadReport, FilesGiveTable, FilesLimit, HasCauseInFiles, IsGiven}
 use Rattle.command_files.specs.Causes.FileFailed.{at_input, at_report}
 use Rattle.command_files.specs.Causes.FilesLimit.{in_input, in_report}

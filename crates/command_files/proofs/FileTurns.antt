@@ -6,8 +6,8 @@ use Rattle.command_words.specs.Jobs.Job.{audit_job, check_job, classes_job, comp
 use Rattle.command_words.specs.Words.{Said}
 use Rattle.outside.specs.declared.shelf.Place4.TheVariants as place
 use Rattle.outside.specs.Shelf.{Told}
-use Rattle.command_status.specs.declared.status.Status.{Status}
-use Rattle.command_status.specs.declared.status.Status.TheVariants as status
+use Rattle.command_files.specs.declared.status.Status.{Status}
+use Rattle.command_files.specs.declared.status.Status.TheVariants as status
 use Rattle.command_files.specs.Causes.{FilesGiveTable}
 use Rattle.command_files.specs.Ends.{IsReadFault}
 use Rattle.command_files.specs.FileCauses.{NameFailed, NameFailedIf}

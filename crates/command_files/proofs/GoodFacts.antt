@@ -8,14 +8,14 @@ use Rattle.coflow_units.specs.declared.quantity.Quantity.{Quantity}
 use Rattle.coflow_units.specs.declared.trace.CoflowLine.{CoflowLine}
 use Rattle.flow_table.specs.Sent.{sent}
 use Rattle.flow_table.proofs.FlowsOne.{flows_one}
-use Rattle.live_reader.specs.Reading.{IsBadAt, IsTextOf}
+use Rattle.live_text.specs.Reading.{IsBadAt, IsTextOf}
 use Rattle.outside.specs.Shelf.{Told, bytes_of}
-use Rattle.script_reader.specs.declared.fault.ScriptFault.{ScriptFault}
-use Rattle.script_reader.specs.declared.fault.ScriptFault.TheVariants as script_fault
+use Rattle.workload.specs.declared.fault.ScriptFault.{ScriptFault}
+use Rattle.workload.specs.declared.fault.ScriptFault.TheVariants as script_fault
 use Rattle.trace_reader.specs.Trace.{trace_of}
 use Rattle.weights.specs.declared.fault.WeightsFault.{WeightsFault}
-use Rattle.command_status.specs.declared.status.Status.{Status}
-use Rattle.command_status.specs.declared.status.Status.TheVariants as status
+use Rattle.command_files.specs.declared.status.Status.{Status}
+use Rattle.command_files.specs.declared.status.Status.TheVariants as status
 use Rattle.command_files.specs.Causes.{FilesBadScript, FilesGiveScript, FilesGiveShared, FilesGiveTable, HasCauseInFiles, IsGiven}
 use Rattle.command_files.specs.Causes.FilesLimit.{in_input, in_report, in_script, in_shared}
 use Rattle.command_files.specs.Reports.{HasReportText, IsJournalText, IsReportText}
@@ -29,8 +29,8 @@ use Rattle.command_files.specs.Scripts.{HasMoreUnits, HasScriptText}
 use Rattle.command_files.specs.TraceCauses.{HasTraceFault, TraceLimit}
 use Rattle.command_files.specs.WeightsCauses.{IsFaultOf, WeightsLimit}
 use Rattle.trace_reader.specs.declared.fault.TraceFault.{TraceFault}
-use Rattle.verdicts.specs.AnyReport.{IsAnyBadAt, IsAnyText}
-use Rattle.verdicts.proofs.OneReport.{text_or_bad}
+use Rattle.online_check.specs.AnyReport.{IsAnyBadAt, IsAnyText}
+use Rattle.online_check.proofs.OneReport.{text_or_bad}
 
 -- ---- a text that reads has no fault
 

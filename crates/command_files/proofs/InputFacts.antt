@@ -15,11 +15,11 @@ use Rattle.outside.specs.declared.shelf.Place4.TheVariants as place
 use Rattle.outside.specs.Rose.{Rose}
 use Rattle.outside.specs.Shelf.{Told, bytes_of}
 use Rattle.trace_reader.specs.Trace.{trace_of}
-use Rattle.command_status.specs.declared.status.Status.{Status}
-use Rattle.command_status.specs.declared.status.Status.TheVariants as status
+use Rattle.command_files.specs.declared.status.Status.{Status}
+use Rattle.command_files.specs.declared.status.Status.TheVariants as status
 use Rattle.command_files.specs.FileCauses.{NameFailed, NameFailedIf}
 use Rattle.command_files.specs.InputCauses.{GiveTable, HasInputCause, HasWeightsFault, InputFailed, LimitCause}
-use Rattle.command_status.specs.Faults.{IsStatusOfTable}
+use Rattle.command_files.specs.Faults.{IsStatusOfTable}
 use Rattle.command_files.specs.InputCauses.LimitCause.{in_trace, in_weights, in_table}
 use Rattle.command_files.specs.InputCauses.InputFailed.{at_trace, at_weights}
 use Rattle.command_files.specs.Inputs.{GiveWeights, Gives, IsInput, IsTraceOf, IsTraceText, IsWeightsOf, bytes_if}

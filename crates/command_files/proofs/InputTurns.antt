@@ -7,11 +7,11 @@ use Rattle.outside.specs.declared.shelf.Place4.{Place4}
 use Rattle.outside.specs.declared.shelf.Place4.TheVariants as place
 use Rattle.outside.specs.Rose.{RoseOnce}
 use Rattle.outside.specs.Shelf.{Told}
-use Rattle.command_status.specs.declared.status.Status.{Status}
-use Rattle.command_status.specs.declared.status.Status.TheVariants as status
+use Rattle.command_files.specs.declared.status.Status.{Status}
+use Rattle.command_files.specs.declared.status.Status.TheVariants as status
 use Rattle.command_files.specs.Ends.{IsReadFault, CountsFault}
 use Rattle.command_files.specs.FileCauses.{NameFailed, NameFailedIf}
-use Rattle.command_status.specs.Faults.{IsStatusOfTable}
+use Rattle.command_files.specs.Faults.{IsStatusOfTable}
 use Rattle.command_files.specs.Inputs.{IsTraceOf}
 use Rattle.command_files.specs.Shelves.{IsAsBefore, IsAsBeforeUnless, IsReadOut, KeepsFiles, KeepsOthers, OfBoth}
 use Rattle.command_files.specs.TraceCauses.{IsTraceCause}

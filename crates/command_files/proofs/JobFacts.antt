@@ -4,8 +4,8 @@ use Rattle.command_words.specs.Jobs.{Job, trace_name}
 use Rattle.command_words.specs.Jobs.Job.{audit_job, check_job, classes_job, compare_job, live_job, make_job, online_job, plan_job}
 use Rattle.command_words.specs.Words.{Said}
 use Rattle.outside.specs.Shelf.{Told}
-use Rattle.verdicts.proofs.OneReport.{any_line_one}
-use Rattle.command_status.specs.declared.status.Status.{Status}
+use Rattle.online_check.proofs.OneReport.{any_line_one}
+use Rattle.command_files.specs.declared.status.Status.{Status}
 use Rattle.command_files.specs.InputCauses.{HasInputCause}
 use Rattle.command_files.specs.JobCauses.{HasFilesCause, IsBadFor}
 use Rattle.command_files.proofs.CauseFacts.{input_cause}

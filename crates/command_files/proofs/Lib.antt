@@ -1,13 +1,15 @@
-pub mod ShelfFacts
+pub mod CauseFacts
+pub mod FileTurns
+pub mod GoodFacts
+pub mod InputFacts
+pub mod InputTurns
+pub mod JobFacts
 pub mod LimitFacts
+mod LiveCauses
+pub mod LiveTurns
+pub mod ReportFacts
+pub mod ScriptFacts
+pub mod ShelfFacts
+pub mod SinkFacts
 pub mod TraceFacts
 pub mod WeightsFacts
-pub mod InputFacts
-pub mod ReportFacts
-pub mod CauseFacts
-pub mod JobFacts
-pub mod InputTurns
-pub mod FileTurns
-pub mod ScriptFacts
-pub mod GoodFacts
-pub mod SinkFacts

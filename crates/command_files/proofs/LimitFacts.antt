@@ -9,10 +9,10 @@ use Rattle.coflow_units.specs.declared.quantity.Quantity.TheVariants.{Text}
 use Rattle.coflow_units.specs.declared.trace.CoflowLine.{CoflowLine}
 use Rattle.coflow_units.specs.declared.trace.Trace.{Trace}
 use Rattle.flow_table.specs.Causes.{ExceedsLimit}
-use Rattle.script_reader.specs.Checks.{ended_checks, line_checks as script_line, lines_checks as script_lines, text_checks as script_checks, word_checks}
-use Rattle.script_reader.specs.Words.{is_word, word_of}
-use Rattle.script_reader.specs.declared.fault.ScriptFault.{ScriptFault}
-use Rattle.script_reader.specs.declared.fault.ScriptFault.TheVariants as script_fault
+use Rattle.workload.specs.Checks.{ended_checks, line_checks as script_line, lines_checks as script_lines, text_checks as script_checks, word_checks}
+use Rattle.workload.specs.Words.{is_word, word_of}
+use Rattle.workload.specs.declared.fault.ScriptFault.{ScriptFault}
+use Rattle.workload.specs.declared.fault.ScriptFault.TheVariants as script_fault
 use Rattle.text_fields.specs.Checks.{Check, first_fault}
 use Rattle.text_fields.specs.Fields.{Text as Field, field_at}
 use Rattle.text_fields.specs.Lines.{Line, lines_of, without_first}

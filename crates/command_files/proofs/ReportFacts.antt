@@ -6,20 +6,20 @@ use Rattle.report.specs.declared.fault.ReportFault.{ReportFault}
 use Rattle.report.specs.declared.fault.ReportFault.TheVariants as report_fault
 use Rattle.report.specs.declared.value.Report.{Report}
 use Rattle.report.specs.Reading.{IsBadAt, IsTextOf}
-use Rattle.command_status.specs.declared.status.Status.{Status}
-use Rattle.command_status.specs.declared.status.Status.TheVariants as status
-use Rattle.verdicts.specs.declared.any_report.AnyReport.{AnyReport}
-use Rattle.verdicts.specs.declared.any_report.AnyReport.TheVariants as any
-use Rattle.verdicts.specs.AnyReport.{GivesAnyReport, IsAnyBadAt, IsAnyReport, IsAnyText}
+use Rattle.command_files.specs.declared.status.Status.{Status}
+use Rattle.command_files.specs.declared.status.Status.TheVariants as status
+use Rattle.online_check.specs.declared.any_report.AnyReport.{AnyReport}
+use Rattle.online_check.specs.declared.any_report.AnyReport.TheVariants as any
+use Rattle.online_check.specs.AnyReport.{GivesAnyReport, IsAnyBadAt, IsAnyReport, IsAnyText}
 use Rattle.command_files.specs.Reports.{IsAnyReportOf, IsReportOf, IsJournalOf}
 use Rattle.command_files.specs.FileCauses.{IsFileCause}
 use Rattle.command_files.specs.ReportCauses.{IsBadReport, IsReportCause, ReportLimit}
-use Rattle.command_status.specs.Faults.{IsStatusOfReport}
+use Rattle.command_files.specs.Faults.{IsStatusOfReport}
 use Rattle.command_files.specs.Shelves.{HasBytes, KeepsFiles}
 use Rattle.command_files.proofs.LimitFacts.{text_may}
 use Rattle.command_files.proofs.ShelfFacts.{told_before}
 use Rattle.live_text.specs.declared.value.Live.{Live}
-use Rattle.live_reader.specs.Reading.{GivesLive, IsBadAt as IsBadJournalAt, IsTextOf as IsJournalTextOf}
+use Rattle.live_text.specs.Reading.{GivesLive, IsBadAt as IsBadJournalAt, IsTextOf as IsJournalTextOf}
 
 -- ---- a report
 

@@ -4,17 +4,17 @@ use Rattle.std.specs.Prelude.{IfSome}
 use Rattle.command_words.specs.Jobs.Job.{live_job}
 use Rattle.coflow_units.specs.declared.quantity.Quantity.{Quantity}
 use Rattle.outside.specs.Shelf.{Told, bytes_of}
-use Rattle.script_reader.specs.Checks.{Answers, text_checks}
-use Rattle.script_reader.specs.Script.{script_of}
-use Rattle.script_reader.specs.declared.fault.ScriptFault.{ScriptFault}
-use Rattle.script_reader.specs.declared.fault.ScriptFault.TheVariants as script_fault
-use Rattle.script_reader.specs.declared.script.Script.{Script}
+use Rattle.workload.specs.Checks.{Answers, text_checks}
+use Rattle.workload.specs.Script.{script_of}
+use Rattle.workload.specs.declared.fault.ScriptFault.{ScriptFault}
+use Rattle.workload.specs.declared.fault.ScriptFault.TheVariants as script_fault
+use Rattle.workload.specs.declared.script.Script.{Script}
 use Rattle.text_fields.specs.Checks.{first_fault}
-use Rattle.command_status.specs.declared.status.Status.{Status}
-use Rattle.command_status.specs.declared.status.Status.TheVariants as status
+use Rattle.command_files.specs.declared.status.Status.{Status}
+use Rattle.command_files.specs.declared.status.Status.TheVariants as status
 use Rattle.command_files.specs.FileCauses.{IsFileCause}
 use Rattle.command_files.specs.ScriptCauses.{HasScriptFault, IsScriptCause, ScriptLimit}
-use Rattle.command_status.specs.Faults.{IsStatusOfScript}
+use Rattle.command_files.specs.Faults.{IsStatusOfScript}
 use Rattle.command_files.specs.Scripts.{IsScriptOf}
 use Rattle.command_files.specs.Shelves.{HasBytes, KeepsFiles}
 use Rattle.command_files.specs.TraceCauses.{IsTooLong}

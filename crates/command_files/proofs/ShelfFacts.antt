@@ -6,7 +6,7 @@ use Rattle.std.specs.declared.alloc.Global.{Global}
 use Rattle.outside.specs.declared.shelf.Place4.{Place4}
 use Rattle.outside.specs.Rose.{Rose}
 use Rattle.outside.specs.Shelf.{Keeps, ReadsWhole, Starts, Told, bytes_of}
-use Rattle.command_status.specs.declared.status.Status.{Status}
+use Rattle.command_files.specs.declared.status.Status.{Status}
 use Rattle.command_files.specs.FileCauses.{NameFailedIf}
 use Rattle.command_files.specs.Inputs.{bytes_if}
 use Rattle.command_files.specs.Shelves.{IsAsBefore, IsAsBeforeUnless, IsReadOut, IsReadOutIf, KeepsFiles, KeepsOthers, OfBoth}

@@ -9,13 +9,13 @@ use Rattle.trace_reader.specs.Checks.{Answers}
 use Rattle.trace_reader.specs.Trace.{trace_checks, trace_of}
 use Rattle.trace_reader.specs.declared.fault.TraceFault.{TraceFault}
 use Rattle.trace_reader.specs.declared.fault.TraceFault.TheVariants as trace_fault
-use Rattle.command_status.specs.declared.status.Status.{Status}
-use Rattle.command_status.specs.declared.status.Status.TheVariants as status
+use Rattle.command_files.specs.declared.status.Status.{Status}
+use Rattle.command_files.specs.declared.status.Status.TheVariants as status
 use Rattle.command_files.specs.FileCauses.{IsFileCause}
 use Rattle.command_files.specs.Inputs.{IsTraceText}
 use Rattle.command_files.specs.Shelves.{HasBytes}
 use Rattle.command_files.specs.TraceCauses.{HasTraceFault, IsTooLong, IsTraceCause, IsTraceForm, TraceLimit}
-use Rattle.command_status.specs.Faults.{IsStatusOfTrace}
+use Rattle.command_files.specs.Faults.{IsStatusOfTrace}
 use Rattle.command_files.proofs.LimitFacts.{text_may, trace_may}
 
 trace_has : (old : Option Told) (name bytes lent : List ℕ) (fault : TraceFault) → HasBytes old name bytes → lent ≡ bytes → length bytes ≤ 2 ^ 26 →

@@ -10,14 +10,14 @@ use Rattle.weights.specs.Checks.{Answers as WeightsAnswer}
 use Rattle.weights.specs.Weights.{text_checks, weights_of}
 use Rattle.weights.specs.declared.fault.WeightsFault.{WeightsFault}
 use Rattle.weights.specs.declared.fault.WeightsFault.TheVariants as weights_fault
-use Rattle.command_status.specs.declared.status.Status.{Status}
-use Rattle.command_status.specs.declared.status.Status.TheVariants as status
+use Rattle.command_files.specs.declared.status.Status.{Status}
+use Rattle.command_files.specs.declared.status.Status.TheVariants as status
 use Rattle.command_files.specs.FileCauses.{IsFileCause}
 use Rattle.command_files.specs.Inputs.{GiveWeights, IsWeightsOf, bytes_if}
 use Rattle.command_files.specs.Shelves.{HasBytes}
 use Rattle.command_files.specs.TraceCauses.{IsTooLong}
 use Rattle.command_files.specs.WeightsCauses.{IsFaultOf, IsWeightsCause, IsWeightsForm, WeightsLimit}
-use Rattle.command_status.specs.Faults.{IsStatusOfWeights}
+use Rattle.command_files.specs.Faults.{IsStatusOfWeights}
 use Rattle.command_files.proofs.LimitFacts.{text_may, weights_may}
 
 weights_have : (old : Option Told) (name bytes lent : List ℕ) (coflows : List CoflowLine) (fault : WeightsFault) → HasBytes old name bytes → lent ≡ bytes → length bytes ≤ 2 ^ 26 →

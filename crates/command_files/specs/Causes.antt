@@ -8,8 +8,8 @@ use Rattle.coflow_units.specs.declared.quantity.Quantity.TheVariants.{Units}
 use Rattle.outside.specs.Shelf.{Told, bytes_of}
 use Rattle.trace_reader.specs.declared.fault.TraceFault.{TraceFault}
 use Rattle.weights.specs.declared.fault.WeightsFault.{WeightsFault}
-use Rattle.command_status.specs.declared.status.Status.{Status}
-use Rattle.command_status.specs.declared.status.Status.TheVariants.{BadTrace, BadWeights, BadReport, BadScript, Limit, ReadFault, NoMemory}
+use Rattle.command_files.specs.declared.status.Status.{Status}
+use Rattle.command_files.specs.declared.status.Status.TheVariants.{BadTrace, BadWeights, BadReport, BadScript, Limit, ReadFault, NoMemory}
 use Rattle.command_files.specs.FileCauses.{NameFailedIf, ShelfFailed}
 use Rattle.command_files.specs.Inputs.{bytes_if}
 use Rattle.command_files.specs.InputCauses.{GiveTable, HasWeightsFault, InputFailed, LimitCause}

@@ -1,8 +1,8 @@
 -- How a job ended: done, or at a fault of the shelf, of the sink or of a wire.
 use Rattle.std.specs.Prelude.{◌≡◌, ℕ, Result, Ok, Err}
 use Rattle.outside.specs.Rose.{RoseOnce, Rose}
-use Rattle.command_status.specs.declared.status.Status.{Status}
-use Rattle.command_status.specs.declared.status.Status.TheVariants as status
+use Rattle.command_files.specs.declared.status.Status.{Status}
+use Rattle.command_files.specs.declared.status.Status.TheVariants as status
 
 -- the job was done: its text was written whole
 abbrev pub IsDone : Status → Type 0

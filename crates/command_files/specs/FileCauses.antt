@@ -3,8 +3,8 @@ use Rattle.std.specs.Prelude.{◌≡◌, ℕ, ◌<◌, ◌+◌, List, Option, So
 use Rattle.coflow_units.specs.declared.quantity.Quantity.TheVariants.{Text}
 use Rattle.outside.specs.Rose.{Rose}
 use Rattle.outside.specs.Shelf.{Told, bytes_of, faults_of}
-use Rattle.command_status.specs.declared.status.Status.{Status}
-use Rattle.command_status.specs.declared.status.Status.TheVariants.{Limit, NoMemory, ReadFault}
+use Rattle.command_files.specs.declared.status.Status.{Status}
+use Rattle.command_files.specs.declared.status.Status.TheVariants.{Limit, NoMemory, ReadFault}
 use Rattle.command_files.specs.Shelves.{OfBoth}
 
 -- the count of faults of the name rose

@@ -7,8 +7,8 @@ use Rattle.flow_table.specs.Table.{TableFacts}
 use Rattle.outside.specs.Shelf.{Told, bytes_of}
 use Rattle.trace_reader.specs.Trace.{trace_of}
 use Rattle.weights.specs.declared.fault.WeightsFault.{WeightsFault}
-use Rattle.command_status.specs.declared.status.Status.{Status}
-use Rattle.command_status.specs.declared.status.Status.TheVariants.{BadTrace, BadWeights, Limit, NoMemory, ReadFault}
+use Rattle.command_files.specs.declared.status.Status.{Status}
+use Rattle.command_files.specs.declared.status.Status.TheVariants.{BadTrace, BadWeights, Limit, NoMemory, ReadFault}
 use Rattle.command_files.specs.FileCauses.{NameFailed, NameFailedIf, ShelfFailed}
 use Rattle.command_files.specs.Inputs.{GiveWeights, Gives, IsTraceText, bytes_if}
 use Rattle.command_files.specs.Limits.{EachMayLimit}

@@ -3,10 +3,10 @@ use Rattle.std.specs.Prelude.{ℕ, List, Option}
 use Rattle.command_words.specs.Jobs.{Job}
 use Rattle.command_words.specs.Jobs.Job.{audit_job, check_job, classes_job, compare_job, live_job, make_job, online_job, plan_job}
 use Rattle.command_words.specs.Words.{Said}
-use Rattle.live_reader.specs.Reading.{IsBadAt}
+use Rattle.live_text.specs.Reading.{IsBadAt}
 use Rattle.outside.specs.Shelf.{Told}
-use Rattle.verdicts.specs.AnyReport.{IsAnyBadAt}
-use Rattle.command_status.specs.declared.status.Status.{Status}
+use Rattle.online_check.specs.AnyReport.{IsAnyBadAt}
+use Rattle.command_files.specs.declared.status.Status.{Status}
 use Rattle.command_files.specs.Causes.{FilesBadReport, HasCauseInFiles}
 
 -- Where a text of the other file of a job is bad. That of `audit` is a printed journal. All others are reports: of an

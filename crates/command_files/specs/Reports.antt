@@ -5,9 +5,9 @@ use Rattle.outside.specs.Shelf.{Told, bytes_of}
 use Rattle.report.specs.declared.value.Report.{Report}
 use Rattle.report.specs.Reading.{IsTextOf}
 use Rattle.report.specs.Report.{HasSmallNumbers, IsReport}
-use Rattle.verdicts.specs.declared.any_report.AnyReport.{AnyReport}
-use Rattle.verdicts.specs.AnyReport.{IsAnyReport, IsAnyText}
-use Rattle.live_reader.specs.Reading.{IsTextOf as IsJournalTextOf}
+use Rattle.online_check.specs.declared.any_report.AnyReport.{AnyReport}
+use Rattle.online_check.specs.AnyReport.{IsAnyReport, IsAnyText}
+use Rattle.live_text.specs.Reading.{IsTextOf as IsJournalTextOf}
 use Rattle.live_text.specs.declared.value.Live.{Live}
 use Rattle.live_text.specs.Live.{IsLive}
 

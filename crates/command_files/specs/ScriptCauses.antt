@@ -4,12 +4,12 @@ use Rattle.coflow_units.specs.declared.limits.TheConstants.{MAX_TEXT}
 use Rattle.coflow_units.specs.declared.quantity.Quantity.{Quantity}
 use Rattle.coflow_units.specs.declared.quantity.Quantity.TheVariants.{Text}
 use Rattle.outside.specs.Shelf.{Told, bytes_of}
-use Rattle.script_reader.specs.Checks.{text_checks}
-use Rattle.script_reader.specs.declared.fault.ScriptFault.{ScriptFault}
-use Rattle.script_reader.specs.declared.fault.ScriptFault.TheVariants as script_fault
+use Rattle.workload.specs.Checks.{text_checks}
+use Rattle.workload.specs.declared.fault.ScriptFault.{ScriptFault}
+use Rattle.workload.specs.declared.fault.ScriptFault.TheVariants as script_fault
 use Rattle.text_fields.specs.Checks.{first_fault}
-use Rattle.command_status.specs.declared.status.Status.{Status}
-use Rattle.command_status.specs.declared.status.Status.TheVariants.{BadScript, Limit, NoMemory, ReadFault}
+use Rattle.command_files.specs.declared.status.Status.{Status}
+use Rattle.command_files.specs.declared.status.Status.TheVariants.{BadScript, Limit, NoMemory, ReadFault}
 use Rattle.command_files.specs.FileCauses.{NameFailed, ShelfFailed}
 use Rattle.command_files.specs.Limits.{ClientsMayLimit}
 use Rattle.command_files.specs.WeightsCauses.{AreTooLong}

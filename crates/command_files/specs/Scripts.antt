@@ -4,9 +4,9 @@ use Rattle.coflow_units.specs.declared.fabric.Flow.{Flow}
 use Rattle.coflow_units.specs.declared.limits.TheConstants.{MAX_LIVE_UNITS, MAX_TEXT}
 use Rattle.flow_table.specs.Table.{TableFacts}
 use Rattle.outside.specs.Shelf.{Told, bytes_of}
-use Rattle.script_reader.specs.Checks.{text_checks}
-use Rattle.script_reader.specs.Script.{script_of}
-use Rattle.script_reader.specs.declared.script.Script.{Script}
+use Rattle.workload.specs.Checks.{text_checks}
+use Rattle.workload.specs.Script.{script_of}
+use Rattle.workload.specs.declared.script.Script.{Script}
 use Rattle.text_fields.specs.Checks.{first_fault}
 
 -- the text is that of a script over the coflows of these ids: it is short, and all its checks hold

@@ -8,8 +8,8 @@ use Rattle.text_fields.specs.Checks.{first_fault}
 use Rattle.trace_reader.specs.Trace.{trace_checks}
 use Rattle.trace_reader.specs.declared.fault.TraceFault.{TraceFault}
 use Rattle.trace_reader.specs.declared.fault.TraceFault.TheVariants as trace_fault
-use Rattle.command_status.specs.declared.status.Status.{Status}
-use Rattle.command_status.specs.declared.status.Status.TheVariants.{BadTrace, Limit, NoMemory, ReadFault}
+use Rattle.command_files.specs.declared.status.Status.{Status}
+use Rattle.command_files.specs.declared.status.Status.TheVariants.{BadTrace, Limit, NoMemory, ReadFault}
 use Rattle.command_files.specs.FileCauses.{NameFailed, ShelfFailed}
 use Rattle.command_files.specs.Limits.{EachMayLimit}
 

@@ -4,8 +4,8 @@ use Rattle.command_words.specs.Jobs.{report_name, script_name, trace_name}
 use Rattle.command_words.specs.Words.{Said}
 use Rattle.outside.specs.declared.shelf.Place4.TheVariants as place
 use Rattle.outside.specs.Shelf.{Told, bytes_of}
-use Rattle.command_status.specs.declared.status.Status.{Status}
-use Rattle.command_status.specs.declared.status.Status.TheVariants.{ReadFault}
+use Rattle.command_files.specs.declared.status.Status.{Status}
+use Rattle.command_files.specs.declared.status.Status.TheVariants.{ReadFault}
 use Rattle.command_files.specs.Causes.{FilesGiveShared, FilesGiveTable, IsGiven}
 use Rattle.command_files.specs.FileCauses.{NameFailedIf}
 use Rattle.command_files.specs.Inputs.{IsTraceText}

@@ -1,7 +1,7 @@
 -- Why a plan was not served.
 use Rattle.std.specs.Prelude.{◌≡◌, ℕ}
-use Rattle.command_status.specs.declared.status.Status.{Status}
-use Rattle.command_status.specs.declared.status.Status.TheVariants.{WireFault}
+use Rattle.command_files.specs.declared.status.Status.{Status}
+use Rattle.command_files.specs.declared.status.Status.TheVariants.{WireFault}
 
 -- the cause of a wire fault: one is counted, and this holds of the port
 abbrev pub IsWireCause : (ℕ → Type 0) → Status → Type 0

@@ -5,9 +5,9 @@ ghost use Rattle.coflow_units.specs.Trace.{IsTrace};
 ghost use Rattle.flow_table.specs.Table.{IsTable, IsTableOf};
 ghost use Rattle.outside.specs.declared.shelf.Place4.{Place4};
 ghost use Rattle.outside.specs.Shelf.{bytes_of};
-ghost use Rattle.live_reader.specs.Reading.{IsBadAt as IsBadJournalAt};
+ghost use Rattle.live_text.specs.Reading.{IsBadAt as IsBadJournalAt};
 ghost use Rattle.report.specs.Reading.{IsBadAt};
-ghost use Rattle.verdicts.specs.AnyReport.{IsAnyBadAt};
+ghost use Rattle.online_check.specs.AnyReport.{IsAnyBadAt};
 ghost use Rattle.command_files.specs.Reports.{IsJournalOf, IsAnyReportOf, IsReportOf};
 ghost use Rattle.command_files.specs.Ends.{CountsFault};
 ghost use Rattle.command_files.specs.FileCauses.{IsFileCause};
@@ -21,18 +21,17 @@ ghost use Rattle.command_files.specs.TraceCauses.{IsTraceCause};
 ghost use Rattle.command_files.specs.Turns.{InputInTurn};
 ghost use Rattle.command_files.specs.WeightsCauses.{IsWeightsCause};
 
+use crate::status::Status;
 use coflow_units::{Items, MAX_REPORT, MAX_TEXT, NoMemory, Quantity, Trace, UnitSize};
-use command_status::Status;
 use flow_table::{Table, TableFault};
-use live_reader::read_live;
-use live_text::Live;
+use live_text::{Live, read_live};
+use online_check::{AnyReport, read_any_report};
 use outside::{Place4, ReadStop, Shelf, read_all};
 use report::{Report, ReportFault, read_report};
-use script_reader::{Script, ScriptFault, read_script};
 use std::alloc::Global;
 use trace_reader::{TraceFault, read_trace};
-use verdicts::{AnyReport, read_any_report};
 use weights::{WeightsFault, read_weights};
+use workload::{Script, ScriptFault, read_script};
 
 /// The flows of a trace, and the weight of each of its coflows.
 #[derive(Drop)]

@@ -1,5 +1,5 @@
 //! What a command has to write.
-use command_status::Status;
+use crate::status::Status;
 
 /// The text that a command writes, and the status of the job once the text is written whole.
 #[derive(Drop)]

@@ -5,7 +5,7 @@ use Rattle.std.specs.Str.{bytes_eq}
 use Rattle.std.proofs.lemmas.Slice.Eq.{bytes_eq-Decides}
 use Rattle.command_words.specs.Jobs.{Job, alone, audit_job, both_in, check_job, classes_job, compare_job, file_in, file_job, file_of, files_job, job_of}
 use Rattle.command_words.specs.Jobs.{live_job, make_job, online_job, plan_job, seed_of}
-use Rattle.command_lines.specs.Line.{Text}
+use Rattle.command_words.specs.Line.{Text}
 
 -- The table by what FIRST and SECOND give.
 abbrev table : Option Text → Option ℕ → Option Text → Option Text → Text → Option Job

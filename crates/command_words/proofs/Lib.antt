@@ -1,2 +1,10 @@
-pub mod OneMeaning
+pub mod AcceptedLines
+pub mod Forms
 pub mod JobNames
+pub mod OneMeaning
+pub mod ParserArguments
+pub mod ParserState
+pub mod RefusedLines
+pub mod Turns
+pub mod UseLists
+pub mod Utf8

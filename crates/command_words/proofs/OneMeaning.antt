@@ -1,7 +1,7 @@
 -- Words say one thing at most.
 use Rattle.std.proofs.Common.{◌≡◌, ℕ, List, Option, Some, None, sym, ◌∙◌, subst}
 use Rattle.command_words.specs.Jobs.{Job}
-use Rattle.command_lines.specs.Line.{Text, Use, value_of}
+use Rattle.command_words.specs.Line.{Text, Use, value_of}
 use Rattle.command_words.specs.Words.{IsSaid, IsSetting, IsWords, Said}
 
 one_setting : (most default : ℕ) (value : Option Text) (m n : ℕ) → IsSetting most default value m → IsSetting most default value n → m ≡ n

@@ -3,7 +3,7 @@ use Rattle.std.specs.Prelude.{◌≡◌, ◌&&◌, ◌^◌, ℕ, Bool, true, Opt
 use Rattle.std.specs.Prelude.{[], option_map}
 use Rattle.std.specs.Str.{bytes_eq}
 use Rattle.text_fields.specs.Numbers.{is_number, number}
-use Rattle.command_lines.specs.Line.{Text}
+use Rattle.command_words.specs.Line.{Text}
 use Rattle.command_words.specs.declared.job.Job.{Job as JobWords}
 use Rattle.command_words.specs.declared.job.Job.TheVariants.{Audit, Check, Classes, Compare, Live, Make, Online, Plan}
 

@@ -1,2 +1,4 @@
 pub mod Jobs
+pub mod Line
+pub mod Parser
 pub mod Words

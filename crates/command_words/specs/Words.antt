@@ -2,7 +2,7 @@
 use Rattle.std.specs.Prelude.{◌≡◌, ℕ, ◌≤◌, true, List, Option, Some, None, IfSome, codes, drop, option_map}
 use Rattle.coflow_units.specs.declared.limits.TheConstants.{MAX_OPTION_SLOTS, MAX_SLOT_MS, MAX_UNIT}
 use Rattle.text_fields.specs.Numbers.{is_number, number}
-use Rattle.command_lines.specs.Line.{IsOnce, Text, Use, uses, value_of}
+use Rattle.command_words.specs.Line.{IsOnce, Text, Use, uses, value_of}
 use Rattle.command_words.specs.Jobs.{IsFileName, Job, job_by, job_in}
 use Rattle.command_words.specs.declared.limits.TheConstants.{MAX_OPTION_AGENTS, MAX_OPTION_CLASSES}
 use Rattle.command_words.specs.declared.options.Options.{Options}

@@ -1,14 +1,18 @@
 //! Reads the words of a command line: the job, which is a command with the names behind it, and the options.
 #![tactic(auto)]
 
+mod arguments;
+mod fault;
 mod job;
 pub mod laws;
 mod limits;
 mod options;
+mod parser;
 mod values;
 mod words;
 
-pub use command_lines::WordsFault;
+pub use arguments::{fault_by, needed_name, option_named, with_arg};
+pub use fault::WordsFault;
 pub use job::Job;
 pub use limits::{MAX_OPTION_AGENTS, MAX_OPTION_CLASSES};
 pub use options::Options;

@@ -3,17 +3,18 @@ ghost use Rattle.std.specs.Prelude.{◌≡◌, ◌↔◌, Err, IfNone, IfOk, IfS
 ghost use Rattle.clap.specs.Words.{first_value, found_of};
 ghost use Rattle.command_words.specs.Jobs.{IsFileName, job_by, job_in};
 ghost use Rattle.command_words.specs.Jobs.{Job as JobSaid};
-ghost use Rattle.command_lines.specs.Line.{texts};
+ghost use Rattle.command_words.specs.Line.{texts};
 ghost use Rattle.command_words.specs.Words.{IsSaid, IsWords, Said, said_by, said_with};
-ghost use Rattle.command_lines.specs.declared.fault.WordsFault.TheVariants.{Usage};
+ghost use Rattle.command_words.specs.declared.fault.WordsFault.TheVariants.{Usage};
 
+use crate::fault::WordsFault;
 use crate::job::{Job, job_of};
 use crate::limits::{MAX_OPTION_AGENTS, MAX_OPTION_CLASSES};
 use crate::options::Options;
+use crate::parser::matches_of;
 use crate::values::{is_file_name, setting_of, unit_of};
 use clap::ArgMatches;
 use coflow_units::{MAX_OPTION_SLOTS, MAX_SLOT_MS};
-use command_lines::{WordsFault, matches_of};
 use std::alloc::Global;
 
 /// What a command line says: the job and the options.

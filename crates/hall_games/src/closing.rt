@@ -2,9 +2,10 @@
 ghost use Rattle.std.specs.Prelude.{◌≡◌, All, IfOk};
 ghost use Rattle.client_session.specs.Models.{IsDriverOf, IsSessionOf};
 
+use crate::callers::Client;
+use crate::stop::Stop;
 use client_session::{CloseFault, Driver, Hall, Session};
 use coflow_units::NoMemory;
-use hall_callers::{Client, Stop};
 use master_core::Master;
 use std::alloc::Global;
 

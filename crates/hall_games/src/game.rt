@@ -1,13 +1,14 @@
 //! What the words of the call ask for.
 ghost use Rattle.std.specs.Prelude.{◌≤◌, IfOk};
-ghost use Rattle.hall_callers.specs.declared.callers.TheConstants.{MAX_EACH};
+ghost use Rattle.hall_games.specs.declared.callers.TheConstants.{MAX_EACH};
 
+use crate::callers::MAX_EACH;
+use crate::stop::Stop;
 use coflow_units::UnitSize;
 use flow_table::Table;
-use hall_callers::{MAX_EACH, Stop};
 use outside::Shelf;
 use std::alloc::Global;
-use trace_tables::{FileFault, TextFault, table_of_file};
+use test_support::{FileFault, TextFault, table_of_file};
 
 /// What is printed.
 #[derive(Clone, Copy, Debug, PartialEq, Eq)]

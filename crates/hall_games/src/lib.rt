@@ -2,10 +2,15 @@
 //! printed, or how long the callers took, in a hall or where a mutex stands round a master in place of it.
 #![tactic(auto)]
 
+mod callers;
 mod closing;
+mod draw;
 mod game;
+mod locked;
 mod playing;
+mod seats;
+mod stop;
 mod telling;
 
-pub use hall_callers::Stop;
 pub use playing::play_words;
+pub use stop::Stop;

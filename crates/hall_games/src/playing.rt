@@ -2,16 +2,18 @@
 ghost use denote.Param.Send.{IsSync};
 ghost use Rattle.std.specs.Prelude.{◌≡◌, ◌≤◌, All, IfOk, length};
 ghost use Rattle.client_session.specs.Models.{IsDriverOf, IsSessionOf};
-ghost use Rattle.hall_callers.specs.Callers.{IsClientOf, IsPilotOf};
-ghost use Rattle.hall_callers.specs.declared.callers.TheConstants.{MAX_EACH};
+ghost use Rattle.hall_games.specs.Callers.{IsClientOf, IsPilotOf};
+ghost use Rattle.hall_games.specs.declared.callers.TheConstants.{MAX_EACH};
 
+use crate::callers::{Client, Pilot, Size, play_all};
 use crate::closing::closed;
 use crate::game::{Game, Mode, game_of};
+use crate::locked::contend;
+use crate::seats::{begun, master_of, seated};
+use crate::stop::Stop;
 use crate::telling::{tell_end, tell_said};
 use client_session::Hall;
 use flow_table::Table;
-use hall_callers::{Client, Pilot, Size, Stop, begun, master_of, play_all, seated};
-use locked_games::contend;
 use outside::Shelf;
 use std::alloc::Global;
 use std::io;

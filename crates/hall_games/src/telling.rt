@@ -1,6 +1,8 @@
 //! What is printed of a game.
+use crate::callers::{Client, Said, Size};
 use crate::game::Mode;
-use hall_callers::{CLIENTS, Client, Said, Size, Stop};
+use crate::seats::CLIENTS;
+use crate::stop::Stop;
 use master_core::Master;
 use std::io;
 use std::time::Duration;

@@ -35,10 +35,10 @@ use Rattle.online_runs.proofs.Owed.{owes_as_flows, same_owes}
 use Rattle.online_runs.proofs.Rising.{no_epoch, one_epoch}
 use Rattle.online_runs.proofs.Standing.{below, joins_by, leaves_by, next_some, none_owing, publishes_by, skip_goes}
 use Rattle.online_runs.proofs.Times.{same_owed, same_time, skip_time, time_is}
-use Rattle.online_progress.specs.declared.progress.Progress.{Progress}
+use Rattle.online_runs.specs.declared.progress.Progress.{Progress}
 use Rattle.hall_online.specs.Halls.{HasAsked, IsReady}
 use Rattle.hall_online.specs.Serving.{ComesFirst, IsUnderWay}
-use Rattle.online_progress.specs.Tells.{TellsRun}
+use Rattle.online_runs.specs.Tells.{TellsRun}
 
 module _ (hall : HallModel) (old : RunnerModel) (arrivals : List ℕ) (every : ℕ) (s : Course) (p : Progress) (h : IsUnderWay hall old arrivals every s p) where
   abbrev o : Opening

@@ -9,7 +9,7 @@ use Rattle.coflow_units.specs.declared.limits.TheConstants.{MAX_ARRIVAL, MAX_OPT
 use Rattle.coflow_units.specs.Completion.{cost}
 use Rattle.coflow_units.specs.Schedule.{IsRuns}
 use Rattle.flow_table.specs.Table.{instance_of, TableFacts}
-use Rattle.slot_schedule.specs.RunList.{NamesFlows, pairs_of}
+use Rattle.schedule_model.specs.RunList.{NamesFlows, pairs_of}
 use Rattle.release_bound.specs.declared.place.ReleasePlace.{ReleasePlace}
 use Rattle.release_bound.specs.Release.{released_total}
 use Rattle.release_bound.specs.ReleaseOrder.{IsReleasedOrdering}
@@ -19,8 +19,8 @@ use Rattle.journal.specs.declared.opening.Opening.{Opening}
 use Rattle.journal.specs.Closed.{schedule_of, wire_of}
 use Rattle.journal.specs.Fold.{state_of}
 use Rattle.journal.specs.State.{IsOpening, owed}
-use Rattle.master_desk.specs.Desk.{IsSeen}
-use Rattle.master_desk.proofs.Agreement.{nothing_seen}
+use Rattle.client_session.specs.Desk.{IsSeen}
+use Rattle.client_session.proofs.Agreement.{nothing_seen}
 use Rattle.client_session.specs.Halls.{IsFirstDriver}
 use Rattle.client_session.specs.Models.{DriverModel, HallModel}
 use Rattle.slot_runner.specs.Models.{first_runner, RunnerModel}
@@ -32,11 +32,11 @@ use Rattle.online_runs.specs.Value.{IsOnlineOf, release_line, done_lines}
 use Rattle.online_runs.proofs.Along.{holds_first}
 use Rattle.online_runs.proofs.AtTheEnd.{run_serves}
 use Rattle.online_runs.proofs.Marks.{none_marked}
-use Rattle.online_progress.specs.declared.progress.Progress.{Progress}
+use Rattle.online_runs.specs.declared.progress.Progress.{Progress}
 use Rattle.hall_online.specs.Halls.{IsReady}
 use Rattle.hall_online.specs.Serving.{EndsAs, HaveSent, HaveServed, IsUnderWay}
-use Rattle.online_progress.specs.Tells.{TellsRun}
-use Rattle.online_progress.specs.Tallies.{IsTallied}
+use Rattle.online_runs.specs.Tells.{TellsRun}
+use Rattle.online_runs.specs.Tallies.{IsTallied}
 use Rattle.hall_online.proofs.RunSteps.{tallied_owed}
 
 abbrev opening : TableFacts → List ℕ → ℕ → Opening

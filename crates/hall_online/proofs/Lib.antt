@@ -1,8 +1,9 @@
-pub mod HandedOn
-pub mod OwnTurns
-pub mod OwnRuns
 pub mod Actions
+pub mod Begins
+pub mod HandedOn
+pub mod OwnRuns
+pub mod OwnTurns
+pub mod Publishing
 pub mod RunSteps
 pub mod ServeSteps
-pub mod Begins
-pub mod Publishing
+pub mod TextFacts

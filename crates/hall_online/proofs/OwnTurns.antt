@@ -19,7 +19,9 @@ use Rattle.journal.proofs.Along.{next_of}
 use Rattle.journal.proofs.Growth.{state_snoc}
 use Rattle.journal.proofs.Leaving.{leaves_push}
 use Rattle.journal.proofs.MovingEntries.{by_skip}
-use Rattle.master_desk.specs.Answers.{Answer, Done, Full, Receipt, Spent}
+use Rattle.client_session.specs.declared.receipt.Answer.{Answer}
+use Rattle.client_session.specs.declared.receipt.Answer.TheVariants.{Done, Full, Spent}
+use Rattle.client_session.specs.declared.receipt.Receipt.{Receipt}
 use Rattle.client_session.specs.Drivers.{HandsOut, IsDriverTurn}
 use Rattle.client_session.specs.Models.{DriverModel, HallModel}
 use Rattle.slot_runner.specs.Models.{RunnerModel}

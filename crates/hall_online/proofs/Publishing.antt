@@ -16,10 +16,10 @@ use Rattle.client_session.specs.Models.{HallModel}
 use Rattle.slot_runner.specs.Models.{RunnerModel}
 use Rattle.master_core.specs.Published.{IsLeft}
 use Rattle.online_runs.specs.Value.{epoch_at, epoch_of}
-use Rattle.online_progress.specs.declared.progress.Progress.{Progress}
+use Rattle.online_runs.specs.declared.progress.Progress.{Progress}
 use Rattle.hall_online.specs.Serving.{IsUnderWay}
 use Rattle.hall_online.proofs.Actions.{now_holds}
-use Rattle.online_progress.proofs.Bounds.{is_left_here, left_within}
+use Rattle.online_runs.proofs.Bounds.{is_left_here, left_within}
 use Rattle.std.specs.Prelude.{sum}
 
 module _ (hall : HallModel) (old : RunnerModel) (arrivals : List ℕ) (every : ℕ) (s : Course) (p : Progress) (h : IsUnderWay hall old arrivals every s p) where

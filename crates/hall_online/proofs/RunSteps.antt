@@ -44,10 +44,10 @@ use Rattle.online_runs.proofs.Owed.{owes_at}
 use Rattle.online_runs.proofs.Shapes.{drive_of, run_entries, run_is_driven}
 use Rattle.online_runs.proofs.Standing.{few_slots, range_later, run_goes, runs_more, some_owing}
 use Rattle.online_runs.proofs.Times.{run_schedule, run_time, time_is}
-use Rattle.online_progress.specs.declared.progress.Progress.{Progress}
+use Rattle.online_runs.specs.declared.progress.Progress.{Progress}
 use Rattle.hall_online.specs.Serving.{ComesFirst, HaveSent, HaveServed, IsOnlineBegun, IsUnderWay}
-use Rattle.online_progress.specs.Tells.{TellsRun}
-use Rattle.online_progress.specs.Tallies.{IsTallied, left_of}
+use Rattle.online_runs.specs.Tells.{TellsRun}
+use Rattle.online_runs.specs.Tallies.{IsTallied, left_of}
 use Rattle.hall_online.proofs.Actions.{first_here, first_there, goes_on, journal_now, now_holds, short_journal, so_far_now}
 use Rattle.hall_online.proofs.OwnRuns.{granted_is, legal_whole, none_earlier, one_run, ready_after, sent_part}
 

@@ -12,7 +12,7 @@ use Rattle.hall_plan.specs.Wires.{AreAllUnits, AreUnits, HaveMore}
 use Rattle.hall_plan.proofs.WireSteps.{all_units, are_units, have_so, none_fell}
 use Rattle.online_runs.specs.Deeds.{PublishesTooMany}
 use Rattle.online_runs.proofs.Standing.{few_slots}
-use Rattle.online_progress.specs.declared.progress.Progress.{Progress}
+use Rattle.online_runs.specs.declared.progress.Progress.{Progress}
 use Rattle.hall_online.specs.Serving.{ComesFirst, EndsAs, HaveSent, HaveServed, IsDoneFrom, IsUnderWay, MayDo, SendsNothing}
 use Rattle.hall_online.proofs.Actions.{first_there, now_holds, short_journal}
 use Rattle.hall_online.proofs.RunSteps.{owed_length}

@@ -1,2 +1,3 @@
 pub mod Halls
 pub mod Serving
+pub mod Told

@@ -13,8 +13,8 @@ use Rattle.hall_plan.specs.Wires.{AreUnits, HaveMore}
 use Rattle.online_runs.specs.Deeds.{course_of, Deed, DoesNext, IsOnlineRun, IsOnlineSoFar, IsServedOnline, journal_of}
 use Rattle.online_runs.specs.Input.{IsOnlineInput, online_limit}
 use Rattle.online_runs.specs.Value.{epochs_of}
-use Rattle.online_progress.specs.declared.progress.Progress.{Progress}
-use Rattle.online_progress.specs.Tells.{TellsRun}
+use Rattle.online_runs.specs.declared.progress.Progress.{Progress}
+use Rattle.online_runs.specs.Tells.{TellsRun}
 use Rattle.hall_online.specs.Halls.{IsReady}
 
 -- after some deeds: the driver is alone with their journal, and the course and what is kept are what it tells

@@ -8,7 +8,7 @@ use crate::turns::{join, leave, pass, publish};
 use client_session::Hall;
 use coflow_units::{NoMemory, Place};
 use flow_table::Table;
-use online_progress::{Progress, epoch_of};
+use online_runs::{Progress, epoch_of};
 use port_load::Loads;
 use slot_runner::Runner;
 use std::alloc::Global;

@@ -12,7 +12,7 @@ use coflow_units::{Items, NoMemory};
 use epochs::Epochs;
 use flow_table::Table;
 use master_core::Master;
-use online_progress::{Progress, no_progress};
+use online_runs::{Progress, no_progress};
 use port_load::Loads;
 use slot_runner::Runner;
 use std::alloc::Global;

@@ -7,7 +7,9 @@ mod beginning;
 mod online;
 mod running;
 mod serving;
+mod telling;
 mod turns;
 
 pub use answer::OnlineFault;
 pub use online::serve_online;
+pub use telling::served_online;

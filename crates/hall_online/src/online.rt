@@ -4,7 +4,7 @@ ghost use Rattle.coflow_units.specs.declared.limits.TheConstants.{MAX_ARRIVAL, M
 ghost use Rattle.outside.specs.Rose.{Rose};
 ghost use Rattle.hall_plan.specs.Cuts.{HaveStopped};
 ghost use Rattle.hall_plan.specs.Wires.{AreAllUnits, HaveMore};
-ghost use Rattle.slot_schedule.specs.RunList.{NamesFlows, slots_in};
+ghost use Rattle.schedule_model.specs.RunList.{NamesFlows, slots_in};
 ghost use Rattle.online_runs.specs.Deeds.{PublishesTooMany};
 ghost use Rattle.online_runs.specs.Input.{online_opening};
 ghost use Rattle.online_runs.specs.Value.{IsOnlineOf};
@@ -15,7 +15,7 @@ use crate::answer::OnlineFault;
 use crate::beginning::{begin, kept_of};
 use crate::serving::serve;
 use flow_table::Table;
-use online_progress::{Progress, told};
+use online_runs::{Progress, told};
 use online_text::Online;
 use outside::Wire;
 use std::alloc::Global;

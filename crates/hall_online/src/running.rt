@@ -11,7 +11,7 @@ ghost use Rattle.hall_online.specs.Serving.{ComesFirst, HaveSent, HaveServed, Is
 use crate::answer::OnlineFault;
 use client_session::Hall;
 use flow_table::Table;
-use online_progress::{Progress, spend};
+use online_runs::{Progress, spend};
 use outside::Wire;
 use slot_runner::{Ran, Runner};
 use std::alloc::Global;

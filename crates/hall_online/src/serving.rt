@@ -13,7 +13,7 @@ use crate::running::act_run;
 use client_session::Hall;
 use epochs::{Action, Epochs};
 use flow_table::Table;
-use online_progress::Progress;
+use online_runs::Progress;
 use outside::Wire;
 use slot_runner::Runner;
 use std::alloc::Global;

@@ -1,10 +1,11 @@
-pub mod PlanEntries
 pub mod Begun
-pub mod PlanRuns
-pub mod PlanParts
-pub mod WireSteps
-pub mod FirstShort
 pub mod CutRuns
-pub mod PlanTurns
+pub mod FirstShort
 pub mod NobodyElse
+pub mod PlanEntries
+pub mod PlanExists
+pub mod PlanParts
+pub mod PlanRuns
 pub mod PlanSlots
+pub mod PlanTurns
+pub mod WireSteps

@@ -30,7 +30,7 @@ use Rattle.journal.proofs.EntryTells.{entry_tells}
 use Rattle.journal.proofs.OwnEntries.{own_close, own_whole}
 use Rattle.journal.proofs.RunsInOrder.{closed_sound}
 use Rattle.journal.proofs.Schedules.{schedule_length}
-use Rattle.master_desk.specs.Desk.{IsSeen}
+use Rattle.client_session.specs.Desk.{IsSeen}
 use Rattle.client_session.specs.Models.{HallModel}
 use Rattle.slot_runner.specs.Models.{MayRun, RunnerModel}
 use Rattle.slot_runner.specs.Slots.{AreSent, HasRun, IsAnswered, IsFaulted, IsFullAt, IsRan}

@@ -22,8 +22,10 @@ use Rattle.journal.specs.State.{has, State}
 use Rattle.journal.specs.Fold.{start, state_of}
 use Rattle.journal.specs.Journal.{entry, left_at, order_in}
 use Rattle.journal.proofs.Between.{answered}
-use Rattle.master_desk.specs.Answers.{Answer, Done, Full, Receipt, Spent}
-use Rattle.master_desk.specs.Desk.{IsSeen}
+use Rattle.client_session.specs.declared.receipt.Answer.{Answer}
+use Rattle.client_session.specs.declared.receipt.Answer.TheVariants.{Done, Full, Spent}
+use Rattle.client_session.specs.declared.receipt.Receipt.{Receipt}
+use Rattle.client_session.specs.Desk.{IsSeen}
 use Rattle.client_session.specs.Drivers.{HandsOut, IsDrivenOn, IsDriverTurn, IsStopped, StaysInHall}
 use Rattle.client_session.specs.Models.{DriverModel, HallModel}
 use Rattle.slot_runner.specs.Models.{first_runner}

@@ -3,7 +3,7 @@ use Rattle.std.specs.Prelude.{◌≡◌, ℕ, ◌+◌, ◌^◌, ◌<◌, ◌≤�
 use Rattle.journal.specs.declared.command.Entry.{Entry}
 use Rattle.journal.specs.State.{IsOpening}
 use Rattle.journal.specs.Closed.{schedule_of, wire_of}
-use Rattle.master_desk.specs.Desk.{IsSeen}
+use Rattle.client_session.specs.Desk.{IsSeen}
 use Rattle.client_session.specs.Models.{DriverModel, HallModel, IsDriverOf}
 use Rattle.slot_runner.specs.Models.{MayRun, RunnerModel}
 use Rattle.hall_plan.specs.Journals.{HasRoom, plan_journal}

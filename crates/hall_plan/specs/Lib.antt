@@ -1,5 +1,6 @@
-pub mod Journals
-pub mod Plans
-pub mod Wires
 pub mod Cuts
 pub mod Halls
+pub mod Journals
+pub mod Plans
+pub mod Sent
+pub mod Wires

@@ -5,7 +5,9 @@ mod answer;
 mod beginning;
 pub mod laws;
 mod planning;
+mod reporting;
 mod serving;
 
 pub use answer::{HallPlan, PlanFault};
 pub use planning::plan;
+pub use reporting::served_plan;

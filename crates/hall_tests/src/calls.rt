@@ -5,11 +5,11 @@ ghost use Rattle.client_session.specs.Models.{IsDriverOf, IsSessionOf};
 use crate::orders::{Order, obeyed};
 use client_session::{Driver, Hall, Session};
 use coflow_units::Place;
-use small_halls::{Ask, Said, answered};
 use std::alloc::Global;
 use std::fmt::Debug;
 use std::process::Abort;
 use std::sync::Wait;
+use test_support::{Ask, Said, answered};
 
 /// A call: of the driver, of a session by its place, or of the hall. `Seen` asks nothing of a session.
 #[derive(Clone, Copy)]

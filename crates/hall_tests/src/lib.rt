@@ -4,6 +4,16 @@
 #[cfg(test)]
 mod calls;
 #[cfg(test)]
+mod closes;
+#[cfg(test)]
+mod example;
+mod fault;
+mod noted_calls;
+#[cfg(test)]
 mod orders;
 #[cfg(test)]
 mod rows;
+#[cfg(test)]
+mod threads;
+mod told;
+mod versions;

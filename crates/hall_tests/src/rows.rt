@@ -5,11 +5,11 @@ ghost use Rattle.client_session.specs.Models.{IsDriverOf, IsSessionOf};
 use crate::calls::{Call, told};
 use crate::orders::Order;
 use client_session::{Driver, Hall, Session};
-use small_halls::{Ask, SmallHall, SmallSize};
 use std::alloc::Global;
 use std::process::Abort;
 use std::sync::Wait;
 use std::test::*;
+use test_support::{Ask, SmallHall, SmallSize};
 
 /// A call, and what is told then.
 type Case<'a> = (Call, &'a str);

@@ -16,18 +16,17 @@ ghost use Rattle.std.specs.Prelude.{◌≤◌, IfOk, length};
 ghost use Rattle.coflow_units.specs.declared.limits.TheConstants.{MAX_TEXT};
 
 use crate::stop::Stop;
-use carried_jobs::{SureEnd, carry_job, sure_plan};
 use coflow_units::MAX_TEXT;
 use outside::{DiskShelf, Place4, Shelf};
-use small_jobs::{Row, job_of, row_of, words_of};
+use small_jobs::{Row, SureEnd, carry_job, job_of, row_of, sure_plan, words_of};
 use std::alloc::Global;
 use std::env;
 use std::process::ExitCode;
 use std::rt::Runtime;
 use std::sync::Wait;
 use std::thread::Threads;
+use test_support::bytes_of_file;
 use text_fields::{Fields, Lines};
-use trace_tables::bytes_of_file;
 
 /// Two coflows that share both ports, of 3 units and of 1 unit.
 const TWO: &[u8] = b"2 2\n1 0 1 0 1 1:3\n2 0 1 0 1 1:1\n";

@@ -1,6 +1,6 @@
 //! Why rows are not carried out to their end.
-use carried_jobs::JobFault;
-use trace_tables::FileFault;
+use small_jobs::JobFault;
+use test_support::FileFault;
 
 /// Why rows are not carried out to their end.
 #[derive(Debug, Drop, thiserror::Error)]

@@ -17,11 +17,11 @@ use Rattle.journal.specs.Sound.{IsOpenRun, OnRun}
 use Rattle.live_text.specs.declared.value.EntryLine.{EntryLine}
 use Rattle.live_text.specs.declared.value.Live.{Live}
 use Rattle.live_text.specs.declared.value.PullLine.{PullLine}
-use Rattle.journal_claims.specs.declared.orders.WrongOrder.{WrongOrder}
-use Rattle.journal_claims.specs.Orders.{AreOrders, HasOrder, IsWrongOrder, order_ids, orders_of}
-use Rattle.journal_claims.specs.Parted.{IsFirstPlace, IsFirstWrongOrder}
-use Rattle.journal_claims.specs.Pulls.{HasVersion, real_rank}
-use Rattle.journal_claims.proofs.Partings.{none_is_not_some, same_some}
+use Rattle.journal_audit.specs.declared.orders.WrongOrder.{WrongOrder}
+use Rattle.journal_audit.specs.Orders.{AreOrders, HasOrder, IsWrongOrder, order_ids, orders_of}
+use Rattle.journal_audit.specs.Parted.{IsFirstPlace, IsFirstWrongOrder}
+use Rattle.journal_audit.specs.Pulls.{HasVersion, real_rank}
+use Rattle.journal_audit.proofs.Partings.{none_is_not_some, same_some}
 use Rattle.journal_audit.specs.declared.verdict.AuditReason.{AuditReason}
 use Rattle.journal_audit.specs.declared.verdict.AuditReason.TheVariants.{NoClose, NoEntry, NoId, NoOrder, NoPull, NoRun, NoVersion}
 use Rattle.journal_audit.specs.Reasons.{HasReasonFor, IsFirstReasonFor, kind}

@@ -13,7 +13,7 @@ use Rattle.live_text.specs.declared.value.EntryLine.{EntryLine}
 use Rattle.live_text.specs.declared.value.Word.{Word}
 use Rattle.live_text.specs.declared.value.Word.TheVariants.{Close, Open, Publish, Pull, Register, Reweigh, Withdraw}
 use Rattle.live_text.specs.Live.{IsEntry, IsWord}
-use Rattle.journal_replay.specs.Replay.{IsPlain, IsPlainCommand}
+use Rattle.journal_audit.specs.Replay.{IsPlain, IsPlainCommand}
 use Rattle.journal_audit.specs.Stated.{IsKnown, command_for, entry_for, stated_by}
 
 pub range_for : (o : Opening) (w : Word) → IsKnown o.table.ids w → IsWord w → IsInRange o (command_for o.table.ids w)

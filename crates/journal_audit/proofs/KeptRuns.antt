@@ -8,8 +8,8 @@ use Rattle.coflow_units.specs.Schedule.{IsRuns}
 use Rattle.cert_check.proofs.SlotSteps.{slots_count}
 use Rattle.live_text.specs.declared.value.Live.{Live}
 use Rattle.live_text.specs.Live.{IsLive}
-use Rattle.slot_schedule.specs.RunList.{IsKept, pairs_of, slots_in}
-use Rattle.slot_schedule.proofs.RunSlots.{after_first, all_here, slots_at}
+use Rattle.schedule_model.specs.RunList.{IsKept, pairs_of, slots_in}
+use Rattle.schedule_model.proofs.RunSlots.{after_first, all_here, slots_at}
 
 -- the runs of a printed journal are those of a schedule
 pub live_kept : (l : Live) → IsLive l → IsKept l.runs

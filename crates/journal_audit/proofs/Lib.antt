@@ -1,8 +1,16 @@
+pub mod ClosingRuns
+pub mod EntriesAnew
 pub mod FirstReasons
 pub mod InRanges
 pub mod KeptRuns
+pub mod KnownIds
 pub mod OneVerdict
-pub mod ReplaySteps
+pub mod OrderSteps
+pub mod Partings
+pub mod PullSteps
+pub mod RankSteps
 pub mod Refusals
+pub mod ReplaySteps
+pub mod RunPartings
 pub mod StatedSteps
 pub mod YesSteps

@@ -14,10 +14,10 @@ use Rattle.live_text.specs.declared.value.EntryLine.{EntryLine}
 use Rattle.live_text.specs.declared.value.Live.{Live}
 use Rattle.live_text.specs.declared.value.PullLine.{PullLine}
 use Rattle.live_text.specs.declared.value.Said.{Said}
-use Rattle.journal_claims.specs.Parted.{IsFirstPlace, IsPartedAt}
-use Rattle.journal_claims.specs.Pulls.{IsFirstWrongRank, IsFirstWrongVersion, pull_at, real_rank}
-use Rattle.journal_claims.specs.Orders.{orders_of}
-use Rattle.journal_claims.proofs.Partings.{same_some}
+use Rattle.journal_audit.specs.Parted.{IsFirstPlace, IsPartedAt}
+use Rattle.journal_audit.specs.Pulls.{IsFirstWrongRank, IsFirstWrongVersion, pull_at, real_rank}
+use Rattle.journal_audit.specs.Orders.{orders_of}
+use Rattle.journal_audit.proofs.Partings.{same_some}
 use Rattle.journal_audit.specs.declared.verdict.Audit.{Audit}
 use Rattle.journal_audit.specs.declared.verdict.Audit.TheVariants.{No, Yes}
 use Rattle.journal_audit.specs.declared.verdict.AuditReason.{AuditReason}

@@ -13,9 +13,9 @@ use Rattle.live_text.specs.declared.value.EntryLine.{EntryLine}
 use Rattle.live_text.specs.declared.value.Live.{Live}
 use Rattle.live_text.specs.declared.value.PullLine.{PullLine}
 use Rattle.live_text.specs.declared.value.Said.{Said}
-use Rattle.journal_claims.specs.Parted.{IsFirstWrongOrder}
-use Rattle.journal_claims.specs.Pulls.{HasVersion, IsFirstWrongRank, IsFirstWrongVersion, pull_at, real_rank}
-use Rattle.journal_claims.proofs.Partings.{no_parting, none_is_not_some}
+use Rattle.journal_audit.specs.Parted.{IsFirstWrongOrder}
+use Rattle.journal_audit.specs.Pulls.{HasVersion, IsFirstWrongRank, IsFirstWrongVersion, pull_at, real_rank}
+use Rattle.journal_audit.proofs.Partings.{no_parting, none_is_not_some}
 use Rattle.journal_audit.specs.declared.verdict.AuditReason.{AuditReason}
 use Rattle.journal_audit.specs.declared.verdict.AuditReason.TheVariants.{NoClose, NoEntry, NoId, NoOrder, NoPull, NoRun, NoVersion}
 use Rattle.journal_audit.specs.Reasons.{HasReasonFor, IsFirstUnknown, IsFirstWrongEntry, line_at}

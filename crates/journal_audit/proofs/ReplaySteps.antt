@@ -12,11 +12,11 @@ use Rattle.journal.specs.Answer.{IsInRange, reply_of, room}
 use Rattle.journal.specs.Journal.{entry, is_version, IsLegal, version_of}
 use Rattle.live_text.specs.declared.value.EntryLine.{EntryLine}
 use Rattle.live_text.specs.Live.{IsEntry}
-use Rattle.journal_replay.specs.Replay.{IsPlainCommand, IsReplay}
-use Rattle.journal_replay.proofs.ClosingRuns.{room_least}
-use Rattle.journal_replay.proofs.EntriesAnew.{none_anew, one_more}
-use Rattle.journal_claims.specs.Orders.{AreOrders}
-use Rattle.journal_claims.specs.Ranks.{AreRanks}
+use Rattle.journal_audit.specs.Replay.{IsPlainCommand, IsReplay}
+use Rattle.journal_audit.proofs.ClosingRuns.{room_least}
+use Rattle.journal_audit.proofs.EntriesAnew.{none_anew, one_more}
+use Rattle.journal_audit.specs.Orders.{AreOrders}
+use Rattle.journal_audit.specs.Ranks.{AreRanks}
 use Rattle.journal_audit.specs.declared.replay.Replayed.{Replayed}
 use Rattle.journal_audit.specs.Reasons.{IsFirstWrongEntry, line_at}
 use Rattle.journal_audit.specs.Replayed.{IsReplayed}

@@ -5,7 +5,7 @@ use Rattle.std.proofs.lemmas.List.{get_or_default, length-append, get_or-take, m
 use Rattle.std.proofs.lemmas.List.Elements.{All-get_or, All-push}
 use Rattle.journal.specs.declared.command.Command.{Command}
 use Rattle.live_text.specs.declared.value.EntryLine.{EntryLine}
-use Rattle.journal_claims.specs.Ids.{Finds}
+use Rattle.journal_audit.specs.Ids.{Finds}
 use Rattle.journal_audit.specs.Reasons.{IsFirstUnknown, line_at}
 use Rattle.journal_audit.specs.Stated.{IsKnown, command_for}
 

@@ -12,7 +12,7 @@ use Rattle.journal.proofs.Sound.{legal_sound}
 use Rattle.journal.proofs.WholeRuns.{schedule_by_runs}
 use Rattle.live_text.specs.declared.value.Live.{Live}
 use Rattle.live_text.specs.Live.{IsLive}
-use Rattle.slot_schedule.specs.RunList.{slots_in}
+use Rattle.schedule_model.specs.RunList.{slots_in}
 use Rattle.journal_audit.specs.Sound.{IsSoundLive}
 use Rattle.journal_audit.specs.Stated.{journal_in, opening_for}
 use Rattle.journal_audit.proofs.InRanges.{stated_in_range, stated_plain}

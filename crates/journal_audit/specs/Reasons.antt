@@ -15,10 +15,10 @@ use Rattle.live_text.specs.declared.value.Live.{Live}
 use Rattle.live_text.specs.declared.value.Said.{Said}
 use Rattle.live_text.specs.declared.value.Said.TheVariants.{Joined}
 use Rattle.live_text.specs.declared.value.Word.TheVariants.{Publish}
-use Rattle.slot_schedule.specs.RunList.{slots_in}
-use Rattle.journal_claims.specs.Parted.{IsFirstWrongOrder, IsPartedAt}
-use Rattle.journal_claims.specs.Pulls.{IsFirstWrongRank, IsFirstWrongVersion}
-use Rattle.journal_claims.specs.Orders.{orders_of}
+use Rattle.schedule_model.specs.RunList.{slots_in}
+use Rattle.journal_audit.specs.Parted.{IsFirstWrongOrder, IsPartedAt}
+use Rattle.journal_audit.specs.Pulls.{IsFirstWrongRank, IsFirstWrongVersion}
+use Rattle.journal_audit.specs.Orders.{orders_of}
 use Rattle.journal_audit.specs.declared.verdict.Audit.{Audit}
 use Rattle.journal_audit.specs.declared.verdict.Audit.TheVariants.{Yes, No}
 use Rattle.journal_audit.specs.declared.verdict.AuditReason.{AuditReason}

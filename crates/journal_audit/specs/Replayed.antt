@@ -3,10 +3,10 @@ use Rattle.std.specs.Prelude.{ℕ, List, nat_eq}
 use Rattle.indexmap.specs.IndexMap.{get}
 use Rattle.journal.specs.declared.command.Entry.{Entry}
 use Rattle.journal.specs.declared.opening.Opening.{Opening}
-use Rattle.journal_replay.specs.Replay.{IsReplay}
+use Rattle.journal_audit.specs.Replay.{IsReplay}
 use Rattle.live_text.specs.declared.value.EntryLine.{EntryLine}
-use Rattle.journal_claims.specs.Orders.{AreOrders}
-use Rattle.journal_claims.specs.Ranks.{AreRanks}
+use Rattle.journal_audit.specs.Orders.{AreOrders}
+use Rattle.journal_audit.specs.Ranks.{AreRanks}
 use Rattle.journal_audit.specs.declared.replay.Replayed.{Replayed}
 use Rattle.journal_audit.specs.declared.replay.WrongEntry.{WrongEntry}
 use Rattle.journal_audit.specs.Reasons.{IsFirstWrongEntry}

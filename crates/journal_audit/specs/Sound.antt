@@ -9,9 +9,9 @@ use Rattle.journal.specs.Journal.{IsLegal, version_of}
 use Rattle.live_text.specs.declared.value.EntryLine.{EntryLine}
 use Rattle.live_text.specs.declared.value.Live.{Live}
 use Rattle.live_text.specs.declared.value.PullLine.{PullLine}
-use Rattle.slot_schedule.specs.RunList.{slots_in}
-use Rattle.journal_claims.specs.Orders.{orders_of}
-use Rattle.journal_claims.specs.Pulls.{HasVersion, real_rank}
+use Rattle.schedule_model.specs.RunList.{slots_in}
+use Rattle.journal_audit.specs.Orders.{orders_of}
+use Rattle.journal_audit.specs.Pulls.{HasVersion, real_rank}
 use Rattle.journal_audit.specs.Stated.{IsKnown, journal_in, opening_for}
 
 -- The text is right for this opening and the journal that its entries state. The ids of the entries are coflows'. The

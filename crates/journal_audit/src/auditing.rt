@@ -5,11 +5,13 @@ ghost use Rattle.coflow_units.specs.declared.limits.TheConstants.{MAX_COFLOWS, M
 ghost use Rattle.flow_table.specs.Table.{TableFacts};
 ghost use Rattle.live_text.specs.declared.value.EntryLine.{EntryLine};
 ghost use Rattle.live_text.specs.Live.{IsLive};
-ghost use Rattle.journal_claims.specs.Ids.{Finds};
+ghost use Rattle.journal_audit.specs.Ids.{Finds};
 ghost use Rattle.journal_audit.specs.Reasons.{IsAudit};
 ghost use Rattle.journal_audit.specs.Replayed.{IsReplayed};
 ghost use Rattle.journal_audit.specs.Stated.{IsKnown, command_for, opening_for, stated_by};
 
+use crate::ids::coflows_by_id;
+use crate::parts::slots_in;
 use crate::reasons::late_reason;
 use crate::replay::{Replayed, replay};
 use crate::stated::{Stated, commands_of};
@@ -18,7 +20,6 @@ use coflow_units::{Items, NoMemory};
 use flow_table::Table;
 use indexmap::IndexMap;
 use journal::Command;
-use journal_claims::{coflows_by_id, slots_in};
 use live_text::Live;
 use master_core::Master;
 use std::alloc::Global;

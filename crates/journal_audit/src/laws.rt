@@ -11,7 +11,7 @@ ghost use Rattle.journal.specs.Fold.{state_of};
 ghost use Rattle.journal.specs.Journal.{line_of};
 ghost use Rattle.live_text.specs.declared.value.Live.{Live};
 ghost use Rattle.live_text.specs.Live.{IsLive};
-ghost use Rattle.slot_schedule.specs.RunList.{slots_in};
+ghost use Rattle.schedule_model.specs.RunList.{slots_in};
 ghost use Rattle.journal_audit.specs.declared.verdict.Audit.{Audit};
 ghost use Rattle.journal_audit.specs.declared.verdict.AuditReason.{AuditReason};
 ghost use Rattle.journal_audit.specs.Reasons.{HasReasonFor, IsAudit};

@@ -3,19 +3,21 @@ ghost use Rattle.std.specs.Prelude.{◌≡◌, ◌<◌, ◌^◌, All, MatchOptio
 ghost use Rattle.indexmap.specs.IndexMap.{get};
 ghost use Rattle.live_text.specs.declared.value.EntryLine.{EntryLine};
 ghost use Rattle.live_text.specs.Live.{IsLive};
-ghost use Rattle.journal_claims.specs.Orders.{AreOrders, orders_of};
-ghost use Rattle.journal_claims.specs.Parted.{IsFirstWrongOrder};
-ghost use Rattle.journal_claims.specs.Ids.{Finds};
+ghost use Rattle.journal_audit.specs.Orders.{AreOrders, orders_of};
+ghost use Rattle.journal_audit.specs.Parted.{IsFirstWrongOrder};
+ghost use Rattle.journal_audit.specs.Ids.{Finds};
 ghost use Rattle.journal_audit.specs.Reasons.{IsFirstReasonFor};
 ghost use Rattle.journal_audit.specs.Replayed.{IsReplayed};
 ghost use Rattle.journal_audit.specs.Sound.{IsRightFor};
 ghost use Rattle.journal_audit.specs.Stated.{IsKnown, stated_by};
 
+use crate::orders::WrongOrder;
+use crate::parts::first_parted_slot;
+use crate::pulls::{wrong_rank, wrong_version};
 use crate::replay::Replayed;
 use crate::verdict::AuditReason;
 use coflow_units::Items;
 use indexmap::IndexMap;
-use journal_claims::{WrongOrder, first_parted_slot, wrong_rank, wrong_version};
 use live_text::Live;
 use master_core::Master;
 

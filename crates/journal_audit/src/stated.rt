@@ -3,14 +3,14 @@ ghost use Rattle.std.specs.Prelude.{◌≡◌, ◌≤◌, ℕ, Contains, IfOk, L
 ghost use Rattle.indexmap.specs.IndexMap.{get};
 ghost use Rattle.cert_check.specs.Places.{coflow_with};
 ghost use Rattle.live_text.specs.declared.limits.TheConstants.{MAX_ENTRIES};
-ghost use Rattle.journal_claims.specs.Ids.{Finds};
+ghost use Rattle.journal_audit.specs.Ids.{Finds};
 ghost use Rattle.journal_audit.specs.Looked.{IsStated};
 ghost use Rattle.journal_audit.specs.Stated.{IsKnown, command_for, reply_for};
 
+use crate::ids::found;
 use coflow_units::NoMemory;
 use indexmap::IndexMap;
 use journal::{Command, Reply};
-use journal_claims::found;
 use live_text::{EntryLine, Said, Word};
 use std::alloc::Global;
 

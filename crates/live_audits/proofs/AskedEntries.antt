@@ -22,13 +22,13 @@ use Rattle.journal.proofs.FurtherRoom.{further_room}
 use Rattle.journal.proofs.Legal.{full_is}
 use Rattle.journal.proofs.Versions.{legal_there}
 use Rattle.master_core.proofs.StepTells.{range_told}
-use Rattle.script_reader.specs.declared.script.Script.{Script}
+use Rattle.workload.specs.declared.script.Script.{Script}
 use Rattle.live_model.specs.Clause.{CarriesOut, Course}
 use Rattle.live_model.specs.Deeds.{asked_at, asked_in, Deed, entries_by}
 use Rattle.live_model.specs.Rounds.{closing_entries, FitsAnswer, Spell, spell_entries, spells_of}
 use Rattle.live_model.specs.Script.{command_of}
 use Rattle.live_model.specs.Sent.{Wires}
-use Rattle.hall_live.specs.Ends.{MayBeAsked}
+use Rattle.live_serving.specs.Ends.{MayBeAsked}
 use Rattle.live_audits.proofs.Callers.{by_caller}
 use Rattle.live_audits.proofs.Ended.{asks, quiet_behind, split}
 use Rattle.live_audits.proofs.Lines.{asked_quiet, deeds_may, IsOwnDeed}

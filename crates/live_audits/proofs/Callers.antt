@@ -12,14 +12,14 @@ use Rattle.journal.specs.declared.command.Reply.{Reply}
 use Rattle.journal.specs.declared.opening.Opening.{Opening}
 use Rattle.journal.specs.Entries.{is_driving}
 use Rattle.journal.specs.Journal.{entry}
-use Rattle.script_reader.specs.declared.script.Script.{Script}
+use Rattle.workload.specs.declared.script.Script.{Script}
 use Rattle.live_model.specs.Clause.{CarriesOut, Course}
 use Rattle.live_model.specs.Deeds.{asked_at, asked_in, Deed, entries_by}
 use Rattle.live_model.specs.Rounds.{closing_entries, Spell, spell_entries, spells_of}
 use Rattle.live_model.specs.Script.{command_of}
 use Rattle.live_model.specs.Sent.{Wires}
-use Rattle.live_lines.specs.Names.{NamesCoflow}
-use Rattle.hall_live.specs.Ends.{MayBeAsked}
+use Rattle.live_runs.specs.Names.{NamesCoflow}
+use Rattle.live_serving.specs.Ends.{MayBeAsked}
 use Rattle.live_audits.proofs.Lines.{asked_names, asked_quiet, deeds_may, IsOwnDeed}
 
 -- the command is one of a client

@@ -15,12 +15,12 @@ use Rattle.journal.specs.Fold.{state_of}
 use Rattle.journal.specs.Journal.{entry, IsLegal}
 use Rattle.journal.proofs.EntryTells.{entry_tells}
 use Rattle.journal.proofs.Leaving.{leaves_push, others_leave}
-use Rattle.script_reader.specs.declared.script.Script.{Script}
+use Rattle.workload.specs.declared.script.Script.{Script}
 use Rattle.live_model.specs.Clause.{CarriesOut, Course}
 use Rattle.live_model.specs.Deeds.{entries_by}
 use Rattle.live_model.specs.Rounds.{closing_entries, FitsAnswer, Spell, spell_entries, spells_of}
 use Rattle.live_model.specs.Sent.{Wires}
-use Rattle.hall_live.specs.Ends.{MayBeAsked}
+use Rattle.live_serving.specs.Ends.{MayBeAsked}
 use Rattle.live_audits.proofs.Callers.{all_fit, Fits}
 
 -- ---- the last entry of a caller

@@ -7,16 +7,16 @@ use Rattle.journal.specs.declared.command.Entry.{Entry}
 use Rattle.journal.specs.declared.opening.Opening.{Opening}
 use Rattle.journal.specs.Answer.{IsInRange}
 use Rattle.journal.specs.Entries.{is_driving}
-use Rattle.script_reader.specs.declared.script.Asked.{Asked}
-use Rattle.script_reader.specs.declared.script.Asked.TheVariants.{Register, Withdraw, Publish, Pull, Reweigh}
-use Rattle.script_reader.specs.declared.script.Round.{Round}
-use Rattle.script_reader.specs.declared.script.Script.{Script}
-use Rattle.script_reader.specs.declared.script.ScriptLine.{ScriptLine}
+use Rattle.workload.specs.declared.script.Asked.{Asked}
+use Rattle.workload.specs.declared.script.Asked.TheVariants.{Register, Withdraw, Publish, Pull, Reweigh}
+use Rattle.workload.specs.declared.script.Round.{Round}
+use Rattle.workload.specs.declared.script.Script.{Script}
+use Rattle.workload.specs.declared.script.ScriptLine.{ScriptLine}
 use Rattle.live_model.specs.Deeds.{Deed, DoesScript, Deeds}
 use Rattle.live_model.specs.Script.{command_of, coflow_pulled, is_pull, lines_from, lines_of}
 use Rattle.live_rounds.specs.Rounds.{MayAsk}
-use Rattle.hall_live.specs.Ends.{MayBeAsked}
-use Rattle.live_lines.specs.Names.{NamesCoflow}
+use Rattle.live_serving.specs.Ends.{MayBeAsked}
+use Rattle.live_runs.specs.Names.{NamesCoflow}
 
 module _ (o : Opening) (clients : ℕ) where
   abbrev MayStand : ℕ × ScriptLine → Type 0

@@ -9,8 +9,8 @@ use Rattle.journal.specs.declared.opening.Opening.{Opening}
 use Rattle.journal.specs.Fold.{state_of}
 use Rattle.journal.specs.Journal.{version_of}
 use Rattle.journal.specs.State.{IsOpening}
-use Rattle.script_reader.specs.declared.script.Script.{Script}
-use Rattle.script_reader.specs.declared.script.ScriptLine.{ScriptLine}
+use Rattle.workload.specs.declared.script.Script.{Script}
+use Rattle.workload.specs.declared.script.ScriptLine.{ScriptLine}
 use Rattle.live_text.specs.declared.value.PullLine.{PullLine}
 use Rattle.live_text.specs.Live.{IsBefore, IsPull, IsSmall}
 use Rattle.live_model.specs.Clause.{CarriesOut, Course}
@@ -19,7 +19,7 @@ use Rattle.live_model.specs.Printed.{told_pull, told_pulls}
 use Rattle.live_model.specs.Script.{coflow_pulled, is_pull, lines_of}
 use Rattle.live_model.specs.Sent.{Wires}
 use Rattle.live_rounds.proofs.Acting.{pairs_append}
-use Rattle.hall_live.specs.Ends.{MayBeAsked}
+use Rattle.live_serving.specs.Ends.{MayBeAsked}
 use Rattle.live_audits.proofs.EntryRanges.{id_small}
 use Rattle.live_audits.proofs.Lines.{deeds_may, IsOwnDeed}
 use Rattle.live_audits.proofs.PullsTold.{all_blocks, from_client, IsOf}

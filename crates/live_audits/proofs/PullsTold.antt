@@ -11,7 +11,7 @@ use Rattle.cert_check.specs.Places.{coflow_with}
 use Rattle.journal.specs.declared.command.Entry.{Entry}
 use Rattle.journal.specs.declared.opening.Opening.{Opening}
 use Rattle.journal.specs.Journal.{rank_of, version_of}
-use Rattle.script_reader.specs.declared.script.Script.{Script}
+use Rattle.workload.specs.declared.script.Script.{Script}
 use Rattle.live_text.specs.declared.value.PullLine.{PullLine}
 use Rattle.live_model.specs.Clause.{CarriesOut, Course}
 use Rattle.live_model.specs.Deeds.{Deed, IsPull}
@@ -19,7 +19,7 @@ use Rattle.live_model.specs.Printed.{told_pull, told_pulls}
 use Rattle.live_model.specs.Script.{coflow_pulled, is_pull}
 use Rattle.live_model.specs.Sent.{Wires}
 use Rattle.live_rounds.proofs.Acting.{pairs_append}
-use Rattle.hall_live.specs.Ends.{MayBeAsked}
+use Rattle.live_serving.specs.Ends.{MayBeAsked}
 use Rattle.live_audits.proofs.Lines.{deeds_may, IsOwnDeed, pulled_within}
 
 -- the id is a coflow's, the version is the journal's, and the rank is that of the coflow in the version

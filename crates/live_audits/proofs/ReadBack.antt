@@ -9,7 +9,7 @@ use Rattle.coflow_units.specs.declared.fabric.Flow.{Flow}
 use Rattle.coflow_units.specs.declared.limits.TheConstants.{MAX_LIVE_UNITS, MAX_SLOT, MAX_TEXT, MAX_WEIGHT}
 use Rattle.coflow_units.specs.Flows.{IsDistinct}
 use Rattle.flow_table.specs.Table.{IsTable}
-use Rattle.slot_schedule.specs.RunList.{slots_in}
+use Rattle.schedule_model.specs.RunList.{slots_in}
 use Rattle.journal.specs.declared.command.Entry.{Entry}
 use Rattle.journal.specs.declared.opening.Opening.{Opening}
 use Rattle.journal.specs.Answer.{in_range}
@@ -25,17 +25,17 @@ use Rattle.journal.proofs.Legal.{legal_front}
 use Rattle.journal.proofs.Schedules.{schedule_length}
 use Rattle.journal.proofs.ScheduleTimes.{slots_clear}
 use Rattle.journal.proofs.Sound.{legal_sound}
-use Rattle.script_reader.specs.declared.script.Script.{Script}
+use Rattle.workload.specs.declared.script.Script.{Script}
 use Rattle.live_text.specs.declared.value.Live.{Live}
 use Rattle.live_text.specs.Live.{IsBefore, IsEntry, IsLive, IsPull, IsSmall}
-use Rattle.live_reader.specs.Reading.{GivesLive}
+use Rattle.live_text.specs.Reading.{GivesLive}
 use Rattle.live_text.specs.Text.{live_text}
 use Rattle.live_text.proofs.OneText.{live_one}
 use Rattle.live_model.specs.Clause.{CarriesOut, IsLiveRun}
 use Rattle.live_model.specs.Printed.{id_of, told_entry, told_order, TellsRun}
 use Rattle.live_model.specs.Script.{limit_of}
 use Rattle.live_model.specs.Sent.{Wires}
-use Rattle.hall_live.specs.Ends.{MayBeAsked}
+use Rattle.live_serving.specs.Ends.{MayBeAsked}
 use Rattle.live_runs.specs.Read.{IsRead}
 use Rattle.live_runs.proofs.ScriptsRead.{read_clients, read_is_asked, read_is_short}
 use Rattle.journal_audit.specs.declared.verdict.Audit.TheVariants.{Yes}

@@ -10,15 +10,15 @@ use Rattle.journal.specs.declared.opening.Opening.{Opening}
 use Rattle.journal.specs.Journal.{version_of}
 use Rattle.journal.specs.Line.{order, rank}
 use Rattle.journal.specs.State.{State}
-use Rattle.script_reader.specs.declared.script.Script.{Script}
+use Rattle.workload.specs.declared.script.Script.{Script}
 use Rattle.live_text.specs.declared.value.Live.{Live}
 use Rattle.live_model.specs.Clause.{CarriesOut, IsLiveRun}
 use Rattle.live_model.specs.Printed.{id_of, told_entry, TellsRun}
 use Rattle.live_model.specs.Sent.{Wires}
-use Rattle.hall_live.specs.Ends.{MayBeAsked}
-use Rattle.journal_claims.specs.Pulls.{HasVersion, pull_at}
-use Rattle.journal_claims.proofs.PullSteps.{rank_made}
-use Rattle.slot_schedule.specs.RunList.{slots_in}
+use Rattle.live_serving.specs.Ends.{MayBeAsked}
+use Rattle.journal_audit.specs.Pulls.{HasVersion, pull_at}
+use Rattle.journal_audit.proofs.PullSteps.{rank_made}
+use Rattle.schedule_model.specs.RunList.{slots_in}
 use Rattle.journal_audit.specs.declared.verdict.Audit.TheVariants.{Yes}
 use Rattle.journal_audit.specs.Reasons.{IsAudit}
 use Rattle.journal_audit.specs.Sound.{IsRightFor, IsSoundLive}

@@ -10,11 +10,11 @@ use Rattle.std.proofs.lemmas.List.Splits.{length-slice_split}
 use Rattle.coflow_units.specs.declared.limits.TheConstants.{MAX_TEXT}
 use Rattle.text_fields.specs.Fields.{Text, field_at}
 use Rattle.text_fields.specs.Lines.{has_fields, is_line_feed, Line, lines_of as text_lines, numbered}
-use Rattle.script_reader.specs.Script.{put_first, put_step, rounds_of, script_of, step_by, step_of}
-use Rattle.script_reader.specs.Words.{is_word}
-use Rattle.script_reader.specs.declared.script.Round.{Round}
-use Rattle.script_reader.specs.declared.script.Script.{Script}
-use Rattle.script_reader.specs.declared.script.ScriptLine.{ScriptLine}
+use Rattle.workload.specs.Script.{put_first, put_step, rounds_of, script_of, step_by, step_of}
+use Rattle.workload.specs.Words.{is_word}
+use Rattle.workload.specs.declared.script.Round.{Round}
+use Rattle.workload.specs.declared.script.Script.{Script}
+use Rattle.workload.specs.declared.script.ScriptLine.{ScriptLine}
 use Rattle.live_model.specs.Script.{lines_from, lines_of}
 use Rattle.live_runs.specs.Read.{IsRead}
 use Rattle.live_audits.proofs.Choices.{by_choice}

@@ -31,7 +31,7 @@ use Rattle.journal.specs.State.{has, is_present, IsOpening, owed, Run, State, wh
 use Rattle.journal.proofs.Along.{along, all_front}
 use Rattle.journal.proofs.Growth.{state_snoc}
 use Rattle.journal.proofs.Instances.{are_the_grants, is_the_ordering, left_is_instance}
-use Rattle.coflow_roster.proofs.AttendanceSteps.{joined_few}
+use Rattle.master_core.proofs.AttendanceSteps.{joined_few}
 use Rattle.live_audits.proofs.Choices.{by_choice}
 use Rattle.live_audits.proofs.Ended.{all_behind}
 

@@ -17,7 +17,7 @@ use Rattle.live_text.specs.declared.value.Said.TheVariants as S
 use Rattle.live_text.specs.declared.value.Word.{Word}
 use Rattle.live_text.specs.declared.value.Word.TheVariants as W
 use Rattle.live_model.specs.Printed.{entry_with, id_of, said_of, told_entry, word_of}
-use Rattle.live_lines.specs.Names.{NamesCoflow}
+use Rattle.live_runs.specs.Names.{NamesCoflow}
 use Rattle.journal_audit.specs.Stated.{command_for, entry_for, IsKnown, reply_for, stated_by}
 use Rattle.live_audits.proofs.Callers.{Fits}
 

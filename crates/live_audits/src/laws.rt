@@ -1,14 +1,14 @@
 //! What is printed of a run of `live` is right, and so the audit's verdict on it is yes.
 ghost use Rattle.std.specs.Prelude.{◌≡◌, ℕ, List, length};
 ghost use Rattle.coflow_units.specs.Flows.{IsDistinct};
-ghost use Rattle.slot_schedule.specs.RunList.{slots_in};
+ghost use Rattle.schedule_model.specs.RunList.{slots_in};
 ghost use Rattle.journal.specs.declared.command.Entry.{Entry};
 ghost use Rattle.journal.specs.declared.opening.Opening.{Opening};
-ghost use Rattle.script_reader.specs.declared.script.Script.{Script};
+ghost use Rattle.workload.specs.declared.script.Script.{Script};
 ghost use Rattle.live_text.specs.declared.value.Live.{Live};
 ghost use Rattle.live_model.specs.Clause.{IsLiveRun};
 ghost use Rattle.live_model.specs.Sent.{Wires};
-ghost use Rattle.hall_live.specs.Ends.{MayBeAsked};
+ghost use Rattle.live_serving.specs.Ends.{MayBeAsked};
 ghost use Rattle.journal_audit.specs.declared.verdict.Audit.{Audit};
 ghost use Rattle.journal_audit.specs.declared.verdict.Audit.TheVariants.{Yes};
 ghost use Rattle.journal_audit.specs.Reasons.{IsAudit};

@@ -19,8 +19,8 @@ use Rattle.journal.specs.Journal.{IsLegal, version_of}
 use Rattle.journal.specs.Rows.{two}
 use Rattle.journal.specs.Sound.{InRange}
 use Rattle.journal.specs.Closed.{wire_of}
-use Rattle.script_reader.specs.declared.script.Asked.TheVariants.{Publish, Pull}
-use Rattle.script_reader.specs.declared.script.ScriptLine.{ScriptLine}
+use Rattle.workload.specs.declared.script.Asked.TheVariants.{Publish, Pull}
+use Rattle.workload.specs.declared.script.ScriptLine.{ScriptLine}
 use Rattle.live_model.specs.Script.{is_pull, lines_of}
 use Rattle.live_model.specs.Deeds.{asked_by, asked_in, Deed, DoesScript, ForLaterLines, ForLaterRounds, HasEntry}
 use Rattle.live_model.specs.Deeds.{IsPull, IsTwoAbove, numbered, version_after}

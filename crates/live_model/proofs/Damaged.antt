@@ -14,8 +14,8 @@ use Rattle.journal.specs.declared.command.Entry.{Entry}
 use Rattle.journal.specs.declared.opening.Opening.{Opening}
 use Rattle.journal.specs.Rows.{two}
 use Rattle.live_text.specs.declared.value.PullLine.{PullLine}
-use Rattle.script_reader.specs.declared.script.Asked.TheVariants as Ask
-use Rattle.script_reader.specs.declared.script.ScriptLine.{ScriptLine}
+use Rattle.workload.specs.declared.script.Asked.TheVariants as Ask
+use Rattle.workload.specs.declared.script.ScriptLine.{ScriptLine}
 use Rattle.live_model.specs.Script.{command_of, is_pull}
 use Rattle.live_model.specs.Deeds.{asked_at, asked_in, Deed, HasEntry, HasNewest, IsPull, numbered, version_after}
 use Rattle.live_model.specs.Pulls.{IsMadeBefore, IsMadeFor}

@@ -13,8 +13,8 @@ use Rattle.journal.specs.declared.command.Reply.TheVariants.{NothingLeft}
 use Rattle.journal.specs.Journal.{entry}
 use Rattle.journal.specs.Rows.{two}
 use Rattle.live_text.specs.declared.value.PullLine.{PullLine}
-use Rattle.script_reader.specs.declared.script.Asked.TheVariants as Ask
-use Rattle.script_reader.specs.declared.script.ScriptLine.{ScriptLine}
+use Rattle.workload.specs.declared.script.Asked.TheVariants as Ask
+use Rattle.workload.specs.declared.script.ScriptLine.{ScriptLine}
 use Rattle.live_model.specs.Script.{command_of, is_pull}
 use Rattle.live_model.specs.Deeds.{asked_at, asked_in, Deed, entries_by, HasEntry, HasNewest, numbered, version_after}
 use Rattle.live_model.specs.Pulls.{IsMadeBefore, IsMadeFor}

@@ -19,8 +19,8 @@ use Rattle.journal.specs.Journal.{IsLegal, version_of}
 use Rattle.journal.specs.Rows.{two}
 use Rattle.journal.specs.Sound.{InRange}
 use Rattle.journal.specs.Closed.{wire_of}
-use Rattle.script_reader.specs.declared.script.Asked.TheVariants.{Publish, Pull}
-use Rattle.script_reader.specs.declared.script.ScriptLine.{ScriptLine}
+use Rattle.workload.specs.declared.script.Asked.TheVariants.{Publish, Pull}
+use Rattle.workload.specs.declared.script.ScriptLine.{ScriptLine}
 use Rattle.live_model.specs.Script.{is_pull, lines_of}
 use Rattle.live_model.specs.Deeds.{Deeds, Deed}
 use Rattle.live_model.specs.Deeds.{HasEntry}
@@ -31,13 +31,13 @@ use Rattle.live_model.specs.Rows.{Hidden, hidden, hidden_journal, hidden_live, l
 use Rattle.live_model.proofs.Given.{journal_is_sent, legal_is_granted}
 use Rattle.live_model.proofs.Courses.{no, of_clients, of_two}
 use Rattle.std.proofs.Common.{min, subst, sym, ◌∙◌, ◌*◌}
-use Rattle.master_desk.proofs.OwnSteps.{own_above}
+use Rattle.client_session.proofs.OwnSteps.{own_above}
 use Rattle.journal.specs.declared.command.Command.{Command}
 use Rattle.journal.specs.declared.command.Command.TheVariants as K
 use Rattle.journal.specs.declared.command.Reply.{Reply}
 use Rattle.journal.specs.declared.command.Reply.TheVariants as R
 use Rattle.live_model.specs.Levels.{AreLevelled, AreSessions, IsBetween, IsSession, IsSpellBetween, IsSteady, Levels}
-use Rattle.master_desk.specs.Own.{OwnEntry}
+use Rattle.client_session.specs.Own.{OwnEntry}
 use Rattle.live_model.proofs.LevelSteps.{levels_keep_rounds}
 use Rattle.live_model.proofs.Translated.{sessions_do_script, sessions_tell_versions}
 

@@ -12,7 +12,7 @@ use Rattle.journal.specs.declared.opening.Opening.{Opening}
 use Rattle.journal.specs.Journal.{entry, IsLegal}
 use Rattle.journal.proofs.Legal.{legal_front}
 use Rattle.journal.proofs.VersionEntries.{made}
-use Rattle.master_desk.specs.Own.{OwnEntry}
+use Rattle.client_session.specs.Own.{OwnEntry}
 use Rattle.live_model.specs.Script.{command_of}
 use Rattle.live_model.specs.Deeds.{asked_at, asked_by, asked_in, Deed, ForLaterRounds, HasEntry, IsPull, IsTwoAbove}
 use Rattle.live_model.specs.Deeds.{numbered, version_after}

@@ -7,7 +7,7 @@ use Rattle.std.proofs.lemmas.Bool.{cases_Bool, eqb-true}
 use Rattle.journal.specs.declared.command.Entry.{Entry}
 use Rattle.journal.specs.Journal.{entry, version_of}
 use Rattle.journal.proofs.Growth.{version_append}
-use Rattle.master_desk.specs.Own.{own_entries, own_entry, own_from, OwnEntry, versions_in}
+use Rattle.client_session.specs.Own.{own_entries, own_entry, own_from, OwnEntry, versions_in}
 use Rattle.client_session.specs.Closes.{StandsAt}
 use Rattle.client_session.proofs.Standing.{own_stand}
 use Rattle.live_model.specs.Deeds.{version_after}

@@ -6,8 +6,8 @@ use Rattle.std.proofs.lemmas.List.Elements.{All-nil}
 use Rattle.journal.specs.declared.command.Entry.{Entry}
 use Rattle.journal.specs.declared.opening.Opening.{Opening}
 use Rattle.journal.specs.Journal.{IsLegal, version_of}
-use Rattle.script_reader.specs.declared.script.Script.{Script}
-use Rattle.master_desk.specs.Own.{OwnEntry}
+use Rattle.workload.specs.declared.script.Script.{Script}
+use Rattle.client_session.specs.Own.{OwnEntry}
 use Rattle.live_model.specs.Script.{is_pull, lines_by}
 use Rattle.live_model.specs.Deeds.{Deed, DoesScript, HasEntry, IsPull, IsTwoAbove, version_after}
 use Rattle.live_model.specs.Pulls.{IsMadeFor, TellVersions}

@@ -4,7 +4,7 @@ use Rattle.journal.specs.declared.command.Entry.{Entry}
 use Rattle.journal.specs.declared.opening.Opening.{Opening}
 use Rattle.journal.specs.Closed.{schedule_of}
 use Rattle.live_text.specs.declared.value.Live.{Live}
-use Rattle.script_reader.specs.declared.script.Script.{Script}
+use Rattle.workload.specs.declared.script.Script.{Script}
 use Rattle.live_model.specs.Deeds.{Deeds, DoesScript}
 use Rattle.live_model.specs.Pulls.{TellVersions}
 use Rattle.live_model.specs.Sent.{AreGranted, EndsWork, IsSentOnce, Wires}

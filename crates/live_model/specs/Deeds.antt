@@ -6,8 +6,8 @@ use Rattle.std.specs.Option.{IfSome, IsSome}
 use Rattle.journal.specs.declared.command.Command.{Command}
 use Rattle.journal.specs.declared.command.Entry.{Entry}
 use Rattle.journal.specs.Journal.{version_of}
-use Rattle.script_reader.specs.declared.script.ScriptLine.{ScriptLine}
-use Rattle.script_reader.specs.declared.script.Script.{Script}
+use Rattle.workload.specs.declared.script.ScriptLine.{ScriptLine}
+use Rattle.workload.specs.declared.script.Script.{Script}
 use Rattle.live_model.specs.Script.{command_of, is_pull, lines_by}
 
 -- A line of the script as its client carried it out: the number of its round, the line, the position of its entry in

@@ -9,8 +9,8 @@ use Rattle.journal.specs.declared.command.Entry.{Entry}
 use Rattle.journal.specs.declared.command.Reply.TheVariants.{NothingLeft, Opened}
 use Rattle.journal.specs.Driven.{Drive}
 use Rattle.journal.specs.Journal.{entry, version_of}
-use Rattle.master_desk.specs.Own.{own_entries, OwnEntry, versions_in}
-use Rattle.script_reader.specs.declared.script.Script.{Script}
+use Rattle.client_session.specs.Own.{own_entries, OwnEntry, versions_in}
+use Rattle.workload.specs.declared.script.Script.{Script}
 use Rattle.live_model.specs.Script.{command_of, is_pull, lines_by}
 use Rattle.live_model.specs.Deeds.{Deed, Deeds, entries_by, HasEntry, IsPull, IsTwoAbove, version_after}
 use Rattle.live_model.specs.Rounds.{Driving, end_of, Spell, spells_of}

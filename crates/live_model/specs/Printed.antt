@@ -19,7 +19,7 @@ use Rattle.live_text.specs.declared.value.Said.TheVariants.{Unranked, Opened, No
 use Rattle.live_text.specs.declared.value.EntryLine.{EntryLine}
 use Rattle.live_text.specs.declared.value.PullLine.{PullLine}
 use Rattle.live_text.specs.declared.value.Live.{Live}
-use Rattle.script_reader.specs.declared.script.Script.{Script}
+use Rattle.workload.specs.declared.script.Script.{Script}
 use Rattle.live_model.specs.Script.{coflow_pulled, is_pull}
 use Rattle.live_model.specs.Deeds.{Deed, Deeds}
 

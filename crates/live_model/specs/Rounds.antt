@@ -6,7 +6,7 @@ use Rattle.journal.specs.declared.command.Entry.{Entry}
 use Rattle.journal.specs.declared.command.Reply.{Reply}
 use Rattle.journal.specs.declared.command.Reply.TheVariants.{NothingLeft, Opened, Closed}
 use Rattle.journal.specs.Journal.{entry}
-use Rattle.script_reader.specs.declared.script.Script.{Script}
+use Rattle.workload.specs.declared.script.Script.{Script}
 use Rattle.live_model.specs.Script.{slot_rounds}
 use Rattle.live_model.specs.Deeds.{Deed, Deeds, entries_by, ForLaterRounds}
 

@@ -13,10 +13,10 @@ use Rattle.live_text.specs.declared.value.Said.{Said}
 use Rattle.live_text.specs.declared.value.Said.TheVariants.{Already, Joined, Version, Unranked, Opened, Nothing, Closed}
 use Rattle.live_text.specs.declared.value.Word.{Word}
 use Rattle.live_text.specs.declared.value.Word.TheVariants as W
-use Rattle.script_reader.specs.declared.script.Asked.{Asked}
-use Rattle.script_reader.specs.declared.script.Asked.TheVariants.{Register, Publish, Pull}
-use Rattle.script_reader.specs.declared.script.Script.{Script}
-use Rattle.script_reader.specs.declared.script.ScriptLine.{ScriptLine}
+use Rattle.workload.specs.declared.script.Asked.{Asked}
+use Rattle.workload.specs.declared.script.Asked.TheVariants.{Register, Publish, Pull}
+use Rattle.workload.specs.declared.script.Script.{Script}
+use Rattle.workload.specs.declared.script.ScriptLine.{ScriptLine}
 use Rattle.live_model.specs.Sent.{Wires}
 use Rattle.live_model.specs.Clause.{IsLiveRun}
 

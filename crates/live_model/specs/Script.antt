@@ -9,11 +9,11 @@ use Rattle.journal.specs.declared.command.Command.TheVariants.{Withdraw as Withd
 use Rattle.journal.specs.declared.command.Command.TheVariants.{Publish as PublishCommand, Pull as PullCommand}
 use Rattle.journal.specs.declared.command.Command.TheVariants.{Reweigh as ReweighCommand}
 use Rattle.journal.specs.declared.opening.Opening.{Opening}
-use Rattle.script_reader.specs.declared.script.Asked.{Asked}
-use Rattle.script_reader.specs.declared.script.Asked.TheVariants.{Register, Withdraw, Publish, Pull, Reweigh}
-use Rattle.script_reader.specs.declared.script.ScriptLine.{ScriptLine}
-use Rattle.script_reader.specs.declared.script.Round.{Round}
-use Rattle.script_reader.specs.declared.script.Script.{Script}
+use Rattle.workload.specs.declared.script.Asked.{Asked}
+use Rattle.workload.specs.declared.script.Asked.TheVariants.{Register, Withdraw, Publish, Pull, Reweigh}
+use Rattle.workload.specs.declared.script.ScriptLine.{ScriptLine}
+use Rattle.workload.specs.declared.script.Round.{Round}
+use Rattle.workload.specs.declared.script.Script.{Script}
 
 -- the master's command for what a line asks
 abbrev pub command_of : Asked → Command

@@ -14,7 +14,7 @@ use Rattle.journal.specs.State.{is_present, owed, slot_end}
 use Rattle.journal.specs.Fold.{state_of}
 use Rattle.journal.specs.Journal.{IsLegal, line_of}
 use Rattle.journal.specs.Closed.{times_on}
-use Rattle.script_reader.specs.declared.script.Script.{Script}
+use Rattle.workload.specs.declared.script.Script.{Script}
 use Rattle.live_model.specs.Script.{limit_of}
 
 -- what each wire was sent, by its port: runs of so many units of a flow from a slot on, each as slot, flow and units

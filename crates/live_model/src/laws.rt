@@ -6,7 +6,7 @@ ghost use Rattle.journal.specs.declared.opening.Opening.{Opening};
 ghost use Rattle.journal.specs.Journal.{IsLegal};
 ghost use Rattle.journal.specs.Sound.{InRange};
 ghost use Rattle.journal.specs.Closed.{schedule_of, wire_of};
-ghost use Rattle.master_desk.specs.Own.{own_entries, OwnEntry};
+ghost use Rattle.client_session.specs.Own.{own_entries, OwnEntry};
 ghost use Rattle.live_model.specs.Deeds.{asked_by, asked_in, Deed, DoesScript, ForLaterRounds, HasEntry, IsPull};
 ghost use Rattle.live_model.specs.Deeds.{Deeds, entries_by, HasNewest, IsTwoAbove};
 ghost use Rattle.live_model.specs.Pulls.{IsAnswered, IsMadeBefore, IsMadeFor, TellVersions};
@@ -19,7 +19,7 @@ ghost use Rattle.journal.specs.Journal.{entry};
 ghost use Rattle.live_model.specs.Rows.{Alone, Both, CrossedRounds, EarlyOpening, FallingVersion, ForeseenVersion};
 ghost use Rattle.live_model.specs.Rows.{Hidden, LateOpening, MissingEntry, NearPull, NothingTwice, SentTwice, StalePull};
 ghost use Rattle.live_model.specs.Rows.{UnmadeVersion, UnopenedRound, WrongMost, WrongOrder, WrongReply, WrongRuns};
-ghost use Rattle.script_reader.specs.declared.script.Script.{Script};
+ghost use Rattle.workload.specs.declared.script.Script.{Script};
 ghost use Rattle.live_model.specs.Sent.{AreGranted, IsSentOnce, Wires};
 
 /// What a legal journal gives by itself: its opened runs have their grants, wires that hold what its closed runs sent

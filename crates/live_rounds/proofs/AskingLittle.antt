@@ -3,19 +3,19 @@ use Rattle.std.proofs.Common.{◌≡◌, ℕ, ◌+◌, ◌<◌, ◌≤◌, inl, 
 use Rattle.std.proofs.Common.{refl, sym, ap, subst, arith, suc, Option, Some, None}
 use Rattle.std.proofs.lemmas.Option.{none-some, same_Some}
 use Rattle.journal.specs.declared.opening.Opening.{Opening}
-use Rattle.script_reader.specs.declared.script.ScriptLine.{ScriptLine}
+use Rattle.workload.specs.declared.script.ScriptLine.{ScriptLine}
 use Rattle.client_session.specs.Models.{SessionModel}
-use Rattle.master_desk.specs.Own.{OwnEntry}
-use Rattle.live_turns.specs.declared.answer.PullDone.{PullDone}
-use Rattle.live_turns.specs.declared.answer.RoundStop.{RoundStop}
-use Rattle.live_turns.specs.declared.answer.RoundStop.TheVariants as round
-use Rattle.live_turns.specs.declared.answer.TurnStop.{TurnStop}
-use Rattle.live_turns.specs.declared.answer.TurnStop.TheVariants.{Full, Spent}
-use Rattle.live_turns.specs.Acts.{Act, entries_at, entries_in, Outcome, entered, noted}
+use Rattle.client_session.specs.Own.{OwnEntry}
+use Rattle.live_rounds.specs.declared.answer.PullDone.{PullDone}
+use Rattle.live_rounds.specs.declared.answer.RoundStop.{RoundStop}
+use Rattle.live_rounds.specs.declared.answer.RoundStop.TheVariants as round
+use Rattle.live_rounds.specs.declared.answer.TurnStop.{TurnStop}
+use Rattle.live_rounds.specs.declared.answer.TurnStop.TheVariants.{Full, Spent}
+use Rattle.live_rounds.specs.Acts.{Act, entries_at, entries_in, Outcome, entered, noted}
 use Rattle.live_rounds.specs.Asking.{AddFew, AddsFew, LackCalls, MetFull}
 use Rattle.live_rounds.specs.Parts.{lines_for}
 use Rattle.live_rounds.specs.Rounds.{ArePlayed, IsCutShort, IsPlayed, IsRoundDone, Played}
-use Rattle.live_turns.specs.Stops.{Ends, first_stop, stop_for}
+use Rattle.live_rounds.specs.Stops.{Ends, first_stop, stop_for}
 use Rattle.live_rounds.proofs.Steps.{few_acts}
 
 at_most_one : (x : Outcome) → length (entries_at x) ≤ 1

@@ -6,18 +6,18 @@ use Rattle.std.proofs.lemmas.Grind.{flat_map-append}
 use Rattle.std.proofs.lemmas.List.{map-append}
 use Rattle.std.proofs.lemmas.Option.{none-some}
 use Rattle.journal.specs.declared.opening.Opening.{Opening}
-use Rattle.script_reader.specs.declared.script.ScriptLine.{ScriptLine}
+use Rattle.workload.specs.declared.script.ScriptLine.{ScriptLine}
 use Rattle.std.specs.Prelude.{All}
 use Rattle.std.proofs.lemmas.List.Elements.{All-cons, All-head, All-tail}
 use Rattle.client_session.specs.Models.{HallModel, IsSessionOf, SessionModel}
-use Rattle.live_turns.specs.declared.answer.PullDone.{PullDone}
-use Rattle.live_turns.specs.declared.answer.RoundStop.{RoundStop}
-use Rattle.live_turns.specs.declared.answer.TurnStop.{TurnStop}
-use Rattle.live_turns.specs.declared.answer.TurnStop.TheVariants.{Full, Spent}
+use Rattle.live_rounds.specs.declared.answer.PullDone.{PullDone}
+use Rattle.live_rounds.specs.declared.answer.RoundStop.{RoundStop}
+use Rattle.live_rounds.specs.declared.answer.TurnStop.{TurnStop}
+use Rattle.live_rounds.specs.declared.answer.TurnStop.TheVariants.{Full, Spent}
 use Rattle.live_rounds.specs.declared.part.Part.{Part}
 use Rattle.live_rounds.specs.Parts.{Collects, Each, Plays, pulls_together, stops_of}
 use Rattle.live_rounds.specs.Rounds.{IsCutShort, IsRoundDone, IsRoundStopped}
-use Rattle.live_turns.specs.Stops.{first_stop, stop_for}
+use Rattle.live_rounds.specs.Stops.{first_stop, stop_for}
 use Rattle.live_rounds.proofs.PartsBuilt.{Built}
 use Rattle.live_rounds.proofs.Steps.{stays_own}
 

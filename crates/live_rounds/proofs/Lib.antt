@@ -1,6 +1,10 @@
 pub mod Acting
+pub mod ActsTold
 pub mod AskingLittle
+pub mod ClientsTold
 pub mod Collecting
+pub mod Coming
+pub mod DriversTold
 pub mod Halves
 pub mod PartsBuilt
 pub mod Steps

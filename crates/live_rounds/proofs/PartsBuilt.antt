@@ -6,14 +6,14 @@ use Rattle.std.proofs.lemmas.List.Elements.{All-cons, All-filter, All-nil, All-w
 use Rattle.std.proofs.lemmas.Bool.{eqb-true, le-leb, leb-true, lt-leb}
 use Rattle.journal.specs.declared.opening.Opening.{Opening}
 use Rattle.journal.specs.Answer.{IsInRange}
-use Rattle.script_reader.specs.declared.script.ScriptLine.{ScriptLine}
+use Rattle.workload.specs.declared.script.ScriptLine.{ScriptLine}
 use Rattle.client_session.specs.Models.{SessionModel}
 use Rattle.live_model.specs.Script.{command_of}
 use Rattle.live_rounds.specs.declared.part.Part.{Part}
-use Rattle.live_turns.specs.Acts.{pulls_in}
+use Rattle.live_rounds.specs.Acts.{pulls_in}
 use Rattle.live_rounds.specs.Parts.{AreParts, Each, IsPart, IsReady, lines_for, Plays, pulls_together, stops_of}
 use Rattle.live_rounds.specs.Rounds.{ArePlayed, MayAsk, Played}
-use Rattle.live_turns.specs.Stops.{Ends}
+use Rattle.live_rounds.specs.Stops.{Ends}
 use Rattle.live_rounds.proofs.Steps.{few_acts, few_pulls}
 
 -- one part more

@@ -6,18 +6,18 @@ use Rattle.std.proofs.lemmas.List.{length-map, length-take, map-append, take_all
 use Rattle.std.proofs.lemmas.Grind.{flat_map-append}
 use Rattle.std.proofs.lemmas.List.Elements.{filter-append}
 use Rattle.journal.specs.declared.opening.Opening.{Opening}
-use Rattle.script_reader.specs.declared.script.ScriptLine.{ScriptLine}
+use Rattle.workload.specs.declared.script.ScriptLine.{ScriptLine}
 use Rattle.client_session.specs.Models.{HallModel, IsSessionOf, SessionModel}
 use Rattle.live_model.specs.Script.{is_pull}
-use Rattle.live_turns.specs.declared.answer.PullDone.{PullDone}
-use Rattle.live_turns.specs.declared.answer.TurnStop.{TurnStop}
-use Rattle.live_turns.specs.declared.answer.TurnStop.TheVariants.{Full, Spent}
+use Rattle.live_rounds.specs.declared.answer.PullDone.{PullDone}
+use Rattle.live_rounds.specs.declared.answer.TurnStop.{TurnStop}
+use Rattle.live_rounds.specs.declared.answer.TurnStop.TheVariants.{Full, Spent}
 use Rattle.live_rounds.specs.declared.part.Part.{Part}
-use Rattle.live_turns.specs.Acts.{Act, act, entries_at, entries_in, HasActed, Outcome, pull_done, pulls_in, StaysPut}
-use Rattle.live_turns.specs.Lines.{ComesTo}
+use Rattle.live_rounds.specs.Acts.{Act, act, entries_at, entries_in, HasActed, Outcome, pull_done, pulls_in, StaysPut}
+use Rattle.live_rounds.specs.Lines.{ComesTo}
 use Rattle.live_rounds.specs.Parts.{Keeps, Plays}
-use Rattle.live_turns.specs.Stops.{Ends, IsStoppedAt}
-use Rattle.live_turns.proofs.Acting.{acted_none, acted_on, stays}
+use Rattle.live_rounds.specs.Stops.{Ends, IsStoppedAt}
+use Rattle.live_rounds.proofs.Acting.{acted_none, acted_on, stays}
 
 -- so many lines are carried out
 pub record PlaysSoFar (old new : SessionModel) (before now : Part) (count : ℕ) : Type 0 where

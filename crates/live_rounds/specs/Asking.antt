@@ -1,7 +1,7 @@
 -- How much the clients of a round ask, and what those met that stopped.
 use Rattle.std.specs.Prelude.{◌≡◌, ◌⊎◌, ℕ, ◌+◌, ◌<◌, ◌≤◌, List, [], ◌∷◌, Any, length}
 use Rattle.journal.specs.declared.opening.Opening.{Opening}
-use Rattle.script_reader.specs.declared.script.ScriptLine.{ScriptLine}
+use Rattle.workload.specs.declared.script.ScriptLine.{ScriptLine}
 use Rattle.client_session.specs.Models.{SessionModel}
 use Rattle.live_rounds.specs.Parts.{lines_for}
 

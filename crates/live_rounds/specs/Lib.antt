@@ -1,6 +1,9 @@
 pub mod Acts
-pub mod Answers
 pub mod Asking
+pub mod Clients
+pub mod Drivers
+pub mod Lines
 pub mod Parts
 pub mod Rounds
 pub mod Stops
+pub mod Told

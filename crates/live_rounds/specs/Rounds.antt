@@ -2,16 +2,16 @@
 use Rattle.std.specs.Prelude.{◌≡◌, ℕ, ◌+◌, ◌≤◌, List, [], ◌∷◌, flat_map, map, Option, Some, None}
 use Rattle.journal.specs.declared.opening.Opening.{Opening}
 use Rattle.journal.specs.Answer.{IsInRange}
-use Rattle.script_reader.specs.declared.script.ScriptLine.{ScriptLine}
+use Rattle.workload.specs.declared.script.ScriptLine.{ScriptLine}
 use Rattle.client_session.specs.Models.{SessionModel}
 use Rattle.live_model.specs.Script.{command_of}
-use Rattle.live_turns.specs.declared.answer.PullDone.{PullDone}
-use Rattle.live_turns.specs.declared.answer.RoundStop.{RoundStop}
-use Rattle.live_turns.specs.declared.answer.RoundStop.TheVariants.{NoMemory}
-use Rattle.live_turns.specs.declared.answer.TurnStop.{TurnStop}
-use Rattle.live_turns.specs.Acts.{Act, HasActed, pulls_in}
+use Rattle.live_rounds.specs.declared.answer.PullDone.{PullDone}
+use Rattle.live_rounds.specs.declared.answer.RoundStop.{RoundStop}
+use Rattle.live_rounds.specs.declared.answer.RoundStop.TheVariants.{NoMemory}
+use Rattle.live_rounds.specs.declared.answer.TurnStop.{TurnStop}
+use Rattle.live_rounds.specs.Acts.{Act, HasActed, pulls_in}
 use Rattle.live_rounds.specs.Parts.{lines_for}
-use Rattle.live_turns.specs.Stops.{Ends, first_stop, stop_for}
+use Rattle.live_rounds.specs.Stops.{Ends, first_stop, stop_for}
 
 -- the line is of one of so many clients, and its command is in range
 abbrev pub MayAsk : Opening → ℕ → ScriptLine → Type 0

@@ -3,9 +3,9 @@ ghost use Rattle.client_session.specs.Models.{IsSessionOf};
 ghost use Rattle.live_rounds.specs.Parts.{IsReady, Plays};
 
 use crate::gate::Gate;
+use crate::line::carry_out;
 use crate::part::{Part, keep};
 use client_session::{Hall, Session};
-use live_turns::carry_out;
 use std::sync::Wait;
 
 /// Carries out the lines of a client in its session, in order. It passes the gate before each, and stops where a turn finds no room in the journal or no call is left for one.

@@ -1,11 +1,11 @@
 //! Laws of rounds.
 ghost use Rattle.std.specs.Prelude.{◌≡◌, ℕ, List};
 ghost use Rattle.journal.specs.declared.opening.Opening.{Opening};
-ghost use Rattle.script_reader.specs.declared.script.ScriptLine.{ScriptLine};
+ghost use Rattle.workload.specs.declared.script.ScriptLine.{ScriptLine};
 ghost use Rattle.client_session.specs.Models.{SessionModel};
-ghost use Rattle.live_turns.specs.declared.answer.PullDone.{PullDone};
-ghost use Rattle.live_turns.specs.declared.answer.RoundStop.{RoundStop};
-ghost use Rattle.live_turns.specs.declared.answer.RoundStop.TheVariants.{Full, Spent};
+ghost use Rattle.live_rounds.specs.declared.answer.PullDone.{PullDone};
+ghost use Rattle.live_rounds.specs.declared.answer.RoundStop.{RoundStop};
+ghost use Rattle.live_rounds.specs.declared.answer.RoundStop.TheVariants.{Full, Spent};
 ghost use Rattle.live_rounds.specs.Asking.{AddFew, LackCalls, MetFull};
 ghost use Rattle.live_rounds.specs.Rounds.{IsCutShort, IsRoundDone};
 

@@ -2,13 +2,16 @@
 //! their order.
 #![tactic(auto)]
 
+mod answer;
 mod client;
+pub mod course_laws;
 mod gate;
 pub mod laws;
+mod line;
 mod part;
 mod playing;
 mod rounds;
 
+pub use answer::{PullDone, RoundStop};
 pub use gate::{Gate, OpenGate};
-pub use live_turns::{PullDone, RoundStop};
 pub use rounds::round;

@@ -2,10 +2,10 @@
 ghost use Rattle.std.specs.Prelude.{◌≡◌, ◌<◌, length, vec_capacity, IfOk};
 ghost use Rattle.live_rounds.specs.Parts.{AreParts, IsPart, Keeps};
 
+use crate::answer::{PullDone, TurnStop};
 use coflow_units::NoMemory;
-use live_turns::{PullDone, TurnStop};
-use script_reader::ScriptLine;
 use std::alloc::Global;
+use workload::ScriptLine;
 
 /// The part of one client: its lines, in order, what its pulls were told so far, and why it stopped, where it did.
 #[derive(Drop)]

@@ -1,19 +1,19 @@
 //! A round of a script.
 ghost use Rattle.std.specs.Prelude.{◌≡◌, ◌+◌, ◌≤◌, ◌++◌, IfOk, Err, length, All, vec_capacity, []};
 ghost use Rattle.client_session.specs.Models.{IsSessionOf};
-ghost use Rattle.live_turns.specs.declared.answer.RoundStop.{RoundStop};
+ghost use Rattle.live_rounds.specs.declared.answer.RoundStop.{RoundStop};
 ghost use Rattle.live_rounds.specs.Parts.{Collects, pulls_together};
 ghost use Rattle.live_rounds.specs.Rounds.{IsRoundDone, IsRoundStopped, MayAsk};
 
+use crate::answer::{PullDone, RoundStop};
 use crate::gate::Gate;
 use crate::part::{Part, parts_of};
 use crate::playing::play_all;
 use client_session::{Hall, Session};
-use live_turns::{PullDone, RoundStop};
-use script_reader::ScriptLine;
 use std::alloc::Global;
 use std::sync::Wait;
 use std::thread::Threads;
+use workload::ScriptLine;
 
 /// Carries out the lines of a round. The client of number K uses session K, counted from 1, on a thread of its own and in the order of its lines. Before each command it passes its
 /// gate. There is a gate for each session. It takes turns, which may wait.

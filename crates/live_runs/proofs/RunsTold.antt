@@ -4,11 +4,11 @@ use Rattle.std.specs.Prelude.{All}
 use Rattle.std.specs.Option.{IsSome}
 use Rattle.journal.specs.declared.command.Entry.{Entry}
 use Rattle.journal.specs.declared.opening.Opening.{Opening}
-use Rattle.script_reader.specs.declared.script.Script.{Script}
+use Rattle.workload.specs.declared.script.Script.{Script}
 use Rattle.live_text.specs.declared.value.Live.{Live}
 use Rattle.live_text.specs.declared.value.PullLine.{PullLine}
 use Rattle.live_model.specs.Printed.{told_entry}
-use Rattle.live_lines.proofs.WordsOfRuns.{all_worded}
+use Rattle.live_runs.proofs.WordsOfRuns.{all_worded}
 use Rattle.live_serving.specs.Served.{IsServed}
 use Rattle.live_runs.specs.Run.{IsToldRun}
 use Rattle.live_runs.specs.Value.{IsValueOf}

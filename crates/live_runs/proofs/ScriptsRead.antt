@@ -13,14 +13,14 @@ use Rattle.text_fields.specs.Fields.{Text, field_at}
 use Rattle.text_fields.specs.Lines.{Line, lines_of as text_lines, without_first}
 use Rattle.text_fields.specs.Numbers.{number}
 use Rattle.text_fields.proofs.CheckLists.{all_hold, passed_parts}
-use Rattle.script_reader.specs.Checks.{ask_checks, client_checks, coflow_checks, count_checks, end_checks, ended_checks, id_checks}
-use Rattle.script_reader.specs.Checks.{line_checks, lines_checks, text_checks, weight_checks, weighing_checks, word_checks}
-use Rattle.script_reader.specs.Operands.{coflow_in, coflow_with, weight_in}
-use Rattle.script_reader.specs.Script.{asked_by, asked_of, client_of, clients_of, put_first, put_step, rounds_of, script_of, step_by, step_of}
-use Rattle.script_reader.specs.Words.{is_word, word_of}
-use Rattle.script_reader.specs.declared.script.Round.{Round}
-use Rattle.script_reader.specs.declared.script.Script.{Script}
-use Rattle.script_reader.specs.declared.script.ScriptLine.{ScriptLine}
+use Rattle.workload.specs.Checks.{ask_checks, client_checks, coflow_checks, count_checks, end_checks, ended_checks, id_checks}
+use Rattle.workload.specs.Checks.{line_checks, lines_checks, text_checks, weight_checks, weighing_checks, word_checks}
+use Rattle.workload.specs.Operands.{coflow_in, coflow_with, weight_in}
+use Rattle.workload.specs.Script.{asked_by, asked_of, client_of, clients_of, put_first, put_step, rounds_of, script_of, step_by, step_of}
+use Rattle.workload.specs.Words.{is_word, word_of}
+use Rattle.workload.specs.declared.script.Round.{Round}
+use Rattle.workload.specs.declared.script.Script.{Script}
+use Rattle.workload.specs.declared.script.ScriptLine.{ScriptLine}
 use Rattle.live_model.specs.Script.{command_of, limit_of, lines_from}
 use Rattle.live_rounds.specs.Rounds.{MayAsk}
 use Rattle.live_serving.specs.Ends.{MayBeAsked}

@@ -1,5 +1,8 @@
 pub mod LiveFaults
+pub mod Names
 pub mod Read
+pub mod Retold
 pub mod Run
+pub mod Told
 pub mod Value
 pub mod Wires

@@ -1,8 +1,8 @@
 -- Scripts that were read.
 use Rattle.std.specs.Prelude.{◌≡◌, ℕ, List, None}
-use Rattle.script_reader.specs.Checks.{text_checks}
-use Rattle.script_reader.specs.Script.{script_of}
-use Rattle.script_reader.specs.declared.script.Script.{Script}
+use Rattle.workload.specs.Checks.{text_checks}
+use Rattle.workload.specs.Script.{script_of}
+use Rattle.workload.specs.declared.script.Script.{Script}
 use Rattle.text_fields.specs.Checks.{first_fault}
 use Rattle.text_fields.specs.Fields.{Text}
 

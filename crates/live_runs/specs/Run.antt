@@ -3,7 +3,7 @@ use Rattle.std.specs.Prelude.{◌≡◌, ℕ, List, Option}
 use Rattle.flow_table.specs.Table.{TableFacts}
 use Rattle.journal.specs.declared.command.Entry.{Entry}
 use Rattle.journal.specs.declared.opening.Opening.{Opening}
-use Rattle.script_reader.specs.declared.script.Script.{Script}
+use Rattle.workload.specs.declared.script.Script.{Script}
 use Rattle.live_text.specs.declared.value.Live.{Live}
 use Rattle.live_model.specs.Clause.{IsLiveRun}
 use Rattle.live_model.specs.Sent.{Wires}

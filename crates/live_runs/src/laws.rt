@@ -12,11 +12,11 @@ ghost use Rattle.live_model.specs.Clause.{IsLiveRun};
 ghost use Rattle.live_model.specs.Printed.{run_of, told_entry, told_order};
 ghost use Rattle.live_model.specs.Script.{limit_of};
 ghost use Rattle.live_model.specs.Sent.{Wires};
-ghost use Rattle.live_rounds.specs.Answers.{PullDone};
+ghost use Rattle.live_rounds.specs.declared.answer.PullDone.{PullDone};
 ghost use Rattle.live_text.specs.declared.value.Live.{Live};
-ghost use Rattle.script_reader.specs.declared.script.Script.{Script};
+ghost use Rattle.workload.specs.declared.script.Script.{Script};
 ghost use Rattle.live_serving.specs.Ends.{IsCarriedOut, MayBeAsked, pull_line};
-ghost use Rattle.live_serving.specs.Ends.{pulls_for};
+ghost use Rattle.live_serving.specs.Followed.{pulls_for};
 ghost use Rattle.live_runs.specs.Read.{IsRead};
 
 /// Where some course carries out a script with a journal and wires, a value that tells of the journal what `live_value`

@@ -8,7 +8,7 @@ ghost use Rattle.live_runs.specs.Read.{IsRead};
 
 use flow_table::Table;
 use live_serving::journal_limit;
-use script_reader::Script;
+use workload::Script;
 
 /// The limit of the journal for a script that was read over the coflows of a table, which has no more units than clients
 /// may share live: the script's commands, twice its rounds, twice the units, and two.

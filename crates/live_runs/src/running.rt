@@ -16,10 +16,10 @@ use live_serving::{LiveFault, serve_live};
 use live_text::Live;
 use master_core::Master;
 use outside::Wire;
-use script_reader::Script;
 use std::alloc::Global;
 use std::sync::Wait;
 use std::thread::Threads;
+use workload::Script;
 
 /// Carries out a script in a hall over the table, with these weights, one for each coflow, from 1 to 2^32, and gives what is printed of it. The limit is that of the script. All
 /// else is as `serve_live` has it: what was sent at any answer, when a wire's fault comes, and how the clients, their gates and the agents stand beside one another.

@@ -5,8 +5,8 @@ ghost use Rattle.journal.specs.declared.command.Entry.{Entry};
 ghost use Rattle.live_model.specs.Printed.{told_entry};
 ghost use Rattle.live_runs.specs.Value.{IsValueOf};
 
+use crate::line_value::live_value;
 use coflow_units::{Items, NoMemory};
-use live_lines::live_value;
 use live_serving::Served;
 use live_text::Live;
 use std::alloc::Global;

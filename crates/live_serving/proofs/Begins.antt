@@ -5,21 +5,21 @@ use Rattle.std.proofs.lemmas.List.Elements.{All-nil}
 use Rattle.journal.specs.declared.command.Entry.{Entry}
 use Rattle.journal.specs.Driven.{driver_entries}
 use Rattle.journal.specs.Fold.{state_of}
-use Rattle.script_reader.specs.declared.script.Script.{Script}
-use Rattle.master_desk.specs.Desk.{IsSeen}
-use Rattle.master_desk.proofs.Agreement.{nothing_seen}
+use Rattle.workload.specs.declared.script.Script.{Script}
+use Rattle.client_session.specs.Desk.{IsSeen}
+use Rattle.client_session.proofs.Agreement.{nothing_seen}
 use Rattle.client_session.specs.Halls.{IsFirstDriver}
 use Rattle.client_session.specs.Models.{DriverModel, HallModel, IsDriverOf, IsSessionOf, SessionModel}
 use Rattle.slot_runner.specs.Models.{first_runner}
 use Rattle.live_model.specs.Script.{lines_of}
-use Rattle.live_course.proofs.DriversTold.{none_opened}
-use Rattle.live_course.specs.Drivers.{AreOpenings}
-use Rattle.hall_live.specs.Followed.{AreBegun}
-use Rattle.hall_live.proofs.RoundsOn.{none_done}
-use Rattle.round_serving.specs.Going.{IsFor, IsGoing}
+use Rattle.live_rounds.proofs.DriversTold.{none_opened}
+use Rattle.live_rounds.specs.Drivers.{AreOpenings}
+use Rattle.live_serving.specs.Followed.{AreBegun}
+use Rattle.live_serving.proofs.RoundsOn.{none_done}
+use Rattle.live_serving.specs.Going.{IsFor, IsGoing}
 use Rattle.hall_plan.specs.Cuts.{AllSentWhole}
-use Rattle.round_serving.proofs.PullsInTable.{InTable}
-use Rattle.round_serving.proofs.SentWhole.{whole_first}
+use Rattle.live_serving.proofs.PullsInTable.{InTable}
+use Rattle.live_serving.proofs.SentWhole.{whole_first}
 
 pub begins : (hall : HallModel) (script : Script) (most ports : ℕ) (first driver : DriverModel) (sessions : List SessionModel) → IsFor hall script →
     IsFirstDriver hall (2 ^ 40) first → driver ≡ record first { made = script.clients } → All (IsSessionOf hall) sessions →

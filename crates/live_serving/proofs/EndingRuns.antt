@@ -14,26 +14,26 @@ use Rattle.journal.specs.State.{IsOpening, slot_end}
 use Rattle.journal.proofs.RunsInOrder.{closed_sound}
 use Rattle.journal.proofs.Sound.{legal_sound}
 use Rattle.live_text.specs.declared.value.PullLine.{PullLine}
-use Rattle.script_reader.specs.declared.script.Script.{Script}
+use Rattle.workload.specs.declared.script.Script.{Script}
 use Rattle.master_core.specs.Master.{MasterFacts}
 use Rattle.client_session.specs.Closes.{HasEnded, IsClosed}
 use Rattle.client_session.specs.Models.{DriverModel, HallModel, SessionModel}
 use Rattle.slot_runner.specs.Models.{MayRun, RunnerModel}
 use Rattle.slot_runner.specs.Slots.{HasRun, IsAnswered}
 use Rattle.live_model.specs.Script.{limit_of, lines_of}
-use Rattle.live_course.proofs.DriversTold.{others_open_none}
-use Rattle.live_rounds.specs.Answers.{PullDone}
-use Rattle.hall_live.specs.Ends.{IsCarriedOut, IsRunningOut, MayBeAsked, pull_line}
-use Rattle.hall_live.specs.Followed.{pulls_for}
-use Rattle.hall_live.specs.Rounds.{AreRoundsDone}
-use Rattle.hall_live.proofs.ClosedTold.{all_there, carries_out}
-use Rattle.hall_live.proofs.Counted.{has_room}
-use Rattle.hall_live.proofs.RunningOut.{first_out, nothing_out, run_out}
-use Rattle.round_serving.specs.Going.{AreSeated, IsEnded, IsEnding, IsFilled, IsGoing}
-use Rattle.round_serving.specs.Openings.{HasMetFull}
+use Rattle.live_rounds.proofs.DriversTold.{others_open_none}
+use Rattle.live_rounds.specs.declared.answer.PullDone.{PullDone}
+use Rattle.live_serving.specs.Ends.{IsCarriedOut, IsRunningOut, MayBeAsked, pull_line}
+use Rattle.live_serving.specs.Followed.{pulls_for}
+use Rattle.live_serving.specs.Rounds.{AreRoundsDone}
+use Rattle.live_serving.proofs.ClosedTold.{all_there, carries_out}
+use Rattle.live_serving.proofs.Counted.{has_room}
+use Rattle.live_serving.proofs.RunningOut.{first_out, nothing_out, run_out}
+use Rattle.live_serving.specs.Going.{AreSeated, IsEnded, IsEnding, IsFilled, IsGoing}
+use Rattle.live_serving.specs.Openings.{HasMetFull}
 use Rattle.live_serving.specs.Served.{IsTold}
-use Rattle.round_serving.proofs.FewEntries.{all_short, few_found, few_spells, found_append, none_found, none_within, same_few}
-use Rattle.round_serving.proofs.SentWhole.{whole_next}
+use Rattle.live_serving.proofs.FewEntries.{all_short, few_found, few_spells, found_append, none_found, none_within, same_few}
+use Rattle.live_serving.proofs.SentWhole.{whole_next}
 
 -- ---- all rounds are done
 

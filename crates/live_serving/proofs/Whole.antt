@@ -8,23 +8,23 @@ use Rattle.journal.specs.declared.opening.Opening.{Opening}
 use Rattle.journal.specs.Closed.{schedule_of, wire_of}
 use Rattle.journal.proofs.ScheduleTimes.{times_is_sent}
 use Rattle.journal.proofs.Sound.{legal_sound}
-use Rattle.script_reader.specs.declared.script.Script.{Script}
+use Rattle.workload.specs.declared.script.Script.{Script}
 use Rattle.client_session.specs.Models.{DriverModel, HallModel, SessionModel}
 use Rattle.slot_runner.specs.Models.{RunnerModel}
-use Rattle.live_rounds.specs.Answers.{PullDone}
+use Rattle.live_rounds.specs.declared.answer.PullDone.{PullDone}
 use Rattle.live_text.specs.declared.value.PullLine.{PullLine}
 use Rattle.hall_plan.specs.Wires.{AreAllUnits, HaveMore}
 use Rattle.hall_plan.proofs.WireSteps.{all_units, have_none, have_so}
 use Rattle.live_serving.specs.declared.answer.Served.{Served}
 use Rattle.live_serving.specs.declared.answer.LiveFault.{LiveFault}
-use Rattle.round_serving.specs.declared.stop.Stop.{Stop}
-use Rattle.round_serving.specs.declared.stop.Stop.TheVariants.{WireFault}
-use Rattle.round_serving.specs.Going.{IsEnded, IsFilled}
-use Rattle.round_serving.specs.Openings.{AreServed}
+use Rattle.live_serving.specs.declared.stop.Stop.{Stop}
+use Rattle.live_serving.specs.declared.stop.Stop.TheVariants.{WireFault}
+use Rattle.live_serving.specs.Going.{IsEnded, IsFilled}
+use Rattle.live_serving.specs.Openings.{AreServed}
 use Rattle.live_serving.specs.Served.{IsServed, IsTold}
-use Rattle.round_serving.specs.Wires.{HaveServed, HaveStopped}
-use Rattle.master_desk.proofs.Agreement.{nothing_seen}
-use Rattle.round_serving.proofs.WiresOn.{all_sent, all_served, all_stopped}
+use Rattle.live_serving.specs.Wires.{HaveServed, HaveStopped}
+use Rattle.client_session.proofs.Agreement.{nothing_seen}
+use Rattle.live_serving.proofs.WiresOn.{all_sent, all_served, all_stopped}
 
 -- ---- sessions that are written back
 

@@ -1,3 +1,11 @@
+pub mod Driven
+pub mod Driving
 pub mod Ends
+pub mod Followed
+pub mod Going
+pub mod Openings
+pub mod Playing
+pub mod Room
+pub mod Rounds
 pub mod Served
 pub mod Wires

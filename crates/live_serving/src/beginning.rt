@@ -2,18 +2,18 @@
 ghost use Rattle.std.specs.Prelude.{◌≡◌, ◌≤◌, ℕ, [], IfOk};
 ghost use Rattle.coflow_units.specs.declared.limits.TheConstants.{MAX_CLIENTS};
 ghost use Rattle.live_model.specs.Script.{limit_of};
-ghost use Rattle.hall_live.specs.Ends.{MayBeAsked};
-ghost use Rattle.round_serving.specs.Going.{IsGoing};
+ghost use Rattle.live_serving.specs.Ends.{MayBeAsked};
+ghost use Rattle.live_serving.specs.Going.{IsGoing};
 
 use crate::commands::commands_of;
+use crate::seats::seat_clients;
 use client_session::{Hall, Session};
 use coflow_units::NoMemory;
-use hall_live::seat_clients;
 use live_rounds::PullDone;
 use master_core::Master;
-use script_reader::Script;
 use slot_runner::Runner;
 use std::alloc::Global;
+use workload::Script;
 
 /// The calls of the driver: 2^40.
 const CALLS: u64 = 1_099_511_627_776;

@@ -2,7 +2,7 @@
 ghost use Rattle.std.specs.Prelude.{◌≡◌, ◌^◌, ◌<◌, length};
 ghost use Rattle.live_model.specs.Script.{lines_of};
 
-use script_reader::Script;
+use workload::Script;
 
 /// How many commands the script has.
 pub(crate) fn commands_of(script: &Script) -> u32

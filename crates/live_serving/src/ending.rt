@@ -2,20 +2,20 @@
 ghost use Rattle.std.specs.Prelude.{◌≡◌, ℕ, Err, IfOk, IsOk, OnOk};
 ghost use Rattle.client_session.specs.Closes.{IsClosed};
 ghost use Rattle.live_serving.specs.declared.answer.LiveFault.TheVariants as fault;
-ghost use Rattle.round_serving.specs.declared.stop.Stop.TheVariants.{Full, WireFault};
-ghost use Rattle.round_serving.specs.Going.{AreSeated, IsEnded, IsFilled};
+ghost use Rattle.live_serving.specs.declared.stop.Stop.TheVariants.{Full, WireFault};
+ghost use Rattle.live_serving.specs.Going.{AreSeated, IsEnded, IsFilled};
 ghost use Rattle.live_serving.specs.Served.{IsTold};
 
 use crate::answer::{LiveFault, Served};
 use crate::beginning::Begun;
+use crate::pulls::pull_lines;
+use crate::stop::Stop;
 use client_session::{CloseFault, Driver, Hall, Session};
 use coflow_units::{Items, NoMemory};
-use hall_live::pull_lines;
 use live_rounds::PullDone;
 use master_core::Master;
-use round_serving::Stop;
-use script_reader::Script;
 use std::alloc::Global;
+use workload::Script;
 
 /// Closes the hall and tells the pulls, once the work is ended. Where a turn found no room the hall is closed as well: its
 /// journal would then show that there was room, so that this never comes.

@@ -4,11 +4,18 @@
 
 mod answer;
 mod beginning;
+mod beside;
 mod commands;
 mod ending;
 mod limit;
 mod live;
+mod pulls;
+mod round_running;
+mod rounds;
+pub mod script_laws;
+mod seats;
 mod serving;
+mod stop;
 
 pub use answer::{LiveFault, Served};
 pub use limit::journal_limit;

@@ -5,7 +5,7 @@ ghost use Rattle.journal.specs.declared.opening.Opening.{Opening};
 ghost use Rattle.live_model.specs.Script.{limit_of, lines_of};
 
 use flow_table::Table;
-use script_reader::Script;
+use workload::Script;
 
 /// The most entries that a journal may have: 2^23.
 const MOST_ENTRIES: u64 = 8_388_608;

@@ -3,10 +3,10 @@ ghost use Rattle.std.specs.Prelude.{◌≡◌, ◌<◌, ◌≤◌, ℕ, [], Err,
 ghost use Rattle.coflow_units.specs.declared.limits.TheConstants.{MAX_CLIENTS};
 ghost use Rattle.outside.specs.Rose.{Rose};
 ghost use Rattle.live_model.specs.Script.{limit_of};
-ghost use Rattle.hall_live.specs.Ends.{MayBeAsked};
+ghost use Rattle.live_serving.specs.Ends.{MayBeAsked};
 ghost use Rattle.live_serving.specs.declared.answer.LiveFault.TheVariants.{WireFault};
 ghost use Rattle.live_serving.specs.Served.{IsServed};
-ghost use Rattle.round_serving.specs.Wires.{HaveServed, HaveStopped};
+ghost use Rattle.live_serving.specs.Wires.{HaveServed, HaveStopped};
 
 use crate::answer::{LiveFault, Served};
 use crate::beginning::begin;
@@ -15,10 +15,10 @@ use crate::serving::serve;
 use live_rounds::Gate;
 use master_core::Master;
 use outside::Wire;
-use script_reader::Script;
 use std::alloc::Global;
 use std::sync::Wait;
 use std::thread::Threads;
+use workload::Script;
 
 /// Carries out a script in a hall of a new master, whose journal has room for the script's commands, twice its rounds,
 /// twice the units, and two. Each client has a session and a thread of its own, and passes its gate before each command.

@@ -1,18 +1,20 @@
 //! All rounds of a script, and the runs after them.
 ghost use Rattle.std.specs.Prelude.{◌≡◌, ◌≤◌, Err, OnOk, length};
-ghost use Rattle.round_serving.specs.declared.stop.Stop.TheVariants.{Full};
-ghost use Rattle.round_serving.specs.Going.{IsEnded, IsEnding, IsFilled, IsGoing};
-ghost use Rattle.round_serving.specs.Openings.{AreServed};
+ghost use Rattle.live_serving.specs.declared.stop.Stop.TheVariants.{Full};
+ghost use Rattle.live_serving.specs.Going.{IsEnded, IsEnding, IsFilled, IsGoing};
+ghost use Rattle.live_serving.specs.Openings.{AreServed};
 
+use crate::round_running::open_once;
+use crate::rounds::play_round;
+use crate::stop::Stop;
 use client_session::{Hall, Session};
 use live_rounds::{Gate, PullDone};
 use outside::Wire;
-use round_serving::{Stop, open_once, play_round};
-use script_reader::Script;
 use slot_runner::Runner;
 use std::alloc::Global;
 use std::sync::Wait;
 use std::thread::Threads;
+use workload::Script;
 
 /// Plays all rounds of the script, and then opens runs until nothing is left.
 pub(crate) fn serve<R: Threads + Wait + Sync, W: Wire + Send, G: Gate + Send>(

@@ -1,6 +1,12 @@
-pub mod TextSteps
-pub mod NumberLists
-pub mod Words
+pub mod DealText
+pub mod DraftSteps
+pub mod FieldText
 pub mod LineParts
+pub mod LineReading
 pub mod NextLine
+pub mod NumberLists
 pub mod OneText
+pub mod ReadingSteps
+pub mod Refusals
+pub mod TextSteps
+pub mod Words

@@ -1,2 +1,5 @@
-pub mod Text
+pub mod Draft
 pub mod Live
+pub mod Readers
+pub mod Reading
+pub mod Text

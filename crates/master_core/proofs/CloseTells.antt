@@ -10,7 +10,7 @@ use Rattle.journal.specs.declared.command.Reply.TheVariants.{Closed, NoneOpen}
 use Rattle.journal.specs.State.{has, Run}
 use Rattle.journal.specs.Runs.{credit, note_in}
 use Rattle.journal.specs.Answer.{on_run}
-use Rattle.open_runs.specs.OpenRun.{FitsOpen, FitsRun, KeepsGrants, KeptRun, KeptRuns, kept_credit, note_at}
+use Rattle.master_core.specs.OpenRun.{FitsOpen, FitsRun, KeepsGrants, KeptRun, KeptRuns, kept_credit, note_at}
 use Rattle.master_core.specs.Standing.{TellsOpen, TellsRun}
 
 pub ingress_low : (t : TableFacts) (f : ℕ) → IsTable t → ingress_of t.flows f < t.ports

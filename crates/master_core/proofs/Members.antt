@@ -5,7 +5,7 @@ use Rattle.std.proofs.lemmas.Bool.{eq-eqb, ne_eqb}
 use Rattle.std.proofs.lemmas.List.Folds.{list_any-append}
 use Rattle.coflow_units.proofs.Bools.{or_not}
 use Rattle.journal.specs.State.{has}
-use Rattle.coflow_orders.proofs.Bools.{or_true}
+use Rattle.master_core.proofs.Bools.{or_true}
 
 pub has_push : (xs : List ℕ) (c x : ℕ) → has (xs ++ c ∷ []) x ≡ (has xs x || (c == x))
 has_push xs c x = list_any-append (λ (y : ℕ). y == x) xs (c ∷ []) ∙ ap (λ b. has xs x || b) (or_not (c == x) false refl)

@@ -11,15 +11,15 @@ use Rattle.coflow_units.proofs.Lists.{filter_same}
 use Rattle.journal.specs.declared.opening.Opening.{Opening}
 use Rattle.master_core.specs.declared.standing.Standing.{Standing}
 use Rattle.journal.specs.State.{has, owed, slot_end, State}
-use Rattle.coflow_roster.specs.Attendance.{marked}
+use Rattle.master_core.specs.Attendance.{marked}
 use Rattle.journal.specs.Line.{line, newest}
-use Rattle.coflow_orders.specs.Waiting.{line_of, waits}
+use Rattle.master_core.specs.Waiting.{line_of, waits}
 use Rattle.journal.specs.Runs.{granted, least_of, slots_for}
-use Rattle.open_runs.specs.OpenRun.{FitsRun, IsBegun, KeptRun, TellsIngresses}
+use Rattle.master_core.specs.OpenRun.{FitsRun, IsBegun, KeptRun, TellsIngresses}
 use Rattle.master_core.specs.Standing.{IsFit, Tells, TellsCoflows, TellsOpen, TellsOrders}
-use Rattle.coflow_orders.proofs.Bools.{both}
+use Rattle.master_core.proofs.Bools.{both}
 use Rattle.journal.proofs.Instances.{only_grants}
-use Rattle.coflow_orders.proofs.LineSteps.{rank_zero}
+use Rattle.master_core.proofs.LineSteps.{rank_zero}
 use Rattle.journal.proofs.Sound.{least_below, least_each}
 
 -- ---- the line

@@ -15,13 +15,13 @@ use Rattle.journal.specs.declared.command.Reply.TheVariants.{Late, NothingLeft, 
 use Rattle.journal.specs.declared.opening.Opening.{Opening}
 use Rattle.master_core.specs.declared.standing.Standing.{Standing}
 use Rattle.journal.specs.State.{has, owed, Run, slot_end, State}
-use Rattle.coflow_roster.specs.Attendance.{marked}
+use Rattle.master_core.specs.Attendance.{marked}
 use Rattle.journal.specs.Line.{line, owing}
 use Rattle.journal.specs.Runs.{granted, slots_for}
 use Rattle.journal.specs.Answer.{on_run, opened, skipped}
-use Rattle.open_runs.specs.OpenRun.{KeptRun}
-use Rattle.open_runs.proofs.RunSteps.{some_of}
-use Rattle.coflow_roster.specs.Owing.{IsNoneOwing, is_owing}
+use Rattle.master_core.specs.OpenRun.{KeptRun}
+use Rattle.master_core.proofs.RunSteps.{some_of}
+use Rattle.master_core.specs.Owing.{IsNoneOwing, is_owing}
 use Rattle.master_core.specs.Standing.{IsFit, Tells, TellsRun}
 use Rattle.master_core.proofs.OwingSteps.{filter_first, filter_none}
 use Rattle.journal.proofs.Present.{line_members}

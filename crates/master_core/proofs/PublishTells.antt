@@ -14,19 +14,19 @@ use Rattle.coflow_units.specs.Load.{load, loads}
 use Rattle.coflow_units.proofs.Lists.{filter_in, number_below, filter_same}
 use Rattle.coflow_units.proofs.Sums.{any_in}
 use Rattle.flow_table.specs.Table.{IsTable, TableFacts}
-use Rattle.grant_ledger.specs.Accounts.{IsBalanced}
+use Rattle.master_core.specs.Accounts.{IsBalanced}
 use Rattle.bssi_order.specs.Order.{IsOrder, entries_of}
 use Rattle.journal.specs.declared.opening.Opening.{Opening}
 use Rattle.master_core.specs.declared.standing.Standing.{Standing}
 use Rattle.journal.specs.Chosen.{the_order}
 use Rattle.journal.specs.State.{has, is_present, owed, present, State, what_is_left}
-use Rattle.coflow_roster.specs.Attendance.{marked}
+use Rattle.master_core.specs.Attendance.{marked}
 use Rattle.journal.specs.Line.{newest_in}
-use Rattle.coflow_orders.specs.Published.{IsLeft, Published, TellsPlaces, last_of, ranked}
+use Rattle.master_core.specs.Published.{IsLeft, Published, TellsPlaces, last_of, ranked}
 use Rattle.master_core.specs.Standing.{IsFit, Tells, TellsOrders}
 use Rattle.journal.proofs.Growth.{made_at}
 use Rattle.journal.proofs.Instances.{left_is_instance, only_ordering}
-use Rattle.coflow_orders.proofs.PlaceSteps.{order_of_places, place_is_of}
+use Rattle.master_core.proofs.PlaceSteps.{order_of_places, place_is_of}
 
 -- ---- the units that are owed
 

@@ -10,8 +10,8 @@ use Rattle.journal.specs.State.{Run}
 use Rattle.journal.specs.Runs.{flow_at, grant_in, note_in, noted_at}
 use Rattle.journal.specs.Fold.{noted_in}
 use Rattle.journal.specs.Answer.{noted, on_run}
-use Rattle.open_runs.specs.OpenRun.{KeptRun, flow_kept, granted_at, kept_note, note_at, note_of, number_noted, with_note}
-use Rattle.open_runs.proofs.GrantSteps.{grant_told}
+use Rattle.master_core.specs.OpenRun.{KeptRun, flow_kept, granted_at, kept_note, note_at, note_of, number_noted, with_note}
+use Rattle.master_core.proofs.GrantSteps.{grant_told}
 use Rattle.master_core.specs.Standing.{TellsOpen, TellsRun}
 
 -- ---- the grant at an ingress

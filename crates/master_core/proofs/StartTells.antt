@@ -9,11 +9,11 @@ use Rattle.coflow_units.proofs.Sums.{nothing_in}
 use Rattle.matching.specs.Matching.{room_of}
 use Rattle.journal.specs.declared.opening.Opening.{Opening}
 use Rattle.master_core.specs.declared.standing.Standing.{Standing}
-use Rattle.coflow_roster.specs.Attendance.{marked}
-use Rattle.coflow_orders.specs.Published.{ranked}
+use Rattle.master_core.specs.Attendance.{marked}
+use Rattle.master_core.specs.Published.{ranked}
 use Rattle.journal.specs.Fold.{start}
 use Rattle.journal.specs.State.{IsOpening}
-use Rattle.open_runs.specs.OpenRun.{FitsOpen}
+use Rattle.master_core.specs.OpenRun.{FitsOpen}
 use Rattle.master_core.specs.Standing.{IsFit, Tells, TellsRun}
 
 units_listed : (flows : List Flow) (f : ℕ) → get_or (map (λ (x : Flow). x.units) flows) f 0 ≡ units_of flows f

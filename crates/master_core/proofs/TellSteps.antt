@@ -7,7 +7,7 @@ use Rattle.std.proofs.lemmas.Bool.{cases_Bool, cases_eq, eq-eqb, ne_eqb}
 use Rattle.std.proofs.lemmas.List.{get_or-set_other, get_or-set_same, length-set}
 use Rattle.std.proofs.lemmas.List.Elements.{All-set}
 use Rattle.coflow_units.specs.Flows.{Instance}
-use Rattle.grant_ledger.specs.Accounts.{Accounts}
+use Rattle.master_core.specs.Accounts.{Accounts}
 use Rattle.matching.specs.Matching.{IsSettled, room_of}
 use Rattle.coflow_units.specs.declared.fabric.Flow.{Flow}
 use Rattle.journal.specs.declared.command.Command.{Command}
@@ -16,15 +16,15 @@ use Rattle.journal.specs.declared.command.Reply.{Reply}
 use Rattle.journal.specs.declared.opening.Opening.{Opening}
 use Rattle.master_core.specs.declared.standing.Standing.{Standing}
 use Rattle.journal.specs.State.{has, Run, slot_end, State}
-use Rattle.coflow_roster.specs.Attendance.{Attendance, marked}
+use Rattle.master_core.specs.Attendance.{Attendance, marked}
 use Rattle.journal.specs.Line.{newest_in, rank_in}
-use Rattle.coflow_orders.specs.Published.{Published, ranked}
-use Rattle.coflow_orders.specs.Waiting.{Waiting, line_of}
-use Rattle.open_runs.specs.OpenRun.{FitsOpen, KeepsGrants, KeptRuns}
+use Rattle.master_core.specs.Published.{Published, ranked}
+use Rattle.master_core.specs.Waiting.{Waiting, line_of}
+use Rattle.master_core.specs.OpenRun.{FitsOpen, KeepsGrants, KeptRuns}
 use Rattle.journal.specs.Fold.{after}
 use Rattle.journal.specs.Answer.{answer, pulled}
 use Rattle.master_core.specs.Standing.{Follows, IsFit, Tells, TellsCoflows, TellsOrders, TellsRun}
-use Rattle.coflow_orders.proofs.Bools.{and_false}
+use Rattle.master_core.proofs.Bools.{and_false}
 use Rattle.master_core.proofs.Members.{has_last, has_more, has_other}
 
 -- the reply is the answer, and what is kept tells the state after it

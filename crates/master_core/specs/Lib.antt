@@ -1,3 +1,9 @@
+pub mod Accounts
+pub mod Attendance
+pub mod KeptRuns
 pub mod Master
+pub mod OpenRun
+pub mod Owing
 pub mod Published
 pub mod Standing
+pub mod Waiting

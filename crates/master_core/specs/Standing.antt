@@ -9,12 +9,12 @@ use Rattle.journal.specs.declared.command.Reply.{Reply}
 use Rattle.journal.specs.declared.opening.Opening.{Opening}
 use Rattle.master_core.specs.declared.standing.Standing.{Standing}
 use Rattle.journal.specs.State.{has, IsOpening, owed, Run, slot_end, State}
-use Rattle.coflow_roster.specs.Attendance.{Attendance, marked}
+use Rattle.master_core.specs.Attendance.{Attendance, marked}
 use Rattle.journal.specs.Line.{newest_in}
-use Rattle.coflow_orders.specs.Published.{Published, TellsPlaces, ranked}
-use Rattle.open_runs.specs.OpenRun.{FitsOpen, KeepsGrants, KeptRun, TellsIngresses, note_at}
+use Rattle.master_core.specs.Published.{Published, TellsPlaces, ranked}
+use Rattle.master_core.specs.OpenRun.{FitsOpen, KeepsGrants, KeptRun, TellsIngresses, note_at}
 use Rattle.matching.specs.Matching.{room_of}
-use Rattle.coflow_orders.specs.Waiting.{line_of}
+use Rattle.master_core.specs.Waiting.{line_of}
 use Rattle.journal.specs.Runs.{note_in}
 use Rattle.journal.specs.Fold.{after}
 use Rattle.journal.specs.Answer.{answer}

@@ -9,7 +9,7 @@ ghost use Rattle.journal.specs.Fold.{state_of};
 ghost use Rattle.journal.specs.Journal.{IsLegal, journal_after, order_in, rank_of, version_of};
 ghost use Rattle.journal.specs.Runs.{flow_at, flows_granted, noted_at, slots_of};
 ghost use Rattle.journal.specs.Sound.{InRange};
-ghost use Rattle.coflow_orders.specs.Published.{TellsPlaces, ranked};
+ghost use Rattle.master_core.specs.Published.{TellsPlaces, ranked};
 ghost use Rattle.journal.specs.State.{IsOpening, owed};
 
 use crate::standing::Standing;

@@ -7,17 +7,19 @@ ghost use Rattle.journal.specs.Fold.{start};
 ghost use Rattle.journal.specs.Line.{owing};
 ghost use Rattle.journal.specs.Answer.{IsInRange};
 ghost use Rattle.matching.specs.Matching.{room_of};
-ghost use Rattle.coflow_roster.specs.Attendance.{marked};
+ghost use Rattle.master_core.specs.Attendance.{marked};
 ghost use Rattle.master_core.specs.Standing.{Follows, IsFit, Tells};
 ghost use Rattle.journal.specs.declared.command.Command.TheVariants.{Register, Withdraw, Publish, Pull, Open, Short, Close, Skip, Reweigh};
 
-use coflow_orders::{Line, Orders};
-use coflow_roster::{Roster, first_owing};
+use crate::ledger::Ledger;
+use crate::line::Line;
+use crate::orders::Orders;
+use crate::roster::Roster;
+use crate::runs::Runs;
+use crate::search::first_owing;
 use coflow_units::{MAX_SLOT, NoMemory};
 use flow_table::Table;
-use grant_ledger::Ledger;
 use journal::{Command, Opening, Reply};
-use open_runs::Runs;
 use std::alloc::Global;
 
 /// What a master keeps beside its journal.

@@ -27,8 +27,8 @@ use outside::{DiskShelf, Place4, Shelf};
 use std::alloc::Global;
 use std::env;
 use std::process::ExitCode;
+use test_support::{bytes_of_file, table_of_file};
 use text_fields::{Fields, Lines};
-use trace_tables::{bytes_of_file, table_of_file};
 use world_model::World;
 
 fn main(rt: HostRuntime) -> ExitCode {

@@ -2,7 +2,7 @@
 use coflow_units::NoMemory;
 use master_lists::ListFault;
 use std::io;
-use trace_tables::FileFault;
+use test_support::FileFault;
 
 /// Why a list is not played to its end.
 #[derive(Debug, Drop, thiserror::Error)]

@@ -3,10 +3,10 @@ use Rattle.std.proofs.Common.{◌≡◌, ◌≢◌, ℕ, ◌+◌, ◌-◌, ◌/�
 use Rattle.std.proofs.Common.{get_or, set, drop, take, sym, ap, subst, ◌∙◌, arith}
 use Rattle.std.proofs.lemmas.Bool.{cases_eq}
 use Rattle.std.proofs.lemmas.List.{get_or-drop, get_or-take, length-drop, length-take}
-use Rattle.port_rows.specs.Board.{no_rank}
-use Rattle.port_rows.specs.Rows.{bit_of}
+use Rattle.matching.specs.Board.{no_rank}
+use Rattle.matching.specs.Rows.{bit_of}
 use Rattle.matching.specs.Pass.{IsFree, IsFreeBits}
-use Rattle.port_rows.proofs.BitSteps.{set_in, set_here, set_elsewhere}
+use Rattle.matching.proofs.BitSteps.{set_in, set_here, set_elsewhere}
 
 pub record IsFreeSoFar (at bits : List ℕ) (n : ℕ) : Type 0 where
   pub free : (e : ℕ) → e < n → bit_of bits 0 e ≡ 1 → get_or at e 0 ≡ no_rank

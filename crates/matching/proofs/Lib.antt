@@ -1,5 +1,17 @@
+pub mod BitSteps
+pub mod BoardSteps
+pub mod EndSteps
 pub mod FreeSteps
+pub mod HeadSteps
+pub mod KeptSteps
+pub mod ListSteps
+pub mod LookSteps
 pub mod MatchingSteps
 pub mod PassSteps
+pub mod RankSteps
 pub mod RoomSteps
+pub mod RowSteps
 pub mod RunSteps
+pub mod SettleSteps
+pub mod SourceSteps
+pub mod WaitSteps

@@ -7,18 +7,18 @@ use Rattle.coflow_units.specs.declared.fabric.Flow.{Flow}
 use Rattle.coflow_units.specs.Flows.{coflow_of}
 use Rattle.coflow_units.specs.Grants.{place_in, ComesBefore}
 use Rattle.coflow_units.proofs.LinePlaces.{place_of_member, at_place, not_itself}
-use Rattle.port_rows.specs.declared.ranks.Ranks.{Ranks}
+use Rattle.matching.specs.declared.ranks.Ranks.{Ranks}
 use Rattle.matching.specs.declared.tables.Tables.{Tables}
-use Rattle.port_rows.specs.Kept.{IsLined, IsTold}
-use Rattle.port_rows.specs.Board.{no_rank, first_of, graph_of, IsRanks, IsBoard, Stands}
-use Rattle.kept_grants.specs.Listing.{IsFirstSide, IsListing}
+use Rattle.matching.specs.Kept.{IsLined, IsTold}
+use Rattle.matching.specs.Board.{no_rank, first_of, graph_of, IsRanks, IsBoard, Stands}
+use Rattle.matching.specs.Listing.{IsFirstSide, IsListing}
 use Rattle.matching.specs.Matching.{IsBegun, IsMatching}
-use Rattle.port_rows.specs.Ranking.{number_of, IsRanking}
+use Rattle.matching.specs.Ranking.{number_of, IsRanking}
 use Rattle.matching.specs.Sound.{IsSound, left_at}
-use Rattle.port_rows.proofs.BoardSteps.{stands_at}
-use Rattle.port_tables.proofs.EndSteps.{same_heads}
-use Rattle.port_rows.proofs.RowSteps.{IsSameOwing, same_rows}
-use Rattle.port_rows.proofs.RankSteps.{distinct_below}
+use Rattle.matching.proofs.BoardSteps.{stands_at}
+use Rattle.matching.proofs.EndSteps.{same_heads}
+use Rattle.matching.proofs.RowSteps.{IsSameOwing, same_rows}
+use Rattle.matching.proofs.RankSteps.{distinct_below}
 
 -- ---- the list
 

@@ -1,17 +1,17 @@
 -- One row of a pass, and its beginning and end.
 use Rattle.std.proofs.Common.{◌≡◌, ◌≢◌, ℕ, ◌+◌, ◌-◌, ◌*◌, ◌≤◌, ◌<◌, ◌⊎◌, inl, inr, List, length, get_or, None, Some, refl, sym, ap, subst, ◌∙◌, arith}
 use Rattle.std.proofs.lemmas.Bool.{cases_eq, cases_lt}
-use Rattle.port_tables.specs.declared.heads.Heads.{Heads}
-use Rattle.port_rows.specs.declared.ranks.Ranks.{Ranks}
-use Rattle.port_rows.specs.declared.rows.Rows.{Rows}
-use Rattle.port_rows.specs.Kept.{Graph, IsCovered, Meets}
-use Rattle.port_rows.specs.Board.{graph_of, no_rank, IsGraph, IsRanks, Stands, IsBoard, IsKeptBelow, IsPlaced}
-use Rattle.port_tables.specs.Heads.{IsChain, IsHead, IsHeads, IsOwingBehind}
-use Rattle.port_rows.specs.Rows.{bit_of, owes_at, row_of, IsLeastFree, IsRows}
+use Rattle.matching.specs.declared.heads.Heads.{Heads}
+use Rattle.matching.specs.declared.ranks.Ranks.{Ranks}
+use Rattle.matching.specs.declared.rows.Rows.{Rows}
+use Rattle.matching.specs.Kept.{Graph, IsCovered, Meets}
+use Rattle.matching.specs.Board.{graph_of, no_rank, IsGraph, IsRanks, Stands, IsBoard, IsKeptBelow, IsPlaced}
+use Rattle.matching.specs.Heads.{IsChain, IsHead, IsHeads, IsOwingBehind}
+use Rattle.matching.specs.Rows.{bit_of, owes_at, row_of, IsLeastFree, IsRows}
 use Rattle.matching.specs.Pass.{IsFree, IsPassed, IsPassing}
 use Rattle.matching.specs.Sound.{IsFirstOfPair, IsSettledBelow}
-use Rattle.port_rows.proofs.BoardSteps.{stands_at}
-use Rattle.port_tables.proofs.SettleSteps.{meets_at, opposite_first}
+use Rattle.matching.proofs.BoardSteps.{stands_at}
+use Rattle.matching.proofs.SettleSteps.{meets_at, opposite_first}
 
 -- what a row of the pass begins with
 pub record IsRowScene (ports : ℕ) (g : Graph) (left : ℕ → ℕ) (heads : List ℕ) (rows : Rows) (at free : List ℕ) (bound k : ℕ) : Type 0 where

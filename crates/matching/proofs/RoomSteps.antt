@@ -3,11 +3,11 @@ use Rattle.std.proofs.Common.{◌≡◌, ℕ, ◌+◌, ◌*◌, ◌^◌, ◌≤�
 use Rattle.std.proofs.lemmas.List.{get_or-replicate, length-replicate}
 use Rattle.std.proofs.lemmas.Nat.{mul-add-lt}
 use Rattle.matching.specs.declared.tables.Tables.{Tables}
-use Rattle.port_rows.specs.Board.{graph_of, no_rank}
+use Rattle.matching.specs.Board.{graph_of, no_rank}
 use Rattle.matching.specs.Matching.{HasRoom, IsSameRoom, IsWhole}
-use Rattle.port_rows.specs.Rows.{IsBlank, IsShaped}
+use Rattle.matching.specs.Rows.{IsBlank, IsShaped}
 use Rattle.matching.specs.Sound.{IsSound, left_at}
-use Rattle.port_rows.proofs.RowSteps.{blank_holds, no_rows}
+use Rattle.matching.proofs.RowSteps.{blank_holds, no_rows}
 
 pub room_again : (old mid new : Tables) → IsSameRoom old mid → IsSameRoom mid new → IsSameRoom old new
 room_again old mid new a b = record {

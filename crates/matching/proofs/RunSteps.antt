@@ -6,15 +6,15 @@ use Rattle.coflow_units.specs.declared.fabric.Flow.{Flow}
 use Rattle.coflow_units.specs.LeastLeft.{IsLeastLeft}
 use Rattle.coflow_units.specs.Flows.{ingress_of}
 use Rattle.coflow_units.proofs.Sums.{all_of_members, any_in, any_not, in_first, nothing_in}
-use Rattle.port_rows.specs.declared.ranks.Ranks.{Ranks}
+use Rattle.matching.specs.declared.ranks.Ranks.{Ranks}
 use Rattle.matching.specs.declared.tables.Tables.{Tables}
-use Rattle.port_rows.specs.Kept.{Graph, IsLined, IsTold}
-use Rattle.port_rows.specs.Board.{no_rank, first_of, graph_of, IsGraph, IsRanks, IsBoard, Stands}
+use Rattle.matching.specs.Kept.{Graph, IsLined, IsTold}
+use Rattle.matching.specs.Board.{no_rank, first_of, graph_of, IsGraph, IsRanks, IsBoard, Stands}
 use Rattle.matching.specs.Matching.{IsGrantedAt, IsLess, IsMatching, IsRankTaken, IsRunLess, IsSettled, listed_in}
-use Rattle.port_rows.specs.Ranking.{number_of}
+use Rattle.matching.specs.Ranking.{number_of}
 use Rattle.matching.specs.Sound.{left_at, rank_at}
-use Rattle.port_rows.proofs.BoardSteps.{stands_at}
-use Rattle.kept_grants.proofs.SourceSteps.{IsOneMore}
+use Rattle.matching.proofs.BoardSteps.{stands_at}
+use Rattle.matching.proofs.SourceSteps.{IsOneMore}
 
 -- ---- what is granted at an ingress
 

@@ -6,11 +6,11 @@ use Rattle.coflow_units.specs.Flows.{ingress_of}
 use Rattle.coflow_units.specs.Grants.{IsGrants}
 use Rattle.coflow_units.specs.Schedule.{holds}
 use Rattle.matching.specs.declared.tables.Tables.{Tables}
-use Rattle.port_rows.specs.Kept.{IsLined}
-use Rattle.port_rows.specs.Board.{IsRanks, first_of, graph_of, no_rank}
-use Rattle.port_tables.specs.Heads.{IsChain, IsHeads}
-use Rattle.port_rows.specs.Ranking.{IsRanking, number_of}
-use Rattle.port_rows.specs.Rows.{IsRows}
+use Rattle.matching.specs.Kept.{IsLined}
+use Rattle.matching.specs.Board.{IsRanks, first_of, graph_of, no_rank}
+use Rattle.matching.specs.Heads.{IsChain, IsHeads}
+use Rattle.matching.specs.Ranking.{IsRanking, number_of}
+use Rattle.matching.specs.Rows.{IsRows}
 use Rattle.matching.specs.Sound.{IsSound, left_at, rank_at}
 
 -- for how many flows there is room

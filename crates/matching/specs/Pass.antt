@@ -1,10 +1,10 @@
 -- A pass over the rows: the grants of one row after another.
 use Rattle.std.specs.Prelude.{◌≡◌, ◌≢◌, ℕ, ◌+◌, ◌<◌, ◌⊎◌, List, length, slice_index}
-use Rattle.port_rows.specs.declared.rows.Rows.{Rows}
+use Rattle.matching.specs.declared.rows.Rows.{Rows}
 use Rattle.matching.specs.declared.tables.Tables.{Tables}
-use Rattle.port_rows.specs.Kept.{Graph, IsCovered}
-use Rattle.port_rows.specs.Board.{graph_of, no_rank, IsBoard, Stands}
-use Rattle.port_rows.specs.Rows.{bit_of, row_of}
+use Rattle.matching.specs.Kept.{Graph, IsCovered}
+use Rattle.matching.specs.Board.{graph_of, no_rank, IsBoard, Stands}
+use Rattle.matching.specs.Rows.{bit_of, row_of}
 use Rattle.matching.specs.Sound.{IsFirstOfPair, left_at}
 
 -- the rank is below a bound, or in one of the first k rows

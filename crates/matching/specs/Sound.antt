@@ -1,10 +1,10 @@
 -- Kept grants with their tables.
 use Rattle.std.specs.Prelude.{◌≡◌, ℕ, ◌+◌, ◌-◌, ◌*◌, ◌^◌, ◌<◌, ◌≤◌, length, slice_index}
 use Rattle.matching.specs.declared.tables.Tables.{Tables}
-use Rattle.port_rows.specs.Kept.{Graph, IsCovered, IsKept}
-use Rattle.port_rows.specs.Board.{graph_of, IsRanks, IsBoard, Stands, total_weight}
-use Rattle.port_tables.specs.Heads.{IsHeads, IsChain, IsOwingBehind}
-use Rattle.port_rows.specs.Rows.{IsRows}
+use Rattle.matching.specs.Kept.{Graph, IsCovered, IsKept}
+use Rattle.matching.specs.Board.{graph_of, IsRanks, IsBoard, Stands, total_weight}
+use Rattle.matching.specs.Heads.{IsHeads, IsChain, IsOwingBehind}
+use Rattle.matching.specs.Rows.{IsRows}
 
 -- the units that a rank has left
 abbrev pub left_at : Tables → ℕ → ℕ

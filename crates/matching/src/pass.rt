@@ -1,14 +1,15 @@
 //! A pass over the rows, where many flows end at once.
 ghost use Rattle.std.specs.Prelude.{◌≡◌, ℕ, ◌+◌, ◌*◌, ◌<◌, ◌≤◌, [], Contains, length, true};
-ghost use Rattle.port_rows.specs.declared.rows.TheConstants.{WORDS};
-ghost use Rattle.port_rows.specs.Board.{IsRanks, graph_of};
-ghost use Rattle.port_tables.specs.Heads.{IsHeads};
-ghost use Rattle.port_rows.specs.Rows.{IsRows, bit_of};
+ghost use Rattle.matching.specs.declared.rows.TheConstants.{WORDS};
+ghost use Rattle.matching.specs.Board.{IsRanks, graph_of};
+ghost use Rattle.matching.specs.Heads.{IsHeads};
+ghost use Rattle.matching.specs.Rows.{IsRows, bit_of};
 ghost use Rattle.matching.specs.Pass.{IsFreeBits, IsPassingIn};
 ghost use Rattle.matching.specs.Sound.{IsSound, left_at};
 
+use crate::ranks::NONE;
+use crate::rows::WORDS;
 use crate::tables::Tables;
-use port_tables::{NONE, WORDS};
 
 /// The looks for a flow that ended take the time of so many words for each port.
 const LOOKS: u64 = 4;

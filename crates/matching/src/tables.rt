@@ -4,14 +4,16 @@ ghost use Rattle.coflow_units.specs.declared.fabric.Flow.{Flow};
 ghost use Rattle.coflow_units.specs.Flows.{IsDistinct};
 ghost use Rattle.coflow_units.specs.Starts.{IsStarts};
 ghost use Rattle.coflow_units.specs.LeastLeft.{IsLeastLeft};
-ghost use Rattle.port_rows.specs.Board.{Stands, first_of, graph_of};
-ghost use Rattle.port_rows.specs.Ranking.{number_of};
+ghost use Rattle.matching.specs.Board.{Stands, first_of, graph_of};
+ghost use Rattle.matching.specs.Ranking.{number_of};
 ghost use Rattle.matching.specs.Matching.{IsBegun, IsGrantedAt, IsLess, IsMatching, IsRankTaken, IsRunLess, IsSameRoom, IsSettled, IsWhole, listed_in, ports_of, room_of};
 ghost use Rattle.matching.specs.Sound.{IsSound, budget, left_at, rank_at};
 
+use crate::board::Board;
+use crate::heads::Heads;
+use crate::listing::list_granted;
+use crate::ranks::{NONE, Ranks};
 use coflow_units::{Flow, NoMemory};
-use kept_grants::list_granted;
-use port_tables::{Board, Heads, NONE, Ranks};
 use std::alloc::Global;
 
 /// The flows that owe by rank, with the units that they have left, and what is granted.

@@ -9,7 +9,7 @@ use Rattle.cert_check.proofs.SlotSteps.{slots_count}
 use Rattle.online_text.specs.declared.value.DoneLine.{DoneLine}
 use Rattle.online_text.specs.declared.value.Online.{Online}
 use Rattle.online_text.specs.Online.{IsOnline}
-use Rattle.slot_schedule.specs.RunList.{IsKept}
+use Rattle.schedule_model.specs.RunList.{IsKept}
 use Rattle.online_check.specs.Done.{IsFirstUnlisted, IsFirstWrongEnd, IsListed, IsUnlisted, ids_done, slots_done}
 
 pub count_ids : (lines : List DoneLine) → length (ids_done lines) ≡ length lines

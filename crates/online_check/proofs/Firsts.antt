@@ -13,7 +13,7 @@ use Rattle.release_bound.specs.ReleaseTable.{IsLeastReleasedInfeasible}
 use Rattle.schedule_model.specs.declared.fault.ScheduleFault.{ScheduleFault}
 use Rattle.schedule_model.specs.declared.fault.ScheduleFault.TheVariants as fault
 use Rattle.schedule_model.specs.Fault.{IsFirstClash, IsFirstFault, IsFirstMiscount}
-use Rattle.slot_schedule.specs.RunList.{slots_in}
+use Rattle.schedule_model.specs.RunList.{slots_in}
 use Rattle.online_check.specs.declared.verdict.OnlineReason.{OnlineReason}
 use Rattle.online_check.specs.declared.verdict.OnlineReason.TheVariants.{ClashIn, CostWrong, DoneWrong, Early, Infeasible, Listed, NoFlow, NotPermutation, PortRange}
 use Rattle.online_check.specs.declared.verdict.OnlineReason.TheVariants.{TotalTooHigh, UnitsOf}

@@ -1,6 +1,8 @@
-pub mod ReleasedSteps
-pub mod WaitingSteps
 pub mod DoneSteps
 pub mod Firsts
-pub mod Verdicts
+pub mod OneJudgement
 pub mod OneOnline
+pub mod OneReport
+pub mod ReleasedSteps
+pub mod Verdicts
+pub mod WaitingSteps

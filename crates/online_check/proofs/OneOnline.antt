@@ -20,7 +20,7 @@ use Rattle.release_bound.specs.declared.place.ReleasePlace.{ReleasePlace}
 use Rattle.report.specs.declared.value.PlaceLine.{PlaceLine}
 use Rattle.report.specs.Text.{place_at}
 use Rattle.schedule_model.specs.Fault.{IsFirstClash, IsFirstMiscount, IsFirstNoFlow, IsNoLater, number_no_later}
-use Rattle.slot_schedule.specs.RunList.{slots_in}
+use Rattle.schedule_model.specs.RunList.{slots_in}
 use Rattle.online_check.specs.declared.verdict.OnlineReason.{OnlineReason}
 use Rattle.online_check.specs.declared.verdict.OnlineReason.TheVariants.{ClashIn, CostWrong, DoneWrong, Early, Infeasible, Listed, NoFlow, NotPermutation, PortRange}
 use Rattle.online_check.specs.declared.verdict.OnlineReason.TheVariants.{TotalTooHigh, UnitsOf}

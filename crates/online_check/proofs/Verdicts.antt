@@ -5,7 +5,7 @@ use Rattle.flow_table.specs.Table.{TableFacts, instance_of}
 use Rattle.cert_check.proofs.Verdicts.{names_each, ports_in_range}
 use Rattle.online_text.specs.declared.value.Online.{Online}
 use Rattle.release_bound.specs.Release.{IsReleased}
-use Rattle.slot_schedule.specs.RunList.{slots_in}
+use Rattle.schedule_model.specs.RunList.{slots_in}
 use Rattle.online_check.specs.declared.verdict.OnlineVerdict.{OnlineVerdict}
 use Rattle.online_check.specs.declared.verdict.OnlineVerdict.TheVariants.{No, Yes}
 use Rattle.online_check.specs.Done.{ids_done, slots_done}

@@ -1,8 +1,12 @@
-pub mod Released
+pub mod AnyReport
+pub mod Arrivals
 pub mod Done
 pub mod Early
-pub mod Waiting
-pub mod Sound
-pub mod Reasons
+pub mod Judged
+pub mod OnlineLine
 pub mod Parts
-pub mod Arrivals
+pub mod Reasons
+pub mod Released
+pub mod Sound
+pub mod VerdictLine
+pub mod Waiting

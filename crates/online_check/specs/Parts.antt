@@ -8,7 +8,7 @@ use Rattle.release_bound.specs.Release.{IsReleasedFeasible, released_total}
 use Rattle.report.specs.declared.value.PlaceLine.{PlaceLine}
 use Rattle.schedule_model.specs.declared.fault.ScheduleFault.{ScheduleFault}
 use Rattle.schedule_model.specs.declared.fault.ScheduleFault.TheVariants as fault
-use Rattle.slot_schedule.specs.RunList.{slots_in}
+use Rattle.schedule_model.specs.RunList.{slots_in}
 use Rattle.online_check.specs.declared.places.Placed.{Placed}
 use Rattle.online_check.specs.declared.places.Placed.TheVariants.{Places, Wrong}
 use Rattle.online_check.specs.declared.verdict.OnlineReason.{OnlineReason}

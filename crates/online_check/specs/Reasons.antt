@@ -7,7 +7,7 @@ use Rattle.online_text.specs.declared.value.Online.{Online}
 use Rattle.release_bound.specs.Release.{released_total}
 use Rattle.release_bound.specs.ReleaseTable.{IsLeastReleasedInfeasible}
 use Rattle.schedule_model.specs.Fault.{IsFirstClash, IsFirstMiscount, IsFirstNoFlow}
-use Rattle.slot_schedule.specs.RunList.{slots_in}
+use Rattle.schedule_model.specs.RunList.{slots_in}
 use Rattle.online_check.specs.declared.verdict.OnlineReason.{OnlineReason}
 use Rattle.online_check.specs.declared.verdict.OnlineReason.TheVariants.{ClashIn, CostWrong, DoneWrong, Early}
 use Rattle.online_check.specs.declared.verdict.OnlineReason.TheVariants.{Infeasible, Listed, NoFlow, NotPermutation}

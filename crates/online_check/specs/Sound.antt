@@ -4,7 +4,7 @@ use Rattle.coflow_units.specs.Completion.{completion, cost}
 use Rattle.coflow_units.specs.Flows.{Instance}
 use Rattle.online_text.specs.declared.value.Online.{Online}
 use Rattle.release_bound.specs.Release.{IsReleased, IsReleasedCertificate, IsReleasedFeasible, released_total}
-use Rattle.slot_schedule.specs.RunList.{slots_in}
+use Rattle.schedule_model.specs.RunList.{slots_in}
 use Rattle.online_check.specs.Done.{ids_done, slots_done}
 use Rattle.online_check.specs.Released.{released_in}
 

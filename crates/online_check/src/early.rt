@@ -2,7 +2,7 @@
 ghost use Rattle.std.specs.Prelude.{◌≡◌, ◌<◌, ◌≤◌, ◌⊎◌, ℕ, All, MatchOption, false, length, slice_index, take};
 ghost use Rattle.coflow_units.specs.declared.fabric.Flow.{Flow};
 ghost use Rattle.coflow_units.specs.Completion.{holds_coflow};
-ghost use Rattle.slot_schedule.specs.RunList.{IsKept, NamesFlows, slots_in};
+ghost use Rattle.schedule_model.specs.RunList.{IsKept, NamesFlows, slots_in};
 ghost use Rattle.online_check.specs.Early.{IsFirstEarly};
 ghost use Rattle.online_check.specs.Waiting.{HoldsWaiting};
 

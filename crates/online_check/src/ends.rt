@@ -4,7 +4,7 @@ ghost use Rattle.coflow_units.specs.declared.limits.TheConstants.{MAX_COFLOWS, M
 ghost use Rattle.coflow_units.specs.Schedule.{IsValid};
 ghost use Rattle.flow_table.specs.Table.{instance_of};
 ghost use Rattle.online_text.specs.Online.{IsOnline};
-ghost use Rattle.slot_schedule.specs.RunList.{slots_in};
+ghost use Rattle.schedule_model.specs.RunList.{slots_in};
 ghost use Rattle.online_check.specs.Done.{IsFirstUnlisted, IsFirstWrongEnd, ids_done, slots_done};
 ghost use Rattle.online_check.specs.Parts.{HasSoundEnds, IsFirstFrom};
 ghost use Rattle.online_check.specs.Reasons.{ends_kind};

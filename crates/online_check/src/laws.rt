@@ -5,7 +5,7 @@ ghost use Rattle.coflow_units.specs.Flows.{Instance};
 ghost use Rattle.flow_table.specs.Table.{TableFacts, instance_of};
 ghost use Rattle.online_text.specs.declared.value.Online.{Online};
 ghost use Rattle.release_bound.specs.Release.{IsReleased};
-ghost use Rattle.slot_schedule.specs.RunList.{slots_in};
+ghost use Rattle.schedule_model.specs.RunList.{slots_in};
 ghost use Rattle.online_check.specs.declared.verdict.OnlineVerdict.{OnlineVerdict};
 ghost use Rattle.online_check.specs.Reasons.{IsOnlineVerdict};
 ghost use Rattle.online_check.specs.Sound.{IsSoundOnline};

@@ -4,7 +4,7 @@ ghost use Rattle.coflow_units.specs.declared.limits.TheConstants.{MAX_ARRIVAL};
 ghost use Rattle.flow_table.specs.Table.{instance_of};
 ghost use Rattle.online_text.specs.Online.{IsOnline};
 ghost use Rattle.release_bound.specs.Release.{IsReleased};
-ghost use Rattle.slot_schedule.specs.RunList.{slots_in};
+ghost use Rattle.schedule_model.specs.RunList.{slots_in};
 ghost use Rattle.std.specs.Prelude.{ℕ, List};
 ghost use Rattle.online_check.specs.Parts.{IsFirstFrom, reason_for};
 ghost use Rattle.online_check.specs.Reasons.{schedule_kind};

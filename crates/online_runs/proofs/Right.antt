@@ -18,7 +18,7 @@ use Rattle.flow_table.specs.Table.{instance_of, TableFacts}
 use Rattle.release_bound.specs.declared.place.ReleasePlace.{ReleasePlace}
 use Rattle.release_bound.specs.Release.{entries_of, IsReleased, IsReleasedCertificate, IsReleasedFeasible, released_total}
 use Rattle.release_bound.specs.ReleaseOrder.{IsReleasedOrdering}
-use Rattle.slot_schedule.specs.RunList.{slots_in}
+use Rattle.schedule_model.specs.RunList.{slots_in}
 use Rattle.online_text.specs.declared.value.DoneLine.{DoneLine}
 use Rattle.online_text.specs.declared.value.Online.{Online}
 use Rattle.online_check.specs.Done.{ids_done, slots_done}

@@ -1,3 +1,5 @@
 pub mod Deeds
 pub mod Input
+pub mod Tallies
+pub mod Tells
 pub mod Value

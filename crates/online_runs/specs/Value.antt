@@ -6,7 +6,7 @@ use Rattle.coflow_units.specs.Completion.{completion, cost}
 use Rattle.coflow_units.specs.Flows.{Instance}
 use Rattle.coflow_units.specs.Schedule.{IsRuns}
 use Rattle.flow_table.specs.Table.{instance_of}
-use Rattle.slot_schedule.specs.RunList.{pairs_of}
+use Rattle.schedule_model.specs.RunList.{pairs_of}
 use Rattle.release_bound.specs.declared.place.ReleasePlace.{ReleasePlace}
 use Rattle.release_bound.specs.Release.{released_total}
 use Rattle.release_bound.specs.ReleaseOrder.{IsReleasedOrdering}

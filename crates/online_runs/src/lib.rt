@@ -1,4 +1,11 @@
 //! Online runs: coflows join as they arrive, are ordered anew at each epoch and served, until none owes anything.
 #![tactic(auto)]
 
+mod ending;
 pub mod laws;
+mod orders;
+mod progress;
+
+pub use ending::told;
+pub use orders::epoch_of;
+pub use progress::{Progress, no_progress, spend};

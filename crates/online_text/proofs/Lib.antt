@@ -1,3 +1,10 @@
-pub mod TextSteps
+pub mod EpochSteps
+pub mod LeftLines
+pub mod ListSteps
 pub mod OneLines
 pub mod OneText
+pub mod PartSteps
+pub mod ReadingSteps
+pub mod RunSteps
+pub mod StageSteps
+pub mod TextSteps

@@ -1,7 +1,10 @@
+pub mod Files
+pub mod MemShelf
+pub mod MemSink
+pub mod MemWire
+pub mod Places
 pub mod Rose
 pub mod Shelf
 pub mod Sink
-pub mod Places
-pub mod MemSink
+pub mod SureShelf
 pub mod Wire
-pub mod MemWire

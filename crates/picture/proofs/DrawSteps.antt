@@ -8,7 +8,7 @@ use Rattle.coflow_units.specs.Flows.{coflow_of}
 use Rattle.coflow_units.specs.Schedule.{IsClear}
 use Rattle.coflow_units.proofs.Sums.{nothing_in}
 use Rattle.schedule_model.specs.Repeat.{end_number}
-use Rattle.slot_schedule.proofs.Ascending.{above_earlier}
+use Rattle.schedule_model.proofs.Ascending.{above_earlier}
 use Rattle.schedule_model.proofs.RepeatSteps.{in_earlier, in_here, in_more}
 use Rattle.picture.specs.declared.value.Bar.{Bar}
 use Rattle.picture.specs.declared.value.Window.{Window}

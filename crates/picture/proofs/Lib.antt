@@ -1,7 +1,12 @@
+pub mod CurveSteps
+pub mod DrawSteps
+pub mod Keeping
+pub mod NumberText
 pub mod OneList
+pub mod ReadBack
 pub mod RowLaws
 pub mod RowSteps
 pub mod RunServes
-pub mod Keeping
-pub mod DrawSteps
-pub mod CurveSteps
+pub mod TextSteps
+pub mod TickSteps
+pub mod WeightSteps

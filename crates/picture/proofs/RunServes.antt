@@ -14,8 +14,8 @@ use Rattle.coflow_units.specs.Schedule.{IsClear}
 use Rattle.coflow_units.proofs.Sums.{first_or_tail, in_first, in_tail, nothing_in}
 use Rattle.schedule_model.specs.Fault.{StandsIn}
 use Rattle.schedule_model.specs.Repeat.{end_number}
-use Rattle.slot_schedule.specs.RunList.{slots_in}
-use Rattle.slot_schedule.proofs.RunSlots.{all_runs, count_within, run_count, run_more, slots_parts}
+use Rattle.schedule_model.specs.RunList.{slots_in}
+use Rattle.schedule_model.proofs.RunSlots.{all_runs, count_within, run_count, run_more, slots_parts}
 use Rattle.picture.specs.declared.value.Bar.{Bar}
 use Rattle.picture.specs.declared.value.Window.{Window}
 use Rattle.picture.specs.Bars.{IsBars, IsRow, Serves}

@@ -1,3 +1,11 @@
 pub mod Bars
 pub mod Curve
 pub mod Drawing
+pub mod Heaviest
+pub mod Layout
+pub mod Palette
+pub mod Svg
+pub mod Text
+pub mod Ticks
+pub mod Title
+pub mod Told

@@ -4,7 +4,7 @@ ghost use Rattle.coflow_units.specs.declared.fabric.Flow.{Flow};
 ghost use Rattle.coflow_units.specs.declared.limits.TheConstants.{MAX_SLOT};
 ghost use Rattle.coflow_units.specs.Flows.{end_at};
 ghost use Rattle.coflow_units.specs.Schedule.{IsClear};
-ghost use Rattle.slot_schedule.specs.RunList.{slots_in};
+ghost use Rattle.schedule_model.specs.RunList.{slots_in};
 ghost use Rattle.picture.specs.declared.value.TheConstants.{MAX_BARS};
 ghost use Rattle.picture.specs.Bars.{IsBars, IsTooMany, bar_count};
 

@@ -1,14 +1,30 @@
 //! A plan as a picture: the bars of each port, which are the longest stretches of slots in which it serves one coflow, and the curve of completed coflows.
 #![tactic(auto)]
 
+mod axes;
 mod bars;
+mod bars_text;
+mod by_weight;
 mod canvas;
 mod curve;
+mod curve_text;
 pub mod laws;
+mod layout;
+mod legend;
+mod number;
+mod palette;
+mod part_value;
 mod row;
+pub mod text_laws;
+mod ticks;
+mod title;
 mod value;
+mod writing;
 
 pub use bars::bars_of;
+pub use by_weight::heaviest;
 pub use curve::curve_of;
+pub use part_value::Picture;
 pub use row::PortBars;
 pub use value::{Bar, BarsFault, MAX_BARS, Step, Window};
+pub use writing::write_picture;

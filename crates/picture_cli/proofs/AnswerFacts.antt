@@ -19,13 +19,13 @@ use Rattle.picture.specs.Bars.{IsBar, IsBars, bar_count}
 use Rattle.report.proofs.TextLaws.{reports_are_one}
 use Rattle.report.specs.declared.value.Report.{Report}
 use Rattle.report.specs.Reading.{IsBadAt, IsTextOf}
-use Rattle.slot_schedule.specs.RunList.{slots_in}
+use Rattle.schedule_model.specs.RunList.{slots_in}
 use Rattle.command_files.proofs.GoodFacts.{files_end, no_script, text_is_good}
 use Rattle.command_files.proofs.InputFacts.{weights_one}
 use Rattle.command_files.proofs.ShelfFacts.{if_some}
 use Rattle.command_files.proofs.FileTurns.{done_in_turn}
-use Rattle.command_status.specs.declared.status.Status.{Status}
-use Rattle.command_status.specs.declared.status.Status.TheVariants as status
+use Rattle.command_files.specs.declared.status.Status.{Status}
+use Rattle.command_files.specs.declared.status.Status.TheVariants as status
 use Rattle.command_files.specs.Causes.{FilesGiveTable, HasCauseInFiles}
 use Rattle.command_files.specs.Reports.{IsReportOf}
 use Rattle.command_files.specs.Ends.{IsStill, IsReadFault}
@@ -35,7 +35,7 @@ use Rattle.command_files.specs.Turns.{FilesInTurn}
 use Rattle.picture_cli.proofs.PictureFacts.{cause_by}
 use Rattle.picture_cli.specs.Complete.{AreGoodFiles, CallFor, CanBeDrawn, IsAnswer}
 use Rattle.picture_cli.specs.Picture.{Draws, HasNoPicture, HasPictureCause, HasVerdictCause, Judged, check_of, window_of}
-use Rattle.picture_words.specs.Words.{PictureSaid}
+use Rattle.picture_cli.specs.Words.{PictureSaid}
 use Rattle.picture_cli.specs.declared.status.PictureStatus.{PictureStatus}
 use Rattle.picture_cli.specs.declared.status.PictureStatus.TheVariants.{Ended, No, NoSlots, Ok, TooManyBars, Usage}
 

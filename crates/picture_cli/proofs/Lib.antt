@@ -1,2 +1,3 @@
-pub mod PictureFacts
 pub mod AnswerFacts
+pub mod PictureFacts
+pub mod WordFacts

@@ -28,14 +28,14 @@ use Rattle.picture.specs.declared.value.Step.{Step}
 use Rattle.picture.specs.declared.value.Window.{Window}
 use Rattle.picture.specs.Bars.{IsBar, IsBars, IsTooMany, Serves}
 use Rattle.picture.specs.Curve.{IsCurve}
-use Rattle.picture_parts.specs.declared.value.Picture.{Picture}
-use Rattle.picture_parts.specs.Layout.{IsInside}
-use Rattle.picture_parts.specs.Svg.{picture_text}
-use Rattle.picture_parts.specs.Title.{hundredths}
+use Rattle.picture.specs.declared.part_value.Picture.{Picture}
+use Rattle.picture.specs.Layout.{IsInside}
+use Rattle.picture.specs.Svg.{picture_text}
+use Rattle.picture.specs.Title.{hundredths}
 use Rattle.report.specs.declared.value.Report.{Report}
 use Rattle.report.specs.Report.{IsReport}
-use Rattle.slot_schedule.proofs.CostSums.{parts_small}
-use Rattle.slot_schedule.specs.RunList.{NamesFlows, slots_in}
+use Rattle.schedule_model.proofs.CostSums.{parts_small}
+use Rattle.schedule_model.specs.RunList.{NamesFlows, slots_in}
 use Rattle.report.specs.Reading.{IsBadAt}
 use Rattle.command_files.specs.Causes.{HasCauseInFiles}
 use Rattle.command_files.specs.Reports.{IsReportOf}
@@ -43,7 +43,7 @@ use Rattle.command_files.specs.Ends.{IsReadFault, IsWriteFault}
 use Rattle.command_files.specs.Inputs.{IsInput}
 use Rattle.picture_cli.specs.Picture.{Draws, HasNoPicture, HasPictureCause, HasVerdictCause, IsNearBest, IsPictureOf, Judged, check_of, window_of}
 use Rattle.picture_cli.specs.Status.{IsStatusOfBars, as_check}
-use Rattle.picture_words.specs.Words.{PictureSaid}
+use Rattle.picture_cli.specs.Words.{PictureSaid}
 use Rattle.picture_cli.specs.declared.status.PictureStatus.{PictureStatus}
 use Rattle.picture_cli.specs.declared.status.PictureStatus.TheVariants as drawn
 

@@ -6,14 +6,14 @@ use Rattle.outside.specs.Shelf.{Told}
 use Rattle.picture.specs.declared.value.Bar.{Bar}
 use Rattle.picture.specs.declared.value.TheConstants.{MAX_BARS}
 use Rattle.picture.specs.Bars.{IsBars, bar_count}
-use Rattle.slot_schedule.specs.RunList.{slots_in}
+use Rattle.schedule_model.specs.RunList.{slots_in}
 use Rattle.report.specs.Reading.{IsTextOf}
 use Rattle.command_files.specs.Causes.{FilesGiveTable}
 use Rattle.command_files.specs.Reports.{HasReportText}
 use Rattle.command_files.specs.Inputs.{bytes_if}
 use Rattle.command_files.specs.Ends.{IsWriteFault}
 use Rattle.picture_cli.specs.Picture.{HasNoPicture, Judged, check_of, window_of}
-use Rattle.picture_words.specs.Words.{PictureSaid}
+use Rattle.picture_cli.specs.Words.{PictureSaid}
 use Rattle.picture_cli.specs.declared.status.PictureStatus.{PictureStatus}
 use Rattle.picture_cli.specs.declared.status.PictureStatus.TheVariants.{Ended, No, NoSlots, Ok, TooManyBars, Usage}
 

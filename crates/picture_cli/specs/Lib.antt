@@ -1,4 +1,6 @@
-pub mod Status
-pub mod Picture
 pub mod Complete
+pub mod Parser
+pub mod Picture
+pub mod Status
+pub mod Words
 pub mod Written

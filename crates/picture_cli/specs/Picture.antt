@@ -16,22 +16,22 @@ use Rattle.picture.specs.declared.value.TheConstants.{MAX_BARS}
 use Rattle.picture.specs.declared.value.Window.{Window}
 use Rattle.picture.specs.Bars.{IsBars, IsTooMany, bar_count}
 use Rattle.picture.specs.Curve.{IsCurve}
-use Rattle.picture_parts.specs.declared.value.Picture.{Picture}
-use Rattle.picture_parts.specs.Heaviest.{IsHeaviest}
-use Rattle.picture_parts.specs.Svg.{picture_text}
-use Rattle.picture_parts.specs.Title.{hundredths}
+use Rattle.picture.specs.declared.part_value.Picture.{Picture}
+use Rattle.picture.specs.Heaviest.{IsHeaviest}
+use Rattle.picture.specs.Svg.{picture_text}
+use Rattle.picture.specs.Title.{hundredths}
 use Rattle.report.specs.declared.value.Report.{Report}
-use Rattle.slot_schedule.specs.RunList.{slots_in}
+use Rattle.schedule_model.specs.RunList.{slots_in}
 use Rattle.report.specs.Reading.{IsBadAt}
 use Rattle.command_files.specs.Causes.{HasCauseInFiles}
 use Rattle.command_files.specs.Reports.{IsReportOf}
 use Rattle.command_files.specs.Ends.{IsWriteFault}
 use Rattle.command_files.specs.Inputs.{IsInput}
 use Rattle.plans.specs.Totals.{BoundsEverySchedule}
-use Rattle.command_status.specs.declared.status.Status.TheVariants as status
+use Rattle.command_files.specs.declared.status.Status.TheVariants as status
 use Rattle.command_words.specs.Jobs.Job.{check_job}
 use Rattle.command_words.specs.Words.{Said}
-use Rattle.picture_words.specs.Words.{PictureSaid}
+use Rattle.picture_cli.specs.Words.{PictureSaid}
 use Rattle.picture_cli.specs.declared.status.PictureStatus.{PictureStatus}
 use Rattle.picture_cli.specs.declared.status.PictureStatus.TheVariants.{Ended, No, NoSlots, Ok, TooManyBars}
 

@@ -2,10 +2,10 @@
 use Rattle.std.specs.Prelude.{◌≡◌, ℕ, ◌++◌, List, [], codes, decimal}
 use Rattle.picture.specs.declared.value.BarsFault.{BarsFault}
 use Rattle.picture.specs.declared.value.BarsFault.TheVariants as bars_fault
-use Rattle.command_status.specs.Code.{code_of as code_of_status}
-use Rattle.command_status.specs.Messages.{status_text}
-use Rattle.command_status.specs.declared.status.Status.{Status}
-use Rattle.command_status.specs.declared.status.Status.TheVariants as status
+use Rattle.command_files.specs.Code.{code_of as code_of_status}
+use Rattle.command_files.specs.Messages.{status_text}
+use Rattle.command_files.specs.declared.status.Status.{Status}
+use Rattle.command_files.specs.declared.status.Status.TheVariants as status
 use Rattle.picture_cli.specs.declared.status.PictureStatus.{PictureStatus}
 use Rattle.picture_cli.specs.declared.status.PictureStatus.TheVariants.{Ok, No, Usage, NoSlots, TooManyBars, Ended}
 

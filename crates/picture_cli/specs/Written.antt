@@ -3,7 +3,7 @@ use Rattle.std.specs.Prelude.{List, ℕ, Option}
 use Rattle.outside.specs.Shelf.{Told}
 use Rattle.command_files.specs.Written.{Appends, AppendsBeginning}
 use Rattle.picture_cli.specs.Picture.{Draws}
-use Rattle.picture_words.specs.Words.{PictureSaid}
+use Rattle.picture_cli.specs.Words.{PictureSaid}
 
 -- the picture was written whole
 pub record WritesPicture (told : Option Told) (said : PictureSaid) (old new : Option (List ℕ)) : Type 0 where

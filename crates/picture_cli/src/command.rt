@@ -1,24 +1,24 @@
 //! The job of drawing, from the words to the written picture.
 ghost use Rattle.std.specs.Prelude.{◌≡◌, ◌≢◌, ◌⊎◌, ℕ, IfSome, IsSomeAnd};
-ghost use Rattle.command_lines.specs.Line.{texts};
+ghost use Rattle.command_words.specs.Line.{texts};
 ghost use Rattle.outside.specs.Rose.{Rose, RoseOnce};
 ghost use Rattle.command_files.specs.Ends.{IsStill, IsReadFault, IsWriteFault};
 ghost use Rattle.command_files.specs.Shelves.{KeepsFiles, OfBoth, ReadsOut};
 ghost use Rattle.command_files.specs.Turns.{FilesInTurn};
-ghost use Rattle.command_status.specs.declared.status.Status.{Status};
+ghost use Rattle.command_files.specs.declared.status.Status.{Status};
 ghost use Rattle.picture_cli.specs.Complete.{AreGoodFiles, CallFor, IsPastFiles};
 ghost use Rattle.picture_cli.specs.Picture.{HasPicture, HasPictureCause, check_of};
 ghost use Rattle.picture_cli.specs.Status.{as_check};
-ghost use Rattle.picture_words.specs.Words.{IsPictureWords, PictureSaid};
+ghost use Rattle.picture_cli.specs.Words.{IsPictureWords, PictureSaid};
 ghost use Rattle.picture_cli.specs.Written.{WritesFront, WritesPicture};
 
 use crate::drawing::picture_of;
 use crate::files::read_files;
 use crate::status::PictureStatus;
+use crate::words::read_words;
 use command_files::Status;
-use command_lines::WordsFault;
+use command_words::WordsFault;
 use outside::{Shelf, Sink, write_all};
-use picture_words::read_words;
 use std::alloc::Global;
 
 /// Draws the picture that the words ask for, and writes it to the sink.

@@ -5,26 +5,25 @@ ghost use Rattle.cert_check.specs.declared.verdict.Verdict.{Verdict};
 ghost use Rattle.cert_check.specs.Reasons.{IsVerdict};
 ghost use Rattle.cert_check.specs.Sound.{IsSound};
 ghost use Rattle.flow_table.specs.Table.{instance_of};
-ghost use Rattle.picture_parts.specs.declared.value.Picture.{Picture};
-ghost use Rattle.picture_parts.specs.Layout.{IsDrawable};
-ghost use Rattle.picture_parts.specs.Svg.{picture_text};
+ghost use Rattle.picture.specs.declared.part_value.Picture.{Picture};
+ghost use Rattle.picture.specs.Layout.{IsDrawable};
+ghost use Rattle.picture.specs.Svg.{picture_text};
 ghost use Rattle.report.specs.Report.{IsReport};
-ghost use Rattle.slot_schedule.specs.RunList.{slots_in};
+ghost use Rattle.schedule_model.specs.RunList.{slots_in};
 ghost use Rattle.picture_cli.specs.Picture.{HasNoPicture, HasVerdictCause, IsPictureOf};
-ghost use Rattle.picture_words.specs.Words.{said_by};
+ghost use Rattle.picture_cli.specs.Words.{said_by};
 
 use crate::status::PictureStatus;
+use crate::value::PictureWords;
 use cert_check::Verdict;
 use coflow_units::{Items, NoMemory, Run};
 use command_files::Input;
 use flow_table::Table;
-use picture::{Window, bars_of, curve_of};
-use picture_text::{Picture, heaviest, write_picture};
-use picture_words::PictureWords;
+use online_check::verdict_on;
+use picture::{Picture, Window, bars_of, curve_of, heaviest, write_picture};
 use report::Report;
 use schedule_model::completions_of_runs;
 use std::alloc::Global;
-use verdicts::verdict_on;
 
 /// The text of the picture of a report, which is checked first.
 pub(crate) fn picture_of<'a>(

@@ -9,11 +9,11 @@ ghost use Rattle.command_files.specs.Shelves.{KeepsFiles, OfBoth, ReadsOut};
 ghost use Rattle.command_files.specs.Turns.{FilesInTurn};
 ghost use Rattle.picture_cli.specs.Complete.{AreGoodFiles};
 ghost use Rattle.picture_cli.specs.Picture.{check_of};
-ghost use Rattle.picture_words.specs.Words.{said_by};
+ghost use Rattle.picture_cli.specs.Words.{said_by};
 
+use crate::value::PictureWords;
 use command_files::{Input, Status, read_input, read_report_file};
 use outside::Shelf;
-use picture_words::PictureWords;
 use report::Report;
 use std::alloc::Global;
 

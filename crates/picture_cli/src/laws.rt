@@ -6,7 +6,7 @@ ghost use Rattle.outside.specs.Shelf.{Told};
 ghost use Rattle.report.specs.declared.value.Report.{Report};
 ghost use Rattle.picture_cli.specs.Complete.{IsAnswer};
 ghost use Rattle.picture_cli.specs.Picture.{IsNearBest};
-ghost use Rattle.picture_words.specs.Words.{PictureSaid};
+ghost use Rattle.picture_cli.specs.Words.{PictureSaid};
 ghost use Rattle.picture_cli.specs.declared.status.PictureStatus.{PictureStatus};
 
 /// What the files of a command line call for is one status at most.

@@ -6,7 +6,11 @@ mod drawing;
 mod files;
 pub mod laws;
 mod messages;
+mod parser;
 mod status;
+mod value;
+pub mod word_laws;
+mod words;
 
 pub use command::sincronia_picture;
 pub use status::PictureStatus;

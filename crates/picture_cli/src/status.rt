@@ -50,7 +50,7 @@ impl From<Status> for PictureStatus {
 
 impl From<NoMemory> for PictureStatus {
     ghost use Rattle.picture_cli.specs.declared.status.PictureStatus.TheVariants.{Ended};
-    ghost use Rattle.command_status.specs.declared.status.Status.TheVariants.{NoMemory};
+    ghost use Rattle.command_files.specs.declared.status.Status.TheVariants.{NoMemory};
 
     ghost from_gives = { λ _ s. s ≡ Ended NoMemory };
 

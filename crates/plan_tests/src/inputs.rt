@@ -7,7 +7,7 @@ use flow_table::Table;
 use std::alloc::Global;
 use std::fmt::Debug;
 use std::process::Abort;
-use trace_tables::table_of_text;
+use test_support::table_of_text;
 
 /// Two coflows that share both ports, of 3 units and of 1 unit.
 pub(crate) const TWO: &str = "2 2\n1 0 1 0 1 1:3\n2 0 1 0 1 1:1\n";

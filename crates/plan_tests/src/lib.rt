@@ -3,8 +3,22 @@
 #![tactic(auto)]
 
 #[cfg(test)]
+mod actions;
+#[cfg(test)]
+mod bench_inputs;
+#[cfg(test)]
+mod benches;
+#[cfg(test)]
+mod counting;
+#[cfg(test)]
 mod inputs;
+#[cfg(test)]
+mod limits;
 #[cfg(test)]
 mod schedules;
 #[cfg(test)]
 mod served;
+#[cfg(test)]
+mod table_inputs;
+#[cfg(test)]
+mod tables;

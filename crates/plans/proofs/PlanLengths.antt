@@ -20,7 +20,7 @@ use Rattle.report.specs.declared.value.Report.{Report}
 use Rattle.report.specs.Report.{HasSmallNumbers, IsReport}
 use Rattle.report.specs.Text.{report_text}
 use Rattle.report.proofs.TextLengths.{text_is_short}
-use Rattle.slot_schedule.specs.RunList.{slots_in}
+use Rattle.schedule_model.specs.RunList.{slots_in}
 use Rattle.schedule_model.proofs.SlotLoads.{carried_by_times}
 use Rattle.coflow_units.proofs.RunLengths.{some_grant}
 use Rattle.plans.specs.PlanReport.{IsPlanOf, coflows_of}

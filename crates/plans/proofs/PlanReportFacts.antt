@@ -23,8 +23,8 @@ use Rattle.flow_table.proofs.Whole.{whole}
 use Rattle.report.specs.declared.value.PlaceLine.{PlaceLine}
 use Rattle.report.specs.declared.value.Report.{Report}
 use Rattle.report.specs.Report.{ForEach, HasSmallNumbers, IsReport, IsSmallPlace}
-use Rattle.slot_schedule.proofs.CostSums.{weight_small}
-use Rattle.slot_schedule.proofs.LastSlots.{last_within}
+use Rattle.schedule_model.proofs.CostSums.{weight_small}
+use Rattle.schedule_model.proofs.LastSlots.{last_within}
 use Rattle.cert_check.proofs.InstanceFacts.{all_reverse, values_fit}
 use Rattle.cert_check.proofs.NameSteps.{at_most}
 use Rattle.cert_check.proofs.SlotSteps.{slots_count}

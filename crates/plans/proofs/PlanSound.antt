@@ -18,7 +18,7 @@ use Rattle.report.specs.Reading.{GivesReport}
 use Rattle.report.specs.Report.{HasSmallNumbers, IsReport}
 use Rattle.report.specs.Text.{report_text}
 use Rattle.report.proofs.TextLaws.{reports_are_one}
-use Rattle.slot_schedule.specs.RunList.{slots_in}
+use Rattle.schedule_model.specs.RunList.{slots_in}
 use Rattle.cert_check.specs.declared.verdict.Verdict.{Verdict}
 use Rattle.cert_check.specs.declared.verdict.Verdict.TheVariants.{Yes}
 use Rattle.cert_check.specs.Places.{certificate_in, coflows_in, ends_in}

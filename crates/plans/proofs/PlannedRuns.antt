@@ -16,9 +16,9 @@ use Rattle.coflow_units.proofs.Numbers.{zero_or_more}
 use Rattle.coflow_units.proofs.ServedLaws.{served_patient, served_valid}
 use Rattle.coflow_units.proofs.Sums.{Apart, any_in, apart_from_pairs}
 use Rattle.port_load.proofs.LoadSums.{within_units}
-use Rattle.slot_schedule.specs.RunList.{pairs_of, slots_in}
-use Rattle.slot_schedule.proofs.LastSlots.{last_push}
-use Rattle.slot_schedule.proofs.RunSlots.{after_first, all_here, slots_at}
+use Rattle.schedule_model.specs.RunList.{pairs_of, slots_in}
+use Rattle.schedule_model.proofs.LastSlots.{last_push}
+use Rattle.schedule_model.proofs.RunSlots.{after_first, all_here, slots_at}
 use Rattle.schedule_model.proofs.WaitingLaw.{short_law}
 use Rattle.coflow_units.proofs.RunLengths.{some_grant}
 

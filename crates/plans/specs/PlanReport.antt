@@ -10,7 +10,7 @@ use Rattle.coflow_units.specs.Served.{IsServed}
 use Rattle.bssi_order.specs.Order.{IsOrder, entries_of}
 use Rattle.report.specs.declared.value.PlaceLine.{PlaceLine}
 use Rattle.report.specs.declared.value.Report.{Report}
-use Rattle.slot_schedule.specs.RunList.{pairs_of}
+use Rattle.schedule_model.specs.RunList.{pairs_of}
 
 -- the coflows of the places
 abbrev pub coflows_of : List Place → List ℕ

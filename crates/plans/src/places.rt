@@ -2,7 +2,7 @@
 ghost use Rattle.std.specs.Prelude.{◌≡◌, ◌<◌, ◌^◌, All, IfOk, length, map, slice_index};
 ghost use Rattle.coflow_units.specs.declared.plan.Place.{Place};
 ghost use Rattle.report.specs.declared.value.PlaceLine.{PlaceLine};
-ghost use Rattle.slot_schedule.specs.RunList.{NamesFlows};
+ghost use Rattle.schedule_model.specs.RunList.{NamesFlows};
 ghost use Rattle.plans.specs.PlanReport.{line_from, line_of};
 
 use coflow_units::{NoMemory, Place};

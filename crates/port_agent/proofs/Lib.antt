@@ -1,2 +1,4 @@
-pub mod Tries
+pub mod Halves
 pub mod Rounds
+pub mod Service
+pub mod Tries

@@ -2,5 +2,7 @@
 #![tactic(auto)]
 
 mod agent;
+mod agents;
 
 pub use agent::{Agent, Served};
+pub use agents::serve_run;

@@ -5,11 +5,11 @@ use Rattle.std.specs.Prelude.{All, map}
 use Rattle.std.proofs.lemmas.List.{drop-drop, get_or-drop, length-drop, take_more}
 use Rattle.std.proofs.lemmas.List.Elements.{All-push}
 use Rattle.coflow_units.specs.Flows.{Instance}
-use Rattle.ranker_rounds.specs.declared.row.Row.{Row}
-use Rattle.order_scores.specs.declared.scored.Scored.{Scored}
-use Rattle.coflow_facts.specs.FactsTold.{FactsTold}
-use Rattle.ranker_kinds.specs.Meaning.{Meaning}
-use Rattle.ranker_rounds.specs.Rounds.{IsRounds, IsRowsFrom}
+use Rattle.rankers.specs.declared.row.Row.{Row}
+use Rattle.rankers.specs.declared.scored.Scored.{Scored}
+use Rattle.rankers.specs.FactsTold.{FactsTold}
+use Rattle.rankers.specs.Meaning.{Meaning}
+use Rattle.rankers.specs.Rounds.{IsRounds, IsRowsFrom}
 
 pub first_taken : {X : Type 0} (xs new : List X) (x : X) → 0 < length xs → x ≡ get_or xs 0 x → new ≡ drop 1 xs → xs ≡ x ∷ new
 first_taken [] new x some is rest = absurd (omega (arith, some))

@@ -1,2 +1,14 @@
 pub mod Benches
+pub mod ClassFacts
+pub mod Greatest
+pub mod KeyOrders
+pub mod Moved
+pub mod Noted
 pub mod OneRow
+pub mod OrderPermutations
+pub mod Permutations
+pub mod PlaceOrders
+pub mod RowFacts
+pub mod ServedOrders
+pub mod ToldOrders
+pub mod UnfitRows

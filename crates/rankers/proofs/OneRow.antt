@@ -6,13 +6,13 @@ use Rattle.coflow_units.specs.Completion.{cost}
 use Rattle.coflow_units.specs.Flows.{Instance}
 use Rattle.coflow_units.proofs.ServeLaws.{one_served}
 use Rattle.class_rates.specs.Classes.{IsPermutation}
-use Rattle.ranker_rounds.specs.declared.row.Row.{Row}
-use Rattle.order_scores.specs.declared.scored.Scored.{Scored}
-use Rattle.order_scores.specs.declared.scored.Scored.TheVariants.{Cost, Unfit}
-use Rattle.coflow_facts.specs.FactsTold.{FactsTold}
-use Rattle.ranker_kinds.specs.Meaning.{Meaning, after_question, answer_of}
-use Rattle.ranker_rounds.specs.Rounds.{IsRounds, IsRowsFrom, IsToldOf, after_completions}
-use Rattle.order_scores.specs.Scores.{IsFirstUnfit, IsNew, IsNotNew, IsScore, IsServedOrder}
+use Rattle.rankers.specs.declared.row.Row.{Row}
+use Rattle.rankers.specs.declared.scored.Scored.{Scored}
+use Rattle.rankers.specs.declared.scored.Scored.TheVariants.{Cost, Unfit}
+use Rattle.rankers.specs.FactsTold.{FactsTold}
+use Rattle.rankers.specs.Meaning.{Meaning, after_question, answer_of}
+use Rattle.rankers.specs.Rounds.{IsRounds, IsRowsFrom, IsToldOf, after_completions}
+use Rattle.rankers.specs.Scores.{IsFirstUnfit, IsNew, IsNotNew, IsScore, IsServedOrder}
 
 new_or_not : (n : ℕ) (order : List ℕ) (k : ℕ) → IsNew n order k → IsNotNew n order k → ⊥
 new_or_not n order k new (inl high) = omega (arith, new.known, high)

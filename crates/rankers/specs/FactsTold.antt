@@ -1,2 +1,48 @@
 -- What a ranker is told of the coflows of a table.
-pub use Rattle.coflow_facts.specs.FactsTold.{FactsTold, IsBssiOrder, IsFacts, IsFactsOf, coflows_in}
+use Rattle.std.specs.Prelude.{◌≡◌, ℕ, ◌<◌, ◌≤◌, ◌^◌, List, All, length}
+use Rattle.std.specs.List.{slice_index_or}
+use Rattle.coflow_units.specs.declared.limits.TheConstants.{MAX_COFLOWS}
+use Rattle.coflow_units.specs.Certificate.{Entry, order_of}
+use Rattle.coflow_units.specs.Ordering.{IsOrdering}
+use Rattle.class_rates.specs.Classes.{IsPermutation}
+use Rattle.flow_table.specs.Table.{TableFacts, instance_of}
+use Rattle.port_load.specs.Bottleneck.{IsBottleneck}
+use Rattle.port_load.specs.LoadTable.{HasLoads, LoadTable}
+
+-- the weight, the arrival and the greatest load of each coflow by number, the loads of the ports, and the coflows in
+-- the order by bottleneck, select, scale, iterate
+pub record FactsTold : Type 0 where
+  pub weights : List ℕ
+  pub arrivals : List ℕ
+  pub bottlenecks : List ℕ
+  pub loads : LoadTable
+  pub order : List ℕ
+
+-- how many coflows there are; they have the numbers from 0 on
+abbrev pub coflows_in : FactsTold → ℕ
+coflows_in f = length f.weights
+
+-- there is one of each for each coflow, and the numbers are within their limits
+pub record IsFacts (f : FactsTold) : Type 0 where
+  pub few : coflows_in f ≤ MAX_COFLOWS
+  pub arrivals_len : length f.arrivals ≡ coflows_in f
+  pub arrival : All (λ a. a < 2 ^ 32) f.arrivals
+  pub coflows : f.loads.coflows ≡ coflows_in f
+  pub bottlenecks_len : length f.bottlenecks ≡ coflows_in f
+  pub bottleneck : (c : ℕ) → c < coflows_in f → IsBottleneck f.loads c (slice_index_or f.bottlenecks c 0)
+  pub order_len : length f.order ≡ coflows_in f
+  pub order_is : IsPermutation f.order
+
+-- the order is that of the ordering certificate of all coflows
+pub record IsBssiOrder (t : TableFacts) (weights order : List ℕ) : Type 0 where
+  pub entries : List Entry
+  pub ordering : IsOrdering (instance_of t weights) entries
+  pub order_is : order ≡ order_of entries
+
+-- these are the facts of a table with these weights
+pub record IsFactsOf (t : TableFacts) (weights : List ℕ) (f : FactsTold) : Type 0 where
+  pub weights_are : f.weights ≡ weights
+  pub arrivals_are : f.arrivals ≡ t.arrivals
+  pub ports_are : f.loads.ports ≡ t.ports
+  pub loads_are : HasLoads t.flows f.loads
+  pub order_is : IsBssiOrder t weights f.order

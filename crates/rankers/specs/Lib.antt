@@ -1,4 +1,11 @@
 pub mod ByKey
+pub mod ClassList
+pub mod Comparison
 pub mod FactsTold
 pub mod Kinds
 pub mod Meaning
+pub mod Rounds
+pub mod Rows
+pub mod ScoreRows
+pub mod Scores
+pub mod Served

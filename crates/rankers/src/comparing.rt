@@ -2,14 +2,15 @@
 ghost use Rattle.std.specs.Prelude.{◌≡◌, ◌<◌, ◌≤◌, ◌^◌, ℕ, [], ◌∷◌, All, IfOk, OnOk, drop, length, map, take};
 ghost use Rattle.coflow_units.specs.declared.limits.TheConstants.{MAX_WEIGHT};
 ghost use Rattle.flow_table.specs.Table.{instance_of};
-ghost use Rattle.coflow_facts.specs.FactsTold.{IsFactsOf};
-ghost use Rattle.ranker_rounds.specs.Rounds.{IsRowsFrom};
+ghost use Rattle.rankers.specs.FactsTold.{IsFactsOf};
+ghost use Rattle.rankers.specs.Rounds.{IsRowsFrom};
 
-use coflow_facts::Facts;
+use crate::facts::Facts;
+use crate::ranker::Ranker;
+use crate::rounds::rounds_of;
+use crate::row::Row;
 use coflow_units::NoMemory;
 use flow_table::Table;
-use ranker_kinds::Ranker;
-use ranker_rounds::{Row, rounds_of};
 use std::alloc::Global;
 
 /// The rows of the rankers of a bench, two for each: what its first answer is worth, and its second one. The facts are those of the table with the weights, and there are fewer than 2^32 rankers.

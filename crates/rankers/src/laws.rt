@@ -1,11 +1,11 @@
 //! Laws of rows.
 ghost use Rattle.std.specs.Prelude.{◌≡◌, ℕ, List};
 ghost use Rattle.coflow_units.specs.Flows.{Instance};
-ghost use Rattle.ranker_rounds.specs.declared.row.Row.{Row};
-ghost use Rattle.order_scores.specs.declared.scored.Scored.{Scored};
-ghost use Rattle.coflow_facts.specs.FactsTold.{FactsTold};
-ghost use Rattle.ranker_kinds.specs.Meaning.{Meaning};
-ghost use Rattle.ranker_rounds.specs.Rounds.{IsRounds, IsRowsFrom};
+ghost use Rattle.rankers.specs.declared.row.Row.{Row};
+ghost use Rattle.rankers.specs.declared.scored.Scored.{Scored};
+ghost use Rattle.rankers.specs.FactsTold.{FactsTold};
+ghost use Rattle.rankers.specs.Meaning.{Meaning};
+ghost use Rattle.rankers.specs.Rounds.{IsRounds, IsRowsFrom};
 
 /// What the rounds of a ranker are worth depends on its own meaning and the facts alone: not on its place, nor on the other rankers.
 pub fn rounds_are_one()

@@ -1,11 +1,29 @@
 //! Rankers of coflows, asked side by side: what each of their orders costs on a trace, before and after they were told how the first one went.
 #![tactic(auto)]
 
+mod by_key;
+mod classing;
 mod comparing;
+mod facts;
+pub mod kind_laws;
+mod kinds;
 pub mod laws;
+mod order;
+mod ranker;
+pub mod report_laws;
+mod reporting;
+mod rounds;
+mod row;
+pub mod score_laws;
+mod scored;
+mod scoring;
 
-pub use coflow_facts::{Facts, loads_of, order_of};
+pub use classing::classes_text;
 pub use comparing::compare;
-pub use order_scores::Scored;
-pub use ranker_kinds::{Attained, Bssi0, Fifo, Ranker, Sebf};
-pub use ranker_rounds::Row;
+pub use facts::Facts;
+pub use kinds::{Attained, Bssi0, Fifo, Sebf};
+pub use order::{loads_of, order_of};
+pub use ranker::Ranker;
+pub use reporting::comparison_text;
+pub use row::Row;
+pub use scored::Scored;

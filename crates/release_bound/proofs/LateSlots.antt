@@ -6,7 +6,7 @@ use Rattle.coflow_units.specs.Completion.{last_where}
 use Rattle.coflow_units.proofs.Numbers.{zero_or_more}
 use Rattle.coflow_units.proofs.Sums.{in_first, in_tail, member_within_sum, sum_add, sum_mono, sum_same, sum_zero}
 use Rattle.schedule_model.proofs.ParallelLaw.{parallel_core}
-use Rattle.slot_schedule.proofs.Slots.{count_within_last, last_later}
+use Rattle.schedule_model.proofs.Slots.{count_within_last, last_later}
 
 -- nothing of the coflows is carried in the slots
 abbrev pub IsQuiet : {X : Type 0} → (ℕ → X → ℕ) → List ℕ → List X → Type 0

@@ -1,5 +1,8 @@
-pub mod Report
-pub mod Text
+pub mod Classed
+pub mod Compared
+pub mod Draft
+pub mod Made
 pub mod Readers
 pub mod Reading
-pub mod Draft
+pub mod Report
+pub mod Text

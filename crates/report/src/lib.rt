@@ -1,19 +1,26 @@
 //! The text of the report of a plan, written and read strictly. Each report has one text, and each text stands for at most one report. Other texts are written with the calls that write its numbers and its runs.
 #![tactic(auto)]
 
+mod classed;
+mod compared;
 mod draft;
 mod fault;
 pub mod laws;
 mod lines;
+pub mod list_laws;
+mod made;
 mod numbers;
 mod parts;
 mod reading;
 mod value;
 mod writing;
 
+pub use classed::{ClassText, Member, write_classes};
+pub use compared::{Compare, RowLine, RowText, write_compare};
 pub use draft::differs;
 pub use fault::ReportFault;
 pub use lines::{count_then, line_then, number_then, side_then};
+pub use made::{Made, write_made};
 pub use numbers::{push_flows, push_named, push_number};
 pub use parts::{is_end, run_of, total_of};
 pub use reading::read_report;

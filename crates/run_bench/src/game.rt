@@ -6,7 +6,7 @@ use coflow_units::UnitSize;
 use flow_table::Table;
 use outside::DiskShelf;
 use std::env;
-use trace_tables::table_of_file;
+use test_support::table_of_file;
 
 /// The greatest number of runs.
 const MAX_RUNS: u32 = 1_000_000;

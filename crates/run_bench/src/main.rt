@@ -18,13 +18,13 @@ use client_session::Hall;
 use flow_table::Table;
 use outside::CountWire;
 use slot_runner::{Ran, Runner};
-use small_runs::SmallRun;
 use std::alloc::Global;
 use std::process::ExitCode;
 use std::rt::Runtime;
 use std::sync::Wait;
 use std::thread::Threads;
 use std::time::{Duration, Instant};
+use test_support::SmallRun;
 
 fn main(rt: HostRuntime) -> ExitCode {
     let ended = match game_of(&rt) {

@@ -3,7 +3,7 @@ use coflow_units::NoMemory;
 use slot_runner::Ran;
 use std::alloc::{AllocError, AllocFailed};
 use std::io;
-use trace_tables::FileFault;
+use test_support::FileFault;
 
 /// Why nothing was measured.
 #[derive(Debug, Drop, thiserror::Error)]

@@ -2,8 +2,16 @@
 #![tactic(auto)]
 
 #[cfg(test)]
+mod begun;
+#[cfg(test)]
+mod masters;
+#[cfg(test)]
+mod rounds;
+#[cfg(test)]
 mod runs;
 #[cfg(test)]
 mod stage;
+#[cfg(test)]
+mod texts;
 #[cfg(test)]
 mod told;

@@ -5,11 +5,10 @@ ghost use Rattle.slot_runner.specs.Models.{MayRun};
 
 use coflow_units::UnitSize;
 use flow_table::Table;
-use small_runs::SmallRun;
 use std::alloc::Global;
 use std::process::Abort;
 use std::sync::Wait;
-use trace_tables::table_of_text;
+use test_support::{SmallRun, table_of_text};
 
 /// The table of a trace with two ports, where a unit has one megabyte.
 fn table_of(alloc: Global, trace: &str) -> Option<Table>

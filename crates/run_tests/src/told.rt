@@ -7,11 +7,11 @@ use client_session::Hall;
 use master_core::Entry;
 use outside::MemWire;
 use slot_runner::{Ran, Runner};
-use small_runs::SmallRun;
 use std::alloc::Global;
 use std::process::Abort;
 use std::sync::Wait;
 use std::thread::Threads;
+use test_support::SmallRun;
 
 /// Makes one run, and tells what it came to, the flows of the runner's last run, and how many calls the driver has left.
 pub(crate) fn tell_run<R: Threads + Wait + Sync + Abort>(

@@ -9,7 +9,7 @@ use Rattle.coflow_units.specs.declared.fabric.Side.{Side}
 use Rattle.coflow_units.specs.declared.fabric.Side.TheVariants.{Ingress, Egress}
 use Rattle.coflow_units.specs.Flows.{ingress_of, egress_of, SharesPort}
 use Rattle.coflow_units.specs.Schedule.{IsClear}
-use Rattle.slot_schedule.specs.RunList.{NamesFlows}
+use Rattle.schedule_model.specs.RunList.{NamesFlows}
 use Rattle.schedule_model.specs.Repeat.{Repeats, end_number}
 use Rattle.schedule_model.specs.Fault.{ClashesAt, IsFirstClash, number_no_later}
 use Rattle.schedule_model.proofs.SlotLoads.{both_use}

@@ -11,7 +11,7 @@ use Rattle.coflow_units.specs.Schedule.{holds, IsClear, IsValid}
 use Rattle.coflow_units.specs.Completion.{last_where, end_of, completion, holds_coflow}
 use Rattle.coflow_units.specs.Patient.{IsPatient, up_to, ingress_port, egress_port}
 use Rattle.schedule_model.proofs.WaitingLaw.{short_law}
-use Rattle.slot_schedule.proofs.Slots.{last_later, last_here_yes, last_here_not}
+use Rattle.schedule_model.proofs.Slots.{last_later, last_here_yes, last_here_not}
 use Rattle.coflow_units.proofs.Sums.{any_in, in_first, in_tail, any_has}
 use Rattle.coflow_units.proofs.Numbers.{zero_or_more}
 use Rattle.coflow_units.proofs.Lists.{any_where, any_from}

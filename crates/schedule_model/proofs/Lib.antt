@@ -1,9 +1,16 @@
+pub mod Ascending
 pub mod ClashSteps
 pub mod CoflowEnds
+pub mod CostSums
+pub mod LastSlots
 pub mod ParallelLaw
 pub mod RepeatSteps
+pub mod RunPushes
+pub mod RunSlots
 pub mod SlotLoads
+pub mod Slots
 pub mod Standing
+pub mod TimeCounts
 pub mod ValidSteps
 pub mod WaitSteps
 pub mod WaitingLaw

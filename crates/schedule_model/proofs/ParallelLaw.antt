@@ -4,7 +4,7 @@ use Rattle.std.specs.Prelude.{sum_by}
 use Rattle.std.proofs.lemmas.List.Sums.{sum_by-cons}
 use Rattle.coflow_units.specs.Completion.{last_where}
 use Rattle.coflow_units.proofs.Sums.{in_first, in_tail, member_within_sum, sum_add, sum_mono, sum_same, sum_scale, sum_zero}
-use Rattle.slot_schedule.proofs.Slots.{last_later, last_here_yes, count_within_last, step_part}
+use Rattle.schedule_model.proofs.Slots.{last_later, last_here_yes, count_within_last, step_part}
 use Rattle.coflow_units.proofs.Numbers.{zero_or_more}
 
 square_at_most_one : (x : ℕ) → x ≤ 1 → x * x ≡ x

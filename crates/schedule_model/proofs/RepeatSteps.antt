@@ -8,7 +8,7 @@ use Rattle.std.proofs.lemmas.Bool.{cases_eq}
 use Rattle.coflow_units.specs.declared.fabric.Flow.{Flow}
 use Rattle.coflow_units.specs.declared.fabric.Side.{Side}
 use Rattle.schedule_model.specs.Repeat.{Repeats, end_number}
-use Rattle.slot_schedule.proofs.Ascending.{above_earlier}
+use Rattle.schedule_model.proofs.Ascending.{above_earlier}
 
 -- the members of a list, one more
 pub in_more : (xs : List ℕ) (k f : ℕ) → k < length xs → Contains (take (k + 1) xs) f → Contains (take k xs) f ⊎ (get_or xs k 0 ≡ f)

@@ -4,7 +4,7 @@ use Rattle.std.specs.Prelude.{All}
 use Rattle.std.proofs.lemmas.List.{get_or_at, get_or_append_left, length-append}
 use Rattle.std.proofs.lemmas.List.Elements.{All-contains}
 use Rattle.coflow_units.specs.declared.fabric.Flow.{Flow}
-use Rattle.slot_schedule.specs.RunList.{NamesFlows}
+use Rattle.schedule_model.specs.RunList.{NamesFlows}
 use Rattle.schedule_model.specs.Fault.{IsFirstNoFlow, StandsIn}
 
 pub stands_here : (before rest : List (List ℕ)) (h : List ℕ) (f : ℕ) → Contains h f → StandsIn (before ++ (h ∷ rest)) (length before + 1) f

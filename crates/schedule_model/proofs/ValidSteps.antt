@@ -7,7 +7,7 @@ use Rattle.coflow_units.specs.declared.fabric.Port.{Port}
 use Rattle.coflow_units.specs.Schedule.{IsClear, IsValid}
 use Rattle.schedule_model.specs.declared.fault.ScheduleFault.{ScheduleFault}
 use Rattle.schedule_model.specs.declared.fault.ScheduleFault.TheVariants.{NoFlow, Clash, Units}
-use Rattle.slot_schedule.specs.RunList.{NamesFlows}
+use Rattle.schedule_model.specs.RunList.{NamesFlows}
 use Rattle.schedule_model.specs.Fault.{IsFirstClash, IsFirstFault, IsFirstMiscount, IsFirstNoFlow, StandsIn}
 use Rattle.schedule_model.proofs.SlotLoads.{both_use}
 

@@ -14,7 +14,7 @@ use Rattle.coflow_units.specs.Schedule.{holds, times, IsValid}
 use Rattle.coflow_units.specs.Completion.{last_where, end_of}
 use Rattle.coflow_units.specs.Patient.{IsPatient, IsServedOrWaits, up_to, ingress_port, egress_port}
 use Rattle.coflow_units.proofs.LinePlaces.{not_after}
-use Rattle.slot_schedule.proofs.Slots.{last_at_most, last_here_not}
+use Rattle.schedule_model.proofs.Slots.{last_at_most, last_here_not}
 use Rattle.coflow_units.proofs.Sums.{any_has, any_in, in_first, in_tail, member_within_sum, sum_add, sum_same, sum_swap}
 use Rattle.schedule_model.proofs.SlotLoads.{carries, carried_is_load}
 use Rattle.coflow_units.proofs.Numbers.{zero_or_more}

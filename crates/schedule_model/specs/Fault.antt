@@ -11,7 +11,7 @@ use Rattle.coflow_units.specs.Flows.{flow_at, units_of, uses}
 use Rattle.coflow_units.specs.Schedule.{IsClear, IsValid, times}
 use Rattle.schedule_model.specs.declared.fault.ScheduleFault.{ScheduleFault}
 use Rattle.schedule_model.specs.declared.fault.ScheduleFault.TheVariants.{NoFlow, Clash, Units}
-use Rattle.slot_schedule.specs.RunList.{NamesFlows}
+use Rattle.schedule_model.specs.RunList.{NamesFlows}
 
 -- the number stands in the slot
 pub record StandsIn (slots : List (List ℕ)) (slot f : ℕ) : Type 0 where

@@ -1,3 +1,5 @@
 pub mod Fault
 pub mod Repeat
+pub mod RunList
 pub mod Waiting
+pub mod Weights

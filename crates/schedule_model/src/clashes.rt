@@ -4,7 +4,7 @@ ghost use Rattle.std.specs.List.Sorted.{IsStrictlyIncreasing};
 ghost use Rattle.coflow_units.specs.declared.fabric.Flow.{Flow};
 ghost use Rattle.coflow_units.specs.Flows.{end_at};
 ghost use Rattle.coflow_units.specs.Schedule.{IsClear};
-ghost use Rattle.slot_schedule.specs.RunList.{IsKept, NamesFlows, slots_in};
+ghost use Rattle.schedule_model.specs.RunList.{IsKept, NamesFlows, slots_in};
 ghost use Rattle.schedule_model.specs.Repeat.{Repeats};
 ghost use Rattle.schedule_model.specs.Fault.{IsFirstClash};
 

@@ -3,7 +3,7 @@ ghost use Rattle.std.specs.Prelude.{◌≡◌, ◌≢◌, ◌<◌, ◌≤◌, �
 ghost use Rattle.std.specs.List.Sorted.{IsStrictlyIncreasing};
 ghost use Rattle.coflow_units.specs.Flows.{units_of};
 ghost use Rattle.coflow_units.specs.Schedule.{IsClear, holds};
-ghost use Rattle.slot_schedule.specs.RunList.{IsKept, slots_in};
+ghost use Rattle.schedule_model.specs.RunList.{IsKept, slots_in};
 ghost use Rattle.schedule_model.specs.Fault.{IsFirstFault};
 
 use crate::fault::ScheduleFault;

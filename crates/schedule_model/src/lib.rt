@@ -3,14 +3,17 @@
 
 mod clashes;
 mod counts;
+mod ends;
 mod fault;
 pub mod laws;
 mod patience;
 mod ports;
+mod schedule;
 mod strangers;
 mod validity;
 
+pub use ends::{completion, completions, completions_of_runs, cost};
 pub use fault::ScheduleFault;
 pub use patience::is_patient;
-pub use slot_schedule::{Schedule, completion, completions, completions_of_runs, cost};
+pub use schedule::Schedule;
 pub use validity::{find_fault, find_fault_of_runs};

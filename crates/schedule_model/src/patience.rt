@@ -4,13 +4,13 @@ ghost use Rattle.coflow_units.specs.declared.fabric.Flow.{Flow};
 ghost use Rattle.coflow_units.specs.Flows.{coflow_of, egress_of, end_at, ingress_of, units_of};
 ghost use Rattle.coflow_units.specs.Grants.{place_in};
 ghost use Rattle.coflow_units.specs.Patient.{IsPatient, IsServedOrWaits};
-ghost use Rattle.slot_schedule.specs.RunList.{NamesFlows};
+ghost use Rattle.schedule_model.specs.RunList.{NamesFlows};
 ghost use Rattle.schedule_model.specs.Waiting.{ServesBy};
 
 use crate::counts::add_run;
 use crate::ports::{port_at, port_count};
+use crate::schedule::Schedule;
 use coflow_units::{Flow, NoMemory, Side};
-use slot_schedule::Schedule;
 use std::alloc::Global;
 
 /// Tests whether a schedule is patient for an order of coflows: in each slot each flow that has units left is served, or one of its ports serves a coflow no later in the order.

@@ -1,7 +1,7 @@
 //! Numbers in a schedule that are no flow's.
 ghost use Rattle.std.specs.Prelude.{◌<◌, ◌≤◌, ℕ, All, Contains, MatchOption, length};
 ghost use Rattle.std.specs.List.Sorted.{IsStrictlyIncreasing};
-ghost use Rattle.slot_schedule.specs.RunList.{IsKept, NamesFlows, slots_in};
+ghost use Rattle.schedule_model.specs.RunList.{IsKept, NamesFlows, slots_in};
 ghost use Rattle.schedule_model.specs.Fault.{IsFirstNoFlow};
 
 use coflow_units::{Flow, Run};

@@ -2,14 +2,14 @@
 ghost use Rattle.std.specs.Prelude.{◌≡◌, ◌≤◌, ◌^◌, ◌↔◌, IfOk, None, length};
 ghost use Rattle.coflow_units.specs.Schedule.{IsValid};
 ghost use Rattle.schedule_model.specs.Fault.{IsFirstFault};
-ghost use Rattle.slot_schedule.specs.RunList.{IsKept, slots_in};
+ghost use Rattle.schedule_model.specs.RunList.{IsKept, slots_in};
 
 use crate::clashes::find_clash;
 use crate::counts::find_miscount;
 use crate::fault::ScheduleFault;
+use crate::schedule::Schedule;
 use crate::strangers::find_stranger;
 use coflow_units::{Flow, NoMemory, Run};
-use slot_schedule::Schedule;
 use std::alloc::Global;
 
 /// Tests whether a schedule is valid for the flows: each number is a flow's, no two flows of a slot share a port, and each flow stands in as many slots as it has units.

@@ -7,14 +7,14 @@ use Rattle.command_words.specs.Words.{Said}
 use Rattle.outside.specs.Shelf.{Told}
 use Rattle.trace_reader.specs.declared.fault.TraceFault.{TraceFault}
 use Rattle.weights.specs.declared.fault.WeightsFault.{WeightsFault}
-use Rattle.command_status.specs.declared.status.Status.{Status}
-use Rattle.command_status.specs.declared.status.Status.TheVariants as status
+use Rattle.command_files.specs.declared.status.Status.{Status}
+use Rattle.command_files.specs.declared.status.Status.TheVariants as status
 use Rattle.command_files.specs.Ends.{IsWriteFault}
 use Rattle.command_files.specs.JobCauses.{HasFilesCause}
-use Rattle.command_outcomes.specs.Causes.{CauseBy, HasCauseOf}
-use Rattle.command_outcomes.specs.Command.{ReadsFiles}
-use Rattle.command_outcomes.specs.Outcome.{HasText}
-use Rattle.command_outcomes.proofs.BenchFacts.{cause_has_no_text}
+use Rattle.sincronia_cli.specs.Causes.{CauseBy, HasCauseOf}
+use Rattle.sincronia_cli.specs.Command.{ReadsFiles}
+use Rattle.sincronia_cli.specs.Outcome.{HasText}
+use Rattle.sincronia_cli.proofs.BenchFacts.{cause_has_no_text}
 
 -- ---- words that are no command line
 

@@ -1,1 +1,10 @@
+pub mod BenchFacts
+pub mod BeyondFacts
+pub mod CompleteFacts
+pub mod FewOrders
 pub mod FilesCauses
+pub mod FirstFacts
+pub mod OutcomeFacts
+pub mod ServingFacts
+pub mod TurnFacts
+pub mod WrittenFacts

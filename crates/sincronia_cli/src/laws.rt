@@ -1,11 +1,11 @@
 //! Laws of what a command finds of its files.
 ghost use Rattle.std.specs.Prelude.{◌≡◌, List};
-ghost use Rattle.command_lines.specs.Line.{Text};
+ghost use Rattle.command_words.specs.Line.{Text};
 ghost use Rattle.command_words.specs.Words.{Said};
 ghost use Rattle.outside.specs.Shelf.{Told};
-ghost use Rattle.command_status.specs.declared.status.Status.{Status};
-ghost use Rattle.command_outcomes.specs.Command.{IsOfFiles};
-ghost use Rattle.command_outcomes.specs.FirstCause.{IsFirstCause};
+ghost use Rattle.command_files.specs.declared.status.Status.{Status};
+ghost use Rattle.sincronia_cli.specs.Command.{IsOfFiles};
+ghost use Rattle.sincronia_cli.specs.FirstCause.{IsFirstCause};
 
 /// What the files of a command call for is one: of its first fault, in the trace, the weights, the table, and the report,
 /// the printed journal or the script, and that they are good, at most one holds, with one value. So where the files are told, `BadTrace`, `BadWeights`,

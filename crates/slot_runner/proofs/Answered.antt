@@ -14,14 +14,14 @@ use Rattle.journal.proofs.Driving.{driven_goes_on}
 use Rattle.outside.specs.Rose.{Rose}
 use Rattle.client_session.specs.Drivers.{IsDrivenOn, StaysInHall}
 use Rattle.client_session.specs.Models.{DriverModel, HallModel, IsDriverOf}
-use Rattle.master_desk.specs.Answers.{Receipt}
+use Rattle.client_session.specs.declared.receipt.Receipt.{Receipt}
 use Rattle.slot_runner.specs.Carried.{ended, IsCarriedOut}
 use Rattle.slot_runner.specs.Models.{MayRun, RunnerModel}
-use Rattle.run_ports.specs.Posts.{posts_of, settlements_of}
-use Rattle.run_ports.specs.Settling.{IsFirstShort}
+use Rattle.slot_runner.specs.Posts.{posts_of, settlements_of}
+use Rattle.slot_runner.specs.Settling.{IsFirstShort}
 use Rattle.slot_runner.specs.Slots.{AreSent, HasRun, IsFaulted, IsRan, IsSentAt}
 use Rattle.slot_runner.proofs.Carried.{at_ingress}
-use Rattle.run_ports.proofs.Notes.{calls_fall, stays}
+use Rattle.slot_runner.proofs.Notes.{calls_fall, stays}
 use Rattle.slot_runner.proofs.Opens.{OpenFacts, opened_run}
 
 module _ {W : Type 0} (faults : W → ℕ) (runs : W → Option (List (ℕ × ℕ × ℕ))) (o : Opening) (most first slots count : ℕ) (old new : RunnerModel) (mid : DriverModel)

@@ -26,21 +26,21 @@ use Rattle.port_board.specs.Views.{came_of, grant, is_left, is_unsettled, report
 use Rattle.port_board.specs.Agreement.{SharesNothing}
 use Rattle.port_agent.specs.Served.{SentOn}
 use Rattle.turnstile.specs.Histories.{NoneAbove}
-use Rattle.master_desk.specs.Desk.{DrivenByRoot, IsSeen}
+use Rattle.client_session.specs.Desk.{DrivenByRoot, IsSeen}
 use Rattle.client_session.specs.Drivers.{IsDrivenOn, StaysInHall, who_of}
 use Rattle.client_session.specs.Models.{DriverModel}
-use Rattle.master_desk.specs.Answers.{Receipt}
-use Rattle.agent_threads.specs.Attended.{IsServedBy}
+use Rattle.client_session.specs.declared.receipt.Receipt.{Receipt}
+use Rattle.port_agent.specs.Attended.{IsServedBy}
 use Rattle.slot_runner.specs.Carried.{ended, IsCarriedOut}
 use Rattle.slot_runner.specs.Models.{IsIdle, WasReported}
-use Rattle.run_ports.specs.Posts.{posts_of, settlements_of}
-use Rattle.run_ports.specs.Settling.{AreNoted, AreSettled, CallsFall, IsFirstShort, IsOpenRunOf}
+use Rattle.slot_runner.specs.Posts.{posts_of, settlements_of}
+use Rattle.slot_runner.specs.Settling.{AreNoted, AreSettled, CallsFall, IsFirstShort, IsOpenRunOf}
 use Rattle.slot_runner.specs.Slots.{AreSent, IsSentAt}
-use Rattle.run_ports.proofs.Notes.{calls_fall, stays}
+use Rattle.slot_runner.proofs.Notes.{calls_fall, stays}
 use Rattle.slot_runner.proofs.OnePort.{drew_nothing, reported_is, sent_of, served_at, was_sent}
 use Rattle.slot_runner.proofs.Opens.{OpenFacts}
-use Rattle.run_ports.proofs.PortPosts.{in_posts, in_settlements, last_later}
-use Rattle.run_ports.proofs.Turns.{met_under_way, others_are_other}
+use Rattle.slot_runner.proofs.PortPosts.{in_posts, in_settlements, last_later}
+use Rattle.slot_runner.proofs.Turns.{met_under_way, others_are_other}
 
 -- what is sent may be told before the first note
 pub told_open : (o : Opening) (before : List Entry) (d : Drive) (driver : DriverModel) (sent : ℕ → ℕ) → IsOpenRunOf o before d driver → IsOpenRunOf o before

@@ -9,13 +9,15 @@ use Rattle.journal.specs.declared.opening.Opening.{Opening}
 use Rattle.journal.specs.Driven.{Drive}
 use Rattle.journal.specs.State.{IsOpening}
 use Rattle.client_session.specs.Drivers.{IsDrivenOn, IsDriverTurn}
-use Rattle.master_desk.specs.Answers.{Answer, Done, Receipt, Spent}
+use Rattle.client_session.specs.declared.receipt.Answer.{Answer}
+use Rattle.client_session.specs.declared.receipt.Answer.TheVariants.{Done, Spent}
+use Rattle.client_session.specs.declared.receipt.Receipt.{Receipt}
 use Rattle.client_session.specs.Models.{DriverModel, HallModel}
 use Rattle.slot_runner.specs.declared.answer.Ran.{Ran}
 use Rattle.slot_runner.specs.declared.answer.Ran.TheVariants.{Ran as Whole, Late as TooLate, WireFault}
 use Rattle.slot_runner.specs.Carried.{IsCarriedOut}
 use Rattle.slot_runner.specs.Models.{MayRun, RunnerModel}
-use Rattle.run_ports.specs.Settling.{IsOpenRunOf}
+use Rattle.slot_runner.specs.Settling.{IsOpenRunOf}
 use Rattle.slot_runner.specs.Slots.{IsFaulted, IsRan}
 use Rattle.slot_runner.proofs.Answered.{is_faulted, is_ran, may_again}
 use Rattle.slot_runner.proofs.Opens.{is_open, open_facts, OpenFacts, opened_run}

@@ -1,8 +1,12 @@
 pub mod Answered
 pub mod Carried
 pub mod Concluded
+pub mod Notes
 pub mod OnePort
 pub mod Opens
+pub mod PortPosts
+pub mod PostSteps
 pub mod Refused
+pub mod Settled
 pub mod Through
 pub mod Turns

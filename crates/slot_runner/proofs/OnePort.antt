@@ -19,11 +19,11 @@ use Rattle.port_board.specs.Rule.{DifferAt}
 use Rattle.port_board.specs.Views.{came_of, grant, is_left, is_of, is_unsettled, last_at, report, Sits}
 use Rattle.port_board.proofs.Lists.{is_of-false, last_is}
 use Rattle.port_agent.specs.Served.{SentOn}
-use Rattle.agent_threads.specs.Attended.{HadPort, IsServed, IsServedBy, WireServed}
+use Rattle.port_agent.specs.Attended.{HadPort, IsServed, IsServedBy, WireServed}
 use Rattle.slot_runner.specs.Models.{IsIdle, WasReported}
-use Rattle.run_ports.specs.Posts.{posts_of}
-use Rattle.run_ports.specs.Settling.{AreToSettle}
-use Rattle.run_ports.proofs.PortPosts.{in_posts, last_among, last_with, last_without, waits_now}
+use Rattle.slot_runner.specs.Posts.{posts_of}
+use Rattle.slot_runner.specs.Settling.{AreToSettle}
+use Rattle.slot_runner.proofs.PortPosts.{in_posts, last_among, last_with, last_without, waits_now}
 
 -- the units that a report tells, and none without one
 abbrev pub units : Option Report → ℕ

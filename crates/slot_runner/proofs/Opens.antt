@@ -24,13 +24,13 @@ use Rattle.journal.proofs.Legal.{legal_front}
 use Rattle.journal.proofs.OpenReplies.{open_reply}
 use Rattle.journal.proofs.Sound.{legal_sound}
 use Rattle.journal.proofs.UnderWay.{opens, running}
-use Rattle.master_desk.specs.Desk.{DrivenByRoot}
-use Rattle.master_desk.specs.Grants.{all_granted, flow_granted}
+use Rattle.client_session.specs.Desk.{DrivenByRoot}
+use Rattle.client_session.specs.Grants.{all_granted, flow_granted}
 use Rattle.client_session.specs.Drivers.{IsDrivenOn}
 use Rattle.client_session.specs.Models.{DriverModel}
-use Rattle.master_desk.specs.Answers.{Receipt}
-use Rattle.run_ports.specs.Settling.{IsOpenRunOf}
-use Rattle.run_ports.proofs.Turns.{others_are_other}
+use Rattle.client_session.specs.declared.receipt.Receipt.{Receipt}
+use Rattle.slot_runner.specs.Settling.{IsOpenRunOf}
+use Rattle.slot_runner.proofs.Turns.{others_are_other}
 
 -- the run that an Open with this answer opens, after entries of others
 abbrev pub opened_run : List Entry → ℕ → ℕ → ℕ → ℕ → Drive

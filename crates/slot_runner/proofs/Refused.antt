@@ -11,15 +11,15 @@ use Rattle.journal.specs.State.{State}
 use Rattle.journal.proofs.Driving.{free}
 use Rattle.journal.proofs.Growth.{state_snoc}
 use Rattle.journal.proofs.Leaving.{others_leave}
-use Rattle.master_desk.specs.Desk.{DrivenByRoot}
+use Rattle.client_session.specs.Desk.{DrivenByRoot}
 use Rattle.client_session.specs.Drivers.{IsDrivenOn, IsStopped, StaysInHall}
 use Rattle.client_session.specs.Models.{DriverModel, HallModel}
-use Rattle.master_desk.specs.Answers.{Receipt}
+use Rattle.client_session.specs.declared.receipt.Receipt.{Receipt}
 use Rattle.slot_runner.specs.Models.{MayRun, RunnerModel}
 use Rattle.slot_runner.specs.Slots.{IsAnswered, IsFullAt}
-use Rattle.run_ports.proofs.Notes.{calls_fall}
+use Rattle.slot_runner.proofs.Notes.{calls_fall}
 use Rattle.slot_runner.proofs.Opens.{left_next, left_runs}
-use Rattle.run_ports.proofs.Turns.{others_are_other}
+use Rattle.slot_runner.proofs.Turns.{others_are_other}
 
 -- no run is open, and the next slot is as before
 pub record IsAsBefore (o : Opening) (old new : List Entry) : Type 0 where

@@ -13,16 +13,16 @@ use Rattle.port_board.specs.declared.view.Grant.{Grant}
 use Rattle.port_board.specs.declared.view.Report.{Report}
 use Rattle.port_board.specs.declared.view.View.{View}
 use Rattle.port_board.specs.Agreement.{EachPosted, SharesNothing}
-use Rattle.master_desk.specs.Desk.{IsSeen}
-use Rattle.master_desk.specs.Grants.{all_granted, flow_granted}
+use Rattle.client_session.specs.Desk.{IsSeen}
+use Rattle.client_session.specs.Grants.{all_granted, flow_granted}
 use Rattle.client_session.specs.Drivers.{IsDrivenOn, StaysInHall}
 use Rattle.client_session.specs.Models.{DriverModel}
-use Rattle.master_desk.specs.Answers.{Receipt}
-use Rattle.agent_threads.specs.Attended.{IsServedBy}
+use Rattle.client_session.specs.declared.receipt.Receipt.{Receipt}
+use Rattle.port_agent.specs.Attended.{IsServedBy}
 use Rattle.slot_runner.specs.Carried.{IsCarriedOut}
 use Rattle.slot_runner.specs.Models.{IsIdle}
-use Rattle.run_ports.specs.Posts.{IsPosted, posts_of}
-use Rattle.run_ports.specs.Settling.{AreNoted, AreSettled, AreToSettle, IsFirstShort, IsOpenRunOf}
+use Rattle.slot_runner.specs.Posts.{IsPosted, posts_of}
+use Rattle.slot_runner.specs.Settling.{AreNoted, AreSettled, AreToSettle, IsFirstShort, IsOpenRunOf}
 use Rattle.slot_runner.proofs.Carried.{carried_out, idle_again, told_open}
 use Rattle.slot_runner.proofs.OnePort.{sent_of, to_settle}
 use Rattle.slot_runner.proofs.Opens.{open_facts, OpenFacts}

@@ -6,11 +6,11 @@ use Rattle.journal.specs.declared.opening.Opening.{Opening}
 use Rattle.journal.specs.Driven.{Drive, driven, IsDriven}
 use Rattle.journal.specs.Runs.{grant_in}
 use Rattle.turnstile.specs.Histories.{NoneAbove}
-use Rattle.master_desk.specs.Desk.{IsSeen}
+use Rattle.client_session.specs.Desk.{IsSeen}
 use Rattle.client_session.specs.Drivers.{StaysInHall, who_of}
 use Rattle.slot_runner.specs.Models.{RunnerModel}
-use Rattle.run_ports.specs.Posts.{posts_of, settlements_of}
-use Rattle.run_ports.specs.Settling.{CallsFall, IsFirstShort}
+use Rattle.slot_runner.specs.Posts.{posts_of, settlements_of}
+use Rattle.slot_runner.specs.Settling.{CallsFall, IsFirstShort}
 use Rattle.slot_runner.specs.Slots.{AreSent}
 
 -- the run with what was sent from each port, the entries after its opening, and what its close was answered

@@ -1,4 +1,5 @@
 pub mod Carried
 pub mod Models
+pub mod Posts
 pub mod Settling
 pub mod Slots

@@ -10,13 +10,13 @@ use Rattle.journal.specs.Runs.{grant_in}
 use Rattle.turnstile.specs.Histories.{NoneAbove}
 use Rattle.port_board.specs.Views.{grant, report}
 use Rattle.port_agent.specs.Served.{SentOn}
-use Rattle.master_desk.specs.Desk.{IsSeen}
+use Rattle.client_session.specs.Desk.{IsSeen}
 use Rattle.client_session.specs.Drivers.{IsDrivenOn, IsStopped, StaysInHall, who_of}
 use Rattle.client_session.specs.Models.{DriverModel}
-use Rattle.master_desk.specs.Answers.{Receipt}
+use Rattle.client_session.specs.declared.receipt.Receipt.{Receipt}
 use Rattle.slot_runner.specs.Models.{RunnerModel}
-use Rattle.run_ports.specs.Posts.{posts_of, settlements_of}
-use Rattle.run_ports.specs.Settling.{CallsFall}
+use Rattle.slot_runner.specs.Posts.{posts_of, settlements_of}
+use Rattle.slot_runner.specs.Settling.{CallsFall}
 use Rattle.slot_runner.specs.declared.answer.Ran.{Ran}
 use Rattle.slot_runner.specs.declared.answer.Ran.TheVariants.{Ran as Whole, WireFault}
 

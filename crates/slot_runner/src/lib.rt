@@ -2,7 +2,9 @@
 #![tactic(auto)]
 
 mod answer;
+mod posting;
 mod runner;
+mod settling;
 
 pub use answer::{Ran, RunnerBack};
 pub use runner::Runner;

@@ -1,7 +1,7 @@
 -- The files of a job.
 use Rattle.std.specs.Prelude.{◌≡◌, ℕ, List, [], ◌∷◌, codes, max}
-use Rattle.memory_shelves.specs.declared.mem_shelf.MemShelf.{MemShelf}
-use Rattle.memory_shelves.specs.MemShelf.{IsMissing, count_of, mem_faults, mem_told, piece_of}
+use Rattle.outside.specs.declared.mem_shelf.MemShelf.{MemShelf}
+use Rattle.outside.specs.MemShelf.{IsMissing, count_of, mem_faults, mem_told, piece_of}
 use Rattle.outside.specs.Shelf.{bytes_of}
 
 -- the file with this name is there, and has these bytes

@@ -5,10 +5,9 @@ ghost use Rattle.outside.specs.Shelf.{bytes_of};
 ghost use Rattle.small_jobs.specs.Files.{HasBoth, HasBytes, IsUnread};
 
 use crate::row::Row;
-use memory_shelves::MemShelf;
-use outside::{MemSink, Place4, Shelf};
+use outside::{MemShelf, MemSink, Place4, Shelf};
 use std::alloc::Global;
-use trace_tables::{FileFault, bytes_of_file};
+use test_support::{FileFault, bytes_of_file};
 
 /// What a job is given of the files `t` and `s` and of the sink.
 #[derive(Clone, Copy)]

@@ -3,14 +3,28 @@
 #![tactic(auto)]
 
 #[cfg(test)]
+mod journals;
+#[cfg(test)]
+mod made;
+#[cfg(test)]
 mod numbers;
 #[cfg(test)]
+mod online_runs;
+#[cfg(test)]
+mod reports;
+#[cfg(test)]
 mod rows;
+#[cfg(test)]
+mod run_text_rows;
 #[cfg(test)]
 mod scripts;
 #[cfg(test)]
 mod tables;
 #[cfg(test)]
+mod texts;
+#[cfg(test)]
 mod traces;
 #[cfg(test)]
 mod weight_lists;
+#[cfg(test)]
+mod word_rows;

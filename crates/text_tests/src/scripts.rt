@@ -3,10 +3,10 @@ use crate::rows::{had, is_told};
 use crate::tables::{Kind, try_rows};
 use coflow_units::MAX_TEXT;
 use flow_table::Table;
-use script_reader::{Script, read_script};
 use std::alloc::Global;
 use std::process::Abort;
 use trace_reader::read_trace;
+use workload::{Script, read_script};
 
 const TWO_COFLOWS: &[u8] = b"1 2\n1 0 1 0 0\n2 0 1 0 0\n";
 

@@ -2,4 +2,14 @@
 #![tactic(auto)]
 
 #[cfg(test)]
+mod agents;
+#[cfg(test)]
+mod begun;
+#[cfg(test)]
+mod posts;
+#[cfg(test)]
+mod ranks;
+#[cfg(test)]
+mod sinks;
+#[cfg(test)]
 mod turns;

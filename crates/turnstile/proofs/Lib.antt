@@ -1,0 +1,9 @@
+pub mod Beginnings
+pub mod Closing
+pub mod NoteSteps
+pub mod OwnEntries
+pub mod SeatSteps
+pub mod Stages
+pub mod Totals
+pub mod TurnSteps
+pub mod Views

@@ -1,2 +1,4 @@
 pub mod Histories
 pub mod Models
+pub mod Tells
+pub mod Tickets

@@ -1,21 +1,22 @@
 //! The turnstile and its calls.
 ghost use Rattle.std.specs.Prelude.{◌≡◌, ℕ, ◌+◌, ◌-◌, ◌^◌, ◌<◌, ◌≤◌, true, false, length, [], ◌∷◌, Some, None, IfOk, IsOk};
-ghost use Rattle.turn_steps.specs.declared.view.Stage.TheVariants.{Idle, InTurn};
-ghost use Rattle.turn_steps.specs.Histories.{GoesOn, Begins, AddsAtMostOne, NoneAbove, longer};
-ghost use Rattle.turn_steps.specs.Models.{first_root, next_seat, takes_back, EachCameBack, GoesOnForEach};
-ghost use Rattle.turn_steps.specs.Tells.{MayLeave, Has, hears, learned};
-ghost use Rattle.turn_steps.specs.Tickets.{number_of, IsNumbered, IsRoot};
+ghost use Rattle.turnstile.specs.declared.view.Stage.TheVariants.{Idle, InTurn};
+ghost use Rattle.turnstile.specs.Histories.{GoesOn, Begins, AddsAtMostOne, NoneAbove, longer};
+ghost use Rattle.turnstile.specs.Models.{first_root, next_seat, takes_back, EachCameBack, GoesOnForEach};
+ghost use Rattle.turnstile.specs.Tells.{MayLeave, Has, hears, learned};
+ghost use Rattle.turnstile.specs.Tickets.{number_of, IsNumbered, IsRoot};
 
+use crate::chronicle::Chronicle;
+use crate::plays::{Another, Learns, TakesBack};
 use crate::seats::{Due, Root, Turn, TurnSeat};
+use crate::steps::{SERVING, VALUE, end_turn, take_turn, tell};
+use crate::view::{Tickets, View};
 use atomic_table::Table;
 use coflow_units::NoMemory;
 use std::alloc::Global;
 use std::marker::Model;
 use std::snapshot::Snapshot;
 use std::sync::Wait;
-use turn_steps::{
-    Another, Chronicle, Learns, SERVING, TakesBack, Tickets, VALUE, View, end_turn, take_turn, tell,
-};
 
 /// One value behind a lock by tickets (Reed and Kanodia, "Synchronization with Eventcounts and Sequencers", CACM 1979): a caller takes the next ticket, and has the turn once that ticket is served.
 /// The value means a list of entries, each made by one caller, and a setting, which stays the one that it had at `new`.
@@ -26,7 +27,7 @@ pub struct Turnstile<T: Chronicle> {
 
 impl<T: Chronicle> Model for Turnstile<T> {
     ghost use Rattle.std.specs.Prelude.{◌≡◌};
-    ghost use Rattle.turn_steps.specs.Models.{TurnstileModel};
+    ghost use Rattle.turnstile.specs.Models.{TurnstileModel};
 
     ghost Value = { TurnstileModel T.Setting };
 

@@ -1,8 +1,9 @@
 //! The root, the seats that it makes, and the turn that one of them has.
 ghost use Rattle.std.specs.Prelude.{◌≡◌, ◌≤◌, length};
 
+use crate::chronicle::Chronicle;
+use crate::steps::Place;
 use std::marker::Model;
-use turn_steps::{Chronicle, Place};
 
 /// A caller's seat. It has a number from 1, and contracts see what it has seen and whether it has the turn.
 /// A seat that is dropped never comes back to its root.
@@ -15,9 +16,9 @@ pub struct TurnSeat<T: Chronicle> {
 impl<T: Chronicle> Model for TurnSeat<T> {
     ghost use Rattle.std.specs.Prelude.{◌≡◌};
     ghost use Rattle.std.specs.Option.{IsSome};
-    ghost use Rattle.turn_steps.specs.declared.view.Role.TheVariants.{Seat};
-    ghost use Rattle.turn_steps.specs.Models.{SeatModel, is_in_turn};
-    ghost use Rattle.turn_steps.specs.Tells.{Holds};
+    ghost use Rattle.turnstile.specs.declared.view.Role.TheVariants.{Seat};
+    ghost use Rattle.turnstile.specs.Models.{SeatModel, is_in_turn};
+    ghost use Rattle.turnstile.specs.Tells.{Holds};
 
     ghost Value = { SeatModel T.Entry T.Setting };
 
@@ -44,9 +45,9 @@ pub struct Root<T: Chronicle> {
 impl<T: Chronicle> Model for Root<T> {
     ghost use Rattle.std.specs.Prelude.{◌≡◌, ◌≤◌, length};
     ghost use Rattle.std.specs.Option.{IsSome};
-    ghost use Rattle.turn_steps.specs.declared.view.Role.TheVariants.{Root};
-    ghost use Rattle.turn_steps.specs.Models.{RootModel, is_in_turn};
-    ghost use Rattle.turn_steps.specs.Tells.{Holds};
+    ghost use Rattle.turnstile.specs.declared.view.Role.TheVariants.{Root};
+    ghost use Rattle.turnstile.specs.Models.{RootModel, is_in_turn};
+    ghost use Rattle.turnstile.specs.Tells.{Holds};
 
     ghost Value = { RootModel T.Entry T.Setting };
 

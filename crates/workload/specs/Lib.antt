@@ -1,4 +1,9 @@
-pub mod Draws
+pub mod Checks
 pub mod Coflows
-pub mod Text
+pub mod Draft
+pub mod Draws
 pub mod Made
+pub mod Operands
+pub mod Script
+pub mod Text
+pub mod Words

@@ -2,11 +2,20 @@
 #![tactic(auto)]
 
 mod coflow;
+mod coflows;
+mod draft;
 mod drawing;
+mod fault;
 mod generator;
 pub mod laws;
+mod line;
 mod numbers;
+mod script;
+mod step;
+mod word;
 mod writing;
 
 pub use coflow::{MadeCoflow, MadeReducer};
+pub use fault::ScriptFault;
 pub use generator::{Made0, made};
+pub use script::{Asked, Round, Script, ScriptLine, read_script};

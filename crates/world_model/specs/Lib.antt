@@ -2,7 +2,9 @@ pub mod Credited
 pub mod Guards
 pub mod Kept
 pub mod Lawful
+pub mod Played
 pub mod Port
+pub mod Rows
 pub mod Sent
 pub mod Steps
 pub mod World

@@ -1,5 +1,5 @@
 use Rattle.std.proofs.Common.{◌≤◌, ℕ, slice_index, arith}
-use Rattle.slot_schedule.proofs.CostSums.{weight_small}
+use Rattle.schedule_model.proofs.CostSums.{weight_small}
 use Rattle.cert_check.proofs.CostSteps.{cost_fits, cost_more}
 use Rattle.cert_check.proofs.schedule.cost_of.Goals as goal
 

@@ -1,7 +1,7 @@
 use Rattle.std.proofs.Common.{◌≡◌, ◌<◌, length, ap, subst, sym, ◌∙◌, arith}
 use Rattle.std.specs.Prelude.{All, Some}
 use Rattle.coflow_units.specs.Completion.{completion}
-use Rattle.slot_schedule.specs.RunList.{IsKept, slots_in}
+use Rattle.schedule_model.specs.RunList.{IsKept, slots_in}
 use Rattle.schedule_model.proofs.ValidSteps.{valid_names}
 use Rattle.cert_check.specs.Places.{ends_in}
 use Rattle.cert_check.specs.Parts.{IsFirstFrom}

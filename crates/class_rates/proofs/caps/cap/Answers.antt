@@ -3,8 +3,8 @@ use Rattle.std.specs.Prelude.{All, sum_by}
 use Rattle.std.specs.List.{range_with_len}
 use Rattle.std.proofs.lemmas.List.Elements.{All-weaker}
 use Rattle.coflow_units.specs.declared.fabric.Flow.{Flow}
-use Rattle.slot_schedule.specs.Weights.{weight_of}
-use Rattle.slot_schedule.proofs.TimeCounts.{refill}
+use Rattle.schedule_model.specs.Weights.{weight_of}
+use Rattle.schedule_model.proofs.TimeCounts.{refill}
 use Rattle.class_rates.specs.Cap.{cap}
 use Rattle.class_rates.specs.Classes.{class_of}
 use Rattle.class_rates.specs.Tallies.{coflows_of, number_at}

@@ -1,5 +1,5 @@
 use Rattle.std.proofs.Common.{◌*◌, ◌≤◌, ◌<◌, ℕ, arith, get_or}
-use Rattle.slot_schedule.specs.Weights.{weight_of}
+use Rattle.schedule_model.specs.Weights.{weight_of}
 use Rattle.class_rates.proofs.CapSteps.{part_fits, product, small_at, sum_more, total_fits}
 use Rattle.class_rates.proofs.caps.weighted_sum.Goals as goal
 

@@ -2,7 +2,7 @@
 use Rattle.std.proofs.Common.{◌≡◌, ◌*◌, get_or}
 use Rattle.std.specs.Prelude.{sum_by}
 use Rattle.std.specs.List.{range_with_len}
-use Rattle.slot_schedule.specs.Weights.{weight_of}
+use Rattle.schedule_model.specs.Weights.{weight_of}
 use Rattle.class_rates.proofs.caps.weighted_sum.Given as goal
 
 abbrev pub invariant-loop-coflow : goal.invariant-loop-coflow

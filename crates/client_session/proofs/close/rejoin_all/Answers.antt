@@ -4,7 +4,7 @@ use Rattle.std.specs.Vec.Iter.{into_iter_items}
 use Rattle.std.proofs.lemmas.List.{map_push}
 use Rattle.journal.specs.declared.command.Entry.{Entry}
 use Rattle.turnstile.specs.Models.{handed_back, RootModel}
-use Rattle.master_desk.specs.declared.desk.Setting.{Setting}
+use Rattle.client_session.specs.declared.desk.Setting.{Setting}
 use Rattle.client_session.specs.Models.{SessionModel}
 use Rattle.client_session.specs.Returns.{AreReturned, IsReturned}
 use Rattle.client_session.proofs.Endings.{grown_on, returned_more, root_more}

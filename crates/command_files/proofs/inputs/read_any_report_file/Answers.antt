@@ -1,4 +1,4 @@
-use Rattle.command_status.specs.Faults.{IsStatusOfReport}
+use Rattle.command_files.specs.Faults.{IsStatusOfReport}
 use Rattle.command_files.proofs.ReportFacts.{any_report_cause}
 use Rattle.command_files.proofs.ShelfFacts.{passed_as}
 use Rattle.command_files.proofs.inputs.read_any_report_file.Goals as goal

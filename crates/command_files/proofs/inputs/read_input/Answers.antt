@@ -1,5 +1,5 @@
 use Rattle.std.specs.Prelude.{option_map}
-use Rattle.command_status.specs.Faults.{IsStatusOfTable}
+use Rattle.command_files.specs.Faults.{IsStatusOfTable}
 use Rattle.command_files.proofs.InputFacts.{both_out, from_table, from_trace, from_weights, input_is, table_given}
 use Rattle.command_files.proofs.ShelfFacts.{files_kept, passed_as, passed_on}
 use Rattle.command_files.proofs.inputs.read_input.Goals as goal

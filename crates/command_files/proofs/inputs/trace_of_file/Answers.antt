@@ -1,6 +1,6 @@
 use Rattle.std.proofs.Common.{◌≡◌}
 use Rattle.trace_reader.specs.Trace.{trace_of}
-use Rattle.command_status.specs.Faults.{IsStatusOfTrace}
+use Rattle.command_files.specs.Faults.{IsStatusOfTrace}
 use Rattle.command_files.proofs.ShelfFacts.{passed_as}
 use Rattle.command_files.proofs.TraceFacts.{trace_cause}
 use Rattle.command_files.proofs.inputs.trace_of_file.Goals as goal

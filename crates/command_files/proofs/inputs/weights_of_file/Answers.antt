@@ -3,7 +3,7 @@ use Rattle.std.specs.Prelude.{All, option_map}
 use Rattle.weights.specs.Weights.{weights_of}
 use Rattle.weights.proofs.Range.{weights_in_range}
 use Rattle.command_files.specs.WeightsCauses.{IsWeightsCause}
-use Rattle.command_status.specs.Faults.{IsStatusOfWeights}
+use Rattle.command_files.specs.Faults.{IsStatusOfWeights}
 use Rattle.command_files.specs.Inputs.{IsWeightsOf}
 use Rattle.command_files.proofs.ShelfFacts.{passed_as}
 use Rattle.command_files.proofs.WeightsFacts.{weights_cause, weights_read}

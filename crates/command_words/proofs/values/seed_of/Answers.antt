@@ -5,7 +5,7 @@ use Rattle.std.specs.Str.Parse.{ParsesUnsigned}
 use Rattle.text_fields.proofs.Digits.{digits_of_number, own}
 use Rattle.text_fields.specs.Numbers.{is_number, number}
 use Rattle.command_words.specs.Jobs.{seed_of}
-use Rattle.command_lines.specs.Line.{Text}
+use Rattle.command_words.specs.Line.{Text}
 use Rattle.command_words.proofs.values.seed_of.Goals as goal
 
 -- Digits are read exactly where their number is below 2^64.

@@ -4,7 +4,7 @@ use Rattle.std.specs.Prelude.{All}
 use Rattle.std.specs.Vec.Iter.{into_iter_items}
 use Rattle.std.proofs.lemmas.List.Elements.{All-head, All-push, All-same, All-tail}
 use Rattle.client_session.specs.Models.{HallModel, IsSessionOf}
-use Rattle.hall_callers.specs.declared.callers.Client.{Client}
+use Rattle.hall_games.specs.declared.callers.Client.{Client}
 use Rattle.hall_games.proofs.closing.sessions_of.Goals as goal
 
 abbrev OfHall : HallModel → Client → Type 0

@@ -3,7 +3,7 @@ use Rattle.std.proofs.Common.{◌+◌, ◌≤◌, length}
 use Rattle.std.specs.Prelude.{All, vec_capacity}
 use Rattle.std.specs.Vec.Iter.{into_iter_items}
 use Rattle.client_session.specs.Models.{IsSessionOf}
-use Rattle.hall_callers.specs.declared.callers.Client.{Client}
+use Rattle.hall_games.specs.declared.callers.Client.{Client}
 use Rattle.hall_games.proofs.closing.sessions_of.Given as goal
 
 abbrev pub invariant-loop-client : goal.invariant-loop-client

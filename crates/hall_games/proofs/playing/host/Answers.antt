@@ -3,8 +3,8 @@ use Rattle.std.proofs.Common.{◌++◌, length, take, drop, List}
 use Rattle.std.specs.Prelude.{All}
 use Rattle.std.proofs.lemmas.List.Elements.{All-append, All-drop, All-take, All-weaker}
 use Rattle.client_session.specs.Models.{HallModel, IsSessionOf}
-use Rattle.hall_callers.specs.Callers.{IsClientOf}
-use Rattle.hall_callers.specs.declared.callers.Client.{Client}
+use Rattle.hall_games.specs.Callers.{IsClientOf}
+use Rattle.hall_games.specs.declared.callers.Client.{Client}
 use Rattle.hall_games.proofs.playing.host.Goals as goal
 
 abbrev OfHall : HallModel → Client → Type 0

@@ -1,12 +1,12 @@
 use Rattle.std.proofs.Common.{◌≡◌, ◌<◌, ◌≤◌, Result, Err, length, slice_index_or, sym, subst, ap}
 use Rattle.outside.specs.Rose.{Rose}
 use Rattle.journal.specs.declared.opening.Opening.{Opening}
-use Rattle.slot_schedule.specs.RunList.{NamesFlows}
+use Rattle.schedule_model.specs.RunList.{NamesFlows}
 use Rattle.hall_plan.specs.Cuts.{HaveStopped}
 use Rattle.hall_plan.specs.Wires.{AreAllUnits, HaveMore}
 use Rattle.online_runs.specs.Deeds.{PublishesTooMany}
 use Rattle.online_runs.specs.Input.{IsOnlineInput, online_opening}
-use Rattle.online_progress.specs.declared.progress.Progress.{Progress}
+use Rattle.online_runs.specs.declared.progress.Progress.{Progress}
 use Rattle.hall_online.specs.declared.answer.OnlineFault.{OnlineFault}
 use Rattle.hall_online.specs.declared.answer.OnlineFault.TheVariants.{NoMemory, TooMany, WireFault}
 use Rattle.hall_online.specs.Serving.{EndsAs, HaveServed, IsOnlineBegun}

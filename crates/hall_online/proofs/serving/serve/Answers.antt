@@ -2,7 +2,7 @@ use Rattle.std.proofs.Common.{◌≡◌, ◌∙◌, ℕ, Result, Err, List, leng
 use Rattle.epochs.specs.Choice.{IsFirstAction}
 use Rattle.epochs.specs.Course.{after, Course}
 use Rattle.epochs.specs.declared.action.Action.{Action}
-use Rattle.online_progress.specs.declared.progress.Progress.{Progress}
+use Rattle.online_runs.specs.declared.progress.Progress.{Progress}
 use Rattle.epochs.specs.declared.action.Action.TheVariants.{Publish, Register, Run, Skip, TooMany, Withdraw}
 use Rattle.hall_online.specs.Serving.{ComesFirst}
 use Rattle.hall_online.proofs.HandedOn.{carried}

@@ -3,7 +3,7 @@ use Rattle.std.specs.Prelude.{All, max}
 use Rattle.indexmap.specs.IndexMap.{get}
 use Rattle.journal.specs.declared.opening.Opening.{Opening}
 use Rattle.live_text.specs.declared.value.EntryLine.{EntryLine}
-use Rattle.journal_claims.specs.Ids.{Finds}
+use Rattle.journal_audit.specs.Ids.{Finds}
 use Rattle.journal_audit.specs.Stated.{IsKnown}
 use Rattle.journal_audit.proofs.auditing.audit_commands.Goals as goal
 

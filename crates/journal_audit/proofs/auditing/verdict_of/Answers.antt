@@ -1,7 +1,7 @@
 use Rattle.std.proofs.Common.{◌≤◌, List, length, arith, subst, sym}
 use Rattle.coflow_units.specs.declared.plan.Run.{Run}
 use Rattle.cert_check.proofs.SlotSteps.{slots_count}
-use Rattle.slot_schedule.specs.RunList.{slots_in}
+use Rattle.schedule_model.specs.RunList.{slots_in}
 use Rattle.journal_audit.proofs.auditing.verdict_of.Goals as goal
 
 pub slots_in-requires : goal.slots_in-requires

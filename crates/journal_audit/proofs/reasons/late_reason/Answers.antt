@@ -7,15 +7,15 @@ use Rattle.journal.specs.Journal.{version_of}
 use Rattle.journal.specs.Runs.{slots_of as run_slots}
 use Rattle.journal.proofs.Sound.{legal_sound}
 use Rattle.live_text.specs.declared.value.PullLine.{PullLine}
-use Rattle.slot_schedule.specs.RunList.{IsKept, slots_in}
-use Rattle.journal_claims.specs.Parted.{IsFirstWrongOrder, IsPartedAt}
-use Rattle.journal_claims.specs.Pulls.{HasVersion, IsFirstWrongRank, IsFirstWrongVersion, real_rank}
-use Rattle.journal_claims.specs.Ranks.{AreRanks}
-use Rattle.journal_claims.specs.Orders.{orders_of}
+use Rattle.schedule_model.specs.RunList.{IsKept, slots_in}
+use Rattle.journal_audit.specs.Parted.{IsFirstWrongOrder, IsPartedAt}
+use Rattle.journal_audit.specs.Pulls.{HasVersion, IsFirstWrongRank, IsFirstWrongVersion, real_rank}
+use Rattle.journal_audit.specs.Ranks.{AreRanks}
+use Rattle.journal_audit.specs.Orders.{orders_of}
 use Rattle.journal_audit.specs.declared.verdict.AuditReason.TheVariants.{NoClose, NoOrder, NoPull, NoRun, NoVersion}
 use Rattle.journal_audit.proofs.FirstReasons.{before_close, before_orders, before_ranks, before_runs, before_versions, first_at, none_is_open, one_is_open}
 use Rattle.journal_audit.proofs.KeptRuns.{live_kept, told_kept}
-use Rattle.journal_replay.proofs.EntriesAnew.{replayed_schedule}
+use Rattle.journal_audit.proofs.EntriesAnew.{replayed_schedule}
 use Rattle.journal_audit.proofs.reasons.late_reason.Goals as goal
 
 pub returns-then-is_some : goal.returns-then-is_some

@@ -1,7 +1,7 @@
 use Rattle.std.proofs.Common.{◌+◌, ◌<◌, ℕ, length, arith, subst, sym, ◌∙◌}
 use Rattle.journal.specs.Journal.{version_of}
-use Rattle.journal_claims.specs.Parted.{IsFirstWrongOrder}
-use Rattle.journal_claims.specs.Orders.{orders_of}
+use Rattle.journal_audit.specs.Parted.{IsFirstWrongOrder}
+use Rattle.journal_audit.specs.Orders.{orders_of}
 use Rattle.journal_audit.proofs.FirstReasons.{none_wrong, one_too_many, orders_same, some_wrong}
 use Rattle.journal_audit.proofs.reasons.wrong_order.Goals as goal
 

@@ -1,6 +1,6 @@
 use Rattle.std.proofs.Common.{nat_eq}
 use Rattle.indexmap.specs.IndexMap.{get}
-use Rattle.journal_claims.proofs.KnownIds.{known_or_not}
+use Rattle.journal_audit.proofs.KnownIds.{known_or_not}
 use Rattle.journal_audit.proofs.stated.coflow_of.Goals as goal
 
 pub returns : goal.returns

@@ -1,7 +1,7 @@
 -- A client goes on line by line.
 use Rattle.std.proofs.Common.{◌≡◌, ◌<◌, length, get_or, ap, subst, ◌∙◌, arith, true, Vec}
 use Rattle.std.specs.declared.alloc.Global.{Global}
-use Rattle.script_reader.specs.declared.script.ScriptLine.{ScriptLine}
+use Rattle.workload.specs.declared.script.ScriptLine.{ScriptLine}
 use Rattle.live_rounds.specs.Parts.{Keeps}
 use Rattle.live_rounds.proofs.Steps.{comes_in_hall, plays_in_room, plays_next, plays_none}
 use Rattle.live_rounds.proofs.client.play.Goals as goal

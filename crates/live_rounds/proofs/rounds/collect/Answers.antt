@@ -3,7 +3,7 @@ use Rattle.std.proofs.Common.{◌≡◌, [], ◌∷◌, ◌++◌, Some, length, 
 use Rattle.std.specs.Vec.Iter.{into_iter_items}
 use Rattle.live_rounds.specs.declared.part.Part.{Part}
 use Rattle.live_rounds.specs.Parts.{stops_of}
-use Rattle.live_turns.specs.Stops.{first_stop}
+use Rattle.live_rounds.specs.Stops.{first_stop}
 use Rattle.live_rounds.proofs.Collecting.{none_more, pulls_more, stop_here}
 use Rattle.live_rounds.proofs.rounds.collect.Goals as goal
 

@@ -2,7 +2,7 @@
 use Rattle.std.proofs.Common.{◌≡◌, ◌++◌, None, length, vec_capacity}
 use Rattle.std.specs.Vec.Iter.{into_iter_items, into_iter_len}
 use Rattle.live_rounds.specs.Parts.{pulls_together, stops_of}
-use Rattle.live_turns.specs.Stops.{first_stop}
+use Rattle.live_rounds.specs.Stops.{first_stop}
 use Rattle.live_rounds.proofs.rounds.collect.Given as goal
 
 abbrev pub invariant-loop-part : goal.invariant-loop-part

@@ -2,10 +2,10 @@ use Rattle.std.proofs.Common.{◌≡◌, ◌∙◌, ap, subst, sym}
 use Rattle.journal.specs.declared.opening.Opening.{Opening}
 use Rattle.live_model.specs.Script.{limit_of}
 use Rattle.slot_runner.specs.Models.{first_runner, RunnerModel}
-use Rattle.round_serving.specs.Going.{IsGoing}
+use Rattle.live_serving.specs.Going.{IsGoing}
 use Rattle.flow_table.specs.Table.{TableFacts}
-use Rattle.hall_live.specs.Ends.{MayBeAsked}
-use Rattle.hall_live.specs.Followed.{AreBegun}
+use Rattle.live_serving.specs.Ends.{MayBeAsked}
+use Rattle.live_serving.specs.Followed.{AreBegun}
 use Rattle.live_serving.proofs.Begins.{begins}
 use Rattle.live_serving.proofs.beginning.begin.Goals as goal
 

@@ -1,6 +1,6 @@
 use Rattle.std.proofs.Common.{◌+◌, ap, arith, length, List}
-use Rattle.script_reader.specs.declared.script.ScriptLine.{ScriptLine}
-use Rattle.round_serving.proofs.FewEntries.{count_within, one_more}
+use Rattle.workload.specs.declared.script.ScriptLine.{ScriptLine}
+use Rattle.live_serving.proofs.FewEntries.{count_within, one_more}
 use Rattle.live_serving.proofs.commands.commands_of.Goals as goal
 
 pub overflow_cast-count : goal.overflow_cast-count

@@ -1,8 +1,8 @@
 use Rattle.std.proofs.Common.{List, subst}
 use Rattle.std.specs.Prelude.{IfOk}
 use Rattle.client_session.specs.Models.{DriverModel}
-use Rattle.live_rounds.specs.Answers.{PullDone}
-use Rattle.round_serving.specs.Going.{IsEnded}
+use Rattle.live_rounds.specs.declared.answer.PullDone.{PullDone}
+use Rattle.live_serving.specs.Going.{IsEnded}
 use Rattle.live_serving.specs.Served.{IsTold}
 use Rattle.live_serving.proofs.ending.end.Goals as goal
 

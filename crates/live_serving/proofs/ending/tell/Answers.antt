@@ -3,9 +3,9 @@ use Rattle.std.specs.Prelude.{All}
 use Rattle.std.specs.List.{range_with_len}
 use Rattle.flow_table.specs.Table.{TableFacts}
 use Rattle.journal.specs.declared.opening.Opening.{Opening}
-use Rattle.hall_live.specs.Ends.{pull_line}
-use Rattle.hall_live.specs.Followed.{pulls_for}
-use Rattle.live_rounds.specs.Answers.{PullDone}
+use Rattle.live_serving.specs.Ends.{pull_line}
+use Rattle.live_serving.specs.Followed.{pulls_for}
+use Rattle.live_rounds.specs.declared.answer.PullDone.{PullDone}
 use Rattle.live_serving.proofs.EndingRuns.{told_end}
 use Rattle.live_serving.proofs.ending.tell.Goals as goal
 

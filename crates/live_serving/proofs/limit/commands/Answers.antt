@@ -1,6 +1,6 @@
 use Rattle.std.proofs.Common.{ap, arith, length, List}
-use Rattle.script_reader.specs.declared.script.ScriptLine.{ScriptLine}
-use Rattle.round_serving.proofs.FewEntries.{one_more}
+use Rattle.workload.specs.declared.script.ScriptLine.{ScriptLine}
+use Rattle.live_serving.proofs.FewEntries.{one_more}
 use Rattle.live_serving.proofs.limit.commands.Goals as goal
 
 pub loop-round-preserved : goal.loop-round-preserved

@@ -1,6 +1,6 @@
 use Rattle.std.proofs.Common.{ap, arith, length, List, subst, sym}
 use Rattle.client_session.specs.Models.{SessionModel}
-use Rattle.round_serving.specs.Going.{IsGoing}
+use Rattle.live_serving.specs.Going.{IsGoing}
 use Rattle.live_serving.proofs.Whole.{ended_again, filled_again, none_served, whole_fault, whole_least, whole_served, whole_wires}
 use Rattle.live_serving.proofs.live.serve_live.Goals as goal
 

@@ -1,8 +1,8 @@
 use Rattle.std.proofs.Common.{ap, arith, length, List, Ok, Err, refl}
 use Rattle.std.proofs.lemmas.Result.{err_from_is_err_and}
-use Rattle.script_reader.specs.declared.script.Round.{Round}
+use Rattle.workload.specs.declared.script.Round.{Round}
 use Rattle.live_serving.proofs.EndingRuns.{all_done}
-use Rattle.round_serving.proofs.WiresOn.{served_first, served_on}
+use Rattle.live_serving.proofs.WiresOn.{served_first, served_on}
 use Rattle.live_serving.proofs.serving.play_all.Goals as goal
 
 pub loop-done-init : goal.loop-done-init

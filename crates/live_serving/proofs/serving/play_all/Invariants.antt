@@ -1,7 +1,7 @@
 -- so many rounds are done
 use Rattle.std.proofs.Common.{◌≡◌, length, Ok}
-use Rattle.round_serving.specs.Going.{IsGoing}
-use Rattle.round_serving.specs.Openings.{AreServed}
+use Rattle.live_serving.specs.Going.{IsGoing}
+use Rattle.live_serving.specs.Openings.{AreServed}
 use Rattle.live_serving.proofs.serving.play_all.Given as goal
 
 abbrev pub invariant-loop-done : goal.invariant-loop-done

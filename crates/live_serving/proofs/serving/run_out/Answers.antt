@@ -1,9 +1,9 @@
 use Rattle.std.proofs.Common.{Ok, Err, ap, refl, subst, sym, ◌∙◌}
 use Rattle.std.proofs.lemmas.Result.{err_from_is_err_and}
-use Rattle.round_serving.specs.Openings.{IsOpening}
+use Rattle.live_serving.specs.Openings.{IsOpening}
 use Rattle.live_serving.proofs.EndingRuns.{ending_filled, ending_on, ends, slots_fall}
-use Rattle.round_serving.proofs.OpeningSteps.{stop_in}
-use Rattle.round_serving.proofs.WiresOn.{served_err, served_first, served_on, served_still}
+use Rattle.live_serving.proofs.OpeningSteps.{stop_in}
+use Rattle.live_serving.proofs.WiresOn.{served_err, served_first, served_on, served_still}
 use Rattle.live_serving.proofs.serving.run_out.Goals as goal
 
 pub runs-init : goal.runs-init

@@ -2,8 +2,8 @@
 use Rattle.std.proofs.Common.{◌-◌, Ok}
 use Rattle.journal.specs.Fold.{state_of}
 use Rattle.journal.specs.State.{slot_end}
-use Rattle.round_serving.specs.Going.{IsEnding}
-use Rattle.round_serving.specs.Openings.{AreServed}
+use Rattle.live_serving.specs.Going.{IsEnding}
+use Rattle.live_serving.specs.Openings.{AreServed}
 use Rattle.live_serving.proofs.serving.run_out.Given as goal
 
 abbrev pub invariant-runs : goal.invariant-runs

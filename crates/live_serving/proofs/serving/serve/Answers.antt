@@ -1,9 +1,9 @@
 use Rattle.std.proofs.Common.{List, Ok, subst}
 use Rattle.std.specs.Prelude.{OnOk}
 use Rattle.std.proofs.lemmas.Result.{err_from_is_err_and}
-use Rattle.live_rounds.specs.Answers.{PullDone}
-use Rattle.round_serving.specs.Going.{IsEnded}
-use Rattle.round_serving.proofs.WiresOn.{served_on}
+use Rattle.live_rounds.specs.declared.answer.PullDone.{PullDone}
+use Rattle.live_serving.specs.Going.{IsEnded}
+use Rattle.live_serving.proofs.WiresOn.{served_on}
 use Rattle.live_serving.proofs.serving.serve.Goals as goal
 
 pub returns-clause-wires : goal.returns-clause-wires

@@ -1,7 +1,7 @@
 use Rattle.std.proofs.Common.{◌≡◌, ◌/◌, ◌^◌, ◌<◌, get_or, ◌∙◌, arith, rules}
 use Rattle.std.proofs.lemmas.List.{length-set}
-use Rattle.port_rows.specs.Board.{no_rank}
-use Rattle.port_rows.proofs.BitSteps.{set_in}
+use Rattle.matching.specs.Board.{no_rank}
+use Rattle.matching.proofs.BitSteps.{set_in}
 use Rattle.matching.proofs.FreeSteps.{free_next, taken_next}
 use Rattle.matching.proofs.pass.mark_free.Goals as goal
 

@@ -1,7 +1,7 @@
 use Rattle.std.proofs.Common.{◌+◌, ◌<◌, ◌∙◌, length, slice_index, take, arith, ap, sym, subst}
 use Rattle.std.specs.Prelude.{All, None, Some}
-use Rattle.slot_schedule.specs.RunList.{slots_in}
-use Rattle.slot_schedule.proofs.RunSlots.{after_first, run_at, run_count, run_fits, run_holds, run_more}
+use Rattle.schedule_model.specs.RunList.{slots_in}
+use Rattle.schedule_model.proofs.RunSlots.{after_first, run_at, run_count, run_fits, run_holds, run_more}
 use Rattle.online_check.specs.Early.{IsFirstEarly}
 use Rattle.online_check.proofs.WaitingSteps.{LeastWaiting, NoneEarly, first_early_at, none_more}
 use Rattle.online_check.proofs.early.first_early.Goals as goal

@@ -1,6 +1,6 @@
 -- the slots so far hold nobody early
 use Rattle.std.proofs.Common.{◌≡◌, length, slice_index, take}
-use Rattle.slot_schedule.specs.RunList.{slots_in}
+use Rattle.schedule_model.specs.RunList.{slots_in}
 use Rattle.online_check.proofs.WaitingSteps.{NoneEarly}
 use Rattle.online_check.proofs.early.first_early.Given as goal
 

@@ -2,7 +2,7 @@ use Rattle.std.proofs.Common.{◌≡◌, ℕ, ◌<◌, length, slice_index, ap, 
 use Rattle.coflow_units.specs.Completion.{completion}
 use Rattle.flow_table.specs.Table.{instance_of}
 use Rattle.cert_check.proofs.EndFacts.{cost_along, count_of, ends_are, valid_along}
-use Rattle.slot_schedule.specs.RunList.{IsKept, slots_in}
+use Rattle.schedule_model.specs.RunList.{IsKept, slots_in}
 use Rattle.schedule_model.proofs.ValidSteps.{valid_names}
 use Rattle.online_check.specs.Done.{ids_done, slots_done}
 use Rattle.online_check.proofs.DoneSteps.{count_slots, done_at, ends_along, runs_kept, told_end}

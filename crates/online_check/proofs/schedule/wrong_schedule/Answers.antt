@@ -2,7 +2,7 @@ use Rattle.std.proofs.Common.{◌≡◌, slice_index, ap, sym, subst, arith}
 use Rattle.std.specs.Prelude.{Some}
 use Rattle.flow_table.specs.Table.{instance_of}
 use Rattle.cert_check.proofs.EndFacts.{fault_along, valid_along}
-use Rattle.slot_schedule.specs.RunList.{IsKept, slots_in}
+use Rattle.schedule_model.specs.RunList.{IsKept, slots_in}
 use Rattle.schedule_model.proofs.ValidSteps.{valid_names}
 use Rattle.online_check.specs.Early.{IsFirstEarly}
 use Rattle.online_check.specs.Parts.{IsFirstFrom}

@@ -1,7 +1,7 @@
 use Rattle.std.proofs.Common.{◌+◌, ◌≤◌, ◌∙◌, arith, ap, min, refl, subst, sym}
 use Rattle.coflow_units.specs.Schedule.{IsClear}
-use Rattle.slot_schedule.specs.RunList.{slots_in}
-use Rattle.slot_schedule.proofs.RunSlots.{count_within, run_count}
+use Rattle.schedule_model.specs.RunList.{slots_in}
+use Rattle.schedule_model.proofs.RunSlots.{count_within, run_count}
 use Rattle.picture.specs.Bars.{IsBars, IsRow, Serves, bar_count}
 use Rattle.picture.specs.Drawing.{IsDrawn, row_at}
 use Rattle.picture.proofs.Keeping.{few_bars, keeps_nothing, many_bars}

@@ -1,6 +1,6 @@
 -- the canvas keeps the bars of the slots so far
 use Rattle.std.proofs.Common.{◌≡◌, ◌<◌, ℕ, List, length, min, take}
-use Rattle.slot_schedule.specs.RunList.{slots_in}
+use Rattle.schedule_model.specs.RunList.{slots_in}
 use Rattle.picture.specs.declared.value.Bar.{Bar}
 use Rattle.picture.specs.Bars.{IsRow, Serves}
 use Rattle.picture.specs.Drawing.{Keeps, row_at}

@@ -1,15 +1,15 @@
 use Rattle.std.proofs.Common.{ap, inl, subst, Err}
-use Rattle.command_lines.specs.Line.{texts}
+use Rattle.command_words.specs.Line.{texts}
 use Rattle.command_files.proofs.SinkFacts.{appended, begun}
-use Rattle.command_status.specs.declared.status.Status.TheVariants as status
+use Rattle.command_files.specs.declared.status.Status.TheVariants as status
 use Rattle.command_files.specs.Shelves.{OfBoth, ReadsOut}
 use Rattle.command_files.specs.Turns.{FilesInTurn}
 use Rattle.picture_cli.specs.Picture.{check_of}
 use Rattle.picture_cli.specs.Status.{as_check}
-use Rattle.picture_words.specs.Words.{PictureSaid, said_by}
+use Rattle.picture_cli.specs.Words.{PictureSaid, said_by}
 use Rattle.picture_cli.proofs.AnswerFacts.{ends_at_files, ends_at_verdict, ends_drawn, past_in_turn}
 use Rattle.picture_cli.proofs.PictureFacts.{cause_by, draws_by, verdict_calls}
-use Rattle.picture_words.proofs.WordFacts.{one_words}
+use Rattle.picture_cli.proofs.WordFacts.{one_words}
 use Rattle.picture_cli.proofs.command.sincronia_picture.Goals as goal
 
 pub returns-in-Err-Usage-clause-usage : goal.returns-in-Err-Usage-clause-usage

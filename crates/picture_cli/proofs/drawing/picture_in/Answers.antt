@@ -1,12 +1,12 @@
 use Rattle.std.proofs.Common.{◌≡◌, ◌≤◌, ◌∙◌, ℕ, List, length, min, refl, ap, sym, subst, arith}
 use Rattle.coflow_units.specs.declared.plan.Run.{Run}
 use Rattle.cert_check.proofs.SlotSteps.{runs_kept}
-use Rattle.slot_schedule.specs.RunList.{IsKept, slots_in}
+use Rattle.schedule_model.specs.RunList.{IsKept, slots_in}
 use Rattle.picture.specs.declared.value.Bar.{Bar}
 use Rattle.picture.specs.declared.value.TheConstants.{MAX_BARS}
 use Rattle.picture.specs.Bars.{bar_count}
-use Rattle.picture_parts.specs.Heaviest.{IsHeaviest}
-use Rattle.picture_words.specs.Words.{said_by}
+use Rattle.picture.specs.Heaviest.{IsHeaviest}
+use Rattle.picture_cli.specs.Words.{said_by}
 use Rattle.picture_cli.proofs.PictureFacts.{bars_along, bars_inside, clear_along, cost_small, curve_along, names_along, names_flows, slots_short, window_same}
 use Rattle.picture_cli.proofs.drawing.picture_in.Goals as goal
 

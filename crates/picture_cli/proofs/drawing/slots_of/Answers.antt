@@ -1,5 +1,5 @@
 use Rattle.std.proofs.Common.{◌+◌, arith}
-use Rattle.slot_schedule.proofs.RunSlots.{count_within, run_count}
+use Rattle.schedule_model.proofs.RunSlots.{count_within, run_count}
 use Rattle.picture_cli.proofs.drawing.slots_of.Goals as goal
 
 pub overflow_add-slots : goal.overflow_add-slots

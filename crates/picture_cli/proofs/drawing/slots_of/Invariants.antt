@@ -1,6 +1,6 @@
 -- the slots of the runs so far
 use Rattle.std.proofs.Common.{◌≡◌, length, take}
-use Rattle.slot_schedule.specs.RunList.{slots_in}
+use Rattle.schedule_model.specs.RunList.{slots_in}
 use Rattle.picture_cli.proofs.drawing.slots_of.Given as goal
 
 abbrev pub invariant-loop-run : goal.invariant-loop-run

@@ -6,7 +6,7 @@ use Rattle.command_files.proofs.ShelfFacts.{files_kept, passed_on}
 use Rattle.command_files.proofs.InputTurns.{counts_on}
 use Rattle.command_files.proofs.FileTurns.{input_in_turn, report_in_turn}
 use Rattle.picture_cli.specs.Picture.{check_of}
-use Rattle.picture_words.specs.Words.{said_by}
+use Rattle.picture_cli.specs.Words.{said_by}
 use Rattle.picture_cli.proofs.files.read_files.Goals as goal
 
 pub returns-in_err-input-clause-cause : goal.returns-in_err-input-clause-cause

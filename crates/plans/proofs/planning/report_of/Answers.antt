@@ -4,7 +4,7 @@ use Rattle.std.specs.List.{range_with_len}
 use Rattle.coflow_units.specs.declared.fabric.Flow.{Flow}
 use Rattle.coflow_units.specs.Completion.{cost}
 use Rattle.coflow_units.specs.Schedule.{IsRuns}
-use Rattle.slot_schedule.specs.RunList.{pairs_of}
+use Rattle.schedule_model.specs.RunList.{pairs_of}
 use Rattle.coflow_units.specs.declared.plan.Place.{Place}
 use Rattle.plans.specs.PlanReport.{coflows_of}
 use Rattle.plans.proofs.CertificateFacts.{each_place_within}

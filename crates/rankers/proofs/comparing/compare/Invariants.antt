@@ -2,8 +2,8 @@
 use Rattle.std.proofs.Common.{◌≡◌, ◌+◌, ◌<◌, List, ◌++◌, drop, length, take}
 use Rattle.std.specs.Prelude.{All, map}
 use Rattle.flow_table.specs.Table.{instance_of}
-use Rattle.ranker_rounds.specs.declared.row.Row.{Row}
-use Rattle.ranker_rounds.specs.Rounds.{IsRowsFrom}
+use Rattle.rankers.specs.declared.row.Row.{Row}
+use Rattle.rankers.specs.Rounds.{IsRowsFrom}
 use Rattle.rankers.proofs.comparing.compare.Given as goal
 
 abbrev pub invariant-rankers : goal.invariant-rankers

@@ -2,12 +2,12 @@ use Rattle.std.proofs.Common.{◌+◌, ◌≤◌, ◌<◌, ◌∙◌, ℕ, List,
 use Rattle.std.specs.Prelude.{All}
 use Rattle.coflow_units.specs.declared.fabric.Side.TheVariants.{Ingress, Egress}
 use Rattle.coflow_units.specs.Schedule.{IsClear}
-use Rattle.slot_schedule.specs.RunList.{NamesFlows, slots_in}
+use Rattle.schedule_model.specs.RunList.{NamesFlows, slots_in}
 use Rattle.schedule_model.specs.Repeat.{Repeats}
 use Rattle.schedule_model.specs.Fault.{IsFirstClash}
 use Rattle.schedule_model.proofs.ClashSteps.{clear_slot, first_egress_clash, first_ingress_clash}
-use Rattle.slot_schedule.proofs.RunSlots.{after_first, all_runs, run_ascends, run_at, run_count, run_each, run_fits, run_holds, run_some}
-use Rattle.slot_schedule.proofs.TimeCounts.{refill}
+use Rattle.schedule_model.proofs.RunSlots.{after_first, all_runs, run_ascends, run_at, run_count, run_each, run_fits, run_holds, run_some}
+use Rattle.schedule_model.proofs.TimeCounts.{refill}
 use Rattle.schedule_model.proofs.clashes.find_clash.Goals as goal
 
 pub overflow_add-slot : goal.overflow_add-slot

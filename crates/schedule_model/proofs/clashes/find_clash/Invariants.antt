@@ -2,7 +2,7 @@
 use Rattle.std.proofs.Common.{◌≡◌, ◌≤◌, length, take}
 use Rattle.std.specs.Prelude.{All}
 use Rattle.coflow_units.specs.Schedule.{IsClear}
-use Rattle.slot_schedule.specs.RunList.{slots_in}
+use Rattle.schedule_model.specs.RunList.{slots_in}
 use Rattle.schedule_model.proofs.clashes.find_clash.Given as goal
 
 abbrev pub invariant-loop-run : goal.invariant-loop-run

@@ -1,5 +1,5 @@
 use Rattle.std.proofs.Common.{arith, get_or}
-use Rattle.slot_schedule.proofs.TimeCounts.{add_fits, add_more}
+use Rattle.schedule_model.proofs.TimeCounts.{add_fits, add_more}
 use Rattle.schedule_model.proofs.counts.add_run.Goals as goal
 
 pub overflow_add-counts : goal.overflow_add-counts

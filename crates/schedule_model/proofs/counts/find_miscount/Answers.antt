@@ -1,9 +1,9 @@
 use Rattle.std.proofs.Common.{◌≡◌, ◌+◌, ◌<◌, ◌∙◌, ℕ, cond, length, get_or, take, arith, ap, sym, subst, List}
 use Rattle.std.specs.Prelude.{All}
 use Rattle.coflow_units.specs.Schedule.{IsClear, holds, times}
-use Rattle.slot_schedule.specs.RunList.{slots_in}
-use Rattle.slot_schedule.proofs.RunSlots.{run_holds}
-use Rattle.slot_schedule.proofs.TimeCounts.{refill, times_fit, times_more}
+use Rattle.schedule_model.specs.RunList.{slots_in}
+use Rattle.schedule_model.proofs.RunSlots.{run_holds}
+use Rattle.schedule_model.proofs.TimeCounts.{refill, times_fit, times_more}
 use Rattle.schedule_model.proofs.counts.find_miscount.Goals as goal
 
 pub add_run-requires-clause-names : goal.add_run-requires-clause-names

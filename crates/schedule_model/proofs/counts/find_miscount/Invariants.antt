@@ -1,7 +1,7 @@
 -- the counts are those of the slots so far
 use Rattle.std.proofs.Common.{◌≡◌, ℕ, get_or, length, take}
 use Rattle.coflow_units.specs.Schedule.{times}
-use Rattle.slot_schedule.specs.RunList.{slots_in}
+use Rattle.schedule_model.specs.RunList.{slots_in}
 use Rattle.schedule_model.proofs.counts.find_miscount.Given as goal
 
 abbrev pub invariant-loop-run : goal.invariant-loop-run

@@ -3,9 +3,9 @@ use Rattle.std.specs.Prelude.{All, IsTrue}
 use Rattle.std.proofs.lemmas.Bool.{false≢true}
 use Rattle.coflow_units.specs.Patient.{IsPatient, IsServedOrWaits}
 use Rattle.coflow_units.specs.Schedule.{holds, times}
-use Rattle.slot_schedule.specs.RunList.{NamesFlows, slots_in}
-use Rattle.slot_schedule.proofs.RunSlots.{after_first, all_runs, run_at, run_holds, run_more}
-use Rattle.slot_schedule.proofs.TimeCounts.{refill, times_fit, times_more}
+use Rattle.schedule_model.specs.RunList.{NamesFlows, slots_in}
+use Rattle.schedule_model.proofs.RunSlots.{after_first, all_runs, run_at, run_holds, run_more}
+use Rattle.schedule_model.proofs.TimeCounts.{refill, times_fit, times_more}
 use Rattle.schedule_model.proofs.WaitSteps.{patient_here, patient_more}
 use Rattle.schedule_model.proofs.patience.is_patient.Goals as goal
 

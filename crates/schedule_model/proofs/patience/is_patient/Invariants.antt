@@ -2,7 +2,7 @@
 use Rattle.std.proofs.Common.{◌≡◌, ℕ, get_or, length, take}
 use Rattle.coflow_units.specs.Patient.{IsPatient}
 use Rattle.coflow_units.specs.Schedule.{times}
-use Rattle.slot_schedule.specs.RunList.{slots_in}
+use Rattle.schedule_model.specs.RunList.{slots_in}
 use Rattle.schedule_model.proofs.patience.is_patient.Given as goal
 
 abbrev pub invariant-loop-run : goal.invariant-loop-run

@@ -1,8 +1,8 @@
 use Rattle.std.proofs.Common.{◌+◌, ◌<◌, ◌∙◌, length, take, arith, ap, sym, subst}
 use Rattle.std.specs.Prelude.{All, Contains}
-use Rattle.slot_schedule.specs.RunList.{slots_in}
+use Rattle.schedule_model.specs.RunList.{slots_in}
 use Rattle.schedule_model.specs.Fault.{IsFirstNoFlow}
-use Rattle.slot_schedule.proofs.RunSlots.{after_first, run_at, run_count, run_each, run_fits}
+use Rattle.schedule_model.proofs.RunSlots.{after_first, run_at, run_count, run_each, run_fits}
 use Rattle.schedule_model.proofs.Standing.{first_no_flow}
 use Rattle.schedule_model.proofs.strangers.find_stranger.Goals as goal
 

@@ -1,6 +1,6 @@
 -- the slots so far, whose numbers are all flows'
 use Rattle.std.proofs.Common.{◌≡◌, length, take}
-use Rattle.slot_schedule.specs.RunList.{NamesFlows, slots_in}
+use Rattle.schedule_model.specs.RunList.{NamesFlows, slots_in}
 use Rattle.schedule_model.proofs.strangers.find_stranger.Given as goal
 
 abbrev pub invariant-loop-run : goal.invariant-loop-run

@@ -2,7 +2,7 @@ use Rattle.std.proofs.Common.{subst}
 use Rattle.std.specs.Prelude.{All, ◌<◌}
 use Rattle.std.proofs.lemmas.List.{take_all}
 use Rattle.std.proofs.lemmas.List.Elements.{All-more, Contains-get_or}
-use Rattle.slot_schedule.proofs.Ascending.{least_from}
+use Rattle.schedule_model.proofs.Ascending.{least_from}
 use Rattle.schedule_model.proofs.strangers.first_from.Goals as goal
 
 pub returns-then-number-limit : goal.returns-then-number-limit

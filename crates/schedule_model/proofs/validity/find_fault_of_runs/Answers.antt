@@ -1,5 +1,5 @@
 use Rattle.std.specs.Prelude.{Some}
-use Rattle.slot_schedule.specs.RunList.{slots_in}
+use Rattle.schedule_model.specs.RunList.{slots_in}
 use Rattle.schedule_model.specs.declared.fault.ScheduleFault.TheVariants.{NoFlow, Clash}
 use Rattle.schedule_model.proofs.ValidSteps.{none_where_valid}
 use Rattle.schedule_model.proofs.validity.find_fault_of_runs.Goals as goal

@@ -1,22 +1,22 @@
 use Rattle.std.proofs.Common.{◌≡◌, ap, refl, subst, sym, Err}
 use Rattle.std.specs.Prelude.{map}
 use Rattle.command_words.specs.Jobs.Job.{compare_job}
-use Rattle.command_lines.specs.Line.{texts}
+use Rattle.command_words.specs.Line.{texts}
 use Rattle.command_words.specs.Words.{Said, said_by}
-use Rattle.command_status.specs.declared.status.Status.TheVariants.{WriteFault}
-use Rattle.served_plans.specs.Sent.{SendsAll}
-use Rattle.command_outcomes.specs.Outcome.{HasText}
-use Rattle.command_outcomes.specs.Written.{Sends, Stops}
-use Rattle.command_outcomes.proofs.BenchFacts.{cause_has_no_text, job_of, outcome_has_text}
-use Rattle.command_outcomes.proofs.CompleteFacts.{good_files_end}
-use Rattle.command_outcomes.proofs.FirstFacts.{first_ends, text_ends}
-use Rattle.command_outcomes.proofs.FewOrders.{few_for}
-use Rattle.command_outcomes.proofs.OutcomeFacts.{bad_report_given, bad_script_given, limit_given}
+use Rattle.command_files.specs.declared.status.Status.TheVariants.{WriteFault}
+use Rattle.hall_plan.specs.Sent.{SendsAll}
+use Rattle.sincronia_cli.specs.Outcome.{HasText}
+use Rattle.sincronia_cli.specs.Written.{Sends, Stops}
+use Rattle.sincronia_cli.proofs.BenchFacts.{cause_has_no_text, job_of, outcome_has_text}
+use Rattle.sincronia_cli.proofs.CompleteFacts.{good_files_end}
+use Rattle.sincronia_cli.proofs.FirstFacts.{first_ends, text_ends}
+use Rattle.sincronia_cli.proofs.FewOrders.{few_for}
+use Rattle.sincronia_cli.proofs.OutcomeFacts.{bad_report_given, bad_script_given, limit_given}
 use Rattle.command_files.proofs.SinkFacts.{begun}
-use Rattle.command_outcomes.proofs.ServingFacts.{none_failed, past_by_wire, sent_by, unsent_for, wire_failed}
-use Rattle.command_outcomes.proofs.TurnFacts.{done_by, out_for, text_in_turn, turn_for}
-use Rattle.command_outcomes.proofs.WrittenFacts.{classes_written, comparison_written, live_written, made_written, no_written}
-use Rattle.command_outcomes.proofs.WrittenFacts.{online_written, plan_written, sound_written, yes_written}
+use Rattle.sincronia_cli.proofs.ServingFacts.{none_failed, past_by_wire, sent_by, unsent_for, wire_failed}
+use Rattle.sincronia_cli.proofs.TurnFacts.{done_by, out_for, text_in_turn, turn_for}
+use Rattle.sincronia_cli.proofs.WrittenFacts.{classes_written, comparison_written, live_written, made_written, no_written}
+use Rattle.sincronia_cli.proofs.WrittenFacts.{online_written, plan_written, sound_written, yes_written}
 use Rattle.command_files.specs.Ends.{IsWriteFault}
 use Rattle.sincronia_cli.proofs.FilesCauses.{bad_trace_given, bad_weights_given, no_write_fault, read_fault_given, usage_given}
 use Rattle.sincronia_cli.proofs.command.sincronia.Goals as goal

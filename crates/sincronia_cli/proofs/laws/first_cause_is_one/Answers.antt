@@ -1,4 +1,4 @@
-use Rattle.command_outcomes.proofs.FirstFacts.{first_cause_one}
+use Rattle.sincronia_cli.proofs.FirstFacts.{first_cause_one}
 use Rattle.sincronia_cli.proofs.laws.first_cause_is_one.Goals as goal
 
 pub returns : goal.returns

@@ -3,11 +3,11 @@ use Rattle.std.proofs.Common.{◌≡◌, map, sym, ap, ◌∙◌, subst}
 use Rattle.std.specs.Prelude.{All}
 use Rattle.std.proofs.lemmas.List.Elements.{All-map}
 use Rattle.rank_board.specs.Models.{BoardModel, SeatModel}
-use Rattle.master_desk.specs.declared.desk.Setting.{Setting}
+use Rattle.client_session.specs.declared.desk.Setting.{Setting}
 use Rattle.client_session.specs.Closes.{IsClosed}
-use Rattle.master_desk.specs.Desk.{DeskModel, IsSeen}
+use Rattle.client_session.specs.Desk.{DeskModel, IsSeen}
 use Rattle.client_session.specs.Models.{ClosingModel, SessionModel}
-use Rattle.master_desk.specs.Desk.{WasMet}
+use Rattle.client_session.specs.Desk.{WasMet}
 use Rattle.client_session.proofs.Endings.{all_back, hall_closed}
 use Rattle.client_session.proofs.close.Closing.again.Goals as goal
 

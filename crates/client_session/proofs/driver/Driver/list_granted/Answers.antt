@@ -1,7 +1,7 @@
 -- A run has at most a flow for each port.
 use Rattle.std.proofs.Common.{◌≡◌, ℕ, List, Some, length, ap, ◌∙◌, arith}
-use Rattle.master_desk.specs.Grants.{all_granted}
-use Rattle.master_desk.proofs.FewGranted.{few_granted}
+use Rattle.client_session.specs.Grants.{all_granted}
+use Rattle.client_session.proofs.FewGranted.{few_granted}
 use Rattle.client_session.specs.Models.{DriverModel}
 use Rattle.client_session.proofs.driver.Driver.list_granted.Goals as goal
 

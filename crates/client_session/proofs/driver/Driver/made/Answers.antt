@@ -1,6 +1,6 @@
 -- The driver keeps that the journal which it has seen is legal.
 use Rattle.std.proofs.Common.{ap, ◌∙◌, subst}
-use Rattle.master_desk.specs.Desk.{IsSeen}
+use Rattle.client_session.specs.Desk.{IsSeen}
 use Rattle.client_session.specs.Models.{DriverModel}
 use Rattle.client_session.proofs.driver.Driver.made.Goals as goal
 

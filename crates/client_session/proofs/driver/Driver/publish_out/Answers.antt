@@ -5,10 +5,11 @@ use Rattle.std.proofs.lemmas.Bool.{ltb-false, ltb-true}
 use Rattle.journal.specs.Answer.{room}
 use Rattle.turnstile.specs.Models.{RootModel}
 use Rattle.journal.specs.declared.command.Entry.{Entry}
-use Rattle.master_desk.specs.declared.desk.Setting.{Setting}
-use Rattle.master_desk.specs.Answers.{Answer, answer_of, makes_version}
-use Rattle.master_desk.specs.Desk.{IsSeen}
-use Rattle.master_desk.specs.Grants.{TellsGrants}
+use Rattle.client_session.specs.declared.desk.Setting.{Setting}
+use Rattle.client_session.specs.declared.receipt.Answer.{Answer}
+use Rattle.client_session.specs.Answers.{answer_of, makes_version}
+use Rattle.client_session.specs.Desk.{IsSeen}
+use Rattle.client_session.specs.Grants.{TellsGrants}
 use Rattle.client_session.specs.Drivers.{HandsOut, IsDriverTurn}
 use Rattle.client_session.specs.Models.{DriverModel}
 use Rattle.client_session.proofs.Driving.{driver_kept, driver_model, driver_turned, none_left, numbers_after, root_left, root_may_leave}

@@ -1,6 +1,6 @@
 -- The driver of a new hall keeps that nothing is granted.
 use Rattle.std.proofs.Common.{subst}
-use Rattle.master_desk.specs.Grants.{TellsGrants}
+use Rattle.client_session.specs.Grants.{TellsGrants}
 use Rattle.client_session.proofs.Beginning.{first_driver}
 use Rattle.client_session.proofs.hall.Hall.begin.Goals as goal
 

@@ -3,7 +3,7 @@ use Rattle.std.proofs.Common.{◌≡◌, ◌+◌, ap, ◌∙◌, refl, arith}
 use Rattle.turnstile.specs.Models.{RootModel, SeatModel as TurnSeatModel}
 use Rattle.journal.specs.declared.command.Entry.{Entry}
 use Rattle.rank_board.specs.Models.{new_seat, SeatModel}
-use Rattle.master_desk.specs.declared.desk.Setting.{Setting}
+use Rattle.client_session.specs.declared.desk.Setting.{Setting}
 use Rattle.client_session.specs.Models.{DriverModel}
 use Rattle.client_session.proofs.Beginning.{new_session, nothing_own, one_more}
 use Rattle.client_session.proofs.hall.Hall.session.Goals as goal

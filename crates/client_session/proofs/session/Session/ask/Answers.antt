@@ -3,10 +3,10 @@ use Rattle.std.proofs.Common.{◌≡◌, ◌-◌, ◌<◌, ◌≤◌, sym, ap, �
 use Rattle.std.specs.Prelude.{unwrap_or, vec_capacity}
 use Rattle.std.proofs.lemmas.Bool.{ltb-false}
 use Rattle.turnstile.specs.Histories.{GoesOn}
-use Rattle.master_desk.specs.declared.desk.Setting.{Setting}
+use Rattle.client_session.specs.declared.desk.Setting.{Setting}
 use Rattle.client_session.specs.Models.{SessionModel}
-use Rattle.master_desk.specs.Answers.{Done, Full}
-use Rattle.master_desk.specs.Desk.{IsSeen}
+use Rattle.client_session.specs.declared.receipt.Answer.TheVariants.{Done, Full}
+use Rattle.client_session.specs.Desk.{IsSeen}
 use Rattle.client_session.specs.Turns.{IsTurn}
 use Rattle.client_session.proofs.Turning.{left_is, may_leave, model, session_answered, session_refused, turn_done, turn_full, who_of}
 use Rattle.client_session.proofs.session.Session.ask.Goals as goal

@@ -3,10 +3,10 @@ use Rattle.std.proofs.Common.{◌≡◌, List, length, sym, ap, ◌∙◌, subst
 use Rattle.std.specs.Prelude.{unwrap_or}
 use Rattle.std.proofs.lemmas.List.{length-map}
 use Rattle.rank_board.specs.Models.{pulled}
-use Rattle.master_desk.specs.Answers.{Receipt}
-use Rattle.master_desk.specs.declared.desk.Setting.{Setting}
+use Rattle.client_session.specs.declared.receipt.Receipt.{Receipt}
+use Rattle.client_session.specs.declared.desk.Setting.{Setting}
 use Rattle.client_session.specs.Models.{HallModel, SessionModel}
-use Rattle.master_desk.specs.Own.{own_entries, receipt_of}
+use Rattle.client_session.specs.Own.{own_entries, receipt_of}
 use Rattle.client_session.proofs.Pulling.{coflows_pulled, notes_one, pass_pulled}
 use Rattle.client_session.proofs.session.Session.pull.Goals as goal
 

@@ -4,7 +4,7 @@ use Rattle.journal.specs.Fold.{state_of}
 use Rattle.journal.specs.Journal.{order_in, version_of}
 use Rattle.master_core.specs.Master.{MasterFacts}
 use Rattle.journal.specs.Line.{order}
-use Rattle.coflow_orders.specs.Published.{ranked}
+use Rattle.master_core.specs.Published.{ranked}
 use Rattle.journal.proofs.Growth.{version_counted}
 use Rattle.master_core.proofs.master.Master.places.Goals as goal
 

@@ -3,13 +3,13 @@ use Rattle.std.proofs.Common.{◌∙◌, ◌+◌, List, Option, None, ap, arith,
 use Rattle.std.specs.Prelude.{slice_index}
 use Rattle.coflow_units.specs.declared.fabric.Flow.{Flow}
 use Rattle.coflow_units.specs.Flows.{units_of}
-use Rattle.grant_ledger.specs.Accounts.{Accounts}
+use Rattle.master_core.specs.Accounts.{Accounts}
 use Rattle.journal.specs.declared.command.Command.TheVariants.{Close}
 use Rattle.journal.specs.declared.command.Reply.TheVariants.{Closed, NoneOpen}
 use Rattle.journal.specs.State.{Run}
 use Rattle.journal.specs.Fold.{closed}
-use Rattle.open_runs.specs.OpenRun.{KeptRun, kept_credit}
-use Rattle.coflow_orders.specs.Waiting.{line_of}
+use Rattle.master_core.specs.OpenRun.{KeptRun, kept_credit}
+use Rattle.master_core.specs.Waiting.{line_of}
 use Rattle.master_core.specs.Standing.{Tells, TellsRun}
 use Rattle.master_core.proofs.CloseTells.{close_none, close_some, credit_told, fits_kept, grants_kept, ingress_low, open_of, still_owed}
 use Rattle.master_core.proofs.OwingTells.{none_told}

@@ -9,9 +9,9 @@ use Rattle.journal.specs.State.{Run, slot_end}
 use Rattle.journal.specs.Runs.{granted, slots_for}
 use Rattle.journal.specs.Answer.{on_run, opened}
 use Rattle.matching.specs.Matching.{listed_in}
-use Rattle.open_runs.specs.OpenRun.{FitsOpen, IsBegun, KeptRun}
+use Rattle.master_core.specs.OpenRun.{FitsOpen, IsBegun, KeptRun}
 use Rattle.master_core.specs.Standing.{TellsRun}
-use Rattle.coflow_orders.specs.Waiting.{line_of}
+use Rattle.master_core.specs.Waiting.{line_of}
 use Rattle.master_core.proofs.OpenTells.{begun_fits, begun_told, kept_granted, line_told, open_kept}
 use Rattle.master_core.proofs.OwingTells.{granted_owes, none_told, open_free, open_owed, run_told, ungranted_none}
 use Rattle.master_core.proofs.TellSteps.{fits_runs, follows}

@@ -8,7 +8,7 @@ use Rattle.journal.specs.declared.command.Reply.TheVariants.{StillOpen, Version}
 use Rattle.journal.specs.State.{Run, what_is_left}
 use Rattle.journal.specs.Line.{version}
 use Rattle.journal.specs.Answer.{on_run}
-use Rattle.coflow_orders.specs.Published.{IsLeft}
+use Rattle.master_core.specs.Published.{IsLeft}
 use Rattle.master_core.proofs.OwingTells.{none_told, run_told}
 use Rattle.master_core.proofs.PublishTells.{left_told, owed_within, published_told}
 use Rattle.master_core.proofs.TellSteps.{fits_orders, follows, stale_run}

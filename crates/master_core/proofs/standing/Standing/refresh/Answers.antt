@@ -2,7 +2,7 @@
 use Rattle.std.proofs.Common.{◌∙◌, ℕ, List, subst}
 use Rattle.std.specs.Prelude.{slice_index}
 use Rattle.matching.specs.Matching.{IsSettled}
-use Rattle.coflow_orders.specs.Waiting.{line_of}
+use Rattle.master_core.specs.Waiting.{line_of}
 use Rattle.master_core.proofs.TellSteps.{fits_granted}
 use Rattle.master_core.proofs.standing.Standing.refresh.Goals as goal
 

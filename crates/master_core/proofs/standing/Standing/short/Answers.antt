@@ -1,10 +1,10 @@
 use Rattle.std.proofs.Common.{◌∙◌, ℕ, Option, ap, subst, sym}
 use Rattle.journal.specs.declared.command.Command.TheVariants.{Short}
 use Rattle.journal.specs.declared.command.Reply.TheVariants.{NotGranted, Noted}
-use Rattle.open_runs.specs.OpenRun.{FitsOpen, KeptRun, with_note}
+use Rattle.master_core.specs.OpenRun.{FitsOpen, KeptRun, with_note}
 use Rattle.master_core.specs.Standing.{TellsRun}
 use Rattle.journal.specs.Fold.{noted_in}
-use Rattle.open_runs.proofs.NoteSteps.{fits_noted, with_none}
+use Rattle.master_core.proofs.NoteSteps.{fits_noted, with_none}
 use Rattle.master_core.proofs.RunTells.{answer_noted, answer_not_granted, run_noted}
 use Rattle.master_core.proofs.TellSteps.{fits_runs, follows}
 use Rattle.master_core.proofs.standing.Standing.short.Goals as goal

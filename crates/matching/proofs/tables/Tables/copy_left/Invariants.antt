@@ -1,6 +1,6 @@
 -- what the ranks so far have left
 use Rattle.std.proofs.Common.{◌≡◌, ◌<◌, ℕ, length, get_or}
-use Rattle.port_rows.specs.Ranking.{number_of}
+use Rattle.matching.specs.Ranking.{number_of}
 use Rattle.matching.proofs.tables.Tables.copy_left.Given as goal
 
 abbrev pub invariant-loop-rank : goal.invariant-loop-rank

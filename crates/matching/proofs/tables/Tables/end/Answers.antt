@@ -1,15 +1,15 @@
 use Rattle.std.proofs.Common.{◌≡◌, ◌≢◌, ◌<◌, ℕ, get_or, length, set, Contains, refl, subst, sym, ap, ◌∙◌, arith}
 use Rattle.std.proofs.lemmas.Grind.{get_or-set_at}
 use Rattle.std.proofs.lemmas.List.{get_or-set_other, get_or_default, length-set}
-use Rattle.port_rows.specs.declared.ranks.Ranked.{Ranked}
-use Rattle.port_rows.specs.Waits.{IsPushed}
-use Rattle.port_rows.specs.Board.{IsFreed, Stands, graph_of, ranked_at}
-use Rattle.port_tables.specs.Heads.{IsChain, IsReplaced}
-use Rattle.port_rows.specs.Rows.{IsRows}
+use Rattle.matching.specs.declared.ranks.Ranked.{Ranked}
+use Rattle.matching.specs.Waits.{IsPushed}
+use Rattle.matching.specs.Board.{IsFreed, Stands, graph_of, ranked_at}
+use Rattle.matching.specs.Heads.{IsChain, IsReplaced}
+use Rattle.matching.specs.Rows.{IsRows}
 use Rattle.matching.specs.Sound.{left_at}
-use Rattle.kept_grants.proofs.KeptSteps.{rank_ends}
-use Rattle.port_tables.proofs.EndSteps.{goes_out, stays_at}
-use Rattle.port_tables.proofs.HeadSteps.{IsEnding, ended_behind, ended_heads}
+use Rattle.matching.proofs.KeptSteps.{rank_ends}
+use Rattle.matching.proofs.EndSteps.{goes_out, stays_at}
+use Rattle.matching.proofs.HeadSteps.{IsEnding, ended_behind, ended_heads}
 use Rattle.matching.proofs.tables.Tables.end.Goals as goal
 
 pub returns-clause-sound : goal.returns-clause-sound

@@ -1,10 +1,10 @@
 use Rattle.std.proofs.Common.{◌≡◌, ℕ, List, ◌+◌, ◌*◌, ◌/◌, ◌<◌, get_or, set, sym, ap, subst, ◌∙◌, arith, length}
 use Rattle.std.proofs.lemmas.Grind.{get_or_default_zero}
 use Rattle.std.proofs.lemmas.Nat.{mul-add-lt}
-use Rattle.port_rows.specs.Board.{graph_of, no_rank, IsBoard, IsPlaced}
+use Rattle.matching.specs.Board.{graph_of, no_rank, IsBoard, IsPlaced}
 use Rattle.matching.specs.Sound.{left_at}
-use Rattle.port_rows.proofs.BitSteps.{cleared_in, cleared_here, cleared_elsewhere}
-use Rattle.port_rows.proofs.BoardSteps.{IsCleared, nothing_freed, placed, placed_at, placed_board}
+use Rattle.matching.proofs.BitSteps.{cleared_in, cleared_here, cleared_elsewhere}
+use Rattle.matching.proofs.BoardSteps.{IsCleared, nothing_freed, placed, placed_at, placed_board}
 use Rattle.matching.proofs.PassSteps.{IsRowScene, across_low, head_granted, none_is_free, nothing_at, port_is_taken, rank_is_granted}
 use Rattle.matching.proofs.tables.Tables.grant_row.Goals as goal
 

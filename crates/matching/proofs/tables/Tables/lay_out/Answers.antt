@@ -1,15 +1,15 @@
 use Rattle.std.proofs.Common.{◌≡◌, ◌<◌, ◌+◌, ℕ, length, get_or, refl, subst, sym, ap, ◌∙◌, arith}
 use Rattle.std.specs.Prelude.{All}
 use Rattle.coflow_units.specs.declared.fabric.Flow.{Flow}
-use Rattle.port_rows.specs.declared.board.Board.{Board}
-use Rattle.port_tables.specs.declared.heads.Heads.{Heads}
-use Rattle.port_rows.specs.declared.ranks.Ranks.{Ranks}
-use Rattle.port_rows.specs.Board.{IsRanks, graph_of}
-use Rattle.port_rows.specs.Ranking.{IsRanking, number_of}
-use Rattle.port_rows.specs.Rows.{HoldsRows}
+use Rattle.matching.specs.declared.board.Board.{Board}
+use Rattle.matching.specs.declared.heads.Heads.{Heads}
+use Rattle.matching.specs.declared.ranks.Ranks.{Ranks}
+use Rattle.matching.specs.Board.{IsRanks, graph_of}
+use Rattle.matching.specs.Ranking.{IsRanking, number_of}
+use Rattle.matching.specs.Rows.{HoldsRows}
 use Rattle.matching.specs.Sound.{left_at}
 use Rattle.matching.proofs.MatchingSteps.{ranking_fits, ranking_made}
-use Rattle.port_rows.proofs.RowSteps.{rows_hold}
+use Rattle.matching.proofs.RowSteps.{rows_hold}
 use Rattle.matching.proofs.tables.Tables.lay_out.Goals as goal
 
 pub copy_left-requires-clause-fits : goal.copy_left-requires-clause-fits

@@ -1,10 +1,10 @@
 use Rattle.std.proofs.Common.{◌≡◌, ◌<◌, ◌+◌, inl, inr, length, get_or, sym, ap, ◌∙◌, arith}
 use Rattle.std.proofs.lemmas.List.{get_or_default}
-use Rattle.port_rows.specs.Board.{graph_of, no_rank}
+use Rattle.matching.specs.Board.{graph_of, no_rank}
 use Rattle.matching.specs.Sound.{left_at}
-use Rattle.port_rows.proofs.BoardSteps.{stands_at}
+use Rattle.matching.proofs.BoardSteps.{stands_at}
 use Rattle.matching.proofs.RunSteps.{IsLesser, least_begins, least_is, least_skips, least_takes}
-use Rattle.kept_grants.proofs.SourceSteps.{IsAmongFirst, among_all, first_more, none_first}
+use Rattle.matching.proofs.SourceSteps.{IsAmongFirst, among_all, first_more, none_first}
 use Rattle.matching.proofs.tables.Tables.least_left.Goals.{then-least-eq0, else-least-eq0}
 use Rattle.matching.proofs.tables.Tables.least_left.Goals as goal
 

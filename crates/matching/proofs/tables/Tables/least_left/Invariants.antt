@@ -1,8 +1,8 @@
 -- the least at the ports so far
-use Rattle.port_rows.specs.Board.{graph_of}
+use Rattle.matching.specs.Board.{graph_of}
 use Rattle.matching.specs.Sound.{left_at}
 use Rattle.matching.proofs.RunSteps.{IsLeastUpto}
-use Rattle.kept_grants.proofs.SourceSteps.{IsAmongFirst}
+use Rattle.matching.proofs.SourceSteps.{IsAmongFirst}
 use Rattle.matching.proofs.tables.Tables.least_left.Given as goal
 
 abbrev pub invariant-loop-ingress : goal.invariant-loop-ingress

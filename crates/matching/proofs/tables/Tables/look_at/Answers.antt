@@ -1,9 +1,9 @@
 use Rattle.std.proofs.Common.{◌≡◌, ◌⊎◌, ◌+◌, ◌*◌, ◌^◌, ◌≤◌, inl, inr, get_or, length, Contains, sym, subst, ◌∙◌, arith}
 use Rattle.std.proofs.lemmas.List.{get_or_default}
-use Rattle.port_rows.specs.Board.{graph_of, Stands, total_weight}
+use Rattle.matching.specs.Board.{graph_of, Stands, total_weight}
 use Rattle.matching.specs.Sound.{left_at}
-use Rattle.kept_grants.proofs.KeptSteps.{rank_goes_in, port_leaves}
-use Rattle.port_tables.proofs.SettleSteps.{IsScene, found_rank, found_goes_in, clear_at, weight_bound, budget_falls}
+use Rattle.matching.proofs.KeptSteps.{rank_goes_in, port_leaves}
+use Rattle.matching.proofs.SettleSteps.{IsScene, found_rank, found_goes_in, clear_at, weight_bound, budget_falls}
 use Rattle.matching.proofs.tables.Tables.look_at.Goals as goal
 
 pub returns-then-rank-index-clause-sound : goal.returns-then-rank-index-clause-sound

@@ -1,7 +1,7 @@
 use Rattle.std.proofs.Common.{◌≡◌, ◌⊎◌, Contains, ◌∙◌, arith}
-use Rattle.port_rows.specs.Board.{graph_of, Stands}
+use Rattle.matching.specs.Board.{graph_of, Stands}
 use Rattle.matching.specs.Sound.{left_at}
-use Rattle.port_tables.proofs.SettleSteps.{waits_more}
+use Rattle.matching.proofs.SettleSteps.{waits_more}
 use Rattle.matching.proofs.tables.Tables.look_until_none_waits.Goals as goal
 
 pub look_at-requires-clause-sound : goal.look_at-requires-clause-sound

@@ -1,10 +1,10 @@
 use Rattle.std.proofs.Common.{◌≡◌, ◌+◌, inl, refl, sym, ap, subst, ◌∙◌, arith, length}
 use Rattle.std.proofs.lemmas.Grind.{get_or_default_zero}
-use Rattle.port_rows.specs.Board.{graph_of}
+use Rattle.matching.specs.Board.{graph_of}
 use Rattle.matching.specs.Pass.{IsPassing}
-use Rattle.port_rows.specs.Rows.{row_of}
+use Rattle.matching.specs.Rows.{row_of}
 use Rattle.matching.specs.Sound.{left_at}
-use Rattle.port_rows.proofs.BitSteps.{no_bits}
+use Rattle.matching.proofs.BitSteps.{no_bits}
 use Rattle.matching.proofs.FreeSteps.{from_piece}
 use Rattle.matching.proofs.PassSteps.{pass_begins, pass_covers, ready_again, stands_apart}
 use Rattle.matching.proofs.tables.Tables.pass.Goals as goal

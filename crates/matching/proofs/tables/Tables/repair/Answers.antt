@@ -1,15 +1,15 @@
 use Rattle.std.proofs.Common.{◌≡◌, ◌<◌, ℕ, List, Contains, length, take, get_or, subst, sym, ap, ◌∙◌, arith}
 use Rattle.coflow_units.proofs.Sums.{nothing_in}
-use Rattle.port_tables.specs.declared.heads.Heads.{Heads}
-use Rattle.port_rows.specs.declared.ranks.Ranks.{Ranks}
-use Rattle.port_rows.specs.Board.{graph_of, Stands}
-use Rattle.port_rows.specs.Kept.{IsLined, IsTold}
-use Rattle.kept_grants.specs.Listing.{IsFirstSide, IsListing}
-use Rattle.port_rows.specs.Ranking.{number_of}
+use Rattle.matching.specs.declared.heads.Heads.{Heads}
+use Rattle.matching.specs.declared.ranks.Ranks.{Ranks}
+use Rattle.matching.specs.Board.{graph_of, Stands}
+use Rattle.matching.specs.Kept.{IsLined, IsTold}
+use Rattle.matching.specs.Listing.{IsFirstSide, IsListing}
+use Rattle.matching.specs.Ranking.{number_of}
 use Rattle.matching.specs.Sound.{left_at}
-use Rattle.port_tables.proofs.EndSteps.{same_kept}
-use Rattle.port_rows.proofs.RowSteps.{IsSameOwing}
-use Rattle.kept_grants.proofs.KeptSteps.{kept_is_granted}
+use Rattle.matching.proofs.EndSteps.{same_kept}
+use Rattle.matching.proofs.RowSteps.{IsSameOwing}
+use Rattle.matching.proofs.KeptSteps.{kept_is_granted}
 use Rattle.coflow_units.proofs.Fronts.{written_back}
 use Rattle.matching.proofs.MatchingSteps.{first_side, listed_told}
 use Rattle.matching.proofs.RunSteps.{told_at}

@@ -1,6 +1,6 @@
 use Rattle.std.proofs.Common.{◌≡◌, sym, subst, ◌∙◌, arith}
 use Rattle.std.proofs.lemmas.List.{get_or_default}
-use Rattle.port_rows.specs.Board.{Stands, graph_of}
+use Rattle.matching.specs.Board.{Stands, graph_of}
 use Rattle.matching.specs.Matching.{IsRankTaken}
 use Rattle.matching.specs.Sound.{rank_at}
 use Rattle.matching.proofs.RoomSteps.{whole_again}

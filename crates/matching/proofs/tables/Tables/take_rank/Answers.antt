@@ -1,9 +1,9 @@
 use Rattle.std.proofs.Common.{◌≡◌, ◌<◌, ◌-◌, ℕ, get_or, length, set, Contains, refl, ap, ◌∙◌, arith}
 use Rattle.std.proofs.lemmas.List.{get_or_default, length-set}
-use Rattle.port_rows.specs.Board.{Stands, graph_of}
+use Rattle.matching.specs.Board.{Stands, graph_of}
 use Rattle.matching.specs.Sound.{left_at}
-use Rattle.port_tables.proofs.EndSteps.{lowered, same_kept, same_heads, same_behind, set_less}
-use Rattle.port_rows.proofs.RowSteps.{IsSameOwing, same_rows}
+use Rattle.matching.proofs.EndSteps.{lowered, same_kept, same_heads, same_behind, set_less}
+use Rattle.matching.proofs.RowSteps.{IsSameOwing, same_rows}
 use Rattle.matching.proofs.tables.Tables.take_rank.Goals as goal
 
 pub returns-then-left-units-clause-sound : goal.returns-then-left-units-clause-sound

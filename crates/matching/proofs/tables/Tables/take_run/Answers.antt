@@ -1,13 +1,13 @@
 use Rattle.std.proofs.Common.{◌≡◌, ◌+◌, ◌-◌, ◌<◌, length, get_or, refl, sym, ap, subst, ◌∙◌, arith}
 use Rattle.std.proofs.lemmas.List.{get_or_default}
 use Rattle.coflow_units.specs.Flows.{IsDistinct}
-use Rattle.port_rows.specs.declared.ranks.Ranks.{Ranks}
-use Rattle.port_rows.specs.Board.{Stands, graph_of}
+use Rattle.matching.specs.declared.ranks.Ranks.{Ranks}
+use Rattle.matching.specs.Board.{Stands, graph_of}
 use Rattle.matching.specs.Matching.{IsRankTaken}
 use Rattle.matching.specs.Sound.{rank_at}
 use Rattle.matching.proofs.RoomSteps.{room_again, whole_again}
 use Rattle.matching.proofs.RunSteps.{IsRunTaken, begins_at, run_begins, run_matching, run_skips, run_takes}
-use Rattle.kept_grants.proofs.SourceSteps.{IsAmongLast, among_last, last_more, none_last}
+use Rattle.matching.proofs.SourceSteps.{IsAmongLast, among_last, last_more, none_last}
 use Rattle.matching.proofs.tables.Tables.take_run.Goals as goal
 
 pub loop-source-init : goal.loop-source-init

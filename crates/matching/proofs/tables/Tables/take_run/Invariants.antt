@@ -3,7 +3,7 @@ use Rattle.std.proofs.Common.{◌≡◌, ◌≤◌, Contains, length}
 use Rattle.matching.specs.Matching.{IsSameRoom}
 use Rattle.matching.specs.Sound.{IsSound}
 use Rattle.matching.proofs.RunSteps.{IsRunTaken}
-use Rattle.kept_grants.proofs.SourceSteps.{IsAmongLast}
+use Rattle.matching.proofs.SourceSteps.{IsAmongLast}
 use Rattle.matching.proofs.tables.Tables.take_run.Given as goal
 
 abbrev pub invariant-loop-source : goal.invariant-loop-source

@@ -1,7 +1,7 @@
 use Rattle.std.proofs.Common.{Contains, ◌∙◌}
-use Rattle.port_rows.specs.Board.{graph_of, Stands}
+use Rattle.matching.specs.Board.{graph_of, Stands}
 use Rattle.matching.specs.Sound.{left_at}
-use Rattle.port_tables.proofs.SettleSteps.{first_side_waits}
+use Rattle.matching.proofs.SettleSteps.{first_side_waits}
 use Rattle.matching.proofs.tables.Tables.turn_to_first.Goals as goal
 
 pub returns-clause-sound : goal.returns-clause-sound

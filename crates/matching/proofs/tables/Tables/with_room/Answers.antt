@@ -1,6 +1,6 @@
 use Rattle.std.proofs.Common.{◌≡◌, ◌+◌, ◌*◌, ◌∙◌, ℕ, replicate, arith, refl, subst, sym}
-use Rattle.port_rows.specs.Board.{no_rank}
-use Rattle.port_rows.specs.Rows.{IsShaped}
+use Rattle.matching.specs.Board.{no_rank}
+use Rattle.matching.specs.Rows.{IsShaped}
 use Rattle.matching.specs.declared.tables.Tables.{Tables}
 use Rattle.matching.proofs.RoomSteps.{empty_whole}
 use Rattle.matching.proofs.tables.Tables.with_room.Goals as goal

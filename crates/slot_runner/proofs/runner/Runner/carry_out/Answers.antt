@@ -2,11 +2,11 @@
 use Rattle.std.proofs.Common.{◌≡◌, ◌+◌, ◌≤◌, List, ◌++◌, sym, ◌∙◌, refl, subst, arith}
 use Rattle.journal.specs.declared.command.Entry.{Entry}
 use Rattle.journal.specs.Driven.{Drive}
-use Rattle.master_desk.specs.Grants.{flow_granted}
+use Rattle.client_session.specs.Grants.{flow_granted}
 use Rattle.client_session.specs.Models.{IsDriverOf}
 use Rattle.slot_runner.specs.Carried.{IsCarriedOut}
 use Rattle.slot_runner.specs.Models.{RunnerModel}
-use Rattle.run_ports.specs.Settling.{IsOpenRunOf}
+use Rattle.slot_runner.specs.Settling.{IsOpenRunOf}
 use Rattle.slot_runner.proofs.OnePort.{sent_of}
 use Rattle.slot_runner.proofs.Opens.{flow_in_range, open_facts}
 use Rattle.slot_runner.proofs.Through.{call_left, idle_then, posted_on, still_under_way, through, told, waiting}

@@ -1,5 +1,5 @@
 use Rattle.std.proofs.Common.{sym, ap, ◌∙◌}
-use Rattle.turn_steps.proofs.Closing.{has_value, value_is}
+use Rattle.turnstile.proofs.Closing.{has_value, value_is}
 use Rattle.turnstile.proofs.lock.Turnstile.close.Goals as goal
 
 pub close_with-closed-requires : goal.close_with-closed-requires

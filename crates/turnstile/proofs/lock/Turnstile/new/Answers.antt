@@ -1,5 +1,5 @@
 use Rattle.std.proofs.Common.{rules, ◌≡◌, [], ◌∷◌, Some}
-use Rattle.turn_steps.proofs.SeatSteps.{starts}
+use Rattle.turnstile.proofs.SeatSteps.{starts}
 use Rattle.turnstile.proofs.lock.Turnstile.new.Goals as goal
 
 pub new-requires : goal.new-requires

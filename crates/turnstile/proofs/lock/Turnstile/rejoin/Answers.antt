@@ -1,8 +1,8 @@
 use Rattle.std.proofs.Common.{rules, sym, ap, ◌∙◌, subst}
-use Rattle.turn_steps.specs.Tickets.{IsNumbered}
-use Rattle.turn_steps.proofs.Stages.{is_idle}
-use Rattle.turn_steps.proofs.SeatSteps.{takes_in_on}
-use Rattle.turn_steps.proofs.NoteSteps.{learns_on}
+use Rattle.turnstile.specs.Tickets.{IsNumbered}
+use Rattle.turnstile.proofs.Stages.{is_idle}
+use Rattle.turnstile.proofs.SeatSteps.{takes_in_on}
+use Rattle.turnstile.proofs.NoteSteps.{learns_on}
 use Rattle.turnstile.proofs.lock.Turnstile.rejoin.Goals as goal
 
 pub join_seat-requires : goal.join_seat-requires

@@ -1,5 +1,5 @@
 use Rattle.std.proofs.Common.{rules}
-use Rattle.turn_steps.proofs.SeatSteps.{makes_seat}
+use Rattle.turnstile.proofs.SeatSteps.{makes_seat}
 use Rattle.turnstile.proofs.lock.Turnstile.seat.Goals as goal
 
 pub split_seat-requires : goal.split_seat-requires

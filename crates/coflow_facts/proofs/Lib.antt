@@ -1,4 +1,0 @@
-pub mod Moved
-pub mod Permutations
-pub mod PlaceOrders
-pub mod Greatest

@@ -1,4 +1,0 @@
-pub mod Bools
-pub mod LineSteps
-pub mod PlaceSteps
-pub mod RankSteps

@@ -1,2 +1,0 @@
-pub mod Attendance
-pub mod Owing

@@ -1,0 +1,10 @@
+pub mod AuditFacts
+pub mod CheckFacts
+pub mod CompareFacts
+pub mod EndCauses
+pub mod LiveFacts
+pub mod MadeInput
+pub mod MadePlan
+pub mod OnlineFacts
+pub mod PlanFacts
+pub mod WireFacts

@@ -1,0 +1,9 @@
+pub mod Audit
+pub mod Check
+pub mod Classes
+pub mod Compare
+pub mod Live
+pub mod Make
+pub mod Online
+pub mod Plan
+pub mod Serving

@@ -1,0 +1,22 @@
+//! The commands that read files and send nothing: the verdicts of `check` and `audit`, and the orders that `compare` and
+//! `classes` tell.
+#![tactic(auto)]
+
+mod auditing;
+mod checking;
+mod classing;
+mod comparing;
+mod living;
+mod making;
+mod onlining;
+mod planning;
+mod serving;
+
+pub use auditing::audit_journal;
+pub use checking::check_report;
+pub use classing::list_classes;
+pub use comparing::compare_rankers;
+pub use living::run_clients;
+pub use making::make_workload;
+pub use onlining::run_online;
+pub use planning::plan_trace;

@@ -1,6 +1,0 @@
--- the session stays in its hall
-use Rattle.client_session.specs.Models.{IsSessionOf}
-use Rattle.hall_notes.proofs.calls.play.Given as goal
-
-abbrev pub invariant-loop-call : goal.invariant-loop-call
-invariant-loop-call g l = IsSessionOf l.hall l.session

@@ -1,2 +1,0 @@
-pub mod ClosingRuns
-pub mod EntriesAnew

@@ -1,4 +1,0 @@
-pub mod MadeSteps
-pub mod BenchText
-pub mod MadeOne
-pub mod BenchOne

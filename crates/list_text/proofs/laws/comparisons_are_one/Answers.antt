@@ -1,5 +1,0 @@
-use Rattle.list_text.proofs.BenchOne.{compare_one}
-use Rattle.list_text.proofs.laws.comparisons_are_one.Goals as goal
-
-pub returns : goal.returns
-returns c = compare_one

@@ -1,3 +1,0 @@
-pub mod ActsTold
-pub mod ClientsTold
-pub mod DriversTold

@@ -1,2 +1,0 @@
-mod LiveCauses
-pub mod LiveTurns

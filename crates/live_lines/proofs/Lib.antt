@@ -1,4 +1,0 @@
-pub mod FollowingEntries
-pub mod LineSteps
-pub mod OrdersTold
-pub mod WordsOfRuns

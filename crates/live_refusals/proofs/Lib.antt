@@ -1,3 +1,0 @@
-pub mod Journals
-pub mod PullLines
-pub mod NearPulls

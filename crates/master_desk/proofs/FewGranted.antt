@@ -1,2 +1,0 @@
--- The flows that are granted are few.
-pub use Rattle.turn_answers.proofs.FewGranted.{few_granted}

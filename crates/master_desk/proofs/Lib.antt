@@ -1,4 +1,0 @@
-pub mod Agreement
-pub mod FewGranted
-pub mod OwnSteps
-pub mod Passes

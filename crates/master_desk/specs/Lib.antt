@@ -1,4 +1,0 @@
-pub mod Answers
-pub mod Desk
-pub mod Grants
-pub mod Own

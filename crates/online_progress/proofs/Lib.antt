@@ -1,4 +1,0 @@
-pub mod Tallying
-pub mod Bounds
-pub mod Releases
-pub mod Endings

@@ -1,5 +1,0 @@
-use Rattle.online_reader.proofs.StageSteps.{ended_refused}
-use Rattle.online_reader.proofs.draft.Draft.accept.Goals as goal
-
-pub returns-in-Ended : goal.returns-in-Ended
-returns-in-Ended c = ended_refused c.args.self.now c.args.line.now c.in-Ended.is

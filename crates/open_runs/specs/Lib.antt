@@ -1,2 +1,0 @@
-pub mod OpenRun
-pub mod KeptRuns

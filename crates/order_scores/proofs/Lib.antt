@@ -1,3 +1,0 @@
-pub mod Permutations
-pub mod ServedOrders
-pub mod UnfitRows

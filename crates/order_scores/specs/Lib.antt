@@ -1,3 +1,0 @@
-pub mod Scores
-pub mod Served
-pub mod Rows

@@ -1,0 +1,11 @@
+use Rattle.picture.proofs.TextSteps.{more}
+use Rattle.picture.proofs.curve_text.push_curve.Goals as goal
+
+pub returns : goal.returns
+returns c =
+    let t = c.args.text.now.items in
+    more t _ _ (more t _ _ (more t _ _ (more t _ _ (c.in_ok-push_head.ensures)
+    (c.in_ok-push_steps.ensures))
+    (rw c.slot_count.ensures.count at c.in_ok-push_number.ensures))
+    (rw c.as_slice.ensures at c.in_ok-push_number-2.ensures))
+    (c.in_ok-extend_from_slice.ensures.items)

@@ -1,0 +1,63 @@
+-- Where the parts of a picture lie. All coordinates are whole numbers.
+use Rattle.std.specs.Prelude.{ℕ, ◌+◌, ◌*◌, ◌-◌, ◌/◌, ◌<◌, ◌≤◌, ◌^◌, [], All, length, min}
+use Rattle.std.specs.List.{slice_index_or}
+use Rattle.coflow_units.specs.declared.limits.TheConstants.{MAX_PORTS, MAX_SLOT}
+use Rattle.picture.specs.declared.value.Bar.{Bar}
+use Rattle.picture.specs.declared.value.Window.{Window}
+use Rattle.picture.specs.declared.part_value.Picture.{Picture}
+use Rattle.picture.specs.declared.part_value.TheConstants.{LEGEND}
+
+-- the bar has a slot, and its slots are slots of the window
+pub record IsInside (w : Window) (b : Bar) : Type 0 where
+  pub some : b.first ≤ b.last
+  pub from : w.first ≤ b.first
+  pub upto : b.last ≤ w.last
+
+-- The window has a slot, and its last slot is one that a schedule may have. There is a port, and no more of them than a
+-- side may have. The bars lie inside the window. The legend is no longer than it may be, and a hundred times the cost is
+-- a number of 128 bits.
+pub record IsDrawable (p : Picture) : Type 0 where
+  pub counted : 1 ≤ p.window.first
+  pub some : p.window.first ≤ p.window.last
+  pub short : p.window.last ≤ MAX_SLOT
+  pub has_ports : 1 ≤ length p.rows
+  pub few_ports : length p.rows ≤ MAX_PORTS + 1
+  pub inside : (port : ℕ) → port < length p.rows → All (IsInside p.window) (slice_index_or p.rows port [])
+  pub few_coflows : length p.heavy ≤ LEGEND
+  pub small_cost : p.cost ≤ 2 ^ 120
+
+-- how many slots the window has
+abbrev pub slot_count : Picture → ℕ
+slot_count p = p.window.last - (p.window.first - 1)
+
+-- the height of the bars: 16 for each port, and 480 at most
+abbrev pub bars_height : Picture → ℕ
+bars_height p = min (16 * length p.rows) 480
+
+-- where the bars end
+abbrev pub bars_end : Picture → ℕ
+bars_end p = 60 + bars_height p
+
+-- where the curve begins, which is 120 high
+abbrev pub curve_top : Picture → ℕ
+curve_top p = bars_end p + 80
+
+-- where the curve ends
+abbrev pub curve_end : Picture → ℕ
+curve_end p = curve_top p + 120
+
+-- where the picture ends
+abbrev pub height : Picture → ℕ
+height p = curve_end p + 50
+
+-- the middle of one of so many equal parts of a length, which count from 0
+abbrev pub middle : ℕ → ℕ → ℕ → ℕ
+middle part count size = (2 * part + 1) * size / (2 * count)
+
+-- where the middle of a slot of the window lies, from left
+abbrev pub slot_x : Picture → ℕ → ℕ
+slot_x p slot = 70 + middle (slot - p.window.first) (slot_count p) 720
+
+-- where the middle of a port's row lies, from above
+abbrev pub port_y : Picture → ℕ → ℕ
+port_y p port = 60 + middle port (length p.rows) (bars_height p)

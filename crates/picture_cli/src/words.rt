@@ -1,0 +1,74 @@
+//! What a command line says.
+ghost use Rattle.std.specs.Prelude.{◌≡◌, Err, IfNone, IfOk, IfSome, option_map};
+ghost use Rattle.clap.specs.Words.{first_value, found_of};
+ghost use Rattle.command_words.specs.Line.{texts};
+ghost use Rattle.command_words.specs.declared.fault.WordsFault.TheVariants.{Usage};
+ghost use Rattle.coflow_units.specs.declared.fabric.Side.{Side};
+ghost use Rattle.picture_cli.specs.Words.{IsPictureWords, IsSaid, IsSide, PictureSaid, said_by};
+
+use crate::parser::matches_of;
+use crate::value::PictureWords;
+use clap::ArgMatches;
+use coflow_units::{MAX_SLOT, Side};
+use command_words::{WordsFault, is_file_name, setting_of, unit_of};
+use std::alloc::Global;
+
+/// Reads the words of a command line, the first of which is the program's name.
+///
+/// `Usage` comes exactly where the words say nothing, and `NoMemory` where no memory was to be had.
+pub fn read_words<'a>(alloc: Global, words: &'a [String]) -> Result<PictureWords<'a>, WordsFault>
+    ensures said { IfOk result (λ w. IsPictureWords (texts words.entry.now) (said_by w)) }
+    ensures usage { result ≡ Err Usage → (said : PictureSaid) → IsPictureWords (texts words.entry.now) said → ⊥ }
+{
+    let matches = matches_of(alloc, words)?;
+    match words_of(&matches) {
+        Some(words) => Ok(words),
+        None => Err(WordsFault::Usage),
+    }
+}
+
+/// What the arguments say by their values, or `None` where a value does not fit.
+fn words_of<'a>(matches: &ArgMatches<'a>) -> Option<PictureWords<'a>>
+    ensures some { IfSome result (λ w. IsSaid (first_value (found_of matches.now)) (said_by w)) }
+    ensures none { IfNone result ((said : PictureSaid) → IsSaid (first_value (found_of matches.now)) said → ⊥) }
+{
+    let trace = matches.get_str("TRACE")?;
+    if !is_file_name(trace) {
+        return None;
+    }
+    let report = matches.get_str("REPORT")?;
+    if !is_file_name(report) {
+        return None;
+    }
+    let weights = matches.get_str("weights");
+    if let Some(name) = weights {
+        if !is_file_name(name) {
+            return None;
+        }
+    }
+    let unit = unit_of(matches.get_str("unit"))?;
+    let from = setting_of(matches.get_str("from"), MAX_SLOT, 1)?;
+    let to = setting_of(matches.get_str("to"), MAX_SLOT, MAX_SLOT)?;
+    let side = side_of(matches.get_str("side"))?;
+    Some(PictureWords {
+        trace,
+        report,
+        weights,
+        unit,
+        from,
+        to,
+        side,
+    })
+}
+
+/// The side of a word, or ingress where there is no word. `None` for another word.
+fn side_of(word: Option<&str>) -> Option<Side>
+    ensures some { IfSome result (IsSide (option_map (λ s. s.now) word.entry)) }
+    ensures none { IfNone result ((side : Side) → IsSide (option_map (λ s. s.now) word.entry) side → ⊥) }
+{
+    match word {
+        None | Some("in") => Some(Side::Ingress),
+        Some("out") => Some(Side::Egress),
+        Some(_) => None,
+    }
+}

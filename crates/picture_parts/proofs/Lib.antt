@@ -1,3 +1,0 @@
-pub mod TextSteps
-pub mod TickSteps
-pub mod WeightSteps

@@ -1,9 +1,0 @@
-use Rattle.picture_parts.proofs.TextSteps.{more}
-use Rattle.picture_parts.proofs.axes.push_port_tick.Goals as goal
-
-pub returns : goal.returns
-returns c =
-    let t = c.args.text.now.items in
-    more t _ _ (more t _ _ (rw c.port_y-y.ensures.y at c.in_ok-push_number.ensures)
-    (c.in_ok-extend_from_slice.ensures.items))
-    (rw c.port_y-y.ensures.y at c.in_ok-push_height_label.ensures)

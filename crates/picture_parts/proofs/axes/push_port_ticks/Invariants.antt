@@ -1,8 +1,0 @@
--- the marks so far stand behind the text
-use Rattle.std.proofs.Common.{◌≡◌, ◌++◌, ◌*◌}
-use Rattle.std.specs.List.{flat_map, range_with_len}
-use Rattle.picture_parts.specs.Svg.{port_tick}
-use Rattle.picture_parts.proofs.axes.push_port_ticks.Given as goal
-
-abbrev pub invariant-loop-turn : goal.invariant-loop-turn
-invariant-loop-turn l = l.text.items ≡ l.fn.text.items ++ flat_map (λ k. port_tick l.picture (k * l.step)) (range_with_len 0 l.turn)

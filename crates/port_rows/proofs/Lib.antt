@@ -1,5 +1,0 @@
-pub mod BitSteps
-pub mod BoardSteps
-pub mod RankSteps
-pub mod RowSteps
-pub mod WaitSteps

@@ -1,4 +1,0 @@
-use Rattle.port_rows.proofs.board.Board.with_room.Goals as goal
-
-pub returns-clause-at : goal.returns-clause-at
-returns-clause-at c = c.in_ok-at.ensures.items_if_clones_equal (λ y e. e)

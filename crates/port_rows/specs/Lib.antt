@@ -1,5 +1,0 @@
-pub mod Board
-pub mod Kept
-pub mod Ranking
-pub mod Rows
-pub mod Waits

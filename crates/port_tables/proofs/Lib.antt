@@ -1,4 +1,0 @@
-pub mod EndSteps
-pub mod HeadSteps
-pub mod LookSteps
-pub mod SettleSteps

@@ -1,7 +1,0 @@
-use Rattle.std.proofs.Common.{length, arith}
-use Rattle.ranker_kinds.proofs.KeyOrders.{numbered_is_range}
-use Rattle.ranker_kinds.proofs.by_key.number.Goals as goal
-
-pub returns : goal.returns
-returns c = numbered_is_range c.loop-place.out (length c.args.out.now) c.loop-place.place c.loop-place.invariant.count (omega (arith, c.loop-place-test.false))
-    c.loop-place.invariant.numbered

@@ -1,4 +1,0 @@
-pub mod Meaning
-pub mod ByKey
-pub mod Kinds
-pub mod Rows

@@ -1,0 +1,19 @@
+use Rattle.std.proofs.Common.{◌≡◌, length, ap, sym, ◌∙◌, arith}
+use Rattle.rankers.proofs.Permutations.{bssi_permutation}
+use Rattle.rankers.proofs.facts.Facts.of.Goals as goal
+
+pub invariant_of-result : goal.invariant_of-result
+invariant_of-result c =
+    let (count, whole) = bssi_permutation c.args.table.now c.args.weights.now c.in_ok-order.order.items c.in_ok-order.ensures in
+    let table = c.in_ok-arrivals.ensures.table in
+    let weights : length c.in_ok-weights.weights.items ≡ length c.args.table.now.ids = ap (λ xs. length xs) c.in_ok-weights.ensures.items ∙ c.requires.count in
+    record {
+      few = omega (arith, weights, table.few_coflows);
+      arrivals_len = ap (λ xs. length xs) c.in_ok-arrivals.ensures.arrivals ∙ table.arrivals ∙ sym weights;
+      arrival = c.in_ok-arrivals.ensures.small;
+      coflows = c.in_ok-loads.ensures.coflows_are ∙ sym weights;
+      bottlenecks_len = c.in_ok-loads.ensures.length ∙ sym weights;
+      bottleneck = λ k lt. c.in_ok-loads.ensures.greatest k (omega (arith, lt, weights));
+      order_len = count ∙ sym weights;
+      order_is = whole;
+    }

@@ -1,0 +1,35 @@
+-- The coflows of a table in classes, and the schedule that serves the class order.
+use Rattle.std.specs.Prelude.{◌≡◌, ℕ, ◌≤◌, List, map, slice_index}
+use Rattle.coflow_units.specs.Completion.{cost}
+use Rattle.coflow_units.specs.Schedule.{IsRuns}
+use Rattle.coflow_units.specs.Served.{IsServed}
+use Rattle.class_rates.specs.Cap.{cap}
+use Rattle.class_rates.specs.ClassPatient.{IsClassPatient}
+use Rattle.class_rates.specs.Classes.{IsClassOrder, class_in}
+use Rattle.flow_table.specs.Table.{TableFacts, instance_of}
+use Rattle.rankers.specs.FactsTold.{IsBssiOrder}
+use Rattle.report.specs.declared.classed.ClassText.{ClassText}
+use Rattle.report.specs.declared.classed.Member.{Member}
+use Rattle.schedule_model.specs.RunList.{pairs_of}
+
+-- the member that a coflow is, by the classes of the coflows and their ids
+abbrev pub member_of : (ℕ → ℕ) → List ℕ → ℕ → Member
+member_of class ids coflow = record { class_number = class coflow; id = slice_index ids coflow }
+
+-- The order by bottleneck, select, scale, iterate was folded into so many classes: the members in the class order, the cap
+-- of the classes, and the schedule that serves the class order with its cost. The schedule keeps the classes and leaves no
+-- port idle that could serve, so it costs at most the cap.
+pub record IsClassList (t : TableFacts) (weights : List ℕ) (classes : ℕ) (c : ClassText) : Type 0 where
+  pub order : List ℕ
+  pub bssi : IsBssiOrder t weights order
+  pub line : List ℕ
+  pub line_is : IsClassOrder order (class_in order classes) line
+  pub slots : List (List ℕ)
+  pub served : IsServed t.flows line slots
+  pub patient : IsClassPatient t.flows (class_in order classes) slots
+  pub members_are : c.members ≡ map (member_of (class_in order classes) t.ids) line
+  pub cap_is : c.cap ≡ cap t.flows (instance_of t weights).weight (instance_of t weights).coflows
+      (class_in order classes)
+  pub cost_is : c.cost ≡ cost t.flows (instance_of t weights).weight (instance_of t weights).coflows slots
+  pub within : c.cost ≤ c.cap
+  pub runs_are : IsRuns slots (pairs_of c.runs)

@@ -1,0 +1,147 @@
+//! The two rounds of a ranker.
+ghost use Rattle.std.specs.Prelude.{◌≡◌, ◌<◌, ◌≤◌, ◌^◌, ℕ, All, IfOk, OnOk, length};
+ghost use Rattle.coflow_units.specs.declared.limits.TheConstants.{MAX_WEIGHT};
+ghost use Rattle.flow_table.specs.Table.{instance_of};
+ghost use Rattle.rankers.specs.FactsTold.{coflows_in};
+ghost use Rattle.rankers.specs.Meaning.{after_note, after_notes, after_question, answer_of};
+ghost use Rattle.rankers.specs.ByKey.{by_key, key_in};
+ghost use Rattle.rankers.specs.Rounds.{IsRounds, IsToldOf, after_completions};
+ghost use Rattle.rankers.specs.Scores.{IsScore, IsServedOrder};
+ghost use Rattle.schedule_model.specs.RunList.{NamesFlows};
+
+use crate::by_key::fill_by_key;
+use crate::facts::Facts;
+use crate::ranker::Ranker;
+use crate::scored::Scored;
+use crate::scoring::{Judged, judge, score};
+use coflow_units::NoMemory;
+use flow_table::Table;
+use schedule_model::{Schedule, completions, cost};
+use std::alloc::Global;
+
+/// What the two answers of a ranker are worth.
+#[derive(Clone, Copy)]
+pub struct Rounds {
+    pub first: Scored,
+    pub second: Scored,
+}
+
+/// Asks the ranker, tells it what came of its answer where that is an order, and asks it again. Then the ranker is dropped. The facts are those of the table with the weights, and
+/// `order` has one place for each coflow, for its answers.
+pub fn rounds_of(
+    alloc: Global,
+    table: &Table,
+    weights: &[u64],
+    facts: &Facts,
+    ranker: Box<dyn Ranker>,
+    order: &mut [u32],
+) -> Result<Rounds, NoMemory>
+    requires count { length weights.now ≡ length table.now.ids }
+    requires weights { All (λ w. w ≤ MAX_WEIGHT) weights.now }
+    requires facts { coflows_in facts.now ≡ length table.now.ids }
+    requires order { length order.old ≡ length table.now.ids }
+    ensures rounds { IfOk result (λ rounds.
+        IsRounds (instance_of table.now weights.now) facts.now (meaning ranker) rounds.first rounds.second) }
+    ensures answered { answered ranker facts.now }
+{
+    let mut ranker = ranker;
+    ask(&mut ranker, facts, order);
+    let earlier = Vec::from_slice(alloc, order)?;
+    let first = score_and_tell(alloc, table, weights, &mut ranker, order)?;
+    ask(&mut ranker, facts, order);
+    let second = score_after(alloc, table, weights, &earlier, first, order)?;
+    Ok(Rounds { first, second })
+}
+
+/// Asks the ranker.
+fn ask(ranker: &mut Box<dyn Ranker>, facts: &Facts, order: &mut [u32])
+    requires { length order.old ≡ coflows_in facts.now }
+    ensures answer { order.new ≡ answer_of (meaning ranker.old) facts.now }
+    ensures asked { meaning ranker.new ≡ after_question (meaning ranker.old) facts.now }
+    ensures answered { answered ranker.old facts.now }
+{
+    ranker.rank(facts, order);
+}
+
+/// What the answer in `order` is worth; where it is an order of the coflows, the ranker is told the completions of the schedule that serves it. Afterwards `order` is free for another answer.
+fn score_and_tell(
+    alloc: Global,
+    table: &Table,
+    weights: &[u64],
+    ranker: &mut Box<dyn Ranker>,
+    order: &mut [u32],
+) -> Result<Scored, NoMemory>
+    requires count { length weights.now ≡ length table.now.ids }
+    requires weights { All (λ w. w ≤ MAX_WEIGHT) weights.now }
+    requires order { length order.old ≡ length table.now.ids }
+    ensures score { IfOk result (λ scored. IsScore (instance_of table.now weights.now) order.old scored) }
+    ensures told { OnOk result
+        (IsToldOf (instance_of table.now weights.now) order.old (meaning ranker.old) (meaning ranker.new)) }
+{
+    match judge(alloc, table, order)? {
+        Judged::Served(schedule) => {
+            tell(alloc, table, &schedule, ranker, order)?;
+            Ok(Scored::Cost(cost(table.flows(), weights, &schedule)))
+        }
+        Judged::Unfit(place) => Ok(Scored::Unfit(place)),
+    }
+}
+
+/// What the answer in `order` is worth, where an earlier answer was worth so much: the same answer is not served again.
+fn score_after(
+    alloc: Global,
+    table: &Table,
+    weights: &[u64],
+    earlier: &[u32],
+    worth: Scored,
+    order: &[u32],
+) -> Result<Scored, NoMemory>
+    requires count { length weights.now ≡ length table.now.ids }
+    requires weights { All (λ w. w ≤ MAX_WEIGHT) weights.now }
+    requires order { length order.now ≡ length table.now.ids }
+    requires worth { IsScore (instance_of table.now weights.now) earlier.now worth }
+    ensures { IfOk result (λ scored. IsScore (instance_of table.now weights.now) order.now scored) }
+{
+    if order == earlier {
+        return Ok(worth);
+    }
+    let scored = score(alloc, table, weights, order)?;
+    Ok(scored)
+}
+
+/// Tells the ranker the completion of each coflow, by completion and then by number. `order` has one place for each coflow, for that order.
+fn tell(
+    alloc: Global,
+    table: &Table,
+    schedule: &Schedule,
+    ranker: &mut Box<dyn Ranker>,
+    order: &mut [u32],
+) -> Result<(), NoMemory>
+    requires names { NamesFlows (length table.now.flows) schedule.now }
+    requires order { length order.old ≡ length table.now.ids }
+    ensures { OnOk result (meaning ranker.new ≡
+        after_completions table.now.flows (length table.now.ids) (meaning ranker.old) schedule.now) }
+{
+    let ends = completions(alloc, table.flows(), table.coflows(), schedule)?;
+    let slots = ends.as_slice();
+    fill_by_key(slots, order);
+    tell_each(slots, order, ranker);
+    Ok(())
+}
+
+/// Tells the ranker the ends of coflows in this order.
+fn tell_each(ends: &[u64], order: &[u32], ranker: &mut Box<dyn Ranker>)
+    requires { All (λ c. c < length ends.now) order.now }
+    ensures { meaning ranker.new ≡ after_notes (meaning ranker.old) (key_in ends.now) order.now }
+{
+    for coflow in order {
+        note(ranker, *coflow, ends[*coflow as usize]);
+    }
+}
+
+/// Tells the ranker the end of a coflow.
+fn note(ranker: &mut Box<dyn Ranker>, coflow: u32, slot: u64)
+    ensures { meaning ranker.new ≡ after_note (meaning ranker.old) coflow slot }
+{
+    ranker.note(coflow, slot);
+}

@@ -1,3 +1,0 @@
-pub mod CompareFacts
-pub mod CheckFacts
-pub mod AuditFacts

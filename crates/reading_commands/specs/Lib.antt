@@ -1,4 +1,0 @@
-pub mod Check
-pub mod Audit
-pub mod Compare
-pub mod Classes

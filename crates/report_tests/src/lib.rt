@@ -1,8 +1,0 @@
-//! Tests of the crates that write reports and made workloads, and read reports again. A clause says of each text what its definitions say; that the definitions mean the rules of the formats
-//! is what no clause says. Each row was worked out by hand from those rules, and an answer that is no value is told by the text of its fault.
-#![tactic(auto)]
-
-#[cfg(test)]
-mod made;
-#[cfg(test)]
-mod reports;

@@ -1,0 +1,74 @@
+-- In how many slots a flow stands, one run more.
+use Rattle.std.proofs.Common.{◌≡◌, ℕ, ◌+◌, ◌<◌, inl, inr, Bool, true, false, cond, List, ◌++◌, length, get_or, set, take, drop, replicate, refl, sym, ap, ◌∙◌, arith, zero, suc}
+use Rattle.std.specs.Prelude.{All, count_by, ◌==◌}
+use Rattle.std.specs.List.Sorted.{IsStrictlyIncreasing}
+use Rattle.std.proofs.lemmas.List.{get_or-set_other, take_at}
+use Rattle.std.proofs.lemmas.Grind.{get_or-set_at}
+use Rattle.std.proofs.lemmas.List.Folds.{list_any_more}
+use Rattle.std.proofs.lemmas.List.Sums.{count_by-le-length, sum_by-cons}
+use Rattle.std.proofs.lemmas.Bool.{ne_eqb, eq-eqb, cases_eq}
+use Rattle.coflow_units.specs.declared.plan.Run.{Run}
+use Rattle.coflow_units.specs.Schedule.{holds, times}
+use Rattle.coflow_units.proofs.Sums.{any_not, or_right}
+use Rattle.coflow_units.proofs.Bools.{or_not}
+use Rattle.coflow_units.proofs.ServedExists.{times_append}
+use Rattle.schedule_model.specs.RunList.{IsKept, slots_in}
+use Rattle.schedule_model.proofs.Ascending.{above_earlier}
+use Rattle.schedule_model.proofs.RunSlots.{run_fits, run_more}
+
+-- an ascending list holds a number once
+pub not_before : (numbers : List ℕ) (k : ℕ) → IsStrictlyIncreasing numbers → k < length numbers → holds (take k numbers) (get_or numbers k 0) ≡ false
+not_before numbers k up lt = any_not (take k numbers) (get_or numbers k 0) (λ has. omega (arith, above_earlier numbers k (get_or numbers k 0) up lt has))
+
+pub add_more : (counts old numbers : List ℕ) (n k : ℕ) → IsStrictlyIncreasing numbers → All (λ f. f < length counts) numbers → k < length numbers →
+    ((f : ℕ) → get_or counts f 0 ≡ get_or old f 0 + cond (holds (take k numbers) f) n 0) →
+    (f : ℕ) → get_or (set counts (get_or numbers k 0) (get_or counts (get_or numbers k 0) 0 + n)) f 0 ≡ get_or old f 0 + cond (holds (take (k + 1) numbers) f) n 0
+add_more counts old numbers n k up within lt h f =
+    let g = get_or numbers k 0 in
+    let more = list_any_more (λ (x : ℕ). x == f) numbers k 0 lt in
+    elim (cases_eq f g) [
+      | inl e ↦ omega (
+        arith,
+        get_or-set_at counts g f (get_or counts g 0 + n) 0 e (within k 0 lt),
+        h g,
+        ap {B = ℕ} (λ b. cond b n 0) (not_before numbers k up lt),
+        ap (λ (m : ℕ). get_or old m 0) e,
+        ap {B = ℕ} (λ b. cond b n 0) (more ∙ or_right (holds (take k numbers) f) (g == f) (eq-eqb g f (sym e))),
+      )
+      | inr ne ↦ omega (
+        arith,
+        get_or-set_other counts g f (get_or counts g 0 + n) 0 ne,
+        h f,
+        ap {B = ℕ} (λ b. cond b n 0) (more ∙ or_not (holds (take k numbers) f) (g == f) (ne_eqb g f (λ e. ne (sym e)))),
+      )
+    ]
+
+pub add_fits : (counts old numbers : List ℕ) (n k : ℕ) → IsStrictlyIncreasing numbers → k < length numbers →
+    ((f : ℕ) → get_or counts f 0 ≡ get_or old f 0 + cond (holds (take k numbers) f) n 0) → get_or counts (get_or numbers k 0) 0 ≡ get_or old (get_or numbers k 0) 0
+add_fits counts old numbers n k up lt h = omega (arith, h (get_or numbers k 0), ap {B = ℕ} (λ b. cond b n 0) (not_before numbers k up lt))
+
+count_all : {X : Type 0} (p : X → Bool) (n : ℕ) (x : X) → p x ≡ true → count_by p (replicate n x) ≡ n
+count_all p zero x e = refl
+count_all p (suc n) x e = omega (arith, sum_by-cons (λ y. cond (p y) 1 0) x (replicate n x), ap {B = ℕ} (λ b. cond b 1 0) e, count_all p n x e)
+
+count_none : {X : Type 0} (p : X → Bool) (n : ℕ) (x : X) → p x ≡ false → count_by p (replicate n x) ≡ 0
+count_none p zero x e = refl
+count_none p (suc n) x e = omega (arith, sum_by-cons (λ y. cond (p y) 1 0) x (replicate n x), ap {B = ℕ} (λ b. cond b 1 0) e, count_none p n x e)
+
+count_same_step : {X : Type 0} (p : X → Bool) (n : ℕ) (x : X) (b : Bool) → p x ≡ b → count_by p (replicate n x) ≡ cond b n 0
+count_same_step p n x true e = count_all p n x e
+count_same_step p n x false e = count_none p n x e
+
+pub times_more : (runs : List Run) (k : ℕ) (r : Run) (f : ℕ) → k < length runs → r ≡ get_or runs k r →
+    times (slots_in (take (k + 1) runs)) f ≡ times (slots_in (take k runs)) f + cond (holds r.flows f) r.length 0
+times_more runs k r f lt is =
+    ap (λ s. times s f) (run_more runs k r lt is) ∙ times_append (slots_in (take k runs)) (replicate r.length r.flows) f
+    ∙ ap (λ n. times (slots_in (take k runs)) f + n) (count_same_step (λ (slot : List ℕ). holds slot f) r.length r.flows (holds r.flows f) refl)
+
+pub times_fit : (runs : List Run) (k : ℕ) (r : Run) (f n : ℕ) → IsKept runs → k < length runs → r ≡ get_or runs k r → n ≡ times (slots_in (take k runs)) f →
+    n + r.length < 2199023255552
+times_fit runs k r f n kept lt is e = omega (arith, e, count_by-le-length (λ (slot : List ℕ). holds slot f) (slots_in (take k runs)), run_fits runs k r kept lt is)
+
+-- a buffer that was written whole
+pub refill : {X : Type 0} (new old : List X) (n : ℕ) → length new ≡ n → take n (new ++ drop (length new) old) ≡ new
+refill new old n e = take_at new (drop (length new) old) n e

@@ -1,5 +1,0 @@
-pub mod Words
-pub mod Operands
-pub mod Checks
-pub mod Script
-pub mod Draft

@@ -1,2 +1,0 @@
-pub mod ScriptsRead
-pub mod SentFacts

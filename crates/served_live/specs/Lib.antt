@@ -1,3 +1,0 @@
-pub mod LiveFaults
-pub mod Read
-pub mod Told

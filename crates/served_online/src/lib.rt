@@ -1,6 +1,0 @@
-//! Online runs that a hall serves, as texts: what is sent on the wires of the ports is the schedule that the text has.
-#![tactic(auto)]
-
-mod telling;
-
-pub use telling::served_online;

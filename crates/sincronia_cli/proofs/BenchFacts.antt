@@ -1,0 +1,90 @@
+-- What a command does to the bench: whether there is a text decides it, and the job of the words.
+use Rattle.std.proofs.Common.{◌≡◌, ℕ, inl, inr, List, Option, ap, subst, sym, ◌∙◌}
+use Rattle.command_words.specs.Jobs.{Job}
+use Rattle.command_words.specs.Jobs.Job.{audit_job, check_job, classes_job, compare_job, live_job, make_job, online_job, plan_job}
+use Rattle.command_words.specs.Line.{Text}
+use Rattle.command_words.specs.Words.{IsWords, Said}
+use Rattle.command_words.proofs.OneMeaning.{words_one}
+use Rattle.std.specs.Prelude.{Bool, IfSome, false, true}
+use Rattle.flow_table.specs.Table.{TableFacts}
+use Rattle.outside.specs.Shelf.{Told}
+use Rattle.rankers.specs.Meaning.{Meaning}
+use Rattle.command_files.specs.declared.status.Status.{Status}
+use Rattle.command_files.specs.declared.status.Status.TheVariants as status
+use Rattle.sincronia_cli.specs.Causes.{CauseBy, HasCauseOf}
+use Rattle.command_files.specs.JobCauses.{HasFilesCause}
+use Rattle.command_jobs.specs.Check.{status_for}
+use Rattle.sincronia_cli.specs.Command.{IsCommand}
+use Rattle.sincronia_cli.specs.Outcome.{HasText, IsOutcome, OutcomeBy}
+use Rattle.command_jobs.specs.Online.{FilesPublishMore}
+use Rattle.command_jobs.specs.Serving.{Serves, Service}
+use Rattle.command_jobs.proofs.EndCauses.{by_epochs, by_wire, of_served}
+
+-- the words are one command
+pub job_of : (words : List Text) (by said : Said) (k : Job) → IsWords words by → IsCommand k words said → by.job ≡ k
+job_of words by said k reads is = ap (λ (s : Said). s.job) (words_one words by said reads is.words_say) ∙ is.job_is
+
+-- ---- an outcome has a text
+
+of_answer : (answer : Bool) (s : Status) → s ≡ status_for answer → HasText s
+of_answer true s is = subst HasText (sym is) tt
+of_answer false s is = subst HasText (sym is) tt
+
+text_by : (S : TableFacts → List (List ℕ) → Type 0) (k : Job) (told : Option Told) (said : Said) (bench : List Meaning) (s : Status) (text : List ℕ) →
+    OutcomeBy S k told said bench s text → HasText s
+text_by S (plan_job trace) told said bench s text outcome = subst HasText (sym outcome.0) tt
+text_by S (check_job trace report) told said bench s text (answer, is, checks) = of_answer answer s is
+text_by S (make_job seed) told said bench s text outcome = subst HasText (sym outcome.0) tt
+text_by S (compare_job trace) told said bench s text outcome = subst HasText (sym outcome.0) tt
+text_by S (classes_job trace) told said bench s text outcome = subst HasText (sym outcome.0) tt
+text_by S (online_job trace) told said bench s text outcome = subst HasText (sym outcome.0) tt
+text_by S (live_job trace script) told said bench s text outcome = subst HasText (sym outcome.0) tt
+text_by S (audit_job trace journal) told said bench s text (answer, is, audits) = of_answer answer s is
+
+pub outcome_has_text : (S : TableFacts → List (List ℕ) → Type 0) (told : Option Told) (said : Said) (bench : List Meaning) (s : Status) (text : List ℕ) →
+    IsOutcome S told said bench s text → HasText s
+outcome_has_text S told said bench s text outcome = text_by S said.job told said bench s text outcome
+
+-- ---- where nothing is to be written there is none
+
+no_text : (before now : ℕ) (old new : Option Told) (said : Said) (s : Status) → HasFilesCause before now old new said s → HasText s → ⊥
+no_text before now old new said status.Ok cause text = cause
+no_text before now old new said status.No cause text = cause
+no_text before now old new said status.Usage cause text = text
+no_text before now old new said (status.BadTrace fault) cause text = text
+no_text before now old new said (status.BadWeights fault) cause text = text
+no_text before now old new said (status.BadReport line) cause text = text
+no_text before now old new said (status.BadScript line field) cause text = text
+no_text before now old new said (status.Limit which count) cause text = text
+no_text before now old new said (status.ReadFault count) cause text = text
+no_text before now old new said (status.WriteFault count) cause text = cause
+no_text before now old new said (status.WireFault port count) cause text = cause
+no_text before now old new said status.NoMemory cause text = text
+
+none_by : (F : ℕ → Service → Type 0) (k : Job) (before now : ℕ) (old new : Option Told) (said : Said) (s : Status) → CauseBy F k before now old new said s →
+    HasText s → ⊥
+none_by F (plan_job trace) before now old new said s (inl cause) text = no_text before now old new said s cause text
+none_by F (plan_job trace) before now old new said s (inr cause) text =
+    let (port, count, is, p) = by_wire (λ port. Serves (F port) (plan_job trace) old said) s cause in
+    subst HasText is text
+none_by F (check_job trace report) before now old new said s cause text = no_text before now old new said s cause text
+none_by F (make_job seed) before now old new said s cause text =
+    of_served (λ port. Serves (F port) (make_job seed) old said) (λ (x : Status). HasText x → ⊥) s (λ t. t) (λ port count t. t) cause text
+none_by F (compare_job trace) before now old new said s cause text = no_text before now old new said s cause text
+none_by F (classes_job trace) before now old new said s cause text = no_text before now old new said s cause text
+none_by F (online_job trace) before now old new said s (inl cause) text = no_text before now old new said s cause text
+none_by F (online_job trace) before now old new said s (inr (inl cause)) text =
+    let (port, count, is, p) = by_wire (λ port. Serves (F port) (online_job trace) old said) s cause in
+    subst HasText is text
+none_by F (online_job trace) before now old new said s (inr (inr cause)) text =
+    let (count, is, p) = by_epochs (λ count. IfSome old (FilesPublishMore said count)) s cause in
+    subst HasText is text
+none_by F (live_job trace script) before now old new said s (inl cause) text = no_text before now old new said s cause text
+none_by F (live_job trace script) before now old new said s (inr cause) text =
+    let (port, count, is, p) = by_wire (λ port. Serves (F port) (live_job trace script) old said) s cause in
+    subst HasText is text
+none_by F (audit_job trace journal) before now old new said s cause text = no_text before now old new said s cause text
+
+pub cause_has_no_text : (F : ℕ → Service → Type 0) (before now : ℕ) (old new : Option Told) (said : Said) (s : Status) → HasCauseOf F before now old new said s →
+    HasText s → ⊥
+cause_has_no_text F before now old new said s cause text = none_by F said.job before now old new said s cause text

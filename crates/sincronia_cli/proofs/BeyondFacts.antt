@@ -1,0 +1,144 @@
+-- What a job finds beyond trace, weights, table and report: too many orders of an online run, too many units to be shared live, or the first fault of a script. It finds one.
+use Rattle.std.proofs.Common.{◌≡◌, ℕ, ◌+◌, ◌<◌, List, Option, Some, None, refl, sym, subst, ◌∙◌, ap, arith}
+use Rattle.coflow_units.specs.declared.fabric.Flow.{Flow}
+use Rattle.coflow_units.specs.declared.limits.TheConstants.{MAX_TEXT}
+use Rattle.coflow_units.specs.declared.quantity.Quantity.TheVariants as quantity
+use Rattle.std.specs.Prelude.{sum_by}
+use Rattle.command_words.specs.Jobs.{Job, report_name, script_name, trace_name}
+use Rattle.command_words.specs.Jobs.Job.{audit_job, check_job, classes_job, compare_job, live_job, make_job, online_job, plan_job}
+use Rattle.command_words.specs.Words.{Said}
+use Rattle.flow_table.specs.Sent.{sent}
+use Rattle.flow_table.proofs.FlowsOne.{flows_one}
+use Rattle.outside.specs.Shelf.{Told, bytes_of}
+use Rattle.workload.specs.declared.fault.ScriptFault.{ScriptFault}
+use Rattle.workload.specs.declared.fault.ScriptFault.TheVariants as script_fault
+use Rattle.trace_reader.specs.Trace.{trace_of}
+use Rattle.command_files.specs.declared.status.Status.{Status}
+use Rattle.command_files.specs.declared.status.Status.TheVariants as status
+use Rattle.command_files.specs.Causes.{FilesGiveScript, FilesGiveShared, FilesGiveTable, IsGiven}
+use Rattle.command_files.specs.Inputs.{bytes_if}
+use Rattle.command_files.specs.ScriptCauses.{HasScriptFault}
+use Rattle.command_files.specs.Scripts.{HasMoreUnits, HasScriptText, table_units}
+use Rattle.command_files.specs.WeightsCauses.{AreTooLong}
+use Rattle.command_files.specs.JobCauses.{IsBadFor}
+use Rattle.command_files.specs.GoodFiles.{HasGoodFiles}
+use Rattle.command_jobs.specs.Online.{PublishesFew, PublishesOver}
+use Rattle.command_files.proofs.GoodFacts.{HasNoFault}
+use Rattle.sincronia_cli.proofs.CompleteFacts.{no_report_of}
+use Rattle.command_jobs.proofs.OnlineFacts.{over_is, over_one}
+
+-- ---- the status of a fault of a script
+
+abbrev pub of_script : ScriptFault → Status
+of_script (script_fault.Bad line field) = status.BadScript line field
+of_script (script_fault.Limit which count) = status.Limit which count
+of_script script_fault.NoMemory = status.NoMemory
+
+pub data ScriptStops (ids : List ℕ) (script : Option (List ℕ)) (s : Status) : Type 0 where
+  long_script : AreTooLong script → s ≡ status.Limit quantity.Text (MAX_TEXT + 1) → ScriptStops ids script s
+  bad_script : (f : ScriptFault) → HasScriptFault ids script f → s ≡ of_script f → ScriptStops ids script s
+
+script_one : (ids : List ℕ) (script : Option (List ℕ)) (a b : Status) → ScriptStops ids script a → ScriptStops ids script b → a ≡ b
+script_one ids None a b (long_script x e) y = absurd x
+script_one ids None a b (bad_script g h e) y = absurd h
+script_one ids (Some text) a b (long_script x e) (long_script y f) = e ∙ sym f
+script_one ids (Some text) a b (long_script x e) (bad_script g (short, first) f) = absurd (omega (arith, x, short))
+script_one ids (Some text) a b (bad_script g (short, first) f) (long_script x e) = absurd (omega (arith, x, short))
+script_one ids (Some text) a b (bad_script g (short, first) e) (bad_script k (low, is) f) =
+    let same : Some g ≡ Some k = sym first ∙ is in
+    let one : g ≡ k = cc in
+    e ∙ ap of_script one ∙ sym f
+
+no_script : (ids : List ℕ) (s : Status) → ScriptStops ids None s → ⊥
+no_script ids s (long_script x e) = x
+no_script ids s (bad_script f x e) = x
+
+script_ends : (ids : List ℕ) (script : Option (List ℕ)) (s : Status) → ScriptStops ids script s → HasScriptText ids script → ⊥
+script_ends ids None s x good = no_script ids s x
+script_ends ids (Some text) s (long_script x e) good = absurd (omega (arith, x, good.short))
+script_ends ids (Some text) s (bad_script f (short, first) e) good = let clash : None ≡ Some f = sym good.passes ∙ first in cc
+
+-- ---- what a job finds
+
+pub data Beyond (said : Said) (t : Told) (s : Status) : Type 0 where
+  too_often : (count : ℕ) → PublishesOver said.job said count t → s ≡ status.Limit quantity.Epochs count → Beyond said t s
+  too_much : IsGiven (script_name said.job) → (g : FilesGiveTable said t) → (count : ℕ) → HasMoreUnits g.table count → s ≡ status.Limit quantity.Units count → Beyond said t s
+  in_script : (x : FilesGiveShared said t) → ScriptStops x.given.table.ids (bytes_if t (script_name said.job)) s → Beyond said t s
+
+module _ (said : Said) (t : Told) where
+  units_one : (a b : FilesGiveTable said t) → table_units a.table ≡ table_units b.table
+  units_one a b =
+      ap (λ (fs : List Flow). sum_by (λ (x : Flow). x.units) fs)
+      (flows_one (sent (trace_of (bytes_of t (trace_name said.job))) said.unit) a.table.flows b.table.flows a.gives.table_is.flows b.gives.table_is.flows)
+
+  ids_one : (a b : FilesGiveTable said t) → a.table.ids ≡ b.table.ids
+  ids_one a b = a.gives.table_is.ids ∙ sym b.gives.table_is.ids
+
+  -- an online run has no script
+  online_has_none : (count : ℕ) → PublishesOver said.job said count t → script_name said.job ≡ None
+  online_has_none count over = let (trace, same, more) = over_is said t said.job count over in ap script_name same
+
+  over_given : (count : ℕ) → PublishesOver said.job said count t → IsGiven (script_name said.job) → ⊥
+  over_given count over given = subst IsGiven (online_has_none count over) given
+
+  over_script : (count : ℕ) (ids : List ℕ) (s : Status) → PublishesOver said.job said count t → ScriptStops ids (bytes_if t (script_name said.job)) s → ⊥
+  over_script count ids s over stops =
+      no_script ids s (subst (λ (n : Option (List ℕ)). ScriptStops ids (bytes_if t n) s) (online_has_none count over) stops)
+
+  few_and_many : (a : FilesGiveTable said t) (count : ℕ) → HasMoreUnits a.table count → (x : FilesGiveShared said t) → ⊥
+  few_and_many a count (is, many) x = absurd (omega (arith, many, x.shared, units_one a x.given))
+
+  pub beyond_one : (a b : Status) → Beyond said t a → Beyond said t b → a ≡ b
+  beyond_one a b (too_often m over e) (too_often n beyond f) = e ∙ ap (λ c. status.Limit quantity.Epochs c) (over_one said t said.job m n over beyond) ∙ sym f
+  beyond_one a b (too_often m over e) (too_much given g n more f) = absurd (over_given m over given)
+  beyond_one a b (too_often m over e) (in_script x stops) = absurd (over_script m x.given.table.ids b over stops)
+  beyond_one a b (too_much given g m more e) (too_often n over f) = absurd (over_given n over given)
+  beyond_one a b (too_much given g m (m_is, many) e) (too_much again h n (n_is, more) f) =
+      e ∙ ap (λ c. status.Limit quantity.Units c) (m_is ∙ units_one g h ∙ sym n_is) ∙ sym f
+  beyond_one a b (too_much given g m more e) (in_script x stops) = absurd (few_and_many g m more x)
+  beyond_one a b (in_script x stops) (too_often n over f) = absurd (over_script n x.given.table.ids a over stops)
+  beyond_one a b (in_script x stops) (too_much given g n more f) = absurd (few_and_many g n more x)
+  beyond_one a b (in_script x stops) (in_script y ends) =
+      script_one x.given.table.ids (bytes_if t (script_name said.job)) a b stops
+      (subst (λ (ids : List ℕ). ScriptStops ids (bytes_if t (script_name said.job)) b) (ids_one y.given x.given) ends)
+
+  -- ---- and nothing where its files are good, and it does not publish too many orders
+
+  script_good : (k : Job) → HasGoodFiles k said t → IsGiven (script_name k) → FilesGiveScript said t
+  script_good (live_job trace script) good given = good
+  script_good (plan_job trace) good given = absurd given
+  script_good (check_job trace report) good given = absurd given
+  script_good (make_job seed) good given = absurd given
+  script_good (compare_job trace) good given = absurd given
+  script_good (classes_job trace) good given = absurd given
+  script_good (audit_job trace journal) good given = absurd given
+  script_good (online_job trace) good given = absurd given
+
+  pub is_given : (n : Option (List ℕ)) (ids : List ℕ) (s : Status) → ScriptStops ids (bytes_if t n) s → IsGiven n
+  is_given None ids s stops = no_script ids s stops
+  is_given (Some name) ids s stops = tt
+
+  pub nothing_beyond : HasGoodFiles said.job said t → PublishesFew said.job said t → (s : Status) → Beyond said t s → ⊥
+  nothing_beyond good few s (too_often count over e) = few count over
+  nothing_beyond good few s (too_much given g count more e) =
+      let (shared, text) = script_good said.job good given in
+      few_and_many g count more shared
+  nothing_beyond good few s (in_script x stops) =
+      let (shared, text) = script_good said.job good (is_given (script_name said.job) x.given.table.ids s stops) in
+      script_ends x.given.table.ids (bytes_if t (script_name said.job)) s stops
+      (subst (λ (ids : List ℕ). HasScriptText ids (bytes_if t (script_name said.job))) (ids_one shared.given x.given) text)
+
+-- where there is a script there is no report
+script_alone : (k : Job) → IsGiven (script_name k) → report_name k ≡ None
+script_alone (live_job trace script) given = refl
+script_alone (plan_job trace) given = absurd given
+script_alone (check_job trace report) given = absurd given
+script_alone (make_job seed) given = absurd given
+script_alone (compare_job trace) given = absurd given
+script_alone (classes_job trace) given = absurd given
+script_alone (audit_job trace journal) given = absurd given
+script_alone (online_job trace) given = absurd given
+
+-- so none has a fault
+pub alone_is_good : (said : Said) (t : Told) → IsGiven (script_name said.job) → HasNoFault (IsBadFor said.job) (bytes_if t (report_name said.job))
+alone_is_good said t given = no_report_of said t said.job refl (script_alone said.job given)

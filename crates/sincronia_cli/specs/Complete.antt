@@ -1,0 +1,33 @@
+-- When a command ends well.
+use Rattle.std.specs.Prelude.{◌≡◌, ◌⊎◌, Option, IsSomeAnd}
+use Rattle.command_words.specs.Jobs.{Job}
+use Rattle.command_words.specs.Jobs.Job.{audit_job, check_job, classes_job, compare_job, live_job, make_job, online_job, plan_job}
+use Rattle.command_words.specs.Words.{Said}
+use Rattle.outside.specs.Shelf.{Told}
+use Rattle.command_files.specs.declared.status.Status.{Status}
+use Rattle.command_files.specs.declared.status.Status.TheVariants.{No, Ok}
+use Rattle.command_files.specs.GoodFiles.{HasGoodFiles}
+use Rattle.command_jobs.specs.Online.{PublishesFew}
+
+-- the files that the command reads are told, and they are good; an online run of them does not publish too many orders
+abbrev pub AreGood : Job → Said → Option Told → Type 0
+AreGood (plan_job trace) said told = IsSomeAnd told (HasGoodFiles (plan_job trace) said)
+AreGood (check_job trace report) said told = IsSomeAnd told (HasGoodFiles (check_job trace report) said)
+AreGood (make_job seed) said told = Unit {0}
+AreGood (compare_job trace) said told = IsSomeAnd told (HasGoodFiles (compare_job trace) said)
+AreGood (classes_job trace) said told = IsSomeAnd told (HasGoodFiles (classes_job trace) said)
+AreGood (audit_job trace journal) said told = IsSomeAnd told (HasGoodFiles (audit_job trace journal) said)
+AreGood (online_job trace) said told =
+    IsSomeAnd told (λ t. HasGoodFiles (online_job trace) said t × PublishesFew (online_job trace) said t)
+AreGood (live_job trace script) said told = IsSomeAnd told (HasGoodFiles (live_job trace script) said)
+
+-- the job of the command was done, and its text was written whole
+abbrev pub EndsWell : Job → Status → Type 0
+EndsWell (plan_job trace) status = status ≡ Ok
+EndsWell (check_job trace report) status = (status ≡ Ok) ⊎ (status ≡ No)
+EndsWell (make_job seed) status = status ≡ Ok
+EndsWell (compare_job trace) status = status ≡ Ok
+EndsWell (classes_job trace) status = status ≡ Ok
+EndsWell (audit_job trace journal) status = (status ≡ Ok) ⊎ (status ≡ No)
+EndsWell (online_job trace) status = status ≡ Ok
+EndsWell (live_job trace script) status = status ≡ Ok

@@ -1,8 +1,0 @@
-use Rattle.std.proofs.Common.{subst, sym}
-use Rattle.coflow_units.specs.Schedule.{IsRuns}
-use Rattle.slot_schedule.specs.RunList.{pairs_of}
-use Rattle.slot_schedule.proofs.RunPushes.{runs_are}
-use Rattle.slot_schedule.proofs.schedule.Schedule.into_runs.Goals as goal
-
-pub returns : goal.returns
-returns c = record { runs = subst (λ s. IsRuns s (pairs_of c.self.inside.runs.items)) c.self.view_is (runs_are c.self.inside.runs.items c.self.invariant) }

@@ -1,2 +1,0 @@
-pub mod RunList
-pub mod Weights

@@ -1,6 +1,0 @@
--- the session stays in its hall
-use Rattle.client_session.specs.Models.{IsSessionOf}
-use Rattle.small_runs.proofs.small.join_all.Given as goal
-
-abbrev pub invariant-loop-coflow : goal.invariant-loop-coflow
-invariant-loop-coflow g l = IsSessionOf l.hall l.session

@@ -1,0 +1,19 @@
+//! Tables of flows from the texts of traces and from files, as tests, benches and games take them. The commands tell more of a text or a file that has none.
+#![tactic(auto)]
+
+mod asks;
+mod begun;
+mod closed;
+mod fault;
+mod file;
+mod small;
+mod small_run;
+mod table;
+
+pub use asks::{Ask, Said, answered};
+pub use begun::{let_master_go, let_session_go, master_of_two};
+pub use fault::{FileFault, TextFault};
+pub use file::{bytes_of_file, table_of_file};
+pub use small::{SmallHall, SmallSize};
+pub use small_run::SmallRun;
+pub use table::table_of_text;

@@ -1,5 +1,0 @@
-use Rattle.turn_steps.proofs.OwnEntries.{own_entries}
-use Rattle.turn_steps.proofs.laws.own_entries_are_seen.Goals as goal
-
-pub returns : goal.returns
-returns g c = record { own = own_entries g.T.Chronicle.by }

@@ -1,4 +1,0 @@
-pub mod Histories
-pub mod Models
-pub mod Tells
-pub mod Tickets

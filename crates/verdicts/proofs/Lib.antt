@@ -1,2 +1,0 @@
-pub mod OneReport
-pub mod OneJudgement

@@ -1,4 +1,0 @@
-pub mod VerdictLine
-pub mod OnlineLine
-pub mod AnyReport
-pub mod Judged

@@ -1,7 +1,0 @@
-pub mod BusySteps
-pub mod Drawers
-pub mod EntrySteps
-pub mod GrantTurns
-pub mod PlayedRuns
-pub mod RowChecks
-pub mod Turns

@@ -1,5 +1,0 @@
-use Rattle.world_laws.proofs.PlayedRuns.{runs_are_played}
-use Rattle.world_laws.proofs.laws.runs_are_played.Goals as goal
-
-pub returns : goal.returns
-returns c = runs_are_played
