@@ -7,10 +7,9 @@ ghost use Rattle.client_session.specs.Drivers.{who_of};
 ghost use Rattle.client_session.specs.Models.{IsDriverOf, IsSessionOf, SessionModel};
 ghost use Rattle.client_session.specs.Returns.{AreReturned};
 
-use crate::desk::Desk;
+use crate::desk::{Desk, meet_all};
 use crate::driver::Driver;
 use crate::hall::Hall;
-use crate::meeting::meet_all;
 use crate::session::Session;
 use master_core::Master;
 use rank_board::RankSeat;

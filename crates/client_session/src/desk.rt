@@ -1,16 +1,16 @@
-//! The value behind the turnstile: the master, and the publisher of its ranks.
-ghost use Rattle.std.specs.Prelude.{◌≡◌, ℕ, ◌≤◌, false, true, length, [], All, Ok, Err, vec_capacity};
+//! The value behind the turnstile: the master, and the publisher of its ranks, whom the seats of callers meet.
+ghost use Rattle.client_session.specs.Desk.{AddsEntry, IsRanked, IsSeen, KeepsLooks, MetAt, WasMet};
+ghost use Rattle.client_session.specs.Grants.{TellsGrants};
+ghost use Rattle.client_session.specs.Own.{look_version};
+ghost use Rattle.client_session.specs.declared.receipt.Receipt.{Receipt};
 ghost use Rattle.journal.specs.Answer.{IsInRange, reply_of, room};
 ghost use Rattle.journal.specs.Entries.{is_driving};
 ghost use Rattle.journal.specs.Fold.{state_of};
 ghost use Rattle.journal.specs.Journal.{journal_after, order_in, version_of};
 ghost use Rattle.journal.specs.State.{IsOpening};
 ghost use Rattle.master_core.specs.Published.{TellsPlaces, ranked};
-ghost use Rattle.rank_board.specs.Models.{saw_front};
-ghost use Rattle.client_session.specs.Own.{look_version};
-ghost use Rattle.client_session.specs.Desk.{AddsEntry, IsRanked, IsSeen, KeepsLooks, MetAt};
-ghost use Rattle.client_session.specs.Grants.{TellsGrants};
-ghost use Rattle.client_session.specs.declared.receipt.Receipt.{Receipt};
+ghost use Rattle.rank_board.specs.Models.{saw_front, SeatModel};
+ghost use Rattle.std.specs.Prelude.{◌≡◌, ℕ, ◌≤◌, false, true, length, [], All, Ok, Err, vec_capacity};
 
 use crate::granted::Granted;
 use crate::receipt::Receipt;
@@ -223,5 +223,17 @@ fn copy_places(from: &[Place], to: &mut Vec<Place>)
     to.clear();
     for place in from {
         to.push_reserved(*place);
+    }
+}
+
+/// Lets each seat of the board meet the publisher.
+pub fn meet_all(board: &RankBoard, desk: &mut Desk, ranks: Vec<RankSeat>)
+    requires board { desk.old.setting.board ≡ board.now }
+    requires ranks { All (λ (r : SeatModel). r.table ≡ board.now.table) ranks.items }
+    ensures desk { desk.new ≡ desk.old }
+    ensures met { All (WasMet desk.old.setting.opening desk.old.journal) ranks.items }
+{
+    for mut rank in ranks {
+        desk.meet(board, &mut rank);
     }
 }

@@ -1,9 +1,11 @@
-//! What is granted in the open run.
-ghost use Rattle.std.specs.Prelude.{◌≡◌, ◌≤◌, [], IfOk, length, None, replicate, slice_index_or, vec_capacity};
+//! What is granted in the open run, and what a hall begins with beside its master.
 ghost use Rattle.client_session.specs.Grants.{TellsGrants};
+ghost use Rattle.rank_board.specs.Models.{first_publisher, new_seat};
+ghost use Rattle.std.specs.Prelude.{◌≡◌, ◌≤◌, [], IfOk, length, None, replicate, slice_index_or, vec_capacity};
 
 use coflow_units::NoMemory;
 use master_core::Master;
+use rank_board::{Publisher, RankBoard, RankSeat};
 use std::alloc::Global;
 use std::marker::Model;
 
@@ -91,4 +93,20 @@ fn copy_flows(from: &[u32], to: &mut Vec<u32>)
     for flow in from {
         to.push_reserved(*flow);
     }
+}
+
+/// Grants of nothing at so many ports, and a board of so many coflows with its publisher and a first seat.
+pub fn first_parts(
+    alloc: Global,
+    ports: u32,
+    coflows: u32,
+) -> Result<(Granted, RankBoard, Publisher, RankSeat), NoMemory>
+    ensures ports { IfOk result (λ made. length made.0.at ≡ ports) }
+    ensures coflows { IfOk result (λ made. made.1.coflows ≡ coflows) }
+    ensures publisher { IfOk result (λ made. made.2 ≡ first_publisher made.1.table) }
+    ensures seat { IfOk result (λ made. made.3 ≡ new_seat made.1.table 0) }
+{
+    let granted = Granted::new(alloc, ports)?;
+    let (board, publisher, rank) = RankBoard::new(alloc, coflows)?;
+    Ok((granted, board, publisher, rank))
 }

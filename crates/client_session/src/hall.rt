@@ -7,7 +7,7 @@ ghost use Rattle.client_session.specs.Halls.{IsFirstDriver, IsNewSession};
 
 use crate::desk::Desk;
 use crate::driver::Driver;
-use crate::parts::first_parts;
+use crate::granted::first_parts;
 use crate::session::Session;
 use coflow_units::NoMemory;
 use master_core::Master;

@@ -6,8 +6,6 @@ mod desk;
 mod driver;
 mod granted;
 mod hall;
-mod meeting;
-mod parts;
 mod receipt;
 mod session;
 mod turn;

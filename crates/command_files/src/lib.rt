@@ -4,12 +4,10 @@
 mod inputs;
 mod lives;
 mod messages;
-mod outcome;
 mod status;
 
 pub use inputs::{
     Input, read_any_report_file, read_input, read_journal_file, read_report_file, read_script_file,
 };
 pub use lives::{LiveInput, read_live_files};
-pub use outcome::Outcome;
-pub use status::Status;
+pub use status::{Outcome, Status};

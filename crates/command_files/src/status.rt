@@ -1,6 +1,6 @@
-//! How the program's job ended.
-ghost use Rattle.std.specs.Prelude.{◌≡◌};
+//! What a command has to write, and how the program's job ended.
 ghost use Rattle.command_files.specs.Code.{code_of};
+ghost use Rattle.std.specs.Prelude.{◌≡◌};
 
 use coflow_units::{NoMemory, Quantity};
 use flow_table::TableFault;
@@ -163,4 +163,11 @@ impl From<ScriptFault> for Status {
             ScriptFault::NoMemory => Status::NoMemory,
         }
     }
+}
+
+/// The text that a command writes, and the status of the job once the text is written whole.
+#[derive(Drop)]
+pub struct Outcome {
+    pub text: Vec<u8>,
+    pub status: Status,
 }

@@ -3,7 +3,7 @@ use Rattle.std.specs.Prelude.{◌≡◌, ℕ, List, None, Option, Some}
 use Rattle.command_words.specs.Jobs.{script_name, trace_name}
 use Rattle.command_words.specs.Words.{Said}
 use Rattle.flow_table.specs.Table.{TableFacts}
-use Rattle.live_runs.specs.LiveFaults.{LiveFault}
+use Rattle.live_serving.specs.declared.answer.LiveFault.{LiveFault}
 use Rattle.live_runs.specs.LiveFaults as live_fault
 use Rattle.outside.specs.Shelf.{Told}
 use Rattle.workload.specs.declared.script.Script.{Script}

@@ -1,5 +1,5 @@
-//! The commands that read files and send nothing: the verdicts of `check` and `audit`, and the orders that `compare` and
-//! `classes` tell.
+//! What each command does once its words are read: it reads its files, plans, serves or judges, and has the text that is
+//! written and the status that ends it.
 #![tactic(auto)]
 
 mod auditing;

@@ -3,7 +3,7 @@ ghost use Rattle.std.specs.Prelude.{◌≡◌, ℕ, ◌<◌, ◌≤◌, ◌^◌,
 ghost use Rattle.coflow_units.specs.declared.limits.TheConstants.{MAX_CLIENTS, MAX_PORTS, MAX_WEIGHT};
 ghost use Rattle.command_words.specs.Jobs.Job.{live_job};
 ghost use Rattle.command_words.specs.Words.{said_with};
-ghost use Rattle.live_runs.specs.LiveFaults.{WireFault};
+ghost use Rattle.live_serving.specs.declared.answer.LiveFault.TheVariants.{WireFault};
 ghost use Rattle.live_runs.specs.Told.{FailsAt, SendsAll as SendsRun, SendsSoFar, TellsLive, served_in};
 ghost use Rattle.hall_plan.specs.Sent.{SendsAll};
 ghost use Rattle.command_files.specs.Ends.{CountsFault, IfPastFiles};

@@ -4,7 +4,7 @@ use Rattle.coflow_units.specs.declared.limits.TheConstants.{MAX_OPTION_SLOTS, MA
 use Rattle.text_fields.specs.Numbers.{is_number, number}
 use Rattle.command_words.specs.Line.{IsOnce, Text, Use, uses, value_of}
 use Rattle.command_words.specs.Jobs.{IsFileName, Job, job_by, job_in}
-use Rattle.command_words.specs.declared.limits.TheConstants.{MAX_OPTION_AGENTS, MAX_OPTION_CLASSES}
+use Rattle.command_words.specs.declared.options.TheConstants.{MAX_OPTION_AGENTS, MAX_OPTION_CLASSES}
 use Rattle.command_words.specs.declared.options.Options.{Options}
 use Rattle.command_words.specs.declared.words.Words.{Words}
 

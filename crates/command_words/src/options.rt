@@ -1,7 +1,7 @@
-//! The options of a command line.
-ghost use Rattle.std.specs.Prelude.{◌≤◌};
+//! The options of a command line, and the limits that no other crate has.
 ghost use Rattle.coflow_units.specs.declared.limits.TheConstants.{MAX_OPTION_SLOTS, MAX_SLOT_MS};
-ghost use Rattle.command_words.specs.declared.limits.TheConstants.{MAX_OPTION_AGENTS, MAX_OPTION_CLASSES};
+ghost use Rattle.command_words.specs.declared.options.TheConstants.{MAX_OPTION_AGENTS, MAX_OPTION_CLASSES};
+ghost use Rattle.std.specs.Prelude.{◌≤◌};
 
 use coflow_units::UnitSize;
 
@@ -32,3 +32,9 @@ pub struct Options<'a> {
     pub ghost some_classes: { 1 ≤ classes },
     pub ghost few_classes: { classes ≤ MAX_OPTION_CLASSES },
 }
+
+/// The greatest value of the option `--agents`.
+pub const MAX_OPTION_AGENTS: u64 = 64;
+
+/// The greatest value of the option `--classes`.
+pub const MAX_OPTION_CLASSES: u64 = 64;

@@ -9,8 +9,7 @@ ghost use Rattle.command_words.specs.declared.fault.WordsFault.TheVariants.{Usag
 
 use crate::fault::WordsFault;
 use crate::job::{Job, job_of};
-use crate::limits::{MAX_OPTION_AGENTS, MAX_OPTION_CLASSES};
-use crate::options::Options;
+use crate::options::{MAX_OPTION_AGENTS, MAX_OPTION_CLASSES, Options};
 use crate::parser::matches_of;
 use crate::values::{is_file_name, setting_of, unit_of};
 use clap::ArgMatches;

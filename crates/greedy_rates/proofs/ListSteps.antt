@@ -15,7 +15,6 @@ use Rattle.std.proofs.lemmas.Map.Keys.{IsDistinct-IsPermutation, IsStrictlyIncre
 use Rattle.std.proofs.lemmas.Map.Made.{IsDistinct-from_AllPairs}
 use Rattle.coflow_units.proofs.Sums.{nothing_in, pairs_from_apart, rising_apart}
 use Rattle.coflow_units.proofs.Bools.{flips}
-pub use Rattle.coflow_units.proofs.Fronts.{written_back}
 use Rattle.greedy_rates.specs.Room.{flow_at_ingress}
 use Rattle.greedy_rates.specs.Pass.{IsListing}
 use Rattle.greedy_rates.proofs.PassSteps.{not_none, same_some}

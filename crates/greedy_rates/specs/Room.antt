@@ -3,7 +3,6 @@ use Rattle.std.specs.Prelude.{◌≡◌, ℕ, ◌<◌, ◌≤◌, ◌^◌, ◌�
 use Rattle.std.specs.List.{slice_index_or}
 use Rattle.coflow_units.specs.declared.fabric.Flow.{Flow}
 use Rattle.coflow_units.specs.Flows.{ingress_of}
-pub use Rattle.coflow_units.specs.LeastLeft.{IsLeastLeft}
 
 -- the number of ports on each side, the granted flows, and for each ingress the flow that stands at it
 pub record Grants : Type 0 where

@@ -5,7 +5,8 @@ ghost use Rattle.std.specs.List.Sorted.{IsStrictlyIncreasing};
 ghost use Rattle.coflow_units.specs.declared.fabric.Flow.{Flow};
 ghost use Rattle.coflow_units.specs.Flows.{IsDistinct};
 ghost use Rattle.greedy_rates.specs.Pass.{IsGranting, IsListing, IsNext};
-ghost use Rattle.greedy_rates.specs.Room.{IsLeastLeft, flow_at_ingress};
+ghost use Rattle.coflow_units.specs.LeastLeft.{IsLeastLeft};
+ghost use Rattle.greedy_rates.specs.Room.{flow_at_ingress};
 ghost use Rattle.coflow_units.specs.Starts.{IsStarts};
 
 use coflow_units::Flow;

@@ -4,7 +4,8 @@ ghost use Rattle.coflow_units.specs.declared.fabric.Flow.{Flow};
 ghost use Rattle.coflow_units.specs.Flows.{IsDistinct};
 ghost use Rattle.coflow_units.specs.Grants.{IsGrants};
 ghost use Rattle.greedy_rates.specs.Owed.{IsOwed};
-ghost use Rattle.greedy_rates.specs.Room.{IsLeastLeft, TellsIngresses, flow_at_ingress};
+ghost use Rattle.coflow_units.specs.LeastLeft.{IsLeastLeft};
+ghost use Rattle.greedy_rates.specs.Room.{TellsIngresses, flow_at_ingress};
 ghost use Rattle.coflow_units.specs.Starts.{IsStarts};
 
 use crate::owed_pass;

@@ -25,8 +25,8 @@ use Rattle.client_session.specs.Halls.{IsFirstDriver}
 use Rattle.client_session.specs.Models.{DriverModel, HallModel}
 use Rattle.slot_runner.specs.Models.{first_runner, RunnerModel}
 use Rattle.hall_plan.specs.Journals.{HasRoom}
-use Rattle.hall_plan.specs.Wires.{AreAllUnits, HaveMore}
-use Rattle.hall_plan.proofs.WireSteps.{have_none, have_so, untouched}
+use Rattle.slot_runner.specs.Wires.{AreAllUnits, HaveMore}
+use Rattle.slot_runner.proofs.WireSteps.{have_none, have_so, untouched}
 use Rattle.online_runs.specs.Input.{IsOnlineInput, online_limit, online_opening}
 use Rattle.online_runs.specs.Value.{IsOnlineOf, release_line, done_lines}
 use Rattle.online_runs.proofs.Along.{holds_first}

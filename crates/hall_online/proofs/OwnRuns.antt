@@ -31,7 +31,7 @@ use Rattle.journal.proofs.UnderWay.{within_limit}
 use Rattle.client_session.specs.Models.{HallModel}
 use Rattle.slot_runner.specs.Models.{MayRun, RunnerModel}
 use Rattle.slot_runner.specs.Slots.{HasRun}
-use Rattle.hall_plan.specs.Plans.{IsPartOf}
+use Rattle.slot_runner.specs.Wires.{IsPartOf}
 use Rattle.hall_plan.proofs.NobodyElse.{all_back, all_own, no_others, Own, shape}
 use Rattle.hall_online.specs.Halls.{IsReady}
 use Rattle.online_runs.proofs.Shapes.{drive_of, run_entries, run_is_driven}

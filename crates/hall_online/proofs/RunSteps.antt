@@ -32,12 +32,12 @@ use Rattle.journal.proofs.ServingRuns.{as_long}
 use Rattle.client_session.specs.Models.{HallModel}
 use Rattle.slot_runner.specs.Models.{MayRun, RunnerModel}
 use Rattle.slot_runner.specs.Slots.{AreSent, HasRun, IsAnswered, IsFaulted, IsFullAt, IsRan}
-use Rattle.hall_plan.specs.Cuts.{HaveStopped}
-use Rattle.hall_plan.specs.Halls.{NoneFell}
-use Rattle.hall_plan.specs.Wires.{AreUnits}
-use Rattle.hall_plan.proofs.CutRuns.{cut_at, whole_unnoted}
+use Rattle.slot_runner.specs.Cuts.{HaveStopped}
+use Rattle.slot_runner.specs.Wires.{NoneFell}
+use Rattle.slot_runner.specs.Wires.{AreUnits}
+use Rattle.slot_runner.proofs.CutRuns.{cut_at, whole_unnoted}
 use Rattle.hall_plan.proofs.PlanTurns.{added, not_stopped}
-use Rattle.hall_plan.proofs.WireSteps.{are_units, fell_next, have_next, have_so, none_fell}
+use Rattle.slot_runner.proofs.WireSteps.{are_units, fell_next, have_next, have_so, none_fell}
 use Rattle.online_runs.specs.Deeds.{coflow_owes, DoesNext, owed_after, time_of}
 use Rattle.online_runs.proofs.Along.{Holds, no_run_epochs}
 use Rattle.online_runs.proofs.Owed.{owes_at}

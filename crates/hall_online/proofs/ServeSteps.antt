@@ -7,9 +7,9 @@ use Rattle.epochs.specs.Course.{after, Course}
 use Rattle.journal.specs.Closed.{schedule_of, wire_of}
 use Rattle.client_session.specs.Models.{HallModel}
 use Rattle.slot_runner.specs.Models.{RunnerModel}
-use Rattle.hall_plan.specs.Halls.{NoneFell}
-use Rattle.hall_plan.specs.Wires.{AreAllUnits, AreUnits, HaveMore}
-use Rattle.hall_plan.proofs.WireSteps.{all_units, are_units, have_so, none_fell}
+use Rattle.slot_runner.specs.Wires.{NoneFell}
+use Rattle.slot_runner.specs.Wires.{AreAllUnits, AreUnits, HaveMore}
+use Rattle.slot_runner.proofs.WireSteps.{all_units, are_units, have_so, none_fell}
 use Rattle.online_runs.specs.Deeds.{PublishesTooMany}
 use Rattle.online_runs.proofs.Standing.{few_slots}
 use Rattle.online_runs.specs.declared.progress.Progress.{Progress}

@@ -18,8 +18,8 @@ use Rattle.journal.specs.declared.command.Entry.{Entry}
 use Rattle.journal.specs.declared.opening.Opening.{Opening}
 use Rattle.journal.specs.Journal.{is_version}
 use Rattle.journal.specs.State.{IsOpening}
-use Rattle.hall_plan.specs.Cuts.{HaveStopped}
-use Rattle.hall_plan.proofs.WireSteps.{untouched}
+use Rattle.slot_runner.specs.Cuts.{HaveStopped}
+use Rattle.slot_runner.proofs.WireSteps.{untouched}
 use Rattle.online_runs.specs.Deeds.{IsOnlineRun, PublishesTooMany}
 use Rattle.online_runs.specs.Input.{IsOnlineInput, online_opening}
 use Rattle.online_runs.specs.Value.{epoch_at, epochs_from, IsOnlineOf}

@@ -9,7 +9,7 @@ use Rattle.journal.specs.declared.opening.Opening.{Opening}
 use Rattle.journal.specs.Closed.{schedule_of, wire_of}
 use Rattle.client_session.specs.Models.{HallModel}
 use Rattle.slot_runner.specs.Models.{RunnerModel}
-use Rattle.hall_plan.specs.Wires.{AreUnits, HaveMore}
+use Rattle.slot_runner.specs.Wires.{AreUnits, HaveMore}
 use Rattle.online_runs.specs.Deeds.{course_of, Deed, DoesNext, IsOnlineRun, IsOnlineSoFar, IsServedOnline, journal_of}
 use Rattle.online_runs.specs.Input.{IsOnlineInput, online_limit}
 use Rattle.online_runs.specs.Value.{epochs_of}

@@ -19,8 +19,8 @@ use Rattle.journal.specs.Journal.{is_version, left_at}
 use Rattle.online_runs.specs.Deeds.{IsServedOnline, PublishesTooMany}
 use Rattle.online_runs.specs.Input.{online_opening}
 use Rattle.online_runs.specs.Value.{epoch_at, IsOnlineOf}
-use Rattle.hall_plan.specs.Cuts.{HaveStopped}
-use Rattle.hall_plan.specs.Wires.{AreAllUnits, AreUnits, HaveMore}
+use Rattle.slot_runner.specs.Cuts.{HaveStopped}
+use Rattle.slot_runner.specs.Wires.{AreAllUnits, AreUnits, HaveMore}
 use Rattle.hall_online.specs.Serving.{IsOnlineBegun}
 use Rattle.outside.specs.Rose.{Rose}
 

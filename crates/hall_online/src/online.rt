@@ -2,8 +2,8 @@
 ghost use Rattle.std.specs.Prelude.{◌≡◌, ◌+◌, ◌≤◌, ◌<◌, ℕ, All, Err, IfOk, length, slice_index_or};
 ghost use Rattle.coflow_units.specs.declared.limits.TheConstants.{MAX_ARRIVAL, MAX_OPTION_SLOTS, MAX_WEIGHT};
 ghost use Rattle.outside.specs.Rose.{Rose};
-ghost use Rattle.hall_plan.specs.Cuts.{HaveStopped};
-ghost use Rattle.hall_plan.specs.Wires.{AreAllUnits, HaveMore};
+ghost use Rattle.slot_runner.specs.Cuts.{HaveStopped};
+ghost use Rattle.slot_runner.specs.Wires.{AreAllUnits, HaveMore};
 ghost use Rattle.schedule_model.specs.RunList.{NamesFlows, slots_in};
 ghost use Rattle.online_runs.specs.Deeds.{PublishesTooMany};
 ghost use Rattle.online_runs.specs.Input.{online_opening};

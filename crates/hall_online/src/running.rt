@@ -3,8 +3,8 @@ ghost use Rattle.std.specs.Prelude.{◌≡◌, ◌≤◌, ◌<◌, ℕ, Err, Lis
 ghost use Rattle.outside.specs.Rose.{Rose};
 ghost use Rattle.epochs.specs.declared.action.Action.TheVariants.{Run};
 ghost use Rattle.epochs.specs.Course.{Course};
-ghost use Rattle.hall_plan.specs.Cuts.{HaveStopped};
-ghost use Rattle.hall_plan.specs.Halls.{NoneFell};
+ghost use Rattle.slot_runner.specs.Cuts.{HaveStopped};
+ghost use Rattle.slot_runner.specs.Wires.{NoneFell};
 ghost use Rattle.hall_online.specs.declared.answer.OnlineFault.TheVariants.{TooMany, WireFault};
 ghost use Rattle.hall_online.specs.Serving.{ComesFirst, HaveSent, HaveServed, IsDoneFrom, IsOnlineBegun, IsUnderWay, MayDo};
 

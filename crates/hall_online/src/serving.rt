@@ -1,8 +1,8 @@
 //! The actions of an online run, one after another.
 ghost use Rattle.std.specs.Prelude.{◌≡◌, ◌≤◌, ◌<◌, ℕ, Err, List, OnOk, length, slice_index_or, vec_capacity};
 ghost use Rattle.outside.specs.Rose.{Rose};
-ghost use Rattle.hall_plan.specs.Cuts.{HaveStopped};
-ghost use Rattle.hall_plan.specs.Wires.{AreAllUnits, HaveMore};
+ghost use Rattle.slot_runner.specs.Cuts.{HaveStopped};
+ghost use Rattle.slot_runner.specs.Wires.{AreAllUnits, HaveMore};
 ghost use Rattle.online_runs.specs.Deeds.{PublishesTooMany};
 ghost use Rattle.hall_online.specs.declared.answer.OnlineFault.TheVariants.{TooMany, WireFault};
 ghost use Rattle.hall_online.specs.Serving.{EndsAs, HaveSent, HaveServed, IsOnlineBegun, IsUnderWay};

@@ -21,10 +21,10 @@ use Rattle.journal.proofs.Driving.{driven_goes_on}
 use Rattle.journal.proofs.Ingresses.{grant_at, grant_is}
 use Rattle.journal.proofs.Schedules.{schedule_length}
 use Rattle.hall_plan.specs.Journals.{plan_journal, plan_order}
-use Rattle.hall_plan.specs.Wires.{StopsAt, units_at}
+use Rattle.slot_runner.specs.Wires.{StopsAt, units_at}
 use Rattle.hall_plan.proofs.PlanEntries.{commands_fit}
 use Rattle.hall_plan.proofs.PlanParts.{front_is, IsNextRun, legal_before, whole_serves}
-use Rattle.hall_plan.proofs.WireSteps.{all_units, unit_there}
+use Rattle.slot_runner.proofs.WireSteps.{all_units, unit_there}
 
 module _ (o : Opening) (runs : List (ℕ × ℕ × ℕ)) (after : List Entry) (d : Drive) (n : IsNextRun o runs after d) (slots : List (List ℕ))
     (served : IsServed o.table.flows (plan_order o) slots) (clear : IsClear o.table.flows (driven o (plan_journal o runs) d)) where

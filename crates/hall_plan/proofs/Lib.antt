@@ -1,5 +1,4 @@
 pub mod Begun
-pub mod CutRuns
 pub mod FirstShort
 pub mod NobodyElse
 pub mod PlanEntries
@@ -8,4 +7,3 @@ pub mod PlanParts
 pub mod PlanRuns
 pub mod PlanSlots
 pub mod PlanTurns
-pub mod WireSteps

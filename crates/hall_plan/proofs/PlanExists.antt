@@ -6,12 +6,13 @@ use Rattle.coflow_units.specs.declared.limits.TheConstants.{MAX_WEIGHT}
 use Rattle.coflow_units.specs.Flows.{coflow_of}
 use Rattle.coflow_units.proofs.ServedExists.{serve, served_exists}
 use Rattle.flow_table.specs.Table.{IsTable, TableFacts, instance_of}
-use Rattle.hall_plan.specs.Cuts.{HaveStopped, IsPlanBegun}
+use Rattle.slot_runner.specs.Cuts.{HaveStopped}
+use Rattle.hall_plan.specs.Journals.{IsPlanBegun}
 use Rattle.hall_plan.specs.Journals.{plan_order}
 use Rattle.hall_plan.specs.Plans.{IsPlanned}
-use Rattle.hall_plan.specs.Wires.{AreUnits, HaveMore, StopsAt}
+use Rattle.slot_runner.specs.Wires.{AreUnits, HaveMore, StopsAt}
 use Rattle.hall_plan.proofs.Begun.{in_order, plan_ordering}
-use Rattle.hall_plan.proofs.WireSteps.{untouched}
+use Rattle.slot_runner.proofs.WireSteps.{untouched}
 use Rattle.journal.specs.declared.opening.Opening.{Opening}
 use Rattle.journal.specs.Chosen.{the_ordering}
 use Rattle.journal.specs.State.{IsOpening}

@@ -29,7 +29,7 @@ use Rattle.journal.proofs.Legal.{legal_front}
 use Rattle.journal.proofs.ScheduleTimes.{times_is_sent}
 use Rattle.journal.proofs.ServingRuns.{as_long}
 use Rattle.hall_plan.specs.Journals.{plan_journal, plan_order}
-use Rattle.hall_plan.specs.Plans.{IsPartOf}
+use Rattle.slot_runner.specs.Wires.{IsPartOf}
 use Rattle.hall_plan.proofs.Begun.{line_is}
 use Rattle.hall_plan.proofs.PlanEntries.{commands_fit}
 use Rattle.hall_plan.proofs.PlanRuns.{serves}

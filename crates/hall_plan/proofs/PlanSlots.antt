@@ -38,18 +38,21 @@ use Rattle.hall_plan.proofs.FirstShort.{stops}
 use Rattle.hall_plan.proofs.NobodyElse.{all_back, all_own, no_others, Own, shape}
 use Rattle.coflow_units.proofs.ServedLaws.{grants_clear}
 use Rattle.coflow_units.specs.Schedule.{IsClear}
-use Rattle.hall_plan.specs.Cuts.{AllSentWhole, HaveStopped, IsPlanBegun}
-use Rattle.hall_plan.specs.Halls.{IsServedBy, MayPlan, NoneFell}
+use Rattle.slot_runner.specs.Cuts.{AllSentWhole, HaveStopped}
+use Rattle.hall_plan.specs.Journals.{IsPlanBegun}
+use Rattle.hall_plan.specs.Halls.{IsServedBy, MayPlan}
+use Rattle.slot_runner.specs.Wires.{NoneFell}
 use Rattle.hall_plan.specs.Journals.{plan_journal, plan_order, run_entries}
-use Rattle.hall_plan.specs.Plans.{IsPartOf, IsPlanned}
-use Rattle.hall_plan.specs.Wires.{AreAllUnits, AreUnits, HaveMore, StopsAt}
+use Rattle.hall_plan.specs.Plans.{IsPlanned}
+use Rattle.slot_runner.specs.Wires.{IsPartOf}
+use Rattle.slot_runner.specs.Wires.{AreAllUnits, AreUnits, HaveMore, StopsAt}
 use Rattle.hall_plan.proofs.Begun.{planned_serves}
-use Rattle.hall_plan.proofs.CutRuns.{cut_at, whole_unnoted}
+use Rattle.slot_runner.proofs.CutRuns.{cut_at, whole_unnoted}
 use Rattle.hall_plan.proofs.PlanEntries.{closings_are_runs, no_notes}
 use Rattle.hall_plan.proofs.PlanParts.{IsNextRun, next_is_part, runs_are_parts}
 use Rattle.hall_plan.proofs.PlanRuns.{few_entries, few_slots, nothing_yet, serves_all, split}
 use Rattle.hall_plan.proofs.PlanTurns.{added, not_stopped}
-use Rattle.hall_plan.proofs.WireSteps.{all_units, are_units, fell_next, have_next, have_none, have_so, none_fell}
+use Rattle.slot_runner.proofs.WireSteps.{all_units, are_units, fell_next, have_next, have_none, have_so, none_fell}
 
 -- ---- one run of a driver that is alone
 

@@ -7,7 +7,7 @@ use Rattle.client_session.specs.Desk.{IsSeen}
 use Rattle.client_session.specs.Models.{DriverModel, HallModel, IsDriverOf}
 use Rattle.slot_runner.specs.Models.{MayRun, RunnerModel}
 use Rattle.hall_plan.specs.Journals.{HasRoom, plan_journal}
-use Rattle.hall_plan.specs.Wires.{HaveMore}
+use Rattle.slot_runner.specs.Wires.{HaveMore, NoneFell}
 use Rattle.std.specs.List.{slice_index_or}
 
 -- the driver is alone in its hall, has seen this journal, and has calls for what a plan may still ask
@@ -24,12 +24,6 @@ pub record IsAlone (hall : HallModel) (driver : DriverModel) (journal : List Ent
 pub record MayPlan (hall : HallModel) (runner : RunnerModel) (runs : List (ℕ × ℕ × ℕ)) : Type 0 where
   pub may : MayRun hall runner
   pub alone : IsAlone hall runner.driver (plan_journal hall.setting.opening runs)
-
-module _ {W : Type 0} (faults : W → ℕ) where
-  -- no wire of a port has fewer faults than before
-  abbrev pub NoneFell : ℕ → List W → List W → Type 0
-  NoneFell ports before after =
-      (port : ℕ) (b a : W) → port < ports → faults (slice_index_or before port b) ≤ faults (slice_index_or after port a)
 
 module _ {W : Type 0} (faults : W → ℕ) (runs : W → Option (List (ℕ × ℕ × ℕ))) where
   -- What holds after some runs of a plan: the schedule is that of the journal, and the wires have what it sent.

@@ -1,5 +1,5 @@
 -- The journal of a plan: one caller registers all coflows, publishes once, and opens and closes runs.
-use Rattle.std.specs.Prelude.{ℕ, ◌+◌, ◌*◌, ◌≤◌, List, [], ◌∷◌, ◌++◌, flat_map, length, map}
+use Rattle.std.specs.Prelude.{◌≡◌, ℕ, ◌+◌, ◌*◌, ◌≤◌, List, [], ◌∷◌, ◌++◌, flat_map, length, map}
 use Rattle.std.specs.List.{range_with_len}
 use Rattle.coflow_units.specs.declared.limits.TheConstants.{MAX_SLOT}
 use Rattle.journal.specs.declared.command.Command.TheVariants.{Close, Open, Publish, Register}
@@ -34,3 +34,7 @@ plan_order o = the_order (instance_of o.table o.weights)
 -- the journal may take all entries of a plan: one for each coflow, two for each flow, and two
 abbrev pub HasRoom : Opening → Type 0
 HasRoom o = length o.table.ids + 2 * length o.table.flows + 2 ≤ o.limit
+
+-- a plan was served so far by whole runs, and this is its journal; the next run is as long as it may be
+abbrev pub IsPlanBegun : Opening → List Entry → ℕ → Type 0
+IsPlanBegun o journal most = ((made : List (ℕ × ℕ × ℕ)) × (journal ≡ plan_journal o made)) × (most ≡ MAX_SLOT)

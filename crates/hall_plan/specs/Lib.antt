@@ -1,6 +1,4 @@
-pub mod Cuts
 pub mod Halls
 pub mod Journals
 pub mod Plans
 pub mod Sent
-pub mod Wires

@@ -12,8 +12,3 @@ pub record IsPlanned (t : TableFacts) (weights : List ℕ) (slots : List (List �
   pub entries : List Entry
   pub ordering : IsOrdering (instance_of t weights) entries
   pub served : IsServed t.flows (order_of entries) slots
-
--- each flow of a slot of the first schedule stands in that slot of the second
-abbrev pub IsPartOf : List (List ℕ) → List (List ℕ) → Type 0
-IsPartOf part whole =
-    (k f : ℕ) → holds (slice_index_or part k []) f ≡ true → holds (slice_index_or whole k []) f ≡ true

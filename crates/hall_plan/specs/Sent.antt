@@ -2,9 +2,10 @@
 use Rattle.std.specs.Prelude.{◌≡◌, ℕ, ◌<◌, List, Option, length}
 use Rattle.std.specs.List.{slice_index_or}
 use Rattle.flow_table.specs.Table.{TableFacts}
-use Rattle.hall_plan.specs.Cuts.{HaveStopped, IsPlanBegun}
+use Rattle.slot_runner.specs.Cuts.{HaveStopped}
+use Rattle.hall_plan.specs.Journals.{IsPlanBegun}
 use Rattle.hall_plan.specs.Plans.{IsPlanned}
-use Rattle.hall_plan.specs.Wires.{AreAllUnits, AreUnits, HaveMore, StopsAt}
+use Rattle.slot_runner.specs.Wires.{AreAllUnits, AreUnits, HaveMore, StopsAt}
 use Rattle.journal.specs.declared.opening.Opening.{Opening}
 use Rattle.outside.specs.Rose.{Rose}
 

@@ -14,7 +14,7 @@ ghost use Rattle.journal.specs.Driven.{Drive, IsDriven};
 ghost use Rattle.journal.specs.Journal.{entry, IsLegal, left_at, line_of, order_in};
 ghost use Rattle.journal.specs.Sound.{InRange};
 ghost use Rattle.hall_plan.specs.Journals.{beginning, plan_journal, plan_order};
-ghost use Rattle.hall_plan.specs.Plans.{IsPartOf};
+ghost use Rattle.slot_runner.specs.Wires.{IsPartOf};
 
 /// The order that a plan publishes is that of the ordering certificate of the whole table, and the line is this order
 /// from then on.

@@ -3,10 +3,11 @@ ghost use Rattle.std.specs.Prelude.{◌≡◌, ℕ, ◌<◌, ◌≤◌, [], List
 ghost use Rattle.outside.specs.Rose.{Rose};
 ghost use Rattle.coflow_units.specs.Served.{IsServed};
 ghost use Rattle.hall_plan.specs.declared.answer.PlanFault.TheVariants.{WireFault};
-ghost use Rattle.hall_plan.specs.Cuts.{HaveStopped, IsPlanBegun};
+ghost use Rattle.slot_runner.specs.Cuts.{HaveStopped};
+ghost use Rattle.hall_plan.specs.Journals.{IsPlanBegun};
 ghost use Rattle.hall_plan.specs.Halls.{MayPlan};
 ghost use Rattle.hall_plan.specs.Journals.{plan_order};
-ghost use Rattle.hall_plan.specs.Wires.{AreAllUnits, AreUnits, HaveMore, StopsAt};
+ghost use Rattle.slot_runner.specs.Wires.{AreAllUnits, AreUnits, HaveMore, StopsAt};
 
 use crate::answer::PlanFault;
 use client_session::Hall;

@@ -1,4 +1,5 @@
-//! Tests of calls of a hall. Clauses say what each call may answer; here is that calls in a known order answer what was worked out by hand.
+//! Tests of a hall: calls in a known order, closes, and threads that overlap. Clauses say what each call may answer; here is
+//! that they answer what was worked out by hand, and that what threads were told is true of the closed journal.
 #![tactic(auto)]
 
 #[cfg(test)]

@@ -1,22 +1,25 @@
-//! What a yes says of a printed journal, and that no reason holds of a right one.
-ghost use Rattle.std.specs.Prelude.{◌≡◌, ◌≤◌, ◌<◌, ℕ, All, Contains, List, length, map};
+//! What a yes says of a printed journal, that no reason holds of a right one, and that a replay makes its schedule.
 ghost use Rattle.coflow_units.specs.Flows.{coflow_of, units_of};
 ghost use Rattle.coflow_units.specs.Patient.{IsServedOrWaits};
 ghost use Rattle.coflow_units.specs.Schedule.{IsClear, slots_of, times};
 ghost use Rattle.flow_table.specs.Table.{TableFacts};
-ghost use Rattle.journal.specs.State.{owed, Run};
-ghost use Rattle.journal.specs.Closed.{closed_runs, IsOpenedIn};
+ghost use Rattle.journal.specs.Closed.{closed_runs, IsOpenedIn, schedule_of};
 ghost use Rattle.journal.specs.Counts.{run_line};
 ghost use Rattle.journal.specs.Fold.{state_of};
 ghost use Rattle.journal.specs.Journal.{line_of};
-ghost use Rattle.live_text.specs.declared.value.Live.{Live};
-ghost use Rattle.live_text.specs.Live.{IsLive};
-ghost use Rattle.schedule_model.specs.RunList.{slots_in};
-ghost use Rattle.journal_audit.specs.declared.verdict.Audit.{Audit};
-ghost use Rattle.journal_audit.specs.declared.verdict.AuditReason.{AuditReason};
+ghost use Rattle.journal.specs.State.{owed, Run};
+ghost use Rattle.journal.specs.declared.command.Entry.{Entry};
+ghost use Rattle.journal.specs.declared.opening.Opening.{Opening};
 ghost use Rattle.journal_audit.specs.Reasons.{HasReasonFor, IsAudit};
+ghost use Rattle.journal_audit.specs.Replay.{IsReplay};
 ghost use Rattle.journal_audit.specs.Sound.{IsSoundLive};
 ghost use Rattle.journal_audit.specs.Stated.{journal_in, opening_for};
+ghost use Rattle.journal_audit.specs.declared.verdict.Audit.{Audit};
+ghost use Rattle.journal_audit.specs.declared.verdict.AuditReason.{AuditReason};
+ghost use Rattle.live_text.specs.Live.{IsLive};
+ghost use Rattle.live_text.specs.declared.value.Live.{Live};
+ghost use Rattle.schedule_model.specs.RunList.{slots_in};
+ghost use Rattle.std.specs.Prelude.{◌≡◌, ◌≤◌, ◌<◌, ℕ, All, Contains, List, length, map, []};
 
 /// No reason holds of a printed journal that is right.
 pub fn right_journals_have_no_reason()
@@ -49,4 +52,11 @@ pub fn yes_keeps_the_line()
         All (IsClear t.flows) (slots_in l.runs) }
     ensures within { (t : TableFacts) (weights : List ℕ) (l : Live) (f : ℕ) → IsLive l → IsSoundLive t weights l →
         times (slots_in l.runs) f ≤ units_of t.flows f }
+{}
+
+/// Before the first entry there are no slots. After any entries the slots are the schedule of the journal.
+pub fn replays_make_the_schedule()
+    ensures first { (o : Opening) → IsReplay o [] [] }
+    ensures schedule { (o : Opening) (journal : List Entry) (slots : List (List ℕ)) → IsReplay o journal slots →
+        slots ≡ schedule_of o journal }
 {}

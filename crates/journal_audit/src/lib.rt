@@ -12,7 +12,6 @@ mod pulls;
 mod ranks;
 mod reasons;
 mod replay;
-pub mod replay_laws;
 mod stated;
 mod verdict;
 

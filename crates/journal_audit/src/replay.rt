@@ -4,7 +4,7 @@ ghost use Rattle.coflow_units.specs.declared.limits.TheConstants.{MAX_COFLOWS};
 ghost use Rattle.journal.specs.Answer.{IsInRange, reply_of, room};
 ghost use Rattle.journal.specs.Journal.{entry};
 ghost use Rattle.journal.specs.declared.opening.Opening.{Opening};
-ghost use Rattle.live_text.specs.declared.limits.TheConstants.{MAX_ENTRIES};
+ghost use Rattle.live_text.specs.declared.value.TheConstants.{MAX_ENTRIES};
 ghost use Rattle.live_text.specs.declared.value.EntryLine.{EntryLine};
 ghost use Rattle.live_text.specs.Live.{IsEntry};
 ghost use Rattle.journal_audit.specs.Replay.{IsPlainCommand};

@@ -2,7 +2,7 @@
 ghost use Rattle.std.specs.Prelude.{◌≡◌, ◌≤◌, ℕ, Contains, IfOk, List, MatchOption, length, nat_eq};
 ghost use Rattle.indexmap.specs.IndexMap.{get};
 ghost use Rattle.cert_check.specs.Places.{coflow_with};
-ghost use Rattle.live_text.specs.declared.limits.TheConstants.{MAX_ENTRIES};
+ghost use Rattle.live_text.specs.declared.value.TheConstants.{MAX_ENTRIES};
 ghost use Rattle.journal_audit.specs.Ids.{Finds};
 ghost use Rattle.journal_audit.specs.Looked.{IsStated};
 ghost use Rattle.journal_audit.specs.Stated.{IsKnown, command_for, reply_for};

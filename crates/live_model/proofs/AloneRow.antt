@@ -32,7 +32,8 @@ use Rattle.live_model.specs.Printed.{TellsRun, run_of}
 use Rattle.live_model.specs.Clause.{Course}
 use Rattle.live_model.specs.Rows.{Alone, alone, alone_journal, alone_live, line, on_first}
 use Rattle.live_model.proofs.Given.{journal_is_sent, legal_is_granted}
-use Rattle.live_model.proofs.Courses.{across, no, NoneMoved, none_above, none_across, none_first, of_clients, of_two}
+use Rattle.live_model.proofs.Courses.{across, NoneMoved, none_above, none_across, none_first, of_clients, of_two}
+use Rattle.journal.proofs.Replies.{no_way as no}
 use Rattle.live_model.proofs.Courses.{same_round}
 
 abbrev deed : ℕ → ScriptLine → Option ℕ → ℕ → Deed

@@ -29,7 +29,8 @@ use Rattle.live_model.specs.Rounds.{Drives, Driving, end_of, FitsAnswer, KeepRou
 use Rattle.live_model.specs.Printed.{TellsRun}
 use Rattle.live_model.specs.Rows.{Both, both, both_journal, both_live, line, on_first}
 use Rattle.live_model.proofs.Given.{journal_is_sent, legal_is_granted}
-use Rattle.live_model.proofs.Courses.{across, no, of_clients, of_two}
+use Rattle.live_model.proofs.Courses.{across, of_clients, of_two}
+use Rattle.journal.proofs.Replies.{no_way as no}
 
 abbrev deed : ℕ → ScriptLine → Option ℕ → ℕ → Deed
 deed round x position version = record { round = round; line = x; position = position; version = version }

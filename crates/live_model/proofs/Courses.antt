@@ -1,6 +1,5 @@
 -- Facts of all pairs of lines, where there is little to say.
 use Rattle.std.proofs.Common.{ℕ, ◌≤◌, ◌<◌, Bool, true, false, List, [], arith}
-pub use Rattle.journal.proofs.Replies.{no_way as no}
 use Rattle.std.specs.Prelude.{◌==◌, All, AllPairs, if◌then◌else◌}
 use Rattle.live_model.specs.Deeds.{Deed, ForLaterRounds, HasEntry, IsPull, IsTwoAbove}
 

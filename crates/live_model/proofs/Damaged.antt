@@ -23,7 +23,7 @@ use Rattle.live_model.specs.Rounds.{Spell, spell_entries}
 use Rattle.live_model.specs.Printed.{told_pull, told_pulls}
 use Rattle.live_model.specs.Rows.{both_journal, crossed_journal, CrossedRounds, unopened_journal, line, MissingEntry}
 use Rattle.live_model.specs.Rows.{near_journal, NearPull, UnmadeVersion, SentTwice, StalePull, told, UnopenedRound}
-use Rattle.live_model.proofs.Courses.{no}
+use Rattle.journal.proofs.Replies.{no_way as no}
 
 -- a list of which the images are one
 pub record IsOne {X Y : Type 0} (f : X → Y) (xs : List X) (y : Y) : Type 0 where

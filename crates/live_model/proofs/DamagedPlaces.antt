@@ -22,7 +22,7 @@ use Rattle.live_model.specs.Rounds.{closing_entries, end_of, Spell, spell_entrie
 use Rattle.live_model.specs.Printed.{told_pull, told_pulls}
 use Rattle.live_model.specs.Rows.{alone_journal, both_journal, early_opening_journal, EarlyOpening, FallingVersion, ForeseenVersion, LateOpening, line, NothingTwice}
 use Rattle.live_model.specs.Rows.{unopened_journal, told, two_versions_journal, WrongMost}
-use Rattle.live_model.proofs.Courses.{no}
+use Rattle.journal.proofs.Replies.{no_way as no}
 use Rattle.live_model.proofs.Damaged.{one_of, placed, position_is}
 
 -- a list of which the images are two

@@ -29,7 +29,8 @@ use Rattle.live_model.specs.Rounds.{Drives, Driving, FitsAnswer, Spell, spells_o
 use Rattle.live_model.specs.Printed.{TellsRun}
 use Rattle.live_model.specs.Rows.{Hidden, hidden, hidden_journal, hidden_live, line, on_first}
 use Rattle.live_model.proofs.Given.{journal_is_sent, legal_is_granted}
-use Rattle.live_model.proofs.Courses.{no, of_clients, of_two}
+use Rattle.journal.proofs.Replies.{no_way as no}
+use Rattle.live_model.proofs.Courses.{of_clients, of_two}
 use Rattle.std.proofs.Common.{min, subst, sym, ◌∙◌, ◌*◌}
 use Rattle.client_session.proofs.OwnSteps.{own_above}
 use Rattle.journal.specs.declared.command.Command.{Command}

@@ -16,7 +16,7 @@ use Rattle.live_model.specs.Script.{coflow_pulled, is_pull, lines_of}
 use Rattle.live_model.specs.Deeds.{Deed, IsPull}
 use Rattle.live_model.specs.Printed.{told_pull, told_pulls}
 use Rattle.live_model.specs.Rows.{alone, alone_journal, told, unopened_journal}
-use Rattle.live_model.proofs.Courses.{no}
+use Rattle.journal.proofs.Replies.{no_way as no}
 use Rattle.live_model.proofs.Damaged.{placed}
 use Rattle.live_model.specs.RefusedRows.{MissingPull, OtherRank, UnknownVersion}
 

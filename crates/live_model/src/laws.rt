@@ -1,26 +1,22 @@
-//! The definitions can be met, and each can fail.
-ghost use Rattle.std.specs.Prelude.{◌≡◌, ℕ, ◌≤◌, true, All, List, [], ◌∷◌, ◌++◌};
+//! The definitions can be met, each can fail, and what they say of entries, levels and courses.
+ghost use Rattle.client_session.specs.Own.{own_entries, OwnEntry};
+ghost use Rattle.journal.specs.Closed.{schedule_of, wire_of};
+ghost use Rattle.journal.specs.Driven.{Drive, IsDriven, is_other};
+ghost use Rattle.journal.specs.Journal.{IsLegal, entry};
+ghost use Rattle.journal.specs.Sound.{InRange};
 ghost use Rattle.journal.specs.declared.command.Command.TheVariants.{Open, Pull};
 ghost use Rattle.journal.specs.declared.command.Entry.{Entry};
-ghost use Rattle.journal.specs.declared.opening.Opening.{Opening};
-ghost use Rattle.journal.specs.Journal.{IsLegal};
-ghost use Rattle.journal.specs.Sound.{InRange};
-ghost use Rattle.journal.specs.Closed.{schedule_of, wire_of};
-ghost use Rattle.client_session.specs.Own.{own_entries, OwnEntry};
-ghost use Rattle.live_model.specs.Deeds.{asked_by, asked_in, Deed, DoesScript, ForLaterRounds, HasEntry, IsPull};
-ghost use Rattle.live_model.specs.Deeds.{Deeds, entries_by, HasNewest, IsTwoAbove};
-ghost use Rattle.live_model.specs.Pulls.{IsAnswered, IsMadeBefore, IsMadeFor, TellVersions};
-ghost use Rattle.live_model.specs.Rounds.{Driving, KeepRounds, spell_entries};
-ghost use Rattle.live_model.specs.Levels.{AreKept, AreLevelled, AreSessions, HaveEntries, Levels};
-ghost use Rattle.live_model.specs.Levels.{RisesOver, spell_driven, spell_for_nothing, version_before};
-ghost use Rattle.journal.specs.Driven.{Drive, IsDriven, is_other};
 ghost use Rattle.journal.specs.declared.command.Reply.TheVariants.{NothingLeft};
-ghost use Rattle.journal.specs.Journal.{entry};
-ghost use Rattle.live_model.specs.Rows.{Alone, Both, CrossedRounds, EarlyOpening, FallingVersion, ForeseenVersion};
-ghost use Rattle.live_model.specs.Rows.{Hidden, LateOpening, MissingEntry, NearPull, NothingTwice, SentTwice, StalePull};
-ghost use Rattle.live_model.specs.Rows.{UnmadeVersion, UnopenedRound, WrongMost, WrongOrder, WrongReply, WrongRuns};
-ghost use Rattle.workload.specs.declared.script.Script.{Script};
+ghost use Rattle.journal.specs.declared.opening.Opening.{Opening};
+ghost use Rattle.live_model.specs.Deeds.{asked_by, asked_in, Deed, DoesScript, ForLaterRounds, HasEntry, IsPull, Deeds, entries_by, HasNewest, IsTwoAbove};
+ghost use Rattle.live_model.specs.Levels.{AreKept, AreLevelled, AreSessions, HaveEntries, Levels, RisesOver, spell_driven, spell_for_nothing, version_before};
+ghost use Rattle.live_model.specs.Pulls.{IsAnswered, IsMadeBefore, IsMadeFor, TellVersions};
+ghost use Rattle.live_model.specs.RefusedRows.{MissingPull, NearLine, NearRound, OtherLimit, OtherRank, StrangeEntry, UnknownVersion, WrongAnswer};
+ghost use Rattle.live_model.specs.Rounds.{Driving, KeepRounds, spell_entries};
+ghost use Rattle.live_model.specs.Rows.{Alone, Both, CrossedRounds, EarlyOpening, FallingVersion, ForeseenVersion, Hidden, LateOpening, MissingEntry, NearPull, NothingTwice, SentTwice, StalePull, UnmadeVersion, UnopenedRound, WrongMost, WrongOrder, WrongReply, WrongRuns};
 ghost use Rattle.live_model.specs.Sent.{AreGranted, IsSentOnce, Wires};
+ghost use Rattle.std.specs.Prelude.{◌≡◌, ℕ, ◌≤◌, true, All, List, [], ◌∷◌, ◌++◌};
+ghost use Rattle.workload.specs.declared.script.Script.{Script};
 
 /// What a legal journal gives by itself: its opened runs have their grants, wires that hold what its closed runs sent
 /// hold each pair of its schedule once, and each pull is answered by the newest version after its entry.
@@ -127,4 +123,27 @@ pub fn drivers_go_on()
     ensures nothing { (round most : ℕ) (before earlier : List Entry) → All (λ (e : Entry). is_other e ≡ true) earlier →
         entries_by (before ++ earlier ++ entry 0 (Open most) NothingLeft ∷ []) 0
         ≡ entries_by before 0 ++ spell_entries most (spell_for_nothing round before earlier) }
+{}
+
+/// A run is refused where the journal has another limit than the script gives it, where a publishing is answered with
+/// another version than the master's, although the text tells the same, and where an entry is that of no line.
+pub fn wrong_journals_are_refused()
+    ensures other_limit { OtherLimit → ⊥ }
+    ensures wrong_answer { WrongAnswer → ⊥ }
+    ensures strange_entry { StrangeEntry → ⊥ }
+{}
+
+/// A text is refused where a pull is printed with another rank than its coflow has in its version, or with a version
+/// that was never made, and where a pull has no line.
+pub fn wrong_pull_lines_are_refused()
+    ensures other_rank { OtherRank → ⊥ }
+    ensures unknown_version { UnknownVersion → ⊥ }
+    ensures missing_pull { MissingPull → ⊥ }
+{}
+
+/// A run is refused where a pull has an entry although one version alone was made since an earlier line of its client,
+/// or since an entry of an earlier round.
+pub fn near_pulls_are_refused()
+    ensures near_line { NearLine → ⊥ }
+    ensures near_round { NearRound → ⊥ }
 {}

@@ -4,7 +4,6 @@
 
 mod answer;
 mod client;
-pub mod course_laws;
 mod gate;
 pub mod laws;
 mod line;

@@ -7,8 +7,8 @@ use Rattle.coflow_units.specs.Flows.{ingress_of}
 use Rattle.coflow_units.specs.Schedule.{holds}
 use Rattle.flow_table.specs.Table.{TableFacts}
 use Rattle.journal.specs.Closed.{times_on}
-use Rattle.hall_plan.specs.Wires.{AreAllUnits, HaveMore, units_at}
-use Rattle.hall_plan.proofs.WireSteps.{have_so, unit_there}
+use Rattle.slot_runner.specs.Wires.{AreAllUnits, HaveMore, units_at}
+use Rattle.slot_runner.proofs.WireSteps.{have_so, unit_there}
 use Rattle.live_model.specs.Sent.{IsSentOnce, Wires}
 
 module _ (flows : List Flow) (slots : List (List ℕ)) (wires : Wires) (once : IsSentOnce flows slots wires) where

@@ -1,8 +1,6 @@
-pub mod LiveFaults
 pub mod Names
 pub mod Read
 pub mod Retold
 pub mod Run
 pub mod Told
 pub mod Value
-pub mod Wires

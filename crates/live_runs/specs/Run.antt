@@ -7,7 +7,7 @@ use Rattle.workload.specs.declared.script.Script.{Script}
 use Rattle.live_text.specs.declared.value.Live.{Live}
 use Rattle.live_model.specs.Clause.{IsLiveRun}
 use Rattle.live_model.specs.Sent.{Wires}
-use Rattle.hall_plan.specs.Wires.{HaveMore}
+use Rattle.slot_runner.specs.Wires.{HaveMore}
 
 -- what the master begins with
 abbrev pub opening_with : TableFacts → List ℕ → ℕ → Opening

@@ -9,10 +9,10 @@ use Rattle.live_model.specs.Clause.{IsLiveRun}
 use Rattle.live_model.specs.Script.{limit_of}
 use Rattle.live_model.specs.Sent.{Wires}
 use Rattle.live_runs.specs.Run.{opening_with}
-use Rattle.live_runs.specs.Wires.{HaveServed, HaveStopped}
+use Rattle.live_serving.specs.Wires.{HaveServed, HaveStopped}
 use Rattle.live_text.specs.declared.value.Live.{Live}
 use Rattle.live_text.specs.Text.{live_text}
-use Rattle.hall_plan.specs.Wires.{AreAllUnits, HaveMore}
+use Rattle.slot_runner.specs.Wires.{AreAllUnits, HaveMore}
 use Rattle.outside.specs.Rose.{Rose}
 use Rattle.workload.specs.declared.script.Script.{Script}
 

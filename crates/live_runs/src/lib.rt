@@ -1,11 +1,10 @@
-//! A run of `live` that a hall serves, and the value that is printed of it.
+//! A run of `live` from its script to its text: a hall serves the script, a master on one thread answers the journal anew,
+//! and the value that is printed is told by both.
 #![tactic(auto)]
 
 mod entries;
 pub mod laws;
 mod limit;
-pub mod line_laws;
-mod line_value;
 mod orders;
 mod retelling;
 mod running;
@@ -14,7 +13,7 @@ mod value;
 mod words;
 
 pub use limit::limit_of_read;
-pub use line_value::live_value;
 pub use live_serving::LiveFault;
 pub use running::run_live;
 pub use telling::served_live;
+pub use value::live_value;

@@ -2,7 +2,7 @@
 ghost use Rattle.std.specs.Prelude.{◌≡◌, ℕ, ◌≤◌, All, Err, IfOk, length, sum_by};
 ghost use Rattle.coflow_units.specs.declared.fabric.Flow.{Flow};
 ghost use Rattle.coflow_units.specs.declared.limits.TheConstants.{MAX_LIVE_UNITS, MAX_WEIGHT};
-ghost use Rattle.live_runs.specs.LiveFaults.{WireFault};
+ghost use Rattle.live_serving.specs.declared.answer.LiveFault.TheVariants.{WireFault};
 ghost use Rattle.live_runs.specs.Read.{IsRead};
 ghost use Rattle.live_runs.specs.Told.{FailsAt, SendsAll, SendsSoFar, TellsLive, served_in};
 

@@ -17,7 +17,7 @@ use Rattle.live_rounds.specs.Drivers.{AreOpenings}
 use Rattle.live_serving.specs.Followed.{AreBegun}
 use Rattle.live_serving.proofs.RoundsOn.{none_done}
 use Rattle.live_serving.specs.Going.{IsFor, IsGoing}
-use Rattle.hall_plan.specs.Cuts.{AllSentWhole}
+use Rattle.slot_runner.specs.Cuts.{AllSentWhole}
 use Rattle.live_serving.proofs.PullsInTable.{InTable}
 use Rattle.live_serving.proofs.SentWhole.{whole_first}
 

@@ -32,7 +32,7 @@ use Rattle.live_serving.specs.declared.stop.Stop.TheVariants.{Full}
 use Rattle.live_serving.specs.Going.{AreSeated, IsFilled, IsGoing}
 use Rattle.live_serving.specs.Openings.{GoesOn, HasMetFull}
 use Rattle.live_serving.specs.Playing.{HasPlayed, Settles, Told}
-use Rattle.hall_plan.specs.Cuts.{AllSentWhole}
+use Rattle.slot_runner.specs.Cuts.{AllSentWhole}
 use Rattle.live_serving.proofs.FewEntries.{all_short, AreWithin, few_found, few_spells, found_append, never_lack, one_spell, round_within, same_few}
 use Rattle.live_serving.proofs.PullsInTable.{InTable, round_in_table}
 

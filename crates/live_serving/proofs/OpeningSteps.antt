@@ -17,14 +17,14 @@ use Rattle.client_session.specs.Desk.{IsSeen}
 use Rattle.client_session.specs.Models.{HallModel}
 use Rattle.slot_runner.specs.Models.{MayRun, RunnerModel}
 use Rattle.slot_runner.specs.Slots.{AreSent, HasRun, IsAnswered, IsFaulted, IsFullAt, IsRan}
-use Rattle.hall_plan.specs.Halls.{NoneFell}
-use Rattle.hall_plan.proofs.WireSteps.{fell_next, have_next, have_so, none_fell}
+use Rattle.slot_runner.specs.Wires.{NoneFell}
+use Rattle.slot_runner.proofs.WireSteps.{fell_next, have_next, have_so, none_fell}
 use Rattle.live_serving.proofs.DrivenOn.{none_driven, nothing_driven, run_driven}
 use Rattle.live_serving.specs.declared.stop.Stop.{Stop}
 use Rattle.live_serving.specs.declared.stop.Stop.TheVariants.{Full, NoMemory, WireFault}
 use Rattle.live_serving.specs.Driving.{MayDrive}
 use Rattle.live_serving.specs.Openings.{AreServed, GoesOn, HasFailed, HasMetFull, IsOpening}
-use Rattle.hall_plan.specs.Cuts.{AllSentWhole, IsCutAt}
+use Rattle.slot_runner.specs.Cuts.{AllSentWhole, IsCutAt}
 use Rattle.live_serving.specs.Wires.{HaveSent}
 use Rattle.live_serving.proofs.DriverTurns.{nothing_leaves_slots, others_leave_slots}
 use Rattle.live_serving.proofs.SentWhole.{whole_next, whole_still}

@@ -6,7 +6,7 @@ use Rattle.journal.specs.declared.command.Entry.{Entry}
 use Rattle.journal.specs.declared.opening.Opening.{Opening}
 use Rattle.journal.specs.Closed.{closed_runs, LeavesSlots}
 use Rattle.journal.specs.Driven.{Drive, GoesOnByRun, IsSentWhole}
-use Rattle.hall_plan.specs.Cuts.{AllSentWhole, WasSentWhole}
+use Rattle.slot_runner.specs.Cuts.{AllSentWhole, WasSentWhole}
 
 -- before the first run
 pub whole_first : (o : Opening) → AllSentWhole o []

@@ -13,8 +13,8 @@ use Rattle.client_session.specs.Models.{DriverModel, HallModel, SessionModel}
 use Rattle.slot_runner.specs.Models.{RunnerModel}
 use Rattle.live_rounds.specs.declared.answer.PullDone.{PullDone}
 use Rattle.live_text.specs.declared.value.PullLine.{PullLine}
-use Rattle.hall_plan.specs.Wires.{AreAllUnits, HaveMore}
-use Rattle.hall_plan.proofs.WireSteps.{all_units, have_none, have_so}
+use Rattle.slot_runner.specs.Wires.{AreAllUnits, HaveMore}
+use Rattle.slot_runner.proofs.WireSteps.{all_units, have_none, have_so}
 use Rattle.live_serving.specs.declared.answer.Served.{Served}
 use Rattle.live_serving.specs.declared.answer.LiveFault.{LiveFault}
 use Rattle.live_serving.specs.declared.stop.Stop.{Stop}

@@ -8,8 +8,8 @@ use Rattle.journal.proofs.Sound.{legal_sound}
 use Rattle.client_session.specs.Desk.{IsSeen}
 use Rattle.client_session.specs.Models.{HallModel}
 use Rattle.slot_runner.specs.Models.{MayRun, RunnerModel}
-use Rattle.hall_plan.specs.Wires.{AreAllUnits}
-use Rattle.hall_plan.proofs.WireSteps.{all_units, have_none, have_so}
+use Rattle.slot_runner.specs.Wires.{AreAllUnits}
+use Rattle.slot_runner.proofs.WireSteps.{all_units, have_none, have_so}
 use Rattle.live_serving.specs.declared.stop.Stop.{Stop}
 use Rattle.live_serving.specs.declared.stop.Stop.TheVariants.{Full, NoMemory, WireFault}
 use Rattle.live_serving.specs.Openings.{AreServed}

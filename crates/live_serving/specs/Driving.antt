@@ -6,7 +6,7 @@ use Rattle.client_session.specs.Models.{HallModel}
 use Rattle.slot_runner.specs.Models.{MayRun, RunnerModel}
 use Rattle.live_model.specs.Rounds.{Spell}
 use Rattle.live_rounds.specs.Drivers.{AreOpenings}
-use Rattle.hall_plan.specs.Cuts.{AllSentWhole}
+use Rattle.slot_runner.specs.Cuts.{AllSentWhole}
 
 -- The runner may open a run, and all runs so far were sent whole. Its driver has used up a call for each of its entries,
 -- and these are openings of at most so many slots, each with its closing.

@@ -11,10 +11,10 @@ use Rattle.slot_runner.specs.Models.{MayRun, RunnerModel}
 use Rattle.slot_runner.specs.Settling.{CallsFall}
 use Rattle.slot_runner.specs.Slots.{HasRun, IsAnswered}
 use Rattle.live_serving.specs.Driven.{HasDriven}
-use Rattle.hall_plan.specs.Halls.{NoneFell}
+use Rattle.slot_runner.specs.Wires.{NoneFell}
 use Rattle.live_serving.specs.declared.stop.Stop.{Stop}
 use Rattle.live_serving.specs.declared.stop.Stop.TheVariants.{Full, WireFault}
-use Rattle.hall_plan.specs.Cuts.{AllSentWhole, IsCutAt}
+use Rattle.slot_runner.specs.Cuts.{AllSentWhole, IsCutAt}
 use Rattle.live_serving.specs.Wires.{HaveSent}
 
 -- the driver met a journal that has no room: it has seen as many entries as there may be, and added none

@@ -9,7 +9,7 @@ use Rattle.live_text.specs.declared.value.PullLine.{PullLine}
 use Rattle.live_model.specs.Clause.{CarriesOut, Course}
 use Rattle.live_model.specs.Printed.{told_pulls}
 use Rattle.live_model.specs.Sent.{Wires}
-use Rattle.hall_plan.specs.Wires.{HaveMore}
+use Rattle.slot_runner.specs.Wires.{HaveMore}
 
 -- Some course carries out the script with this journal and with what the wires were sent since, and these are the lines
 -- of its pulls, by client and then by line.

@@ -6,8 +6,8 @@ use Rattle.journal.specs.declared.command.Entry.{Entry}
 use Rattle.journal.specs.declared.opening.Opening.{Opening}
 use Rattle.journal.specs.Closed.{schedule_of, wire_of}
 use Rattle.journal.specs.Journal.{IsLegal}
-use Rattle.hall_plan.specs.Cuts.{IsCutAt}
-use Rattle.hall_plan.specs.Wires.{AreAllUnits, HaveMore}
+use Rattle.slot_runner.specs.Cuts.{IsCutAt}
+use Rattle.slot_runner.specs.Wires.{AreAllUnits, HaveMore}
 
 module _ {W : Type 0} (runs : W → Option (List (ℕ × ℕ × ℕ))) where
   -- the wires have what they had, and then what the journal sent

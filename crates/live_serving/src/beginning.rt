@@ -5,7 +5,7 @@ ghost use Rattle.live_model.specs.Script.{limit_of};
 ghost use Rattle.live_serving.specs.Ends.{MayBeAsked};
 ghost use Rattle.live_serving.specs.Going.{IsGoing};
 
-use crate::commands::commands_of;
+use crate::limit::commands_of;
 use crate::seats::seat_clients;
 use client_session::{Hall, Session};
 use coflow_units::NoMemory;

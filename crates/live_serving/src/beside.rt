@@ -7,7 +7,7 @@ ghost use Rattle.live_serving.specs.Driving.{MayDrive};
 ghost use Rattle.live_serving.specs.Openings.{AreServed, GoesOn, IsOpening};
 ghost use Rattle.live_serving.specs.Playing.{HasPlayed};
 
-use crate::round_running::open_once;
+use crate::opening::open_once;
 use crate::stop::Stop;
 use client_session::{Hall, Session};
 use live_rounds::{Gate, PullDone, RoundStop, round};

@@ -5,14 +5,13 @@
 mod answer;
 mod beginning;
 mod beside;
-mod commands;
 mod ending;
+pub mod laws;
 mod limit;
 mod live;
+mod opening;
 mod pulls;
-mod round_running;
 mod rounds;
-pub mod script_laws;
 mod seats;
 mod serving;
 mod stop;

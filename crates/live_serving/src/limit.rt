@@ -1,8 +1,8 @@
-//! The limit of the journal of a run of `live`.
-ghost use Rattle.std.specs.Prelude.{◌≡◌, ◌-◌, ◌^◌, ◌<◌, ◌≤◌, min, length, sum_by, None, Some, ℕ};
+//! The commands of a script, and the limit of the journal of a run of `live`.
 ghost use Rattle.coflow_units.specs.declared.fabric.Flow.{Flow};
 ghost use Rattle.journal.specs.declared.opening.Opening.{Opening};
 ghost use Rattle.live_model.specs.Script.{limit_of, lines_of};
+ghost use Rattle.std.specs.Prelude.{◌≡◌, ◌-◌, ◌^◌, ◌<◌, ◌≤◌, min, length, sum_by, None, Some, ℕ};
 
 use flow_table::Table;
 use workload::Script;
@@ -47,6 +47,18 @@ fn units(table: &Table) -> u64
     let mut count = 0u64;
     for flow in table.flows() {
         count = count.saturating_add(flow.units);
+    }
+    count
+}
+
+/// How many commands the script has.
+pub(crate) fn commands_of(script: &Script) -> u32
+    requires few { length (lines_of script.now) < 2 ^ 32 }
+    ensures { result ≡ length (lines_of script.now) }
+{
+    let mut count = 0;
+    for round in script.rounds.as_slice() {
+        count += round.lines.as_slice().len() as u32;
     }
     count
 }

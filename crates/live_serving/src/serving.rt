@@ -4,7 +4,7 @@ ghost use Rattle.live_serving.specs.declared.stop.Stop.TheVariants.{Full};
 ghost use Rattle.live_serving.specs.Going.{IsEnded, IsEnding, IsFilled, IsGoing};
 ghost use Rattle.live_serving.specs.Openings.{AreServed};
 
-use crate::round_running::open_once;
+use crate::opening::open_once;
 use crate::rounds::play_round;
 use crate::stop::Stop;
 use client_session::{Hall, Session};

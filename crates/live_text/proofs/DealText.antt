@@ -2,7 +2,7 @@
 use Rattle.std.proofs.Common.{◌≡◌, inl, inr, ℕ, ◌-◌, ◌<◌, ◌≤◌, ◌^◌, List, ◌++◌, get_or, refl, sym, ap, subst, ◌∙◌, arith}
 use Rattle.std.specs.Prelude.{codes}
 use Rattle.report.specs.Readers.{Stops}
-use Rattle.report.specs.Text.{spaced}
+use Rattle.coflow_units.specs.Text.{spaced}
 use Rattle.live_text.specs.declared.value.Said.{Said}
 use Rattle.live_text.specs.declared.value.Word.{Word}
 use Rattle.live_text.specs.declared.value.Word.TheVariants.{Register, Withdraw, Pull, Open, Reweigh}

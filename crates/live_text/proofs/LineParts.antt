@@ -5,7 +5,7 @@ use Rattle.std.specs.Prelude.{All, codes}
 use Rattle.std.specs.List.{flat_map}
 use Rattle.std.proofs.lemmas.List.{append_cancel_left}
 use Rattle.report.specs.Readers.{IsOneLine}
-use Rattle.report.specs.Text.{spaced}
+use Rattle.coflow_units.specs.Text.{spaced}
 use Rattle.report.proofs.FlowText.{stops_flows}
 use Rattle.report.proofs.LineText.{front_is_line}
 use Rattle.report.proofs.NumberText.{spaced_unique}

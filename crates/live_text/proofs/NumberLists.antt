@@ -2,7 +2,7 @@
 use Rattle.std.proofs.Common.{◌≡◌, ℕ, ◌<◌, ◌^◌, List, [], ◌∷◌, ◌++◌, append_assoc, append-nil, length, refl, sym, ◌∙◌, arith}
 use Rattle.std.specs.List.{flat_map}
 use Rattle.report.specs.Readers.{Stops}
-use Rattle.report.specs.Text.{spaced}
+use Rattle.coflow_units.specs.Text.{spaced}
 use Rattle.report.proofs.NumberText.{spaced_unique}
 
 -- each number is below 2^128

@@ -2,7 +2,8 @@
 use Rattle.std.proofs.Common.{◌≡◌, ℕ, ◌<◌, ◌+◌, List, [], ◌∷◌, ◌++◌, length, map, take, get_or, sym, ap, ◌∙◌, arith, zero-add}
 use Rattle.std.specs.Prelude.{codes}
 use Rattle.std.proofs.lemmas.List.{length-take-le, take_more}
-use Rattle.report.specs.Text.{ended, run_line, text_of}
+use Rattle.coflow_units.specs.Text.{ended, text_of}
+use Rattle.report.specs.Text.{run_line}
 use Rattle.report.proofs.TextSteps.{lines_more, one_more_behind}
 use Rattle.live_text.specs.declared.value.Live.{Live}
 use Rattle.live_text.specs.Text.{entry_line, live_text, numbered, order_line, pull_line}

@@ -2,8 +2,8 @@
 use Rattle.std.specs.Prelude.{◌≡◌, ℕ, ◌≤◌, ◌++◌, List, Option, Some, None, All}
 use Rattle.std.specs.List.{flat_map}
 use Rattle.report.specs.Readers.{Stops}
-use Rattle.report.specs.Text.{spaced}
-use Rattle.live_text.specs.declared.limits.TheConstants.{MAX_ENTRIES}
+use Rattle.coflow_units.specs.Text.{spaced}
+use Rattle.live_text.specs.declared.value.TheConstants.{MAX_ENTRIES}
 use Rattle.live_text.specs.declared.value.EntryLine.{EntryLine}
 use Rattle.live_text.specs.declared.value.PullLine.{PullLine}
 use Rattle.live_text.specs.declared.value.Said.{Said}

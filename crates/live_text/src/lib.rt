@@ -6,15 +6,12 @@ mod deals;
 mod draft;
 mod fields;
 pub mod laws;
-mod limits;
 mod lines;
 mod reading;
-pub mod reading_laws;
 mod replies;
 mod value;
 mod writing;
 
-pub use limits::MAX_ENTRIES;
 pub use reading::read_live;
-pub use value::{EntryLine, Live, PullLine, Said, Word};
+pub use value::{EntryLine, Live, MAX_ENTRIES, PullLine, Said, Word};
 pub use writing::write_live;

@@ -5,8 +5,7 @@ ghost use Rattle.live_text.specs.Readers.{AreIdsOf, IsEntryOf, IsOrderOf, IsPull
 
 use crate::deals::deal_of;
 use crate::fields::{field_then, last_of};
-use crate::limits::MAX_ENTRIES;
-use crate::value::{EntryLine, PullLine};
+use crate::value::{EntryLine, MAX_ENTRIES, PullLine};
 use coflow_units::{Items, MAX_CLIENTS, MAX_ID, NoMemory};
 use report::count_then;
 use std::alloc::Global;

@@ -58,3 +58,6 @@ pub struct Live {
     pub pulls: Items<PullLine>,
     pub runs: Items<Run>,
 }
+
+/// The entries of a printed journal: 2^23.
+pub const MAX_ENTRIES: u32 = 8_388_608;

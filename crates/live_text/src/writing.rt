@@ -1,6 +1,6 @@
 //! The text of a printed journal, written.
 ghost use Rattle.std.specs.Prelude.{◌≡◌, ◌++◌, IfOk, OnOk, map};
-ghost use Rattle.report.specs.Text.{ended, spaced, text_of};
+ghost use Rattle.coflow_units.specs.Text.{ended, spaced, text_of};
 ghost use Rattle.live_text.specs.Text.{command_words, entry_line, live_text, numbered, order_line, pull_line, reply_words};
 
 use crate::value::{EntryLine, Live, PullLine, Said, Word};

@@ -6,7 +6,7 @@ use Rattle.online_check.specs.declared.verdict.OnlineReason.TheVariants.{ClashIn
 use Rattle.online_check.specs.declared.verdict.OnlineReason.TheVariants.{Infeasible, Listed, NoFlow, NotPermutation}
 use Rattle.online_check.specs.declared.verdict.OnlineReason.TheVariants.{PortRange, TotalTooHigh, UnitsOf}
 use Rattle.online_text.specs.declared.value.Online.{Online}
-use Rattle.report.specs.Text.{ended, spaced}
+use Rattle.coflow_units.specs.Text.{ended, spaced}
 use Rattle.online_check.specs.VerdictLine.{both, reason_line}
 
 -- why an online run is not right, where the coflows have these ids by number; a reason that there is against plans too

@@ -1,7 +1,8 @@
 -- The line of a verdict.
 use Rattle.std.specs.Prelude.{ℕ, ◌++◌, List, codes, slice_index}
 use Rattle.report.specs.declared.value.Report.{Report}
-use Rattle.report.specs.Text.{ended, side_word, spaced}
+use Rattle.coflow_units.specs.Text.{ended, spaced}
+use Rattle.report.specs.Text.{side_word}
 use Rattle.cert_check.specs.declared.verdict.Reason.{Reason}
 use Rattle.cert_check.specs.declared.verdict.Reason.TheVariants.{BoundTooHigh, ClashIn, CostWrong, DoneWrong}
 use Rattle.cert_check.specs.declared.verdict.Reason.TheVariants.{Infeasible, NoFlow, NotPermutation, PortRange}

@@ -13,7 +13,6 @@ mod online_line;
 mod places;
 mod schedule;
 mod verdict;
-pub mod verdict_laws;
 mod verdict_line;
 
 pub use any_report::{AnyReport, read_any_report};

@@ -1,4 +1,5 @@
-//! Online runs: coflows join as they arrive, are ordered anew at each epoch and served, until none owes anything.
+//! Online runs: coflows join as they arrive, are ordered anew at each epoch and served, until none owes anything. What such
+//! a run is, what is printed of it, and what is known while it is under way.
 #![tactic(auto)]
 
 mod ending;

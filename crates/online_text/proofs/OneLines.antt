@@ -9,7 +9,8 @@ use Rattle.coflow_units.specs.declared.fabric.Side.{Side}
 use Rattle.coflow_units.specs.declared.fabric.Side.TheVariants.{Egress, Ingress}
 use Rattle.coflow_units.proofs.Fronts.{head_of}
 use Rattle.report.specs.Readers.{IsOneLine, Stops}
-use Rattle.report.specs.Text.{bound_line, side_word, spaced}
+use Rattle.report.specs.Text.{bound_line, side_word}
+use Rattle.coflow_units.specs.Text.{spaced}
 use Rattle.report.proofs.LineLists.{tail_is}
 use Rattle.report.proofs.LineText.{front_is_line}
 use Rattle.report.proofs.NumberText.{decimal_one, spaced_unique}

@@ -3,7 +3,8 @@ use Rattle.std.proofs.Common.{◌≡◌, ◌≢◌, ℕ, ◌+◌, List, [], ◌�
 use Rattle.std.specs.Prelude.{◌↔◌, codes, map}
 use Rattle.std.specs.List.{flat_map}
 use Rattle.report.specs.Readers.{IsOneLine}
-use Rattle.report.specs.Text.{bound_line, cost_line, ended, run_line, text_of}
+use Rattle.report.specs.Text.{bound_line, cost_line, run_line}
+use Rattle.coflow_units.specs.Text.{ended, text_of}
 use Rattle.report.proofs.ReadingText.{AreLines}
 use Rattle.report.proofs.WholeLines.{IsBegun, IsRead, IsStopped, cut_at, early_at, none_yet, one_more, refused_at}
 use Rattle.online_text.specs.declared.value.Online.{Online}

@@ -2,7 +2,7 @@
 use Rattle.std.specs.Prelude.{◌≡◌, ℕ, ◌<◌, ◌≤◌, ◌^◌, ◌++◌, List, Option, Some, None}
 use Rattle.coflow_units.specs.declared.fabric.Port.{Port}
 use Rattle.report.specs.Readers.{Stops}
-use Rattle.report.specs.Text.{spaced}
+use Rattle.coflow_units.specs.Text.{spaced}
 use Rattle.online_text.specs.declared.value.DoneLine.{DoneLine}
 use Rattle.online_text.specs.declared.value.OnlinePlace.{OnlinePlace}
 use Rattle.online_text.specs.declared.value.ReleaseLine.{ReleaseLine}

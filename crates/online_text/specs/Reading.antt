@@ -2,7 +2,7 @@
 use Rattle.std.specs.Prelude.{◌≡◌, ℕ, ◌<◌, ◌≤◌, ◌++◌, List, Result, Ok, Err, codes, length}
 use Rattle.report.specs.declared.fault.ReportFault.{ReportFault}
 use Rattle.report.specs.declared.fault.ReportFault.TheVariants.{BadText, NoMemory}
-use Rattle.report.specs.Text.{text_of}
+use Rattle.coflow_units.specs.Text.{text_of}
 use Rattle.online_text.specs.declared.value.Online.{Online}
 use Rattle.online_text.specs.Online.{HasSmallNumbers, IsOnline}
 use Rattle.online_text.specs.Text.{online_lines, online_text}

@@ -3,7 +3,8 @@ use Rattle.std.specs.Prelude.{ℕ, ◌+◌, ◌++◌, List, [], ◌∷◌, lengt
 use Rattle.std.specs.List.{flat_map, range_with_len, slice_index_or}
 use Rattle.coflow_units.specs.declared.fabric.Port.{Port}
 use Rattle.coflow_units.specs.declared.fabric.Side.TheVariants.{Ingress}
-use Rattle.report.specs.Text.{bound_line, cost_line, run_line, side_word, spaced, text_of}
+use Rattle.report.specs.Text.{bound_line, cost_line, run_line, side_word}
+use Rattle.coflow_units.specs.Text.{spaced, text_of}
 use Rattle.online_text.specs.declared.value.DoneLine.{DoneLine}
 use Rattle.online_text.specs.declared.value.Epoch.{Epoch}
 use Rattle.online_text.specs.declared.value.Online.{Online}

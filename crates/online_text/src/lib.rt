@@ -5,7 +5,6 @@ mod draft;
 pub mod laws;
 mod parts;
 mod reading;
-pub mod reading_laws;
 mod value;
 mod writing;
 

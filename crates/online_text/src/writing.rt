@@ -1,7 +1,7 @@
 //! The text of an online run, written.
 ghost use Rattle.std.specs.Prelude.{◌≡◌, ◌<◌, ◌+◌, ◌++◌, IfOk, OnOk, length, map};
 ghost use Rattle.std.specs.List.{flat_map};
-ghost use Rattle.report.specs.Text.{ended, text_of};
+ghost use Rattle.coflow_units.specs.Text.{ended, text_of};
 ghost use Rattle.online_text.specs.Text.{certificate_lines, charge_words, done_line, epoch_lines, online_text, order_line_at, order_lines, release_line_at};
 
 use crate::value::{DoneLine, Epoch, Online, OnlinePlace, ReleaseLine};

@@ -7,7 +7,7 @@ use Rattle.std.proofs.lemmas.List.{append_cancel_left}
 use Rattle.coflow_units.specs.declared.fabric.Side.{Side}
 use Rattle.coflow_units.specs.declared.fabric.Side.TheVariants.{Ingress, Egress}
 use Rattle.picture.specs.declared.value.Bar.{Bar}
-use Rattle.picture.specs.declared.part_value.Picture.{Picture}
+use Rattle.picture.specs.declared.value.Picture.{Picture}
 use Rattle.picture.specs.Layout.{IsDrawable, IsInside, bars_height, height, slot_count}
 use Rattle.picture.specs.Palette.{colour_at, colour_if, fill_of}
 use Rattle.picture.specs.Svg.{axes_text, bar_text, bars_head, curve_text, head_text, id_of, legend_text, picture_text, rows_text, side_word, title_text}

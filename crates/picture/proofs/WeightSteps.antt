@@ -5,7 +5,7 @@ use Rattle.std.proofs.lemmas.List.{length-append}
 use Rattle.std.proofs.lemmas.List.Elements.{All-contains, All-push, Contains-append_left, Contains-append_right, Contains-get_or, Contains-push, Contains-push_cases}
 use Rattle.std.proofs.lemmas.List.Quantifiers.{all_pairs_push}
 use Rattle.std.proofs.lemmas.Bool.{cases_lt}
-use Rattle.picture.specs.declared.part_value.TheConstants.{LEGEND}
+use Rattle.picture.specs.declared.value.TheConstants.{LEGEND}
 use Rattle.picture.specs.Heaviest.{ComesFirst, IsBetter, IsHeaviest, IsNext}
 
 below : (P : ℕ → Type 0) (n : ℕ) → ((c : ℕ) → c < n → P c) → P n → (c : ℕ) → c < n + 1 → P c

@@ -1,7 +1,7 @@
 -- The coflows with the most weight.
 use Rattle.std.specs.Prelude.{◌≡◌, ℕ, ◌<◌, ◌≤◌, ◌⊎◌, List, All, AllPairs, Contains, Option, Some, None, length}
 use Rattle.std.specs.Prelude.{slice_index}
-use Rattle.picture.specs.declared.part_value.TheConstants.{LEGEND}
+use Rattle.picture.specs.declared.value.TheConstants.{LEGEND}
 
 -- coflows come by weight, the greatest first, and then by number
 abbrev pub ComesFirst : List ℕ → ℕ → ℕ → Type 0

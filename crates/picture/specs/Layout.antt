@@ -4,8 +4,8 @@ use Rattle.std.specs.List.{slice_index_or}
 use Rattle.coflow_units.specs.declared.limits.TheConstants.{MAX_PORTS, MAX_SLOT}
 use Rattle.picture.specs.declared.value.Bar.{Bar}
 use Rattle.picture.specs.declared.value.Window.{Window}
-use Rattle.picture.specs.declared.part_value.Picture.{Picture}
-use Rattle.picture.specs.declared.part_value.TheConstants.{LEGEND}
+use Rattle.picture.specs.declared.value.Picture.{Picture}
+use Rattle.picture.specs.declared.value.TheConstants.{LEGEND}
 
 -- the bar has a slot, and its slots are slots of the window
 pub record IsInside (w : Window) (b : Bar) : Type 0 where

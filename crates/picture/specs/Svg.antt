@@ -5,7 +5,7 @@ use Rattle.coflow_units.specs.declared.fabric.Side.{Side}
 use Rattle.coflow_units.specs.declared.fabric.Side.TheVariants.{Ingress, Egress}
 use Rattle.picture.specs.declared.value.Bar.{Bar}
 use Rattle.picture.specs.declared.value.Step.{Step}
-use Rattle.picture.specs.declared.part_value.Picture.{Picture}
+use Rattle.picture.specs.declared.value.Picture.{Picture}
 use Rattle.picture.specs.Layout.{bars_end, bars_height, curve_end, curve_top, height, port_y, slot_count, slot_x}
 use Rattle.picture.specs.Palette.{colour_at, fill_of}
 use Rattle.picture.specs.Text.{numbered}

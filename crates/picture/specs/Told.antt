@@ -2,7 +2,7 @@
 use Rattle.std.specs.Prelude.{ℕ, ◌<◌, ◌^◌, List, [], All, length, map}
 use Rattle.std.specs.List.{flat_map, range_with_len, slice_index_or}
 use Rattle.picture.specs.declared.value.Bar.{Bar}
-use Rattle.picture.specs.declared.part_value.Picture.{Picture}
+use Rattle.picture.specs.declared.value.Picture.{Picture}
 use Rattle.picture.specs.Svg.{id_of}
 
 -- a bar as a text tells it: with its port, and its coflow by id

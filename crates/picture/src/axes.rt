@@ -5,8 +5,8 @@ ghost use Rattle.picture.specs.Svg.{axes_text, done_axis, frame_text, height_lab
 
 use crate::layout::{bars_end, bars_height, curve_end, curve_top, port_y, slot_count, slot_x};
 use crate::number::push_number;
-use crate::part_value::Picture;
 use crate::ticks::step_of;
+use crate::value::Picture;
 use coflow_units::NoMemory;
 
 /// Frames and axes.

@@ -7,8 +7,7 @@ ghost use Rattle.picture.specs.Svg.{bar_text, bars_head, bars_text, id_of, row_t
 use crate::layout::{bars_height, slot_count};
 use crate::number::push_number;
 use crate::palette::fill_of;
-use crate::part_value::Picture;
-use crate::value::Bar;
+use crate::value::{Bar, Picture};
 use coflow_units::{NoMemory, Side};
 
 /// The bars, with what they show.

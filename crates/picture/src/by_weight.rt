@@ -3,7 +3,7 @@ ghost use Rattle.std.specs.Prelude.{◌<◌, ◌≤◌, IfOk, IfSome, length};
 ghost use Rattle.coflow_units.specs.declared.limits.TheConstants.{MAX_COFLOWS};
 ghost use Rattle.picture.specs.Heaviest.{IsBetter, IsHeaviest, IsNext};
 
-use crate::part_value::LEGEND;
+use crate::value::LEGEND;
 use coflow_units::NoMemory;
 use std::alloc::Global;
 

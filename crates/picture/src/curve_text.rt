@@ -6,8 +6,7 @@ ghost use Rattle.picture.specs.Svg.{curve_head, curve_text, step_text};
 
 use crate::layout::{curve_top, slot_count};
 use crate::number::push_number;
-use crate::part_value::Picture;
-use crate::value::Step;
+use crate::value::{Picture, Step};
 use coflow_units::NoMemory;
 
 /// The curve as an area.

@@ -1,12 +1,17 @@
-//! Laws of bars and curves.
-ghost use Rattle.std.specs.Prelude.{◌≡◌, ◌≢◌, ℕ, ◌+◌, ◌<◌, List, [], length};
-ghost use Rattle.std.specs.List.{slice_index_or};
+//! Laws of bars and curves, and of the text of a picture.
 ghost use Rattle.coflow_units.specs.declared.fabric.Flow.{Flow};
+ghost use Rattle.picture.specs.Bars.{IsBars};
+ghost use Rattle.picture.specs.Curve.{IsCurve};
+ghost use Rattle.picture.specs.Layout.{IsDrawable};
+ghost use Rattle.picture.specs.Svg.{picture_text};
+ghost use Rattle.picture.specs.Title.{hundredths};
+ghost use Rattle.picture.specs.Told.{HasSmallNumbers, told_bars};
+ghost use Rattle.picture.specs.declared.value.Picture.{Picture};
 ghost use Rattle.picture.specs.declared.value.Bar.{Bar};
 ghost use Rattle.picture.specs.declared.value.Step.{Step};
 ghost use Rattle.picture.specs.declared.value.Window.{Window};
-ghost use Rattle.picture.specs.Bars.{IsBars};
-ghost use Rattle.picture.specs.Curve.{IsCurve};
+ghost use Rattle.std.specs.List.{slice_index_or};
+ghost use Rattle.std.specs.Prelude.{◌≡◌, ◌≢◌, ℕ, ◌+◌, ◌<◌, List, [], length, ◌*◌, ◌≤◌};
 
 /// A schedule has one list of bars in a window.
 pub fn bars_are_one()
@@ -28,4 +33,16 @@ pub fn neighbours_differ()
 /// Completions have one curve.
 pub fn curve_is_one()
     ensures { (ends : List ℕ) (a b : List Step) → IsCurve ends a → IsCurve ends b → a ≡ b }
+{}
+
+/// The hundredths that the title tells are the least ones that are not below cost by bound.
+pub fn ratio_is_cut_upwards()
+    ensures enough { (cost bound : ℕ) → 1 ≤ bound → 100 * cost ≤ hundredths cost bound * bound }
+    ensures least { (cost bound : ℕ) → 1 ≤ bound → hundredths cost bound * bound < 100 * cost + bound }
+{}
+
+/// A text tells one list of bars: two pictures with the same text have the same bars at the same ports, with coflows of the same ids.
+pub fn text_has_one_list_of_bars()
+    ensures { (p q : Picture) → IsDrawable p → IsDrawable q → HasSmallNumbers p → HasSmallNumbers q →
+        picture_text p ≡ picture_text q → told_bars p ≡ told_bars q }
 {}

@@ -3,7 +3,7 @@ ghost use Rattle.std.specs.Prelude.{◌≡◌, ◌<◌, ◌≤◌, length};
 ghost use Rattle.coflow_units.specs.declared.limits.TheConstants.{MAX_SLOT};
 ghost use Rattle.picture.specs.Layout.{IsDrawable, bars_end, bars_height, curve_end, curve_top, middle, port_y, slot_count, slot_x};
 
-use crate::part_value::Picture;
+use crate::value::Picture;
 
 /// How many slots the window has.
 pub fn slot_count(picture: &Picture) -> u64

@@ -1,14 +1,14 @@
 //! The legend.
 ghost use Rattle.std.specs.Prelude.{◌≡◌, ◌<◌, ◌≤◌, ◌++◌, OnOk, length};
 ghost use Rattle.std.specs.List.{flat_map, range_with_len, slice_index_or};
-ghost use Rattle.picture.specs.declared.part_value.TheConstants.{LEGEND};
+ghost use Rattle.picture.specs.declared.value.TheConstants.{LEGEND};
 ghost use Rattle.picture.specs.Layout.{IsDrawable};
 ghost use Rattle.picture.specs.Svg.{entry_head, entry_text, legend_text, others_text, weight_of};
 
 use crate::bars_text::id_of;
 use crate::number::push_number;
 use crate::palette::colour_at;
-use crate::part_value::Picture;
+use crate::value::Picture;
 use coflow_units::NoMemory;
 
 /// The legend.

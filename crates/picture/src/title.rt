@@ -5,7 +5,7 @@ ghost use Rattle.picture.specs.Svg.{title_text};
 ghost use Rattle.picture.specs.Title.{hundredths, ratio_words, title_words, two_digits};
 
 use crate::number::push_total;
-use crate::part_value::Picture;
+use crate::value::Picture;
 use coflow_units::NoMemory;
 
 /// The title.

@@ -1,7 +1,8 @@
-//! Bars, windows and steps. Slots count from 1.
+//! Pictures, bars, windows and steps. Slots count from 1.
 ghost use Rattle.std.specs.Prelude.{◌≡◌};
 
-use coflow_units::{NoMemory, Side};
+use crate::row::PortBars;
+use coflow_units::{Items, NoMemory, Side};
 
 /// The bars of a picture: 2^18.
 pub const MAX_BARS: u64 = 262_144;
@@ -46,4 +47,24 @@ impl From<NoMemory> for BarsFault {
     fn from(_error: NoMemory) -> BarsFault {
         BarsFault::NoMemory
     }
+}
+
+/// The coflows that have a colour of their own and stand in the legend.
+pub const LEGEND: usize = 8;
+
+/// A plan as a picture: the bars of each port in a window of slots, the curve of completed coflows, and what title and legend tell.
+#[derive(Drop)]
+pub struct Picture {
+    pub window: Window,
+    /// The bars by port.
+    pub rows: Items<PortBars>,
+    pub steps: Items<Step>,
+    /// The ids of the coflows, by number.
+    pub ids: Items<u32>,
+    /// The weights of the coflows, by number.
+    pub weights: Items<u64>,
+    /// The coflows of the legend, by number, the one with the most weight first.
+    pub heavy: Items<u32>,
+    pub cost: u128,
+    pub bound: u128,
 }

@@ -9,8 +9,8 @@ use crate::curve_text::push_curve;
 use crate::layout::curve_end;
 use crate::legend::push_legend;
 use crate::number::push_number;
-use crate::part_value::Picture;
 use crate::title::push_title;
+use crate::value::Picture;
 use coflow_units::NoMemory;
 use std::alloc::Global;
 

@@ -28,7 +28,7 @@ use Rattle.picture.specs.declared.value.Step.{Step}
 use Rattle.picture.specs.declared.value.Window.{Window}
 use Rattle.picture.specs.Bars.{IsBar, IsBars, IsTooMany, Serves}
 use Rattle.picture.specs.Curve.{IsCurve}
-use Rattle.picture.specs.declared.part_value.Picture.{Picture}
+use Rattle.picture.specs.declared.value.Picture.{Picture}
 use Rattle.picture.specs.Layout.{IsInside}
 use Rattle.picture.specs.Svg.{picture_text}
 use Rattle.picture.specs.Title.{hundredths}

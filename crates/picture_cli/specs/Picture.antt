@@ -16,7 +16,7 @@ use Rattle.picture.specs.declared.value.TheConstants.{MAX_BARS}
 use Rattle.picture.specs.declared.value.Window.{Window}
 use Rattle.picture.specs.Bars.{IsBars, IsTooMany, bar_count}
 use Rattle.picture.specs.Curve.{IsCurve}
-use Rattle.picture.specs.declared.part_value.Picture.{Picture}
+use Rattle.picture.specs.declared.value.Picture.{Picture}
 use Rattle.picture.specs.Heaviest.{IsHeaviest}
 use Rattle.picture.specs.Svg.{picture_text}
 use Rattle.picture.specs.Title.{hundredths}

@@ -5,7 +5,7 @@ ghost use Rattle.cert_check.specs.declared.verdict.Verdict.{Verdict};
 ghost use Rattle.cert_check.specs.Reasons.{IsVerdict};
 ghost use Rattle.cert_check.specs.Sound.{IsSound};
 ghost use Rattle.flow_table.specs.Table.{instance_of};
-ghost use Rattle.picture.specs.declared.part_value.Picture.{Picture};
+ghost use Rattle.picture.specs.declared.value.Picture.{Picture};
 ghost use Rattle.picture.specs.Layout.{IsDrawable};
 ghost use Rattle.picture.specs.Svg.{picture_text};
 ghost use Rattle.report.specs.Report.{IsReport};

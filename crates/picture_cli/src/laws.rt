@@ -1,13 +1,14 @@
-//! Laws of what a command line and its files call for, and of the title.
-ghost use Rattle.std.specs.Prelude.{◌≡◌, ℕ, List};
+//! Laws of the words of a command line, of what they and its files call for, and of the title.
 ghost use Rattle.cert_check.specs.Sound.{IsSound};
 ghost use Rattle.coflow_units.specs.Flows.{Instance};
+ghost use Rattle.command_words.specs.Line.{Text};
 ghost use Rattle.outside.specs.Shelf.{Told};
-ghost use Rattle.report.specs.declared.value.Report.{Report};
 ghost use Rattle.picture_cli.specs.Complete.{IsAnswer};
 ghost use Rattle.picture_cli.specs.Picture.{IsNearBest};
-ghost use Rattle.picture_cli.specs.Words.{PictureSaid};
+ghost use Rattle.picture_cli.specs.Words.{PictureSaid, IsPictureWords};
 ghost use Rattle.picture_cli.specs.declared.status.PictureStatus.{PictureStatus};
+ghost use Rattle.report.specs.declared.value.Report.{Report};
+ghost use Rattle.std.specs.Prelude.{◌≡◌, ℕ, List};
 
 /// What the files of a command line call for is one status at most.
 pub fn answer_is_one()
@@ -17,4 +18,9 @@ pub fn answer_is_one()
 /// What the title says holds of every right report with a bound above 0: the cost is at most as many hundredths of the cost of any valid schedule as it tells.
 pub fn title_bounds_every_schedule()
     ensures { (i : Instance) (ids : List ℕ) (r : Report) → IsSound i ids r → IsNearBest i r }
+{}
+
+/// Words say one thing at most.
+pub fn words_are_one()
+    ensures { (words : List Text) (a b : PictureSaid) → IsPictureWords words a → IsPictureWords words b → a ≡ b }
 {}

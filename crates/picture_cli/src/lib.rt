@@ -9,7 +9,6 @@ mod messages;
 mod parser;
 mod status;
 mod value;
-pub mod word_laws;
 mod words;
 
 pub use command::sincronia_picture;

@@ -1,5 +1,6 @@
-//! Tests of the crates that serve orders and tell what schedules cost. That their definitions give what was worked out by hand is said by laws for some rows; here are more of them, and that a
-//! call that may answer want of memory answers where memory is there. Flows are told by their traces.
+//! Tests of tables, schedules, served orders, rankers and epochs. That their definitions give what was worked out by hand is
+//! said by laws for some rows; here are more of them, and that a call that may answer want of memory answers where memory is
+//! there. Flows are told by their traces.
 #![tactic(auto)]
 
 #[cfg(test)]

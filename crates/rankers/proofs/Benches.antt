@@ -6,7 +6,7 @@ use Rattle.std.proofs.lemmas.List.{drop-drop, get_or-drop, length-drop, take_mor
 use Rattle.std.proofs.lemmas.List.Elements.{All-push}
 use Rattle.coflow_units.specs.Flows.{Instance}
 use Rattle.rankers.specs.declared.row.Row.{Row}
-use Rattle.rankers.specs.declared.scored.Scored.{Scored}
+use Rattle.rankers.specs.declared.row.Scored.{Scored}
 use Rattle.rankers.specs.FactsTold.{FactsTold}
 use Rattle.rankers.specs.Meaning.{Meaning}
 use Rattle.rankers.specs.Rounds.{IsRounds, IsRowsFrom}

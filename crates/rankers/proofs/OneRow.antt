@@ -7,8 +7,8 @@ use Rattle.coflow_units.specs.Flows.{Instance}
 use Rattle.coflow_units.proofs.ServeLaws.{one_served}
 use Rattle.class_rates.specs.Classes.{IsPermutation}
 use Rattle.rankers.specs.declared.row.Row.{Row}
-use Rattle.rankers.specs.declared.scored.Scored.{Scored}
-use Rattle.rankers.specs.declared.scored.Scored.TheVariants.{Cost, Unfit}
+use Rattle.rankers.specs.declared.row.Scored.{Scored}
+use Rattle.rankers.specs.declared.row.Scored.TheVariants.{Cost, Unfit}
 use Rattle.rankers.specs.FactsTold.{FactsTold}
 use Rattle.rankers.specs.Meaning.{Meaning, after_question, answer_of}
 use Rattle.rankers.specs.Rounds.{IsRounds, IsRowsFrom, IsToldOf, after_completions}

@@ -9,8 +9,8 @@ use Rattle.coflow_units.specs.Schedule.{IsValid}
 use Rattle.coflow_units.proofs.ServedLaws.{served_valid}
 use Rattle.flow_table.specs.Table.{TableFacts, instance_of}
 use Rattle.rankers.specs.declared.row.Row.{Row}
-use Rattle.rankers.specs.declared.scored.Scored.{Scored}
-use Rattle.rankers.specs.declared.scored.Scored.TheVariants as scored
+use Rattle.rankers.specs.declared.row.Scored.{Scored}
+use Rattle.rankers.specs.declared.row.Scored.TheVariants as scored
 use Rattle.rankers.specs.FactsTold.{FactsTold}
 use Rattle.rankers.specs.Meaning.{Meaning}
 use Rattle.rankers.specs.Rounds.{IsRowsFrom}

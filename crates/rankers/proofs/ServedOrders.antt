@@ -12,7 +12,7 @@ use Rattle.flow_table.specs.Table.{TableFacts, instance_of}
 use Rattle.schedule_model.specs.RunList.{NamesFlows}
 use Rattle.schedule_model.specs.Weights.{weighted_cost}
 use Rattle.schedule_model.proofs.ValidSteps.{valid_names}
-use Rattle.rankers.specs.declared.scored.Scored.TheVariants.{Cost}
+use Rattle.rankers.specs.declared.row.Scored.TheVariants.{Cost}
 use Rattle.rankers.specs.declared.scoring.Judged.{Judged}
 use Rattle.rankers.specs.declared.scoring.Judged.TheVariants.{Served, Unfit}
 use Rattle.rankers.specs.Scores.{IsFirstUnfit, IsScore, IsServedOrder}

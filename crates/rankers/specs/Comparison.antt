@@ -3,8 +3,8 @@ use Rattle.std.specs.Prelude.{◌≡◌, ℕ, ◌-◌, ◌≤◌, List, [], All,
 use Rattle.std.specs.List.{slice_index_or}
 use Rattle.flow_table.specs.Table.{TableFacts, instance_of}
 use Rattle.rankers.specs.declared.row.Row.{Row}
-use Rattle.rankers.specs.declared.scored.Scored.{Scored}
-use Rattle.rankers.specs.declared.scored.Scored.TheVariants as scored
+use Rattle.rankers.specs.declared.row.Scored.{Scored}
+use Rattle.rankers.specs.declared.row.Scored.TheVariants as scored
 use Rattle.rankers.specs.FactsTold.{FactsTold, IsFacts, IsFactsOf}
 use Rattle.rankers.specs.Meaning.{Meaning}
 use Rattle.rankers.specs.Rounds.{IsRowsFrom}

@@ -4,7 +4,7 @@ use Rattle.coflow_units.specs.Completion.{completion}
 use Rattle.coflow_units.specs.declared.fabric.Flow.{Flow}
 use Rattle.coflow_units.specs.Flows.{Instance}
 use Rattle.rankers.specs.declared.row.Row.{Row}
-use Rattle.rankers.specs.declared.scored.Scored.{Scored}
+use Rattle.rankers.specs.declared.row.Scored.{Scored}
 use Rattle.rankers.specs.ByKey.{by_key}
 use Rattle.rankers.specs.FactsTold.{FactsTold}
 use Rattle.rankers.specs.Meaning.{Meaning, after_notes, after_question, answer_of}

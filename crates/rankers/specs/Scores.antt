@@ -4,8 +4,8 @@ use Rattle.coflow_units.specs.Completion.{cost}
 use Rattle.coflow_units.specs.Flows.{Instance}
 use Rattle.coflow_units.specs.Served.{IsServed}
 use Rattle.class_rates.specs.Classes.{IsPermutation}
-use Rattle.rankers.specs.declared.scored.Scored.{Scored}
-use Rattle.rankers.specs.declared.scored.Scored.TheVariants.{Cost, Unfit}
+use Rattle.rankers.specs.declared.row.Scored.{Scored}
+use Rattle.rankers.specs.declared.row.Scored.TheVariants.{Cost, Unfit}
 
 -- the number at a place, counted from 0, is that of one of n coflows, and stands at no place before
 pub record IsNew (n : ℕ) (order : List ℕ) (k : ℕ) : Type 0 where

@@ -1,11 +1,19 @@
-//! Laws of rows.
-ghost use Rattle.std.specs.Prelude.{◌≡◌, ℕ, List};
+//! Laws of rankers: orders by keys, the rows of a comparison, and what no row costs less than.
+ghost use Rattle.coflow_units.specs.Completion.{cost};
 ghost use Rattle.coflow_units.specs.Flows.{Instance};
-ghost use Rattle.rankers.specs.declared.row.Row.{Row};
-ghost use Rattle.rankers.specs.declared.scored.Scored.{Scored};
+ghost use Rattle.coflow_units.specs.Schedule.{IsValid};
+ghost use Rattle.flow_table.specs.Table.{TableFacts, instance_of};
+ghost use Rattle.rankers.specs.ByKey.{IsByKey, by_key};
+ghost use Rattle.rankers.specs.Comparison.{IsBelowCosts, IsComparison};
 ghost use Rattle.rankers.specs.FactsTold.{FactsTold};
 ghost use Rattle.rankers.specs.Meaning.{Meaning};
 ghost use Rattle.rankers.specs.Rounds.{IsRounds, IsRowsFrom};
+ghost use Rattle.rankers.specs.Rows.{Answers, ByKeys};
+ghost use Rattle.rankers.specs.ScoreRows.{UnfitRows};
+ghost use Rattle.rankers.specs.declared.row.Row.{Row};
+ghost use Rattle.rankers.specs.declared.row.Scored.{Scored};
+ghost use Rattle.report.specs.declared.compared.Compare.{Compare};
+ghost use Rattle.std.specs.Prelude.{◌≡◌, ℕ, List, ◌≤◌};
 
 /// What the rounds of a ranker are worth depends on its own meaning and the facts alone: not on its place, nor on the other rankers.
 pub fn rounds_are_one()
@@ -15,4 +23,29 @@ pub fn rounds_are_one()
         IsRounds i facts m first second → IsRounds i facts m other_first other_second → second ≡ other_second }
     ensures rows { (i : Instance) (facts : FactsTold) (index : ℕ) (ms : List Meaning) (rows other_rows : List Row) →
         IsRowsFrom i facts index ms rows → IsRowsFrom i facts index ms other_rows → rows ≡ other_rows }
+{}
+
+/// The list of numbers by a key is the one list that has them by their keys, and those of one key by number.
+pub fn by_key_is_one()
+    ensures sorted { (key : ℕ → ℕ) (n : ℕ) → IsByKey key n (by_key key n) }
+    ensures one { (key : ℕ → ℕ) (n : ℕ) (order : List ℕ) → IsByKey key n order → order ≡ by_key key n }
+{}
+
+/// Orders by keys, and what rankers answer before and after notes, are as they were worked out by hand.
+pub fn rows_hold()
+    ensures by_key { ByKeys }
+    ensures answers { Answers }
+{}
+
+/// Each cost of a comparison is that of a valid schedule. So where the bound is at most the cost of every valid schedule, no cost of a row is below it.
+pub fn costs_are_above_the_bound()
+    ensures { (t : TableFacts) (weights : List ℕ) (bench : List Meaning) (c : Compare) →
+        IsComparison t weights bench c →
+        ((slots : List (List ℕ)) → IsValid t.flows slots →
+        c.bound ≤ cost t.flows (instance_of t weights).weight (instance_of t weights).coflows slots) → IsBelowCosts c }
+{}
+
+/// Places at which an answer is no order are as they were worked out by hand.
+pub fn unfit_rows_hold()
+    ensures { UnfitRows }
 {}

@@ -12,8 +12,7 @@ ghost use Rattle.rankers.specs.Comparison.{IsComparison, line_of, names_of, wort
 use crate::comparing::compare;
 use crate::facts::Facts;
 use crate::ranker::Ranker;
-use crate::row::Row;
-use crate::scored::Scored;
+use crate::row::{Row, Scored};
 use coflow_units::{Items, NoMemory};
 use flow_table::Table;
 use report::{Compare, RowLine, RowText, write_compare};

@@ -12,7 +12,7 @@ ghost use Rattle.schedule_model.specs.RunList.{NamesFlows};
 use crate::by_key::fill_by_key;
 use crate::facts::Facts;
 use crate::ranker::Ranker;
-use crate::scored::Scored;
+use crate::row::Scored;
 use crate::scoring::{Judged, judge, score};
 use coflow_units::NoMemory;
 use flow_table::Table;

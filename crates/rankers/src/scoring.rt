@@ -7,7 +7,7 @@ ghost use Rattle.flow_table.specs.Table.{instance_of};
 ghost use Rattle.rankers.specs.Scores.{IsFirstUnfit, IsScore};
 ghost use Rattle.rankers.specs.Served.{IsJudged};
 
-use crate::scored::Scored;
+use crate::row::Scored;
 use coflow_units::NoMemory;
 use flow_table::Table;
 use schedule_model::{Schedule, cost};

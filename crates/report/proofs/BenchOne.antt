@@ -11,7 +11,8 @@ use Rattle.report.specs.declared.compared.RowText.TheVariants.{Cost, Unfit}
 use Rattle.report.specs.Classed.{IsSmallClasses, IsSmallMember, cap_line, class_lines, class_text, member_line}
 use Rattle.report.specs.Compared.{IsSmallCompare, IsSmallRow, IsSmallWorth, compare_lines, compare_text, row_line, worth_words}
 use Rattle.report.specs.Readers.{IsOneLine}
-use Rattle.report.specs.Text.{cost_line, run_line, spaced}
+use Rattle.report.specs.Text.{cost_line, run_line}
+use Rattle.coflow_units.specs.Text.{spaced}
 use Rattle.report.proofs.DraftText.{runs_first}
 use Rattle.report.proofs.LineLists.{all_first, both_ended, first, regroup, tail_is}
 use Rattle.report.proofs.LineText.{front_is_line}

@@ -5,7 +5,8 @@ use Rattle.report.specs.declared.classed.ClassText.{ClassText}
 use Rattle.report.specs.declared.compared.Compare.{Compare}
 use Rattle.report.specs.Classed.{cap_line, class_text, member_line}
 use Rattle.report.specs.Compared.{compare_text, row_line}
-use Rattle.report.specs.Text.{bound_line, cost_line, ended, run_line, text_of}
+use Rattle.report.specs.Text.{bound_line, cost_line, run_line}
+use Rattle.coflow_units.specs.Text.{ended, text_of}
 use Rattle.report.proofs.TextSteps.{lines_more, one_more}
 
 pub compared : (c : Compare) (first bound rows all : List ℕ) → first ≡ [] ++ codes "sincronia compare 1\n" → bound ≡ first ++ ended (bound_line c.bound) →

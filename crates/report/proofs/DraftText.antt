@@ -13,7 +13,8 @@ use Rattle.report.specs.declared.draft.Stage.{Stage}
 use Rattle.report.specs.declared.draft.Stage.TheVariants.{Places, Slack, Cost, Runs, Done}
 use Rattle.report.specs.declared.value.Report.{Report}
 use Rattle.report.specs.Report.{ForEach, HasSmallNumbers, IsReport}
-use Rattle.report.specs.Text.{bound_line, cost_line, place_at, place_line_at, place_lines, report_lines, run_line, slack_line, spaced, total_lines, version_line, weight_at}
+use Rattle.report.specs.Text.{bound_line, cost_line, place_at, place_line_at, place_lines, report_lines, run_line, slack_line, total_lines, version_line, weight_at}
+use Rattle.coflow_units.specs.Text.{spaced}
 use Rattle.report.specs.Readers.{IsPlaceOf, IsRun, IsRunOf, IsTotalOf, IsWeight, weights_if}
 use Rattle.report.specs.Draft.{Differs, IsDraft, Refuses, lines_before, report_of}
 use Rattle.report.proofs.FlowText.{goes_on, stops_flows}

@@ -10,7 +10,8 @@ use Rattle.std.proofs.lemmas.Option.{get_or_from_slice_get, slice_get_cases}
 use Rattle.std.proofs.lemmas.List.{get_or_append_left, get_or_push}
 use Rattle.std.proofs.lemmas.List.Elements.{All-push}
 use Rattle.coflow_units.specs.declared.plan.Run.{Run}
-use Rattle.report.specs.Text.{run_line, spaced}
+use Rattle.report.specs.Text.{run_line}
+use Rattle.coflow_units.specs.Text.{spaced}
 use Rattle.report.specs.Readers.{AreFlows, IsFlowsOf, IsRun, Stops, Rises}
 use Rattle.report.proofs.NumberText.{spaced_unique}
 

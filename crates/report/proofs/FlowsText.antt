@@ -6,7 +6,8 @@ use Rattle.std.proofs.lemmas.Grind.{flat_map-append}
 use Rattle.std.proofs.lemmas.List.{drop_all, get_or-replicate, get_or-take, length-replicate, length-take-le, take-append-drop, take-take, take_all, take_at, take_more}
 use Rattle.std.specs.Prelude.{decimal}
 use Rattle.std.specs.List.{flat_map}
-use Rattle.report.specs.Text.{HasSpaces, spaced}
+use Rattle.report.specs.Text.{HasSpaces}
+use Rattle.coflow_units.specs.Text.{spaced}
 
 -- how many bytes the numbers take
 abbrev pub width : List ℕ → ℕ

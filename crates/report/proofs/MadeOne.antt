@@ -4,7 +4,7 @@ use Rattle.std.specs.Prelude.{codes}
 use Rattle.report.specs.declared.made.Made.{Made}
 use Rattle.report.specs.Made.{IsSmallMade, counts_line, made_lines, made_text}
 use Rattle.report.specs.Readers.{IsOneLine}
-use Rattle.report.specs.Text.{spaced}
+use Rattle.coflow_units.specs.Text.{spaced}
 use Rattle.report.proofs.LineText.{front_is_line}
 use Rattle.report.proofs.NumberText.{decimal_one, spaced_unique}
 use Rattle.report.proofs.OneLine.{both, total_one}

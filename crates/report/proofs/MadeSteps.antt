@@ -3,7 +3,8 @@ use Rattle.std.proofs.Common.{◌≡◌, ◌++◌, List, [], ◌∷◌, ℕ, ref
 use Rattle.std.specs.Prelude.{codes}
 use Rattle.std.proofs.lemmas.Grind.{flat_map-append}
 use Rattle.report.specs.declared.made.Made.{Made}
-use Rattle.report.specs.Text.{bound_line, cost_line, ended, slack_line, text_of}
+use Rattle.report.specs.Text.{bound_line, cost_line, slack_line}
+use Rattle.coflow_units.specs.Text.{ended, text_of}
 use Rattle.report.specs.Made.{counts_line, made_text, seed_line}
 use Rattle.report.proofs.TextSteps.{one_more}
 

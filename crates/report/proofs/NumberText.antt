@@ -10,7 +10,7 @@ use Rattle.std.specs.Char.{is_ascii_digit}
 use Rattle.std.specs.List.{position_or_len}
 use Rattle.std.specs.Str.{IsUtf8, all_ascii_digits}
 use Rattle.std.specs.Str.Parse.{ParsesUnsigned, digits_value}
-use Rattle.report.specs.Text.{spaced}
+use Rattle.coflow_units.specs.Text.{spaced}
 use Rattle.report.specs.Readers.{Stops}
 
 abbrev pub is_other : ℕ → Bool

@@ -11,7 +11,8 @@ use Rattle.coflow_units.specs.declared.plan.Run.{Run}
 use Rattle.report.specs.declared.value.PlaceLine.{PlaceLine}
 use Rattle.report.specs.declared.value.Report.{Report}
 use Rattle.report.specs.Report.{ForEach, HasSmallNumbers, IsReport, IsSmallPlace}
-use Rattle.report.specs.Text.{charge_words, place_at, place_line_at, place_lines, report_lines, run_line, side_word, spaced, total_lines, version_line, weight_at, weight_word}
+use Rattle.report.specs.Text.{charge_words, place_at, place_line_at, place_lines, report_lines, run_line, side_word, total_lines, version_line, weight_at, weight_word}
+use Rattle.coflow_units.specs.Text.{spaced}
 use Rattle.report.specs.Readers.{IsOneLine, IsRun}
 use Rattle.report.proofs.LineText.{front_is_line}
 use Rattle.report.proofs.NumberText.{digits_of_decimal}

@@ -8,7 +8,8 @@ use Rattle.coflow_units.specs.declared.fabric.Side.{Side}
 use Rattle.coflow_units.specs.declared.fabric.Side.TheVariants.{Ingress, Egress}
 use Rattle.report.specs.declared.value.PlaceLine.{PlaceLine}
 use Rattle.report.specs.Report.{IsSmallPlace}
-use Rattle.report.specs.Text.{charge_words, place_line, side_word, spaced, weight_word}
+use Rattle.report.specs.Text.{charge_words, place_line, side_word, weight_word}
+use Rattle.coflow_units.specs.Text.{spaced}
 use Rattle.report.specs.Readers.{IsWeight, Stops}
 use Rattle.report.proofs.NumberText.{spaced_unique}
 

@@ -4,7 +4,8 @@ use Rattle.report.specs.declared.draft.Draft.{Draft}
 use Rattle.report.specs.declared.draft.Stage.TheVariants.{Done}
 use Rattle.report.specs.declared.value.Report.{Report}
 use Rattle.report.specs.Report.{HasSmallNumbers, IsReport}
-use Rattle.report.specs.Text.{report_lines, report_text, text_of}
+use Rattle.report.specs.Text.{report_lines, report_text}
+use Rattle.coflow_units.specs.Text.{text_of}
 use Rattle.report.specs.Draft.{IsDraft, Refuses, draft_lines, lines_before, report_of}
 use Rattle.report.specs.Reading.{IsBadAt, IsBeginning, IsTextOf}
 use Rattle.report.proofs.OneLine.{report_is_lines}

@@ -1,6 +1,6 @@
 -- The lines that bytes begin with, and what text of a report goes on from them.
 use Rattle.std.proofs.Common.{◌≡◌, ℕ, ◌+◌, List, [], ◌∷◌, ◌++◌, append_assoc, append-nil, length, length-append, refl, sym, ap, ◌∙◌, arith}
-use Rattle.report.specs.Text.{ended, text_of}
+use Rattle.coflow_units.specs.Text.{ended, text_of}
 use Rattle.report.specs.Readers.{IsOneLine}
 use Rattle.report.proofs.LineText.{line_unique}
 

@@ -9,8 +9,10 @@ use Rattle.coflow_units.proofs.Fronts.{head_of}
 use Rattle.report.specs.declared.value.PlaceLine.{PlaceLine}
 use Rattle.report.specs.declared.value.Report.{Report}
 use Rattle.report.specs.Report.{ForEach, HasSmallNumbers, IsReport, IsSmallPlace}
-use Rattle.report.specs.Text.{bound_line, charge_words, cost_line, ended, place_at, place_line, place_line_at, place_lines, report_lines, report_text, run_line, slack_line, spaced}
-use Rattle.report.specs.Text.{text_of, version_line, weight_at, weight_word}
+use Rattle.report.specs.Text.{bound_line, charge_words, cost_line, place_at, place_line, place_line_at, place_lines, report_lines, report_text, run_line, slack_line}
+use Rattle.coflow_units.specs.Text.{ended, spaced}
+use Rattle.coflow_units.specs.Text.{text_of}
+use Rattle.report.specs.Text.{version_line, weight_at, weight_word}
 use Rattle.report.specs.Readers.{IsRun}
 use Rattle.report.proofs.NumberText.{decimal_one}
 use Rattle.report.proofs.PartText.{charge_unique, place_parts, weight_stops}

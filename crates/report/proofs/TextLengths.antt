@@ -15,7 +15,8 @@ use Rattle.coflow_units.proofs.Sums.{all_of_members}
 use Rattle.report.specs.declared.value.PlaceLine.{PlaceLine}
 use Rattle.report.specs.declared.value.Report.{Report}
 use Rattle.report.specs.Report.{ForEach, HasSmallNumbers, IsReport, IsSmallPlace}
-use Rattle.report.specs.Text.{charge_words, ended, place_at, place_line, place_line_at, place_lines, report_text, run_line, side_word, spaced, total_lines, version_line, weight_at}
+use Rattle.report.specs.Text.{charge_words, place_at, place_line, place_line_at, place_lines, report_text, run_line, side_word, total_lines, version_line, weight_at}
+use Rattle.coflow_units.specs.Text.{ended, spaced}
 use Rattle.report.specs.Text.{weight_word}
 
 -- ---- numbers

@@ -8,8 +8,10 @@ use Rattle.std.proofs.lemmas.List.FromFn.{map-range_with_len_more}
 use Rattle.coflow_units.specs.declared.plan.Run.{Run}
 use Rattle.report.specs.declared.value.PlaceLine.{PlaceLine}
 use Rattle.report.specs.declared.value.Report.{Report}
-use Rattle.report.specs.Text.{bound_line, charge_words, cost_line, ended, place_line, place_line_at, place_lines, report_text, run_line, side_word, slack_line, spaced}
-use Rattle.report.specs.Text.{text_of, total_lines, version_line, weight_word}
+use Rattle.report.specs.Text.{bound_line, charge_words, cost_line, place_line, place_line_at, place_lines, report_text, run_line, side_word, slack_line}
+use Rattle.coflow_units.specs.Text.{ended, spaced}
+use Rattle.coflow_units.specs.Text.{text_of}
+use Rattle.report.specs.Text.{total_lines, version_line, weight_word}
 
 text_more : (lines : List (List ℕ)) (line : List ℕ) → text_of (lines ++ (line ∷ [])) ≡ text_of lines ++ ended line
 text_more lines line = flat_map-append ended lines (line ∷ []) ∙ ap (λ x. text_of lines ++ x) (append-nil (ended line))

@@ -4,7 +4,7 @@ use Rattle.std.proofs.Common.{◌≡◌, ℕ, ◌+◌, ◌<◌, ◌≤◌, List,
 use Rattle.std.proofs.lemmas.Grind.{flat_map-append}
 use Rattle.std.proofs.lemmas.List.{length-take-le, take-append-drop}
 use Rattle.report.specs.Readers.{IsOneLine}
-use Rattle.report.specs.Text.{ended, text_of}
+use Rattle.coflow_units.specs.Text.{ended, text_of}
 use Rattle.report.proofs.LineText.{line_unique}
 use Rattle.report.proofs.ReadingText.{AreLines, front_lines, more_lines, text_goes_on, text_splits}
 

@@ -1,6 +1,7 @@
 -- The text of the classes of a trace, line by line.
 use Rattle.std.specs.Prelude.{ℕ, ◌<◌, ◌^◌, ◌++◌, List, [], ◌∷◌, All, codes, map}
-use Rattle.report.specs.Text.{cost_line, run_line, spaced, text_of}
+use Rattle.report.specs.Text.{cost_line, run_line}
+use Rattle.coflow_units.specs.Text.{spaced, text_of}
 use Rattle.report.specs.declared.classed.ClassText.{ClassText}
 use Rattle.report.specs.declared.classed.Member.{Member}
 use Rattle.report.specs.Readers.{IsRun}

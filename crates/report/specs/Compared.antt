@@ -1,6 +1,7 @@
 -- The text of a comparison of rankers, line by line.
 use Rattle.std.specs.Prelude.{ℕ, ◌<◌, ◌≤◌, ◌^◌, ◌++◌, List, [], ◌∷◌, All, codes, length, map}
-use Rattle.report.specs.Text.{bound_line, spaced, text_of}
+use Rattle.report.specs.Text.{bound_line}
+use Rattle.coflow_units.specs.Text.{spaced, text_of}
 use Rattle.report.specs.declared.compared.Compare.{Compare}
 use Rattle.report.specs.declared.compared.RowLine.{RowLine}
 use Rattle.report.specs.declared.compared.RowText.{RowText}

@@ -1,6 +1,7 @@
 -- The text of the summary of a made workload, line by line.
 use Rattle.std.specs.Prelude.{ℕ, ◌<◌, ◌^◌, ◌++◌, List, [], ◌∷◌, codes}
-use Rattle.report.specs.Text.{spaced, bound_line, slack_line, cost_line, text_of}
+use Rattle.coflow_units.specs.Text.{spaced, text_of}
+use Rattle.report.specs.Text.{bound_line, slack_line, cost_line}
 use Rattle.report.specs.declared.made.Made.{Made}
 
 -- each number of the summary is below 2^128, as each number of its type is

@@ -11,7 +11,8 @@ use Rattle.coflow_units.specs.declared.fabric.Side.{Side}
 use Rattle.coflow_units.specs.declared.plan.Run.{Run}
 use Rattle.report.specs.declared.value.PlaceLine.{PlaceLine}
 use Rattle.report.specs.Report.{IsSmallPlace}
-use Rattle.report.specs.Text.{charge_words, ended, place_line, run_line, side_word, spaced, version_line, weight_word}
+use Rattle.report.specs.Text.{charge_words, place_line, run_line, side_word, version_line, weight_word}
+use Rattle.coflow_units.specs.Text.{ended, spaced}
 
 -- a number ends where these bytes follow: there are none, or the first is no digit
 abbrev pub Stops : List ℕ → Type 0

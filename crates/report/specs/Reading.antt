@@ -4,7 +4,8 @@ use Rattle.report.specs.declared.value.Report.{Report}
 use Rattle.report.specs.declared.fault.ReportFault.{ReportFault}
 use Rattle.report.specs.declared.fault.ReportFault.TheVariants.{BadText, NoMemory}
 use Rattle.report.specs.Report.{HasSmallNumbers, IsReport}
-use Rattle.report.specs.Text.{report_lines, report_text, text_of}
+use Rattle.report.specs.Text.{report_lines, report_text}
+use Rattle.coflow_units.specs.Text.{text_of}
 
 -- the bytes are the text of the report
 pub record IsTextOf (bytes : List ℕ) (r : Report) : Type 0 where

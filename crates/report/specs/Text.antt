@@ -1,7 +1,7 @@
 -- The text of a report, line by line.
+use Rattle.coflow_units.specs.Text.{spaced, text_of}
 use Rattle.std.specs.Prelude.{◌≡◌, ℕ, ◌+◌, ◌++◌, List, [], ◌∷◌, Option, Some, None, length, map, replicate, codes}
 use Rattle.std.specs.List.{flat_map, range_with_len, slice_index_or}
-pub use Rattle.coflow_units.specs.Text.{ended, spaced, text_of}
 use Rattle.coflow_units.specs.declared.fabric.Side.{Side}
 use Rattle.coflow_units.specs.declared.fabric.Side.TheVariants.{Ingress, Egress}
 use Rattle.coflow_units.specs.declared.plan.Run.{Run}

@@ -1,6 +1,6 @@
 //! The text of the classes of a trace.
 ghost use Rattle.std.specs.Prelude.{◌≡◌, ◌++◌, IfOk, OnOk, map};
-ghost use Rattle.report.specs.Text.{ended, text_of};
+ghost use Rattle.coflow_units.specs.Text.{ended, text_of};
 ghost use Rattle.report.specs.Classed.{class_text, member_line};
 ghost use Rattle.report.specs.declared.classed.Member.{Member};
 

@@ -1,6 +1,6 @@
 //! The text of a comparison of rankers.
 ghost use Rattle.std.specs.Prelude.{◌≡◌, ◌++◌, All, IfOk, OnOk, map};
-ghost use Rattle.report.specs.Text.{ended, text_of};
+ghost use Rattle.coflow_units.specs.Text.{ended, text_of};
 ghost use Rattle.report.specs.Compared.{IsName, compare_text, row_line, worth_words};
 ghost use Rattle.report.specs.declared.compared.RowLine.{RowLine};
 

@@ -1,10 +1,16 @@
-//! Laws of the text of a report.
-ghost use Rattle.std.specs.Prelude.{◌≡◌, Err, List, Ok, ℕ};
-ghost use Rattle.report.specs.declared.value.Report.{Report};
-ghost use Rattle.report.specs.declared.fault.ReportFault.TheVariants.{BadText};
+//! Laws of the texts: of a report, of a comparison, of classes and of a summary.
+ghost use Rattle.report.specs.Classed.{IsSmallClasses, class_text};
+ghost use Rattle.report.specs.Compared.{IsSmallCompare, compare_text};
+ghost use Rattle.report.specs.Made.{IsSmallMade, made_text};
 ghost use Rattle.report.specs.Reading.{GivesReport, IsBadAt};
 ghost use Rattle.report.specs.Report.{HasSmallNumbers, IsReport};
 ghost use Rattle.report.specs.Text.{report_text};
+ghost use Rattle.report.specs.declared.classed.ClassText.{ClassText};
+ghost use Rattle.report.specs.declared.compared.Compare.{Compare};
+ghost use Rattle.report.specs.declared.fault.ReportFault.TheVariants.{BadText};
+ghost use Rattle.report.specs.declared.made.Made.{Made};
+ghost use Rattle.report.specs.declared.value.Report.{Report};
+ghost use Rattle.std.specs.Prelude.{◌≡◌, Err, List, Ok, ℕ};
 
 /// A text is that of one report at most.
 pub fn texts_are_one()
@@ -23,4 +29,19 @@ pub fn written_is_read()
 /// A text is refused at one line alone.
 pub fn bad_line_is_one()
     ensures { (bytes : List ℕ) (a b : ℕ) → IsBadAt bytes a → IsBadAt bytes b → a ≡ b }
+{}
+
+/// A text is the summary of one made workload at most.
+pub fn summaries_are_one()
+    ensures { (a b : Made) → IsSmallMade a → IsSmallMade b → made_text a ≡ made_text b → a ≡ b }
+{}
+
+/// A text is that of one comparison at most.
+pub fn comparisons_are_one()
+    ensures { (a b : Compare) → IsSmallCompare a → IsSmallCompare b → compare_text a ≡ compare_text b → a ≡ b }
+{}
+
+/// A text is that of one list of classes at most.
+pub fn class_texts_are_one()
+    ensures { (a b : ClassText) → IsSmallClasses a → IsSmallClasses b → class_text a ≡ class_text b → a ≡ b }
 {}

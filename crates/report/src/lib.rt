@@ -7,7 +7,6 @@ mod draft;
 mod fault;
 pub mod laws;
 mod lines;
-pub mod list_laws;
 mod made;
 mod numbers;
 mod parts;

@@ -1,6 +1,6 @@
 //! The summary of a made workload.
 ghost use Rattle.std.specs.Prelude.{◌≡◌, ◌++◌, IfOk, OnOk};
-ghost use Rattle.report.specs.Text.{ended};
+ghost use Rattle.coflow_units.specs.Text.{ended};
 ghost use Rattle.report.specs.Made.{counts_line, made_text};
 
 use crate::numbers::{push_named, push_number};

@@ -1,7 +1,8 @@
 //! Numbers in texts.
 ghost use Rattle.std.specs.Prelude.{◌≡◌, ℕ, ◌-◌, ◌^◌, ◌++◌, List, OnOk, decimal, length, min};
 ghost use Rattle.std.specs.List.{flat_map};
-ghost use Rattle.report.specs.Text.{HasSpaces, ended, spaced};
+ghost use Rattle.report.specs.Text.{HasSpaces};
+ghost use Rattle.coflow_units.specs.Text.{ended, spaced};
 
 use coflow_units::NoMemory;
 use itoa::{Buffer, write_digits};

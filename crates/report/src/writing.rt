@@ -1,6 +1,7 @@
 //! The text of a report.
 ghost use Rattle.std.specs.Prelude.{◌≡◌, ◌<◌, ◌+◌, ◌++◌, IfOk, OnOk, length, map};
-ghost use Rattle.report.specs.Text.{charge_words, ended, place_line_at, place_lines, report_text, run_line, side_word, text_of, total_lines, version_line, weight_at, weight_word};
+ghost use Rattle.report.specs.Text.{charge_words, place_line_at, place_lines, report_text, run_line, side_word, total_lines, version_line, weight_at, weight_word};
+ghost use Rattle.coflow_units.specs.Text.{ended, text_of};
 ghost use Rattle.report.specs.Report.{HasWeights};
 
 use crate::numbers::{push_flows, push_named, push_number, width_of};

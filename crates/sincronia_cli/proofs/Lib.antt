@@ -1,7 +1,6 @@
 pub mod BenchFacts
 pub mod BeyondFacts
 pub mod CompleteFacts
-pub mod FewOrders
 pub mod FilesCauses
 pub mod FirstFacts
 pub mod OutcomeFacts

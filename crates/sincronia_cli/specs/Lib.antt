@@ -3,4 +3,3 @@ pub mod Command
 pub mod Complete
 pub mod FirstCause
 pub mod Outcome
-pub mod Written

@@ -22,8 +22,16 @@ ghost use Rattle.command_files.specs.Ends.{IsStill, IsPastFiles, IsReadFault, Is
 ghost use Rattle.command_files.specs.FileCauses.{ShelfFailed};
 ghost use Rattle.sincronia_cli.specs.FirstCause.{EndsBy, IsFirstCause, IsInterrupted};
 ghost use Rattle.sincronia_cli.specs.Outcome.{HasText, WritesBeginning, WritesNoBy};
-ghost use Rattle.sincronia_cli.specs.Written.{AreStill, CommandLimit, MayHaveSent, PublishesFew, SendsOnly, WireFailed, WritesClasses, WritesComparison};
-ghost use Rattle.sincronia_cli.specs.Written.{WritesLive, WritesMade, WritesOnline, WritesPlan, WritesSound, WritesYes};
+ghost use Rattle.command_jobs.specs.Serving.{AreStill, MayHaveSent, SendsOnly, WireFailed};
+ghost use Rattle.command_jobs.specs.Online.{CommandLimit, PublishesFew};
+ghost use Rattle.command_jobs.specs.Classes.{WritesClasses};
+ghost use Rattle.command_jobs.specs.Compare.{WritesComparison};
+ghost use Rattle.command_jobs.specs.Live.{WritesLive};
+ghost use Rattle.command_jobs.specs.Make.{WritesMade};
+ghost use Rattle.command_jobs.specs.Online.{WritesOnline};
+ghost use Rattle.command_jobs.specs.Plan.{WritesPlan};
+ghost use Rattle.command_jobs.specs.Audit.{WritesSound};
+ghost use Rattle.command_jobs.specs.Check.{WritesYes};
 ghost use Rattle.command_files.specs.Shelves.{KeepsFiles, OfBoth, ReadsOut};
 ghost use Rattle.command_files.specs.TraceCauses.{IsTraceForm};
 ghost use Rattle.command_files.specs.Turns.{FilesInTurn};

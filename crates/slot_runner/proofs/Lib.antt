@@ -1,6 +1,7 @@
 pub mod Answered
 pub mod Carried
 pub mod Concluded
+pub mod CutRuns
 pub mod Notes
 pub mod OnePort
 pub mod Opens
@@ -10,3 +11,4 @@ pub mod Refused
 pub mod Settled
 pub mod Through
 pub mod Turns
+pub mod WireSteps

@@ -1,4 +1,5 @@
-//! Small jobs, as the top call is given them to see what comes of them, row by row: two files and a sink in memory, wires that fail, and wires and gates that wait for one another.
+//! Small jobs: rows that name files in memory, wires that fail or wait for one another, gates that wait, and the words of a
+//! command. The top call carries them out, and what comes of each is told.
 #![tactic(auto)]
 
 mod carrying;

@@ -1,4 +1,4 @@
-//! Tables of flows from the texts of traces and from files, as tests, benches and games take them. The commands tell more of a text or a file that has none.
+//! What tests and games share: tables of flows from the texts of traces and from files, small halls, and small runs in them.
 #![tactic(auto)]
 
 mod asks;

@@ -9,7 +9,8 @@ use Rattle.text_fields.specs.Fields.{Text, fields, is_blank, is_full}
 use Rattle.text_fields.specs.Lines.{is_line_feed}
 use Rattle.workload.specs.declared.coflow.MadeCoflow.{MadeCoflow}
 use Rattle.workload.specs.declared.coflow.MadeReducer.{MadeReducer}
-use Rattle.workload.specs.Text.{coflow_line, reducer_word, spaced}
+use Rattle.workload.specs.Text.{coflow_line, reducer_word}
+use Rattle.coflow_units.specs.Text.{spaced}
 use Rattle.workload.proofs.DecimalFields.{is_word}
 use Rattle.workload.proofs.LineWords.{AreWords, IsWord, behind_spaces, both_words, words_are_fields, words_are_short}
 use Rattle.workload.proofs.MadeRanges.{IsMade, IsMadeReducer}

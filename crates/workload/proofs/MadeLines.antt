@@ -3,7 +3,7 @@ use Rattle.std.proofs.Common.{◌≡◌, ℕ, suc, ◌+◌, ◌*◌, ◌≤◌, 
 use Rattle.text_fields.specs.Fields.{Text, fields}
 use Rattle.text_fields.specs.Lines.{Line, numbered}
 use Rattle.workload.specs.declared.coflow.MadeCoflow.{MadeCoflow}
-use Rattle.workload.specs.Text.{ended, text_of}
+use Rattle.coflow_units.specs.Text.{ended, text_of}
 use Rattle.workload.proofs.MadeRanges.{AreMade, IsMade}
 use Rattle.workload.proofs.TextLines.{AreFullLines, IsFullLine}
 

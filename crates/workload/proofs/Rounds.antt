@@ -5,8 +5,8 @@ use Rattle.workload.specs.Draft.{all_rounds, put_all}
 use Rattle.workload.specs.Words.{runs_at}
 use Rattle.workload.specs.declared.script.Round.{Round}
 use Rattle.workload.specs.declared.script.ScriptLine.{ScriptLine}
-use Rattle.workload.specs.declared.step.Step.{Step}
-use Rattle.workload.specs.declared.step.Step.TheVariants.{Ask, Ends}
+use Rattle.workload.specs.declared.line.Step.{Step}
+use Rattle.workload.specs.declared.line.Step.TheVariants.{Ask, Ends}
 use Rattle.workload.specs.declared.word.End.{End}
 
 put_one_more : (xs : List ScriptLine) (x : ScriptLine) (rounds : List Round) → put_all (xs ++ (x ∷ [])) rounds ≡ put_all xs (put_first x rounds)

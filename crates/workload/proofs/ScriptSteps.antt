@@ -14,7 +14,7 @@ use Rattle.workload.specs.declared.fault.ScriptFault.{ScriptFault}
 use Rattle.workload.specs.declared.fault.ScriptFault.TheVariants as fault
 use Rattle.workload.specs.declared.script.Round.{Round}
 use Rattle.workload.specs.declared.script.ScriptLine.{ScriptLine}
-use Rattle.workload.specs.declared.step.Step.{Step}
+use Rattle.workload.specs.declared.line.Step.{Step}
 use Rattle.text_fields.proofs.PartAnswers.{first_fails}
 
 -- So many lines passed and stand in the draft, and the others are left.

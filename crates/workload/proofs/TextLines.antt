@@ -3,7 +3,7 @@ use Rattle.std.proofs.Common.{◌≡◌, ℕ, ◌+◌, List, [], ◌∷◌, ◌+
 use Rattle.std.proofs.lemmas.List.Splits.{slice_split_at}
 use Rattle.text_fields.specs.Fields.{Text, fields, is_full}
 use Rattle.text_fields.specs.Lines.{Line, is_line_feed, lines_from, numbered}
-use Rattle.workload.specs.Text.{text_of}
+use Rattle.coflow_units.specs.Text.{text_of}
 use Rattle.workload.proofs.LineWords.{AreWords, IsWord, Lacks, behind_spaces, words_are_fields, words_lack_feed}
 
 -- a line has fields, and no line feed

@@ -9,8 +9,8 @@ use Rattle.workload.specs.declared.script.Asked.TheVariants as asked
 use Rattle.workload.specs.declared.script.Round.{Round}
 use Rattle.workload.specs.declared.script.Script.{Script}
 use Rattle.workload.specs.declared.script.ScriptLine.{ScriptLine}
-use Rattle.workload.specs.declared.step.Step.{Step}
-use Rattle.workload.specs.declared.step.Step.TheVariants.{Ask, Ends}
+use Rattle.workload.specs.declared.line.Step.{Step}
+use Rattle.workload.specs.declared.line.Step.TheVariants.{Ask, Ends}
 use Rattle.workload.specs.declared.word.End.{End}
 use Rattle.workload.specs.declared.word.Word.{Word}
 use Rattle.workload.specs.declared.word.Word.TheVariants.{Register, Withdraw, Publish, Pull, Reweigh}

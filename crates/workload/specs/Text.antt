@@ -1,7 +1,7 @@
 -- The texts of made coflows: a trace, and the weights.
+use Rattle.coflow_units.specs.Text.{spaced, text_of}
 use Rattle.std.specs.Prelude.{ℕ, ◌++◌, List, ◌∷◌, length, map, codes, decimal}
 use Rattle.std.specs.List.{flat_map}
-pub use Rattle.coflow_units.specs.Text.{ended, spaced, text_of}
 use Rattle.workload.specs.declared.coflow.MadeCoflow.{MadeCoflow}
 use Rattle.workload.specs.declared.coflow.MadeReducer.{MadeReducer}
 

@@ -4,8 +4,8 @@ ghost use Rattle.workload.specs.Script.{client_of, put_step};
 ghost use Rattle.workload.specs.Draft.{all_rounds};
 ghost use Rattle.workload.specs.declared.script.Round.{Round as RoundFacts};
 
+use crate::line::Step;
 use crate::script::{Round, Script, ScriptLine};
-use crate::step::Step;
 use coflow_units::{Items, NoMemory};
 use std::alloc::Global;
 use std::mem;

@@ -1,4 +1,5 @@
-//! Made workloads: traces with their weights that are drawn from a seed. A seed stands for exactly one trace, byte by byte.
+//! Workloads that are made: the scripts of clients, read by their grammar, and traces with weights that are drawn from a
+//! seed. A seed stands for exactly one trace, byte by byte.
 #![tactic(auto)]
 
 mod coflow;
@@ -11,7 +12,6 @@ pub mod laws;
 mod line;
 mod numbers;
 mod script;
-mod step;
 mod word;
 mod writing;
 

@@ -1,17 +1,15 @@
-//! One line of a script.
+//! One line of a script, and what it adds to it.
 ghost use Rattle.std.specs.Prelude.{◌≡◌};
 ghost use Rattle.text_fields.specs.Numbers.{number};
-ghost use Rattle.workload.specs.Checks.{Answers, ask_checks, client_checks, coflow_checks, end_checks, id_checks, line_checks};
-ghost use Rattle.workload.specs.Checks.{weighing_checks, weight_checks};
-ghost use Rattle.workload.specs.Script.{asked_of, step_of as step_of_line};
+ghost use Rattle.workload.specs.Checks.{Answers, ask_checks, client_checks, coflow_checks, end_checks, id_checks, line_checks, weighing_checks, weight_checks};
 ghost use Rattle.workload.specs.Operands.{coflow_at, coflow_in, weight_in};
+ghost use Rattle.workload.specs.Script.{asked_of, step_of as step_of_line};
 ghost use Rattle.workload.specs.declared.script.Asked.TheVariants.{Publish, Reweigh};
 
 use crate::coflows::Coflows;
 use crate::fault::ScriptFault;
 use crate::script::{Asked, ScriptLine};
-use crate::step::Step;
-use crate::word::{Word, end_of, word_of};
+use crate::word::{End, Word, end_of, word_of};
 use coflow_units::{MAX_CLIENTS, MAX_WEIGHT, Quantity};
 use text_fields::{Fields, number_of};
 
@@ -142,4 +140,11 @@ fn weight_within(field: &[u8], line: u32) -> Result<u64, ScriptFault>
         });
     }
     Ok(count)
+}
+
+/// A command, or the end of a round.
+#[derive(Clone, Copy, Debug, PartialEq, Eq)]
+pub(crate) enum Step {
+    Ask(ScriptLine),
+    Ends(End),
 }

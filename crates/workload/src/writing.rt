@@ -1,6 +1,7 @@
 //! The texts of made coflows.
 ghost use Rattle.std.specs.Prelude.{◌≡◌, ◌++◌, IfOk, OnOk, decimal};
-ghost use Rattle.workload.specs.Text.{coflow_line, ended, mapper_words, reducer_word, reducer_words, spaced, trace_text, weight_line, weights_text};
+ghost use Rattle.workload.specs.Text.{coflow_line, mapper_words, reducer_word, reducer_words, trace_text, weight_line, weights_text};
+ghost use Rattle.coflow_units.specs.Text.{ended, spaced};
 
 use crate::coflow::{MadeCoflow, MadeReducer};
 use coflow_units::NoMemory;

@@ -12,7 +12,7 @@ use Rattle.world_model.specs.Port.{PortFacts, answered_by, idle_port, settled_by
 use Rattle.world_model.specs.World.{WorldFacts, port_at}
 use Rattle.world_model.specs.Guards.{can}
 use Rattle.world_model.specs.Steps.{IsBusy, answered, happened, moved, with_port, world_after}
-use Rattle.world_model.proofs.PortSteps.{no_way}
+use Rattle.journal.proofs.Replies.{no_way}
 
 abbrev is_busy : Happened → Bool
 is_busy (Busy word) = true

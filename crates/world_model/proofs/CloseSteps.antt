@@ -12,12 +12,13 @@ use Rattle.journal.specs.declared.opening.Opening.{Opening}
 use Rattle.journal.specs.State.{Run, has}
 use Rattle.journal.specs.Runs.{credit, grant_in, note_in}
 use Rattle.journal.specs.Sound.{IsSound}
-use Rattle.world_model.specs.declared.sent.SentRun.{SentRun}
+use Rattle.world_model.specs.declared.event.SentRun.{SentRun}
 use Rattle.world_model.specs.Port.{PortFacts, idle_port}
 use Rattle.world_model.specs.Sent.{sent_for}
 use Rattle.world_model.specs.Guards.{is_done, is_short}
 use Rattle.world_model.specs.Kept.{IsAtStage, IsKept, IsNote, Rests, sent_now}
-use Rattle.world_model.proofs.PortSteps.{mkp, no_way}
+use Rattle.world_model.proofs.PortSteps.{mkp}
+use Rattle.journal.proofs.Replies.{no_way}
 use Rattle.journal.proofs.Ingresses.{grant_there}
 
 -- where the port of a grant is done, the number that was sent for it is credited

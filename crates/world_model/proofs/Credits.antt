@@ -16,7 +16,7 @@ use Rattle.journal.specs.State.{Run, State, has}
 use Rattle.journal.specs.Fold.{after, start, state_from, state_of}
 use Rattle.journal.specs.Journal.{entry, is_full, journal_after}
 use Rattle.journal.specs.Answer.{reply_of}
-use Rattle.world_model.specs.declared.sent.SentRun.{SentRun}
+use Rattle.world_model.specs.declared.event.SentRun.{SentRun}
 use Rattle.world_model.specs.Sent.{sends, sent_for, sent_in, slots_within, times_sent}
 use Rattle.world_model.specs.Kept.{IsApart, IsSentRun, sent_now}
 use Rattle.world_model.specs.Credited.{CreditedFrom, CreditsSent, IsCredited}

@@ -26,7 +26,7 @@ use Rattle.journal.proofs.EntryTells.{entry_tells, quiet}
 use Rattle.journal.proofs.Versions.{legal_there}
 use Rattle.world_model.specs.declared.event.Event.{Event}
 use Rattle.world_model.specs.declared.event.Event.TheVariants.{Ask, Note, Close}
-use Rattle.world_model.specs.declared.sent.SentRun.{SentRun}
+use Rattle.world_model.specs.declared.event.SentRun.{SentRun}
 use Rattle.world_model.specs.Port.{PortFacts, idle_port}
 use Rattle.world_model.specs.World.{WorldFacts, port_at, run_of}
 use Rattle.world_model.specs.Guards.{can, in_run, is_done, is_free, is_short}

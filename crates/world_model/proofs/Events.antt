@@ -28,7 +28,7 @@ use Rattle.journal.proofs.Growth.{state_after}
 use Rattle.journal.proofs.Sound.{branch, legal_sound}
 use Rattle.world_model.specs.declared.event.Event.{Event}
 use Rattle.world_model.specs.declared.event.Event.TheVariants.{Ask, Post, Draw, Send, Report, Settle, Note, Close}
-use Rattle.world_model.specs.declared.sent.SentRun.{SentRun}
+use Rattle.world_model.specs.declared.event.SentRun.{SentRun}
 use Rattle.world_model.specs.Port.{PortFacts, idle_port, settled_by}
 use Rattle.world_model.specs.Sent.{sent_for}
 use Rattle.world_model.specs.World.{WorldFacts, new_world, port_at, run_of}
@@ -37,7 +37,8 @@ use Rattle.world_model.specs.Steps.{asks, moved, ports_after, posted, run_sent, 
 use Rattle.world_model.specs.Kept.{IsKept, IsPort, IsKeptWorld}
 use Rattle.world_model.specs.Credited.{CreditsSent, IsCredited}
 use Rattle.world_model.specs.Lawful.{IsLegalWorld, IsWorld}
-use Rattle.world_model.proofs.PortSteps.{draw_ok, is_some_value, kept_port, mkp, no_way, post_ok, report_ok, settle_ok}
+use Rattle.world_model.proofs.PortSteps.{draw_ok, is_some_value, kept_port, mkp, post_ok, report_ok, settle_ok}
+use Rattle.journal.proofs.Replies.{no_way}
 use Rattle.world_model.proofs.SendSteps.{drawn_facts, kept_send, not_open}
 use Rattle.world_model.proofs.OpenSteps.{kept_later, kept_note, kept_open}
 use Rattle.world_model.proofs.CloseSteps.{credits_sent, kept_close}

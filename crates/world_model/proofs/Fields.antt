@@ -27,7 +27,7 @@ use Rattle.world_model.specs.declared.event.Happened.{Happened}
 use Rattle.world_model.specs.declared.event.Happened.TheVariants.{Blocked}
 use Rattle.world_model.specs.declared.port.Stage.TheVariants.{Drawn, Reported}
 use Rattle.world_model.specs.declared.port.PortState.{PortState}
-use Rattle.world_model.specs.declared.sent.SentRun.{SentRun}
+use Rattle.world_model.specs.declared.event.SentRun.{SentRun}
 use Rattle.world_model.specs.Port.{PortFacts, answered_by, idle_port, port_of, ports_of, settled_by, stage_of}
 use Rattle.world_model.specs.Sent.{sent_for}
 use Rattle.world_model.specs.World.{WorldFacts, new_world, port_at, run_of, world_facts}
@@ -35,7 +35,7 @@ use Rattle.world_model.specs.Guards.{can, in_run, is_posted, is_short}
 use Rattle.world_model.specs.Steps.{answered, cleared, happened, moved, sent_at, settled_note, with_port, world_after}
 use Rattle.world_model.specs.Kept.{IsPort, TellsSent}
 use Rattle.world_model.specs.Lawful.{IsWorld}
-use Rattle.world_model.proofs.PortSteps.{no_way}
+use Rattle.journal.proofs.Replies.{no_way}
 use Rattle.journal.proofs.Ingresses.{grant_is}
 use Rattle.world_model.proofs.Tallies.{tells_read, tells_sent, tells_set, unsettled}
 use Rattle.world_model.proofs.Events.{sound_of}

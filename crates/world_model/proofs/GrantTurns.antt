@@ -16,7 +16,7 @@ use Rattle.journal.specs.Runs.{grant_in}
 use Rattle.journal.specs.Fold.{state_of}
 use Rattle.journal.specs.Driven.{Drive, sent_from}
 use Rattle.world_model.specs.declared.event.Event.{Event}
-use Rattle.world_model.specs.declared.sent.SentRun.{SentRun}
+use Rattle.world_model.specs.declared.event.SentRun.{SentRun}
 use Rattle.world_model.specs.Port.{PortFacts, idle_port}
 use Rattle.world_model.specs.Sent.{sent_for}
 use Rattle.world_model.specs.Played.{runs_sent, units_sent}

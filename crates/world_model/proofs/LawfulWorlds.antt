@@ -17,7 +17,7 @@ use Rattle.journal.specs.Journal.{IsLegal, line_of}
 use Rattle.journal.proofs.Growth.{state_snoc}
 use Rattle.journal.proofs.Opened.{opened_grants, run_length_is}
 use Rattle.world_model.specs.declared.event.Event.{Event}
-use Rattle.world_model.specs.declared.sent.SentRun.{SentRun}
+use Rattle.world_model.specs.declared.event.SentRun.{SentRun}
 use Rattle.world_model.specs.Sent.{sent_in}
 use Rattle.world_model.specs.World.{WorldFacts, new_world}
 use Rattle.world_model.specs.Steps.{world_after, world_of}

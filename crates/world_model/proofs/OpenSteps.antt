@@ -8,7 +8,7 @@ use Rattle.coflow_units.specs.Flows.{ingress_of}
 use Rattle.coflow_units.proofs.Bools.{part}
 use Rattle.journal.specs.State.{Run, has}
 use Rattle.journal.specs.Runs.{note_in}
-use Rattle.world_model.specs.declared.sent.SentRun.{SentRun}
+use Rattle.world_model.specs.declared.event.SentRun.{SentRun}
 use Rattle.world_model.specs.Port.{PortFacts, idle_port}
 use Rattle.world_model.specs.Sent.{sent_for}
 use Rattle.world_model.specs.Kept.{IsKept, IsNote, IsPort, IsSentRun}

@@ -28,7 +28,7 @@ use Rattle.journal.proofs.Opened.{opened_grants}
 use Rattle.journal.proofs.Versions.{legal_there}
 use Rattle.world_model.specs.declared.event.Event.{Event}
 use Rattle.world_model.specs.declared.event.Event.TheVariants.{Ask, Close}
-use Rattle.world_model.specs.declared.sent.SentRun.{SentRun}
+use Rattle.world_model.specs.declared.event.SentRun.{SentRun}
 use Rattle.world_model.specs.Port.{PortFacts, idle_port}
 use Rattle.world_model.specs.Sent.{sent_for}
 use Rattle.world_model.specs.World.{WorldFacts, port_at, run_of}

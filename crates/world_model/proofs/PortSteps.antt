@@ -1,4 +1,5 @@
 -- One port changes: a post, a draw, a report, a settling.
+use Rattle.journal.proofs.Replies.{no_way}
 use Rattle.std.proofs.Common.{◌≡◌, ℕ, ◌<◌, inl, inr, true, false, List, length, get_or, refl, sym, ap, subst, ◌∙◌, arith, Option, Some, None, unwrap_or, is_some, is_none}
 use Rattle.std.proofs.Common.{length-set, true≢false, get_or-set_same, get_or-set_other}
 use Rattle.std.specs.Prelude.{◌==◌, not, slice_set}
@@ -6,10 +7,9 @@ use Rattle.std.proofs.lemmas.Bool.{cases_eq, eqb-true, eq-eqb}
 use Rattle.coflow_units.specs.declared.fabric.Flow.{Flow}
 use Rattle.coflow_units.specs.PortWord.{PortStage, is_drawn_by, is_granted}
 use Rattle.coflow_units.specs.PortWord.PortStage.{unposted, granted, drawn, reported, taken_back}
-pub use Rattle.journal.proofs.Replies.{no_way}
 use Rattle.journal.specs.State.{Run}
 use Rattle.journal.specs.Runs.{grant_in, note_in}
-use Rattle.world_model.specs.declared.sent.SentRun.{SentRun}
+use Rattle.world_model.specs.declared.event.SentRun.{SentRun}
 use Rattle.world_model.specs.Port.{PortFacts, idle_port, settled_by}
 use Rattle.world_model.specs.Sent.{sent_for}
 use Rattle.world_model.specs.Kept.{IsKept, IsNote, IsPort}

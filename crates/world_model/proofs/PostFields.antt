@@ -13,7 +13,7 @@ use Rattle.journal.specs.Sound.{OnRun}
 use Rattle.world_model.specs.declared.event.Event.TheVariants.{Post}
 use Rattle.world_model.specs.declared.port.Stage.TheVariants.{Granted}
 use Rattle.world_model.specs.declared.port.PortState.{PortState}
-use Rattle.world_model.specs.declared.sent.SentRun.{SentRun}
+use Rattle.world_model.specs.declared.event.SentRun.{SentRun}
 use Rattle.world_model.specs.Port.{PortFacts}
 use Rattle.world_model.specs.Sent.{sent_for}
 use Rattle.world_model.specs.World.{WorldFacts, port_at, run_of, world_facts}

@@ -18,7 +18,7 @@ use Rattle.world_model.specs.Port.{PortFacts, answered_by}
 use Rattle.world_model.specs.World.{WorldFacts, port_at}
 use Rattle.world_model.specs.Guards.{can}
 use Rattle.world_model.specs.Steps.{IsSameButJournal, answered, asks, cleared, happened, is_opened, is_refused_answer, moved, ports_after, settled_note, world_after}
-use Rattle.world_model.proofs.PortSteps.{no_way}
+use Rattle.journal.proofs.Replies.{no_way}
 
 opens_none : (reply : Reply) → is_refusal reply ≡ true → is_opened reply ≡ false
 opens_none (Opened slot slots count) e = no_way e

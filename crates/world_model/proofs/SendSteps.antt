@@ -15,11 +15,12 @@ use Rattle.journal.specs.State.{Run, has}
 use Rattle.journal.specs.Runs.{grant_in}
 use Rattle.journal.specs.Sound.{IsSound}
 use Rattle.journal.proofs.Ingresses.{grant_is}
-use Rattle.world_model.specs.declared.sent.SentRun.{SentRun}
+use Rattle.world_model.specs.declared.event.SentRun.{SentRun}
 use Rattle.world_model.specs.Port.{PortFacts, idle_port}
 use Rattle.world_model.specs.Sent.{sent_for, sent_of}
 use Rattle.world_model.specs.Kept.{IsApart, IsAtStage, IsKept, IsPort, IsSentRun}
-use Rattle.world_model.proofs.PortSteps.{mkp, no_way}
+use Rattle.world_model.proofs.PortSteps.{mkp}
+use Rattle.journal.proofs.Replies.{no_way}
 
 total_more : (sent : List SentRun) (x : SentRun) (f : ℕ) → sent_of (sent ++ x ∷ []) f ≡ sent_of sent f + (if x.flow == f then x.units else 0)
 total_more [] x f = omega arith

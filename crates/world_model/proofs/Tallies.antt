@@ -5,7 +5,7 @@ use Rattle.std.specs.Prelude.{if◌then◌else◌, ◌==◌, ◌&&◌, slice_set
 use Rattle.std.proofs.lemmas.Bool.{cases_eq, ne_eqb}
 use Rattle.std.proofs.lemmas.List.{get_or-map, length-map}
 use Rattle.world_model.specs.declared.port.PortState.{PortState}
-use Rattle.world_model.specs.declared.sent.SentRun.{SentRun}
+use Rattle.world_model.specs.declared.event.SentRun.{SentRun}
 use Rattle.world_model.specs.Sent.{sent_for}
 use Rattle.world_model.specs.Kept.{TellsSent}
 use Rattle.world_model.proofs.SendSteps.{both_true, sent_more}

@@ -12,7 +12,7 @@ use Rattle.journal.specs.Runs.{grant_in}
 use Rattle.journal.specs.Fold.{state_of}
 use Rattle.world_model.specs.declared.event.Event.{Event}
 use Rattle.world_model.specs.declared.event.Event.TheVariants.{Post, Draw, Send, Report, Settle}
-use Rattle.world_model.specs.declared.sent.SentRun.{SentRun}
+use Rattle.world_model.specs.declared.event.SentRun.{SentRun}
 use Rattle.world_model.specs.Port.{PortFacts, idle_port, settled_by}
 use Rattle.world_model.specs.Sent.{sent_for}
 use Rattle.world_model.specs.World.{WorldFacts, port_at, run_of}

@@ -9,7 +9,7 @@ use Rattle.coflow_units.proofs.Sums.{any_has}
 use Rattle.journal.specs.State.{Run, has}
 use Rattle.journal.specs.Runs.{grant_in}
 use Rattle.journal.specs.Sound.{IsSound}
-use Rattle.world_model.specs.declared.sent.SentRun.{SentRun}
+use Rattle.world_model.specs.declared.event.SentRun.{SentRun}
 use Rattle.world_model.specs.Port.{PortFacts, idle_port}
 use Rattle.world_model.specs.Sent.{sent_for, sent_of}
 use Rattle.world_model.specs.Kept.{ByStage, IsAtStage, IsKept}

@@ -8,7 +8,7 @@ use Rattle.journal.specs.State.{Run, State}
 use Rattle.journal.specs.Runs.{credit}
 use Rattle.journal.specs.Fold.{after, start}
 use Rattle.journal.specs.Sound.{OnRun}
-use Rattle.world_model.specs.declared.sent.SentRun.{SentRun}
+use Rattle.world_model.specs.declared.event.SentRun.{SentRun}
 use Rattle.world_model.specs.Sent.{sent_in}
 
 -- where the reply closes the run, the run ends before this slot, and each flow is credited with the units that were

@@ -10,7 +10,7 @@ use Rattle.journal.specs.State.{Run, has}
 use Rattle.journal.specs.Runs.{grant_in, note_in}
 use Rattle.journal.specs.Fold.{state_of}
 use Rattle.world_model.specs.declared.port.PortState.{PortState}
-use Rattle.world_model.specs.declared.sent.SentRun.{SentRun}
+use Rattle.world_model.specs.declared.event.SentRun.{SentRun}
 use Rattle.world_model.specs.Port.{PortFacts, idle_port}
 use Rattle.world_model.specs.Sent.{sent_for, sent_of}
 use Rattle.world_model.specs.World.{WorldFacts}

@@ -14,7 +14,7 @@ use Rattle.journal.specs.State.{IsOpening, Run, owed, slot_end}
 use Rattle.journal.specs.Fold.{state_of}
 use Rattle.journal.specs.Journal.{IsLegal, line_of}
 use Rattle.journal.specs.Sound.{InRange}
-use Rattle.world_model.specs.declared.sent.SentRun.{SentRun}
+use Rattle.world_model.specs.declared.event.SentRun.{SentRun}
 use Rattle.world_model.specs.Sent.{sent_in, sent_of, times_sent}
 use Rattle.world_model.specs.World.{WorldFacts, run_of, port_at}
 use Rattle.world_model.specs.Kept.{IsKeptWorld}

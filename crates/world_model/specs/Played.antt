@@ -5,7 +5,7 @@ use Rattle.coflow_units.specs.declared.fabric.Flow.{Flow}
 use Rattle.coflow_units.specs.Flows.{ingress_of}
 use Rattle.journal.specs.declared.command.Entry.{Entry}
 use Rattle.journal.specs.Driven.{Drive, driven, sent_from}
-use Rattle.world_model.specs.declared.sent.SentRun.{SentRun}
+use Rattle.world_model.specs.declared.event.SentRun.{SentRun}
 use Rattle.world_model.specs.World.{WorldFacts}
 
 -- so many units of the flow that are sent from the port, from the slot on, where there are any

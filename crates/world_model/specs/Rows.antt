@@ -9,7 +9,7 @@ use Rattle.world_model.specs.declared.event.Happened.{Happened}
 use Rattle.world_model.specs.declared.event.Happened.TheVariants.{Replied, Posted, Drawn, Sent, Reported, Settled, Busy}
 use Rattle.world_model.specs.declared.event.Happened.TheVariants.{Blocked}
 use Rattle.world_model.specs.declared.event.Happened.TheVariants.{Noted as NotedIt}
-use Rattle.world_model.specs.declared.sent.SentRun.{SentRun}
+use Rattle.world_model.specs.declared.event.SentRun.{SentRun}
 use Rattle.world_model.specs.Sent.{times_sent}
 use Rattle.world_model.specs.World.{WorldFacts, new_world}
 use Rattle.world_model.specs.Steps.{happened, world_after}

@@ -1,7 +1,7 @@
 -- The runs that agents sent. A run stands for one unit of its flow in each slot, from its first slot on.
 use Rattle.std.specs.Prelude.{ℕ, ◌+◌, ◌-◌, ◌==◌, ◌&&◌, Bool, nat_le, nat_lt, min, max, if◌then◌else◌, List, [], ◌∷◌}
 use Rattle.journal.specs.State.{Run}
-use Rattle.world_model.specs.declared.sent.SentRun.{SentRun}
+use Rattle.world_model.specs.declared.event.SentRun.{SentRun}
 
 -- the run's units, where it was sent at the port and begins with the slot, and else 0
 abbrev pub units_at : SentRun → ℕ → ℕ → ℕ

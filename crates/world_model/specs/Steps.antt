@@ -18,7 +18,7 @@ use Rattle.world_model.specs.declared.event.Event.TheVariants.{Ask, Post, Draw, 
 use Rattle.world_model.specs.declared.event.Happened.{Happened}
 use Rattle.world_model.specs.declared.event.Happened.TheVariants.{Replied, Posted, Drawn, Sent, Reported, Noted}
 use Rattle.world_model.specs.declared.event.Happened.TheVariants.{Blocked}
-use Rattle.world_model.specs.declared.sent.SentRun.{SentRun}
+use Rattle.world_model.specs.declared.event.SentRun.{SentRun}
 use Rattle.world_model.specs.Port.{PortFacts, answered_by, settled_by}
 use Rattle.world_model.specs.Sent.{sent_for}
 use Rattle.world_model.specs.World.{WorldFacts, port_at, run_of}

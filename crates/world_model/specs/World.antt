@@ -7,7 +7,7 @@ use Rattle.journal.specs.State.{Run}
 use Rattle.journal.specs.Fold.{state_of}
 use Rattle.master_core.specs.Master.{MasterFacts}
 use Rattle.world_model.specs.declared.port.PortState.{PortState}
-use Rattle.world_model.specs.declared.sent.SentRun.{SentRun}
+use Rattle.world_model.specs.declared.event.SentRun.{SentRun}
 use Rattle.world_model.specs.Port.{PortFacts, idle_port, ports_of}
 
 -- the opening and the journal of the master, how many agents there are, each ingress port, and the runs that were sent,

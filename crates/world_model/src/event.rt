@@ -1,4 +1,4 @@
-//! The steps of a world, and what each is answered.
+//! The steps of a world, what each is answered, and the runs that agents sent.
 use master_core::{Command, Reply};
 
 /// One step of one actor. Ports are ingress ports; agents are told by their numbers, from 0.
@@ -41,4 +41,13 @@ pub enum Happened {
     Blocked,
     /// There was no memory for one more sent run. Nothing changed.
     NoMemory,
+}
+
+/// A run that an agent sent: so many units of the flow from its ingress port, one in each slot from the first slot on.
+#[derive(Clone, Copy, Debug, PartialEq, Eq)]
+pub struct SentRun {
+    pub slot: u64,
+    pub flow: u32,
+    pub units: u64,
+    pub port: u32,
 }

@@ -4,10 +4,8 @@
 mod event;
 pub mod laws;
 mod port;
-mod sent;
 mod world;
 
-pub use event::{Event, Happened};
+pub use event::{Event, Happened, SentRun};
 pub use port::{PortState, Stage};
-pub use sent::SentRun;
 pub use world::World;

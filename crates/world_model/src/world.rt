@@ -3,7 +3,7 @@ ghost use Rattle.std.specs.Prelude.{◌≡◌, ◌≢◌, ℕ, ◌<◌, true, fa
 ghost use Rattle.journal.specs.Answer.{IsInRange, reply_of};
 ghost use Rattle.journal.specs.Runs.{slots_of};
 ghost use Rattle.world_model.specs.declared.event.Event.TheVariants.{Ask, Post, Draw, Send, Report, Settle, Note, Close};
-ghost use Rattle.world_model.specs.declared.sent.SentRun.{SentRun};
+ghost use Rattle.world_model.specs.declared.event.SentRun.{SentRun};
 ghost use Rattle.world_model.specs.Port.{port_of, ports_of};
 ghost use Rattle.world_model.specs.Sent.{sent_for};
 ghost use Rattle.world_model.specs.World.{WorldFacts, new_world, port_at, run_of};
@@ -12,9 +12,8 @@ ghost use Rattle.world_model.specs.Guards.{can, in_run, is_done, is_free};
 ghost use Rattle.world_model.specs.Steps.{IsBusy, IsSameButJournal, asks, cleared, happened, is_full_answer, is_opened, is_refused_answer, is_send, world_after};
 ghost use Rattle.world_model.specs.Lawful.{ClosesAsSent, IsLegalWorld, IsWorld, OpensGrants, OpensPatiently, SendsInTime, SendsOnce, SendsWithin};
 
-use crate::event::{Event, Happened};
+use crate::event::{Event, Happened, SentRun};
 use crate::port::{PortState, Stage};
-use crate::sent::SentRun;
 use coflow_units::NoMemory;
 use master_core::{Command, Entry, Master, Reply};
 use std::alloc::Global;

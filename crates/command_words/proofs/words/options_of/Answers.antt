@@ -3,7 +3,7 @@ use Rattle.coflow_units.specs.declared.limits.TheConstants.{MAX_OPTION_SLOTS, MA
 use Rattle.clap.specs.Words.{first_value, found_of}
 use Rattle.clap.specs.declared.parser.matches.Found.{Found}
 use Rattle.command_words.specs.Words.{IsSaid, IsSetting, Said}
-use Rattle.command_words.specs.declared.limits.TheConstants.{MAX_OPTION_AGENTS, MAX_OPTION_CLASSES}
+use Rattle.command_words.specs.declared.options.TheConstants.{MAX_OPTION_AGENTS, MAX_OPTION_CLASSES}
 use Rattle.command_words.specs.declared.options.Options.{Options}
 use Rattle.command_words.proofs.words.options_of.Goals as goal
 

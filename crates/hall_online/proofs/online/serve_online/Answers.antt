@@ -1,5 +1,5 @@
 use Rattle.std.proofs.Common.{sym, subst}
-use Rattle.hall_plan.specs.Wires.{AreAllUnits, HaveMore}
+use Rattle.slot_runner.specs.Wires.{AreAllUnits, HaveMore}
 use Rattle.online_runs.specs.Input.{online_opening}
 use Rattle.hall_online.proofs.Begins.{told_so}
 use Rattle.hall_online.proofs.online.serve_online.Goals as goal

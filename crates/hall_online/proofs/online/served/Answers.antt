@@ -2,8 +2,8 @@ use Rattle.std.proofs.Common.{◌≡◌, ◌<◌, ◌≤◌, Result, Err, length
 use Rattle.outside.specs.Rose.{Rose}
 use Rattle.journal.specs.declared.opening.Opening.{Opening}
 use Rattle.schedule_model.specs.RunList.{NamesFlows}
-use Rattle.hall_plan.specs.Cuts.{HaveStopped}
-use Rattle.hall_plan.specs.Wires.{AreAllUnits, HaveMore}
+use Rattle.slot_runner.specs.Cuts.{HaveStopped}
+use Rattle.slot_runner.specs.Wires.{AreAllUnits, HaveMore}
 use Rattle.online_runs.specs.Deeds.{PublishesTooMany}
 use Rattle.online_runs.specs.Input.{IsOnlineInput, online_opening}
 use Rattle.online_runs.specs.declared.progress.Progress.{Progress}

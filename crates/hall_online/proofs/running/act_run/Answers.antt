@@ -4,9 +4,9 @@ use Rattle.std.specs.List.Sorted.{IsStrictlyIncreasing}
 use Rattle.coflow_units.specs.declared.fabric.Flow.{Flow}
 use Rattle.outside.specs.Rose.{Rose}
 use Rattle.flow_table.specs.Table.{TableFacts}
-use Rattle.hall_plan.specs.Cuts.{HaveStopped}
-use Rattle.hall_plan.specs.Halls.{NoneFell}
-use Rattle.hall_plan.proofs.WireSteps.{none_fell}
+use Rattle.slot_runner.specs.Cuts.{HaveStopped}
+use Rattle.slot_runner.specs.Wires.{NoneFell}
+use Rattle.slot_runner.proofs.WireSteps.{none_fell}
 use Rattle.hall_online.specs.declared.answer.OnlineFault.{OnlineFault}
 use Rattle.hall_online.specs.declared.answer.OnlineFault.TheVariants.{WireFault}
 use Rattle.hall_online.specs.Serving.{HaveServed, IsOnlineBegun}

@@ -3,9 +3,10 @@ use Rattle.std.specs.List.Sorted.{IsStrictlyIncreasing}
 use Rattle.outside.specs.Rose.{Rose}
 use Rattle.hall_plan.specs.declared.answer.PlanFault.{PlanFault}
 use Rattle.hall_plan.specs.declared.answer.PlanFault.TheVariants.{WireFault}
-use Rattle.hall_plan.specs.Cuts.{HaveStopped, IsPlanBegun}
+use Rattle.slot_runner.specs.Cuts.{HaveStopped}
+use Rattle.hall_plan.specs.Journals.{IsPlanBegun}
 use Rattle.hall_plan.specs.Halls.{IsServedBy}
-use Rattle.hall_plan.specs.Wires.{AreAllUnits, AreUnits, HaveMore}
+use Rattle.slot_runner.specs.Wires.{AreAllUnits, AreUnits, HaveMore}
 use Rattle.hall_plan.proofs.PlanSlots.{Stops, stops_first, stops_there, ends_served, never_full, never_late, never_spent, no_run_parts}
 use Rattle.hall_plan.proofs.PlanSlots.{ran_falls, ran_fits, ran_on, ran_parts, ran_rises, ran_some, rose_since, run_parts, sends_all, starts}
 use Rattle.hall_plan.proofs.serving.serve.Goals as goal

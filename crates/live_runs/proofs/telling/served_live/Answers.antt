@@ -2,9 +2,9 @@ use Rattle.std.proofs.Common.{◌≡◌, ℕ, ◌≤◌, ◌<◌, Result, Err, a
 use Rattle.std.specs.Result.{IsErrAnd}
 use Rattle.live_model.specs.Clause.{IsLiveRun}
 use Rattle.live_runs.specs.Run.{opening_with}
-use Rattle.live_runs.specs.LiveFaults.{LiveFault}
-use Rattle.live_runs.specs.LiveFaults.{WireFault}
-use Rattle.live_runs.specs.Wires.{HaveServed, HaveStopped}
+use Rattle.live_serving.specs.declared.answer.LiveFault.{LiveFault}
+use Rattle.live_serving.specs.declared.answer.LiveFault.TheVariants.{WireFault}
+use Rattle.live_serving.specs.Wires.{HaveServed, HaveStopped}
 use Rattle.live_runs.specs.Told.{live_opening}
 use Rattle.live_runs.proofs.SentFacts.{all_sent}
 use Rattle.live_runs.proofs.telling.served_live.Goals as goal

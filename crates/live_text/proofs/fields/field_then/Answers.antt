@@ -1,5 +1,5 @@
 use Rattle.std.proofs.Common.{◌≡◌, ◌++◌, sym, ap, ◌∙◌, arith}
-use Rattle.report.specs.Text.{spaced}
+use Rattle.coflow_units.specs.Text.{spaced}
 use Rattle.report.proofs.LineText.{not_there, prefix_found}
 use Rattle.report.proofs.NumberText.{spaced_unique}
 use Rattle.live_text.proofs.FieldText.{behind_word}

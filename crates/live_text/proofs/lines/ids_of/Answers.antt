@@ -1,6 +1,6 @@
 use Rattle.std.proofs.Common.{◌<◌, ◌^◌, arith}
 use Rattle.std.specs.List.{flat_map}
-use Rattle.report.specs.Text.{spaced}
+use Rattle.coflow_units.specs.Text.{spaced}
 use Rattle.report.proofs.FlowText.{stops_flows}
 use Rattle.report.proofs.PartText.{not_empty}
 use Rattle.live_text.proofs.LineReading.{next_id, one_id}

@@ -1,6 +1,6 @@
 use Rattle.std.proofs.Common.{◌≡◌, ◌++◌, arith, ap, ◌∙◌}
 use Rattle.std.specs.Prelude.{codes}
-use Rattle.report.specs.Text.{spaced}
+use Rattle.coflow_units.specs.Text.{spaced}
 use Rattle.live_text.proofs.LineReading.{order_built, order_rest}
 use Rattle.live_text.proofs.lines.order_of.Goals as goal
 

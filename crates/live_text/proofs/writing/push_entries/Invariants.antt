@@ -1,6 +1,6 @@
 -- the lines so far stand behind the text
 use Rattle.std.proofs.Common.{◌≡◌, ◌++◌, take}
-use Rattle.report.specs.Text.{text_of}
+use Rattle.coflow_units.specs.Text.{text_of}
 use Rattle.live_text.specs.Text.{entry_line, numbered}
 use Rattle.live_text.proofs.writing.push_entries.Given as goal
 

@@ -1,5 +1,5 @@
 use Rattle.std.proofs.Common.{◌≡◌, ◌+◌, ◌++◌, List, ℕ, ap, arith, ◌∙◌}
-use Rattle.report.specs.Text.{ended}
+use Rattle.coflow_units.specs.Text.{ended}
 use Rattle.live_text.specs.Text.{order_line}
 use Rattle.live_text.proofs.TextSteps.{numbered_step}
 use Rattle.live_text.proofs.writing.push_orders.Goals as goal

@@ -1,5 +1,5 @@
 use Rattle.std.proofs.Common.{[], sym, ◌∙◌, append-nil, arith}
-use Rattle.report.specs.Text.{spaced}
+use Rattle.coflow_units.specs.Text.{spaced}
 use Rattle.report.proofs.PartText.{not_empty, same_number}
 use Rattle.online_text.proofs.parts.number_of.Goals as goal
 

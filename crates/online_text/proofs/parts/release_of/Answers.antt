@@ -1,6 +1,6 @@
 use Rattle.std.proofs.Common.{◌++◌, refl, sym, ◌∙◌, append_assoc, arith}
 use Rattle.std.specs.Prelude.{codes}
-use Rattle.report.specs.Text.{spaced}
+use Rattle.coflow_units.specs.Text.{spaced}
 use Rattle.online_text.specs.Text.{charge_words}
 use Rattle.online_text.proofs.OneLines.{words_unique}
 use Rattle.online_text.proofs.PartSteps.{behind_both}

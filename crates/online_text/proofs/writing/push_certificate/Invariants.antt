@@ -1,7 +1,7 @@
 -- the lines so far stand behind the text
 use Rattle.std.proofs.Common.{◌≡◌, ◌++◌, map}
 use Rattle.std.specs.List.{range_with_len}
-use Rattle.report.specs.Text.{text_of}
+use Rattle.coflow_units.specs.Text.{text_of}
 use Rattle.online_text.specs.Text.{release_line_at}
 use Rattle.online_text.proofs.writing.push_certificate.Given as goal
 

@@ -1,6 +1,6 @@
 -- the lines so far stand behind the text
 use Rattle.std.proofs.Common.{◌≡◌, ◌++◌, map, take}
-use Rattle.report.specs.Text.{text_of}
+use Rattle.coflow_units.specs.Text.{text_of}
 use Rattle.online_text.specs.Text.{done_line}
 use Rattle.online_text.proofs.writing.push_done.Given as goal
 

@@ -1,7 +1,7 @@
 -- the lines so far stand behind the text
 use Rattle.std.proofs.Common.{◌≡◌, ◌++◌, take}
 use Rattle.std.specs.List.{flat_map}
-use Rattle.report.specs.Text.{text_of}
+use Rattle.coflow_units.specs.Text.{text_of}
 use Rattle.online_text.specs.Text.{epoch_lines}
 use Rattle.online_text.proofs.writing.push_epochs.Given as goal
 

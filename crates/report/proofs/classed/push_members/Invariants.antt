@@ -1,7 +1,7 @@
 -- the lines so far stand behind the text
 use Rattle.std.proofs.Common.{◌≡◌, ◌++◌, take, map}
 use Rattle.report.specs.Classed.{member_line}
-use Rattle.report.specs.Text.{text_of}
+use Rattle.coflow_units.specs.Text.{text_of}
 use Rattle.report.proofs.classed.push_members.Given as goal
 
 abbrev pub invariant-loop-member : goal.invariant-loop-member

@@ -3,7 +3,8 @@ use Rattle.std.specs.Prelude.{codes}
 use Rattle.coflow_units.specs.declared.plan.Run.{Run}
 use Rattle.report.specs.declared.classed.Member.{Member}
 use Rattle.report.specs.Classed.{member_line}
-use Rattle.report.specs.Text.{run_line, text_of}
+use Rattle.report.specs.Text.{run_line}
+use Rattle.coflow_units.specs.Text.{text_of}
 use Rattle.report.proofs.BenchText.{classed}
 use Rattle.report.proofs.classed.write_classes.Goals as goal
 

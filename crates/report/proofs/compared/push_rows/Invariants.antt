@@ -1,7 +1,7 @@
 -- the lines so far stand behind the text
 use Rattle.std.proofs.Common.{◌≡◌, ◌++◌, take, map}
 use Rattle.report.specs.Compared.{row_line}
-use Rattle.report.specs.Text.{text_of}
+use Rattle.coflow_units.specs.Text.{text_of}
 use Rattle.report.proofs.compared.push_rows.Given as goal
 
 abbrev pub invariant-loop-row : goal.invariant-loop-row

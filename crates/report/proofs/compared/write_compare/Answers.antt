@@ -2,7 +2,7 @@ use Rattle.std.proofs.Common.{◌≡◌, ◌++◌, List, [], map, subst}
 use Rattle.std.specs.Prelude.{codes}
 use Rattle.report.specs.declared.compared.RowLine.{RowLine}
 use Rattle.report.specs.Compared.{row_line}
-use Rattle.report.specs.Text.{text_of}
+use Rattle.coflow_units.specs.Text.{text_of}
 use Rattle.report.proofs.BenchText.{compared}
 use Rattle.report.proofs.compared.write_compare.Goals as goal
 

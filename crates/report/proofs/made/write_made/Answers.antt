@@ -1,5 +1,5 @@
 use Rattle.std.proofs.Common.{◌≡◌, ◌++◌, []}
-use Rattle.report.specs.Text.{ended}
+use Rattle.coflow_units.specs.Text.{ended}
 use Rattle.report.specs.Made.{seed_line}
 use Rattle.report.proofs.MadeSteps.{summary}
 use Rattle.report.proofs.made.write_made.Goals as goal

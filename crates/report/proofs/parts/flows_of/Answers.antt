@@ -1,7 +1,7 @@
 use Rattle.std.proofs.Common.{◌≡◌, ◌<◌, ◌^◌, ◌∷◌, [], ◌++◌, arith}
 use Rattle.std.specs.List.{flat_map}
 use Rattle.std.specs.List.Sorted.{IsStrictlyIncreasing}
-use Rattle.report.specs.Text.{spaced}
+use Rattle.coflow_units.specs.Text.{spaced}
 use Rattle.report.proofs.PartText.{empty_is, not_empty}
 use Rattle.report.proofs.FlowText.{flows_read, next_flow, none_yet, one_more, same_flow, shorter, stops_flows}
 use Rattle.report.proofs.parts.flows_of.Goals as goal

@@ -1,6 +1,7 @@
 use Rattle.std.proofs.Common.{◌≡◌, ◌++◌, arith, refl, sym, ap, ◌∙◌}
 use Rattle.std.specs.Prelude.{codes}
-use Rattle.report.specs.Text.{charge_words, spaced, weight_word}
+use Rattle.report.specs.Text.{charge_words, weight_word}
+use Rattle.coflow_units.specs.Text.{spaced}
 use Rattle.report.proofs.LineText.{not_there, prefix_found}
 use Rattle.report.proofs.PartText.{behind_place, charge_unique, place_found, place_is, place_parts, weight_stops}
 use Rattle.report.proofs.parts.place_of.Goals as goal

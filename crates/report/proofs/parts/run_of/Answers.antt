@@ -2,7 +2,7 @@ use Rattle.std.proofs.Common.{◌≡◌, ◌++◌, arith}
 use Rattle.std.specs.Prelude.{codes}
 use Rattle.std.specs.List.{flat_map}
 use Rattle.coflow_units.specs.declared.plan.Run.{Run}
-use Rattle.report.specs.Text.{spaced}
+use Rattle.coflow_units.specs.Text.{spaced}
 use Rattle.report.proofs.LineText.{not_there, prefix_found}
 use Rattle.report.proofs.FlowText.{behind_run, length_is, run_found, stops_flows}
 use Rattle.report.proofs.parts.run_of.Goals as goal

@@ -1,5 +1,5 @@
 use Rattle.std.proofs.Common.{◌≡◌, ◌++◌, [], arith, ap, ◌∙◌, append-nil}
-use Rattle.report.specs.Text.{spaced}
+use Rattle.coflow_units.specs.Text.{spaced}
 use Rattle.report.proofs.LineText.{not_there, prefix_found}
 use Rattle.report.proofs.PartText.{empty_is, not_empty, same_number, total_none}
 use Rattle.report.proofs.parts.total_of.Goals as goal

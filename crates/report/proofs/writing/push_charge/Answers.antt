@@ -1,6 +1,7 @@
 use Rattle.std.proofs.Common.{◌≡◌, ◌++◌}
 use Rattle.std.specs.Prelude.{OnOk}
-use Rattle.report.specs.Text.{side_word, spaced}
+use Rattle.report.specs.Text.{side_word}
+use Rattle.coflow_units.specs.Text.{spaced}
 use Rattle.report.proofs.TextSteps.{charge_written}
 use Rattle.report.proofs.writing.push_charge.Goals as goal
 

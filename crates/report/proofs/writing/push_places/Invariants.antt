@@ -1,7 +1,8 @@
 -- the lines so far stand behind the text
 use Rattle.std.proofs.Common.{◌≡◌, ◌++◌, map}
 use Rattle.std.specs.List.{range_with_len}
-use Rattle.report.specs.Text.{place_line_at, text_of}
+use Rattle.report.specs.Text.{place_line_at}
+use Rattle.coflow_units.specs.Text.{text_of}
 use Rattle.report.proofs.writing.push_places.Given as goal
 
 abbrev pub invariant-loop-place : goal.invariant-loop-place

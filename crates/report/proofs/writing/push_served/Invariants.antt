@@ -1,6 +1,7 @@
 -- the lines so far stand behind the text
 use Rattle.std.proofs.Common.{◌≡◌, ◌++◌, take, map}
-use Rattle.report.specs.Text.{run_line, text_of}
+use Rattle.report.specs.Text.{run_line}
+use Rattle.coflow_units.specs.Text.{text_of}
 use Rattle.report.proofs.writing.push_served.Given as goal
 
 abbrev pub invariant-loop-run : goal.invariant-loop-run

@@ -1,6 +1,7 @@
 use Rattle.std.proofs.Common.{◌≡◌, ◌++◌, List, [], map, subst}
 use Rattle.coflow_units.specs.declared.plan.Run.{Run}
-use Rattle.report.specs.Text.{ended, run_line, text_of, version_line}
+use Rattle.coflow_units.specs.Text.{ended, text_of}
+use Rattle.report.specs.Text.{run_line, version_line}
 use Rattle.report.proofs.TextSteps.{whole}
 use Rattle.report.proofs.writing.write_report.Goals as goal
 

@@ -6,11 +6,11 @@ use Rattle.command_words.specs.Words.{Said, said_by}
 use Rattle.command_files.specs.declared.status.Status.TheVariants.{WriteFault}
 use Rattle.hall_plan.specs.Sent.{SendsAll}
 use Rattle.sincronia_cli.specs.Outcome.{HasText}
-use Rattle.sincronia_cli.specs.Written.{Sends, Stops}
+use Rattle.command_jobs.specs.Serving.{Sends, Stops}
 use Rattle.sincronia_cli.proofs.BenchFacts.{cause_has_no_text, job_of, outcome_has_text}
 use Rattle.sincronia_cli.proofs.CompleteFacts.{good_files_end}
 use Rattle.sincronia_cli.proofs.FirstFacts.{first_ends, text_ends}
-use Rattle.sincronia_cli.proofs.FewOrders.{few_for}
+use Rattle.command_jobs.proofs.OnlineFacts.{few_for}
 use Rattle.sincronia_cli.proofs.OutcomeFacts.{bad_report_given, bad_script_given, limit_given}
 use Rattle.command_files.proofs.SinkFacts.{begun}
 use Rattle.sincronia_cli.proofs.ServingFacts.{none_failed, past_by_wire, sent_by, unsent_for, wire_failed}

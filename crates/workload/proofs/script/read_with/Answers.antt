@@ -6,7 +6,7 @@ use Rattle.text_fields.specs.Lines.{lines_of}
 use Rattle.workload.specs.Checks.{line_checks}
 use Rattle.workload.specs.Script.{script_of, step_of}
 use Rattle.workload.specs.declared.script.Script.{Script}
-use Rattle.workload.specs.declared.step.Step.{Step}
+use Rattle.workload.specs.declared.line.Step.{Step}
 use Rattle.workload.proofs.ScriptSteps.{goes_on, line_fails, too_many}
 use Rattle.workload.proofs.script.read_with.Goals as goal
 

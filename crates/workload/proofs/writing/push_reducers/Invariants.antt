@@ -1,7 +1,8 @@
 -- the reducers so far stand behind their number
 use Rattle.std.proofs.Common.{◌≡◌, ◌++◌, length, take}
 use Rattle.std.specs.List.{flat_map}
-use Rattle.workload.specs.Text.{reducer_word, spaced}
+use Rattle.workload.specs.Text.{reducer_word}
+use Rattle.coflow_units.specs.Text.{spaced}
 use Rattle.workload.proofs.writing.push_reducers.Given as goal
 
 abbrev pub invariant-loop-reducer : goal.invariant-loop-reducer

@@ -1,7 +1,8 @@
 -- the lines so far are the text
 use Rattle.std.proofs.Common.{◌≡◌, ◌∷◌, map, take}
 use Rattle.std.specs.Prelude.{codes}
-use Rattle.workload.specs.Text.{coflow_line, text_of}
+use Rattle.workload.specs.Text.{coflow_line}
+use Rattle.coflow_units.specs.Text.{text_of}
 use Rattle.workload.proofs.writing.write_trace.Given as goal
 
 abbrev pub invariant-loop-coflow : goal.invariant-loop-coflow

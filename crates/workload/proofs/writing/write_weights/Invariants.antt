@@ -1,6 +1,7 @@
 -- the lines so far are the text
 use Rattle.std.proofs.Common.{◌≡◌, map, take}
-use Rattle.workload.specs.Text.{text_of, weight_line}
+use Rattle.coflow_units.specs.Text.{text_of}
+use Rattle.workload.specs.Text.{weight_line}
 use Rattle.workload.proofs.writing.write_weights.Given as goal
 
 abbrev pub invariant-loop-coflow : goal.invariant-loop-coflow

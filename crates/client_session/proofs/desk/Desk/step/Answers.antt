@@ -1,6 +1,6 @@
 -- A version is published with the ranks of the journal that has it.
 use Rattle.std.proofs.Common.{ap, arith}
-use Rattle.master_core.proofs.StepTells.{versions_few}
+use Rattle.journal.proofs.FurtherRoom.{few_versions as versions_few}
 use Rattle.client_session.proofs.Agreement.{agrees_published, agrees_unpublished, driven_after}
 use Rattle.client_session.proofs.desk.Desk.step.Goals as goal
 

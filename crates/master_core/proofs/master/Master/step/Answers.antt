@@ -6,7 +6,8 @@ use Rattle.journal.specs.Journal.{journal_after}
 use Rattle.master_core.specs.Master.{MasterFacts}
 use Rattle.journal.proofs.Growth.{version_counted}
 use Rattle.journal.proofs.Legal.{legal_fits}
-use Rattle.master_core.proofs.StepTells.{journal_is, master_goes_on, versions_few}
+use Rattle.master_core.proofs.StepTells.{journal_is, master_goes_on}
+use Rattle.journal.proofs.FurtherRoom.{few_versions as versions_few}
 use Rattle.master_core.proofs.master.Master.step.Goals as goal
 
 pub overflow_cast-result : goal.overflow_cast-result

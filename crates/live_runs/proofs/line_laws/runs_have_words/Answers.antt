@@ -1,5 +1,0 @@
-use Rattle.live_runs.proofs.WordsOfRuns.{all_worded}
-use Rattle.live_runs.proofs.line_laws.runs_have_words.Goals as goal
-
-pub returns : goal.returns
-returns c = all_worded

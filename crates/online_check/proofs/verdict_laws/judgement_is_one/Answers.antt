@@ -1,5 +1,0 @@
-use Rattle.online_check.proofs.OneJudgement.{judgement_one}
-use Rattle.online_check.proofs.verdict_laws.judgement_is_one.Goals as goal
-
-pub returns : goal.returns
-returns c = judgement_one

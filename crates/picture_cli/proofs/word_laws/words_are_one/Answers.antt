@@ -1,5 +1,0 @@
-use Rattle.picture_cli.proofs.WordFacts.{one_words}
-use Rattle.picture_cli.proofs.word_laws.words_are_one.Goals as goal
-
-pub returns : goal.returns
-returns c = one_words

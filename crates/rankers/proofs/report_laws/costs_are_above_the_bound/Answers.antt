@@ -1,5 +1,0 @@
-use Rattle.rankers.proofs.RowFacts.{costs_above}
-use Rattle.rankers.proofs.report_laws.costs_are_above_the_bound.Goals as goal
-
-pub returns : goal.returns
-returns c = costs_above

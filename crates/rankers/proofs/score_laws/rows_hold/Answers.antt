@@ -1,5 +1,0 @@
-use Rattle.rankers.proofs.UnfitRows.{unfit_rows}
-use Rattle.rankers.proofs.score_laws.rows_hold.Goals as goal
-
-pub returns : goal.returns
-returns c = unfit_rows
