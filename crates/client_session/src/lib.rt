@@ -13,7 +13,5 @@ mod turn;
 pub use close::{CloseFault, Closing};
 pub use driver::Driver;
 pub use hall::Hall;
-pub use journal::{Command, Entry, Opening, Reply};
-pub use rank_board::Pulled;
 pub use receipt::{Answer, Receipt};
 pub use session::Session;

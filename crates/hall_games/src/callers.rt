@@ -5,8 +5,9 @@ ghost use Rattle.hall_games.specs.Asked.{IsAskOf, IsOrderOf};
 ghost use Rattle.hall_games.specs.Callers.{IsClientOf, IsPilotOf};
 
 use crate::draw::{Ask, Draw, Order};
-use client_session::{Answer, Driver, Hall, Pulled, Session};
+use client_session::{Answer, Driver, Hall, Session};
 use coflow_units::{NoMemory, Place};
+use rank_board::Pulled;
 use std::alloc::Global;
 use std::sync::Wait;
 use std::thread;

@@ -2,7 +2,8 @@
 ghost use Rattle.std.specs.Prelude.{◌≡◌, All, length};
 ghost use Rattle.client_session.specs.Models.{IsDriverOf, IsSessionOf};
 
-use client_session::{Answer, CloseFault, Hall, Receipt, Reply, Session};
+use client_session::{Answer, CloseFault, Hall, Receipt, Session};
+use master_core::Reply;
 use std::alloc::Global;
 use std::process::Abort;
 use std::sync::Wait;

@@ -2,7 +2,9 @@
 ghost use Rattle.std.specs.Prelude.{◌≡◌, All, length};
 ghost use Rattle.client_session.specs.Models.{IsDriverOf, IsSessionOf};
 
-use client_session::{Answer, Driver, Hall, Pulled, Receipt, Reply, Session};
+use client_session::{Answer, Driver, Hall, Receipt, Session};
+use master_core::Reply;
+use rank_board::Pulled;
 use std::alloc::Global;
 use std::process::Abort;
 use std::sync::Wait;

@@ -3,7 +3,8 @@ ghost use Rattle.std.specs.Prelude.{◌≡◌, length};
 ghost use Rattle.client_session.specs.Models.{IsSessionOf};
 
 use crate::versions::Note;
-use client_session::{Hall, Pulled, Session};
+use client_session::{Hall, Session};
+use rank_board::Pulled;
 use std::sync::Wait;
 use test_support::{Ask, Said, answered};
 

@@ -1,6 +1,7 @@
 //! What sessions were told, and what the closed journal tells of them.
-use client_session::{Entry, Receipt, Reply, Session};
+use client_session::{Receipt, Session};
 use coflow_units::NoMemory;
+use master_core::{Entry, Reply};
 
 /// A receipt of a caller.
 #[derive(Clone, Copy, PartialEq)]

@@ -3,8 +3,7 @@ ghost use Rattle.std.specs.Prelude.{◌≤◌, ◌^◌};
 
 use crate::fault::ReplayFault;
 use crate::told::Told;
-use client_session::{Entry, Reply};
-use master_core::Master;
+use master_core::{Entry, Master, Reply};
 use std::alloc::Global;
 use test_support::{let_master_go, master_of_two};
 

@@ -7,7 +7,9 @@ ghost use Rattle.live_model.specs.Script.{command_of};
 ghost use Rattle.live_rounds.specs.Lines.{ComesTo, TellsVersion, pull_told, without_pull, with_pull};
 
 use crate::answer::{PullDone, TurnStop};
-use client_session::{Answer, Hall, Pulled, Reply, Session};
+use client_session::{Answer, Hall, Session};
+use journal::Reply;
+use rank_board::Pulled;
 use std::sync::Wait;
 use workload::{Asked, ScriptLine};
 

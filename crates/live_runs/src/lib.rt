@@ -13,7 +13,6 @@ mod value;
 mod words;
 
 pub use limit::limit_of_read;
-pub use live_serving::LiveFault;
 pub use running::run_live;
 pub use telling::served_live;
 pub use value::live_value;

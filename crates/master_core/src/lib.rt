@@ -10,5 +10,5 @@ mod runs;
 mod search;
 mod standing;
 
-pub use journal::{Command, Entry, Opening, Reply, laws};
+pub use journal::{Command, Entry, Reply};
 pub use master::Master;

@@ -16,7 +16,8 @@ ghost use Rattle.slot_runner.specs.Slots.{has_run, IsAnswered, IsFaulted, IsFull
 use crate::answer::{Ran, RunnerBack};
 use crate::posting::post_grants;
 use crate::settling::{close_run, settle_ports};
-use client_session::{Answer, Driver, Hall, Reply};
+use client_session::{Answer, Driver, Hall};
+use journal::Reply;
 use outside::Wire;
 use port_agent::{Agent, serve_run};
 use port_board::{PortBoard, Poster};

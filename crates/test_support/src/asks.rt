@@ -2,7 +2,8 @@
 ghost use Rattle.std.specs.Prelude.{◌≡◌, length};
 ghost use Rattle.client_session.specs.Models.{IsSessionOf};
 
-use client_session::{Answer, Hall, Pulled, Session};
+use client_session::{Answer, Hall, Session};
+use rank_board::Pulled;
 use std::sync::Wait;
 
 /// What a session is asked, as a value. Coflows are 0 and 1.

@@ -3,8 +3,8 @@ ghost use Rattle.std.specs.Prelude.{◌≡◌, All, IfSome};
 ghost use Rattle.client_session.specs.Closes.{IsClosed};
 ghost use Rattle.client_session.specs.Models.{IsDriverOf, IsSessionOf};
 
-use client_session::{CloseFault, Driver, Entry, Hall, Session};
-use master_core::Master;
+use client_session::{CloseFault, Driver, Hall, Session};
+use master_core::{Entry, Master};
 use std::alloc::Global;
 
 /// Closes a hall of which all sessions are given, and hands out its master. A close that finds no memory is tried once more. None means that memory was wanting, or that a session was.

@@ -6,7 +6,8 @@ ghost use Rattle.test_support.specs.Begun.{HasTurns};
 
 use crate::begun::{master_of_two, sessions_of};
 use crate::closed::{closed, journal_of};
-use client_session::{Driver, Entry, Hall, Session};
+use client_session::{Driver, Hall, Session};
+use master_core::Entry;
 use std::alloc::Global;
 
 /// How large a hall is.

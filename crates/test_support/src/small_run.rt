@@ -6,10 +6,10 @@ ghost use Rattle.slot_runner.specs.Models.{MayRun};
 ghost use Rattle.test_support.specs.Closed.{IsJournalOf};
 
 use crate::small::SmallHall;
-use client_session::{Driver, Entry, Hall, Session};
+use client_session::{Driver, Hall, Session};
 use coflow_units::{Items, NoMemory};
 use flow_table::Table;
-use master_core::Master;
+use master_core::{Entry, Master};
 use slot_runner::Runner;
 use std::alloc::Global;
 use std::sync::Wait;
