@@ -1,17 +1,28 @@
 #!/usr/bin/env python3
-"""Looks up each name that the pages cite: calls and clauses of docs/PROVED.md, calls, clauses and definitions of docs/HALL.md, edits of docs/PLANTED.md, functions of files, and the files that
-the pages link to. It also looks whether docs/PROVED.md has a section for each crate, and docs/ARCHITECTURE.md a row.
+"""Looks up each name that the pages cite: calls, clauses and definitions of docs/PROVED.md and docs/HALL.md, edits of docs/PLANTED.md, functions of files, and the files that
+the pages link to. It also looks whether docs/ARCHITECTURE.md has a row for each crate.
 
 Use: checks/page_names.py            The last line is 'N passed, M failed'; the exit code is 0 where none failed.
+     checks/page_names.py --list CRATE   Prints each public call of the crate with the names of its clauses, file by file.
 
-In a section of a crate the first cell of each row names clauses, as `call: clause`, as `call`, or as a clause of the call named before it in the cell. Functions stand behind their file, as
-`crate/src/file.rt`, `function`.
+docs/PROVED.md: a heading '### ..' names crates. Where the first cell of a row below it is the name of one of these crates, the second cell names clauses of that crate; else the first cell names
+clauses of the heading's first crate. A clause is named as `call: clause`, as `call`, or as a clause of the call named before it in the cell. `Type::call` is a call of that type or trait, and
+`file::call` a call of that file.
+
+docs/HALL.md and docs/PROVED.md: the last cells of tables whose last column is 'said by' name clauses or definitions of any crate. In docs/HALL.md the sections '## What a hall promises ..' have such
+tables.
+
+docs/PLANTED.md: an edit is named as edit `NAME`. Its crate is the one of the row's first cell, else of the heading '### ..', and edit `NAME` of `CRATE` names another one. It stands in the crate's
+must-fail folder, or in the folder of the crate in bugs.
+
+Functions stand behind their file, as `crate/src/file.rt`, `function`.
 """
 import os
 import re
 import sys
 
 TOP = os.path.dirname(os.path.dirname(os.path.abspath(__file__)))
+NAME = r"`([^`]+)`"
 
 
 def read(*parts):
@@ -19,28 +30,69 @@ def read(*parts):
         return it.read()
 
 
-def clauses_of(crate):
-    """The names of the crate's functions, each with the names of its clauses."""
-    found = {}
-    for folder, _, files in os.walk(os.path.join(TOP, "crates", crate, "src")):
+def all_crates():
+    return re.findall(r"^(\w+):", read("crates.txt"), re.M)
+
+
+def owners_of(head):
+    """The trait and the type that the head of an impl names."""
+    head = head.split("{")[0].split(" where ")[0]
+    while "<" in head:
+        shorter = re.sub(r"<[^<>]*>", "", head)
+        if shorter == head:
+            break
+        head = shorter
+    return [it.split("::")[-1].strip() for it in head.removeprefix("impl").split(" for ")]
+
+
+def calls_in(text):
+    """Each function of a file: its types and traits, its name, whether it is open to others, and the names of its clauses."""
+    owners, is_open, found = [], False, []
+    for line in text.split("\n"):
+        if line.startswith("impl"):
+            owners, is_open = owners_of(line), " for " in line
+        elif named := re.match(r"pub trait (\w+)", line):
+            owners, is_open = [named.group(1)], True
+        elif line.startswith("}"):
+            owners, is_open = [], False
+        if head := re.match(r"\s*(pub(?:\([a-z]+\))? )?(?:const )?fn (\w+)", line):
+            found.append((owners, head.group(2), is_open or head.group(1) == "pub ", []))
+        elif (clause := re.match(r"\s*ensures (\w*)", line)) and found:
+            found[-1][3].append(clause.group(1))
+    return found
+
+
+def files_of(crate):
+    """The crate's files of code, each with its path below src."""
+    top = os.path.join("crates", crate, "src")
+    for folder, _, files in sorted(os.walk(os.path.join(TOP, top))):
         for name in sorted(files):
             if name.endswith(".rt"):
-                call = None
-                for line in read(folder, name).split("\n"):
-                    head = re.match(r"\s*(?:pub(?:\([a-z]+\))? )?fn (\w+)", line)
-                    if head:
-                        call = head.group(1)
-                        found.setdefault(call, set())
-                    clause = re.match(r"\s*ensures (\w*)", line)
-                    if clause and call:
-                        found[call].add(clause.group(1))
+                yield os.path.relpath(os.path.join(folder, name), os.path.join(TOP, top)), read(folder, name)
+
+
+def clauses_of(crate):
+    """The names of the crate's functions, each with the names of its clauses: by the name alone, and behind type, trait and file."""
+    found = {}
+    for path, text in files_of(crate):
+        for owners, call, _, clauses in calls_in(text):
+            for name in call, *(f"{owner}::{call}" for owner in owners), f"{os.path.basename(path)[:-3]}::{call}":
+                found.setdefault(name, set()).update(clauses)
     return found
+
+
+def list_calls(crate):
+    """Prints the crate's public calls with the names of their clauses."""
+    for path, text in files_of(crate):
+        for owners, call, is_open, clauses in calls_in(text):
+            if is_open:
+                name = "::".join([*owners[-1:], call])
+                print(f"{crate}/src/{path}: {name}" + (f": {', '.join(it or '(no name)' for it in clauses)}" if clauses else ""))
 
 
 def is_there(name, before, calls):
     """Whether the name is a call of the crate with that clause, and the call that it names."""
     call, _, clause = name.partition(": ")
-    call = call.split("::")[-1]
     if clause:
         return clause in calls.get(call, ()), call
     if "::" not in name and call in calls.get(before, ()):
@@ -49,17 +101,27 @@ def is_there(name, before, calls):
 
 
 def proved_names():
-    """Each name of the first cells of docs/PROVED.md, and whether it is there."""
-    crate = None
-    for line in read("docs", "PROVED.md").split("## Only tested")[0].split("\n"):
+    """Each name of the tables of docs/PROVED.md, and whether it is there."""
+    page = "docs/PROVED.md"
+    known, crates = all_crates(), []
+    calls = {}
+    for line in read(page).split("## Only tested")[0].split("\n"):
         if line.startswith("### "):
-            names = re.findall(r"`(\w+)`", line)
-            crate, calls = names[0], clauses_of(names[0])
-        elif line.startswith("| `") and crate:
+            crates = re.findall(r"`(\w+)`", line)
+            for crate in crates:
+                yield f"{page}: the crate {crate}", crate in known
+                calls.setdefault(crate, clauses_of(crate))
+        elif line.startswith("#"):
+            crates = []
+        elif line.startswith("| `") and crates:
+            cells = line.strip("| ").split(" | ")
+            crate, names = crates[0], cells[0]
+            if cells[0].strip("`") in crates:
+                crate, names = cells[0].strip("`"), cells[1]
             before = None
-            for name in re.findall(r"`([^`]+)`", line.split(" | ")[0]):
-                well, before = is_there(name, before, calls)
-                yield f"docs/PROVED.md: {crate}: {name}", well
+            for name in re.findall(NAME, names):
+                well, before = is_there(name, before, calls[crate])
+                yield f"{page}: {crate}: {name}", well
 
 
 def definitions_of(crate):
@@ -73,35 +135,64 @@ def definitions_of(crate):
 def is_defined(name, text):
     """Whether a definition stands in the text, with its field where one is named."""
     name, _, field = name.partition(".")
-    record = re.search(rf"^\s*pub record {name}\b.*?(?=^\S)", text + "\n.", re.M | re.S)
+    records = re.findall(rf"^\s*pub record {name}\b.*?(?=^\S)", text + "\n.", re.M | re.S)
     if field:
-        return record is not None and re.search(rf"^\s*pub {field} :", record.group(0), re.M) is not None
-    return record is not None or re.search(rf"^\s*abbrev pub {name} :", text, re.M) is not None
+        return any(re.search(rf"^\s*pub {field} :", it, re.M) for it in records)
+    return bool(records) or re.search(rf"^\s*abbrev pub {name} :", text, re.M) is not None
 
 
-def hall_names():
-    """Each name in the last cells of docs/HALL.md, and whether it is there."""
-    crates = "turn_steps", "turnstile", "rank_board", "turn_answers", "master_desk", "client_session", "run_ports", "slot_runner", "hall_plan", "served_plans", "command_outcomes", "sincronia_cli"
-    calls, text = {}, "\n".join(map(definitions_of, crates))
-    for crate in crates:
+def said_by(page):
+    """The last cell of each row of the page's tables whose last column is 'said by'."""
+    inside = False
+    for line in read(page).split("\n"):
+        if not line.startswith("|"):
+            inside = False
+        elif line.rstrip().endswith("| said by |"):
+            inside = True
+        elif inside and not line.startswith("|--"):
+            yield line.rstrip("| ").split(" | ")[-1]
+
+
+def said_names():
+    """Each name of the cells under 'said by', looked up among all crates, and whether it is there."""
+    calls, text = {}, "\n".join(map(definitions_of, all_crates()))
+    for crate in all_crates():
         for call, clauses in clauses_of(crate).items():
             calls.setdefault(call, set()).update(clauses)
-    for line in read("docs", "HALL.md").split("## What a hall promises on turns")[1].split("\n"):
+    for page, cell in ((page, cell) for page in ("docs/HALL.md", "docs/PROVED.md") for cell in said_by(page)):
         before = None
-        for name in re.findall(r"`([^`]+)`", line.split(" | ")[-1]) if line.startswith("| ") else []:
-            well, before = is_there(name, before, calls) if "::" in name or name.split(":")[0] in calls or name in calls.get(before, ()) else (is_defined(name, text), before)
-            yield f"docs/HALL.md: {name}", well
+        for name in re.findall(NAME, cell):
+            is_call = "::" in name or name.split(":")[0] in calls or name in calls.get(before, ())
+            well, before = is_there(name, before, calls) if is_call else (is_defined(name, text), before)
+            yield f"{page}: {name}", well
+
+
+def hall_sections():
+    """Each section of docs/HALL.md on what a hall promises, and whether its table names what says so."""
+    page = "docs/HALL.md"
+    for title in re.findall(r"^## What a hall promises.*", read(page), re.M) or ["## What a hall promises"]:
+        yield f"{page}: names in the section '{title}'", "| said by |" in read(page).partition(title)[2].split("\n## ")[0]
+
+
+def has_edit(crate, name):
+    return any(os.path.isfile(os.path.join(TOP, *folder, f"{name}.edit")) for folder in (("crates", crate, "must-fail"), ("bugs", crate)))
 
 
 def planted_names():
-    """Each edit that docs/PLANTED.md cites, and whether it is there. An edit of another crate is cited with the name of the crate."""
-    crate = None
-    for line in read("docs", "PLANTED.md").split("\n"):
-        if line.startswith("### "):
-            crate = re.findall(r"`(\w+)`", line)[0]
-        for names in re.findall(r"edits? ((?:`\w+`(?:, )?)+)", line) if crate else []:
+    """Each edit that docs/PLANTED.md cites, and whether it is there."""
+    page = "docs/PLANTED.md"
+    known, section = all_crates(), None
+    for line in read(page).split("\n"):
+        if line.startswith("#"):
+            names = re.findall(r"`(\w+)`", line) if line.startswith("### ") else []
+            section = names[0] if names else None
+            if section:
+                yield f"{page}: the crate {section}", section in known
+        row = re.match(r"\|\s*`(\w+)`\s*\|", line)
+        crate = row.group(1) if row and row.group(1) in known else section
+        for names, other in re.findall(r"\bedits? (`\w+`(?:(?:, | and )`\w+`)*)(?: of `(\w+)`)?", line) if crate else []:
             for name in re.findall(r"`(\w+)`", names):
-                yield f"docs/PLANTED.md: {crate}: edit {name}", os.path.isfile(os.path.join(TOP, "crates", crate, "must-fail", f"{name}.edit"))
+                yield f"{page}: {other or crate}: edit {name}", has_edit(other or crate, name)
 
 
 def pages():
@@ -118,23 +209,36 @@ def file_names():
                 yield f"{page}: {path}: {name}", bool(text) and (not name or re.search(rf"\bfn {name}\b", text) is not None)
 
 
+def titles_of(page):
+    """The marks of the page's headings, by which a link names them."""
+    return [re.sub(r"[^\w\- ]", "", it.lower()).replace(" ", "-") for it in re.findall(r"^#+ (.*)", read(page), re.M)]
+
+
 def linked_files():
+    """Each file and each heading that a page links to, and whether it is there."""
     for page in pages():
-        for link in re.findall(r"\]\(([^)#:]+)\)", read(page)):
-            yield f"{page}: {link}", os.path.exists(os.path.join(TOP, os.path.dirname(page), link))
+        for link, _, title in re.findall(r"\]\(([^)#:]*)(#([^)]+))?\)", read(page)):
+            file = os.path.normpath(os.path.join(os.path.dirname(page), link)) if link else page
+            well = os.path.exists(os.path.join(TOP, file))
+            yield f"{page}: {link}{'#' + title if title else ''}", well and (not title or title in titles_of(file))
 
 
 def crates_told():
-    """Each crate, and whether the pages tell of it."""
-    sections = " ".join(it for it in read("docs", "PROVED.md").split("\n") if it.startswith("### "))
-    rows = " ".join(it for it in read("docs", "ARCHITECTURE.md").split("\n") if it.startswith("| "))
-    for crate in re.findall(r"^(\w+)[^#\n]*:", read("crates.txt"), re.M):
-        yield f"docs/PROVED.md: a section of {crate}", f"`{crate}`" in sections
-        yield f"docs/ARCHITECTURE.md: a row of {crate}", f"`{crate}`" in rows
+    """Each crate, and whether docs/ARCHITECTURE.md has a row of it."""
+    firsts = {it for line in read("docs", "ARCHITECTURE.md").split("\n") if line.startswith("| ") for it in re.findall(r"`(\w+)`", line.split(" | ")[0])}
+    for crate in all_crates():
+        yield f"docs/ARCHITECTURE.md: a row of {crate}", crate in firsts
 
 
 def main():
-    results = [*proved_names(), *hall_names(), *planted_names(), *file_names(), *linked_files(), *crates_told()]
+    if sys.argv[1:2] == ["--list"] and len(sys.argv) == 3:
+        if sys.argv[2] not in all_crates():
+            sys.exit(f"no crate {sys.argv[2]}")
+        list_calls(sys.argv[2])
+        return 0
+    if sys.argv[1:]:
+        sys.exit(__doc__)
+    results = [*proved_names(), *said_names(), *hall_sections(), *planted_names(), *file_names(), *linked_files(), *crates_told()]
     for name, well in results:
         if not well:
             print(f"not there: {name}")
