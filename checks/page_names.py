@@ -1,6 +1,6 @@
 #!/usr/bin/env python3
 """Looks up each name that the pages cite: calls, clauses and definitions of docs/PROVED.md and docs/HALL.md, edits of docs/PLANTED.md, functions of files, and the files that
-the pages link to. It also looks whether docs/ARCHITECTURE.md has a row for each crate.
+the pages link to. It also looks whether docs/PROVED.md names each clause of the top call, and whether docs/ARCHITECTURE.md has a row for each crate.
 
 Use: checks/page_names.py            The last line is 'N passed, M failed'; the exit code is 0 where none failed.
      checks/page_names.py --list CRATE   Prints each public call of the crate with the names of its clauses, file by file.
@@ -124,6 +124,16 @@ def proved_names():
                 yield f"{page}: {crate}: {name}", well
 
 
+def top_told():
+    """Each clause of the top call, and whether docs/PROVED.md names it."""
+    page = "docs/PROVED.md"
+    section = read(page).partition("`sincronia_cli`")[2].split("\n### ")[0]
+    firsts = [line.split(" | ")[0] for line in section.split("\n") if line.startswith("| `sincronia: ")]
+    told = {name.split(": ")[-1] for cell in firsts for name in re.findall(NAME, cell)}
+    for clause in sorted(clauses_of("sincronia_cli")["command::sincronia"]):
+        yield f"{page}: a row of sincronia: {clause}", clause in told
+
+
 def definitions_of(crate):
     """The text of the crate's definitions."""
     folder = os.path.join("crates", crate, "specs")
@@ -238,7 +248,7 @@ def main():
         return 0
     if sys.argv[1:]:
         sys.exit(__doc__)
-    results = [*proved_names(), *said_names(), *hall_sections(), *planted_names(), *file_names(), *linked_files(), *crates_told()]
+    results = [*proved_names(), *top_told(), *said_names(), *hall_sections(), *planted_names(), *file_names(), *linked_files(), *crates_told()]
     for name, well in results:
         if not well:
             print(f"not there: {name}")
