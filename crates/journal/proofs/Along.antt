@@ -1,7 +1,7 @@
 -- How a law is proved along a legal journal.
 use Rattle.std.proofs.Common.{◌≡◌, ℕ, ◌+◌, true, false, true≢false, List, [], ◌∷◌, ◌++◌, length, max, refl, sym, ap, subst, ◌∙◌, arith, append_assoc, append-nil, Option, Some}
 use Rattle.std.proofs.Common.{None}
-use Rattle.std.specs.Prelude.{All, if◌then◌else◌, nat_lt, nat_le, slice_index_or, ◌==◌}
+use Rattle.std.specs.Prelude.{All, AllPairs, if◌then◌else◌, nat_lt, nat_le, slice_index_or, ◌==◌}
 use Rattle.std.proofs.lemmas.Bool.{eqb-false, eqb-true}
 use Rattle.std.proofs.lemmas.List.{get_or_append_left, length-append}
 use Rattle.journal.specs.declared.command.Command.{Command}
@@ -53,6 +53,11 @@ along_more o P step before more legal h = from o P step before more (legal_front
 
 pub all_front : {X : Type 0} (P : X → Type 0) (xs ys : List X) → All P (xs ++ ys) → All P xs
 all_front P xs ys all = λ k d lt. subst P (get_or_append_left xs ys d k lt) (all k d (omega (arith, length-append xs ys)))
+
+pub pairs_front : {X : Type 0} (R : X → X → Type 0) (xs ys : List X) → AllPairs R (xs ++ ys) → AllPairs R xs
+pairs_front {X} R xs ys pairs = λ i j d less lt.
+    subst (λ (x : X × X). R x.0 x.1) (λ t. (get_or_append_left xs ys d i (omega (arith, less, lt)) t, get_or_append_left xs ys d j lt t))
+    (pairs i j d less (omega (arith, lt, length-append xs ys)))
 
 -- the same for journals whose commands are in range: then each entry is answered in a sound state
 pub along_sound : (o : Opening) (P : List Entry → Type 0) →

@@ -1,6 +1,6 @@
 -- The rows, computed.
 use Rattle.std.proofs.Common.{◌≡◌, ℕ, ◌<◌, ◌≤◌, ◌⊎◌, true, inl, inr, List, [], ◌∷◌, Contains, refl, ap, cond, subst, arith}
-use Rattle.std.specs.Prelude.{All}
+use Rattle.std.specs.Prelude.{All, AllPairs}
 use Rattle.std.proofs.lemmas.Bool.{cases_eq, ne_eqb}
 use Rattle.std.proofs.lemmas.List.Elements.{All-cons, All-nil}
 use Rattle.coflow_units.specs.Flows.{ingress_of}
@@ -11,10 +11,11 @@ use Rattle.journal.specs.declared.command.Command.TheVariants.{Register, Withdra
 use Rattle.journal.specs.declared.command.Reply.TheVariants.{Joined, Left, StillOpen, Unranked, Noted, Weighed}
 use Rattle.journal.specs.declared.command.Entry.{Entry}
 use Rattle.journal.specs.Journal.{entry}
-use Rattle.journal.specs.Driven.{is_other, IsShortOf, notes_due, sent_from, times_noted}
+use Rattle.journal.specs.Driven.{is_other, IsNotedBefore, IsShortOf, NoneNotedFrom, notes_due, sent_from, times_noted}
 use Rattle.journal.specs.RunRows.{CountedGrants, CountedKinds, CountedNotes, CountedRuns, DrivenApart, EndedFlows, first_apart, FurthestSkips}
-use Rattle.journal.specs.RunRows.{NotedRun, one_run, OneRun, OpenRun, ServedOrder, SkippedSlots, TwiceOnAWire}
+use Rattle.journal.specs.RunRows.{NotedRun, NotesInOrder, one_run, OneRun, OpenRun, ServedOrder, SkippedSlots, TwiceOnAWire}
 use Rattle.journal.specs.RunRows.{second_apart, SlotsOfARun, TalliedSlots, TwoPorts, WithdrawalBetween}
+use Rattle.journal.proofs.UnderWay.{note_in_order, others_in_order}
 
 pub served_order_is : ServedOrder
 unfolding the_ordering the_grants
@@ -72,6 +73,17 @@ once_is port = elim (cases_eq 0 port) [
   | inr other ↦ omega (arith, ap {B = ℕ} (λ b. cond b 1 0) (ne_eqb 0 port other))
 ]
 
+in_order_is : AllPairs IsNotedBefore one_run.between
+in_order_is =
+    let pull = entry 3 (Pull 0) (Unranked 0) in
+    let kept = entry 4 Publish (StillOpen 1) in
+    let weighed = entry 4 (Reweigh 0 2) (Weighed 1) in
+    let left = entry 4 (Withdraw 1) Left in
+    let P = λ (e : Entry). is_other e ≡ true in
+    let before = others_in_order [] (pull ∷ kept ∷ []) (λ i j x less lt. absurd (omega arith)) (All-cons P pull (kept ∷ []) refl (All-cons P kept [] refl (All-nil P))) in
+    others_in_order (pull ∷ kept ∷ entry 0 (Short 0 1) (Noted 1) ∷ []) (weighed ∷ left ∷ []) (note_in_order (pull ∷ kept ∷ []) 0 1 (Noted 1) before (λ port le. refl))
+    (All-cons P weighed (left ∷ []) refl (All-cons P left [] refl (All-nil P)))
+
 noted_is : (f : ℕ) → 0 ≡ f → times_noted one_run.between (ingress_of two_flows f) ≡ 1
 noted_is f e = subst (λ g. times_noted one_run.between (ingress_of two_flows g) ≡ 1) e refl
 
@@ -81,7 +93,7 @@ one_run_is = (
   (refl, refl, (refl, refl, (refl, refl, (refl, refl, (refl, refl, (refl, refl, (refl, refl, (refl, refl, (refl, refl, tt))))))))),
   record {
     goes_on = refl;
-    under_way = record { goes_on = refl; earlier = earlier_is; between = between_is (0 ∷ []) (in_first 0 []); once = once_is };
+    under_way = record { goes_on = refl; earlier = earlier_is; between = between_is (0 ∷ []) (in_first 0 []); once = once_is; in_order = in_order_is };
     within = λ f in'. omega arith;
     noted = λ f in'. noted_is f (only_one f in');
   },
@@ -102,6 +114,18 @@ furthest_skips_are = (refl, refl, refl, refl)
 
 pub counted_notes_are : CountedNotes
 counted_notes_are = (refl, refl, refl, refl, refl)
+
+pub notes_in_order_are : NotesInOrder
+notes_in_order_are =
+    let first = entry 0 (Short 0 0) (Noted 0) in
+    let pull = entry 3 (Pull 0) (Unranked 0) in
+    let P = λ (e : Entry). is_other e ≡ true in
+    let before = others_in_order (first ∷ []) (pull ∷ []) (λ i j x less lt. absurd (omega (arith, less, lt))) (All-cons P pull [] refl (All-nil P)) in
+    let no_later : NoneNotedFrom (first ∷ pull ∷ []) 1 = λ port le. omega (arith, ap {B = ℕ} (λ b. cond b 1 0) (ne_eqb 0 port (omega (arith, le)))) in (
+      note_in_order (first ∷ pull ∷ []) 1 0 (Noted 0) before no_later,
+      λ pairs. absurd (omega (arith, pairs 0 2 first (omega arith) (omega arith) 1 0 0 0 refl refl)),
+      λ pairs. absurd (omega (arith, pairs 0 2 first (omega arith) (omega arith) 1 1 0 0 refl refl)),
+    )
 
 -- ---- two ports
 
@@ -159,6 +183,7 @@ driven_apart_are = (
       earlier = All-nil (λ e. is_other e ≡ true);
       between = between_apart (0 ∷ 3 ∷ []) (in_tail 0 (3 ∷ []) 3 (in_first 3 []));
       once = once_apart;
+      in_order = λ i j x less lt. absurd (omega (arith, less, lt));
     };
     within = of_both (λ f. sent_from all_ties.flows first_apart f ≤ 1) within_one none_within;
     noted = of_both (λ f. times_noted first_apart.between (ingress_of all_ties.flows f) ≡ notes_due all_ties.flows first_apart f) refl refl;
@@ -167,7 +192,7 @@ driven_apart_are = (
   refl,
   record {
     goes_on = refl;
-    under_way = record { goes_on = refl; earlier = All-nil (λ e. is_other e ≡ true); between = no_between (1 ∷ 2 ∷ []); once = λ port. none_within };
+    under_way = record { goes_on = refl; earlier = All-nil (λ e. is_other e ≡ true); between = no_between (1 ∷ 2 ∷ []); once = λ port. none_within; in_order = λ i j x less lt. absurd (omega arith) };
     within = λ f in'. within_one;
     noted = λ f in'. refl;
   },

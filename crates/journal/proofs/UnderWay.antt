@@ -1,13 +1,14 @@
 -- A run that is under way: what holds then, how it goes on, what is answered, and that there is room to end it.
 use Rattle.std.proofs.Common.{◌≡◌, ℕ, ◌+◌, ◌≤◌, ◌<◌, ◌⊎◌, inl, inr, true, false, true≢false, List, [], ◌∷◌, ◌++◌, Contains, length, min, refl, sym, ap, subst, ◌∙◌, arith, suc}
-use Rattle.std.proofs.Common.{cond, append_assoc, append-nil, Some}
-use Rattle.std.specs.Prelude.{All, nat_lt, sum_by, ◌==◌, if◌then◌else◌}
+use Rattle.std.proofs.Common.{cond, append_assoc, append-nil, get_or, Some}
+use Rattle.std.specs.Prelude.{All, AllPairs, nat_lt, sum_by, ◌==◌, if◌then◌else◌}
 use Rattle.std.specs.List.{range_with_len}
-use Rattle.std.proofs.lemmas.Bool.{cases_eq, eq-eqb, leb-false, lt-leb, ltb-true, ne_eqb}
+use Rattle.std.proofs.lemmas.Bool.{cases_eq, cases_lt, eq-eqb, leb-false, lt-leb, ltb-true, ne_eqb}
 use Rattle.std.proofs.lemmas.List.{length-append}
 use Rattle.std.proofs.lemmas.List.Elements.{All-append, All-contains, All-push, Contains-append_right}
 use Rattle.std.proofs.lemmas.List.FromFn.{length-range_with_len}
-use Rattle.std.proofs.lemmas.List.Sums.{sum_by-append, sum_by-cons}
+use Rattle.std.proofs.lemmas.List.Quantifiers.{all_pairs_push}
+use Rattle.std.proofs.lemmas.List.Sums.{get_or-le-sum_by, sum_by-append, sum_by-cons}
 use Rattle.coflow_units.specs.Flows.{ingress_of}
 use Rattle.coflow_units.proofs.Lists.{number_in}
 use Rattle.coflow_units.proofs.ServedLaws.{grants_clear}
@@ -26,13 +27,13 @@ use Rattle.journal.specs.Journal.{entry, is_full, IsLegal, line_of}
 use Rattle.journal.specs.Sound.{InRange}
 use Rattle.journal.proofs.Legal.{full_is, legal_front}
 use Rattle.journal.proofs.Versions.{legal_there}
-use Rattle.journal.specs.Driven.{closed_in, Drive, driven, is_other, IsDriven, IsRunning, IsShortOf, IsUnderWay, notes_port, opened_in, opening, times_noted}
+use Rattle.journal.specs.Driven.{closed_in, Drive, driven, is_other, IsDriven, IsNotedBefore, IsRunning, IsShortOf, IsUnderWay, NoneNotedFrom, notes_port, opened_in, opening, times_noted}
 use Rattle.journal.specs.Entries.{is_driving}
 use Rattle.journal.specs.Counts.{endings, is_ending}
 use Rattle.journal.proofs.Between.{answered, mkr, not_noting}
 use Rattle.journal.proofs.Driving.{at, free, IsAt, legal_open}
 use Rattle.journal.proofs.Ingresses.{grant_at}
-use Rattle.journal.proofs.Along.{all_front}
+use Rattle.journal.proofs.Along.{all_front, pairs_front}
 use Rattle.journal.proofs.FurtherRoom.{further_room, room_is}
 
 -- ---- what holds
@@ -41,7 +42,7 @@ legal_now : (o : Opening) (before now : List Entry) (d : Drive) → IsLegal o no
 legal_now o before now d legal h = subst (IsLegal o) (h.goes_on ∙ sym (append-nil (closed_in before d))) legal
 
 on_its_own : (o : Opening) (before now : List Entry) (d : Drive) → IsUnderWay o before now d → IsUnderWay o before (closed_in before d) d
-on_its_own o before now d h = record { goes_on = refl; earlier = h.earlier; between = h.between; once = h.once }
+on_its_own o before now d h = record { goes_on = refl; earlier = h.earlier; between = h.between; once = h.once; in_order = h.in_order }
 
 runs_in : (o : Opening) (before : List Entry) (d : Drive) → IsAt o before d → IsRunning o before (closed_in before d) d
 runs_in o before d x =
@@ -100,21 +101,33 @@ opens o before d none earlier = record {
   earlier = earlier;
   between = subst (All (λ e. (is_other e ≡ true) ⊎ IsShortOf o.table.flows (driven o before d) d e)) (sym none) (λ k e lt. absurd (omega arith));
   once = λ port. subst (λ es. times_noted es port ≤ 1) (sym none) (omega arith);
+  in_order = subst (AllPairs IsNotedBefore) (sym none) (λ i j x less lt. absurd (omega arith));
 }
 
 more : (o : Opening) (before now es : List Entry) (d : Drive) → IsUnderWay o before now d → All (λ e. (is_other e ≡ true) ⊎ IsShortOf o.table.flows (driven o before d) d e) es →
-    ((port : ℕ) → times_noted d.between port + times_noted es port ≤ 1) →
+    ((port : ℕ) → times_noted d.between port + times_noted es port ≤ 1) → AllPairs IsNotedBefore (d.between ++ es) →
     IsUnderWay o before (now ++ es) (record d { between = d.between ++ es })
-more o before now es d h all once = record {
+more o before now es d h all once in_order = record {
   goes_on = ap (λ (l : List Entry). l ++ es) h.goes_on ∙ append_assoc (opened_in before d ++ opening d ∷ []) d.between es;
   earlier = h.earlier;
   between = All-append (λ e. (is_other e ≡ true) ⊎ IsShortOf o.table.flows (driven o before d) d e) d.between es h.between all;
   once = λ port. omega (arith, noted_both d.between es port, once port);
+  in_order = in_order;
 }
+
+-- entries of others come behind in any order
+pub others_in_order : (xs es : List Entry) → AllPairs IsNotedBefore xs → All (λ e. is_other e ≡ true) es → AllPairs IsNotedBefore (xs ++ es)
+others_in_order xs [] pairs all = subst (AllPairs IsNotedBefore) (sym (append-nil xs)) pairs
+others_in_order xs (e ∷ es) pairs all =
+    let no_note : (q w : ℕ) → e.command ≡ Short q w → ⊥ = λ q w asks.
+    true≢false (ap is_driving (sym asks) ∙ free e (all 0 e (omega arith))) in
+    subst (AllPairs IsNotedBefore) (append_assoc xs (e ∷ []) es)
+    (others_in_order (xs ++ e ∷ []) es (all_pairs_push IsNotedBefore xs e pairs (λ k x lt p q u w has asks. absurd (no_note q w asks))) (λ k x lt. all (suc k) x (omega arith)))
 
 pub others_more : (o : Opening) (before now es : List Entry) (d : Drive) → IsUnderWay o before now d → All (λ e. is_other e ≡ true) es →
     IsUnderWay o before (now ++ es) (record d { between = d.between ++ es })
-others_more o before now es d h all = more o before now es d h (λ k e lt. inl (all k e lt)) (λ port. omega (arith, h.once port, others_note_none es port all))
+others_more o before now es d h all =
+    more o before now es d h (λ k e lt. inl (all k e lt)) (λ port. omega (arith, h.once port, others_note_none es port all)) (others_in_order d.between es h.in_order all)
 
 -- one note more
 noted_one : (es : List Entry) (e : Entry) (p port n : ℕ) → e.command ≡ Short p n → times_noted es p ≡ 0 → times_noted es port ≤ 1 →
@@ -127,20 +140,44 @@ noted_one es e p port n asks none low =
       | inr other ↦ omega (arith, one, ap {B = ℕ} (λ b. cond b 1 0) (test ∙ ne_eqb p port other), low)
     ]
 
+abbrev port_of : Command → ℕ
+port_of (Short p n) = p
+port_of k = 0
+
+-- a port that an entry notes was noted
+was_noted : (es : List Entry) (k : ℕ) (x : Entry) (p n : ℕ) → k < length es → (get_or es k x).command ≡ Short p n → 1 ≤ times_noted es p
+was_noted es k x p n lt asks =
+    let e = get_or es k x in
+    let hit : notes_port p e.command ≡ true = ap (notes_port p) asks ∙ eq-eqb p p refl in
+    omega (arith, get_or-le-sum_by (λ (x : Entry). cond {A = ℕ} (notes_port p x.command) 1 0) es k x lt, ap {B = ℕ} (λ b. cond b 1 0) hit)
+
+-- a note of a port past those that were noted comes in order
+pub note_in_order : (es : List Entry) (port n : ℕ) (reply : Reply) → AllPairs IsNotedBefore es → NoneNotedFrom es port → AllPairs IsNotedBefore (es ++ entry 0 (Short port n) reply ∷ [])
+note_in_order es port n reply pairs none =
+    all_pairs_push IsNotedBefore es (entry 0 (Short port n) reply) pairs
+    (λ k x lt p q u w has asks.
+    let same : port ≡ q = ap port_of asks in
+    let many = was_noted es k x p u lt has in
+    elim (cases_lt p port) [
+      | inl less ↦ omega (arith, less, same)
+      | inr ge ↦ absurd (omega (arith, many, none p ge))
+    ])
+
 pub note_more : (o : Opening) (before now : List Entry) (d : Drive) (f : ℕ) (reply : Reply) → IsUnderWay o before now d → Contains (driven o before d) f →
-    d.sent (ingress_of o.table.flows f) < d.slots → times_noted d.between (ingress_of o.table.flows f) ≡ 0 →
+    d.sent (ingress_of o.table.flows f) < d.slots → NoneNotedFrom d.between (ingress_of o.table.flows f) →
     IsUnderWay o before (now ++ entry 0 (Short (ingress_of o.table.flows f) (d.sent (ingress_of o.table.flows f))) reply ∷ [])
     (record d { between = d.between ++ entry 0 (Short (ingress_of o.table.flows f) (d.sent (ingress_of o.table.flows f))) reply ∷ [] })
 note_more o before now d f reply h in' lt none =
     let e = entry 0 (Short (ingress_of o.table.flows f) (d.sent (ingress_of o.table.flows f))) reply in
     more o before now (e ∷ []) d h
     (All-push (λ e. (is_other e ≡ true) ⊎ IsShortOf o.table.flows (driven o before d) d e) [] e (λ k x low. absurd (omega arith)) (inr (f, in', refl, refl, lt)))
-    (λ port. noted_one d.between e (ingress_of o.table.flows f) port (d.sent (ingress_of o.table.flows f)) refl none (h.once port))
+    (λ port. noted_one d.between e (ingress_of o.table.flows f) port (d.sent (ingress_of o.table.flows f)) refl (none (ingress_of o.table.flows f) (omega arith)) (h.once port))
+    (note_in_order d.between (ingress_of o.table.flows f) (d.sent (ingress_of o.table.flows f)) reply h.in_order none)
 
 -- what was sent may be told as late as before the first note
 pub sent_told : (o : Opening) (before now : List Entry) (d : Drive) (sent : ℕ → ℕ) → IsUnderWay o before now d → All (λ e. is_other e ≡ true) d.between →
     IsUnderWay o before now (record d { sent = sent })
-sent_told o before now d sent h all = record { goes_on = h.goes_on; earlier = h.earlier; between = λ k e lt. inl (all k e lt); once = h.once }
+sent_told o before now d sent h all = record { goes_on = h.goes_on; earlier = h.earlier; between = λ k e lt. inl (all k e lt); once = h.once; in_order = h.in_order }
 
 pub closes : (o : Opening) (before now : List Entry) (d : Drive) (reply : Reply) → IsUnderWay o before now d →
     ((f : ℕ) → Contains (driven o before d) f → d.sent (ingress_of o.table.flows f) ≤ d.slots) →
@@ -148,7 +185,7 @@ pub closes : (o : Opening) (before now : List Entry) (d : Drive) (reply : Reply)
     IsDriven o before (now ++ entry 0 Close reply ∷ []) (record d { answer = reply })
 closes o before now d reply h within noted = record {
   goes_on = ap (λ (l : List Entry). l ++ entry 0 Close reply ∷ []) h.goes_on;
-  under_way = record { goes_on = refl; earlier = h.earlier; between = h.between; once = h.once };
+  under_way = record { goes_on = refl; earlier = h.earlier; between = h.between; once = h.once; in_order = h.in_order };
   within = within;
   noted = noted;
 }
@@ -199,6 +236,7 @@ note_taken o before now front rest d e legal h is x =
       between = all_front (λ e. (is_other e ≡ true) ⊎ IsShortOf o.table.flows (driven o before d) d e) front (e ∷ rest)
           (subst (All (λ e. (is_other e ≡ true) ⊎ IsShortOf o.table.flows (driven o before d) d e)) is h.between);
       once = λ port. omega (arith, noted_both front (e ∷ rest) port, ap (λ es. times_noted es port) is, h.once port);
+      in_order = pairs_front IsNotedBefore front (e ∷ rest) (subst (AllPairs IsNotedBefore) is h.in_order);
     } in
     note_reply o before (start ++ front) part e.who x.0 (d.sent p) e.reply here so_far x.1 ∙ ap (λ (n : ℕ). Noted n) (least (d.sent p) d.slots x.4)
 

@@ -1,6 +1,6 @@
 -- One run that the driver, caller 0, opens and closes while others go on.
 use Rattle.std.specs.Prelude.{◌≡◌, ℕ, ◌+◌, ◌<◌, ◌≤◌, ◌⊎◌, ◌==◌, ◌&&◌, Bool, true, false, not, nat_lt, if◌then◌else◌}
-use Rattle.std.specs.Prelude.{List, [], ◌∷◌, ◌++◌, All, Contains, count_by, length, map, Option, Some, None}
+use Rattle.std.specs.Prelude.{List, [], ◌∷◌, ◌++◌, All, AllPairs, Contains, count_by, length, map, Option, Some, None}
 use Rattle.std.specs.List.{filter, range_with_len}
 use Rattle.coflow_units.specs.declared.fabric.Flow.{Flow}
 use Rattle.coflow_units.specs.Flows.{ingress_of}
@@ -91,13 +91,22 @@ IsTakenNote flows granted d e =
 abbrev pub times_noted : List Entry → ℕ → ℕ
 times_noted entries port = count_by (λ (e : Entry). notes_port port e.command) entries
 
+-- neither this port is noted nor one after it
+abbrev pub NoneNotedFrom : List Entry → ℕ → Type 0
+NoneNotedFrom entries first = (port : ℕ) → first ≤ port → times_noted entries port ≡ 0
+
+-- the first of the two entries notes a lesser port than the second, where both are notes
+abbrev pub IsNotedBefore : Entry → Entry → Type 0
+IsNotedBefore e f = (p q units more : ℕ) → e.command ≡ Short p units → f.command ≡ Short q more → p < q
+
 -- A run of the driver is under way: after entries of others the journal goes on by an Open that was answered Opened,
--- and then by notes of the driver among entries of others, at most one for each port.
+-- and then by notes of the driver among entries of others, at most one for each port, in the order of the ports.
 pub record IsUnderWay (o : Opening) (before now : List Entry) (d : Drive) : Type 0 where
   pub goes_on : now ≡ closed_in before d
   pub earlier : All (λ e. is_other e ≡ true) d.earlier
   pub between : All (λ e. (is_other e ≡ true) ⊎ IsShortOf o.table.flows (driven o before d) d e) d.between
   pub once : (port : ℕ) → times_noted d.between port ≤ 1
+  pub in_order : AllPairs IsNotedBefore d.between
 
 -- no more units were sent from the port of a granted flow than the run has slots
 abbrev pub IsWithinRun : Opening → List Entry → Drive → Type 0
@@ -111,7 +120,7 @@ IsNotedAsDue o before d =
 
 -- The journal goes on by one run of the driver: it was under way, and then comes a Close and nothing more. From the
 -- port of each granted flow at most a unit was sent for each slot of the run; where it was fewer the port was noted
--- once, and else not at all.
+-- once, and else not at all. The notes come in the order of the ports.
 pub record IsDriven (o : Opening) (before after : List Entry) (d : Drive) : Type 0 where
   pub goes_on : after ≡ closed_in before d ++ closing d ∷ []
   pub under_way : IsUnderWay o before (closed_in before d) d

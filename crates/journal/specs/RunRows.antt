@@ -1,5 +1,5 @@
 -- What the runs of two small flows make, worked out by hand.
-use Rattle.std.specs.Prelude.{◌≡◌, ℕ, ◌==◌, if◌then◌else◌, true, false, List, [], ◌∷◌, ◌++◌, count_by, map}
+use Rattle.std.specs.Prelude.{◌≡◌, ℕ, ◌==◌, if◌then◌else◌, true, false, List, [], ◌∷◌, ◌++◌, AllPairs, count_by, map}
 use Rattle.coflow_units.specs.Rows.{all_ties, two_flows}
 use Rattle.journal.specs.declared.command.Command.{Command}
 use Rattle.journal.specs.declared.command.Command.TheVariants.{Register, Withdraw, Publish, Pull, Open, Short, Close}
@@ -19,7 +19,7 @@ use Rattle.journal.specs.Counts.{closings, endings, furthest_skip, is_noted, ope
 use Rattle.journal.specs.Counts.{is_noting, is_skipping, IsSlotOf, units_sent}
 use Rattle.journal.specs.Ends.{flows_ended, runs_without_end}
 use Rattle.journal.specs.Tally.{credited, tallied_schedule, tallied_wire}
-use Rattle.journal.specs.Driven.{closed_in, closing, Drive, IsDriven, driver_entries, IsSentWhole, notes_due, times_noted}
+use Rattle.journal.specs.Driven.{closed_in, closing, Drive, IsDriven, driver_entries, IsNotedBefore, IsSentWhole, notes_due, times_noted}
 
 -- entries of caller 0
 abbrev pub entries : List (Command × Reply) → List Entry
@@ -170,6 +170,17 @@ CountedNotes =
     × (times_noted one_run.between 0 ≡ 1) × (times_noted one_run.between 1 ≡ 0)
     × (driver_entries after_one_run
     ≡ entries ((Register 0, Joined) ∷ (Open 5, Opened 1 3 1) ∷ (Short 0 1, Noted 1) ∷ (Close, Closed 1) ∷ []))
+
+-- notes of two ports, with an entry of another between them
+abbrev pub two_notes : ℕ → ℕ → List Entry
+two_notes first second =
+    entry 0 (Short first 0) (Noted 0) ∷ entry 3 (Pull 0) (Unranked 0) ∷ entry 0 (Short second 0) (Noted 0) ∷ []
+
+-- they come in order where the first port is the lesser one, and neither the other way nor for one port twice
+abbrev pub NotesInOrder : Type 0
+NotesInOrder =
+    AllPairs IsNotedBefore (two_notes 0 1) × (AllPairs IsNotedBefore (two_notes 1 0) → ⊥)
+    × (AllPairs IsNotedBefore (two_notes 1 1) → ⊥)
 
 -- the first run of two ports: a unit was sent in its one slot from port 0, and none from port 1, which was noted
 abbrev pub first_apart : Drive

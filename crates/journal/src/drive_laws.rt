@@ -17,12 +17,12 @@ ghost use Rattle.journal.specs.Answer.{reply_of};
 ghost use Rattle.journal.specs.Journal.{entry, is_full, IsLegal, line_of};
 ghost use Rattle.journal.specs.Sound.{InRange};
 ghost use Rattle.journal.specs.Closed.{schedule_of};
-ghost use Rattle.journal.specs.Driven.{closing, Drive, driven, driven_slots, GoesOnByRun, is_other, IsDriven, IsNotedAsDue, IsTakenNote, IsRunning, IsSentWhole, IsShortOf, IsUnderWay, IsWithinRun, noting, opened_in, opening, driver_entries, sent_from, times_noted};
+ghost use Rattle.journal.specs.Driven.{closing, Drive, driven, driven_slots, GoesOnByRun, is_other, IsDriven, IsNotedAsDue, IsTakenNote, IsRunning, IsSentWhole, IsShortOf, IsUnderWay, IsWithinRun, NoneNotedFrom, noting, opened_in, opening, driver_entries, sent_from, times_noted};
 ghost use Rattle.journal.specs.Entries.{IsOpenReply};
 ghost use Rattle.journal.specs.Counts.{endings, is_ending};
 
-/// A run is under way from its opening on, through entries of others and notes of the driver. What was sent may be told
-/// before the first note, and a Close makes it a driven run.
+/// A run is under way from its opening on, through entries of others and notes of the driver, each of a port past those
+/// that were noted. What was sent may be told before the first note, and a Close makes it a driven run.
 pub fn runs_go_on_under_way()
     ensures opens { (o : Opening) (before : List Entry) (d : Drive) → d.between ≡ [] →
         All (λ e. is_other e ≡ true) d.earlier → IsUnderWay o before (opened_in before d ++ opening d ∷ []) d }
@@ -33,7 +33,7 @@ pub fn runs_go_on_under_way()
         All (λ e. is_other e ≡ true) d.between → IsUnderWay o before now (record d { sent = sent }) }
     ensures notes { (o : Opening) (before now : List Entry) (d : Drive) (f : ℕ) (reply : Reply) →
         IsUnderWay o before now d → Contains (driven o before d) f → sent_from o.table.flows d f < d.slots →
-        times_noted d.between (ingress_of o.table.flows f) ≡ 0 →
+        NoneNotedFrom d.between (ingress_of o.table.flows f) →
         IsUnderWay o before (now ++ noting o.table.flows d f reply ∷ [])
         (record d { between = d.between ++ noting o.table.flows d f reply ∷ [] }) }
     ensures closes { (o : Opening) (before now : List Entry) (d : Drive) (reply : Reply) → IsUnderWay o before now d →

@@ -21,7 +21,7 @@ ghost use Rattle.journal.specs.Moves.{ClosesRun, NotesRun, OpensRun, SkipsSlots}
 ghost use Rattle.journal.specs.Tally.{IsTally, tallied_schedule, tallied_wire, TalliedRuns};
 ghost use Rattle.journal.specs.Ends.{flows_ended, IsLongAsAsked, runs_without_end};
 ghost use Rattle.journal.specs.Counts.{closings, furthest_skip, is_noted, is_noting, is_skipping, IsSlotOf, IsWhole, opening_of, openings, run_line, slots_together, units_granted, units_sent};
-ghost use Rattle.journal.specs.RunRows.{CountedGrants, CountedKinds, CountedNotes, CountedRuns, DrivenApart, EndedFlows, FurthestSkips, NotedRun, OneRun, OpenRun, ServedOrder, SkippedSlots, SlotsOfARun, TalliedSlots, TwiceOnAWire, TwoPorts, WithdrawalBetween};
+ghost use Rattle.journal.specs.RunRows.{CountedGrants, CountedKinds, CountedNotes, CountedRuns, DrivenApart, EndedFlows, FurthestSkips, NotedRun, NotesInOrder, OneRun, OpenRun, ServedOrder, SkippedSlots, SlotsOfARun, TalliedSlots, TwiceOnAWire, TwoPorts, WithdrawalBetween};
 
 /// What the entries that move a run do: they open one, note units in it, close it, or let slots pass where none is
 /// open.
@@ -190,7 +190,8 @@ pub fn tallies_tell_schedules()
 /// The definitions give the schedules and wires that were worked out by hand: of coflows that are served in a published
 /// order, of a run with a note, of slots that pass, of two runs with a withdrawal between, of a run that is still open,
 /// of two ports, and of driven runs, one of them among entries of others; and a run that is twice on a wire counts twice
-/// there. What is counted in these journals was counted by hand, and so was the schedule of a tally.
+/// there. What is counted in these journals was counted by hand, and so was the schedule of a tally. Of notes of two ports
+/// it was said by hand whether they come in order.
 pub fn run_rows_hold()
     ensures served_order { ServedOrder }
     ensures noted_run { NotedRun }
@@ -204,6 +205,7 @@ pub fn run_rows_hold()
     ensures counted_grants { CountedGrants }
     ensures furthest_skips { FurthestSkips }
     ensures counted_notes { CountedNotes }
+    ensures notes_in_order { NotesInOrder }
     ensures driven_apart { DrivenApart }
     ensures counted_kinds { CountedKinds }
     ensures slots_of_a_run { SlotsOfARun }

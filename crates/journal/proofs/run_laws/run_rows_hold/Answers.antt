@@ -1,5 +1,5 @@
 use Rattle.journal.proofs.RunRowChecks.{counted_grants_are, counted_notes_are, counted_runs_are, furthest_skips_are, noted_run_is, one_run_is, open_run_is, served_order_is}
-use Rattle.journal.proofs.RunRowChecks.{counted_kinds_are, driven_apart_are, ended_flows_are, slots_of_a_run_are, tallied_slots_are}
+use Rattle.journal.proofs.RunRowChecks.{counted_kinds_are, driven_apart_are, ended_flows_are, notes_in_order_are, slots_of_a_run_are, tallied_slots_are}
 use Rattle.journal.proofs.RunRowChecks.{skipped_slots_are, twice_is, two_ports_are, withdrawal_between_is}
 use Rattle.journal.proofs.run_laws.run_rows_hold.Goals as goal
 
@@ -38,6 +38,9 @@ returns-clause-furthest_skips c = furthest_skips_are
 
 pub returns-clause-counted_notes : goal.returns-clause-counted_notes
 returns-clause-counted_notes c = counted_notes_are
+
+pub returns-clause-notes_in_order : goal.returns-clause-notes_in_order
+returns-clause-notes_in_order c = notes_in_order_are
 
 pub returns-clause-driven_apart : goal.returns-clause-driven_apart
 returns-clause-driven_apart c = driven_apart_are
