@@ -1,7 +1,7 @@
 #!/usr/bin/env python3
 """Plays drawn halls of eight callers on threads by the program `hall_runs`, and compares what it prints with a plain master: each entry of the closed journal with the reply of that master,
 each caller's entries with its commands, drawn here once more, and each answer with the entry, or the rank, that it tells. The greatest hall has 100,000 commands. It also looks whether the
-blocks of docs/HALL.md are the text of `small_halls` and of `hall_life_tests`.
+blocks of docs/HALL.md are the text of `test_support` and of `hall_tests`.
 
 Use: checks/plain_hall.py     The last line is 'N passed, M failed'; the exit code is 0 where none failed.
 """
@@ -258,12 +258,12 @@ def fault_of_hall(folder, seed, ports, coflows, count, tally):
 
 
 def fault_of_example():
-    """The first line of a block of docs/HALL.md that is not in the text of `small_halls` or of `hall_life_tests`, or None. Blanks and ends of lines count for nothing."""
+    """The first line of a block of docs/HALL.md that is not in the text of `test_support` or of `hall_tests`, or None. Blanks and ends of lines count for nothing."""
     def text(*parts):
         with open(os.path.join(TOP, *parts), encoding="utf-8") as it:
             return it.read()
 
-    files = [("small_halls", name) for name in ("begun.rt", "closed.rt", "small.rt")] + [("hall_life_tests", "example.rt")]
+    files = [("test_support", name) for name in ("begun.rt", "closed.rt", "small.rt")] + [("hall_tests", "example.rt")]
     sources = ["".join(text("crates", crate, "src", name).split()) for crate, name in files]
     blocks = re.findall(r"^```rust\n(.*?)^```", text("docs", "HALL.md"), re.M | re.S)
     if not blocks:

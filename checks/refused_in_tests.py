@@ -1,11 +1,11 @@
 #!/usr/bin/env python3
-"""Refuses each allocation of each test of the crates in turn. It wants the tests as `rt ci` or `rt test` built them. The gate runs it on `bench_tests`.
+"""Refuses each allocation of each test of the crates in turn. It wants the tests as `rt ci` or `rt test` built them. The gate runs it on `plan_tests:benches`.
 
-Use: checks/refused_in_tests.py [CRATE ...]        The last line is 'N passed, M failed'; the exit code is 0 where none failed.
+Use: checks/refused_in_tests.py [CRATE[:MODULE] ...]        The last line is 'N passed, M failed'; the exit code is 0 where none failed.
 
 Each run in which an allocation was refused must end well, since the library or the test got over the refusal, or tell that there was no memory: an answer that another
 fault tells, or that a test finds wrong, is a failure; where a test makes a table, any error of the making passes. The first 200 allocations of a test are refused one by one, and later ones in growing steps.
-Tests of halls that close have to get over a refusal at least once: such a close is tried again.
+With a module its tests alone are run. Tests of halls that close have to get over a refusal at least once: such a close is tried again.
 """
 import os
 import subprocess
@@ -15,16 +15,22 @@ import tempfile
 sys.dont_write_bytecode = True
 from refused_memory import TOP, make_library, refusing
 
-# crates in which a refusal is got over
-GET_OVER = {"hall_close_tests"}
+# modules of tests in which a refusal is got over
+GET_OVER = {"hall_tests:closes"}
 
 # what a test prints that had no memory; those that make a table stop with `no table` on any error
 NO_MEMORY = (b"NoMemory", b"AllocError", b"AllocFailed", b"no memory", b"OutOfMemory", b"no table")
 
 
 def tests_of(program):
+    """The tests by their modules."""
     listed = subprocess.run([program, "--list"], stdout=subprocess.PIPE, stderr=subprocess.PIPE, check=False).stdout.decode()
-    return [line.split(": test")[0] for line in listed.splitlines() if line.endswith(": test")]
+    found = {}
+    for line in listed.splitlines():
+        if line.endswith(": test"):
+            name = line.split(": test")[0]
+            found.setdefault(name.split("::")[0], []).append(name)
+    return found
 
 
 def series(folder, program, test):
@@ -44,24 +50,31 @@ def series(folder, program, test):
         number += 1 if number < 200 else 1 + number // 20
 
 
+def modules_of(name):
+    """The program of the tests of a crate, or of a module of it, and its tests by their modules. Nothing where none were built."""
+    crate, _, module = name.partition(":")
+    program = os.path.join(TOP, "crates", crate, "out", crate + "_tests")
+    tests = tests_of(program) if os.path.exists(program) else {}
+    return program, {"%s:%s" % (crate, it): tests[it] for it in sorted(tests) if module in ("", it)}
+
+
 def main():
     names = sys.argv[1:] or sorted(os.listdir(os.path.join(TOP, "crates")))
     passed, failed = 0, 0
     with tempfile.TemporaryDirectory() as folder:
         make_library(folder)
         for name in names:
-            program = os.path.join(TOP, "crates", name, "out", name + "_tests")
-            if not os.path.exists(program):
+            program, modules = modules_of(name)
+            if not modules:
                 print("%s: no tests were built" % name, flush=True)
-                continue
-            rows = [series(folder, program, test) for test in tests_of(program)]
-            good, bad, over = [sum(column) for column in zip(*rows)] if rows else (0, 0, 0)
-            print("%s: %d tests, %d runs, %d got over, %d failed" % (name, len(rows), good + bad, over, bad), flush=True)
-            if name in GET_OVER and over == 0:
-                print("FAILED %s: no refusal was got over" % name, flush=True)
-                bad += 1
-            passed += good
-            failed += bad
+            for module, tests in modules.items():
+                good, bad, over = [sum(column) for column in zip(*[series(folder, program, test) for test in tests])]
+                print("%s: %d tests, %d runs, %d got over, %d failed" % (module, len(tests), good + bad, over, bad), flush=True)
+                if module in GET_OVER and over == 0:
+                    print("FAILED %s: no refusal was got over" % module, flush=True)
+                    bad += 1
+                passed += good
+                failed += bad
     print("%d passed, %d failed" % (passed, failed))
     return 1 if failed or passed == 0 else 0
 
