@@ -5,13 +5,13 @@ Use: bench/run.py [--peer 'PROGRAM WORD ..'] [SHAPE ..]
      bench/run.py picture      draws windows of 1000 slots of a large plan alone; the exit code is 1 where one takes more than its bound
      bench/run.py compare      times a comparison alone, beside the serving of one order
      bench/run.py [--peer 'PROGRAM WORD ..'] online      times online runs alone, and the check of one
-     bench/run.py [--peer 'PROGRAM WORD ..'] hall        times plans by a hall alone, beside the same plans without one; the exit code is 1 where one takes more than its bound
+     bench/run.py [--peer 'PROGRAM WORD ..'] hall        times plans by a hall alone, by one agent and by four, beside `classes`, which serves its order without a hall
 
 First, on each shape of load, the commands `plan` and `check`, output to /dev/null: seconds of the processor, the least of three runs, and the peak of memory. `--peer` names another program
 with the same commands, words behind it included; it runs in turn with ours, and the ratios to it are printed beside. Shapes on the command line are the only ones that run.
 At the end the figures stand as one table in Markdown, with the date, the machine and how busy it was, and beside it how `plan` grows with the units and with the coflows.
-Then, with no shape named, the limits of the text and of the table, the benchmarks of parts of the program, one run each, plans by a hall beside plans without one, the windows of a large plan, and `compare` beside the
-serving of one order, which `perf` tells apart where it is there.
+Then, with no shape named, the limits of the text and of the table, one run each, `compare` beside the serving of one order, which `perf` tells apart where it is there, online runs, plans by a hall beside `classes`, and
+the windows of a large plan.
 """
 import datetime
 import os
@@ -31,10 +31,6 @@ import traces  # noqa: E402
 TOP = os.path.dirname(os.path.dirname(os.path.abspath(__file__)))
 PROGRAM = os.path.join(TOP, "crates", "sincronia", "out", "sincronia")
 PICTURE = os.path.join(TOP, "crates", "sincronia_picture", "out", "sincronia_picture")
-ORDER = os.path.join(TOP, "crates", "order_bench", "out", "order_bench")
-MASTER = os.path.join(TOP, "crates", "master_bench", "out", "master_bench")
-PLAN = os.path.join(TOP, "crates", "plan_bench", "out", "plan_bench")
-THREADS = os.path.join(TOP, "crates", "thread_bench", "out", "thread_bench")
 
 RUNS = 3
 
@@ -70,12 +66,6 @@ LIMITS = [
     ("plan, 64 MB of lines on one location", traces.one_location, [], 10),
     ("plan, 64 MB of lines on 48 locations a side", traces.many_locations, [], 10),
     ("plan, the shape of the public trace, --unit 16", traces.hour, ["--unit", "16"], 10),
-]
-
-# name, program, words, seconds that the run is to take at most; `t` has the shape of the public trace
-PARTS = [
-    ("loads and order, 4096 coflows over 1024 ports", ORDER, ["4096", "1024", "1"], 2),
-    ("master, the shape of the public trace, unit 16", MASTER, ["t", "16"], 15),
 ]
 
 # windows of the plan of the trace of the shape of the public one, units of 1 MB: words behind `t r`
@@ -165,7 +155,7 @@ def table(rows):
             print("%s: `plan` takes %.2f times as long" % (grown, rows[greater][0][0] / rows[lesser][0][0]))
 
 
-def part(name, command, bound, folder):
+def limit(name, command, bound, folder):
     seconds, memory, code = measured(command, folder)
     line = "%-55s %8.2f s  %5d MiB  code %d" % (name, seconds, memory, code)
     if bound is not None:
@@ -173,18 +163,16 @@ def part(name, command, bound, folder):
     print(line, flush=True)
 
 
-def limits_and_parts(folder):
+def limits(folder):
     for name, make, options, bound in LIMITS:
         put(folder, "t", make)
-        part(name, [PROGRAM, "plan", "t", *options], bound, folder)
+        limit(name, [PROGRAM, "plan", "t", *options], bound, folder)
     put(folder, "t", traces.hour)
-    for name, program, words, bound in PARTS:
-        part(name, [program, *words], bound, folder)
     planned(folder, ["--unit", "16"])
-    part("check, the shape of the public trace, --unit 16", [PROGRAM, "check", "t", "r", "--unit", "16"], 5, folder)
+    limit("check, the shape of the public trace, --unit 16", [PROGRAM, "check", "t", "r", "--unit", "16"], 5, folder)
     put(folder, "t", lambda: traces.many_runs()[0])
     put(folder, "r", lambda: traces.many_runs()[1])
-    part("check, a report of 2^20 runs", [PROGRAM, "check", "t", "r"], 5, folder)
+    limit("check, a report of 2^20 runs", [PROGRAM, "check", "t", "r"], 5, folder)
 
 
 def windows(folder):
@@ -230,24 +218,17 @@ def comparison(folder):
     print(line, flush=True)
 
 
-# shapes of which the plan by a hall is timed beside that without one, and how many times its time one agent is to take at most
+# shapes of which the plan by a hall is timed
 HALLS = ["fb-16", "fb"]
-HALL_BOUND = 2
-
-
-def printed(command, folder):
-    return subprocess.run(command, cwd=folder, stdout=subprocess.PIPE, stderr=subprocess.DEVNULL, check=False).stdout
 
 
 def halls(peer, folder):
-    """Times `plan`, which a hall serves, by one agent and by four, in turn with `plan_bench`, which serves the same order without a hall. Answers how many traces have another text so, or take one
-    agent more than the bound."""
-    over = 0
+    """Times `plan`, which a hall serves, by one agent and by four, in turn with `classes`, which serves the order of its classes without a hall, sends nothing, and prints its runs too."""
     for name in HALLS:
         make, options = SHAPES[name]
         put(folder, "t", make)
         plan = [PROGRAM, "plan", "t", *options, "--agents"]
-        commands = {"one agent": [*plan, "1"], "four agents": [*plan, "4"], "no hall": [PLAN, "t", options[-1]]}
+        commands = {"one agent": [*plan, "1"], "four agents": [*plan, "4"], "classes": [PROGRAM, "classes", "t", *options]}
         if peer:
             commands["peer"] = [*peer, "plan", "t", *options]
         least = {}
@@ -255,17 +236,9 @@ def halls(peer, folder):
             for who, command in commands.items():
                 found = measured(command, folder)
                 least[who] = min(least.get(who, found), found)
-        base = least["no hall"][0]
+        base = least["classes"][0]
         for who, (seconds, memory, code) in least.items():
-            print("  %-6s %-12s %8.3f s  %5d MiB  code %d   %.2f times that without a hall" % (name, who, seconds, memory, code, seconds / base), flush=True)
-        text = printed(commands["one agent"], folder)
-        is_same = text == printed(commands["no hall"], folder)
-        runs = text.count(b"\nrun ")
-        started, _, _ = min(measured([THREADS, str(runs)], folder) for _ in range(RUNS))
-        print("  %-6s to start three threads and join them %d times, as four agents do, takes %.3f s, %.2f of what four agents take" % (name, runs, started, started / least["four agents"][0]), flush=True)
-        print("  %-6s the texts %s; one agent is to take at most %d times that without a hall" % (name, "are equal" if is_same else "DIFFER", HALL_BOUND), flush=True)
-        over += not is_same or least["one agent"][0] > HALL_BOUND * base
-    return over
+            print("  %-6s %-12s %8.3f s  %5d MiB  code %d   %.2f times `classes`" % (name, who, seconds, memory, code, seconds / base), flush=True)
 
 
 # what is said behind `online t --unit 16`, and how many times the peer's time it is to take at most
@@ -323,22 +296,16 @@ def main():
         if not alone:
             shapes(words or SHAPES, peer, folder)
         if not words:
-            build(ORDER)
-            build(MASTER)
-            limits_and_parts(folder)
+            limits(folder)
         if alone == "compare" or not words:
             comparison(folder)
         if alone == "online" or not words:
             online(peer, folder)
-        over = 0
         if alone == "hall" or not words:
-            build(PLAN)
-            build(THREADS)
-            over += halls(peer, folder)
+            halls(peer, folder)
         if alone == "picture" or not words:
             build(PICTURE)
-            over += windows(folder)
-        sys.exit(1 if over else 0)
+            sys.exit(1 if windows(folder) else 0)
 
 
 if __name__ == "__main__":
