@@ -3,7 +3,7 @@ use Rattle.std.proofs.Common.{◌≡◌, ℕ, inl, inr, List, Option, refl, subs
 use Rattle.std.specs.Prelude.{◌⊎◌}
 use Rattle.live_runs.specs.Read.{IsRead}
 use Rattle.live_serving.specs.declared.answer.LiveFault.{LiveFault}
-use Rattle.live_runs.specs.LiveFaults as live_fault
+use Rattle.live_serving.specs.declared.answer.LiveFault.TheVariants as live_fault
 use Rattle.outside.specs.Shelf.{Told}
 use Rattle.workload.specs.declared.script.Script.{Script}
 use Rattle.command_files.specs.declared.status.Status.{Status}

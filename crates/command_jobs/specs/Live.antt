@@ -4,7 +4,7 @@ use Rattle.command_words.specs.Jobs.{script_name, trace_name}
 use Rattle.command_words.specs.Words.{Said}
 use Rattle.flow_table.specs.Table.{TableFacts}
 use Rattle.live_serving.specs.declared.answer.LiveFault.{LiveFault}
-use Rattle.live_runs.specs.LiveFaults as live_fault
+use Rattle.live_serving.specs.declared.answer.LiveFault.TheVariants as live_fault
 use Rattle.outside.specs.Shelf.{Told}
 use Rattle.workload.specs.declared.script.Script.{Script}
 use Rattle.live_runs.specs.Told.{TellsLive, served_in}
