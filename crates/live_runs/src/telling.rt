@@ -6,13 +6,13 @@ ghost use Rattle.live_serving.specs.declared.answer.LiveFault.TheVariants.{WireF
 ghost use Rattle.live_runs.specs.Read.{IsRead};
 ghost use Rattle.live_runs.specs.Told.{FailsAt, SendsAll, SendsSoFar, TellsLive, served_in};
 
-use crate::LiveFault;
 use crate::laws::scripts_may_be_asked;
 use crate::limit::limit_of_read;
 use crate::running::run_live;
 use coflow_units::Items;
 use flow_table::Table;
 use live_rounds::Gate;
+use live_serving::LiveFault;
 use live_text::write_live;
 use outside::Wire;
 use std::alloc::Global;
