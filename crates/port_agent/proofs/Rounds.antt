@@ -1,16 +1,17 @@
 -- The round over the ports, so far.
 use Rattle.std.proofs.Common.{◌≡◌, ℕ, ◌+◌, ◌*◌, ◌<◌, ◌≤◌, List, [], ◌∷◌, ◌++◌, length, get_or, set, sym, refl, ap, ◌∙◌, subst, arith, Option, Some, None, Bool, true, false}
 use Rattle.std.proofs.Common.{length-set, length-append, get_or-set_other, get_or-set_same}
-use Rattle.std.specs.Prelude.{nat_lt, if◌then◌else◌}
+use Rattle.std.specs.Prelude.{nat_lt, if◌then◌else◌, flat_map}
 use Rattle.std.proofs.lemmas.List.{append-nil, append_assoc, get_or_append_left, get_or_push}
 use Rattle.std.proofs.lemmas.List.Sums.{sum_by_push}
+use Rattle.std.proofs.lemmas.List.Concat.{flat_map-append}
 use mathlib.Core.Logic.{dite}
 use native.Mathlib.Decide.{ℕ_discrete}
 use Rattle.port_board.specs.declared.view.Report.{Report}
 use Rattle.port_board.specs.declared.view.View.{View}
 use Rattle.port_board.specs.Views.{last_at, IsNewest, LastIsListed}
 use Rattle.port_agent.specs.declared.agent.Served.{Served}
-use Rattle.port_agent.specs.Served.{GoesOn, SentOn, Attends, ServesPort, Attended, taken, units_of, shorts_of, adds}
+use Rattle.port_agent.specs.Served.{Look, IsTry, TriedOnce, TriedEachOnce, GoesOn, SentOn, Attends, ServesPort, IsRound, taken, units_of, shorts_of, adds}
 
 taken_append : (xs ys : List (Option Report)) → taken (xs ++ ys) ≡ taken xs ++ taken ys
 taken_append [] ys = refl
@@ -19,6 +20,36 @@ taken_append (Some r ∷ xs) ys = ap (λ l. r ∷ l) (taken_append xs ys)
 
 still_listed : (v w : View) (more : List Report) (port : ℕ) → GoesOn v w more → LastIsListed port v → LastIsListed port w
 still_listed v w more port goes h g e = goes.listed port g.slot (h g (subst (λ l. last_at port l ≡ Some g) goes.shown e))
+
+no_tries : (ports first : ℕ) (v : View) → TriedEachOnce ports first [] v v
+no_tries ports first v = record {
+  tries = [];
+  as_many = refl;
+  each = λ i lt. absurd (omega arith);
+  looks = sym (append-nil v.looks);
+}
+
+-- one try more
+try_more : (ports first i : ℕ) (took : List (Option Report)) (o : Option Report) (v w u : View) → length took ≡ i → TriedEachOnce ports first took v w →
+    TriedOnce ports (first + i) w u o → TriedEachOnce ports first (took ++ o ∷ []) v u
+try_more ports first i took o v w u long so one =
+    let join : List Look → List Look = λ looks. looks in
+    let here : List Look = one.0 in
+    let many = so.as_many in
+    let longs = length-append so.tries (here ∷ []) in
+    let longs' = length-append took (o ∷ []) in
+    let all : flat_map join (so.tries ++ here ∷ []) ≡ flat_map join so.tries ++ here = flat_map-append join so.tries (here ∷ []) ∙ ap (λ l. flat_map join so.tries ++ l) (append-nil here) in
+    record {
+      tries = so.tries ++ here ∷ [];
+      as_many = omega arith;
+      each = λ j lt. dite (ℕ_discrete j i)
+          (λ is. subst (λ (z : ℕ × Option Report × List Look). IsTry ports (first + z.0) z.1 z.2)
+          (λ t. (sym is t, sym (get_or_push took o None j (long ∙ sym is)) t, sym (get_or_push so.tries here [] j (many ∙ (long ∙ sym is))) t)) one.1)
+          (λ far. let before : j < length took = omega (arith, far, lt) in subst (λ (z : Option Report × List Look). IsTry ports (first + j) z.0 z.1)
+          (λ t. (sym (get_or_append_left took (o ∷ []) None j before) t, sym (get_or_append_left so.tries (here ∷ []) [] j (omega (arith, before, many))) t))
+          (so.each j before));
+      looks = one.2 ∙ (ap (λ l. l ++ here) so.looks ∙ (append_assoc v.looks (flat_map join so.tries) here ∙ ap (λ l. v.looks ++ l) (sym all)));
+    }
 
 -- what the view shows of the reports that were taken
 pub record IsSeen (v w : View) (took : List (Option Report)) : Type 0 where
@@ -37,7 +68,7 @@ pub record IsCounted (i : ℕ) (took : List (Option Report)) (s : Served) : Type
 
 module _ {W : Type 0} (faults : W → ℕ) (runs : W → Option (List (ℕ × ℕ × ℕ))) where
   -- after the first i ports
-  pub record SoFar (first i : ℕ) (v w : View) (old now : List W) (s : Served) : Type 0 where
+  pub record SoFar (ports first i : ℕ) (v w : View) (old now : List W) (s : Served) : Type 0 where
     pub took : List (Option Report)
     pub as_many : length took ≡ i
     pub wires : length now ≡ length old
@@ -45,9 +76,10 @@ module _ {W : Type 0} (faults : W → ℕ) (runs : W → Option (List (ℕ × �
     pub rest : (j : ℕ) (d : W) → i ≤ j → get_or now j d ≡ get_or old j d
     pub seen : IsSeen v w took
     pub counted : IsCounted i took s
+    pub tries : TriedEachOnce ports first took v w
 
-  pub begins : (first : ℕ) (v : View) (old : List W) (s : Served) → s.drawn ≡ 0 → s.sent ≡ 0 → s.short ≡ 0 → SoFar first 0 v v old old s
-  begins first v old s a b c = record {
+  pub begins : (ports first : ℕ) (v : View) (old : List W) (s : Served) → s.drawn ≡ 0 → s.sent ≡ 0 → s.short ≡ 0 → SoFar ports first 0 v v old old s
+  begins ports first v old s a b c = record {
     took = [];
     as_many = refl;
     wires = refl;
@@ -66,26 +98,27 @@ module _ {W : Type 0} (faults : W → ℕ) (runs : W → Option (List (ℕ × �
       few_short = omega arith;
       small = omega arith;
     };
+    tries = no_tries ports first v;
   }
 
-  pub ends : (first i : ℕ) (v w : View) (old now : List W) (s : Served) → i ≡ length old → SoFar first i v w old now s
-      → (took : List (Option Report)) × Attended faults runs w first old now took × (w.done ≡ v.done ++ taken took) × (s.drawn ≡ length (taken took)) ×
-      (s.sent ≡ units_of (taken took)) × (s.short ≡ shorts_of (taken took))
-  ends first i v w old now s all so = (
-    so.took,
-    record { as_many = so.as_many ∙ all; wires = so.wires; each = λ j d e lt. so.each j d e (omega arith) },
-    so.seen.done,
-    so.counted.drawn,
-    so.counted.sent,
-    so.counted.short,
-  )
+  pub ends : (ports first i : ℕ) (v w : View) (old now : List W) (s : Served) → i ≡ length old → SoFar ports first i v w old now s
+      → IsRound faults runs ports first v w old now s
+  ends ports first i v w old now s all so = record {
+    took = so.took;
+    attended = record { as_many = so.as_many ∙ all; wires = so.wires; each = λ j d e lt. so.each j d e (omega arith) };
+    tries = so.tries;
+    done = so.seen.done;
+    drawn = so.counted.drawn;
+    sent = so.counted.sent;
+    short = so.counted.short;
+  }
 
   -- what was attended stays so where the lists grow
   attends_on : (v w : View) (more : List Report) (port : ℕ) (x y : W) (o : Option Report) → GoesOn v w more → Attends faults runs v port x y o → Attends faults runs w port x y o
   attends_on v w more port x y None goes h = (h.0, still_listed v w more port goes h.1)
   attends_on v w more port x y (Some r) goes h = (h.0, h.1, subst (IsNewest r.grant) (sym goes.shown) h.2)
 
-  module _ (first i : ℕ) (v w u : View) (old now : List W) (y : W) (inside : i < length old) where
+  module _ (ports first i : ℕ) (v w u : View) (old now : List W) (y : W) (inside : i < length old) where
     -- one more port
     each_more : (took : List (Option Report)) (more : List Report) (o : Option Report) → length took ≡ i → length now ≡ length old →
         ((j : ℕ) (d e : W) → j < i → Attends faults runs w (first + j) (get_or old j d) (get_or now j e) (get_or took j None))
@@ -103,8 +136,8 @@ module _ {W : Type 0} (faults : W → ℕ) (runs : W → Option (List (ℕ × �
     rest_more rest j d le = get_or-set_other now i j y d (λ e. absurd (omega arith)) ∙ rest j d (omega arith)
 
     -- nothing was drawn at the port
-    pub goes_idle : (s : Served) (x : W) → SoFar first i v w old now s → ((d : W) → x ≡ get_or now i d) → ServesPort faults runs (first + i) w u x y None →
-        SoFar first (i + 1) v u old (set now i y) s
+    pub goes_idle : (s : Served) (x : W) → SoFar ports first i v w old now s → ((d : W) → x ≡ get_or now i d) → ServesPort faults runs ports (first + i) w u x y None →
+        SoFar ports first (i + 1) v u old (set now i y) s
     goes_idle s x so at h =
         let long = length-append so.took (None ∷ []) in
         let many = so.as_many in
@@ -130,12 +163,13 @@ module _ {W : Type 0} (faults : W → ℕ) (runs : W → Option (List (ℕ × �
             few_short = omega arith;
             small = omega arith;
           };
+          tries = try_more ports first i so.took None v w u so.as_many so.tries h.3;
         }
 
     -- a grant was drawn at the port
-    pub goes_took : (s s' : Served) (x : W) (length_is sent_is : ℕ) → SoFar first i v w old now s → ((d : W) → x ≡ get_or now i d) →
-        ServesPort faults runs (first + i) w u x y (Some (length_is, sent_is)) → adds length_is sent_is s s'
-        → SoFar first (i + 1) v u old (set now i y) s'
+    pub goes_took : (s s' : Served) (x : W) (length_is sent_is : ℕ) → SoFar ports first i v w old now s → ((d : W) → x ≡ get_or now i d) →
+        ServesPort faults runs ports (first + i) w u x y (Some (length_is, sent_is)) → adds length_is sent_is s s'
+        → SoFar ports first (i + 1) v u old (set now i y) s'
     goes_took s s' x length_is sent_is so at h add =
         let r : Report = h.0 in
         let on = h.5 in
@@ -172,6 +206,7 @@ module _ {W : Type 0} (faults : W → ℕ) (runs : W → Option (List (ℕ × �
             few_short = omega arith;
             small = omega arith;
           };
+          tries = try_more ports first i so.took (Some r) v w u so.as_many so.tries h.8;
         }
       where
         small_if : (b : Bool) → (if b then 1 else 0) ≤ 1

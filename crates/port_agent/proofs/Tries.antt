@@ -1,8 +1,8 @@
 -- What one try at a port leaves of the lists of a seat.
-use Rattle.std.proofs.Common.{◌≡◌, ℕ, eqb, List, [], ◌∷◌, ◌++◌, length, get_or, sym, refl, ap, ◌∙◌, subst, arith, Option, Some, None, Bool, true, false, filter, not, ◌||◌, ◌&&◌}
+use Rattle.std.proofs.Common.{◌≡◌, ◌≢◌, inl, inr, ℕ, ◌+◌, eqb, List, [], ◌∷◌, ◌++◌, length, get_or, sym, refl, ap, ◌∙◌, subst, arith, Option, Some, None, Bool, true, false, filter, not, ◌||◌, ◌&&◌}
 use Rattle.std.specs.Prelude.{All, AllPairs}
 use Rattle.std.specs.List.{list_any}
-use Rattle.std.proofs.lemmas.List.{append-nil, get_or_append_left, get_or_push, length_push}
+use Rattle.std.proofs.lemmas.List.{append-nil, append_assoc, get_or_append_left, get_or_push, length_push}
 use Rattle.std.proofs.lemmas.List.Elements.{All-head, All-tail, filter-append}
 use Rattle.std.proofs.lemmas.List.Folds.{list_any-append}
 use Rattle.std.proofs.lemmas.Bool.{cond-true, cond-false, cond_both}
@@ -10,10 +10,12 @@ use Rattle.port_board.specs.declared.view.Grant.{Grant}
 use Rattle.port_board.specs.declared.view.Report.{Report}
 use Rattle.port_board.specs.declared.view.Step.{Step}
 use Rattle.port_board.specs.declared.view.View.{View}
-use Rattle.port_board.specs.Views.{is_of, last_at, is_listed, missed_if, missed_after, report, reported_as, drew}
+use Rattle.coflow_units.specs.PortWord.{shows_granted, word_of}
+use Rattle.coflow_units.specs.PortWord.PortStage.{granted}
+use Rattle.port_board.specs.Views.{found_idle, found_other, is_of, last_at, is_listed, missed_if, missed_after, report, reported_as, drew}
 use Rattle.port_board.specs.Rule.{DifferAt, HoldsOnce}
 use Rattle.port_board.proofs.Lists.{is_of-same, is_of-false}
-use Rattle.port_agent.specs.Served.{GoesOn}
+use Rattle.port_agent.specs.Served.{Look, GoesOn, TriedOnce}
 
 or_more : (a b c b' c' : Bool) → (b ≡ true → b' ≡ true) → (c ≡ true → c' ≡ true) → (a || (b || c)) ≡ true → (a || (b' || c')) ≡ true
 or_more true b c b' c' f g e = refl
@@ -79,3 +81,27 @@ goes_drawn v v1 w ports word sent g e once r =
       done = refl;
       listed = more_listed v (reported_as g sent (drew ports word g v)) (report g sent ∷ []) [] out refl (sym (append-nil v.missed));
     }
+
+-- the looks of a try are those that its outcome tells
+pub tried_idle : (ports port word : ℕ) (v w : View) → shows_granted word ≡ false → w ≡ found_idle port word v → TriedOnce ports port v w None
+tried_idle ports port word v w not_granted e = ((port, word) ∷ [], inl (word, not_granted, refl), ap (λ (z : View). z.looks) e)
+
+pub tried_other : (ports port loaded found : ℕ) (v w : View) → shows_granted loaded ≡ true → found ≢ loaded → w ≡ found_other port loaded found v → TriedOnce ports port v w None
+tried_other ports port loaded found v w is_granted other e = (
+  (port, loaded) ∷ (port, found) ∷ [],
+  inr (loaded, found, is_granted, other, refl),
+  ap (λ (z : View). z.looks) e ∙ append_assoc v.looks ((port, loaded) ∷ []) ((port, found) ∷ []),
+)
+
+pub tried_grant : (ports port sent : ℕ) (g : Grant) (v v1 w : View) → g.port ≡ port → v1 ≡ drew ports (word_of granted g.slot g.flow) g v → w ≡ reported_as g sent v1 →
+    TriedOnce ports port v w (Some (report g sent))
+tried_grant ports port sent g v v1 w at e r =
+    let word = word_of granted g.slot g.flow in
+    let l : Look = (g.port, word) in
+    let n : Look = (ports + g.port, g.length) in (
+      (port, word) ∷ (port, word) ∷ (ports + port, g.length) ∷ [],
+      (word, refl, refl),
+      ap (λ (z : View). z.looks) r ∙ (ap (λ (z : View). z.looks) e ∙
+          (ap (λ k. k ++ n ∷ []) (append_assoc v.looks (l ∷ []) (l ∷ [])) ∙ (append_assoc v.looks (l ∷ l ∷ []) (n ∷ []) ∙
+          (λ i. v.looks ++ (at i, word) ∷ (at i, word) ∷ (ports + at i, g.length) ∷ [])))),
+    )

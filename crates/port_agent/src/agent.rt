@@ -1,7 +1,6 @@
 //! An agent and its round over the ports.
-ghost use Rattle.std.specs.Prelude.{◌≡◌, ℕ, ◌+◌, ◌<◌, ◌≤◌, List, [], ◌++◌, length, ◌-◌, ◌^◌, Option};
-ghost use Rattle.port_board.specs.declared.view.Report.{Report};
-ghost use Rattle.port_agent.specs.Served.{Attended, ServesPort, taken, units_of, shorts_of, adds};
+ghost use Rattle.std.specs.Prelude.{◌≡◌, ◌+◌, ◌<◌, ◌≤◌, length, ◌-◌, ◌^◌};
+ghost use Rattle.port_agent.specs.Served.{IsRound, ServesPort, adds};
 
 use outside::Wire;
 use port_board::{AgentSeat, Draw, PortBoard};
@@ -62,7 +61,7 @@ impl Agent {
         seat
     }
 
-    /// Draws at most once at each port from `first` on, one for each wire. What it draws it sends on the wire of the port, and reports how much the wire accepted.
+    /// Tries once to draw at each port from `first` on, one for each wire. What it draws it sends on the wire of the port, and reports how much the wire accepted.
     ///
     /// The seat is of this board, which has at least `first` ports and one more for each wire.
     pub fn serve<W: Wire>(&mut self, board: &PortBoard, first: u32, wires: &mut [W]) -> Served
@@ -71,10 +70,8 @@ impl Agent {
         ensures own { self.new.at ≡ self.old.at }
         ensures out { self.new.view.out ≡ self.old.view.out }
         ensures shown { self.new.view.shown ≡ self.old.view.shown }
-        ensures ports { (took : List (Option Report)) ×
-            Attended W.faults W.runs self.new.view first wires.old wires.new took ×
-            (self.new.view.done ≡ self.old.view.done ++ taken took) × (result.drawn ≡ length (taken took)) ×
-            (result.sent ≡ units_of (taken took)) × (result.short ≡ shorts_of (taken took)) }
+        ensures round { IsRound W.faults W.runs board.now.ports first self.old.view self.new.view wires.old wires.new
+            result }
     {
         let _few = board.ports();
         let mut served = Served {
@@ -102,7 +99,8 @@ impl Agent {
         requires own { self.old.at ≡ board.now.id }
         requires port { port < board.now.ports }
         ensures own { self.new.at ≡ self.old.at }
-        ensures port { ServesPort W.faults W.runs port self.old.view self.new.view wire.old wire.new result }
+        ensures port { ServesPort W.faults W.runs board.now.ports port self.old.view self.new.view wire.old wire.new
+            result }
     {
         match board.draw(&mut self.seat, port) {
             Draw::Drawn(drawn) => {

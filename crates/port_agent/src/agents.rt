@@ -29,6 +29,7 @@ pub fn serve_run<R: Threads + Sync, W: Wire + Send>(
     requires some { 1 ≤ agents }
     requires ports { length wires.old ≤ board.now.ports }
     ensures own { poster.new.at ≡ poster.old.at }
+    ensures many { poster.new.view.made ≡ poster.old.view.made + agents }
     ensures served { IsServedBy W.faults W.runs poster.old.view poster.new.view wires.old wires.new }
 {
     let mut seats = seats;

@@ -33,7 +33,7 @@ returns-clause-served g c =
     let new = c.serve_all.new.agents in
     let kept : map kept_of new ≡ map kept_of old = c.serve_all.ensures.seats ∙ ap (λ (l : List Sits). map kept_of l) c.deref_mut.ensures.value in
     let many : length new ≡ c.make_agents.new.seats.len = same_many old new kept ∙ sym c.make_agents.new.seats.ok.0 in
-    served_by g.W.Wire.faults g.W.Wire.runs c.args.board.now.id c.args.poster.now.view c.make_agents.new.poster.view c.take_back.new.poster.view c.args.agents old new
+    served_by g.W.Wire.faults g.W.Wire.runs c.args.board.now.id c.args.poster.now.view c.make_agents.new.poster.view c.take_back.new.poster.view _ old new
     c.args.wires.now
     c.serve_all.new.wires c.requires.none_out c.make_agents.ensures.poster c.make_agents.ensures.many c.make_agents.ensures.fresh kept c.serve_all.ensures.served
     (subst (AreBack c.make_agents.new.poster.view c.take_back.new.poster.view) (written_back c.make_agents.new.seats.len new old many) c.take_back.ensures.back)
