@@ -71,7 +71,7 @@ costs_above t weights bench c is least =
     (λ k round order s low high score. cost_above (instance_of t weights) c.bound order s least score) is.rows_are))
 
 -- those that are gone were asked
-pub left_asked : {X F : Type 0} (A : X → F → Type 0) (Q : F → Type 0) (f : F) (xs new : List X) → Q f →
+pub left_asked : {X F : Type 0} (A : X → F → Type 0) (P Q : F → Type 0) (f : F) (xs new : List X) → P f → Q f →
     ((reached : ℕ) × (new ≡ drop reached xs) × All (λ b. A b f) (take reached xs)) →
-    (reached : ℕ) × (new ≡ drop reached xs) × All (λ b. (facts : F) × Q facts × A b facts) (take reached xs)
-left_asked A Q f xs new is (reached, rest, all) = (reached, rest, λ k d lt. (f, is, all k d lt))
+    (reached : ℕ) × (new ≡ drop reached xs) × All (λ b. (facts : F) × P facts × Q facts × A b facts) (take reached xs)
+left_asked A P Q f xs new fit is (reached, rest, all) = (reached, rest, λ k d lt. (f, fit, is, all k d lt))

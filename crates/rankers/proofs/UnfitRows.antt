@@ -1,7 +1,7 @@
 -- Unfit answers, worked out by hand.
 use Rattle.std.proofs.Common.{◌≡◌, inl, inr, [], ◌∷◌, subst, arith}
 use Rattle.coflow_units.proofs.Sums.{in_first, nothing_in}
-use Rattle.rankers.specs.ScoreRows.{UnfitRows}
+use Rattle.rankers.specs.Rows.{UnfitRows}
 use Rattle.rankers.specs.Scores.{IsNew}
 
 zero_is_new : IsNew 2 (0 ∷ 0 ∷ []) 0

@@ -6,6 +6,5 @@ pub mod Kinds
 pub mod Meaning
 pub mod Rounds
 pub mod Rows
-pub mod ScoreRows
 pub mod Scores
 pub mod Served

@@ -1,9 +1,10 @@
--- Orders by keys, and what rankers answer, worked out by hand.
+-- Orders by keys, what rankers answer, and answers that are no order, worked out by hand.
 use Rattle.std.specs.Prelude.{◌≡◌, ◌==◌, if◌then◌else◌, [], ◌∷◌}
 use Rattle.rankers.specs.FactsTold.{FactsTold}
 use Rattle.rankers.specs.ByKey.{by_key, key_in}
 use Rattle.rankers.specs.Kinds.{attained, bssi, fifo, sebf}
 use Rattle.rankers.specs.Meaning.{Meaning, after_notes, after_question, answer_of}
+use Rattle.rankers.specs.Scores.{IsFirstUnfit}
 
 -- equal keys come by number, and a number past the end of the keys has the key 0
 pub record ByKeys : Type 0 where
@@ -36,3 +37,8 @@ pub record Answers : Type 0 where
   pub attained_told : answer_of (told (attained (0 ∷ 0 ∷ 0 ∷ []))) three ≡ 1 ∷ 2 ∷ 0 ∷ []
   pub room_for_one : answer_of (told (attained (0 ∷ []))) three ≡ 1 ∷ 2 ∷ 0 ∷ []
   pub no_room : answer_of (told (attained [])) three ≡ 0 ∷ 1 ∷ 2 ∷ []
+
+-- a number that stood earlier, and one that is no coflow's
+pub record UnfitRows : Type 0 where
+  pub repeated : IsFirstUnfit 2 (0 ∷ 0 ∷ []) 2
+  pub unknown : IsFirstUnfit 2 (2 ∷ 2 ∷ []) 1

@@ -2,7 +2,7 @@
 ghost use Rattle.std.specs.Prelude.{◌≡◌, ◌<◌, ◌≤◌, ◌^◌, ℕ, [], All, IfOk, OnOk, drop, length, map, take};
 ghost use Rattle.coflow_units.specs.declared.limits.TheConstants.{MAX_WEIGHT};
 ghost use Rattle.flow_table.specs.Table.{instance_of};
-ghost use Rattle.rankers.specs.FactsTold.{FactsTold, IsFactsOf};
+ghost use Rattle.rankers.specs.FactsTold.{FactsTold, IsFacts, IsFactsOf};
 ghost use Rattle.rankers.specs.declared.row.Row.{Row};
 ghost use Rattle.report.specs.declared.compared.Compare.{Compare};
 ghost use Rattle.report.specs.declared.compared.RowLine.{RowLine};
@@ -37,7 +37,7 @@ pub fn comparison_text(
         IsComparison table.now weights.now (map (λ b. meaning b) bench.old.items) c × (text.items ≡ compare_text c)) }
     ensures empty { OnOk result (bench.new.items ≡ []) }
     ensures left { (reached : ℕ) × (bench.new.items ≡ drop reached bench.old.items) ×
-        All (λ b. (facts : FactsTold) × IsFactsOf table.now weights.now facts × answered b facts)
+        All (λ b. (facts : FactsTold) × IsFacts facts × IsFactsOf table.now weights.now facts × answered b facts)
         (take reached bench.old.items) }
 {
     let names = names_of(alloc, bench)?;

@@ -3,7 +3,7 @@ use Rattle.std.specs.Prelude.{All, map}
 use Rattle.std.proofs.lemmas.List.Elements.{All-nil}
 use Rattle.flow_table.specs.Table.{instance_of}
 use Rattle.rankers.specs.declared.row.Row.{Row}
-use Rattle.rankers.specs.FactsTold.{IsFactsOf}
+use Rattle.rankers.specs.FactsTold.{IsFacts, IsFactsOf}
 use Rattle.rankers.specs.Meaning.{Meaning}
 use Rattle.report.specs.declared.compared.Compare.{Compare}
 use Rattle.rankers.specs.Comparison.{line_of, names_of}
@@ -52,20 +52,20 @@ returns-in_default-clause-left g c = (0, refl, All-nil _)
 
 pub returns-in_default-compared-clause-left : goal.returns-in_default-compared-clause-left
 returns-in_default-compared-clause-left g c =
-    left_asked (λ b f. (goal.Ranker-dyn g (b.vtable, b.value)).answered b.value f) (IsFactsOf c.args.table.now c.args.weights.now) c.in-Ok.facts c.args.bench.now.items
-    c.compare-compared.new.bench.items c.in-Ok.ensures c.compare-compared.ensures.left
+    left_asked (λ b f. (goal.Ranker-dyn g (b.vtable, b.value)).answered b.value f) IsFacts (IsFactsOf c.args.table.now c.args.weights.now) c.in-Ok.facts
+    c.args.bench.now.items c.compare-compared.new.bench.items c.coflows-within.ensures.facts c.in-Ok.ensures c.compare-compared.ensures.left
 
 pub returns-in_err-lines-clause-left : goal.returns-in_err-lines-clause-left
 returns-in_err-lines-clause-left g c =
-    left_asked (λ b f. (goal.Ranker-dyn g (b.vtable, b.value)).answered b.value f) (IsFactsOf c.args.table.now c.args.weights.now) c.in-Ok.facts c.args.bench.now.items
-    c.compare-compared.new.bench.items c.in-Ok.ensures c.compare-compared.ensures.left
+    left_asked (λ b f. (goal.Ranker-dyn g (b.vtable, b.value)).answered b.value f) IsFacts (IsFactsOf c.args.table.now c.args.weights.now) c.in-Ok.facts
+    c.args.bench.now.items c.compare-compared.new.bench.items c.coflows-within.ensures.facts c.in-Ok.ensures c.compare-compared.ensures.left
 
 pub returns-in_err-text-clause-left : goal.returns-in_err-text-clause-left
 returns-in_err-text-clause-left g c =
-    left_asked (λ b f. (goal.Ranker-dyn g (b.vtable, b.value)).answered b.value f) (IsFactsOf c.args.table.now c.args.weights.now) c.in-Ok.facts c.args.bench.now.items
-    c.compare-compared.new.bench.items c.in-Ok.ensures c.compare-compared.ensures.left
+    left_asked (λ b f. (goal.Ranker-dyn g (b.vtable, b.value)).answered b.value f) IsFacts (IsFactsOf c.args.table.now c.args.weights.now) c.in-Ok.facts
+    c.args.bench.now.items c.compare-compared.new.bench.items c.coflows-within.ensures.facts c.in-Ok.ensures c.compare-compared.ensures.left
 
 pub returns-clause-left : goal.returns-clause-left
 returns-clause-left g c =
-    left_asked (λ b f. (goal.Ranker-dyn g (b.vtable, b.value)).answered b.value f) (IsFactsOf c.args.table.now c.args.weights.now) c.in-Ok.facts c.args.bench.now.items
-    c.compare-compared.new.bench.items c.in-Ok.ensures c.compare-compared.ensures.left
+    left_asked (λ b f. (goal.Ranker-dyn g (b.vtable, b.value)).answered b.value f) IsFacts (IsFactsOf c.args.table.now c.args.weights.now) c.in-Ok.facts
+    c.args.bench.now.items c.compare-compared.new.bench.items c.coflows-within.ensures.facts c.in-Ok.ensures c.compare-compared.ensures.left
