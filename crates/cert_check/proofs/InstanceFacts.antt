@@ -22,7 +22,7 @@ use Rattle.dual_cert.proofs.SizeLaws.{unspent_fits, value_fits}
 use Rattle.schedule_model.proofs.CostSums.{weight_small}
 use Rattle.dual_cert.proofs.OfInstance.{certificate_of, loads_of_coflows, stays_of}
 use Rattle.flow_table.specs.Table.{IsTable, TableFacts, instance_of}
-use Rattle.report.specs.declared.value.PlaceLine.{PlaceLine}
+use Rattle.report_text.specs.declared.value.PlaceLine.{PlaceLine}
 use Rattle.cert_check.specs.Places.{NamesEach, certificate_in, coflows_in, entry_for}
 use Rattle.cert_check.specs.Sound.{AreLoadsOf}
 use Rattle.cert_check.proofs.NameSteps.{at_most, count_ids}

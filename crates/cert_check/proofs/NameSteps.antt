@@ -13,8 +13,8 @@ use Rattle.coflow_units.specs.Flows.{IsDistinct}
 use Rattle.coflow_units.proofs.LinePlaces.{at_place, place_of_member}
 use Rattle.coflow_units.proofs.Lists.{number_in}
 use Rattle.coflow_units.proofs.Sums.{Apart, any_has, any_in, apart_from_pairs, first_or_tail, members_at_most, sum_ones}
-use Rattle.report.specs.declared.value.PlaceLine.{PlaceLine}
-use Rattle.report.specs.Text.{place_at}
+use Rattle.report_text.specs.declared.value.PlaceLine.{PlaceLine}
+use Rattle.report_text.specs.Text.{place_at}
 use Rattle.cert_check.specs.Places.{IsFirstWrong, IsNew, IsNotNew, IsWrong, NamesEach, coflow_with, ids_in}
 use Rattle.cert_check.proofs.IdSteps.{found, found_at, found_not}
 

@@ -8,8 +8,8 @@ use Rattle.coflow_units.specs.Flows.{Instance}
 use Rattle.coflow_units.proofs.CertificateSteps.{used_outside}
 use Rattle.coflow_units.proofs.Lists.{in_reverse}
 use Rattle.dual_cert.specs.TableCertificate.{IsLeastInfeasible}
-use Rattle.report.specs.declared.value.PlaceLine.{PlaceLine}
-use Rattle.report.specs.declared.value.Report.{Report}
+use Rattle.report_text.specs.declared.value.PlaceLine.{PlaceLine}
+use Rattle.report_text.specs.declared.value.Report.{Report}
 use Rattle.cert_check.specs.declared.verdict.Reason.{Reason}
 use Rattle.cert_check.specs.declared.verdict.Reason.TheVariants.{BoundTooHigh, ClashIn, CostWrong, DoneWrong, Infeasible, NoFlow, NotPermutation, PortRange, RatioBroken}
 use Rattle.cert_check.specs.declared.verdict.Reason.TheVariants.{SlackWrong, UnitsOf, WeightWrong}

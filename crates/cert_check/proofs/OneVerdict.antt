@@ -11,9 +11,9 @@ use Rattle.coflow_units.specs.Completion.{completion}
 use Rattle.coflow_units.specs.Flows.{Instance, IsDistinct, units_of}
 use Rattle.coflow_units.specs.Schedule.{times}
 use Rattle.flow_table.specs.Table.{TableFacts, instance_of}
-use Rattle.report.specs.declared.value.PlaceLine.{PlaceLine}
-use Rattle.report.specs.declared.value.Report.{Report}
-use Rattle.report.specs.Text.{place_at}
+use Rattle.report_text.specs.declared.value.PlaceLine.{PlaceLine}
+use Rattle.report_text.specs.declared.value.Report.{Report}
+use Rattle.report_text.specs.Text.{place_at}
 use Rattle.schedule_model.specs.Fault.{IsFirstClash, IsFirstMiscount, IsFirstNoFlow, IsNoLater, number_no_later}
 use Rattle.schedule_model.specs.RunList.{slots_in}
 use Rattle.cert_check.specs.declared.verdict.Reason.{Reason}

@@ -12,8 +12,8 @@ use Rattle.coflow_units.specs.Schedule.{IsClear, IsValid}
 use Rattle.coflow_units.proofs.Lists.{number_below, numbers_apart}
 use Rattle.coflow_units.proofs.Sums.{members_at_most, sum_ones}
 use Rattle.dual_cert.specs.TableCertificate.{IsLeastInfeasible}
-use Rattle.report.specs.declared.value.PlaceLine.{PlaceLine}
-use Rattle.report.specs.Text.{place_at}
+use Rattle.report_text.specs.declared.value.PlaceLine.{PlaceLine}
+use Rattle.report_text.specs.Text.{place_at}
 use Rattle.schedule_model.specs.Fault.{IsFirstClash, IsFirstMiscount, IsFirstNoFlow}
 use Rattle.schedule_model.specs.RunList.{NamesFlows}
 use Rattle.schedule_model.proofs.SlotLoads.{both_use}

@@ -5,8 +5,8 @@ use Rattle.std.proofs.lemmas.List.{length-append, length-replicate}
 use Rattle.std.proofs.lemmas.List.Sums.{sum_by-cons}
 use Rattle.coflow_units.specs.declared.plan.Run.{Run}
 use Rattle.schedule_model.specs.RunList.{IsKept, slots_in}
-use Rattle.report.specs.declared.value.Report.{Report}
-use Rattle.report.specs.Report.{IsReport}
+use Rattle.report_text.specs.declared.value.Report.{Report}
+use Rattle.report_text.specs.Report.{IsReport}
 
 pub slots_count : (runs : List Run) → length (slots_in runs) ≡ sum_by (λ (run : Run). run.length) runs
 slots_count [] = refl

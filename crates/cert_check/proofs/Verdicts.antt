@@ -10,8 +10,8 @@ use Rattle.coflow_units.specs.Flows.{Instance, IsDistinct}
 use Rattle.coflow_units.proofs.Lists.{in_reverse, into_reverse, number_below, number_in}
 use Rattle.coflow_units.proofs.Sums.{Apart, all_of_members, apart_from_pairs, pairs_from_apart}
 use Rattle.flow_table.specs.Table.{TableFacts, instance_of}
-use Rattle.report.specs.declared.value.PlaceLine.{PlaceLine}
-use Rattle.report.specs.declared.value.Report.{Report}
+use Rattle.report_text.specs.declared.value.PlaceLine.{PlaceLine}
+use Rattle.report_text.specs.declared.value.Report.{Report}
 use Rattle.schedule_model.specs.RunList.{slots_in}
 use Rattle.cert_check.specs.declared.verdict.Reason.{Reason}
 use Rattle.cert_check.specs.declared.verdict.Reason.TheVariants.{BoundTooHigh, ClashIn, CostWrong, DoneWrong, Infeasible, NoFlow, NotPermutation, PortRange, RatioBroken}

@@ -4,8 +4,8 @@ use Rattle.std.specs.Prelude.{◌≡◌, ℕ, ◌+◌, ◌-◌, ◌<◌, ◌≤�
 use Rattle.std.specs.Prelude.{reverse, slice_index, take, unwrap_or}
 use Rattle.coflow_units.specs.Certificate.{Entry}
 use Rattle.coflow_units.specs.Flows.{IsDistinct}
-use Rattle.report.specs.declared.value.PlaceLine.{PlaceLine}
-use Rattle.report.specs.Text.{place_at}
+use Rattle.report_text.specs.declared.value.PlaceLine.{PlaceLine}
+use Rattle.report_text.specs.Text.{place_at}
 
 -- the coflow that has the id, or the number of coflows where none has it
 abbrev pub coflow_with : List ℕ → ℕ → ℕ

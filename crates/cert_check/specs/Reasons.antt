@@ -4,7 +4,7 @@ use Rattle.coflow_units.specs.Certificate.{bound, slack}
 use Rattle.coflow_units.specs.Completion.{completion, cost}
 use Rattle.coflow_units.specs.Flows.{Instance}
 use Rattle.dual_cert.specs.TableCertificate.{IsLeastInfeasible}
-use Rattle.report.specs.declared.value.Report.{Report}
+use Rattle.report_text.specs.declared.value.Report.{Report}
 use Rattle.schedule_model.specs.Fault.{IsFirstClash, IsFirstMiscount, IsFirstNoFlow}
 use Rattle.schedule_model.specs.RunList.{slots_in}
 use Rattle.cert_check.specs.declared.verdict.Reason.{Reason}

@@ -6,7 +6,7 @@ use Rattle.coflow_units.specs.Flows.{Instance}
 use Rattle.coflow_units.specs.Schedule.{IsValid}
 use Rattle.flow_table.specs.Table.{TableFacts}
 use Rattle.port_load.specs.LoadTable.{HasLoads, LoadTable}
-use Rattle.report.specs.declared.value.Report.{Report}
+use Rattle.report_text.specs.declared.value.Report.{Report}
 use Rattle.schedule_model.specs.RunList.{slots_in}
 use Rattle.cert_check.specs.Places.{certificate_in, coflows_in, ends_in}
 use Rattle.cert_check.specs.Stated.{AreReal, AreRealIfAny}

@@ -3,7 +3,7 @@ ghost use Rattle.std.specs.Prelude.{◌≡◌, ◌≤◌, ◌^◌, ℕ, All, IfO
 ghost use Rattle.coflow_units.specs.declared.limits.TheConstants.{MAX_WEIGHT};
 ghost use Rattle.coflow_units.specs.Certificate.{entry_of};
 ghost use Rattle.flow_table.specs.Table.{instance_of};
-ghost use Rattle.report.specs.Report.{HasWeights};
+ghost use Rattle.report_text.specs.Report.{HasWeights};
 ghost use Rattle.cert_check.specs.Parts.{HasSoundCertificate, IsFirstFrom};
 ghost use Rattle.cert_check.specs.Places.{NamesEach, coflows_in, entry_for, entry_with};
 ghost use Rattle.cert_check.specs.Reasons.{certificate_kind};
@@ -16,7 +16,7 @@ use coflow_units::{NoMemory, Place};
 use dual_cert::{Cert, bound, infeasible, slack};
 use flow_table::Table;
 use port_load::Loads;
-use report::{PlaceLine, Report};
+use report_text::{PlaceLine, Report};
 use std::alloc::Global;
 
 /// The first reason of the ports, the weights and the certificate, where the places name these coflows.

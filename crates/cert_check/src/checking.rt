@@ -2,7 +2,7 @@
 ghost use Rattle.std.specs.Prelude.{◌≡◌, ◌≤◌, ◌^◌, ◌↔◌, All, IfOk, length};
 ghost use Rattle.coflow_units.specs.declared.limits.TheConstants.{MAX_WEIGHT};
 ghost use Rattle.flow_table.specs.Table.{instance_of};
-ghost use Rattle.report.specs.Report.{IsReport};
+ghost use Rattle.report_text.specs.Report.{IsReport};
 ghost use Rattle.cert_check.specs.Reasons.{IsVerdict, NamesCoflowIfAny};
 ghost use Rattle.cert_check.specs.Sound.{AreLoadsOf, IsSound};
 
@@ -13,7 +13,7 @@ use crate::verdict::{Reason, Verdict};
 use coflow_units::NoMemory;
 use flow_table::Table;
 use port_load::Loads;
-use report::Report;
+use report_text::Report;
 use std::alloc::Global;
 
 /// Whether a report is right for the coflows of a table, with one weight for each, by number, of at most 2^32. The loads are those of the table's flows. The

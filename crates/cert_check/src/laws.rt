@@ -4,7 +4,7 @@ ghost use Rattle.coflow_units.specs.Completion.{cost};
 ghost use Rattle.coflow_units.specs.Flows.{Instance};
 ghost use Rattle.coflow_units.specs.Schedule.{IsValid};
 ghost use Rattle.flow_table.specs.Table.{TableFacts, instance_of};
-ghost use Rattle.report.specs.declared.value.Report.{Report};
+ghost use Rattle.report_text.specs.declared.value.Report.{Report};
 ghost use Rattle.cert_check.specs.declared.verdict.Verdict.{Verdict};
 ghost use Rattle.cert_check.specs.Reasons.{IsVerdict};
 ghost use Rattle.cert_check.specs.Sound.{IsSound};

@@ -3,14 +3,14 @@ ghost use Rattle.std.specs.Prelude.{◌≡◌, ◌<◌, ◌≤◌, ◌==◌, ℕ
 ghost use Rattle.indexmap.specs.IndexMap.{get};
 ghost use Rattle.std.specs.Prelude.{nat_eq};
 ghost use Rattle.coflow_units.specs.declared.limits.TheConstants.{MAX_COFLOWS};
-ghost use Rattle.report.specs.declared.value.PlaceLine.{PlaceLine};
+ghost use Rattle.report_text.specs.declared.value.PlaceLine.{PlaceLine};
 ghost use Rattle.cert_check.specs.Parts.{IsNamed};
 ghost use Rattle.cert_check.specs.Places.{IsFirstOutOfRange};
 
 use coflow_units::NoMemory;
 use flow_table::Table;
 use indexmap::IndexMap;
-use report::PlaceLine;
+use report_text::PlaceLine;
 use std::alloc::Global;
 
 /// The coflow of each place, or the first place whose id does not name a new coflow, counted from 1.

@@ -3,7 +3,7 @@ ghost use Rattle.std.specs.Prelude.{◌≡◌, ◌<◌, ◌≤◌, ◌+◌, ◌-
 ghost use Rattle.coflow_units.specs.declared.limits.TheConstants.{MAX_COFLOWS, MAX_WEIGHT};
 ghost use Rattle.std.specs.List.{range_with_len};
 ghost use Rattle.flow_table.specs.Table.{instance_of};
-ghost use Rattle.report.specs.Report.{IsReport};
+ghost use Rattle.report_text.specs.Report.{IsReport};
 ghost use Rattle.cert_check.specs.Parts.{HasSoundSchedule, IsFirstFrom, reason_for};
 ghost use Rattle.cert_check.specs.Places.{NamesEach, coflows_in};
 ghost use Rattle.cert_check.specs.Reasons.{schedule_kind};
@@ -12,7 +12,7 @@ use crate::stated::{Claim, ends_of, least_wrong};
 use crate::verdict::Reason;
 use coflow_units::NoMemory;
 use flow_table::Table;
-use report::Report;
+use report_text::Report;
 use schedule_model::{ScheduleFault, completions_of_runs, find_fault_of_runs};
 use std::alloc::Global;
 

@@ -1,11 +1,11 @@
 //! Numbers that a report states of coflows, beside the real ones.
 ghost use Rattle.std.specs.Prelude.{◌≡◌, ◌<◌, ◌≤◌, ◌⊎◌, All, IfOk, MatchOption, length, slice_index};
-ghost use Rattle.report.specs.Report.{ForEach};
+ghost use Rattle.report_text.specs.Report.{ForEach};
 ghost use Rattle.cert_check.specs.Places.{ends_in};
 ghost use Rattle.cert_check.specs.Stated.{AreReal, AreRealIfAny, IsLeastWrong, IsLeastWrongOfAny};
 
 use coflow_units::{Items, NoMemory};
-use report::PlaceLine;
+use report_text::PlaceLine;
 use std::alloc::Global;
 
 /// A number that a report states of a coflow, and the real one.

@@ -2,10 +2,10 @@
 use Rattle.std.proofs.Common.{◌≡◌, ℕ, ◌^◌, ◌≤◌, ◌<◌, List, Option, Some, None, length, refl, sym, subst, ◌∙◌}
 use Rattle.std.specs.Prelude.{Err, IfSome}
 use Rattle.outside.specs.Shelf.{Told, bytes_of}
-use Rattle.report.specs.declared.fault.ReportFault.{ReportFault}
-use Rattle.report.specs.declared.fault.ReportFault.TheVariants as report_fault
-use Rattle.report.specs.declared.value.Report.{Report}
-use Rattle.report.specs.Reading.{IsBadAt, IsTextOf}
+use Rattle.report_text.specs.declared.fault.ReportFault.{ReportFault}
+use Rattle.report_text.specs.declared.fault.ReportFault.TheVariants as report_fault
+use Rattle.report_text.specs.declared.value.Report.{Report}
+use Rattle.report_text.specs.Reading.{IsBadAt, IsTextOf}
 use Rattle.command_files.specs.declared.status.Status.{Status}
 use Rattle.command_files.specs.declared.status.Status.TheVariants as status
 use Rattle.online_check.specs.declared.any_report.AnyReport.{AnyReport}

@@ -4,8 +4,8 @@ use Rattle.flow_table.specs.declared.fault.TableFault.{TableFault}
 use Rattle.flow_table.specs.declared.fault.TableFault.TheVariants as table_fault
 use Rattle.hall_plan.specs.declared.answer.PlanFault.{PlanFault}
 use Rattle.hall_plan.specs.declared.answer.PlanFault.TheVariants as plan_fault
-use Rattle.report.specs.declared.fault.ReportFault.{ReportFault}
-use Rattle.report.specs.declared.fault.ReportFault.TheVariants as report_fault
+use Rattle.report_text.specs.declared.fault.ReportFault.{ReportFault}
+use Rattle.report_text.specs.declared.fault.ReportFault.TheVariants as report_fault
 use Rattle.workload.specs.declared.fault.ScriptFault.{ScriptFault}
 use Rattle.workload.specs.declared.fault.ScriptFault.TheVariants as script_fault
 use Rattle.trace_reader.specs.declared.fault.TraceFault.{TraceFault}

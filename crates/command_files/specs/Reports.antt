@@ -2,9 +2,9 @@
 use Rattle.std.specs.Prelude.{ℕ, ◌≤◌, List, Option, Some, None, IfSome, length}
 use Rattle.coflow_units.specs.declared.limits.TheConstants.{MAX_REPORT}
 use Rattle.outside.specs.Shelf.{Told, bytes_of}
-use Rattle.report.specs.declared.value.Report.{Report}
-use Rattle.report.specs.Reading.{IsTextOf}
-use Rattle.report.specs.Report.{HasSmallNumbers, IsReport}
+use Rattle.report_text.specs.declared.value.Report.{Report}
+use Rattle.report_text.specs.Reading.{IsTextOf}
+use Rattle.report_text.specs.Report.{HasSmallNumbers, IsReport}
 use Rattle.online_check.specs.declared.any_report.AnyReport.{AnyReport}
 use Rattle.online_check.specs.AnyReport.{IsAnyReport, IsAnyText}
 use Rattle.live_text.specs.Reading.{IsTextOf as IsJournalTextOf}

@@ -5,7 +5,7 @@ ghost use Rattle.std.specs.Prelude.{◌≡◌};
 use coflow_units::{NoMemory, Quantity};
 use flow_table::TableFault;
 use hall_plan::PlanFault;
-use report::ReportFault;
+use report_text::ReportFault;
 use trace_reader::TraceFault;
 use weights::WeightsFault;
 use workload::ScriptFault;

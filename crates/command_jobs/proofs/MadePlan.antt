@@ -4,12 +4,12 @@ use Rattle.std.specs.Prelude.{All}
 use Rattle.coflow_units.specs.Flows.{IsDistinct}
 use Rattle.cert_check.specs.Sound.{IsSound}
 use Rattle.flow_table.specs.Table.{IsTable, TableFacts, instance_of}
-use Rattle.report.specs.declared.value.Report.{Report}
-use Rattle.report.specs.Made.{made_text}
-use Rattle.report.specs.Reading.{IsTextOf}
-use Rattle.report.specs.Report.{HasSmallNumbers, IsReport}
-use Rattle.report.specs.Text.{report_text}
-use Rattle.report.proofs.TextLaws.{reports_are_one}
+use Rattle.report_text.specs.declared.value.Report.{Report}
+use Rattle.report_text.specs.Made.{made_text}
+use Rattle.report_text.specs.Reading.{IsTextOf}
+use Rattle.report_text.specs.Report.{HasSmallNumbers, IsReport}
+use Rattle.report_text.specs.Text.{report_text}
+use Rattle.report_text.proofs.TextLaws.{reports_are_one}
 use Rattle.command_jobs.specs.Make.{GivesMade, MadeOf, summary_of}
 use Rattle.plans.specs.PlanReport.{IsPlanOf}
 use Rattle.plans.proofs.PlanSound.{plan_is_sound}

@@ -5,8 +5,8 @@ use Rattle.command_words.specs.Words.{Said}
 use Rattle.flow_table.specs.Table.{TableFacts}
 use Rattle.rankers.specs.ClassList.{IsClassList}
 use Rattle.outside.specs.Shelf.{Told}
-use Rattle.report.specs.declared.classed.ClassText.{ClassText}
-use Rattle.report.specs.Classed.{class_text}
+use Rattle.report_text.specs.declared.classed.ClassText.{ClassText}
+use Rattle.report_text.specs.Classed.{class_text}
 use Rattle.command_files.specs.Inputs.{IsInput}
 use Rattle.command_files.specs.Written.{Appends}
 

@@ -9,8 +9,8 @@ use Rattle.rankers.specs.Comparison.{IsBelowCosts, IsComparison}
 use Rattle.outside.specs.Shelf.{Told}
 use Rattle.plans.specs.Totals.{IsPlanBound}
 use Rattle.rankers.specs.Meaning.{Meaning}
-use Rattle.report.specs.declared.compared.Compare.{Compare}
-use Rattle.report.specs.Compared.{compare_text}
+use Rattle.report_text.specs.declared.compared.Compare.{Compare}
+use Rattle.report_text.specs.Compared.{compare_text}
 use Rattle.command_files.specs.Inputs.{IsInput}
 use Rattle.command_files.specs.Written.{Appends}
 

@@ -4,9 +4,9 @@ use Rattle.coflow_units.specs.declared.fabric.Flow.{Flow}
 use Rattle.cert_check.specs.Sound.{IsSound}
 use Rattle.flow_table.specs.Table.{TableFacts, instance_of}
 use Rattle.plans.specs.PlanReport.{IsPlanOf}
-use Rattle.report.specs.declared.made.Made.{Made}
-use Rattle.report.specs.declared.value.Report.{Report}
-use Rattle.report.specs.Made.{made_text}
+use Rattle.report_text.specs.declared.made.Made.{Made}
+use Rattle.report_text.specs.declared.value.Report.{Report}
+use Rattle.report_text.specs.Made.{made_text}
 use Rattle.workload.specs.Coflows.{made_coflows}
 use Rattle.workload.specs.Text.{trace_text, weights_text}
 use Rattle.command_files.specs.declared.status.Status.{Status}

@@ -6,8 +6,8 @@ use Rattle.flow_table.specs.Table.{TableFacts, instance_of}
 use Rattle.outside.specs.Shelf.{Told}
 use Rattle.plans.specs.PlanReport.{IsPlanOf}
 use Rattle.plans.specs.Totals.{BoundsEverySchedule, IsWithinFour}
-use Rattle.report.specs.declared.value.Report.{Report}
-use Rattle.report.specs.Text.{report_text}
+use Rattle.report_text.specs.declared.value.Report.{Report}
+use Rattle.report_text.specs.Text.{report_text}
 use Rattle.command_files.specs.Inputs.{IsInput}
 use Rattle.command_files.specs.Written.{Appends}
 

@@ -17,7 +17,7 @@ use crate::serving::serve;
 use command_files::{Outcome, Status, read_input};
 use command_words::Options;
 use outside::{Shelf, Wire};
-use report::write_report;
+use report_text::write_report;
 use std::alloc::Global;
 use std::sync::Wait;
 use std::thread::Threads;

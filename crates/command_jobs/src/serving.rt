@@ -4,13 +4,13 @@ ghost use Rattle.coflow_units.specs.declared.limits.TheConstants.{MAX_PORTS, MAX
 ghost use Rattle.flow_table.specs.Table.{IsTable, instance_of};
 ghost use Rattle.hall_plan.specs.declared.answer.PlanFault.TheVariants.{WireFault};
 ghost use Rattle.plans.specs.PlanReport.{IsPlanOf};
-ghost use Rattle.report.specs.Report.{HasSmallNumbers, HasWeights, IsReport};
+ghost use Rattle.report_text.specs.Report.{HasSmallNumbers, HasWeights, IsReport};
 ghost use Rattle.hall_plan.specs.Sent.{SendsAll, SendsPart, StopsShort};
 
 use command_files::Input;
 use hall_plan::{PlanFault, served_plan};
 use outside::Wire;
-use report::Report;
+use report_text::Report;
 use std::alloc::Global;
 use std::sync::Wait;
 use std::thread::Threads;

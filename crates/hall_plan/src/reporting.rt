@@ -6,7 +6,7 @@ ghost use Rattle.hall_plan.specs.declared.answer.PlanFault.TheVariants.{WireFaul
 ghost use Rattle.hall_plan.specs.Journals.{HasRoom};
 ghost use Rattle.journal.specs.State.{IsOpening};
 ghost use Rattle.plans.specs.PlanReport.{IsPlanOf};
-ghost use Rattle.report.specs.Report.{HasSmallNumbers, HasWeights, IsReport};
+ghost use Rattle.report_text.specs.Report.{HasSmallNumbers, HasWeights, IsReport};
 ghost use Rattle.hall_plan.specs.Sent.{SendsAll, SendsPart, StopsShort};
 
 use crate::answer::{HallPlan, PlanFault};
@@ -16,7 +16,7 @@ use flow_table::Table;
 use master_core::Master;
 use outside::Wire;
 use plans::report_of;
-use report::Report;
+use report_text::Report;
 use std::alloc::Global;
 use std::sync::Wait;
 use std::thread::Threads;

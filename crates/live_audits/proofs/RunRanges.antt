@@ -8,7 +8,7 @@ use Rattle.coflow_units.specs.declared.fabric.Flow.{Flow}
 use Rattle.coflow_units.specs.declared.limits.TheConstants.{MAX_FLOWS, MAX_SLOT}
 use Rattle.coflow_units.specs.declared.plan.Run.{Run}
 use Rattle.coflow_units.specs.Schedule.{IsClear, IsRuns, slots_of}
-use Rattle.report.specs.Readers.{IsRun}
+use Rattle.report_text.specs.Readers.{IsRun}
 use Rattle.live_text.specs.Live.{ForNeighbours}
 use Rattle.live_model.specs.Printed.{run_of}
 use Rattle.live_audits.proofs.Ended.{all_behind}

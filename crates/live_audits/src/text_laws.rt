@@ -5,7 +5,7 @@ ghost use Rattle.coflow_units.specs.declared.limits.TheConstants.{MAX_LIVE_UNITS
 ghost use Rattle.coflow_units.specs.Flows.{IsDistinct};
 ghost use Rattle.flow_table.specs.Table.{IsTable};
 ghost use Rattle.schedule_model.specs.RunList.{slots_in};
-ghost use Rattle.report.specs.declared.fault.ReportFault.TheVariants.{BadText};
+ghost use Rattle.report_text.specs.declared.fault.ReportFault.TheVariants.{BadText};
 ghost use Rattle.journal.specs.declared.command.Entry.{Entry};
 ghost use Rattle.journal.specs.declared.opening.Opening.{Opening};
 ghost use Rattle.journal.specs.State.{IsOpening};

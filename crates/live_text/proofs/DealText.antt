@@ -1,7 +1,7 @@
 -- The words of a command and of its reply, read part by part.
 use Rattle.std.proofs.Common.{◌≡◌, inl, inr, ℕ, ◌-◌, ◌<◌, ◌≤◌, ◌^◌, List, ◌++◌, get_or, refl, sym, ap, subst, ◌∙◌, arith}
 use Rattle.std.specs.Prelude.{codes}
-use Rattle.report.specs.Readers.{Stops}
+use Rattle.report_text.specs.Readers.{Stops}
 use Rattle.coflow_units.specs.Text.{spaced}
 use Rattle.live_text.specs.declared.value.Said.{Said}
 use Rattle.live_text.specs.declared.value.Word.{Word}

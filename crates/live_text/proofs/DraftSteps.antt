@@ -9,10 +9,10 @@ use Rattle.std.proofs.lemmas.List.Sums.{sum_by-append, sum_by-cons}
 use Rattle.std.specs.declared.vec.Vec.{Vec}
 use Rattle.std.specs.declared.alloc.Global.{Global}
 use Rattle.coflow_units.specs.declared.plan.Run.{Run}
-use Rattle.report.specs.Draft.{Differs}
-use Rattle.report.specs.Readers.{IsRun}
-use Rattle.report.proofs.DraftText.{slots_in}
-use Rattle.report.specs.Text.{run_line}
+use Rattle.report_text.specs.Draft.{Differs}
+use Rattle.report_text.specs.Readers.{IsRun}
+use Rattle.report_text.proofs.DraftText.{slots_in}
+use Rattle.report_text.specs.Text.{run_line}
 use Rattle.live_text.specs.declared.draft.Draft.{Draft}
 use Rattle.live_text.specs.declared.draft.Stage.TheVariants.{First, Lines}
 use Rattle.live_text.specs.declared.value.EntryLine.{EntryLine}

@@ -1,9 +1,9 @@
 -- A word and a number in front of other text.
 use Rattle.std.proofs.Common.{◌≡◌, ℕ, ◌<◌, ◌^◌, List, [], ◌++◌, append_assoc, append-nil, sym, ap, ◌∙◌}
 use Rattle.std.proofs.lemmas.List.{append_cancel_left}
-use Rattle.report.specs.Readers.{Stops}
+use Rattle.report_text.specs.Readers.{Stops}
 use Rattle.coflow_units.specs.Text.{spaced}
-use Rattle.report.proofs.NumberText.{spaced_unique}
+use Rattle.report_text.proofs.NumberText.{spaced_unique}
 
 -- bytes begin with a word and one number at most
 pub field_unique : (word bytes x y : List ℕ) (m n : ℕ) → m < 2 ^ 128 → n < 2 ^ 128 → Stops x → Stops y → bytes ≡ word ++ (spaced m ++ x) → bytes ≡ word ++ (spaced n ++ y) →

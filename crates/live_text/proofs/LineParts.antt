@@ -4,13 +4,13 @@ use Rattle.std.proofs.Common.{length, map, drop, get_or, refl, sym, ap, subst, â
 use Rattle.std.specs.Prelude.{All, codes}
 use Rattle.std.specs.List.{flat_map}
 use Rattle.std.proofs.lemmas.List.{append_cancel_left}
-use Rattle.report.specs.Readers.{IsOneLine}
+use Rattle.report_text.specs.Readers.{IsOneLine}
 use Rattle.coflow_units.specs.Text.{spaced}
-use Rattle.report.proofs.FlowText.{stops_flows}
-use Rattle.report.proofs.LineText.{front_is_line}
-use Rattle.report.proofs.NumberText.{spaced_unique}
-use Rattle.report.proofs.OneLine.{both, total_one}
-use Rattle.report.proofs.ReadingText.{AreLines}
+use Rattle.report_text.proofs.FlowText.{stops_flows}
+use Rattle.report_text.proofs.LineText.{front_is_line}
+use Rattle.report_text.proofs.NumberText.{spaced_unique}
+use Rattle.report_text.proofs.OneLine.{both, total_one}
+use Rattle.report_text.proofs.ReadingText.{AreLines}
 use Rattle.live_text.specs.declared.value.EntryLine.{EntryLine}
 use Rattle.live_text.specs.declared.value.PullLine.{PullLine}
 use Rattle.live_text.specs.declared.value.Said.{Said}

@@ -3,13 +3,13 @@ use Rattle.std.proofs.Common.{◌≡◌, ◌≢◌, ◌⊎◌, inl, inr, ℕ, su
 use Rattle.std.specs.Prelude.{All, codes}
 use Rattle.coflow_units.specs.declared.plan.Run.{Run}
 use Rattle.coflow_units.proofs.Fronts.{head_of}
-use Rattle.report.specs.Readers.{IsRun}
-use Rattle.report.specs.Text.{run_line}
-use Rattle.report.proofs.DraftText.{run_unique}
-use Rattle.report.proofs.LineLists.{tail_is}
-use Rattle.report.proofs.LineText.{front_is_line}
-use Rattle.report.proofs.OneLine.{both_lines, runs_lines}
-use Rattle.report.proofs.ReadingText.{AreLines}
+use Rattle.report_text.specs.Readers.{IsRun}
+use Rattle.report_text.specs.Text.{run_line}
+use Rattle.report_text.proofs.DraftText.{run_unique}
+use Rattle.report_text.proofs.LineLists.{tail_is}
+use Rattle.report_text.proofs.LineText.{front_is_line}
+use Rattle.report_text.proofs.OneLine.{both_lines, runs_lines}
+use Rattle.report_text.proofs.ReadingText.{AreLines}
 use Rattle.live_text.specs.declared.value.EntryLine.{EntryLine}
 use Rattle.live_text.specs.declared.value.Live.{Live}
 use Rattle.live_text.specs.declared.value.PullLine.{PullLine}

@@ -1,9 +1,9 @@
 -- Spaced numbers in front of other text.
 use Rattle.std.proofs.Common.{◌≡◌, ℕ, ◌<◌, ◌^◌, List, [], ◌∷◌, ◌++◌, append_assoc, append-nil, length, refl, sym, ◌∙◌, arith}
 use Rattle.std.specs.List.{flat_map}
-use Rattle.report.specs.Readers.{Stops}
+use Rattle.report_text.specs.Readers.{Stops}
 use Rattle.coflow_units.specs.Text.{spaced}
-use Rattle.report.proofs.NumberText.{spaced_unique}
+use Rattle.report_text.proofs.NumberText.{spaced_unique}
 
 -- each number is below 2^128
 abbrev pub AreWide : List ℕ → Type 0

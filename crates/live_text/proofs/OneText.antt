@@ -2,7 +2,7 @@
 use Rattle.std.proofs.Common.{◌≡◌, ℕ, List, [], ◌∷◌, refl, sym, ap, ◌∙◌, arith}
 use Rattle.std.specs.Prelude.{codes}
 use Rattle.coflow_units.proofs.Fronts.{head_of}
-use Rattle.report.proofs.TextLaws.{lines_one}
+use Rattle.report_text.proofs.TextLaws.{lines_one}
 use Rattle.live_text.specs.declared.value.Live.{Live}
 use Rattle.live_text.specs.Live.{IsLive}
 use Rattle.live_text.specs.Text.{live_lines, live_text, mark}

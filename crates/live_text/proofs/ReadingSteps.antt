@@ -1,8 +1,8 @@
 -- What was read of the bytes begins a printed journal, and where no printed journal goes on the line is wrong.
 use Rattle.std.proofs.Common.{◌≡◌, ◌≢◌, ℕ, List, [], ◌∷◌, ◌++◌, append-nil, refl, sym, subst}
 use Rattle.std.specs.Prelude.{codes}
-use Rattle.report.proofs.ReadingText.{AreLines}
-use Rattle.report.proofs.WholeLines.{IsBegun, IsStopped}
+use Rattle.report_text.proofs.ReadingText.{AreLines}
+use Rattle.report_text.proofs.WholeLines.{IsBegun, IsStopped}
 use Rattle.live_text.specs.declared.draft.Draft.{Draft}
 use Rattle.live_text.specs.declared.draft.Stage.{Stage}
 use Rattle.live_text.specs.declared.draft.Stage.TheVariants.{First, Lines, Done}

@@ -6,11 +6,11 @@ use Rattle.std.proofs.Math.Seq.{get_or-append_seam}
 use Rattle.std.proofs.lemmas.List.{get_or_append_left}
 use Rattle.coflow_units.specs.declared.plan.Run.{Run}
 use Rattle.coflow_units.proofs.Fronts.{head_of}
-use Rattle.report.specs.Draft.{Differs}
-use Rattle.report.specs.Readers.{IsRun, IsRunOf}
-use Rattle.report.specs.Text.{run_line}
-use Rattle.report.proofs.DraftText.{run_unique, slots_grow}
-use Rattle.report.proofs.LineLists.{tail_is}
+use Rattle.report_text.specs.Draft.{Differs}
+use Rattle.report_text.specs.Readers.{IsRun, IsRunOf}
+use Rattle.report_text.specs.Text.{run_line}
+use Rattle.report_text.proofs.DraftText.{run_unique, slots_grow}
+use Rattle.report_text.proofs.LineLists.{tail_is}
 use Rattle.live_text.specs.declared.draft.Draft.{Draft}
 use Rattle.live_text.specs.declared.draft.Stage.{Stage}
 use Rattle.live_text.specs.declared.draft.Stage.TheVariants.{First, Lines, Done}

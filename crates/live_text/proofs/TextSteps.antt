@@ -3,8 +3,8 @@ use Rattle.std.proofs.Common.{◌≡◌, ℕ, ◌<◌, ◌+◌, List, [], ◌∷
 use Rattle.std.specs.Prelude.{codes}
 use Rattle.std.proofs.lemmas.List.{length-take-le, take_more}
 use Rattle.coflow_units.specs.Text.{ended, text_of}
-use Rattle.report.specs.Text.{run_line}
-use Rattle.report.proofs.TextSteps.{lines_more, one_more_behind}
+use Rattle.report_text.specs.Text.{run_line}
+use Rattle.report_text.proofs.TextSteps.{lines_more, one_more_behind}
 use Rattle.live_text.specs.declared.value.Live.{Live}
 use Rattle.live_text.specs.Text.{entry_line, live_text, numbered, order_line, pull_line}
 

@@ -3,7 +3,7 @@ use Rattle.std.specs.Prelude.{◌≡◌, ◌≢◌, ◌⊎◌, ℕ, ◌+◌, ◌
 use Rattle.std.specs.List.{slice_index_or}
 use Rattle.coflow_units.specs.declared.limits.TheConstants.{MAX_CLIENTS, MAX_SLOT, MAX_WEIGHT}
 use Rattle.coflow_units.specs.declared.plan.Run.{Run}
-use Rattle.report.specs.Readers.{IsRun}
+use Rattle.report_text.specs.Readers.{IsRun}
 use Rattle.live_text.specs.declared.value.TheConstants.{MAX_ENTRIES}
 use Rattle.live_text.specs.declared.value.EntryLine.{EntryLine}
 use Rattle.live_text.specs.declared.value.Live.{Live}

@@ -1,7 +1,7 @@
 -- What the readers of the parts of a line answer.
 use Rattle.std.specs.Prelude.{◌≡◌, ℕ, ◌≤◌, ◌++◌, List, Option, Some, None, All}
 use Rattle.std.specs.List.{flat_map}
-use Rattle.report.specs.Readers.{Stops}
+use Rattle.report_text.specs.Readers.{Stops}
 use Rattle.coflow_units.specs.Text.{spaced}
 use Rattle.live_text.specs.declared.value.TheConstants.{MAX_ENTRIES}
 use Rattle.live_text.specs.declared.value.EntryLine.{EntryLine}

@@ -1,7 +1,7 @@
 -- What a reader of printed journals answers.
 use Rattle.std.specs.Prelude.{◌≡◌, ℕ, ◌<◌, ◌≤◌, ◌++◌, List, Result, Ok, Err, length}
-use Rattle.report.specs.declared.fault.ReportFault.{ReportFault}
-use Rattle.report.specs.declared.fault.ReportFault.TheVariants.{BadText, NoMemory}
+use Rattle.report_text.specs.declared.fault.ReportFault.{ReportFault}
+use Rattle.report_text.specs.declared.fault.ReportFault.TheVariants.{BadText, NoMemory}
 use Rattle.coflow_units.specs.Text.{text_of}
 use Rattle.live_text.specs.declared.value.Live.{Live}
 use Rattle.live_text.specs.Live.{IsLive}

@@ -1,7 +1,7 @@
 -- The text of a printed journal, line by line.
 use Rattle.std.specs.Prelude.{ℕ, ◌+◌, ◌++◌, List, [], ◌∷◌, codes, map}
 use Rattle.std.specs.List.{flat_map, slice_index_or}
-use Rattle.report.specs.Text.{run_line}
+use Rattle.report_text.specs.Text.{run_line}
 use Rattle.coflow_units.specs.Text.{spaced, text_of}
 use Rattle.live_text.specs.declared.value.EntryLine.{EntryLine}
 use Rattle.live_text.specs.declared.value.Live.{Live}

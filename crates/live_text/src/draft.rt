@@ -8,7 +8,7 @@ use crate::fields::mark_of;
 use crate::lines::{entry_of, is_first, order_of, pull_of};
 use crate::value::{EntryLine, Live, PullLine};
 use coflow_units::{Items, MAX_SLOT, NoMemory, Run};
-use report::{differs, is_end, run_of};
+use report_text::{differs, is_end, run_of};
 use std::alloc::Global;
 
 /// The line that comes next: the first one, one behind it, or none.

@@ -1,10 +1,10 @@
 //! A word and a number of a line.
 ghost use Rattle.std.specs.Prelude.{◌≡◌};
-ghost use Rattle.report.specs.Readers.{IsNumberThen};
+ghost use Rattle.report_text.specs.Readers.{IsNumberThen};
 ghost use Rattle.live_text.specs.Readers.{IsFieldThen, IsLastOf};
 ghost use Rattle.live_text.specs.Text.{mark};
 
-use report::{count_then, number_then};
+use report_text::{count_then, number_then};
 
 /// The fourth byte, which tells the lines apart, and the commands, or 0 where there is none.
 pub(crate) fn mark_of(bytes: &[u8]) -> u8

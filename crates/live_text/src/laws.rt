@@ -3,7 +3,7 @@ ghost use Rattle.live_text.specs.Live.{IsLive};
 ghost use Rattle.live_text.specs.Reading.{GivesLive};
 ghost use Rattle.live_text.specs.Text.{live_text};
 ghost use Rattle.live_text.specs.declared.value.Live.{Live};
-ghost use Rattle.report.specs.declared.fault.ReportFault.TheVariants.{BadText};
+ghost use Rattle.report_text.specs.declared.fault.ReportFault.TheVariants.{BadText};
 ghost use Rattle.std.specs.Prelude.{◌≡◌, Err, Ok, ℕ};
 
 /// A text is that of one printed journal at most.

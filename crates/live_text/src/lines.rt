@@ -1,13 +1,13 @@
 //! What a line of a printed journal says.
 ghost use Rattle.std.specs.Prelude.{◌≡◌, ◌↔◌, IfOk, IsTrue, codes};
-ghost use Rattle.report.specs.Readers.{Stops};
+ghost use Rattle.report_text.specs.Readers.{Stops};
 ghost use Rattle.live_text.specs.Readers.{AreIdsOf, IsEntryOf, IsOrderOf, IsPullOf};
 
 use crate::deals::deal_of;
 use crate::fields::{field_then, last_of};
 use crate::value::{EntryLine, MAX_ENTRIES, PullLine};
 use coflow_units::{Items, MAX_CLIENTS, MAX_ID, NoMemory};
-use report::count_then;
+use report_text::count_then;
 use std::alloc::Global;
 
 /// Whether the line is the first one of a text.

@@ -5,7 +5,7 @@ ghost use Rattle.live_text.specs.Reading.{GivesLive};
 
 use crate::draft::Draft;
 use crate::value::Live;
-use report::{ReportFault, line_then};
+use report_text::{ReportFault, line_then};
 use std::alloc::Global;
 
 /// The printed journal whose text the bytes are. There are at most 2^30 bytes.

@@ -5,7 +5,7 @@ ghost use Rattle.live_text.specs.Text.{command_words, entry_line, live_text, num
 
 use crate::value::{EntryLine, Live, PullLine, Said, Word};
 use coflow_units::{Items, NoMemory};
-use report::{push_flows, push_number, push_served};
+use report_text::{push_flows, push_number, push_served};
 use std::alloc::Global;
 
 /// The text of a printed journal.

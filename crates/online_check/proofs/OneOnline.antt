@@ -17,8 +17,8 @@ use Rattle.online_text.specs.declared.value.Online.{Online}
 use Rattle.release_bound.specs.Release.{entries_of}
 use Rattle.release_bound.specs.ReleaseTable.{IsLeastReleasedInfeasible, StaysAt}
 use Rattle.release_bound.specs.declared.place.ReleasePlace.{ReleasePlace}
-use Rattle.report.specs.declared.value.PlaceLine.{PlaceLine}
-use Rattle.report.specs.Text.{place_at}
+use Rattle.report_text.specs.declared.value.PlaceLine.{PlaceLine}
+use Rattle.report_text.specs.Text.{place_at}
 use Rattle.schedule_model.specs.Fault.{IsFirstClash, IsFirstMiscount, IsFirstNoFlow, IsNoLater, number_no_later}
 use Rattle.schedule_model.specs.RunList.{slots_in}
 use Rattle.online_check.specs.declared.verdict.OnlineReason.{OnlineReason}

@@ -2,8 +2,8 @@
 use Rattle.std.proofs.Common.{◌≡◌, ◌<◌, ℕ, List, sym, ap, ◌∙◌, arith}
 use Rattle.online_text.specs.Reading as online
 use Rattle.online_text.proofs.OneText.{online_one}
-use Rattle.report.proofs.TextLaws.{reports_are_one}
-use Rattle.report.specs.Reading as plan
+use Rattle.report_text.proofs.TextLaws.{reports_are_one}
+use Rattle.report_text.specs.Reading as plan
 use Rattle.online_check.specs.declared.any_report.AnyReport.{AnyReport}
 use Rattle.online_check.specs.declared.any_report.AnyReport.TheVariants.{Online, Plan}
 use Rattle.online_check.specs.AnyReport.{IsAnyBadAt, IsAnyText}

@@ -3,10 +3,10 @@ use Rattle.std.specs.Prelude.{ℕ, List, Result, Ok, Err}
 use Rattle.online_text.specs.Reading.{BeginsOnline}
 use Rattle.online_text.specs.Reading as online
 use Rattle.online_text.specs.Online.{IsOnline}
-use Rattle.report.specs.declared.fault.ReportFault.{ReportFault}
-use Rattle.report.specs.declared.fault.ReportFault.TheVariants.{BadText, NoMemory}
-use Rattle.report.specs.Reading as plan
-use Rattle.report.specs.Report.{IsReport}
+use Rattle.report_text.specs.declared.fault.ReportFault.{ReportFault}
+use Rattle.report_text.specs.declared.fault.ReportFault.TheVariants.{BadText, NoMemory}
+use Rattle.report_text.specs.Reading as plan
+use Rattle.report_text.specs.Report.{IsReport}
 use Rattle.online_check.specs.declared.any_report.AnyReport.{AnyReport}
 use Rattle.online_check.specs.declared.any_report.AnyReport.TheVariants.{Online, Plan}
 

@@ -5,7 +5,7 @@ use Rattle.coflow_units.specs.Flows.{Instance}
 use Rattle.cert_check.specs.Places.{NamesEach, coflows_in}
 use Rattle.online_text.specs.declared.value.Online.{Online}
 use Rattle.release_bound.specs.Release.{IsReleasedFeasible, released_total}
-use Rattle.report.specs.declared.value.PlaceLine.{PlaceLine}
+use Rattle.report_text.specs.declared.value.PlaceLine.{PlaceLine}
 use Rattle.schedule_model.specs.declared.fault.ScheduleFault.{ScheduleFault}
 use Rattle.schedule_model.specs.declared.fault.ScheduleFault.TheVariants as fault
 use Rattle.schedule_model.specs.RunList.{slots_in}

@@ -3,7 +3,7 @@
 use Rattle.std.specs.Prelude.{ℕ, List, map, reverse}
 use Rattle.online_text.specs.declared.value.ReleaseLine.{ReleaseLine}
 use Rattle.release_bound.specs.declared.place.ReleasePlace.{ReleasePlace}
-use Rattle.report.specs.declared.value.PlaceLine.{PlaceLine}
+use Rattle.report_text.specs.declared.value.PlaceLine.{PlaceLine}
 use Rattle.cert_check.specs.Places.{coflow_with}
 
 -- the line as one of a plan, without its z; it states no completion

@@ -1,8 +1,8 @@
 -- The line of a verdict.
 use Rattle.std.specs.Prelude.{ℕ, ◌++◌, List, codes, slice_index}
-use Rattle.report.specs.declared.value.Report.{Report}
+use Rattle.report_text.specs.declared.value.Report.{Report}
 use Rattle.coflow_units.specs.Text.{ended, spaced}
-use Rattle.report.specs.Text.{side_word}
+use Rattle.report_text.specs.Text.{side_word}
 use Rattle.cert_check.specs.declared.verdict.Reason.{Reason}
 use Rattle.cert_check.specs.declared.verdict.Reason.TheVariants.{BoundTooHigh, ClashIn, CostWrong, DoneWrong}
 use Rattle.cert_check.specs.declared.verdict.Reason.TheVariants.{Infeasible, NoFlow, NotPermutation, PortRange}

@@ -4,7 +4,7 @@ ghost use Rattle.coflow_units.specs.declared.limits.TheConstants.{MAX_REPORT};
 ghost use Rattle.online_check.specs.AnyReport.{GivesAnyReport};
 
 use online_text::{Online, is_online, read_online};
-use report::{Report, ReportFault, read_report};
+use report_text::{Report, ReportFault, read_report};
 use std::alloc::Global;
 
 /// A report: that of a plan, or that of an online run.

@@ -10,7 +10,7 @@ ghost use Rattle.online_check.specs.Reasons.{IsOnlineVerdict, NamesOneOfIfAny};
 ghost use Rattle.online_check.specs.Sound.{IsSoundOnline};
 ghost use Rattle.online_check.specs.declared.verdict.OnlineVerdict.{OnlineVerdict};
 ghost use Rattle.online_text.specs.Online.{IsOnline};
-ghost use Rattle.report.specs.Report.{IsReport};
+ghost use Rattle.report_text.specs.Report.{IsReport};
 ghost use Rattle.online_check.specs.AnyReport.{IsAnyReport};
 ghost use Rattle.online_check.specs.Judged.{IsJudged, IsRight};
 ghost use Rattle.online_check.specs.declared.any_report.AnyReport.TheVariants as any;
@@ -26,7 +26,7 @@ use coflow_units::NoMemory;
 use flow_table::Table;
 use online_text::Online;
 use port_load::Loads;
-use report::Report;
+use report_text::Report;
 use std::alloc::Global;
 
 /// A verdict that is told in a line: whether it is yes, and the line with its line feed.

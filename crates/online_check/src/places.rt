@@ -11,7 +11,7 @@ use coflow_units::NoMemory;
 use flow_table::Table;
 use online_text::{Online, ReleaseLine};
 use release_bound::ReleasePlace;
-use report::PlaceLine;
+use report_text::PlaceLine;
 use std::alloc::Global;
 
 /// The places of the certificate, place 1 first, or the first reason against their ids and ports.

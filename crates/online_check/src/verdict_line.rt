@@ -1,13 +1,13 @@
 //! The line of a verdict.
 ghost use Rattle.std.specs.Prelude.{◌≡◌, IfOk, length};
 ghost use Rattle.cert_check.specs.Reasons.{NamesCoflow, NamesCoflowIfAny};
-ghost use Rattle.report.specs.Text.{side_word};
+ghost use Rattle.report_text.specs.Text.{side_word};
 ghost use Rattle.online_check.specs.VerdictLine.{reason_text, verdict_text};
 
 use cert_check::{Reason, Verdict};
 use coflow_units::{NoMemory, Side};
 use flow_table::Table;
-use report::Report;
+use report_text::Report;
 use std::alloc::Global;
 
 /// The line of a verdict on a report, with its line feed: `yes` and the stated totals, or `no` and the reason with its values. Coflows are told by their ids. The

@@ -10,10 +10,10 @@ use Rattle.std.specs.declared.vec.Vec.{Vec}
 use Rattle.std.specs.declared.alloc.Global.{Global}
 use Rattle.coflow_units.specs.declared.fabric.Side.TheVariants.{Ingress}
 use Rattle.coflow_units.proofs.Fronts.{head_of}
-use Rattle.report.specs.Readers.{IsTotalOf, Rises}
-use Rattle.report.specs.Text.{bound_line, cost_line}
-use Rattle.report.proofs.LineLists.{first, tail_is}
-use Rattle.report.proofs.NumberText.{decimal_one}
+use Rattle.report_text.specs.Readers.{IsTotalOf, Rises}
+use Rattle.report_text.specs.Text.{bound_line, cost_line}
+use Rattle.report_text.proofs.LineLists.{first, tail_is}
+use Rattle.report_text.proofs.NumberText.{decimal_one}
 use Rattle.online_text.specs.declared.value.Epoch.{Epoch}
 use Rattle.online_text.specs.declared.value.Online.{Online}
 use Rattle.online_text.specs.declared.value.OnlinePlace.{OnlinePlace}

@@ -5,7 +5,7 @@ use Rattle.std.specs.List.{range_with_len}
 use Rattle.std.proofs.lemmas.List.{get_or_append_left}
 use Rattle.std.proofs.Math.Seq.{get_or-append_seam}
 use Rattle.coflow_units.proofs.Fronts.{head_of}
-use Rattle.report.proofs.LineLists.{tail_is}
+use Rattle.report_text.proofs.LineLists.{tail_is}
 use Rattle.online_text.specs.Draft.{AreLeft, lines_from}
 
 pub all_middle : {X : Type 0} (P : X → Type 0) (xs ys : List X) (y : X) → All P (xs ++ (y ∷ ys)) → P y

@@ -5,10 +5,10 @@ use Rattle.std.proofs.lemmas.List.Elements.{All-push}
 use Rattle.std.specs.declared.vec.Vec.{Vec}
 use Rattle.std.specs.declared.alloc.Global.{Global}
 use Rattle.coflow_units.specs.declared.fabric.Side.TheVariants.{Ingress}
-use Rattle.report.specs.Readers.{IsTotalOf}
-use Rattle.report.specs.Text.{cost_line, run_line}
-use Rattle.report.proofs.LineLists.{first}
-use Rattle.report.proofs.NumberText.{decimal_one}
+use Rattle.report_text.specs.Readers.{IsTotalOf}
+use Rattle.report_text.specs.Text.{cost_line, run_line}
+use Rattle.report_text.proofs.LineLists.{first}
+use Rattle.report_text.proofs.NumberText.{decimal_one}
 use Rattle.online_text.specs.declared.value.DoneLine.{DoneLine}
 use Rattle.online_text.specs.declared.value.Online.{Online}
 use Rattle.online_text.specs.declared.value.ReleaseLine.{ReleaseLine}

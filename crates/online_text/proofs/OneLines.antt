@@ -8,15 +8,15 @@ use Rattle.coflow_units.specs.declared.fabric.Port.{Port}
 use Rattle.coflow_units.specs.declared.fabric.Side.{Side}
 use Rattle.coflow_units.specs.declared.fabric.Side.TheVariants.{Egress, Ingress}
 use Rattle.coflow_units.proofs.Fronts.{head_of}
-use Rattle.report.specs.Readers.{IsOneLine, Stops}
-use Rattle.report.specs.Text.{bound_line, side_word}
+use Rattle.report_text.specs.Readers.{IsOneLine, Stops}
+use Rattle.report_text.specs.Text.{bound_line, side_word}
 use Rattle.coflow_units.specs.Text.{spaced}
-use Rattle.report.proofs.LineLists.{tail_is}
-use Rattle.report.proofs.LineText.{front_is_line}
-use Rattle.report.proofs.NumberText.{decimal_one, spaced_unique}
-use Rattle.report.proofs.OneLine.{both, both_lines, range_lines, total_one}
-use Rattle.report.proofs.PartText.{side_unique}
-use Rattle.report.proofs.ReadingText.{AreLines}
+use Rattle.report_text.proofs.LineLists.{tail_is}
+use Rattle.report_text.proofs.LineText.{front_is_line}
+use Rattle.report_text.proofs.NumberText.{decimal_one, spaced_unique}
+use Rattle.report_text.proofs.OneLine.{both, both_lines, range_lines, total_one}
+use Rattle.report_text.proofs.PartText.{side_unique}
+use Rattle.report_text.proofs.ReadingText.{AreLines}
 use Rattle.online_text.specs.declared.value.DoneLine.{DoneLine}
 use Rattle.online_text.specs.declared.value.Epoch.{Epoch}
 use Rattle.online_text.specs.declared.value.OnlinePlace.{OnlinePlace}

@@ -3,14 +3,14 @@ use Rattle.std.proofs.Common.{◌≡◌, ℕ, suc, ◌<◌, List, [], ◌∷◌,
 use Rattle.std.specs.Prelude.{All, codes}
 use Rattle.std.specs.List.{flat_map, range_with_len}
 use Rattle.coflow_units.proofs.Fronts.{head_of}
-use Rattle.report.specs.Text.{bound_line, cost_line, run_line}
-use Rattle.report.proofs.DraftText.{runs_first}
-use Rattle.report.proofs.LineLists.{AllFirst, all_first, both_ended, first, tail_is}
-use Rattle.report.proofs.LineText.{front_is_line}
-use Rattle.report.proofs.NumberText.{decimal_one}
-use Rattle.report.proofs.OneLine.{both_lines, runs_lines, total_one}
-use Rattle.report.proofs.ReadingText.{AreLines}
-use Rattle.report.proofs.TextLaws.{lines_one, runs_one}
+use Rattle.report_text.specs.Text.{bound_line, cost_line, run_line}
+use Rattle.report_text.proofs.DraftText.{runs_first}
+use Rattle.report_text.proofs.LineLists.{AllFirst, all_first, both_ended, first, tail_is}
+use Rattle.report_text.proofs.LineText.{front_is_line}
+use Rattle.report_text.proofs.NumberText.{decimal_one}
+use Rattle.report_text.proofs.OneLine.{both_lines, runs_lines, total_one}
+use Rattle.report_text.proofs.ReadingText.{AreLines}
+use Rattle.report_text.proofs.TextLaws.{lines_one, runs_one}
 use Rattle.online_text.specs.declared.value.DoneLine.{DoneLine}
 use Rattle.online_text.specs.declared.value.Epoch.{Epoch}
 use Rattle.online_text.specs.declared.value.Online.{Online}

@@ -2,11 +2,11 @@
 use Rattle.std.proofs.Common.{◌≡◌, ◌≢◌, ℕ, ◌+◌, List, [], ◌∷◌, ◌++◌, append_assoc, append-nil, length, refl, sym, ap, subst, ◌∙◌}
 use Rattle.std.specs.Prelude.{◌↔◌, codes, map}
 use Rattle.std.specs.List.{flat_map}
-use Rattle.report.specs.Readers.{IsOneLine}
-use Rattle.report.specs.Text.{bound_line, cost_line, run_line}
+use Rattle.report_text.specs.Readers.{IsOneLine}
+use Rattle.report_text.specs.Text.{bound_line, cost_line, run_line}
 use Rattle.coflow_units.specs.Text.{ended, text_of}
-use Rattle.report.proofs.ReadingText.{AreLines}
-use Rattle.report.proofs.WholeLines.{IsBegun, IsRead, IsStopped, cut_at, early_at, none_yet, one_more, refused_at}
+use Rattle.report_text.proofs.ReadingText.{AreLines}
+use Rattle.report_text.proofs.WholeLines.{IsBegun, IsRead, IsStopped, cut_at, early_at, none_yet, one_more, refused_at}
 use Rattle.online_text.specs.declared.value.Online.{Online}
 use Rattle.online_text.specs.Online.{HasSmallNumbers, IsOnline}
 use Rattle.online_text.specs.Text.{done_line, epoch_lines, lines_from_done, lines_from_release, lines_from_runs, online_lines, order_line, release_line, total_line}

@@ -10,11 +10,11 @@ use Rattle.std.proofs.Math.Seq.{get_or-append_seam}
 use Rattle.std.specs.declared.vec.Vec.{Vec}
 use Rattle.std.specs.declared.alloc.Global.{Global}
 use Rattle.coflow_units.specs.declared.plan.Run.{Run}
-use Rattle.report.specs.Draft.{Differs}
-use Rattle.report.specs.Readers.{IsRun, IsRunOf}
-use Rattle.report.specs.Text.{run_line}
-use Rattle.report.proofs.DraftText.{run_unique, slots_grow, slots_in}
-use Rattle.report.proofs.LineLists.{first}
+use Rattle.report_text.specs.Draft.{Differs}
+use Rattle.report_text.specs.Readers.{IsRun, IsRunOf}
+use Rattle.report_text.specs.Text.{run_line}
+use Rattle.report_text.proofs.DraftText.{run_unique, slots_grow, slots_in}
+use Rattle.report_text.proofs.LineLists.{first}
 use Rattle.online_text.specs.declared.value.Online.{Online}
 use Rattle.online_text.specs.Online.{IsOnline}
 use Rattle.online_text.specs.declared.draft.Draft.{Draft}

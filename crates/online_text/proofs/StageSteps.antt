@@ -3,7 +3,7 @@ use Rattle.std.proofs.Common.{◌≡◌, ℕ, List, [], ◌∷◌, ◌++◌, ref
 use Rattle.std.specs.Prelude.{◌↔◌, codes}
 use Rattle.std.specs.List.{flat_map}
 use Rattle.coflow_units.proofs.Fronts.{head_of}
-use Rattle.report.proofs.LineLists.{tail_is}
+use Rattle.report_text.proofs.LineLists.{tail_is}
 use Rattle.online_text.specs.declared.value.Online.{Online}
 use Rattle.online_text.specs.Online.{HasSmallNumbers, IsOnline}
 use Rattle.online_text.specs.Text.{epoch_lines, lines_from_done}

@@ -5,9 +5,9 @@ use Rattle.std.specs.List.{flat_map, range_with_len}
 use Rattle.std.proofs.lemmas.Grind.{flat_map-append}
 use Rattle.std.proofs.lemmas.List.{take_more}
 use Rattle.std.proofs.lemmas.List.FromFn.{map-range_with_len_more}
-use Rattle.report.specs.Text.{bound_line, cost_line, run_line}
+use Rattle.report_text.specs.Text.{bound_line, cost_line, run_line}
 use Rattle.coflow_units.specs.Text.{ended, text_of}
-use Rattle.report.proofs.TextSteps.{lines_more, one_more, one_more_behind}
+use Rattle.report_text.proofs.TextSteps.{lines_more, one_more, one_more_behind}
 use Rattle.online_text.specs.declared.value.Epoch.{Epoch}
 use Rattle.online_text.specs.declared.value.Online.{Online}
 use Rattle.online_text.specs.Text.{certificate_lines, done_line, epoch_lines, online_text, order_lines, time_line, total_line}

@@ -3,7 +3,7 @@ use Rattle.std.specs.Prelude.{◌≡◌, ◌≢◌, ℕ, ◌+◌, ◌++◌, ◌�
 use Rattle.std.specs.Prelude.{codes, length, sum_by}
 use Rattle.std.specs.List.{flat_map}
 use Rattle.coflow_units.specs.declared.plan.Run.{Run}
-use Rattle.report.specs.Text.{bound_line, cost_line, run_line}
+use Rattle.report_text.specs.Text.{bound_line, cost_line, run_line}
 use Rattle.online_text.specs.declared.value.Epoch.{Epoch}
 use Rattle.online_text.specs.declared.value.Online.{Online}
 use Rattle.online_text.specs.Online.{HasSmallNumbers, IsOnline}

@@ -5,7 +5,7 @@ use Rattle.std.specs.List.Sorted.{IsStrictlyIncreasing}
 use Rattle.coflow_units.specs.declared.limits.TheConstants.{MAX_SLOT}
 use Rattle.coflow_units.specs.declared.fabric.Port.{Port}
 use Rattle.coflow_units.specs.declared.plan.Run.{Run}
-use Rattle.report.specs.Readers.{IsRun}
+use Rattle.report_text.specs.Readers.{IsRun}
 use Rattle.online_text.specs.declared.value.DoneLine.{DoneLine}
 use Rattle.online_text.specs.declared.value.Epoch.{Epoch}
 use Rattle.online_text.specs.declared.value.Online.{Online}

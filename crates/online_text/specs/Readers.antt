@@ -1,7 +1,7 @@
 -- What the readers of the lines of an online run answer.
 use Rattle.std.specs.Prelude.{◌≡◌, ℕ, ◌<◌, ◌≤◌, ◌^◌, ◌++◌, List, Option, Some, None}
 use Rattle.coflow_units.specs.declared.fabric.Port.{Port}
-use Rattle.report.specs.Readers.{Stops}
+use Rattle.report_text.specs.Readers.{Stops}
 use Rattle.coflow_units.specs.Text.{spaced}
 use Rattle.online_text.specs.declared.value.DoneLine.{DoneLine}
 use Rattle.online_text.specs.declared.value.OnlinePlace.{OnlinePlace}

@@ -1,7 +1,7 @@
 -- What a reader of online runs answers.
 use Rattle.std.specs.Prelude.{◌≡◌, ℕ, ◌<◌, ◌≤◌, ◌++◌, List, Result, Ok, Err, codes, length}
-use Rattle.report.specs.declared.fault.ReportFault.{ReportFault}
-use Rattle.report.specs.declared.fault.ReportFault.TheVariants.{BadText, NoMemory}
+use Rattle.report_text.specs.declared.fault.ReportFault.{ReportFault}
+use Rattle.report_text.specs.declared.fault.ReportFault.TheVariants.{BadText, NoMemory}
 use Rattle.coflow_units.specs.Text.{text_of}
 use Rattle.online_text.specs.declared.value.Online.{Online}
 use Rattle.online_text.specs.Online.{HasSmallNumbers, IsOnline}

@@ -3,7 +3,7 @@ use Rattle.std.specs.Prelude.{ℕ, ◌+◌, ◌++◌, List, [], ◌∷◌, lengt
 use Rattle.std.specs.List.{flat_map, range_with_len, slice_index_or}
 use Rattle.coflow_units.specs.declared.fabric.Port.{Port}
 use Rattle.coflow_units.specs.declared.fabric.Side.TheVariants.{Ingress}
-use Rattle.report.specs.Text.{bound_line, cost_line, run_line, side_word}
+use Rattle.report_text.specs.Text.{bound_line, cost_line, run_line, side_word}
 use Rattle.coflow_units.specs.Text.{spaced, text_of}
 use Rattle.online_text.specs.declared.value.DoneLine.{DoneLine}
 use Rattle.online_text.specs.declared.value.Epoch.{Epoch}

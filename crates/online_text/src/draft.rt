@@ -1,6 +1,6 @@
 //! An online run that is read line by line.
 ghost use Rattle.std.specs.Prelude.{◌≡◌, ◌+◌, [], IfOk, None, length};
-ghost use Rattle.report.specs.Readers.{IsRunOf};
+ghost use Rattle.report_text.specs.Readers.{IsRunOf};
 ghost use Rattle.online_text.specs.declared.draft.Stage.TheVariants.{First as AtFirst, Epochs as AtEpochs, Places as AtPlaces, Done as AtDone, Release as AtRelease, Runs as AtRuns, Ended};
 ghost use Rattle.online_text.specs.Draft.{Finishes, IsDraft, Takes, online_of};
 ghost use Rattle.online_text.specs.Readers.{IsDoneOf, IsPlaceOf, IsReleaseOf, IsTimeOf};
@@ -8,7 +8,7 @@ ghost use Rattle.online_text.specs.Readers.{IsDoneOf, IsPlaceOf, IsReleaseOf, Is
 use crate::parts::{done_of, is_first, place_of, release_of, rises, time_of};
 use crate::value::{DoneLine, Epoch, Online, OnlinePlace, ReleaseLine};
 use coflow_units::{Items, MAX_SLOT, NoMemory, Run};
-use report::{differs, is_end, run_of, total_of};
+use report_text::{differs, is_end, run_of, total_of};
 use std::alloc::Global;
 use std::mem;
 

@@ -3,7 +3,7 @@ ghost use Rattle.online_text.specs.Online.{HasSmallNumbers, IsOnline};
 ghost use Rattle.online_text.specs.Reading.{GivesOnline, IsBadAt};
 ghost use Rattle.online_text.specs.Text.{online_text};
 ghost use Rattle.online_text.specs.declared.value.Online.{Online};
-ghost use Rattle.report.specs.declared.fault.ReportFault.TheVariants.{BadText};
+ghost use Rattle.report_text.specs.declared.fault.ReportFault.TheVariants.{BadText};
 ghost use Rattle.std.specs.Prelude.{◌≡◌, Err, List, Ok, ℕ};
 
 /// A text is that of one online run at most.

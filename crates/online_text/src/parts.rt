@@ -1,12 +1,12 @@
 //! What a line of an online run says.
 ghost use Rattle.std.specs.Prelude.{◌≡◌, ◌↔◌, IsTrue, codes, map};
-ghost use Rattle.report.specs.Readers.{Rises};
+ghost use Rattle.report_text.specs.Readers.{Rises};
 ghost use Rattle.online_text.specs.declared.value.Epoch.{Epoch as EpochValue};
 ghost use Rattle.online_text.specs.Readers.{IsChargeThen, IsDoneOf, IsNumberOf, IsNumberedThen, IsPlaceOf, IsReleaseOf, IsTimeOf};
 
 use crate::value::{DoneLine, Epoch, OnlinePlace, ReleaseLine};
 use coflow_units::Port;
-use report::{number_then, side_then};
+use report_text::{number_then, side_then};
 
 /// Whether the line is the first one of the text of an online run.
 pub(crate) fn is_first(line: &[u8]) -> bool

@@ -5,7 +5,7 @@ ghost use Rattle.online_text.specs.Reading.{BeginsOnline, GivesOnline};
 
 use crate::draft::Draft;
 use crate::value::Online;
-use report::{ReportFault, line_then};
+use report_text::{ReportFault, line_then};
 use std::alloc::Global;
 
 /// The online run whose text the bytes are. There are at most 2^30 bytes.

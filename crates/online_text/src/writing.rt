@@ -6,7 +6,7 @@ ghost use Rattle.online_text.specs.Text.{certificate_lines, charge_words, done_l
 
 use crate::value::{DoneLine, Epoch, Online, OnlinePlace, ReleaseLine};
 use coflow_units::{NoMemory, Port};
-use report::{push_named, push_number, push_served, word_of};
+use report_text::{push_named, push_number, push_served, word_of};
 use std::alloc::Global;
 
 /// The text of an online run.

@@ -16,9 +16,9 @@ use Rattle.picture.specs.declared.value.Bar.{Bar}
 use Rattle.picture.specs.declared.value.TheConstants.{MAX_BARS}
 use Rattle.picture.specs.declared.value.Window.{Window}
 use Rattle.picture.specs.Bars.{IsBar, IsBars, bar_count}
-use Rattle.report.proofs.TextLaws.{reports_are_one}
-use Rattle.report.specs.declared.value.Report.{Report}
-use Rattle.report.specs.Reading.{IsBadAt, IsTextOf}
+use Rattle.report_text.proofs.TextLaws.{reports_are_one}
+use Rattle.report_text.specs.declared.value.Report.{Report}
+use Rattle.report_text.specs.Reading.{IsBadAt, IsTextOf}
 use Rattle.schedule_model.specs.RunList.{slots_in}
 use Rattle.command_files.proofs.GoodFacts.{files_end, no_script, text_is_good}
 use Rattle.command_files.proofs.InputFacts.{weights_one}

@@ -32,11 +32,11 @@ use Rattle.picture.specs.declared.value.Picture.{Picture}
 use Rattle.picture.specs.Layout.{IsInside}
 use Rattle.picture.specs.Svg.{picture_text}
 use Rattle.picture.specs.Title.{hundredths}
-use Rattle.report.specs.declared.value.Report.{Report}
-use Rattle.report.specs.Report.{IsReport}
+use Rattle.report_text.specs.declared.value.Report.{Report}
+use Rattle.report_text.specs.Report.{IsReport}
 use Rattle.schedule_model.proofs.CostSums.{parts_small}
 use Rattle.schedule_model.specs.RunList.{NamesFlows, slots_in}
-use Rattle.report.specs.Reading.{IsBadAt}
+use Rattle.report_text.specs.Reading.{IsBadAt}
 use Rattle.command_files.specs.Causes.{HasCauseInFiles}
 use Rattle.command_files.specs.Reports.{IsReportOf}
 use Rattle.command_files.specs.Ends.{IsReadFault, IsWriteFault}

@@ -7,7 +7,7 @@ use Rattle.picture.specs.declared.value.Bar.{Bar}
 use Rattle.picture.specs.declared.value.TheConstants.{MAX_BARS}
 use Rattle.picture.specs.Bars.{IsBars, bar_count}
 use Rattle.schedule_model.specs.RunList.{slots_in}
-use Rattle.report.specs.Reading.{IsTextOf}
+use Rattle.report_text.specs.Reading.{IsTextOf}
 use Rattle.command_files.specs.Causes.{FilesGiveTable}
 use Rattle.command_files.specs.Reports.{HasReportText}
 use Rattle.command_files.specs.Inputs.{bytes_if}

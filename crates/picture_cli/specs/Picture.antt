@@ -20,9 +20,9 @@ use Rattle.picture.specs.declared.value.Picture.{Picture}
 use Rattle.picture.specs.Heaviest.{IsHeaviest}
 use Rattle.picture.specs.Svg.{picture_text}
 use Rattle.picture.specs.Title.{hundredths}
-use Rattle.report.specs.declared.value.Report.{Report}
+use Rattle.report_text.specs.declared.value.Report.{Report}
 use Rattle.schedule_model.specs.RunList.{slots_in}
-use Rattle.report.specs.Reading.{IsBadAt}
+use Rattle.report_text.specs.Reading.{IsBadAt}
 use Rattle.command_files.specs.Causes.{HasCauseInFiles}
 use Rattle.command_files.specs.Reports.{IsReportOf}
 use Rattle.command_files.specs.Ends.{IsWriteFault}

@@ -8,7 +8,7 @@ ghost use Rattle.flow_table.specs.Table.{instance_of};
 ghost use Rattle.picture.specs.declared.value.Picture.{Picture};
 ghost use Rattle.picture.specs.Layout.{IsDrawable};
 ghost use Rattle.picture.specs.Svg.{picture_text};
-ghost use Rattle.report.specs.Report.{IsReport};
+ghost use Rattle.report_text.specs.Report.{IsReport};
 ghost use Rattle.schedule_model.specs.RunList.{slots_in};
 ghost use Rattle.picture_cli.specs.Picture.{HasNoPicture, HasVerdictCause, IsPictureOf};
 ghost use Rattle.picture_cli.specs.Words.{said_by};
@@ -21,7 +21,7 @@ use command_files::Input;
 use flow_table::Table;
 use online_check::verdict_on;
 use picture::{Picture, Window, bars_of, curve_of, heaviest, write_picture};
-use report::Report;
+use report_text::Report;
 use schedule_model::completions_of_runs;
 use std::alloc::Global;
 

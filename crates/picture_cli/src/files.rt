@@ -1,6 +1,6 @@
 //! The files of a picture.
 ghost use Rattle.std.specs.Prelude.{IfErr, IfOk, IfSome, OnOk};
-ghost use Rattle.report.specs.Reading.{IsBadAt};
+ghost use Rattle.report_text.specs.Reading.{IsBadAt};
 ghost use Rattle.command_files.specs.Causes.{HasCauseInFiles};
 ghost use Rattle.command_files.specs.Reports.{IsReportOf};
 ghost use Rattle.command_files.specs.Ends.{CountsFault};
@@ -14,7 +14,7 @@ ghost use Rattle.picture_cli.specs.Words.{said_by};
 use crate::value::PictureWords;
 use command_files::{Input, Status, read_input, read_report_file};
 use outside::Shelf;
-use report::Report;
+use report_text::Report;
 use std::alloc::Global;
 
 /// The flows of a trace with the weights of its coflows, and a report.

@@ -7,7 +7,7 @@ ghost use Rattle.picture_cli.specs.Complete.{IsAnswer};
 ghost use Rattle.picture_cli.specs.Picture.{IsNearBest};
 ghost use Rattle.picture_cli.specs.Words.{PictureSaid, IsPictureWords};
 ghost use Rattle.picture_cli.specs.declared.status.PictureStatus.{PictureStatus};
-ghost use Rattle.report.specs.declared.value.Report.{Report};
+ghost use Rattle.report_text.specs.declared.value.Report.{Report};
 ghost use Rattle.std.specs.Prelude.{◌≡◌, ℕ, List};
 
 /// What the files of a command line call for is one status at most.

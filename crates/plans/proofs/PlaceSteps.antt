@@ -7,7 +7,7 @@ use Rattle.std.proofs.lemmas.List.FromFn.{get_or-range_with_len, length-range_wi
 use Rattle.coflow_units.specs.declared.fabric.Flow.{Flow}
 use Rattle.coflow_units.specs.declared.plan.Place.{Place}
 use Rattle.coflow_units.specs.Completion.{completion}
-use Rattle.report.specs.declared.value.PlaceLine.{PlaceLine}
+use Rattle.report_text.specs.declared.value.PlaceLine.{PlaceLine}
 use Rattle.plans.specs.PlanReport.{line_from, line_of}
 
 -- one more element

@@ -16,10 +16,10 @@ use Rattle.coflow_units.proofs.Lists.{by_number, number_below}
 use Rattle.coflow_units.proofs.ServedLaws.{served_valid}
 use Rattle.coflow_units.proofs.Sums.{sum_same}
 use Rattle.flow_table.specs.Table.{IsTable, TableFacts, instance_of}
-use Rattle.report.specs.declared.value.Report.{Report}
-use Rattle.report.specs.Report.{HasSmallNumbers, IsReport}
-use Rattle.report.specs.Text.{report_text}
-use Rattle.report.proofs.TextLengths.{text_is_short}
+use Rattle.report_text.specs.declared.value.Report.{Report}
+use Rattle.report_text.specs.Report.{HasSmallNumbers, IsReport}
+use Rattle.report_text.specs.Text.{report_text}
+use Rattle.report_text.proofs.TextLengths.{text_is_short}
 use Rattle.schedule_model.specs.RunList.{slots_in}
 use Rattle.schedule_model.proofs.SlotLoads.{carried_by_times}
 use Rattle.coflow_units.proofs.RunLengths.{some_grant}

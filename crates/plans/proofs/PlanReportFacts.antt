@@ -20,9 +20,9 @@ use Rattle.bssi_order.specs.Order.{entries_of}
 use Rattle.coflow_units.proofs.OrderingLaws.{ordering_feasible}
 use Rattle.flow_table.specs.Table.{IsTable, TableFacts, instance_of}
 use Rattle.flow_table.proofs.Whole.{whole}
-use Rattle.report.specs.declared.value.PlaceLine.{PlaceLine}
-use Rattle.report.specs.declared.value.Report.{Report}
-use Rattle.report.specs.Report.{ForEach, HasSmallNumbers, IsReport, IsSmallPlace}
+use Rattle.report_text.specs.declared.value.PlaceLine.{PlaceLine}
+use Rattle.report_text.specs.declared.value.Report.{Report}
+use Rattle.report_text.specs.Report.{ForEach, HasSmallNumbers, IsReport, IsSmallPlace}
 use Rattle.schedule_model.proofs.CostSums.{weight_small}
 use Rattle.schedule_model.proofs.LastSlots.{last_within}
 use Rattle.cert_check.proofs.InstanceFacts.{all_reverse, values_fit}

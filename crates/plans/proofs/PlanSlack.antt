@@ -18,7 +18,7 @@ use Rattle.coflow_units.proofs.OrderingLaws.{ordering_rests}
 use Rattle.dual_cert.proofs.SlackLaw.{slack_by_fronts, slack_two_each}
 use Rattle.flow_table.specs.Table.{TableFacts, instance_of}
 use Rattle.flow_table.proofs.Shares.{sum_ones}
-use Rattle.report.specs.declared.value.Report.{Report}
+use Rattle.report_text.specs.declared.value.Report.{Report}
 use Rattle.plans.specs.PlanReport.{IsPlanOf}
 use Rattle.plans.specs.Weighed.{IsWeighed}
 

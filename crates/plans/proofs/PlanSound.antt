@@ -13,11 +13,11 @@ use Rattle.bssi_order.specs.Order.{entries_of}
 use Rattle.coflow_units.proofs.OrderingLaws.{ordering_feasible}
 use Rattle.flow_table.specs.Table.{IsTable, IsTableOf, TableFacts, instance_of}
 use Rattle.flow_table.proofs.Whole.{whole}
-use Rattle.report.specs.declared.value.Report.{Report}
-use Rattle.report.specs.Reading.{GivesReport}
-use Rattle.report.specs.Report.{HasSmallNumbers, IsReport}
-use Rattle.report.specs.Text.{report_text}
-use Rattle.report.proofs.TextLaws.{reports_are_one}
+use Rattle.report_text.specs.declared.value.Report.{Report}
+use Rattle.report_text.specs.Reading.{GivesReport}
+use Rattle.report_text.specs.Report.{HasSmallNumbers, IsReport}
+use Rattle.report_text.specs.Text.{report_text}
+use Rattle.report_text.proofs.TextLaws.{reports_are_one}
 use Rattle.schedule_model.specs.RunList.{slots_in}
 use Rattle.cert_check.specs.declared.verdict.Verdict.{Verdict}
 use Rattle.cert_check.specs.declared.verdict.Verdict.TheVariants.{Yes}

@@ -8,7 +8,7 @@ use Rattle.coflow_units.specs.Flows.{Instance, IsInstance}
 use Rattle.coflow_units.specs.Schedule.{IsValid}
 use Rattle.coflow_units.specs.Served.{IsServed}
 use Rattle.bssi_order.specs.Order.{entries_of}
-use Rattle.report.specs.declared.value.Report.{Report}
+use Rattle.report_text.specs.declared.value.Report.{Report}
 use Rattle.plans.specs.PlanReport.{IsPlanOf, coflows_of}
 use Rattle.plans.specs.Totals.{BoundsEverySchedule, IsPlanBound, IsWithinFour}
 use Rattle.plans.proofs.CertificateFacts.{front_of_places}

@@ -8,7 +8,7 @@ use Rattle.coflow_units.specs.Certificate.{Entry, entry_of}
 use Rattle.coflow_units.specs.Completion.{completion}
 use Rattle.coflow_units.specs.Flows.{IsDistinct}
 use Rattle.bssi_order.specs.Order.{entries_of}
-use Rattle.report.specs.declared.value.PlaceLine.{PlaceLine}
+use Rattle.report_text.specs.declared.value.PlaceLine.{PlaceLine}
 use Rattle.cert_check.specs.Places.{certificate_in, coflow_with, coflows_in, ends_in, entry_for, entry_with}
 use Rattle.cert_check.specs.Stated.{AreReal}
 use Rattle.dual_cert.proofs.FirstPlaces.{map_reverse}

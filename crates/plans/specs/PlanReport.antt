@@ -8,8 +8,8 @@ use Rattle.coflow_units.specs.Flows.{Instance}
 use Rattle.coflow_units.specs.Schedule.{IsRuns}
 use Rattle.coflow_units.specs.Served.{IsServed}
 use Rattle.bssi_order.specs.Order.{IsOrder, entries_of}
-use Rattle.report.specs.declared.value.PlaceLine.{PlaceLine}
-use Rattle.report.specs.declared.value.Report.{Report}
+use Rattle.report_text.specs.declared.value.PlaceLine.{PlaceLine}
+use Rattle.report_text.specs.declared.value.Report.{Report}
 use Rattle.schedule_model.specs.RunList.{pairs_of}
 
 -- the coflows of the places

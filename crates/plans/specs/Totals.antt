@@ -6,7 +6,7 @@ use Rattle.coflow_units.specs.Certificate.{bound}
 use Rattle.coflow_units.specs.Completion.{cost}
 use Rattle.coflow_units.specs.Flows.{Instance}
 use Rattle.coflow_units.specs.Schedule.{IsValid}
-use Rattle.report.specs.declared.value.Report.{Report}
+use Rattle.report_text.specs.declared.value.Report.{Report}
 
 -- the bound is at most the cost of every valid schedule of the instance, patient or not
 abbrev pub BoundsEverySchedule : Instance → Report → Type 0

@@ -1,13 +1,13 @@
 //! What a report says of each place.
 ghost use Rattle.std.specs.Prelude.{◌≡◌, ◌<◌, ◌^◌, All, IfOk, length, map, slice_index};
 ghost use Rattle.coflow_units.specs.declared.plan.Place.{Place};
-ghost use Rattle.report.specs.declared.value.PlaceLine.{PlaceLine};
+ghost use Rattle.report_text.specs.declared.value.PlaceLine.{PlaceLine};
 ghost use Rattle.schedule_model.specs.RunList.{NamesFlows};
 ghost use Rattle.plans.specs.PlanReport.{line_from, line_of};
 
 use coflow_units::{NoMemory, Place};
 use flow_table::Table;
-use report::PlaceLine;
+use report_text::PlaceLine;
 use schedule_model::{Schedule, completions};
 use std::alloc::Global;
 

@@ -5,7 +5,7 @@ ghost use Rattle.coflow_units.specs.Certificate.{bound, slack};
 ghost use Rattle.coflow_units.specs.Served.{IsServed};
 ghost use Rattle.bssi_order.specs.Order.{IsOrder, entries_of};
 ghost use Rattle.flow_table.specs.Table.{instance_of};
-ghost use Rattle.report.specs.Report.{HasSmallNumbers, HasWeights, IsReport};
+ghost use Rattle.report_text.specs.Report.{HasSmallNumbers, HasWeights, IsReport};
 ghost use Rattle.plans.specs.PlanReport.{IsPlanOf, coflows_of};
 ghost use Rattle.plans.specs.Totals.{IsPlanBound};
 
@@ -14,7 +14,7 @@ use crate::places::{place_lines, place_weights};
 use coflow_units::{Items, NoMemory, Place};
 use dual_cert::{Cert, bound, slack};
 use flow_table::Table;
-use report::Report;
+use report_text::Report;
 use schedule_model::{Schedule, cost};
 use std::alloc::Global;
 

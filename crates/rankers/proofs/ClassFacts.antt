@@ -18,8 +18,8 @@ use Rattle.coflow_units.proofs.ServedLaws.{served_valid}
 use Rattle.flow_table.specs.Table.{IsTable, TableFacts, instance_of}
 use Rattle.flow_table.proofs.Whole.{whole}
 use Rattle.rankers.specs.FactsTold.{IsBssiOrder}
-use Rattle.report.specs.declared.classed.ClassText.{ClassText}
-use Rattle.report.specs.declared.classed.Member.{Member}
+use Rattle.report_text.specs.declared.classed.ClassText.{ClassText}
+use Rattle.report_text.specs.declared.classed.Member.{Member}
 use Rattle.schedule_model.specs.RunList.{pairs_of}
 use Rattle.rankers.specs.ClassList.{IsClassList, member_of}
 

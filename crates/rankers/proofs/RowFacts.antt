@@ -15,8 +15,8 @@ use Rattle.rankers.specs.FactsTold.{FactsTold}
 use Rattle.rankers.specs.Meaning.{Meaning}
 use Rattle.rankers.specs.Rounds.{IsRowsFrom}
 use Rattle.rankers.specs.Scores.{IsScore}
-use Rattle.report.specs.declared.compared.Compare.{Compare}
-use Rattle.report.specs.declared.compared.RowLine.{RowLine}
+use Rattle.report_text.specs.declared.compared.Compare.{Compare}
+use Rattle.report_text.specs.declared.compared.RowLine.{RowLine}
 use Rattle.rankers.specs.Comparison.{CostsAtLeast, IsBelowCosts, IsComparison, line_of, names_of, worth_of}
 
 -- ---- a fact of both rows of each ranker

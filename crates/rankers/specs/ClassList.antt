@@ -8,8 +8,8 @@ use Rattle.class_rates.specs.ClassPatient.{IsClassPatient}
 use Rattle.class_rates.specs.Classes.{IsClassOrder, class_in}
 use Rattle.flow_table.specs.Table.{TableFacts, instance_of}
 use Rattle.rankers.specs.FactsTold.{IsBssiOrder}
-use Rattle.report.specs.declared.classed.ClassText.{ClassText}
-use Rattle.report.specs.declared.classed.Member.{Member}
+use Rattle.report_text.specs.declared.classed.ClassText.{ClassText}
+use Rattle.report_text.specs.declared.classed.Member.{Member}
 use Rattle.schedule_model.specs.RunList.{pairs_of}
 
 -- the member that a coflow is, by the classes of the coflows and their ids

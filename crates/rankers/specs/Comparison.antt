@@ -8,10 +8,10 @@ use Rattle.rankers.specs.declared.row.Scored.TheVariants as scored
 use Rattle.rankers.specs.FactsTold.{FactsTold, IsFacts, IsFactsOf}
 use Rattle.rankers.specs.Meaning.{Meaning}
 use Rattle.rankers.specs.Rounds.{IsRowsFrom}
-use Rattle.report.specs.declared.compared.Compare.{Compare}
-use Rattle.report.specs.declared.compared.RowLine.{RowLine}
-use Rattle.report.specs.declared.compared.RowText.{RowText}
-use Rattle.report.specs.declared.compared.RowText.TheVariants as printed
+use Rattle.report_text.specs.declared.compared.Compare.{Compare}
+use Rattle.report_text.specs.declared.compared.RowLine.{RowLine}
+use Rattle.report_text.specs.declared.compared.RowText.{RowText}
+use Rattle.report_text.specs.declared.compared.RowText.TheVariants as printed
 
 -- what an answer is worth, as it is printed
 abbrev pub worth_of : Scored → RowText

@@ -4,15 +4,15 @@ ghost use Rattle.coflow_units.specs.declared.limits.TheConstants.{MAX_WEIGHT};
 ghost use Rattle.class_rates.specs.Classes.{class_of};
 ghost use Rattle.class_rates.specs.declared.classes.TheConstants.{MAX_CLASSES};
 ghost use Rattle.rankers.specs.FactsTold.{IsFacts};
-ghost use Rattle.report.specs.declared.classed.ClassText.{ClassText};
-ghost use Rattle.report.specs.Classed.{class_text};
+ghost use Rattle.report_text.specs.declared.classed.ClassText.{ClassText};
+ghost use Rattle.report_text.specs.Classed.{class_text};
 ghost use Rattle.rankers.specs.ClassList.{IsClassList, member_of};
 
 use crate::facts::Facts;
 use class_rates::{Classes, cap, fold};
 use coflow_units::{Items, NoMemory};
 use flow_table::Table;
-use report::{ClassText, Member, write_classes};
+use report_text::{ClassText, Member, write_classes};
 use schedule_model::cost;
 use slot_switch::simulate;
 use std::alloc::Global;

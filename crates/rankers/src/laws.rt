@@ -11,7 +11,7 @@ ghost use Rattle.rankers.specs.Rounds.{IsRounds, IsRowsFrom};
 ghost use Rattle.rankers.specs.Rows.{Answers, ByKeys, UnfitRows};
 ghost use Rattle.rankers.specs.declared.row.Row.{Row};
 ghost use Rattle.rankers.specs.declared.row.Scored.{Scored};
-ghost use Rattle.report.specs.declared.compared.Compare.{Compare};
+ghost use Rattle.report_text.specs.declared.compared.Compare.{Compare};
 ghost use Rattle.std.specs.Prelude.{◌≡◌, ℕ, List, ◌≤◌};
 
 /// What the rounds of a ranker are worth depends on its own meaning and the facts alone: not on its place, nor on the other rankers.

@@ -2,7 +2,7 @@
 ghost use Rattle.std.specs.Prelude.{◌≡◌, ⊤, length};
 ghost use Rattle.rankers.specs.FactsTold.{FactsTold, coflows_in};
 ghost use Rattle.rankers.specs.Meaning.{Meaning, after_note, after_question, answer_of};
-ghost use Rattle.report.specs.Compared.{IsName};
+ghost use Rattle.report_text.specs.Compared.{IsName};
 
 use crate::facts::Facts;
 

@@ -4,9 +4,9 @@ ghost use Rattle.coflow_units.specs.declared.limits.TheConstants.{MAX_WEIGHT};
 ghost use Rattle.flow_table.specs.Table.{instance_of};
 ghost use Rattle.rankers.specs.FactsTold.{FactsTold, IsFacts, IsFactsOf};
 ghost use Rattle.rankers.specs.declared.row.Row.{Row};
-ghost use Rattle.report.specs.declared.compared.Compare.{Compare};
-ghost use Rattle.report.specs.declared.compared.RowLine.{RowLine};
-ghost use Rattle.report.specs.Compared.{IsName, compare_text};
+ghost use Rattle.report_text.specs.declared.compared.Compare.{Compare};
+ghost use Rattle.report_text.specs.declared.compared.RowLine.{RowLine};
+ghost use Rattle.report_text.specs.Compared.{IsName, compare_text};
 ghost use Rattle.rankers.specs.Comparison.{IsComparison, line_of, names_of, worth_of};
 
 use crate::comparing::compare;
@@ -15,7 +15,7 @@ use crate::ranker::Ranker;
 use crate::row::{Row, Scored};
 use coflow_units::{Items, NoMemory};
 use flow_table::Table;
-use report::{Compare, RowLine, RowText, write_compare};
+use report_text::{Compare, RowLine, RowText, write_compare};
 use std::alloc::Global;
 
 /// The text of the comparison of the rankers of a bench on a table, under a lower bound on the cost of its schedules.

@@ -1,27 +1,12 @@
-//! The text of the report of a plan, written and read strictly. Each report has one text, and each text stands for at most one report. Other texts are written with the calls that write its numbers and its runs.
+//! The texts that are printed and read back: reports of plans and of online runs, printed journals, and the lists of
+//! comparisons, classes and made plans. Each value has one text, and each text stands for at most one value.
 #![tactic(auto)]
 
-mod classed;
-mod compared;
-mod draft;
-mod fault;
-pub mod laws;
-mod lines;
-mod made;
-mod numbers;
-mod parts;
-mod reading;
-mod value;
-mod writing;
-
-pub use classed::{ClassText, Member, write_classes};
-pub use compared::{Compare, RowLine, RowText, write_compare};
-pub use draft::differs;
-pub use fault::ReportFault;
-pub use lines::{count_then, line_then, number_then, side_then};
-pub use made::{Made, write_made};
-pub use numbers::{push_flows, push_named, push_number};
-pub use parts::{is_end, run_of, total_of};
-pub use reading::read_report;
-pub use value::{PlaceLine, Report};
-pub use writing::{push_served, word_of, write_report};
+pub use live_text::{EntryLine, Live, PullLine, Said, Word, read_live, write_live};
+pub use online_text::{
+    DoneLine, Epoch, Online, OnlinePlace, ReleaseLine, read_online, write_online,
+};
+pub use report_text::{
+    ClassText, Compare, Made, Member, PlaceLine, Report, ReportFault, RowLine, RowText,
+    read_report, write_classes, write_compare, write_made, write_report,
+};

@@ -1,5 +1,5 @@
 //! Texts of reports, of both versions.
-ghost use Rattle.report.specs.Report.{HasWeights};
+ghost use Rattle.report_text.specs.Report.{HasWeights};
 
 use coflow_units::{Items, MAX_TEXT, Port, Run, Side};
 use report::{PlaceLine, Report, ReportFault, read_report, write_report};

@@ -1,7 +1,7 @@
 //! Texts of comparisons of rankers, of the classes of traces and of the summaries of made workloads.
 ghost use Rattle.std.specs.Prelude.{All, IsTrue};
-ghost use Rattle.report.specs.Compared.{IsName};
-ghost use Rattle.report.specs.declared.compared.RowLine.{RowLine};
+ghost use Rattle.report_text.specs.Compared.{IsName};
+ghost use Rattle.report_text.specs.declared.compared.RowLine.{RowLine};
 
 use coflow_units::{Items, Run};
 use report::{

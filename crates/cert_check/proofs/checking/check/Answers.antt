@@ -1,6 +1,6 @@
 use Rattle.std.proofs.Common.{List, length, subst}
 use Rattle.flow_table.specs.Table.{instance_of}
-use Rattle.report.specs.declared.value.PlaceLine.{PlaceLine}
+use Rattle.report_text.specs.declared.value.PlaceLine.{PlaceLine}
 use Rattle.cert_check.specs.declared.verdict.Reason.TheVariants.{NotPermutation}
 use Rattle.cert_check.specs.declared.verdict.Verdict.TheVariants.{No, Yes}
 use Rattle.cert_check.specs.Places.{IsFirstWrong, NamesEach, coflows_in, ids_in}

@@ -1,7 +1,7 @@
 use Rattle.std.proofs.Common.{◌≡◌, ◌++◌, sym, ap, ◌∙◌, arith}
 use Rattle.coflow_units.specs.Text.{spaced}
-use Rattle.report.proofs.LineText.{not_there, prefix_found}
-use Rattle.report.proofs.NumberText.{spaced_unique}
+use Rattle.report_text.proofs.LineText.{not_there, prefix_found}
+use Rattle.report_text.proofs.NumberText.{spaced_unique}
 use Rattle.live_text.proofs.FieldText.{behind_word}
 use Rattle.live_text.proofs.fields.field_then.Goals as goal
 

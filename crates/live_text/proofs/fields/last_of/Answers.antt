@@ -1,5 +1,5 @@
 use Rattle.std.proofs.Common.{[], arith}
-use Rattle.report.proofs.PartText.{not_empty}
+use Rattle.report_text.proofs.PartText.{not_empty}
 use Rattle.live_text.proofs.FieldText.{at_end, field_unique}
 use Rattle.live_text.proofs.fields.last_of.Goals as goal
 

@@ -1,8 +1,8 @@
 use Rattle.std.proofs.Common.{◌<◌, ◌^◌, arith}
 use Rattle.std.specs.List.{flat_map}
 use Rattle.coflow_units.specs.Text.{spaced}
-use Rattle.report.proofs.FlowText.{stops_flows}
-use Rattle.report.proofs.PartText.{not_empty}
+use Rattle.report_text.proofs.FlowText.{stops_flows}
+use Rattle.report_text.proofs.PartText.{not_empty}
 use Rattle.live_text.proofs.LineReading.{next_id, one_id}
 use Rattle.live_text.proofs.lines.ids_of.Goals as goal
 

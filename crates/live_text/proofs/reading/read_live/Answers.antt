@@ -1,8 +1,8 @@
 use Rattle.std.proofs.Common.{◌≡◌, ◌∷◌, [], ◌++◌, arith}
 use Rattle.live_text.specs.Draft.{IsDraft, Refuses, draft_lines, live_of}
-use Rattle.report.proofs.PartText.{empty_is, not_empty}
+use Rattle.report_text.proofs.PartText.{empty_is, not_empty}
 use Rattle.live_text.proofs.ReadingSteps.{IsLiveText, are_lines, lines_after, bad_at, draft_begins, no_whole, refused}
-use Rattle.report.proofs.WholeLines.{cut_at, early_at, few_read, none_yet, one_more, refused_at}
+use Rattle.report_text.proofs.WholeLines.{cut_at, early_at, few_read, none_yet, one_more, refused_at}
 use Rattle.live_text.proofs.reading.read_live.Goals as goal
 
 pub loop-rest-init : goal.loop-rest-init

@@ -1,6 +1,6 @@
 -- what was read so far is the front of the bytes
 use Rattle.std.proofs.Common.{length}
-use Rattle.report.proofs.WholeLines.{IsRead}
+use Rattle.report_text.proofs.WholeLines.{IsRead}
 use Rattle.live_text.specs.Draft.{IsDraft, draft_lines}
 use Rattle.live_text.proofs.ReadingSteps.{IsLiveText}
 use Rattle.live_text.proofs.reading.read_live.Given as goal

@@ -1,6 +1,6 @@
 use Rattle.std.proofs.Common.{get_or, arith}
 use Rattle.std.proofs.lemmas.List.{get_or_default}
-use Rattle.report.proofs.TextSteps.{each_step}
+use Rattle.report_text.proofs.TextSteps.{each_step}
 use Rattle.live_text.specs.declared.value.PullLine.{PullLine}
 use Rattle.live_text.specs.Text.{pull_line}
 use Rattle.live_text.proofs.writing.push_pulls.Goals as goal

@@ -1,7 +1,7 @@
 use Rattle.std.proofs.Common.{◌≡◌, ◌++◌, List, ℕ, [], map, subst}
 use Rattle.std.specs.Prelude.{codes}
 use Rattle.coflow_units.specs.declared.plan.Run.{Run}
-use Rattle.report.specs.Text.{run_line}
+use Rattle.report_text.specs.Text.{run_line}
 use Rattle.coflow_units.specs.Text.{text_of}
 use Rattle.live_text.specs.declared.value.EntryLine.{EntryLine}
 use Rattle.live_text.specs.declared.value.PullLine.{PullLine}

@@ -1,6 +1,6 @@
 use Rattle.std.proofs.Common.{refl, sym, ◌∙◌, arith}
-use Rattle.report.proofs.NumberText.{spaced_unique}
-use Rattle.report.proofs.PartText.{side_unique}
+use Rattle.report_text.proofs.NumberText.{spaced_unique}
+use Rattle.report_text.proofs.PartText.{side_unique}
 use Rattle.online_text.proofs.OneLines.{behind_id, behind_number, behind_side, words_parts}
 use Rattle.online_text.proofs.parts.charge_then.Goals as goal
 

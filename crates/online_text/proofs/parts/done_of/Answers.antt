@@ -1,8 +1,8 @@
 use Rattle.std.proofs.Common.{◌≡◌, ◌++◌, drop, refl, sym, ap, ◌∙◌, append_assoc, arith}
 use Rattle.std.specs.Prelude.{codes}
 use Rattle.coflow_units.specs.Text.{spaced}
-use Rattle.report.proofs.LineText.{prefix_found}
-use Rattle.report.proofs.PartText.{same_number}
+use Rattle.report_text.proofs.LineText.{prefix_found}
+use Rattle.report_text.proofs.PartText.{same_number}
 use Rattle.online_text.proofs.parts.done_of.Goals as goal
 
 pub returns-in_default-number_of : goal.returns-in_default-number_of

@@ -1,6 +1,6 @@
 use Rattle.std.proofs.Common.{[], sym, ◌∙◌, append-nil, arith}
 use Rattle.coflow_units.specs.Text.{spaced}
-use Rattle.report.proofs.PartText.{not_empty, same_number}
+use Rattle.report_text.proofs.PartText.{not_empty, same_number}
 use Rattle.online_text.proofs.parts.number_of.Goals as goal
 
 pub returns-in_default : goal.returns-in_default

@@ -1,8 +1,8 @@
 use Rattle.std.proofs.Common.{◌≡◌, ◌++◌, sym, ap, ◌∙◌, arith}
 use Rattle.std.proofs.lemmas.List.{append_cancel_left}
 use Rattle.coflow_units.specs.Text.{spaced}
-use Rattle.report.proofs.LineText.{not_there, prefix_found}
-use Rattle.report.proofs.PartText.{same_number}
+use Rattle.report_text.proofs.LineText.{not_there, prefix_found}
+use Rattle.report_text.proofs.PartText.{same_number}
 use Rattle.online_text.proofs.parts.numbered_then.Goals as goal
 
 pub returns-in_default : goal.returns-in_default

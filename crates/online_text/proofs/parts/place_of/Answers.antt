@@ -2,7 +2,7 @@ use Rattle.std.proofs.Common.{[], sym, ◌∙◌, append-nil}
 use Rattle.std.specs.Prelude.{codes}
 use Rattle.online_text.specs.Text.{charge_words}
 use Rattle.online_text.proofs.OneLines.{words_unique}
-use Rattle.report.proofs.PartText.{not_empty}
+use Rattle.report_text.proofs.PartText.{not_empty}
 use Rattle.online_text.proofs.PartSteps.{behind_both}
 use Rattle.online_text.proofs.parts.place_of.Goals as goal
 

@@ -3,7 +3,7 @@ use Rattle.std.specs.List.{slice_get}
 use Rattle.std.specs.Option.{option_map}
 use Rattle.std.proofs.lemmas.List.{length-map}
 use Rattle.std.proofs.lemmas.Option.{slice_get-map}
-use Rattle.report.proofs.FlowText.{rises_is}
+use Rattle.report_text.proofs.FlowText.{rises_is}
 use Rattle.online_text.specs.declared.value.Epoch.{Epoch}
 use Rattle.online_text.proofs.parts.rises.Goals as goal
 

@@ -1,7 +1,7 @@
 use Rattle.std.proofs.Common.{arith}
 use Rattle.online_text.specs.Draft.{Follows, IsDraft, Refuses}
-use Rattle.report.proofs.PartText.{empty_is, not_empty}
-use Rattle.report.proofs.WholeLines.{few_read}
+use Rattle.report_text.proofs.PartText.{empty_is, not_empty}
+use Rattle.report_text.proofs.WholeLines.{few_read}
 use Rattle.online_text.proofs.ReadingSteps.{IsOnlineText, all_read, cut_short, ends_early, line_read, line_refused, nothing_read}
 use Rattle.online_text.proofs.reading.read_online.Goals as goal
 

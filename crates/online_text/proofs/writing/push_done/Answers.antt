@@ -1,6 +1,6 @@
 use Rattle.std.proofs.Common.{get_or, arith}
 use Rattle.std.proofs.lemmas.List.{get_or_default}
-use Rattle.report.proofs.TextSteps.{each_step}
+use Rattle.report_text.proofs.TextSteps.{each_step}
 use Rattle.online_text.specs.declared.value.DoneLine.{DoneLine}
 use Rattle.online_text.specs.Text.{done_line}
 use Rattle.online_text.proofs.writing.push_done.Goals as goal

@@ -1,5 +1,5 @@
 use Rattle.std.proofs.Common.{refl}
-use Rattle.report.specs.Reading.{IsBadAt, IsTextOf}
+use Rattle.report_text.specs.Reading.{IsBadAt, IsTextOf}
 use Rattle.command_files.proofs.CauseFacts.{checked_out, from_report, input_cause, text_good}
 use Rattle.command_files.proofs.ReportFacts.{report_before}
 use Rattle.command_files.proofs.ShelfFacts.{files_kept, passed_on}

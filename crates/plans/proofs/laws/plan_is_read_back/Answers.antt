@@ -1,5 +1,5 @@
 use Rattle.std.proofs.Common.{refl, sym}
-use Rattle.report.proofs.TextLaws.{reports_are_one}
+use Rattle.report_text.proofs.TextLaws.{reports_are_one}
 use Rattle.plans.proofs.PlanReportFacts.{ids_are_small, plan_is_report, plan_is_small}
 use Rattle.plans.proofs.PlanSound.{read_back_has_yes}
 use Rattle.plans.proofs.laws.plan_is_read_back.Goals as goal

@@ -1,7 +1,7 @@
 use Rattle.std.proofs.Common.{◌<◌, ◌∙◌, List, ap, arith, length, subst, sym}
 use Rattle.std.specs.Prelude.{All, map}
 use Rattle.std.proofs.lemmas.List.Elements.{All-push}
-use Rattle.report.specs.declared.value.PlaceLine.{PlaceLine}
+use Rattle.report_text.specs.declared.value.PlaceLine.{PlaceLine}
 use Rattle.std.specs.List.{range_with_len}
 use Rattle.coflow_units.specs.declared.fabric.Flow.{Flow}
 use Rattle.coflow_units.specs.declared.fabric.Side.TheVariants.{Ingress}

@@ -1,6 +1,6 @@
 use Rattle.std.proofs.Common.{◌≡◌, ◌<◌, ◌^◌, take}
 use Rattle.std.specs.Prelude.{All, map}
-use Rattle.report.specs.declared.value.PlaceLine.{PlaceLine}
+use Rattle.report_text.specs.declared.value.PlaceLine.{PlaceLine}
 use Rattle.plans.specs.PlanReport.{line_of}
 use Rattle.plans.proofs.places.place_lines.Given as goal
 

@@ -8,7 +8,7 @@ use Rattle.schedule_model.specs.RunList.{pairs_of}
 use Rattle.coflow_units.specs.declared.plan.Place.{Place}
 use Rattle.plans.specs.PlanReport.{coflows_of}
 use Rattle.plans.proofs.CertificateFacts.{each_place_within}
-use Rattle.report.specs.declared.value.PlaceLine.{PlaceLine}
+use Rattle.report_text.specs.declared.value.PlaceLine.{PlaceLine}
 use Rattle.plans.proofs.PlanReportFacts.{plan_is_report, plan_is_small}
 use Rattle.plans.proofs.PlanSteps.{slots_hold_flows}
 use Rattle.plans.proofs.planning.report_of.Goals as goal

@@ -7,7 +7,7 @@ use Rattle.coflow_units.specs.Completion.{cost}
 use Rattle.coflow_units.specs.Schedule.{IsRuns}
 use Rattle.coflow_units.specs.Served.{IsServed}
 use Rattle.rankers.specs.FactsTold.{IsBssiOrder, IsFacts}
-use Rattle.report.specs.declared.classed.ClassText.{ClassText}
+use Rattle.report_text.specs.declared.classed.ClassText.{ClassText}
 use Rattle.schedule_model.specs.RunList.{pairs_of}
 use Rattle.rankers.proofs.ClassFacts.{line_all, line_known, listed, served_names}
 use Rattle.rankers.proofs.classing.classes_text.Goals as goal

@@ -5,7 +5,7 @@ use Rattle.flow_table.specs.Table.{instance_of}
 use Rattle.rankers.specs.declared.row.Row.{Row}
 use Rattle.rankers.specs.FactsTold.{IsFacts, IsFactsOf}
 use Rattle.rankers.specs.Meaning.{Meaning}
-use Rattle.report.specs.declared.compared.Compare.{Compare}
+use Rattle.report_text.specs.declared.compared.Compare.{Compare}
 use Rattle.rankers.specs.Comparison.{line_of, names_of}
 use Rattle.rankers.proofs.RowFacts.{left_asked, names_count, rows_count, rows_known}
 use Rattle.rankers.proofs.reporting.comparison_text.Goals as goal

@@ -1,8 +1,8 @@
 -- the lines so far
 use Rattle.std.proofs.Common.{◌≡◌, take}
 use Rattle.std.specs.Prelude.{All, map}
-use Rattle.report.specs.declared.compared.RowLine.{RowLine}
-use Rattle.report.specs.Compared.{IsName}
+use Rattle.report_text.specs.declared.compared.RowLine.{RowLine}
+use Rattle.report_text.specs.Compared.{IsName}
 use Rattle.rankers.specs.Comparison.{line_of}
 use Rattle.rankers.proofs.reporting.lines_of.Given as goal
 

@@ -1,7 +1,7 @@
 -- the names so far
 use Rattle.std.proofs.Common.{◌≡◌, take}
 use Rattle.std.specs.Prelude.{All, map}
-use Rattle.report.specs.Compared.{IsName}
+use Rattle.report_text.specs.Compared.{IsName}
 use Rattle.rankers.proofs.reporting.names_of.Given as goal
 
 abbrev pub invariant-loop-ranker : goal.invariant-loop-ranker

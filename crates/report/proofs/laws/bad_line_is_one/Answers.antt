@@ -1,5 +1,0 @@
-use Rattle.report.proofs.ReadingSteps.{line_is_one}
-use Rattle.report.proofs.laws.bad_line_is_one.Goals as goal
-
-pub returns : goal.returns
-returns c = line_is_one

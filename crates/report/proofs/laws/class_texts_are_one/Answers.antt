@@ -1,5 +1,0 @@
-use Rattle.report.proofs.BenchOne.{class_one}
-use Rattle.report.proofs.laws.class_texts_are_one.Goals as goal
-
-pub returns : goal.returns
-returns c = class_one

@@ -1,5 +1,0 @@
-use Rattle.report.proofs.MadeOne.{made_one}
-use Rattle.report.proofs.laws.summaries_are_one.Goals as goal
-
-pub returns : goal.returns
-returns c = made_one

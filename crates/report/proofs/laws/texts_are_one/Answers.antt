@@ -1,5 +1,0 @@
-use Rattle.report.proofs.TextLaws.{reports_are_one}
-use Rattle.report.proofs.laws.texts_are_one.Goals as goal
-
-pub returns : goal.returns
-returns c = reports_are_one

@@ -1,5 +1,0 @@
-use Rattle.coflow_units.proofs.Fronts.{none_length}
-use Rattle.report.proofs.lines.digits_length.Goals as goal
-
-pub returns-in-None-clause-digits : goal.returns-in-None-clause-digits
-returns-in-None-clause-digits c = none_length _ c.args.bytes.now c.in-None.ensures

@@ -1,0 +1,21 @@
+use Rattle.std.proofs.Common.{arith}
+use Rattle.report_text.proofs.DraftText.{refuse_long, refuse_same}
+use Rattle.report_text.proofs.DraftSteps.{run_taken}
+use Rattle.report_text.proofs.draft.Draft.take_run.Goals as goal
+
+pub returns-then-run-self : goal.returns-then-run-self
+returns-then-run-self c =
+    let run = rw c.in-Some.is at c.in_ok-run.ensures in
+    refuse_long c.args.self.now c.in-Some.run' c.args.line.now c.requires.draft c.requires.stage run.0 run.1 (omega arith)
+
+pub returns-then-not-differs : goal.returns-then-not-differs
+returns-then-not-differs c =
+    let run = rw c.in-Some.is at c.in_ok-run.ensures in
+    refuse_same c.args.self.now c.in-Some.run' c.args.line.now c.requires.draft c.requires.stage run.0 run.1
+    (rw (c.deref.ensures.value, c.as_slice.ensures) at c.if-not-differs.ensures)
+
+pub returns : goal.returns
+returns c =
+    let run = rw c.in-Some.is at c.in_ok-run.ensures in
+    run_taken c.args.self.now c.push.new.self c.in-Some.run' c.args.line.now c.requires.draft c.requires.stage c.in_ok-push.ensures.items run.0 run.1 (omega arith)
+    (rw (c.deref.ensures.value, c.as_slice.ensures) at c.if-not-differs.ensures)

@@ -1,0 +1,12 @@
+-- what was read so far is the front of the bytes
+use Rattle.std.proofs.Common.{length}
+use Rattle.report_text.specs.Draft.{IsDraft, draft_lines}
+use Rattle.report_text.proofs.ReadingSteps.{IsReportText}
+use Rattle.report_text.proofs.WholeLines.{IsRead}
+use Rattle.report_text.proofs.reading.read_report.Given as goal
+
+abbrev pub invariant-loop-rest : goal.invariant-loop-rest
+invariant-loop-rest l = IsDraft l.draft × IsRead IsReportText l.bytes l.rest (draft_lines l.draft) l.line_number
+
+abbrev pub decreases-loop-rest : goal.decreases-loop-rest
+decreases-loop-rest l = length l.rest
