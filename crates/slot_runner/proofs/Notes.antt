@@ -11,7 +11,7 @@ use Rattle.journal.specs.declared.command.Command.TheVariants.{Short}
 use Rattle.journal.specs.declared.command.Entry.{Entry}
 use Rattle.journal.specs.declared.command.Reply.{Reply}
 use Rattle.journal.specs.declared.opening.Opening.{Opening}
-use Rattle.journal.specs.Driven.{Drive, driven, driver_entries, IsUnderWay, notes_port, times_noted}
+use Rattle.journal.specs.Driven.{Drive, driven, driver_entries, IsUnderWay, NoneNotedFrom, notes_port, times_noted}
 use Rattle.journal.specs.Journal.{entry}
 use Rattle.journal.specs.Runs.{grant_in}
 use Rattle.journal.proofs.Ingresses.{grant_is}
@@ -54,7 +54,7 @@ pub begins_noted : (o : Opening) (before : List Entry) (d : Drive) (driver : Dri
 begins_noted o before d driver x = record {
   place = record { gate = refl; setting = refl; rank = refl; made = refl };
   between = d.between;
-  under_way = record { goes_on = x.under_way.goes_on; earlier = x.under_way.earlier; between = x.under_way.between; once = x.under_way.once };
+  under_way = record { goes_on = x.under_way.goes_on; earlier = x.under_way.earlier; between = x.under_way.between; once = x.under_way.once; in_order = x.under_way.in_order };
   noted = λ p f lt. absurd (omega arith);
   not_yet = λ p le. ap (λ es. times_noted es p) x.no_notes;
   calls = refl;
@@ -107,9 +107,10 @@ one_noted o before d old now new k f r x on place grant short =
     let way = met_under_way o before now.journal on.before (e ∷ []) so_far x.under_way on.others driving in
     let others_free = others_are_other now.journal others (e ∷ []) (subst (λ l. DrivenByRoot (l ++ e ∷ [])) on.others.1 driving) on.others.2 in
     let is = grant_is o.table.flows (driven o before d) k f grant in
-    let fresh : times_noted (x.between ++ others) k ≡ 0 = noted_both x.between others k ∙ omega (arith, x.not_yet k (omega arith), others_note_none others k others_free) in
+    let fresh : NoneNotedFrom (x.between ++ others) k =
+    λ q le. noted_both x.between others q ∙ omega (arith, x.not_yet q le, others_note_none others q others_free) in
     let more = note_more o before on.before (record d { between = x.between ++ others }) f r.reply way is.0 (omega (arith, short, ap d.sent is.1))
-    (subst (λ q. times_noted (x.between ++ others) q ≡ 0) (sym is.1) fresh) in
+    (subst (NoneNotedFrom (x.between ++ others)) (sym is.1) fresh) in
     let there = subst (λ q. IsUnderWay o before (on.before ++ entry 0 (Short q (d.sent q)) r.reply ∷ []) (record d
     { between = (x.between ++ others) ++ entry 0 (Short q (d.sent q)) r.reply ∷ [] })) is.1 more in
     let count : (p : ℕ) → times_noted ((x.between ++ others) ++ e ∷ []) p ≡ times_noted x.between p + due (k == p) =

@@ -2,7 +2,7 @@
 use Rattle.std.specs.Prelude.{◌≡◌, ℕ, ◌+◌, ◌<◌, ◌≤◌, nat_lt, if◌then◌else◌, false, true, List, [], ◌∷◌, ◌++◌, Contains, length, Option, Some, None}
 use Rattle.journal.specs.declared.command.Entry.{Entry}
 use Rattle.journal.specs.declared.opening.Opening.{Opening}
-use Rattle.journal.specs.Driven.{Drive, driven, driver_entries, IsUnderWay, times_noted}
+use Rattle.journal.specs.Driven.{Drive, driven, driver_entries, IsUnderWay, NoneNotedFrom, times_noted}
 use Rattle.journal.specs.Runs.{grant_in}
 use Rattle.port_board.specs.declared.view.Came.{Came}
 use Rattle.port_board.specs.declared.view.Grant.{Grant}
@@ -62,14 +62,14 @@ pub record IsOpenRunOf (o : Opening) (before : List Entry) (d : Drive) (driver :
   pub calls : o.table.ports + 1 ≤ driver.left
   pub position : driver.position ≡ length driver.journal
 
--- the first so many ports are noted where they are to be
+-- The first so many ports are noted where they are to be, in their order, and no port after them is noted yet.
 pub record AreNoted (o : Opening) (before : List Entry) (d : Drive) (old new : DriverModel) (ports : ℕ) : Type 0 where
   pub place : StaysInHall old new
   pub between : List Entry
   pub under_way : IsUnderWay o before new.journal (record d { between = between })
   pub noted : (p f : ℕ) → p < ports → grant_in o.table.flows (driven o before d) p ≡ Some f →
       times_noted between p ≡ (if nat_lt (d.sent p) d.slots then 1 else 0)
-  pub not_yet : (p : ℕ) → ports ≤ p → times_noted between p ≡ 0
+  pub not_yet : NoneNotedFrom between ports
   pub calls : CallsFall old new
   pub left : o.table.ports + 1 ≤ new.left + ports
   pub position : new.position ≡ length new.journal

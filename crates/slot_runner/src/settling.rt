@@ -16,7 +16,7 @@ use client_session::{Answer, Driver, Hall};
 use port_board::{PortBoard, Poster, Settled};
 use std::sync::Wait;
 
-/// Settles each port that has a post, once all agents came back, and notes what was sent from it in units where that is less than the run has slots. The answer is the first such port, with what was sent from it.
+/// Settles each port that has a post, by number, once all agents came back, and notes what was sent from it in units where that is less than the run has slots. The answer is the first such port, with what was sent from it.
 pub fn settle_ports<R: Wait>(
     rt: &R,
     hall: &Hall,
