@@ -1,7 +1,9 @@
 -- Steps that were worked out by hand.
-use Rattle.std.specs.Prelude.{◌≡◌, ℕ, List, [], ◌∷◌}
-use Rattle.journal.specs.declared.command.Command.TheVariants.{Register, Open, Pull}
-use Rattle.journal.specs.declared.command.Reply.TheVariants.{Full, Joined, Opened, Noted, Closed}
+use Rattle.std.specs.Prelude.{◌≡◌, ℕ, List, [], ◌∷◌, ◌++◌}
+use Rattle.journal.specs.declared.command.Command.TheVariants.{Register, Open, Pull, Short}
+use Rattle.journal.specs.declared.command.Reply.TheVariants.{Full, Joined, Opened, Noted, Closed, Unranked}
+use Rattle.journal.specs.Driven.{closed_in, closing, Drive}
+use Rattle.journal.specs.Journal.{entry}
 use Rattle.journal.specs.Rows.{two}
 use Rattle.world_model.specs.declared.event.Event.{Event}
 use Rattle.world_model.specs.declared.event.Event.TheVariants.{Ask, Post, Draw, Send, Report, Settle, Note, Close}
@@ -12,7 +14,8 @@ use Rattle.world_model.specs.declared.event.Happened.TheVariants.{Noted as Noted
 use Rattle.world_model.specs.declared.event.SentRun.{SentRun}
 use Rattle.world_model.specs.Sent.{times_sent}
 use Rattle.world_model.specs.World.{WorldFacts, new_world}
-use Rattle.world_model.specs.Steps.{happened, world_after}
+use Rattle.world_model.specs.Played.{AreTaken, events_of, IsPlayed}
+use Rattle.world_model.specs.Steps.{happened, world_after, world_of}
 
 -- the steps are answered so, one after another
 abbrev pub Happens : WorldFacts → List (Event × Happened) → Type 0
@@ -53,6 +56,53 @@ SendsNothing = Happens (new_world (two 100) 2)
     (Draw 1 0, Drawn)
     ∷ (Report 0 0, Blocked) ∷ (Report 1 0, Reported) ∷ (Settle 0, Settled 0) ∷ (Note 0, NotedIt (Noted 0))
     ∷ (Close, Replied (Closed 1)) ∷ [])
+
+-- Two agents, and a run of two slots in which agent 1 sends one unit from port 0. Caller 1 registers a coflow before
+-- it, and caller 2 pulls a rank before the driver notes the port.
+abbrev pub before_run : WorldFacts
+before_run = new_world (two 100) 2
+
+abbrev pub agent_one : ℕ → ℕ
+agent_one port = 1
+
+abbrev pub short_run : Drive
+short_run = record {
+  earlier = entry 1 (Register 0) Joined ∷ [];
+  most = 2;
+  first = 1;
+  slots = 2;
+  count = 1;
+  between = entry 2 (Pull 0) (Unranked 0) ∷ entry 0 (Short 0 1) (Noted 1) ∷ [];
+  answer = Closed 1;
+  sent = λ port. 1;
+}
+
+-- the steps of that run
+abbrev pub Listed : Type 0
+Listed = events_of before_run agent_one short_run ≡
+    Ask 1 (Register 0) ∷ Ask 0 (Open 2) ∷ Post 0 ∷ Draw 1 0 ∷ Send 1 0 1 ∷ Report 1 0 ∷ Settle 0 ∷ Ask 2 (Pull 0) ∷
+    Note 0 ∷ Close ∷ []
+
+-- these steps make the journal of that run and send its unit
+abbrev pub MakesRun : List Event → Type 0
+MakesRun events =
+    IsPlayed before_run (world_of before_run events) (closed_in [] short_run ++ closing short_run ∷ []) short_run
+
+-- its own steps do
+abbrev pub ListedMakesRun : Type 0
+ListedMakesRun = MakesRun (events_of before_run agent_one short_run)
+
+-- without the report they do not: the port is not settled, and the run is not closed
+abbrev pub Unreported : Type 0
+Unreported = MakesRun
+    (Ask 1 (Register 0) ∷ Ask 0 (Open 2) ∷ Post 0 ∷ Draw 1 0 ∷ Send 1 0 1 ∷ Settle 0 ∷ Ask 2 (Pull 0) ∷ Note 0 ∷
+    Close ∷ []) → ⊥
+
+-- where the port is drawn twice, not every step is taken
+abbrev pub DrawnTwice : Type 0
+DrawnTwice = AreTaken before_run
+    (Ask 1 (Register 0) ∷ Ask 0 (Open 2) ∷ Post 0 ∷ Draw 1 0 ∷ Draw 1 0 ∷ Send 1 0 1 ∷ Report 1 0 ∷ Settle 0 ∷
+    Ask 2 (Pull 0) ∷ Note 0 ∷ Close ∷ []) → ⊥
 
 -- a run that was sent twice, with another one between and one that overlaps at another port
 abbrev pub run_twice : SentRun

@@ -1,5 +1,5 @@
 //! Laws of the world: what each step keeps, and what holds after every list of steps.
-ghost use Rattle.std.specs.Prelude.{◌≡◌, ℕ, ◌<◌, true, false, List};
+ghost use Rattle.std.specs.Prelude.{◌≡◌, ℕ, true, false, List};
 ghost use Rattle.journal.specs.declared.command.Command.{Command};
 ghost use Rattle.journal.specs.declared.opening.Opening.{Opening};
 ghost use Rattle.journal.specs.declared.command.Entry.{Entry};
@@ -14,8 +14,8 @@ ghost use Rattle.world_model.specs.World.{WorldFacts, new_world, port_at};
 ghost use Rattle.world_model.specs.Guards.{can};
 ghost use Rattle.world_model.specs.Steps.{IsBusy, IsSameButJournal, happened, is_full_answer, is_refused_answer, leaves, moved, world_after, world_of};
 ghost use Rattle.world_model.specs.Lawful.{AreDrawnByAgents, ClosesAsSent, IsLegalWorld, IsWorld, OpensGrants, OpensPatiently, SendsInTime, SendsOnce, SendsWithin};
-ghost use Rattle.world_model.specs.Played.{IsPlayed};
-ghost use Rattle.world_model.specs.Rows.{Doubled, SendsNothing, Shorts, Strangers, Turns};
+ghost use Rattle.world_model.specs.Played.{AreAgents, AreTaken, events_of, IsPlayed};
+ghost use Rattle.world_model.specs.Rows.{Doubled, DrawnTwice, Listed, ListedMakesRun, SendsNothing, Shorts, Strangers, Turns, Unreported};
 
 /// After every list of steps from a new world, whatever callers, agents and the driver did and in whatever order: the journal is legal; no pair of a slot and a flow was sent twice; no
 /// flow was sent more units than it has; nothing was sent past the open run; each closing credited to each flow what was sent for it in the run; and each opening granted the grants of its
@@ -66,12 +66,16 @@ pub fn kept_worlds_are_lawful()
     ensures patient { (w : WorldFacts) → OpensPatiently w }
 {}
 
-/// A run of the driver among entries of others is a list of steps, from a world that has an agent: they make the journal of
-/// that run, with the commands of others between, and send what the run says.
+/// A run of the driver among entries of others is played by its steps, whichever agent of the world draws at each port:
+/// each of them is taken, and they make the journal of that run, with the commands of others between, and send what the
+/// run says.
 pub fn runs_are_played()
-    ensures { (w : WorldFacts) (after : List Entry) (d : Drive) → IsWorld w → 0 < w.agents → IsLegal w.opening after →
-        InRange w.opening after → IsDriven w.opening w.journal after d →
-        (events : List Event) × IsPlayed w (world_of w events) after d }
+    ensures taken { (w : WorldFacts) (agent_at : ℕ → ℕ) (after : List Entry) (d : Drive) → IsWorld w →
+        AreAgents w agent_at → IsLegal w.opening after → InRange w.opening after →
+        IsDriven w.opening w.journal after d → AreTaken w (events_of w agent_at d) }
+    ensures played { (w : WorldFacts) (agent_at : ℕ → ℕ) (after : List Entry) (d : Drive) → IsWorld w →
+        AreAgents w agent_at → IsLegal w.opening after → InRange w.opening after →
+        IsDriven w.opening w.journal after d → IsPlayed w (world_of w (events_of w agent_at d)) after d }
 {}
 
 /// Who drew or reported a post is one of the agents, after every list of steps from a new world, and no step changes that.
@@ -103,5 +107,9 @@ pub fn rows_hold()
     ensures shorts { Shorts }
     ensures strangers { Strangers }
     ensures sends_nothing { SendsNothing }
+    ensures listed { Listed }
+    ensures listed_makes_run { ListedMakesRun }
+    ensures unreported { Unreported }
+    ensures drawn_twice { DrawnTwice }
     ensures doubled { Doubled }
 {}
