@@ -6,7 +6,7 @@ use Rattle.client_session.specs.Models.{DriverModel, HallModel, IsDriverOf, IsSe
 -- the driver of a new hall has made no session and has seen nothing
 pub record IsFirstDriver (hall : HallModel) (calls : ℕ) (driver : DriverModel) : Type 0 where
   pub hall_is : IsDriverOf hall driver
-  pub rank : driver.rank ≡ new_seat hall.setting.board.table 0
+  pub rank : driver.rank ≡ new_seat hall.setting.board.table driver.rank.id 0
   pub made : driver.made ≡ 0
   pub left : driver.left ≡ calls
   pub journal : driver.journal ≡ []
@@ -20,4 +20,4 @@ pub record IsNewSession (hall : HallModel) (driver : DriverModel) (calls : ℕ) 
   pub left : session.left ≡ calls
   pub position : session.position ≡ driver.position
   pub own : session.own ≡ []
-  pub rank : session.rank ≡ new_seat hall.setting.board.table driver.rank.seen
+  pub rank : session.rank ≡ new_seat hall.setting.board.table session.rank.id driver.rank.seen

@@ -104,7 +104,7 @@ pub fn first_parts(
     ensures ports { IfOk result (λ made. length made.0.at ≡ ports) }
     ensures coflows { IfOk result (λ made. made.1.coflows ≡ coflows) }
     ensures publisher { IfOk result (λ made. made.2 ≡ first_publisher made.1.table) }
-    ensures seat { IfOk result (λ made. made.3 ≡ new_seat made.1.table 0) }
+    ensures seat { IfOk result (λ made. made.3 ≡ new_seat made.1.table made.3.id 0) }
 {
     let granted = Granted::new(alloc, ports)?;
     let (board, publisher, rank) = RankBoard::new(alloc, coflows)?;

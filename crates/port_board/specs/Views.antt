@@ -18,9 +18,10 @@ pub record Board : Type 0 where
   pub id : TableId
   pub ports : ℕ
 
--- a seat of this table, which knows this much
+-- a seat of this table, which of its seats it is, and what it knows
 pub record Sits : Type 0 where
   pub at : TableId
+  pub id : ℕ
   pub view : View
 
 abbrev pub grant : ℕ → ℕ → ℕ → ℕ → Grant

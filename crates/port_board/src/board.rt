@@ -80,6 +80,7 @@ impl PortBoard {
         requires own { poster.old.at ≡ self.now.id }
         requires room { agents_out poster.old.view < 2 ^ 32 - 1 }
         ensures own { (poster.new.at ≡ poster.old.at) × (result.at ≡ poster.old.at) }
+        ensures same { poster.new.id ≡ poster.old.id }
         ensures poster { poster.new.view ≡ one_more poster.old.view }
         ensures seat { result.view ≡ newcomer poster.old.view }
     {
@@ -95,6 +96,7 @@ impl PortBoard {
     pub fn show(&self, poster: &mut Poster, seat: &mut AgentSeat)
         requires own { (poster.old.at ≡ self.now.id) × (seat.old.at ≡ self.now.id) }
         ensures own { (poster.new.at ≡ poster.old.at) × (seat.new.at ≡ seat.old.at) }
+        ensures same { (poster.new.id ≡ poster.old.id) × (seat.new.id ≡ seat.old.id) }
         ensures poster { poster.new.view ≡ poster.old.view }
         ensures seat { seat.new.view ≡ sees poster.old.view.posts seat.old.view }
     {
@@ -110,6 +112,7 @@ impl PortBoard {
         requires own { (poster.old.at ≡ self.now.id) × (seat.at ≡ self.now.id) }
         requires reported { seat.view.out ≡ [] }
         ensures own { poster.new.at ≡ poster.old.at }
+        ensures same { poster.new.id ≡ poster.old.id }
         ensures lists { (word : ℕ) × (poster.new.view ≡ looked 0 word (takes_in poster.old.view seat.view)) }
         ensures handed { (c : Came) × Contains poster.new.view.back c × (c.done ≡ seat.view.done) ×
             (c.missed ≡ seat.view.missed) }
@@ -140,6 +143,7 @@ impl PortBoard {
         requires flow { flow < MAX_FLOWS }
         requires length { (1 ≤ length) × (length ≤ MAX_SLOT + 1) }
         ensures own { poster.new.at ≡ poster.old.at }
+        ensures same { poster.new.id ≡ poster.old.id }
         ensures post { poster.new.view ≡ posted_too (grant port slot flow length) poster.old.view }
         ensures unsettled { is_unsettled port poster.new.view.posts poster.new.view.settled ≡ true }
     {
@@ -167,6 +171,7 @@ impl PortBoard {
         requires own { seat.old.at ≡ self.now.id }
         requires port { port < self.now.ports }
         ensures own { seat.new.at ≡ seat.old.at }
+        ensures same { seat.new.id ≡ seat.old.id }
         ensures drawn { (g : Grant) → result ≡ Draw.Drawn g →
             (g.port ≡ port) × (seat.new.view ≡ drew self.now.ports (word_of granted g.slot g.flow) g seat.old.view) }
         ensures held { (g : Grant) → result ≡ Draw.Drawn g → Contains seat.new.view.out g }
@@ -202,6 +207,7 @@ impl PortBoard {
         requires port { port < self.now.ports }
         requires agent { (place.old.me.0.kind ≡ Agent (number_of place.old.me.0.kind)) × (place.old.me.0.step ≡ Rests) }
         ensures own { place.new.table_id ≡ place.old.table_id }
+        ensures same { place.new.id ≡ place.old.id }
         ensures granted { (word : ℕ) → result ≡ Result.Ok word →
             (shows_granted word ≡ true) × (place.new.me ≡ (loaded_now port word place.old.me.0, place.old.me.1)) }
         ensures idle { (word : ℕ) → result ≡ Result.Err word →
@@ -223,6 +229,7 @@ impl PortBoard {
         requires agent { place.old.me.0.kind ≡ Agent (number_of place.old.me.0.kind) }
         requires loaded { (place.old.me.0.step ≡ Loaded port loaded) × (shows_granted loaded ≡ true) }
         ensures own { place.new.table_id ≡ place.old.table_id }
+        ensures same { place.new.id ≡ place.old.id }
         ensures drawn { (g : Grant) → result ≡ Draw.Drawn g →
             (g.port ≡ port) × FitsWord g.slot g.flow × (loaded ≡ word_of granted g.slot g.flow) ×
             (place.new.me ≡ (drawn_now self.now.ports g loaded place.old.me.0, place.old.me.1)) }
@@ -263,6 +270,7 @@ impl PortBoard {
         requires drawn { Contains seat.old.view.out drawn }
         requires sent { sent ≤ drawn.length }
         ensures own { seat.new.at ≡ seat.old.at }
+        ensures same { seat.new.id ≡ seat.old.id }
         ensures report { seat.new.view ≡ reported_as drawn sent seat.old.view }
     {
         let Drawn {
@@ -289,6 +297,7 @@ impl PortBoard {
         requires port { port < self.now.ports }
         requires unsettled { is_unsettled port poster.old.view.posts poster.old.view.settled ≡ true }
         ensures own { poster.new.at ≡ poster.old.at }
+        ensures same { poster.new.id ≡ poster.old.id }
         ensures sent { (n : ℕ) → result ≡ Settled.Sent n →
             (word : ℕ) × (before : View) × Tried port poster.old.view before × (shows_reported word ≡ true) ×
             (poster.new.view ≡ looked (self.now.ports + port) n (settled_as port (Some n) (looked port word before))) ×
@@ -321,6 +330,7 @@ impl PortBoard {
         requires poster { (IsPoster place.old.me.0.kind) × (place.old.me.0.step ≡ Rests) × (place.old.me.1 ≡ []) }
         requires unsettled { is_unsettled port place.old.me.0.posts place.old.me.0.settled ≡ true }
         ensures own { (place.new.table_id ≡ place.old.table_id) × (place.new.me.1 ≡ []) }
+        ensures same { place.new.id ≡ place.old.id }
         ensures range { port + port < place.old.table_id.words }
         ensures sent { (n : ℕ) → result ≡ Settled.Sent n →
             (word : ℕ) × (before : View) × Tried port place.old.me.0 before × (shows_reported word ≡ true) ×
@@ -360,6 +370,7 @@ impl PortBoard {
             ((shows_granted word || (shows_drawn word || shows_reported word)) ≡ true) }
         requires agrees { Agrees place.old.me.0 }
         ensures own { (place.new.table_id ≡ place.old.table_id) × (place.new.me.1 ≡ place.old.me.1) }
+        ensures same { place.new.id ≡ place.old.id }
         ensures sent { (n : ℕ) → result ≡ Settled.Sent n →
             (shows_reported word ≡ true) ×
             (place.new.me.0 ≡ looked (self.now.ports + port) n (settled_as port (Some n) place.old.me.0)) }

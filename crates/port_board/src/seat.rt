@@ -21,7 +21,7 @@ impl Model for Poster {
 
     ghost Value = { Sits };
 
-    ghost view = { λ p. record { at = p.place.table_id; view = p.place.me.0 } };
+    ghost view = { λ p. record { at = p.place.table_id; id = p.place.id; view = p.place.me.0 } };
 
     ghost invariant = { λ p. (p.place.me.1 ≡ []) × (p.place.me.0.step ≡ Rests) × (IsPoster p.place.me.0.kind) ×
         (length p.place.me.0.back + p.agents ≡ p.place.me.0.made) ×
@@ -65,7 +65,7 @@ impl Model for AgentSeat {
 
     ghost Value = { Sits };
 
-    ghost view = { λ s. record { at = s.place.table_id; view = s.place.me.0 } };
+    ghost view = { λ s. record { at = s.place.table_id; id = s.place.id; view = s.place.me.0 } };
 
     ghost invariant = { λ s. (s.place.me.1 ≡ []) × (s.place.me.0.step ≡ Rests) ×
         (s.place.me.0.kind ≡ Agent (number_of s.place.me.0.kind)) × (s.ports + s.ports ≡ s.place.table_id.words) ×

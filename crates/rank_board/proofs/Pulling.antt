@@ -30,15 +30,15 @@ found_of (Unranked version) = 0
 found_of (Moved front found) = found
 
 -- a seat that loaded a word of a version, and keeps no pull
-pub saw_it : (t t' : TableId) (seen : ℕ) (pulls : List Pull) (looks looks' : List (ℕ × ℕ)) (place coflow word : ℕ) → t' ≡ t → 0 < seen → looks' ≡ looks ++ (place, word) ∷ []
+pub saw_it : (t t' : TableId) (n n' seen : ℕ) (pulls : List Pull) (looks looks' : List (ℕ × ℕ)) (place coflow word : ℕ) → t' ≡ t → n' ≡ n → 0 < seen → looks' ≡ looks ++ (place, word) ∷ []
     → place ≡ word_at seen coflow
-    → ◌≡◌ {A = SeatModel} (record { table = t'; seen = seen; pulls = pulls; looks = looks' })
-    (saw_word seen coflow word (record { table = t; seen = seen; pulls = pulls; looks = looks }))
-saw_it t t' seen pulls looks looks' place coflow word same pos e at =
-    let s : SeatModel = record { table = t; seen = seen; pulls = pulls; looks = looks } in
-    let after : SeatModel = record { table = t; seen = seen; pulls = pulls; looks = looks ++ (word_at seen coflow, word) ∷ [] } in
+    → ◌≡◌ {A = SeatModel} (record { table = t'; id = n'; seen = seen; pulls = pulls; looks = looks' })
+    (saw_word seen coflow word (record { table = t; id = n; seen = seen; pulls = pulls; looks = looks }))
+saw_it t t' n n' seen pulls looks looks' place coflow word same one pos e at =
+    let s : SeatModel = record { table = t; id = n; seen = seen; pulls = pulls; looks = looks } in
+    let after : SeatModel = record { table = t; id = n; seen = seen; pulls = pulls; looks = looks ++ (word_at seen coflow, word) ∷ [] } in
     let l : looks' ≡ looks ++ (word_at seen coflow, word) ∷ [] = e ∙ ap (λ (p : ℕ). looks ++ (p, word) ∷ []) at in
-    (λ i. record { table = same i; seen = seen; pulls = pulls; looks = l i }) ∙ sym (ap (λ b. cond b s after) (ne_eqb seen 0 (λ z. omega arith)))
+    (λ i. record { table = same i; id = one i; seen = seen; pulls = pulls; looks = l i }) ∙ sym (ap (λ b. cond b s after) (ne_eqb seen 0 (λ z. omega arith)))
 
 -- one more pull stands in the looks where its word was loaded
 pub read_kept : (looks looks' : List (ℕ × ℕ)) (pulls pulls' : List Pull) (place word version coflow rank mark : ℕ) → looks' ≡ looks ++ (place, word) ∷ [] →

@@ -15,10 +15,11 @@ pub record PublisherModel : Type 0 where
   pub table : TableId
   pub published : List (List ℕ)
 
--- a seat: its board, the greatest version that it has seen, its pulls, and its looks
+-- a seat: its board, which of its seats it is, the greatest version that it has seen, its pulls, and its looks
 -- (the words that it loaded, each with its place)
 pub record SeatModel : Type 0 where
   pub table : TableId
+  pub id : ℕ
   pub seen : ℕ
   pub pulls : List Pull
   pub looks : List (ℕ × ℕ)
@@ -28,8 +29,8 @@ abbrev pub first_publisher : TableId → PublisherModel
 first_publisher table = record { table = table; published = [] }
 
 -- a new seat, which has seen this version
-abbrev pub new_seat : TableId → ℕ → SeatModel
-new_seat table seen = record { table = table; seen = seen; pulls = []; looks = [] }
+abbrev pub new_seat : TableId → ℕ → ℕ → SeatModel
+new_seat table id seen = record { table = table; id = id; seen = seen; pulls = []; looks = [] }
 
 -- the seat loaded a word
 abbrev pub looked : ℕ → ℕ → SeatModel → SeatModel

@@ -91,6 +91,7 @@ impl Model for RankSeat {
 
     ghost view = { λ s. record {
       table = s.place.table_id;
+      id = s.place.id;
       seen = s.seen;
       pulls = s.pulls.list;
       looks = s.place.me.0.looks;
@@ -126,7 +127,7 @@ impl RankBoard {
     pub fn new(alloc: Global, coflows: u32) -> Result<(RankBoard, Publisher, RankSeat), NoMemory>
         ensures coflows { IfOk result (λ made. made.0.coflows ≡ coflows) }
         ensures publisher { IfOk result (λ made. made.1 ≡ first_publisher made.0.table) }
-        ensures seat { IfOk result (λ made. made.2 ≡ new_seat made.0.table 0) }
+        ensures seat { IfOk result (λ made. made.2 ≡ new_seat made.0.table made.2.id 0) }
     {
         let words = vec![in alloc; 0u64; 1 + 2 * coflows as usize]?;
         let key = u64::from(coflows);
@@ -153,7 +154,7 @@ impl RankBoard {
     pub fn seat(&self, from: &mut RankSeat) -> RankSeat
         requires own { from.old.table ≡ self.now.table }
         ensures from { from.new ≡ from.old }
-        ensures seat { result ≡ new_seat from.old.table from.old.seen }
+        ensures seat { result ≡ new_seat from.old.table result.id from.old.seen }
     {
         RankSeat {
             place: self.table.split_seat::<Another>(&mut from.place),
@@ -319,6 +320,7 @@ fn hand_on(steps: &Steps, from: &mut Place, to: &mut Place)
         (0 < steps.now.table_id.words) }
     requires right { from.old.me.0.publishes ≡ true }
     ensures same { (from.new.table_id ≡ from.old.table_id) × (to.new.table_id ≡ to.old.table_id) }
+    ensures ids { (from.new.id ≡ from.old.id) × (to.new.id ≡ to.old.id) }
     ensures from { from.new.me ≡ (without_right from.old.me.0, from.old.me.1) }
     ensures to { to.new.me ≡ (takes_right to.old.me.0 from.old.me.0, to.old.me.1) }
 {

@@ -34,7 +34,7 @@ returns-clause-session c =
       left = refl;
       position = ap (λ (x : DriverModel). x.position) v;
       own = nothing_own d.root c.seat-seat.result d.turned d.position c.made.result d.granted c.driver.invariant seat number;
-      rank = c.seat.ensures.seat ∙ (λ i. new_seat (board i) (v i).rank.seen);
+      rank = c.seat.ensures.seat ∙ (λ i. new_seat (board i) c.seat.result.id (v i).rank.seen);
     }
 
 pub invariant_of-driver : goal.invariant_of-driver

@@ -36,7 +36,7 @@ returns-then-found-version-clause-moved c = λ front found e.
       (
         word % 4294967296,
         omega arith,
-        saw_it _ _ _ _ _ _ _ c.args.coflow word c.load-word.ensures.own.0 pos (ap (λ (m : M). m.0.looks) l.0) c.place_of-place.ensures
+        saw_it _ _ _ _ _ _ _ _ _ c.args.coflow word c.load-word.ensures.own.0 c.load-word.ensures.own.1 pos (ap (λ (m : M). m.0.looks) l.0) c.place_of-place.ensures
             ∙ (λ i. saw_word (a i) c.args.coflow (w i) (c.seat.view_is i)),
       ),
     )
