@@ -1,8 +1,9 @@
 -- Agents beside each other: one agent, and two parts that are one.
-use Rattle.std.proofs.Common.{◌≡◌, ℕ, ◌+◌, ◌-◌, ◌<◌, ◌≤◌, inl, inr, List, [], ◌∷◌, ◌++◌, length, get_or, set, sym, refl, ap, subst, arith, Option, Some, None, zero}
+use Rattle.std.proofs.Common.{◌≡◌, ℕ, ◌+◌, ◌-◌, ◌<◌, ◌≤◌, inl, inr, List, [], ◌∷◌, ◌++◌, length, get_or, set, sym, refl, ap, ◌∙◌, subst, arith, Option, Some, None, zero}
 use Rattle.std.proofs.Common.{suc, ⊎_elim, length-append}
-use Rattle.std.specs.Prelude.{Contains}
-use Rattle.std.proofs.lemmas.List.{get_or_append_left, get_or-append_right}
+use Rattle.std.specs.Prelude.{Contains, flat_map}
+use Rattle.std.proofs.lemmas.List.{append-nil, get_or_append_left, get_or-append_right}
+use Rattle.std.proofs.lemmas.List.Concat.{flat_map-append}
 use Rattle.std.proofs.lemmas.List.Elements.{Contains-append_left, Contains-append_right, Contains-append_cases}
 use Rattle.std.proofs.lemmas.Bool.{cases_lt}
 use Rattle.std.proofs.lemmas.Option.{none-some, same_Some}
@@ -10,8 +11,9 @@ use Rattle.coflow_units.proofs.Sums.{first_or_tail, in_first, in_tail, nothing_i
 use Rattle.port_board.specs.declared.view.Report.{Report}
 use Rattle.port_board.specs.declared.view.View.{View}
 use Rattle.port_board.specs.Views.{Sits}
-use Rattle.port_agent.specs.Served.{Attended, Attends, taken}
-use Rattle.port_agent.specs.Attended.{AreServed, HadPort, IsServed, WireServed}
+use Rattle.port_agent.specs.Served.{Attended, Attends, IsTry, Look, TriedEachOnce, taken}
+use Rattle.port_agent.specs.Attended.{AreServed, EachTriedOnce, HadPort, IsServed, WireServed}
+use Rattle.port_agent.proofs.Rounds.{taken_append}
 
 -- a report of the list of what was drawn stands at a place of it, and one at a place stands in the list
 taken_from : (took : List (Option Report)) (r : Report) → Contains (taken took) r → (i : ℕ) × (i < length took) × (get_or took i None ≡ Some r)
@@ -154,3 +156,52 @@ module _ {W : Type 0} (faults : W → ℕ) (runs : W → Option (List (ℕ × �
   served_alone [] s first took before after e done all = absurd (omega (arith, e))
   served_alone (a ∷ []) s first took before after e done all = one_agent s first took done before after all
   served_alone (a ∷ b ∷ rest) s first took before after e done all = let two : suc (suc (length rest)) ≡ 1 = e in absurd (omega arith)
+
+-- what the one agent of a list tried
+pub tried_alone : (ports first : ℕ) (v : View) (took : List (Option Report)) (agents : List Sits) (s : Sits) (many : ℕ) → length agents ≡ 1 → length took ≡ many → v.done ≡ [] →
+    v.looks ≡ [] → s.view.done ≡ v.done ++ taken took → TriedEachOnce ports first took v s.view → EachTriedOnce ports first many (set agents 0 s)
+tried_alone ports first v took [] s many e long none unseen done tried = absurd (omega (arith, e))
+tried_alone ports first v took (a ∷ []) s many e long none unseen done tried = record {
+  took = took;
+  took_many = long;
+  tries = tried.tries;
+  tries_many = tried.as_many ∙ long;
+  each = λ i lt. tried.each i (omega (arith, lt, long));
+  reports = append-nil s.view.done ∙ (done ∙ ap (λ l. l ++ taken took) none);
+  looks = append-nil s.view.looks ∙ (tried.looks ∙ ap (λ l. l ++ flat_map (λ (k : List Look). k) tried.tries) unseen);
+}
+tried_alone ports first v took (a ∷ b ∷ rest) s many e long none unseen done tried = let two : suc (suc (length rest)) ≡ 1 = e in absurd (omega arith)
+
+-- what two parts side by side tried
+both_tried : (ports first m n : ℕ) (ls rs : List Sits) → EachTriedOnce ports first m ls → EachTriedOnce ports (first + m) n rs → EachTriedOnce ports first (m + n) (ls ++ rs)
+both_tried ports first m n ls rs one two =
+    let took = one.took ++ two.took in
+    let tries = one.tries ++ two.tries in
+    let tooks = length-append one.took two.took in
+    let longs = length-append one.tries two.tries in
+    let a = one.took_many in
+    let b = two.took_many in
+    let c = one.tries_many in
+    let d = two.tries_many in record {
+      took = took;
+      took_many = omega arith;
+      tries = tries;
+      tries_many = omega arith;
+      each = λ i lt. ⊎_elim
+          (λ (here : i < m). subst (λ (z : Option Report × List Look). IsTry ports (first + i) z.0 z.1)
+          (λ t. (sym (get_or_append_left one.took two.took None i (omega (arith, a, here))) t, sym (get_or_append_left one.tries two.tries [] i (omega (arith, c, here))) t))
+          (one.each i here))
+          (λ (there : m ≤ i). let back : first + m + (i - m) ≡ first + i = omega (arith, there) in
+          subst (λ (z : ℕ × Option Report × List Look). IsTry ports z.0 z.1 z.2)
+          (λ t. (back t, sym (get_or-append_right one.took two.took m i None a there) t, sym (get_or-append_right one.tries two.tries m i [] c there) t))
+          (two.each (i - m) (omega (arith, there, lt))))
+          (cases_lt i m);
+      reports = flat_map-append (λ (s : Sits). s.view.done) ls rs ∙ ((λ t. one.reports t ++ two.reports t) ∙ sym (taken_append one.took two.took));
+      looks = flat_map-append (λ (s : Sits). s.view.looks) ls rs ∙
+          ((λ t. one.looks t ++ two.looks t) ∙ sym (flat_map-append (λ (k : List Look). k) one.tries two.tries));
+    }
+
+pub tried_halves : {W : Type 0} (ports first second : ℕ) (ws xs ys : List W) (ls rs : List Sits) → ws ≡ xs ++ ys → second ≡ first + length xs →
+    EachTriedOnce ports first (length xs) ls → EachTriedOnce ports second (length ys) rs → EachTriedOnce ports first (length ws) (ls ++ rs)
+tried_halves ports first second ws xs ys ls rs p at one two = subst (λ n. EachTriedOnce ports first n (ls ++ rs)) (sym (length-append xs ys) ∙ ap (λ l. length l) (sym p))
+    (both_tried ports first (length xs) (length ys) ls rs one (subst (λ n. EachTriedOnce ports n (length ys) rs) at two))

@@ -13,7 +13,7 @@ use Rattle.port_board.specs.Views.{last_at, IsNewest, LastIsListed}
 use Rattle.port_agent.specs.declared.agent.Served.{Served}
 use Rattle.port_agent.specs.Served.{Look, IsTry, TriedOnce, TriedEachOnce, GoesOn, SentOn, Attends, ServesPort, IsRound, taken, units_of, shorts_of, adds}
 
-taken_append : (xs ys : List (Option Report)) → taken (xs ++ ys) ≡ taken xs ++ taken ys
+pub taken_append : (xs ys : List (Option Report)) → taken (xs ++ ys) ≡ taken xs ++ taken ys
 taken_append [] ys = refl
 taken_append (None ∷ xs) ys = taken_append xs ys
 taken_append (Some r ∷ xs) ys = ap (λ l. r ∷ l) (taken_append xs ys)

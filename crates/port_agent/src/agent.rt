@@ -68,6 +68,7 @@ impl Agent {
         requires own { self.old.at ≡ board.now.id }
         requires ports { first + length wires.old ≤ board.now.ports }
         ensures own { self.new.at ≡ self.old.at }
+        ensures same { self.new.id ≡ self.old.id }
         ensures out { self.new.view.out ≡ self.old.view.out }
         ensures shown { self.new.view.shown ≡ self.old.view.shown }
         ensures round { IsRound W.faults W.runs board.now.ports first self.old.view self.new.view wires.old wires.new
@@ -99,6 +100,7 @@ impl Agent {
         requires own { self.old.at ≡ board.now.id }
         requires port { port < board.now.ports }
         ensures own { self.new.at ≡ self.old.at }
+        ensures same { self.new.id ≡ self.old.id }
         ensures port { ServesPort W.faults W.runs board.now.ports port self.old.view self.new.view wire.old wire.new
             result }
     {

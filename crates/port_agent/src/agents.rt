@@ -3,7 +3,8 @@ ghost use Rattle.std.specs.Prelude.{◌≡◌, ◌⊎◌, ℕ, ◌+◌, ◌-◌,
 ghost use denote.Param.Send.{IsSync};
 ghost use Rattle.port_board.specs.declared.view.Grant.{Grant};
 ghost use Rattle.port_board.specs.Agreement.{EachPosted, SharesNothing};
-ghost use Rattle.port_agent.specs.Attended.{AreBack, AreServed, IsFresh, IsServedBy, kept_of};
+ghost use Rattle.port_board.specs.Views.{came_of, Sits};
+ghost use Rattle.port_agent.specs.Attended.{AreBack, AreServed, EachTriedOnce, IsFresh, IsServedBy, kept_of};
 
 use crate::agent::Agent;
 use outside::Wire;
@@ -11,7 +12,7 @@ use port_board::{PortBoard, Poster};
 use std::sync::Wait;
 use std::thread::{Threads, join_mut};
 
-/// So many new agents, which were shown all posts of the poster, serve the ports beside each other, each on a thread of its own, and come back.
+/// So many new agents, which were shown all posts of the poster, serve the ports beside each other, each on a thread of its own, and come back. Together they try once at each port.
 ///
 /// There is one wire for each port that is to be served, from port 0 on, in units of the grants. The list of seats is empty and has room for the agents. No memory is taken.
 pub fn serve_run<R: Threads + Sync, W: Wire + Send>(
@@ -29,8 +30,12 @@ pub fn serve_run<R: Threads + Sync, W: Wire + Send>(
     requires some { 1 ≤ agents }
     requires ports { length wires.old ≤ board.now.ports }
     ensures own { poster.new.at ≡ poster.old.at }
+    ensures same { poster.new.id ≡ poster.old.id }
     ensures many { poster.new.view.made ≡ poster.old.view.made + agents }
     ensures served { IsServedBy W.faults W.runs poster.old.view poster.new.view wires.old wires.new }
+    ensures tries { (seats : List Sits) ×
+        (poster.new.view.back ≡ poster.old.view.back ++ map (λ (s : Sits). came_of s.view) seats) ×
+        EachTriedOnce board.now.ports 0 (length wires.old) seats }
 {
     let mut seats = seats;
     make_agents(board, poster, &mut seats, agents);
@@ -44,6 +49,7 @@ fn make_agents(board: &PortBoard, poster: &mut Poster, seats: &mut Vec<Agent>, a
     requires none_out { length poster.old.view.back ≡ poster.old.view.made }
     requires seats { (seats.old.items ≡ []) × (agents ≤ vec_capacity seats.old) }
     ensures own { poster.new.at ≡ poster.old.at }
+    ensures same { poster.new.id ≡ poster.old.id }
     ensures poster { poster.new.view ≡ record poster.old.view { made = poster.old.view.made + agents } }
     ensures many { length seats.new.items ≡ agents }
     ensures fresh { All (IsFresh board.now.id poster.old.view.posts) seats.new.items }
@@ -56,7 +62,7 @@ fn make_agents(board: &PortBoard, poster: &mut Poster, seats: &mut Vec<Agent>, a
 }
 
 // The agents serve the ports from `first` on, one for each wire, each agent at its own ports next to each other.
-#[tactic(auto, using(crate::proofs::Halves::halves))]
+#[tactic(auto, using(crate::proofs::Halves::halves, crate::proofs::Halves::tried_halves))]
 fn serve_all<R: Threads + Sync, W: Wire + Send>(
     rt: &R,
     board: &PortBoard,
@@ -69,6 +75,7 @@ fn serve_all<R: Threads + Sync, W: Wire + Send>(
     requires ports { first + length wires.old ≤ board.now.ports }
     ensures seats { map kept_of agents.new ≡ map kept_of agents.old }
     ensures served { AreServed W.faults W.runs agents.new first wires.old wires.new }
+    ensures tries { EachTriedOnce board.now.ports first (length wires.old) agents.new }
 {
     let _few = board.ports();
     if agents.len() == 1 {
@@ -87,14 +94,16 @@ fn serve_all<R: Threads + Sync, W: Wire + Send>(
                 ((posts : List Grant) × All (IsFresh board.now.id posts) a.now) ×
                 (first + length x.now ≤ board.now.ports) }
             ensures { (map kept_of a.exit.now ≡ map kept_of a.entry.now) ×
-                AreServed W.faults W.runs a.exit.now first x.entry.now x.exit.now }
+                AreServed W.faults W.runs a.exit.now first x.entry.now x.exit.now ×
+                EachTriedOnce board.entry.now.ports first (length x.entry.now) a.exit.now }
         { serve_all(rt, board, first, a, x) },
         &mut || -> ()
             requires { IsSync R.row × (1 ≤ length b.now) ×
                 ((posts : List Grant) × All (IsFresh board.now.id posts) b.now) ×
                 (second + length y.now ≤ board.now.ports) }
             ensures { (map kept_of b.exit.now ≡ map kept_of b.entry.now) ×
-                AreServed W.faults W.runs b.exit.now second y.entry.now y.exit.now }
+                AreServed W.faults W.runs b.exit.now second y.entry.now y.exit.now ×
+                EachTriedOnce board.entry.now.ports second (length y.entry.now) b.exit.now }
         { serve_all(rt, board, second, b, y) },
     );
 }
@@ -105,6 +114,7 @@ fn take_back(board: &PortBoard, poster: &mut Poster, seats: Vec<Agent>)
     requires seats { All (λ s. (s.at ≡ board.now.id) × (s.view.out ≡ [])) seats.items }
     requires posted { EachPosted poster.old.view × AllPairs SharesNothing poster.old.view.back }
     ensures own { poster.new.at ≡ poster.old.at }
+    ensures same { poster.new.id ≡ poster.old.id }
     ensures back { AreBack poster.old.view poster.new.view seats.items }
 {
     for agent in seats {

@@ -7,6 +7,7 @@ use Rattle.port_agent.proofs.agents.make_agents.Given as goal
 abbrev pub invariant-loop-number : goal.invariant-loop-number
 invariant-loop-number l = record {
   at : l.poster.at ≡ l.fn.poster.at;
+  same : l.poster.id ≡ l.fn.poster.id;
   poster : l.poster.view ≡ record l.fn.poster.view { made = l.fn.poster.view.made + l._number };
   many : length l.seats.items ≡ l._number;
   fresh : All (IsFresh l.board.id l.fn.poster.view.posts) l.seats.items;

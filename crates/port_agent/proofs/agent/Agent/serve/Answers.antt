@@ -12,6 +12,7 @@ loop-offset-preserved-in_default g c =
     let i : ℕ = c.loop-offset.offset in
     let inside : i < length c.loop-offset.wires = subst (λ z. i < z) (sym c.loop-offset.auto.wires) c.loop-offset-test.true in record {
       own = c.in_default.ensures.own ∙ c.loop-offset.invariant.own;
+      same = c.in_default.ensures.same ∙ c.loop-offset.invariant.same;
       few = c.loop-offset.invariant.few;
       so_far = goes_idle g.W.Wire.faults g.W.Wire.runs c.args.board.now.ports c.args.first i c.args.self.now.view c.loop-offset.self.view c.serve_port.new.self.view c.args.wires.now c.loop-offset.wires
           c.serve_port.new.wire c.loop-offset-test.true c.loop-offset.served
@@ -24,6 +25,7 @@ loop-offset-preserved g c =
     let i : ℕ = c.loop-offset.offset in
     let inside : i < length c.loop-offset.wires = subst (λ z. i < z) (sym c.loop-offset.auto.wires) c.loop-offset-test.true in record {
       own = c.in-Some.ensures.own ∙ c.loop-offset.invariant.own;
+      same = c.in-Some.ensures.same ∙ c.loop-offset.invariant.same;
       few = c.loop-offset.invariant.few;
       so_far = goes_took g.W.Wire.faults g.W.Wire.runs c.args.board.now.ports c.args.first i c.args.self.now.view c.loop-offset.self.view c.serve_port.new.self.view c.args.wires.now c.loop-offset.wires
           c.serve_port.new.wire c.loop-offset-test.true c.loop-offset.served c.add.new.self
@@ -34,6 +36,7 @@ loop-offset-preserved g c =
 pub loop-offset-init : goal.loop-offset-init
 loop-offset-init g c = record {
   own = refl;
+  same = refl;
   few = subst (λ z. z ≤ 1025) c.ports-few.ensures.ports c.ports-few.ensures.range.1;
   so_far = begins g.W.Wire.faults g.W.Wire.runs c.args.board.now.ports c.args.first c.args.self.now.view c.args.wires.now (record { drawn = 0; sent = 0; short = 0 }) refl refl refl;
 }
