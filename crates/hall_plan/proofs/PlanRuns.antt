@@ -55,7 +55,7 @@ goes_on_so before r =
 pub is_driven : (o : Opening) (before : List Entry) (r : ℕ × ℕ × ℕ) → IsDriven o before (before ++ run_entries r) (run_drive r)
 is_driven o before r = record {
   goes_on = goes_on_so before r;
-  under_way = record { goes_on = refl; earlier = All-nil _; between = All-nil _; once = λ port. omega arith };
+  under_way = record { goes_on = refl; earlier = All-nil _; between = All-nil _; once = λ port. omega arith; in_order = λ i j x less lt. absurd (omega arith) };
   within = λ f in'. omega arith;
   noted = λ f in'. sym (ap {B = ℕ} (λ b. cond b 1 0) (le-ltb r.1 r.1 (omega arith)));
 }
