@@ -227,7 +227,7 @@ module _ (root new_root : Roots) (seat new_seat : Sits) (root_is : new_root ≡ 
         left = left;
         position = top;
         own = own_stays i;
-        rank = record { table = (rank_is i).table; seen = new_rank.seen; pulls = (rank_is i).pulls; looks = new_rank.looks };
+        rank = record { table = (rank_is i).table; id = (rank_is i).id; seen = new_rank.seen; pulls = (rank_is i).pulls; looks = new_rank.looks };
       });
       looks = ((0, new_rank.seen) ∷ [], ap (λ (x : SeatModel). x.looks) rank_is);
       position = longer_now;
