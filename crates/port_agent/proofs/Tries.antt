@@ -100,7 +100,7 @@ tried_grant ports port sent g v v1 w at e r =
     let l : Look = (g.port, word) in
     let n : Look = (ports + g.port, g.length) in (
       (port, word) ∷ (port, word) ∷ (ports + port, g.length) ∷ [],
-      (word, refl, refl),
+      (at, (word, refl, refl)),
       ap (λ (z : View). z.looks) r ∙ (ap (λ (z : View). z.looks) e ∙
           (ap (λ k. k ++ n ∷ []) (append_assoc v.looks (l ∷ []) (l ∷ [])) ∙ (append_assoc v.looks (l ∷ l ∷ []) (n ∷ []) ∙
           (λ i. v.looks ++ (at i, word) ∷ (at i, word) ∷ (ports + at i, g.length) ∷ [])))),

@@ -29,10 +29,10 @@ abbrev pub FoundGrant : ℕ → ℕ → Grant → List Look → Type 0
 FoundGrant ports port g looks = (word : ℕ) × (word ≡ word_of granted g.slot g.flow) ×
     (looks ≡ (port, word) ∷ (port, word) ∷ (ports + port, g.length) ∷ [])
 
--- the looks of one try at a port, of so many ports: nothing was drawn there, or the grant of this report
+-- the looks of one try at a port, of so many ports: nothing was drawn there, or the port's grant of this report
 abbrev pub IsTry : ℕ → ℕ → Option Report → List Look → Type 0
 IsTry ports port None looks = FoundIdle port looks ⊎ FoundOther port looks
-IsTry ports port (Some r) looks = FoundGrant ports port r.grant looks
+IsTry ports port (Some r) looks = (r.grant.port ≡ port) × FoundGrant ports port r.grant looks
 
 -- the seat tried once at the port, and looked nowhere else
 abbrev pub TriedOnce : ℕ → ℕ → View → View → Option Report → Type 0
