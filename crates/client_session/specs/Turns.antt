@@ -15,12 +15,14 @@ use Rattle.client_session.specs.Desk.{IsSeen, KeepsLooks}
 use Rattle.client_session.specs.Own.{IsPass, look_version, own_entries, own_entry, receipt_of}
 use Rattle.client_session.specs.Models.{SessionModel}
 
--- a turn call leaves the session in its hall, with its number and its noted pulls; it forgets no word that was loaded
+-- a turn call leaves the session in its hall, with its number, its seat at the board and its noted pulls; it forgets no
+-- word that was loaded
 pub record KeepsPlace (old new : SessionModel) : Type 0 where
   pub gate : new.gate ≡ old.gate
   pub setting : new.setting ≡ old.setting
   pub number : new.number ≡ old.number
   pub board : new.rank.table ≡ old.rank.table
+  pub seat : new.rank.id ≡ old.rank.id
   pub notes : new.rank.pulls ≡ old.rank.pulls
   pub looks : KeepsLooks old.rank new.rank
   pub version : old.rank.seen ≤ new.rank.seen

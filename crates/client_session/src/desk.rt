@@ -143,8 +143,8 @@ impl Desk {
         ensures met { (r : Receipt) → result ≡ Ok r → MetAt self.old.journal self.new.journal seat.old seat.new }
         ensures full { (n : ℕ) → result ≡ Err n → (self.new.journal ≡ self.old.journal) ×
             (n ≡ length self.old.journal) × (self.old.setting.opening.limit ≤ n) }
-        ensures seat { (seat.new.table ≡ seat.old.table) × (seat.new.pulls ≡ seat.old.pulls) ×
-            KeepsLooks seat.old seat.new × (seat.old.seen ≤ seat.new.seen) }
+        ensures seat { (seat.new.table ≡ seat.old.table) × (seat.new.id ≡ seat.old.id) ×
+            (seat.new.pulls ≡ seat.old.pulls) × KeepsLooks seat.old seat.new × (seat.old.seen ≤ seat.new.seen) }
     {
         if let Command::Publish = command {
             self.meet(board, seat);

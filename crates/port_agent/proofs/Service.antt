@@ -36,17 +36,13 @@ kept_seats at posts old new same fresh = from_mapped (IsOf at posts) kept_of new
 pub may_return : (at : TableId) (posts : List Grant) (seats : List Sits) → All (IsKept at posts) seats → All (λ (s : Sits). (s.at ≡ at) × (s.view.out ≡ [])) seats
 may_return at posts seats kept = All-weaker (IsKept at posts) (λ (s : Sits). (s.at ≡ at) × (s.view.out ≡ [])) (λ s k. (k.0, k.2)) seats kept
 
--- the seats came back to the poster that made them
-pub came_back : (v made w : View) (n : ℕ) (seats : List Sits) → made ≡ record v { made = v.made + n } → AreBack made w seats → w.back ≡ v.back ++ map (λ (s : Sits). came_of s.view) seats
-came_back v made w n seats is back = back.back ∙ ap (λ (x : View). x.back ++ map (λ (s : Sits). came_of s.view) seats) is
-
 module _ {W : Type 0} (faults : W → ℕ) (runs : W → Option (List (ℕ × ℕ × ℕ))) where
   pub served_by : (at : TableId) (v made w : View) (n : ℕ) (old new : List Sits) (ws ws' : List W) → length v.back ≡ v.made → made ≡ record v { made = v.made + n } → length old
       ≡ n →
       All (IsFresh at v.posts) old → map kept_of new ≡ map kept_of old → AreServed faults runs new 0 ws ws' → AreBack made w new → IsServedBy faults runs v w ws ws'
   served_by at v made w n old new ws ws' none is many fresh same served back =
       let kept = kept_seats at v.posts old new same fresh in
-      let back_is = came_back v made w n new is back in
+      let back_is : w.back ≡ v.back ++ map (λ (s : Sits). came_of s.view) new = back.back ∙ ap (λ (x : View). x.back ++ map (λ (s : Sits). came_of s.view) new) is in
       let as_many = ap (λ (l : List Kept). length l) same in
       let news = length-map new kept_of in
       let olds = length-map old kept_of in

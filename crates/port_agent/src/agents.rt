@@ -3,7 +3,6 @@ ghost use Rattle.std.specs.Prelude.{◌≡◌, ◌⊎◌, ℕ, ◌+◌, ◌-◌,
 ghost use denote.Param.Send.{IsSync};
 ghost use Rattle.port_board.specs.declared.view.Grant.{Grant};
 ghost use Rattle.port_board.specs.Agreement.{EachPosted, SharesNothing};
-ghost use Rattle.port_board.specs.Views.{came_of, Sits};
 ghost use Rattle.port_agent.specs.Attended.{AreBack, AreServed, EachTriedOnce, IsFresh, IsServedBy, kept_of};
 
 use crate::agent::Agent;
@@ -12,7 +11,7 @@ use port_board::{PortBoard, Poster};
 use std::sync::Wait;
 use std::thread::{Threads, join_mut};
 
-/// So many new agents, which were shown all posts of the poster, serve the ports beside each other, each on a thread of its own, and come back. Together they try once at each port.
+/// So many new agents, which were shown all posts of the poster, serve the ports beside each other, each on a thread of its own, and come back.
 ///
 /// There is one wire for each port that is to be served, from port 0 on, in units of the grants. The list of seats is empty and has room for the agents. No memory is taken.
 pub fn serve_run<R: Threads + Sync, W: Wire + Send>(
@@ -33,9 +32,6 @@ pub fn serve_run<R: Threads + Sync, W: Wire + Send>(
     ensures same { poster.new.id ≡ poster.old.id }
     ensures many { poster.new.view.made ≡ poster.old.view.made + agents }
     ensures served { IsServedBy W.faults W.runs poster.old.view poster.new.view wires.old wires.new }
-    ensures tries { (seats : List Sits) ×
-        (poster.new.view.back ≡ poster.old.view.back ++ map (λ (s : Sits). came_of s.view) seats) ×
-        EachTriedOnce board.now.ports 0 (length wires.old) seats }
 {
     let mut seats = seats;
     make_agents(board, poster, &mut seats, agents);

@@ -6,7 +6,7 @@ use Rattle.port_board.specs.declared.view.View.{View}
 use Rattle.port_board.specs.Agreement.{EachPosted, SharesNothing}
 use Rattle.port_board.specs.Views.{Sits}
 use Rattle.port_agent.specs.Attended.{AreBack, IsFresh, kept_of}
-use Rattle.port_agent.proofs.Service.{came_back, kept_seats, may_return, same_many, served_by}
+use Rattle.port_agent.proofs.Service.{kept_seats, may_return, same_many, served_by}
 use Rattle.port_agent.proofs.agents.serve_run.Goals as goal
 
 pub serve_all-requires-clause-fresh : goal.serve_all-requires-clause-fresh
@@ -37,12 +37,3 @@ returns-clause-served g c =
     c.args.wires.now
     c.serve_all.new.wires c.requires.none_out c.make_agents.ensures.poster c.make_agents.ensures.many c.make_agents.ensures.fresh kept c.serve_all.ensures.served
     (subst (AreBack c.make_agents.new.poster.view c.take_back.new.poster.view) (written_back c.make_agents.new.seats.len new old many) c.take_back.ensures.back)
-
-pub returns-clause-tries : goal.returns-clause-tries
-returns-clause-tries g c =
-    let old = c.make_agents.new.seats.items in
-    let new = c.serve_all.new.agents in
-    let kept : map kept_of new ≡ map kept_of old = c.serve_all.ensures.seats ∙ ap (λ (l : List Sits). map kept_of l) c.deref_mut.ensures.value in
-    let many : length new ≡ c.make_agents.new.seats.len = same_many old new kept ∙ sym c.make_agents.new.seats.ok.0 in
-    let back = subst (AreBack c.make_agents.new.poster.view c.take_back.new.poster.view) (written_back c.make_agents.new.seats.len new old many) c.take_back.ensures.back in
-    (new, came_back _ _ _ _ new c.make_agents.ensures.poster back, c.serve_all.ensures.tries)

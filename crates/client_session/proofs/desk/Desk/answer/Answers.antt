@@ -30,6 +30,10 @@ returns c =
       | in-Publish w ↦ ap (λ (x : SeatModel). x.table) w.seat-is ∙ ap (λ (x : SeatModel). x.table) w.meet.ensures.seat
       | in_default w ↦ ap (λ (x : SeatModel). x.table) w.seat-is
     ] in
+    let id : c.match-command.seat.id ≡ seat.id = elim c.match-command.branch [
+      | in-Publish w ↦ ap (λ (x : SeatModel). x.id) w.seat-is ∙ ap (λ (x : SeatModel). x.id) w.meet.ensures.seat
+      | in_default w ↦ ap (λ (x : SeatModel). x.id) w.seat-is
+    ] in
     let pulls : c.match-command.seat.pulls ≡ seat.pulls = elim c.match-command.branch [
       | in-Publish w ↦ ap (λ (x : SeatModel). x.pulls) w.seat-is ∙ ap (λ (x : SeatModel). x.pulls) w.meet.ensures.seat
       | in_default w ↦ ap (λ (x : SeatModel). x.pulls) w.seat-is
@@ -72,5 +76,11 @@ returns c =
       entry = λ r is. IfOk-at_ok (λ r. AddsEntry journal after who k r) is adds_entry;
       met = λ r is. met;
       full = λ n is. absurd (true≢false (ap is_ok is));
-      seat = (ap (λ (x : SeatModel). x.table) last.seat ∙ table, ap (λ (x : SeatModel). x.pulls) last.seat ∙ pulls, looks, grows);
+      seat = (
+        ap (λ (x : SeatModel). x.table) last.seat ∙ table,
+        ap (λ (x : SeatModel). x.id) last.seat ∙ id,
+        ap (λ (x : SeatModel). x.pulls) last.seat ∙ pulls,
+        looks,
+        grows,
+      );
     }

@@ -31,7 +31,7 @@ invariant_of-self g c =
     after final goes some
     c.position-self-inside.ensures.position c.self.inside.receipts.items c.push_reserved.new.self.items _ _ c.self.invariant c.args.command c.in-Ok.receipt
     (a.entry c.in-Ok.receipt c.in-Ok.is)
-    (a.met c.in-Ok.receipt c.in-Ok.is) a.seat.1 c.push_reserved.ensures.items c.push_reserved.ensures.capacity
+    (a.met c.in-Ok.receipt c.in-Ok.is) a.seat.2 c.push_reserved.ensures.items c.push_reserved.ensures.capacity
 
 pub invariant_of-self-in-Err : goal.invariant_of-self-in-Err
 invariant_of-self-in-Err g c =
@@ -46,7 +46,7 @@ invariant_of-self-in-Err g c =
     session_refused seat c.leave.new.seat c.self.inside.rank c.answer-answer.new.seat number c.self.inside.left c.self.inside.position c.position-self-inside.result journal
     after final goes some
     c.position-self-inside.ensures.position c.self.inside.receipts.items c.self.inside.receipts.items (vec_capacity c.self.inside.receipts) (vec_capacity c.self.inside.receipts)
-    c.self.invariant (a.full c.in-Err.entries c.in-Err.is).0 a.seat.1 a.seat.3
+    c.self.invariant (a.full c.in-Err.entries c.in-Err.is).0 a.seat.2 a.seat.4
 
 pub returns-in-Ok : goal.returns-in-Ok
 returns-in-Ok g c =
@@ -64,7 +64,7 @@ returns-in-Ok g c =
     let seen = subst (λ (x : Setting). IsSeen x.opening after) setting c.position-self-inside.ensures.seen in
     let done = turn_done seat c.leave.new.seat c.self.inside.rank c.answer-answer.new.seat number c.self.inside.left c.self.inside.position c.position-self-inside.result
     journal after final goes some c.position-self-inside.ensures.position o c.args.command c.requires.kind seen c.self.invariant.position_is a.seat.0 a.seat.1 a.seat.2 a.seat.3
-    c.in-Ok.receipt (a.entry c.in-Ok.receipt c.in-Ok.is) (a.met c.in-Ok.receipt c.in-Ok.is) in
+    a.seat.4 c.in-Ok.receipt (a.entry c.in-Ok.receipt c.in-Ok.is) (a.met c.in-Ok.receipt c.in-Ok.is) in
     let new = model c.leave.new.seat c.answer-answer.new.seat number (c.self.inside.left - 1) c.position-self-inside.result in
     record { turn = subst (λ (s : SessionModel). IsTurn o c.args.command s new (Done c.in-Ok.receipt)) c.self.view_is done }
 
@@ -86,6 +86,6 @@ returns-in-Err g c =
     let limit = subst (λ (x : Setting). x.opening.limit ≤ c.in-Err.entries) entered f.2 in
     let full = turn_full seat c.leave.new.seat c.self.inside.rank c.answer-answer.new.seat number c.self.inside.left c.self.inside.position c.position-self-inside.result
     journal after final goes some c.position-self-inside.ensures.position o c.args.command c.requires.kind seen c.self.invariant.position_is a.seat.0 a.seat.1 a.seat.2 a.seat.3
-    c.in-Err.entries f.0 f.1 limit in
+    a.seat.4 c.in-Err.entries f.0 f.1 limit in
     let new = model c.leave.new.seat c.answer-answer.new.seat number (c.self.inside.left - 1) c.position-self-inside.result in
     record { turn = subst (λ (s : SessionModel). IsTurn o c.args.command s new (Full c.in-Err.entries)) c.self.view_is full }
