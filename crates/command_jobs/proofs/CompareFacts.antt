@@ -1,13 +1,16 @@
 -- What the laws say of a comparison.
-use Rattle.std.proofs.Common.{◌≡◌, ℕ, List, Option, drop, take}
+use Rattle.std.proofs.Common.{◌≡◌, ℕ, List, Option, drop, subst, take}
 use Rattle.std.specs.Prelude.{All}
 use Rattle.coflow_units.specs.Flows.{Instance}
+use Rattle.command_words.specs.Jobs.{trace_name}
 use Rattle.command_words.specs.Words.{Said}
-use Rattle.flow_table.specs.Table.{instance_of}
+use Rattle.flow_table.specs.Table.{TableFacts, instance_of}
+use Rattle.rankers.specs.FactsTold.{FactsTold, IsFacts, IsFactsOf}
 use Rattle.rankers.proofs.RowFacts.{costs_above}
 use Rattle.outside.specs.Shelf.{Told}
 use Rattle.rankers.specs.Meaning.{Meaning}
-use Rattle.command_jobs.specs.Compare.{ComparisonOf, WritesComparison}
+use Rattle.command_files.specs.Inputs.{IsInput}
+use Rattle.command_jobs.specs.Compare.{ComparisonOf, IsFactsOfFiles, WritesComparison}
 use Rattle.command_files.specs.Written.{Appends}
 use Rattle.plans.proofs.PlanTotals.{bound_low}
 
@@ -25,7 +28,24 @@ writes_comparison told said bench old new text compares written =
 
 -- ---- the rankers that are gone
 
-pub left_of_table : {X F : Type 0} (A : X → F → Type 0) (Q : F → Type 0) (xs new : List X) →
-    ((reached : ℕ) × (new ≡ drop reached xs) × All (λ b. (facts : F) × Q facts × A b facts) (take reached xs)) →
-    (reached : ℕ) × (new ≡ drop reached xs) × All (λ b. (facts : F) × A b facts) (take reached xs)
-left_of_table A Q xs new (reached, rest, all) = (reached, rest, λ k d lt. ((all k d lt).0, (all k d lt).2))
+module _ (told : Option Told) (said : Said) (table : TableFacts) (weights lent : List ℕ)
+    (input : IsInput told (trace_name said.job) said.weights said.unit table weights) (same : lent ≡ weights) where
+  asked_of_files : (A : FactsTold → Type 0) → ((facts : FactsTold) × IsFacts facts × IsFactsOf table lent facts × A facts) →
+      (facts : FactsTold) × IsFactsOfFiles told said facts × A facts
+  asked_of_files A (facts, fit, are, asked) = (
+    facts,
+    record {
+      table = table;
+      weights = weights;
+      input = input;
+      facts_fit = fit;
+      facts_are = subst (λ ws. IsFactsOf table ws facts) same are;
+    },
+    asked,
+  )
+
+  -- those that were asked with the facts of a table were asked with those of the files that give it
+  pub left_of_files : {X : Type 0} (A : X → FactsTold → Type 0) (xs new : List X) →
+      ((reached : ℕ) × (new ≡ drop reached xs) × All (λ b. (facts : FactsTold) × IsFacts facts × IsFactsOf table lent facts × A b facts) (take reached xs)) →
+      (reached : ℕ) × (new ≡ drop reached xs) × All (λ b. (facts : FactsTold) × IsFactsOfFiles told said facts × A b facts) (take reached xs)
+  left_of_files A xs new (reached, rest, all) = (reached, rest, λ k d lt. asked_of_files (A _) (all k d lt))

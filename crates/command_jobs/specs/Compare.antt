@@ -6,6 +6,7 @@ use Rattle.command_words.specs.Jobs.{trace_name}
 use Rattle.command_words.specs.Words.{Said}
 use Rattle.flow_table.specs.Table.{TableFacts, instance_of}
 use Rattle.rankers.specs.Comparison.{IsBelowCosts, IsComparison}
+use Rattle.rankers.specs.FactsTold.{FactsTold, IsFacts, IsFactsOf}
 use Rattle.outside.specs.Shelf.{Told}
 use Rattle.plans.specs.Totals.{IsPlanBound}
 use Rattle.rankers.specs.Meaning.{Meaning}
@@ -23,6 +24,14 @@ pub record ComparisonOf (told : Option Told) (said : Said) (bench : List Meaning
   pub bound_is : IsPlanBound (instance_of table weights) comparison.bound
   pub compares : IsComparison table weights bench comparison
   pub text_is : text ≡ compare_text comparison
+
+-- what a ranker is told of the instance that the files give
+pub record IsFactsOfFiles (told : Option Told) (said : Said) (facts : FactsTold) : Type 0 where
+  pub table : TableFacts
+  pub weights : List ℕ
+  pub input : IsInput told (trace_name said.job) said.weights said.unit table weights
+  pub facts_fit : IsFacts facts
+  pub facts_are : IsFactsOf table weights facts
 
 -- The text of the comparison was written. Its bound is at most the cost of every valid schedule of the instance that the
 -- files give, so no cost of a row is below it.

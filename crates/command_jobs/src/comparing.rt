@@ -4,7 +4,7 @@ ghost use Rattle.command_words.specs.Jobs.Job.{compare_job};
 ghost use Rattle.command_words.specs.Words.{said_with};
 ghost use Rattle.rankers.specs.FactsTold.{FactsTold};
 ghost use Rattle.command_files.specs.JobCauses.{HasFilesCause};
-ghost use Rattle.command_jobs.specs.Compare.{ComparisonOf};
+ghost use Rattle.command_jobs.specs.Compare.{ComparisonOf, IsFactsOfFiles};
 ghost use Rattle.command_files.specs.GoodFiles.{HasGoodFiles};
 ghost use Rattle.command_files.specs.Ends.{CountsFault};
 ghost use Rattle.command_files.specs.Shelves.{KeepsFiles, OfBoth, ReadsOut};
@@ -17,8 +17,9 @@ use plans::bound_of;
 use rankers::{Ranker, comparison_text};
 use std::alloc::Global;
 
-/// The text of the comparison of the rankers of the bench on the trace of that name. Each ranker that was reached is
-/// dropped; the bench keeps the others, in their order.
+/// The text of the comparison of the rankers of the bench on the trace of that name. Each ranker that was reached was
+/// asked with the facts of the table and the weights that the files give, and is dropped; the bench keeps the others,
+/// in their order.
 pub fn compare_rankers<'a, H: Shelf>(
     alloc: Global,
     trace: &str,
@@ -32,7 +33,8 @@ pub fn compare_rankers<'a, H: Shelf>(
         (map (λ b. meaning b) bench.old.items) o.text.items) }
     ensures empty { OnOk result (bench.new.items ≡ []) }
     ensures left { (reached : ℕ) × (bench.new.items ≡ drop reached bench.old.items) ×
-        All (λ b. (facts : FactsTold) × answered b facts) (take reached bench.old.items) }
+        All (λ b. (facts : FactsTold) × IsFactsOfFiles (H.told shelf.old)
+        (said_with (compare_job trace.now) options.entry) facts × answered b facts) (take reached bench.old.items) }
     ensures same { IfErr result (λ status. status ≢ Status.NoMemory → bench.new.items ≡ bench.old.items) }
     ensures read_out { OnOk result (OfBoth (H.told shelf.old) (H.told shelf.new)
         (ReadsOut (compare_job trace.now) (said_with (compare_job trace.now) options.entry))) }

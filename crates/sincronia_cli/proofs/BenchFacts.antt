@@ -1,19 +1,21 @@
 -- What a command does to the bench: whether there is a text decides it, and the job of the words.
-use Rattle.std.proofs.Common.{◌≡◌, ℕ, inl, inr, List, Option, ap, subst, sym, ◌∙◌}
+use Rattle.std.proofs.Common.{◌≡◌, ℕ, inl, inr, List, Option, ap, drop, subst, sym, take, ◌∙◌}
 use Rattle.command_words.specs.Jobs.{Job}
 use Rattle.command_words.specs.Jobs.Job.{audit_job, check_job, classes_job, compare_job, live_job, make_job, online_job, plan_job}
 use Rattle.command_words.specs.Line.{Text}
 use Rattle.command_words.specs.Words.{IsWords, Said}
 use Rattle.command_words.proofs.OneMeaning.{words_one}
-use Rattle.std.specs.Prelude.{Bool, IfSome, false, true}
+use Rattle.std.specs.Prelude.{All, Bool, IfSome, false, true}
 use Rattle.flow_table.specs.Table.{TableFacts}
 use Rattle.outside.specs.Shelf.{Told}
+use Rattle.rankers.specs.FactsTold.{FactsTold}
 use Rattle.rankers.specs.Meaning.{Meaning}
 use Rattle.command_files.specs.declared.status.Status.{Status}
 use Rattle.command_files.specs.declared.status.Status.TheVariants as status
 use Rattle.sincronia_cli.specs.Causes.{CauseBy, HasCauseOf}
 use Rattle.command_files.specs.JobCauses.{HasFilesCause}
 use Rattle.command_jobs.specs.Check.{status_for}
+use Rattle.command_jobs.specs.Compare.{IsFactsOfFiles}
 use Rattle.sincronia_cli.specs.Command.{IsCommand}
 use Rattle.sincronia_cli.specs.Outcome.{HasText, IsOutcome, OutcomeBy}
 use Rattle.command_jobs.specs.Online.{FilesPublishMore}
@@ -23,6 +25,13 @@ use Rattle.command_jobs.proofs.EndCauses.{by_epochs, by_wire, of_served}
 -- the words are one command
 pub job_of : (words : List Text) (by said : Said) (k : Job) → IsWords words by → IsCommand k words said → by.job ≡ k
 job_of words by said k reads is = ap (λ (s : Said). s.job) (words_one words by said reads is.words_say) ∙ is.job_is
+
+-- those that are gone were asked with the facts of the files of the words
+pub left_by : {X : Type 0} (A : X → FactsTold → Type 0) (words : List Text) (told : Option Told) (by : Said) (xs new : List X) → IsWords words by →
+    ((reached : ℕ) × (new ≡ drop reached xs) × All (λ b. (facts : FactsTold) × IsFactsOfFiles told by facts × A b facts) (take reached xs)) →
+    (reached : ℕ) × (new ≡ drop reached xs) ×
+    All (λ b. (said : Said) × IsWords words said × (facts : FactsTold) × IsFactsOfFiles told said facts × A b facts) (take reached xs)
+left_by A words told by xs new says (reached, rest, all) = (reached, rest, λ k d lt. (by, says, (all k d lt).0, (all k d lt).1, (all k d lt).2))
 
 -- ---- an outcome has a text
 

@@ -8,6 +8,7 @@ ghost use Rattle.hall_plan.specs.Sent.{SendsAll};
 ghost use Rattle.sincronia_cli.specs.Causes.{HasCauseOf};
 ghost use Rattle.command_files.specs.GoodFiles.{HasGoodFiles};
 ghost use Rattle.command_files.specs.Ends.{CountsFault, IfPastFiles};
+ghost use Rattle.command_jobs.specs.Compare.{IsFactsOfFiles};
 ghost use Rattle.command_jobs.specs.Online.{PublishesFew};
 ghost use Rattle.sincronia_cli.specs.Outcome.{IsOutcome};
 ghost use Rattle.command_jobs.specs.Serving.{MayHaveSent, Sends, Serves, Stops};
@@ -53,7 +54,8 @@ pub fn carry_out<'a, R: Threads + Wait + Sync, H: Shelf, W: Wire + Send, G: Gate
     ensures empty { OnOk result ((trace : List ℕ) → (said_by words.entry).job ≡ compare_job trace →
         bench.new.items ≡ []) }
     ensures left { (reached : ℕ) × (bench.new.items ≡ drop reached bench.old.items) ×
-        All (λ b. (facts : FactsTold) × answered b facts) (take reached bench.old.items) }
+        All (λ b. (facts : FactsTold) × IsFactsOfFiles (H.told shelf.old) (said_by words.entry) facts ×
+        answered b facts) (take reached bench.old.items) }
     ensures same_bench { IfErr result (λ status. status ≢ Status.NoMemory → bench.new.items ≡ bench.old.items) }
     ensures others_bench { ((trace : List ℕ) → (said_by words.entry).job ≡ compare_job trace → ⊥) →
         bench.new.items ≡ bench.old.items }

@@ -25,7 +25,7 @@ ghost use Rattle.sincronia_cli.specs.Outcome.{HasText, WritesBeginning, WritesNo
 ghost use Rattle.command_jobs.specs.Serving.{AreStill, MayHaveSent, SendsOnly, WireFailed};
 ghost use Rattle.command_jobs.specs.Online.{CommandLimit, PublishesFew};
 ghost use Rattle.command_jobs.specs.Classes.{WritesClasses};
-ghost use Rattle.command_jobs.specs.Compare.{WritesComparison};
+ghost use Rattle.command_jobs.specs.Compare.{IsFactsOfFiles, WritesComparison};
 ghost use Rattle.command_jobs.specs.Live.{WritesLive};
 ghost use Rattle.command_jobs.specs.Make.{WritesMade};
 ghost use Rattle.command_jobs.specs.Online.{WritesOnline};
@@ -109,7 +109,8 @@ use std::thread::Threads;
 ///
 /// The bench has fewer than 2^32 rankers, and `compare` alone uses it. A ranker that was asked is dropped, so at `Ok`
 /// and `WriteFault` of `compare` the bench is empty; at its `NoMemory` those that were not reached are still there, as
-/// they were and in their order; at all other statuses the bench is as before.
+/// they were and in their order; at all other statuses the bench is as before. Each that is gone was asked with the
+/// facts of the table and the weights that the files give.
 ///
 /// Files are looked at one after another, and the first fault ends the job: the trace is read, and then its grammar is
 /// tested; so are the weights; then the table of flows is made; then the report, the printed journal or the script is read,
@@ -195,7 +196,8 @@ pub fn sincronia<R: Threads + Wait + Sync, H: Shelf, K: Sink, W: Wire + Send, G:
     ensures empty { (said : Said) (trace : List ℕ) → IsCommand (compare_job trace) (texts words.now) said →
         HasText result → bench.new.items ≡ [] }
     ensures left { (reached : ℕ) × (bench.new.items ≡ drop reached bench.old.items) ×
-        All (λ b. (facts : FactsTold) × answered b facts) (take reached bench.old.items) }
+        All (λ b. (said : Said) × IsWords (texts words.now) said × (facts : FactsTold) ×
+        IsFactsOfFiles (H.told shelf.old) said facts × answered b facts) (take reached bench.old.items) }
     ensures same_bench { (HasText result → ⊥) → result ≢ Status.NoMemory → bench.new.items ≡ bench.old.items }
     ensures others_bench { ((said : Said) (trace : List ℕ) → IsCommand (compare_job trace) (texts words.now) said → ⊥) →
         bench.new.items ≡ bench.old.items }

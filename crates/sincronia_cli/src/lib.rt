@@ -6,3 +6,4 @@ mod command;
 pub mod laws;
 
 pub use command::sincronia;
+pub use live_rounds::{Gate, OpenGate, PullDone, RoundStop, round};

@@ -2,9 +2,8 @@ use Rattle.std.proofs.Common.{refl}
 use Rattle.std.proofs.lemmas.List.Elements.{All-nil}
 use Rattle.command_words.specs.Jobs.Job.{compare_job}
 use Rattle.command_words.specs.Words.{Said, said_with}
-use Rattle.rankers.specs.FactsTold.{IsFactsOf}
 use Rattle.command_files.proofs.JobFacts.{from_input}
-use Rattle.command_jobs.proofs.CompareFacts.{left_of_table}
+use Rattle.command_jobs.proofs.CompareFacts.{left_of_files}
 use Rattle.command_files.proofs.ShelfFacts.{passed_on}
 use Rattle.command_files.specs.Shelves.{OfBoth}
 use Rattle.command_files.specs.Turns.{FilesInTurn}
@@ -33,10 +32,12 @@ returns-in_default-clause-left g c = (0, refl, All-nil _)
 
 pub returns-in_err-text-clause-left : goal.returns-in_err-text-clause-left
 returns-in_err-text-clause-left g c =
-    left_of_table (λ b f. (goal.Ranker-dyn g (b.vtable, b.value)).answered b.value f) (IsFactsOf c.in_ok-input.input.table c.as_slice-2.result.now) c.args.bench.now.items
+    left_of_files (g.H.Shelf.told c.args.shelf.now) (said_with (compare_job c.args.trace.now) c.args.options) c.in_ok-input.input.table c.in_ok-input.input.weights
+    c.as_slice-2.result.now c.in_ok-input.ensures.input c.as_slice-2.ensures (λ b f. (goal.Ranker-dyn g (b.vtable, b.value)).answered b.value f) c.args.bench.now.items
     c.comparison_text-written.new.bench.items c.comparison_text-written.ensures.left
 
 pub returns-clause-left : goal.returns-clause-left
 returns-clause-left g c =
-    left_of_table (λ b f. (goal.Ranker-dyn g (b.vtable, b.value)).answered b.value f) (IsFactsOf c.in_ok-input.input.table c.as_slice-2.result.now) c.args.bench.now.items
+    left_of_files (g.H.Shelf.told c.args.shelf.now) (said_with (compare_job c.args.trace.now) c.args.options) c.in_ok-input.input.table c.in_ok-input.input.weights
+    c.as_slice-2.result.now c.in_ok-input.ensures.input c.as_slice-2.ensures (λ b f. (goal.Ranker-dyn g (b.vtable, b.value)).answered b.value f) c.args.bench.now.items
     c.comparison_text-written.new.bench.items c.comparison_text-written.ensures.left

@@ -1,9 +1,11 @@
 use Rattle.std.proofs.Common.{◌≡◌, subst, sym}
-use Rattle.std.specs.Prelude.{◌⊎◌}
+use Rattle.std.specs.Prelude.{◌⊎◌, ℕ, All, drop, take}
 use Rattle.command_words.specs.Jobs.{job_by}
 use Rattle.command_words.specs.Words.{said_with}
 use Rattle.command_words.specs.declared.job.Job.{Job}
+use Rattle.command_jobs.specs.Compare.{IsFactsOfFiles}
 use Rattle.command_jobs.specs.Serving.{Sends, Serves}
+use Rattle.rankers.specs.FactsTold.{FactsTold}
 use Rattle.sincronia_cli.proofs.carrying.carry_out.Goals as goal
 
 pub returns-in-Live-clause-sent : goal.returns-in-Live-clause-sent
@@ -12,3 +14,10 @@ returns-in-Live-clause-sent g c =
     ⊎ Serves (Sends g.W.Wire.runs c.args.wires.now.items c.run_clients.new.wires.items) (job_by job)
     (g.H.Shelf.told c.args.shelf.now) (said_with (job_by job) c.args.words.options))
     (sym c.in-Live.is) c.run_clients.ensures.sent
+
+pub returns-in-Compare-clause-left : goal.returns-in-Compare-clause-left
+returns-in-Compare-clause-left g c =
+    subst (λ (job : Job). (reached : ℕ) × (c.compare_rankers.new.bench.items ≡ drop reached c.args.bench.now.items) ×
+    All (λ b. (facts : FactsTold) × IsFactsOfFiles (g.H.Shelf.told c.args.shelf.now) (said_with (job_by job) c.args.words.options) facts ×
+    (goal.Ranker-dyn g (b.vtable, b.value)).answered b.value facts) (take reached c.args.bench.now.items))
+    (sym c.in-Compare.is) c.compare_rankers.ensures.left

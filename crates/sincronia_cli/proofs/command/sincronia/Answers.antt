@@ -7,7 +7,7 @@ use Rattle.command_files.specs.declared.status.Status.TheVariants.{WriteFault}
 use Rattle.hall_plan.specs.Sent.{SendsAll}
 use Rattle.sincronia_cli.specs.Outcome.{HasText}
 use Rattle.command_jobs.specs.Serving.{Sends, Stops}
-use Rattle.sincronia_cli.proofs.BenchFacts.{cause_has_no_text, job_of, outcome_has_text}
+use Rattle.sincronia_cli.proofs.BenchFacts.{cause_has_no_text, job_of, left_by, outcome_has_text}
 use Rattle.sincronia_cli.proofs.CompleteFacts.{good_files_end}
 use Rattle.sincronia_cli.proofs.FirstFacts.{first_ends, text_ends}
 use Rattle.command_jobs.proofs.OnlineFacts.{few_for}
@@ -252,6 +252,21 @@ returns-in_default-clause-empty g c = λ said trace is text.
 pub returns-clause-empty : goal.returns-clause-empty
 returns-clause-empty g c = λ said trace is text.
     c.in-Ok-carry_out.ensures.empty trace (job_of (texts c.args.words.now) (said_by c.in-Ok.words) said (compare_job trace) c.in-Ok.ensures.said is)
+
+pub returns-in-Err-clause-left : goal.returns-in-Err-clause-left
+returns-in-Err-clause-left g c =
+    left_by (λ b f. (goal.Ranker-dyn g (b.vtable, b.value)).answered b.value f) (texts c.args.words.now) (g.H.Shelf.told c.args.shelf.now) (said_by c.in-Ok.words)
+    c.args.bench.now.items c.carry_out.new.bench.items c.in-Ok.ensures.said c.carry_out.ensures.left
+
+pub returns-in_default-clause-left : goal.returns-in_default-clause-left
+returns-in_default-clause-left g c =
+    left_by (λ b f. (goal.Ranker-dyn g (b.vtable, b.value)).answered b.value f) (texts c.args.words.now) (g.H.Shelf.told c.args.shelf.now) (said_by c.in-Ok.words)
+    c.args.bench.now.items c.carry_out.new.bench.items c.in-Ok.ensures.said c.carry_out.ensures.left
+
+pub returns-clause-left : goal.returns-clause-left
+returns-clause-left g c =
+    left_by (λ b f. (goal.Ranker-dyn g (b.vtable, b.value)).answered b.value f) (texts c.args.words.now) (g.H.Shelf.told c.args.shelf.now) (said_by c.in-Ok.words)
+    c.args.bench.now.items c.carry_out.new.bench.items c.in-Ok.ensures.said c.carry_out.ensures.left
 
 pub returns-clause-same_bench : goal.returns-clause-same_bench
 returns-clause-same_bench g c = λ none other.
