@@ -2,7 +2,7 @@
 use Rattle.std.proofs.Common.{◌≡◌, ◌≢◌, ℕ, zero, suc, ◌+◌, ◌<◌, ◌≤◌, List, [], ◌∷◌, ◌++◌, length, set, sym, refl, ap, ◌∙◌, subst, ⊎_elim, arith, Option, Some, length-set}
 use Rattle.std.proofs.Common.{length-append}
 use Rattle.std.proofs.lemmas.List.Elements.{All-nil, All-push, All-weaker, All-tail, Contains-push, Contains-append_left}
-use Rattle.std.specs.Prelude.{All}
+use Rattle.std.specs.Prelude.{All, replicate}
 use mathlib.Core.Logic.{dite}
 use mathlib.Core.Option.{some, some-injective, some-ne-none}
 use native.Mathlib.Decide.{ℕ_discrete}
@@ -39,7 +39,7 @@ module _ {T E C : Type 0} (by : E → ℕ) (entries : T → List E) (setting : T
   only P w h zero v e = subst (P 0) (some-injective w v e) h
   only P w h (suc j) v e = absurd (some-ne-none v (sym e))
 
-  pub starts : (x : T) → entries x ≡ [] → setting x ≡ c → Rule (opening (0 ∷ 0 ∷ []) (Some x ∷ []) (root_of c))
+  pub starts : (x : T) → entries x ≡ [] → setting x ≡ c → Rule (opening (replicate 66 0) (Some x ∷ []) (root_of c))
   starts x empty is = record {
     next = 0;
     serving = 0;

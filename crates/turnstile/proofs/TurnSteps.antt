@@ -91,6 +91,41 @@ module _ {T E C : Type 0} (by : E → ℕ) (entries : T → List E) (setting : T
         (r.next, n_is, refl),
       )
 
+  -- what becomes of the words from 2 on tells nothing
+  pub marks_on : (slots id word : ℕ) (f : ℕ → ℕ) (me : M) → 2 ≤ word → Allows Rule slots id me word f (λ found m'. m' ≡ me)
+  marks_on slots id word f me behind s r _ at _ =
+      let n : ℕ = f (get_or s.words word 0) in (
+        me.0,
+        keeps,
+        tt,
+        subst (λ (vs : List V). Rule record { words = set s.words word n; homes = s.homes; views = vs }) (sym (set_again s.views id me.0 at)) record {
+          next = r.next;
+          serving = r.serving;
+          taken = r.taken;
+          made = r.made;
+          returned = r.returned;
+          log = r.log;
+          holder = r.holder;
+          seat_of = r.seat_of;
+          wide = length-set s.words word n ∙ r.wide;
+          deep = r.deep;
+          next_is = get_or-set_other s.words word 0 n 0 (λ e. omega arith) ∙ r.next_is;
+          serving_is = get_or-set_other s.words word 1 n 0 (λ e. omega arith) ∙ r.serving_is;
+          few = r.few;
+          in_queue = r.in_queue;
+          in_turn = r.in_turn;
+          seated = r.seated;
+          each_number = r.each_number;
+          above = r.above;
+          home = r.home;
+          each_setting = r.each_setting;
+          each_list = r.each_list;
+          each_told = r.each_told;
+          each_stage = r.each_stage;
+        },
+        refl,
+      )
+
   pub looks_on : (slots id : ℕ) (me : M) (t : ℕ) → slots ≡ 1 → IsNumbered me.0.role → me.0.stage ≡ Waiting t
       → Allows Rule slots id me 1 (λ n. n) (looks by entries setting (step slots 1 0 0 none) me)
   looks_on slots id me t one has waits s r _ at _ =

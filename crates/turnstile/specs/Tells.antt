@@ -97,6 +97,11 @@ module _ {T E C : Type 0} where
   takes_ticket st m found m' = (t : ℕ) × (found ≡ t % 18446744073709551616) ×
       (m' ≡ (record m.0 { stage = Waiting t }, m.1))
 
+module _ {T E C : Type 0} where
+  -- the seat is what it was
+  abbrev pub stays : Step (Option T) → Me (Option T) (View E C) → ℕ → Me (Option T) (View E C) → Type 0
+  stays st m found m' = m' ≡ m
+
 module _ {T E C : Type 0} (by : E → ℕ) (entries : T → List E) (setting : T → C) where
   -- The value was taken. It has the setting, and its list goes on after all that was seen with no entry of this caller;
   -- the root made each caller that has an entry

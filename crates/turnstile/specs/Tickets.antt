@@ -1,4 +1,4 @@
--- The rule that the turnstile's table keeps between any two steps: how the two words, the slot and all views fit one
+-- The rule that the turnstile's table keeps between any two steps: how the words, the slot and all views fit one
 -- list of entries.
 use Rattle.std.specs.Prelude.{◌≡◌, ℕ, ◌+◌, ◌%◌, ◌<◌, ◌≤◌, List, [], ◌∷◌, All, Contains, length, slice_index, Option}
 use Rattle.std.specs.Prelude.{Some, None}
@@ -117,8 +117,8 @@ module _ {T E C : Type 0} (by : E → ℕ) (entries : T → List E) (setting : T
   abbrev pub IsHome : State (Option T) (View E C) → List E → Type 0
   IsHome s log = (x : T) × (get_elem? s.homes 0 ≡ some (some (Some x))) × (entries x ≡ log) × (setting x ≡ c)
 
-  -- `log` is the list. Tickets are counted without end, and the two words are the next one and the one that is served,
-  -- modulo 2^64 (next_is, serving_is).
+  -- `log` is the list. Tickets are counted without end, and the first two words are the next one and the one that is
+  -- served, modulo 2^64 (next_is, serving_is). Of the other words nothing is known.
   -- Each ticket between the two is held by one view (in_queue, each_stage), whose place `holder` names. At most one
   -- view has the turn (in_turn), and while none has it the value is at home (home).
   -- Each number up to `made` is that of one view, or of a seat that came back to the root; `seat_of` names the place
@@ -134,7 +134,7 @@ module _ {T E C : Type 0} (by : E → ℕ) (entries : T → List E) (setting : T
     pub log : List E
     pub holder : ℕ → ℕ
     pub seat_of : ℕ → ℕ
-    pub wide : length s.words ≡ 2
+    pub wide : length s.words ≡ 66
     pub deep : length s.homes ≡ 1
     pub next_is : slice_index s.words 0 ≡ next % 18446744073709551616
     pub serving_is : slice_index s.words 1 ≡ serving % 18446744073709551616

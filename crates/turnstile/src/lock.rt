@@ -9,7 +9,7 @@ ghost use Rattle.turnstile.specs.Tickets.{number_of, IsNumbered, IsRoot};
 use crate::chronicle::Chronicle;
 use crate::plays::{Another, Learns, TakesBack};
 use crate::seats::{Due, Root, Turn, TurnSeat};
-use crate::steps::{SERVING, VALUE, end_turn, take_turn, tell};
+use crate::steps::{SERVING, VALUE, WORDS, end_turn, take_turn, tell};
 use crate::view::{Tickets, View};
 use atomic_table::Table;
 use coflow_units::NoMemory;
@@ -33,7 +33,7 @@ impl<T: Chronicle> Model for Turnstile<T> {
 
     ghost view = { λ t. record { table = t.table.shared.table_id; setting = T.setting t.table.shared.key.value } };
 
-    ghost invariant = { λ t. (t.table.shared.table_id.words ≡ 2) × (t.table.shared.table_id.slots ≡ 1) };
+    ghost invariant = { λ t. (t.table.shared.table_id.words ≡ 66) × (t.table.shared.table_id.slots ≡ 1) };
 }
 
 /// What `close` hands back where it finds no memory.
@@ -53,7 +53,7 @@ impl<T: Chronicle + Drop> Turnstile<T> {
         let about = Snapshot::of(&value);
         let mut slots = Vec::with_capacity(alloc, 1)?;
         slots.push_reserved(Some(value));
-        match Table::new(alloc, &[0, 0], slots, &about) {
+        match Table::new(alloc, &[0; WORDS], slots, &about) {
             Ok((table, place)) => Ok((
                 Turnstile { table },
                 Root {

@@ -1,5 +1,5 @@
 //! What each step tells the seat that takes it.
-ghost use Rattle.turnstile.specs.Tells.{takes_ticket, looks, leaves, learns, one_more, newcomer, same_view, note_of, hears, takes_in, spent};
+ghost use Rattle.turnstile.specs.Tells.{takes_ticket, looks, leaves, stays, learns, one_more, newcomer, same_view, note_of, hears, takes_in, spent};
 
 use crate::chronicle::Chronicle;
 use crate::view::View;
@@ -24,6 +24,13 @@ pub struct Leaves;
 
 impl<T: Chronicle> Play<Option<T>, View<T::Entry, T::Setting>> for Leaves {
     ghost then = { leaves T.entries };
+}
+
+/// A word that callers sleep on changes, which says nothing of tickets.
+pub struct Marks;
+
+impl<T, E, C> Play<Option<T>, View<E, C>> for Marks {
+    ghost then = { stays };
 }
 
 /// A seat that does not wait looks at what is served, and sees what it was told.
