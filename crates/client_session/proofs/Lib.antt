@@ -7,6 +7,7 @@ pub mod FewGranted
 pub mod Levelling
 pub mod OwnSteps
 pub mod Passes
+pub mod Places
 pub mod Publishing
 pub mod Pulling
 pub mod Standing

@@ -1,5 +1,6 @@
 -- What is granted in the run that is open after a journal.
-use Rattle.std.specs.Prelude.{◌≡◌, ℕ, ◌<◌, List, length, None, Option, slice_index_or}
+use Rattle.std.specs.Prelude.{◌≡◌, ℕ, List, map, Option}
+use Rattle.coflow_units.specs.Flows.{ingress_of}
 use Rattle.journal.specs.declared.command.Entry.{Entry}
 use Rattle.journal.specs.declared.opening.Opening.{Opening}
 use Rattle.journal.specs.Fold.{state_of}
@@ -13,14 +14,14 @@ flow_granted o journal ingress = flow_at o.table.flows (state_of o journal).run 
 abbrev pub all_granted : Opening → List Entry → List ℕ
 all_granted o journal = flows_granted (state_of o journal).run
 
--- what is kept of the grants: the flow of each ingress, and the flows by number
+-- what is kept of the grants: how many ingress ports there are, the granted flows by number, and the ingress of each
 pub record GrantedModel : Type 0 where
-  pub at : List (Option ℕ)
+  pub ports : ℕ
   pub flows : List ℕ
+  pub ingresses : List ℕ
 
--- they tell what is granted after the journal, with each ingress of the table
+-- they tell what is granted after the journal
 pub record TellsGrants (o : Opening) (journal : List Entry) (g : GrantedModel) : Type 0 where
-  pub ports : length g.at ≡ o.table.ports
-  pub flow : (ingress : ℕ) → ingress < o.table.ports →
-      slice_index_or g.at ingress None ≡ flow_granted o journal ingress
+  pub ports : g.ports ≡ o.table.ports
   pub flows : g.flows ≡ all_granted o journal
+  pub ingresses : g.ingresses ≡ map (ingress_of o.table.flows) (all_granted o journal)

@@ -92,7 +92,7 @@ impl Desk {
 
     /// Tells what is granted in the open run.
     pub fn tell_grants(&self, granted: &mut Granted)
-        requires ports { length granted.old.at ≡ self.now.setting.opening.table.ports }
+        requires ports { granted.old.ports ≡ self.now.setting.opening.table.ports }
         ensures granted { TellsGrants self.now.setting.opening self.now.journal granted.new }
     {
         granted.tell(&self.master);

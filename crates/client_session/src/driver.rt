@@ -1,5 +1,6 @@
 //! The first caller of a hall.
-ghost use Rattle.std.specs.Prelude.{◌≡◌, ℕ, ◌+◌, ◌-◌, ◌<◌, ◌≤◌, true, false, length, None, Some, Ok, Err, vec_capacity};
+ghost use Rattle.std.specs.Prelude.{◌≡◌, ℕ, ◌+◌, ◌-◌, ◌<◌, ◌≤◌, true, false, length, map, None, Some, Ok, Err, vec_capacity};
+ghost use Rattle.coflow_units.specs.Flows.{ingress_of};
 ghost use Rattle.journal.specs.Answer.{IsInRange};
 ghost use Rattle.journal.specs.declared.command.Command.TheVariants.{Close, Open, Publish, Register, Short, Skip, Withdraw};
 ghost use Rattle.turnstile.specs.Histories.{NoneAbove};
@@ -93,6 +94,21 @@ impl Driver {
             result ≡ flow_granted c.opening self.now.journal ingress }
     {
         self.granted.at(ingress)
+    }
+
+    /// The flows that are granted in the open run of the journal that the driver has seen, by number. There are none where no run is open in it.
+    pub fn granted_flows(&self) -> &[u32]
+        ensures { (c : Setting) → self.now.setting ≡ Some c → result.now ≡ all_granted c.opening self.now.journal }
+    {
+        self.granted.flows()
+    }
+
+    /// The ingress ports of those flows, in the order of the flows.
+    pub fn granted_ports(&self) -> &[u32]
+        ensures { (c : Setting) → self.now.setting ≡ Some c →
+            result.now ≡ map (ingress_of c.opening.table.flows) (all_granted c.opening self.now.journal) }
+    {
+        self.granted.ingresses()
     }
 
     /// Makes the list the flows that are granted in the open run of the journal that the driver has seen, by number. There are none where no run is open in it. There is room for a flow of each port.

@@ -1,64 +1,85 @@
 //! What is granted in the open run, and what a hall begins with beside its master.
 ghost use Rattle.client_session.specs.Grants.{TellsGrants};
+ghost use Rattle.coflow_units.specs.declared.fabric.Flow.{Flow};
+ghost use Rattle.coflow_units.specs.Flows.{ingress_of};
+ghost use Rattle.journal.specs.Runs.{grant_in};
 ghost use Rattle.rank_board.specs.Models.{first_publisher, new_seat};
-ghost use Rattle.std.specs.Prelude.{◌≡◌, ◌≤◌, [], IfOk, length, None, replicate, slice_index_or, vec_capacity};
+ghost use Rattle.std.specs.Prelude.{◌≡◌, ◌==◌, ◌<◌, ◌≤◌, All, List, [], IfOk, length, map, position, vec_capacity};
 
-use coflow_units::NoMemory;
+use coflow_units::{Flow, NoMemory};
 use master_core::Master;
 use rank_board::{Publisher, RankBoard, RankSeat};
 use std::alloc::Global;
 use std::marker::Model;
 
-/// What is granted in the run that is open after a journal, at each ingress and by number.
+/// What is granted in the run that is open after a journal: its flows by number, and beside each the ingress port at which it begins.
 ///
-/// Contracts see the flow of each ingress, and the flows in their order.
+/// Contracts see how many ingress ports there are, and the two lists.
 #[derive(Drop)]
 pub struct Granted {
-    at: Vec<Option<u32>>,
+    ports: u32,
     flows: Vec<u32>,
+    ingresses: Vec<u32>,
 }
 
 impl Model for Granted {
-    ghost use Rattle.std.specs.Prelude.{◌<◌, ◌≤◌, ◌^◌, length, vec_capacity};
+    ghost use Rattle.std.specs.Prelude.{◌≡◌, ◌≤◌, length, vec_capacity};
     ghost use Rattle.client_session.specs.Grants.{GrantedModel};
 
     ghost Value = { GrantedModel };
 
-    ghost view = { λ g. record { at = g.at.items; flows = g.flows.items } };
+    ghost view = { λ g. record { ports = g.ports; flows = g.flows.items; ingresses = g.ingresses.items } };
 
-    ghost invariant = { λ g. (length g.at.items < 2 ^ 32) × (length g.at.items ≤ vec_capacity g.flows) };
+    ghost invariant = { λ g. (g.ports ≤ vec_capacity g.flows) × (g.ports ≤ vec_capacity g.ingresses) ×
+        (length g.ingresses.items ≡ length g.flows.items) };
 }
 
 impl Granted {
     /// Nothing is granted at so many ingress ports. There is room for a flow of each. The error is want of memory.
     pub fn new(alloc: Global, ports: u32) -> Result<Granted, NoMemory>
-        ensures ports { IfOk result (λ g. length g.at ≡ ports) }
-        ensures none { IfOk result (λ g. g.at ≡ replicate ports None) }
+        ensures ports { IfOk result (λ g. g.ports ≡ ports) }
         ensures flows { IfOk result (λ g. g.flows ≡ []) }
     {
-        let at = vec![in alloc; None; ports as usize]?;
-        let Ok(flows) = Vec::with_capacity(alloc, ports as usize) else {
-            drop(at);
+        let flows = Vec::with_capacity(alloc, ports as usize)?;
+        let Ok(ingresses) = Vec::with_capacity(alloc, ports as usize) else {
+            drop(flows);
             return Err(NoMemory);
         };
-        Ok(Granted { at, flows })
+        Ok(Granted {
+            ports,
+            flows,
+            ingresses,
+        })
     }
 
     /// How many ingress ports there are.
     pub fn ports(&self) -> u32
-        ensures { result ≡ length self.now.at }
+        ensures { result ≡ self.now.ports }
     {
-        self.at.len() as u32
+        self.ports
+    }
+
+    /// The granted flows by number.
+    pub fn flows(&self) -> &[u32]
+        ensures { result.now ≡ self.now.flows }
+    {
+        &self.flows
+    }
+
+    /// The ingress port of each granted flow, in the order of the flows.
+    pub fn ingresses(&self) -> &[u32]
+        ensures { result.now ≡ self.now.ingresses }
+    {
+        &self.ingresses
     }
 
     /// The flow at an ingress. None comes exactly where nothing is granted there, or where there is no such port.
     pub fn at(&self, ingress: u32) -> Option<u32>
-        ensures { result ≡ slice_index_or self.now.at ingress None }
+        ensures { (flows : List Flow) → self.now.ingresses ≡ map (ingress_of flows) self.now.flows →
+            result ≡ grant_in flows self.now.flows ingress }
     {
-        match self.at.get(ingress as usize) {
-            Some(flow) => *flow,
-            None => None,
-        }
+        let place = find_place(&self.ingresses, ingress)?;
+        Some(self.flows[place])
     }
 
     /// Makes the list the granted flows by number, for which it has room.
@@ -72,14 +93,34 @@ impl Granted {
 
     /// Becomes what a master's open run grants.
     pub fn tell(&mut self, master: &Master)
-        requires ports { length self.old.at ≡ master.now.opening.table.ports }
+        requires ports { self.old.ports ≡ master.now.opening.table.ports }
         ensures granted { TellsGrants master.now.opening master.now.journal self.new }
     {
         let _legal = master.journal();
-        for ingress in 0..master.table().ports() {
-            self.at[ingress as usize] = master.granted(ingress);
-        }
-        copy_flows(master.granted_flows(), &mut self.flows);
+        let flows = master.table().flows();
+        let granted = master.granted_flows();
+        copy_flows(granted, &mut self.flows);
+        copy_ingresses(flows, granted, &mut self.ingresses);
+    }
+}
+
+// The place of a port in a list of ports.
+fn find_place(ports: &[u32], port: u32) -> Option<usize>
+    ensures { result ≡ position (λ p. p == port) ports.now }
+{
+    ports.iter().position(|p| *p == port)
+}
+
+// Makes the list the ingress ports of these flows, for which it has room.
+fn copy_ingresses(flows: &[Flow], granted: &[u32], to: &mut Vec<u32>)
+    requires flows { All (λ f. f < length flows.now) granted.now }
+    requires room { length granted.now ≤ vec_capacity to.old }
+    ensures ingresses { to.new.items ≡ map (ingress_of flows.now) granted.now }
+    ensures room { vec_capacity to.new ≡ vec_capacity to.old }
+{
+    to.clear();
+    for flow in granted {
+        to.push_reserved(flows[*flow as usize].ingress);
     }
 }
 
@@ -101,7 +142,7 @@ pub fn first_parts(
     ports: u32,
     coflows: u32,
 ) -> Result<(Granted, RankBoard, Publisher, RankSeat), NoMemory>
-    ensures ports { IfOk result (λ made. length made.0.at ≡ ports) }
+    ensures ports { IfOk result (λ made. made.0.ports ≡ ports) }
     ensures coflows { IfOk result (λ made. made.1.coflows ≡ coflows) }
     ensures publisher { IfOk result (λ made. made.2 ≡ first_publisher made.1.table) }
     ensures seat { IfOk result (λ made. made.3 ≡ new_seat made.1.table made.3.id 0) }

@@ -19,7 +19,7 @@ pub fn end_turn(
     requires own { (root.old.table ≡ gate.now.table) × (root.old.in_turn ≡ true) }
     requires setting { root.old.setting ≡ Some turn.value.setting }
     requires list { AddsAtMostOne (λ (e : Entry). e.who) turn.value.journal 0 root.old.seen }
-    requires ports { length granted.old.at ≡ turn.value.setting.opening.table.ports }
+    requires ports { granted.old.ports ≡ turn.value.setting.opening.table.ports }
     ensures root { root.new ≡ record root.old { in_turn = false; seen = turn.value.journal } }
     ensures position { result ≡ length turn.value.journal }
     ensures seen { IsSeen turn.value.setting.opening turn.value.journal }
