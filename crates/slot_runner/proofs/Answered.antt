@@ -62,8 +62,8 @@ module _ {W : Type 0} (faults : W → ℕ) (runs : W → Option (List (ℕ × �
         calls = omega arith;
         granted = x.granted;
         ports = x.ports;
-        posts = x.posts ∙ ap (λ l. old.posts ++ posts_of (grant_in o.table.flows l) first slots old.ports) (sym x.granted);
-        settled = x.settled ∙ ap (λ l. old.settled ++ settlements_of (grant_in o.table.flows l) x.sent first slots old.ports) (sym x.granted);
+        posts = x.posts ∙ ap (λ l. old.posts ++ posts_of o.table.flows l first slots) (sym x.granted);
+        settled = x.settled ∙ ap (λ l. old.settled ++ settlements_of o.table.flows l x.sent first slots) (sym x.granted);
         posted_to = x.posted_to ∙ omega arith;
       }
 

@@ -5,17 +5,17 @@ use Rattle.std.specs.Prelude.{All, AllPairs, Contains, map}
 use Rattle.std.proofs.lemmas.Bool.{cases_lt}
 use Rattle.std.proofs.lemmas.List.{get_or_append_left, get_or-append_right}
 use Rattle.std.proofs.lemmas.List.Elements.{All-append, All-contains, Contains-append_left, Contains-get_or}
+use Rattle.coflow_units.specs.declared.fabric.Flow.{Flow}
 use Rattle.coflow_units.specs.Flows.{ingress_of}
-use Rattle.coflow_units.proofs.ServedLaws.{grants_clear}
+use Rattle.coflow_units.specs.Schedule.{IsClear}
 use Rattle.journal.specs.declared.command.Command.TheVariants.{Close}
 use Rattle.journal.specs.declared.command.Entry.{Entry}
 use Rattle.journal.specs.declared.opening.Opening.{Opening}
-use Rattle.journal.specs.Driven.{Drive, driven, is_other, IsDriven, opened_in}
-use Rattle.journal.specs.Fold.{state_of}
-use Rattle.journal.specs.Journal.{entry, line_of}
+use Rattle.journal.specs.Driven.{Drive, driven, is_other, IsDriven}
+use Rattle.journal.specs.Journal.{entry}
 use Rattle.journal.specs.Runs.{grant_in}
-use Rattle.journal.specs.State.{IsOpening, owed}
-use Rattle.journal.proofs.Ingresses.{grant_at}
+use Rattle.journal.specs.State.{IsOpening}
+use Rattle.journal.proofs.Ingresses.{grant_at, no_grant_at}
 use Rattle.journal.proofs.UnderWay.{closes, noted_both, others_note_none, sent_told}
 use Rattle.port_board.specs.declared.view.Came.{Came}
 use Rattle.port_board.specs.declared.view.Grant.{Grant}
@@ -38,8 +38,8 @@ use Rattle.slot_runner.specs.Settling.{AreNoted, AreSettled, CallsFall, IsFirstS
 use Rattle.slot_runner.specs.Slots.{AreSent, IsSentAt}
 use Rattle.slot_runner.proofs.Notes.{calls_fall, stays}
 use Rattle.slot_runner.proofs.OnePort.{drew_nothing, reported_is, sent_of, served_at, was_sent}
-use Rattle.slot_runner.proofs.Opens.{OpenFacts}
-use Rattle.slot_runner.proofs.PortPosts.{in_posts, in_settlements, last_later}
+use Rattle.slot_runner.proofs.Opens.{facts_clear, OpenFacts}
+use Rattle.slot_runner.proofs.PortPosts.{in_posts, in_settlements, last_without}
 use Rattle.slot_runner.proofs.Turns.{met_under_way, others_are_other}
 
 -- what is sent may be told before the first note
@@ -69,8 +69,7 @@ module _ (o : Opening) (before : List Entry) (d : Drive) (now : List Entry) (wit
   at_ingress f has = (
     within.table.ingress f (record { coflow = 0; ingress = 0; egress = 0; units = 0 }) (All-contains (λ (x : ℕ). x < length o.table.flows) (driven o before d) f
         facts.grants.flow has),
-    (grant_at o.table.flows (driven o before d) (ingress_of o.table.flows f) f
-        (grants_clear o.table.flows (line_of o (opened_in before d)) (owed o (state_of o (opened_in before d))) (driven o before d) facts.grants)).1 (has, refl),
+    (grant_at o.table.flows (driven o before d) (ingress_of o.table.flows f) f (facts_clear o before now d facts)).1 (has, refl),
   )
 
   pub closes_run : (old mid new : DriverModel) (r : Receipt) → AreNoted o before d old mid o.table.ports → IsDrivenOn o Close mid new r → StaysInHall mid new →
@@ -96,26 +95,34 @@ module _ (o : Opening) (before : List Entry) (d : Drive) (now : List Entry) (wit
         numbers = on.numbers;
       }
 
-module _ {W : Type 0} (faults : W → ℕ) (runs : W → Option (List (ℕ × ℕ × ℕ))) (granted : ℕ → Option ℕ) (first slots ports to : ℕ) (v0 v w u : View) (ws ws' : List W)
-    (idle : IsIdle to v0) (late : to ≤ first) (posts_are : v.posts ≡ v0.posts ++ posts_of granted first slots ports) (settled_are : v.settled ≡ v0.settled)
+-- past the ports nothing is granted
+none_past : (flows : List Flow) (gs : List ℕ) (ports : ℕ) → ((f : ℕ) → Contains gs f → ingress_of flows f < ports) → (p : ℕ) → ports ≤ p → grant_in flows gs p ≡ None
+none_past flows gs ports inside p le = (no_grant_at flows gs p).1 (λ f in' at. absurd (omega (arith, inside f in', at, le)))
+
+module _ {W : Type 0} (faults : W → ℕ) (runs : W → Option (List (ℕ × ℕ × ℕ))) (flows : List Flow) (gs : List ℕ) (first slots ports to : ℕ) (clear : IsClear flows gs)
+    (inside : (f : ℕ) → Contains gs f → ingress_of flows f < ports) (v0 v w u : View) (ws ws' : List W)
+    (idle : IsIdle to v0) (late : to ≤ first) (posts_are : v.posts ≡ v0.posts ++ posts_of flows gs first slots) (settled_are : v.settled ≡ v0.settled)
     (back_is : v.back ≡ v0.back)
-    (all : IsServedBy faults runs v w ws ws') (wires : length ws ≡ ports) (done : AreSettled granted (sent_of all.served.took) first slots w u ports) where
+    (all : IsServedBy faults runs v w ws ws') (wires : length ws ≡ ports) (done : AreSettled flows gs (sent_of all.served.took) first slots w u ports) where
+  abbrev granted : ℕ → Option ℕ
+  granted = grant_in flows gs
+
   -- the wire of each port
   one_wire : (p : ℕ) (b a : W) → p < ports → (o : Option ℕ) → granted p ≡ o → (d : Drive) → d.first ≡ first → d.slots ≡ slots → d.sent ≡ sent_of all.served.took →
       IsSentAt faults runs d p (get_or ws p b) (get_or ws' p a) o
   one_wire p b a lt None e d x y z =
-      drew_nothing faults runs granted first slots ports to v0 v w ws ws' idle late posts_are settled_are back_is all wires p (get_or ws p b) (get_or ws' p a) e
+      drew_nothing faults runs flows gs first slots ports to clear inside v0 v w ws ws' idle late posts_are settled_are back_is all wires p (get_or ws p b) (get_or ws' p a) e
       (get_or all.served.took p None)
-      (served_at faults runs granted first slots ports to v0 v w ws ws' idle late posts_are settled_are back_is all wires p b a lt)
+      (served_at faults runs flows gs first slots ports to clear inside v0 v w ws ws' idle late posts_are settled_are back_is all wires p b a lt)
   one_wire p b a lt (Some f) e d x y z =
       let (c, among, has) = done.reported p f lt e in
-      let is = reported_is faults runs granted first slots ports to v0 v w ws ws' idle late posts_are settled_are back_is all wires p f (sent_of all.served.took p) c b a lt
+      let is = reported_is faults runs flows gs first slots ports to clear inside v0 v w ws ws' idle late posts_are settled_are back_is all wires p f (sent_of all.served.took p) c b a lt
       among has in
       subst (λ (q : ℕ × ℕ × ℕ). SentOn faults runs (get_or ws p b) (get_or ws' p a) (report (grant p q.0 f q.1) q.2))
       (λ i. (sym x i, sym y i, sym (ap (λ h. h p) z) i))
-      (was_sent faults runs granted first slots ports to v0 v w ws ws' idle late posts_are settled_are back_is all wires p f (get_or ws p b) (get_or ws' p a)
+      (was_sent faults runs flows gs first slots ports to clear inside v0 v w ws ws' idle late posts_are settled_are back_is all wires p f (get_or ws p b) (get_or ws' p a)
       (get_or all.served.took p None) is
-      (served_at faults runs granted first slots ports to v0 v w ws ws' idle late posts_are settled_are back_is all wires p b a lt).wire)
+      (served_at faults runs flows gs first slots ports to clear inside v0 v w ws ws' idle late posts_are settled_are back_is all wires p b a lt).wire)
 
   -- the wires of the ports, and those behind them
   pub are_sent : (far : List W) (whole whole' : List W) → whole ≡ ws ++ far → whole' ≡ ws' ++ far → (d : Drive) → d.first ≡ first → d.slots ≡ slots → d.sent ≡ sent_of
@@ -135,11 +142,11 @@ module _ {W : Type 0} (faults : W → ℕ) (runs : W → Option (List (ℕ × �
             sym (ap (λ l. get_or l i t) x);
       }
 
-  posts_u : u.posts ≡ v0.posts ++ posts_of granted first slots ports
+  posts_u : u.posts ≡ v0.posts ++ posts_of flows gs first slots
   posts_u = done.posts ∙ all.posts ∙ posts_are
 
-  settled_u : u.settled ≡ v0.settled ++ settlements_of granted (sent_of all.served.took) first slots ports
-  settled_u = done.settled ∙ ap (λ (l : List Settlement). l ++ settlements_of granted (sent_of all.served.took) first slots ports) (all.settled ∙ settled_are)
+  settled_u : u.settled ≡ v0.settled ++ settlements_of flows gs (sent_of all.served.took) first slots
+  settled_u = done.settled ∙ ap (λ (l : List Settlement). l ++ settlements_of flows gs (sent_of all.served.took) first slots) (all.settled ∙ settled_are)
 
   back_u : u.back ≡ v0.back ++ map (λ (s : Sits). came_of s.view) all.seats
   back_u = done.back ∙ all.back ∙ ap (λ (l : List Came). l ++ map (λ (s : Sits). came_of s.view) all.seats) back_is
@@ -153,45 +160,46 @@ module _ {W : Type 0} (faults : W → ℕ) (runs : W → Option (List (ℕ × �
     none_out = ap (λ (l : List Came). length l) done.back ∙ all.none_out ∙ sym done.made;
     all_settled = λ q. ⊎_elim (λ lt. done.settled_there q lt)
         (λ le. done.rest q le ∙ ap (λ (x : List Grant × List Settlement). is_unsettled q x.0 x.1) (λ i. ((all.posts ∙ posts_are) i, (all.settled ∙ settled_are) i)) ∙
-        ap (λ (o : Option Grant). is_left o v0.settled) (last_later granted first slots v0.posts ports q le) ∙ idle.all_settled q)
+        ap (λ (o : Option Grant). is_left o v0.settled) (last_without flows gs first slots ports clear inside v0.posts q (none_past flows gs ports inside q le)) ∙ idle.all_settled q)
         (cases_lt q ports);
     posts_before = subst (All (λ (g : Grant). g.slot < first + slots)) (sym posts_u) (All-append (λ (g : Grant). g.slot < first + slots) v0.posts
-        (posts_of granted first slots ports)
+        (posts_of flows gs first slots)
         (λ k d lt. omega (arith, idle.posts_before k d lt, late))
-        (each_of (λ (g : Grant). g.slot < first + slots) (posts_of granted first slots ports)
-        (λ g has. let (p, f, lt, e, is) = in_posts granted first slots ports g has in omega (arith, ap (λ (x : Grant). x.slot) is, some))));
+        (each_of (λ (g : Grant). g.slot < first + slots) (posts_of flows gs first slots)
+        (λ g has. let (p, f, lt, e, is) = in_posts flows gs first slots ports clear inside g has in omega (arith, ap (λ (x : Grant). x.slot) is, some))));
     settled_before = subst (All (λ (s : Settlement). s.grant.slot < first + slots)) (sym settled_u)
-        (All-append (λ (s : Settlement). s.grant.slot < first + slots) v0.settled (settlements_of granted (sent_of all.served.took) first slots ports)
+        (All-append (λ (s : Settlement). s.grant.slot < first + slots) v0.settled (settlements_of flows gs (sent_of all.served.took) first slots)
         (λ k d lt. omega (arith, idle.settled_before k d lt, late))
-        (each_of (λ (s : Settlement). s.grant.slot < first + slots) (settlements_of granted (sent_of all.served.took) first slots ports)
-        (λ s has. omega (arith, in_settlements granted first slots (sent_of all.served.took) ports s has, some))));
+        (each_of (λ (s : Settlement). s.grant.slot < first + slots) (settlements_of flows gs (sent_of all.served.took) first slots)
+        (λ s has. omega (arith, in_settlements flows gs first slots ports clear inside (sent_of all.served.took) s has, some))));
     posted = subst (λ (x : List Came × List Grant). All (λ (c : Came). All (λ (r : Report). Contains x.1 r.grant) c.done) x.0) (λ i. (sym done.back i, sym done.posts i))
         all.posted;
     apart = subst (AllPairs SharesNothing) (sym done.back) all.apart;
-    reported = subst (All (WasReported u)) (sym posts_u) (All-append (WasReported u) v0.posts (posts_of granted first slots ports)
+    reported = subst (All (WasReported u)) (sym posts_u) (All-append (WasReported u) v0.posts (posts_of flows gs first slots)
         (λ k g lt.
         let (c, r, among, has, is) = idle.reported k g lt in
         (c, r, subst (λ l. Contains l c) (sym back_u) (Contains-append_left v0.back (map (λ (s : Sits). came_of s.view) all.seats) c among), has, is))
-        (each_of (WasReported u) (posts_of granted first slots ports)
+        (each_of (WasReported u) (posts_of flows gs first slots)
         (λ g has.
-        let (p, f, lt, e, is) = in_posts granted first slots ports g has in
+        let (p, f, lt, e, is) = in_posts flows gs first slots ports clear inside g has in
         let (c, among, told) = done.reported p f lt e in
         (c, report (grant p first f slots) (sent_of all.served.took p), subst (λ l. Contains l c) (sym done.back) among, told, is))));
   }
 
   -- the run was carried out
-  pub carried_out : (o : Opening) (before now : List Entry) (d : Drive) → IsOpening o → OpenFacts o before now d → granted ≡ grant_in o.table.flows (driven o before d) →
+  pub carried_out : (o : Opening) (before now : List Entry) (d : Drive) → IsOpening o → OpenFacts o before now d → flows ≡ o.table.flows → gs ≡ driven o before d →
       d.first ≡ first → d.slots ≡ slots →
       ports ≡ o.table.ports → (driver mid end : DriverModel) (r : Receipt) → AreNoted o before (record d { sent = sent_of all.served.took }) driver mid ports → IsDrivenOn o
       Close mid end r →
       StaysInHall mid end → ((p f : ℕ) → p < ports → granted p ≡ Some f → sent_of all.served.took p ≤ slots) →
       (short : Option (ℕ × ℕ)) → IsFirstShort granted (sent_of all.served.took) slots ports short → (far : List W) (whole whole' : List W) → whole ≡ ws ++ far → whole' ≡ ws' ++
       far →
-      (flows before_flows : List ℕ) → flows ≡ driven o before d →
-      IsCarriedOut faults runs o before d (record { driver = driver; ports = ports; posted_to = to; posts = v0.posts; settled = v0.settled; granted = before_flows })
-      (record { driver = end; ports = ports; posted_to = first + slots; posts = u.posts; settled = u.settled; granted = flows }) whole whole' short
-  carried_out o before now d within facts granted_is first_is slots_is ports_is driver mid end r noted on place low short is_short far whole whole' x y flows before_flows
-      flows_are =
+      (listed before_listed : List ℕ) → listed ≡ driven o before d →
+      IsCarriedOut faults runs o before d (record { driver = driver; ports = ports; posted_to = to; posts = v0.posts; settled = v0.settled; granted = before_listed })
+      (record { driver = end; ports = ports; posted_to = first + slots; posts = u.posts; settled = u.settled; granted = listed }) whole whole' short
+  carried_out o before now d within facts flows_is gs_is first_is slots_is ports_is driver mid end r noted on place low short is_short far whole whole' x y listed before_listed
+      listed_are =
+      let granted_is : granted ≡ grant_in o.table.flows (driven o before d) = (λ i. grant_in (flows_is i) (gs_is i)) in
       let sent = sent_of all.served.took in
       let ended_by = closes_run o before (record d { sent = sent }) now within (record {
         some = facts.some;
@@ -214,10 +222,10 @@ module _ {W : Type 0} (faults : W → ℕ) (runs : W → Option (List (ℕ × �
         seen = ended_by.seen;
         numbers = ended_by.numbers;
         calls = ended_by.calls;
-        granted = flows_are;
+        granted = listed_are;
         ports = refl;
-        posts = posts_u ∙ (λ i. v0.posts ++ posts_of (granted_is i) (sym first_is i) (sym slots_is i) ports);
-        settled = settled_u ∙ (λ i. v0.settled ++ settlements_of (granted_is i) sent (sym first_is i) (sym slots_is i) ports);
+        posts = posts_u ∙ (λ i. v0.posts ++ posts_of (flows_is i) (gs_is i) (sym first_is i) (sym slots_is i));
+        settled = settled_u ∙ (λ i. v0.settled ++ settlements_of (flows_is i) (gs_is i) sent (sym first_is i) (sym slots_is i));
         posted_to = (λ i. sym first_is i + sym slots_is i);
         wires = subst (λ (h : ℕ → Option ℕ). AreSent faults runs (ended d sent ended_by.between ended_by.journal.0.reply) h ports whole whole') granted_is
             (are_sent far whole whole' x y (ended d sent ended_by.between ended_by.journal.0.reply) first_is slots_is refl);

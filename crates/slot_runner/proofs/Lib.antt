@@ -1,7 +1,9 @@
 pub mod Answered
+pub mod Apart
 pub mod Carried
 pub mod Concluded
 pub mod CutRuns
+pub mod Listed
 pub mod Notes
 pub mod OnePort
 pub mod Opens

@@ -1,6 +1,6 @@
 -- Ports are noted one after the other while the run is under way.
 use Rattle.std.proofs.Common.{◌≡◌, ◌≢◌, inl, inr, ℕ, ◌+◌, ◌<◌, Bool, true, false, List, [], ◌∷◌, ◌++◌, length, Some, refl, sym, ap, subst, ◌∙◌}
-use Rattle.std.proofs.Common.{arith, append-nil, length-append, cond, suc}
+use Rattle.std.proofs.Common.{arith, append-nil, length-append, cond, suc, zero}
 use Rattle.std.specs.Prelude.{nat_lt, if◌then◌else◌, ◌==◌}
 use Rattle.std.proofs.lemmas.Bool.{cases_eq, eq-eqb, le-ltb, lt-ltb, ne_eqb}
 use Rattle.std.proofs.lemmas.List.Elements.{filter-append}
@@ -94,6 +94,13 @@ keeps_noted o before d old new k x whole = record {
   left = omega (arith, x.left);
   position = x.position;
 }
+
+-- where every port sent all, none is noted
+pub all_noted : (o : Opening) (before : List Entry) (d : Drive) (driver : DriverModel) → IsOpenRunOf o before d driver →
+    ((p f : ℕ) → grant_in o.table.flows (driven o before d) p ≡ Some f → d.sent p ≡ d.slots) → (n : ℕ) → AreNoted o before d driver driver n
+all_noted o before d driver x whole zero = begins_noted o before d driver x
+all_noted o before d driver x whole (suc n) = let one : n + 1 ≡ suc n = omega arith in
+    subst (AreNoted o before d driver driver) one (keeps_noted o before d driver driver n (all_noted o before d driver x whole n) (whole n))
 
 -- a port that sent less is noted
 pub one_noted : (o : Opening) (before : List Entry) (d : Drive) (old now new : DriverModel) (k f : ℕ) (r : Receipt) → AreNoted o before d old now k →

@@ -5,10 +5,14 @@ use Rattle.std.specs.Prelude.{All, AllPairs, Contains, map, ◌||◌, ◌==◌, 
 use Rattle.std.specs.List.{list_any}
 use Rattle.std.proofs.lemmas.Bool.{eqb-true}
 use Rattle.std.proofs.lemmas.List.{get_or_append_left, get_or_default}
-use Rattle.std.proofs.lemmas.List.Elements.{All-contains, All-contains_itself, Contains-append_cases, Contains-append_right}
+use Rattle.std.proofs.lemmas.List.Elements.{All-contains, Contains-append_cases, Contains-append_right}
 use Rattle.std.proofs.lemmas.List.Folds.{list_any_none}
 use Rattle.std.proofs.lemmas.Option.{none-some, same_Some}
 use Rattle.coflow_units.proofs.Sums.{first_or_tail, in_first, in_tail, nothing_in}
+use Rattle.coflow_units.specs.declared.fabric.Flow.{Flow}
+use Rattle.coflow_units.specs.Flows.{ingress_of}
+use Rattle.coflow_units.specs.Schedule.{IsClear}
+use Rattle.journal.specs.Runs.{grant_in}
 use Rattle.port_board.specs.declared.view.Came.{Came}
 use Rattle.port_board.specs.declared.view.Grant.{Grant}
 use Rattle.port_board.specs.declared.view.Report.{Report}
@@ -17,7 +21,7 @@ use Rattle.port_board.specs.declared.view.View.{View}
 use Rattle.port_board.specs.Agreement.{NobodyHad, SharesNothing}
 use Rattle.port_board.specs.Rule.{DifferAt}
 use Rattle.port_board.specs.Views.{came_of, grant, is_left, is_of, is_unsettled, last_at, report, Sits}
-use Rattle.port_board.proofs.Lists.{is_of-false, last_is}
+use Rattle.port_board.proofs.Lists.{is_of-false}
 use Rattle.port_agent.specs.Served.{SentOn}
 use Rattle.port_agent.specs.Attended.{HadPort, IsServed, IsServedBy, WireServed}
 use Rattle.slot_runner.specs.Models.{IsIdle, WasReported}
@@ -83,12 +87,16 @@ listed_by_none g v out done missed e =
     (list_any_none (λ (r : Report). is_of g.port g.slot r.grant) v.done (λ k d lt. is_of-false g.port g.slot (get_or v.done k d).grant (done k d lt)))
     (list_any_none (λ (m : ℕ × ℕ). (m.0 == g.port) && (m.1 == g.slot)) v.missed (λ k d lt. no_pair g.port g.slot (get_or v.missed k d) (missed k d lt))) e
 
-module _ {W : Type 0} (faults : W → ℕ) (runs : W → Option (List (ℕ × ℕ × ℕ))) (granted : ℕ → Option ℕ) (first slots ports to : ℕ) (v0 v w : View) (before after : List W)
-    (idle : IsIdle to v0) (late : to ≤ first) (posts_are : v.posts ≡ v0.posts ++ posts_of granted first slots ports) (settled_are : v.settled ≡ v0.settled)
+module _ {W : Type 0} (faults : W → ℕ) (runs : W → Option (List (ℕ × ℕ × ℕ))) (flows : List Flow) (gs : List ℕ) (first slots ports to : ℕ) (clear : IsClear flows gs)
+    (inside : (f : ℕ) → Contains gs f → ingress_of flows f < ports) (v0 v w : View) (before after : List W)
+    (idle : IsIdle to v0) (late : to ≤ first) (posts_are : v.posts ≡ v0.posts ++ posts_of flows gs first slots) (settled_are : v.settled ≡ v0.settled)
     (back_is : v.back ≡ v0.back)
     (all : IsServedBy faults runs v w before after) (wires : length before ≡ ports) where
+  abbrev granted : ℕ → Option ℕ
+  granted = grant_in flows gs
+
   abbrev now : List Grant
-  now = v0.posts ++ posts_of granted first slots ports
+  now = v0.posts ++ posts_of flows gs first slots
 
   posts_w : w.posts ≡ now
   posts_w = all.posts ∙ posts_are
@@ -100,8 +108,8 @@ module _ {W : Type 0} (faults : W → ℕ) (runs : W → Option (List (ℕ × �
   not_later : (g : Grant) → Contains now g → g.slot ≤ first
   not_later g has = ⊎_elim
       (λ old. omega (arith, All-contains (λ (x : Grant). x.slot < to) v0.posts g idle.posts_before old, late))
-      (λ new. let (p, f, lt, e, is) = in_posts granted first slots ports g new in omega (arith, ap (λ (x : Grant). x.slot) is))
-      (Contains-append_cases v0.posts (posts_of granted first slots ports) g has)
+      (λ new. let (p, f, lt, e, is) = in_posts flows gs first slots ports clear inside g new in omega (arith, ap (λ (x : Grant). x.slot) is))
+      (Contains-append_cases v0.posts (posts_of flows gs first slots) g has)
 
   came_in : (s : Sits) → Contains all.seats s → Contains w.back (came_of s.view)
   came_in s has = subst (λ l. Contains l (came_of s.view)) (sym back_w)
@@ -145,7 +153,7 @@ module _ {W : Type 0} (faults : W → ℕ) (runs : W → Option (List (ℕ × �
       grant p first f slots
   drawn_is p f s r lt e port among (has, newest) =
       let g = grant p first f slots in
-      let there = (last_among p g now (last_with granted first slots v0.posts ports p f lt e)).0 in
+      let there = (last_among p g now (last_with flows gs first slots ports clear inside v0.posts p f e)).0 in
       let seen = subst (λ l. Contains l g) (sym (shown_is s among)) there in
       let late' = All-contains (λ (h : Grant). h.port ≡ r.grant.port → h.slot ≤ r.grant.slot) s.view.shown g newest.latest seen (sym port) in
       let early = not_later r.grant (drawn_posted s r among has) in
@@ -155,7 +163,7 @@ module _ {W : Type 0} (faults : W → ℕ) (runs : W → Option (List (ℕ × �
   had_it : (p f : ℕ) (b a : W) → p < ports → granted p ≡ Some f → (o : Option Report) → IsServed faults runs all.seats p b a o → NobodyHad (grant p first f slots) w → ⊥
   had_it p f b a lt e None at nobody =
       let g = grant p first f slots in
-      let last : last_at p at.by.view.shown ≡ Some g = ap (last_at p) (shown_is at.by at.among) ∙ last_with granted first slots v0.posts ports p f lt e in
+      let last : last_at p at.by.view.shown ≡ Some g = ap (last_at p) (shown_is at.by at.among) ∙ last_with flows gs first slots ports clear inside v0.posts p f e in
       let none = All-contains (λ (c : Came). All (λ (r : Report). DifferAt r.grant g) c.done × All (λ (m : ℕ × ℕ). m.0 ≡ g.port → m.1 ≡ g.slot → ⊥) c.missed) w.back
       (came_of at.by.view) nobody
       (came_in at.by at.among) in
@@ -183,10 +191,10 @@ module _ {W : Type 0} (faults : W → ℕ) (runs : W → Option (List (ℕ × �
       across SharesNothing v0.back (map (λ (s : Sits). came_of s.view) all.seats) c (came_of at.by.view) (subst (AllPairs SharesNothing) back_w all.apart) among
       (in_map (λ (s : Sits). came_of s.view) all.seats at.by at.among) x r has at.had.0 (ap (λ (h : Grant). h.port) is) (ap (λ (h : Grant). h.slot) is))
       (λ new.
-      let (q, f, lt, given, is) = in_posts granted first slots ports r.grant new in
+      let (q, f, lt, given, is) = in_posts flows gs first slots ports clear inside r.grant new in
       let same : q ≡ p = ap (λ (h : Grant). h.port) is ∙ at.wire.0 in
       none-some f (sym e ∙ ap granted (sym same) ∙ given))
-      (Contains-append_cases v0.posts (posts_of granted first slots ports) r.grant (drawn_posted at.by r at.among at.had.0)))
+      (Contains-append_cases v0.posts (posts_of flows gs first slots) r.grant (drawn_posted at.by r at.among at.had.0)))
 
   -- the wire of a port whose grant was reported was sent the grant
   pub was_sent : (p f : ℕ) (b a : W) (o : Option Report) → o ≡ Some (report (grant p first f slots) (units o)) → WireServed faults runs p b a o →
@@ -199,7 +207,7 @@ module _ {W : Type 0} (faults : W → ℕ) (runs : W → Option (List (ℕ × �
   to_settle = record {
     none_out = all.none_out;
     post = λ p f lt e.
-        let last : last_at p w.posts ≡ Some (grant p first f slots) = ap (last_at p) posts_w ∙ last_with granted first slots v0.posts ports p f lt e in
+        let last : last_at p w.posts ≡ Some (grant p first f slots) = ap (last_at p) posts_w ∙ last_with flows gs first slots ports clear inside v0.posts p f e in
         let many = all.served.as_many in
         let inside : p < length before = omega (arith, lt, wires) in record {
           last = last;
@@ -212,7 +220,7 @@ module _ {W : Type 0} (faults : W → ℕ) (runs : W → Option (List (ℕ × �
         };
     nothing = λ p lt e.
         ap (λ (x : List Grant × List Settlement). is_unsettled p x.0 x.1) (λ i. (posts_w i, (all.settled ∙ settled_are) i)) ∙
-        ap (λ (o : Option Grant). is_left o v0.settled) (last_without granted first slots v0.posts ports p e) ∙ idle.all_settled p;
+        ap (λ (o : Option Grant). is_left o v0.settled) (last_without flows gs first slots ports clear inside v0.posts p e) ∙ idle.all_settled p;
     within = λ p f lt e. with_wire before after all.served.as_many p (omega (arith, lt, wires))
         (λ b a. sent_within p f (get_or before p b) (get_or after p a) lt e (get_or all.served.took p None) (served_at p b a lt));
   }

@@ -12,6 +12,8 @@ use Rattle.journal.specs.Entries.{IsOpenReply}
 use Rattle.journal.specs.Fold.{state_of}
 use Rattle.journal.specs.Journal.{entry, IsLegal}
 use Rattle.coflow_units.specs.Grants.{IsGrants}
+use Rattle.coflow_units.specs.Schedule.{IsClear}
+use Rattle.coflow_units.proofs.ServedLaws.{grants_clear}
 use Rattle.journal.specs.Journal.{line_of}
 use Rattle.journal.specs.Runs.{flow_at, flows_granted, grant_in}
 use Rattle.journal.specs.Sound.{InRange, IsOpenRun, OnRun}
@@ -120,6 +122,11 @@ open_facts o before now d legal ok under =
       told = ap (λ y. λ p. flow_at o.table.flows y p) is ∙ ap (λ l. grant_in o.table.flows l) granted;
       flows = ap flows_granted is ∙ granted;
     }
+
+-- the granted flows are clear
+pub facts_clear : (o : Opening) (before now : List Entry) (d : Drive) → OpenFacts o before now d → IsClear o.table.flows (driven o before d)
+facts_clear o before now d facts =
+    grants_clear o.table.flows (line_of o (opened_in before d)) (owed o (state_of o (opened_in before d))) (driven o before d) facts.grants
 
 -- a granted flow has a number within the limit
 pub flow_in_range : (o : Opening) (before now : List Entry) (d : Drive) → IsOpening o → OpenFacts o before now d → (port f : ℕ) → flow_granted o now port ≡ Some f → f <

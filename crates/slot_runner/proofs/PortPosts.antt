@@ -1,116 +1,83 @@
 -- The posts of a run behind earlier ones: which is the last at a port, and which of them wait.
-use Rattle.std.proofs.Common.{◌≡◌, ◌≢◌, inl, inr, ⊎_elim, ℕ, ◌+◌, ◌<◌, ◌≤◌, Bool, true, false, not, List, [], ◌∷◌, ◌++◌, get_or, Option, Some}
-use Rattle.std.proofs.Common.{None, cond, refl, sym, ap, subst, ◌∙◌, arith, append_assoc, append-nil, zero, suc}
-use Rattle.std.specs.Prelude.{All, Contains, flat_map, ◌||◌}
-use Rattle.std.specs.List.{range_with_len}
-use Rattle.std.proofs.lemmas.Bool.{cases_eq, eq-eqb, ne_eqb}
-use Rattle.std.proofs.lemmas.Grind.{flat_map-append}
-use Rattle.std.proofs.lemmas.List.Elements.{All-contains_itself, Contains-append_cases}
+use Rattle.std.proofs.Common.{◌≡◌, ◌≢◌, inl, ⊎_elim, ℕ, ◌<◌, Bool, true, false, not, List, [], ◌∷◌, ◌++◌, get_or, map, Option, Some}
+use Rattle.std.proofs.Common.{None, cond, refl, sym, ap, subst, ◌∙◌, arith, append_assoc, append-nil}
+use Rattle.std.specs.Prelude.{All, Contains, ◌||◌}
+use Rattle.std.proofs.lemmas.Bool.{eq-eqb, ne_eqb}
+use Rattle.std.proofs.lemmas.List.Elements.{All-contains_itself}
 use Rattle.std.proofs.lemmas.List.Folds.{list_any-append, list_any_none}
-use Rattle.coflow_units.proofs.Ranges.{range_append}
-use Rattle.coflow_units.proofs.Sums.{first_or_tail, nothing_in}
+use Rattle.coflow_units.specs.declared.fabric.Flow.{Flow}
+use Rattle.coflow_units.specs.Flows.{ingress_of}
+use Rattle.coflow_units.specs.Schedule.{IsClear}
+use Rattle.coflow_units.proofs.Sums.{first_or_tail, in_first, in_tail, nothing_in}
+use Rattle.journal.specs.Runs.{grant_in}
+use Rattle.journal.proofs.Ingresses.{grant_at, grant_is, grant_none}
 use Rattle.port_board.specs.declared.view.Grant.{Grant}
 use Rattle.port_board.specs.declared.view.Settlement.{Settlement}
 use Rattle.port_board.specs.Views.{grant, is_left, is_of, is_settled, is_unsettled, last_at, settlement}
 use Rattle.port_board.proofs.Lists.{is_of-false, is_of-same, last_is, last_pushed}
-use Rattle.slot_runner.specs.Posts.{post_at, posts_of, settled_at, settlements_of}
+use Rattle.slot_runner.specs.Posts.{post_of, posts_of, settlements_of}
 
--- one port more
-range_next : (n : ℕ) → range_with_len 0 (n + 1) ≡ range_with_len 0 n ++ n ∷ []
-range_next n = let zero_n : 0 + n ≡ n = omega arith in range_append 0 n 1 ∙ ap (λ k. range_with_len 0 n ++ k ∷ []) zero_n
+-- of two lists, one of which is made of the other
+from_map : {X Y : Type 0} (w : X → Y) (xs : List X) (y : Y) → Contains (map w xs) y → (x : X) × Contains xs x × (w x ≡ y)
+from_map w [] y has = absurd (nothing_in y has)
+from_map w (x ∷ xs) y has = ⊎_elim (λ e. (x, in_first x xs, e)) (λ later. let (found, inside, e) = from_map w xs y later in (found, in_tail x xs found inside, e))
+    (first_or_tail (w x) (map w xs) y has)
 
-next_port : {X : Type 0} (f : ℕ → List X) (n : ℕ) → flat_map f (range_with_len 0 (n + 1)) ≡ flat_map f (range_with_len 0 n) ++ f n
-next_port f n = ap (flat_map f) (range_next n) ∙ flat_map-append f (range_with_len 0 n) (n ∷ []) ∙ ap (λ l. flat_map f (range_with_len 0 n) ++ l) (append-nil (f n))
+module _ (flows : List Flow) (first slots : ℕ) where
+  -- a port at which none of the posted flows begins
+  pub last_far : (granted : List ℕ) (old : List Grant) (p : ℕ) → ((f : ℕ) → Contains granted f → ingress_of flows f ≡ p → ⊥) →
+      last_at p (old ++ posts_of flows granted first slots) ≡ last_at p old
+  last_far [] old p far = ap (last_at p) (append-nil old)
+  last_far (f ∷ fs) old p far =
+      ap (last_at p) (sym (append_assoc old (post_of flows first slots f ∷ []) (posts_of flows fs first slots))) ∙
+      last_far fs (old ++ post_of flows first slots f ∷ []) p (λ g in'. far g (in_tail f fs g in')) ∙ last_pushed p old (post_of flows first slots f) ∙
+      ap (λ b. cond b (Some (post_of flows first slots f)) (last_at p old)) (ne_eqb (ingress_of flows f) p (λ e. far f (in_first f fs) e))
 
-pub posts_next : (granted : ℕ → Option ℕ) (first slots n : ℕ) → posts_of granted first slots (n + 1) ≡ posts_of granted first slots n ++ post_at first slots n (granted n)
-posts_next granted first slots n = next_port (λ p. post_at first slots p (granted p)) n
+  near_step : (g : ℕ) (gs : List ℕ) (old : List Grant) (p f : ℕ) (o : Option ℕ) → grant_in flows gs p ≡ o → Contains (g ∷ gs) f → ingress_of flows f ≡ p →
+      ((x : ℕ) → Contains (g ∷ gs) x → ingress_of flows x ≡ p → x ≡ f) →
+      (Contains gs f → last_at p ((old ++ post_of flows first slots g ∷ []) ++ posts_of flows gs first slots) ≡ Some (grant p first f slots)) →
+      last_at p ((old ++ post_of flows first slots g ∷ []) ++ posts_of flows gs first slots) ≡ Some (grant p first f slots)
+  near_step g gs old p f (Some h) e in' at one again =
+      let (has, here) = grant_is flows gs p h e in
+      again (subst (λ x. Contains gs x) (one h (in_tail g gs h has) here) has)
+  near_step g gs old p f None e in' at one again =
+      let is : g ≡ f = ⊎_elim (λ same. same) (λ there. absurd (grant_none flows gs p f e there at)) (first_or_tail g gs f in') in
+      let there : ingress_of flows g ≡ p = ap (ingress_of flows) is ∙ at in
+      last_far gs (old ++ post_of flows first slots g ∷ []) p (λ x in''. grant_none flows gs p x e in'') ∙ last_pushed p old (post_of flows first slots g) ∙
+      ap (λ b. cond b (Some (post_of flows first slots g)) (last_at p old)) (eq-eqb (ingress_of flows g) p there) ∙ (λ i. Some (grant (there i) first (is i) slots))
 
-pub settlements_next : (granted : ℕ → Option ℕ) (sent : ℕ → ℕ) (first slots n : ℕ) →
-    settlements_of granted sent first slots (n + 1) ≡ settlements_of granted sent first slots n ++ settled_at first slots (sent n) n (granted n)
-settlements_next granted sent first slots n = next_port (λ p. settled_at first slots (sent p) p (granted p)) n
+  -- a port at which one of them begins
+  pub last_near : (granted : List ℕ) (old : List Grant) (p f : ℕ) → Contains granted f → ingress_of flows f ≡ p →
+      ((g : ℕ) → Contains granted g → ingress_of flows g ≡ p → g ≡ f) → last_at p (old ++ posts_of flows granted first slots) ≡ Some (grant p first f slots)
+  last_near [] old p f in' at one = absurd (nothing_in f in')
+  last_near (g ∷ gs) old p f in' at one =
+      ap (last_at p) (sym (append_assoc old (post_of flows first slots g ∷ []) (posts_of flows gs first slots))) ∙
+      near_step g gs old p f (grant_in flows gs p) refl in' at one
+      (λ has. last_near gs (old ++ post_of flows first slots g ∷ []) p f has at (λ x there. one x (in_tail g gs x there)))
 
-module _ (granted : ℕ → Option ℕ) (first slots : ℕ) where
-  -- a post of the run is that of a port with a grant
-  in_step : (n : ℕ) (g : Grant) (o : Option ℕ) → granted n ≡ o → Contains (post_at first slots n o) g → (p f : ℕ) × (p < n + 1) × (granted p ≡ Some f) ×
-      (grant p first f slots ≡ g)
-  in_step n g None e has = absurd (nothing_in g has)
-  in_step n g (Some f) e has = ⊎_elim (λ is. (n, f, omega arith, e, is)) (λ none. absurd (nothing_in g none)) (first_or_tail (grant n first f slots) [] g has)
+module _ (flows : List Flow) (granted : List ℕ) (first slots ports : ℕ) (clear : IsClear flows granted) (inside : (f : ℕ) → Contains granted f → ingress_of flows f < ports)
+  where
+    -- a post of the run is that of a port with a grant
+    pub in_posts : (g : Grant) → Contains (posts_of flows granted first slots) g → (p f : ℕ) × (p < ports) × (grant_in flows granted p ≡ Some f) × (grant p first f slots ≡ g)
+    in_posts g has =
+        let (f, in', is) = from_map (λ f. post_of flows first slots f) granted g has in
+        (ingress_of flows f, f, inside f in', (grant_at flows granted (ingress_of flows f) f clear).1 (in', refl), is)
 
-  pub in_posts : (n : ℕ) (g : Grant) → Contains (posts_of granted first slots n) g → (p f : ℕ) × (p < n) × (granted p ≡ Some f) × (grant p first f slots ≡ g)
-  in_posts zero g has = absurd (nothing_in g has)
-  in_posts (suc n) g has =
-      let next : posts_of granted first slots (suc n) ≡ posts_of granted first slots n ++ post_at first slots n (granted n) =
-      ap (posts_of granted first slots) (plus_one n) ∙ posts_next granted first slots n in
-      ⊎_elim (λ before. let (p, f, lt, e, is) = in_posts n g before in (p, f, omega arith, e, is))
-      (λ here. let (p, f, lt, e, is) = in_step n g (granted n) refl here in (p, f, omega (arith, lt), e, is))
-      (Contains-append_cases (posts_of granted first slots n) (post_at first slots n (granted n)) g (subst (λ l. Contains l g) next has))
-    where
-      plus_one : (n : ℕ) → suc n ≡ n + 1
-      plus_one n = omega arith
+    pub in_settlements : (sent : ℕ → ℕ) (s : Settlement) → Contains (settlements_of flows granted sent first slots) s → s.grant.slot ≡ first
+    in_settlements sent s has =
+        let (f, in', is) = from_map (λ f. settlement (post_of flows first slots f) (Some (sent (ingress_of flows f)))) granted s has in
+        ap (λ (t : Settlement). t.grant.slot) (sym is)
 
-  in_settled_step : (units n : ℕ) (s : Settlement) (o : Option ℕ) → Contains (settled_at first slots units n o) s → s.grant.slot ≡ first
-  in_settled_step units n s None has = absurd (nothing_in s has)
-  in_settled_step units n s (Some f) has =
-      ⊎_elim (λ (is : settlement (grant n first f slots) (Some units) ≡ s). ap (λ (t : Settlement). t.grant.slot) (sym is)) (λ none. absurd (nothing_in s none))
-      (first_or_tail (settlement (grant n first f slots) (Some units)) [] s has)
+    module _ (old : List Grant) where
+      -- a port without a grant
+      pub last_without : (p : ℕ) → grant_in flows granted p ≡ None → last_at p (old ++ posts_of flows granted first slots) ≡ last_at p old
+      last_without p e = last_far flows first slots granted old p (λ f in' at. grant_none flows granted p f e in' at)
 
-  pub in_settlements : (sent : ℕ → ℕ) (n : ℕ) (s : Settlement) → Contains (settlements_of granted sent first slots n) s → s.grant.slot ≡ first
-  in_settlements sent zero s has = absurd (nothing_in s has)
-  in_settlements sent (suc n) s has =
-      let next : settlements_of granted sent first slots (suc n) ≡ settlements_of granted sent first slots n ++ settled_at first slots (sent n) n (granted n) =
-      ap (settlements_of granted sent first slots) (plus_one n) ∙ settlements_next granted sent first slots n in
-      ⊎_elim (in_settlements sent n s) (in_settled_step (sent n) n s (granted n))
-      (Contains-append_cases (settlements_of granted sent first slots n) (settled_at first slots (sent n) n (granted n)) s (subst (λ l. Contains l s) next has))
-    where
-      plus_one : (n : ℕ) → suc n ≡ n + 1
-      plus_one n = omega arith
-
-  module _ (old : List Grant) where
-    -- the last post of a port after one port more
-    last_step : (n p : ℕ) (o : Option ℕ) (posts : List Grant) → n ≢ p → last_at p (posts ++ post_at first slots n o) ≡ last_at p posts
-    last_step n p None posts far = ap (last_at p) (append-nil posts)
-    last_step n p (Some f) posts far =
-        last_pushed p posts (grant n first f slots) ∙ ap (λ b. cond b (Some (grant n first f slots)) (last_at p posts)) (ne_eqb n p far)
-
-    last_here : (n f : ℕ) (o : Option ℕ) (posts : List Grant) → o ≡ Some f → last_at n (posts ++ post_at first slots n o) ≡ Some (grant n first f slots)
-    last_here n f o posts e =
-        ap (λ (z : Option ℕ). last_at n (posts ++ post_at first slots n z)) e ∙ last_pushed n posts (grant n first f slots) ∙
-        ap (λ b. cond b (Some (grant n first f slots)) (last_at n posts)) (eq-eqb n n refl)
-
-    last_none : (n : ℕ) (o : Option ℕ) (posts : List Grant) → o ≡ None → last_at n (posts ++ post_at first slots n o) ≡ last_at n posts
-    last_none n o posts e = ap (λ (z : Option ℕ). last_at n (posts ++ post_at first slots n z)) e ∙ ap (last_at n) (append-nil posts)
-
-    pub push_next : (n : ℕ) → old ++ posts_of granted first slots (suc n) ≡ (old ++ posts_of granted first slots n) ++ post_at first slots n (granted n)
-    push_next n = let one : suc n ≡ n + 1 = omega arith in
-        ap (λ k. old ++ posts_of granted first slots k) one ∙ ap (λ l. old ++ l) (posts_next granted first slots n) ∙
-        sym (append_assoc old (posts_of granted first slots n) (post_at first slots n (granted n)))
-
-    -- a port that is not reached yet
-    pub last_later : (n p : ℕ) → n ≤ p → last_at p (old ++ posts_of granted first slots n) ≡ last_at p old
-    last_later zero p le = ap (last_at p) (append-nil old)
-    last_later (suc n) p le =
-        ap (last_at p) (push_next n) ∙ last_step n p (granted n) (old ++ posts_of granted first slots n) (λ e. absurd (omega (arith, e, le))) ∙ last_later n p
-        (omega (arith, le))
-
-    -- a port without a grant
-    pub last_without : (n p : ℕ) → granted p ≡ None → last_at p (old ++ posts_of granted first slots n) ≡ last_at p old
-    last_without zero p e = ap (last_at p) (append-nil old)
-    last_without (suc n) p e = ap (last_at p) (push_next n) ∙ elim (cases_eq n p) [
-      | inl same ↦
-          subst (λ (q : ℕ). last_at q ((old ++ posts_of granted first slots n) ++ post_at first slots n (granted n)) ≡ last_at q (old ++ posts_of granted first slots n)) same
-          (last_none n (granted n) (old ++ posts_of granted first slots n) (ap granted same ∙ e)) ∙ last_without n p e
-      | inr far ↦ last_step n p (granted n) (old ++ posts_of granted first slots n) far ∙ last_without n p e
-    ]
-
-    -- a port with a grant
-    pub last_with : (n p f : ℕ) → p < n → granted p ≡ Some f → last_at p (old ++ posts_of granted first slots n) ≡ Some (grant p first f slots)
-    last_with zero p f lt e = absurd (omega arith)
-    last_with (suc n) p f lt e = ap (last_at p) (push_next n) ∙ elim (cases_eq n p) [
-      | inl same ↦
-          subst (λ (q : ℕ). last_at q ((old ++ posts_of granted first slots n) ++ post_at first slots n (granted n)) ≡ Some (grant q first f slots)) same
-          (last_here n f (granted n) (old ++ posts_of granted first slots n) (ap granted same ∙ e))
-      | inr far ↦ last_step n p (granted n) (old ++ posts_of granted first slots n) far ∙ last_with n p f (omega (arith, lt, far)) e
-    ]
+      -- a port with a grant
+      pub last_with : (p f : ℕ) → grant_in flows granted p ≡ Some f → last_at p (old ++ posts_of flows granted first slots) ≡ Some (grant p first f slots)
+      last_with p f e =
+          let (in', at) = grant_is flows granted p f e in
+          last_near flows first slots granted old p f in' at (λ g there same. clear.apart g f there in' (inl (same ∙ sym at)))
 
 -- the last post of a port is one of the posts
 pub last_among : (port : ℕ) (g : Grant) (posts : List Grant) → last_at port posts ≡ Some g → Contains posts g × (g.port ≡ port)

@@ -1,11 +1,17 @@
 -- Ports are settled one after the other.
-use Rattle.std.proofs.Common.{◌≡◌, ◌≢◌, inl, inr, ⊎_elim, ℕ, ◌+◌, ◌<◌, true, false, true≢false, List, [], ◌∷◌, ◌++◌, length, Option, Some, None, refl, sym, ap}
+use Rattle.std.proofs.Common.{◌≡◌, ◌≢◌, ◌⊎◌, inl, inr, ⊎_elim, ℕ, ◌+◌, ◌<◌, true, false, List, [], ◌∷◌, ◌++◌, get_or, length, take, Option, Some, None, refl, sym, ap}
 use Rattle.std.proofs.Common.{subst, ◌∙◌, arith, append_assoc, append-nil}
 use Rattle.std.specs.Prelude.{All, Contains}
 use Rattle.std.specs.Option.{option_or}
 use Rattle.std.proofs.lemmas.Bool.{cases_eq}
-use Rattle.std.proofs.lemmas.Option.{none-some, same_Some}
-use Rattle.std.proofs.lemmas.List.Elements.{Contains-push}
+use Rattle.std.proofs.lemmas.List.{map_push, take_more}
+use Rattle.std.proofs.lemmas.List.Elements.{Contains-append_cases, Contains-append_left, Contains-append_right, Contains-push}
+use Rattle.coflow_units.specs.declared.fabric.Flow.{Flow}
+use Rattle.coflow_units.specs.Flows.{ingress_of}
+use Rattle.coflow_units.specs.Schedule.{IsClear}
+use Rattle.coflow_units.proofs.Sums.{first_or_tail, in_first, nothing_in}
+use Rattle.journal.specs.Runs.{grant_in}
+use Rattle.journal.proofs.Ingresses.{grant_at, grant_is, grant_none}
 use Rattle.port_board.specs.declared.answer.Settled.{Settled}
 use Rattle.port_board.specs.declared.answer.Settled.TheVariants.{Sent, TakenBack, Busy}
 use Rattle.port_board.specs.declared.view.Came.{Came}
@@ -16,9 +22,10 @@ use Rattle.port_board.specs.Rule.{DifferAt}
 use Rattle.port_board.specs.declared.view.View.{View}
 use Rattle.port_board.specs.Agreement.{NobodyHad, SentCameBack}
 use Rattle.port_board.specs.Views.{agents_out, grant, is_unsettled, last_at, looked, report, settled_as, settled_if, settlement, Tried}
-use Rattle.slot_runner.specs.Posts.{settled_at, settlements_of}
-use Rattle.slot_runner.specs.Settling.{AreSettled, AreToSettle, IsFirstShort, IsSettledBy}
-use Rattle.slot_runner.proofs.PortPosts.{last_among, settlements_next, settles_here, settles_there}
+use Rattle.slot_runner.specs.Posts.{post_of, settlements_of}
+use Rattle.slot_runner.specs.Settling.{AreSettled, AreToSettle, IsFirstShort, IsSettledBy, MustBeSent}
+use Rattle.slot_runner.proofs.Apart.{taken_apart}
+use Rattle.slot_runner.proofs.PortPosts.{last_among, settles_here, settles_there}
 
 tried_same : (port : ℕ) (v before : View) → Tried port v before → (before.posts ≡ v.posts) × (before.settled ≡ v.settled)
 tried_same port v before t = ⊎_elim (λ (e : before ≡ v). (ap (λ (x : View). x.posts) e, ap (λ (x : View). x.settled) e))
@@ -59,93 +66,112 @@ is_sent v port (Sent n) none g last somebody taken busy = (n, refl)
 is_sent v port TakenBack none g last somebody taken busy = absurd (somebody (taken refl))
 is_sent v port (Busy word) none g last somebody taken busy = absurd (none_busy v none (busy word refl))
 
-module _ (granted : ℕ → Option ℕ) (sent : ℕ → ℕ) (first slots ports : ℕ) (v : View) (waiting : AreToSettle granted sent first slots ports v) where
+-- the posts of these flows are settled, and at all other ports nothing changed
+pub record AreSettledOf (flows : List Flow) (sent : ℕ → ℕ) (first slots : ℕ) (v w : View) (taken : List ℕ) : Type 0 where
+  pub posts : w.posts ≡ v.posts
+  pub back : w.back ≡ v.back
+  pub made : w.made ≡ v.made
+  pub settled : w.settled ≡ v.settled ++ settlements_of flows taken sent first slots
+  pub there : (f : ℕ) → Contains taken f → is_unsettled (ingress_of flows f) w.posts w.settled ≡ false
+  pub rest : (p : ℕ) → ((f : ℕ) → Contains taken f → ingress_of flows f ≡ p → ⊥) → is_unsettled p w.posts w.settled ≡ is_unsettled p v.posts v.settled
+  pub reported : (f : ℕ) → Contains taken f → (c : Came) × Contains v.back c × Contains c.done (report (post_of flows first slots f) (sent (ingress_of flows f)))
+
+module _ (flows : List Flow) (granted : List ℕ) (sent : ℕ → ℕ) (first slots ports : ℕ) (clear : IsClear flows granted)
+    (inside : (f : ℕ) → Contains granted f → ingress_of flows f < ports) (v : View) (waiting : AreToSettle (grant_in flows granted) sent first slots ports v) where
   -- nothing is settled yet
-  pub begins_settled : AreSettled granted sent first slots v v 0
+  pub begins_settled : AreSettledOf flows sent first slots v v []
   begins_settled = record {
     posts = refl;
     back = refl;
     made = refl;
     settled = sym (append-nil v.settled);
-    settled_there = λ p lt. absurd (omega arith);
-    rest = λ p le. refl;
-    reported = λ p f lt e. absurd (omega arith);
+    there = λ f in'. absurd (nothing_in f in');
+    rest = λ p far. refl;
+    reported = λ f in'. absurd (nothing_in f in');
   }
 
-  module _ (w : View) (k : ℕ) (low : k < ports) (so_far : AreSettled granted sent first slots v w k) where
-    -- a port where nothing waits has no grant
-    pub has_none : (o : Option ℕ) → granted k ≡ o → is_unsettled k w.posts w.settled ≡ false → granted k ≡ None
-    has_none None e idle = e
-    has_none (Some f) e idle = absurd (true≢false (sym (waiting.post k f low e).waits ∙ sym (so_far.rest k (omega arith)) ∙ idle))
+  module _ (w : View) (k f : ℕ) (low : k < length granted) (is : get_or granted k f ≡ f) (so_far : AreSettledOf flows sent first slots v w (take k granted)) where
+    abbrev port : ℕ
+    port = ingress_of flows f
 
-    -- a port where a post waits has a grant
-    pub has_one : (o : Option ℕ) → granted k ≡ o → is_unsettled k w.posts w.settled ≡ true → (f : ℕ) × (granted k ≡ Some f)
-    has_one None e waits = absurd (true≢false (sym waits ∙ so_far.rest k (omega arith) ∙ waiting.nothing k low e))
-    has_one (Some f) e waits = (f, e)
+    abbrev post : Grant
+    post = post_of flows first slots f
 
-    pub last_now : (f : ℕ) → granted k ≡ Some f → last_at k w.posts ≡ Some (grant k first f slots)
-    last_now f e = ap (last_at k) so_far.posts ∙ (waiting.post k f low e).last
+    here : MustBeSent v post (sent port)
+    here = waiting.post port f (inside f (k, low, is)) ((grant_at flows granted port f clear).1 ((k, low, is), refl))
 
-    pub somebody_now : (f : ℕ) → granted k ≡ Some f → NobodyHad (grant k first f slots) w → ⊥
-    somebody_now f e nobody = (waiting.post k f low e).somebody (subst (λ (l : List Came). All (λ (c : Came). All (λ (r : Report). DifferAt r.grant (grant k first f slots))
-        c.done ×
-        All (λ (m : ℕ × ℕ). m.0 ≡ k → m.1 ≡ first → ⊥) c.missed) l) so_far.back nobody)
+    pub waits_still : is_unsettled port w.posts w.settled ≡ true
+    waits_still = so_far.rest port (taken_apart flows granted k f low is clear) ∙ here.waits
 
-    pub skips : granted k ≡ None → is_unsettled k w.posts w.settled ≡ false → AreSettled granted sent first slots v w (k + 1)
-    skips none idle = record {
-      posts = so_far.posts;
-      back = so_far.back;
-      made = so_far.made;
-      settled = so_far.settled ∙ ap (λ l. v.settled ++ l) (sym (settlements_next granted sent first slots k ∙ ap
-          (λ o. settlements_of granted sent first slots k ++ settled_at first slots (sent k) k o) none ∙
-          append-nil (settlements_of granted sent first slots k)));
-      settled_there = λ p lt. elim (cases_eq p k) [
-        | inl e ↦ subst (λ (q : ℕ). is_unsettled q w.posts w.settled ≡ false) (sym e) idle
-        | inr far ↦ so_far.settled_there p
-            (omega (arith, lt, far))
-      ];
-      rest = λ p le. so_far.rest p (omega (arith, le));
-      reported = λ p f lt e. elim (cases_eq p k) [
-        | inl is ↦ absurd (none-some f (sym none ∙ ap granted (sym is) ∙ e))
-        | inr far ↦ so_far.reported p f (omega (arith, lt, far)) e
-      ];
-    }
+    pub last_now : last_at port w.posts ≡ Some post
+    last_now = ap (last_at port) so_far.posts ∙ here.last
 
-    module _ (f : ℕ) (given : granted k ≡ Some f) (u : View) (n : ℕ) (by : IsSettledBy w u (grant k first f slots) n) where
+    pub somebody_now : NobodyHad post w → ⊥
+    somebody_now nobody = here.somebody (subst (λ (l : List Came). All (λ (c : Came). All (λ (r : Report). DifferAt r.grant post) c.done ×
+        All (λ (m : ℕ × ℕ). m.0 ≡ port → m.1 ≡ first → ⊥) c.missed) l) so_far.back nobody)
+
+    module _ (u : View) (n : ℕ) (by : IsSettledBy w u post n) where
       -- the number is what was sent from the port
-      pub number_is : n ≡ sent k
-      number_is = (waiting.post k f low given).only by.by n (subst (λ l. Contains l by.by) so_far.back by.among) by.reported
+      pub number_is : n ≡ sent port
+      number_is = here.only by.by n (subst (λ l. Contains l by.by) so_far.back by.among) by.reported
 
-      pub settles : AreSettled granted sent first slots v u (k + 1)
-      settles =
-          let g = grant k first f slots in
-          let adds : settlements_of granted sent first slots (k + 1) ≡ settlements_of granted sent first slots k ++ settlement g (Some n) ∷ [] =
-          settlements_next granted sent first slots k ∙ (λ i. settlements_of granted sent first slots k ++ settled_at first slots (sym number_is i) k (given i)) in
-          let same : (p : ℕ) → is_unsettled p u.posts u.settled ≡ is_unsettled p w.posts (w.settled ++ settlement g (Some n) ∷ []) = λ p i. is_unsettled p (by.posts i)
-          (by.settled i) in
-          let apart : (p : ℕ) → p ≢ k → is_unsettled p u.posts u.settled ≡ is_unsettled p w.posts w.settled =
-          λ p far. same p ∙ settles_there p g w.posts w.settled (Some n) (λ h last e. far (sym (last_among p h w.posts last).1 ∙ e)) in record {
-            posts = by.posts ∙ so_far.posts;
-            back = by.back ∙ so_far.back;
-            made = by.made ∙ so_far.made;
-            settled = by.settled ∙ ap (λ (l : List Settlement). l ++ settlement g (Some n) ∷ []) so_far.settled ∙
-                append_assoc v.settled (settlements_of granted sent first slots k) (settlement g (Some n) ∷ []) ∙ ap (λ l. v.settled ++ l) (sym adds);
-            settled_there = λ p lt. elim (cases_eq p k) [
-              | inl e ↦ subst (λ (q : ℕ). is_unsettled q u.posts u.settled ≡ false) (sym e) (same k ∙ settles_here k g w.posts w.settled (Some n) (last_now f given))
-              | inr far ↦ apart p far ∙ so_far.settled_there p (omega (arith, lt, far))
-            ];
-            rest = λ p le. apart p (λ e. absurd (omega (arith, e, le))) ∙ so_far.rest p (omega (arith, le));
-            reported = λ p h lt e. elim (cases_eq p k) [
-              | inl is ↦
-                  let f_is : f ≡ h = same_Some f h (sym given ∙ ap granted (sym is) ∙ e) in (
-                    by.by,
-                    subst (λ l. Contains l by.by) so_far.back by.among,
-                    subst (λ (x : ℕ × ℕ × ℕ). Contains by.by.done (report (grant x.0 first x.1 slots) x.2)) (λ i. (sym is i, f_is i, (number_is ∙ ap sent (sym is)) i))
-                        by.reported,
-                  )
-              | inr far ↦ so_far.reported p h (omega (arith, lt, far)) e
-            ];
-          }
+      one_more : take (k + 1) granted ≡ take k granted ++ f ∷ []
+      one_more = take_more granted k f low ∙ ap (λ x. take k granted ++ x ∷ []) is
+
+      same : (p : ℕ) → is_unsettled p u.posts u.settled ≡ is_unsettled p w.posts (w.settled ++ settlement post (Some n) ∷ [])
+      same p i = is_unsettled p (by.posts i) (by.settled i)
+
+      apart : (p : ℕ) → p ≢ port → is_unsettled p u.posts u.settled ≡ is_unsettled p w.posts w.settled
+      apart p far = same p ∙ settles_there p post w.posts w.settled (Some n) (λ h last e. far (sym (last_among p h w.posts last).1 ∙ e))
+
+      in_more : (g : ℕ) → Contains (take k granted ++ f ∷ []) g → Contains (take k granted) g ⊎ (f ≡ g)
+      in_more g in' = ⊎_elim (λ before. inl before) (λ now. ⊎_elim (λ e. inr e) (λ none. absurd (nothing_in g none)) (first_or_tail f [] g now))
+          (Contains-append_cases (take k granted) (f ∷ []) g in')
+
+      pub settles : AreSettledOf flows sent first slots v u (take (k + 1) granted)
+      settles = subst (AreSettledOf flows sent first slots v u) (sym one_more) (record {
+        posts = by.posts ∙ so_far.posts;
+        back = by.back ∙ so_far.back;
+        made = by.made ∙ so_far.made;
+        settled = by.settled ∙ ap (λ (l : List Settlement). l ++ settlement post (Some n) ∷ []) so_far.settled ∙
+            append_assoc v.settled (settlements_of flows (take k granted) sent first slots) (settlement post (Some n) ∷ []) ∙
+            ap (λ l. v.settled ++ l) (ap (λ m. settlements_of flows (take k granted) sent first slots ++ settlement post (Some m) ∷ []) number_is ∙
+            sym (map_push (λ g. settlement (post_of flows first slots g) (Some (sent (ingress_of flows g)))) (take k granted) f));
+        there = λ g in'. ⊎_elim
+            (λ before. apart (ingress_of flows g) (taken_apart flows granted k f low is clear g before) ∙ so_far.there g before)
+            (λ e. subst (λ x. is_unsettled (ingress_of flows x) u.posts u.settled ≡ false) e (same port ∙ settles_here port post w.posts w.settled (Some n) last_now))
+            (in_more g in');
+        rest = λ p far.
+            apart p (λ e. far f (Contains-append_right (take k granted) (f ∷ []) f (in_first f [])) (sym e)) ∙
+            so_far.rest p (λ g before. far g (Contains-append_left (take k granted) (f ∷ []) g before));
+        reported = λ g in'. ⊎_elim
+            (λ before. so_far.reported g before)
+            (λ e. (
+              by.by,
+              subst (λ l. Contains l by.by) so_far.back by.among,
+              subst (λ x. Contains by.by.done (report (post_of flows first slots x) (sent (ingress_of flows x)))) e
+                  (subst (λ m. Contains by.by.done (report post m)) number_is by.reported),
+            ))
+            (in_more g in');
+      })
+
+  -- once all granted flows are settled, so is each port
+  pub settled_all : (w : View) → AreSettledOf flows sent first slots v w granted → AreSettled flows granted sent first slots v w ports
+  settled_all w all = record {
+    posts = all.posts;
+    back = all.back;
+    made = all.made;
+    settled = all.settled;
+    settled_there = λ p lt. at_port p lt (grant_in flows granted p) refl;
+    rest = λ p le. all.rest p (λ f in' at. absurd (omega (arith, inside f in', at, le)));
+    reported = λ p f lt e.
+        let (in', at) = grant_is flows granted p f e in
+        subst (λ q. (c : Came) × Contains v.back c × Contains c.done (report (grant q first f slots) (sent q))) at (all.reported f in');
+  }
+    where
+      at_port : (p : ℕ) → p < ports → (o : Option ℕ) → grant_in flows granted p ≡ o → is_unsettled p w.posts w.settled ≡ false
+      at_port p lt None e = all.rest p (λ f in' at. grant_none flows granted p f e in' at) ∙ waiting.nothing p lt e
+      at_port p lt (Some f) e = let (in', at) = grant_is flows granted p f e in subst (λ q. is_unsettled q w.posts w.settled ≡ false) at (all.there f in')
 
 -- the first port that sent less, after one port more
 module _ (granted : ℕ → Option ℕ) (sent : ℕ → ℕ) (slots k : ℕ) where

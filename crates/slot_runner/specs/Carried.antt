@@ -34,9 +34,9 @@ module _ {W : Type 0} (faults : W → ℕ) (runs : W → Option (List (ℕ × �
     pub granted : new.granted ≡ driven o before d
     pub ports : new.ports ≡ old.ports
     pub posts : new.posts
-        ≡ old.posts ++ posts_of (grant_in o.table.flows (driven o before d)) d.first d.slots old.ports
+        ≡ old.posts ++ posts_of o.table.flows (driven o before d) d.first d.slots
     pub settled : new.settled
-        ≡ old.settled ++ settlements_of (grant_in o.table.flows (driven o before d)) sent d.first d.slots old.ports
+        ≡ old.settled ++ settlements_of o.table.flows (driven o before d) sent d.first d.slots
     pub posted_to : new.posted_to ≡ d.first + d.slots
     pub wires : AreSent faults runs (ended d sent between answer)
         (grant_in o.table.flows (driven o before d)) old.ports ws ws'

@@ -1,8 +1,9 @@
 -- How the ports of a run are settled and noted, port by port.
-use Rattle.std.specs.Prelude.{◌≡◌, ℕ, ◌+◌, ◌<◌, ◌≤◌, nat_lt, if◌then◌else◌, false, true, List, [], ◌∷◌, ◌++◌, Contains, length, Option, Some, None}
+use Rattle.std.specs.Prelude.{◌≡◌, ℕ, ◌+◌, ◌<◌, ◌≤◌, nat_lt, if◌then◌else◌, false, true, List, [], ◌∷◌, ◌++◌, Contains, length, map, Option, Some, None}
+use Rattle.coflow_units.specs.declared.fabric.Flow.{Flow}
 use Rattle.journal.specs.declared.command.Entry.{Entry}
 use Rattle.journal.specs.declared.opening.Opening.{Opening}
-use Rattle.journal.specs.Driven.{Drive, driven, driver_entries, IsUnderWay, NoneNotedFrom, times_noted}
+use Rattle.journal.specs.Driven.{Drive, driven, driver_entries, IsUnderWay, NoneNotedFrom, sent_from, times_noted}
 use Rattle.journal.specs.Runs.{grant_in}
 use Rattle.port_board.specs.declared.view.Came.{Came}
 use Rattle.port_board.specs.declared.view.Grant.{Grant}
@@ -39,15 +40,16 @@ pub record AreToSettle (granted : ℕ → Option ℕ) (sent : ℕ → ℕ) (firs
   pub nothing : (p : ℕ) → p < ports → granted p ≡ None → is_unsettled p w.posts w.settled ≡ false
   pub within : (p f : ℕ) → p < ports → granted p ≡ Some f → sent p ≤ slots
 
--- the first so many ports are settled
-pub record AreSettled (granted : ℕ → Option ℕ) (sent : ℕ → ℕ) (first slots : ℕ) (v w : View) (ports : ℕ) : Type 0 where
+-- the posts of the granted flows are settled, and with them each of so many ports
+pub record AreSettled (flows : List Flow) (granted : List ℕ) (sent : ℕ → ℕ) (first slots : ℕ) (v w : View) (ports : ℕ)
+    : Type 0 where
   pub posts : w.posts ≡ v.posts
   pub back : w.back ≡ v.back
   pub made : w.made ≡ v.made
-  pub settled : w.settled ≡ v.settled ++ settlements_of granted sent first slots ports
+  pub settled : w.settled ≡ v.settled ++ settlements_of flows granted sent first slots
   pub settled_there : (p : ℕ) → p < ports → is_unsettled p w.posts w.settled ≡ false
   pub rest : (p : ℕ) → ports ≤ p → is_unsettled p w.posts w.settled ≡ is_unsettled p v.posts v.settled
-  pub reported : (p f : ℕ) → p < ports → granted p ≡ Some f →
+  pub reported : (p f : ℕ) → p < ports → grant_in flows granted p ≡ Some f →
       (c : Came) × Contains v.back c × Contains c.done (report (grant p first f slots) (sent p))
 
 -- the driver's calls that are left fell by the number of its new entries
@@ -61,6 +63,12 @@ pub record IsOpenRunOf (o : Opening) (before : List Entry) (d : Drive) (driver :
   pub no_notes : d.between ≡ []
   pub calls : o.table.ports + 1 ≤ driver.left
   pub position : driver.position ≡ length driver.journal
+
+-- The list has what was sent of each granted flow, in the order of the flows. Of none more units were sent than the run
+-- has slots.
+pub record IsListedSent (o : Opening) (before : List Entry) (d : Drive) (sent : List ℕ) : Type 0 where
+  pub listed : sent ≡ map (sent_from o.table.flows d) (driven o before d)
+  pub within : (f : ℕ) → Contains (driven o before d) f → sent_from o.table.flows d f ≤ d.slots
 
 -- The first so many ports are noted where they are to be, in their order, and no port after them is noted yet.
 pub record AreNoted (o : Opening) (before : List Entry) (d : Drive) (old new : DriverModel) (ports : ℕ) : Type 0 where

@@ -1,10 +1,10 @@
 -- What a slot of a runner comes to, answer by answer.
-use Rattle.std.specs.Prelude.{◌≡◌, ℕ, ◌+◌, ◌<◌, ◌≤◌, Bool, true, false, List, ◌++◌, length, slice_index_or, Option, Some, None}
+use Rattle.std.specs.Prelude.{◌≡◌, ℕ, ◌<◌, ◌≤◌, Bool, true, false, List, ◌++◌, length, slice_index_or, Option, Some, None}
 use Rattle.outside.specs.Rose.{Rose}
 use Rattle.journal.specs.declared.command.Command.TheVariants.{Open}
 use Rattle.journal.specs.declared.command.Reply.{Reply}
 use Rattle.journal.specs.declared.opening.Opening.{Opening}
-use Rattle.journal.specs.Driven.{Drive, driven, driver_entries, GoesOnByRun, IsDriven, IsSentWhole, opened_in}
+use Rattle.journal.specs.Driven.{Drive, driven, GoesOnByRun, IsDriven, IsSentWhole, opened_in}
 use Rattle.journal.specs.Fold.{state_of}
 use Rattle.journal.specs.Runs.{grant_in}
 use Rattle.turnstile.specs.Histories.{NoneAbove}
@@ -12,7 +12,6 @@ use Rattle.port_board.specs.Views.{grant, report}
 use Rattle.port_agent.specs.Served.{SentOn}
 use Rattle.client_session.specs.Desk.{IsSeen}
 use Rattle.client_session.specs.Drivers.{IsDrivenOn, IsStopped, StaysInHall, who_of}
-use Rattle.client_session.specs.Models.{DriverModel}
 use Rattle.client_session.specs.declared.receipt.Receipt.{Receipt}
 use Rattle.slot_runner.specs.Models.{RunnerModel}
 use Rattle.slot_runner.specs.Posts.{posts_of, settlements_of}
@@ -43,7 +42,7 @@ module _ {W : Type 0} (faults : W → ℕ) (runs : W → Option (List (ℕ × �
 
 -- What a run makes of the runner and its driver. The driver's journal goes on by the one driven run, which stands behind
 -- all that the driver had seen. The flows of the last run are those that it grants, by number. Each of them was posted
--- once at its port, in the order of the ports, and settled by the units that the wire of the port took.
+-- once at its port, in the order of the flows, and settled by the units that the wire of the port took.
 pub record HasRun (o : Opening) (most : ℕ) (d : Drive) (old new : RunnerModel) : Type 0 where
   pub asked : d.most ≡ most
   pub place : StaysInHall old.driver new.driver
@@ -57,9 +56,9 @@ pub record HasRun (o : Opening) (most : ℕ) (d : Drive) (old new : RunnerModel)
   pub granted : new.granted ≡ driven o old.driver.journal d
   pub ports : new.ports ≡ old.ports
   pub posts : new.posts
-      ≡ old.posts ++ posts_of (grant_in o.table.flows new.granted) d.first d.slots old.ports
+      ≡ old.posts ++ posts_of o.table.flows new.granted d.first d.slots
   pub settled : new.settled
-      ≡ old.settled ++ settlements_of (grant_in o.table.flows new.granted) d.sent d.first d.slots old.ports
+      ≡ old.settled ++ settlements_of o.table.flows new.granted d.sent d.first d.slots
   pub posted_to : new.posted_to ≡ (state_of o new.driver.journal).next
 
 module _ {W : Type 0} (faults : W → ℕ) (runs : W → Option (List (ℕ × ℕ × ℕ))) where

@@ -15,7 +15,7 @@ ghost use Rattle.slot_runner.specs.Slots.{has_run, IsAnswered, IsFaulted, IsFull
 
 use crate::answer::{Ran, RunnerBack};
 use crate::posting::post_grants;
-use crate::settling::{close_run, settle_ports};
+use crate::settling::{close_run, note_short_ports, settle_ports};
 use client_session::{Answer, Driver, Hall};
 use journal::Reply;
 use outside::Wire;
@@ -35,6 +35,8 @@ pub struct Runner {
     poster: Poster,
     posted_to: u64,
     granted: Vec<u32>,
+    /// What was sent of each of those flows.
+    sent: Vec<u64>,
 }
 
 // Written out, since a derived one is proved anew, with those of all that it holds, in each crate that drops such a value.
@@ -46,6 +48,7 @@ impl Drop for Runner {
             poster: _,
             posted_to: _,
             granted: _,
+            sent: _,
         } = self;
     }
 }
@@ -65,7 +68,8 @@ impl Model for Runner {
       granted = r.granted.items;
     } };
 
-    ghost invariant = { λ r. (r.poster.at ≡ r.board.id) × (r.board.ports ≤ vec_capacity r.granted) ×
+    ghost invariant = { λ r. (r.poster.at ≡ r.board.id) ×
+        ((r.board.ports ≤ vec_capacity r.granted) × (r.board.ports ≤ vec_capacity r.sent)) ×
         IsIdle r.posted_to r.poster.view };
 }
 
@@ -81,6 +85,9 @@ impl Runner {
         let Ok(granted) = Vec::with_capacity(alloc, ports as usize) else {
             return Err(RunnerBack { driver });
         };
+        let Ok(sent) = Vec::with_capacity(alloc, ports as usize) else {
+            return Err(RunnerBack { driver });
+        };
         let Ok((board, poster)) = PortBoard::new(alloc, ports) else {
             return Err(RunnerBack { driver });
         };
@@ -90,6 +97,7 @@ impl Runner {
             poster,
             posted_to: 0,
             granted,
+            sent,
         })
     }
 
@@ -103,6 +111,7 @@ impl Runner {
             poster: _,
             posted_to: _,
             granted: _,
+            sent: _,
         } = self;
         driver
     }
@@ -123,7 +132,7 @@ impl Runner {
         &self.granted
     }
 
-    /// One run of at most so many slots: opens it, grants its flows at the ports, lets so many agents beside each other draw and send them, each at its own ports next to each other, settles every port,
+    /// One run of at most so many slots: opens it, grants its flows at the ports, lets so many agents beside each other draw and send them, each at its own ports next to each other, settles every granted port,
     /// notes each one that sent less than the run has slots, by number, and closes the run. There is a wire for each port. It takes turns, which may wait.
     ///
     /// Memory is taken before the run is opened, so an opened run is always closed.
@@ -217,14 +226,14 @@ impl Runner {
         self.driver.list_granted(hall, &mut self.granted);
         let (near, _far) = wires.split_at_mut(self.board.ports() as usize);
         serve_run(rt, &self.board, &mut self.poster, seats, agents, near);
-        let fault = settle_ports(
-            rt,
+        settle_ports(
             hall,
-            &mut self.driver,
+            &self.driver,
             &self.board,
             &mut self.poster,
-            slots,
+            &mut self.sent,
         );
+        let fault = note_short_ports(rt, hall, &mut self.driver, &self.board, &self.sent, slots);
         close_run(rt, hall, &mut self.driver);
         self.posted_to = slot + slots;
         fault

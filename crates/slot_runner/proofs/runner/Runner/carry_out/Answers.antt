@@ -2,14 +2,14 @@
 use Rattle.std.proofs.Common.{◌≡◌, ◌+◌, ◌≤◌, List, ◌++◌, sym, ◌∙◌, refl, subst, arith}
 use Rattle.journal.specs.declared.command.Entry.{Entry}
 use Rattle.journal.specs.Driven.{Drive}
-use Rattle.client_session.specs.Grants.{flow_granted}
+use Rattle.client_session.specs.Grants.{all_granted}
 use Rattle.client_session.specs.Models.{IsDriverOf}
 use Rattle.slot_runner.specs.Carried.{IsCarriedOut}
 use Rattle.slot_runner.specs.Models.{RunnerModel}
 use Rattle.slot_runner.specs.Settling.{IsOpenRunOf}
 use Rattle.slot_runner.proofs.OnePort.{sent_of}
 use Rattle.slot_runner.proofs.Opens.{flow_in_range, open_facts}
-use Rattle.slot_runner.proofs.Through.{call_left, idle_then, posted_on, still_under_way, through, told, waiting}
+use Rattle.slot_runner.proofs.Through.{call_left, idle_then, listed, posted_on, still_under_way, through, told, waiting}
 use Rattle.slot_runner.proofs.runner.Runner.carry_out.Goals as goal
 
 pub post_grants-requires-clause-flows : goal.post_grants-requires-clause-flows
@@ -64,12 +64,12 @@ post_grants-requires-clause-length g c =
 pub serve_run-requires-clause-posted : goal.serve_run-requires-clause-posted
 serve_run-requires-clause-posted g c κs within =
     let i = c.self.inside in
-    posted_on (flow_granted c.args.hall.now.setting.opening i.driver.journal) c.args.slot c.args.slots i.board.ports i.poster.view c.post_grants.new.poster.view
+    posted_on c.args.hall.now.setting.opening.table.flows (all_granted c.args.hall.now.setting.opening i.driver.journal) c.args.slot c.args.slots i.poster.view c.post_grants.new.poster.view
     c.post_grants.ensures.posted
     c.self.invariant.2.posted c.self.invariant.2.apart
 
-pub settle_ports-fault-requires-clause-run : goal.settle_ports-fault-requires-clause-run
-settle_ports-fault-requires-clause-run g c =
+pub settle_ports-requires-clause-run : goal.settle_ports-requires-clause-run
+settle_ports-requires-clause-run g c =
     let i = c.self.inside in
     let o = c.args.hall.now.setting.opening in
     let is = sym c.self.view_is in
@@ -85,13 +85,37 @@ settle_ports-fault-requires-clause-run g c =
     let sent = sent_of all.served.took in (
       before,
       record d { sent = sent },
-      long,
       told o before d i.driver within seen open' c.args.slot c.args.slots i.board.ports i.posted_to first long own.1 i.poster.view
           c.post_grants.new.poster.view idle low c.post_grants.ensures.posted g.W.Wire.faults g.W.Wire.runs c.serve_run.new.poster.view _ c.serve_run.new.wires all many,
       waiting
           o before d i.driver within seen open' c.args.slot c.args.slots i.board.ports i.posted_to first long own.1 i.poster.view c.post_grants.new.poster.view idle low
           c.post_grants.ensures.posted g.W.Wire.faults g.W.Wire.runs c.serve_run.new.poster.view _ c.serve_run.new.wires all many,
     )
+
+pub note_short_ports-fault-requires-clause-run : goal.note_short_ports-fault-requires-clause-run
+note_short_ports-fault-requires-clause-run g c =
+    let i = c.self.inside in
+    let o = c.args.hall.now.setting.opening in
+    let is = sym c.self.view_is in
+    let own = subst (λ (m : RunnerModel). IsDriverOf c.args.hall.now m.driver × (m.ports ≡ o.table.ports)) is c.requires.own in
+    let low = subst (λ (m : RunnerModel). m.posted_to ≤ c.args.slot) is c.requires.later in
+    let seen = c.made-seen.ensures.seen c.args.hall.now.setting own.0.1 in
+    let within = c.coflows-within.ensures.opening in
+    let idle = c.self.invariant.2 in
+    let (before, d, first, long, open') = subst (λ (m : RunnerModel). (b : List Entry) × (x : Drive) × (c.args.slot ≡ x.first) × (c.args.slots ≡ x.slots) × IsOpenRunOf o b x
+    m.driver) is c.requires.run in
+    let all = c.serve_run.ensures.served in
+    let many = c.split_at_mut-near.ensures.front_len ∙ c.ports.ensures.ports in
+    let sent = sent_of all.served.took in
+    let here = waiting o before d i.driver within seen open' c.args.slot c.args.slots i.board.ports i.posted_to first long own.1 i.poster.view c.post_grants.new.poster.view
+    idle low c.post_grants.ensures.posted g.W.Wire.faults g.W.Wire.runs c.serve_run.new.poster.view _ c.serve_run.new.wires all many in
+    let there = told o before d i.driver within seen open' c.args.slot c.args.slots i.board.ports i.posted_to first long own.1 i.poster.view c.post_grants.new.poster.view idle
+    low c.post_grants.ensures.posted g.W.Wire.faults g.W.Wire.runs c.serve_run.new.poster.view _ c.serve_run.new.wires all many in
+    let settled = c.settle_ports.ensures.settled before (record d { sent = sent }) there here in
+    let list = listed o before d i.driver within seen open' c.args.slot c.args.slots i.board.ports i.posted_to first long own.1 i.poster.view c.post_grants.new.poster.view idle low
+    c.post_grants.ensures.posted g.W.Wire.faults g.W.Wire.runs c.serve_run.new.poster.view _ c.serve_run.new.wires all many c.deref.result.now
+    (c.deref.ensures.value ∙ c.settle_ports.ensures.sent before (record d { sent = sent }) there here) in
+    (before, record d { sent = sent }, long, there, list)
 
 pub close_run-requires-clause-own : goal.close_run-requires-clause-own
 close_run-requires-clause-own g c =
@@ -112,7 +136,12 @@ close_run-requires-clause-own g c =
     idle low c.post_grants.ensures.posted g.W.Wire.faults g.W.Wire.runs c.serve_run.new.poster.view _ c.serve_run.new.wires all many in
     let there = told o before d i.driver within seen open' c.args.slot c.args.slots i.board.ports i.posted_to first long own.1 i.poster.view c.post_grants.new.poster.view idle
     low c.post_grants.ensures.posted g.W.Wire.faults g.W.Wire.runs c.serve_run.new.poster.view _ c.serve_run.new.wires all many in
-    let (settled, noted, short) = c.settle_ports-fault.ensures.settled before (record d { sent = sent }) long there here in
+    let settled = c.settle_ports.ensures.settled before (record d { sent = sent }) there here in
+    let list = listed o before d i.driver within seen open' c.args.slot c.args.slots i.board.ports i.posted_to first long own.1 i.poster.view c.post_grants.new.poster.view idle low
+    c.post_grants.ensures.posted g.W.Wire.faults g.W.Wire.runs c.serve_run.new.poster.view _ c.serve_run.new.wires all many c.deref.result.now
+    (c.deref.ensures.value ∙ c.settle_ports.ensures.sent before (record d { sent = sent }) there here) in
+    let noted = c.note_short_ports-fault.ensures.noted before (record d { sent = sent }) long there list in
+    let short = c.note_short_ports-fault.ensures.first_short before (record d { sent = sent }) long there list in
     (noted.place.gate ∙ own.0.0, noted.place.setting ∙ own.0.1, (λ j. (noted.place.rank j).table) ∙ own.0.2)
 
 pub close_run-requires-clause-call : goal.close_run-requires-clause-call
@@ -134,11 +163,16 @@ close_run-requires-clause-call g c =
     idle low c.post_grants.ensures.posted g.W.Wire.faults g.W.Wire.runs c.serve_run.new.poster.view _ c.serve_run.new.wires all many in
     let there = told o before d i.driver within seen open' c.args.slot c.args.slots i.board.ports i.posted_to first long own.1 i.poster.view c.post_grants.new.poster.view idle
     low c.post_grants.ensures.posted g.W.Wire.faults g.W.Wire.runs c.serve_run.new.poster.view _ c.serve_run.new.wires all many in
-    let (settled, noted, short) = c.settle_ports-fault.ensures.settled before (record d { sent = sent }) long there here in
+    let settled = c.settle_ports.ensures.settled before (record d { sent = sent }) there here in
+    let list = listed o before d i.driver within seen open' c.args.slot c.args.slots i.board.ports i.posted_to first long own.1 i.poster.view c.post_grants.new.poster.view idle low
+    c.post_grants.ensures.posted g.W.Wire.faults g.W.Wire.runs c.serve_run.new.poster.view _ c.serve_run.new.wires all many c.deref.result.now
+    (c.deref.ensures.value ∙ c.settle_ports.ensures.sent before (record d { sent = sent }) there here) in
+    let noted = c.note_short_ports-fault.ensures.noted before (record d { sent = sent }) long there list in
+    let short = c.note_short_ports-fault.ensures.first_short before (record d { sent = sent }) long there list in
     call_left o before d i.driver within seen open' c.args.slot c.args.slots i.board.ports i.posted_to first long own.1 i.poster.view c.post_grants.new.poster.view idle low
     c.post_grants.ensures.posted
-    g.W.Wire.faults g.W.Wire.runs c.serve_run.new.poster.view _ c.serve_run.new.wires all many c.settle_ports-fault.new.poster.view c.settle_ports-fault.new.driver
-    c.settle_ports-fault.result settled noted short
+    g.W.Wire.faults g.W.Wire.runs c.serve_run.new.poster.view _ c.serve_run.new.wires all many c.settle_ports.new.poster.view c.note_short_ports-fault.new.driver
+    c.note_short_ports-fault.result settled noted short
 
 pub close_run-requires-clause-run : goal.close_run-requires-clause-run
 close_run-requires-clause-run g c =
@@ -159,11 +193,16 @@ close_run-requires-clause-run g c =
     idle low c.post_grants.ensures.posted g.W.Wire.faults g.W.Wire.runs c.serve_run.new.poster.view _ c.serve_run.new.wires all many in
     let there = told o before d i.driver within seen open' c.args.slot c.args.slots i.board.ports i.posted_to first long own.1 i.poster.view c.post_grants.new.poster.view idle
     low c.post_grants.ensures.posted g.W.Wire.faults g.W.Wire.runs c.serve_run.new.poster.view _ c.serve_run.new.wires all many in
-    let (settled, noted, short) = c.settle_ports-fault.ensures.settled before (record d { sent = sent }) long there here in
+    let settled = c.settle_ports.ensures.settled before (record d { sent = sent }) there here in
+    let list = listed o before d i.driver within seen open' c.args.slot c.args.slots i.board.ports i.posted_to first long own.1 i.poster.view c.post_grants.new.poster.view idle low
+    c.post_grants.ensures.posted g.W.Wire.faults g.W.Wire.runs c.serve_run.new.poster.view _ c.serve_run.new.wires all many c.deref.result.now
+    (c.deref.ensures.value ∙ c.settle_ports.ensures.sent before (record d { sent = sent }) there here) in
+    let noted = c.note_short_ports-fault.ensures.noted before (record d { sent = sent }) long there list in
+    let short = c.note_short_ports-fault.ensures.first_short before (record d { sent = sent }) long there list in
     still_under_way o before d i.driver within seen open' c.args.slot c.args.slots i.board.ports i.posted_to first long own.1 i.poster.view c.post_grants.new.poster.view idle
     low c.post_grants.ensures.posted
-    g.W.Wire.faults g.W.Wire.runs c.serve_run.new.poster.view _ c.serve_run.new.wires all many c.settle_ports-fault.new.poster.view c.settle_ports-fault.new.driver
-    c.settle_ports-fault.result settled noted short
+    g.W.Wire.faults g.W.Wire.runs c.serve_run.new.poster.view _ c.serve_run.new.wires all many c.settle_ports.new.poster.view c.note_short_ports-fault.new.driver
+    c.note_short_ports-fault.result settled noted short
 
 pub overflow_add-self : goal.overflow_add-self
 overflow_add-self g c =
@@ -201,14 +240,22 @@ invariant_of-self g c =
     idle low c.post_grants.ensures.posted g.W.Wire.faults g.W.Wire.runs c.serve_run.new.poster.view _ c.serve_run.new.wires all many in
     let there = told o before d i.driver within seen open' c.args.slot c.args.slots i.board.ports i.posted_to first long own.1 i.poster.view c.post_grants.new.poster.view idle
     low c.post_grants.ensures.posted g.W.Wire.faults g.W.Wire.runs c.serve_run.new.poster.view _ c.serve_run.new.wires all many in
-    let (settled, noted, short) = c.settle_ports-fault.ensures.settled before (record d { sent = sent }) long there here in
+    let settled = c.settle_ports.ensures.settled before (record d { sent = sent }) there here in
+    let list = listed o before d i.driver within seen open' c.args.slot c.args.slots i.board.ports i.posted_to first long own.1 i.poster.view c.post_grants.new.poster.view idle low
+    c.post_grants.ensures.posted g.W.Wire.faults g.W.Wire.runs c.serve_run.new.poster.view _ c.serve_run.new.wires all many c.deref.result.now
+    (c.deref.ensures.value ∙ c.settle_ports.ensures.sent before (record d { sent = sent }) there here) in
+    let noted = c.note_short_ports-fault.ensures.noted before (record d { sent = sent }) long there list in
+    let short = c.note_short_ports-fault.ensures.first_short before (record d { sent = sent }) long there list in
     let room = c.list_granted.ensures.room in (
-      c.settle_ports-fault.ensures.own ∙ c.serve_run.ensures.own ∙ c.post_grants.ensures.own ∙ c.self.invariant.0,
-      (let was = c.self.invariant.1 in omega (arith, room, was)),
+      c.settle_ports.ensures.own ∙ c.serve_run.ensures.own ∙ c.post_grants.ensures.own ∙ c.self.invariant.0,
+      (
+        (let was = c.self.invariant.1.0 in omega (arith, room, was)),
+        (let was = c.self.invariant.1.1 in let kept = c.settle_ports.ensures.room in omega (arith, kept, was)),
+      ),
       idle_then o before d i.driver within seen open' c.args.slot c.args.slots i.board.ports i.posted_to first long own.1 i.poster.view c.post_grants.new.poster.view idle low
           c.post_grants.ensures.posted
-          g.W.Wire.faults g.W.Wire.runs c.serve_run.new.poster.view _ c.serve_run.new.wires all many c.settle_ports-fault.new.poster.view c.settle_ports-fault.new.driver
-          c.settle_ports-fault.result settled noted short,
+          g.W.Wire.faults g.W.Wire.runs c.serve_run.new.poster.view _ c.serve_run.new.wires all many c.settle_ports.new.poster.view c.note_short_ports-fault.new.driver
+          c.note_short_ports-fault.result settled noted short,
     )
 
 pub returns : goal.returns
@@ -230,20 +277,25 @@ returns g c = record {
       idle low c.post_grants.ensures.posted g.W.Wire.faults g.W.Wire.runs c.serve_run.new.poster.view _ c.serve_run.new.wires all many in
       let there = told o before d i.driver within seen open' c.args.slot c.args.slots i.board.ports i.posted_to first long own.1 i.poster.view c.post_grants.new.poster.view
       idle low c.post_grants.ensures.posted g.W.Wire.faults g.W.Wire.runs c.serve_run.new.poster.view _ c.serve_run.new.wires all many in
-      let (settled, noted, short) = c.settle_ports-fault.ensures.settled before (record d { sent = sent }) long there here in
+      let settled = c.settle_ports.ensures.settled before (record d { sent = sent }) there here in
+      let list = listed o before d i.driver within seen open' c.args.slot c.args.slots i.board.ports i.posted_to first long own.1 i.poster.view c.post_grants.new.poster.view idle low
+      c.post_grants.ensures.posted g.W.Wire.faults g.W.Wire.runs c.serve_run.new.poster.view _ c.serve_run.new.wires all many c.deref.result.now
+      (c.deref.ensures.value ∙ c.settle_ports.ensures.sent before (record d { sent = sent }) there here) in
+      let noted = c.note_short_ports-fault.ensures.noted before (record d { sent = sent }) long there list in
+      let short = c.note_short_ports-fault.ensures.first_short before (record d { sent = sent }) long there list in
       let (r, on) = c.close_run.ensures.done in
       subst (λ (m : RunnerModel). IsCarriedOut g.W.Wire.faults g.W.Wire.runs o before d m (record {
         driver = c.close_run.new.driver;
         ports = i.board.ports;
         posted_to = c.args.slot + c.args.slots;
-        posts = c.settle_ports-fault.new.poster.view.posts;
-        settled = c.settle_ports-fault.new.poster.view.settled;
+        posts = c.settle_ports.new.poster.view.posts;
+        settled = c.settle_ports.new.poster.view.settled;
         granted = c.list_granted.new.flows.items;
-      }) c.args.wires.now (c.serve_run.new.wires ++ c.split_at_mut-near.result.1.now) c.settle_ports-fault.result) c.self.view_is
+      }) c.args.wires.now (c.serve_run.new.wires ++ c.split_at_mut-near.result.1.now) c.note_short_ports-fault.result) c.self.view_is
       (through o before d i.driver within seen open' c.args.slot c.args.slots i.board.ports i.posted_to first long own.1 i.poster.view c.post_grants.new.poster.view idle low
       c.post_grants.ensures.posted
-      g.W.Wire.faults g.W.Wire.runs c.serve_run.new.poster.view _ c.serve_run.new.wires all many c.settle_ports-fault.new.poster.view c.settle_ports-fault.new.driver
-      c.settle_ports-fault.result settled noted short c.close_run.new.driver r on c.close_run.ensures.place c.split_at_mut-near.result.1.now c.args.wires.now
+      g.W.Wire.faults g.W.Wire.runs c.serve_run.new.poster.view _ c.serve_run.new.wires all many c.settle_ports.new.poster.view c.note_short_ports-fault.new.driver
+      c.note_short_ports-fault.result settled noted short c.close_run.new.driver r on c.close_run.ensures.place c.split_at_mut-near.result.1.now c.args.wires.now
       (c.serve_run.new.wires ++ c.split_at_mut-near.result.1.now) c.split_at_mut-near.ensures.value refl c.list_granted.new.flows.items i.granted.items
       c.list_granted.ensures.flows);
 }
@@ -254,5 +306,5 @@ list_granted-requires-clause-room g c =
     let is = sym c.self.view_is in
     let ports : c.self.inside.board.ports ≡ c.args.hall.now.setting.opening.table.ports =
     subst (λ (m : RunnerModel). m.ports ≡ c.args.hall.now.setting.opening.table.ports) is c.requires.own.1 in
-    let room = c.self.invariant.1 in
+    let room = c.self.invariant.1.0 in
     omega (arith, ports, room)
