@@ -90,8 +90,10 @@ impl Agent {
         served
     }
 
-    // One port and its wire: the length of the grant that was drawn, and what was sent of it.
-    fn serve_port<W: Wire>(
+    /// Tries once to draw at a port. What it draws it sends on the wire of the port, and reports how much the wire accepted.
+    ///
+    /// The seat is of this board, which has the port. The answer is the length of the grant that was drawn and the units that the wire accepted, both in units of the grants; it is none where nothing was drawn.
+    pub fn serve_port<W: Wire>(
         &mut self,
         board: &PortBoard,
         port: u32,
