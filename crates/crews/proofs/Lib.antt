@@ -1,0 +1,9 @@
+pub mod Trying
+pub mod Places
+pub mod Taking
+pub mod Driving
+pub mod Crewed
+pub mod Shares
+pub mod Ready
+pub mod Whole
+pub mod Joining
