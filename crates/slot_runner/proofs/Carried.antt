@@ -30,14 +30,13 @@ use Rattle.client_session.specs.Desk.{DrivenByRoot, IsSeen}
 use Rattle.client_session.specs.Drivers.{IsDrivenOn, StaysInHall, who_of}
 use Rattle.client_session.specs.Models.{DriverModel}
 use Rattle.client_session.specs.declared.receipt.Receipt.{Receipt}
-use Rattle.port_agent.specs.Attended.{IsServedBy}
 use Rattle.slot_runner.specs.Carried.{ended, IsCarriedOut}
 use Rattle.slot_runner.specs.Models.{IsIdle, WasReported}
 use Rattle.slot_runner.specs.Posts.{posts_of, settlements_of}
 use Rattle.slot_runner.specs.Settling.{AreNoted, AreSettled, CallsFall, IsFirstShort, IsOpenRunOf}
 use Rattle.slot_runner.specs.Slots.{AreSent, IsSentAt}
 use Rattle.slot_runner.proofs.Notes.{calls_fall, stays}
-use Rattle.slot_runner.proofs.OnePort.{drew_nothing, reported_is, sent_of, served_at, was_sent}
+use Rattle.slot_runner.proofs.OnePort.{AreGrantsServed, reported_is, sent_of, was_sent}
 use Rattle.slot_runner.proofs.Opens.{facts_clear, OpenFacts}
 use Rattle.slot_runner.proofs.PortPosts.{in_posts, in_settlements, last_without}
 use Rattle.slot_runner.proofs.Turns.{met_under_way, others_are_other}
@@ -103,33 +102,29 @@ module _ {W : Type 0} (faults : W → ℕ) (runs : W → Option (List (ℕ × �
     (inside : (f : ℕ) → Contains gs f → ingress_of flows f < ports) (v0 v w u : View) (ws ws' : List W)
     (idle : IsIdle to v0) (late : to ≤ first) (posts_are : v.posts ≡ v0.posts ++ posts_of flows gs first slots) (settled_are : v.settled ≡ v0.settled)
     (back_is : v.back ≡ v0.back)
-    (all : IsServedBy faults runs v w ws ws') (wires : length ws ≡ ports) (done : AreSettled flows gs (sent_of all.served.took) first slots w u ports) where
+    (all : AreGrantsServed faults runs (grant_in flows gs) v w ws ws') (wires : length ws ≡ ports) (done : AreSettled flows gs (sent_of all.took) first slots w u ports) where
   abbrev granted : ℕ → Option ℕ
   granted = grant_in flows gs
 
   -- the wire of each port
-  one_wire : (p : ℕ) (b a : W) → p < ports → (o : Option ℕ) → granted p ≡ o → (d : Drive) → d.first ≡ first → d.slots ≡ slots → d.sent ≡ sent_of all.served.took →
+  one_wire : (p : ℕ) (b a : W) → p < ports → (o : Option ℕ) → granted p ≡ o → (d : Drive) → d.first ≡ first → d.slots ≡ slots → d.sent ≡ sent_of all.took →
       IsSentAt faults runs d p (get_or ws p b) (get_or ws' p a) o
-  one_wire p b a lt None e d x y z =
-      drew_nothing faults runs flows gs first slots ports to clear inside v0 v w ws ws' idle late posts_are settled_are back_is all wires p (get_or ws p b) (get_or ws' p a) e
-      (get_or all.served.took p None)
-      (served_at faults runs flows gs first slots ports to clear inside v0 v w ws ws' idle late posts_are settled_are back_is all wires p b a lt)
+  one_wire p b a lt None e d x y z = all.rest p b a (omega (arith, lt, wires)) e
   one_wire p b a lt (Some f) e d x y z =
       let (c, among, has) = done.reported p f lt e in
-      let is = reported_is faults runs flows gs first slots ports to clear inside v0 v w ws ws' idle late posts_are settled_are back_is all wires p f (sent_of all.served.took p) c b a lt
-      among has in
+      let is = reported_is faults runs flows gs first slots ports to clear inside v0 v w ws ws' idle late posts_are settled_are back_is all wires p f (sent_of all.took p) c b a lt
+      e among has in
       subst (λ (q : ℕ × ℕ × ℕ). SentOn faults runs (get_or ws p b) (get_or ws' p a) (report (grant p q.0 f q.1) q.2))
       (λ i. (sym x i, sym y i, sym (ap (λ h. h p) z) i))
       (was_sent faults runs flows gs first slots ports to clear inside v0 v w ws ws' idle late posts_are settled_are back_is all wires p f (get_or ws p b) (get_or ws' p a)
-      (get_or all.served.took p None) is
-      (served_at faults runs flows gs first slots ports to clear inside v0 v w ws ws' idle late posts_are settled_are back_is all wires p b a lt).wire)
+      (all.took p) is
+      (all.each p f b a (omega (arith, lt, wires)) e).wire)
 
   -- the wires of the ports, and those behind them
-  pub are_sent : (far : List W) (whole whole' : List W) → whole ≡ ws ++ far → whole' ≡ ws' ++ far → (d : Drive) → d.first ≡ first → d.slots ≡ slots → d.sent ≡ sent_of
-      all.served.took →
+  pub are_sent : (far : List W) (whole whole' : List W) → whole ≡ ws ++ far → whole' ≡ ws' ++ far → (d : Drive) → d.first ≡ first → d.slots ≡ slots → d.sent ≡ sent_of all.took →
       AreSent faults runs d granted ports whole whole'
   are_sent far whole whole' x y d a b c =
-      let m = all.served.as_many in
+      let m = all.as_many in
       let long = length-append ws far in
       let long' = length-append ws' far in record {
         as_many = omega (arith, ap (λ (l : List W). length l) x, ap (λ (l : List W). length l) y, long, long', m);
@@ -145,8 +140,8 @@ module _ {W : Type 0} (faults : W → ℕ) (runs : W → Option (List (ℕ × �
   posts_u : u.posts ≡ v0.posts ++ posts_of flows gs first slots
   posts_u = done.posts ∙ all.posts ∙ posts_are
 
-  settled_u : u.settled ≡ v0.settled ++ settlements_of flows gs (sent_of all.served.took) first slots
-  settled_u = done.settled ∙ ap (λ (l : List Settlement). l ++ settlements_of flows gs (sent_of all.served.took) first slots) (all.settled ∙ settled_are)
+  settled_u : u.settled ≡ v0.settled ++ settlements_of flows gs (sent_of all.took) first slots
+  settled_u = done.settled ∙ ap (λ (l : List Settlement). l ++ settlements_of flows gs (sent_of all.took) first slots) (all.settled ∙ settled_are)
 
   back_u : u.back ≡ v0.back ++ map (λ (s : Sits). came_of s.view) all.seats
   back_u = done.back ∙ all.back ∙ ap (λ (l : List Came). l ++ map (λ (s : Sits). came_of s.view) all.seats) back_is
@@ -168,10 +163,10 @@ module _ {W : Type 0} (faults : W → ℕ) (runs : W → Option (List (ℕ × �
         (each_of (λ (g : Grant). g.slot < first + slots) (posts_of flows gs first slots)
         (λ g has. let (p, f, lt, e, is) = in_posts flows gs first slots ports clear inside g has in omega (arith, ap (λ (x : Grant). x.slot) is, some))));
     settled_before = subst (All (λ (s : Settlement). s.grant.slot < first + slots)) (sym settled_u)
-        (All-append (λ (s : Settlement). s.grant.slot < first + slots) v0.settled (settlements_of flows gs (sent_of all.served.took) first slots)
+        (All-append (λ (s : Settlement). s.grant.slot < first + slots) v0.settled (settlements_of flows gs (sent_of all.took) first slots)
         (λ k d lt. omega (arith, idle.settled_before k d lt, late))
-        (each_of (λ (s : Settlement). s.grant.slot < first + slots) (settlements_of flows gs (sent_of all.served.took) first slots)
-        (λ s has. omega (arith, in_settlements flows gs first slots ports clear inside (sent_of all.served.took) s has, some))));
+        (each_of (λ (s : Settlement). s.grant.slot < first + slots) (settlements_of flows gs (sent_of all.took) first slots)
+        (λ s has. omega (arith, in_settlements flows gs first slots ports clear inside (sent_of all.took) s has, some))));
     posted = subst (λ (x : List Came × List Grant). All (λ (c : Came). All (λ (r : Report). Contains x.1 r.grant) c.done) x.0) (λ i. (sym done.back i, sym done.posts i))
         all.posted;
     apart = subst (AllPairs SharesNothing) (sym done.back) all.apart;
@@ -183,16 +178,16 @@ module _ {W : Type 0} (faults : W → ℕ) (runs : W → Option (List (ℕ × �
         (λ g has.
         let (p, f, lt, e, is) = in_posts flows gs first slots ports clear inside g has in
         let (c, among, told) = done.reported p f lt e in
-        (c, report (grant p first f slots) (sent_of all.served.took p), subst (λ l. Contains l c) (sym done.back) among, told, is))));
+        (c, report (grant p first f slots) (sent_of all.took p), subst (λ l. Contains l c) (sym done.back) among, told, is))));
   }
 
   -- the run was carried out
   pub carried_out : (o : Opening) (before now : List Entry) (d : Drive) → IsOpening o → OpenFacts o before now d → flows ≡ o.table.flows → gs ≡ driven o before d →
       d.first ≡ first → d.slots ≡ slots →
-      ports ≡ o.table.ports → (driver mid end : DriverModel) (r : Receipt) → AreNoted o before (record d { sent = sent_of all.served.took }) driver mid ports → IsDrivenOn o
+      ports ≡ o.table.ports → (driver mid end : DriverModel) (r : Receipt) → AreNoted o before (record d { sent = sent_of all.took }) driver mid ports → IsDrivenOn o
       Close mid end r →
-      StaysInHall mid end → ((p f : ℕ) → p < ports → granted p ≡ Some f → sent_of all.served.took p ≤ slots) →
-      (short : Option (ℕ × ℕ)) → IsFirstShort granted (sent_of all.served.took) slots ports short → (far : List W) (whole whole' : List W) → whole ≡ ws ++ far → whole' ≡ ws' ++
+      StaysInHall mid end → ((p f : ℕ) → p < ports → granted p ≡ Some f → sent_of all.took p ≤ slots) →
+      (short : Option (ℕ × ℕ)) → IsFirstShort granted (sent_of all.took) slots ports short → (far : List W) (whole whole' : List W) → whole ≡ ws ++ far → whole' ≡ ws' ++
       far →
       (listed before_listed : List ℕ) → listed ≡ driven o before d →
       IsCarriedOut faults runs o before d (record { driver = driver; ports = ports; posted_to = to; posts = v0.posts; settled = v0.settled; granted = before_listed })
@@ -200,7 +195,7 @@ module _ {W : Type 0} (faults : W → ℕ) (runs : W → Option (List (ℕ × �
   carried_out o before now d within facts flows_is gs_is first_is slots_is ports_is driver mid end r noted on place low short is_short far whole whole' x y listed before_listed
       listed_are =
       let granted_is : granted ≡ grant_in o.table.flows (driven o before d) = (λ i. grant_in (flows_is i) (gs_is i)) in
-      let sent = sent_of all.served.took in
+      let sent = sent_of all.took in
       let ended_by = closes_run o before (record d { sent = sent }) now within (record {
         some = facts.some;
         first = facts.first;

@@ -2,7 +2,9 @@ pub mod Answered
 pub mod Apart
 pub mod Carried
 pub mod Concluded
+pub mod Crewed
 pub mod CutRuns
+pub mod Dismissed
 pub mod Listed
 pub mod Notes
 pub mod OnePort

@@ -22,12 +22,14 @@ use Rattle.client_session.specs.Drivers.{IsDrivenOn, StaysInHall}
 use Rattle.client_session.specs.Models.{DriverModel}
 use Rattle.client_session.specs.declared.receipt.Receipt.{Receipt}
 use Rattle.port_agent.specs.Attended.{IsServedBy}
+use Rattle.crews.specs.Served.{IsCrewed}
 use Rattle.slot_runner.specs.Carried.{IsCarriedOut}
 use Rattle.slot_runner.specs.Models.{IsIdle}
 use Rattle.slot_runner.specs.Posts.{IsPosted, posts_of}
 use Rattle.slot_runner.specs.Settling.{AreNoted, AreSettled, AreToSettle, IsFirstShort, IsListedSent, IsOpenRunOf}
 use Rattle.slot_runner.proofs.Carried.{at_ingress, carried_out, idle_again, told_open}
-use Rattle.slot_runner.proofs.OnePort.{sent_of, to_settle}
+use Rattle.slot_runner.proofs.Crewed.{crew_served}
+use Rattle.slot_runner.proofs.OnePort.{AreGrantsServed, grants_served, sent_of, to_settle}
 use Rattle.slot_runner.proofs.Opens.{facts_clear, open_facts, OpenFacts}
 
 -- what seats drew before is still posted
@@ -66,10 +68,22 @@ module _ (o : Opening) (before : List Entry) (d : Drive) (driver : DriverModel) 
   late : to ≤ d.first
   late = omega (arith, low, first_is)
 
-  module _ {W : Type 0} (faults : W → ℕ) (runs : W → Option (List (ℕ × ℕ × ℕ))) (v2 : View) (near near' : List W) (all : IsServedBy faults runs v1 v2 near near')
+  -- agents that served all ports served the grants of the run
+  pub all_served : {W : Type 0} (faults : W → ℕ) (runs : W → Option (List (ℕ × ℕ × ℕ))) (v2 : View) (near near' : List W) → IsServedBy faults runs v1 v2 near near' →
+      length near ≡ ports → AreGrantsServed faults runs granted v1 v2 near near'
+  all_served faults runs v2 near near' all many = grants_served faults runs o.table.flows (driven o before d) d.first d.slots ports to clear inside v0 v1 v2 near near' idle late
+      posted'.posts posted'.settled posted'.back all many
+
+  -- a crew that served the granted ports served the grants of the run
+  pub grants_crewed : {W : Type 0} (faults : W → ℕ) (runs : W → Option (List (ℕ × ℕ × ℕ))) (v2 : View) (near near' : List W) (list : List ℕ) →
+      list ≡ map (ingress_of o.table.flows) (all_granted o driver.journal) → IsCrewed faults runs v1 v2 list near near' → AreGrantsServed faults runs granted v1 v2 near near'
+  grants_crewed faults runs v2 near near' list are all =
+      crew_served faults runs o.table.flows (driven o before d) list (are ∙ ap (map (ingress_of o.table.flows)) facts.flows) v1 v2 near near' all
+
+  module _ {W : Type 0} (faults : W → ℕ) (runs : W → Option (List (ℕ × ℕ × ℕ))) (v2 : View) (near near' : List W) (all : AreGrantsServed faults runs granted v1 v2 near near')
       (many : length near ≡ ports) where
     abbrev pub sent : ℕ → ℕ
-    sent = sent_of all.served.took
+    sent = sent_of all.took
 
     pub waiting : AreToSettle granted sent d.first d.slots ports v2
     waiting = to_settle faults runs o.table.flows (driven o before d) d.first d.slots ports to clear inside v0 v1 v2 near near' idle late posted'.posts posted'.settled posted'.back all many

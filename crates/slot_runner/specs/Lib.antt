@@ -1,4 +1,6 @@
+pub mod Camps
 pub mod Carried
+pub mod Crews
 pub mod Cuts
 pub mod Models
 pub mod Posts

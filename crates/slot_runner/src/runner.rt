@@ -1,5 +1,5 @@
 //! The runner.
-ghost use Rattle.std.specs.Prelude.{◌≡◌, ℕ, ◌+◌, ◌<◌, ◌≤◌, ◌⊎◌, false, List, [], length, IfErr, IfOk, Option, Some, vec_capacity};
+ghost use Rattle.std.specs.Prelude.{◌≡◌, ℕ, ◌+◌, ◌-◌, ◌<◌, ◌≤◌, ◌⊎◌, false, List, [], length, min, IfErr, IfOk, Option, Some, vec_capacity};
 ghost use Rattle.std.specs.Borrow.{Lends, sem};
 ghost use Rattle.coflow_units.specs.declared.limits.TheConstants.{MAX_PORTS};
 ghost use Rattle.journal.specs.declared.command.Reply.TheVariants.{Late, NothingLeft};
@@ -9,14 +9,18 @@ ghost use Rattle.journal.specs.declared.command.Entry.{Entry};
 ghost use Rattle.journal.specs.Driven.{Drive};
 ghost use Rattle.client_session.specs.Models.{IsDriverOf};
 ghost use Rattle.slot_runner.specs.Models.{first_runner, MayRun};
+ghost use Rattle.slot_runner.specs.Camps.{IsCamp};
 ghost use Rattle.slot_runner.specs.Carried.{IsCarriedOut};
 ghost use Rattle.slot_runner.specs.Settling.{IsOpenRunOf};
 ghost use Rattle.slot_runner.specs.Slots.{has_run, IsAnswered, IsFaulted, IsFullAt, IsRan};
 
 use crate::answer::{Ran, RunnerBack};
+use crate::camp::Camp;
+use crate::crew::{Crew, Site};
 use crate::posting::post_grants;
 use crate::settling::{close_run, note_short_ports, settle_ports};
 use client_session::{Answer, Driver, Hall};
+use crews::{Gathered, gather};
 use journal::Reply;
 use outside::Wire;
 use port_agent::{Agent, serve_run};
@@ -114,6 +118,58 @@ impl Runner {
             sent: _,
         } = self;
         driver
+    }
+
+    /// The runner as a crew of so many agents, the driver's own thread among them, with all that its runs need. There are no more agents than ports, and each but the driver's own has a tray. The wires are taken out of the vector, which keeps its room: the crew has one for each port, by number, and the camp those after them.
+    ///
+    /// The error is want of memory. It hands the runner back as it was, and the wires stay where they are.
+    pub fn into_camp<W: Wire>(
+        self,
+        alloc: Global,
+        agents: u32,
+        wires: &mut Vec<W>,
+    ) -> Result<Camp<W>, Runner>
+        requires agents { 1 ≤ agents }
+        requires wires { self.ports ≤ length wires.old.items }
+        ensures camp { IfOk result (λ c. IsCamp self wires.old.items c) }
+        ensures many { IfOk result (λ c. length c.site.trays.items ≡ min agents self.ports - 1) }
+        ensures taken { IfOk result (λ c. wires.new.items ≡ []) }
+        ensures back { IfErr result (λ r. (r ≡ self) × (wires.new.items ≡ wires.old.items)) }
+        ensures room { vec_capacity wires.new ≡ vec_capacity wires.old }
+    {
+        let Some(gathered) = gather(alloc, &self.board, agents, wires) else {
+            return Err(self);
+        };
+        let Runner {
+            driver,
+            board,
+            poster,
+            posted_to,
+            granted,
+            sent,
+        } = self;
+        let Gathered {
+            trays,
+            helpers,
+            stations,
+            wires: near,
+            far,
+        } = gathered;
+        Ok(Camp {
+            crew: Crew {
+                driver,
+                ports: board.ports(),
+                poster,
+                posted_to,
+                granted,
+                sent,
+                stations,
+                wires: near,
+            },
+            site: Site { board, trays },
+            helpers,
+            far,
+        })
     }
 
     /// The driver, to take turns with between runs. All else of the runner stays as it is.

@@ -9,7 +9,7 @@ use Rattle.slot_runner.specs.Models.{RunnerModel}
 use Rattle.slot_runner.specs.Settling.{IsOpenRunOf}
 use Rattle.slot_runner.proofs.OnePort.{sent_of}
 use Rattle.slot_runner.proofs.Opens.{flow_in_range, open_facts}
-use Rattle.slot_runner.proofs.Through.{call_left, idle_then, listed, posted_on, still_under_way, through, told, waiting}
+use Rattle.slot_runner.proofs.Through.{all_served, call_left, idle_then, listed, posted_on, still_under_way, through, told, waiting}
 use Rattle.slot_runner.proofs.runner.Runner.carry_out.Goals as goal
 
 pub post_grants-requires-clause-flows : goal.post_grants-requires-clause-flows
@@ -80,9 +80,10 @@ settle_ports-requires-clause-run g c =
     let idle = c.self.invariant.2 in
     let (before, d, first, long, open') = subst (λ (m : RunnerModel). (b : List Entry) × (x : Drive) × (c.args.slot ≡ x.first) × (c.args.slots ≡ x.slots) × IsOpenRunOf o b x
     m.driver) is c.requires.run in
-    let all = c.serve_run.ensures.served in
     let many = c.split_at_mut-near.ensures.front_len ∙ c.ports.ensures.ports in
-    let sent = sent_of all.served.took in (
+    let all = all_served o before d i.driver within seen open' c.args.slot c.args.slots i.board.ports i.posted_to first long own.1 i.poster.view c.post_grants.new.poster.view
+    idle low c.post_grants.ensures.posted g.W.Wire.faults g.W.Wire.runs c.serve_run.new.poster.view _ c.serve_run.new.wires c.serve_run.ensures.served many in
+    let sent = sent_of all.took in (
       before,
       record d { sent = sent },
       told o before d i.driver within seen open' c.args.slot c.args.slots i.board.ports i.posted_to first long own.1 i.poster.view
@@ -104,9 +105,10 @@ note_short_ports-fault-requires-clause-run g c =
     let idle = c.self.invariant.2 in
     let (before, d, first, long, open') = subst (λ (m : RunnerModel). (b : List Entry) × (x : Drive) × (c.args.slot ≡ x.first) × (c.args.slots ≡ x.slots) × IsOpenRunOf o b x
     m.driver) is c.requires.run in
-    let all = c.serve_run.ensures.served in
     let many = c.split_at_mut-near.ensures.front_len ∙ c.ports.ensures.ports in
-    let sent = sent_of all.served.took in
+    let all = all_served o before d i.driver within seen open' c.args.slot c.args.slots i.board.ports i.posted_to first long own.1 i.poster.view c.post_grants.new.poster.view
+    idle low c.post_grants.ensures.posted g.W.Wire.faults g.W.Wire.runs c.serve_run.new.poster.view _ c.serve_run.new.wires c.serve_run.ensures.served many in
+    let sent = sent_of all.took in
     let here = waiting o before d i.driver within seen open' c.args.slot c.args.slots i.board.ports i.posted_to first long own.1 i.poster.view c.post_grants.new.poster.view
     idle low c.post_grants.ensures.posted g.W.Wire.faults g.W.Wire.runs c.serve_run.new.poster.view _ c.serve_run.new.wires all many in
     let there = told o before d i.driver within seen open' c.args.slot c.args.slots i.board.ports i.posted_to first long own.1 i.poster.view c.post_grants.new.poster.view idle
@@ -129,9 +131,10 @@ close_run-requires-clause-own g c =
     let idle = c.self.invariant.2 in
     let (before, d, first, long, open') = subst (λ (m : RunnerModel). (b : List Entry) × (x : Drive) × (c.args.slot ≡ x.first) × (c.args.slots ≡ x.slots) × IsOpenRunOf o b x
     m.driver) is c.requires.run in
-    let all = c.serve_run.ensures.served in
     let many = c.split_at_mut-near.ensures.front_len ∙ c.ports.ensures.ports in
-    let sent = sent_of all.served.took in
+    let all = all_served o before d i.driver within seen open' c.args.slot c.args.slots i.board.ports i.posted_to first long own.1 i.poster.view c.post_grants.new.poster.view
+    idle low c.post_grants.ensures.posted g.W.Wire.faults g.W.Wire.runs c.serve_run.new.poster.view _ c.serve_run.new.wires c.serve_run.ensures.served many in
+    let sent = sent_of all.took in
     let here = waiting o before d i.driver within seen open' c.args.slot c.args.slots i.board.ports i.posted_to first long own.1 i.poster.view c.post_grants.new.poster.view
     idle low c.post_grants.ensures.posted g.W.Wire.faults g.W.Wire.runs c.serve_run.new.poster.view _ c.serve_run.new.wires all many in
     let there = told o before d i.driver within seen open' c.args.slot c.args.slots i.board.ports i.posted_to first long own.1 i.poster.view c.post_grants.new.poster.view idle
@@ -156,9 +159,10 @@ close_run-requires-clause-call g c =
     let idle = c.self.invariant.2 in
     let (before, d, first, long, open') = subst (λ (m : RunnerModel). (b : List Entry) × (x : Drive) × (c.args.slot ≡ x.first) × (c.args.slots ≡ x.slots) × IsOpenRunOf o b x
     m.driver) is c.requires.run in
-    let all = c.serve_run.ensures.served in
     let many = c.split_at_mut-near.ensures.front_len ∙ c.ports.ensures.ports in
-    let sent = sent_of all.served.took in
+    let all = all_served o before d i.driver within seen open' c.args.slot c.args.slots i.board.ports i.posted_to first long own.1 i.poster.view c.post_grants.new.poster.view
+    idle low c.post_grants.ensures.posted g.W.Wire.faults g.W.Wire.runs c.serve_run.new.poster.view _ c.serve_run.new.wires c.serve_run.ensures.served many in
+    let sent = sent_of all.took in
     let here = waiting o before d i.driver within seen open' c.args.slot c.args.slots i.board.ports i.posted_to first long own.1 i.poster.view c.post_grants.new.poster.view
     idle low c.post_grants.ensures.posted g.W.Wire.faults g.W.Wire.runs c.serve_run.new.poster.view _ c.serve_run.new.wires all many in
     let there = told o before d i.driver within seen open' c.args.slot c.args.slots i.board.ports i.posted_to first long own.1 i.poster.view c.post_grants.new.poster.view idle
@@ -186,9 +190,10 @@ close_run-requires-clause-run g c =
     let idle = c.self.invariant.2 in
     let (before, d, first, long, open') = subst (λ (m : RunnerModel). (b : List Entry) × (x : Drive) × (c.args.slot ≡ x.first) × (c.args.slots ≡ x.slots) × IsOpenRunOf o b x
     m.driver) is c.requires.run in
-    let all = c.serve_run.ensures.served in
     let many = c.split_at_mut-near.ensures.front_len ∙ c.ports.ensures.ports in
-    let sent = sent_of all.served.took in
+    let all = all_served o before d i.driver within seen open' c.args.slot c.args.slots i.board.ports i.posted_to first long own.1 i.poster.view c.post_grants.new.poster.view
+    idle low c.post_grants.ensures.posted g.W.Wire.faults g.W.Wire.runs c.serve_run.new.poster.view _ c.serve_run.new.wires c.serve_run.ensures.served many in
+    let sent = sent_of all.took in
     let here = waiting o before d i.driver within seen open' c.args.slot c.args.slots i.board.ports i.posted_to first long own.1 i.poster.view c.post_grants.new.poster.view
     idle low c.post_grants.ensures.posted g.W.Wire.faults g.W.Wire.runs c.serve_run.new.poster.view _ c.serve_run.new.wires all many in
     let there = told o before d i.driver within seen open' c.args.slot c.args.slots i.board.ports i.posted_to first long own.1 i.poster.view c.post_grants.new.poster.view idle
@@ -233,9 +238,10 @@ invariant_of-self g c =
     let idle = c.self.invariant.2 in
     let (before, d, first, long, open') = subst (λ (m : RunnerModel). (b : List Entry) × (x : Drive) × (c.args.slot ≡ x.first) × (c.args.slots ≡ x.slots) × IsOpenRunOf o b x
     m.driver) is c.requires.run in
-    let all = c.serve_run.ensures.served in
     let many = c.split_at_mut-near.ensures.front_len ∙ c.ports.ensures.ports in
-    let sent = sent_of all.served.took in
+    let all = all_served o before d i.driver within seen open' c.args.slot c.args.slots i.board.ports i.posted_to first long own.1 i.poster.view c.post_grants.new.poster.view
+    idle low c.post_grants.ensures.posted g.W.Wire.faults g.W.Wire.runs c.serve_run.new.poster.view _ c.serve_run.new.wires c.serve_run.ensures.served many in
+    let sent = sent_of all.took in
     let here = waiting o before d i.driver within seen open' c.args.slot c.args.slots i.board.ports i.posted_to first long own.1 i.poster.view c.post_grants.new.poster.view
     idle low c.post_grants.ensures.posted g.W.Wire.faults g.W.Wire.runs c.serve_run.new.poster.view _ c.serve_run.new.wires all many in
     let there = told o before d i.driver within seen open' c.args.slot c.args.slots i.board.ports i.posted_to first long own.1 i.poster.view c.post_grants.new.poster.view idle
@@ -270,9 +276,10 @@ returns g c = record {
       let within = c.coflows-within.ensures.opening in
       let idle = c.self.invariant.2 in
       let open' = subst (λ (m : RunnerModel). IsOpenRunOf o before d m.driver) is opened in
-      let all = c.serve_run.ensures.served in
       let many = c.split_at_mut-near.ensures.front_len ∙ c.ports.ensures.ports in
-      let sent = sent_of all.served.took in
+      let all = all_served o before d i.driver within seen open' c.args.slot c.args.slots i.board.ports i.posted_to first long own.1 i.poster.view c.post_grants.new.poster.view
+      idle low c.post_grants.ensures.posted g.W.Wire.faults g.W.Wire.runs c.serve_run.new.poster.view _ c.serve_run.new.wires c.serve_run.ensures.served many in
+      let sent = sent_of all.took in
       let here = waiting o before d i.driver within seen open' c.args.slot c.args.slots i.board.ports i.posted_to first long own.1 i.poster.view c.post_grants.new.poster.view
       idle low c.post_grants.ensures.posted g.W.Wire.faults g.W.Wire.runs c.serve_run.new.poster.view _ c.serve_run.new.wires all many in
       let there = told o before d i.driver within seen open' c.args.slot c.args.slots i.board.ports i.posted_to first long own.1 i.poster.view c.post_grants.new.poster.view
