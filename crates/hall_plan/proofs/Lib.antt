@@ -1,4 +1,6 @@
 pub mod Begun
+pub mod Besides
+pub mod Camped
 pub mod FirstShort
 pub mod NobodyElse
 pub mod PlanEntries

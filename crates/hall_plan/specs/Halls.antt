@@ -1,5 +1,5 @@
 -- A hall in which a plan is served by a driver alone.
-use Rattle.std.specs.Prelude.{◌≡◌, ℕ, ◌+◌, ◌^◌, ◌<◌, ◌≤◌, List, length, Option}
+use Rattle.std.specs.Prelude.{◌≡◌, ℕ, ◌+◌, ◌^◌, ◌≤◌, List, length, Option}
 use Rattle.journal.specs.declared.command.Entry.{Entry}
 use Rattle.journal.specs.State.{IsOpening}
 use Rattle.journal.specs.Closed.{schedule_of, wire_of}
@@ -8,7 +8,6 @@ use Rattle.client_session.specs.Models.{DriverModel, HallModel, IsDriverOf}
 use Rattle.slot_runner.specs.Models.{MayRun, RunnerModel}
 use Rattle.hall_plan.specs.Journals.{HasRoom, plan_journal}
 use Rattle.slot_runner.specs.Wires.{HaveMore, NoneFell}
-use Rattle.std.specs.List.{slice_index_or}
 
 -- the driver is alone in its hall, has seen this journal, and has calls for what a plan may still ask
 pub record IsAlone (hall : HallModel) (driver : DriverModel) (journal : List Entry) : Type 0 where

@@ -1,3 +1,4 @@
+pub mod Beside
 pub mod Halls
 pub mod Journals
 pub mod Plans

@@ -1,9 +1,7 @@
 -- What a plan is: the schedule that serves the order of the ordering certificate.
-use Rattle.std.specs.Prelude.{◌≡◌, ℕ, true, List, []}
-use Rattle.std.specs.List.{slice_index_or}
+use Rattle.std.specs.Prelude.{ℕ, List}
 use Rattle.coflow_units.specs.Certificate.{Entry, order_of}
 use Rattle.coflow_units.specs.Ordering.{IsOrdering}
-use Rattle.coflow_units.specs.Schedule.{holds}
 use Rattle.coflow_units.specs.Served.{IsServed}
 use Rattle.flow_table.specs.Table.{instance_of, TableFacts}
 

@@ -3,6 +3,7 @@
 
 mod answer;
 mod beginning;
+mod camping;
 pub mod laws;
 mod planning;
 mod reporting;

@@ -22,8 +22,9 @@ use std::sync::Wait;
 use std::thread::Threads;
 
 /// The report of the plan of the coflows of a table, whose units were sent: a hall registers all coflows in number order, publishes
-/// their order once, and runs until nothing is left. So many agents beside each other send the units, each on the wire of
-/// its ingress port; further wires are left alone. The report is the same for any number of agents. A text can have it, so
+/// their order once, and runs until nothing is left. So many agents beside each other, at most one a port and started once
+/// for all runs, send the units, each on the wire of its ingress port; further wires are left alone. While it runs the agents
+/// have the wires, and at every answer the vector has them again, in their order. The report is the same for any number of agents. A text can have it, so
 /// it may be written and read back. `weights` has the weight of each coflow, from 1 to 2^32.
 ///
 /// `WireFault` comes only where the count of that port's wire rose in this call. It is the least port at which a unit of
@@ -35,22 +36,22 @@ pub fn served_plan<R: Threads + Wait + Sync, W: Wire + Send>(
     table: &Table,
     weights: &[u64],
     agents: u32,
-    wires: &mut [W],
+    wires: &mut Vec<W>,
 ) -> Result<Report, PlanFault>
     requires count { length weights.now ≡ length table.now.ids }
     requires least { All (λ w. 1 ≤ w) weights.now }
     requires weights { All (λ w. w ≤ MAX_WEIGHT) weights.now }
     requires agents { 1 ≤ agents }
-    requires wires { table.now.ports ≤ length wires.old }
+    requires wires { table.now.ports ≤ length wires.old.items }
     ensures plan { IfOk result (λ report.
         (planned : IsPlanOf (instance_of table.now weights.now) table.now.ids report) ×
-        SendsAll W.runs wires.old wires.new table.now planned.slots) }
+        SendsAll W.runs wires.old.items wires.new.items table.now planned.slots) }
     ensures weights { IfOk result HasWeights }
     ensures report { IfOk result IsReport }
     ensures small { IfOk result HasSmallNumbers }
-    ensures sent { SendsPart W.runs wires.old wires.new table.now weights.now }
+    ensures sent { SendsPart W.runs wires.old.items wires.new.items table.now weights.now }
     ensures fault { (port : ℕ) → result ≡ Err (WireFault port) →
-        StopsShort W.faults W.runs wires.old wires.new port table.now weights.now }
+        StopsShort W.faults W.runs wires.old.items wires.new.items port table.now weights.now }
 {
     let master = master_of(alloc, table, weights)?;
     let HallPlan { places, schedule } = plan(alloc, rt, master, agents, wires)?;

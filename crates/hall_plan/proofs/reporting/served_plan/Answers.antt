@@ -8,32 +8,32 @@ use Rattle.hall_plan.proofs.reporting.served_plan.Goals as goal
 pub returns-in_err-master-clause-sent : goal.returns-in_err-master-clause-sent
 returns-in_err-master-clause-sent g c =
     sends_nothing g.W.Wire.faults g.W.Wire.runs c.args.table.now c.args.weights.now
-    (record { table = c.master_of.ensures.fits; count = c.requires.count; least = c.requires.least; most = c.requires.weights }) c.args.wires.now c.requires.wires
+    (record { table = c.master_of.ensures.fits; count = c.requires.count; least = c.requires.least; most = c.requires.weights }) c.args.wires.now.items c.requires.wires
 
 pub returns-in_err-places-clause-sent : goal.returns-in_err-places-clause-sent
 returns-in_err-places-clause-sent g c =
     sends_part g.W.Wire.faults g.W.Wire.runs c.args.table.now c.args.weights.now c.in_ok-master.master.opening c.in_ok-master.ensures.table c.in_ok-master.ensures.weights
     (record { table = c.master_of.ensures.fits; count = c.requires.count; least = c.requires.least; most = c.requires.weights })
-    c.args.wires.now c.plan.new.wires c.plan.ensures.wires
+    c.args.wires.now.items c.plan.new.wires.items c.plan.ensures.wires
 
 pub returns-in_err-report-clause-sent : goal.returns-in_err-report-clause-sent
 returns-in_err-report-clause-sent g c =
     sends_part g.W.Wire.faults g.W.Wire.runs c.args.table.now c.args.weights.now c.in_ok-master.master.opening c.in_ok-master.ensures.table c.in_ok-master.ensures.weights
     (record { table = c.master_of.ensures.fits; count = c.requires.count; least = c.requires.least; most = c.requires.weights })
-    c.args.wires.now c.plan.new.wires c.plan.ensures.wires
+    c.args.wires.now.items c.plan.new.wires.items c.plan.ensures.wires
 
 pub returns-clause-sent : goal.returns-clause-sent
 returns-clause-sent g c =
     sends_part g.W.Wire.faults g.W.Wire.runs c.args.table.now c.args.weights.now c.in_ok-master.master.opening c.in_ok-master.ensures.table c.in_ok-master.ensures.weights
     (record { table = c.master_of.ensures.fits; count = c.requires.count; least = c.requires.least; most = c.requires.weights })
-    c.args.wires.now c.plan.new.wires c.plan.ensures.wires
+    c.args.wires.now.items c.plan.new.wires.items c.plan.ensures.wires
 
 pub returns-in_err-places-clause-fault : goal.returns-in_err-places-clause-fault
 returns-in_err-places-clause-fault g c = λ port e.
     let came : WireFault port ≡ c.in_err-places.field-0.0 = subst (λ r. IsErrAnd r (λ x. x ≡ c.in_err-places.field-0.0)) e c.from_residual-in_err-places.ensures.1 in
     stops_short g.W.Wire.faults g.W.Wire.runs c.args.table.now c.args.weights.now c.in_ok-master.master.opening c.in_ok-master.ensures.table c.in_ok-master.ensures.weights
     (record { table = c.master_of.ensures.fits; count = c.requires.count; least = c.requires.least; most = c.requires.weights })
-    c.args.wires.now c.plan.new.wires port c.requires.wires
+    c.args.wires.now.items c.plan.new.wires.items port c.requires.wires
     (c.in_err-places.ensures.fault port (ap Err (sym came))) (λ slots planned. c.in_err-places.ensures.least port slots (ap Err (sym came)) planned)
     (c.in_err-places.ensures.stops port (ap Err (sym came)))
 
@@ -44,7 +44,7 @@ returns-clause-plan g c =
     let bound = c.in_ok-places.schedule-is in
     let same : c.in_ok-places.field-0.schedule ≡ plan.0.slots = cc in (
       plan.0,
-      subst (λ slots. SendsAll g.W.Wire.runs c.args.wires.now c.plan.new.wires c.args.table.now slots) same
-          (subst (λ (t : TableFacts). SendsAll g.W.Wire.runs c.args.wires.now c.plan.new.wires t c.in_ok-places.field-0.schedule)
+      subst (λ slots. SendsAll g.W.Wire.runs c.args.wires.now.items c.plan.new.wires.items c.args.table.now slots) same
+          (subst (λ (t : TableFacts). SendsAll g.W.Wire.runs c.args.wires.now.items c.plan.new.wires.items t c.in_ok-places.field-0.schedule)
           c.in_ok-master.ensures.table c.in_ok-places.ensures.sent),
     )
