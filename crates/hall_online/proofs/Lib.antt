@@ -1,5 +1,7 @@
 pub mod Actions
 pub mod Begins
+pub mod Besides
+pub mod Camped
 pub mod HandedOn
 pub mod OwnRuns
 pub mod OwnTurns

@@ -1,11 +1,12 @@
 -- What holds while one action is carried out after another.
-use Rattle.std.proofs.Common.{◌≡◌, ℕ, ◌+◌, ◌-◌, ◌≤◌, ◌<◌, List, length, refl, sym, ap, subst, ◌∙◌, arith, Option}
+use Rattle.std.proofs.Common.{◌≡◌, ℕ, ◌+◌, ◌-◌, ◌≤◌, ◌<◌, List, [], length, refl, sym, ap, subst, ◌∙◌, arith, Option}
 use Rattle.coflow_units.specs.declared.limits.TheConstants.{MAX_SLOT}
 use Rattle.epochs.specs.declared.action.Action.{Action}
 use Rattle.epochs.specs.declared.action.Action.TheVariants.{End, TooMany}
 use Rattle.epochs.specs.Course.{after, Course}
 use Rattle.journal.specs.Closed.{schedule_of, wire_of}
 use Rattle.client_session.specs.Models.{HallModel}
+use Rattle.slot_runner.specs.Crews.{CrewModel}
 use Rattle.slot_runner.specs.Models.{RunnerModel}
 use Rattle.slot_runner.specs.Wires.{NoneFell}
 use Rattle.slot_runner.specs.Wires.{AreAllUnits, AreUnits, HaveMore}
@@ -13,8 +14,11 @@ use Rattle.slot_runner.proofs.WireSteps.{all_units, are_units, have_so, none_fel
 use Rattle.online_runs.specs.Deeds.{PublishesTooMany}
 use Rattle.online_runs.proofs.Standing.{few_slots}
 use Rattle.online_runs.specs.declared.progress.Progress.{Progress}
+use Rattle.hall_online.specs.Beside.{KeepsAllElse, StaysAt}
 use Rattle.hall_online.specs.Serving.{ComesFirst, EndsAs, HaveSent, HaveServed, IsDoneFrom, IsUnderWay, MayDo, SendsNothing}
 use Rattle.hall_online.proofs.Actions.{first_there, now_holds, short_journal}
+use Rattle.hall_online.proofs.Begins.{none_sent}
+use Rattle.hall_online.proofs.Besides.{stays_at, stays_beside, stays_on}
 use Rattle.hall_online.proofs.RunSteps.{owed_length}
 
 -- ---- one look at the run
@@ -77,48 +81,53 @@ module _ {W : Type 0} (faults : W → ℕ) (wruns : W → Option (List (ℕ × �
 
   -- ---- from action to action
 
-  -- since the first runner, course, progress and wires an online run has gone on to these
-  pub record StillServing (hall : HallModel) (r0 r : RunnerModel) (s0 s : Course) (p0 p : Progress) (w0 w : List W) : Type 0 where
-    pub some : (arrivals : List ℕ) × (every : ℕ) × IsUnderWay hall r arrivals every s p
-    pub goes_on : (arrivals : List ℕ) (every : ℕ) → IsUnderWay hall r0 arrivals every s0 p0 → IsUnderWay hall r arrivals every s p
-    pub sent : (before : List W) → HaveSent wruns hall r0 before w0 → HaveSent wruns hall r before w
-    pub fell : NoneFell faults hall.setting.opening.table.ports w0 w
-    pub as_many : length w ≡ length w0
+  -- since the first crew, course and progress an online run has gone on to these
+  pub record StillServing (hall : HallModel) (c0 c : CrewModel W) (s0 s : Course) (p0 p : Progress) : Type 0 where
+    pub some : (arrivals : List ℕ) × (every : ℕ) × IsUnderWay hall c.runner arrivals every s p
+    pub goes_on : (arrivals : List ℕ) (every : ℕ) → IsUnderWay hall c0.runner arrivals every s0 p0 → IsUnderWay hall c.runner arrivals every s p
+    pub sent : HaveSent wruns hall c.runner c0.wires c.wires
+    pub fell : NoneFell faults hall.setting.opening.table.ports c0.wires c.wires
+    pub stays : StaysAt c0 c
 
-  pub serving_first : (hall : HallModel) (r : RunnerModel) (s : Course) (p : Progress) (w : List W) → (arrivals : List ℕ) × (every : ℕ) × IsUnderWay hall r arrivals every s p →
-      hall.setting.opening.table.ports ≤ length w → StillServing hall r r s s p p w w
-  serving_first hall r s p w some long = record {
+  pub serving_first : (hall : HallModel) (c : CrewModel W) (s : Course) (p : Progress) → (arrivals : List ℕ) × (every : ℕ) × IsUnderWay hall c.runner arrivals every s p →
+      c.runner.driver.journal ≡ [] → hall.setting.opening.table.ports ≤ length c.wires → StillServing hall c c s s p p
+  serving_first hall c s p some none long = record {
     some = some;
     goes_on = λ arrivals every h. h;
-    sent = λ before had. had;
-    fell = none_fell faults wruns hall.setting.opening.table.ports w long;
-    as_many = refl;
+    sent = none_sent faults wruns hall c.runner c.wires none long;
+    fell = none_fell faults wruns hall.setting.opening.table.ports c.wires long;
+    stays = stays_at c c refl refl refl;
   }
 
   -- one action more
-  pub serving_on : (hall : HallModel) (r0 r t : RunnerModel) (s0 s s' : Course) (p0 p q : Progress) (w0 w w' : List W) (a : Action) → StillServing hall r0 r s0 s p0 p w0 w →
-      ComesFirst s p a → s' ≡ after s p.time a → IsDoneFrom hall r t p q a → ((before : List W) → HaveSent wruns hall r before w → HaveSent wruns hall t before w') →
-      NoneFell faults hall.setting.opening.table.ports w w' → length w' ≡ length w → StillServing hall r0 t s0 s' p0 q w0 w'
-  serving_on hall r0 r t s0 s s' p0 p q w0 w w' a h first is done sent fell as_many = record {
-    some = (h.some.0, h.some.1, subst (λ c. IsUnderWay hall t h.some.0 h.some.1 c q) (sym is) (done h.some.0 h.some.1 s h.some.2 first));
-    goes_on = λ arrivals every x. subst (λ c. IsUnderWay hall t arrivals every c q) (sym is) (done arrivals every s (h.goes_on arrivals every x) first);
-    sent = λ before x. sent before (h.sent before x);
+  pub serving_on : (hall : HallModel) (c0 c d : CrewModel W) (s0 s s' : Course) (p0 p q : Progress) (a : Action) → StillServing hall c0 c s0 s p0 p → ComesFirst s p a →
+      s' ≡ after s p.time a → IsDoneFrom hall c.runner d.runner p q a → (HaveSent wruns hall c.runner c0.wires c.wires → HaveSent wruns hall d.runner c0.wires d.wires) →
+      NoneFell faults hall.setting.opening.table.ports c.wires d.wires → StaysAt c d → StillServing hall c0 d s0 s' p0 q
+  serving_on hall c0 c d s0 s s' p0 p q a h first is done sent fell stays = record {
+    some = (h.some.0, h.some.1, subst (λ x. IsUnderWay hall d.runner h.some.0 h.some.1 x q) (sym is) (done h.some.0 h.some.1 s h.some.2 first));
+    goes_on = λ arrivals every x. subst (λ y. IsUnderWay hall d.runner arrivals every y q) (sym is) (done arrivals every s (h.goes_on arrivals every x) first);
+    sent = sent h.sent;
     fell = λ port b a lt. omega (arith, h.fell port b b lt, fell port b a lt);
-    as_many = as_many ∙ h.as_many;
+    stays = stays_on c0 c d h.stays stays;
   }
 
-  -- one action more in which nothing is sent
-  pub serving_quiet : (hall : HallModel) (r0 r t : RunnerModel) (s0 s s' : Course) (p0 p q : Progress) (w0 w : List W) (a : Action) → hall.setting.opening.table.ports ≤ length w0 →
-      StillServing hall r0 r s0 s p0 p w0 w → ComesFirst s p a → s' ≡ after s p.time a → IsDoneFrom hall r t p q a → SendsNothing hall r t → StillServing hall r0 t s0 s' p0 q w0 w
-  serving_quiet hall r0 r t s0 s s' p0 p q w0 w a long h first is done quiet =
-      serving_on hall r0 r t s0 s s' p0 p q w0 w w a h first is done (λ before had. sends_on hall r t before w quiet had)
-      (none_fell faults wruns hall.setting.opening.table.ports w (omega (arith, long, h.as_many))) refl
+  -- one action more in which nothing is sent, by the driver alone
+  pub serving_quiet : (hall : HallModel) (c0 c d : CrewModel W) (s0 s s' : Course) (p0 p q : Progress) (a : Action) → hall.setting.opening.table.ports ≤ length c0.wires →
+      StillServing hall c0 c s0 s p0 p → ComesFirst s p a → s' ≡ after s p.time a → IsDoneFrom hall c.runner d.runner p q a → SendsNothing hall c.runner d.runner →
+      KeepsAllElse c d → StillServing hall c0 d s0 s' p0 q
+  serving_quiet hall c0 c d s0 s s' p0 p q a long h first is done quiet keeps =
+      let same : d.wires ≡ c.wires = ap (λ (x : CrewModel W). x.wires) keeps in
+      serving_on hall c0 c d s0 s s' p0 p q a h first is done
+      (λ had. subst (HaveSent wruns hall d.runner c0.wires) (sym same) (sends_on hall c.runner d.runner c0.wires c.wires quiet had))
+      (subst (NoneFell faults hall.setting.opening.table.ports c.wires) (sym same)
+      (none_fell faults wruns hall.setting.opening.table.ports c.wires (omega (arith, long, h.sent.as_many)))) (stays_beside c d keeps)
 
-  pub may_do : (hall : HallModel) (r0 r : RunnerModel) (s0 s : Course) (p0 p : Progress) (w0 w : List W) (a : Action) → StillServing hall r0 r s0 s p0 p w0 w → ComesFirst s p a →
-      MayDo hall r p a
-  may_do hall r0 r s0 s p0 p w0 w a h first = (h.some.0, h.some.1, s, h.some.2, first)
+  pub may_do : (hall : HallModel) (c0 c : CrewModel W) (s0 s : Course) (p0 p : Progress) (a : Action) → StillServing hall c0 c s0 s p0 p → ComesFirst s p a →
+      MayDo hall c.runner p a
+  may_do hall c0 c s0 s p0 p a h first = (h.some.0, h.some.1, s, h.some.2, first)
 
   -- the journal has room for more entries than it has
-  pub falls : (hall : HallModel) (r0 r t : RunnerModel) (s0 s : Course) (p0 p : Progress) (w0 w : List W) → StillServing hall r0 r s0 s p0 p w0 w →
-      length r.driver.journal < length t.driver.journal → hall.setting.opening.limit - length t.driver.journal < hall.setting.opening.limit - length r.driver.journal
-  falls hall r0 r t s0 s p0 p w0 w h longer = omega (arith, longer, short_journal hall r h.some.0 h.some.1 s p h.some.2)
+  pub falls : (hall : HallModel) (c0 c d : CrewModel W) (s0 s : Course) (p0 p : Progress) → StillServing hall c0 c s0 s p0 p →
+      length c.runner.driver.journal < length d.runner.driver.journal →
+      hall.setting.opening.limit - length d.runner.driver.journal < hall.setting.opening.limit - length c.runner.driver.journal
+  falls hall c0 c d s0 s p0 p h longer = omega (arith, longer, short_journal hall c.runner h.some.0 h.some.1 s p h.some.2)

@@ -1,3 +1,4 @@
+pub mod Beside
 pub mod Halls
 pub mod Serving
 pub mod Told

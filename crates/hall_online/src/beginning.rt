@@ -23,14 +23,20 @@ const CALLS: u64 = 1_099_511_627_776;
 /// The entries of the journal that do not grow with the table.
 const FURTHER_ENTRIES: u32 = 32_768;
 
+/// What is kept of an online run beside its hall: its course, what its publishings need, and what it has come to.
+#[derive(Drop)]
+pub(crate) struct Kept {
+    pub(crate) course: Epochs,
+    pub(crate) orders: Orders,
+    pub(crate) progress: Progress,
+}
+
 /// A hall with its driver, and what is kept of an online run.
 #[derive(Drop)]
 pub(crate) struct Begun {
     pub(crate) hall: Hall,
     pub(crate) runner: Runner,
-    pub(crate) course: Epochs,
-    pub(crate) orders: Orders,
-    pub(crate) progress: Progress,
+    pub(crate) kept: Kept,
 }
 
 /// An online run before its first action.
@@ -49,10 +55,10 @@ pub(crate) fn begin(
     requires epoch_fits { every ≤ MAX_OPTION_SLOTS }
     ensures opening { IfOk result (λ b. b.hall.setting.opening ≡ online_opening table.now weights.now) }
     ensures none { IfOk result (λ b. b.runner.driver.journal ≡ []) }
-    ensures under_way { IfOk result (λ b. IsUnderWay b.hall b.runner arrivals.now every b.course b.progress) }
-    ensures places { IfOk result (λ b. length table.now.ids ≤ vec_capacity b.orders.places) }
-    ensures coflows { IfOk result (λ b. b.orders.loads.coflows ≡ length table.now.ids) }
-    ensures ports { IfOk result (λ b. b.orders.loads.ports ≡ table.now.ports) }
+    ensures under_way { IfOk result (λ b. IsUnderWay b.hall b.runner arrivals.now every b.kept.course b.kept.progress) }
+    ensures places { IfOk result (λ b. length table.now.ids ≤ vec_capacity b.kept.orders.places) }
+    ensures coflows { IfOk result (λ b. b.kept.orders.loads.coflows ≡ length table.now.ids) }
+    ensures ports { IfOk result (λ b. b.kept.orders.loads.ports ≡ table.now.ports) }
 {
     let _within = table.coflows();
     let course = course_of(alloc, arrivals, every)?;
@@ -74,25 +80,23 @@ pub(crate) fn begin(
     Ok(Begun {
         hall,
         runner,
-        course,
-        orders,
-        progress,
+        kept: Kept {
+            course,
+            orders,
+            progress,
+        },
     })
 }
 
-/// What is kept of the run. Its hall ends.
-pub(crate) fn kept_of(run: Begun) -> Progress
-    ensures { result ≡ run.progress }
+/// What the run has come to. All else that was kept of it is let go.
+pub(crate) fn progress_of(kept: Kept) -> Progress
+    ensures { result ≡ kept.progress }
 {
-    let Begun {
-        hall,
-        runner,
+    let Kept {
         course,
         orders,
         progress,
-    } = run;
-    drop(hall);
-    drop(runner);
+    } = kept;
     drop(course);
     drop(orders);
     progress

@@ -4,6 +4,7 @@
 mod acting;
 mod answer;
 mod beginning;
+mod camping;
 mod online;
 mod running;
 mod serving;

@@ -3,9 +3,11 @@ ghost use Rattle.std.specs.Prelude.{◌≡◌, ◌≤◌, ◌<◌, ℕ, Err, Lis
 ghost use Rattle.outside.specs.Rose.{Rose};
 ghost use Rattle.epochs.specs.declared.action.Action.TheVariants.{Run};
 ghost use Rattle.epochs.specs.Course.{Course};
+ghost use Rattle.slot_runner.specs.Crews.{IsAt};
 ghost use Rattle.slot_runner.specs.Cuts.{HaveStopped};
 ghost use Rattle.slot_runner.specs.Wires.{NoneFell};
 ghost use Rattle.hall_online.specs.declared.answer.OnlineFault.TheVariants.{TooMany, WireFault};
+ghost use Rattle.hall_online.specs.Beside.{StaysAt};
 ghost use Rattle.hall_online.specs.Serving.{ComesFirst, HaveSent, HaveServed, IsDoneFrom, IsOnlineBegun, IsUnderWay, MayDo};
 
 use crate::answer::OnlineFault;
@@ -13,50 +15,46 @@ use client_session::Hall;
 use flow_table::Table;
 use online_runs::{Progress, spend};
 use outside::Wire;
-use slot_runner::{Ran, Runner};
-use std::alloc::Global;
+use slot_runner::{Crew, Ran, Site};
 use std::sync::Wait;
-use std::thread::Threads;
 
 /// A run of at most so many slots. After an error what is kept is not told.
-pub(crate) fn act_run<R: Threads + Wait + Sync, W: Wire + Send>(
-    alloc: Global,
+pub(crate) fn act_run<R: Wait, W: Wire>(
     rt: &R,
     hall: &Hall,
-    runner: &mut Runner,
+    site: &Site<W>,
+    crew: &mut Crew<W>,
     table: &Table,
     progress: &mut Progress,
     most: u64,
-    agents: u32,
-    wires: &mut [W],
 ) -> Result<(), OnlineFault>
-    requires may { MayDo hall.now runner.old progress.old (Run most) }
+    requires may { MayDo hall.now crew.old.runner progress.old (Run most) }
     requires table { table.now ≡ hall.now.setting.opening.table }
-    requires agents { 1 ≤ agents }
-    requires wires { hall.now.setting.opening.table.ports ≤ length wires.old }
+    requires site { IsAt site.now crew.old }
+    requires wires { hall.now.setting.opening.table.ports ≤ length crew.old.wires }
     ensures done { OnOk result
-        (IsDoneFrom hall.now runner.old runner.new progress.old progress.new (Run most)) }
-    ensures longer { OnOk result (length runner.old.driver.journal < length runner.new.driver.journal) }
-    ensures sent { OnOk result ((before : List W) → HaveSent W.runs hall.now runner.old before wires.old →
-        HaveSent W.runs hall.now runner.new before wires.new) }
+        (IsDoneFrom hall.now crew.old.runner crew.new.runner progress.old progress.new (Run most)) }
+    ensures longer { OnOk result (length crew.old.runner.driver.journal < length crew.new.runner.driver.journal) }
+    ensures sent { OnOk result ((before : List W) → HaveSent W.runs hall.now crew.old.runner before crew.old.wires →
+        HaveSent W.runs hall.now crew.new.runner before crew.new.wires) }
     ensures served { (arrivals : List ℕ) (every : ℕ) (s : Course) (before : List W) →
-        IsUnderWay hall.now runner.old arrivals every s progress.old → ComesFirst s progress.old (Run most) →
-        HaveSent W.runs hall.now runner.old before wires.old →
-        HaveServed W.runs hall.now.setting.opening arrivals every before wires.new }
-    ensures fell { NoneFell W.faults hall.now.setting.opening.table.ports wires.old wires.new }
+        IsUnderWay hall.now crew.old.runner arrivals every s progress.old → ComesFirst s progress.old (Run most) →
+        HaveSent W.runs hall.now crew.old.runner before crew.old.wires →
+        HaveServed W.runs hall.now.setting.opening arrivals every before crew.new.wires }
+    ensures fell { NoneFell W.faults hall.now.setting.opening.table.ports crew.old.wires crew.new.wires }
     ensures fault { (port : ℕ) → result ≡ Err (WireFault port) → (port < hall.now.setting.opening.table.ports) ×
-        ((b a : W) → Rose (W.faults (slice_index_or wires.old port b)) (W.faults (slice_index_or wires.new port a))) }
+        ((b a : W) → Rose (W.faults (slice_index_or crew.old.wires port b)) (W.faults (slice_index_or crew.new.wires port a))) }
     ensures stops { (port : ℕ) (arrivals : List ℕ) (every : ℕ) (s : Course) (before : List W) →
-        result ≡ Err (WireFault port) → IsUnderWay hall.now runner.old arrivals every s progress.old →
-        ComesFirst s progress.old (Run most) → HaveSent W.runs hall.now runner.old before wires.old →
+        result ≡ Err (WireFault port) → IsUnderWay hall.now crew.old.runner arrivals every s progress.old →
+        ComesFirst s progress.old (Run most) → HaveSent W.runs hall.now crew.old.runner before crew.old.wires →
         HaveStopped W.runs (IsOnlineBegun hall.now.setting.opening arrivals every) hall.now.setting.opening port
-        before wires.new }
+        before crew.new.wires }
     ensures not_many { (count : ℕ) → result ≡ Err (TooMany count) → ⊥ }
-    ensures as_many { length wires.new ≡ length wires.old }
+    ensures stays { StaysAt crew.old crew.new }
 {
-    match runner.slot(alloc, rt, hall, most, agents, wires) {
+    match crew.slot(rt, hall, site, most) {
         Ran::Ran { length, .. } => {
-            let granted = runner.granted();
+            let granted = crew.granted();
             progress.schedule.push_run(length, granted)?;
             spend(
                 &mut progress.left,
@@ -69,7 +67,6 @@ pub(crate) fn act_run<R: Threads + Wait + Sync, W: Wire + Send>(
             Ok(())
         }
         Ran::WireFault { port, .. } => Err(OnlineFault::WireFault { port }),
-        Ran::NoMemory => Err(OnlineFault::NoMemory),
-        Ran::Nothing | Ran::Late(_) | Ran::Full(_) | Ran::Spent => unreachable!(),
+        Ran::Nothing | Ran::Late(_) | Ran::Full(_) | Ran::Spent | Ran::NoMemory => unreachable!(),
     }
 }

@@ -17,8 +17,9 @@ use std::sync::Wait;
 use std::thread::Threads;
 
 /// The text of the online run of the coflows of a table, whose units were sent. A slot takes `slot_ms` milliseconds, at least one, and a coflow joins at the first slot's end that comes at its
-/// arrival or next after it. An epoch has `every` slots, from 1 to 2^40. There is one weight for each coflow, from 1 to 2^32. So many agents beside each other send the units, each on the wire of
-/// its ingress port; further wires are left alone. The text is the same for any number of agents.
+/// arrival or next after it. An epoch has `every` slots, from 1 to 2^40. There is one weight for each coflow, from 1 to 2^32. So many agents beside each other, at most one a port and started once
+/// for all runs, send the units, each on the wire of its ingress port; further wires are left alone. While it runs the agents have the wires, and at every answer the vector has them again, in their
+/// order. The text is the same for any number of agents.
 ///
 /// `WireFault` comes only where the count of that port's wire rose in this call. It is the least port at which a unit of the last run is missing, and no further
 /// run is opened after it. `TooMany` comes only where more than 8192 orders would be published.
@@ -31,7 +32,7 @@ pub fn served_online<R: Threads + Wait + Sync, W: Wire + Send>(
     slot_ms: u64,
     every: u64,
     agents: u32,
-    wires: &mut [W],
+    wires: &mut Vec<W>,
 ) -> Result<Vec<u8>, OnlineFault>
     requires weight_each { length weights.now ≡ length table.now.ids }
     requires weight_range { All (λ w. (1 ≤ w) × (w ≤ MAX_WEIGHT)) weights.now }
@@ -39,13 +40,13 @@ pub fn served_online<R: Threads + Wait + Sync, W: Wire + Send>(
     requires epoch_some { 1 ≤ every }
     requires epoch_fits { every ≤ MAX_OPTION_SLOTS }
     requires agents { 1 ≤ agents }
-    requires wires { table.now.ports ≤ length wires.old }
+    requires wires { table.now.ports ≤ length wires.old.items }
     ensures text { IfOk result (λ text. (told : TellsOnline table.now weights.now slot_ms every text.items) ×
-        SendsAll W.runs wires.old wires.new table.now told.online) }
-    ensures sent { SendsSoFar W.runs wires.old wires.new table.now weights.now slot_ms every }
-    ensures fault { (port : ℕ) → result ≡ Err (WireFault port) → FailsAt W.faults wires.old wires.new port table.now }
+        SendsAll W.runs wires.old.items wires.new.items table.now told.online) }
+    ensures sent { SendsSoFar W.runs wires.old.items wires.new.items table.now weights.now slot_ms every }
+    ensures fault { (port : ℕ) → result ≡ Err (WireFault port) → FailsAt W.faults wires.old.items wires.new.items port table.now }
     ensures stops { (port : ℕ) → result ≡ Err (WireFault port) →
-        StopsShort W.runs wires.old wires.new port table.now weights.now slot_ms every }
+        StopsShort W.runs wires.old.items wires.new.items port table.now weights.now slot_ms every }
     ensures too_many { (count : ℕ) → result ≡ Err (TooMany count) →
         PublishesMore table.now weights.now slot_ms every count }
 {

@@ -12,5 +12,5 @@ returns-clause-online g c =
 
 pub returns-clause-sent : goal.returns-clause-sent
 returns-clause-sent g c =
-    subst (λ slots. HaveMore g.W.Wire.runs (AreAllUnits c.args.table.now.flows slots) c.args.table.now.ports c.args.wires.now c.served.new.wires)
+    subst (λ slots. HaveMore g.W.Wire.runs (AreAllUnits c.args.table.now.flows slots) c.args.table.now.ports c.args.wires.now.items c.served.new.wires.items)
     (sym c.in_ok-online.ensures.runs.same) c.in_ok-progress.ensures.sent

@@ -4,11 +4,11 @@ use Rattle.hall_online.proofs.serving.serve.Given as goal
 
 abbrev pub invariant-actions : goal.invariant-actions
 invariant-actions g l = record {
-  serving : StillServing g.W.Wire.faults g.W.Wire.runs l.hall l.fn.runner l.runner l.fn.course l.course l.fn.progress l.progress l.fn.wires l.wires;
-  places : length l.table.ids ≤ vec_capacity l.orders.places;
-  coflows : l.orders.loads.coflows ≡ length l.table.ids;
-  ports : l.orders.loads.ports ≡ l.table.ports;
+  serving : StillServing g.W.Wire.faults g.W.Wire.runs l.hall l.fn.crew l.crew l.fn.kept.course l.kept.course l.fn.kept.progress l.kept.progress;
+  places : length l.table.ids ≤ vec_capacity l.kept.orders.places;
+  coflows : l.kept.orders.loads.coflows ≡ length l.table.ids;
+  ports : l.kept.orders.loads.ports ≡ l.table.ports;
 }
 
 abbrev pub decreases-actions : goal.decreases-actions
-decreases-actions g l = l.hall.setting.opening.limit - length l.runner.driver.journal
+decreases-actions g l = l.hall.setting.opening.limit - length l.crew.runner.driver.journal

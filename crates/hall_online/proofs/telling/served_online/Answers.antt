@@ -18,7 +18,7 @@ returns-clause-text g c =
     (may_serve _ _ c.args.slot_ms _ c.coflows-within.ensures.table c.requires.weight_each c.requires.weight_range c.requires.epoch_some c.requires.epoch_fits)
     c.in_ok-arrivals.arrivals.items c.deref.result.now c.in_ok-arrivals.ensures.arrivals c.in_ok-arrivals.ensures.each c.in_ok-arrivals.ensures.range c.deref.ensures.value
     c.online_runs_are_one.ensures.too_many c.released_is_bound.ensures.total c.released_ordering_is_feasible.ensures
-    (SendsAll g.W.Wire.runs c.args.wires.now c.serve_online.new.wires c.args.table.now)
+    (SendsAll g.W.Wire.runs c.args.wires.now.items c.serve_online.new.wires.items c.args.table.now)
     c.in_ok-online.online c.in_ok-text.text.items c.in_ok-online.ensures.online c.in_ok-text.ensures.text c.in_ok-online.ensures.sent
 
 pub returns-clause-sent : goal.returns-clause-sent
@@ -26,30 +26,30 @@ returns-clause-sent g c =
     sent_so_far c.args.table.now c.args.weights.now c.args.slot_ms c.args.every
     (may_serve _ _ c.args.slot_ms _ c.coflows-within.ensures.table c.requires.weight_each c.requires.weight_range c.requires.epoch_some c.requires.epoch_fits)
     c.in_ok-arrivals.arrivals.items c.deref.result.now c.in_ok-arrivals.ensures.arrivals c.in_ok-arrivals.ensures.each c.in_ok-arrivals.ensures.range c.deref.ensures.value
-    g.W.Wire.runs c.args.wires.now c.serve_online.new.wires c.serve_online.ensures.wires
+    g.W.Wire.runs c.args.wires.now.items c.serve_online.new.wires.items c.serve_online.ensures.wires
 
 pub returns-in_err-arrivals-clause-sent : goal.returns-in_err-arrivals-clause-sent
 returns-in_err-arrivals-clause-sent g c =
-    sent_nothing c.args.table.now c.args.weights.now c.args.slot_ms c.args.every g.W.Wire.faults g.W.Wire.runs c.args.wires.now c.requires.wires
+    sent_nothing c.args.table.now c.args.weights.now c.args.slot_ms c.args.every g.W.Wire.faults g.W.Wire.runs c.args.wires.now.items c.requires.wires
 
 pub returns-in_err-online-clause-sent : goal.returns-in_err-online-clause-sent
 returns-in_err-online-clause-sent g c =
     sent_so_far c.args.table.now c.args.weights.now c.args.slot_ms c.args.every
     (may_serve _ _ c.args.slot_ms _ c.coflows-within.ensures.table c.requires.weight_each c.requires.weight_range c.requires.epoch_some c.requires.epoch_fits)
     c.in_ok-arrivals.arrivals.items c.deref.result.now c.in_ok-arrivals.ensures.arrivals c.in_ok-arrivals.ensures.each c.in_ok-arrivals.ensures.range c.deref.ensures.value
-    g.W.Wire.runs c.args.wires.now c.serve_online.new.wires c.serve_online.ensures.wires
+    g.W.Wire.runs c.args.wires.now.items c.serve_online.new.wires.items c.serve_online.ensures.wires
 
 pub returns-in_err-text-clause-sent : goal.returns-in_err-text-clause-sent
 returns-in_err-text-clause-sent g c =
     sent_so_far c.args.table.now c.args.weights.now c.args.slot_ms c.args.every
     (may_serve _ _ c.args.slot_ms _ c.coflows-within.ensures.table c.requires.weight_each c.requires.weight_range c.requires.epoch_some c.requires.epoch_fits)
     c.in_ok-arrivals.arrivals.items c.deref.result.now c.in_ok-arrivals.ensures.arrivals c.in_ok-arrivals.ensures.each c.in_ok-arrivals.ensures.range c.deref.ensures.value
-    g.W.Wire.runs c.args.wires.now c.serve_online.new.wires c.serve_online.ensures.wires
+    g.W.Wire.runs c.args.wires.now.items c.serve_online.new.wires.items c.serve_online.ensures.wires
 
 pub returns-in_err-online-clause-fault : goal.returns-in_err-online-clause-fault
 returns-in_err-online-clause-fault g c = λ port e.
     let came : WireFault port ≡ c.in_err-online.field-0.0 = carried _ _ (WireFault port) c.from_residual-in_err-online.ensures.1 e in
-    fails_at g.W.Wire.faults c.args.wires.now c.serve_online.new.wires c.args.table.now port c.requires.wires (c.in_err-online.ensures.fault port (ap Err (sym came)))
+    fails_at g.W.Wire.faults c.args.wires.now.items c.serve_online.new.wires.items c.args.table.now port c.requires.wires (c.in_err-online.ensures.fault port (ap Err (sym came)))
 
 pub returns-in_err-online-clause-too_many : goal.returns-in_err-online-clause-too_many
 returns-in_err-online-clause-too_many g c = λ count e.
@@ -65,4 +65,4 @@ returns-in_err-online-clause-stops g c = λ port e.
     stops_short c.args.table.now c.args.weights.now c.args.slot_ms c.args.every
     (may_serve _ _ c.args.slot_ms _ c.coflows-within.ensures.table c.requires.weight_each c.requires.weight_range c.requires.epoch_some c.requires.epoch_fits)
     c.in_ok-arrivals.arrivals.items c.deref.result.now c.in_ok-arrivals.ensures.arrivals c.in_ok-arrivals.ensures.each c.in_ok-arrivals.ensures.range c.deref.ensures.value
-    g.W.Wire.runs c.args.wires.now c.serve_online.new.wires port (c.in_err-online.ensures.stops port (ap Err (sym came)))
+    g.W.Wire.runs c.args.wires.now.items c.serve_online.new.wires.items port (c.in_err-online.ensures.stops port (ap Err (sym came)))

@@ -8,7 +8,7 @@ use Rattle.hall_online.proofs.turns.leave.Goals as goal
 pub unreachable-requires : goal.unreachable-requires
 unreachable-requires g c =
     let hall = c.args.hall.now in
-    let old = c.args.runner.now in
+    let old = c.args.crew.now.runner in
     let mid = c.withdraw.new.self in
     let turn = subst (λ (d : DriverModel). IsDriverTurn hall.setting.opening (Withdraw c.args.coflow) 1 d mid c.withdraw.result) c.driver.ensures.driver c.withdraw.ensures.turn in
     let (r, is) = is_done hall old mid (Withdraw c.args.coflow) c.withdraw.result c.requires.ready c.requires.room refl turn in
@@ -17,7 +17,7 @@ unreachable-requires g c =
 pub returns-clause-ready : goal.returns-clause-ready
 returns-clause-ready g c =
     let hall = c.args.hall.now in
-    let old = c.args.runner.now in
+    let old = c.args.crew.now.runner in
     let mid = c.withdraw.new.self in
     let turn = subst (λ (d : DriverModel). IsDriverTurn hall.setting.opening (Withdraw c.args.coflow) 1 d mid c.withdraw.result) c.driver.ensures.driver c.withdraw.ensures.turn in
     ready_quiet hall old mid (Withdraw c.args.coflow) c.withdraw.result c.requires.ready c.requires.room refl turn refl
@@ -25,7 +25,7 @@ returns-clause-ready g c =
 pub returns-clause-asked : goal.returns-clause-asked
 returns-clause-asked g c =
     let hall = c.args.hall.now in
-    let old = c.args.runner.now in
+    let old = c.args.crew.now.runner in
     let mid = c.withdraw.new.self in
     let turn = subst (λ (d : DriverModel). IsDriverTurn hall.setting.opening (Withdraw c.args.coflow) 1 d mid c.withdraw.result) c.driver.ensures.driver c.withdraw.ensures.turn in
     asked_so hall old mid (Withdraw c.args.coflow) c.withdraw.result c.requires.ready c.requires.room refl turn

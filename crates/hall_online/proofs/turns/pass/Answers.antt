@@ -8,7 +8,7 @@ use Rattle.hall_online.proofs.turns.pass.Goals as goal
 pub unreachable-requires : goal.unreachable-requires
 unreachable-requires g c =
     let hall = c.args.hall.now in
-    let old = c.args.runner.now in
+    let old = c.args.crew.now.runner in
     let mid = c.skip.new.self in
     let turn = subst (λ (d : DriverModel). IsDriverTurn hall.setting.opening (Skip c.args.to) 1 d mid c.skip.result) c.driver.ensures.driver c.skip.ensures.turn in
     let (r, is) = is_done hall old mid (Skip c.args.to) c.skip.result c.requires.ready c.requires.room refl turn in
@@ -17,7 +17,7 @@ unreachable-requires g c =
 pub returns-clause-ready : goal.returns-clause-ready
 returns-clause-ready g c =
     let hall = c.args.hall.now in
-    let old = c.args.runner.now in
+    let old = c.args.crew.now.runner in
     let mid = c.skip.new.self in
     let turn = subst (λ (d : DriverModel). IsDriverTurn hall.setting.opening (Skip c.args.to) 1 d mid c.skip.result) c.driver.ensures.driver c.skip.ensures.turn in
     ready_skipped hall old mid c.args.to c.skip.result c.requires.ready c.requires.room turn c.requires.idle
@@ -25,7 +25,7 @@ returns-clause-ready g c =
 pub returns-clause-asked : goal.returns-clause-asked
 returns-clause-asked g c =
     let hall = c.args.hall.now in
-    let old = c.args.runner.now in
+    let old = c.args.crew.now.runner in
     let mid = c.skip.new.self in
     let turn = subst (λ (d : DriverModel). IsDriverTurn hall.setting.opening (Skip c.args.to) 1 d mid c.skip.result) c.driver.ensures.driver c.skip.ensures.turn in
     asked_so hall old mid (Skip c.args.to) c.skip.result c.requires.ready c.requires.room refl turn
