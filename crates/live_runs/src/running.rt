@@ -33,7 +33,7 @@ pub fn run_live<R: Threads + Wait + Sync, W: Wire + Send, G: Gate + Send>(
     most: u64,
     agents: u32,
     gates: &mut [G],
-    wires: &mut [W],
+    wires: &mut Vec<W>,
 ) -> Result<Live, LiveFault>
     requires each_weight { length weights ≡ length table.ids }
     requires weight { All (λ w. (1 ≤ w) × (w ≤ MAX_WEIGHT)) weights }
@@ -44,14 +44,14 @@ pub fn run_live<R: Threads + Wait + Sync, W: Wire + Send, G: Gate + Send>(
     requires most { 1 ≤ most }
     requires agents { 1 ≤ agents }
     requires gates { script.now.clients ≤ length gates.old }
-    requires wires { table.ports ≤ length wires.old }
+    requires wires { table.ports ≤ length wires.old.items }
     ensures run { IfOk result (λ live.
-        IsToldRun W.runs (opening_with table weights limit) script.now most live wires.old wires.new) }
-    ensures wires { HaveServed W.runs (opening_with table weights limit) wires.old wires.new }
+        IsToldRun W.runs (opening_with table weights limit) script.now most live wires.old.items wires.new.items) }
+    ensures wires { HaveServed W.runs (opening_with table weights limit) wires.old.items wires.new.items }
     ensures fault { (port : ℕ) → result ≡ Err (WireFault port) → (port < table.ports) ×
-        ((b a : W) → Rose (W.faults (slice_index_or wires.old port b)) (W.faults (slice_index_or wires.new port a))) }
+        ((b a : W) → Rose (W.faults (slice_index_or wires.old.items port b)) (W.faults (slice_index_or wires.new.items port a))) }
     ensures least { (port : ℕ) → result ≡ Err (WireFault port) →
-        HaveStopped W.runs (opening_with table weights limit) port wires.old wires.new }
+        HaveStopped W.runs (opening_with table weights limit) port wires.old.items wires.new.items }
 {
     let again = copy_of(alloc, &weights)?;
     let master = Master::new(alloc, table, weights, limit)?;

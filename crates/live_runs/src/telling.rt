@@ -36,7 +36,7 @@ pub fn served_live<R: Threads + Wait + Sync, W: Wire + Send, G: Gate + Send>(
     most: u64,
     agents: u32,
     gates: &mut [G],
-    wires: &mut [W],
+    wires: &mut Vec<W>,
 ) -> Result<Vec<u8>, LiveFault>
     requires each_weight { length weights ≡ length table.ids }
     requires weight { All (λ w. (1 ≤ w) × (w ≤ MAX_WEIGHT)) weights }
@@ -45,12 +45,12 @@ pub fn served_live<R: Threads + Wait + Sync, W: Wire + Send, G: Gate + Send>(
     requires most { 1 ≤ most }
     requires agents { 1 ≤ agents }
     requires gates { script.now.clients ≤ length gates.old }
-    requires wires { table.ports ≤ length wires.old }
+    requires wires { table.ports ≤ length wires.old.items }
     ensures text { IfOk result (λ text. (told : TellsLive table weights script.now most text.items) ×
-        SendsAll W.runs wires.old wires.new table (served_in table weights script.now told.journal)) }
-    ensures sent { SendsSoFar W.runs wires.old wires.new table weights script.now }
+        SendsAll W.runs wires.old.items wires.new.items table (served_in table weights script.now told.journal)) }
+    ensures sent { SendsSoFar W.runs wires.old.items wires.new.items table weights script.now }
     ensures fault { (port : ℕ) → result ≡ Err (WireFault port) →
-        FailsAt W.faults W.runs wires.old wires.new port table weights script.now }
+        FailsAt W.faults W.runs wires.old.items wires.new.items port table weights script.now }
 {
     scripts_may_be_asked();
     let limit = limit_of_read(&table, script);

@@ -1,6 +1,8 @@
 pub mod Begins
+pub mod Camped
 pub mod ClosedTold
 pub mod Counted
+pub mod Crewed
 pub mod DrivenOn
 pub mod DriverTurns
 pub mod EndingRuns

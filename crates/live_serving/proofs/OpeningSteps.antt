@@ -144,10 +144,6 @@ module _ {W : Type 0} (faults : W → ℕ) (runs : W → Option (List (ℕ × �
     pub full_served : (count : ℕ) → IsFullAt hall.setting.opening most old new count → after ≡ before → AreServed faults runs {S = Bool} hall old new before after (Err Full)
     full_served count x same = served_none (Err Full) refl again x.turn.seen long (others_leave_slots o old.driver.journal new.driver.journal x.turn.seen x.turn.others).wire same
 
-    pub unasked_served : new ≡ old → after ≡ before → AreServed faults runs {S = Bool} hall old new before after (Err NoMemory)
-    unasked_served is same = served_none (Err NoMemory) refl again (subst (λ (r : RunnerModel). IsSeen o r.driver.journal) (sym is) h.seen) long
-        (λ port. ap (λ (r : RunnerModel). wire_of o r.driver.journal port) is) same
-
 pub full_met : (hall : HallModel) (most count : ℕ) (old new : RunnerModel) → IsFullAt hall.setting.opening most old new count → HasMetFull hall old.driver new.driver
 full_met hall most count old new x = record {
   limit = omega (arith, x.turn.limit, x.turn.position);

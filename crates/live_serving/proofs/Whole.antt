@@ -35,16 +35,20 @@ on_ok : {S E P Q : Type 0} (r : Result S E) → (P → Q) → OnOk r P → OnOk 
 on_ok (Ok x) f h = f h
 on_ok (Err e) f h = tt
 
-pub ended_again : {S E : Type 0} (r : Result S E) (hall : HallModel) (script : Script) (most n : ℕ) (driver : DriverModel) (news olds : List SessionModel) (pulls : List PullDone) →
-    n ≡ length olds → length olds ≡ script.clients → OnOk r (IsEnded hall script most driver news pulls) →
-    OnOk r ((m : ℕ) × IsEnded hall script m driver (take n (news ++ drop (length news) olds)) pulls)
-ended_again r hall script most n driver news olds pulls is each h =
-    on_ok r (λ x. (most, subst (λ l. IsEnded hall script most driver l pulls) (sym (back n news olds is (x.seated.each ∙ sym each))) x)) h
+pub ended_again : {S E : Type 0} (r : Result S E) (hall : HallModel) (script : Script) (most n : ℕ) (driver last : DriverModel) (news olds : List SessionModel) (pulls : List PullDone) →
+    last ≡ driver → n ≡ length olds → length olds ≡ script.clients → OnOk r (IsEnded hall script most driver news pulls) →
+    OnOk r ((m : ℕ) × IsEnded hall script m last (take n (news ++ drop (length news) olds)) pulls)
+ended_again r hall script most n driver last news olds pulls same is each h =
+    on_ok r (λ x. (
+      most,
+      subst (λ (z : DriverModel × List SessionModel). IsEnded hall script most z.0 z.1 pulls)
+          (λ i. (sym same i, sym (back n news olds is (x.seated.each ∙ sym each)) i)) x,
+    )) h
 
-pub filled_again : (hall : HallModel) (script : Script) (most n : ℕ) (driver : DriverModel) (news olds : List SessionModel) → n ≡ length olds → length olds ≡ script.clients →
-    IsFilled hall script most driver news → (m : ℕ) × IsFilled hall script m driver (take n (news ++ drop (length news) olds))
-filled_again hall script most n driver news olds is each x =
-    (most, subst (IsFilled hall script most driver) (sym (back n news olds is (x.seated.each ∙ sym each))) x)
+pub filled_again : (hall : HallModel) (script : Script) (most n : ℕ) (driver last : DriverModel) (news olds : List SessionModel) → last ≡ driver → n ≡ length olds →
+    length olds ≡ script.clients → IsFilled hall script most driver news → (m : ℕ) × IsFilled hall script m last (take n (news ++ drop (length news) olds))
+filled_again hall script most n driver last news olds same is each x =
+    (most, subst (λ (z : DriverModel × List SessionModel). IsFilled hall script most z.0 z.1) (λ i. (sym same i, sym (back n news olds is (x.seated.each ∙ sym each)) i)) x)
 
 -- ---- the wires
 
@@ -99,11 +103,13 @@ module _ {W : Type 0} (faults : W → ℕ) (runs : W → Option (List (ℕ × �
       has_ended (Ok x) ok e = e
       has_ended (Err s) ok e = absurd (true≢false (sym ok))
 
-      pub whole_served : (result : Result Served LiveFault) → IfOk result (λ s. IsOk answer) →
-          IfOk result (λ s. IsEnded hall script most new.driver (take n (news ++ drop (length news) olds)) pulls →
-          IsTold hall.setting.opening script most s.master.journal new.driver.journal s.pulls) →
+      pub whole_served : (last : DriverModel) → last ≡ new.driver → (result : Result Served LiveFault) → IfOk result (λ s. IsOk answer) →
+          IfOk result (λ s. IsEnded hall script most last (take n (news ++ drop (length news) olds)) pulls →
+          IsTold hall.setting.opening script most s.master.journal last.journal s.pulls) →
           IfOk result (λ s. IsServed runs o script most s.master.journal s.pulls before after)
-      whole_served (Ok s) ok told =
+      whole_served last same (Ok s) ok told =
           let e = has_ended answer ok ended in
-          told_is s.master.journal s.pulls (told (subst (λ l. IsEnded hall script most new.driver l pulls) (sym (back n news olds many (e.seated.each ∙ sym each))) e))
-      whole_served (Err f) ok told = tt
+          told_is s.master.journal s.pulls (subst (λ (d : DriverModel). IsTold hall.setting.opening script most s.master.journal d.journal s.pulls) same
+          (told (subst (λ (z : DriverModel × List SessionModel). IsEnded hall script most z.0 z.1 pulls)
+          (λ i. (sym same i, sym (back n news olds many (e.seated.each ∙ sym each)) i)) e)))
+      whole_served last same (Err f) ok told = tt

@@ -1,3 +1,4 @@
+pub mod Beside
 pub mod Driven
 pub mod Driving
 pub mod Ends

@@ -1,5 +1,5 @@
 -- What a run of `live` left on the wires.
-use Rattle.std.specs.Prelude.{◌≡◌, ℕ, ◌<◌, ◌≤◌, List, [], ◌∷◌, ◌++◌, Option}
+use Rattle.std.specs.Prelude.{◌≡◌, ℕ, ◌≤◌, List, Option}
 use Rattle.coflow_units.specs.Flows.{units_of}
 use Rattle.coflow_units.specs.Schedule.{times}
 use Rattle.journal.specs.declared.command.Entry.{Entry}

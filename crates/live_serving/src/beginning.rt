@@ -18,26 +18,29 @@ use workload::Script;
 /// The calls of the driver: 2^40.
 const CALLS: u64 = 1_099_511_627_776;
 
-/// A hall with its runner, the sessions of its clients, and what their pulls were told.
+/// A hall, the sessions of its clients, and what their pulls were told.
 #[derive(Drop)]
 pub(crate) struct Begun {
     pub(crate) hall: Hall,
-    pub(crate) runner: Runner,
     pub(crate) sessions: Vec<Session>,
     pub(crate) pulls: Vec<PullDone>,
 }
 
-/// A hall of the master with a session for each client, of as many calls as the script has commands. The error is want
-/// of memory, and drops the master.
-pub(crate) fn begin(alloc: Global, master: Master, script: &Script) -> Result<Begun, NoMemory>
+/// A hall of the master with a session for each client, of as many calls as the script has commands, and the runner of
+/// the hall. The error is want of memory, and drops the master.
+pub(crate) fn begin(
+    alloc: Global,
+    master: Master,
+    script: &Script,
+) -> Result<(Begun, Runner), NoMemory>
     requires empty { master.journal ≡ [] }
     requires limit { master.opening.limit ≡ limit_of master.opening script.now }
     requires asked { MayBeAsked master.opening script.now }
     requires clients { script.now.clients ≤ MAX_CLIENTS }
-    ensures opening { IfOk result (λ b. b.hall.setting.opening ≡ master.opening) }
-    ensures none { IfOk result (λ b. b.runner.driver.journal ≡ []) }
+    ensures opening { IfOk result (λ b. b.0.hall.setting.opening ≡ master.opening) }
+    ensures none { IfOk result (λ b. b.1.driver.journal ≡ []) }
     ensures under_way { (most : ℕ) → IfOk result (λ b.
-        IsGoing b.hall script.now most 0 b.runner b.sessions.items b.pulls.items) }
+        IsGoing b.0.hall script.now most 0 b.1 b.0.sessions.items b.0.pulls.items) }
 {
     let ports = master.table().ports();
     let (hall, mut driver) = Hall::begin(alloc, master, CALLS)?;
@@ -49,12 +52,14 @@ pub(crate) fn begin(alloc: Global, master: Master, script: &Script) -> Result<Be
         return Err(NoMemory);
     };
     match Runner::new(alloc, driver, ports) {
-        Ok(runner) => Ok(Begun {
-            hall,
+        Ok(runner) => Ok((
+            Begun {
+                hall,
+                sessions,
+                pulls: Vec::new(alloc),
+            },
             runner,
-            sessions,
-            pulls: Vec::new(alloc),
-        }),
+        )),
         Err(back) => {
             drop(hall);
             drop(sessions);

@@ -2,6 +2,7 @@
 ghost use Rattle.std.specs.Prelude.{◌≡◌, ◌≤◌, All, length};
 ghost use denote.Param.Send.{IsSync};
 ghost use Rattle.client_session.specs.Models.{IsSessionOf};
+ghost use Rattle.slot_runner.specs.Crews.{IsAt};
 ghost use Rattle.live_rounds.specs.Rounds.{MayAsk};
 ghost use Rattle.live_serving.specs.Driving.{MayDrive};
 ghost use Rattle.live_serving.specs.Openings.{AreServed, GoesOn, IsOpening};
@@ -12,7 +13,7 @@ use crate::stop::Stop;
 use client_session::{Hall, Session};
 use live_rounds::{Gate, PullDone, RoundStop, round};
 use outside::Wire;
-use slot_runner::Runner;
+use slot_runner::{Crew, Site};
 use std::alloc::Global;
 use std::sync::Wait;
 use std::thread::{Threads, join_mut};
@@ -27,37 +28,37 @@ pub(crate) fn advance<R: Threads + Wait + Sync, W: Wire + Send, G: Gate + Send>(
     alloc: Global,
     rt: &R,
     hall: &Hall,
+    site: &Site<W>,
     round: &Round,
     most: u64,
-    agents: u32,
-    runner: &mut Runner,
+    crew: &mut Crew<W>,
     sessions: &mut [Session],
     gates: &mut [G],
-    wires: &mut [W],
 ) -> Came
-    requires may { MayDrive hall.now most runner.old }
+    requires may { MayDrive hall.now most crew.old.runner }
     requires most { 1 ≤ most }
-    requires agents { 1 ≤ agents }
-    requires wires { hall.now.setting.opening.table.ports ≤ length wires.old }
+    requires site { IsAt site.now crew.old }
+    requires wires { hall.now.setting.opening.table.ports ≤ length crew.old.wires }
     requires own { All (IsSessionOf hall.now) sessions.old }
     requires gates { length gates.old ≡ length sessions.old }
     requires lines { All (MayAsk hall.now.setting.opening (length sessions.old)) round.now.lines }
     ensures clients { HasPlayed hall.now round.now.lines sessions.old sessions.new result.0 }
-    ensures driver { GoesOn hall.now most round.now.runs runner.old runner.new result.1 }
-    ensures wires { AreServed W.faults W.runs hall.now runner.old runner.new wires.old wires.new result.1 }
+    ensures driver { GoesOn hall.now most round.now.runs crew.old.runner crew.new.runner result.1 }
+    ensures wires { AreServed W.faults W.runs hall.now crew.old.runner crew.new.runner crew.old.wires crew.new.wires
+        result.1 }
+    ensures stays { (crew.new.at ≡ crew.old.at) × (crew.new.places ≡ crew.old.places) }
 {
     if round.runs {
         return both(
             alloc,
             rt,
             hall,
+            site,
             round.lines.as_slice(),
             most,
-            agents,
-            runner,
+            crew,
             sessions,
             gates,
-            wires,
         );
     }
     (
@@ -71,24 +72,25 @@ fn both<R: Threads + Wait + Sync, W: Wire + Send, G: Gate + Send>(
     alloc: Global,
     rt: &R,
     hall: &Hall,
+    site: &Site<W>,
     lines: &[ScriptLine],
     most: u64,
-    agents: u32,
-    runner: &mut Runner,
+    crew: &mut Crew<W>,
     sessions: &mut [Session],
     gates: &mut [G],
-    wires: &mut [W],
 ) -> Came
-    requires may { MayDrive hall.now most runner.old }
+    requires may { MayDrive hall.now most crew.old.runner }
     requires most { 1 ≤ most }
-    requires agents { 1 ≤ agents }
-    requires wires { hall.now.setting.opening.table.ports ≤ length wires.old }
+    requires site { IsAt site.now crew.old }
+    requires wires { hall.now.setting.opening.table.ports ≤ length crew.old.wires }
     requires own { All (IsSessionOf hall.now) sessions.old }
     requires gates { length gates.old ≡ length sessions.old }
     requires lines { All (MayAsk hall.now.setting.opening (length sessions.old)) lines.now }
     ensures clients { HasPlayed hall.now lines.now sessions.old sessions.new result.0 }
-    ensures driver { IsOpening hall.now most runner.old runner.new result.1 }
-    ensures wires { AreServed W.faults W.runs hall.now runner.old runner.new wires.old wires.new result.1 }
+    ensures driver { IsOpening hall.now most crew.old.runner crew.new.runner result.1 }
+    ensures wires { AreServed W.faults W.runs hall.now crew.old.runner crew.new.runner crew.old.wires crew.new.wires
+        result.1 }
+    ensures stays { (crew.new.at ≡ crew.old.at) × (crew.new.places ≡ crew.old.places) }
 {
     join_mut(
         rt,
@@ -99,12 +101,13 @@ fn both<R: Threads + Wait + Sync, W: Wire + Send, G: Gate + Send>(
             ensures { HasPlayed hall.entry.now lines.entry.now sessions.entry.now sessions.exit.now result }
         { play(alloc, rt, hall, lines, sessions, gates) },
         &mut || -> Result<bool, Stop>
-            requires { IsSync R.row × MayDrive hall.now most runner.now × (1 ≤ most) × (1 ≤ agents) ×
-                (hall.now.setting.opening.table.ports ≤ length wires.now) }
-            ensures { IsOpening hall.entry.now most runner.entry.now runner.exit.now result ×
-                AreServed W.faults W.runs hall.entry.now runner.entry.now runner.exit.now wires.entry.now
-                wires.exit.now result }
-        { open_once(alloc, rt, hall, most, agents, runner, wires) },
+            requires { IsSync R.row × MayDrive hall.now most crew.now.runner × (1 ≤ most) × IsAt site.now crew.now ×
+                (hall.now.setting.opening.table.ports ≤ length crew.now.wires) }
+            ensures { IsOpening hall.entry.now most crew.entry.now.runner crew.exit.now.runner result ×
+                AreServed W.faults W.runs hall.entry.now crew.entry.now.runner crew.exit.now.runner
+                crew.entry.now.wires crew.exit.now.wires result ×
+                (crew.exit.now.at ≡ crew.entry.now.at) × (crew.exit.now.places ≡ crew.entry.now.places) }
+        { open_once(rt, hall, site, most, crew) },
     )
 }
 

@@ -22,49 +22,50 @@ use workload::Script;
 pub(crate) fn end(
     alloc: Global,
     run: Begun,
+    driver: Driver,
     script: &Script,
     answer: Result<(), Stop>,
 ) -> Result<Served, LiveFault>
     requires ended { OnOk answer ((most : ℕ) ×
-        IsEnded run.hall script.now most run.runner.driver run.sessions.items run.pulls.items) }
+        IsEnded run.hall script.now most driver run.sessions.items run.pulls.items) }
     requires filled { answer ≡ Err Full → (most : ℕ) ×
-        IsFilled run.hall script.now most run.runner.driver run.sessions.items }
+        IsFilled run.hall script.now most driver run.sessions.items }
     ensures opening { IfOk result (λ s. s.master.opening ≡ run.hall.setting.opening) }
     ensures no_stop { IfOk result (λ s. IsOk answer) }
     ensures told { (most : ℕ) → IfOk result (λ s.
-        IsEnded run.hall script.now most run.runner.driver run.sessions.items run.pulls.items →
-        IsTold run.hall.setting.opening script.now most s.master.journal run.runner.driver.journal s.pulls) }
+        IsEnded run.hall script.now most driver run.sessions.items run.pulls.items →
+        IsTold run.hall.setting.opening script.now most s.master.journal driver.journal s.pulls) }
     ensures fault { (port : ℕ) → result ≡ Err (fault.WireFault port) → answer ≡ Err (WireFault port) }
 {
     match answer {
         Ok(()) => {
             let Begun {
                 hall,
-                runner,
                 sessions,
                 pulls,
             } = run;
-            let told = tell(alloc, hall, runner.into_driver(), sessions, &pulls, script);
+            let told = tell(alloc, hall, driver, sessions, &pulls, script);
             drop(pulls);
             told
         }
         Err(Stop::Full) => {
             let Begun {
                 hall,
-                runner,
                 sessions,
                 pulls,
             } = run;
             drop(pulls);
-            refuse(alloc, hall, runner.into_driver(), sessions, script);
+            refuse(alloc, hall, driver, sessions, script);
             Err(LiveFault::NoMemory)
         }
         Err(Stop::WireFault { port }) => {
             drop(run);
+            drop(driver);
             Err(LiveFault::WireFault { port })
         }
         Err(Stop::NoMemory) => {
             drop(run);
+            drop(driver);
             Err(LiveFault::NoMemory)
         }
     }

@@ -5,6 +5,7 @@
 mod answer;
 mod beginning;
 mod beside;
+mod camping;
 mod ending;
 pub mod laws;
 mod limit;
@@ -14,6 +15,7 @@ mod pulls;
 mod rounds;
 mod seats;
 mod serving;
+mod stage;
 mod stop;
 
 pub use answer::{LiveFault, Served};

@@ -10,11 +10,13 @@ ghost use Rattle.live_serving.specs.Wires.{HaveServed, HaveStopped};
 
 use crate::answer::{LiveFault, Served};
 use crate::beginning::begin;
+use crate::camping::serve_camp;
 use crate::ending::end;
-use crate::serving::serve;
+use crate::stage::Stage;
 use live_rounds::Gate;
 use master_core::Master;
 use outside::Wire;
+use slot_runner::Camp;
 use std::alloc::Global;
 use std::sync::Wait;
 use std::thread::Threads;
@@ -24,7 +26,9 @@ use workload::Script;
 /// twice the units, and two. Each client has a session and a thread of its own, and passes its gate before each command.
 /// Round follows on round, beside a run of slots where one is asked for, and between them all callers see what one of
 /// them has seen. After the last round runs are opened until nothing is left, each run of at most so many slots. So many
-/// agents beside each other send the units on the wires, one for each ingress port, and further wires are left alone.
+/// agents beside each other, at most one for each port, send the units on the wires, one for each ingress port, and
+/// further wires are left alone. The agents live through all rounds and runs, and have the wires meanwhile. At every
+/// answer the wires stand in the vector again, in their order.
 ///
 /// `WireFault` comes only where the count of that port's wire rose in this call. It is the least port at which a unit of
 /// the last run is missing, and no further run is opened after it. `NoMemory` is want of memory. At every answer what was
@@ -37,7 +41,7 @@ pub fn serve_live<R: Threads + Wait + Sync, W: Wire + Send, G: Gate + Send>(
     most: u64,
     agents: u32,
     gates: &mut [G],
-    wires: &mut [W],
+    wires: &mut Vec<W>,
 ) -> Result<Served, LiveFault>
     requires empty { master.journal ≡ [] }
     requires limit { master.opening.limit ≡ limit_of master.opening script.now }
@@ -46,30 +50,50 @@ pub fn serve_live<R: Threads + Wait + Sync, W: Wire + Send, G: Gate + Send>(
     requires most { 1 ≤ most }
     requires agents { 1 ≤ agents }
     requires gates { script.now.clients ≤ length gates.old }
-    requires wires { master.opening.table.ports ≤ length wires.old }
+    requires wires { master.opening.table.ports ≤ length wires.old.items }
     ensures opening { IfOk result (λ s. s.master.opening ≡ master.opening) }
     ensures served { IfOk result (λ s.
-        IsServed W.runs master.opening script.now most s.master.journal s.pulls wires.old wires.new) }
-    ensures wires { HaveServed W.runs master.opening wires.old wires.new }
+        IsServed W.runs master.opening script.now most s.master.journal s.pulls wires.old.items wires.new.items) }
+    ensures wires { HaveServed W.runs master.opening wires.old.items wires.new.items }
     ensures fault { (port : ℕ) → result ≡ Err (WireFault port) → (port < master.opening.table.ports) ×
-        ((b a : W) → Rose (W.faults (slice_index_or wires.old port b)) (W.faults (slice_index_or wires.new port a))) }
+        ((b a : W) → Rose (W.faults (slice_index_or wires.old.items port b)) (W.faults (slice_index_or wires.new.items port a))) }
     ensures least { (port : ℕ) → result ≡ Err (WireFault port) →
-        HaveStopped W.runs master.opening port wires.old wires.new }
+        HaveStopped W.runs master.opening port wires.old.items wires.new.items }
 {
-    let mut run = begin(alloc, master, script)?;
+    let (mut run, runner) = begin(alloc, master, script)?;
+    let Ok(camp) = runner.into_camp(alloc, agents, wires) else {
+        drop(run);
+        return Err(LiveFault::NoMemory);
+    };
+    let Camp {
+        mut crew,
+        site,
+        mut helpers,
+        far,
+    } = camp;
     let (near, _far) = gates.split_at_mut(script.clients as usize);
-    let answer = serve(
+    let stage = Stage {
         alloc,
-        rt,
-        &run.hall,
+        hall: &run.hall,
+        site: &site,
         script,
         most,
-        agents,
-        &mut run.runner,
+    };
+    let answer = serve_camp(
+        rt,
+        &stage,
+        &mut crew,
         &mut run.sessions,
         &mut run.pulls,
         near,
-        wires,
+        &mut helpers,
     );
-    end(alloc, run, script, answer)
+    let camp = Camp {
+        crew,
+        site,
+        helpers,
+        far,
+    };
+    let driver = camp.disband(wires);
+    end(alloc, run, driver, script, answer)
 }

@@ -1,5 +1,6 @@
 //! A round of the script.
 ghost use Rattle.std.specs.Prelude.{◌≡◌, ◌+◌, ◌<◌, ◌≤◌, Err, OnOk, length};
+ghost use Rattle.slot_runner.specs.Crews.{IsAt};
 ghost use Rattle.live_serving.specs.declared.stop.Stop.TheVariants.{Full};
 ghost use Rattle.live_serving.specs.Going.{IsFilled, IsGoing};
 ghost use Rattle.live_serving.specs.Openings.{AreServed};
@@ -7,50 +8,53 @@ ghost use Rattle.live_rounds.specs.declared.answer.RoundStop.TheVariants.{Spent}
 ghost use Rattle.live_serving.specs.Playing.{Settles};
 
 use crate::beside::{Came, advance};
+use crate::stage::Stage;
 use crate::stop::Stop;
-use client_session::{Hall, Session};
+use client_session::Session;
 use live_rounds::{Gate, PullDone, RoundStop};
 use outside::Wire;
-use slot_runner::Runner;
-use std::alloc::Global;
+use slot_runner::Crew;
 use std::sync::Wait;
 use std::thread::Threads;
-use workload::Script;
 
 /// Plays one round of the script, of which so many are done, and lets all callers see what one of them has seen. The pulls of the round go behind those before.
 ///
 /// The error says why it went no further: a turn found no room in the journal, the wire of a port accepted fewer units than it was sent, or no memory was to be had.
-pub fn play_round<R: Threads + Wait + Sync, W: Wire + Send, G: Gate + Send>(
-    alloc: Global,
+pub(crate) fn play_round<R: Threads + Wait + Sync, W: Wire + Send, G: Gate + Send>(
     rt: &R,
-    hall: &Hall,
-    script: &Script,
+    stage: &Stage<'_, W>,
     done: usize,
-    most: u64,
-    agents: u32,
-    runner: &mut Runner,
+    crew: &mut Crew<W>,
     sessions: &mut [Session],
     pulls: &mut Vec<PullDone>,
     gates: &mut [G],
-    wires: &mut [W],
 ) -> Result<(), Stop>
-    requires going { IsGoing hall.now script.now most done runner.old sessions.old pulls.old.items }
-    requires one_more { done < length script.now.rounds }
-    requires most { 1 ≤ most }
-    requires agents { 1 ≤ agents }
+    requires going { IsGoing stage.now.hall.now stage.now.script.now stage.now.most done crew.old.runner sessions.old
+        pulls.old.items }
+    requires one_more { done < length stage.now.script.now.rounds }
+    requires most { 1 ≤ stage.now.most }
+    requires site { IsAt stage.now.site.now crew.old }
     requires gates { length gates.old ≡ length sessions.old }
-    requires wires { hall.now.setting.opening.table.ports ≤ length wires.old }
-    ensures going { OnOk result
-        (IsGoing hall.now script.now most (done + 1) runner.new sessions.new pulls.new.items) }
-    ensures filled { result ≡ Err Full → IsFilled hall.now script.now most runner.new.driver sessions.new }
-    ensures wires { AreServed W.faults W.runs hall.now runner.old runner.new wires.old wires.new result }
+    requires wires { stage.now.hall.now.setting.opening.table.ports ≤ length crew.old.wires }
+    ensures going { OnOk result (IsGoing stage.now.hall.now stage.now.script.now stage.now.most (done + 1)
+        crew.new.runner sessions.new pulls.new.items) }
+    ensures filled { result ≡ Err Full →
+        IsFilled stage.now.hall.now stage.now.script.now stage.now.most crew.new.runner.driver sessions.new }
+    ensures wires { AreServed W.faults W.runs stage.now.hall.now crew.old.runner crew.new.runner crew.old.wires
+        crew.new.wires result }
+    ensures stays { (crew.new.at ≡ crew.old.at) × (crew.new.places ≡ crew.old.places) }
 {
+    let Stage {
+        alloc,
+        hall,
+        site,
+        script,
+        most,
+    } = *stage;
     let round = &script.rounds.as_slice()[done];
-    let came = advance(
-        alloc, rt, hall, round, most, agents, runner, sessions, gates, wires,
-    );
+    let came = advance(alloc, rt, hall, site, round, most, crew, sessions, gates);
     let more = pulls_of(came)?;
-    hall.level(runner.driver(), sessions);
+    hall.level(crew.driver(), sessions);
     pulls.extend_from_slice(&more)?;
     Ok(())
 }

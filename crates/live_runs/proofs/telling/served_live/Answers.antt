@@ -30,22 +30,22 @@ returns-clause-text g c =
     subst (λ (n : ℕ). IsLiveRun (opening_with c.args.table c.args.weights n) c.args.script.now c.args.most c.in_ok-live.live told.journal told.sent)
     (c.limit_of_read-limit.ensures.limit (opening_with c.args.table c.args.weights 0) refl) told.run in (
       record { live = c.in_ok-live.live; journal = told.journal; wires = told.sent; run = run; text_is = c.in_ok-text.ensures.text },
-      all_sent c.args.table.flows _ told.sent run.carried.sent g.W.Wire.faults g.W.Wire.runs c.args.table.ports c.args.wires.now c.run_live.new.wires told.wires,
+      all_sent c.args.table.flows _ told.sent run.carried.sent g.W.Wire.faults g.W.Wire.runs c.args.table.ports c.args.wires.now.items c.run_live.new.wires.items told.wires,
     )
 
 pub returns-clause-sent : goal.returns-clause-sent
 returns-clause-sent g c =
-    subst (λ (n : ℕ). HaveServed g.W.Wire.runs (opening_with c.args.table c.args.weights n) c.args.wires.now c.run_live.new.wires)
+    subst (λ (n : ℕ). HaveServed g.W.Wire.runs (opening_with c.args.table c.args.weights n) c.args.wires.now.items c.run_live.new.wires.items)
     (c.limit_of_read-limit.ensures.limit (opening_with c.args.table c.args.weights 0) refl) c.run_live.ensures.wires
 
 pub returns-in_err-live-clause-sent : goal.returns-in_err-live-clause-sent
 returns-in_err-live-clause-sent g c =
-    subst (λ (n : ℕ). HaveServed g.W.Wire.runs (opening_with c.args.table c.args.weights n) c.args.wires.now c.run_live.new.wires)
+    subst (λ (n : ℕ). HaveServed g.W.Wire.runs (opening_with c.args.table c.args.weights n) c.args.wires.now.items c.run_live.new.wires.items)
     (c.limit_of_read-limit.ensures.limit (opening_with c.args.table c.args.weights 0) refl) c.run_live.ensures.wires
 
 pub returns-in_err-text-clause-sent : goal.returns-in_err-text-clause-sent
 returns-in_err-text-clause-sent g c =
-    subst (λ (n : ℕ). HaveServed g.W.Wire.runs (opening_with c.args.table c.args.weights n) c.args.wires.now c.run_live.new.wires)
+    subst (λ (n : ℕ). HaveServed g.W.Wire.runs (opening_with c.args.table c.args.weights n) c.args.wires.now.items c.run_live.new.wires.items)
     (c.limit_of_read-limit.ensures.limit (opening_with c.args.table c.args.weights 0) refl) c.run_live.ensures.wires
 
 pub returns-in_err-live-clause-fault : goal.returns-in_err-live-clause-fault
@@ -56,6 +56,6 @@ returns-in_err-live-clause-fault g c = λ port e.
       fits = fault.0;
       wire = omega (arith, fault.0, c.requires.wires);
       rose = fault.1;
-      stopped = subst (λ (n : ℕ). HaveStopped g.W.Wire.runs (opening_with c.args.table c.args.weights n) port c.args.wires.now c.run_live.new.wires)
+      stopped = subst (λ (n : ℕ). HaveStopped g.W.Wire.runs (opening_with c.args.table c.args.weights n) port c.args.wires.now.items c.run_live.new.wires.items)
           (c.limit_of_read-limit.ensures.limit (opening_with c.args.table c.args.weights 0) refl) (c.in_err-live.ensures.least port (ap Err (sym came)));
     }

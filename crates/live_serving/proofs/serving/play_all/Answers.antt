@@ -1,6 +1,7 @@
-use Rattle.std.proofs.Common.{ap, arith, length, List, Ok, Err, refl}
+use Rattle.std.proofs.Common.{ap, arith, length, List, Ok, Err, refl, ◌∙◌}
 use Rattle.std.proofs.lemmas.Result.{err_from_is_err_and}
 use Rattle.workload.specs.declared.script.Round.{Round}
+use Rattle.live_serving.proofs.Crewed.{still_at}
 use Rattle.live_serving.proofs.EndingRuns.{all_done}
 use Rattle.live_serving.proofs.WiresOn.{served_first, served_on}
 use Rattle.live_serving.proofs.serving.play_all.Goals as goal
@@ -11,15 +12,22 @@ loop-done-init g c =
     record {
       going = h;
       gates = c.requires.gates;
-      wires = served_first g.W.Wire.faults g.W.Wire.runs c.args.hall.now (Ok tt) c.args.runner.now c.args.wires.now refl h.drives.may h.drives.seen c.requires.wires;
+      wires = served_first g.W.Wire.faults g.W.Wire.runs c.args.stage.now.hall.now (Ok tt) c.args.crew.now.runner c.args.crew.now.wires refl h.drives.may h.drives.seen c.requires.wires;
+      at = refl;
+      places = refl;
     }
+
+pub play_round-requires-clause-site : goal.play_round-requires-clause-site
+play_round-requires-clause-site g c κs within =
+    let i = c.loop-done.invariant in
+    still_at c.args.stage.now.hall.now c.args.stage.now.site.now c.args.crew.now c.loop-done.crew c.requires.site c.requires.going.drives.may i.going.drives.may i.at i.places
 
 pub returns-in_err-play_round-clause-wires : goal.returns-in_err-play_round-clause-wires
 returns-in_err-play_round-clause-wires g c =
     let (_, is, same) = err_from_is_err_and c.from_residual.result c.from_residual.ensures.1 in
     rw (is, same)
-    (served_on g.W.Wire.faults g.W.Wire.runs c.args.hall.now (Ok tt) (Err c.in_err-play_round.field-0.0) c.args.runner.now c.loop-done.runner c.play_round.new.runner
-    c.args.wires.now c.loop-done.wires c.play_round.new.wires c.loop-done.invariant.wires c.in_err-play_round.ensures.wires)
+    (served_on g.W.Wire.faults g.W.Wire.runs c.args.stage.now.hall.now (Ok tt) (Err c.in_err-play_round.field-0.0) c.args.crew.now.runner c.loop-done.crew.runner c.play_round.new.crew.runner
+    c.args.crew.now.wires c.loop-done.crew.wires c.play_round.new.crew.wires c.loop-done.invariant.wires c.in_err-play_round.ensures.wires)
 
 pub loop-done-preserved : goal.loop-done-preserved
 loop-done-preserved g c =
@@ -27,13 +35,15 @@ loop-done-preserved g c =
     record {
       going = next;
       gates = omega (arith, c.loop-done.invariant.gates, c.loop-done.invariant.going.seated.each, next.seated.each);
-      wires = served_on g.W.Wire.faults g.W.Wire.runs c.args.hall.now (Ok tt) (Ok tt) c.args.runner.now c.loop-done.runner c.play_round.new.runner c.args.wires.now
-          c.loop-done.wires c.play_round.new.wires c.loop-done.invariant.wires c.in_ok-play_round.ensures.wires;
+      wires = served_on g.W.Wire.faults g.W.Wire.runs c.args.stage.now.hall.now (Ok tt) (Ok tt) c.args.crew.now.runner c.loop-done.crew.runner c.play_round.new.crew.runner c.args.crew.now.wires
+          c.loop-done.crew.wires c.play_round.new.crew.wires c.loop-done.invariant.wires c.in_ok-play_round.ensures.wires;
+      at = c.play_round.ensures.stays.0 ∙ c.loop-done.invariant.at;
+      places = c.play_round.ensures.stays.1 ∙ c.loop-done.invariant.places;
     }
 
 pub returns-clause-ending : goal.returns-clause-ending
 returns-clause-ending g c =
-    all_done c.args.hall.now c.args.script.now c.args.most c.loop-done.done c.loop-done.runner c.loop-done.sessions c.loop-done.pulls.items c.loop-done.invariant.going
+    all_done c.args.stage.now.hall.now c.args.stage.now.script.now c.args.stage.now.most c.loop-done.done c.loop-done.crew.runner c.loop-done.sessions c.loop-done.pulls.items c.loop-done.invariant.going
     (omega (arith, c.loop-done.auto.done-end, c.loop-done-test.false, ap (λ (l : List Round). length l) c.as_slice-done-end.ensures))
 
 pub returns-in_err-play_round-clause-filled : goal.returns-in_err-play_round-clause-filled

@@ -6,7 +6,9 @@ use Rattle.live_serving.proofs.serving.play_all.Given as goal
 
 abbrev pub invariant-loop-done : goal.invariant-loop-done
 invariant-loop-done g l = record {
-  going : IsGoing l.hall l.script l.most l.done l.runner l.sessions l.pulls.items;
+  going : IsGoing l.stage.hall.now l.stage.script.now l.stage.most l.done l.crew.runner l.sessions l.pulls.items;
   gates : length l.gates ≡ length l.sessions;
-  wires : AreServed g.W.Wire.faults g.W.Wire.runs {S = Unit {0}} l.hall l.fn.runner l.runner l.fn.wires l.wires (Ok tt);
+  wires : AreServed g.W.Wire.faults g.W.Wire.runs {S = Unit {0}} l.stage.hall.now l.fn.crew.runner l.crew.runner l.fn.crew.wires l.crew.wires (Ok tt);
+  at : l.crew.at ≡ l.fn.crew.at;
+  places : l.crew.places ≡ l.fn.crew.places;
 }
