@@ -6,6 +6,7 @@ use coflow_units::UnitSize;
 use flow_table::Table;
 use outside::DiskShelf;
 use std::env;
+use std::time::Duration;
 use test_support::table_of_file;
 
 /// The greatest number of runs.
@@ -22,6 +23,8 @@ pub struct Game {
     pub runs: u32,
     /// The time is told, and else what was sent.
     pub timed: bool,
+    /// How long a wire waits with each send.
+    pub wait: Duration,
 }
 
 /// What the words ask for.
@@ -43,6 +46,7 @@ pub fn game_of(rt: &HostRuntime) -> Result<Game, Stop>
         agents: number_of(words.get(2))?.clamp(1, MAX_AGENTS),
         runs: number_of(words.get(3))?.min(MAX_RUNS),
         timed: is_time(words.get(4))?,
+        wait: wait_of(words.get(5))?,
         table: table_of_file(alloc, &mut DiskShelf::new(*rt), trace, UnitSize::MEGABYTE)?,
     })
 }
@@ -66,5 +70,13 @@ fn is_time(word: Option<&String>) -> Result<bool, Stop> {
     match word.as_str() {
         "time" => Ok(true),
         _ => Err(Stop::Usage),
+    }
+}
+
+/// The wait of so many microseconds, and none where no word is there.
+fn wait_of(word: Option<&String>) -> Result<Duration, Stop> {
+    match word {
+        Some(_) => Ok(Duration::from_micros(u64::from(number_of(word)?))),
+        None => Ok(Duration::ZERO),
     }
 }

@@ -1,29 +1,30 @@
-//! Measures a runner: all coflows of a trace join and are ordered, and then runs of one slot are made on wires that count units.
-//! Its arguments are the file of a trace, whose units are megabytes, how many agents each run has, and how many runs are made.
+//! Measures a crew: all coflows of a trace join and are ordered, and then a crew makes runs of one slot on wires that count units.
+//! Its arguments are the file of a trace, whose units are megabytes, how many agents the crew has, and how many runs are made.
 //!
-//! It prints how many runs were made, and how many units the wires accepted. With a further word `time` it prints how many nanoseconds the runs took.
+//! It prints how many runs were made, and how many units the wires accepted. With a further word `time` it prints how many nanoseconds the runs took, and with one more how many microseconds
+//! a wire waits with each send; without it no wire waits.
 //!
 //! The exit code is 0 where all runs were made, and 1 where something was wanting.
 #![tactic(auto)]
 
 mod game;
+mod runs;
 mod stop;
+mod wait_wire;
 
-ghost use Rattle.std.specs.Prelude.{◌≤◌, length};
-ghost use Rattle.slot_runner.specs.Models.{MayRun};
+ghost use Rattle.std.specs.Prelude.{◌≡◌, ◌≤◌, IfSome, length};
 
 use crate::game::{Game, game_of};
+use crate::runs::time_runs;
 use crate::stop::Stop;
-use client_session::Hall;
+use crate::wait_wire::WaitWire;
 use flow_table::Table;
-use outside::CountWire;
-use slot_runner::{Ran, Runner};
 use std::alloc::Global;
 use std::process::ExitCode;
 use std::rt::Runtime;
 use std::sync::Wait;
 use std::thread::Threads;
-use std::time::{Duration, Instant};
+use std::time::{Clock, Duration};
 use test_support::SmallRun;
 
 fn main(rt: HostRuntime) -> ExitCode {
@@ -51,8 +52,9 @@ fn run<R: Runtime + Threads + Wait + Sync>(rt: &R, alloc: Global, game: Game) ->
         agents,
         runs,
         timed,
+        wait,
     } = game;
-    let Ok(mut wires) = vec![in alloc; CountWire { sent: 0 }; table.ports() as usize] else {
+    let Some(mut wires) = wires_waiting(alloc, rt, table.ports(), wait) else {
         drop(table);
         return Err(Stop::NoMemory);
     };
@@ -75,74 +77,40 @@ fn measured<R: Runtime + Threads + Wait + Sync>(
     table: Table,
     agents: u32,
     runs: u32,
-    wires: &mut [CountWire],
+    wires: &mut Vec<WaitWire<'_, R>>,
 ) -> Result<Duration, Stop>
     requires agents { 1 ≤ agents }
     requires runs { runs ≤ 1000000 }
-    requires wires { table.ports ≤ length wires.old }
+    requires wires { table.ports ≤ length wires.old.items }
 {
     let (limit, calls) = (2 * runs + table.coflows() + 2, 2 * runs + table.ports());
-    let mut small = SmallRun::of_table(rt, alloc, table, limit, calls)?;
-    let took = timed(
-        rt,
-        alloc,
-        &small.hall,
-        &mut small.runner,
-        agents,
-        runs,
-        wires,
-    );
-    drop(small);
-    took
+    let small = SmallRun::of_table(rt, alloc, table, limit, calls)?;
+    time_runs(alloc, rt, small, agents, runs, wires)
 }
 
-/// Makes the runs. It answers how long they took.
-fn timed<R: Runtime + Threads + Wait + Sync>(
-    rt: &R,
+/// So many wires, each of which waits so long with each send. None means that memory was wanting.
+fn wires_waiting<'a, R: Clock>(
     alloc: Global,
-    hall: &Hall,
-    runner: &mut Runner,
-    agents: u32,
-    runs: u32,
-    wires: &mut [CountWire],
-) -> Result<Duration, Stop>
-    requires may { MayRun hall.now runner.old }
-    requires agents { 1 ≤ agents }
-    requires wires { hall.now.setting.opening.table.ports ≤ length wires.old }
+    clock: &'a R,
+    count: u32,
+    wait: Duration,
+) -> Option<Vec<WaitWire<'a, R>>>
+    ensures { IfSome result (λ wires. length wires.items ≡ count) }
 {
-    let start = Instant::now(rt)?;
-    run_many(rt, alloc, hall, runner, agents, runs, wires)?;
-    Ok(start.elapsed(rt)?)
-}
-
-/// Makes so many runs of one slot. Each is to send a unit from each granted port.
-fn run_many<R: Threads + Wait + Sync>(
-    rt: &R,
-    alloc: Global,
-    hall: &Hall,
-    runner: &mut Runner,
-    agents: u32,
-    runs: u32,
-    wires: &mut [CountWire],
-) -> Result<(), Ran>
-    requires may { MayRun hall.now runner.old }
-    requires agents { 1 ≤ agents }
-    requires wires { hall.now.setting.opening.table.ports ≤ length wires.old }
-{
-    for made in 0..runs {
-        let ran = runner.slot(alloc, rt, hall, 1, agents, wires);
-        let Ran::Ran { .. } = ran else {
-            return Err(ran);
-        };
+    let Ok(mut wires) = Vec::with_capacity(alloc, count as usize) else {
+        return None;
+    };
+    for made in 0..count {
+        wires.push_reserved(WaitWire::new(clock, wait));
     }
-    Ok(())
+    Some(wires)
 }
 
 /// How many units the wires accepted. The number stays at 2^64 - 1 once it is there.
-fn sent_on(wires: &[CountWire]) -> u64 {
+fn sent_on<R: Clock>(wires: &[WaitWire<'_, R>]) -> u64 {
     let mut units = 0u64;
     for wire in wires {
-        units = units.saturating_add(wire.sent);
+        units = units.saturating_add(wire.sent());
     }
     units
 }

@@ -8,7 +8,7 @@ use test_support::FileFault;
 /// Why nothing was measured.
 #[derive(Debug, Drop, thiserror::Error)]
 pub enum Stop {
-    #[error("usage: run_bench TRACE AGENTS RUNS [time]")]
+    #[error("usage: run_bench TRACE AGENTS RUNS [time [MICROSECONDS]]")]
     Usage,
     #[error("{0}")]
     File(#[from] FileFault),
