@@ -22,7 +22,8 @@ module _ (root : RootModel Entry Setting) (seat : TurnSeatModel Entry Setting) (
   pub nothing_own : own_entries number seat.seen ≡ []
   nothing_own = ap (λ (s : TurnSeatModel Entry Setting). own_entries number s.seen) seat_is ∙ own_above number root.made root.seen (omega (arith, number_is)) h.numbers
 
-  pub new_session : (rank new_rank : SeatModel) (calls room : ℕ) (receipts : List Receipt) → new_rank ≡ new_seat rank.table new_rank.id rank.seen → receipts ≡ [] → calls ≤ room → calls <
+  pub new_session : (rank new_rank : SeatModel) (calls room : ℕ) (receipts : List Receipt) → new_rank ≡ new_seat rank.table new_rank.id rank.seen → receipts ≡ [] → calls ≤
+      room → calls <
       2 ^ 32 →
       IsSession seat new_rank number calls position receipts room
   new_session rank new_rank calls room receipts rank_is empty fits few =

@@ -165,7 +165,8 @@ module _ (seat final : Sits) (rank new_rank : SeatModel) (number left position n
       position = ends ∙ (ap (λ (l : List Entry). length l) same ∙ sym entries);
     }
 
-    module _ (table : new_rank.table ≡ rank.table) (id : new_rank.id ≡ rank.id) (pulls : new_rank.pulls ≡ rank.pulls) (looks : KeepsLooks rank new_rank) (later : rank.seen ≤ new_rank.seen) where
+    module _ (table : new_rank.table ≡ rank.table) (id : new_rank.id ≡ rank.id) (pulls : new_rank.pulls ≡ rank.pulls) (looks : KeepsLooks rank new_rank)
+        (later : rank.seen ≤ new_rank.seen) where
       keeps : KeepsPlace old_session new_session
       keeps = record {
         gate = ap (λ (t : Sits). t.table) final_is;

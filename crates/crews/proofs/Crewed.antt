@@ -1,5 +1,6 @@
 -- One agent alone, and agents beside each other.
-use Rattle.std.proofs.Common.{◌≡◌, ℕ, ◌+◌, ◌<◌, ◌≤◌, List, [], ◌∷◌, ◌++◌, length, map, get_or, sym, refl, ap, ◌∙◌, subst, arith, Option, Some, None, zero, suc, inl, inr, ⊎_elim, length-append}
+use Rattle.std.proofs.Common.{◌≡◌, ℕ, ◌+◌, ◌<◌, ◌≤◌, List, [], ◌∷◌, ◌++◌, length, map, get_or, sym, refl, ap, ◌∙◌, subst, arith, Option, Some, None, zero, suc, inl, inr, ⊎_elim}
+use Rattle.std.proofs.Common.{length-append}
 use Rattle.std.specs.Prelude.{All, AllPairs, Contains}
 use Rattle.std.proofs.lemmas.List.{append-nil, append_assoc, get_or-map, length-map, map-append}
 use Rattle.std.proofs.lemmas.List.Elements.{All-append, All-nil, All-push, Contains-append_cases, Contains-append_left, Contains-append_right, Contains-get_or}
@@ -14,29 +15,11 @@ use Rattle.port_board.specs.Agreement.{EachPosted, SharesNothing}
 use Rattle.port_board.specs.Views.{came_of, looked, one_more, Sits, takes_in}
 use Rattle.port_agent.specs.Served.{Attends, taken}
 use Rattle.port_agent.specs.Attended.{HadPort, IsFresh, IsServed, WireServed}
+use Rattle.port_agent.proofs.Halves.{had_of, port_of, taken_at, taken_from, the_one, wire_of}
 use Rattle.crews.specs.Parts.{Trial}
 use Rattle.crews.specs.Served.{AreCrewed, CameBack, EachServed, HasTried}
 use Rattle.crews.specs.Wires.{Distinct, StayElsewhere, at_ports}
 use Rattle.crews.proofs.Places.{apart}
-
--- a report of the list of what was drawn stands at a place of it, and one at a place stands in the list
-taken_from : (took : List (Option Report)) (r : Report) → Contains (taken took) r → (i : ℕ) × (i < length took) × (get_or took i None ≡ Some r)
-taken_from [] r has = absurd (nothing_in r has)
-taken_from (None ∷ os) r has = let (i, lt, e) = taken_from os r has in (suc i, omega arith, e)
-taken_from (Some x ∷ os) r has = elim (first_or_tail x (taken os) r has) [
-  | inl e ↦ (0, omega arith, ap Some e)
-  | inr later ↦ let (i, lt, e) = taken_from os r later in (suc i, omega arith, e)
-]
-
-taken_at : (took : List (Option Report)) (i : ℕ) (r : Report) → i < length took → get_or took i None ≡ Some r → Contains (taken took) r
-taken_at [] i r lt e = absurd (omega arith)
-taken_at (None ∷ os) zero r lt e = absurd (none-some r e)
-taken_at (None ∷ os) (suc i) r lt e = taken_at os i r (omega arith) e
-taken_at (Some x ∷ os) zero r lt e = subst (Contains (x ∷ taken os)) (same_Some x r e) (in_first x (taken os))
-taken_at (Some x ∷ os) (suc i) r lt e = in_tail x (taken os) r (taken_at os i r (omega arith) e)
-
-the_one : (s x : Sits) → Contains (s ∷ []) x → s ≡ x
-the_one s x has = ⊎_elim (λ e. e) (λ none. absurd (nothing_in x none)) (first_or_tail s [] x has)
 
 pub first_of : {X : Type 0} (xs : List X) (j : ℕ) → j < length xs → X
 first_of [] j lt = absurd (omega (arith, lt))
@@ -50,19 +33,8 @@ same_place ports i j d all in' in'' e = ⊎_elim
     (cases_lt i j)
 
 module _ {W : Type 0} (faults : W → ℕ) (runs : W → Option (List (ℕ × ℕ × ℕ))) where
-  wire_of : (v : View) (port : ℕ) (b a : W) (o : Option Report) → Attends faults runs v port b a o → WireServed faults runs port b a o
-  wire_of v port b a None h = h.0
-  wire_of v port b a (Some r) h = (h.0, h.1)
-
-  had_of : (v : View) (port : ℕ) (b a : W) (o : Option Report) → Attends faults runs v port b a o → ((r : Report) → o ≡ Some r → Contains v.done r) → HadPort v port v.shown o
-  had_of v port b a None h held = h.1
-  had_of v port b a (Some r) h held = (held r refl, h.2)
-
-  port_of : (v : View) (port : ℕ) (b a : W) (o : Option Report) (r : Report) → Attends faults runs v port b a o → o ≡ Some r → r.grant.port ≡ port
-  port_of v port b a None r h e = absurd (none-some r e)
-  port_of v port b a (Some x) r h e = subst (λ (y : Report). y.grant.port ≡ port) (same_Some x r e) h.0
-
-  module _ (many : ℕ) (s t : Sits) (ports : List ℕ) (old new : List (Option W)) (did : HasTried faults runs many s t ports old new) (unseen : s.view.done ≡ []) (distinct : Distinct ports) where
+  module _ (many : ℕ) (s t : Sits) (ports : List ℕ) (old new : List (Option W)) (did : HasTried faults runs many s t ports old new) (unseen : s.view.done ≡ [])
+      (distinct : Distinct ports) where
     reports : t.view.done ≡ taken (map (λ (x : Trial W). x.took) did.trials)
     reports = did.tried.done ∙ ap (λ (l : List Report). l ++ taken (map (λ (x : Trial W). x.took) did.trials)) unseen
 
@@ -80,7 +52,7 @@ module _ {W : Type 0} (faults : W → ℕ) (runs : W → Option (List (ℕ × �
         let inside : j < length did.trials = omega (arith, lt, tooks) in
         let x : Trial W = get_or did.trials j d in
         let it : x.took ≡ Some r = sym (get_or-map (λ (x : Trial W). x.took) did.trials j d None inside) ∙ e in
-        (j, inside, it, port_of t.view x.port x.before x.after x.took r (did.tried.each j d inside).0 it ∙ sym (port_at j d inside))
+        (j, inside, it, port_of faults runs t.view x.port x.before x.after x.took r (did.tried.each j d inside).0 it ∙ sym (port_at j d inside))
 
     one_each : All (λ (x : Trial W). IsServed faults runs (t ∷ []) x.port x.before x.after x.took) did.trials
     one_each k d lt =
@@ -89,10 +61,10 @@ module _ {W : Type 0} (faults : W → ℕ) (runs : W → Option (List (ℕ × �
         let tooks = length-map did.trials (λ (x : Trial W). x.took) in
         let held : (r : Report) → x.took ≡ Some r → Contains t.view.done r = λ r e. subst (λ l. Contains l r) (sym reports)
         (taken_at (map (λ (x : Trial W). x.took) did.trials) k r (omega (arith, lt, tooks)) (get_or-map (λ (x : Trial W). x.took) did.trials k d None lt ∙ e)) in record {
-          wire = wire_of t.view x.port x.before x.after x.took at;
+          wire = wire_of faults runs t.view x.port x.before x.after x.took at;
           by = t;
           among = in_first t [];
-          had = had_of t.view x.port x.before x.after x.took at held;
+          had = had_of faults runs t.view x.port x.before x.after x.took at held;
           only = λ y r among has port.
               let (j, inside, e, is) = placed r d (subst (λ (z : Sits). Contains z.view.done r) (sym (the_one t y among)) has) in
               let same : j ≡ k = same_place ports j k 0 distinct (omega (arith, inside, long)) (omega (arith, lt, long)) (sym is ∙ (port ∙ sym (port_at k d lt))) in
@@ -130,8 +102,10 @@ module _ {W : Type 0} (faults : W → ℕ) (runs : W → Option (List (ℕ × �
     within = did.within;
   }
 
-  module _ (ls rs : List Sits) (xs ys : List ℕ) (old new : List (Option W)) (distinct : Distinct (xs ++ ys)) (one : EachServed faults runs ls xs old new) (two : EachServed faults runs rs ys old new) where
-    among_ports : (ports : List ℕ) (trials : List (Trial W)) → map (λ (x : Trial W). x.port) trials ≡ ports → (k : ℕ) (d : Trial W) → k < length trials → Contains ports (get_or trials k d).port
+  module _ (ls rs : List Sits) (xs ys : List ℕ) (old new : List (Option W)) (distinct : Distinct (xs ++ ys)) (one : EachServed faults runs ls xs old new)
+      (two : EachServed faults runs rs ys old new) where
+    among_ports : (ports : List ℕ) (trials : List (Trial W)) → map (λ (x : Trial W). x.port) trials ≡ ports → (k : ℕ) (d : Trial W) → k < length trials → Contains ports
+        (get_or trials k d).port
     among_ports ports trials at k d lt =
         let tooks = length-map trials (λ (x : Trial W). x.port) in
         subst (λ (z : List ℕ × ℕ). Contains z.0 z.1) (λ t. (at t, get_or-map (λ (x : Trial W). x.port) trials k d 0 lt t))
@@ -201,7 +175,8 @@ module _ {W : Type 0} (faults : W → ℕ) (runs : W → Option (List (ℕ × �
   }
 
   module _ (at : TableId) (many : ℕ) (v made w1 w : View) (xs ys : List ℕ) (ws0 ws1 ws2 ws3 : List (Option W)) (s t : Sits) (word : ℕ) (made_is : made ≡ one_more v)
-      (fresh : IsFresh at v.posts s) (did : HasTried faults runs many s t ys ws0 ws3) (rest : AreCrewed faults runs made w1 xs ws1 ws2) (w_is : w ≡ looked 0 word (takes_in w1 t.view)) where
+      (fresh : IsFresh at v.posts s) (did : HasTried faults runs many s t ys ws0 ws3) (rest : AreCrewed faults runs made w1 xs ws1 ws2)
+      (w_is : w ≡ looked 0 word (takes_in w1 t.view)) where
     shown_is : t.view.shown ≡ v.posts
     shown_is = did.tried.shown ∙ fresh.shown
 
@@ -218,7 +193,8 @@ module _ {W : Type 0} (faults : W → ℕ) (runs : W → Option (List (ℕ × �
           made = ap (λ (x : View). x.made) w_is ∙ omega (arith, made_now, longer, long);
           posted = posted;
           apart = apart;
-          back = ap (λ (x : View). x.back) w_is ∙ (ap (λ l. l ++ came_of t.view ∷ []) (rest.came.back ∙ ap (λ (x : View). x.back ++ map (λ (s : Sits). came_of s.view) rest.seats) made_is)
+          back = ap (λ (x : View). x.back) w_is ∙ (ap (λ l. l ++ came_of t.view ∷ [])
+              (rest.came.back ∙ ap (λ (x : View). x.back ++ map (λ (s : Sits). came_of s.view) rest.seats) made_is)
               ∙ (append_assoc v.back (map (λ (s : Sits). came_of s.view) rest.seats) (came_of t.view ∷ [])
               ∙ ap (λ l. v.back ++ l) (sym (map-append (λ (s : Sits). came_of s.view) rest.seats (t ∷ [])))));
           shown = All-push (λ (s : Sits). s.view.shown ≡ v.posts) rest.seats t (subst (λ (l : List Grant). All (λ (s : Sits). s.view.shown ≡ l) rest.seats)
@@ -227,11 +203,13 @@ module _ {W : Type 0} (faults : W → ℕ) (runs : W → Option (List (ℕ × �
         }
 
     -- one agent more
-    pub one_crewed : Distinct (xs ++ ys) → Distinct ys → at_ports xs ws0 ≡ at_ports xs ws1 → at_ports xs ws3 ≡ at_ports xs ws2 → StayElsewhere (xs ++ ys) ws0 ws3 → EachPosted w × AllPairs SharesNothing w.back →
+    pub one_crewed : Distinct (xs ++ ys) → Distinct ys → at_ports xs ws0 ≡ at_ports xs ws1 → at_ports xs ws3 ≡ at_ports xs ws2 → StayElsewhere (xs ++ ys) ws0 ws3 → EachPosted w ×
+        AllPairs SharesNothing w.back →
         AreCrewed faults runs v w (xs ++ ys) ws0 ws3
     one_crewed distinct own before after stay told = record {
       seats = rest.seats ++ t ∷ [];
       came = came_more told.0 told.1;
-      served = both_parts rest.seats (t ∷ []) xs ys ws0 ws3 distinct (moved rest.seats xs ws1 ws2 ws0 ws3 rest.served before after) (one_agent many s t ys ws0 ws3 did fresh.none_done own);
+      served = both_parts rest.seats (t ∷ []) xs ys ws0 ws3 distinct (moved rest.seats xs ws1 ws2 ws0 ws3 rest.served before after)
+          (one_agent many s t ys ws0 ws3 did fresh.none_done own);
       stay = stay;
     }

@@ -1,5 +1,6 @@
 -- Ports whose wires stand in their places, tried so far.
-use Rattle.std.proofs.Common.{◌≡◌, ℕ, ◌+◌, ◌<◌, ◌≤◌, List, [], ◌∷◌, ◌++◌, length, map, take, get_or, set, sym, refl, ◌∙◌, subst, Option, Some, None, length-set, get_or-set_other, get_or-set_same}
+use Rattle.std.proofs.Common.{◌≡◌, ℕ, ◌+◌, ◌<◌, ◌≤◌, List, [], ◌∷◌, ◌++◌, length, map, take, get_or, set, sym, refl, ◌∙◌, subst, Option, Some, None, length-set, get_or-set_other}
+use Rattle.std.proofs.Common.{get_or-set_same}
 use Rattle.std.specs.Prelude.{Contains, IsSome}
 use Rattle.std.proofs.lemmas.List.{map-append, take_all, take_more}
 use Rattle.std.proofs.lemmas.List.Elements.{Contains-append_left, Contains-push}
@@ -32,7 +33,8 @@ module _ {W : Type 0} (faults : W → ℕ) (runs : W → Option (List (ℕ × �
     tried = none_tried faults runs many v;
   }
 
-  module _ (many : ℕ) (ports : List ℕ) (i d : ℕ) (v w : View) (old now : List (Option W)) (so : DriveSoFar many (take i ports) v w old now) (distinct : Distinct ports) (there : AreThere ports old)
+  module _ (many : ℕ) (ports : List ℕ) (i d : ℕ) (v w : View) (old now : List (Option W)) (so : DriveSoFar many (take i ports) v w old now) (distinct : Distinct ports)
+      (there : AreThere ports old)
       (lt : i < length ports) where
     -- the wire of the next port is in its place
     pub next_stands : IsSome (get_or now (get_or ports i d) None)
@@ -50,9 +52,11 @@ module _ {W : Type 0} (faults : W → ℕ) (runs : W → Option (List (ℕ × �
         subst (λ (l : List ℕ). DriveSoFar many l v u old (set now p (Some y))) (sym (take_more ports i d lt)) (record {
           trials = so.trials ++ t ∷ [];
           at = map-append (λ (x : Trial W). x.port) so.trials (t ∷ []) ∙ (λ j. so.at j ++ p ∷ []);
-          before = map-append (λ q. get_or old q None) before (p ∷ []) ∙ ((λ j. so.before j ++ (sym (so.stay.rest p far) ∙ is) j ∷ []) ∙ sym (map-append (λ (x : Trial W). Some x.before) so.trials (t ∷ [])));
+          before = map-append (λ q. get_or old q None) before (p ∷ []) ∙ ((λ j. so.before j ++ (sym (so.stay.rest p far) ∙ is) j ∷ []) ∙ sym
+              (map-append (λ (x : Trial W). Some x.before) so.trials (t ∷ [])));
           after = map-append (λ q. get_or (set now p (Some y)) q None) before (p ∷ []) ∙
-              ((λ j. (at_others before now p (Some y) far ∙ so.after) j ++ get_or-set_same now p (Some y) None within j ∷ []) ∙ sym (map-append (λ (x : Trial W). Some x.after) so.trials (t ∷ [])));
+              ((λ j. (at_others before now p (Some y) far ∙ so.after) j ++ get_or-set_same now p (Some y) None within j ∷ []) ∙ sym
+              (map-append (λ (x : Trial W). Some x.after) so.trials (t ∷ [])));
           stay = record {
             many = length-set now p (Some y) ∙ so.stay.many;
             rest = λ q other. get_or-set_other now p q (Some y) None (λ e. other (subst (Contains (before ++ p ∷ [])) (sym e) (Contains-push before p))) ∙
@@ -61,7 +65,8 @@ module _ {W : Type 0} (faults : W → ℕ) (runs : W → Option (List (ℕ × �
           tried = m.2;
         })
 
-  pub drive_all : (many : ℕ) (s t : Sits) (ports : List ℕ) (i : ℕ) (old now : List (Option W)) → DriveSoFar many (take i ports) s.view t.view old now → length ports ≤ i → t.at ≡ s.at → t.id ≡ s.id →
+  pub drive_all : (many : ℕ) (s t : Sits) (ports : List ℕ) (i : ℕ) (old now : List (Option W)) → DriveSoFar many (take i ports) s.view t.view old now → length ports ≤ i → t.at ≡
+      s.at → t.id ≡ s.id →
       HasTried faults runs many s t ports old now × StayElsewhere ports old now
   drive_all many s t ports i old now so all at id =
       let whole : DriveSoFar many ports s.view t.view old now = subst (λ (l : List ℕ). DriveSoFar many l s.view t.view old now) (take_all i ports all) so in (

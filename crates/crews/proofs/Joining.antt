@@ -1,5 +1,6 @@
 -- A crew as it is gathered, and as it parts.
-use Rattle.std.proofs.Common.{◌≡◌, ◌⊎◌, inl, inr, ⊎_elim, ℕ, ◌+◌, ◌-◌, ◌*◌, ◌/◌, ◌<◌, ◌≤◌, List, [], ◌∷◌, ◌++◌, length, map, min, take, drop, get_or, sym, refl, ap, ◌∙◌, subst, arith, zero, suc, true, Option, Some, length-append}
+use Rattle.std.proofs.Common.{◌≡◌, ◌⊎◌, inl, inr, ⊎_elim, ℕ, ◌+◌, ◌-◌, ◌*◌, ◌/◌, ◌<◌, ◌≤◌, List, [], ◌∷◌, ◌++◌, length, map, min, take, drop, get_or, sym, refl, ap, ◌∙◌, subst}
+use Rattle.std.proofs.Common.{arith, zero, suc, true, Option, Some, length-append}
 use Rattle.std.specs.Prelude.{IsSome, vec_capacity}
 use Rattle.std.proofs.lemmas.List.{append_assoc, drop_more, get_or_append_left, get_or-append_right, get_or-map, length-map, length-take-le, map-append, take-append-drop}
 use Rattle.std.proofs.Math.Nat.{add-mul, lt-div-mul-add}
@@ -57,7 +58,8 @@ enough_room ports agents many is =
 
 module _ {W : Type 0} where
   -- one station more, at one tray more
-  ready_push : (board : Board) (trays : List (TrayModel Board)) (share : ℕ) (u : TrayModel Board) (ps : List (Place W)) (p : Place W) → EachReady board trays share ps → length ps ≡ length trays →
+  ready_push : (board : Board) (trays : List (TrayModel Board)) (share : ℕ) (u : TrayModel Board) (ps : List (Place W)) (p : Place W) → EachReady board trays share ps → length ps ≡
+      length trays →
       p.0 ≡ helper_at board u → p.1 ≡ 0 → share ≤ p.2 → EachReady board (trays ++ u ∷ []) share (ps ++ p ∷ [])
   ready_push board trays share u ps p each many end none room before q after is = ⊎_elim
       (λ (last : (after ≡ []) × (p ≡ q) × (ps ≡ before)).
@@ -85,7 +87,8 @@ module _ {W : Type 0} where
       })
       (split_last ps p before q after is)
 
-  pub none_made : (board : Board) (share : ℕ) (ts : List (TrayModel Board)) (hs : List (EndModel (Part W) Board)) (ss : List (Station W)) → ts ≡ [] → hs ≡ [] → ss ≡ [] → AreMade board share ts hs ss
+  pub none_made : (board : Board) (share : ℕ) (ts : List (TrayModel Board)) (hs : List (EndModel (Part W) Board)) (ss : List (Station W)) → ts ≡ [] → hs ≡ [] → ss ≡ [] → AreMade
+      board share ts hs ss
   none_made board share ts hs ss ts_is hs_is ss_is = subst (λ (z : List (TrayModel Board) × List (EndModel (Part W) Board) × List (Station W)). AreMade board share z.0 z.1 z.2)
       (λ i. (sym ts_is i, sym hs_is i, sym ss_is i)) none
     where
@@ -96,15 +99,19 @@ module _ {W : Type 0} where
         each = λ before p after is. absurd (let k = ap (λ (l : List (Place W)). length l) is ∙ length-append before (p ∷ after) in omega (arith, k));
       }
 
-  pub made_push : (board : Board) (share : ℕ) (ts : List (TrayModel Board)) (hs : List (EndModel (Part W) Board)) (ss : List (Station W)) (u : TrayModel Board) (h : EndModel (Part W) Board) (s : Station W)
-      (ts' : List (TrayModel Board)) (hs' : List (EndModel (Part W) Board)) (ss' : List (Station W)) → AreMade board share ts hs ss → ts' ≡ ts ++ u ∷ [] → hs' ≡ hs ++ h ∷ [] → ss' ≡ ss ++ s ∷ [] →
+  pub made_push : (board : Board) (share : ℕ) (ts : List (TrayModel Board)) (hs : List (EndModel (Part W) Board)) (ss : List (Station W)) (u : TrayModel Board)
+      (h : EndModel (Part W) Board) (s : Station W)
+      (ts' : List (TrayModel Board)) (hs' : List (EndModel (Part W) Board)) (ss' : List (Station W)) → AreMade board share ts hs ss → ts' ≡ ts ++ u ∷ [] → hs' ≡ hs ++ h ∷ [] → ss'
+      ≡ ss ++ s ∷ [] →
       h ≡ helper_at board u → s.giver ≡ helper_at board u → s.outlets.items ≡ [] → share ≤ vec_capacity s.outlets → AreMade board share ts' hs' ss'
   made_push board share ts hs ss u h s ts' hs' ss' made ts_is hs_is ss_is h_is giver none room =
       let many = made.many in
-      subst (λ (z : List (TrayModel Board) × List (EndModel (Part W) Board) × List (Station W)). AreMade board share z.0 z.1 z.2) (λ i. (sym ts_is i, sym hs_is i, sym ss_is i)) (record {
+      subst (λ (z : List (TrayModel Board) × List (EndModel (Part W) Board) × List (Station W)). AreMade board share z.0 z.1 z.2)
+      (λ i. (sym ts_is i, sym hs_is i, sym ss_is i)) (record {
         many = length-append ss (s ∷ []) ∙ (omega (arith, many) ∙ sym (length-append ts (u ∷ [])));
         helpers = (λ i. made.helpers i ++ h_is i ∷ []) ∙ sym (map-append (helper_at board) ts (u ∷ []));
-        each = subst (EachReady board (ts ++ u ∷ []) share) (sym (map-append place_of ss (s ∷ []))) (ready_push board ts share u (map place_of ss) (place_of s) made.each (length-map ss place_of ∙ many) giver
+        each = subst (EachReady board (ts ++ u ∷ []) share) (sym (map-append place_of ss (s ∷ [])))
+            (ready_push board ts share u (map place_of ss) (place_of s) made.each (length-map ss place_of ∙ many) giver
             (ap (λ (l : List (Outlet W)). length l) none) room);
       })
 
@@ -139,13 +146,15 @@ module _ {W : Type 0} where
     own_end over =
         let here = over (map place_of xs) (place_of s) [] (places all xs s all_is) in (
           here.tray u ∙ ap (λ (t : TrayModel Board). t.id)
-              (ap (λ (l : List (TrayModel Board)). get_or l (length (map place_of xs)) u) trays_is ∙ tray_of_last us u (length (map place_of xs)) u (length-map xs place_of ∙ many_before)),
+              (ap (λ (l : List (TrayModel Board)). get_or l (length (map place_of xs)) u) trays_is ∙ tray_of_last us u (length (map place_of xs)) u
+              (length-map xs place_of ∙ many_before)),
           here.over,
         )
 
     pub over_before : AreOver trays (map place_of all) → AreOver us (map place_of xs)
     over_before over before p after is =
-        let here = over before p (after ++ place_of s ∷ []) (places all xs s all_is ∙ (ap (λ (l : List (Place W)). l ++ place_of s ∷ []) is ∙ append_assoc before (p ∷ after) (place_of s ∷ []))) in
+        let here = over before p (after ++ place_of s ∷ []) (places all xs s all_is ∙
+        (ap (λ (l : List (Place W)). l ++ place_of s ∷ []) is ∙ append_assoc before (p ∷ after) (place_of s ∷ []))) in
         let n = many_before in
         let k : length xs ≡ length before + length (p ∷ after) = sym (length-map xs place_of) ∙ (ap (λ (l : List (Place W)). length l) is ∙ length-append before (p ∷ after)) in
         record {
@@ -154,7 +163,8 @@ module _ {W : Type 0} where
           over = here.over;
         }
 
-  pub none_before : (all xs : List (Station W)) (s : Station W) → all ≡ xs ++ s ∷ [] → HaveNoOutlets (map place_of all) → HaveNoOutlets (map place_of xs) × (length s.outlets.items ≡ 0)
+  pub none_before : (all xs : List (Station W)) (s : Station W) → all ≡ xs ++ s ∷ [] → HaveNoOutlets (map place_of all) → HaveNoOutlets (map place_of xs) ×
+      (length s.outlets.items ≡ 0)
   none_before all xs s all_is none =
       let split = subst (λ (l : List (Place W)). HaveNoOutlets l) (places all xs s all_is) none in (
         all_left (λ (p : Place W). p.1 ≡ 0) (map place_of xs) (place_of s ∷ []) split,
@@ -175,18 +185,21 @@ module _ {W : Type 0} where
 
   -- all have their wires
   pub gathered : (board : Board) (agents share : ℕ) (old front : List W) (all : Gathered W) → AreMade board share all.trays.items all.helpers.items all.stations.items →
-      share ≡ board.ports / min agents board.ports + 1 → length all.stations.items + 1 ≡ min agents board.ports → front ≡ take board.ports old → all.wires.items ≡ map (λ (w : W). Some w) front →
+      share ≡ board.ports / min agents board.ports + 1 → length all.stations.items + 1 ≡ min agents board.ports → front ≡ take board.ports old → all.wires.items ≡ map
+      (λ (w : W). Some w) front →
       all.far.items ≡ drop board.ports old → board.ports ≤ length old → IsGathered board agents old all
   gathered board agents share old front all made share_is whole front_is wires far within =
       let many = made.many in
       let places_many = length-map all.stations.items place_of in record {
         wires = (λ i. (ap (λ (l : List (Option W)). wires_of l) wires ∙ (wires_again front ∙ front_is)) i ++ far i) ∙ take-append-drop board.ports old;
-        ports = ap (λ (l : List (Option W)). length l) wires ∙ (length-map front (λ (w : W). Some w) ∙ (ap (λ (l : List W). length l) front_is ∙ length-take-le board.ports old within));
+        ports = ap (λ (l : List (Option W)). length l) wires ∙ (length-map front (λ (w : W). Some w) ∙
+            (ap (λ (l : List W). length l) front_is ∙ length-take-le board.ports old within));
         there = subst (λ (l : List (Option W)). AllThere l) (sym wires) (all_there front);
         ready = record {
           share = share;
           some = omega (arith, share_is);
-          enough = subst (λ (z : ℕ × ℕ). board.ports ≤ (z.0 + 1) * z.1) (λ i. (sym places_many i, sym share_is i)) (enough_room board.ports (min agents board.ports) (length all.stations.items) whole);
+          enough = subst (λ (z : ℕ × ℕ). board.ports ≤ (z.0 + 1) * z.1) (λ i. (sym places_many i, sym share_is i))
+              (enough_room board.ports (min agents board.ports) (length all.stations.items) whole);
           each = made.each;
         };
         helpers = made.helpers;

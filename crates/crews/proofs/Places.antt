@@ -1,5 +1,6 @@
 -- Lists of distinct ports, and what stands at them.
-use Rattle.std.proofs.Common.{◌≡◌, ◌≢◌, ℕ, suc, zero, ◌+◌, ◌-◌, ◌<◌, List, [], ◌∷◌, ◌++◌, length, take, get_or, set, sym, refl, ap, ◌∙◌, subst, arith, Option, Some, None, length-append, get_or-set_other, true≢false}
+use Rattle.std.proofs.Common.{◌≡◌, ◌≢◌, ℕ, suc, zero, ◌+◌, ◌-◌, ◌<◌, List, [], ◌∷◌, ◌++◌, length, take, get_or, set, sym, refl, ap, ◌∙◌, subst, arith, Option, Some, None}
+use Rattle.std.proofs.Common.{length-append, get_or-set_other, true≢false}
 use Rattle.std.specs.Prelude.{All, Contains, IsSome}
 use Rattle.std.proofs.lemmas.List.{get_or-append_right, get_or-take, get_or_append_left, get_or_default, length-take}
 use Rattle.std.proofs.lemmas.List.Elements.{Contains-get_or}
@@ -10,12 +11,14 @@ use Rattle.crews.specs.Wires.{Distinct, StayElsewhere, at_ports}
 pub left_distinct : (xs ys : List ℕ) → Distinct (xs ++ ys) → Distinct xs
 left_distinct xs ys all i j d lt within =
     let long = length-append xs ys in
-    subst (λ (z : ℕ × ℕ). z.0 ≢ z.1) (λ t. (get_or_append_left xs ys d i (omega (arith, lt, within)) t, get_or_append_left xs ys d j within t)) (all i j d lt (omega (arith, within, long)))
+    subst (λ (z : ℕ × ℕ). z.0 ≢ z.1) (λ t. (get_or_append_left xs ys d i (omega (arith, lt, within)) t, get_or_append_left xs ys d j within t))
+    (all i j d lt (omega (arith, within, long)))
 
 pub right_distinct : (xs ys : List ℕ) → Distinct (xs ++ ys) → Distinct ys
 right_distinct xs ys all i j d lt within =
     let long = length-append xs ys in
-    let there : (k : ℕ) → get_or (xs ++ ys) (length xs + k) d ≡ get_or ys k d = λ k. get_or-append_right xs ys (length xs) (length xs + k) d refl (omega arith) ∙ ap (λ n. get_or ys n d) (back k) in
+    let there : (k : ℕ) → get_or (xs ++ ys) (length xs + k) d ≡ get_or ys k d = λ k. get_or-append_right xs ys (length xs) (length xs + k) d refl (omega arith) ∙ ap
+    (λ n. get_or ys n d) (back k) in
     subst (λ (z : ℕ × ℕ). z.0 ≢ z.1) (λ t. (there i t, there j t)) (all (length xs + i) (length xs + j) d (omega (arith, lt)) (omega (arith, within, long)))
   where
     back : (k : ℕ) → length xs + k - length xs ≡ k
@@ -67,5 +70,6 @@ module _ {W : Type 0} where
   at_same [] old new same = refl
   at_same (q ∷ qs) old new same = λ t. same 0 q (omega arith) t ∷ at_same qs old new (λ k d lt. same (suc k) d (omega (arith, lt))) t
 
-  pub at_stay : (ports taken : List ℕ) (old new : List (Option W)) → StayElsewhere taken old new → ((p : ℕ) → Contains ports p → Contains taken p → ⊥) → at_ports ports new ≡ at_ports ports old
+  pub at_stay : (ports taken : List ℕ) (old new : List (Option W)) → StayElsewhere taken old new → ((p : ℕ) → Contains ports p → Contains taken p → ⊥) → at_ports ports new ≡
+      at_ports ports old
   at_stay ports taken old new stay far = at_same ports old new (λ k d lt. stay.rest (get_or ports k d) (far (get_or ports k d) (Contains-get_or ports k d lt)))

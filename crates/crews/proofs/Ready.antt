@@ -87,20 +87,24 @@ module _ {W : Type 0} where
     pub still_there : (ws0 ws1 : List (Option W)) (outlets : List (Outlet W)) → AreTaken ys ws0 ws1 outlets → Distinct ports → AreThere ports ws0 → AreThere xs ws1
     still_there ws0 ws1 outlets taken distinct there k d lt =
         let p : ℕ = get_or xs k d in
-        subst (λ (o : Option W). IsSome o) (sym (taken.stay.rest p (λ has. apart xs ys p (cut_distinct ports xs ys cut distinct) (Contains-get_or xs k d lt) has))) ((cut_there ws0 there).0 k d lt)
+        subst (λ (o : Option W). IsSome o) (sym (taken.stay.rest p (λ has. apart xs ys p (cut_distinct ports xs ys cut distinct) (Contains-get_or xs k d lt) has)))
+        ((cut_there ws0 there).0 k d lt)
 
   pub places : (all xs : List (Station W)) (s : Station W) → all ≡ xs ++ s ∷ [] → map place_of all ≡ map place_of xs ++ place_of s ∷ []
   places all xs s e = ap (λ (l : List (Station W)). map place_of l) e ∙ map-append place_of xs (s ∷ [])
 
-  pub last_ready : (board : Board) (trays : List (TrayModel Board)) (n : ℕ) (all xs : List (Station W)) (s : Station W) (ready : AreReady board trays n (map place_of all)) → all ≡ xs ++ s ∷ []
+  pub last_ready : (board : Board) (trays : List (TrayModel Board)) (n : ℕ) (all xs : List (Station W)) (s : Station W) (ready : AreReady board trays n (map place_of all)) → all ≡
+      xs ++ s ∷ []
       → IsReady board trays ready.share (length xs) (place_of s)
-  last_ready board trays n all xs s ready e = subst (λ k. IsReady board trays ready.share k (place_of s)) (length-map xs place_of) (ready.each (map place_of xs) (place_of s) [] (places all xs s e))
+  last_ready board trays n all xs s ready e = subst (λ k. IsReady board trays ready.share k (place_of s)) (length-map xs place_of)
+      (ready.each (map place_of xs) (place_of s) [] (places all xs s e))
 
   many_of : (all xs : List (Station W)) (s : Station W) → all ≡ xs ++ s ∷ [] → length all ≡ length xs + 1
   many_of all xs s e = ap (λ (l : List (Station W)). length l) e ∙ length-append xs (s ∷ [])
 
   -- the shares of a stretch, and of what is left
-  module _ (board : Board) (trays : List (TrayModel Board)) (n m : ℕ) (all xs : List (Station W)) (s : Station W) (ready : AreReady board trays n (map place_of all)) (popped : all ≡ xs ++ s ∷ [])
+  module _ (board : Board) (trays : List (TrayModel Board)) (n m : ℕ) (all xs : List (Station W)) (s : Station W) (ready : AreReady board trays n (map place_of all))
+      (popped : all ≡ xs ++ s ∷ [])
       (parts : m ≡ min n (length all + 1)) (two : 2 ≤ m) where
     parts_of : m ≡ min n (length xs + 2)
     parts_of = let e = many_of all xs s popped in omega (arith, parts, e)
@@ -126,7 +130,8 @@ module _ {W : Type 0} where
     }
 
   -- the tray of the last station
-  pub own_tray : (board : Board) (trays : List (TrayModel Board)) (xs : List (Station W)) (e : EndModel (Part W) Board) (k : ℕ) (t : TrayModel Board) → IsAttached board trays (length xs) e →
+  pub own_tray : (board : Board) (trays : List (TrayModel Board)) (xs : List (Station W)) (e : EndModel (Part W) Board) (k : ℕ) (t : TrayModel Board) → IsAttached board trays
+      (length xs) e →
       k ≡ length xs → t ≡ get_or trays k t → e.at ≡ t.id
   own_tray board trays xs e k t here k_is at = here.tray t ∙ (ap (λ n. (get_or trays n t).id) (sym k_is) ∙ ap (λ (u : TrayModel Board). u.id) (sym at))
 
@@ -139,22 +144,26 @@ module _ {W : Type 0} where
   same_places all xs ys zs s t all_is zs_is same last =
       places zs ys t zs_is ∙ ((λ i. same i ++ last i ∷ []) ∙ sym (places all xs s all_is))
 
-  pub places_ended : (all xs ys zs : List (Station W)) (s t : Station W) → all ≡ xs ++ s ∷ [] → zs ≡ ys ++ t ∷ [] → map place_of ys ≡ map ended (map place_of xs) → place_of t ≡ ended (place_of s)
+  pub places_ended : (all xs ys zs : List (Station W)) (s t : Station W) → all ≡ xs ++ s ∷ [] → zs ≡ ys ++ t ∷ [] → map place_of ys ≡ map ended (map place_of xs) → place_of t ≡
+      ended (place_of s)
       → map place_of zs ≡ map ended (map place_of all)
-  places_ended all xs ys zs s t all_is zs_is same last = places zs ys t zs_is ∙ ((λ i. same i ++ last i ∷ []) ∙ sym (ap (λ (l : List (Place W)). map ended l) (places all xs s all_is)
+  places_ended all xs ys zs s t all_is zs_is same last = places zs ys t zs_is ∙ ((λ i. same i ++ last i ∷ []) ∙ sym
+      (ap (λ (l : List (Place W)). map ended l) (places all xs s all_is)
       ∙ map-append ended (map place_of xs) (place_of s ∷ [])))
 
   pub last_attached : (board : Board) (trays : List (TrayModel Board)) (all xs : List (Station W)) (s : Station W) → AreAttached board trays (map place_of all) → all ≡ xs ++ s ∷ []
       → IsAttached board trays (length xs) s.giver
   last_attached board trays all xs s ready e = subst (λ n. IsAttached board trays n s.giver) (length-map xs place_of) (ready (map place_of xs) (place_of s) [] (places all xs s e))
 
-  pub attached_before : (board : Board) (trays : List (TrayModel Board)) (all xs : List (Station W)) (s : Station W) → AreAttached board trays (map place_of all) → all ≡ xs ++ s ∷ []
+  pub attached_before : (board : Board) (trays : List (TrayModel Board)) (all xs : List (Station W)) (s : Station W) → AreAttached board trays (map place_of all) → all ≡
+      xs ++ s ∷ []
       → AreAttached board trays (map place_of xs)
   attached_before board trays all xs s ready e before p after is = ready before p (after ++ place_of s ∷ [])
       (places all xs s e ∙ (ap (λ (l : List (Place W)). l ++ place_of s ∷ []) is ∙ append_assoc before (p ∷ after) (place_of s ∷ [])))
 
   -- the ports of a new part are the board's
-  pub fits_here : (board : Board) (posts : List Grant) (p : Part W) (ports : List ℕ) (ws0 ws1 : List (Option W)) → IsFresh board.id posts p.agent → AreTaken ports ws0 ws1 p.outlets.items →
+  pub fits_here : (board : Board) (posts : List Grant) (p : Part W) (ports : List ℕ) (ws0 ws1 : List (Option W)) → IsFresh board.id posts p.agent → AreTaken ports ws0 ws1
+      p.outlets.items →
       All (λ n. n < board.ports) ports → Fits board p
   fits_here board posts p ports ws0 ws1 fresh taken below = (
     fresh.place,
@@ -162,7 +171,8 @@ module _ {W : Type 0} where
   )
 
   module _ (faults : W → ℕ) (runs : W → Option (List (ℕ × ℕ × ℕ))) where
-    pub kept_board : (board : Board) (posts : List Grant) (p q : Part W) → IsFresh board.id posts p.agent → IsAttended faults runs board p q → (q.agent.at ≡ board.id) × (q.agent.view.out ≡ [])
+    pub kept_board : (board : Board) (posts : List Grant) (p q : Part W) → IsFresh board.id posts p.agent → IsAttended faults runs board p q → (q.agent.at ≡ board.id) ×
+        (q.agent.view.out ≡ [])
     kept_board board posts p q fresh did = (
       ap (λ (k : TableId × ℕ × List Grant × List Grant). k.0) did.kept ∙ fresh.place,
       did.tried.out ∙ fresh.none_out,
@@ -199,15 +209,18 @@ module _ {W : Type 0} where
 
       -- one part more
       pub one_part : (ws3 : List (Option W)) (v w : View) (word : ℕ) → made ≡ one_more v → IsFresh board.id v.posts p.agent →
-          AreTaken (map (λ (o : Outlet W). o.port) q.outlets.items) ws3 ws2 q.outlets.items → w ≡ looked 0 word (takes_in w1 q.agent.view) → EachPosted w × AllPairs SharesNothing w.back →
+          AreTaken (map (λ (o : Outlet W). o.port) q.outlets.items) ws3 ws2 q.outlets.items → w ≡ looked 0 word (takes_in w1 q.agent.view) → EachPosted w × AllPairs
+          SharesNothing w.back →
           AreCrewed faults runs v w (xs ++ ys) ws0 ws3
       one_part ws3 v w word made_is fresh put w_is told =
           let put' : AreTaken ys ws3 ws2 q.outlets.items = subst (λ (l : List ℕ). AreTaken l ws3 ws2 q.outlets.items) ports_stay put in
           let tried : HasTried faults runs board.ports p.agent q.agent ys ws0 ws3 = record {
             trials = did.trials;
             at = tried_at;
-            before = taken.wires ∙ (ap (λ (l : List (Outlet W)). map (λ (o : Outlet W). Some o.wire) l) did.before ∙ map_twice (λ (o : Outlet W). Some o.wire) outlet_before did.trials);
-            after = put'.wires ∙ (ap (λ (l : List (Outlet W)). map (λ (o : Outlet W). Some o.wire) l) did.after ∙ map_twice (λ (o : Outlet W). Some o.wire) outlet_after did.trials);
+            before = taken.wires ∙ (ap (λ (l : List (Outlet W)). map (λ (o : Outlet W). Some o.wire) l) did.before ∙ map_twice (λ (o : Outlet W). Some o.wire) outlet_before
+                did.trials);
+            after = put'.wires ∙ (ap (λ (l : List (Outlet W)). map (λ (o : Outlet W). Some o.wire) l) did.after ∙ map_twice (λ (o : Outlet W). Some o.wire) outlet_after
+                did.trials);
             kept = did.kept;
             tried = did.tried;
           } in
@@ -219,4 +232,5 @@ module _ {W : Type 0} where
                 sym (put'.stay.rest n far_ys) ∙ (rest.stay.rest n far_xs ∙ taken.stay.rest n far_ys);
           } in
           one_crewed faults runs board.id board.ports v made w1 w xs ys ws0 ws1 ws2 ws3 p.agent q.agent word made_is fresh tried rest w_is distinct own
-          (sym (at_stay xs ys ws0 ws1 taken.stay (λ n here there. apart xs ys n distinct here there))) (sym (at_stay xs ys ws3 ws2 put'.stay (λ n here there. apart xs ys n distinct here there))) stay told
+          (sym (at_stay xs ys ws0 ws1 taken.stay (λ n here there. apart xs ys n distinct here there)))
+          (sym (at_stay xs ys ws3 ws2 put'.stay (λ n here there. apart xs ys n distinct here there))) stay told

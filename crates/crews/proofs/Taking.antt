@@ -1,5 +1,6 @@
 -- One wire more goes into an outlet, or comes back.
-use Rattle.std.proofs.Common.{◌≡◌, ℕ, ◌+◌, ◌<◌, List, [], ◌∷◌, ◌++◌, length, map, take, get_or, set, sym, refl, ap, ◌∙◌, subst, arith, Option, Some, None, length-set, get_or-set_other, get_or-set_same}
+use Rattle.std.proofs.Common.{◌≡◌, ℕ, ◌+◌, ◌<◌, List, [], ◌∷◌, ◌++◌, length, map, take, get_or, set, sym, refl, ap, ◌∙◌, subst, arith, Option, Some, None, length-set}
+use Rattle.std.proofs.Common.{get_or-set_other, get_or-set_same}
 use Rattle.std.specs.Prelude.{All, Contains, IsSome}
 use Rattle.std.proofs.lemmas.List.{append_assoc, append-nil, length-map, map-append, take_more}
 use Rattle.std.proofs.lemmas.List.Elements.{All-contains, Contains-append_left, Contains-append_right, Contains-push}
@@ -24,11 +25,13 @@ module _ {W : Type 0} where
   }
 
   -- the wire of one port more is taken
-  pub taken_push : (ports : List ℕ) (old now : List (Option W)) (outlets : List (Outlet W)) (p : ℕ) (x : W) → AreTaken ports old now outlets → (Contains ports p → ⊥) → get_or now p None ≡ Some x →
+  pub taken_push : (ports : List ℕ) (old now : List (Option W)) (outlets : List (Outlet W)) (p : ℕ) (x : W) → AreTaken ports old now outlets → (Contains ports p → ⊥) → get_or now p
+      None ≡ Some x →
       p < length now → AreTaken (ports ++ p ∷ []) old (set now p None) (outlets ++ outlet p x ∷ [])
   taken_push ports old now outlets p x so far is lt = record {
     at = map-append (λ (o : Outlet W). o.port) outlets (outlet p x ∷ []) ∙ (λ t. so.at t ++ p ∷ []);
-    wires = map-append (λ q. get_or old q None) ports (p ∷ []) ∙ ((λ t. so.wires t ++ (sym (so.stay.rest p far) ∙ is) t ∷ []) ∙ sym (map-append (λ (o : Outlet W). Some o.wire) outlets (outlet p x ∷ [])));
+    wires = map-append (λ q. get_or old q None) ports (p ∷ []) ∙ ((λ t. so.wires t ++ (sym (so.stay.rest p far) ∙ is) t ∷ []) ∙ sym
+        (map-append (λ (o : Outlet W). Some o.wire) outlets (outlet p x ∷ [])));
     gone = map-append (λ q. get_or (set now p None) q None) ports (p ∷ []) ∙
         ((λ t. (at_others ports now p None far ∙ so.gone) t ++ get_or-set_same now p None None lt t ∷ []) ∙ sym (map-append (λ q. None) ports (p ∷ [])));
     stay = record {
@@ -39,7 +42,8 @@ module _ {W : Type 0} where
   }
 
   -- the wire of one outlet more is back
-  pub taken_cons : (ports : List ℕ) (now old : List (Option W)) (outlets : List (Outlet W)) (p : ℕ) (x : W) → AreTaken ports now old outlets → (Contains ports p → ⊥) → get_or old p None ≡ None →
+  pub taken_cons : (ports : List ℕ) (now old : List (Option W)) (outlets : List (Outlet W)) (p : ℕ) (x : W) → AreTaken ports now old outlets → (Contains ports p → ⊥) → get_or old p
+      None ≡ None →
       p < length now → AreTaken (p ∷ ports) (set now p (Some x)) old (outlet p x ∷ outlets)
   taken_cons ports now old outlets p x so far is lt = record {
     at = λ t. p ∷ so.at t;
@@ -57,12 +61,14 @@ module _ {W : Type 0} where
   taken_many ports old now outlets so = sym (length-map outlets (λ (o : Outlet W). o.port)) ∙ ap (λ (l : List ℕ). length l) so.at
 
   -- the wire at the next port
-  pub next_there : (ports : List ℕ) (i d : ℕ) (old now : List (Option W)) (outlets : List (Outlet W)) → AreTaken (take i ports) old now outlets → Distinct ports → AreThere ports old → i < length ports →
+  pub next_there : (ports : List ℕ) (i d : ℕ) (old now : List (Option W)) (outlets : List (Outlet W)) → AreTaken (take i ports) old now outlets → Distinct ports → AreThere ports
+      old → i < length ports →
       IsSome (get_or now (get_or ports i d) None)
   next_there ports i d old now outlets so all there lt =
       subst (λ (o : Option W). IsSome o) (sym (so.stay.rest (get_or ports i d) (not_before ports i d all lt))) (there i d lt)
 
-  pub take_next : (ports : List ℕ) (i d : ℕ) (old now : List (Option W)) (outlets : List (Outlet W)) (x : W) → AreTaken (take i ports) old now outlets → Distinct ports → AreThere ports old →
+  pub take_next : (ports : List ℕ) (i d : ℕ) (old now : List (Option W)) (outlets : List (Outlet W)) (x : W) → AreTaken (take i ports) old now outlets → Distinct ports →
+      AreThere ports old →
       i < length ports → get_or now (get_or ports i d) None ≡ Some x →
       AreTaken (take (i + 1) ports) old (set now (get_or ports i d) None) (outlets ++ outlet (get_or ports i d) x ∷ [])
   take_next ports i d old now outlets x so all there lt is =

@@ -39,7 +39,8 @@ module _ {W : Type 0} (faults : W → ℕ) (runs : W → Option (List (ℕ × �
     looks = sym (append-nil v.looks);
   }
 
-  attends_on : (v w : View) (more : List Report) (port : ℕ) (x y : W) (took : Option Report) → GoesOn v w more → Attends faults runs v port x y took → Attends faults runs w port x y took
+  attends_on : (v w : View) (more : List Report) (port : ℕ) (x y : W) (took : Option Report) → GoesOn v w more → Attends faults runs v port x y took → Attends faults runs w
+      port x y took
   attends_on v w more port x y None goes h = (h.0, still_listed v w more port goes h.1)
   attends_on v w more port x y (Some r) goes h = (h.0, h.1, subst (IsNewest r.grant) (sym goes.shown) h.2)
 
@@ -56,7 +57,8 @@ module _ {W : Type 0} (faults : W → ℕ) (runs : W → Option (List (ℕ × �
           out = goes.out ∙ so.out;
           shown = goes.shown ∙ so.shown;
           each = All-push (IsTrial faults runs ports u) trials t
-              (All-weaker (IsTrial faults runs ports w) (IsTrial faults runs ports u) (λ s h. (attends_on w u more s.port s.before s.after s.took goes h.0, h.1)) trials so.each) (here, tried);
+              (All-weaker (IsTrial faults runs ports w) (IsTrial faults runs ports u) (λ s h. (attends_on w u more s.port s.before s.after s.took goes h.0, h.1)) trials so.each)
+              (here, tried);
           done = goes.done ∙ (ap (λ l. l ++ more) so.done ∙ (append_assoc v.done (taken (map (λ (s : Trial W). s.took) trials)) more ∙ ap (λ l. v.done ++ l) (sym reports)));
           looks = looks_is ∙ (ap (λ l. l ++ looks) so.looks ∙ (append_assoc v.looks (flat_map (λ (s : Trial W). s.looks) trials) looks ∙ ap (λ l. v.looks ++ l) (sym places)));
         }
@@ -109,7 +111,8 @@ module _ {W : Type 0} (faults : W → ℕ) (runs : W → Option (List (ℕ × �
       }
 
   -- the ports stay
-  pub port_within : (ports many i : ℕ) (v w : View) (old now : List (Outlet W)) (d : Outlet W) → SoFar ports i v w old now → i < length now → All (λ (o : Outlet W). o.port < many) old →
+  pub port_within : (ports many i : ℕ) (v w : View) (old now : List (Outlet W)) (d : Outlet W) → SoFar ports i v w old now → i < length now → All
+      (λ (o : Outlet W). o.port < many) old →
       (get_or now i d).port < many
   port_within ports many i v w old now d so lt all =
       let long = so.many in
@@ -118,7 +121,8 @@ module _ {W : Type 0} (faults : W → ℕ) (runs : W → Option (List (ℕ × �
       subst (λ (o : Outlet W). o.port < many) (sym same) (all i d lt')
 
   -- all outlets are tried
-  pub attended : (board : Board) (p q : Part W) (i : ℕ) (now : List (Outlet W)) → SoFar board.ports i p.agent.view q.agent.view p.outlets.items now → length now ≤ i → q.outlets.items ≡ now →
+  pub attended : (board : Board) (p q : Part W) (i : ℕ) (now : List (Outlet W)) → SoFar board.ports i p.agent.view q.agent.view p.outlets.items now → length now ≤ i →
+      q.outlets.items ≡ now →
       vec_capacity q.outlets ≡ vec_capacity p.outlets → q.agent.at ≡ p.agent.at → q.agent.id ≡ p.agent.id → IsAttended faults runs board p q
   attended board p q i now so all now_is room at id =
       let many = so.many in record {

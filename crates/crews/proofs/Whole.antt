@@ -1,5 +1,6 @@
 -- A run of a whole crew, where each wire is in its place before and after.
-use Rattle.std.proofs.Common.{◌≡◌, ◌⊎◌, inl, inr, ⊎_elim, ℕ, ◌<◌, ◌≤◌, List, [], ◌∷◌, length, map, get_or, sym, refl, ap, ◌∙◌, subst, arith, Option, Some, None, true≢false, length-append}
+use Rattle.std.proofs.Common.{◌≡◌, ◌⊎◌, inl, inr, ⊎_elim, ℕ, ◌<◌, ◌≤◌, List, [], ◌∷◌, length, map, get_or, sym, refl, ap, ◌∙◌, subst, arith, Option, Some, None, true≢false}
+use Rattle.std.proofs.Common.{length-append}
 use Rattle.std.specs.Prelude.{All, Contains, IsSome}
 use Rattle.std.proofs.lemmas.List.{get_or_default, get_or-map, length-map}
 use Rattle.std.proofs.lemmas.List.Elements.{All-contains, All-head, All-tail}
@@ -86,7 +87,8 @@ module _ {W : Type 0} (faults : W → ℕ) (runs : W → Option (List (ℕ × �
         some_is : (w : W) → IsSome (Some w)
         some_is w = refl
 
-    pub served_at : StayElsewhere ports old new → AllThere old → AllThere new → (many : ℕ) → All (λ p. p < many) ports → many ≤ length old → AreServedAt faults runs seats ports (wires_of old) (wires_of new)
+    pub served_at : StayElsewhere ports old new → AllThere old → AllThere new → (many : ℕ) → All (λ p. p < many) ports → many ≤ length old → AreServedAt faults runs seats ports
+        (wires_of old) (wires_of new)
     served_at stay there there' many below le =
         let olds = as_long old there in
         let news = as_long new there' in
@@ -102,7 +104,8 @@ module _ {W : Type 0} (faults : W → ℕ) (runs : W → Option (List (ℕ × �
               let p : ℕ = get_or ports i 0 in
               let low : p < length old = let n = below i 0 lt in omega (arith, n, le) in
               let before : x.before ≡ get_or (wires_of old) p b = same_Some x.before (get_or (wires_of old) p b) (sym (before_at i d inside) ∙ wire_at old p b there low) in
-              let after : x.after ≡ get_or (wires_of new) p a = same_Some x.after (get_or (wires_of new) p a) (sym (after_at i d inside) ∙ wire_at new p a there' (omega (arith, low, same))) in
+              let after : x.after ≡ get_or (wires_of new) p a = same_Some x.after (get_or (wires_of new) p a)
+              (sym (after_at i d inside) ∙ wire_at new p a there' (omega (arith, low, same))) in
               subst (λ (z : ℕ × W × W × Option Report). IsServed faults runs seats z.0 z.1 z.2 z.3)
               (λ t. (sym (port_at i d inside) t, before t, after t, sym (get_or-map (λ (x : Trial W). x.took) served.trials i d None inside) t)) (served.each i d inside);
           rest = λ p d far. ⊎_elim

@@ -21,7 +21,8 @@ module _ {W : Type 0} where
 
   -- the station at this place of the crew is ready: its tray is the one at this place, nothing is given there, and it
   -- has no outlet, and room for a share of so many ports
-  pub record IsReady (board : Board) (trays : List (TrayModel Board)) (share k : ℕ) (p : EndModel (Part W) Board × ℕ × ℕ)
+  pub record IsReady (board : Board) (trays : List (TrayModel Board)) (share k : ℕ)
+      (p : EndModel (Part W) Board × ℕ × ℕ)
       : Type 0 where
     pub attached : IsAttached board trays k p.0
     pub none : p.1 ≡ 0
@@ -29,7 +30,8 @@ module _ {W : Type 0} where
 
   abbrev pub EachReady : Board → List (TrayModel Board) → ℕ → List (EndModel (Part W) Board × ℕ × ℕ) → Type 0
   EachReady board trays share ps = (before : List (EndModel (Part W) Board × ℕ × ℕ))
-      (p : EndModel (Part W) Board × ℕ × ℕ) (after : List (EndModel (Part W) Board × ℕ × ℕ)) → ps ≡ before ++ p ∷ after →
+      (p : EndModel (Part W) Board × ℕ × ℕ) (after : List (EndModel (Part W) Board × ℕ × ℕ)) → ps ≡ before
+      ++ p ∷ after →
       IsReady board trays share (length before) p
 
   -- so many ports are no more than a share for each station, and one for the driver

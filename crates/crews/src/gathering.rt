@@ -148,7 +148,8 @@ fn add_station<W: Wire>(
 
 // Frees a crew with no wires, for which memory was wanting.
 fn disperse<W: Wire>(all: Gathered<W>)
-    requires made { (board : Board) × (share : ℕ) × AreMade board share all.trays.items all.helpers.items all.stations.items }
+    requires made { (board : Board) × (share : ℕ) × AreMade board share all.trays.items all.helpers.items
+        all.stations.items }
     requires none { (all.wires.items ≡ []) × (all.far.items ≡ []) }
 {
     let Gathered {

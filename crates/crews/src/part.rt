@@ -8,13 +8,17 @@ use port_board::PortBoard;
 
 /// A port with its wire.
 pub struct Outlet<W> {
+    /// The number of the port.
     pub port: u32,
+    /// The wire on which its units are sent.
     pub wire: W,
 }
 
 /// An agent, and the ports that it attends, each with its wire.
 pub struct Part<W> {
+    /// The agent, with what it has drawn.
     pub agent: Agent,
+    /// The ports, in the order in which the agent tries them.
     pub outlets: Vec<Outlet<W>>,
 }
 

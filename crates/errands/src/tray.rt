@@ -112,7 +112,7 @@ impl<T: Errand> Tray<T> {
         Ok((Tray { table }, Giver { place }))
     }
 
-    /// The end that takes. While nothing is given, it sleeps at most so many microseconds at a time.
+    /// The end that takes. While nothing is given, it sleeps at most so many microseconds at a time, and 50 at first.
     pub fn helper(&self, giver: &mut Giver<T>, longest_sleep: u64) -> Helper<T>
         requires own { giver.old.at ≡ self.now.id }
         ensures giver { giver.new ≡ giver.old }
@@ -171,7 +171,7 @@ impl<T: Errand> Tray<T> {
         Some(steps.exchange(&mut giver.place, SLOT, None).unwrap())
     }
 
-    /// Takes what the helper has, once it answers.
+    /// Takes what the helper answers, once it does.
     pub fn wait<R: Wait>(&self, rt: &R, giver: &mut Giver<T>) -> T
         requires own { giver.old.at ≡ self.now.id }
         requires given { (x : T) × (giver.old.out ≡ Some x) }
@@ -237,7 +237,7 @@ impl<T: Errand> Tray<T> {
         Some(steps.exchange(&mut helper.place, SLOT, None).unwrap())
     }
 
-    /// Waits until something is given, and takes it. None comes only where nothing is given any more.
+    /// Waits until something is given, and takes it. None ends the wait: the end that gives has said that nothing is given any more, which no clause tells.
     pub fn next<R: Wait>(&self, rt: &R, helper: &mut Helper<T>) -> Option<T>
         requires own { helper.old.at ≡ self.now.id }
         requires free { helper.old.out ≡ None }

@@ -1,11 +1,11 @@
--- What stays of a crew from step to step, and what its serving comes to once its helpers have gone home.
+-- What stays of a crew from step to step, and what its serving comes to once its helpers have ended.
 use Rattle.std.proofs.Common.{◌≡◌, ℕ, List, map, sym, ap, ◌∙◌, subst, Option, Result}
 use Rattle.std.specs.Prelude.{⊤}
 use Rattle.client_session.specs.Models.{HallModel}
 use Rattle.crews.specs.Sections.{ended}
 use Rattle.slot_runner.specs.declared.crew.Site.{Site}
 use Rattle.slot_runner.specs.Crews.{CrewModel, IsAt}
-use Rattle.hall_plan.proofs.Besides.{still_at}
+use Rattle.slot_runner.proofs.Sites.{still_at}
 use Rattle.hall_online.specs.declared.answer.OnlineFault.{OnlineFault}
 use Rattle.hall_online.specs.declared.beginning.Kept.{Kept}
 use Rattle.hall_online.specs.Beside.{IsOnlineServed, KeepsAllElse, StaysAt}

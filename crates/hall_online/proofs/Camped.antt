@@ -4,7 +4,7 @@ use Rattle.std.specs.Prelude.{OnOk, ⊤}
 use Rattle.client_session.specs.Models.{HallModel}
 use Rattle.slot_runner.specs.Crews.{CrewModel}
 use Rattle.slot_runner.specs.Models.{RunnerModel}
-use Rattle.hall_plan.proofs.Camped.{more_whole, rose_whole}
+use Rattle.slot_runner.proofs.FarWires.{more_whole, rose_whole}
 use Rattle.hall_online.specs.declared.answer.OnlineFault.{OnlineFault}
 use Rattle.hall_online.specs.declared.beginning.Kept.{Kept}
 use Rattle.hall_online.specs.Beside.{IsOnlineServed}

@@ -41,9 +41,9 @@ pub record MayServe {W : Type 0} (hall : HallModel) (table : TableFacts) (site :
   pub wires : hall.setting.opening.table.ports ≤ length crew.wires
 
 module _ {W : Type 0} (faults : W → ℕ) (runs : W → Option (List (ℕ × ℕ × ℕ))) where
-  -- What the serving of an online run comes to, once the helpers have gone home. After its end what is kept is what its
-  -- journal tells, and all units of its schedule were sent. At every answer what was sent are units of the run. At a wire
-  -- fault the count of that port's wire rose, and no further run was opened.
+  -- What the serving of an online run comes to, once the helpers have ended. After its end what is kept is what its
+  -- journal tells, and all units of its schedule were sent. At every answer what was sent are units of the run. At a
+  -- wire fault the count of that port's wire rose, and no further run was opened.
   pub record IsOnlineServed (hall : HallModel) (old new : CrewModel W) (before after : Kept)
       (result : Result ⊤ OnlineFault) : Type 0 where
     pub ends : OnOk result ((arrivals : List ℕ) (every : ℕ) →

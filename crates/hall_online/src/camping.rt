@@ -47,7 +47,8 @@ pub(crate) fn serve_by_camp<R: Threads + Wait + Sync, W: Wire + Send>(
         IsUnderWay hall.now runner arrivals every kept.old.course kept.old.progress →
         HaveServed W.runs hall.now.setting.opening arrivals every wires.old.items wires.new.items }
     ensures fault { (port : ℕ) → result ≡ Err (WireFault port) → (port < hall.now.setting.opening.table.ports) ×
-        ((b a : W) → Rose (W.faults (slice_index_or wires.old.items port b)) (W.faults (slice_index_or wires.new.items port a))) }
+        ((b a : W) → Rose (W.faults (slice_index_or wires.old.items port b))
+        (W.faults (slice_index_or wires.new.items port a))) }
     ensures stops { (port : ℕ) (arrivals : List ℕ) (every : ℕ) → result ≡ Err (WireFault port) →
         IsUnderWay hall.now runner arrivals every kept.old.course kept.old.progress →
         HaveStopped W.runs (IsOnlineBegun hall.now.setting.opening arrivals every) hall.now.setting.opening port

@@ -54,9 +54,11 @@ pub fn serve_online<R: Threads + Wait + Sync, W: Wire + Send>(
         (IsOnlineOf (online_opening table.now weights.now) arrivals.now every) }
     ensures sent { IfOk result (λ x. HaveMore W.runs (AreAllUnits table.now.flows (slots_in x.runs)) table.now.ports
         wires.old.items wires.new.items) }
-    ensures wires { HaveServed W.runs (online_opening table.now weights.now) arrivals.now every wires.old.items wires.new.items }
+    ensures wires { HaveServed W.runs (online_opening table.now weights.now) arrivals.now every wires.old.items
+        wires.new.items }
     ensures fault { (port : ℕ) → result ≡ Err (WireFault port) → (port < table.now.ports) ×
-        ((b a : W) → Rose (W.faults (slice_index_or wires.old.items port b)) (W.faults (slice_index_or wires.new.items port a))) }
+        ((b a : W) → Rose (W.faults (slice_index_or wires.old.items port b))
+        (W.faults (slice_index_or wires.new.items port a))) }
     ensures stops { (port : ℕ) → result ≡ Err (WireFault port) →
         HaveStopped W.runs (IsOnlineBegun (online_opening table.now weights.now) arrivals.now every)
         (online_opening table.now weights.now) port wires.old.items wires.new.items }
@@ -91,9 +93,11 @@ fn served<R: Threads + Wait + Sync, W: Wire + Send>(
     ensures names { IfOk result (λ p. NamesFlows (length table.now.flows) p.schedule) }
     ensures sent { IfOk result (λ p. HaveMore W.runs (AreAllUnits table.now.flows p.schedule) table.now.ports
         wires.old.items wires.new.items) }
-    ensures wires { HaveServed W.runs (online_opening table.now weights.now) arrivals.now every wires.old.items wires.new.items }
+    ensures wires { HaveServed W.runs (online_opening table.now weights.now) arrivals.now every wires.old.items
+        wires.new.items }
     ensures fault { (port : ℕ) → result ≡ Err (WireFault port) → (port < table.now.ports) ×
-        ((b a : W) → Rose (W.faults (slice_index_or wires.old.items port b)) (W.faults (slice_index_or wires.new.items port a))) }
+        ((b a : W) → Rose (W.faults (slice_index_or wires.old.items port b))
+        (W.faults (slice_index_or wires.new.items port a))) }
     ensures stops { (port : ℕ) → result ≡ Err (WireFault port) →
         HaveStopped W.runs (IsOnlineBegun (online_opening table.now weights.now) arrivals.now every)
         (online_opening table.now weights.now) port wires.old.items wires.new.items }

@@ -43,7 +43,8 @@ pub(crate) fn act_run<R: Wait, W: Wire>(
         HaveServed W.runs hall.now.setting.opening arrivals every before crew.new.wires }
     ensures fell { NoneFell W.faults hall.now.setting.opening.table.ports crew.old.wires crew.new.wires }
     ensures fault { (port : ℕ) → result ≡ Err (WireFault port) → (port < hall.now.setting.opening.table.ports) ×
-        ((b a : W) → Rose (W.faults (slice_index_or crew.old.wires port b)) (W.faults (slice_index_or crew.new.wires port a))) }
+        ((b a : W) → Rose (W.faults (slice_index_or crew.old.wires port b))
+        (W.faults (slice_index_or crew.new.wires port a))) }
     ensures stops { (port : ℕ) (arrivals : List ℕ) (every : ℕ) (s : Course) (before : List W) →
         result ≡ Err (WireFault port) → IsUnderWay hall.now crew.old.runner arrivals every s progress.old →
         ComesFirst s progress.old (Run most) → HaveSent W.runs hall.now crew.old.runner before crew.old.wires →

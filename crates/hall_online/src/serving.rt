@@ -45,7 +45,8 @@ fn serve<R: Wait, W: Wire>(
         IsUnderWay hall.now crew.old.runner arrivals every kept.old.course kept.old.progress →
         HaveServed W.runs hall.now.setting.opening arrivals every crew.old.wires crew.new.wires }
     ensures fault { (port : ℕ) → result ≡ Err (WireFault port) → (port < hall.now.setting.opening.table.ports) ×
-        ((b a : W) → Rose (W.faults (slice_index_or crew.old.wires port b)) (W.faults (slice_index_or crew.new.wires port a))) }
+        ((b a : W) → Rose (W.faults (slice_index_or crew.old.wires port b))
+        (W.faults (slice_index_or crew.new.wires port a))) }
     ensures stops { (port : ℕ) (arrivals : List ℕ) (every : ℕ) → result ≡ Err (WireFault port) →
         IsUnderWay hall.now crew.old.runner arrivals every kept.old.course kept.old.progress →
         HaveStopped W.runs (IsOnlineBegun hall.now.setting.opening arrivals every) hall.now.setting.opening port
@@ -78,7 +79,7 @@ fn serve<R: Wait, W: Wire>(
     }
 }
 
-/// The same, and then the helpers go home, whatever it came to.
+/// The same, and then the helpers end, whatever it came to.
 fn serve_all<R: Wait, W: Wire>(
     alloc: Global,
     rt: &R,

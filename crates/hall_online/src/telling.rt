@@ -44,7 +44,8 @@ pub fn served_online<R: Threads + Wait + Sync, W: Wire + Send>(
     ensures text { IfOk result (λ text. (told : TellsOnline table.now weights.now slot_ms every text.items) ×
         SendsAll W.runs wires.old.items wires.new.items table.now told.online) }
     ensures sent { SendsSoFar W.runs wires.old.items wires.new.items table.now weights.now slot_ms every }
-    ensures fault { (port : ℕ) → result ≡ Err (WireFault port) → FailsAt W.faults wires.old.items wires.new.items port table.now }
+    ensures fault { (port : ℕ) → result ≡ Err (WireFault port) → FailsAt W.faults wires.old.items wires.new.items
+        port table.now }
     ensures stops { (port : ℕ) → result ≡ Err (WireFault port) →
         StopsShort W.runs wires.old.items wires.new.items port table.now weights.now slot_ms every }
     ensures too_many { (count : ℕ) → result ≡ Err (TooMany count) →

@@ -7,27 +7,14 @@ use Rattle.client_session.specs.Models.{HallModel}
 use Rattle.slot_runner.specs.Crews.{CrewModel}
 use Rattle.hall_plan.specs.declared.answer.PlanFault.{PlanFault}
 use Rattle.hall_plan.specs.Beside.{IsPlanServed}
-use Rattle.slot_runner.specs.Wires.{AreAllUnits, HasMore, HaveMore}
+use Rattle.slot_runner.specs.Wires.{AreAllUnits, HaveMore}
+use Rattle.slot_runner.proofs.FarWires.{more_whole, rose_whole}
 
 ok_so : {A E : Type 0} (P Q : A → Type 0) → ((x : A) → P x → Q x) → (r : Result A E) → IfOk r P → IfOk r Q
 ok_so P Q f (Ok x) h = f x h
 ok_so P Q f (Err e) h = h
 
 module _ {W : Type 0} where
-  pub more_whole : (runs : W → Option (List (ℕ × ℕ × ℕ))) (P : ℕ → List (ℕ × ℕ × ℕ) → Type 0) (ports : ℕ) (before after far : List W) → length before ≡ ports → HaveMore runs P ports before after →
-      HaveMore runs P ports (before ++ far) (after ++ far)
-  more_whole runs P ports before after far long more = let many = more.as_many in record {
-    as_many = length-append after far ∙ (omega (arith, many) ∙ sym (length-append before far));
-    each = λ port b a below. subst (λ (z : W × W). HasMore (P port) (runs z.0) (runs z.1))
-        (λ i. (sym (get_or_append_left before far b port (omega (arith, long, below))) i, sym (get_or_append_left after far a port (omega (arith, long, many, below))) i)) (more.each port b a below);
-    further = λ i w above. get_or-append_right after far ports i w (many ∙ long) above ∙ sym (get_or-append_right before far ports i w long above);
-  }
-
-  pub rose_whole : (faults : W → ℕ) (before after far : List W) (port : ℕ) → port < length before → port < length after →
-      ((b a : W) → Rose (faults (get_or before port b)) (faults (get_or after port a))) → (b a : W) → Rose (faults (get_or (before ++ far) port b)) (faults (get_or (after ++ far) port a))
-  rose_whole faults before after far port low low' rose b a = subst (λ (z : W × W). Rose (faults z.0) (faults z.1))
-      (λ i. (sym (get_or_append_left before far b port low) i, sym (get_or_append_left after far a port low') i)) (rose b a)
-
   module _ (faults : W → ℕ) (runs : W → Option (List (ℕ × ℕ × ℕ))) where
     served_whole : (hall : HallModel) (old new : CrewModel W) (result : Result (List (List ℕ)) PlanFault) (far : List W) → length old.wires ≡ hall.setting.opening.table.ports →
         length new.wires ≡ hall.setting.opening.table.ports → IsPlanServed faults runs hall old new result →
@@ -57,7 +44,8 @@ module _ {W : Type 0} where
     }
 
     -- with the wires as they were given and as they come back
-    pub served_camp : (hall : HallModel) (old new : CrewModel W) (result : Result (List (List ℕ)) PlanFault) (far before after : List W) → length old.wires ≡ hall.setting.opening.table.ports →
+    pub served_camp : (hall : HallModel) (old new : CrewModel W) (result : Result (List (List ℕ)) PlanFault) (far before after : List W) → length old.wires ≡
+        hall.setting.opening.table.ports →
         length new.wires ≡ new.runner.ports → old.wires ++ far ≡ before → after ≡ new.wires ++ far → IsPlanServed faults runs hall old new result →
         IsPlanServed faults runs hall (record old { wires = before }) (record new { wires = after }) result
     served_camp hall old new result far before after long long' before_is after_is s =

@@ -21,7 +21,8 @@ module _ {W : Type 0} (faults : W → ℕ) (runs : W → Option (List (ℕ × �
         hall.setting.opening.table.ports old.wires new.wires)
     pub wires : (slots : List (List ℕ)) →
         IsServed hall.setting.opening.table.flows (plan_order hall.setting.opening) slots →
-        HaveMore runs (AreUnits hall.setting.opening.table.flows slots) hall.setting.opening.table.ports old.wires new.wires
+        HaveMore runs (AreUnits hall.setting.opening.table.flows slots) hall.setting.opening.table.ports
+        old.wires new.wires
     pub fault : (port : ℕ) → result ≡ Err (WireFault port) → (port < hall.setting.opening.table.ports) ×
         ((b a : W) → Rose (faults (slice_index_or old.wires port b)) (faults (slice_index_or new.wires port a)))
     pub least : (port : ℕ) (slots : List (List ℕ)) → result ≡ Err (WireFault port) →

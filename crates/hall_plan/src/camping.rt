@@ -42,13 +42,15 @@ pub(crate) fn serve_by_camp<R: Threads + Wait + Sync, W: Wire + Send>(
         hall.now.setting.opening.table.ports wires.old.items wires.new.items }
     ensures fault { (port : ℕ) → result ≡ Err (WireFault port) →
         (port < hall.now.setting.opening.table.ports) ×
-        ((b a : W) → Rose (W.faults (slice_index_or wires.old.items port b)) (W.faults (slice_index_or wires.new.items port a))) }
+        ((b a : W) → Rose (W.faults (slice_index_or wires.old.items port b))
+        (W.faults (slice_index_or wires.new.items port a))) }
     ensures least { (port : ℕ) (slots : List (List ℕ)) → result ≡ Err (WireFault port) →
         IsServed hall.now.setting.opening.table.flows (plan_order hall.now.setting.opening) slots →
         (end : ℕ) × HaveMore W.runs (StopsAt hall.now.setting.opening.table.flows slots port end)
         hall.now.setting.opening.table.ports wires.old.items wires.new.items }
     ensures stops { (port : ℕ) → result ≡ Err (WireFault port) →
-        HaveStopped W.runs (IsPlanBegun hall.now.setting.opening) hall.now.setting.opening port wires.old.items wires.new.items }
+        HaveStopped W.runs (IsPlanBegun hall.now.setting.opening)
+        hall.now.setting.opening port wires.old.items wires.new.items }
 {
     let Ok(camp) = runner.into_camp(alloc, agents, wires) else {
         return Err(PlanFault::NoMemory);

@@ -46,13 +46,15 @@ fn serve<R: Wait, W: Wire>(
         hall.now.setting.opening.table.ports crew.old.wires crew.new.wires }
     ensures fault { (port : ℕ) → result ≡ Err (WireFault port) →
         (port < hall.now.setting.opening.table.ports) ×
-        ((b a : W) → Rose (W.faults (slice_index_or crew.old.wires port b)) (W.faults (slice_index_or crew.new.wires port a))) }
+        ((b a : W) → Rose (W.faults (slice_index_or crew.old.wires port b))
+        (W.faults (slice_index_or crew.new.wires port a))) }
     ensures least { (port : ℕ) (slots : List (List ℕ)) → result ≡ Err (WireFault port) →
         IsServed hall.now.setting.opening.table.flows (plan_order hall.now.setting.opening) slots →
         (end : ℕ) × HaveMore W.runs (StopsAt hall.now.setting.opening.table.flows slots port end)
         hall.now.setting.opening.table.ports crew.old.wires crew.new.wires }
     ensures stops { (port : ℕ) → result ≡ Err (WireFault port) →
-        HaveStopped W.runs (IsPlanBegun hall.now.setting.opening) hall.now.setting.opening port crew.old.wires crew.new.wires }
+        HaveStopped W.runs (IsPlanBegun hall.now.setting.opening)
+        hall.now.setting.opening port crew.old.wires crew.new.wires }
     ensures stays { (crew.new.at ≡ crew.old.at) × (crew.new.places ≡ crew.old.places) }
     ensures ports { crew.new.runner.ports ≡ hall.now.setting.opening.table.ports }
 {
@@ -67,7 +69,7 @@ fn serve<R: Wait, W: Wire>(
     }
 }
 
-/// The same, and then the helpers go home.
+/// The same, and then the helpers end.
 pub(crate) fn serve_all<R: Wait, W: Wire>(
     alloc: Global,
     rt: &R,

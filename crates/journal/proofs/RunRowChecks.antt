@@ -192,7 +192,14 @@ driven_apart_are = (
   refl,
   record {
     goes_on = refl;
-    under_way = record { goes_on = refl; earlier = All-nil (λ e. is_other e ≡ true); between = no_between (1 ∷ 2 ∷ []); once = λ port. none_within; in_order = λ i j x less lt. absurd (omega arith) };
+    under_way = record {
+      goes_on = refl;
+      earlier = All-nil (λ e. is_other e ≡ true);
+      between = no_between (1 ∷ 2 ∷ []);
+      once = λ port. none_within;
+      in_order = λ i j x less lt.
+          absurd (omega arith);
+    };
     within = λ f in'. within_one;
     noted = λ f in'. refl;
   },

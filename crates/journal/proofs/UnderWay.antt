@@ -27,7 +27,8 @@ use Rattle.journal.specs.Journal.{entry, is_full, IsLegal, line_of}
 use Rattle.journal.specs.Sound.{InRange}
 use Rattle.journal.proofs.Legal.{full_is, legal_front}
 use Rattle.journal.proofs.Versions.{legal_there}
-use Rattle.journal.specs.Driven.{closed_in, Drive, driven, is_other, IsDriven, IsNotedBefore, IsRunning, IsShortOf, IsUnderWay, NoneNotedFrom, notes_port, opened_in, opening, times_noted}
+use Rattle.journal.specs.Driven.{closed_in, Drive, driven, is_other, IsDriven, IsNotedBefore, IsRunning, IsShortOf, IsUnderWay, NoneNotedFrom, notes_port, opened_in, opening}
+use Rattle.journal.specs.Driven.{times_noted}
 use Rattle.journal.specs.Entries.{is_driving}
 use Rattle.journal.specs.Counts.{endings, is_ending}
 use Rattle.journal.proofs.Between.{answered, mkr, not_noting}
@@ -152,7 +153,8 @@ was_noted es k x p n lt asks =
     omega (arith, get_or-le-sum_by (λ (x : Entry). cond {A = ℕ} (notes_port p x.command) 1 0) es k x lt, ap {B = ℕ} (λ b. cond b 1 0) hit)
 
 -- a note of a port past those that were noted comes in order
-pub note_in_order : (es : List Entry) (port n : ℕ) (reply : Reply) → AllPairs IsNotedBefore es → NoneNotedFrom es port → AllPairs IsNotedBefore (es ++ entry 0 (Short port n) reply ∷ [])
+pub note_in_order : (es : List Entry) (port n : ℕ) (reply : Reply) → AllPairs IsNotedBefore es → NoneNotedFrom es port → AllPairs IsNotedBefore
+    (es ++ entry 0 (Short port n) reply ∷ [])
 note_in_order es port n reply pairs none =
     all_pairs_push IsNotedBefore es (entry 0 (Short port n) reply) pairs
     (λ k x lt p q u w has asks.

@@ -49,7 +49,8 @@ pub fn run_live<R: Threads + Wait + Sync, W: Wire + Send, G: Gate + Send>(
         IsToldRun W.runs (opening_with table weights limit) script.now most live wires.old.items wires.new.items) }
     ensures wires { HaveServed W.runs (opening_with table weights limit) wires.old.items wires.new.items }
     ensures fault { (port : ℕ) → result ≡ Err (WireFault port) → (port < table.ports) ×
-        ((b a : W) → Rose (W.faults (slice_index_or wires.old.items port b)) (W.faults (slice_index_or wires.new.items port a))) }
+        ((b a : W) → Rose (W.faults (slice_index_or wires.old.items port b))
+        (W.faults (slice_index_or wires.new.items port a))) }
     ensures least { (port : ℕ) → result ≡ Err (WireFault port) →
         HaveStopped W.runs (opening_with table weights limit) port wires.old.items wires.new.items }
 {

@@ -8,7 +8,8 @@ use Rattle.workload.specs.declared.script.Script.{Script}
 use Rattle.client_session.specs.Models.{DriverModel, HallModel, SessionModel}
 use Rattle.slot_runner.specs.Crews.{CrewModel}
 use Rattle.slot_runner.specs.Models.{MayRun}
-use Rattle.slot_runner.specs.Wires.{HasMore, HaveMore}
+use Rattle.slot_runner.specs.Wires.{HaveMore}
+use Rattle.slot_runner.proofs.FarWires.{more_whole, rose_whole}
 use Rattle.live_rounds.specs.declared.answer.PullDone.{PullDone}
 use Rattle.live_serving.specs.declared.answer.LiveFault.{LiveFault}
 use Rattle.live_serving.specs.declared.answer.Served.{Served}
@@ -21,20 +22,6 @@ use Rattle.live_serving.specs.Wires.{HaveServed, HaveStopped}
 use Rattle.live_serving.proofs.Whole.{whole_fault, whole_least, whole_served, whole_wires}
 
 module _ {W : Type 0} where
-  more_whole : (runs : W → Option (List (ℕ × ℕ × ℕ))) (P : ℕ → List (ℕ × ℕ × ℕ) → Type 0) (ports : ℕ) (before after far : List W) → length before ≡ ports → HaveMore runs P ports before after →
-      HaveMore runs P ports (before ++ far) (after ++ far)
-  more_whole runs P ports before after far long more = let many = more.as_many in record {
-    as_many = length-append after far ∙ (omega (arith, many) ∙ sym (length-append before far));
-    each = λ port b a below. subst (λ (z : W × W). HasMore (P port) (runs z.0) (runs z.1))
-        (λ i. (sym (get_or_append_left before far b port (omega (arith, long, below))) i, sym (get_or_append_left after far a port (omega (arith, long, many, below))) i)) (more.each port b a below);
-    further = λ i w above. get_or-append_right after far ports i w (many ∙ long) above ∙ sym (get_or-append_right before far ports i w long above);
-  }
-
-  rose_whole : (faults : W → ℕ) (before after far : List W) (port : ℕ) → port < length before → port < length after →
-      ((b a : W) → Rose (faults (get_or before port b)) (faults (get_or after port a))) → (b a : W) → Rose (faults (get_or (before ++ far) port b)) (faults (get_or (after ++ far) port a))
-  rose_whole faults before after far port low low' rose b a = subst (λ (z : W × W). Rose (faults z.0) (faults z.1))
-      (λ i. (sym (get_or_append_left before far b port low) i, sym (get_or_append_left after far a port low') i)) (rose b a)
-
   -- The wires as they were given and as they come back are those of the ports, and then those that no port has.
   module _ (faults : W → ℕ) (runs : W → Option (List (ℕ × ℕ × ℕ))) (hall : HallModel) (o : Opening) (is : hall.setting.opening ≡ o) (script : Script) (most : ℕ)
       (answer : Result (Unit {0}) Stop) (old new : CrewModel W) (news : List SessionModel) (pulls : List PullDone) (far before after : List W)
@@ -82,7 +69,8 @@ module _ {W : Type 0} where
 
     pub camp_served : (n : ℕ) (olds : List SessionModel) → n ≡ length olds → length olds ≡ script.clients → (last : DriverModel) → last ≡ new.runner.driver →
         (result : Result Served LiveFault) → IfOk result (λ s. IsOk answer) →
-        IfOk result (λ s. IsEnded hall script most last (take n (news ++ drop (length news) olds)) pulls → IsTold hall.setting.opening script most s.master.journal last.journal s.pulls) →
+        IfOk result (λ s. IsEnded hall script most last (take n (news ++ drop (length news) olds)) pulls → IsTold hall.setting.opening script most s.master.journal
+        last.journal s.pulls) →
         IfOk result (λ s. IsServed runs o script most s.master.journal s.pulls before after)
     camp_served n olds each clients last same result ok told =
         lifted result (whole_served faults runs hall o is answer old.runner new.runner old.wires new.wires empty room s.wires script most n news olds pulls each clients s.done

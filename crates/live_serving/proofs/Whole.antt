@@ -35,7 +35,8 @@ on_ok : {S E P Q : Type 0} (r : Result S E) → (P → Q) → OnOk r P → OnOk 
 on_ok (Ok x) f h = f h
 on_ok (Err e) f h = tt
 
-pub ended_again : {S E : Type 0} (r : Result S E) (hall : HallModel) (script : Script) (most n : ℕ) (driver last : DriverModel) (news olds : List SessionModel) (pulls : List PullDone) →
+pub ended_again : {S E : Type 0} (r : Result S E) (hall : HallModel) (script : Script) (most n : ℕ) (driver last : DriverModel) (news olds : List SessionModel)
+    (pulls : List PullDone) →
     last ≡ driver → n ≡ length olds → length olds ≡ script.clients → OnOk r (IsEnded hall script most driver news pulls) →
     OnOk r ((m : ℕ) × IsEnded hall script m last (take n (news ++ drop (length news) olds)) pulls)
 ended_again r hall script most n driver last news olds pulls same is each h =

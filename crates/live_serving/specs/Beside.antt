@@ -12,7 +12,7 @@ use Rattle.live_serving.specs.Openings.{AreServed}
 
 module _ {W : Type 0} (faults : W → ℕ) (runs : W → Option (List (ℕ × ℕ × ℕ))) where
   -- the work is ended, or someone met a journal without room, or the run stopped for another cause; the wires have what
-  -- the journal sent; and the helpers of the crew have gone home
+  -- the journal sent; and the helpers of the crew have ended
   pub record IsRunServed (hall : HallModel) (script : Script) (most : ℕ) (old new : CrewModel W)
       (sessions : List SessionModel) (pulls : List PullDone) (answer : Result (Unit {0}) Stop) : Type 0 where
     pub done : OnOk answer (IsEnded hall script most new.runner.driver sessions pulls)

@@ -84,7 +84,7 @@ fn serve_beside<'a, R: Threads + Wait + Sync, W: Wire + Send, G: Gate + Send>(
     served
 }
 
-// The crew serves the script, and then its helpers go home, whatever the run came to.
+// The crew serves the script, and then its helpers end, whatever the run came to.
 fn serve_all<R: Threads + Wait + Sync, W: Wire + Send, G: Gate + Send>(
     rt: &R,
     stage: &Stage<'_, W>,

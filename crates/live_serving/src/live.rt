@@ -56,7 +56,8 @@ pub fn serve_live<R: Threads + Wait + Sync, W: Wire + Send, G: Gate + Send>(
         IsServed W.runs master.opening script.now most s.master.journal s.pulls wires.old.items wires.new.items) }
     ensures wires { HaveServed W.runs master.opening wires.old.items wires.new.items }
     ensures fault { (port : ℕ) → result ≡ Err (WireFault port) → (port < master.opening.table.ports) ×
-        ((b a : W) → Rose (W.faults (slice_index_or wires.old.items port b)) (W.faults (slice_index_or wires.new.items port a))) }
+        ((b a : W) → Rose (W.faults (slice_index_or wires.old.items port b))
+        (W.faults (slice_index_or wires.new.items port a))) }
     ensures least { (port : ℕ) → result ≡ Err (WireFault port) →
         HaveStopped W.runs master.opening port wires.old.items wires.new.items }
 {

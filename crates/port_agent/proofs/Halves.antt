@@ -16,7 +16,7 @@ use Rattle.port_agent.specs.Attended.{AreServed, EachTriedOnce, HadPort, IsServe
 use Rattle.port_agent.proofs.Rounds.{taken_append}
 
 -- a report of the list of what was drawn stands at a place of it, and one at a place stands in the list
-taken_from : (took : List (Option Report)) (r : Report) → Contains (taken took) r → (i : ℕ) × (i < length took) × (get_or took i None ≡ Some r)
+pub taken_from : (took : List (Option Report)) (r : Report) → Contains (taken took) r → (i : ℕ) × (i < length took) × (get_or took i None ≡ Some r)
 taken_from [] r has = absurd (nothing_in r has)
 taken_from (None ∷ os) r has = let (i, lt, e) = taken_from os r has in (suc i, omega arith, e)
 taken_from (Some x ∷ os) r has = elim (first_or_tail x (taken os) r has) [
@@ -24,26 +24,26 @@ taken_from (Some x ∷ os) r has = elim (first_or_tail x (taken os) r has) [
   | inr later ↦ let (i, lt, e) = taken_from os r later in (suc i, omega arith, e)
 ]
 
-taken_at : (took : List (Option Report)) (i : ℕ) (r : Report) → i < length took → get_or took i None ≡ Some r → Contains (taken took) r
+pub taken_at : (took : List (Option Report)) (i : ℕ) (r : Report) → i < length took → get_or took i None ≡ Some r → Contains (taken took) r
 taken_at [] i r lt e = absurd (omega arith)
 taken_at (None ∷ os) zero r lt e = absurd (none-some r e)
 taken_at (None ∷ os) (suc i) r lt e = taken_at os i r (omega arith) e
 taken_at (Some x ∷ os) zero r lt e = subst (Contains (x ∷ taken os)) (same_Some x r e) (in_first x (taken os))
 taken_at (Some x ∷ os) (suc i) r lt e = in_tail x (taken os) r (taken_at os i r (omega arith) e)
 
-the_one : (s x : Sits) → Contains (s ∷ []) x → s ≡ x
+pub the_one : (s x : Sits) → Contains (s ∷ []) x → s ≡ x
 the_one s x has = ⊎_elim (λ e. e) (λ none. absurd (nothing_in x none)) (first_or_tail s [] x has)
 
 module _ {W : Type 0} (faults : W → ℕ) (runs : W → Option (List (ℕ × ℕ × ℕ))) where
-  wire_of : (v : View) (port : ℕ) (b a : W) (o : Option Report) → Attends faults runs v port b a o → WireServed faults runs port b a o
+  pub wire_of : (v : View) (port : ℕ) (b a : W) (o : Option Report) → Attends faults runs v port b a o → WireServed faults runs port b a o
   wire_of v port b a None h = h.0
   wire_of v port b a (Some r) h = (h.0, h.1)
 
-  had_of : (v : View) (port : ℕ) (b a : W) (o : Option Report) → Attends faults runs v port b a o → ((r : Report) → o ≡ Some r → Contains v.done r) → HadPort v port v.shown o
+  pub had_of : (v : View) (port : ℕ) (b a : W) (o : Option Report) → Attends faults runs v port b a o → ((r : Report) → o ≡ Some r → Contains v.done r) → HadPort v port v.shown o
   had_of v port b a None h held = h.1
   had_of v port b a (Some r) h held = (held r refl, h.2)
 
-  port_of : (v : View) (port : ℕ) (b a : W) (o : Option Report) (r : Report) → Attends faults runs v port b a o → o ≡ Some r → r.grant.port ≡ port
+  pub port_of : (v : View) (port : ℕ) (b a : W) (o : Option Report) (r : Report) → Attends faults runs v port b a o → o ≡ Some r → r.grant.port ≡ port
   port_of v port b a None r h e = absurd (none-some r e)
   port_of v port b a (Some x) r h e = subst (λ (y : Report). y.grant.port ≡ port) (same_Some x r e) h.0
 

@@ -38,7 +38,8 @@ try_more ports first i took o v w u long so one =
     let many = so.as_many in
     let longs = length-append so.tries (here ∷ []) in
     let longs' = length-append took (o ∷ []) in
-    let all : flat_map join (so.tries ++ here ∷ []) ≡ flat_map join so.tries ++ here = flat_map-append join so.tries (here ∷ []) ∙ ap (λ l. flat_map join so.tries ++ l) (append-nil here) in
+    let all : flat_map join (so.tries ++ here ∷ []) ≡ flat_map join so.tries ++ here = flat_map-append join so.tries (here ∷ []) ∙ ap (λ l. flat_map join so.tries ++ l)
+    (append-nil here) in
     record {
       tries = so.tries ++ here ∷ [];
       as_many = omega arith;

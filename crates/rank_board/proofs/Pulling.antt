@@ -30,7 +30,8 @@ found_of (Unranked version) = 0
 found_of (Moved front found) = found
 
 -- a seat that loaded a word of a version, and keeps no pull
-pub saw_it : (t t' : TableId) (n n' seen : ℕ) (pulls : List Pull) (looks looks' : List (ℕ × ℕ)) (place coflow word : ℕ) → t' ≡ t → n' ≡ n → 0 < seen → looks' ≡ looks ++ (place, word) ∷ []
+pub saw_it : (t t' : TableId) (n n' seen : ℕ) (pulls : List Pull) (looks looks' : List (ℕ × ℕ)) (place coflow word : ℕ) → t' ≡ t → n' ≡ n → 0 < seen → looks' ≡ looks ++
+    (place, word) ∷ []
     → place ≡ word_at seen coflow
     → ◌≡◌ {A = SeatModel} (record { table = t'; id = n'; seen = seen; pulls = pulls; looks = looks' })
     (saw_word seen coflow word (record { table = t; id = n; seen = seen; pulls = pulls; looks = looks }))

@@ -111,7 +111,7 @@ fn run_in_camp<'a, R: Clock + Threads + Wait + Sync, W: Wire + Send>(
     took
 }
 
-/// The runs by the clock, and then the helpers go home.
+/// The runs by the clock, and then the helpers end.
 fn run_all<R: Clock + Wait, W: Wire>(
     rt: &R,
     hall: &Hall,

@@ -155,7 +155,8 @@ module _ {W : Type 0} (faults : W → ℕ) (runs : W → Option (List (ℕ × �
     none_out = ap (λ (l : List Came). length l) done.back ∙ all.none_out ∙ sym done.made;
     all_settled = λ q. ⊎_elim (λ lt. done.settled_there q lt)
         (λ le. done.rest q le ∙ ap (λ (x : List Grant × List Settlement). is_unsettled q x.0 x.1) (λ i. ((all.posts ∙ posts_are) i, (all.settled ∙ settled_are) i)) ∙
-        ap (λ (o : Option Grant). is_left o v0.settled) (last_without flows gs first slots ports clear inside v0.posts q (none_past flows gs ports inside q le)) ∙ idle.all_settled q)
+        ap (λ (o : Option Grant). is_left o v0.settled) (last_without flows gs first slots ports clear inside v0.posts q (none_past flows gs ports inside q le)) ∙
+        idle.all_settled q)
         (cases_lt q ports);
     posts_before = subst (All (λ (g : Grant). g.slot < first + slots)) (sym posts_u) (All-append (λ (g : Grant). g.slot < first + slots) v0.posts
         (posts_of flows gs first slots)

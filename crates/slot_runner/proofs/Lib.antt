@@ -5,6 +5,7 @@ pub mod Concluded
 pub mod Crewed
 pub mod CutRuns
 pub mod Dismissed
+pub mod FarWires
 pub mod Listed
 pub mod Notes
 pub mod OnePort
@@ -13,6 +14,7 @@ pub mod PortPosts
 pub mod PostSteps
 pub mod Refused
 pub mod Settled
+pub mod Sites
 pub mod Through
 pub mod Turns
 pub mod WireSteps

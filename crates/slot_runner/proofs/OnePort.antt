@@ -165,7 +165,8 @@ module _ {W : Type 0} (faults : W → ℕ) (runs : W → Option (List (ℕ × �
       (λ old. absurd (not_before c (report (grant p first f slots) n) old has refl))
       (λ new.
       let (s, inside, is) = came_from all.seats c new in
-      (all.each p f b a (omega (arith, lt, wires)) e).only s (report (grant p first f slots) n) inside (subst (λ (x : Came). Contains x.done (report (grant p first f slots) n)) (sym is) has) refl)
+      (all.each p f b a (omega (arith, lt, wires)) e).only s (report (grant p first f slots) n) inside
+      (subst (λ (x : Came). Contains x.done (report (grant p first f slots) n)) (sym is) has) refl)
       (Contains-append_cases v0.back (map (λ (s : Sits). came_of s.view) all.seats) c (subst (λ l. Contains l c) back_w among))
 
   -- what was drawn at a port with a grant is the grant
@@ -257,7 +258,8 @@ module _ {W : Type 0} (faults : W → ℕ) (runs : W → Option (List (ℕ × �
       let (q, f, lt, given, is) = in_posts flows gs first slots ports clear inside r.grant new in
       let same : q ≡ p = ap (λ (h : Grant). h.port) is ∙ at.wire.0 in
       none-some f (sym e ∙ ap (grant_in flows gs) (sym same) ∙ given))
-      (Contains-append_cases v0.posts (posts_of flows gs first slots) r.grant (subst (λ l. Contains l r.grant) (all.posts ∙ posts_are) (drawn_among v0.back all.seats w came_back all.posted at.by r at.among at.had.0))))
+      (Contains-append_cases v0.posts (posts_of flows gs first slots) r.grant (subst (λ l. Contains l r.grant) (all.posts ∙ posts_are)
+      (drawn_among v0.back all.seats w came_back all.posted at.by r at.among at.had.0))))
 
   -- agents that served all ports served those with a grant, and drew nothing at the others
   pub grants_served : AreGrantsServed faults runs (grant_in flows gs) v w before after

@@ -86,7 +86,8 @@ module _ (o : Opening) (before : List Entry) (d : Drive) (driver : DriverModel) 
     sent = sent_of all.took
 
     pub waiting : AreToSettle granted sent d.first d.slots ports v2
-    waiting = to_settle faults runs o.table.flows (driven o before d) d.first d.slots ports to clear inside v0 v1 v2 near near' idle late posted'.posts posted'.settled posted'.back all many
+    waiting = to_settle faults runs o.table.flows (driven o before d) d.first d.slots ports to clear inside v0 v1 v2 near near' idle late posted'.posts posted'.settled
+        posted'.back all many
 
     pub told : IsOpenRunOf o before (record d { sent = sent }) driver
     told = told_open o before d driver sent open'
@@ -109,7 +110,8 @@ module _ (o : Opening) (before : List Entry) (d : Drive) (driver : DriverModel) 
 
       pub idle_then : IsIdle (slot + slots) v3
       idle_then = subst (λ n. IsIdle n v3) (λ i. sym first_is i + sym slots_is i)
-          (idle_again faults runs o.table.flows (driven o before d) d.first d.slots ports to clear inside v0 v1 v2 v3 near near' idle late posted'.posts posted'.settled posted'.back all many settled facts.long)
+          (idle_again faults runs o.table.flows (driven o before d) d.first d.slots ports to clear inside v0 v1 v2 v3 near near' idle late posted'.posts posted'.settled
+          posted'.back all many settled facts.long)
 
       pub through : (end : DriverModel) (r : Receipt) → IsDrivenOn o Close mid end r → StaysInHall mid end → (far whole whole' : List W) → whole ≡ near ++ far → whole' ≡ near'
           ++ far →
@@ -117,7 +119,8 @@ module _ (o : Opening) (before : List Entry) (d : Drive) (driver : DriverModel) 
           IsCarriedOut faults runs o before d (record { driver = driver; ports = ports; posted_to = to; posts = v0.posts; settled = v0.settled; granted = before_flows })
           (record { driver = end; ports = ports; posted_to = slot + slots; posts = v3.posts; settled = v3.settled; granted = flows }) whole whole' short
       through end r on place far whole whole' x y flows before_flows flows_are =
-          let it = carried_out faults runs o.table.flows (driven o before d) d.first d.slots ports to clear inside v0 v1 v2 v3 near near' idle late posted'.posts posted'.settled posted'.back all many settled o
+          let it = carried_out faults runs o.table.flows (driven o before d) d.first d.slots ports to clear inside v0 v1 v2 v3 near near' idle late posted'.posts posted'.settled
+          posted'.back all many settled o
           before driver.journal d within
           facts refl refl refl refl ports_is driver mid end r noted on place waiting.within short is_short far whole whole' x y flows before_flows
           (flows_are ∙ facts.flows) in

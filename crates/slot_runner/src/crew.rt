@@ -36,8 +36,8 @@ pub struct Site<W: Wire> {
 
 /// The driver of a hall, with the wires of its ports. `Runner::into_camp` makes it.
 ///
-/// It makes the runs of a runner by agents that live through all of them. The granted ports of a run are cut into stretches of even length, one for each agent: the driver serves the first stretch itself,
-/// gives each other one with its wires at a tray, and takes back what no helper took. A run that grants fewer ports than there are agents asks as many agents as it has ports.
+/// Its helpers live through all of its runs, each on a thread of its own. In each run the granted ports are cut into stretches of even length, one for the driver and one for each helper, or one for each port where the ports are fewer.
+/// The driver gives the helpers theirs, each with its wires at a tray, serves the first itself, and then takes the others back, one at a time: it serves itself what no helper took, and waits for what one did.
 ///
 /// Contracts see what a runner has, the board of the ports, the place of each helper (the driver's end of its tray, and the room for its part), and the wires of all ports, by number.
 pub struct Crew<W: Wire> {
@@ -96,7 +96,7 @@ impl<W: Wire> Crew<W> {
     }
 
     /// One run of at most so many slots, by the agents of the crew at the site where it works: opens it, grants its flows at the ports, lets the agents draw and send them beside each other, each at its own ports,
-    /// settles every port, notes each one that sent less than the run has slots, by number, and closes the run. It takes turns, which may wait. It takes no memory, so an opened run is always closed.
+    /// settles every granted port, notes each one that sent less than the run has slots, by number, and closes the run. It takes turns, which may wait. It takes no memory, so an opened run is always closed.
     ///
     /// The answers are those of `Runner::slot`, but for want of memory, which does not come:
     ///

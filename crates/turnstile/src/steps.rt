@@ -103,8 +103,8 @@ fn spot_of(ticket: u64) -> usize
 // Sleeps until the ticket is near its turn. It may also return for no reason.
 //
 // No wake is lost. A caller makes its word odd before it looks at what is served, and whoever leaves raises what is served before it looks at that word.
-// So the caller finds its ticket served, or the one who leaves finds the word odd, raises it, and then wakes: the caller sleeps until that wake, or finds the word raised and does not sleep.
-// Words only rise, so no caller finds again the number that it expects.
+// So the caller finds its ticket served, or the word is raised before that wake, by the one who leaves or by one who left earlier: the caller sleeps until a wake, or finds the word raised and does not sleep.
+// Words only rise. A sleep compares their lower 32 bits alone, which come again after 2^32 steps of one word, while a caller is between two of its own.
 fn sleep<T: Chronicle, R: Wait>(rt: &R, steps: &Steps<T>, place: &mut Place<T>, ticket: u64)
     requires table { (place.old.table_id ≡ steps.now.table_id) × (steps.now.table_id.words ≡ 66) }
     ensures same { (place.new.table_id ≡ place.old.table_id) × (place.new.id ≡ place.old.id) ×

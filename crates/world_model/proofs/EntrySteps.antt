@@ -125,7 +125,8 @@ others_go o a xs s j es more legal low others =
     (λ k d lt. (low k d lt, others k d lt)) tt
 
 -- and so are entries of others and notes of the driver while a run is open and its ports are settled
-pub between_go : (o : Opening) (a : ℕ) (xs : List PortFacts) (s : List SentRun) (agent_at : ℕ → ℕ) (d : Drive) (granted : List ℕ) (j es more : List Entry) → IsLegal o (j ++ (es ++ more)) →
+pub between_go : (o : Opening) (a : ℕ) (xs : List PortFacts) (s : List SentRun) (agent_at : ℕ → ℕ) (d : Drive) (granted : List ℕ) (j es more : List Entry) → IsLegal o
+    (j ++ (es ++ more)) →
     All (λ (e : Entry). in_range o e.command ≡ true) es → All (λ e. (is_other e ≡ true) ⊎ IsShortOf o.table.flows granted d e) es →
     ((f : ℕ) → Contains granted f → ingress_of o.table.flows f < o.table.ports) →
     ((f : ℕ) → Contains granted f → get_or xs (ingress_of o.table.flows f) idle_port ≡ settled_port agent_at d (ingress_of o.table.flows f) f) →

@@ -86,7 +86,8 @@ abbrev turns_from : (ℕ → ℕ) → (ℕ → Option ℕ) → Drive → ℕ →
 turns_from agent_at granted d k n = flat_map (λ p. turn_at agent_at d p (granted p)) (range_with_len k n)
 
 -- after the turns of so many ports from this one on, those with a grant are settled, and the ports before and after are as they were
-pub record AreTurned (o : Opening) (j : List Entry) (a : ℕ) (xs : List PortFacts) (s : List SentRun) (granted : ℕ → Option ℕ) (agent_at : ℕ → ℕ) (d : Drive) (k n : ℕ) : Type 0 where
+pub record AreTurned (o : Opening) (j : List Entry) (a : ℕ) (xs : List PortFacts) (s : List SentRun) (granted : ℕ → Option ℕ) (agent_at : ℕ → ℕ) (d : Drive) (k n : ℕ) :
+    Type 0 where
   pub ys : List PortFacts
   pub goes : AreSteps (mkw o j a xs s) (turns_from agent_at granted d k n) (mkw o j a ys (s ++ runs_from granted d k n))
   pub wide : length ys ≡ length xs
@@ -119,7 +120,8 @@ all_turned o j a xs s r agent_at d k (suc n) low wide agents open' first ready =
     }) in
     record {
       ys = rest.ys;
-      goes = subst (λ l. AreSteps (mkw o j a xs s) (turns_from agent_at granted d k (suc n)) (mkw o j a rest.ys l)) (append_assoc s (run_at d k (granted k)) (runs_from granted d (k + 1) n))
+      goes = subst (λ l. AreSteps (mkw o j a xs s) (turns_from agent_at granted d k (suc n)) (mkw o j a rest.ys l))
+          (append_assoc s (run_at d k (granted k)) (runs_from granted d (k + 1) n))
           (steps_then (mkw o j a xs s) (mkw o j a one.ys s') (mkw o j a rest.ys (s' ++ runs_from granted d (k + 1) n)) (turn_at agent_at d k (granted k))
           (turns_from agent_at granted d (k + 1) n) one.goes rest.goes);
       wide = rest.wide ∙ one.wide;

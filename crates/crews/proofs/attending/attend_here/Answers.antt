@@ -16,8 +16,10 @@ returns-clause-served g c =
     let made = c.new_agent-agent.ensures.poster in
     let told = told_of c.args.poster.now.view c.new_agent-agent.new.poster.view made c.requires.posted in
     let lists = c.back.ensures.lists in
-    one_crewed g.W.Wire.faults g.W.Wire.runs c.args.board.now.id c.args.board.now.ports c.args.poster.now.view c.new_agent-agent.new.poster.view c.new_agent-agent.new.poster.view c.back.new.poster.view
-    [] c.args.ports.now c.args.wires.now c.args.wires.now c.args.wires.now c.attend_ports.new.wires c.new_agent-agent.result c.attend_ports.new.agent lists.0 made c.new_agent-agent.ensures.fresh
+    one_crewed g.W.Wire.faults g.W.Wire.runs c.args.board.now.id c.args.board.now.ports c.args.poster.now.view c.new_agent-agent.new.poster.view c.new_agent-agent.new.poster.view
+    c.back.new.poster.view
+    [] c.args.ports.now c.args.wires.now c.args.wires.now c.args.wires.now c.attend_ports.new.wires c.new_agent-agent.result c.attend_ports.new.agent lists.0 made
+    c.new_agent-agent.ensures.fresh
     c.attend_ports.ensures.tried (none_crewed g.W.Wire.faults g.W.Wire.runs c.new_agent-agent.new.poster.view c.args.wires.now told.0 told.1)
     (lists.1 ∙ ap (λ (z : Sits). looked 0 lists.0 (takes_in c.new_agent-agent.new.poster.view z.view)) c.into_seat.ensures) c.requires.distinct c.requires.distinct refl refl
     c.attend_ports.ensures.stay (c.back.ensures.posted, c.back.ensures.apart)

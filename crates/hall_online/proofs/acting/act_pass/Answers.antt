@@ -29,7 +29,8 @@ push_run-requires-clause-short g c =
 
 pub returns-clause-done : goal.returns-clause-done
 returns-clause-done g c = λ arrivals every s h first.
-    passed_done c.args.hall.now c.args.crew.now.runner c.pass.new.crew.runner arrivals every s c.args.progress.now _ h c.args.to first c.pass.ensures.ready c.pass.ensures.asked refl
+    passed_done c.args.hall.now c.args.crew.now.runner c.pass.new.crew.runner arrivals every s c.args.progress.now _ h c.args.to first c.pass.ensures.ready
+    c.pass.ensures.asked refl
     refl refl refl refl c.in_ok-push_run.ensures.pushed
 
 pub returns-clause-longer : goal.returns-clause-longer

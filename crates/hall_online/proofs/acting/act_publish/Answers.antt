@@ -61,35 +61,41 @@ returns-clause-done g c =
 pub returns-clause-longer : goal.returns-clause-longer
 returns-clause-longer g c =
     let (arrivals, every, s, h, first) = c.requires.may in
-    published_longer c.args.hall.now c.args.crew.now.runner c.publish.new.crew.runner arrivals every s c.args.progress.now c.args.progress.now h c.publish.ensures.ready refl refl refl
+    published_longer c.args.hall.now c.args.crew.now.runner c.publish.new.crew.runner arrivals every s c.args.progress.now c.args.progress.now h c.publish.ensures.ready
+    refl refl refl
     refl first c.publish.ensures.asked
 
 pub returns-in_err-epoch-clause-longer : goal.returns-in_err-epoch-clause-longer
 returns-in_err-epoch-clause-longer g c =
     let (arrivals, every, s, h, first) = c.requires.may in
-    published_longer c.args.hall.now c.args.crew.now.runner c.publish.new.crew.runner arrivals every s c.args.progress.now c.args.progress.now h c.publish.ensures.ready refl refl refl
+    published_longer c.args.hall.now c.args.crew.now.runner c.publish.new.crew.runner arrivals every s c.args.progress.now c.args.progress.now h c.publish.ensures.ready
+    refl refl refl
     refl first c.publish.ensures.asked
 
 pub returns-in_err-push-clause-longer : goal.returns-in_err-push-clause-longer
 returns-in_err-push-clause-longer g c =
     let (arrivals, every, s, h, first) = c.requires.may in
-    published_longer c.args.hall.now c.args.crew.now.runner c.publish.new.crew.runner arrivals every s c.args.progress.now c.args.progress.now h c.publish.ensures.ready refl refl refl
+    published_longer c.args.hall.now c.args.crew.now.runner c.publish.new.crew.runner arrivals every s c.args.progress.now c.args.progress.now h c.publish.ensures.ready
+    refl refl refl
     refl first c.publish.ensures.asked
 
 pub returns-clause-sends : goal.returns-clause-sends
 returns-clause-sends g c =
     let (arrivals, every, s, h, first) = c.requires.may in
-    published_sends c.args.hall.now c.args.crew.now.runner c.publish.new.crew.runner arrivals every s c.args.progress.now c.args.progress.now h c.publish.ensures.ready refl refl refl
+    published_sends c.args.hall.now c.args.crew.now.runner c.publish.new.crew.runner arrivals every s c.args.progress.now c.args.progress.now h c.publish.ensures.ready
+    refl refl refl
     refl first c.publish.ensures.asked
 
 pub returns-in_err-epoch-clause-sends : goal.returns-in_err-epoch-clause-sends
 returns-in_err-epoch-clause-sends g c =
     let (arrivals, every, s, h, first) = c.requires.may in
-    published_sends c.args.hall.now c.args.crew.now.runner c.publish.new.crew.runner arrivals every s c.args.progress.now c.args.progress.now h c.publish.ensures.ready refl refl refl
+    published_sends c.args.hall.now c.args.crew.now.runner c.publish.new.crew.runner arrivals every s c.args.progress.now c.args.progress.now h c.publish.ensures.ready
+    refl refl refl
     refl first c.publish.ensures.asked
 
 pub returns-in_err-push-clause-sends : goal.returns-in_err-push-clause-sends
 returns-in_err-push-clause-sends g c =
     let (arrivals, every, s, h, first) = c.requires.may in
-    published_sends c.args.hall.now c.args.crew.now.runner c.publish.new.crew.runner arrivals every s c.args.progress.now c.args.progress.now h c.publish.ensures.ready refl refl refl
+    published_sends c.args.hall.now c.args.crew.now.runner c.publish.new.crew.runner arrivals every s c.args.progress.now c.args.progress.now h c.publish.ensures.ready
+    refl refl refl
     refl first c.publish.ensures.asked

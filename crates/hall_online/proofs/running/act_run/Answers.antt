@@ -32,14 +32,16 @@ pub push_run-requires-clause-some : goal.push_run-requires-clause-some
 push_run-requires-clause-some g c =
     let (arrivals, every, s, h, first) = c.requires.may in
     let x = c.slot.ensures.ran c.in-Ran.slot c.in-Ran.length c.in-Ran.count c.in-Ran.is in
-    ran_some c.args.hall.now c.args.crew.now.runner arrivals every s c.args.progress.now h c.args.most first g.W.Wire.faults g.W.Wire.runs c.slot.new.self.runner c.args.crew.now.wires
+    ran_some c.args.hall.now c.args.crew.now.runner arrivals every s c.args.progress.now h c.args.most first g.W.Wire.faults g.W.Wire.runs c.slot.new.self.runner
+    c.args.crew.now.wires
     c.slot.new.self.wires c.in-Ran.slot c.in-Ran.length c.in-Ran.count x
 
 pub push_run-requires-clause-short : goal.push_run-requires-clause-short
 push_run-requires-clause-short g c =
     let (arrivals, every, s, h, first) = c.requires.may in
     let x = c.slot.ensures.ran c.in-Ran.slot c.in-Ran.length c.in-Ran.count c.in-Ran.is in
-    ran_fits c.args.hall.now c.args.crew.now.runner arrivals every s c.args.progress.now h c.args.most first g.W.Wire.faults g.W.Wire.runs c.slot.new.self.runner c.args.crew.now.wires
+    ran_fits c.args.hall.now c.args.crew.now.runner arrivals every s c.args.progress.now h c.args.most first g.W.Wire.faults g.W.Wire.runs c.slot.new.self.runner
+    c.args.crew.now.wires
     c.slot.new.self.wires c.in-Ran.slot c.in-Ran.length c.in-Ran.count x
 
 pub push_run-requires-clause-ascending : goal.push_run-requires-clause-ascending
@@ -85,7 +87,8 @@ spend-requires-clause-owes g c =
     let (arrivals, every, s, h, first) = c.requires.may in
     let x = c.slot.ensures.ran c.in-Ran.slot c.in-Ran.length c.in-Ran.count c.in-Ran.is in
     subst (All (λ f. c.in-Ran.length ≤ slice_index c.args.progress.now.left.items f)) (sym c.granted-granted.ensures)
-    (ran_enough c.args.hall.now c.args.crew.now.runner arrivals every s c.args.progress.now h c.args.most first g.W.Wire.faults g.W.Wire.runs c.slot.new.self.runner c.args.crew.now.wires
+    (ran_enough c.args.hall.now c.args.crew.now.runner arrivals every s c.args.progress.now h c.args.most first g.W.Wire.faults g.W.Wire.runs c.slot.new.self.runner
+    c.args.crew.now.wires
     c.slot.new.self.wires c.in-Ran.slot c.in-Ran.length c.in-Ran.count x)
 
 pub returns-in_ok-push_run-in-Ran-clause-done : goal.returns-in_ok-push_run-in-Ran-clause-done
@@ -93,7 +96,8 @@ returns-in_ok-push_run-in-Ran-clause-done g c =
     λ arrivals every s h first.
     let x = c.slot.ensures.ran c.in-Ran.slot c.in-Ran.length c.in-Ran.count c.in-Ran.is in
     let flows : c.flows.result.now ≡ c.args.hall.now.setting.opening.table.flows = c.flows.ensures.flows ∙ ap (λ (t : TableFacts). t.flows) c.requires.table in
-    ran_on c.args.hall.now c.args.crew.now.runner arrivals every s c.args.progress.now h c.args.most first g.W.Wire.faults g.W.Wire.runs c.slot.new.self.runner c.args.crew.now.wires
+    ran_on c.args.hall.now c.args.crew.now.runner arrivals every s c.args.progress.now h c.args.most first g.W.Wire.faults g.W.Wire.runs c.slot.new.self.runner
+    c.args.crew.now.wires
     c.slot.new.self.wires c.in-Ran.slot c.in-Ran.length c.in-Ran.count x c.granted-granted.result.now c.granted-granted.ensures c.slot.ensures.again _ refl
     (subst (λ fs. IsTallied fs c.spend.new.left.items c.spend.new.owed.items) flows c.spend.ensures.tallied) c.spend.ensures.each c.spend.ensures.left refl refl
     c.in_ok-push_run-in-Ran.ensures.pushed
@@ -102,7 +106,8 @@ pub returns-in_ok-push_run-in-Ran-clause-longer : goal.returns-in_ok-push_run-in
 returns-in_ok-push_run-in-Ran-clause-longer g c =
     let (arrivals, every, s, h, first) = c.requires.may in
     let x = c.slot.ensures.ran c.in-Ran.slot c.in-Ran.length c.in-Ran.count c.in-Ran.is in
-    ran_more c.args.hall.now c.args.crew.now.runner arrivals every s c.args.progress.now h c.args.most first g.W.Wire.faults g.W.Wire.runs c.slot.new.self.runner c.args.crew.now.wires
+    ran_more c.args.hall.now c.args.crew.now.runner arrivals every s c.args.progress.now h c.args.most first g.W.Wire.faults g.W.Wire.runs c.slot.new.self.runner
+    c.args.crew.now.wires
     c.slot.new.self.wires c.in-Ran.slot c.in-Ran.length c.in-Ran.count x
 
 pub returns-in_ok-push_run-in-Ran-clause-sent : goal.returns-in_ok-push_run-in-Ran-clause-sent
@@ -130,14 +135,16 @@ pub returns-in_err-push_run-in-Ran-clause-served : goal.returns-in_err-push_run-
 returns-in_err-push_run-in-Ran-clause-served g c =
     λ arrivals every s before h first had.
     let x = c.slot.ensures.ran c.in-Ran.slot c.in-Ran.length c.in-Ran.count c.in-Ran.is in
-    served_more c.args.hall.now c.args.crew.now.runner arrivals every s c.args.progress.now h c.args.most first c.slot.new.self.runner x.drive x.run g.W.Wire.faults g.W.Wire.runs before
+    served_more c.args.hall.now c.args.crew.now.runner arrivals every s c.args.progress.now h c.args.most first c.slot.new.self.runner x.drive x.run g.W.Wire.faults
+    g.W.Wire.runs before
     c.args.crew.now.wires c.slot.new.self.wires x.wires had
 
 pub returns-in-WireFault-clause-served : goal.returns-in-WireFault-clause-served
 returns-in-WireFault-clause-served g c =
     λ arrivals every s before h first had.
     let x = c.slot.ensures.wire_fault c.in-WireFault.port c.in-WireFault.sent c.in-WireFault.is in
-    served_more c.args.hall.now c.args.crew.now.runner arrivals every s c.args.progress.now h c.args.most first c.slot.new.self.runner x.drive x.run g.W.Wire.faults g.W.Wire.runs before
+    served_more c.args.hall.now c.args.crew.now.runner arrivals every s c.args.progress.now h c.args.most first c.slot.new.self.runner x.drive x.run g.W.Wire.faults
+    g.W.Wire.runs before
     c.args.crew.now.wires c.slot.new.self.wires x.wires had
 
 pub returns-in-WireFault-clause-fell : goal.returns-in-WireFault-clause-fell
@@ -159,7 +166,8 @@ returns-in-WireFault-clause-fault g c =
 pub unreachable-requires : goal.unreachable-requires
 unreachable-requires g c =
     let (arrivals, every, s, h, first) = c.requires.may in
-    ⊎_elim (λ nothing. never_nothing c.args.hall.now c.args.crew.now.runner arrivals every s c.args.progress.now h c.args.most first c.slot.new.self.runner (c.slot.ensures.nothing nothing))
+    ⊎_elim (λ nothing. never_nothing c.args.hall.now c.args.crew.now.runner arrivals every s c.args.progress.now h c.args.most first c.slot.new.self.runner
+    (c.slot.ensures.nothing nothing))
     (λ more. ⊎_elim (λ late. never_late c.args.hall.now c.args.crew.now.runner arrivals every s c.args.progress.now h c.args.most first c.slot.new.self.runner late.0
     (c.slot.ensures.late late.0 late.1))
     (λ more'. ⊎_elim (λ full. never_full c.args.hall.now c.args.crew.now.runner arrivals every s c.args.progress.now h c.args.most first c.slot.new.self.runner full.0
@@ -173,7 +181,8 @@ overflow_add-progress g c =
     let x = c.slot.ensures.ran c.in-Ran.slot c.in-Ran.length c.in-Ran.count c.in-Ran.is in
     omega (
       arith,
-      ran_time c.args.hall.now c.args.crew.now.runner arrivals every s c.args.progress.now h c.args.most first g.W.Wire.faults g.W.Wire.runs c.slot.new.self.runner c.args.crew.now.wires
+      ran_time c.args.hall.now c.args.crew.now.runner arrivals every s c.args.progress.now h c.args.most first g.W.Wire.faults g.W.Wire.runs c.slot.new.self.runner
+          c.args.crew.now.wires
           c.slot.new.self.wires
           c.in-Ran.slot c.in-Ran.length c.in-Ran.count x,
     )
@@ -182,7 +191,8 @@ pub returns-in_ok-push_run-in-Ran-clause-served : goal.returns-in_ok-push_run-in
 returns-in_ok-push_run-in-Ran-clause-served g c =
     λ arrivals every s before h first had.
     let x = c.slot.ensures.ran c.in-Ran.slot c.in-Ran.length c.in-Ran.count c.in-Ran.is in
-    served_more c.args.hall.now c.args.crew.now.runner arrivals every s c.args.progress.now h c.args.most first c.slot.new.self.runner x.drive x.run g.W.Wire.faults g.W.Wire.runs before
+    served_more c.args.hall.now c.args.crew.now.runner arrivals every s c.args.progress.now h c.args.most first c.slot.new.self.runner x.drive x.run g.W.Wire.faults
+    g.W.Wire.runs before
     c.args.crew.now.wires
     c.slot.new.self.wires x.wires had
 

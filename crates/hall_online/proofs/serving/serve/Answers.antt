@@ -23,7 +23,8 @@ comes s p l r a same h is = subst (ComesFirst s p) is (subst (λ x. IsFirstActio
 pub actions-init : goal.actions-init
 actions-init g c =
     record {
-      serving = serving_first g.W.Wire.faults g.W.Wire.runs c.args.hall.now c.args.crew.now c.args.kept.now.course c.args.kept.now.progress c.requires.may.under_way c.requires.may.none
+      serving = serving_first g.W.Wire.faults g.W.Wire.runs c.args.hall.now c.args.crew.now c.args.kept.now.course c.args.kept.now.progress c.requires.may.under_way
+          c.requires.may.none
           c.requires.may.wires;
       places = c.requires.may.places;
       coflows = c.requires.may.coflows;
@@ -95,7 +96,8 @@ actions-preserved-in-Withdraw g c =
 pub act_publish-requires-clause-may : goal.act_publish-requires-clause-may
 act_publish-requires-clause-may g c =
     let first = comes c.actions.kept.course c.actions.kept.progress c.deref.result.now c.next.result _ c.deref.ensures.value c.next.ensures.first c.in-Publish.is in
-    may_do g.W.Wire.faults g.W.Wire.runs c.args.hall.now c.args.crew.now c.actions.crew c.args.kept.now.course c.actions.kept.course c.args.kept.now.progress c.actions.kept.progress
+    may_do g.W.Wire.faults g.W.Wire.runs c.args.hall.now c.args.crew.now c.actions.crew c.args.kept.now.course c.actions.kept.course c.args.kept.now.progress
+    c.actions.kept.progress
     Publish c.actions.invariant.serving first
 
 pub actions-smaller-in-Continue-1 : goal.actions-smaller-in-Continue-1
@@ -109,7 +111,8 @@ actions-preserved-in-Continue-1 g c =
     record {
       serving = serving_quiet g.W.Wire.faults g.W.Wire.runs c.args.hall.now c.args.crew.now c.actions.crew c.act_publish.new.crew c.args.kept.now.course c.actions.kept.course
           c.next.new.self c.args.kept.now.progress c.actions.kept.progress c.act_publish.new.progress Publish c.requires.may.wires
-          c.actions.invariant.serving first (c.next.ensures.course ∙ ap (after c.actions.kept.course c.actions.kept.progress.time) c.in-Publish.is) c.in_ok-act_publish-in-Publish.ensures.done
+          c.actions.invariant.serving first (c.next.ensures.course ∙ ap (after c.actions.kept.course c.actions.kept.progress.time) c.in-Publish.is)
+          c.in_ok-act_publish-in-Publish.ensures.done
           c.act_publish.ensures.sends c.act_publish.ensures.keeps;
       places = omega (arith, c.actions.invariant.places, c.act_publish.ensures.capacity);
       coflows = c.act_publish.ensures.size.coflows ∙ c.actions.invariant.coflows;
@@ -119,7 +122,8 @@ actions-preserved-in-Continue-1 g c =
 pub act_run-requires-clause-may : goal.act_run-requires-clause-may
 act_run-requires-clause-may g c =
     let first = comes c.actions.kept.course c.actions.kept.progress c.deref.result.now c.next.result _ c.deref.ensures.value c.next.ensures.first c.in-Run.is in
-    may_do g.W.Wire.faults g.W.Wire.runs c.args.hall.now c.args.crew.now c.actions.crew c.args.kept.now.course c.actions.kept.course c.args.kept.now.progress c.actions.kept.progress
+    may_do g.W.Wire.faults g.W.Wire.runs c.args.hall.now c.args.crew.now c.actions.crew c.args.kept.now.course c.actions.kept.course c.args.kept.now.progress
+    c.actions.kept.progress
     (Run c.in-Run.most) c.actions.invariant.serving first
 
 pub act_run-requires-clause-site : goal.act_run-requires-clause-site
@@ -167,7 +171,8 @@ actions-preserved g c =
     record {
       serving = serving_quiet g.W.Wire.faults g.W.Wire.runs c.args.hall.now c.args.crew.now c.actions.crew c.act_pass.new.crew c.args.kept.now.course c.actions.kept.course
           c.next.new.self c.args.kept.now.progress c.actions.kept.progress c.act_pass.new.progress (Skip c.in-Skip.to) c.requires.may.wires
-          c.actions.invariant.serving first (c.next.ensures.course ∙ ap (after c.actions.kept.course c.actions.kept.progress.time) c.in-Skip.is) c.in_ok-act_pass-in-Skip.ensures.done
+          c.actions.invariant.serving first (c.next.ensures.course ∙ ap (after c.actions.kept.course c.actions.kept.progress.time) c.in-Skip.is)
+          c.in_ok-act_pass-in-Skip.ensures.done
           c.act_pass.ensures.sends c.act_pass.ensures.keeps;
       places = c.actions.invariant.places;
       coflows = c.actions.invariant.coflows;
@@ -177,36 +182,43 @@ actions-preserved g c =
 pub returns-in-End-clause-ends : goal.returns-in-End-clause-ends
 returns-in-End-clause-ends g c =
     let first = comes c.actions.kept.course c.actions.kept.progress c.deref.result.now c.next.result _ c.deref.ensures.value c.next.ensures.first c.in-End.is in
-    λ arrivals every x. ends_so c.args.hall.now c.actions.crew.runner arrivals every c.actions.kept.course c.actions.kept.progress (c.actions.invariant.serving.goes_on arrivals every x) first
+    λ arrivals every x. ends_so c.args.hall.now c.actions.crew.runner arrivals every c.actions.kept.course c.actions.kept.progress
+    (c.actions.invariant.serving.goes_on arrivals every x) first
 
 pub returns-in-End-clause-sent : goal.returns-in-End-clause-sent
 returns-in-End-clause-sent g c =
     let (arrivals, every, h) = c.actions.invariant.serving.some in
-    all_sent g.W.Wire.faults g.W.Wire.runs c.args.hall.now c.actions.crew.runner arrivals every c.actions.kept.course c.actions.kept.progress c.args.crew.now.wires c.actions.crew.wires h c.actions.invariant.serving.sent
+    all_sent g.W.Wire.faults g.W.Wire.runs c.args.hall.now c.actions.crew.runner arrivals every c.actions.kept.course c.actions.kept.progress c.args.crew.now.wires
+    c.actions.crew.wires h c.actions.invariant.serving.sent
 
 pub returns-in-End-clause-served : goal.returns-in-End-clause-served
 returns-in-End-clause-served g c =
-    λ arrivals every x. served_so g.W.Wire.faults g.W.Wire.runs c.args.hall.now c.actions.crew.runner arrivals every c.actions.kept.course c.actions.kept.progress c.args.crew.now.wires
+    λ arrivals every x. served_so g.W.Wire.faults g.W.Wire.runs c.args.hall.now c.actions.crew.runner arrivals every c.actions.kept.course c.actions.kept.progress
+    c.args.crew.now.wires
     c.actions.crew.wires (c.actions.invariant.serving.goes_on arrivals every x) c.actions.invariant.serving.sent
 
 pub returns-in-TooMany-clause-served : goal.returns-in-TooMany-clause-served
 returns-in-TooMany-clause-served g c =
-    λ arrivals every x. served_so g.W.Wire.faults g.W.Wire.runs c.args.hall.now c.actions.crew.runner arrivals every c.actions.kept.course c.actions.kept.progress c.args.crew.now.wires
+    λ arrivals every x. served_so g.W.Wire.faults g.W.Wire.runs c.args.hall.now c.actions.crew.runner arrivals every c.actions.kept.course c.actions.kept.progress
+    c.args.crew.now.wires
     c.actions.crew.wires (c.actions.invariant.serving.goes_on arrivals every x) c.actions.invariant.serving.sent
 
 pub returns-in_err-act_publish-in-Publish-clause-served : goal.returns-in_err-act_publish-in-Publish-clause-served
 returns-in_err-act_publish-in-Publish-clause-served g c =
-    λ arrivals every x. subst (HaveServed g.W.Wire.runs c.args.hall.now.setting.opening arrivals every c.args.crew.now.wires) (sym (ap (λ (m : CrewModel g.row.W.Denot). m.wires) c.act_publish.ensures.keeps))
+    λ arrivals every x. subst (HaveServed g.W.Wire.runs c.args.hall.now.setting.opening arrivals every c.args.crew.now.wires)
+    (sym (ap (λ (m : CrewModel g.row.W.Denot). m.wires) c.act_publish.ensures.keeps))
     (served_so g.W.Wire.faults g.W.Wire.runs c.args.hall.now c.actions.crew.runner arrivals every c.actions.kept.course c.actions.kept.progress c.args.crew.now.wires
     c.actions.crew.wires (c.actions.invariant.serving.goes_on arrivals every x) c.actions.invariant.serving.sent)
 
 pub returns-in_err-act_publish-in-Publish-clause-stays : goal.returns-in_err-act_publish-in-Publish-clause-stays
 returns-in_err-act_publish-in-Publish-clause-stays g c =
-    stays_on c.args.crew.now c.actions.crew c.act_publish.new.crew c.actions.invariant.serving.stays (stays_beside c.actions.crew c.act_publish.new.crew c.act_publish.ensures.keeps)
+    stays_on c.args.crew.now c.actions.crew c.act_publish.new.crew c.actions.invariant.serving.stays
+    (stays_beside c.actions.crew c.act_publish.new.crew c.act_publish.ensures.keeps)
 
 pub returns-in_err-act_pass-in-Skip-clause-served : goal.returns-in_err-act_pass-in-Skip-clause-served
 returns-in_err-act_pass-in-Skip-clause-served g c =
-    λ arrivals every x. subst (HaveServed g.W.Wire.runs c.args.hall.now.setting.opening arrivals every c.args.crew.now.wires) (sym (ap (λ (m : CrewModel g.row.W.Denot). m.wires) c.act_pass.ensures.keeps))
+    λ arrivals every x. subst (HaveServed g.W.Wire.runs c.args.hall.now.setting.opening arrivals every c.args.crew.now.wires)
+    (sym (ap (λ (m : CrewModel g.row.W.Denot). m.wires) c.act_pass.ensures.keeps))
     (served_so g.W.Wire.faults g.W.Wire.runs c.args.hall.now c.actions.crew.runner arrivals every c.actions.kept.course c.actions.kept.progress c.args.crew.now.wires
     c.actions.crew.wires (c.actions.invariant.serving.goes_on arrivals every x) c.actions.invariant.serving.sent)
 
@@ -218,7 +230,8 @@ pub returns-in_err-act_run-in-Run-clause-served : goal.returns-in_err-act_run-in
 returns-in_err-act_run-in-Run-clause-served g c =
     let first = comes c.actions.kept.course c.actions.kept.progress c.deref.result.now c.next.result _ c.deref.ensures.value c.next.ensures.first c.in-Run.is in
     λ arrivals every x.
-    c.act_run.ensures.served arrivals every c.actions.kept.course c.args.crew.now.wires (c.actions.invariant.serving.goes_on arrivals every x) first c.actions.invariant.serving.sent
+    c.act_run.ensures.served arrivals every c.actions.kept.course c.args.crew.now.wires (c.actions.invariant.serving.goes_on arrivals every x) first
+    c.actions.invariant.serving.sent
 
 pub returns-in_err-act_run-in-Run-clause-stays : goal.returns-in_err-act_run-in-Run-clause-stays
 returns-in_err-act_run-in-Run-clause-stays g c =
@@ -228,7 +241,8 @@ pub returns-in-TooMany-clause-too_many : goal.returns-in-TooMany-clause-too_many
 returns-in-TooMany-clause-too_many g c =
     λ count arrivals every e x.
     too_many c.args.hall.now c.actions.crew.runner arrivals every c.actions.kept.course c.actions.kept.progress count (c.actions.invariant.serving.goes_on arrivals every x)
-    (comes c.actions.kept.course c.actions.kept.progress c.deref.result.now c.next.result _ c.deref.ensures.value c.next.ensures.first (c.in-TooMany.is ∙ ap TooMany (ap count_of e)))
+    (comes c.actions.kept.course c.actions.kept.progress c.deref.result.now c.next.result _ c.deref.ensures.value c.next.ensures.first
+    (c.in-TooMany.is ∙ ap TooMany (ap count_of e)))
 
 pub returns-in_err-act_run-in-Run-clause-fault : goal.returns-in_err-act_run-in-Run-clause-fault
 returns-in_err-act_run-in-Run-clause-fault g c =
@@ -248,5 +262,6 @@ returns-in_err-act_run-in-Run-clause-stops g c =
     λ port arrivals every e x.
     let came : WireFault port ≡ c.in_err-act_run-in-Run.field-0.0 = carried _ _ (WireFault port) c.from_residual-in_err-act_run-in-Run.ensures.1 e in
     let first = comes c.actions.kept.course c.actions.kept.progress c.deref.result.now c.next.result _ c.deref.ensures.value c.next.ensures.first c.in-Run.is in
-    c.in_err-act_run-in-Run.ensures.stops port arrivals every c.actions.kept.course c.args.crew.now.wires (ap Err (sym came)) (c.actions.invariant.serving.goes_on arrivals every x) first
+    c.in_err-act_run-in-Run.ensures.stops port arrivals every c.actions.kept.course c.args.crew.now.wires (ap Err (sym came))
+    (c.actions.invariant.serving.goes_on arrivals every x) first
     c.actions.invariant.serving.sent

@@ -8,7 +8,8 @@ use Rattle.hall_plan.proofs.camping.serve_by_camp.Goals as goal
 pub returns-in_default-clause-wires : goal.returns-in_default-clause-wires
 returns-in_default-clause-wires g c = λ slots served.
     let same : c.into_camp.new.wires.items ≡ c.args.wires.now.items = search rules in
-    subst (λ (l : List g.row.W.Denot). HaveMore g.W.Wire.runs (AreUnits c.args.hall.now.setting.opening.table.flows slots) c.args.hall.now.setting.opening.table.ports c.args.wires.now.items l) (sym same)
+    subst (λ (l : List g.row.W.Denot). HaveMore g.W.Wire.runs (AreUnits c.args.hall.now.setting.opening.table.flows slots) c.args.hall.now.setting.opening.table.ports
+    c.args.wires.now.items l) (sym same)
     (untouched g.W.Wire.faults g.W.Wire.runs c.args.hall.now.setting.opening.table.flows slots c.args.hall.now.setting.opening.table.ports c.args.wires.now.items c.requires.wires)
 
 pub disband-requires-clause-over : goal.disband-requires-clause-over
@@ -29,21 +30,36 @@ disband-requires-clause-room g c =
     omega (arith, none, whole, long, ports, room, small)
 
 pub returns-clause-sent : goal.returns-clause-sent
-returns-clause-sent g c = let s = served_camp g.W.Wire.faults g.W.Wire.runs c.args.hall.now c.in-Ok.camp.crew c.serve_camp-served.new.crew c.serve_camp-served.result c.in-Ok.camp.far.items c.args.wires.now.items c.disband.new.wires.items
-    (c.in-Ok.ensures.camp.ports ∙ c.requires.runner.may.ports) c.disband.ensures.many c.in-Ok.ensures.camp.wires (c.disband.ensures.wires ∙ ap (λ (l : List g.row.W.Denot). l ++ (c.serve_camp-served.new.crew.wires ++ c.in-Ok.camp.far.items)) c.in-Ok.ensures.taken) c.serve_camp-served.ensures in s.sent
+returns-clause-sent g c = let s = served_camp g.W.Wire.faults g.W.Wire.runs c.args.hall.now c.in-Ok.camp.crew c.serve_camp-served.new.crew c.serve_camp-served.result
+    c.in-Ok.camp.far.items c.args.wires.now.items c.disband.new.wires.items
+    (c.in-Ok.ensures.camp.ports ∙ c.requires.runner.may.ports) c.disband.ensures.many c.in-Ok.ensures.camp.wires
+    (c.disband.ensures.wires ∙ ap (λ (l : List g.row.W.Denot). l ++ (c.serve_camp-served.new.crew.wires ++ c.in-Ok.camp.far.items)) c.in-Ok.ensures.taken)
+    c.serve_camp-served.ensures in s.sent
 
 pub returns-clause-wires : goal.returns-clause-wires
-returns-clause-wires g c = let s = served_camp g.W.Wire.faults g.W.Wire.runs c.args.hall.now c.in-Ok.camp.crew c.serve_camp-served.new.crew c.serve_camp-served.result c.in-Ok.camp.far.items c.args.wires.now.items c.disband.new.wires.items
-    (c.in-Ok.ensures.camp.ports ∙ c.requires.runner.may.ports) c.disband.ensures.many c.in-Ok.ensures.camp.wires (c.disband.ensures.wires ∙ ap (λ (l : List g.row.W.Denot). l ++ (c.serve_camp-served.new.crew.wires ++ c.in-Ok.camp.far.items)) c.in-Ok.ensures.taken) c.serve_camp-served.ensures in s.wires
+returns-clause-wires g c = let s = served_camp g.W.Wire.faults g.W.Wire.runs c.args.hall.now c.in-Ok.camp.crew c.serve_camp-served.new.crew c.serve_camp-served.result
+    c.in-Ok.camp.far.items c.args.wires.now.items c.disband.new.wires.items
+    (c.in-Ok.ensures.camp.ports ∙ c.requires.runner.may.ports) c.disband.ensures.many c.in-Ok.ensures.camp.wires
+    (c.disband.ensures.wires ∙ ap (λ (l : List g.row.W.Denot). l ++ (c.serve_camp-served.new.crew.wires ++ c.in-Ok.camp.far.items)) c.in-Ok.ensures.taken)
+    c.serve_camp-served.ensures in s.wires
 
 pub returns-clause-fault : goal.returns-clause-fault
-returns-clause-fault g c = let s = served_camp g.W.Wire.faults g.W.Wire.runs c.args.hall.now c.in-Ok.camp.crew c.serve_camp-served.new.crew c.serve_camp-served.result c.in-Ok.camp.far.items c.args.wires.now.items c.disband.new.wires.items
-    (c.in-Ok.ensures.camp.ports ∙ c.requires.runner.may.ports) c.disband.ensures.many c.in-Ok.ensures.camp.wires (c.disband.ensures.wires ∙ ap (λ (l : List g.row.W.Denot). l ++ (c.serve_camp-served.new.crew.wires ++ c.in-Ok.camp.far.items)) c.in-Ok.ensures.taken) c.serve_camp-served.ensures in s.fault
+returns-clause-fault g c = let s = served_camp g.W.Wire.faults g.W.Wire.runs c.args.hall.now c.in-Ok.camp.crew c.serve_camp-served.new.crew c.serve_camp-served.result
+    c.in-Ok.camp.far.items c.args.wires.now.items c.disband.new.wires.items
+    (c.in-Ok.ensures.camp.ports ∙ c.requires.runner.may.ports) c.disband.ensures.many c.in-Ok.ensures.camp.wires
+    (c.disband.ensures.wires ∙ ap (λ (l : List g.row.W.Denot). l ++ (c.serve_camp-served.new.crew.wires ++ c.in-Ok.camp.far.items)) c.in-Ok.ensures.taken)
+    c.serve_camp-served.ensures in s.fault
 
 pub returns-clause-least : goal.returns-clause-least
-returns-clause-least g c = let s = served_camp g.W.Wire.faults g.W.Wire.runs c.args.hall.now c.in-Ok.camp.crew c.serve_camp-served.new.crew c.serve_camp-served.result c.in-Ok.camp.far.items c.args.wires.now.items c.disband.new.wires.items
-    (c.in-Ok.ensures.camp.ports ∙ c.requires.runner.may.ports) c.disband.ensures.many c.in-Ok.ensures.camp.wires (c.disband.ensures.wires ∙ ap (λ (l : List g.row.W.Denot). l ++ (c.serve_camp-served.new.crew.wires ++ c.in-Ok.camp.far.items)) c.in-Ok.ensures.taken) c.serve_camp-served.ensures in s.least
+returns-clause-least g c = let s = served_camp g.W.Wire.faults g.W.Wire.runs c.args.hall.now c.in-Ok.camp.crew c.serve_camp-served.new.crew c.serve_camp-served.result
+    c.in-Ok.camp.far.items c.args.wires.now.items c.disband.new.wires.items
+    (c.in-Ok.ensures.camp.ports ∙ c.requires.runner.may.ports) c.disband.ensures.many c.in-Ok.ensures.camp.wires
+    (c.disband.ensures.wires ∙ ap (λ (l : List g.row.W.Denot). l ++ (c.serve_camp-served.new.crew.wires ++ c.in-Ok.camp.far.items)) c.in-Ok.ensures.taken)
+    c.serve_camp-served.ensures in s.least
 
 pub returns-clause-stops : goal.returns-clause-stops
-returns-clause-stops g c = let s = served_camp g.W.Wire.faults g.W.Wire.runs c.args.hall.now c.in-Ok.camp.crew c.serve_camp-served.new.crew c.serve_camp-served.result c.in-Ok.camp.far.items c.args.wires.now.items c.disband.new.wires.items
-    (c.in-Ok.ensures.camp.ports ∙ c.requires.runner.may.ports) c.disband.ensures.many c.in-Ok.ensures.camp.wires (c.disband.ensures.wires ∙ ap (λ (l : List g.row.W.Denot). l ++ (c.serve_camp-served.new.crew.wires ++ c.in-Ok.camp.far.items)) c.in-Ok.ensures.taken) c.serve_camp-served.ensures in s.stops
+returns-clause-stops g c = let s = served_camp g.W.Wire.faults g.W.Wire.runs c.args.hall.now c.in-Ok.camp.crew c.serve_camp-served.new.crew c.serve_camp-served.result
+    c.in-Ok.camp.far.items c.args.wires.now.items c.disband.new.wires.items
+    (c.in-Ok.ensures.camp.ports ∙ c.requires.runner.may.ports) c.disband.ensures.many c.in-Ok.ensures.camp.wires
+    (c.disband.ensures.wires ∙ ap (λ (l : List g.row.W.Denot). l ++ (c.serve_camp-served.new.crew.wires ++ c.in-Ok.camp.far.items)) c.in-Ok.ensures.taken)
+    c.serve_camp-served.ensures in s.stops

@@ -107,5 +107,6 @@ returns-in-WireFault-clause-least g c = λ port slots e served.
 pub returns-in-WireFault-clause-stops : goal.returns-in-WireFault-clause-stops
 returns-in-WireFault-clause-stops g c = λ port e.
     let x = c.slot.ensures.wire_fault c.in-WireFault.port c.in-WireFault.sent c.in-WireFault.is in
-    subst (λ p. HaveStopped g.W.Wire.runs (IsPlanBegun c.args.hall.now.setting.opening) c.args.hall.now.setting.opening p c.args.crew.now.wires c.slot.new.self.wires) (ap port_of e)
+    subst (λ p. HaveStopped g.W.Wire.runs (IsPlanBegun c.args.hall.now.setting.opening) c.args.hall.now.setting.opening p c.args.crew.now.wires c.slot.new.self.wires)
+    (ap port_of e)
     (stops_there c.loop-length.invariant.served c.slot.new.self.runner c.slot.new.self.wires c.in-WireFault.port c.in-WireFault.sent x)

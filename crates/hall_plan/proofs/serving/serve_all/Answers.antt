@@ -1,5 +1,6 @@
 use Rattle.std.proofs.Common.{sym, ◌∙◌}
-use Rattle.hall_plan.proofs.Besides.{still_at, served_so}
+use Rattle.slot_runner.proofs.Sites.{still_at}
+use Rattle.hall_plan.proofs.Besides.{served_so}
 use Rattle.hall_plan.proofs.serving.serve_all.Goals as goal
 
 pub dismiss-requires : goal.dismiss-requires

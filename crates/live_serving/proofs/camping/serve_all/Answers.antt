@@ -4,7 +4,10 @@ use Rattle.live_serving.proofs.camping.serve_all.Goals as goal
 pub dismiss-requires : goal.dismiss-requires
 dismiss-requires g c =
     let s = c.serve-served.ensures in
-    record { site = still_at c.args.stage.now.hall.now c.args.stage.now.site.now c.args.crew.now c.serve-served.new.crew c.requires.site c.requires.going.drives.may s.wires.may s.stays.0 s.stays.1 }
+    record {
+      site = still_at c.args.stage.now.hall.now c.args.stage.now.site.now c.args.crew.now c.serve-served.new.crew c.requires.site c.requires.going.drives.may s.wires.may
+          s.stays.0 s.stays.1;
+    }
 
 pub returns : goal.returns
 returns g c =

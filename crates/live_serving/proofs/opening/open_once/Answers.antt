@@ -13,12 +13,14 @@ returns-in-Ran-clause-opening g c =
 
 pub returns-in-Ran-clause-wires : goal.returns-in-Ran-clause-wires
 returns-in-Ran-clause-wires g c =
-    ran_served g.W.Wire.faults g.W.Wire.runs c.args.hall.now c.args.crew.now.runner c.slot.new.self.runner c.args.crew.now.wires c.slot.new.self.wires c.args.most c.requires.may c.requires.wires
+    ran_served g.W.Wire.faults g.W.Wire.runs c.args.hall.now c.args.crew.now.runner c.slot.new.self.runner c.args.crew.now.wires c.slot.new.self.wires c.args.most c.requires.may
+    c.requires.wires
     c.slot.ensures.again c.in-Ran.slot c.in-Ran.length c.in-Ran.count (c.slot.ensures.ran c.in-Ran.slot c.in-Ran.length c.in-Ran.count c.in-Ran.is)
 
 pub returns-in-Nothing-clause-wires : goal.returns-in-Nothing-clause-wires
 returns-in-Nothing-clause-wires g c =
-    nothing_served g.W.Wire.faults g.W.Wire.runs c.args.hall.now c.args.crew.now.runner c.slot.new.self.runner c.args.crew.now.wires c.slot.new.self.wires c.args.most c.requires.may
+    nothing_served g.W.Wire.faults g.W.Wire.runs c.args.hall.now c.args.crew.now.runner c.slot.new.self.runner c.args.crew.now.wires c.slot.new.self.wires c.args.most
+    c.requires.may
     c.requires.wires c.slot.ensures.again (c.slot.ensures.nothing c.in-Nothing.is) (c.in-Nothing.ensures.wires refl)
 
 pub returns-in-Full-clause-opening : goal.returns-in-Full-clause-opening

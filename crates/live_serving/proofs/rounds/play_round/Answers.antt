@@ -14,7 +14,8 @@ pub pulls_of-requires : goal.pulls_of-requires
 pulls_of-requires g c =
     let r = c.index-as_slice-done.result in
     record {
-      never_spent = never_out c.args.stage.now.hall.now c.args.stage.now.script.now c.args.stage.now.most c.args.done c.args.crew.now.runner c.advance-came.new.crew.runner c.args.sessions.now
+      never_spent = never_out c.args.stage.now.hall.now c.args.stage.now.script.now c.args.stage.now.most c.args.done c.args.crew.now.runner c.advance-came.new.crew.runner
+          c.args.sessions.now
           c.advance-came.new.sessions c.args.pulls.now.items r c.requires.going c.requires.one_more
           (c.index-as_slice-done.is ∙ ap (λ l. slice_index_or l c.args.done r) c.as_slice.ensures) c.advance-came.ensures.wires.may c.advance-came.result.0
           c.advance-came.ensures.clients;
@@ -24,7 +25,8 @@ pub returns-in_err-more-clause-filled : goal.returns-in_err-more-clause-filled
 returns-in_err-more-clause-filled g c = λ e.
     let r = c.index-as_slice-done.result in
     let (_, is, same) = err_from_is_err_and c.from_residual.result c.from_residual.ensures.1 in
-    stop_filled c.args.stage.now.hall.now c.args.stage.now.script.now c.args.stage.now.most c.args.done c.args.crew.now.runner c.advance-came.new.crew.runner c.args.sessions.now c.advance-came.new.sessions
+    stop_filled c.args.stage.now.hall.now c.args.stage.now.script.now c.args.stage.now.most c.args.done c.args.crew.now.runner c.advance-came.new.crew.runner c.args.sessions.now
+    c.advance-came.new.sessions
     c.args.pulls.now.items r c.requires.going c.requires.one_more (c.index-as_slice-done.is ∙ ap (λ l. slice_index_or l c.args.done r) c.as_slice.ensures)
     c.advance-came.ensures.wires.may c.advance-came.result.0 c.advance-came.result.1
     (subst (λ s. Settles c.advance-came.result (Err s)) (sym same ∙ ap stop_in (sym is ∙ e)) c.in_err-more.ensures) c.advance-came.ensures.clients
@@ -46,7 +48,8 @@ returns-clause-going g c =
     let level = subst (λ (d : DriverModel). IsLevel d c.level.new.driver c.advance-came.new.sessions c.level.new.sessions) c.driver.ensures.driver c.level.ensures.level in
     let items = c.in_ok-extend_from_slice.ensures.items ∙ ap (λ l. c.args.pulls.now.items ++ l) c.deref.ensures.value in
     subst (IsGoing c.args.stage.now.hall.now c.args.stage.now.script.now c.args.stage.now.most (c.args.done + 1) new c.level.new.sessions) (sym items)
-    (next_going c.args.stage.now.hall.now c.args.stage.now.script.now c.args.stage.now.most c.args.done c.args.crew.now.runner mid c.args.sessions.now c.advance-came.new.sessions c.args.pulls.now.items r
+    (next_going c.args.stage.now.hall.now c.args.stage.now.script.now c.args.stage.now.most c.args.done c.args.crew.now.runner mid c.args.sessions.now c.advance-came.new.sessions
+    c.args.pulls.now.items r
     c.requires.going c.requires.one_more (c.index-as_slice-done.is ∙ ap (λ l. slice_index_or l c.args.done r) c.as_slice.ensures) c.advance-came.ensures.wires.may new
     c.level.new.sessions c.in_ok-more.more settled.1
     (subst (HasPlayed c.args.stage.now.hall.now r.lines c.args.sessions.now c.advance-came.new.sessions) settled.0 c.advance-came.ensures.clients)

@@ -12,7 +12,8 @@ loop-done-init g c =
     record {
       going = h;
       gates = c.requires.gates;
-      wires = served_first g.W.Wire.faults g.W.Wire.runs c.args.stage.now.hall.now (Ok tt) c.args.crew.now.runner c.args.crew.now.wires refl h.drives.may h.drives.seen c.requires.wires;
+      wires = served_first g.W.Wire.faults g.W.Wire.runs c.args.stage.now.hall.now (Ok tt) c.args.crew.now.runner c.args.crew.now.wires refl h.drives.may h.drives.seen
+          c.requires.wires;
       at = refl;
       places = refl;
     }
@@ -26,7 +27,8 @@ pub returns-in_err-play_round-clause-wires : goal.returns-in_err-play_round-clau
 returns-in_err-play_round-clause-wires g c =
     let (_, is, same) = err_from_is_err_and c.from_residual.result c.from_residual.ensures.1 in
     rw (is, same)
-    (served_on g.W.Wire.faults g.W.Wire.runs c.args.stage.now.hall.now (Ok tt) (Err c.in_err-play_round.field-0.0) c.args.crew.now.runner c.loop-done.crew.runner c.play_round.new.crew.runner
+    (served_on g.W.Wire.faults g.W.Wire.runs c.args.stage.now.hall.now (Ok tt) (Err c.in_err-play_round.field-0.0) c.args.crew.now.runner c.loop-done.crew.runner
+    c.play_round.new.crew.runner
     c.args.crew.now.wires c.loop-done.crew.wires c.play_round.new.crew.wires c.loop-done.invariant.wires c.in_err-play_round.ensures.wires)
 
 pub loop-done-preserved : goal.loop-done-preserved
@@ -35,7 +37,8 @@ loop-done-preserved g c =
     record {
       going = next;
       gates = omega (arith, c.loop-done.invariant.gates, c.loop-done.invariant.going.seated.each, next.seated.each);
-      wires = served_on g.W.Wire.faults g.W.Wire.runs c.args.stage.now.hall.now (Ok tt) (Ok tt) c.args.crew.now.runner c.loop-done.crew.runner c.play_round.new.crew.runner c.args.crew.now.wires
+      wires = served_on g.W.Wire.faults g.W.Wire.runs c.args.stage.now.hall.now (Ok tt) (Ok tt) c.args.crew.now.runner c.loop-done.crew.runner c.play_round.new.crew.runner
+          c.args.crew.now.wires
           c.loop-done.crew.wires c.play_round.new.crew.wires c.loop-done.invariant.wires c.in_ok-play_round.ensures.wires;
       at = c.play_round.ensures.stays.0 ∙ c.loop-done.invariant.at;
       places = c.play_round.ensures.stays.1 ∙ c.loop-done.invariant.places;
@@ -43,7 +46,8 @@ loop-done-preserved g c =
 
 pub returns-clause-ending : goal.returns-clause-ending
 returns-clause-ending g c =
-    all_done c.args.stage.now.hall.now c.args.stage.now.script.now c.args.stage.now.most c.loop-done.done c.loop-done.crew.runner c.loop-done.sessions c.loop-done.pulls.items c.loop-done.invariant.going
+    all_done c.args.stage.now.hall.now c.args.stage.now.script.now c.args.stage.now.most c.loop-done.done c.loop-done.crew.runner c.loop-done.sessions c.loop-done.pulls.items
+    c.loop-done.invariant.going
     (omega (arith, c.loop-done.auto.done-end, c.loop-done-test.false, ap (λ (l : List Round). length l) c.as_slice-done-end.ensures))
 
 pub returns-in_err-play_round-clause-filled : goal.returns-in_err-play_round-clause-filled

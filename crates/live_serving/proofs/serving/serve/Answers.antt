@@ -10,11 +10,13 @@ use Rattle.live_serving.proofs.serving.serve.Goals as goal
 pub run_out-requires-clause-site : goal.run_out-requires-clause-site
 run_out-requires-clause-site g c =
     let s = c.play_all.ensures.stays in
-    still_at c.args.stage.now.hall.now c.args.stage.now.site.now c.args.crew.now c.play_all.new.crew c.requires.site c.requires.going.drives.may c.play_all.ensures.wires.may s.0 s.1
+    still_at c.args.stage.now.hall.now c.args.stage.now.site.now c.args.crew.now c.play_all.new.crew c.requires.site c.requires.going.drives.may
+    c.play_all.ensures.wires.may s.0 s.1
 
 pub returns-clause-wires : goal.returns-clause-wires
 returns-clause-wires g c =
-    served_on g.W.Wire.faults g.W.Wire.runs c.args.stage.now.hall.now (Ok tt) c.run_out.result c.args.crew.now.runner c.play_all.new.crew.runner c.run_out.new.crew.runner c.args.crew.now.wires
+    served_on g.W.Wire.faults g.W.Wire.runs c.args.stage.now.hall.now (Ok tt) c.run_out.result c.args.crew.now.runner c.play_all.new.crew.runner c.run_out.new.crew.runner
+    c.args.crew.now.wires
     c.play_all.new.crew.wires c.run_out.new.crew.wires c.in_ok-play_all.ensures.wires c.run_out.ensures.wires
 
 pub returns-in_err-play_all-clause-filled : goal.returns-in_err-play_all-clause-filled
@@ -29,7 +31,8 @@ returns-in_err-play_all-clause-wires g c =
 
 pub returns-clause-ended : goal.returns-clause-ended
 returns-clause-ended g c =
-    subst (λ (l : List PullDone). OnOk c.run_out.result (IsEnded c.args.stage.now.hall.now c.args.stage.now.script.now c.args.stage.now.most c.run_out.new.crew.runner.driver c.play_all.new.sessions l))
+    subst (λ (l : List PullDone). OnOk c.run_out.result (IsEnded c.args.stage.now.hall.now c.args.stage.now.script.now c.args.stage.now.most c.run_out.new.crew.runner.driver
+    c.play_all.new.sessions l))
     c.deref.ensures.value c.run_out.ensures.ended
 
 pub returns-clause-filled : goal.returns-clause-filled

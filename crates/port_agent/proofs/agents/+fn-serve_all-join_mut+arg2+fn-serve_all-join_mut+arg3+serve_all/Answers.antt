@@ -16,5 +16,6 @@ pub returns-then-agents-eq1-clause-tries : goal.returns-then-agents-eq1-clause-t
 returns-then-agents-eq1-clause-tries g c c' =
     let told = c'.serve-served.ensures.round in
     let fresh = c'.requires.fresh.1 0 _ (omega (arith, c'.if-agents-eq1.true)) in
-    tried_alone c'.args.board.now.ports c'.args.first _ told.took c'.args.agents.now c'.serve-served.new.self _ c'.if-agents-eq1.true told.attended.as_many fresh.none_done fresh.no_looks
+    tried_alone c'.args.board.now.ports c'.args.first _ told.took c'.args.agents.now c'.serve-served.new.self _ c'.if-agents-eq1.true told.attended.as_many fresh.none_done
+    fresh.no_looks
     told.done told.tries

@@ -64,7 +64,8 @@ post-requires-clause-flow c =
     c.next.ensures.steps in
     let (low, is, port_is) = stands o.table.flows gs xs ys k c.in-Some.flow.now c.in-Some.port.now (c.granted_flows.ensures s own) (c.granted_ports.ensures s own) lt at there in
     c.requires.flows (ingress_of o.table.flows c.in-Some.flow.now) c.in-Some.flow.now
-    (told_at o c.args.driver.now.journal (ingress_of o.table.flows c.in-Some.flow.now) ∙ (grant_at o.table.flows gs (ingress_of o.table.flows c.in-Some.flow.now) c.in-Some.flow.now clear).1
+    (told_at o c.args.driver.now.journal (ingress_of o.table.flows c.in-Some.flow.now) ∙
+    (grant_at o.table.flows gs (ingress_of o.table.flows c.in-Some.flow.now) c.in-Some.flow.now clear).1
     ((k, low, is), refl))
 
 pub post-requires-clause-port : goal.post-requires-clause-port

@@ -103,7 +103,8 @@ loop-port-preserved-then-units-length g c =
           let G = grant_in o.table.flows gs in
           let clear = facts_clear o before journal (record d { between = noted.between }) facts in
           let ports = c.granted_ports.ensures s c.loop-port.invariant.driver.1 ∙ ap (map (ingress_of o.table.flows)) facts.flows in
-          let (f, has, given, is) = found_units o.table.flows gs d c.granted_ports.result.now c.args.sent.now ports list.listed k c.in-Some.units clear (c.units_at.ensures.found c.in-Some.units c.in-Some.is) in
+          let (f, has, given, is) = found_units o.table.flows gs d c.granted_ports.result.now c.args.sent.now ports list.listed k c.in-Some.units clear
+          (c.units_at.ensures.found c.in-Some.units c.in-Some.is) in
           let whole : d.sent k ≡ d.slots = omega (arith, is, c.if-units-length.true, long) in
           keeps_noted o before d c.args.driver.now c.loop-port.driver k noted (λ h e. whole);
       first_short = λ before d long open' list.
@@ -114,7 +115,8 @@ loop-port-preserved-then-units-length g c =
           let G = grant_in o.table.flows gs in
           let clear = facts_clear o before journal (record d { between = noted.between }) facts in
           let ports = c.granted_ports.ensures s c.loop-port.invariant.driver.1 ∙ ap (map (ingress_of o.table.flows)) facts.flows in
-          let (f, has, given, is) = found_units o.table.flows gs d c.granted_ports.result.now c.args.sent.now ports list.listed k c.in-Some.units clear (c.units_at.ensures.found c.in-Some.units c.in-Some.is) in
+          let (f, has, given, is) = found_units o.table.flows gs d c.granted_ports.result.now c.args.sent.now ports list.listed k c.in-Some.units clear
+          (c.units_at.ensures.found c.in-Some.units c.in-Some.is) in
           let whole : d.sent k ≡ d.slots = omega (arith, is, c.if-units-length.true, long) in
           first_stays G d.sent d.slots k c.loop-port.fault first (λ h e. whole);
     }
@@ -158,7 +160,8 @@ loop-port-preserved g c =
           let G = grant_in o.table.flows gs in
           let clear = facts_clear o before journal (record d { between = noted.between }) facts in
           let ports = c.granted_ports.ensures s c.loop-port.invariant.driver.1 ∙ ap (map (ingress_of o.table.flows)) facts.flows in
-          let (f, has, given, is) = found_units o.table.flows gs d c.granted_ports.result.now c.args.sent.now ports list.listed k c.in-Some.units clear (c.units_at.ensures.found c.in-Some.units c.in-Some.is) in
+          let (f, has, given, is) = found_units o.table.flows gs d c.granted_ports.result.now c.args.sent.now ports list.listed k c.in-Some.units clear
+          (c.units_at.ensures.found c.in-Some.units c.in-Some.is) in
           let most = list.within f has in
           let at = (grant_is o.table.flows gs k f given).1 in
           let short : d.sent k < d.slots = omega (arith, is, c.if-units-length.false, long, most, ap d.sent at) in
@@ -172,7 +175,8 @@ loop-port-preserved g c =
           let G = grant_in o.table.flows gs in
           let clear = facts_clear o before journal (record d { between = noted.between }) facts in
           let ports = c.granted_ports.ensures s c.loop-port.invariant.driver.1 ∙ ap (map (ingress_of o.table.flows)) facts.flows in
-          let (f, has, given, is) = found_units o.table.flows gs d c.granted_ports.result.now c.args.sent.now ports list.listed k c.in-Some.units clear (c.units_at.ensures.found c.in-Some.units c.in-Some.is) in
+          let (f, has, given, is) = found_units o.table.flows gs d c.granted_ports.result.now c.args.sent.now ports list.listed k c.in-Some.units clear
+          (c.units_at.ensures.found c.in-Some.units c.in-Some.is) in
           let most = list.within f has in
           let at = (grant_is o.table.flows gs k f given).1 in
           let short : c.in-Some.units < d.slots = omega (arith, is, c.if-units-length.false, long, most, ap d.sent at) in

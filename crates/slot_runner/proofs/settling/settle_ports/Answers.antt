@@ -110,7 +110,8 @@ settle_port-requires-clause-somebody c =
     let f = get_or gs k 0 in
     let so_far = c.loop-port.invariant.settled before d open' waiting in (
       post_of o.table.flows d.first d.slots f,
-      ap (λ p. last_at p c.loop-port.poster.view.posts) port_is ∙ last_now o.table.flows gs d.sent d.first d.slots c.args.board.now.ports clear inside c.args.poster.now.view waiting c.loop-port.poster.view k f low is so_far,
+      ap (λ p. last_at p c.loop-port.poster.view.posts) port_is ∙ last_now o.table.flows gs d.sent d.first d.slots c.args.board.now.ports clear inside c.args.poster.now.view
+          waiting c.loop-port.poster.view k f low is so_far,
       somebody_now o.table.flows gs d.sent d.first d.slots c.args.board.now.ports clear inside c.args.poster.now.view waiting c.loop-port.poster.view k f low is so_far,
     )
 
@@ -165,8 +166,11 @@ loop-port-preserved c =
           let (low, port_is, is) = beside o.table.flows gs ys k 0 listed c.loop-port-test.true in
           let f = get_or gs k 0 in
           let so_far = c.loop-port.invariant.settled before d open' waiting in
-          let by = c.settle_port.ensures.sent (post_of o.table.flows d.first d.slots f) (ap (λ p. last_at p c.loop-port.poster.view.posts) port_is ∙ last_now o.table.flows gs d.sent d.first d.slots c.args.board.now.ports clear inside c.args.poster.now.view waiting c.loop-port.poster.view k f low is so_far) in
-          settles o.table.flows gs d.sent d.first d.slots c.args.board.now.ports clear inside c.args.poster.now.view waiting c.loop-port.poster.view k f low is so_far c.settle_port.new.poster.view c.settle_port.result by;
+          let by = c.settle_port.ensures.sent (post_of o.table.flows d.first d.slots f)
+          (ap (λ p. last_at p c.loop-port.poster.view.posts) port_is ∙ last_now o.table.flows gs d.sent d.first d.slots c.args.board.now.ports clear inside
+          c.args.poster.now.view waiting c.loop-port.poster.view k f low is so_far) in
+          settles o.table.flows gs d.sent d.first d.slots c.args.board.now.ports clear inside c.args.poster.now.view waiting c.loop-port.poster.view k f low is so_far
+          c.settle_port.new.poster.view c.settle_port.result by;
       sent = λ before d open' waiting.
           let facts = open_facts o before journal d seen.legal seen.in_range open'.under_way in
           let gs = driven o before d in
@@ -177,8 +181,11 @@ loop-port-preserved c =
           let (low, port_is, is) = beside o.table.flows gs ys k 0 listed c.loop-port-test.true in
           let f = get_or gs k 0 in
           let so_far = c.loop-port.invariant.settled before d open' waiting in
-          let by = c.settle_port.ensures.sent (post_of o.table.flows d.first d.slots f) (ap (λ p. last_at p c.loop-port.poster.view.posts) port_is ∙ last_now o.table.flows gs d.sent d.first d.slots c.args.board.now.ports clear inside c.args.poster.now.view waiting c.loop-port.poster.view k f low is so_far) in
-          let number = number_is o.table.flows gs d.sent d.first d.slots c.args.board.now.ports clear inside c.args.poster.now.view waiting c.loop-port.poster.view k f low is so_far c.settle_port.new.poster.view c.settle_port.result by in
+          let by = c.settle_port.ensures.sent (post_of o.table.flows d.first d.slots f)
+          (ap (λ p. last_at p c.loop-port.poster.view.posts) port_is ∙ last_now o.table.flows gs d.sent d.first d.slots c.args.board.now.ports clear inside
+          c.args.poster.now.view waiting c.loop-port.poster.view k f low is so_far) in
+          let number = number_is o.table.flows gs d.sent d.first d.slots c.args.board.now.ports clear inside c.args.poster.now.view waiting c.loop-port.poster.view k f low is
+          so_far c.settle_port.new.poster.view c.settle_port.result by in
           c.push_reserved.ensures.items ∙ (λ i. c.loop-port.invariant.sent before d open' waiting i ++ number i ∷ []) ∙
           sym (take_next (sent_from o.table.flows d) gs k f low is);
     }

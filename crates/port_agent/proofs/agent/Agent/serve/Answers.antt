@@ -4,7 +4,8 @@ use Rattle.port_agent.proofs.Rounds.{begins, ends, goes_idle, goes_took}
 use Rattle.port_agent.proofs.agent.Agent.serve.Goals as goal
 
 pub returns-clause-round : goal.returns-clause-round
-returns-clause-round g c = ends g.W.Wire.faults g.W.Wire.runs c.args.board.now.ports c.args.first c.loop-offset.offset c.args.self.now.view c.loop-offset.self.view c.args.wires.now c.loop-offset.wires
+returns-clause-round g c = ends g.W.Wire.faults g.W.Wire.runs c.args.board.now.ports c.args.first c.loop-offset.offset c.args.self.now.view c.loop-offset.self.view c.args.wires.now
+    c.loop-offset.wires
     c.loop-offset.served (search rules) c.loop-offset.invariant.so_far
 
 pub loop-offset-preserved-in_default : goal.loop-offset-preserved-in_default
@@ -14,7 +15,8 @@ loop-offset-preserved-in_default g c =
       own = c.in_default.ensures.own ∙ c.loop-offset.invariant.own;
       same = c.in_default.ensures.same ∙ c.loop-offset.invariant.same;
       few = c.loop-offset.invariant.few;
-      so_far = goes_idle g.W.Wire.faults g.W.Wire.runs c.args.board.now.ports c.args.first i c.args.self.now.view c.loop-offset.self.view c.serve_port.new.self.view c.args.wires.now c.loop-offset.wires
+      so_far = goes_idle g.W.Wire.faults g.W.Wire.runs c.args.board.now.ports c.args.first i c.args.self.now.view c.loop-offset.self.view c.serve_port.new.self.view
+          c.args.wires.now c.loop-offset.wires
           c.serve_port.new.wire c.loop-offset-test.true c.loop-offset.served
           (get_or c.loop-offset.wires i c.index-wires-offset.result) c.loop-offset.invariant.so_far (λ d. get_or_default c.loop-offset.wires i c.index-wires-offset.result d inside)
           c.in_default.ensures.port;
@@ -27,7 +29,8 @@ loop-offset-preserved g c =
       own = c.in-Some.ensures.own ∙ c.loop-offset.invariant.own;
       same = c.in-Some.ensures.same ∙ c.loop-offset.invariant.same;
       few = c.loop-offset.invariant.few;
-      so_far = goes_took g.W.Wire.faults g.W.Wire.runs c.args.board.now.ports c.args.first i c.args.self.now.view c.loop-offset.self.view c.serve_port.new.self.view c.args.wires.now c.loop-offset.wires
+      so_far = goes_took g.W.Wire.faults g.W.Wire.runs c.args.board.now.ports c.args.first i c.args.self.now.view c.loop-offset.self.view c.serve_port.new.self.view
+          c.args.wires.now c.loop-offset.wires
           c.serve_port.new.wire c.loop-offset-test.true c.loop-offset.served c.add.new.self
           (get_or c.loop-offset.wires i c.index-wires-offset.result) c.in-Some.length c.in-Some.sent c.loop-offset.invariant.so_far
           (λ d. get_or_default c.loop-offset.wires i c.index-wires-offset.result d inside) c.in-Some.ensures.port c.add.ensures;
@@ -38,5 +41,6 @@ loop-offset-init g c = record {
   own = refl;
   same = refl;
   few = subst (λ z. z ≤ 1025) c.ports-few.ensures.ports c.ports-few.ensures.range.1;
-  so_far = begins g.W.Wire.faults g.W.Wire.runs c.args.board.now.ports c.args.first c.args.self.now.view c.args.wires.now (record { drawn = 0; sent = 0; short = 0 }) refl refl refl;
+  so_far = begins g.W.Wire.faults g.W.Wire.runs c.args.board.now.ports c.args.first c.args.self.now.view c.args.wires.now (record { drawn = 0; sent = 0; short = 0 })
+      refl refl refl;
 }

@@ -99,7 +99,8 @@ serve_crew-requires-clause-distinct g c =
 pub serve_crew-requires-clause-posted : goal.serve_crew-requires-clause-posted
 serve_crew-requires-clause-posted g c =
     let i = c.self.inside in
-    posted_on c.args.hall.now.setting.opening.table.flows (all_granted c.args.hall.now.setting.opening i.driver.journal) c.args.slot c.args.slots i.poster.view c.post_grants.new.poster.view
+    posted_on c.args.hall.now.setting.opening.table.flows (all_granted c.args.hall.now.setting.opening i.driver.journal) c.args.slot c.args.slots i.poster.view
+    c.post_grants.new.poster.view
     c.post_grants.ensures.posted c.self.invariant.1.posted c.self.invariant.1.apart
 
 pub settle_ports-requires-clause-run : goal.settle_ports-requires-clause-run

@@ -64,7 +64,8 @@ post_grants-requires-clause-length g c =
 pub serve_run-requires-clause-posted : goal.serve_run-requires-clause-posted
 serve_run-requires-clause-posted g c κs within =
     let i = c.self.inside in
-    posted_on c.args.hall.now.setting.opening.table.flows (all_granted c.args.hall.now.setting.opening i.driver.journal) c.args.slot c.args.slots i.poster.view c.post_grants.new.poster.view
+    posted_on c.args.hall.now.setting.opening.table.flows (all_granted c.args.hall.now.setting.opening i.driver.journal) c.args.slot c.args.slots i.poster.view
+    c.post_grants.new.poster.view
     c.post_grants.ensures.posted
     c.self.invariant.2.posted c.self.invariant.2.apart
 
@@ -285,7 +286,8 @@ returns g c = record {
       let there = told o before d i.driver within seen open' c.args.slot c.args.slots i.board.ports i.posted_to first long own.1 i.poster.view c.post_grants.new.poster.view
       idle low c.post_grants.ensures.posted g.W.Wire.faults g.W.Wire.runs c.serve_run.new.poster.view _ c.serve_run.new.wires all many in
       let settled = c.settle_ports.ensures.settled before (record d { sent = sent }) there here in
-      let list = listed o before d i.driver within seen open' c.args.slot c.args.slots i.board.ports i.posted_to first long own.1 i.poster.view c.post_grants.new.poster.view idle low
+      let list = listed o before d i.driver within seen open' c.args.slot c.args.slots i.board.ports i.posted_to first long own.1 i.poster.view
+      c.post_grants.new.poster.view idle low
       c.post_grants.ensures.posted g.W.Wire.faults g.W.Wire.runs c.serve_run.new.poster.view _ c.serve_run.new.wires all many c.deref.result.now
       (c.deref.ensures.value ∙ c.settle_ports.ensures.sent before (record d { sent = sent }) there here) in
       let noted = c.note_short_ports-fault.ensures.noted before (record d { sent = sent }) long there list in
