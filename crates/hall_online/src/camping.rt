@@ -1,4 +1,4 @@
-//! An online run by agents that live through all of its runs.
+//! An online run by a crew whose helpers live through all of its runs.
 ghost use Rattle.std.specs.Prelude.{◌≡◌, ℕ, ◌<◌, ◌≤◌, [], Err, List, OnOk, length, slice_index_or, vec_capacity};
 ghost use Rattle.outside.specs.Rose.{Rose};
 ghost use Rattle.slot_runner.specs.Cuts.{HaveStopped};

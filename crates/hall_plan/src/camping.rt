@@ -1,4 +1,4 @@
-//! The runs of a plan, by agents that live through all of them.
+//! The runs of a plan, by a crew whose helpers live through all of them.
 ghost use Rattle.std.specs.Prelude.{◌≡◌, ℕ, ◌<◌, ◌≤◌, [], List, Err, IfOk, length, slice_index_or};
 ghost use Rattle.outside.specs.Rose.{Rose};
 ghost use Rattle.coflow_units.specs.Served.{IsServed};

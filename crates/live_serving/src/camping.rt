@@ -1,4 +1,4 @@
-//! A script served by agents that live through all of its rounds and runs.
+//! A script served by a crew whose helpers live through all of its rounds and runs.
 ghost use Rattle.std.specs.Prelude.{◌≡◌, ◌≤◌, length, map};
 ghost use denote.Param.Send.{IsSync};
 ghost use Rattle.crews.specs.Sections.{helper_at};

@@ -27,8 +27,8 @@ use workload::Script;
 /// Round follows on round, beside a run of slots where one is asked for, and between them all callers see what one of
 /// them has seen. After the last round runs are opened until nothing is left, each run of at most so many slots. So many
 /// agents beside each other, at most one for each port, send the units on the wires, one for each ingress port, and
-/// further wires are left alone. The agents live through all rounds and runs, and have the wires meanwhile. At every
-/// answer the wires stand in the vector again, in their order.
+/// further wires are left alone. The helpers live through all rounds and runs, and the crew has the wires meanwhile. At
+/// every answer the wires stand in the vector again, in their order.
 ///
 /// `WireFault` comes only where the count of that port's wire rose in this call. It is the least port at which a unit of
 /// the last run is missing, and no further run is opened after it. `NoMemory` is want of memory. At every answer what was

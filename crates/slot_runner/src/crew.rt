@@ -1,4 +1,4 @@
-//! A runner with a crew: agents that live through all its runs.
+//! A runner with a crew: its helpers live through all its runs.
 ghost use Rattle.std.specs.Prelude.{◌≡◌, ℕ, ◌+◌, ◌<◌, ◌≤◌, ◌⊎◌, ◌^◌, false, List, [], length, map, Option, Some, vec_capacity};
 ghost use Rattle.std.specs.Borrow.{Lends, sem};
 ghost use Rattle.slot_runner.specs.contracts.crew.Crew.{the_row};

@@ -150,8 +150,8 @@ fn a_new_seat_finds_what_the_root_left(rt: HostRuntime) {
     assert!(rt; same, "other lines, or no memory for them");
 }
 
-// No clause says that a thread that sleeps is woken. Where the end of a turn wakes at another word, or a wait sleeps past its turn, some thread sleeps
-// for ever here.
+// No clause says that a thread that waits gets on. Where the end of a turn lets nobody in, some thread waits for ever here. Callers near their turn look
+// before they sleep, so that few sleep here.
 #[test]
 fn the_root_and_two_seats_take_many_turns(rt: HostRuntime) {
     let Ok((gate, mut root)) = Turnstile::new(rt.alloc(), empty(&rt)) else {
