@@ -1,5 +1,5 @@
 -- An agent reads the length of a grant that it drew, counts its units and reports them.
-use Rattle.std.proofs.Common.{◌≡◌, ◌≢◌, inl, ℕ, ◌+◌, ◌<◌, ◌≤◌, eqb, List, [], ◌∷◌, get_or, set, sym, refl, ap, ◌∙◌, subst, arith, Bool, true}
+use Rattle.std.proofs.Common.{◌≡◌, ◌≢◌, ◌⊎◌, inl, inr, ℕ, ◌+◌, ◌<◌, ◌≤◌, eqb, List, [], ◌∷◌, get_or, set, sym, refl, ap, ◌∙◌, subst, arith, Bool, true}
 use Rattle.std.proofs.Common.{filter, not, true≢false, length-set, get_or-set_other, get_or-set_same, eq-eqb, ne_eqb}
 use Rattle.std.specs.Prelude.{All, Contains, slice_index}
 use Rattle.std.proofs.lemmas.List.Elements.{All-push, All-weaker, All-filter, filter_passes, All-contains, Contains-push, Contains-append_left}
@@ -21,7 +21,7 @@ use Rattle.port_board.specs.declared.view.Kind.TheVariants.{Agent}
 use Rattle.port_board.specs.Views.{report, number_of, is_of, reported_as}
 use Rattle.port_board.specs.Rule.{grant_at, count_after, DifferAt, ReportsDiffer, Posted, Out, Back, Gone, Closed, CameOk, StepOk, Counts, Knows}
 use Rattle.port_board.specs.Rule.{Kept}
-use Rattle.port_board.specs.Tells.{won_count, after_length, reads_length, counts, counted, reports}
+use Rattle.port_board.specs.Tells.{won_count, after_length, reads_length, count_held, counts, reports}
 use Rattle.coflow_units.proofs.PortWords.{IsDrawn, IsReported, drawer, reporter, units, slot_of-reported}
 use Rattle.port_board.proofs.Puts.{put2, put2_here, put2_other}
 use Rattle.port_board.proofs.Lists.{is_of-same, is_of-false, filter_keeps}
@@ -130,8 +130,26 @@ module _ (n : ℕ) where
         refl,
       )
 
-  -- the report by the agent that has the grant out and has written its count
-  pub reporting : (slots id : ℕ) (me : M) (p x sent a : ℕ) (g : Grant) → me.0.kind ≡ Agent a → me.0.step ≡ Counted (n + p) sent → Contains me.0.out g → g.port ≡ p → p < n →
+  -- what the agent knows of the count word of a port where it has a grant of this length out: it has written the number
+  -- there, or the number is the length
+  abbrev pub WroteCount : ℕ → ℕ → ℕ → Step → Type 0
+  WroteCount p length sent st = (st ≡ Counted (n + p) sent) ⊎ ((st ≡ Rests) × (length ≡ sent))
+
+  count_there : (p length sent : ℕ) (st : Step) → WroteCount p length sent st → count_after n st p length ≡ sent
+  count_there p length sent st (inl is) = ap (λ z. count_after n z p length) is ∙ cond-true (eqb (n + p) (n + p)) sent length (eq-eqb (n + p) (n + p) refl)
+  count_there p length sent st (inr is) = ap (λ z. count_after n z p length) is.0 ∙ is.1
+
+  count_elsewhere : (p length sent : ℕ) (st : Step) → WroteCount p length sent st → (q l : ℕ) → q ≢ p → count_after n st q l ≡ l
+  count_elsewhere p length sent st (inl is) q l other = ap (λ z. count_after n z q l) is ∙
+      cond-false (eqb (n + q) (n + p)) sent l (ne_eqb (n + q) (n + p) (λ e. other (omega arith)))
+  count_elsewhere p length sent st (inr is) q l other = ap (λ z. count_after n z q l) is.0
+
+  pub count_told : (p length sent : ℕ) (st : Step) → WroteCount p length sent st → count_held st length ≡ sent
+  count_told p length sent st (inl is) = ap (λ z. count_held z length) is
+  count_told p length sent st (inr is) = ap (λ z. count_held z length) is.0 ∙ is.1
+
+  -- the report by the agent that has the grant out, for the number that its count word holds
+  pub reporting : (slots id : ℕ) (me : M) (p x sent a : ℕ) (g : Grant) → me.0.kind ≡ Agent a → WroteCount p g.length sent me.0.step → Contains me.0.out g → g.port ≡ p → p < n →
       x ≡ word_of (reported a sent) g.slot g.flow
       → Allows (Kept n) slots id me p (λ _. x) (λ _. reports (step slots p x 0 none) me x)
   reporting slots id me p x sent a g agent_is was has at_port inside word_is s r _ at _ =
@@ -158,11 +176,10 @@ module _ (n : ℕ) where
         granted_new = λ e. absurd (subst IsReported e tt);
       } in
       let counts' : (q : ℕ) → slice_index words' (n + q) ≡ slice_index s.words (n + q) = λ q. get_or-set_other s.words p (n + q) x 0 (λ e. absurd (omega arith)) in
-      let counting_is : All (Counts r.cargo r.stage n s.words (Counted (n + p) sent)) v.out = subst (λ (st : Step). All (Counts r.cargo r.stage n s.words st) v.out) was k.counts in
       let count_is : slice_index s.words (n + p) ≡ sent =
-      subst (λ (z : ℕ). slice_index s.words (n + z) ≡ count_after n (Counted (n + p) sent) z g.length) at_port
-      (All-contains (Counts r.cargo r.stage n s.words (Counted (n + p) sent)) v.out g counting_is has)
-      ∙ cond-true (eqb (n + p) (n + p)) sent g.length (eq-eqb (n + p) (n + p) refl) in
+      subst (λ (z : ℕ). slice_index s.words (n + z) ≡ count_after n v.step z g.length) at_port
+      (All-contains (Counts r.cargo r.stage n s.words v.step) v.out g k.counts has)
+      ∙ count_there p g.length sent v.step was in
       let b : ByAgent r.slot r.cargo r.stage p c n s.words words' = record {
         had = had;
         made = f.made;
@@ -175,8 +192,7 @@ module _ (n : ℕ) where
       let test : Grant → Bool = λ h. not (is_of g.port g.slot h) in
       let passes : All (λ h. test h ≡ true) (filter test v.out) = filter_passes test v.out in
       let outs : All (Out r.cargo r.stage (number_of v.kind)) (filter test v.out) = All-filter test (Out r.cargo r.stage (number_of v.kind)) v.out k.out in
-      let olds : All (Counts r.cargo r.stage n s.words (Counted (n + p) sent)) (filter test v.out) =
-      All-filter test (Counts r.cargo r.stage n s.words (Counted (n + p) sent)) v.out counting_is in
+      let olds : All (Counts r.cargo r.stage n s.words v.step) (filter test v.out) = All-filter test (Counts r.cargo r.stage n s.words v.step) v.out k.counts in
       let apart : (h : Grant) → Out r.cargo r.stage (number_of v.kind) h → test h ≡ true → h.port ≢ p = λ h o t e. true≢false
       (sym t ∙ ap not (is_of-same g.port g.slot h (e ∙ sym at_port)
       (port.drawn_last h.slot (number_of v.kind) (subst (λ (z : ℕ). r.stage z h.slot ≡ drawn (number_of v.kind)) e o.0) ∙ sym last))) in
@@ -186,8 +202,7 @@ module _ (n : ℕ) where
         out = λ i d lt. let h : Grant = get_or (filter test v.out) i d in let o = outs i d lt in
             (put2_other r.stage p (r.slot p) c h.port h.slot (λ e _. apart h o (passes i d lt) e) ∙ o.0, o.1);
         counts = λ i d lt. let h : Grant = get_or (filter test v.out) i d in let away = apart h (outs i d lt) (passes i d lt) in
-            let places : n + h.port ≢ n + p = λ e. away (omega arith) in
-            counts' h.port ∙ (olds i d lt ∙ cond-false (eqb (n + h.port) (n + p)) sent h.length (ne_eqb (n + h.port) (n + p) places));
+            counts' h.port ∙ (olds i d lt ∙ count_elsewhere p g.length sent v.step was h.port h.length away);
         done = All-push (Back r.cargo stage' (number_of v.kind)) v.done (report g sent)
             (All-weaker (Back r.cargo r.stage (number_of v.kind)) (Back r.cargo stage' (number_of v.kind))
             (back_stays r.slot r.slot r.cargo r.cargo r.stage p (r.slot p) c f (λ _ _ _. refl) (λ q. omega arith) (number_of v.kind)) v.done k.done)
@@ -220,5 +235,5 @@ module _ (n : ℕ) where
             (λ y t. Contains-append_left v.done (report g sent ∷ []) y t),
         (λ h t pe se. let o = All-contains (Out r.cargo r.stage (number_of v.kind)) v.out h k.out t in
             let same : h ≡ g = o.1 ∙ ((λ i. grant_at r.cargo ((pe ∙ sym at_port) i) ((se ∙ slot_is) i)) ∙ sym is_out.1) in
-            λ i. (reported_as (sym same i) (ap counted (sym was) i) v, me.1)),
+            λ i. (reported_as (sym same i) ((sym (count_told p g.length sent v.step was) ∙ ap (λ (y : Grant). count_held v.step y.length) (sym same)) i) v, me.1)),
       )

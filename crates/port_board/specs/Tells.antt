@@ -76,10 +76,15 @@ abbrev pub counted : Step → ℕ
 counted (Counted place count) = count
 counted _ = 0
 
--- an agent reports the number that it wrote in the count word
+-- what the count word of a drawn grant holds: what was written there, or else the length of the grant
+abbrev pub count_held : Step → ℕ → ℕ
+count_held (Counted place count) length = count
+count_held _ length = length
+
+-- an agent reports the number that the count word holds
 abbrev pub reports : Of → Sat → ℕ → Sat → Type 0
 reports st m stored m' = (g : Grant) → Contains m.0.out g → g.port ≡ st.word → g.slot ≡ slot_of stored →
-    m' ≡ (reported_as g (counted m.0.step) m.0, m.1)
+    m' ≡ (reported_as g (count_held m.0.step g.length) m.0, m.1)
 
 -- the poster posts a grant whose length it wrote in the count word
 abbrev pub posts : Of → Sat → ℕ → Sat → Type 0

@@ -277,11 +277,13 @@ impl PortBoard {
             port,
             slot,
             flow,
-            length: _,
+            length,
         } = drawn;
         let shared = &self.table;
-        let count = count_place(seat.ports, port);
-        shared.store::<Counts>(&mut seat.place, count, sent);
+        if sent < length {
+            let count = count_place(seat.ports, port);
+            shared.store::<Counts>(&mut seat.place, count, sent);
+        }
         let word = PortWord {
             stage: PostStage::Reported,
             slot,

@@ -33,7 +33,7 @@ impl Play<(), View> for Counts {
     ghost then = { counts };
 }
 
-/// An agent stores a reported word.
+/// An agent stores a reported word, for the number that the count word holds.
 pub struct Reports;
 
 impl Play<(), View> for Reports {
