@@ -1,7 +1,7 @@
-use Rattle.std.proofs.Common.{ap, arith, length, List, Ok, Err, refl, ◌∙◌}
+use Rattle.std.proofs.Common.{ap, arith, length, List, Ok, Err, refl, sym, ◌∙◌}
 use Rattle.std.proofs.lemmas.Result.{err_from_is_err_and}
 use Rattle.workload.specs.declared.script.Round.{Round}
-use Rattle.live_serving.proofs.Crewed.{still_at}
+use Rattle.slot_runner.proofs.Sites.{still_at}
 use Rattle.live_serving.proofs.EndingRuns.{all_done}
 use Rattle.live_serving.proofs.WiresOn.{served_first, served_on}
 use Rattle.live_serving.proofs.serving.play_all.Goals as goal
@@ -21,7 +21,7 @@ loop-done-init g c =
 pub play_round-requires-clause-site : goal.play_round-requires-clause-site
 play_round-requires-clause-site g c κs within =
     let i = c.loop-done.invariant in
-    still_at c.args.stage.now.hall.now c.args.stage.now.site.now c.args.crew.now c.loop-done.crew c.requires.site c.requires.going.drives.may i.going.drives.may i.at i.places
+    still_at c.args.stage.now.site.now c.args.crew.now c.loop-done.crew c.requires.site i.at i.places (i.going.drives.may.ports ∙ sym c.requires.going.drives.may.ports)
 
 pub returns-in_err-play_round-clause-wires : goal.returns-in_err-play_round-clause-wires
 returns-in_err-play_round-clause-wires g c =

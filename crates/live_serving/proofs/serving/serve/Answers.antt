@@ -1,17 +1,17 @@
-use Rattle.std.proofs.Common.{List, Ok, subst}
+use Rattle.std.proofs.Common.{List, Ok, sym, subst, ◌∙◌}
 use Rattle.std.specs.Prelude.{OnOk}
 use Rattle.std.proofs.lemmas.Result.{err_from_is_err_and}
 use Rattle.live_rounds.specs.declared.answer.PullDone.{PullDone}
 use Rattle.live_serving.specs.Going.{IsEnded}
-use Rattle.live_serving.proofs.Crewed.{still_at}
+use Rattle.slot_runner.proofs.Sites.{still_at}
 use Rattle.live_serving.proofs.WiresOn.{served_on}
 use Rattle.live_serving.proofs.serving.serve.Goals as goal
 
 pub run_out-requires-clause-site : goal.run_out-requires-clause-site
 run_out-requires-clause-site g c =
     let s = c.play_all.ensures.stays in
-    still_at c.args.stage.now.hall.now c.args.stage.now.site.now c.args.crew.now c.play_all.new.crew c.requires.site c.requires.going.drives.may
-    c.play_all.ensures.wires.may s.0 s.1
+    still_at c.args.stage.now.site.now c.args.crew.now c.play_all.new.crew c.requires.site s.0 s.1
+    (c.play_all.ensures.wires.may.ports ∙ sym c.requires.going.drives.may.ports)
 
 pub returns-clause-wires : goal.returns-clause-wires
 returns-clause-wires g c =
