@@ -1,13 +1,14 @@
--- The poster writes the length of a post, and then the post.
+-- The poster writes the length of a post, where the count word does not hold it already, and then the post.
 use Rattle.std.proofs.Common.{◌≡◌, ◌≢◌, ◌⊎◌, inl, ℕ, ◌+◌, ◌<◌, ◌≤◌, eqb, List, [], ◌∷◌, ◌++◌, get_or, set, sym, refl, ap, ◌∙◌, subst, arith, Option, Some, None}
 use Rattle.std.proofs.Common.{true, false, not, length-set, get_or-set_other, get_or-set_same, eq-eqb, ne_eqb}
 use Rattle.std.specs.Prelude.{Contains, slice_index}
-use Rattle.std.proofs.lemmas.List.Elements.{All-push, All-weaker, Contains-push, Contains-append_left}
+use Rattle.std.proofs.lemmas.List.Elements.{All-push, All-weaker, All-contains, Contains-push, Contains-append_left}
 use Rattle.std.proofs.lemmas.List.Folds.{list_any_none}
 use Rattle.std.proofs.lemmas.Bool.{cond-true, cond-false}
 use mathlib.Core.Logic.{dite}
-use mathlib.Core.Option.{none}
+use mathlib.Core.Option.{none, some}
 use native.Mathlib.Decide.{ℕ_discrete}
+use lib.ListN.{get_elem?}
 use Rattle.atomic_table.specs.Table.{step, keeps, Allows}
 use Rattle.coflow_units.specs.PortWord.{PortStage, word_of, FitsWord, slot_of, flow_of}
 use Rattle.coflow_units.specs.PortWord.PortStage.{unposted, granted, drawn, reported, taken_back}
@@ -16,17 +17,17 @@ use Rattle.port_board.specs.declared.view.Settlement.{Settlement}
 use Rattle.port_board.specs.declared.view.Step.TheVariants.{Rests, Counted}
 use Rattle.port_board.specs.declared.view.View.{View}
 use Rattle.port_board.specs.declared.view.Kind.TheVariants.{Poster}
-use Rattle.port_board.specs.Views.{grant, report, settlement, number_of, is_of, last_at, last_slot, slot_or_none, is_left, is_unsettled, posted_too}
+use Rattle.port_board.specs.Views.{grant, report, settlement, number_of, is_of, last_at, last_slot, slot_or_none, is_left, is_unsettled, posted_too, IsHeld}
 use Rattle.port_board.specs.Rule.{Cargo, PortOk, grant_at, count_after, stage_after, Posted, Out, Closed, Knows, PosterStep, PosterOk, HasOut, HasDone, Kept}
-use Rattle.port_board.specs.Tells.{counts, counted, posts}
-use Rattle.coflow_units.proofs.PortWords.{IsUnposted, IsGranted, IsDrawn, IsReported, IsTaken, slot_of-granted, flow_of-granted}
+use Rattle.port_board.specs.Tells.{counts, counted, posts, posts_again}
+use Rattle.coflow_units.proofs.PortWords.{IsUnposted, IsGranted, IsDrawn, IsReported, IsTaken, units, slot_of-granted, flow_of-granted}
 use Rattle.coflow_units.proofs.Changes.{put, put_here, put_else}
 use Rattle.port_board.proofs.Puts.{put2, put2_here, put2_other, put2_cases}
 use Rattle.port_board.proofs.Lists.{last_pushed, is_of-false}
 use Rattle.port_board.proofs.Stays.{Follows, grant_same, knows_stays, knows_stays_counted}
-use Rattle.port_board.proofs.Moves.{rebuilt}
+use Rattle.port_board.proofs.Moves.{St, rebuilt}
 use Rattle.port_board.proofs.AgentSteps.{M, goes_same, ports_stay, counts_stay}
-use Rattle.port_board.proofs.Agreements.{free_port}
+use Rattle.port_board.proofs.Agreements.{free_port, last_post}
 use Rattle.port_board.proofs.PosterSteps.{one_poster, rests_plain}
 
 module _ (n : ℕ) where
@@ -87,20 +88,16 @@ module _ (n : ℕ) where
       reported_not : (q a u : ℕ) → q ≡ p → r.stage q (r.slot q) ≡ reported a u → m ≡ count_after n (Counted i m) q u
       reported_not q a u same e = sym (cond-true (eqb (n + q) i) m u (eq-eqb (n + q) i (ap (λ z. n + z) same ∙ sym at_count)))
 
-  -- the poster posts a grant whose length it has written
-  pub posting : (slots id : ℕ) (me : M) (p x k flow long : ℕ) → me.0.kind ≡ Poster → me.0.step ≡ Counted (n + p) long → p < n → last_slot p me.0.posts < k → FitsWord k flow →
-      1 ≤ long → long ≤ 2199023255552 → x ≡ word_of granted k flow
-      → Allows (Kept n) slots id me p (λ _. x) (λ _. posts (step slots p x 0 none) me x)
-  posting slots id me p x k flow long is counted_is inside above fits least most word_is s r _ at _ =
-      let v : View = me.0 in
+  -- the poster posts a grant at a port where nothing is granted or drawn and the count word holds the length
+  granting : (s : St) (r : Kept n s) (id : ℕ) (v : View) (p x k flow long : ℕ) → get_elem? s.views id ≡ some v → v.kind ≡ Poster → p < n → last_slot p v.posts < k →
+      FitsWord k flow → 1 ≤ long → long ≤ 2199023255552 → x ≡ word_of granted k flow → slice_index s.words (n + p) ≡ long → r.stage p (r.slot p) ≢ granted →
+      ((j : ℕ) → r.stage p (r.slot p) ≢ drawn j) → ((q a : ℕ) → q ≢ p → count_after n v.step q a ≡ a)
+      → Kept n record { words = set s.words p x; homes = s.homes; views = set s.views id (posted_too (grant p (slot_of x) (flow_of x) long) v) } ×
+      (is_unsettled p (v.posts ++ grant p (slot_of x) (flow_of x) long ∷ []) v.settled ≡ true)
+  granting s r id v p x k flow long at is inside above fits least most word_is count_is free_granted free_drawn unwritten =
       let kn = r.each_seat id v at in
       let h = r.posting id v at is in
       let port = r.each_port p inside in
-      let t = subst (PosterStep r.cargo r.stage n s.words r.slot) counted_is h.stepping in
-      let q_is : t.0 ≡ p = let e = t.1 in omega arith in
-      let count_is : slice_index s.words (n + p) ≡ long = t.3 in
-      let free_granted : r.stage p (r.slot p) ≢ granted = subst (λ (z : ℕ). r.stage z (r.slot z) ≢ granted) q_is t.4 in
-      let free_drawn : (j : ℕ) → r.stage p (r.slot p) ≢ drawn j = λ j. subst (λ (z : ℕ). r.stage z (r.slot z) ≢ drawn j) q_is (t.5 j) in
       let slot_below : r.slot p < k = subst (λ (z : ℕ). z < k) (sym (h.slot_is p)) above in
       let new_stage : r.stage p k ≡ unposted = port.later k slot_below in
       let c : PortStage = granted in
@@ -109,16 +106,15 @@ module _ (n : ℕ) where
       let cargo' : ℕ → ℕ → Cargo = put2 r.cargo p k cargo_c in
       let stage' : ℕ → ℕ → PortStage = put2 r.stage p k c in
       let words' : List ℕ = set s.words p x in
-      let g : Grant = grant p (slot_of x) (flow_of x) (counted v.step) in
+      let g : Grant = grant p (slot_of x) (flow_of x) long in
       let w : View = posted_too g v in
       let slot_is : slot_of x ≡ k = ap slot_of word_is ∙ slot_of-granted k flow fits in
       let flow_is : flow_of x ≡ flow = ap flow_of word_is ∙ flow_of-granted k flow fits in
-      let long_is : counted v.step ≡ long = ap counted counted_is in
       let slot_here : slot' p ≡ k = put_here r.slot p k in
       let cargo_here : cargo' p k ≡ cargo_c = put2_here r.cargo p k cargo_c in
       let stage_here : stage' p k ≡ granted = put2_here r.stage p k c in
       let g_is : g ≡ grant_at cargo' p k =
-      λ i. record { port = p; slot = slot_is i; flow = (flow_is ∙ ap (λ (z : Cargo). z.0) (sym cargo_here)) i; length = (long_is ∙ ap (λ (z : Cargo). z.1) (sym cargo_here)) i }
+      λ i. record { port = p; slot = slot_is i; flow = (flow_is ∙ ap (λ (z : Cargo). z.0) (sym cargo_here)) i; length = ap (λ (z : Cargo). z.1) (sym cargo_here) i }
       in
       let f : Follows (r.stage p k) c = record {
         made = λ e. subst IsGranted e tt;
@@ -139,9 +135,6 @@ module _ (n : ℕ) where
       let apart : (h : Grant) → Out r.cargo r.stage (number_of v.kind) h → h.port ≢ p = λ h o e.
       let here = subst (λ (z : ℕ). r.stage z h.slot ≡ drawn (number_of v.kind)) e o.0 in
       free_drawn (number_of v.kind) (subst (λ (z : ℕ). r.stage p z ≡ drawn (number_of v.kind)) (port.drawn_last h.slot (number_of v.kind) here) here) in
-      let unwritten : (q a : ℕ) → q ≢ p →
-      count_after n v.step q a ≡ a = λ q a other. ap (λ z. count_after n z q a) counted_is ∙
-      cond-false (eqb (n + q) (n + p)) long a (ne_eqb (n + q) (n + p) (λ e. other (omega arith))) in
       let mine : Knows cargo' stage' n words' slot' w = record {
         shown = mine_was.shown;
         out = mine_was.out;
@@ -197,9 +190,6 @@ module _ (n : ℕ) where
       (λ y cl. is_of-false g.port g.slot y.grant
       (λ pe se. closed_had y.sent (r.stage y.grant.port y.grant.slot) cl.0 (ap (λ (z : ℕ × ℕ). r.stage z.0 z.1) (λ i. (pe i, (se ∙ slot_is) i)) ∙ new_stage))) v.settled
       kn.settled)) in (
-        w,
-        keeps,
-        tt,
         rebuilt n s r id v w at (goes_same v w refl refl refl) words' slot' cargo' stage' (length-set s.words p x ∙ r.wide)
             (ports_stay n s.words p x r.slot slot' r.cargo cargo' r.stage k c r.wide inside r.each_port
             (λ q other. (put_else r.slot p k q other, put_else r.cargo p (put (r.cargo p) k cargo_c) q other)) new_port)
@@ -214,9 +204,58 @@ module _ (n : ℕ) where
             (HasDone a (report (grant_at r.cargo q m) u) v → HasDone a (report (grant_at r.cargo q m) u) w))
             ⊎ ((r.who a ≡ id) × HasDone a (report (grant_at cargo' q m) u) w))
             (λ _ e. inl (e, still q m (λ z. subst IsReported (sym e ∙ z) tt), (λ z. z))) (λ _ _ e. absurd (subst IsGranted e tt))),
-        (refl, unsettled),
+        unsettled,
       )
     where
       closed_had : (o : Option ℕ) (st : PortStage) → stage_after o st → st ≡ unposted → ⊥
       closed_had None st h e = subst IsTaken (sym h ∙ e) tt
       closed_had (Some m) st h e = subst IsReported (sym h.1 ∙ e) tt
+
+  -- the poster posts a grant whose length it has written
+  pub posting : (slots id : ℕ) (me : M) (p x k flow long : ℕ) → me.0.kind ≡ Poster → me.0.step ≡ Counted (n + p) long → p < n → last_slot p me.0.posts < k → FitsWord k flow →
+      1 ≤ long → long ≤ 2199023255552 → x ≡ word_of granted k flow
+      → Allows (Kept n) slots id me p (λ _. x) (λ _. posts (step slots p x 0 none) me x)
+  posting slots id me p x k flow long is counted_is inside above fits least most word_is s r _ at _ =
+      let v : View = me.0 in
+      let h = r.posting id v at is in
+      let t = subst (PosterStep r.cargo r.stage n s.words r.slot) counted_is h.stepping in
+      let q_is : t.0 ≡ p = let e = t.1 in omega arith in
+      let free_granted = subst (λ (z : ℕ). r.stage z (r.slot z) ≢ granted) q_is t.4 in
+      let free_drawn = λ (j : ℕ). subst (λ (z : ℕ). r.stage z (r.slot z) ≢ drawn j) q_is (t.5 j) in
+      let unwritten : (q a : ℕ) → q ≢ p →
+      count_after n v.step q a ≡ a = λ q a other. ap (λ z. count_after n z q a) counted_is ∙
+      cond-false (eqb (n + q) (n + p)) long a (ne_eqb (n + q) (n + p) (λ e. other (omega arith))) in
+      let new = granting s r id v p x k flow long at is inside above fits least most word_is t.3 free_granted free_drawn unwritten in (
+        posted_too (grant p (slot_of x) (flow_of x) long) v,
+        keeps,
+        tt,
+        new.0,
+        ((λ i. (posted_too (grant p (slot_of x) (flow_of x) (ap counted (sym counted_is) i)) v, me.1)), new.1),
+      )
+
+  -- a post that was settled by a number was reported with it
+  held_stage : (s : St) (r : Kept n s) (id : ℕ) (v : View) (p long : ℕ) → get_elem? s.views id ≡ some v → v.kind ≡ Poster → IsHeld p long v →
+      (a : ℕ) × (r.stage p (r.slot p) ≡ reported a long)
+  held_stage s r id v p long at is held =
+      let post = last_post n s r id v at is p held.0 held.1 in
+      let closed = All-contains (Closed r.cargo r.stage) v.settled (settlement held.0 (Some long)) (r.each_seat id v at).settled held.2 in
+      (closed.0.0, ap (λ (z : ℕ × ℕ). r.stage z.0 z.1) (λ i. (sym post.0 i, sym post.1 i)) ∙ closed.0.1)
+
+  -- the poster posts a grant whose length the count word holds already
+  pub posting_again : (slots id : ℕ) (me : M) (p x k flow long : ℕ) → me.0.kind ≡ Poster → me.0.step ≡ Rests → p < n → last_slot p me.0.posts < k → FitsWord k flow →
+      1 ≤ long → long ≤ 2199023255552 → x ≡ word_of granted k flow → IsHeld p long me.0
+      → Allows (Kept n) slots id me p (λ _. x) (λ _. posts_again (step slots p x 0 none) me x)
+  posting_again slots id me p x k flow long is rests inside above fits least most word_is held s r _ at _ =
+      let v : View = me.0 in
+      let h = r.posting id v at is in
+      let t = held_stage s r id v p long at is held in
+      let plain : (q a : ℕ) → count_after n v.step q a ≡ a = rests_plain n v.step rests in
+      let new = granting s r id v p x k flow long at is inside above fits least most word_is (h.count p t.0 long t.1 ∙ plain p long) (λ e. subst IsReported (sym t.1 ∙ e) tt)
+      (λ j e. subst IsReported (sym t.1 ∙ e) tt) (λ q a _. plain q a) in (
+        posted_too (grant p (slot_of x) (flow_of x) long) v,
+        keeps,
+        tt,
+        new.0,
+        (λ m had. let same : long ≡ m = ap units (sym t.1 ∙ (held_stage s r id v p m at is had).1) in
+            ((λ i. (posted_too (grant p (slot_of x) (flow_of x) (same i)) v, me.1)), new.1)),
+      )

@@ -9,7 +9,7 @@ use Rattle.port_board.specs.declared.view.Kind.TheVariants.{Note}
 use Rattle.port_board.specs.declared.view.View.{View}
 use Rattle.coflow_units.specs.PortWord.{shows_granted, shows_drawn, shows_reported, slot_of, flow_of}
 use Rattle.port_board.specs.Views.{grant, found_idle, looked, reported_as, posted_too, settled_as}
-use Rattle.port_board.specs.Views.{last_at, is_unsettled, blank, sees, IsNewest, ShowsLast}
+use Rattle.port_board.specs.Views.{last_at, is_unsettled, blank, sees, IsHeld, IsNewest, ShowsLast}
 use Rattle.port_board.specs.Rule.{HoldsOnce}
 use Rattle.port_board.specs.Agreement.{Agrees, NobodyHad}
 
@@ -89,6 +89,12 @@ reports st m stored m' = (g : Grant) → Contains m.0.out g → g.port ≡ st.wo
 -- the poster posts a grant whose length it wrote in the count word
 abbrev pub posts : Of → Sat → ℕ → Sat → Type 0
 posts st m stored m' = (m' ≡ (posted_too (grant st.word (slot_of stored) (flow_of stored) (counted m.0.step)) m.0, m.1))
+    × (is_unsettled st.word m'.0.posts m'.0.settled ≡ true)
+
+-- the poster posts a grant whose length the count word holds already
+abbrev pub posts_again : Of → Sat → ℕ → Sat → Type 0
+posts_again st m stored m' = (long : ℕ) → IsHeld st.word long m.0 →
+    (m' ≡ (posted_too (grant st.word (slot_of stored) (flow_of stored) long) m.0, m.1))
     × (is_unsettled st.word m'.0.posts m'.0.settled ≡ true)
 
 -- the poster loads the word of a port

@@ -1,6 +1,6 @@
 -- What contracts see of a board and of its seats, and what each call makes of the view of a seat.
-use Rattle.std.specs.Prelude.{◌≡◌, ℕ, ◌+◌, ◌-◌, ◌≤◌, List, [], ◌∷◌, ◌++◌, All, length, filter, Bool, true, false, not}
-use Rattle.std.specs.Prelude.{◌==◌, ◌&&◌, ◌||◌, ◌⊎◌, cond, Option, Some, None}
+use Rattle.std.specs.Prelude.{◌≡◌, ℕ, ◌+◌, ◌-◌, ◌≤◌, List, [], ◌∷◌, ◌++◌, All, Contains, length, filter, Bool, true}
+use Rattle.std.specs.Prelude.{false, not, ◌==◌, ◌&&◌, ◌||◌, ◌⊎◌, cond, Option, Some, None}
 use Rattle.std.specs.List.{list_any}
 use Rattle.atomic_table.specs.Seated.{TableId}
 use Rattle.port_board.specs.declared.view.Grant.{Grant}
@@ -74,6 +74,10 @@ is_left (Some g) settled = not (is_settled g settled)
 -- the port has a post that is not settled
 abbrev pub is_unsettled : ℕ → List Grant → List Settlement → Bool
 is_unsettled port posts settled = is_left (last_at port posts) settled
+
+-- the poster settled its last post at the port by this number
+abbrev pub IsHeld : ℕ → ℕ → View → Type 0
+IsHeld port n v = (g : Grant) × (last_at port v.posts ≡ Some g) × Contains v.settled (settlement g (Some n))
 
 -- the agents made that have not come back
 abbrev pub agents_out : View → ℕ

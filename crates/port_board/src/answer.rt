@@ -1,6 +1,6 @@
 //! What a try to draw a grant, and the settling of a post, come to.
 ghost use Rattle.std.specs.Prelude.{◌≡◌};
-ghost use Rattle.port_board.specs.Answers.{is_busy};
+ghost use Rattle.port_board.specs.Answers.{is_busy, number_sent};
 
 use std::marker::Model;
 
@@ -78,5 +78,15 @@ impl Settled {
         ensures { result ≡ is_busy self.now }
     {
         matches!(self, Settled::Busy(_))
+    }
+
+    // The number by which the post is settled, and 0 where there is none.
+    pub(crate) fn number_sent(&self) -> u64
+        ensures { result ≡ number_sent self.now }
+    {
+        match *self {
+            Settled::Sent(n) => n,
+            Settled::TakenBack | Settled::Busy(_) => 0,
+        }
     }
 }

@@ -16,8 +16,8 @@ ghost use Rattle.port_board.specs.Agreement.{SharesNothing, EachOnce, EachPosted
 
 use crate::answer::{Draw, Drawn, Settled};
 use crate::plays::{
-    Another, Counts, Draws, Hears, Learns, Loads, Notes, PosterLoads, Posts, ReadsLength,
-    ReadsSent, Reports, TakesBack, TakesIn,
+    Another, Counts, Draws, Hears, Learns, Loads, Notes, PosterLoads, Posts, PostsAgain,
+    ReadsLength, ReadsSent, Reports, TakesBack, TakesIn,
 };
 use crate::seat::{AgentSeat, Poster};
 use crate::view::{Place, Ports, View};
@@ -62,6 +62,7 @@ impl PortBoard {
     {
         let words = vec![in alloc; 0u64; 2 * ports as usize]?;
         let posted = vec![in alloc; false; ports as usize]?;
+        let counts = vec![in alloc; 0u64; ports as usize]?;
         let key = u64::from(ports);
         let (table, place) = ObservedTable::of_words(alloc, &words, &key)?;
         let board = PortBoard { table, ports };
@@ -69,6 +70,7 @@ impl PortBoard {
             place,
             agents: 0,
             posted,
+            counts,
         };
         Ok((board, poster))
     }
@@ -148,16 +150,23 @@ impl PortBoard {
         ensures unsettled { is_unsettled port poster.new.view.posts poster.new.view.settled ≡ true }
     {
         let shared = &self.table;
-        let count = count_place(self.ports, port);
-        shared.store::<Counts>(&mut poster.place, count, length);
         let word = PortWord {
             stage: PostStage::Granted,
             slot,
             flow,
         }
         .bits();
-        shared.store::<Posts>(&mut poster.place, port as usize, word);
+        let held = poster.counts[port as usize];
         poster.posted[port as usize] = true;
+        poster.counts[port as usize] = 0;
+        // A count word that holds the length already is not written again.
+        if held == length {
+            shared.store::<PostsAgain>(&mut poster.place, port as usize, word);
+        } else {
+            let count = count_place(self.ports, port);
+            shared.store::<Counts>(&mut poster.place, count, length);
+            shared.store::<Posts>(&mut poster.place, port as usize, word);
+        }
     }
 
     /// Tries once to draw the grant of a port.
@@ -322,6 +331,7 @@ impl PortBoard {
     {
         let answer = self.try_settle(&mut poster.place, port);
         poster.posted[port as usize] = answer.is_busy();
+        poster.counts[port as usize] = answer.number_sent();
         answer
     }
 

@@ -1,5 +1,5 @@
 //! What each step on a word tells the seat that takes it.
-ghost use Rattle.port_board.specs.Tells.{loads, draws, reads_length, counts, reports, posts, poster_loads, takes_back, reads_sent, learns, note_of, hears, spent};
+ghost use Rattle.port_board.specs.Tells.{loads, draws, reads_length, counts, reports, posts, posts_again, poster_loads, takes_back, reads_sent, learns, note_of, hears, spent};
 ghost use Rattle.port_board.specs.Views.{one_more, newcomer, takes_in};
 
 use crate::view::View;
@@ -45,6 +45,13 @@ pub struct Posts;
 
 impl Play<(), View> for Posts {
     ghost then = { posts };
+}
+
+/// The poster stores a granted word whose length the count word holds already.
+pub struct PostsAgain;
+
+impl Play<(), View> for PostsAgain {
+    ghost then = { posts_again };
 }
 
 /// The poster loads a port word.

@@ -12,12 +12,14 @@ pub struct Poster {
     pub(crate) agents: u32,
     // whether each port has an unsettled post
     pub(crate) posted: Vec<bool>,
+    // for each port the number that its count word holds, where its last post was settled by the number that was sent; else 0
+    pub(crate) counts: Vec<u64>,
 }
 
 impl Model for Poster {
-    ghost use Rattle.std.specs.Prelude.{◌≡◌, ℕ, ◌+◌, ◌≤◌, [], length, false, slice_index_or};
+    ghost use Rattle.std.specs.Prelude.{◌≡◌, ℕ, ◌+◌, ◌<◌, ◌≤◌, [], length, false, slice_index_or};
     ghost use Rattle.port_board.specs.declared.view.Step.TheVariants.{Rests};
-    ghost use Rattle.port_board.specs.Views.{Sits, IsPoster, is_unsettled};
+    ghost use Rattle.port_board.specs.Views.{Sits, IsHeld, IsPoster, is_unsettled};
 
     ghost Value = { Sits };
 
@@ -26,7 +28,10 @@ impl Model for Poster {
     ghost invariant = { λ p. (p.place.me.1 ≡ []) × (p.place.me.0.step ≡ Rests) × (IsPoster p.place.me.0.kind) ×
         (length p.place.me.0.back + p.agents ≡ p.place.me.0.made) ×
         (length p.posted.items + length p.posted.items ≡ p.place.table_id.words) ×
-        ((q : ℕ) → slice_index_or p.posted.items q false ≡ is_unsettled q p.place.me.0.posts p.place.me.0.settled) };
+        ((q : ℕ) → slice_index_or p.posted.items q false ≡ is_unsettled q p.place.me.0.posts p.place.me.0.settled) ×
+        (length p.counts.items ≡ length p.posted.items) ×
+        ((q : ℕ) → 0 < slice_index_or p.counts.items q 0 →
+        IsHeld q (slice_index_or p.counts.items q 0) p.place.me.0) };
 }
 
 impl Poster {

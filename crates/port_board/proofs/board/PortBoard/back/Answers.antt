@@ -21,24 +21,25 @@ load-requires-clause-allowed c = let e = c.join_seat.ensures.seat in
 pub overflow_sub-poster : goal.overflow_sub-poster
 overflow_sub-poster c =
     let e = c.join_seat.ensures.seat in
-    some_out c.poster.inside.agents c.poster.inside.posted.items _ c.poster.inside.place.me c.seat.inside.place.me.0 c.poster.invariant
+    some_out c.poster.inside.agents c.poster.inside.posted.items c.poster.inside.counts.items _ c.poster.inside.place.me c.seat.inside.place.me.0 c.poster.invariant
     (subst (λ (m : M). length m.0.back ≤ m.0.made) e c.load.ensures.told.1)
 
 pub invariant_of-poster : goal.invariant_of-poster
 invariant_of-poster c =
     let e = c.join_seat.ensures.seat in
-    let out = some_out c.poster.inside.agents c.poster.inside.posted.items _ c.poster.inside.place.me c.seat.inside.place.me.0 c.poster.invariant
+    let out = some_out c.poster.inside.agents c.poster.inside.posted.items c.poster.inside.counts.items _ c.poster.inside.place.me c.seat.inside.place.me.0 c.poster.invariant
     (subst (λ (m : M). length m.0.back ≤ m.0.made) e c.load.ensures.told.1) in
-    carry_poster _ _ _ _ _ _ (c.load.ensures.own.0 ∙ c.join_seat.ensures.own.0) (c.load.ensures.told.0 ∙ ap (λ (m : M). (looked 0 c.load.result m.0, m.1)) e)
-    (after_back c.poster.inside.agents c.poster.inside.posted.items _ 0 c.load.result c.poster.inside.place.me c.seat.inside.place.me.0 c.poster.invariant out)
+    carry_poster _ _ _ _ _ _ _ (c.load.ensures.own.0 ∙ c.join_seat.ensures.own.0) (c.load.ensures.told.0 ∙ ap (λ (m : M). (looked 0 c.load.result m.0, m.1)) e)
+    (after_back c.poster.inside.agents c.poster.inside.posted.items c.poster.inside.counts.items _ 0 c.load.result c.poster.inside.place.me c.seat.inside.place.me.0
+    c.poster.invariant out)
 
 pub returns-clause-fewer : goal.returns-clause-fewer
 returns-clause-fewer c =
     let e = c.join_seat.ensures.seat in
-    let out = some_out c.poster.inside.agents c.poster.inside.posted.items _ c.poster.inside.place.me c.seat.inside.place.me.0 c.poster.invariant
+    let out = some_out c.poster.inside.agents c.poster.inside.posted.items c.poster.inside.counts.items _ c.poster.inside.place.me c.seat.inside.place.me.0 c.poster.invariant
     (subst (λ (m : M). length m.0.back ≤ m.0.made) e c.load.ensures.told.1) in
     ap (λ (m : M). agents_out m.0 + 1) (c.load.ensures.told.0 ∙ ap (λ (m : M). (looked 0 c.load.result m.0, m.1)) e)
-    ∙ (one_fewer c.poster.inside.agents c.poster.inside.posted.items _ c.poster.inside.place.me c.seat.inside.place.me.0 c.poster.invariant out ∙
+    ∙ (one_fewer c.poster.inside.agents c.poster.inside.posted.items c.poster.inside.counts.items _ c.poster.inside.place.me c.seat.inside.place.me.0 c.poster.invariant out ∙
     ap agents_out (ap (λ u. u.view) c.poster.view_is))
 
 pub returns-clause-handed : goal.returns-clause-handed

@@ -4,7 +4,7 @@ use Rattle.port_board.specs.declared.answer.Settled.{Settled}
 use Rattle.port_board.specs.Views.{last_at, is_unsettled, looked, settled_as, Tried, ShowsLast}
 use Rattle.port_board.specs.declared.answer.Settled.TheVariants.{Sent, TakenBack, Busy}
 use Rattle.coflow_units.specs.PortWord.{shows_granted, shows_drawn, shows_reported}
-use Rattle.port_board.specs.Answers.{is_busy}
+use Rattle.port_board.specs.Answers.{is_busy, number_sent}
 use Rattle.port_board.specs.Agreement.{NobodyHad}
 use Rattle.port_board.proofs.AgentSteps.{M}
 use Rattle.port_board.proofs.Posting.{PosterFits, settled_cases, tried_is, after_settled, after_busy, carry_poster}
@@ -20,16 +20,19 @@ invariant_of-poster c =
     let told = c.try_settle-answer.ensures in
     let inside = half c.args.port (length c.poster.inside.posted.items) _ told.range c.poster.invariant.4 in
     let k : M = c.try_settle-answer.new.place.me in
-    let fits : (b : Bool) → Type 0 = λ b. PosterFits c.poster.inside.agents (set c.poster.inside.posted.items c.args.port b) c.poster.inside.place.table_id.words k in
-    let all = settled_cases (λ r. fits (is_busy r)) c.try_settle-answer.result
+    let flags = c.poster.inside.posted.items in
+    let counts = c.poster.inside.counts.items in
+    let fits : (b : Bool) (number : ℕ) → Type 0 = λ b number. PosterFits c.poster.inside.agents (set flags c.args.port b) (set counts c.args.port number)
+    c.poster.inside.place.table_id.words k in
+    let all = settled_cases (λ r. fits (is_busy r) (number_sent r)) c.try_settle-answer.result
     (λ n is. let t = told.sent n is in
-    after_settled c.poster.inside.agents c.poster.inside.posted.items _ c.poster.inside.place.me k c.args.port _ _ _ _ t.1 c.poster.invariant told.own.1 t.2 inside left t.4)
+    after_settled c.poster.inside.agents flags counts _ c.poster.inside.place.me k c.args.port _ _ _ n _ t.1 c.poster.invariant told.own.1 t.2 inside left (λ _. refl) t.4)
     (λ is. let t = told.taken_back is in
-    after_settled c.poster.inside.agents c.poster.inside.posted.items _ c.poster.inside.place.me k c.args.port _ _ _ _ c.poster.inside.place.me.0 c.poster.invariant told.own.1
-    (inl refl) inside left t.2)
+    after_settled c.poster.inside.agents flags counts _ c.poster.inside.place.me k c.args.port _ _ _ 0 _ c.poster.inside.place.me.0 c.poster.invariant told.own.1
+    (inl refl) inside left (λ some. absurd (omega arith)) t.2)
     (λ w is. let t = told.busy w is in
-    after_busy c.poster.inside.agents c.poster.inside.posted.items _ c.poster.inside.place.me k c.args.port w t.0 c.poster.invariant told.own.1 t.1 inside left t.3) in
-    carry_poster _ _ _ _ k k told.own.0 refl (subst fits (sym c.is_busy.ensures) all)
+    after_busy c.poster.inside.agents flags counts _ c.poster.inside.place.me k c.args.port w t.0 c.poster.invariant told.own.1 t.1 inside left t.3) in
+    carry_poster _ _ _ _ _ k k told.own.0 refl (subst (λ (z : Bool × ℕ). fits z.0 z.1) (λ i. (sym c.is_busy.ensures i, sym c.number_sent.ensures i)) all)
 
 -- a settling leaves the lists that it has nothing to do with
 same_lists : (port ports : ℕ) (old k : View) (r : Settled) →
