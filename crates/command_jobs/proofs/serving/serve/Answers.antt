@@ -11,18 +11,18 @@ served_plan-requires-clause-wires g c = omega (arith, c.requires.table.few_ports
 pub returns-in_err-report-clause-sent : goal.returns-in_err-report-clause-sent
 returns-in_err-report-clause-sent g c =
     subst (λ (weights : List ℕ). SendsPart g.W.Wire.runs c.args.wires.now.items c.served_plan.new.wires.items c.args.input.now.table weights) c.as_slice.ensures
-        c.served_plan.ensures.sent
+    c.served_plan.ensures.sent
 
 pub returns-clause-sent : goal.returns-clause-sent
 returns-clause-sent g c =
     subst (λ (weights : List ℕ). SendsPart g.W.Wire.runs c.args.wires.now.items c.served_plan.new.wires.items c.args.input.now.table weights) c.as_slice.ensures
-        c.served_plan.ensures.sent
+    c.served_plan.ensures.sent
 
 pub returns-in_err-report-clause-fault : goal.returns-in_err-report-clause-fault
 returns-in_err-report-clause-fault g c = λ port e.
     let came : WireFault port ≡ c.in_err-report.field-0.0 = subst (λ r. IsErrAnd r (λ x. x ≡ c.in_err-report.field-0.0)) e c.from_residual.ensures.1 in
     subst (λ (weights : List ℕ). StopsShort g.W.Wire.faults g.W.Wire.runs c.args.wires.now.items c.served_plan.new.wires.items port c.args.input.now.table weights)
-        c.as_slice.ensures
+    c.as_slice.ensures
     (c.in_err-report.ensures.fault port (ap Err (sym came)))
 
 pub returns-clause-plan : goal.returns-clause-plan
