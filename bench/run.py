@@ -5,6 +5,7 @@ Use: bench/run.py [--peer 'PROGRAM WORD ..'] [SHAPE ..]
      bench/run.py picture      draws windows of 1000 slots of a large plan alone; the exit code is 1 where one takes more than its bound
      bench/run.py compare      times a comparison alone, beside the serving of one order
      bench/run.py [--peer 'PROGRAM WORD ..'] online      times online runs alone, and the check of one
+     bench/run.py [--peer 'PROGRAM WORD ..'] slow        runs once each what takes longest within the limits; it asks for 8 GB of memory
      bench/run.py [--peer 'PROGRAM WORD ..'] hall        times plans by a hall alone, by one agent and by four, beside `classes`, which serves its order without a hall
 
 First, on each shape of load, the commands `plan` and `check`, output to /dev/null: seconds of the processor, the least of three runs, and the peak of memory. `--peer` names another program
@@ -66,6 +67,15 @@ LIMITS = [
     ("plan, 64 MB of lines on one location", traces.one_location, [], 10),
     ("plan, 64 MB of lines on 48 locations a side", traces.many_locations, [], 10),
     ("plan, the shape of the public trace, --unit 16", traces.hour, ["--unit", "16"], 10),
+]
+
+# What takes longest within the limits: name, trace, words with the trace as `t`.
+SLOW = [
+    ("plan, 4096 coflows of 16 x 16 flows of mixed sizes", traces.mixed, ["plan", "t"]),
+    ("plan, one coflow of 1024 x 1024 flows, reducers to 10^9 MB", lambda: traces.deep(1, 976_560), ["plan", "t"]),
+    ("online, 4096 coflows together, --epoch 64", traces.wide, ["online", "t", "--epoch", "64"]),
+    ("online, 2^20 flows on one port", traces.staircase, ["online", "t"]),
+    ("compare, 4096 coflows together", traces.wide, ["compare", "t"]),
 ]
 
 # windows of the plan of the trace of the shape of the public one, units of 1 MB: words behind `t r`
@@ -247,7 +257,7 @@ ONLINE = [([], 4), (["--epoch", "64"], 6)]
 
 def online(peer, folder):
     """Times online runs of the trace of the shape of the public one, whose coflows arrive over an hour, and the check of the first, beside the peer's check of a plan of about its size. One agent
-    sends: others would be started in each run."""
+    sends."""
     put(folder, "t", lambda: traces.hour(spread_out=True))
     unit = ["--unit", "16"]
     for options, bound in ONLINE:
@@ -265,6 +275,16 @@ def online(peer, folder):
     ours = min(measured([PROGRAM, "check", "t", "o", *unit], folder) for _ in range(RUNS))
     theirs = min(measured([*peer, "check", "t", "r", *unit], folder) for _ in range(RUNS)) if peer else None
     beside("check of the online run, beside that of the plan", ours, theirs, 4)
+
+
+def slow(peer, folder):
+    """Runs each of the slow cases once, by one agent, beside the peer where it has the command."""
+    for name, make, words in SLOW:
+        put(folder, "t", make)
+        agents = [] if words[0] == "compare" else ["--agents", "1"]
+        ours = measured([PROGRAM, *words, *agents], folder)
+        theirs = measured([*peer, *words], folder) if peer and agents else None
+        print("  %-58s %8.1f s  %5d MiB  code %d" % (name, *ours) + ("   peer %6.1f s  %5d MiB" % theirs[:2] if theirs else ""), flush=True)
 
 
 def beside(name, ours, theirs, bound):
@@ -288,7 +308,7 @@ def main():
         if len(words) < 2:
             sys.exit(__doc__)
         peer, words = shlex.split(words[1]), words[2:]
-    alone = words[0] if words in (["picture"], ["compare"], ["online"], ["hall"]) else None
+    alone = words[0] if words in (["picture"], ["compare"], ["online"], ["hall"], ["slow"]) else None
     if not alone and any(name not in SHAPES for name in words):
         sys.exit("bench: the shapes are %s" % " ".join(SHAPES))
     build(PROGRAM)
@@ -301,6 +321,8 @@ def main():
             comparison(folder)
         if alone == "online" or not words:
             online(peer, folder)
+        if alone == "slow":
+            slow(peer, folder)
         if alone == "hall" or not words:
             halls(peer, folder)
         if alone == "picture" or not words:

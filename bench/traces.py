@@ -113,6 +113,12 @@ def deep(size, more):
     return text(PORTS, [(range(PORTS), reducers)])
 
 
+def mixed():
+    """4096 coflows of 16 x 16 flows of mixed sizes over 1024 ports: a trace of 1 MB with a report of 4 GB."""
+    r = random.Random(4)
+    return text(PORTS, [(sorted(r.sample(range(PORTS), 16)), [(place, r.randrange(16, 25600)) for place in sorted(r.sample(range(PORTS), 16))]) for _ in range(COFLOWS)])
+
+
 def staircase():
     """One mapper sends 2^20 flows of one megabyte, one after another: as many runs as flows."""
     return text(PORTS, [([0], [(place, 1) for place in range(PORTS)])] * (FLOWS // PORTS))
