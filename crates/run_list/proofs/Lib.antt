@@ -1,0 +1,4 @@
+pub mod Keeping
+pub mod Merging
+pub mod Toggled
+pub mod Walking

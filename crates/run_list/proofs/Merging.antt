@@ -1,0 +1,90 @@
+-- A merge of two lists, number by number.
+use Rattle.std.proofs.Common.{◌≡◌, ℕ, ◌+◌, ◌-◌, ◌≤◌, ◌<◌, List, [], ◌∷◌, ◌++◌, inl, inr, length, get_or, take, drop, refl, sym, ap, ◌∙◌, arith}
+use Rattle.std.specs.List.Sorted.{IsStrictlyIncreasing}
+use Rattle.std.proofs.lemmas.Bool.{cases_lt}
+use Rattle.std.proofs.lemmas.List.{append_assoc, append-nil, drop_all, drop_at, drop_more, length-append, length-drop, length-take-le, take_all, take-append-drop}
+use Rattle.run_list.specs.Kept.{toggled}
+use Rattle.run_list.proofs.Toggled.{toggled_above, toggled_below, toggled_same, toggled_twice, toggled-nil}
+
+-- what is left to merge, from those places on
+abbrev pub left_of : List ℕ → List ℕ → ℕ → ℕ → List ℕ
+left_of xs ys i j = toggled (drop i xs) (drop j ys)
+
+pub left_same : (xs ys : List ℕ) (i j : ℕ) → i < length xs → j < length ys → get_or xs i 0 ≡ get_or ys j 0 → left_of xs ys i j ≡ left_of xs ys (i + 1) (j + 1)
+left_same xs ys i j inside also e =
+    rw (drop_more xs i 0 inside, drop_more ys j 0 also) (toggled_same (get_or xs i 0) (get_or ys j 0) (drop (i + 1) xs) (drop (j + 1) ys) e)
+
+pub left_below : (xs ys : List ℕ) (i j : ℕ) → i < length xs → j < length ys → get_or xs i 0 < get_or ys j 0 → left_of xs ys i j ≡ get_or xs i 0 ∷ left_of xs ys (i + 1) j
+left_below xs ys i j inside also lt =
+    rw (drop_more xs i 0 inside, drop_more ys j 0 also) (toggled_below (get_or xs i 0) (get_or ys j 0) (drop (i + 1) xs) (drop (j + 1) ys) lt)
+
+pub left_above : (xs ys : List ℕ) (i j : ℕ) → i < length xs → j < length ys → get_or ys j 0 < get_or xs i 0 → left_of xs ys i j ≡ get_or ys j 0 ∷ left_of xs ys i (j + 1)
+left_above xs ys i j inside also lt =
+    rw (drop_more xs i 0 inside, drop_more ys j 0 also) (toggled_above (get_or xs i 0) (get_or ys j 0) (drop (i + 1) xs) (drop (j + 1) ys) lt)
+
+-- where one of the lists is at its end, what is left is the rest of both
+pub left_end : (xs ys : List ℕ) (i j : ℕ) → (i < length xs → length ys ≤ j) → left_of xs ys i j ≡ drop i xs ++ drop j ys
+left_end xs ys i j over = elim (cases_lt i (length xs)) [
+  | inl lt ↦ rw (drop_all j ys (over lt), append-nil) (toggled-nil (drop i xs))
+  | inr le ↦ rw (drop_all i xs le) refl
+]
+
+-- `done` is what was merged up to those places
+pub record IsMerging (xs ys done : List ℕ) (i j : ℕ) : Type 0 where
+  pub within : i ≤ length xs
+  pub inside : j ≤ length ys
+  pub written : done ++ left_of xs ys i j ≡ toggled xs ys
+
+pub IsMerging-same : (xs ys done : List ℕ) (i j : ℕ) → i < length xs → j < length ys → get_or xs i 0 ≡ get_or ys j 0 → IsMerging xs ys done i j →
+    IsMerging xs ys done (i + 1) (j + 1)
+IsMerging-same xs ys done i j lt also e is =
+    let next = left_same xs ys i j lt also e in
+    record { within = omega arith; inside = omega arith; written = rw (← next) is.written }
+
+pub IsMerging-below : (xs ys done : List ℕ) (i j : ℕ) → i < length xs → j < length ys → get_or xs i 0 < get_or ys j 0 → IsMerging xs ys done i j →
+    IsMerging xs ys (done ++ get_or xs i 0 ∷ []) (i + 1) j
+IsMerging-below xs ys done i j lt also below is =
+    let next = left_below xs ys i j lt also below in
+    record { within = omega arith; inside = is.inside; written = rw (append_assoc, ← next) is.written }
+
+pub IsMerging-above : (xs ys done : List ℕ) (i j : ℕ) → i < length xs → j < length ys → get_or ys j 0 < get_or xs i 0 → IsMerging xs ys done i j →
+    IsMerging xs ys (done ++ get_or ys j 0 ∷ []) i (j + 1)
+IsMerging-above xs ys done i j lt also above is =
+    let next = left_above xs ys i j lt also above in
+    record { within = is.within; inside = omega arith; written = rw (append_assoc, ← next) is.written }
+
+pub IsMerging-end : (xs ys done : List ℕ) (i j : ℕ) → (i < length xs → length ys ≤ j) → IsMerging xs ys done i j → (done ++ drop i xs) ++ drop j ys ≡ toggled xs ys
+IsMerging-end xs ys done i j over is = append_assoc done (drop i xs) (drop j ys) ∙ ap (λ (zs : List ℕ). done ++ zs) (sym (left_end xs ys i j over)) ∙ is.written
+
+-- the same of a buffer, which has the first n numbers of the merge
+pub length-merged : (xs ys out : List ℕ) (i j n : ℕ) → (i < length xs → length ys ≤ j) → n ≤ length out → IsMerging xs ys (take n out) i j →
+    (n + length (drop i xs)) + length (drop j ys) ≡ length (toggled xs ys)
+length-merged xs ys out i j n over fits is =
+    let all = IsMerging-end xs ys (take n out) i j over is in
+    let count = length-take-le n out fits in
+    omega (arith, ap length all, length-append (take n out ++ drop i xs) (drop j ys), length-append (take n out) (drop i xs))
+
+-- the same of a list, which has the merge behind what it had before
+pub merged_behind : (xs ys olds news : List ℕ) (i j : ℕ) → (i < length xs → length ys ≤ j) → take (length olds) news ≡ olds → IsMerging xs ys (drop (length olds) news) i j →
+    (news ++ drop i xs) ++ drop j ys ≡ olds ++ toggled xs ys
+merged_behind xs ys olds news i j over front is =
+    let all = IsMerging-end xs ys (drop (length olds) news) i j over is in
+    let parts : news ≡ olds ++ drop (length olds) news = sym (take-append-drop (length olds) news) ∙ ap (λ (zs : List ℕ). zs ++ drop (length olds) news) front in
+    ap (λ (zs : List ℕ). (zs ++ drop i xs) ++ drop j ys) parts
+    ∙ ap (λ (zs : List ℕ). zs ++ drop j ys) (append_assoc olds (drop (length olds) news) (drop i xs))
+    ∙ append_assoc olds (drop (length olds) news ++ drop i xs) (drop j ys)
+    ∙ ap (λ (zs : List ℕ). olds ++ zs) all
+
+pub length-merged_behind : (xs ys olds news : List ℕ) (i j : ℕ) → (i < length xs → length ys ≤ j) → take (length olds) news ≡ olds → IsMerging xs ys (drop (length olds) news) i j →
+    length news + ((length xs - i) + (length ys - j)) ≡ length olds + length (toggled xs ys)
+length-merged_behind xs ys olds news i j over front is =
+    let all = ap length (merged_behind xs ys olds news i j over front is) in
+    omega (arith, all, length-append (news ++ drop i xs) (drop j ys), length-append news (drop i xs), length-append olds (toggled xs ys), length-drop i xs, length-drop j ys)
+
+-- the changes that stand behind what there was tell the next flows
+pub told_back : (before flows olds news : List ℕ) (n : ℕ) → IsStrictlyIncreasing before → IsStrictlyIncreasing flows → news ≡ olds ++ toggled before flows →
+    n ≡ length news - length olds → toggled before (take n (drop (length olds) news)) ≡ flows
+told_back before flows olds news n up also told size =
+    let behind : drop (length olds) news ≡ toggled before flows = ap (drop (length olds)) told ∙ drop_at olds (toggled before flows) (length olds) refl in
+    let all : length (toggled before flows) ≤ n = omega (arith, ap length told, length-append olds (toggled before flows)) in
+    rw (behind, take_all n (toggled before flows) all) (toggled_twice before flows up also)

@@ -1,0 +1,12 @@
+//! Lists of runs of equal slots, and walks over them.
+#![tactic(auto)]
+
+mod changes;
+mod mark;
+mod runs;
+#[cfg(test)]
+mod tests;
+mod walk;
+
+pub use runs::Runs;
+pub use walk::Walk;
