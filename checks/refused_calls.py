@@ -7,11 +7,13 @@ A library that is loaded before the program's own hands a byte at a time to each
 bytes of the output and fails behind them: the program then ends with code 9, and its output is a beginning of the text.
 """
 import os
+import random
 import subprocess
 import sys
 import tempfile
 
 sys.dont_write_bytecode = True
+import plain_plan
 from program_rows import READ_FAULT, TWO, TWO_TEXT, WRITE_FAULT
 from program_runs import PROGRAM, build
 
@@ -109,6 +111,23 @@ def output_fails(folder, words, text):
     yield same("%s, all bytes" % words[0], run(folder, words, TAKE_BYTES=len(text)), (0, text, b""))
 
 
+def long_plan():
+    """A trace and its plan, by a plain program: a text of several pieces."""
+    r = random.Random(7)
+    coflows = [plain_plan.Coflow(ident, range(24), [(port, 24 * 10**6 * r.randint(1, 40)) for port in range(24)], 1) for ident in (1, 2, 3, 4)]
+    return plain_plan.trace_text(24, coflows).encode(), plain_plan.plan_of(24, coflows, 1).text.encode()
+
+
+def long_output_fails(folder):
+    """The output of a long text fails in each tenth of it, at its first byte and before its last one."""
+    trace, text = long_plan()
+    with open(os.path.join(folder, "long"), "wb") as file:
+        file.write(trace)
+    for most in [0, *(len(text) * (2 * tenth + 1) // 20 for tenth in range(10)), len(text) - 1]:
+        yield same("a long plan, %d bytes" % most, run(folder, ["plan", "long"], TAKE_BYTES=most), (9, text[:most], WRITE_FAULT))
+    yield same("a long plan, all bytes", run(folder, ["plan", "long"], TAKE_BYTES=len(text)), (0, text, b""))
+
+
 def main():
     if not build():
         print("the program could not be built")
@@ -121,6 +140,7 @@ def main():
             results += files_fail(folder, *row)
         results += output_fails(folder, ["plan", "t"], TWO_TEXT)
         results += output_fails(folder, ["check", "t", "r"], b"yes bound 5 slack 1 cost 5\n")
+        results += long_output_fails(folder)
     print("%d passed, %d failed" % (results.count(True), results.count(False)))
     return 0 if all(results) else 1
 

@@ -1,16 +1,14 @@
 -- Completions as a list by coflow.
-use Rattle.std.proofs.Common.{◌≡◌, ℕ, ◌+◌, ◌*◌, ◌<◌, List, length, get_or, map, sym, ap, subst, ◌∙◌, arith}
-use Rattle.std.specs.Prelude.{All, Option, slice_index, sum_by}
+use Rattle.std.proofs.Common.{◌≡◌, ℕ, ◌+◌, ◌<◌, List, length, get_or, map, sym, ap, subst, ◌∙◌, arith}
+use Rattle.std.specs.Prelude.{All, Option, slice_index}
 use Rattle.std.specs.List.{range_with_len}
 use Rattle.std.proofs.lemmas.List.{get_or-map, length-map}
 use Rattle.std.proofs.lemmas.List.FromFn.{get_or-range_with_len, length-range_with_len}
 use Rattle.coflow_units.specs.declared.fabric.Flow.{Flow}
-use Rattle.coflow_units.specs.Completion.{completion}
-use Rattle.coflow_units.specs.Schedule.{IsValid}
+use Rattle.coflow_units.specs.Completion.{completion, cost}
 use Rattle.schedule_model.specs.declared.fault.ScheduleFault.{ScheduleFault}
 use Rattle.schedule_model.specs.Fault.{IsFirstFault}
-use Rattle.coflow_units.proofs.Lists.{number_below}
-use Rattle.coflow_units.proofs.Sums.{sum_same}
+use Rattle.schedule_model.specs.Weights.{weighted_cost}
 use Rattle.cert_check.specs.Stated.{AreReal, IsLeastWrong}
 
 -- the list has the numbers for all coflows below n
@@ -41,27 +39,19 @@ least_along coflows stated xs f n coflow said is e within wrong = record {
   least = λ k lt less. wrong.least k lt less ∙ number_at xs f n (slice_index coflows k) e (within k 0 lt);
 }
 
-pub cost_along : (weights xs : List ℕ) (f : ℕ → ℕ) (n : ℕ) → AreOf xs f n → length weights ≡ n →
-    sum_by (λ c. slice_index weights c * slice_index xs c) (range_with_len 0 (length weights)) ≡ sum_by (λ c. slice_index weights c * f c) (range_with_len 0 n)
-cost_along weights xs f n e count =
-    ap (λ m. sum_by (λ c. slice_index weights c * slice_index xs c) (range_with_len 0 m)) count
-    ∙ sum_same (λ c. slice_index weights c * slice_index xs c) (λ c. slice_index weights c * f c) (range_with_len 0 n)
-    (λ c has. ap (λ x. slice_index weights c * x) (number_at xs f n c e (omega (arith, number_below 0 n c has))))
+-- the cost, by what is known of it where the list has a completion for each weight
+pub cost_is : (flows : List Flow) (slots : List (List ℕ)) (weights ends : List ℕ) (n total : ℕ) → AreOf ends (completion flows slots) n → length weights ≡ n →
+    (AreOf ends (completion flows slots) (length weights) → total ≡ weighted_cost flows weights slots) → total ≡ cost flows (λ c. slice_index weights c) (range_with_len 0 n) slots
+cost_is flows slots weights ends n total e count by_ends =
+    by_ends (subst (AreOf ends (completion flows slots)) (sym count) e) ∙ ap (λ m. cost flows (λ c. slice_index weights c) (range_with_len 0 m) slots) count
 
 -- completions as they were computed
-pub ends_are : (flows lent : List Flow) (slots made : List (List ℕ)) (ends given : List ℕ) (n count : ℕ) → lent ≡ flows → made ≡ slots → count ≡ n → given ≡ ends →
-    ends ≡ map (λ c. completion lent made c) (range_with_len 0 count) →
-    AreOf given (completion flows slots) n
-ends_are flows lent slots made ends given n count f s m g e =
-    g ∙ e ∙ ap (λ (l : List Flow). map (λ c. completion l made c) (range_with_len 0 count)) f ∙
-    ap (λ (l : List (List ℕ)). map (λ c. completion flows l c) (range_with_len 0 count)) s
-    ∙ ap (λ k. map (λ c. completion flows slots c) (range_with_len 0 k)) m
+pub ends_are : (flows lent : List Flow) (slots : List (List ℕ)) (ends given : List ℕ) (n count : ℕ) → lent ≡ flows → count ≡ n → given ≡ ends →
+    ends ≡ map (λ c. completion lent slots c) (range_with_len 0 count) → AreOf given (completion flows slots) n
+ends_are flows lent slots ends given n count f m g e =
+    g ∙ e ∙ ap (λ (l : List Flow). map (λ c. completion l slots c) (range_with_len 0 count)) f ∙
+    ap (λ k. map (λ c. completion flows slots c) (range_with_len 0 k)) m
 
-pub valid_along : (flows lent : List Flow) (slots made : List (List ℕ)) → lent ≡ flows → made ≡ slots → IsValid lent made → IsValid flows slots
-valid_along flows lent slots made f s valid = subst (λ (l : List (List ℕ)). IsValid flows l) s (subst (λ (l : List Flow). IsValid l made) f valid)
-
-pub fault_along : (flows lent : List Flow) (slots made : List (List ℕ)) (a b : Option ScheduleFault) → lent ≡ flows → made ≡ slots → a ≡ b → IsFirstFault lent made a →
-    IsFirstFault flows slots b
-fault_along flows lent slots made a b f s e first =
-    subst (λ (o : Option ScheduleFault). IsFirstFault flows slots o) e
-    (subst (λ (l : List (List ℕ)). IsFirstFault flows l a) s (subst (λ (l : List Flow). IsFirstFault l made a) f first))
+pub fault_along : (flows lent : List Flow) (slots : List (List ℕ)) (a b : Option ScheduleFault) → lent ≡ flows → a ≡ b → IsFirstFault lent slots a → IsFirstFault flows slots b
+fault_along flows lent slots a b f e first =
+    subst (λ (o : Option ScheduleFault). IsFirstFault flows slots o) e (subst (λ (l : List Flow). IsFirstFault l slots a) f first)

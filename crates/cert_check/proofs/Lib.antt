@@ -1,7 +1,6 @@
 pub mod LeastSteps
 pub mod IdSteps
 pub mod SlotSteps
-pub mod CostSteps
 pub mod CertificateOf
 pub mod NameSteps
 pub mod InstanceFacts

@@ -11,5 +11,4 @@ mod verdict;
 
 pub use checking::check;
 pub use places::{Named, coflows_of, out_of_range};
-pub use schedule::cost_of;
 pub use verdict::{Reason, Verdict};

@@ -1,7 +1,6 @@
 //! What a report says of its schedule.
-ghost use Rattle.std.specs.Prelude.{◌≡◌, ◌<◌, ◌≤◌, ◌+◌, ◌-◌, ◌*◌, ◌^◌, All, IfOk, MatchOption, length, slice_index, sum_by};
-ghost use Rattle.coflow_units.specs.declared.limits.TheConstants.{MAX_COFLOWS, MAX_WEIGHT};
-ghost use Rattle.std.specs.List.{range_with_len};
+ghost use Rattle.std.specs.Prelude.{◌≡◌, ◌<◌, ◌≤◌, ◌+◌, ◌-◌, ◌*◌, ◌^◌, All, IfOk, MatchOption, length};
+ghost use Rattle.coflow_units.specs.declared.limits.TheConstants.{MAX_WEIGHT};
 ghost use Rattle.flow_table.specs.Table.{instance_of};
 ghost use Rattle.report_text.specs.Report.{IsReport};
 ghost use Rattle.cert_check.specs.Parts.{HasSoundSchedule, IsFirstFrom, reason_for};
@@ -13,7 +12,7 @@ use crate::verdict::Reason;
 use coflow_units::NoMemory;
 use flow_table::Table;
 use report_text::Report;
-use schedule_model::{ScheduleFault, completions_of_runs, find_fault_of_runs};
+use schedule_model::{ScheduleFault, completions_of_runs, cost_of, find_fault_of_runs};
 use std::alloc::Global;
 
 /// The first reason of the schedule, the completions and the cost, where the places name these coflows.
@@ -35,7 +34,7 @@ pub(crate) fn wrong_schedule(
         (IsFirstFrom (instance_of table.now weights.now) table.now.ids report.now schedule_kind)) }
 {
     let flows = table.flows();
-    let runs = report.runs.as_slice();
+    let runs = &report.runs;
     if let Some(fault) = find_fault_of_runs(alloc, flows, runs)? {
         return Ok(Some(reason_of(fault)));
     }
@@ -76,19 +75,4 @@ fn reason_of(fault: ScheduleFault) -> Reason
         ScheduleFault::Clash { slot, port } => Reason::ClashIn { slot, port },
         ScheduleFault::Units { flow, have, want } => Reason::UnitsOf { flow, have, want },
     }
-}
-
-/// The sum of weight times completion over the coflows, which both lists have by number. There are at most 4096, with weights of at most 2^32.
-pub fn cost_of(weights: &[u64], ends: &[u64]) -> u128
-    requires each { length ends.now ≡ length weights.now }
-    requires few { length weights.now ≤ MAX_COFLOWS }
-    requires small { All (λ w. w ≤ MAX_WEIGHT) weights.now }
-    ensures { result ≡ sum_by (λ c. slice_index weights.now c * slice_index ends.now c)
-        (range_with_len 0 (length weights.now)) }
-{
-    let mut cost = 0;
-    for coflow in 0..weights.len() {
-        cost += u128::from(weights[coflow]) * u128::from(ends[coflow]);
-    }
-    cost
 }

@@ -5,7 +5,7 @@ ghost use Rattle.std.specs.Prelude.{◌≡◌};
 use coflow_units::{NoMemory, Quantity};
 use flow_table::TableFault;
 use hall_plan::PlanFault;
-use report_text::ReportFault;
+use report_text::{ReportFault, Text};
 use trace_reader::TraceFault;
 use weights::WeightsFault;
 use workload::ScriptFault;
@@ -168,6 +168,6 @@ impl From<ScriptFault> for Status {
 /// The text that a command writes, and the status of the job once the text is written whole.
 #[derive(Drop)]
 pub struct Outcome {
-    pub text: Vec<u8>,
+    pub text: Text,
     pub status: Status,
 }

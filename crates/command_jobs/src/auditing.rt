@@ -14,6 +14,7 @@ use command_files::{Outcome, Status, read_input, read_journal_file};
 use command_words::Options;
 use journal_audit::{Audit, audit, audit_text};
 use outside::Shelf;
+use report_text::Text;
 use std::alloc::Global;
 
 /// The line of the verdict on the printed journal of that name, for the coflows of the trace of the other, or the status
@@ -26,7 +27,7 @@ pub fn audit_journal<'a, H: Shelf>(
     shelf: &mut H,
 ) -> Result<Outcome, Status>
     ensures outcome { IfOk result (λ o. (yes : Bool) × (o.status ≡ status_for yes) ×
-        AuditOf (H.told shelf.old) (said_with (audit_job trace.now journal.now) options.entry) yes o.text.items) }
+        AuditOf (H.told shelf.old) (said_with (audit_job trace.now journal.now) options.entry) yes o.text) }
     ensures read_out { OnOk result (OfBoth (H.told shelf.old) (H.told shelf.new)
         (ReadsOut (audit_job trace.now journal.now)
         (said_with (audit_job trace.now journal.now) options.entry))) }
@@ -52,7 +53,7 @@ pub fn audit_journal<'a, H: Shelf>(
     let verdict = audited?;
     let text = audit_text(alloc, verdict)?;
     Ok(Outcome {
-        text,
+        text: Text::of_bytes(text),
         status: status_of(verdict),
     })
 }

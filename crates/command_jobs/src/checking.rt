@@ -13,6 +13,7 @@ use command_files::{Outcome, Status, read_any_report_file, read_input};
 use command_words::Options;
 use online_check::judge;
 use outside::Shelf;
+use report_text::Text;
 use std::alloc::Global;
 
 /// The line of the verdict on the report of that name, for the coflows of the trace of the other, or the status of why
@@ -25,7 +26,7 @@ pub fn check_report<'a, H: Shelf>(
     shelf: &mut H,
 ) -> Result<Outcome, Status>
     ensures outcome { IfOk result (λ o. (yes : Bool) × (o.status ≡ status_for yes) ×
-        CheckOf (H.told shelf.old) (said_with (check_job trace.now report.now) options.entry) yes o.text.items) }
+        CheckOf (H.told shelf.old) (said_with (check_job trace.now report.now) options.entry) yes o.text) }
     ensures read_out { OnOk result (OfBoth (H.told shelf.old) (H.told shelf.new)
         (ReadsOut (check_job trace.now report.now)
         (said_with (check_job trace.now report.now) options.entry))) }
@@ -52,7 +53,7 @@ pub fn check_report<'a, H: Shelf>(
     drop(report);
     let judged = verdict?;
     Ok(Outcome {
-        text: judged.line,
+        text: Text::of_bytes(judged.line),
         status: status_of(judged.yes),
     })
 }

@@ -23,7 +23,7 @@ pub fn list_classes<'a, H: Shelf>(
     shelf: &mut H,
 ) -> Result<Outcome, Status>
     ensures outcome { IfOk result (λ o. (o.status ≡ Status.Ok) ×
-        ClassesOf (H.told shelf.old) (said_with (classes_job trace.now) options.entry) o.text.items) }
+        ClassesOf (H.told shelf.old) (said_with (classes_job trace.now) options.entry) o.text) }
     ensures read_out { OnOk result (OfBoth (H.told shelf.old) (H.told shelf.new)
         (ReadsOut (classes_job trace.now) (said_with (classes_job trace.now) options.entry))) }
     ensures good { OnOk result (IfSome (H.told shelf.old) (HasGoodFiles (classes_job trace.now)

@@ -15,6 +15,7 @@ use command_words::Options;
 use outside::Shelf;
 use plans::bound_of;
 use rankers::{Ranker, comparison_text};
+use report_text::Text;
 use std::alloc::Global;
 
 /// The text of the comparison of the rankers of the bench on the trace of that name. Each ranker that was reached was
@@ -30,7 +31,7 @@ pub fn compare_rankers<'a, H: Shelf>(
     requires few { length bench.old.items < 2 ^ 32 }
     ensures outcome { IfOk result (λ o. (o.status ≡ Status.Ok) ×
         ComparisonOf (H.told shelf.old) (said_with (compare_job trace.now) options.entry)
-        (map (λ b. meaning b) bench.old.items) o.text.items) }
+        (map (λ b. meaning b) bench.old.items) o.text) }
     ensures empty { OnOk result (bench.new.items ≡ []) }
     ensures left { (reached : ℕ) × (bench.new.items ≡ drop reached bench.old.items) ×
         All (λ b. (facts : FactsTold) × IsFactsOfFiles (H.told shelf.old)
@@ -57,7 +58,7 @@ pub fn compare_rankers<'a, H: Shelf>(
     drop(input);
     let text = written?;
     Ok(Outcome {
-        text,
+        text: Text::of_bytes(text),
         status: Status::Ok,
     })
 }

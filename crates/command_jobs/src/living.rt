@@ -23,6 +23,7 @@ use live_rounds::Gate;
 use live_runs::served_live;
 use live_serving::LiveFault;
 use outside::{Shelf, Wire};
+use report_text::Text;
 use std::alloc::Global;
 use std::sync::Wait;
 use std::thread::Threads;
@@ -43,7 +44,7 @@ pub fn run_clients<'a, R: Threads + Wait + Sync, H: Shelf, W: Wire + Send, G: Ga
     requires gates { MAX_CLIENTS ≤ length gates.old.items }
     ensures outcome { IfOk result (λ o. (o.status ≡ Status.Ok) ×
         LiveOf (SendsAll W.runs wires.old.items wires.new.items) (H.told shelf.old)
-        (said_with (live_job trace.now script.now) options.entry) o.text.items) }
+        (said_with (live_job trace.now script.now) options.entry) o.text) }
     ensures sent { (wires.new.items ≡ wires.old.items) ⊎
         Serves (Sends W.runs wires.old.items wires.new.items) (live_job trace.now script.now) (H.told shelf.old)
         (said_with (live_job trace.now script.now) options.entry) }
@@ -81,7 +82,7 @@ fn serve_script<'a, R: Threads + Wait + Sync, W: Wire + Send, G: Gate + Send>(
     options: Options<'a>,
     wires: &mut Vec<W>,
     gates: &mut Vec<G>,
-) -> Result<Vec<u8>, LiveFault>
+) -> Result<Text, LiveFault>
     requires count { length files.input.weights ≡ length files.input.table.ids }
     requires least { All (λ w. 1 ≤ w) files.input.weights }
     requires weights { All (λ w. w ≤ MAX_WEIGHT) files.input.weights }
@@ -90,7 +91,7 @@ fn serve_script<'a, R: Threads + Wait + Sync, W: Wire + Send, G: Gate + Send>(
     requires wires { MAX_PORTS < length wires.old.items }
     requires gates { MAX_CLIENTS ≤ length gates.old.items }
     ensures text { IfOk result (λ text.
-        (told : TellsLive files.input.table files.input.weights files.script options.entry.run text.items) ×
+        (told : TellsLive files.input.table files.input.weights files.script options.entry.run text) ×
         SendsRun W.runs wires.old.items wires.new.items files.input.table
         (served_in files.input.table files.input.weights files.script told.journal)) }
     ensures sent { SendsSoFar W.runs wires.old.items wires.new.items files.input.table files.input.weights

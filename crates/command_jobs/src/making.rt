@@ -12,7 +12,8 @@ ghost use Rattle.flow_table.specs.Table.{IsTable, IsTableOf, instance_of};
 ghost use Rattle.report_text.specs.declared.value.Report.{Report};
 ghost use Rattle.report_text.specs.Made.{made_text};
 ghost use Rattle.report_text.specs.Reading.{IsTextOf};
-ghost use Rattle.report_text.specs.Report.{IsReport};
+ghost use Rattle.report_text.specs.Report.{HasSmallNumbers, IsReport};
+ghost use Rattle.report_text.specs.Text.{report_text};
 ghost use Rattle.text_fields.specs.Checks.{first_fault};
 ghost use Rattle.trace_reader.specs.Trace.{trace_checks, trace_of};
 ghost use Rattle.weights.specs.Weights.{text_checks, weights_of};
@@ -29,7 +30,7 @@ use command_words::Options;
 use flow_table::{Table, TableFault};
 use online_check::verdict_on;
 use outside::Wire;
-use report_text::{Made, Report, ReportFault, read_report, write_made, write_report};
+use report_text::{Made, Report, ReportFault, Text, read_report, write_made, write_report};
 use std::alloc::Global;
 use std::sync::Wait;
 use std::thread::Threads;
@@ -49,7 +50,7 @@ pub fn make_workload<'a, R: Threads + Wait + Sync, W: Wire + Send>(
     requires wires { MAX_PORTS < length wires.old.items }
     ensures outcome { IfOk result (λ o. (o.status ≡ Status.Ok) ×
         MadeOf (SendsAll W.runs wires.old.items wires.new.items) seed options.entry.unit.megabytes
-        o.text.items) }
+        o.text) }
     ensures sent { (wires.new.items ≡ wires.old.items) ⊎ ServesMade (Sends W.runs wires.old.items wires.new.items)
         seed options.entry.unit.megabytes }
     ensures cause { IfErr result (λ status. HasMadeCause status ⊎ IsWireCause
@@ -58,15 +59,7 @@ pub fn make_workload<'a, R: Threads + Wait + Sync, W: Wire + Send>(
 {
     let input = made_input(alloc, seed, options.unit)?;
     let planned = serve(rt, alloc, &input, options.agents as u32, wires)?;
-    let written = write_report(alloc, &planned);
-    drop(planned);
-    let Ok(text) = written else {
-        drop(input);
-        return Err(Status::NoMemory);
-    };
-    let read = read_back(alloc, &text);
-    drop(text);
-    let Ok(report) = read else {
+    let Ok(report) = written_and_read(alloc, planned) else {
         drop(input);
         return Err(Status::NoMemory);
     };
@@ -75,7 +68,7 @@ pub fn make_workload<'a, R: Threads + Wait + Sync, W: Wire + Send>(
     drop(report);
     let text = told?;
     Ok(Outcome {
-        text,
+        text: Text::of_bytes(text),
         status: Status::Ok,
     })
 }
@@ -154,6 +147,21 @@ fn small_table(alloc: Global, trace: &Trace, unit: UnitSize) -> Result<Table, No
         Err(TableFault::Limit { which: _, count: _ }) => unreachable!(),
         Err(TableFault::NoMemory) => Err(NoMemory),
     }
+}
+
+/// The report, read back from its own text.
+fn written_and_read(alloc: Global, report: Report) -> Result<Report, NoMemory>
+    requires report { IsReport report }
+    requires small { HasSmallNumbers report }
+    requires few { length (report_text report) ≤ MAX_REPORT }
+    ensures { IfOk result (λ read. read ≡ report) }
+{
+    let text = write_report(alloc, report)?;
+    let written = text.bytes(alloc);
+    drop(text);
+    let bytes = written?;
+    let read = read_back(alloc, &bytes)?;
+    Ok(read)
 }
 
 /// The report whose text the bytes are.

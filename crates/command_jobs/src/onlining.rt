@@ -21,6 +21,7 @@ use command_files::{Input, Outcome, Status, read_input};
 use command_words::Options;
 use hall_online::{OnlineFault, served_online};
 use outside::{Shelf, Wire};
+use report_text::Text;
 use std::alloc::Global;
 use std::sync::Wait;
 use std::thread::Threads;
@@ -37,7 +38,7 @@ pub fn run_online<'a, R: Threads + Wait + Sync, H: Shelf, W: Wire + Send>(
     requires wires { MAX_PORTS < length wires.old.items }
     ensures outcome { IfOk result (λ o. (o.status ≡ Status.Ok) ×
         OnlineOf (SendsAll W.runs wires.old.items wires.new.items) (H.told shelf.old)
-        (said_with (online_job trace.now) options.entry) o.text.items) }
+        (said_with (online_job trace.now) options.entry) o.text) }
     ensures few { OnOk result (IfSome (H.told shelf.old) (PublishesFew (online_job trace.now)
         (said_with (online_job trace.now) options.entry))) }
     ensures sent { (wires.new.items ≡ wires.old.items) ⊎
@@ -80,14 +81,14 @@ fn serve_run<'a, R: Threads + Wait + Sync, W: Wire + Send>(
     input: &Input,
     options: Options<'a>,
     wires: &mut Vec<W>,
-) -> Result<Vec<u8>, OnlineFault>
+) -> Result<Text, OnlineFault>
     requires table { IsTable input.now.table }
     requires count { length input.now.weights ≡ length input.now.table.ids }
     requires least { All (λ w. 1 ≤ w) input.now.weights }
     requires weights { All (λ w. w ≤ MAX_WEIGHT) input.now.weights }
     requires wires { MAX_PORTS < length wires.old.items }
     ensures text { IfOk result (λ text.
-        (told : TellsOnline input.now.table input.now.weights options.entry.slot_ms options.entry.epoch text.items) ×
+        (told : TellsOnline input.now.table input.now.weights options.entry.slot_ms options.entry.epoch text) ×
         SendsRun W.runs wires.old.items wires.new.items input.now.table told.online) }
     ensures sent { SendsSoFar W.runs wires.old.items wires.new.items input.now.table input.now.weights
         options.entry.slot_ms options.entry.epoch }

@@ -34,7 +34,7 @@ pub fn plan_trace<'a, R: Threads + Wait + Sync, H: Shelf, W: Wire + Send>(
     requires wires { MAX_PORTS < length wires.old.items }
     ensures outcome { IfOk result (λ o. (o.status ≡ Status.Ok) ×
         PlanOf (SendsAll W.runs wires.old.items wires.new.items) (H.told shelf.old)
-        (said_with (plan_job trace.now) options.entry) o.text.items) }
+        (said_with (plan_job trace.now) options.entry) o.text) }
     ensures sent { (wires.new.items ≡ wires.old.items) ⊎
         Serves (Sends W.runs wires.old.items wires.new.items) (plan_job trace.now) (H.told shelf.old)
         (said_with (plan_job trace.now) options.entry) }
@@ -57,9 +57,7 @@ pub fn plan_trace<'a, R: Threads + Wait + Sync, H: Shelf, W: Wire + Send>(
     let served = serve(rt, alloc, &input, options.agents as u32, wires);
     drop(input);
     let report = served?;
-    let written = write_report(alloc, &report);
-    drop(report);
-    let text = written?;
+    let text = write_report(alloc, report)?;
     Ok(Outcome {
         text,
         status: Status::Ok,

@@ -12,6 +12,7 @@ use online_runs::laws::online_runs_are_one;
 use online_text::write_online;
 use outside::Wire;
 use release_bound::laws::{released_is_bound, released_ordering_is_feasible};
+use report_text::Text;
 use std::alloc::Global;
 use std::sync::Wait;
 use std::thread::Threads;
@@ -33,7 +34,7 @@ pub fn served_online<R: Threads + Wait + Sync, W: Wire + Send>(
     every: u64,
     agents: u32,
     wires: &mut Vec<W>,
-) -> Result<Vec<u8>, OnlineFault>
+) -> Result<Text, OnlineFault>
     requires weight_each { length weights.now ≡ length table.now.ids }
     requires weight_range { All (λ w. (1 ≤ w) × (w ≤ MAX_WEIGHT)) weights.now }
     requires slot_some { 1 ≤ slot_ms }
@@ -41,7 +42,7 @@ pub fn served_online<R: Threads + Wait + Sync, W: Wire + Send>(
     requires epoch_fits { every ≤ MAX_OPTION_SLOTS }
     requires agents { 1 ≤ agents }
     requires wires { table.now.ports ≤ length wires.old.items }
-    ensures text { IfOk result (λ text. (told : TellsOnline table.now weights.now slot_ms every text.items) ×
+    ensures text { IfOk result (λ text. (told : TellsOnline table.now weights.now slot_ms every text) ×
         SendsAll W.runs wires.old.items wires.new.items table.now told.online) }
     ensures sent { SendsSoFar W.runs wires.old.items wires.new.items table.now weights.now slot_ms every }
     ensures fault { (port : ℕ) → result ≡ Err (WireFault port) → FailsAt W.faults wires.old.items wires.new.items
@@ -57,6 +58,6 @@ pub fn served_online<R: Threads + Wait + Sync, W: Wire + Send>(
     let _within = table.coflows();
     let arrivals = arrivals_of(alloc, table, slot_ms)?;
     let online = serve_online(alloc, rt, table, weights, &arrivals, every, agents, wires)?;
-    let text = write_online(alloc, &online)?;
+    let text = write_online(alloc, online)?;
     Ok(text)
 }

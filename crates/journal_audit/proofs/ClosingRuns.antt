@@ -2,7 +2,7 @@
 use Rattle.std.proofs.Common.{◌≡◌, ℕ, ◌<◌, ◌≤◌, Bool, false, arith, List, [], ◌++◌, length, map, replicate, refl, sym, ap, ◌∙◌, true≢false}
 use Rattle.std.specs.Prelude.{None, Option, Some, if◌then◌else◌, option_to_list}
 use Rattle.std.specs.List.{flat_map}
-use Rattle.std.proofs.lemmas.Bool.{leb-false, lt-leb}
+use Rattle.std.proofs.lemmas.Bool.{lt-leb}
 use Rattle.std.proofs.lemmas.List.{map-append}
 use Rattle.std.proofs.lemmas.List.Concat.{flat_map-append}
 use Rattle.journal.specs.declared.command.Command.{Command}
@@ -17,9 +17,7 @@ use Rattle.journal.specs.Closed.{closed_by}
 use Rattle.journal.specs.Counts.{run_line}
 use Rattle.journal.specs.Entries.{TellsEntry}
 use Rattle.journal.specs.Fold.{state_of}
-use Rattle.journal.specs.Journal.{is_full}
 use Rattle.journal.proofs.EntryTells.{reply_tells}
-use Rattle.journal.proofs.Legal.{full_is}
 use Rattle.journal_audit.specs.Replay.{closes, closing_run, even_slots}
 
 -- an entry within the limit has room

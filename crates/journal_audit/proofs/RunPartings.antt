@@ -5,7 +5,7 @@ use Rattle.std.proofs.lemmas.Bool.{cases_lt}
 use Rattle.std.proofs.lemmas.List.{append-nil, drop_more, get_or-drop, get_or_default, length-drop}
 use Rattle.coflow_units.specs.declared.plan.Run.{Run}
 use Rattle.schedule_model.specs.RunList.{IsKept, slots_in}
-use Rattle.schedule_model.proofs.RunSlots.{all_runs, run_at, run_some, slots_parts}
+use Rattle.schedule_model.proofs.RunSlots.{all_runs, run_at, run_more, run_some, slots_parts}
 use Rattle.journal_audit.specs.ClaimsLooked.{HaveInCommon}
 use Rattle.journal_audit.specs.Parted.{IsPartedAt}
 use Rattle.journal_audit.proofs.Partings.{end_parts, fewer_part, heads_part, none_is_not_some, parted_back, parted_behind, same_some}
@@ -52,6 +52,14 @@ both_start (suc n) (suc m) f g xs ys some some' differ = heads_part f g (replica
 pub common_few : (a b : Run) (n : ℕ) → HaveInCommon a b n → n ≤ a.length
 common_few a b n (inl (differ, none)) = omega (arith, none)
 common_few a b n (inr (flows, lengths, least)) = omega (arith, least)
+
+-- one run more on each side, where the two are the same
+pub same_more : (stated real : List Run) (k : ℕ) (a b : Run) → k < length stated → k < length real → a ≡ get_or stated k a → b ≡ get_or real k b →
+    slots_in (take k stated) ≡ slots_in (take k real) → a.length ≡ b.length → a.flows ≡ b.flows → slots_in (take (k + 1) stated) ≡ slots_in (take (k + 1) real)
+same_more stated real k a b in_s in_r is_a is_b same lengths flows =
+    run_more stated k a in_s is_a ∙ ap (λ x. x ++ replicate a.length a.flows) same
+    ∙ ap (λ n. slots_in (take k real) ++ replicate n a.flows) lengths ∙ ap (λ f. slots_in (take k real) ++ replicate b.length f) flows
+    ∙ sym (run_more real k b in_r is_b)
 
 -- runs that are not the same part after the slots that they have in common
 pub runs_part : (stated real : List Run) (k : ℕ) (a b : Run) (n : ℕ) → IsKept stated → IsKept real → k < length stated → k < length real →

@@ -161,32 +161,32 @@ fn audit_replay(
             stated: wrong.stated,
             real: wrong.real,
         })),
-        None => Ok(verdict_of(master, replayed, coflows, live)),
+        None => verdict_of(alloc, master, replayed, coflows, live),
     }
 }
 
-/// The verdict where the master answered all entries as stated.
+/// The verdict where the master answered all entries as stated. The error is want of memory.
 fn verdict_of(
+    alloc: Global,
     master: &Master,
     replayed: &Replayed,
     coflows: &IndexMap<u32, u32>,
     live: &Live,
-) -> Audit
+) -> Result<Audit, NoMemory>
     requires live { IsLive live.now }
     requires coflows { Finds master.now.opening.table.ids (get nat_eq coflows.now) }
     requires known { All (λ (e : EntryLine). IsKnown master.now.opening.table.ids e.word) live.now.entries }
     requires journal { master.now.journal ≡ stated_by master.now.opening.table.ids live.now.entries }
     requires replayed { IsReplayed master.now.opening master.now.journal live.now.orders replayed.now }
     ensures { (t : TableFacts) (weights : List ℕ) → master.now.opening ≡ opening_for t weights live.now →
-        IsAudit t weights live.now result }
+        IfOk result (IsAudit t weights live.now) }
 {
-    let runs = live.runs.as_slice();
-    match late_reason(master, replayed, coflows, live) {
-        Some(reason) => Audit::No(reason),
-        None => Audit::Yes {
+    match late_reason(alloc, master, replayed, coflows, live)? {
+        Some(reason) => Ok(Audit::No(reason)),
+        None => Ok(Audit::Yes {
             entries: live.entries.as_slice().len() as u32,
             versions: live.orders.as_slice().len() as u32,
-            slots: slots_in(runs),
-        },
+            slots: slots_in(&live.runs),
+        }),
     }
 }

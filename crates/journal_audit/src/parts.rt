@@ -1,46 +1,53 @@
 //! Where two schedules part.
-ghost use Rattle.std.specs.Prelude.{◌≡◌, ◌-◌, ◌≤◌, IsTrue, ◌↔◌, MatchOption, length};
+ghost use Rattle.std.specs.Prelude.{◌≡◌, ◌-◌, ◌≤◌, IfOk, IsTrue, ◌↔◌, MatchOption, length};
 ghost use Rattle.coflow_units.specs.declared.limits.TheConstants.{MAX_SLOT};
 ghost use Rattle.schedule_model.specs.RunList.{IsKept, slots_in};
 ghost use Rattle.journal_audit.specs.ClaimsLooked.{HaveInCommon};
 ghost use Rattle.journal_audit.specs.Parted.{IsPartedAt};
+ghost use Rattle.run_list.specs.Runs.{run_of};
 
-use coflow_units::Run;
+use coflow_units::NoMemory;
+use run_list::Runs;
+use std::alloc::Global;
 
 /// The first slot, counted from 1, at which the schedules of two lists of runs part, the stated ones and the real ones: the slots differ, or one schedule has ended. None where they are
-/// the same.
-pub fn first_parted_slot(stated: &[Run], real: &[Run]) -> Option<u64>
+/// the same. The error is want of memory.
+pub fn first_parted_slot(alloc: Global, stated: &Runs, real: &Runs) -> Result<Option<u64>, NoMemory>
     requires stated { IsKept stated.now }
     requires real { IsKept real.now }
-    ensures { MatchOption result (slots_in stated.now ≡ slots_in real.now)
-        (λ slot. (1 ≤ slot) × IsPartedAt (slots_in stated.now) (slots_in real.now) (slot - 1)) }
+    ensures { IfOk result (λ slot. MatchOption slot (slots_in stated.now ≡ slots_in real.now)
+        (λ slot. (1 ≤ slot) × IsPartedAt (slots_in stated.now) (slots_in real.now) (slot - 1))) }
 {
+    let mut stated_walk = stated.walk(alloc)?;
+    let mut real_walk = real.walk(alloc)?;
     let mut passed = 0;
-    let few = stated.len().min(real.len());
-    for index in 0..few {
-        if let Some(common) = common_slots(&stated[index], &real[index]) {
-            return Some(passed + common + 1);
+    let few = stated.count().min(real.count());
+    for _index in 0..few {
+        let slots = stated_walk.enter();
+        let others = real_walk.enter();
+        if let Some(common) = common_slots(slots, stated_walk.flows(), others, real_walk.flows()) {
+            return Ok(Some(passed + common + 1));
         }
-        passed += stated[index].length;
+        passed += slots;
     }
-    if stated.len() == real.len() {
-        return None;
+    if stated.count() == real.count() {
+        return Ok(None);
     }
-    Some(passed + 1)
+    Ok(Some(passed + 1))
 }
 
-/// How many slots the two runs have in common, where they are not the same.
-fn common_slots(stated: &Run, real: &Run) -> Option<u64>
-    ensures { MatchOption result ((stated.now.length ≡ real.now.length) × (stated.now.flows ≡ real.now.flows))
-        (HaveInCommon stated.now real.now) }
+/// How many slots two runs have in common, where they are not the same: a stated one of so many slots and a real one, with their flows.
+fn common_slots(slots: u64, flows: &[u32], real: u64, real_flows: &[u32]) -> Option<u64>
+    ensures { MatchOption result ((slots ≡ real) × (flows.now ≡ real_flows.now))
+        (HaveInCommon (run_of slots flows.now) (run_of real real_flows.now)) }
 {
-    if !is_same_slot(stated.flows.as_slice(), real.flows.as_slice()) {
+    if !is_same_slot(flows, real_flows) {
         return Some(0);
     }
-    if stated.length == real.length {
+    if slots == real {
         return None;
     }
-    Some(stated.length.min(real.length))
+    Some(slots.min(real))
 }
 
 fn is_same_slot(stated: &[u32], real: &[u32]) -> bool
@@ -50,13 +57,13 @@ fn is_same_slot(stated: &[u32], real: &[u32]) -> bool
 }
 
 /// How many slots the runs have, which may be as many as a schedule has at most.
-pub fn slots_in(runs: &[Run]) -> u64
+pub fn slots_in(runs: &Runs) -> u64
     requires { length (slots_in runs.now) ≤ MAX_SLOT }
     ensures { result ≡ length (slots_in runs.now) }
 {
     let mut slots = 0;
-    for run in runs {
-        slots += run.length;
+    for place in 0..runs.count() {
+        slots += runs.slots(place);
     }
     slots
 }

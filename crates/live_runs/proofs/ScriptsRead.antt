@@ -1,5 +1,5 @@
 -- A script that was read may be asked, and its journal is short.
-use Rattle.std.proofs.Common.{◌≡◌, ℕ, ◌^◌, ◌+◌, ◌*◌, ◌≤◌, ◌<◌, Bool, true, false, List, [], ◌∷◌, ◌++◌, Option, Some, None, length, map, subst, sym, ap, refl, ◌∙◌, arith, suc}
+use Rattle.std.proofs.Common.{◌≡◌, ℕ, ◌^◌, ◌+◌, ◌≤◌, ◌<◌, Bool, true, false, List, [], ◌∷◌, ◌++◌, Option, Some, None, length, map, subst, sym, ap, refl, ◌∙◌, arith, suc}
 use Rattle.std.specs.Prelude.{All, codes, cond, is_some, max, nat_eq, nat_le, option_map, sum_by, unwrap_or}
 use Rattle.std.proofs.lemmas.Bool.{and_parts, leb-true}
 use Rattle.std.proofs.lemmas.List.{length-map, length-append}

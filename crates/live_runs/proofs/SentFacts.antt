@@ -1,11 +1,9 @@
 -- What a run sent are all units of its schedule.
 use Rattle.std.proofs.Common.{◌≡◌, ◌∙◌, ℕ, ◌+◌, List, Option, ap, arith, refl, sym, suc, zero}
 use Rattle.std.specs.Prelude.{◌==◌, ◌&&◌, [], Bool, false, true, if◌then◌else◌}
-use Rattle.std.specs.List.{slice_index_or}
 use Rattle.coflow_units.specs.declared.fabric.Flow.{Flow}
 use Rattle.coflow_units.specs.Flows.{ingress_of}
 use Rattle.coflow_units.specs.Schedule.{holds}
-use Rattle.flow_table.specs.Table.{TableFacts}
 use Rattle.journal.specs.Closed.{times_on}
 use Rattle.slot_runner.specs.Wires.{AreAllUnits, HaveMore, units_at}
 use Rattle.slot_runner.proofs.WireSteps.{have_so, unit_there}

@@ -15,6 +15,7 @@ use live_rounds::Gate;
 use live_serving::LiveFault;
 use live_text::write_live;
 use outside::Wire;
+use report_text::Text;
 use std::alloc::Global;
 use std::sync::Wait;
 use std::thread::Threads;
@@ -37,7 +38,7 @@ pub fn served_live<R: Threads + Wait + Sync, W: Wire + Send, G: Gate + Send>(
     agents: u32,
     gates: &mut [G],
     wires: &mut Vec<W>,
-) -> Result<Vec<u8>, LiveFault>
+) -> Result<Text, LiveFault>
     requires each_weight { length weights ≡ length table.ids }
     requires weight { All (λ w. (1 ≤ w) × (w ≤ MAX_WEIGHT)) weights }
     requires shared { sum_by (λ (x : Flow). x.units) table.flows ≤ MAX_LIVE_UNITS }
@@ -46,7 +47,7 @@ pub fn served_live<R: Threads + Wait + Sync, W: Wire + Send, G: Gate + Send>(
     requires agents { 1 ≤ agents }
     requires gates { script.now.clients ≤ length gates.old }
     requires wires { table.ports ≤ length wires.old.items }
-    ensures text { IfOk result (λ text. (told : TellsLive table weights script.now most text.items) ×
+    ensures text { IfOk result (λ text. (told : TellsLive table weights script.now most text) ×
         SendsAll W.runs wires.old.items wires.new.items table (served_in table weights script.now told.journal)) }
     ensures sent { SendsSoFar W.runs wires.old.items wires.new.items table weights script.now }
     ensures fault { (port : ℕ) → result ≡ Err (WireFault port) →
@@ -57,6 +58,6 @@ pub fn served_live<R: Threads + Wait + Sync, W: Wire + Send, G: Gate + Send>(
     let live = run_live(
         alloc, rt, table, weights, limit, script, most, agents, gates, wires,
     )?;
-    let text = write_live(alloc, &live)?;
+    let text = write_live(alloc, live)?;
     Ok(text)
 }

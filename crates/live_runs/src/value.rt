@@ -71,6 +71,6 @@ pub fn live_value(
         entries: Items::from_vec(entries),
         orders: Items::from_vec(orders),
         pulls,
-        runs: Items::from_vec(schedule.into_runs()),
+        runs: schedule.into_runs(),
     })
 }

@@ -99,7 +99,7 @@ abbrev with_entries : Draft → Vec EntryLine Global → Draft
 with_entries d entries = record { stage = d.stage; entries = entries; orders = d.orders; pulls = d.pulls; runs = d.runs; slots = d.slots }
 
 pub entry_taken : (d : Draft) (entries : Vec EntryLine Global) (e : EntryLine) (line : List ℕ) → IsDraft d → d.stage ≡ Lines → d.orders.items ≡ [] → d.pulls.items ≡ [] →
-    d.runs.items ≡ [] → entries.items ≡ d.entries.items ++ (e ∷ []) → length d.entries.items + 1 ≤ 2 ^ 23 → IsEntry e → line ≡ entry_line (length d.entries.items + 1) e →
+    d.runs ≡ [] → entries.items ≡ d.entries.items ++ (e ∷ []) → length d.entries.items + 1 ≤ 2 ^ 23 → IsEntry e → line ≡ entry_line (length d.entries.items + 1) e →
     IsDraft (with_entries d entries) × (draft_lines (with_entries d entries) ≡ draft_lines d ++ (line ∷ []))
 entry_taken d entries e line h stage no_orders no_pulls no_runs es few is_entry is = (draft, lines)
   where
@@ -121,12 +121,12 @@ entry_taken d entries e line h stage no_orders no_pulls no_runs es few is_entry 
     }
 
     lines : draft_lines (with_entries d entries) ≡ draft_lines d ++ (line ∷ [])
-    lines = rw (stage, es, is) (entry_body d.entries.items d.orders.items d.pulls.items d.runs.items e no_orders no_pulls no_runs)
+    lines = rw (stage, es, is) (entry_body d.entries.items d.orders.items d.pulls.items d.runs e no_orders no_pulls no_runs)
 
 abbrev with_orders : Draft → Vec (List ℕ) Global → Draft
 with_orders d orders = record { stage = d.stage; entries = d.entries; orders = orders; pulls = d.pulls; runs = d.runs; slots = d.slots }
 
-pub order_taken : (d : Draft) (orders : Vec (List ℕ) Global) (ids line : List ℕ) → IsDraft d → d.stage ≡ Lines → d.pulls.items ≡ [] → d.runs.items ≡ [] →
+pub order_taken : (d : Draft) (orders : Vec (List ℕ) Global) (ids line : List ℕ) → IsDraft d → d.stage ≡ Lines → d.pulls.items ≡ [] → d.runs ≡ [] →
     orders.items ≡ d.orders.items ++ (ids ∷ []) → IsSmall (length d.orders.items + 1) → All IsSmall ids → line ≡ order_line (length d.orders.items + 1) ids →
     IsDraft (with_orders d orders) × (draft_lines (with_orders d orders) ≡ draft_lines d ++ (line ∷ []))
 order_taken d orders ids line h stage no_pulls no_runs os few small is = (draft, lines)
@@ -149,12 +149,12 @@ order_taken d orders ids line h stage no_pulls no_runs os few small is = (draft,
     }
 
     lines : draft_lines (with_orders d orders) ≡ draft_lines d ++ (line ∷ [])
-    lines = rw (stage, os, is) (order_body d.entries.items d.orders.items d.pulls.items d.runs.items ids no_pulls no_runs)
+    lines = rw (stage, os, is) (order_body d.entries.items d.orders.items d.pulls.items d.runs ids no_pulls no_runs)
 
 abbrev with_pulls : Draft → Vec PullLine Global → Draft
 with_pulls d pulls = record { stage = d.stage; entries = d.entries; orders = d.orders; pulls = pulls; runs = d.runs; slots = d.slots }
 
-pub pull_taken : (d : Draft) (pulls : Vec PullLine Global) (p : PullLine) (line : List ℕ) → IsDraft d → d.stage ≡ Lines → d.runs.items ≡ [] →
+pub pull_taken : (d : Draft) (pulls : Vec PullLine Global) (p : PullLine) (line : List ℕ) → IsDraft d → d.stage ≡ Lines → d.runs ≡ [] →
     pulls.items ≡ d.pulls.items ++ (p ∷ []) → IsPull p → line ≡ pull_line p → ComesBehind d.pulls.items p true →
     IsDraft (with_pulls d pulls) × (draft_lines (with_pulls d pulls) ≡ draft_lines d ++ (line ∷ []))
 pull_taken d pulls p line h stage no_runs ps is_pull is behind = (draft, lines)
@@ -177,21 +177,21 @@ pull_taken d pulls p line h stage no_runs ps is_pull is behind = (draft, lines)
     }
 
     lines : draft_lines (with_pulls d pulls) ≡ draft_lines d ++ (line ∷ [])
-    lines = rw (stage, ps, is) (pull_body d.entries.items d.orders.items d.pulls.items d.runs.items p no_runs)
+    lines = rw (stage, ps, is) (pull_body d.entries.items d.orders.items d.pulls.items d.runs p no_runs)
 
 abbrev differ_in_flows : Run → Run → Type 0
 differ_in_flows a b = a.flows ≢ b.flows
 
-abbrev with_runs : Draft → Vec Run Global → ℕ → Draft
+abbrev with_runs : Draft → List Run → ℕ → Draft
 with_runs d runs slots = record { stage = d.stage; entries = d.entries; orders = d.orders; pulls = d.pulls; runs = runs; slots = slots }
 
-pub run_taken : (d : Draft) (runs : Vec Run Global) (r : Run) (line : List ℕ) → IsDraft d → d.stage ≡ Lines → runs.items ≡ d.runs.items ++ (r ∷ []) → IsRun r → line ≡ run_line r →
-    d.slots + r.length ≤ 2 ^ 41 - 1 → Differs d.runs.items r.flows true →
+pub run_taken : (d : Draft) (runs : List Run) (r : Run) (line : List ℕ) → IsDraft d → d.stage ≡ Lines → runs ≡ d.runs ++ (r ∷ []) → IsRun r → line ≡ run_line r →
+    d.slots + r.length ≤ 2 ^ 41 - 1 → Differs d.runs r.flows true →
     IsDraft (with_runs d runs (d.slots + r.length)) × (draft_lines (with_runs d runs (d.slots + r.length)) ≡ draft_lines d ++ (line ∷ []))
 run_taken d runs r line h stage rs is_run is few other = (draft, lines)
   where
-    total : sum_by slots_in runs.items ≡ d.slots + r.length
-    total = omega (arith, ap (sum_by slots_in) rs, sum_by-append slots_in d.runs.items (r ∷ []), sum_by-cons slots_in r [], h.slots)
+    total : sum_by slots_in runs ≡ d.slots + r.length
+    total = omega (arith, ap (sum_by slots_in) rs, sum_by-append slots_in d.runs (r ∷ []), sum_by-cons slots_in r [], h.slots)
 
     draft : IsDraft (with_runs d runs (d.slots + r.length))
     draft = record {
@@ -202,16 +202,16 @@ run_taken d runs r line h stage rs is_run is few other = (draft, lines)
         order = h.live.order;
         pull = h.live.pull;
         rising = h.live.rising;
-        run = rw rs (All-push IsRun d.runs.items r h.live.run is_run);
+        run = rw rs (All-push IsRun d.runs r h.live.run is_run);
         few_slots = omega (arith, total, few);
-        maximal = rw rs (push_neighbours differ_in_flows d.runs.items r h.live.maximal other);
+        maximal = rw rs (push_neighbours differ_in_flows d.runs r h.live.maximal other);
       };
       slots = sym total;
       nothing = rw stage tt;
     }
 
     lines : draft_lines (with_runs d runs (d.slots + r.length)) ≡ draft_lines d ++ (line ∷ [])
-    lines = rw (stage, rs, is) (run_body d.entries.items d.orders.items d.pulls.items d.runs.items r)
+    lines = rw (stage, rs, is) (run_body d.entries.items d.orders.items d.pulls.items d.runs r)
 
 -- ---- the first line
 
@@ -233,4 +233,4 @@ first_taken d line h stage is = (record { live = h.live; slots = h.slots; nothin
     nothing = subst (λ s. HasNothing s (live_of d)) stage h.nothing
 
     lines : draft_lines (at_lines d) ≡ draft_lines d ++ (line ∷ [])
-    lines = rw (stage, is) (empty_body d.entries.items d.orders.items d.pulls.items d.runs.items nothing.0 nothing.1 nothing.2 nothing.3)
+    lines = rw (stage, is) (empty_body d.entries.items d.orders.items d.pulls.items d.runs nothing.0 nothing.1 nothing.2 nothing.3)

@@ -45,7 +45,7 @@ record NextEntry (d : Draft) (line : List ℕ) (l : Live) : Type 0 where
   whole : l.entries ≡ d.entries.items ++ (entry ∷ more)
   no_orders : d.orders.items ≡ []
   no_pulls : d.pulls.items ≡ []
-  no_runs : d.runs.items ≡ []
+  no_runs : d.runs ≡ []
   here : line ≡ entry_line (length d.entries.items + 1) entry
 
 entry_here : (d : Draft) (line : List ℕ) (l : Live) (more : List (List ℕ)) → mark line ≡ 114 → Next (live_of d) l (line ∷ more) → NextEntry d line l
@@ -66,7 +66,7 @@ refuse_entry d line h stage m none l more hl e =
     none next.entry (omega arith) (omega (arith, hl.few_entries, ap length next.whole, length-append d.entries.items (next.entry ∷ next.more)))
     (all_middle IsEntry d.entries.items next.entry next.more (subst (All IsEntry) next.whole hl.entry)) next.here
 
-pub refuse_late_entry : (d : Draft) (line : List ℕ) → IsDraft d → d.stage ≡ Lines → mark line ≡ 114 → (d.orders.items ≡ [] → d.pulls.items ≡ [] → d.runs.items ≡ [] → ⊥) →
+pub refuse_late_entry : (d : Draft) (line : List ℕ) → IsDraft d → d.stage ≡ Lines → mark line ≡ 114 → (d.orders.items ≡ [] → d.pulls.items ≡ [] → d.runs ≡ [] → ⊥) →
     Refuses d line
 refuse_late_entry d line h stage m late l more hl e =
     let next = next_entry_of d line l more h stage m hl e in
@@ -79,7 +79,7 @@ record NextOrder (d : Draft) (line : List ℕ) (l : Live) : Type 0 where
   more : List (List ℕ)
   whole : l.orders ≡ d.orders.items ++ (ids ∷ more)
   no_pulls : d.pulls.items ≡ []
-  no_runs : d.runs.items ≡ []
+  no_runs : d.runs ≡ []
   here : line ≡ order_line (length d.orders.items + 1) ids
 
 order_here : (d : Draft) (line : List ℕ) (l : Live) (more : List (List ℕ)) → mark line ≡ 101 → Next (live_of d) l (line ∷ more) → NextOrder d line l
@@ -100,7 +100,7 @@ refuse_order d line h stage m none l more hl e =
     none next.ids (omega arith) (omega (arith, hl.few_orders, ap length next.whole, length-append d.orders.items (next.ids ∷ next.more)))
     (all_middle (All IsSmall) d.orders.items next.ids next.more (subst (All (All IsSmall)) next.whole hl.order)) next.here
 
-pub refuse_late_order : (d : Draft) (line : List ℕ) → IsDraft d → d.stage ≡ Lines → mark line ≡ 101 → (d.pulls.items ≡ [] → d.runs.items ≡ [] → ⊥) → Refuses d line
+pub refuse_late_order : (d : Draft) (line : List ℕ) → IsDraft d → d.stage ≡ Lines → mark line ≡ 101 → (d.pulls.items ≡ [] → d.runs ≡ [] → ⊥) → Refuses d line
 refuse_late_order d line h stage m late l more hl e =
     let next = next_order_of d line l more h stage m hl e in
     late next.no_pulls next.no_runs
@@ -111,7 +111,7 @@ record NextPull (d : Draft) (line : List ℕ) (l : Live) : Type 0 where
   pull : PullLine
   more : List PullLine
   whole : l.pulls ≡ d.pulls.items ++ (pull ∷ more)
-  no_runs : d.runs.items ≡ []
+  no_runs : d.runs ≡ []
   here : line ≡ pull_line pull
 
 pull_here : (d : Draft) (line : List ℕ) (l : Live) (more : List (List ℕ)) → mark line ≡ 108 → Next (live_of d) l (line ∷ more) → NextPull d line l
@@ -130,7 +130,7 @@ refuse_pull d line h stage m none l more hl e =
     let next = next_pull_of d line l more h stage m hl e in
     none next.pull (all_middle IsPull d.pulls.items next.pull next.more (subst (All IsPull) next.whole hl.pull)) next.here
 
-pub refuse_late_pull : (d : Draft) (line : List ℕ) → IsDraft d → d.stage ≡ Lines → mark line ≡ 108 → (d.runs.items ≡ [] → ⊥) → Refuses d line
+pub refuse_late_pull : (d : Draft) (line : List ℕ) → IsDraft d → d.stage ≡ Lines → mark line ≡ 108 → (d.runs ≡ [] → ⊥) → Refuses d line
 refuse_late_pull d line h stage m late l more hl e = late (next_pull_of d line l more h stage m hl e).no_runs
 
 -- the neighbours at the seam of two lists
@@ -159,7 +159,7 @@ refuse_early_pull d line p h stage m is_pull is early l more hl e =
 record NextRun (d : Draft) (line : List ℕ) (l : Live) : Type 0 where
   run : Run
   more : List Run
-  whole : l.runs ≡ d.runs.items ++ (run ∷ more)
+  whole : l.runs ≡ d.runs ++ (run ∷ more)
   here : line ≡ run_line run
 
 run_here : (d : Draft) (line : List ℕ) (l : Live) (more : List (List ℕ)) → mark line ≡ 32 → Next (live_of d) l (line ∷ more) → NextRun d line l
@@ -176,28 +176,28 @@ next_run_of d line l more h stage m hl e = run_here d line l more m (next_here d
 pub refuse_run : (d : Draft) (line : List ℕ) → IsDraft d → d.stage ≡ Lines → mark line ≡ 32 → IsRunOf line None → Refuses d line
 refuse_run d line h stage m none l more hl e =
     let next = next_run_of d line l more h stage m hl e in
-    none next.run (all_middle IsRun d.runs.items next.run next.more (subst (All IsRun) next.whole hl.run)) next.here
+    none next.run (all_middle IsRun d.runs next.run next.more (subst (All IsRun) next.whole hl.run)) next.here
 
 -- a text that has the run's line here has the run
 run_next : (d : Draft) (run : Run) (line : List ℕ) (l : Live) (more : List (List ℕ)) → IsDraft d → d.stage ≡ Lines → mark line ≡ 32 → IsRun run → line ≡ run_line run → IsLive l →
-    live_lines l ≡ draft_lines d ++ (line ∷ more) → (others : List Run) × (l.runs ≡ d.runs.items ++ (run ∷ others))
+    live_lines l ≡ draft_lines d ++ (line ∷ more) → (others : List Run) × (l.runs ≡ d.runs ++ (run ∷ others))
 run_next d run line l more h stage m is_run is hl e =
     let next = next_run_of d line l more h stage m hl e in
-    let fits = all_middle IsRun d.runs.items next.run next.more (subst (All IsRun) next.whole hl.run) in
+    let fits = all_middle IsRun d.runs next.run next.more (subst (All IsRun) next.whole hl.run) in
     let same : next.run ≡ run = run_unique next.run run fits is_run (sym next.here ∙ is) in
-    (next.more, next.whole ∙ ap (λ x. d.runs.items ++ (x ∷ next.more)) same)
+    (next.more, next.whole ∙ ap (λ x. d.runs ++ (x ∷ next.more)) same)
 
 pub refuse_long : (d : Draft) (line : List ℕ) (run : Run) → IsDraft d → d.stage ≡ Lines → mark line ≡ 32 → IsRun run → line ≡ run_line run → 2 ^ 41 - 1 < d.slots + run.length →
     Refuses d line
 refuse_long d line run h stage m is_run is long l more hl e =
     let next = run_next d run line l more h stage m is_run is hl e in
-    absurd (omega (arith, slots_grow d.runs.items l.runs next.0 run next.1, h.slots, hl.few_slots, long))
+    absurd (omega (arith, slots_grow d.runs l.runs next.0 run next.1, h.slots, hl.few_slots, long))
 
-pub refuse_same : (d : Draft) (line : List ℕ) (run : Run) → IsDraft d → d.stage ≡ Lines → mark line ≡ 32 → IsRun run → line ≡ run_line run → Differs d.runs.items run.flows false →
+pub refuse_same : (d : Draft) (line : List ℕ) (run : Run) → IsDraft d → d.stage ≡ Lines → mark line ≡ 32 → IsRun run → line ≡ run_line run → Differs d.runs run.flows false →
     Refuses d line
 refuse_same d line run h stage m is_run is same l more hl e =
     let next = run_next d run line l more h stage m is_run is hl e in
-    at_seam d.runs.items run next.0 l.runs (λ a b. a.flows ≢ b.flows) (same run).0 next.1 hl.maximal (same run).1
+    at_seam d.runs run next.0 l.runs (λ a b. a.flows ≢ b.flows) (same run).0 next.1 hl.maximal (same run).1
 
 -- ---- the other lines
 

@@ -4,7 +4,7 @@ use Rattle.std.specs.Prelude.{codes}
 use Rattle.std.proofs.lemmas.List.{length-take-le, take_more}
 use Rattle.coflow_units.specs.Text.{ended, text_of}
 use Rattle.report_text.specs.Text.{run_line}
-use Rattle.report_text.proofs.TextSteps.{lines_more, one_more_behind}
+use Rattle.report_text.proofs.TextSteps.{lines_more, one_more_behind, served}
 use Rattle.live_text.specs.declared.value.Live.{Live}
 use Rattle.live_text.specs.Text.{entry_line, live_text, numbered, order_line, pull_line}
 
@@ -23,17 +23,15 @@ numbered_step line xs k x front text new lt here old step =
     ∙ ap (λ n. numbered line 1 (take k xs) ++ (line (n + 1) x ∷ [])) (length-take-le k xs (omega (arith, lt)))))
 
 -- the parts of the text in turn
-pub whole : (l : Live) (first entries orders pulls runs all : List ℕ) → first ≡ codes "sincronia live 1\n" → entries ≡ first ++ text_of (numbered entry_line 1 l.entries) →
-    orders ≡ entries ++ text_of (numbered order_line 1 l.orders) → pulls ≡ orders ++ text_of (map pull_line l.pulls) → runs ≡ pulls ++ text_of (map run_line l.runs) →
-    all ≡ runs ++ codes "end\n" → all ≡ live_text l
-whole l first entries orders pulls runs all f e o p r n =
+pub whole : (l : Live) (first entries orders pulls all : List ℕ) → first ≡ codes "sincronia live 1\n" → entries ≡ first ++ text_of (numbered entry_line 1 l.entries) →
+    orders ≡ entries ++ text_of (numbered order_line 1 l.orders) → pulls ≡ orders ++ text_of (map pull_line l.pulls) →
+    all ≡ pulls ++ text_of (map run_line l.runs ++ (codes "end" ∷ [])) → all ≡ live_text l
+whole l first entries orders pulls all f e o p n =
     let l0 = codes "sincronia live 1" ∷ [] in
     let l1 = l0 ++ numbered entry_line 1 l.entries in
     let l2 = l1 ++ numbered order_line 1 l.orders in
     let l3 = l2 ++ map pull_line l.pulls in
-    let l4 = l3 ++ map run_line l.runs in
     let t1 = lines_more l0 (numbered entry_line 1 l.entries) first entries f e in
     let t2 = lines_more l1 (numbered order_line 1 l.orders) entries orders t1 o in
     let t3 = lines_more l2 (map pull_line l.pulls) orders pulls t2 p in
-    let t4 = lines_more l3 (map run_line l.runs) pulls runs t3 r in
-    lines_more l4 (codes "end" ∷ []) runs all t4 n
+    served l3 l.runs pulls all t3 n

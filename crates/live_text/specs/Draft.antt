@@ -13,7 +13,7 @@ use Rattle.live_text.specs.Text.{body_lines, live_lines}
 
 -- the printed journal with what was read so far, and nothing where nothing was read
 abbrev pub live_of : Draft → Live
-live_of d = record { entries = d.entries.items; orders = d.orders.items; pulls = d.pulls.items; runs = d.runs.items }
+live_of d = record { entries = d.entries.items; orders = d.orders.items; pulls = d.pulls.items; runs = d.runs }
 
 -- the lines of a printed journal that were read when the stage begins
 abbrev pub lines_before : Stage → Live → List (List ℕ)
@@ -34,7 +34,7 @@ HasNothing Done l = Unit {0}
 -- what was read is a printed journal's, and the slots of its runs are counted
 pub record IsDraft (d : Draft) : Type 0 where
   pub live : IsLive (live_of d)
-  pub slots : d.slots ≡ sum_by (λ (run : Run). run.length) d.runs.items
+  pub slots : d.slots ≡ sum_by (λ (run : Run). run.length) d.runs
   pub nothing : HasNothing d.stage (live_of d)
 
 -- no text has the line after the lines that were read

@@ -7,8 +7,9 @@ ghost use Rattle.live_text.specs.Text.{mark};
 use crate::fields::mark_of;
 use crate::lines::{entry_of, is_first, order_of, pull_of};
 use crate::value::{EntryLine, Live, PullLine};
-use coflow_units::{Items, MAX_SLOT, NoMemory, Run};
+use coflow_units::{Items, MAX_SLOT, NoMemory};
 use report_text::{differs, is_end, run_of};
+use run_list::Runs;
 use std::alloc::Global;
 
 /// The line that comes next: the first one, one behind it, or none.
@@ -26,7 +27,7 @@ pub(crate) struct Draft {
     pub entries: Vec<EntryLine>,
     pub orders: Vec<Items<u32>>,
     pub pulls: Vec<PullLine>,
-    pub runs: Vec<Run>,
+    pub runs: Runs,
     pub slots: u64,
 }
 
@@ -41,7 +42,7 @@ impl Draft {
             entries: Vec::new(alloc),
             orders: Vec::new(alloc),
             pulls: Vec::new(alloc),
-            runs: Vec::new(alloc),
+            runs: Runs::new(alloc),
             slots: 0,
         }
     }
@@ -71,7 +72,7 @@ impl Draft {
             entries: Items::from_vec(entries),
             orders: Items::from_vec(orders),
             pulls: Items::from_vec(pulls),
-            runs: Items::from_vec(runs),
+            runs,
         }
     }
 
@@ -136,23 +137,23 @@ impl Draft {
     /// No order was read, and nothing that stands behind the orders.
     fn no_orders_yet(&self) -> bool
         ensures { IsTrue result ↔
-            ((self.now.orders.items ≡ []) × (self.now.pulls.items ≡ []) × (self.now.runs.items ≡ [])) }
+            ((self.now.orders.items ≡ []) × (self.now.pulls.items ≡ []) × (self.now.runs ≡ [])) }
     {
-        self.orders.is_empty() && self.pulls.is_empty() && self.runs.is_empty()
+        self.orders.is_empty() && self.pulls.is_empty() && self.runs.count() == 0
     }
 
     /// No pull was read, and nothing that stands behind the pulls.
     fn no_pulls_yet(&self) -> bool
-        ensures { IsTrue result ↔ ((self.now.pulls.items ≡ []) × (self.now.runs.items ≡ [])) }
+        ensures { IsTrue result ↔ ((self.now.pulls.items ≡ []) × (self.now.runs ≡ [])) }
     {
-        self.pulls.is_empty() && self.runs.is_empty()
+        self.pulls.is_empty() && self.runs.count() == 0
     }
 
     /// No run was read.
     fn no_runs_yet(&self) -> bool
-        ensures { IsTrue result ↔ (self.now.runs.items ≡ []) }
+        ensures { IsTrue result ↔ (self.now.runs ≡ []) }
     {
-        self.runs.is_empty()
+        self.runs.count() == 0
     }
 
     /// Takes the line of the order of the next version.
@@ -210,7 +211,7 @@ impl Draft {
             return Ok(false);
         }
         self.slots += run.length;
-        self.runs.push(run)?;
+        self.runs.push(run.length, run.flows.as_slice())?;
         Ok(true)
     }
 

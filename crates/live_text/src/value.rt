@@ -1,5 +1,6 @@
 //! What the text of a printed journal says. Coflows are told by their ids.
-use coflow_units::{Items, Run};
+use coflow_units::Items;
+use run_list::Runs;
 
 /// The command of an entry. `Register`, `Withdraw` and `Pull` have the id of a coflow, `Reweigh` has also the weight that it gets, and `Open` has the number of slots that the run
 /// may have at most.
@@ -56,7 +57,7 @@ pub struct Live {
     pub entries: Items<EntryLine>,
     pub orders: Items<Items<u32>>,
     pub pulls: Items<PullLine>,
-    pub runs: Items<Run>,
+    pub runs: Runs,
 }
 
 /// The entries of a printed journal: 2^23.

@@ -5,7 +5,7 @@ ghost use Rattle.live_text.specs.Text.{command_words, entry_line, live_text, num
 
 use crate::value::{EntryLine, Live, PullLine, Said, Word};
 use coflow_units::{Items, NoMemory};
-use report_text::{push_flows, push_number, push_served};
+use report_text::{Text, push_flows, push_number};
 use std::alloc::Global;
 
 /// The text of a printed journal.
@@ -13,20 +13,19 @@ use std::alloc::Global;
 /// Words are separated by one space, each line ends with one line feed, and numbers are decimal without leading zeros. The lines are `sincronia live 1`; for each entry
 /// `entry POSITION WHO COMMAND REPLY` with POSITION counting from 1; for each order `order V ID ID ...` with V counting from 1; for each pull `pull K LINE ID VERSION RANK`; for each
 /// run `run LENGTH FLOW FLOW ...`; and `end`. A command is `register ID`, `withdraw ID`, `publish`, `pull ID`, `open MOST`, `close` or `reweigh ID WEIGHT`. A reply is `joined`,
-/// `already`, `left`, `nothere`, `version V`, `stillopen SLOT`, `rank V R`, `unranked V`, `opened SLOT LENGTH COUNT`, `nothing`, `closed SLOT` or `weighed OLD`.
+/// `already`, `left`, `nothere`, `version V`, `stillopen SLOT`, `rank V R`, `unranked V`, `opened SLOT LENGTH COUNT`, `nothing`, `closed SLOT` or `weighed OLD`. The lines of the runs
+/// and the last one are made when the text is written.
 ///
 /// The error is want of memory.
-pub fn write_live(alloc: Global, live: &Live) -> Result<Vec<u8>, NoMemory>
-    ensures text { IfOk result (λ bytes. bytes.items ≡ live_text live.now) }
+pub fn write_live(alloc: Global, live: Live) -> Result<Text, NoMemory>
+    ensures text { IfOk result (λ text. text ≡ live_text live) }
 {
-    let mut text = Vec::new(alloc);
-    text.extend_from_slice(b"sincronia live 1\n")?;
-    push_entries(&mut text, live.entries.as_slice())?;
-    push_orders(&mut text, live.orders.as_slice())?;
-    push_pulls(&mut text, live.pulls.as_slice())?;
-    push_served(&mut text, live.runs.as_slice())?;
-    text.extend_from_slice(b"end\n")?;
-    Ok(text)
+    let mut head = Vec::new(alloc);
+    head.extend_from_slice(b"sincronia live 1\n")?;
+    push_entries(&mut head, live.entries.as_slice())?;
+    push_orders(&mut head, live.orders.as_slice())?;
+    push_pulls(&mut head, live.pulls.as_slice())?;
+    Ok(Text::with_runs(head, live.runs))
 }
 
 /// The lines of the entries.

@@ -1,33 +1,44 @@
 //! Slots that hold a coflow before it has come.
-ghost use Rattle.std.specs.Prelude.{◌≡◌, ◌<◌, ◌≤◌, ◌⊎◌, ℕ, All, MatchOption, false, length, slice_index, take};
+ghost use Rattle.std.specs.Prelude.{◌≡◌, ◌<◌, ◌≤◌, ◌⊎◌, ℕ, All, IfOk, MatchOption, false, length, slice_index, take};
 ghost use Rattle.coflow_units.specs.declared.fabric.Flow.{Flow};
 ghost use Rattle.coflow_units.specs.Completion.{holds_coflow};
 ghost use Rattle.schedule_model.specs.RunList.{IsKept, NamesFlows, slots_in};
 ghost use Rattle.online_check.specs.Early.{IsFirstEarly};
 ghost use Rattle.online_check.specs.Waiting.{HoldsWaiting};
 
-use coflow_units::{Flow, Run};
+use coflow_units::{Flow, NoMemory};
+use run_list::Runs;
+use std::alloc::Global;
 
 /// The first slot that holds a flow of a coflow at or before its arrival, and the least such coflow in it. Arrivals go by coflow. It looks once at each flow of each
 /// run: where some slot of a run is early, its first one is.
-pub(crate) fn first_early(flows: &[Flow], arrivals: &[u64], runs: &[Run]) -> Option<(u64, u32)>
+///
+/// The error is want of memory.
+pub(crate) fn first_early(
+    alloc: Global,
+    flows: &[Flow],
+    arrivals: &[u64],
+    runs: &Runs,
+) -> Result<Option<(u64, u32)>, NoMemory>
     requires coflows { All (λ (x : Flow). x.coflow < length arrivals.now) flows.now }
     requires kept { IsKept runs.now }
     requires names { NamesFlows (length flows.now) (slots_in runs.now) }
-    ensures { MatchOption result ((coflow : ℕ) →
+    ensures { IfOk result (λ early. MatchOption early ((coflow : ℕ) →
         All (λ slot. holds_coflow flows.now slot coflow ≡ false)
         (take (slice_index arrivals.now coflow) (slots_in runs.now)))
         (λ e. IsFirstEarly flows.now (slice_index arrivals.now) (slots_in runs.now) e.0 e.1 ×
-        (e.1 < length arrivals.now)) }
+        (e.1 < length arrivals.now))) }
 {
+    let mut walk = runs.walk(alloc)?;
     let mut gone = 0;
-    for run in runs {
-        if let Some(coflow) = least_waiting(flows, arrivals, gone, run.flows.as_slice()) {
-            return Some((gone + 1, coflow));
+    for place in 0..runs.count() {
+        let slots = walk.enter();
+        if let Some(coflow) = least_waiting(flows, arrivals, gone, walk.flows()) {
+            return Ok(Some((gone + 1, coflow)));
         }
-        gone += run.length;
+        gone += slots;
     }
-    None
+    Ok(None)
 }
 
 /// The least coflow with a flow among these numbers that arrives when more slots than these are gone.

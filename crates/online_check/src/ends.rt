@@ -10,11 +10,10 @@ ghost use Rattle.online_check.specs.Parts.{HasSoundEnds, IsFirstFrom};
 ghost use Rattle.online_check.specs.Reasons.{ends_kind};
 
 use crate::verdict::OnlineReason;
-use cert_check::cost_of;
 use coflow_units::NoMemory;
 use flow_table::Table;
 use online_text::{DoneLine, Online};
-use schedule_model::completions_of_runs;
+use schedule_model::{completions_of_runs, cost_of};
 use std::alloc::Global;
 
 /// The first reason of the completions and the cost, where the schedule is valid.
@@ -36,12 +35,7 @@ pub(crate) fn wrong_ends(
     if let Some(index) = first_unlisted(table, done) {
         return Ok(Some(OnlineReason::Listed { index }));
     }
-    let ends = completions_of_runs(
-        alloc,
-        table.flows(),
-        table.coflows(),
-        online.runs.as_slice(),
-    )?;
+    let ends = completions_of_runs(alloc, table.flows(), table.coflows(), &online.runs)?;
     if let Some(coflow) = first_wrong_end(done, &ends) {
         return Ok(Some(OnlineReason::DoneWrong {
             coflow,

@@ -32,11 +32,11 @@ pub(crate) fn wrong_schedule(
         schedule_kind)) }
 {
     let flows = table.flows();
-    let runs = online.runs.as_slice();
+    let runs = &online.runs;
     if let Some(fault) = find_fault_of_runs(alloc, flows, runs)? {
         return Ok(Some(reason_of(fault)));
     }
-    if let Some((slot, coflow)) = first_early(flows, arrivals, runs) {
+    if let Some((slot, coflow)) = first_early(alloc, flows, arrivals, runs)? {
         return Ok(Some(OnlineReason::Early { slot, coflow }));
     }
     Ok(None)

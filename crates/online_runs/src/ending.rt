@@ -13,13 +13,12 @@ ghost use Rattle.release_bound.specs.ReleaseOrder.{IsReleasedOrdering};
 ghost use Rattle.online_runs.specs.Value.{release_line};
 
 use crate::progress::Progress;
-use cert_check::cost_of;
 use coflow_units::{Items, NoMemory};
 use flow_table::Table;
 use online_text::{DoneLine, Online, ReleaseLine};
 use port_load::Loads;
 use release_bound::{ReleaseBssi, ReleasePlace, released_total};
-use schedule_model::{Schedule, completions};
+use schedule_model::{Schedule, completions, cost_of};
 use std::alloc::Global;
 
 /// What an online run says that has come to its end, from what is kept of it.
@@ -61,7 +60,7 @@ pub fn told(
         cost: done.cost,
         release: Items::from_vec(released.lines),
         total: released.total,
-        runs: Items::from_vec(schedule.into_runs()),
+        runs: schedule.into_runs(),
     })
 }
 

@@ -254,12 +254,12 @@ total_taken d total line h stage fits is none =
     forward o more small ((epochs, done, cost), left) =
         let (same, here, rest) = release_over d line none o more small left in
         let number : o.total ≡ total = decimal_one o.total total small.total fits (ap (drop 6) (sym here ∙ is)) in
-        ((epochs, done, cost, same, number), starts (λ k. run_line) d.runs.items o.runs behind more at.later (rest ∙ ap (λ ls. ls ++ behind) (each_from run_line 0 o.runs)))
+        ((epochs, done, cost, same, number), starts (λ k. run_line) d.runs o.runs behind more at.later (rest ∙ ap (λ ls. ls ++ behind) (each_from run_line 0 o.runs)))
 
     backward : (o : Online) (more : List (List ℕ)) → GoesOnAt Runs new o more → GoesOnAt Release d o (line ∷ more)
     backward o more ((epochs, done, cost, same, number), left) =
         let rest : more ≡ lines_from_runs o =
-        started (λ k. run_line) d.runs.items o.runs behind more at.later left ∙ ap (λ ls. ls ++ behind) (sym (each_from run_line 0 o.runs)) in
+        started (λ k. run_line) d.runs o.runs behind more at.later left ∙ ap (λ ls. ls ++ behind) (sym (each_from run_line 0 o.runs)) in
         ((epochs, done, cost), ends_with release_line d.release.items o.release line (total_line o.total) (lines_from_runs o) more same (is ∙ ap total_line (sym number)) rest)
 
 pub total_refused : (d : Draft) (line : List ℕ) → d.stage ≡ Release → IsReleaseOf (length d.release.items + 1) line None → IsTotalOf (codes "total") line None → Refuses d line

@@ -22,7 +22,7 @@ use Rattle.online_text.specs.declared.value.Epoch.{Epoch}
 use Rattle.online_text.specs.declared.value.OnlinePlace.{OnlinePlace}
 use Rattle.online_text.specs.declared.value.ReleaseLine.{ReleaseLine}
 use Rattle.online_text.specs.Online.{IsSmallCharge, IsSmallDone, IsSmallEpoch, IsSmallRelease}
-use Rattle.online_text.specs.Text.{certificate_lines, charge_words, done_line, epoch_lines, order_line, order_line_at, order_lines, release_line, release_line_at, time_line}
+use Rattle.online_text.specs.Text.{certificate_lines, charge_words, done_line, epoch_lines, order_line, order_line_at, order_lines, release_line, release_line_at}
 
 -- ---- one line each
 

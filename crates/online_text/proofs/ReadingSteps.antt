@@ -57,7 +57,7 @@ own_left Places d = (
 )
 own_left Done d = (cost_line d.cost ∷ lines_from_release (online_at Done d), (refl, ([], sym (append-nil d.done.items), refl)))
 own_left Release d = (total_line d.total ∷ lines_from_runs (online_at Release d), ((refl, refl, refl), ([], sym (append-nil d.release.items), refl)))
-own_left Runs d = (codes "end" ∷ [], ((refl, refl, refl, refl, refl), ([], sym (append-nil d.runs.items), refl)))
+own_left Runs d = (codes "end" ∷ [], ((refl, refl, refl, refl, refl), ([], sym (append-nil d.runs), refl)))
 own_left Ended d = ([], (refl, refl))
 
 -- a list with a line in it is not empty
@@ -77,7 +77,7 @@ goes_to_end Places d o early (before, (x, es, has, time, (ys, all, e))) =
     not_none (lines_from order_line (length d.places.items) ys) (flat_map epoch_lines es ++ lines_from_done o) (bound_line x.bound) e
 goes_to_end Done d o early (before, (ys, all, e)) = not_none (lines_from (λ k. done_line) (length d.done.items) ys) (lines_from_release o) (cost_line o.cost) e
 goes_to_end Release d o early (before, (ys, all, e)) = not_none (lines_from release_line (length d.release.items) ys) (lines_from_runs o) (total_line o.total) e
-goes_to_end Runs d o early (before, (ys, all, e)) = not_none (lines_from (λ k. run_line) (length d.runs.items) ys) [] (codes "end") e
+goes_to_end Runs d o early (before, (ys, all, e)) = not_none (lines_from (λ k. run_line) (length d.runs) ys) [] (codes "end") e
 goes_to_end Ended d o early g = early refl
 
 -- ---- what was read

@@ -7,8 +7,6 @@ use Rattle.std.proofs.lemmas.List.{get_or_append_left, get_or_push}
 use Rattle.std.proofs.lemmas.List.Elements.{All-push}
 use Rattle.std.proofs.lemmas.List.Sums.{sum_by-append, sum_by-cons}
 use Rattle.std.proofs.Math.Seq.{get_or-append_seam}
-use Rattle.std.specs.declared.vec.Vec.{Vec}
-use Rattle.std.specs.declared.alloc.Global.{Global}
 use Rattle.coflow_units.specs.declared.plan.Run.{Run}
 use Rattle.report_text.specs.Draft.{Differs}
 use Rattle.report_text.specs.Readers.{IsRun, IsRunOf}
@@ -55,7 +53,7 @@ run_next runs run line o more online is_run is left =
     let (others, has, e) = (run_both runs (runs ++ (run ∷ [])) run line o more online refl is_run is).0 left in
     (others, has ∙ append_assoc runs (run ∷ []) others)
 
-abbrev pub with_run : Draft → Vec Run Global → ℕ → Draft
+abbrev pub with_run : Draft → List Run → ℕ → Draft
 with_run d runs slots = record {
   stage = d.stage;
   epochs = d.epochs;
@@ -69,8 +67,8 @@ with_run d runs slots = record {
   slots = slots;
 }
 
-pub run_taken : (d : Draft) (runs : Vec Run Global) (run : Run) (line : List ℕ) → IsDraft d → d.stage ≡ Runs → runs.items ≡ d.runs.items ++ (run ∷ []) → IsRun run →
-    line ≡ run_line run → d.slots + run.length ≤ 2 ^ 41 - 1 → Differs d.runs.items run.flows true →
+pub run_taken : (d : Draft) (runs : List Run) (run : Run) (line : List ℕ) → IsDraft d → d.stage ≡ Runs → runs ≡ d.runs ++ (run ∷ []) → IsRun run →
+    line ≡ run_line run → d.slots + run.length ≤ 2 ^ 41 - 1 → Differs d.runs run.flows true →
     IsDraft (with_run d runs (d.slots + run.length)) × Follows d (with_run d runs (d.slots + run.length)) line
 run_taken d runs run line h stage grown is_run is few other = (
   draft_back new Runs stage draft,
@@ -83,16 +81,16 @@ run_taken d runs run line h stage grown is_run is few other = (
     at : IsDraftAt Runs d
     at = draft_at d Runs stage h
 
-    total : sum_by slots_in runs.items ≡ d.slots + run.length
-    total = omega (arith, ap (sum_by slots_in) grown, sum_by-append slots_in d.runs.items (run ∷ []), sum_by-cons slots_in run [], at.slots)
+    total : sum_by slots_in runs ≡ d.slots + run.length
+    total = omega (arith, ap (sum_by slots_in) grown, sum_by-append slots_in d.runs (run ∷ []), sum_by-cons slots_in run [], at.slots)
 
     draft : IsDraftAt Runs new
     draft = record {
       online = record {
         rising = at.online.rising;
-        run = subst (All IsRun) (sym grown) (All-push IsRun d.runs.items run at.online.run is_run);
+        run = subst (All IsRun) (sym grown) (All-push IsRun d.runs run at.online.run is_run);
         few_slots = omega (arith, total, few);
-        maximal = rw grown (apart_push (λ (r : Run). r.flows) d.runs.items run at.online.maximal other);
+        maximal = rw grown (apart_push (λ (r : Run). r.flows) d.runs run at.online.maximal other);
       };
       small = record {
         epochs = at.small.epochs;
@@ -107,31 +105,31 @@ run_taken d runs run line h stage grown is_run is few other = (
     }
 
     both : (o : Online) (more : List (List ℕ)) → IsOnline o →
-        AreLeft (λ k. run_line) d.runs.items o.runs (codes "end" ∷ []) (line ∷ more) ↔ AreLeft (λ k. run_line) runs.items o.runs (codes "end" ∷ []) more
-    both o more online = run_both d.runs.items runs.items run line o more online grown is_run is
+        AreLeft (λ k. run_line) d.runs o.runs (codes "end" ∷ []) (line ∷ more) ↔ AreLeft (λ k. run_line) runs o.runs (codes "end" ∷ []) more
+    both o more online = run_both d.runs runs run line o more online grown is_run is
 
-pub long_refused : (d : Draft) (run : Run) (line : List ℕ) → d.slots ≡ sum_by slots_in d.runs.items → d.stage ≡ Runs → IsRun run → line ≡ run_line run →
+pub long_refused : (d : Draft) (run : Run) (line : List ℕ) → d.slots ≡ sum_by slots_in d.runs → d.stage ≡ Runs → IsRun run → line ≡ run_line run →
     2 ^ 41 - 1 < d.slots + run.length → Refuses d line
 long_refused d run line slots stage is_run is long = refuses d Runs line stage (λ o more online small g.
-    let next = run_next d.runs.items run line o more online is_run is g.1 in
-    absurd (omega (arith, slots_grow d.runs.items o.runs next.0 run next.1, slots, online.few_slots)))
+    let next = run_next d.runs run line o more online is_run is g.1 in
+    absurd (omega (arith, slots_grow d.runs o.runs next.0 run next.1, slots, online.few_slots)))
 
-pub same_refused : (d : Draft) (run : Run) (line : List ℕ) → d.stage ≡ Runs → IsRun run → line ≡ run_line run → Differs d.runs.items run.flows false → Refuses d line
+pub same_refused : (d : Draft) (run : Run) (line : List ℕ) → d.stage ≡ Runs → IsRun run → line ≡ run_line run → Differs d.runs run.flows false → Refuses d line
 same_refused d run line stage is_run is same = refuses d Runs line stage (λ o more online small g.
-    let next = run_next d.runs.items run line o more online is_run is g.1 in
-    let k : ℕ = length d.runs.items - 1 in
-    let some : 0 < length d.runs.items = (same run).0 in
-    let at : length d.runs.items ≡ k + 1 = omega arith in
-    let last : get_or o.runs k run ≡ get_or d.runs.items k run = rw next.1 (get_or_append_left d.runs.items (run ∷ next.0) run k (omega arith)) in
-    let here : get_or o.runs (k + 1) run ≡ run = rw (next.1, ← at) (get_or-append_seam d.runs.items run next.0 run) in
-    let lt : k + 1 < length o.runs = omega (arith, ap length next.1, length-append d.runs.items (run ∷ next.0)) in
+    let next = run_next d.runs run line o more online is_run is g.1 in
+    let k : ℕ = length d.runs - 1 in
+    let some : 0 < length d.runs = (same run).0 in
+    let at : length d.runs ≡ k + 1 = omega arith in
+    let last : get_or o.runs k run ≡ get_or d.runs k run = rw next.1 (get_or_append_left d.runs (run ∷ next.0) run k (omega arith)) in
+    let here : get_or o.runs (k + 1) run ≡ run = rw (next.1, ← at) (get_or-append_seam d.runs run next.0 run) in
+    let lt : k + 1 < length o.runs = omega (arith, ap length next.1, length-append d.runs (run ∷ next.0)) in
     online.maximal k run lt (ap (λ (x : Run). x.flows) last ∙ ((same run).1 ∙ sym (ap (λ (x : Run). x.flows) here))))
 
 -- ---- the last line
 
 runs_over : (d : Draft) (line : List ℕ) → IsRunOf line None → (o : Online) (more : List (List ℕ)) → IsOnline o →
-    AreLeft (λ k. run_line) d.runs.items o.runs (codes "end" ∷ []) (line ∷ more) → (o.runs ≡ d.runs.items) × (line ≡ codes "end") × (more ≡ [])
-runs_over d line none o more online left = ended_with (λ k. run_line) IsRun d.runs.items o.runs line (codes "end") [] more online.run none left
+    AreLeft (λ k. run_line) d.runs o.runs (codes "end" ∷ []) (line ∷ more) → (o.runs ≡ d.runs) × (line ≡ codes "end") × (more ≡ [])
+runs_over d line none o more online left = ended_with (λ k. run_line) IsRun d.runs o.runs line (codes "end") [] more online.run none left
 
 pub end_taken : (d : Draft) (line : List ℕ) → IsDraft d → d.stage ≡ Runs → IsRunOf line None → line ≡ codes "end" →
     IsDraft (at_stage d Ended) × Follows d (at_stage d Ended) line
@@ -160,7 +158,7 @@ end_taken d line h stage none is = (draft, follows d new Runs Ended line stage r
         ap (λ (x : Online). x.release) same,
         ap (λ (x : Online). x.total) same,
       ),
-      ends_with (λ k. run_line) d.runs.items o.runs line (codes "end") [] more (ap (λ (x : Online). x.runs) same) is rest,
+      ends_with (λ k. run_line) d.runs o.runs line (codes "end") [] more (ap (λ (x : Online). x.runs) same) is rest,
     )
 
 pub end_refused : (d : Draft) (line : List ℕ) → d.stage ≡ Runs → IsRunOf line None → (line ≡ codes "end" → ⊥) → Refuses d line

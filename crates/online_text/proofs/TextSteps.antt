@@ -7,7 +7,7 @@ use Rattle.std.proofs.lemmas.List.{take_more}
 use Rattle.std.proofs.lemmas.List.FromFn.{map-range_with_len_more}
 use Rattle.report_text.specs.Text.{bound_line, cost_line, run_line}
 use Rattle.coflow_units.specs.Text.{ended, text_of}
-use Rattle.report_text.proofs.TextSteps.{lines_more, one_more, one_more_behind}
+use Rattle.report_text.proofs.TextSteps.{lines_more, one_more, one_more_behind, served}
 use Rattle.online_text.specs.declared.value.Epoch.{Epoch}
 use Rattle.online_text.specs.declared.value.Online.{Online}
 use Rattle.online_text.specs.Text.{certificate_lines, done_line, epoch_lines, online_text, order_lines, time_line, total_line}
@@ -46,22 +46,20 @@ epoch_whole e front time order all t o b =
     (sym (append_assoc first (order_lines e.places) (bound_line e.bound ∷ [])))
 
 -- the parts of the text in turn
-pub whole : (o : Online) (first epochs done cost release total runs all : List ℕ) → first ≡ codes "sincronia online 2\n" →
+pub whole : (o : Online) (first epochs done cost release total all : List ℕ) → first ≡ codes "sincronia online 2\n" →
     epochs ≡ first ++ text_of (flat_map epoch_lines o.epochs) → done ≡ epochs ++ text_of (map done_line o.done) → cost ≡ done ++ ended (cost_line o.cost) →
     release ≡ cost ++ text_of (certificate_lines o.release) →
-    total ≡ release ++ ended (total_line o.total) → runs ≡ total ++ text_of (map run_line o.runs) → all ≡ runs ++ codes "end\n" → all ≡ online_text o
-whole o first epochs done cost release total runs all f e d c r t u n =
+    total ≡ release ++ ended (total_line o.total) → all ≡ total ++ text_of (map run_line o.runs ++ (codes "end" ∷ [])) → all ≡ online_text o
+whole o first epochs done cost release total all f e d c r t n =
     let l0 = codes "sincronia online 2" ∷ [] in
     let l1 = l0 ++ flat_map epoch_lines o.epochs in
     let l2 = l1 ++ map done_line o.done in
     let l3 = l2 ++ (cost_line o.cost ∷ []) in
     let l4 = l3 ++ certificate_lines o.release in
     let l5 = l4 ++ (total_line o.total ∷ []) in
-    let l6 = l5 ++ map run_line o.runs in
     let t1 = lines_more l0 (flat_map epoch_lines o.epochs) first epochs f e in
     let t2 = lines_more l1 (map done_line o.done) epochs done t1 d in
     let t3 = one_more done cost l2 l3 (cost_line o.cost) t2 c refl in
     let t4 = lines_more l3 (certificate_lines o.release) cost release t3 r in
     let t5 = one_more release total l4 l5 (total_line o.total) t4 t refl in
-    let t6 = lines_more l5 (map run_line o.runs) total runs t5 u in
-    lines_more l6 (codes "end" ∷ []) runs all t6 n
+    served l5 o.runs total all t5 n

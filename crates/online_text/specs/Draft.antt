@@ -35,7 +35,7 @@ online_at stage d = record {
   cost = d.cost;
   release = d.release.items;
   total = d.total;
-  runs = d.runs.items;
+  runs = d.runs;
 }
 
 abbrev pub online_of : Draft → Online
@@ -44,11 +44,11 @@ online_of d = online_at d.stage d
 -- what comes later in a text was not read yet
 abbrev pub HasNothingLater : Stage → Draft → Type 0
 HasNothingLater First d = (d.epochs.items ≡ []) × (d.places.items ≡ []) × (d.done.items ≡ []) ×
-    (d.release.items ≡ []) × (d.runs.items ≡ [])
-HasNothingLater Epochs d = (d.places.items ≡ []) × (d.done.items ≡ []) × (d.release.items ≡ []) × (d.runs.items ≡ [])
-HasNothingLater Places d = (d.done.items ≡ []) × (d.release.items ≡ []) × (d.runs.items ≡ [])
-HasNothingLater Done d = (d.release.items ≡ []) × (d.runs.items ≡ [])
-HasNothingLater Release d = d.runs.items ≡ []
+    (d.release.items ≡ []) × (d.runs ≡ [])
+HasNothingLater Epochs d = (d.places.items ≡ []) × (d.done.items ≡ []) × (d.release.items ≡ []) × (d.runs ≡ [])
+HasNothingLater Places d = (d.done.items ≡ []) × (d.release.items ≡ []) × (d.runs ≡ [])
+HasNothingLater Done d = (d.release.items ≡ []) × (d.runs ≡ [])
+HasNothingLater Release d = d.runs ≡ []
 HasNothingLater Runs d = Unit {0}
 HasNothingLater Ended d = Unit {0}
 
@@ -56,7 +56,7 @@ HasNothingLater Ended d = Unit {0}
 pub record IsDraftAt (stage : Stage) (d : Draft) : Type 0 where
   pub online : IsOnline (online_at stage d)
   pub small : HasSmallNumbers (online_at stage d)
-  pub slots : d.slots ≡ sum_by (λ (run : Run). run.length) d.runs.items
+  pub slots : d.slots ≡ sum_by (λ (run : Run). run.length) d.runs
   pub later : HasNothingLater stage d
 
 abbrev pub IsDraft : Draft → Type 0
@@ -93,7 +93,7 @@ IsLeft Places d o lines = (e : Epoch) × (es : List Epoch) × (o.epochs ≡ d.ep
     (bound_line e.bound ∷ (flat_map epoch_lines es ++ lines_from_done o)) lines
 IsLeft Done d o lines = AreLeft (λ k. done_line) d.done.items o.done (cost_line o.cost ∷ lines_from_release o) lines
 IsLeft Release d o lines = AreLeft release_line d.release.items o.release (total_line o.total ∷ lines_from_runs o) lines
-IsLeft Runs d o lines = AreLeft (λ k. run_line) d.runs.items o.runs (codes "end" ∷ []) lines
+IsLeft Runs d o lines = AreLeft (λ k. run_line) d.runs o.runs (codes "end" ∷ []) lines
 IsLeft Ended d o lines = lines ≡ []
 
 -- the online run has what was read before the stage, and ends with these lines

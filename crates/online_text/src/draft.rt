@@ -7,8 +7,9 @@ ghost use Rattle.online_text.specs.Readers.{IsDoneOf, IsPlaceOf, IsReleaseOf, Is
 
 use crate::parts::{done_of, is_first, place_of, release_of, rises, time_of};
 use crate::value::{DoneLine, Epoch, Online, OnlinePlace, ReleaseLine};
-use coflow_units::{Items, MAX_SLOT, NoMemory, Run};
+use coflow_units::{Items, MAX_SLOT, NoMemory};
 use report_text::{differs, is_end, run_of, total_of};
+use run_list::Runs;
 use std::alloc::Global;
 use std::mem;
 
@@ -36,7 +37,7 @@ pub(crate) struct Draft {
     pub cost: u128,
     pub release: Vec<ReleaseLine>,
     pub total: u128,
-    pub runs: Vec<Run>,
+    pub runs: Runs,
     pub slots: u64,
 }
 
@@ -55,7 +56,7 @@ impl Draft {
             cost: 0,
             release: Vec::new(alloc),
             total: 0,
-            runs: Vec::new(alloc),
+            runs: Runs::new(alloc),
             slots: 0,
         }
     }
@@ -90,7 +91,7 @@ impl Draft {
             cost,
             release: Items::from_vec(release),
             total,
-            runs: Items::from_vec(runs),
+            runs,
         }
     }
 
@@ -248,7 +249,7 @@ impl Draft {
             return Ok(false);
         }
         self.slots += run.length;
-        self.runs.push(run)?;
+        self.runs.push(run.length, run.flows.as_slice())?;
         Ok(true)
     }
 

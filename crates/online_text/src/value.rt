@@ -1,5 +1,6 @@
 //! What the text of an online run says.
-use coflow_units::{Items, Port, Run};
+use coflow_units::{Items, Port};
+use run_list::Runs;
 
 /// One place of an order that was published: the coflow's id, the port that the place charges, and what it charges for each unit of load that is left, in parts of
 /// 2^40 of a weight of 1.
@@ -44,5 +45,5 @@ pub struct Online {
     pub cost: u128,
     pub release: Items<ReleaseLine>,
     pub total: u128,
-    pub runs: Items<Run>,
+    pub runs: Runs,
 }

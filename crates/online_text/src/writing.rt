@@ -6,29 +6,28 @@ ghost use Rattle.online_text.specs.Text.{certificate_lines, charge_words, done_l
 
 use crate::value::{DoneLine, Epoch, Online, OnlinePlace, ReleaseLine};
 use coflow_units::{NoMemory, Port};
-use report_text::{push_named, push_number, push_served, word_of};
+use report_text::{Text, push_named, push_number, word_of};
 use std::alloc::Global;
 
 /// The text of an online run.
 ///
 /// Words are separated by one space, each line ends with one line feed, and numbers are decimal without leading zeros. The lines are `sincronia online 2`; for each
 /// publishing `epoch T`, for each place `place K ID SIDE PORT Y` with K counting from 1, and `bound B`; for each coflow `done ID SLOT`; `cost C`; for each place of
-/// the released certificate `release K ID SIDE PORT Y Z` with K counting from 1; `total B`; for each run `run LENGTH FLOW FLOW ...`; and `end`.
+/// the released certificate `release K ID SIDE PORT Y Z` with K counting from 1; `total B`; for each run `run LENGTH FLOW FLOW ...`; and `end`. The lines of the runs and
+/// the last one are made when the text is written.
 ///
 /// The error is want of memory.
-pub fn write_online(alloc: Global, online: &Online) -> Result<Vec<u8>, NoMemory>
-    ensures text { IfOk result (λ bytes. bytes.items ≡ online_text online.now) }
+pub fn write_online(alloc: Global, online: Online) -> Result<Text, NoMemory>
+    ensures text { IfOk result (λ text. text ≡ online_text online) }
 {
-    let mut text = Vec::new(alloc);
-    text.extend_from_slice(b"sincronia online 2\n")?;
-    push_epochs(&mut text, online.epochs.as_slice())?;
-    push_done(&mut text, online.done.as_slice())?;
-    push_named(&mut text, b"cost", online.cost)?;
-    push_certificate(&mut text, online.release.as_slice())?;
-    push_named(&mut text, b"total", online.total)?;
-    push_served(&mut text, online.runs.as_slice())?;
-    text.extend_from_slice(b"end\n")?;
-    Ok(text)
+    let mut head = Vec::new(alloc);
+    head.extend_from_slice(b"sincronia online 2\n")?;
+    push_epochs(&mut head, online.epochs.as_slice())?;
+    push_done(&mut head, online.done.as_slice())?;
+    push_named(&mut head, b"cost", online.cost)?;
+    push_certificate(&mut head, online.release.as_slice())?;
+    push_named(&mut head, b"total", online.total)?;
+    Ok(Text::with_runs(head, online.runs))
 }
 
 /// The lines of the publishings.

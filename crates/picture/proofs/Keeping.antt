@@ -1,12 +1,12 @@
 -- What the canvas keeps of all bars, one stretch more.
 use Rattle.std.proofs.Common.{◌≡◌, ℕ, ◌+◌, ◌-◌, ◌^◌, ◌≤◌, ◌<◌, ◌⊎◌, inl, inr, List, [], ◌∷◌, ◌++◌, length, get_or}
-use Rattle.std.proofs.Common.{min, replicate, set, take, Bool, true, false, cond, refl, sym, ap, subst, ◌∙◌, arith, zero, suc, append_assoc}
+use Rattle.std.proofs.Common.{min, replicate, set, take, Bool, true, false, cond, refl, sym, ap, ◌∙◌, arith, zero, suc, append_assoc}
 use Rattle.std.proofs.lemmas.Bool.{cases_eq}
-use Rattle.std.proofs.lemmas.List.{append_cancel_left, get_or-set_other, get_or-set_same, get_or_push, length-append, length-set, take_all, take_more, take_more_set}
+use Rattle.std.proofs.lemmas.List.{get_or-set_other, get_or-set_same, get_or_push, length-append, length-set, take_all, take_more, take_more_set}
 use Rattle.std.proofs.lemmas.List.Sums.{sum_by-cons, sum_by-set}
 use Rattle.picture.specs.declared.value.Bar.{Bar}
 use Rattle.picture.specs.Bars.{bar_count}
-use Rattle.picture.specs.Drawing.{EndsWith, GoesOn, Grows, IsApart, IsJoined, Joins, Keeps, longer, row_at, with_row}
+use Rattle.picture.specs.Drawing.{EndsWith, GoesOn, Grows, IsApart, IsJoined, Keeps, longer, row_at, with_row}
 
 -- a list is empty or has a last element
 with_last : (xs : List Bar) → (xs ≡ []) ⊎ ((before : List Bar) × (b : Bar) × (xs ≡ before ++ b ∷ []))

@@ -1,5 +1,5 @@
 -- Lists that stand in a strict order are equal where they have the same members.
-use Rattle.std.proofs.Common.{◌≡◌, ℕ, ◌≤◌, ◌<◌, inl, inr, List, [], ◌∷◌, get_or, Contains, refl, sym, ap, subst, ◌∙◌, arith, zero, suc}
+use Rattle.std.proofs.Common.{◌≡◌, inl, inr, List, [], ◌∷◌, Contains, refl, sym, ap, subst, ◌∙◌, arith, suc}
 use Rattle.std.specs.Prelude.{All, AllPairs}
 use Rattle.coflow_units.proofs.Sums.{first_or_tail, in_first, in_tail, nothing_in}
 

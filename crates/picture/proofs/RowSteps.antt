@@ -1,13 +1,13 @@
 -- The bars of a port, with the slots up to a later one.
-use Rattle.std.proofs.Common.{◌≡◌, ℕ, ◌+◌, ◌-◌, ◌≤◌, ◌<◌, inl, inr, List, [], ◌∷◌, ◌++◌, length, get_or, take, Contains, refl, sym, ap, subst, ◌∙◌, arith, zero, suc}
+use Rattle.std.proofs.Common.{◌≡◌, ℕ, ◌+◌, ◌-◌, ◌≤◌, ◌<◌, inl, inr, List, [], ◌∷◌, ◌++◌, length, get_or, take, Contains, refl, sym, ap, subst, ◌∙◌, arith}
 use Rattle.std.specs.Prelude.{All, AllPairs}
 use Rattle.std.proofs.lemmas.Bool.{cases_lt}
 use Rattle.std.proofs.lemmas.List.{get_or_append_left, get_or_default, get_or_push, length-append, take_all, take_more}
 use Rattle.std.proofs.lemmas.List.Elements.{All-contains, All-push, Contains-append_left, Contains-push, Contains-push_cases}
 use Rattle.std.proofs.lemmas.List.Quantifiers.{all_pairs_push}
 use Rattle.picture.specs.declared.value.Bar.{Bar}
-use Rattle.picture.specs.Bars.{Covers, IsBar, IsRow}
-use Rattle.picture.specs.Drawing.{GoesOn, Grows, IsApart, longer}
+use Rattle.picture.specs.Bars.{IsBar, IsRow}
+use Rattle.picture.specs.Drawing.{Grows, IsApart, longer}
 
 abbrev Before : Bar → Bar → Type 0
 Before a b = a.last < b.first

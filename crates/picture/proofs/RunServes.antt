@@ -4,7 +4,6 @@ use Rattle.std.proofs.Common.{◌++◌, length, get_or, take, drop, replicate, C
 use Rattle.std.specs.Prelude.{All, max, min}
 use Rattle.std.proofs.lemmas.Bool.{cases_eq, cases_lt}
 use Rattle.std.proofs.lemmas.List.{get_or-append_right, get_or-replicate, get_or_append_left, length-append, length-replicate}
-use Rattle.std.proofs.lemmas.List.Elements.{Contains-get_or}
 use Rattle.coflow_units.specs.declared.fabric.Flow.{Flow}
 use Rattle.coflow_units.specs.declared.fabric.Side.{Side}
 use Rattle.coflow_units.specs.declared.fabric.Side.TheVariants.{Ingress, Egress}
@@ -12,14 +11,14 @@ use Rattle.coflow_units.specs.declared.plan.Run.{Run}
 use Rattle.coflow_units.specs.Flows.{SharesPort, coflow_of}
 use Rattle.coflow_units.specs.Schedule.{IsClear}
 use Rattle.coflow_units.proofs.Sums.{first_or_tail, in_first, in_tail, nothing_in}
-use Rattle.schedule_model.specs.Fault.{StandsIn}
+use Rattle.run_list.specs.Runs.{Walked, run_of}
 use Rattle.schedule_model.specs.Repeat.{end_number}
 use Rattle.schedule_model.specs.RunList.{slots_in}
-use Rattle.schedule_model.proofs.RunSlots.{all_runs, count_within, run_count, run_more, slots_parts}
+use Rattle.schedule_model.proofs.RunSlots.{all_runs, count_more, count_within, run_count, run_more, slots_parts}
 use Rattle.picture.specs.declared.value.Bar.{Bar}
 use Rattle.picture.specs.declared.value.Window.{Window}
 use Rattle.picture.specs.Bars.{IsBars, IsRow, Serves}
-use Rattle.picture.specs.Drawing.{Grows, IsDrawn, row_at}
+use Rattle.picture.specs.Drawing.{IsDrawn, row_at}
 use Rattle.picture.proofs.RowSteps.{Adds, row_grows, row_waits}
 
 -- a slot of the run holds the run's flows
@@ -54,6 +53,15 @@ is_run runs k before r lt is e = record {
   slot = λ t after upto. slot_of_run runs k r t lt is (omega (arith, e, after)) (omega (arith, e, upto));
   inside = omega (arith, run_count runs k r lt is, count_within runs (k + 1), e);
 }
+
+-- the slots up to the end of the run that a walk enters
+pub entered_count : (runs : List Run) (k before slots : ℕ) (walk : Walked) → k < length runs → before ≡ length (slots_in (take k runs)) → walk.runs ≡ runs → walk.entered ≡ k →
+    ((d : Run) → slots ≡ (get_or walk.runs walk.entered d).length) → before + slots ≡ length (slots_in (take (k + 1) runs))
+entered_count runs k before slots walk lt is same place has =
+    let d = run_of 0 [] in
+    let here : slots ≡ (get_or runs k d).length =
+    has d ∙ ap (λ (xs : List Run). (get_or xs walk.entered d).length) same ∙ ap (λ i. (get_or runs i d).length) place in
+    omega (arith, is, here, count_more runs k d lt)
 
 pub serves : (flows : List Flow) (runs : List Run) (side : Side) (before : ℕ) (r : Run) (f slot : ℕ) → IsRunAt runs before r → Contains r.flows f → before < slot →
     slot ≤ before + r.length →
@@ -150,10 +158,10 @@ row_drawn flows runs window before r first last old port all more clear run part
     ]
 
 -- the row of a port, when no slot of the run is in the window
-pub row_passed : (flows : List Flow) (runs : List Run) (window : Window) (before : ℕ) (r : Run) (first last old port : ℕ) (row : List Bar) →
-    IsPart window before (before + r.length) first last old → last < first →
+pub row_passed : (flows : List Flow) (runs : List Run) (window : Window) (before slots first last old port : ℕ) (row : List Bar) →
+    IsPart window before (before + slots) first last old → last < first →
     IsRow (Serves flows (slots_in runs) window.side port) window.first old row → IsRow (Serves flows (slots_in runs) window.side port) window.first last row
-row_passed flows runs window before r first last old port row part none is =
+row_passed flows runs window before slots first last old port row part none is =
     row_waits _ window.first old last row is below (λ slot coflow from after upto s. nothing slot from after upto)
   where
     below : old ≤ last

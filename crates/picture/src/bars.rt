@@ -11,7 +11,8 @@ ghost use Rattle.picture.specs.Bars.{IsBars, IsTooMany, bar_count};
 use crate::canvas::Canvas;
 use crate::row::PortBars;
 use crate::value::{BarsFault, MAX_BARS, Window};
-use coflow_units::{Flow, Run};
+use coflow_units::Flow;
+use run_list::Runs;
 use std::alloc::Global;
 
 /// The bars that a schedule has in a window: for each port of the window's side, from 0 up to `ports`, the longest stretches of the window's slots in which
@@ -24,7 +25,7 @@ pub fn bars_of(
     alloc: Global,
     flows: &[Flow],
     ports: u32,
-    runs: &[Run],
+    runs: &Runs,
     window: Window,
 ) -> Result<Vec<PortBars>, BarsFault>
     requires ports { All (λ (x : Flow). end_at window.side x < ports) flows.now }
@@ -35,10 +36,11 @@ pub fn bars_of(
     ensures fault { IfErr result (IsTooMany flows.now (slots_in runs.now) ports window) }
 {
     let mut canvas = Canvas::new(alloc, ports)?;
+    let mut walk = runs.walk(alloc)?;
     let mut slots = 0;
-    for run in runs {
+    for place in 0..runs.count() {
         let first = window.first.max(slots + 1);
-        slots += run.length;
+        slots += walk.enter();
         let last = window.last.min(slots);
         if first > last {
             continue;
@@ -48,7 +50,7 @@ pub fn bars_of(
             first,
             last,
         };
-        canvas.draw(flows, run.flows.as_slice(), part)?;
+        canvas.draw(flows, walk.flows(), part)?;
     }
     let Canvas { rows, count } = canvas;
     if count > MAX_BARS {

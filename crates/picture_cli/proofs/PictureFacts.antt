@@ -1,6 +1,6 @@
 -- What a right report gives its picture, and the causes of the statuses of the program that draws.
-use Rattle.std.proofs.Common.{◌≡◌, ℕ, ◌^◌, ◌*◌, ◌≤◌, ◌<◌, List, [], Option, Result, Ok, Err, length, map, refl, sym, ap, subst, ◌∙◌, arith}
-use Rattle.std.specs.Prelude.{All, IfErr, IsErrAnd}
+use Rattle.std.proofs.Common.{◌≡◌, ℕ, ◌^◌, ◌*◌, ◌≤◌, ◌<◌, List, [], Option, length, map, sym, ap, subst, ◌∙◌, arith}
+use Rattle.std.specs.Prelude.{All}
 use Rattle.std.proofs.Math.Nat.{mul-le-mul_left}
 use Rattle.std.proofs.lemmas.Grind.{div_ceil_times}
 use Rattle.std.specs.List.{range_with_len, slice_index_or}
@@ -8,7 +8,6 @@ use Rattle.std.proofs.lemmas.List.Elements.{All-weaker}
 use Rattle.coflow_units.specs.declared.fabric.Flow.{Flow}
 use Rattle.coflow_units.specs.declared.fabric.Side.{Side}
 use Rattle.coflow_units.specs.declared.fabric.Side.TheVariants.{Egress, Ingress}
-use Rattle.coflow_units.specs.declared.plan.Run.{Run}
 use Rattle.coflow_units.specs.Completion.{completion, cost}
 use Rattle.coflow_units.specs.Flows.{Instance, end_at}
 use Rattle.coflow_units.specs.Schedule.{IsClear}
@@ -22,11 +21,9 @@ use Rattle.dual_cert.proofs.DualLaw.{bound_law}
 use Rattle.flow_table.specs.Table.{IsTable, TableFacts, instance_of}
 use Rattle.outside.specs.Shelf.{Told}
 use Rattle.picture.specs.declared.value.Bar.{Bar}
-use Rattle.picture.specs.declared.value.BarsFault.{BarsFault}
-use Rattle.picture.specs.declared.value.BarsFault.TheVariants as bars_fault
 use Rattle.picture.specs.declared.value.Step.{Step}
 use Rattle.picture.specs.declared.value.Window.{Window}
-use Rattle.picture.specs.Bars.{IsBar, IsBars, IsTooMany, Serves}
+use Rattle.picture.specs.Bars.{IsBar, IsBars, Serves}
 use Rattle.picture.specs.Curve.{IsCurve}
 use Rattle.picture.specs.declared.value.Picture.{Picture}
 use Rattle.picture.specs.Layout.{IsInside}
@@ -41,8 +38,8 @@ use Rattle.command_files.specs.Causes.{HasCauseInFiles}
 use Rattle.command_files.specs.Reports.{IsReportOf}
 use Rattle.command_files.specs.Ends.{IsReadFault, IsWriteFault}
 use Rattle.command_files.specs.Inputs.{IsInput}
-use Rattle.picture_cli.specs.Picture.{Draws, HasNoPicture, HasPictureCause, HasVerdictCause, IsNearBest, IsPictureOf, Judged, check_of, window_of}
-use Rattle.picture_cli.specs.Status.{IsStatusOfBars, as_check}
+use Rattle.picture_cli.specs.Picture.{Draws, HasPictureCause, HasVerdictCause, IsNearBest, IsPictureOf, Judged, check_of}
+use Rattle.picture_cli.specs.Status.{as_check}
 use Rattle.picture_cli.specs.Words.{PictureSaid}
 use Rattle.picture_cli.specs.declared.status.PictureStatus.{PictureStatus}
 use Rattle.picture_cli.specs.declared.status.PictureStatus.TheVariants as drawn
@@ -120,21 +117,17 @@ window s f l = record { side = s; first = f; last = l }
 pub window_same : (w : Window) (side : Side) (first last : ℕ) → w.side ≡ side → w.first ≡ first → w.last ≡ last → w ≡ record { side = side; first = first; last = last }
 window_same w side first last a b c = ap (λ s. window s w.first w.last) a ∙ ap (λ n. window side n w.last) b ∙ ap (λ n. window side first n) c
 
-pub clear_along : (flows lent : List Flow) (runs made : List Run) → lent ≡ flows → made ≡ runs → All (IsClear flows) (slots_in runs) → All (IsClear lent) (slots_in made)
-clear_along flows lent runs made f m clear =
-    subst (λ (l : List Flow). All (IsClear l) (slots_in made)) (sym f) (subst (λ (l : List Run). All (IsClear flows) (slots_in l)) (sym m) clear)
+pub clear_along : (flows lent : List Flow) (slots : List (List ℕ)) → lent ≡ flows → All (IsClear flows) slots → All (IsClear lent) slots
+clear_along flows lent slots f = subst (λ (l : List Flow). All (IsClear l) slots) (sym f)
 
-pub names_along : (flows lent : List Flow) (runs made : List Run) → lent ≡ flows → made ≡ runs → NamesFlows (length flows) (slots_in runs) →
-    NamesFlows (length lent) (slots_in made)
-names_along flows lent runs made f m names =
-    subst (λ (l : List Flow). NamesFlows (length l) (slots_in made)) (sym f) (subst (λ (l : List Run). NamesFlows (length flows) (slots_in l)) (sym m) names)
+pub names_along : (flows lent : List Flow) (slots : List (List ℕ)) → lent ≡ flows → NamesFlows (length flows) slots → NamesFlows (length lent) slots
+names_along flows lent slots f = subst (λ (l : List Flow). NamesFlows (length l) slots) (sym f)
 
-pub bars_along : (flows lent : List Flow) (runs made : List Run) (ports n : ℕ) (w : Window) (rows kept : List (List Bar)) → lent ≡ flows → made ≡ runs → n ≡ ports → kept ≡ rows →
-    IsBars lent (slots_in made) n w rows → IsBars flows (slots_in runs) ports w kept
-bars_along flows lent runs made ports n w rows kept f m p k bars =
-    subst (λ (l : List (List Bar)). IsBars flows (slots_in runs) ports w l) (sym k)
-    (subst (λ x. IsBars flows (slots_in runs) x w rows) p
-    (subst (λ (l : List Run). IsBars flows (slots_in l) n w rows) m (subst (λ (l : List Flow). IsBars l (slots_in made) n w rows) f bars)))
+pub bars_along : (flows lent : List Flow) (slots : List (List ℕ)) (ports n : ℕ) (w : Window) (rows kept : List (List Bar)) → lent ≡ flows → n ≡ ports → kept ≡ rows →
+    IsBars lent slots n w rows → IsBars flows slots ports w kept
+bars_along flows lent slots ports n w rows kept f p k bars =
+    subst (λ (l : List (List Bar)). IsBars flows slots ports w l) (sym k)
+    (subst (λ x. IsBars flows slots x w rows) p (subst (λ (l : List Flow). IsBars l slots n w rows) f bars))
 
 -- the bars lie inside the window
 pub bars_inside : (flows : List Flow) (slots : List (List ℕ)) (ports : ℕ) (w : Window) (rows kept : List (List Bar)) → kept ≡ rows → IsBars flows slots ports w rows →
@@ -144,25 +137,9 @@ bars_inside flows slots ports w rows kept k bars =
     (λ port lt. All-weaker (IsBar (Serves flows slots w.side port) w.first w.last) (IsInside w) (λ b is. record { some = is.some; from = is.from; upto = is.upto })
     (slice_index_or rows port []) (bars.row port (omega (arith, lt, bars.row_each))).bars)
 
-pub too_many_along : (flows lent : List Flow) (runs made : List Run) (ports n : ℕ) (w v : Window) (fault : BarsFault) → lent ≡ flows → made ≡ runs → n ≡ ports → w ≡ v →
-    IsTooMany lent (slots_in made) n w fault → IsTooMany flows (slots_in runs) ports v fault
-too_many_along flows lent runs made ports n w v fault f m p e many =
-    subst (λ (x : Window). IsTooMany flows (slots_in runs) ports x fault) e
-    (subst (λ x. IsTooMany flows (slots_in runs) x w fault) p
-    (subst (λ (l : List Run). IsTooMany flows (slots_in l) n w fault) m (subst (λ (l : List Flow). IsTooMany l (slots_in made) n w fault) f many)))
-
-pub no_bars : (t : TableFacts) (r : Report) (said : PictureSaid) (fault : BarsFault) (s : PictureStatus) →
-    IsTooMany t.flows (slots_in r.runs) t.ports (window_of said r) fault → IsStatusOfBars fault s → HasNoPicture t r said s
-no_bars t r said (bars_fault.TooMany bars) s many is = subst (HasNoPicture t r said) (sym is) many
-no_bars t r said bars_fault.NoMemory s many is = subst (HasNoPicture t r said) (sym is) refl
-
-pub handed_as : {T : Type 0} (r : Result T PictureStatus) (Q P : PictureStatus → Type 0) → IsErrAnd r Q → ((s : PictureStatus) → Q s → P s) → IfErr r P
-handed_as (Ok x) Q P is h = tt
-handed_as (Err x) Q P is h = h x is
-
-pub curve_along : (flows lent : List Flow) (runs made : List Run) (ends given : List ℕ) (n count : ℕ) (steps kept : List Step) → lent ≡ flows → made ≡ runs →
-    count ≡ n → given ≡ ends → ends ≡ map (λ c. completion lent (slots_in made) c) (range_with_len 0 count) → kept ≡ steps → IsCurve given steps →
-    IsCurve (map (λ c. completion flows (slots_in runs) c) (range_with_len 0 n)) kept
-curve_along flows lent runs made ends given n count steps kept f m c g e k curve =
-    subst (λ (l : List Step). IsCurve (map (λ c. completion flows (slots_in runs) c) (range_with_len 0 n)) l) (sym k)
-    (subst (λ (l : List ℕ). IsCurve l steps) (ends_are flows lent (slots_in runs) (slots_in made) ends given n count f (ap slots_in m) c g e) curve)
+pub curve_along : (flows lent : List Flow) (slots : List (List ℕ)) (ends given : List ℕ) (n count : ℕ) (steps kept : List Step) → lent ≡ flows → count ≡ n → given ≡ ends →
+    ends ≡ map (λ c. completion lent slots c) (range_with_len 0 count) → kept ≡ steps → IsCurve given steps →
+    IsCurve (map (λ c. completion flows slots c) (range_with_len 0 n)) kept
+curve_along flows lent slots ends given n count steps kept f c g e k curve =
+    subst (λ (l : List Step). IsCurve (map (λ c. completion flows slots c) (range_with_len 0 n)) l) (sym k)
+    (subst (λ (l : List ℕ). IsCurve l steps) (ends_are flows lent slots ends given n count f c g e) curve)

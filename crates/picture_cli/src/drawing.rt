@@ -16,12 +16,13 @@ ghost use Rattle.picture_cli.specs.Words.{said_by};
 use crate::status::PictureStatus;
 use crate::value::PictureWords;
 use cert_check::Verdict;
-use coflow_units::{Items, NoMemory, Run};
+use coflow_units::{Items, NoMemory};
 use command_files::Input;
 use flow_table::Table;
 use online_check::verdict_on;
 use picture::{Picture, Window, bars_of, curve_of, heaviest, write_picture};
 use report_text::Report;
+use run_list::Runs;
 use schedule_model::completions_of_runs;
 use std::alloc::Global;
 
@@ -85,7 +86,7 @@ fn picture_in<'a>(
     ensures drawable { IfOk result IsDrawable }
     ensures cause { IfErr result (HasNoPicture input.now.table report.now (said_by words.entry)) }
 {
-    let runs = report.runs.as_slice();
+    let runs = &report.runs;
     let window = window_in(words, runs);
     if window.last < window.first {
         return Err(PictureStatus::NoSlots {
@@ -113,7 +114,7 @@ fn picture_in<'a>(
 }
 
 /// The window that is drawn of a schedule.
-fn window_in<'a>(words: PictureWords<'a>, runs: &[Run]) -> Window
+fn window_in<'a>(words: PictureWords<'a>, runs: &Runs) -> Window
     requires { length (slots_in runs.now) ≤ MAX_SLOT }
     ensures side { result.side ≡ (said_by words.entry).side }
     ensures first { result.first ≡ (said_by words.entry).from }
@@ -127,13 +128,13 @@ fn window_in<'a>(words: PictureWords<'a>, runs: &[Run]) -> Window
 }
 
 /// How many slots the runs have.
-fn slots_of(runs: &[Run]) -> u64
+fn slots_of(runs: &Runs) -> u64
     requires { length (slots_in runs.now) ≤ MAX_SLOT }
     ensures { result ≡ length (slots_in runs.now) }
 {
     let mut slots = 0;
-    for run in runs {
-        slots += run.length;
+    for place in 0..runs.count() {
+        slots += runs.slots(place);
     }
     slots
 }

@@ -1,5 +1,5 @@
 //! What tests begin with. A test that finds no memory stops at once.
-ghost use Rattle.std.specs.Prelude.{◌≤◌, All, IsTrue};
+ghost use Rattle.std.specs.Prelude.{◌≡◌, ◌≤◌, All, IsTrue, Ok};
 ghost use Rattle.coflow_units.specs.declared.limits.TheConstants.{MAX_WEIGHT};
 
 use coflow_units::{MAX_UNIT, MAX_WEIGHT, UnitSize};
@@ -17,7 +17,9 @@ pub(crate) const THREE: &str =
     "150 3\n1 0 2 20 38 1 93:1.0\n2 120 1 7 2 93:4.5 7:2\n3 250 3 20 64 110 2 38:6.25 93:1\n";
 
 /// The value of an answer.
-pub(crate) fn had<T, E: Debug + Drop>(rt: &impl Abort, answer: Result<T, E>) -> T {
+pub(crate) fn had<T, E: Debug + Drop>(rt: &impl Abort, answer: Result<T, E>) -> T
+    ensures { answer ≡ Ok result }
+{
     match answer {
         Ok(value) => value,
         Err(fault) => panic!(rt; "{fault:?}"),

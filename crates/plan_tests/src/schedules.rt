@@ -1,11 +1,12 @@
 //! Schedules: cost, completions and patience.
 ghost use Rattle.std.specs.Prelude.{◌≡◌, ◌+◌, ◌++◌, ◌≤◌, ◌^◌, All, length, replicate};
 ghost use Rattle.std.specs.List.Sorted.{IsStrictlyIncreasing};
-ghost use Rattle.coflow_units.specs.declared.limits.TheConstants.{MAX_SLOT, MAX_WEIGHT};
+ghost use Rattle.coflow_units.specs.declared.limits.TheConstants.{MAX_COFLOWS, MAX_SLOT, MAX_WEIGHT};
 
 use crate::inputs::{THREE, TWO, are_weights, had, is_told, table_of};
-use coflow_units::{Flow, Run};
-use schedule_model::{Schedule, completions, cost, find_fault, is_patient};
+use coflow_units::Flow;
+use run_list::Runs;
+use schedule_model::{Schedule, completions, cost_of, find_fault, is_patient};
 use std::alloc::Global;
 use std::process::Abort;
 
@@ -62,7 +63,8 @@ fn told(
 ) -> String
     requires flows { length flows.now ≤ 2 ^ 32 }
     requires small { All (λ w. w ≤ MAX_WEIGHT) weights.now }
-    requires few { length weights.now ≤ 2 ^ 32 }
+    requires few { length weights.now ≤ MAX_COFLOWS }
+    requires each { coflows ≡ length weights.now }
 {
     let Ok(fault) = find_fault(alloc, flows, schedule) else {
         panic!(rt; "no memory");
@@ -70,9 +72,9 @@ fn told(
     let None = fault else {
         panic!(rt; "a fault");
     };
-    let cost = cost(flows, weights, schedule);
     let patient = had(rt, is_patient(alloc, flows, order, schedule));
     let ends = had(rt, completions(alloc, flows, coflows, schedule));
+    let cost = cost_of(weights, &ends);
     let text = text_of(rt, alloc, cost, patient, ends.as_slice());
     drop(ends);
     text
@@ -100,9 +102,9 @@ fn expect(
 }
 
 /// Two runs of the same flows are one.
-fn are_joined(rt: &impl Abort, runs: &[Run]) {
-    assert!(rt; runs.len() == 6);
-    assert!(rt; runs[2].length == 2);
+fn are_joined(rt: &impl Abort, runs: &Runs) {
+    assert!(rt; runs.count() == 6);
+    assert!(rt; runs.slots(2) == 2);
 }
 
 /// An order, and what is told of the schedule of three coflows.

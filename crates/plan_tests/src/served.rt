@@ -3,8 +3,8 @@ ghost use Rattle.std.specs.Prelude.{◌<◌, ℕ, All, Contains, IsTrue};
 ghost use Rattle.coflow_units.specs.Flows.{IsDistinct};
 
 use crate::inputs::{THREE, TWO, had, is_told, table_of};
-use coflow_units::Run;
 use flow_table::Table;
+use run_list::Runs;
 use slot_switch::simulate;
 use std::alloc::Global;
 use std::process::Abort;
@@ -53,12 +53,15 @@ fn told(rt: &impl Abort, alloc: Global, table: &Table, order: &[u32]) -> String 
 }
 
 /// The text of runs.
-fn runs_told(rt: &impl Abort, alloc: Global, runs: &[Run]) -> String {
+fn runs_told(rt: &impl Abort, alloc: Global, runs: &Runs) -> String {
     let mut text = String::new(alloc);
-    for run in runs {
-        let written = write!(text, "{} of {:?}; ", run.length, run.flows.as_slice());
+    let mut walk = had(rt, runs.walk(alloc));
+    for _place in 0..runs.count() {
+        let slots = walk.enter();
+        let written = write!(text, "{slots} of {:?}; ", walk.flows());
         had(rt, written);
     }
+    drop(walk);
     text
 }
 

@@ -2,32 +2,28 @@
 ghost use Rattle.std.specs.Prelude.{◌≡◌, ◌<◌, ◌^◌, All, IfOk, length, map, slice_index};
 ghost use Rattle.coflow_units.specs.declared.plan.Place.{Place};
 ghost use Rattle.report_text.specs.declared.value.PlaceLine.{PlaceLine};
-ghost use Rattle.schedule_model.specs.RunList.{NamesFlows};
-ghost use Rattle.plans.specs.PlanReport.{line_from, line_of};
+ghost use Rattle.plans.specs.PlanReport.{line_from};
 
 use coflow_units::{NoMemory, Place};
 use flow_table::Table;
 use report_text::PlaceLine;
-use schedule_model::{Schedule, completions};
 use std::alloc::Global;
 
-/// The lines of the places: each with the id of its coflow and the coflow's completion in the schedule.
+/// The lines of the places: each with the id of its coflow and the coflow's completion, which `ends` has by number.
 pub fn place_lines(
     alloc: Global,
     table: &Table,
     places: &[Place],
-    schedule: &Schedule,
+    ends: &[u64],
 ) -> Result<Vec<PlaceLine>, NoMemory>
     requires coflow { All (λ (x : Place). x.coflow < length table.now.ids) places.now }
-    requires names { NamesFlows (length table.now.flows) schedule.now }
-    ensures lines { IfOk result (λ lines. lines.items ≡ map (line_of table.now.ids table.now.flows schedule.now)
-        places.now) }
+    requires ends { length ends.now ≡ length table.now.ids }
+    ensures lines { IfOk result (λ lines. lines.items ≡ map (line_from table.now.ids ends.now) places.now) }
     ensures ids { IfOk result (λ lines. All (λ (line : PlaceLine). line.id < 2 ^ 32) lines.items) }
 {
-    let ends = completions(alloc, table.flows(), table.coflows(), schedule)?;
     let mut lines = Vec::new(alloc);
     for place in places {
-        lines.push(line_of(table, &ends, place))?;
+        lines.push(line_of(table, ends, place))?;
     }
     Ok(lines)
 }

@@ -15,7 +15,7 @@ use coflow_units::{Items, NoMemory, Place};
 use dual_cert::{Cert, bound, slack};
 use flow_table::Table;
 use report_text::Report;
-use schedule_model::{Schedule, cost};
+use schedule_model::{Schedule, completions, cost_of};
 use std::alloc::Global;
 
 /// The report of the plan of the coflows of a table, from the places of the order by bottleneck, select, scale, iterate and the schedule
@@ -40,17 +40,19 @@ pub fn report_of(
     ensures report { IfOk result IsReport }
     ensures small { IfOk result HasSmallNumbers }
 {
-    let lines = place_lines(alloc, table, places, &schedule)?;
+    let ends = completions(alloc, table.flows(), table.coflows(), &schedule)?;
+    let lines = place_lines(alloc, table, places, &ends)?;
+    let cost = cost_of(weights, &ends);
+    drop(ends);
     let list = place_weights(alloc, weights, places)?;
     let values = values_of(alloc, table, weights, places)?;
-    let cost = cost(table.flows(), weights, &schedule);
     Ok(Report {
         places: Items::from_vec(lines),
         weights: Some(Items::from_vec(list)),
         bound: values.bound,
         slack: values.slack,
         cost,
-        runs: Items::from_vec(schedule.into_runs()),
+        runs: schedule.into_runs(),
     })
 }
 

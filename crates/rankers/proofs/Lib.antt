@@ -10,5 +10,6 @@ pub mod Permutations
 pub mod PlaceOrders
 pub mod RowFacts
 pub mod ServedOrders
+pub mod TableEnds
 pub mod ToldOrders
 pub mod UnfitRows

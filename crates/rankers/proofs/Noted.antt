@@ -1,8 +1,8 @@
 -- What a ranker is told of a schedule.
-use Rattle.std.proofs.Common.{◌≡◌, ℕ, ◌<◌, List, [], ◌∷◌, length, get_or, Contains, refl, ap, ◌∙◌, arith}
+use Rattle.std.proofs.Common.{◌≡◌, ℕ, ◌<◌, List, [], ◌∷◌, get_or, Contains, refl, ap, ◌∙◌, arith}
 use Rattle.std.specs.Prelude.{map}
 use Rattle.std.specs.List.{range_with_len}
-use Rattle.std.proofs.lemmas.List.{get_or-map, length-map}
+use Rattle.std.proofs.lemmas.List.{get_or-map}
 use Rattle.std.proofs.lemmas.List.FromFn.{get_or-range_with_len, length-range_with_len}
 use Rattle.coflow_units.specs.declared.fabric.Flow.{Flow}
 use Rattle.coflow_units.specs.Completion.{completion}
@@ -22,9 +22,6 @@ end_at : (end : ℕ → ℕ) (n : ℕ) (ends : List ℕ) → ends ≡ map end (r
 end_at end n ends is c lt =
     let at : get_or (range_with_len 0 n) c 0 ≡ c = omega (arith, get_or-range_with_len 0 n c 0 lt) in
     ap (λ xs. get_or xs c 0) is ∙ get_or-map end (range_with_len 0 n) c 0 0 (omega (arith, lt, length-range_with_len 0 n)) ∙ ap end at
-
-pub ends_count : (end : ℕ → ℕ) (n : ℕ) (ends : List ℕ) → ends ≡ map end (range_with_len 0 n) → length ends ≡ n
-ends_count end n ends is = ap (λ xs. length xs) is ∙ length-map (range_with_len 0 n) end ∙ length-range_with_len 0 n
 
 pub told_completions : (flows : List Flow) (n : ℕ) (m : Meaning) (slots : List (List ℕ)) (ends order : List ℕ) →
     ends ≡ map (completion flows slots) (range_with_len 0 n) → order ≡ by_key (key_in ends) n →

@@ -1,5 +1,5 @@
 -- What becomes of an answer, and what it is worth.
-use Rattle.std.proofs.Common.{◌≡◌, ℕ, List, length, sym, ap, subst, ◌∙◌}
+use Rattle.std.proofs.Common.{◌≡◌, ℕ, List, length, sym, subst, ◌∙◌}
 use Rattle.std.specs.Prelude.{slice_index}
 use Rattle.std.specs.List.{range_with_len}
 use Rattle.std.proofs.lemmas.List.FromFn.{length-range_with_len}
@@ -10,7 +10,6 @@ use Rattle.coflow_units.proofs.ServedLaws.{served_valid}
 use Rattle.class_rates.specs.Classes.{IsPermutation}
 use Rattle.flow_table.specs.Table.{TableFacts, instance_of}
 use Rattle.schedule_model.specs.RunList.{NamesFlows}
-use Rattle.schedule_model.specs.Weights.{weighted_cost}
 use Rattle.schedule_model.proofs.ValidSteps.{valid_names}
 use Rattle.rankers.specs.declared.row.Scored.TheVariants.{Cost}
 use Rattle.rankers.specs.declared.scoring.Judged.{Judged}
@@ -44,11 +43,6 @@ served_order t weights order judged slots count is holds =
       served = served;
     }
 
-pub judged_score : (t : TableFacts) (weights order : List ℕ) (judged : Judged) (slots : List (List ℕ)) (flows : List Flow) (total : ℕ) → length order ≡ length t.ids →
-    length weights ≡ length t.ids → flows ≡ t.flows → judged ≡ Served slots → IsJudged t order judged → total ≡ weighted_cost flows weights slots →
-    IsScore (instance_of t weights) order (Cost total)
-judged_score t weights order judged slots flows total count each same is holds e = (
-  slots,
-  served_order t weights order judged slots count is holds,
-  e ∙ (ap (λ fs. weighted_cost fs weights slots) same ∙ ap (λ n. cost t.flows (λ c. slice_index weights c) (range_with_len 0 n) slots) each),
-)
+pub judged_score : (t : TableFacts) (weights order : List ℕ) (judged : Judged) (slots : List (List ℕ)) (total : ℕ) → length order ≡ length t.ids → judged ≡ Served slots →
+    IsJudged t order judged → total ≡ cost t.flows (λ c. slice_index weights c) (range_with_len 0 (length t.ids)) slots → IsScore (instance_of t weights) order (Cost total)
+judged_score t weights order judged slots total count is holds costs = (slots, served_order t weights order judged slots count is holds, costs)

@@ -1,6 +1,5 @@
 -- A ranker is told what came of its order.
 use Rattle.std.proofs.Common.{◌≡◌, ℕ, inl, List, length, sym, ap, ◌∙◌}
-use Rattle.std.specs.List.{range_with_len}
 use Rattle.std.proofs.lemmas.List.FromFn.{length-range_with_len}
 use Rattle.flow_table.specs.Table.{TableFacts, instance_of}
 use Rattle.rankers.specs.declared.scoring.Judged.{Judged}

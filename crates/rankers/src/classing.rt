@@ -12,8 +12,8 @@ use crate::facts::Facts;
 use class_rates::{Classes, cap, fold};
 use coflow_units::{Items, NoMemory};
 use flow_table::Table;
-use report_text::{ClassText, Member, write_classes};
-use schedule_model::cost;
+use report_text::{ClassText, Member, Text, write_classes};
+use schedule_model::{completions, cost_of};
 use slot_switch::simulate;
 use std::alloc::Global;
 
@@ -25,14 +25,14 @@ pub fn classes_text(
     table: &Table,
     weights: &[u64],
     classes: u32,
-) -> Result<Vec<u8>, NoMemory>
+) -> Result<Text, NoMemory>
     requires count { length weights.now ≡ length table.now.ids }
     requires least { All (λ w. 1 ≤ w) weights.now }
     requires weights { All (λ w. w ≤ MAX_WEIGHT) weights.now }
     requires some { 1 ≤ classes }
     requires few { classes ≤ MAX_CLASSES }
     ensures { IfOk result (λ text. (c : ClassText) × IsClassList table.now weights.now classes c ×
-        (text.items ≡ class_text c)) }
+        (text ≡ class_text c)) }
 {
     let facts = Facts::of(alloc, table, weights)?;
     let ordered = order_in(alloc, &facts);
@@ -57,14 +57,20 @@ pub fn classes_text(
         drop(members);
         return Err(NoMemory);
     };
-    let cost = cost(table.flows(), weights, &schedule);
+    let Ok(ends) = completions(alloc, table.flows(), table.coflows(), &schedule) else {
+        drop(schedule);
+        drop(members);
+        return Err(NoMemory);
+    };
+    let cost = cost_of(weights, &ends);
+    drop(ends);
     let list = ClassText {
         members: Items::from_vec(members),
         cap,
         cost,
-        runs: Items::from_vec(schedule.into_runs()),
+        runs: schedule.into_runs(),
     };
-    let text = write_classes(alloc, &list)?;
+    let text = write_classes(alloc, list)?;
     Ok(text)
 }
 

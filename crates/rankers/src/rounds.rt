@@ -1,13 +1,15 @@
 //! The two rounds of a ranker.
-ghost use Rattle.std.specs.Prelude.{◌≡◌, ◌<◌, ◌≤◌, ◌^◌, ℕ, All, IfOk, OnOk, length};
+ghost use Rattle.std.specs.Prelude.{◌≡◌, ◌<◌, ◌≤◌, ◌^◌, ℕ, All, IfOk, List, OnOk, length, map};
+ghost use Rattle.std.specs.List.{range_with_len};
+ghost use Rattle.coflow_units.specs.declared.fabric.Flow.{Flow};
+ghost use Rattle.coflow_units.specs.Completion.{completion};
 ghost use Rattle.coflow_units.specs.declared.limits.TheConstants.{MAX_WEIGHT};
 ghost use Rattle.flow_table.specs.Table.{instance_of};
 ghost use Rattle.rankers.specs.FactsTold.{coflows_in};
 ghost use Rattle.rankers.specs.Meaning.{after_note, after_notes, after_question, answer_of};
-ghost use Rattle.rankers.specs.ByKey.{by_key, key_in};
+ghost use Rattle.rankers.specs.ByKey.{key_in};
 ghost use Rattle.rankers.specs.Rounds.{IsRounds, IsToldOf, after_completions};
-ghost use Rattle.rankers.specs.Scores.{IsScore, IsServedOrder};
-ghost use Rattle.schedule_model.specs.RunList.{NamesFlows};
+ghost use Rattle.rankers.specs.Scores.{IsScore};
 
 use crate::by_key::fill_by_key;
 use crate::facts::Facts;
@@ -16,7 +18,7 @@ use crate::row::Scored;
 use crate::scoring::{Judged, judge, score};
 use coflow_units::NoMemory;
 use flow_table::Table;
-use schedule_model::{Schedule, completions, cost};
+use schedule_model::{completions, cost_of};
 use std::alloc::Global;
 
 /// What the two answers of a ranker are worth.
@@ -80,8 +82,10 @@ fn score_and_tell(
 {
     match judge(alloc, table, order)? {
         Judged::Served(schedule) => {
-            tell(alloc, table, &schedule, ranker, order)?;
-            Ok(Scored::Cost(cost(table.flows(), weights, &schedule)))
+            let ends = completions(alloc, table.flows(), table.coflows(), &schedule)?;
+            drop(schedule);
+            tell(&ends, ranker, order);
+            Ok(Scored::Cost(cost_of(weights, &ends)))
         }
         Judged::Unfit(place) => Ok(Scored::Unfit(place)),
     }
@@ -109,24 +113,16 @@ fn score_after(
     Ok(scored)
 }
 
-/// Tells the ranker the completion of each coflow, by completion and then by number. `order` has one place for each coflow, for that order.
-fn tell(
-    alloc: Global,
-    table: &Table,
-    schedule: &Schedule,
-    ranker: &mut Box<dyn Ranker>,
-    order: &mut [u32],
-) -> Result<(), NoMemory>
-    requires names { NamesFlows (length table.now.flows) schedule.now }
-    requires order { length order.old ≡ length table.now.ids }
-    ensures { OnOk result (meaning ranker.new ≡
-        after_completions table.now.flows (length table.now.ids) (meaning ranker.old) schedule.now) }
+/// Tells the ranker the completion of each coflow, which `ends` has by number: by completion and then by number. `order` has one place for each coflow, for that order.
+fn tell(ends: &[u64], ranker: &mut Box<dyn Ranker>, order: &mut [u32])
+    requires order { length order.old ≡ length ends.now }
+    requires few { length ends.now ≤ 2 ^ 32 }
+    ensures { (flows : List Flow) (slots : List (List ℕ)) →
+        ends.now ≡ map (λ c. completion flows slots c) (range_with_len 0 (length ends.now)) →
+        meaning ranker.new ≡ after_completions flows (length ends.now) (meaning ranker.old) slots }
 {
-    let ends = completions(alloc, table.flows(), table.coflows(), schedule)?;
-    let slots = ends.as_slice();
-    fill_by_key(slots, order);
-    tell_each(slots, order, ranker);
-    Ok(())
+    fill_by_key(ends, order);
+    tell_each(ends, order, ranker);
 }
 
 /// Tells the ranker the ends of coflows in this order.

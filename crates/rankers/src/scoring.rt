@@ -10,7 +10,7 @@ ghost use Rattle.rankers.specs.Served.{IsJudged};
 use crate::row::Scored;
 use coflow_units::NoMemory;
 use flow_table::Table;
-use schedule_model::{Schedule, cost};
+use schedule_model::{Schedule, completions, cost_of};
 use slot_switch::simulate;
 use std::alloc::Global;
 
@@ -46,7 +46,10 @@ pub fn score(
     ensures { IfOk result (λ scored. IsScore (instance_of table.now weights.now) order.now scored) }
 {
     match judge(alloc, table, order)? {
-        Judged::Served(schedule) => Ok(Scored::Cost(cost(table.flows(), weights, &schedule))),
+        Judged::Served(schedule) => {
+            let ends = completions(alloc, table.flows(), table.coflows(), &schedule)?;
+            Ok(Scored::Cost(cost_of(weights, &ends)))
+        }
         Judged::Unfit(place) => Ok(Scored::Unfit(place)),
     }
 }

@@ -7,6 +7,6 @@ pub use online_text::{
     DoneLine, Epoch, Online, OnlinePlace, ReleaseLine, read_online, write_online,
 };
 pub use report_text::{
-    ClassText, Compare, Made, Member, PlaceLine, Report, ReportFault, RowLine, RowText,
+    ClassText, Compare, Made, Member, PlaceLine, Report, ReportFault, RowLine, RowText, Text,
     read_report, write_classes, write_compare, write_made, write_report,
 };

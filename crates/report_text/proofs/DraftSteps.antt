@@ -129,7 +129,7 @@ place_taken d places weights p w line h stage ps ws small fits is few = (draft, 
     lines = rw stage (λ i. version_same d.weighed weights.items d.weights.items i ∷ own i)
 
 -- the draft with one more run
-abbrev with_run : Draft → Vec Run Global → ℕ → Draft
+abbrev with_run : Draft → List Run → ℕ → Draft
 with_run d runs slots = record {
   stage = d.stage;
   weighed = d.weighed;
@@ -161,13 +161,13 @@ maximal_push runs run h other k d lt = go (ltb (k + 1) (length runs)) refl
         rw index (sym (ap (λ (x : Run). x.flows) (get_or_append_left runs (run ∷ []) d k (omega arith)))) in
         other d (omega arith) (last ∙ (same ∙ ap (λ (x : Run). x.flows) (get_or_push runs run d (k + 1) here)))
 
-pub run_taken : (d : Draft) (runs : Vec Run Global) (run : Run) (line : List ℕ) → IsDraft d → d.stage ≡ Runs → runs.items ≡ d.runs.items ++ (run ∷ []) → IsRun run →
-    line ≡ run_line run → d.slots + run.length ≤ 2 ^ 41 - 1 → Differs d.runs.items run.flows true →
+pub run_taken : (d : Draft) (runs : List Run) (run : Run) (line : List ℕ) → IsDraft d → d.stage ≡ Runs → runs ≡ d.runs ++ (run ∷ []) → IsRun run →
+    line ≡ run_line run → d.slots + run.length ≤ 2 ^ 41 - 1 → Differs d.runs run.flows true →
     IsDraft (with_run d runs (d.slots + run.length)) × (draft_lines (with_run d runs (d.slots + run.length)) ≡ draft_lines d ++ (line ∷ []))
 run_taken d runs run line h stage rs is_run is few other = (draft, lines)
   where
-    total : sum_by slots_in runs.items ≡ d.slots + run.length
-    total = omega (arith, ap (sum_by slots_in) rs, sum_by-append slots_in d.runs.items (run ∷ []), sum_by-cons slots_in run [], h.slots)
+    total : sum_by slots_in runs ≡ d.slots + run.length
+    total = omega (arith, ap (sum_by slots_in) rs, sum_by-append slots_in d.runs (run ∷ []), sum_by-cons slots_in run [], h.slots)
 
     later : HasNothingLater d.stage (with_run d runs (d.slots + run.length))
     later = rw stage tt
@@ -177,10 +177,10 @@ run_taken d runs run line h stage rs is_run is few other = (draft, lines)
       report = record {
         weight_each = h.report.weight_each;
         weight_range = h.report.weight_range;
-        lengths = rw rs (All-push (λ (x : Run). 1 ≤ x.length) d.runs.items run h.report.lengths is_run.0);
+        lengths = rw rs (All-push (λ (x : Run). 1 ≤ x.length) d.runs run h.report.lengths is_run.0);
         few_slots = omega (arith, total, few);
-        ascending = rw rs (All-push (λ (x : Run). IsStrictlyIncreasing x.flows) d.runs.items run h.report.ascending is_run.2.0);
-        maximal = rw rs (maximal_push d.runs.items run h.report.maximal other);
+        ascending = rw rs (All-push (λ (x : Run). IsStrictlyIncreasing x.flows) d.runs run h.report.ascending is_run.2.0);
+        maximal = rw rs (maximal_push d.runs run h.report.maximal other);
       };
       small = record {
         count = h.small.count;
@@ -188,18 +188,18 @@ run_taken d runs run line h stage rs is_run is few other = (draft, lines)
         bound = h.small.bound;
         slack = h.small.slack;
         cost = h.small.cost;
-        flows = rw rs (All-push (λ (x : Run). All (λ f. f < 2 ^ 32) x.flows) d.runs.items run h.small.flows is_run.2.1);
+        flows = rw rs (All-push (λ (x : Run). All (λ f. f < 2 ^ 32) x.flows) d.runs run h.small.flows is_run.2.1);
       };
       slots = sym total;
       later = later;
     }
 
-    grown : map run_line runs.items ≡ map run_line d.runs.items ++ (line ∷ [])
-    grown = ap (map run_line) rs ∙ (map-append run_line d.runs.items (run ∷ []) ∙ ap (λ x. map run_line d.runs.items ++ (x ∷ [])) (sym is))
+    grown : map run_line runs ≡ map run_line d.runs ++ (line ∷ [])
+    grown = ap (map run_line) rs ∙ (map-append run_line d.runs (run ∷ []) ∙ ap (λ x. map run_line d.runs ++ (x ∷ [])) (sym is))
 
     lines : draft_lines (with_run d runs (d.slots + run.length)) ≡ draft_lines d ++ (line ∷ [])
     lines = rw stage (ap (λ x. version_line (weights_if d.weighed d.weights.items) ∷ x) (ap (λ x. (place_lines (report_of d) ++ total_lines (report_of d)) ++ x) grown ∙
-        sym (append_assoc (place_lines (report_of d) ++ total_lines (report_of d)) (map run_line d.runs.items) (line ∷ []))))
+        sym (append_assoc (place_lines (report_of d) ++ total_lines (report_of d)) (map run_line d.runs) (line ∷ []))))
 
 -- the draft with the bound
 abbrev with_bound : Draft → ℕ → Draft

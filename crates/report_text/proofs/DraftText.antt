@@ -132,34 +132,34 @@ all_runs r h small k d lt = (h.lengths k d lt, omega (arith, get_or-le-sum_by sl
 
 -- the lines behind the cost of a report that begins as the draft does
 last_are : (d : Draft) (r : Report) (line : List ℕ) (more : List (List ℕ)) → d.stage ≡ Runs → report_lines r ≡ lines_before d.stage (report_of d) ++ (line ∷ more) →
-    map run_line d.runs.items ++ (line ∷ more) ≡ last_lines r
+    map run_line d.runs ++ (line ∷ more) ≡ last_lines r
 last_are d r line more stage e = after_totals (report_of d) r (line ∷ more) (begins d Runs r line more stage e)
 
 pub refuse_end : (d : Draft) (line : List ℕ) → IsDraft d → d.stage ≡ Runs → IsRunOf line None → (line ≡ codes "end" → ⊥) → Refuses d line
 refuse_end d line h stage no_run no_end r more report small e =
-    go (next_after 114 (map run_line d.runs.items) (map run_line r.runs) line (codes "end") more [] (runs_first d.runs.items) (runs_first r.runs)
+    go (next_after 114 (map run_line d.runs) (map run_line r.runs) line (codes "end") more [] (runs_first d.runs) (runs_first r.runs)
     (λ bad. absurd (omega (arith, bad))) (last_are d r line more stage e))
   where
-    go : ((zs : List (List ℕ)) × (map run_line r.runs ≡ map run_line d.runs.items ++ (line ∷ zs))) ⊎
-        ((map run_line d.runs.items ≡ map run_line r.runs) × (line ≡ codes "end") × (more ≡ [])) → ⊥
+    go : ((zs : List (List ℕ)) × (map run_line r.runs ≡ map run_line d.runs ++ (line ∷ zs))) ⊎
+        ((map run_line d.runs ≡ map run_line r.runs) × (line ≡ codes "end") × (more ≡ [])) → ⊥
     go (inl (zs, whole)) =
-        let next = runs_go_on d.runs.items r.runs line zs (all_runs (report_of d) h.report h.small) (all_runs r report small) whole in
+        let next = runs_go_on d.runs r.runs line zs (all_runs (report_of d) h.report h.small) (all_runs r report small) whole in
         no_run next.0 next.4 next.3
     go (inr (same, here, none)) = no_end here
 
 -- a report that has the run's line here has the run
 pub run_next : (d : Draft) (run : Run) (line : List ℕ) (r : Report) (more : List (List ℕ)) → IsDraft d → d.stage ≡ Runs → IsRun run → line ≡ run_line run → IsReport r →
-    HasSmallNumbers r → report_lines r ≡ lines_before d.stage (report_of d) ++ (line ∷ more) → (others : List Run) × (r.runs ≡ d.runs.items ++ (run ∷ others))
+    HasSmallNumbers r → report_lines r ≡ lines_before d.stage (report_of d) ++ (line ∷ more) → (others : List Run) × (r.runs ≡ d.runs ++ (run ∷ others))
 run_next d run line r more h stage is_run is report small e =
-    go (next_after 114 (map run_line d.runs.items) (map run_line r.runs) line (codes "end") more [] (runs_first d.runs.items) (runs_first r.runs)
+    go (next_after 114 (map run_line d.runs) (map run_line r.runs) line (codes "end") more [] (runs_first d.runs) (runs_first r.runs)
     (λ bad. absurd (omega (arith, bad))) (last_are d r line more stage e))
   where
-    go : ((zs : List (List ℕ)) × (map run_line r.runs ≡ map run_line d.runs.items ++ (line ∷ zs))) ⊎
-        ((map run_line d.runs.items ≡ map run_line r.runs) × (line ≡ codes "end") × (more ≡ [])) → (others : List Run) × (r.runs ≡ d.runs.items ++ (run ∷ others))
+    go : ((zs : List (List ℕ)) × (map run_line r.runs ≡ map run_line d.runs ++ (line ∷ zs))) ⊎
+        ((map run_line d.runs ≡ map run_line r.runs) × (line ≡ codes "end") × (more ≡ [])) → (others : List Run) × (r.runs ≡ d.runs ++ (run ∷ others))
     go (inl (zs, whole)) =
-        let next = runs_go_on d.runs.items r.runs line zs (all_runs (report_of d) h.report h.small) (all_runs r report small) whole in
+        let next = runs_go_on d.runs r.runs line zs (all_runs (report_of d) h.report h.small) (all_runs r report small) whole in
         let same : next.0 ≡ run = run_unique next.0 run next.4 is_run (sym next.3 ∙ is) in
-        (next.1, next.2 ∙ ap (λ x. d.runs.items ++ (x ∷ next.1)) same)
+        (next.1, next.2 ∙ ap (λ x. d.runs ++ (x ∷ next.1)) same)
     go (inr (same, here, none)) = absurd (let bad : 114 ≡ 101 = ap first (sym is ∙ here) in omega (arith, bad))
 
 -- runs that go on with one more have at least the slots of both
@@ -172,17 +172,17 @@ slots_grow runs whole others run is =
 pub refuse_long : (d : Draft) (run : Run) (line : List ℕ) → IsDraft d → d.stage ≡ Runs → IsRun run → line ≡ run_line run → 2 ^ 41 - 1 < d.slots + run.length → Refuses d line
 refuse_long d run line h stage is_run is long r more report small e =
     let next = run_next d run line r more h stage is_run is report small e in
-    absurd (omega (arith, slots_grow d.runs.items r.runs next.0 run next.1, h.slots, report.few_slots))
+    absurd (omega (arith, slots_grow d.runs r.runs next.0 run next.1, h.slots, report.few_slots))
 
-pub refuse_same : (d : Draft) (run : Run) (line : List ℕ) → IsDraft d → d.stage ≡ Runs → IsRun run → line ≡ run_line run → Differs d.runs.items run.flows false → Refuses d line
+pub refuse_same : (d : Draft) (run : Run) (line : List ℕ) → IsDraft d → d.stage ≡ Runs → IsRun run → line ≡ run_line run → Differs d.runs run.flows false → Refuses d line
 refuse_same d run line h stage is_run is same r more report small e =
     let next = run_next d run line r more h stage is_run is report small e in
-    let k : ℕ = length d.runs.items - 1 in
-    let some : 0 < length d.runs.items = (same run).0 in
-    let at : length d.runs.items ≡ k + 1 = omega arith in
-    let last : get_or r.runs k run ≡ get_or d.runs.items k run = rw next.1 (get_or_append_left d.runs.items (run ∷ next.0) run k (omega arith)) in
-    let here : get_or r.runs (k + 1) run ≡ run = rw (next.1, ← at) (get_or-append_seam d.runs.items run next.0 run) in
-    let lt : k + 1 < length r.runs = omega (arith, ap length next.1, length-append d.runs.items (run ∷ next.0)) in
+    let k : ℕ = length d.runs - 1 in
+    let some : 0 < length d.runs = (same run).0 in
+    let at : length d.runs ≡ k + 1 = omega arith in
+    let last : get_or r.runs k run ≡ get_or d.runs k run = rw next.1 (get_or_append_left d.runs (run ∷ next.0) run k (omega arith)) in
+    let here : get_or r.runs (k + 1) run ≡ run = rw (next.1, ← at) (get_or-append_seam d.runs run next.0 run) in
+    let lt : k + 1 < length r.runs = omega (arith, ap length next.1, length-append d.runs (run ∷ next.0)) in
     report.maximal k run lt (ap (λ (x : Run). x.flows) last ∙ ((same run).1 ∙ sym (ap (λ (x : Run). x.flows) here)))
 
 pub refuse_done : (d : Draft) (line : List ℕ) → d.stage ≡ Done → Refuses d line

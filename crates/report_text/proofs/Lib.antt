@@ -13,9 +13,12 @@ pub mod MadeSteps
 pub mod NumberText
 pub mod OneLine
 pub mod PartText
+pub mod PutSteps
 pub mod ReadingSteps
 pub mod ReadingText
 pub mod TextLaws
 pub mod TextLengths
 pub mod TextSteps
 pub mod WholeLines
+pub mod WrittenFlows
+pub mod WrittenLines

@@ -1,7 +1,7 @@
 -- A text that grows by a line, or by lines.
 use Rattle.std.proofs.Common.{◌≡◌, ℕ, ◌<◌, ◌≤◌, ◌+◌, Option, List, [], ◌∷◌, ◌++◌, append_assoc, append-nil, length, map, take, get_or, sym, ap, ◌∙◌, zero-add}
 use Rattle.std.specs.Prelude.{Err, Ok, OnOk, Result, codes}
-use Rattle.std.specs.List.{flat_map, range_with_len}
+use Rattle.std.specs.List.{range_with_len}
 use Rattle.std.proofs.lemmas.Grind.{flat_map-append}
 use Rattle.std.proofs.lemmas.List.{map_more, take_all}
 use Rattle.std.proofs.lemmas.List.FromFn.{map-range_with_len_more}
@@ -44,15 +44,20 @@ each_step line xs k x front text new lt here old step =
 pub lines_more : (lines more : List (List ℕ)) (text new : List ℕ) → text ≡ text_of lines → new ≡ text ++ text_of more → new ≡ text_of (lines ++ more)
 lines_more lines more text new old step = step ∙ (ap (λ x. x ++ text_of more) old ∙ sym (flat_map-append ended lines more))
 
+-- the lines of the runs and the last line stand behind a text, and end it
+pub served : (lines : List (List ℕ)) (runs : List Run) (text all : List ℕ) → text ≡ text_of lines → all ≡ text ++ text_of (map run_line runs ++ (codes "end" ∷ [])) →
+    all ≡ text_of (lines ++ map run_line runs ++ (codes "end" ∷ []))
+served lines runs text all old step =
+    lines_more lines (map run_line runs ++ (codes "end" ∷ [])) text all old step ∙ ap text_of (sym (append_assoc lines (map run_line runs) (codes "end" ∷ [])))
+
 -- the parts of a text in turn
-pub whole : (r : Report) (version places totals runs all : List ℕ) → version ≡ ended (version_line r.weights) → places ≡ version ++ text_of (place_lines r) →
-    totals ≡ places ++ text_of (total_lines r) → runs ≡ totals ++ text_of (map run_line r.runs) → all ≡ runs ++ codes "end\n" → all ≡ report_text r
-whole r version places totals runs all v p t u e =
+pub whole : (r : Report) (version places totals all : List ℕ) → version ≡ ended (version_line r.weights) → places ≡ version ++ text_of (place_lines r) →
+    totals ≡ places ++ text_of (total_lines r) → all ≡ totals ++ text_of (map run_line r.runs ++ (codes "end" ∷ [])) → all ≡ report_text r
+whole r version places totals all v p t e =
     let first = version_line r.weights ∷ [] in
     let to_places = lines_more first (place_lines r) version places (v ∙ sym (append-nil (ended (version_line r.weights)))) p in
     let to_totals = lines_more (first ++ place_lines r) (total_lines r) places totals to_places t in
-    let to_runs = lines_more (first ++ place_lines r ++ total_lines r) (map run_line r.runs) totals runs to_totals u in
-    lines_more (first ++ place_lines r ++ total_lines r ++ map run_line r.runs) (codes "end" ∷ []) runs all to_runs e
+    served (first ++ place_lines r ++ total_lines r) r.runs totals all to_totals e
 
 -- the lines of all elements
 pub each_done : {X : Type 0} (line : X → List ℕ) (xs : List X) (k : ℕ) (front text : List ℕ) → length xs ≤ k → text ≡ front ++ text_of (map line (take k xs)) →
@@ -76,14 +81,6 @@ place_written k p weight text a b c d e ha hb hc hd he =
     let charge = grown text b c (codes "place" ++ spaced k) (charge_words p) number hc in
     let words = grown text c d (codes "place" ++ spaced k ++ charge_words p) (weight_word weight) charge hd in
     grown text d e (place_line k p weight) (codes "\n") words he
-
--- the words of a run line in turn
-pub run_written : (run : Run) (text a b c d : List ℕ) → a ≡ text ++ codes "run" → b ≡ a ++ spaced run.length → c ≡ b ++ flat_map spaced run.flows → d ≡ c ++ codes "\n" →
-    d ≡ text ++ ended (run_line run)
-run_written run text a b c d ha hb hc hd =
-    let number = grown text a b (codes "run") (spaced run.length) ha hb in
-    let words = grown text b c (codes "run" ++ spaced run.length) (flat_map spaced run.flows) number hc in
-    grown text c d (run_line run) (codes "\n") words hd
 
 -- the line of a name and a number
 pub named_written : (name : List ℕ) (n : ℕ) (text a b c : List ℕ) → a ≡ text ++ name → b ≡ a ++ spaced n → c ≡ b ++ codes "\n" → c ≡ text ++ ended (name ++ spaced n)

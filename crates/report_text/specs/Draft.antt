@@ -19,7 +19,7 @@ report_of d = record {
   bound = d.bound;
   slack = d.slack;
   cost = d.cost;
-  runs = d.runs.items;
+  runs = d.runs;
 }
 
 -- the lines of a report that were read when the stage begins
@@ -37,10 +37,10 @@ draft_lines d = lines_before d.stage (report_of d)
 
 -- what comes later in a text was not read yet
 abbrev pub HasNothingLater : Stage → Draft → Type 0
-HasNothingLater Version d = (d.places.items ≡ []) × (d.weights.items ≡ []) × (d.runs.items ≡ [])
-HasNothingLater Places d = d.runs.items ≡ []
-HasNothingLater Slack d = d.runs.items ≡ []
-HasNothingLater Cost d = d.runs.items ≡ []
+HasNothingLater Version d = (d.places.items ≡ []) × (d.weights.items ≡ []) × (d.runs ≡ [])
+HasNothingLater Places d = d.runs ≡ []
+HasNothingLater Slack d = d.runs ≡ []
+HasNothingLater Cost d = d.runs ≡ []
 HasNothingLater Runs d = Unit {0}
 HasNothingLater Done d = Unit {0}
 
@@ -48,7 +48,7 @@ HasNothingLater Done d = Unit {0}
 pub record IsDraft (d : Draft) : Type 0 where
   pub report : IsReport (report_of d)
   pub small : HasSmallNumbers (report_of d)
-  pub slots : d.slots ≡ sum_by (λ (run : Run). run.length) d.runs.items
+  pub slots : d.slots ≡ sum_by (λ (run : Run). run.length) d.runs
   pub later : HasNothingLater d.stage d
 
 -- no report has the line after the lines that were read

@@ -2,6 +2,7 @@ pub mod Classed
 pub mod Compared
 pub mod Draft
 pub mod Made
+pub mod Puts
 pub mod Readers
 pub mod Reading
 pub mod Report

@@ -74,6 +74,11 @@ total_lines r = bound_line r.bound ∷ slack_line r.slack ∷ cost_line r.cost �
 abbrev pub run_line : Run → List ℕ
 run_line run = codes "run" ++ spaced run.length ++ flat_map spaced run.flows
 
+-- what a text has behind its head: where it ends with a schedule, the lines of the runs and the last line
+abbrev pub ending : Option (List Run) → List ℕ
+ending None = []
+ending (Some runs) = text_of (map run_line runs ++ (codes "end" ∷ []))
+
 -- the lines of a report
 abbrev pub report_lines : Report → List (List ℕ)
 report_lines r = (version_line r.weights ∷ []) ++ place_lines r ++ total_lines r ++ map run_line r.runs ++

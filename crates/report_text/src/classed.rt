@@ -5,8 +5,9 @@ ghost use Rattle.report_text.specs.Classed.{class_text, member_line};
 ghost use Rattle.report_text.specs.declared.classed.Member.{Member};
 
 use crate::numbers::{push_named, push_number};
-use crate::writing::push_served;
-use coflow_units::{Items, NoMemory, Run};
+use crate::text::Text;
+use coflow_units::{Items, NoMemory};
+use run_list::Runs;
 use std::alloc::Global;
 
 /// A coflow of a class, by its id. Classes count from 1.
@@ -22,26 +23,24 @@ pub struct ClassText {
     pub members: Items<Member>,
     pub cap: u128,
     pub cost: u128,
-    pub runs: Items<Run>,
+    pub runs: Runs,
 }
 
 /// The text of classes.
 ///
 /// Words are separated by one space, each line ends with one line feed, and numbers are decimal without leading zeros. The lines are `sincronia classes 1`, for each member
-/// `member CLASS ID`, `cap C`, `cost C`, for each run `run LENGTH FLOW FLOW ...`, and `end`.
+/// `member CLASS ID`, `cap C`, `cost C`, for each run `run LENGTH FLOW FLOW ...`, and `end`. The lines of the runs and the last one are made when the text is written.
 ///
 /// The error is want of memory.
-pub fn write_classes(alloc: Global, classes: &ClassText) -> Result<Vec<u8>, NoMemory>
-    ensures text { IfOk result (λ bytes. bytes.items ≡ class_text classes.now) }
+pub fn write_classes(alloc: Global, classes: ClassText) -> Result<Text, NoMemory>
+    ensures text { IfOk result (λ text. text ≡ class_text classes) }
 {
-    let mut text = Vec::new(alloc);
-    text.extend_from_slice(b"sincronia classes 1\n")?;
-    push_members(&mut text, classes.members.as_slice())?;
-    push_named(&mut text, b"cap", classes.cap)?;
-    push_named(&mut text, b"cost", classes.cost)?;
-    push_served(&mut text, classes.runs.as_slice())?;
-    text.extend_from_slice(b"end\n")?;
-    Ok(text)
+    let mut head = Vec::new(alloc);
+    head.extend_from_slice(b"sincronia classes 1\n")?;
+    push_members(&mut head, classes.members.as_slice())?;
+    push_named(&mut head, b"cap", classes.cap)?;
+    push_named(&mut head, b"cost", classes.cost)?;
+    Ok(Text::with_runs(head, classes.runs))
 }
 
 /// The lines of the members.

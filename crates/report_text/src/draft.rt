@@ -6,7 +6,8 @@ ghost use Rattle.report_text.specs.Readers.{IsPlaceOf, IsRunOf, weights_list};
 
 use crate::parts::{is_end, place_of, run_of, total_of, version_of};
 use crate::value::{PlaceLine, Report};
-use coflow_units::{Items, MAX_SLOT, NoMemory, Run};
+use coflow_units::{Items, MAX_SLOT, NoMemory};
+use run_list::Runs;
 use std::alloc::Global;
 
 /// The line that comes next: the first one, that of a place or the bound, those of the slack and the cost, that of a run or the last one, or none.
@@ -30,7 +31,7 @@ pub(crate) struct Draft {
     pub bound: u128,
     pub slack: u128,
     pub cost: u128,
-    pub runs: Vec<Run>,
+    pub runs: Runs,
     pub slots: u64,
 }
 
@@ -48,7 +49,7 @@ impl Draft {
             bound: 0,
             slack: 0,
             cost: 0,
-            runs: Vec::new(alloc),
+            runs: Runs::new(alloc),
             slots: 0,
         }
     }
@@ -87,7 +88,7 @@ impl Draft {
             bound,
             slack,
             cost,
-            runs: Items::from_vec(runs),
+            runs,
         }
     }
 
@@ -194,7 +195,7 @@ impl Draft {
             return Ok(false);
         }
         self.slots += run.length;
-        self.runs.push(run)?;
+        self.runs.push(run.length, run.flows.as_slice())?;
         Ok(true)
     }
 
@@ -224,11 +225,8 @@ fn push_weight(weights: &mut Vec<u64>, weight: Option<u64>) -> Result<(), NoMemo
 }
 
 /// Whether the flows differ from those of the last run, or there is no run.
-pub fn differs(runs: &[Run], flows: &[u32]) -> bool
+pub fn differs(runs: &Runs, flows: &[u32]) -> bool
     ensures { Differs runs.now flows.now result }
 {
-    match runs.last() {
-        Some(last) => last.flows.as_slice() != flows,
-        None => true,
-    }
+    !runs.ends_with(flows)
 }

@@ -1,5 +1,5 @@
 //! Reports of plans, written and read strictly, and the lists of comparisons, classes and made plans. Each value has one text, and
-//! each text of a report stands for at most one report. Other texts are written with the calls that write numbers and runs.
+//! each text of a report stands for at most one report. Other crates write their texts with the calls that write numbers, and end them with the runs of a `Text`.
 #![tactic(auto)]
 
 mod classed;
@@ -11,7 +11,11 @@ mod lines;
 mod made;
 mod numbers;
 mod parts;
+mod piece;
 mod reading;
+mod text;
+mod text_bytes;
+mod text_writer;
 mod value;
 mod writing;
 
@@ -24,5 +28,7 @@ pub use made::{Made, write_made};
 pub use numbers::{push_flows, push_named, push_number};
 pub use parts::{is_end, run_of, total_of};
 pub use reading::read_report;
+pub use text::Text;
+pub use text_writer::TextWriter;
 pub use value::{PlaceLine, Report};
-pub use writing::{push_served, word_of, write_report};
+pub use writing::{word_of, write_report};

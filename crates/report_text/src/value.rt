@@ -1,5 +1,6 @@
 //! What a report says.
-use coflow_units::{Items, Port, Run};
+use coflow_units::{Items, Port};
+use run_list::Runs;
 
 /// One place of the order: the coflow's id, the port that the place charges, what it charges for each unit of load in parts of 2^40 of a weight of 1, and
 /// the slot in which the coflow is completed.
@@ -20,5 +21,5 @@ pub struct Report {
     pub bound: u128,
     pub slack: u128,
     pub cost: u128,
-    pub runs: Items<Run>,
+    pub runs: Runs,
 }

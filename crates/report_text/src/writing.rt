@@ -1,54 +1,41 @@
 //! The text of a report.
-ghost use Rattle.std.specs.Prelude.{◌≡◌, ◌<◌, ◌+◌, ◌++◌, IfOk, OnOk, length, map};
-ghost use Rattle.report_text.specs.Text.{charge_words, place_line_at, place_lines, report_text, run_line, side_word, total_lines, version_line, weight_at, weight_word};
+ghost use Rattle.std.specs.Prelude.{◌≡◌, ◌<◌, ◌+◌, ◌++◌, IfOk, OnOk, length};
+ghost use Rattle.report_text.specs.Text.{charge_words, place_line_at, place_lines, report_text, side_word, total_lines, version_line, weight_at, weight_word};
 ghost use Rattle.coflow_units.specs.Text.{ended, text_of};
 ghost use Rattle.report_text.specs.Report.{HasWeights};
 
-use crate::numbers::{push_flows, push_named, push_number, width_of};
+use crate::numbers::{push_named, push_number};
+use crate::text::Text;
 use crate::value::{PlaceLine, Report};
-use coflow_units::{NoMemory, Run, Side};
+use coflow_units::{NoMemory, Side};
 use std::alloc::Global;
 
 /// The text of a report, of version 2 where it has weights, and of version 1 where it has none.
 ///
 /// Words are separated by one space, each line ends with one line feed, and numbers are decimal without leading zeros. The lines are `sincronia 2`, for each place
 /// `place K ID SIDE PORT Y DONE WEIGHT` with K counting from 1, `bound B`, `slack X`, `cost C`, for each run `run LENGTH FLOW FLOW ...`, and `end`.
-/// Version 1 has the first line `sincronia 1` and place lines without their last number.
+/// Version 1 has the first line `sincronia 1` and place lines without their last number. The lines of the runs and the last one are made when the text is written.
 ///
 /// The report has a weight for each place, or no weights at all. The error is want of memory.
-pub fn write_report(alloc: Global, report: &Report) -> Result<Vec<u8>, NoMemory>
-    requires weight_each { HasWeights report.now }
-    ensures text { IfOk result (λ bytes. bytes.items ≡ report_text report.now) }
+pub fn write_report(alloc: Global, report: Report) -> Result<Text, NoMemory>
+    requires weight_each { HasWeights report }
+    ensures text { IfOk result (λ text. text ≡ report_text report) }
 {
-    let mut text = Vec::with_capacity(alloc, room_for(report))?;
-    push_version(&mut text, report)?;
-    push_places(&mut text, report)?;
-    push_totals(&mut text, report)?;
-    push_served(&mut text, report.runs.as_slice())?;
-    text.extend_from_slice(b"end\n")?;
-    Ok(text)
+    let mut head = Vec::with_capacity(alloc, room_for(&report))?;
+    push_version(&mut head, &report)?;
+    push_places(&mut head, &report)?;
+    push_totals(&mut head, &report)?;
+    Ok(Text::with_runs(head, report.runs))
 }
 
-/// Room for the text, so that it is not moved while it grows. No clause needs it.
+/// Room for the lines before those of the runs, so that they are not moved while the text grows. No clause needs it.
 fn room_for(report: &Report) -> usize {
-    let mut room = report.places.as_slice().len().saturating_mul(200);
-    for run in report.runs.as_slice() {
-        room = room.saturating_add(room_for_run(run));
-    }
-    room.saturating_add(200)
-}
-
-/// Room for the line of a run: its last flow has the most digits.
-fn room_for_run(run: &Run) -> usize {
-    let flows = run.flows.as_slice();
-    let digits = match flows.last() {
-        Some(last) => width_of(*last),
-        None => 0,
-    };
-    flows
+    report
+        .places
+        .as_slice()
         .len()
-        .saturating_mul(digits.saturating_add(1))
-        .saturating_add(30)
+        .saturating_mul(200)
+        .saturating_add(200)
 }
 
 /// The first line.
@@ -129,25 +116,4 @@ fn push_totals(text: &mut Vec<u8>, report: &Report) -> Result<(), NoMemory>
     push_named(text, b"bound", report.bound)?;
     push_named(text, b"slack", report.slack)?;
     push_named(text, b"cost", report.cost)
-}
-
-/// Writes the lines of the runs at the end of the text. The error is want of memory.
-pub fn push_served(text: &mut Vec<u8>, runs: &[Run]) -> Result<(), NoMemory>
-    ensures { OnOk result (text.new.items ≡ text.old.items ++ text_of (map run_line runs.now)) }
-{
-    for run in runs {
-        push_run(text, run)?;
-    }
-    Ok(())
-}
-
-/// The line of a run.
-fn push_run(text: &mut Vec<u8>, run: &Run) -> Result<(), NoMemory>
-    ensures { OnOk result (text.new.items ≡ text.old.items ++ ended (run_line run.now)) }
-{
-    text.extend_from_slice(b"run")?;
-    push_number(text, u128::from(run.length))?;
-    push_flows(text, run.flows.as_slice())?;
-    text.extend_from_slice(b"\n")?;
-    Ok(())
 }

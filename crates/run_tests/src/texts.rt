@@ -101,7 +101,8 @@ fn text_of(rt: &impl Abort, alloc: Global, closed: &Master, pulls: &[PullLine]) 
     let pulls = Items::from_vec(had(rt, Vec::from_slice(alloc, pulls)));
     let weights = weights_of_two(rt, alloc);
     let live = had(rt, live_value(alloc, closed, weights, 100, pulls));
-    had(rt, write_live(alloc, &live))
+    let text = had(rt, write_live(alloc, live));
+    had(rt, text.bytes(alloc))
 }
 
 /// Whether a master that is asked these commands has the text.

@@ -1,6 +1,6 @@
 -- The runs of a schedule after one is appended or joined.
-use Rattle.std.proofs.Common.{◌≡◌, ◌≢◌, ℕ, ◌+◌, ◌≤◌, ◌<◌, inl, inr, List, [], ◌∷◌, ◌++◌, length, get_or, set, take, replicate, refl, sym, ap, subst, ◌∙◌, arith, append_assoc}
-use Rattle.std.specs.Prelude.{All}
+use Rattle.std.proofs.Common.{◌≡◌, ◌≢◌, ℕ, ◌+◌, ◌-◌, ◌≤◌, ◌<◌, inl, inr, List, [], ◌∷◌, ◌++◌, length, get_or, set, take, replicate, refl, sym, ap, subst, ◌∙◌, arith, append_assoc}
+use Rattle.std.specs.Prelude.{All, true, false, Result, Ok, Err, OnOk, OnErr}
 use Rattle.std.specs.List.Sorted.{IsStrictlyIncreasing}
 use Rattle.std.proofs.lemmas.List.{get_or_default, take_more, take_all, set_at, get_or-map, get_or-set_same, get_or-set_other, get_or_append_left, get_or_push, length-append}
 use Rattle.std.proofs.lemmas.List.{length-map, length-replicate, length-set, length-take-le, length_push, replicate-append-replicate}
@@ -8,6 +8,7 @@ use Rattle.std.proofs.lemmas.List.Elements.{All-append, All-head, All-map, All-n
 use Rattle.std.proofs.lemmas.Bool.{cases_eq, cases_lt}
 use Rattle.coflow_units.specs.declared.plan.Run.{Run}
 use Rattle.coflow_units.specs.Schedule.{IsRuns}
+use Rattle.run_list.specs.Runs.{IsLast, longer, run_of}
 use Rattle.schedule_model.specs.RunList.{IsKept, pairs_of, slots_in}
 use Rattle.schedule_model.proofs.RunSlots.{slots_push}
 
@@ -32,10 +33,7 @@ each_slot P (r ∷ rs) all =
     All-append P (replicate r.length r.flows) (slots_in rs) (All-replicate P r.length r.flows (All-head (λ (x : Run). P x.flows) r rs all))
     (each_slot P rs (All-tail (λ (x : Run). P x.flows) r rs all))
 
--- a longer last run
-abbrev pub longer : Run → ℕ → Run
-longer last n = record { length = last.length + n; flows = last.flows }
-
+-- the runs with a longer last run
 split_last : (runs : List Run) (n : ℕ) (last : Run) → n + 1 ≡ length runs → last ≡ get_or runs n last → runs ≡ take n runs ++ last ∷ []
 split_last runs n last e is =
     let lt : n < length runs = omega arith in
@@ -47,7 +45,7 @@ set_last runs n last v e is =
     let count : length (take n runs) ≡ n = length-take-le n runs (omega arith) in
     ap (λ (xs : List Run). set xs n v) (split_last runs n last e is) ∙ set_at (take n runs) last [] v n count
 
-pub slots_joined : (runs : List Run) (n m : ℕ) (last : Run) → n + 1 ≡ length runs → last ≡ get_or runs n last →
+slots_joined : (runs : List Run) (n m : ℕ) (last : Run) → n + 1 ≡ length runs → last ≡ get_or runs n last →
     slots_in (set runs n (longer last m)) ≡ slots_in runs ++ replicate m last.flows
 slots_joined runs n m last e is =
     ap slots_in (set_last runs n last (longer last m) e is) ∙ slots_push (take n runs) (longer last m)
@@ -63,7 +61,7 @@ same_flows runs n m k last r inside is lt = elim (cases_eq k n) [
   | inr ne ↦ ap (λ (x : Run). x.flows) (get_or-set_other runs n k (longer last m) r ne)
 ]
 
-pub kept_joined : (runs : List Run) (n m : ℕ) (last : Run) → IsKept runs → n + 1 ≡ length runs → last ≡ get_or runs n last → length (slots_in runs) + m ≤ 2199023255551 →
+kept_joined : (runs : List Run) (n m : ℕ) (last : Run) → IsKept runs → n + 1 ≡ length runs → last ≡ get_or runs n last → length (slots_in runs) + m ≤ 2199023255551 →
     IsKept (set runs n (longer last m))
 kept_joined runs n m last kept e is fits =
     let inside : n < length runs = omega arith in
@@ -79,7 +77,7 @@ kept_joined runs n m last kept e is fits =
     }
 
 -- one run more
-pub kept_push : (runs : List Run) (r : Run) → IsKept runs → ((k : ℕ) (d : Run) → k + 1 ≡ length runs → (get_or runs k d).flows ≢ r.flows) → 1 ≤ r.length →
+kept_push : (runs : List Run) (r : Run) → IsKept runs → ((k : ℕ) (d : Run) → k + 1 ≡ length runs → (get_or runs k d).flows ≢ r.flows) → 1 ≤ r.length →
     IsStrictlyIncreasing r.flows → length (slots_in runs) + r.length ≤ 2199023255551 →
     IsKept (runs ++ r ∷ [])
 kept_push runs r kept differs some up fits = record {
@@ -97,3 +95,33 @@ kept_push runs r kept differs some up fits = record {
   ];
   short = omega (arith, ap length (slots_push runs r), length-append (slots_in runs) (replicate r.length r.flows), length-replicate r.length r.flows, fits);
 }
+
+-- the runs after the last one was made longer
+module _ (runs new : List Run) (m : ℕ) (flows : List ℕ) (last : IsLast runs flows true)
+    (are : (k : ℕ) (r : Run) → k + 1 ≡ length runs → new ≡ set runs k (longer (get_or runs k r) m)) where
+  abbrev last_place : ℕ
+  last_place = length runs - 1
+
+  abbrev last_run : Run
+  last_run = get_or runs last_place (run_of 0 [])
+
+  is_last : last_place + 1 ≡ length runs
+  is_last = let (some, same) = last in omega arith
+
+  run_there : last_run ≡ get_or runs last_place last_run
+  run_there = let inside : last_place < length runs = omega (arith, is_last) in get_or_default runs last_place (run_of 0 []) last_run inside
+
+  pub kept_longer : IsKept runs → length (slots_in runs) + m ≤ 2199023255551 → IsKept new
+  kept_longer kept fits = subst IsKept (sym (are last_place (run_of 0 []) is_last)) (kept_joined runs last_place m last_run kept is_last run_there fits)
+
+  pub slots_longer : slots_in new ≡ slots_in runs ++ replicate m flows
+  slots_longer =
+      let (some, same) = last in
+      ap slots_in (are last_place (run_of 0 []) is_last) ∙ slots_joined runs last_place m last_run is_last run_there ∙
+      ap (λ f. slots_in runs ++ replicate m f) (same last_place (run_of 0 []) is_last)
+
+-- the runs after a run was appended, or was not for want of memory
+pub kept_pushed : {T E : Type 0} (answer : Result T E) (runs new : List Run) (m : ℕ) (flows : List ℕ) → OnOk answer (new ≡ runs ++ run_of m flows ∷ []) → OnErr answer (new ≡ runs) →
+    IsKept runs → IsLast runs flows false → 1 ≤ m → IsStrictlyIncreasing flows → length (slots_in runs) + m ≤ 2199023255551 → IsKept new
+kept_pushed (Ok x) runs new m flows pushed refused kept differs some up fits = subst IsKept (sym pushed) (kept_push runs (run_of m flows) kept differs some up fits)
+kept_pushed (Err x) runs new m flows pushed refused kept differs some up fits = subst IsKept (sym refused) kept

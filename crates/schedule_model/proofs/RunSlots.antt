@@ -5,7 +5,7 @@ use Rattle.std.proofs.lemmas.List.{take_more, take_all, map_push, flat_map_more,
 use Rattle.std.proofs.lemmas.List.Elements.{All-append, All-replicate}
 use Rattle.coflow_units.specs.declared.plan.Run.{Run}
 use Rattle.coflow_units.specs.Schedule.{slots_of}
-use Rattle.std.specs.List.Sorted.{IsStrictlyIncreasing}
+use Rattle.run_list.specs.Runs.{Walked, run_of}
 use Rattle.schedule_model.specs.RunList.{IsKept, pairs_of, slots_in}
 
 -- one run more
@@ -63,9 +63,6 @@ run_more runs k r lt is = slots_more runs k r lt ∙ ap (λ (x : Run). slots_in 
 pub run_some : (runs : List Run) (k : ℕ) (r : Run) → IsKept runs → k < length runs → r ≡ get_or runs k r → 1 ≤ r.length
 run_some runs k r kept lt is = subst (λ (x : Run). 1 ≤ x.length) (sym is) (kept.some k r lt)
 
-pub run_ascends : (runs : List Run) (k : ℕ) (r : Run) → IsKept runs → k < length runs → r ≡ get_or runs k r → IsStrictlyIncreasing r.flows
-run_ascends runs k r kept lt is = subst (λ (x : Run). IsStrictlyIncreasing x.flows) (sym is) (kept.ascending k r lt)
-
 pub run_at : (runs : List Run) (k : ℕ) (r : Run) → IsKept runs → k < length runs → r ≡ get_or runs k r → slots_in runs ≡ slots_in (take k runs) ++ (r.flows ∷ after_first runs k r)
 run_at runs k r kept lt is = slots_at runs k r lt (kept.some k r lt) ∙ ap (λ (x : Run). slots_in (take k runs) ++ (x.flows ∷ after_first runs k r)) (sym is)
 
@@ -90,3 +87,26 @@ run_holds P runs k r kept lt is all = all_here P (slots_in (take k runs)) (after
 -- after the last run
 pub all_runs : (runs : List Run) (k : ℕ) → length runs ≤ k → slots_in (take k runs) ≡ slots_in runs
 all_runs runs k le = ap slots_in (take_all k runs le)
+
+-- the run that a walk is in
+run_is : (slots : ℕ) (flows : List ℕ) (r : Run) → slots ≡ r.length → flows ≡ r.flows → run_of slots flows ≡ r
+run_is slots flows r e f = ap (λ n. run_of n flows) e ∙ ap (run_of r.length) f
+
+entered_slots : (runs : List Run) (k slots : ℕ) (walk : Walked) (r : Run) → walk.runs ≡ runs → walk.entered ≡ k → ((d : Run) → slots ≡ (get_or walk.runs walk.entered d).length) →
+    slots ≡ (get_or runs k r).length
+entered_slots runs k slots walk r same place has =
+    has r ∙ ap (λ (xs : List Run). (get_or xs walk.entered r).length) same ∙ ap (λ i. (get_or runs i r).length) place
+
+pub entered_run : (runs : List Run) (k slots : ℕ) (flows : List ℕ) (walk after : Walked) → walk.runs ≡ runs → walk.entered ≡ k → after.runs ≡ walk.runs → after.entered ≡ walk.entered + 1 →
+    ((d : Run) → slots ≡ (get_or walk.runs walk.entered d).length) → ((i : ℕ) (d : Run) → i + 1 ≡ after.entered → flows ≡ (get_or after.runs i d).flows) →
+    run_of slots flows ≡ get_or runs k (run_of slots flows)
+entered_run runs k slots flows walk after same place still next has_slots has_flows =
+    let r = run_of slots flows in
+    run_is slots flows (get_or runs k r) (entered_slots runs k slots walk r same place has_slots)
+    (has_flows k r (omega arith) ∙ ap (λ (xs : List Run). (get_or xs k r).flows) (still ∙ same))
+
+pub entered_fits : (runs : List Run) (k slots : ℕ) (walk : Walked) → IsKept runs → k < length runs → walk.runs ≡ runs → walk.entered ≡ k →
+    ((d : Run) → slots ≡ (get_or walk.runs walk.entered d).length) → length (slots_in (take k runs)) + slots ≤ 2199023255551
+entered_fits runs k slots walk kept lt same place has =
+    let d = run_of 0 [] in
+    omega (arith, entered_slots runs k slots walk d same place has, count_more runs k d lt, count_within runs (k + 1), kept.short)

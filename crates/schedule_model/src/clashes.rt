@@ -9,14 +9,15 @@ ghost use Rattle.schedule_model.specs.Repeat.{Repeats};
 ghost use Rattle.schedule_model.specs.Fault.{IsFirstClash};
 
 use crate::ports::{port_at, port_count};
-use coflow_units::{Flow, NoMemory, Port, Run, Side};
+use coflow_units::{Flow, NoMemory, Port, Side};
+use run_list::Runs;
 use std::alloc::Global;
 
 /// The first slot in which two flows use one port, and the first such port in it.
 pub(crate) fn find_clash(
     alloc: Global,
     flows: &[Flow],
-    runs: &[Run],
+    runs: &Runs,
 ) -> Result<Option<(u64, Port)>, NoMemory>
     requires kept { IsKept runs.now }
     requires names { NamesFlows (length flows.now) (slots_in runs.now) }
@@ -26,9 +27,11 @@ pub(crate) fn find_clash(
     let ports = port_count(flows);
     let mut ingress = vec![in alloc; 0u64; ports]?;
     let mut egress = vec![in alloc; 0u64; ports]?;
+    let mut walk = runs.walk(alloc)?;
     let mut slot = 0;
-    for run in runs {
-        let numbers = run.flows.as_slice();
+    for place in 0..runs.count() {
+        let slots = walk.enter();
+        let numbers = walk.flows();
         if let Some(number) = least_repeat(flows, numbers, Side::Ingress, slot + 1, &mut ingress) {
             let side = Side::Ingress;
             return Ok(Some((slot + 1, Port { side, number })));
@@ -37,7 +40,7 @@ pub(crate) fn find_clash(
             let side = Side::Egress;
             return Ok(Some((slot + 1, Port { side, number })));
         }
-        slot += run.length;
+        slot += slots;
     }
     Ok(None)
 }

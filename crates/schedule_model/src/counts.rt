@@ -7,14 +7,15 @@ ghost use Rattle.schedule_model.specs.RunList.{IsKept, slots_in};
 ghost use Rattle.schedule_model.specs.Fault.{IsFirstFault};
 
 use crate::fault::ScheduleFault;
-use coflow_units::{Flow, NoMemory, Run};
+use coflow_units::{Flow, NoMemory};
+use run_list::Runs;
 use std::alloc::Global;
 
 /// The first flow that stands in another number of slots than it has units.
 pub(crate) fn find_miscount(
     alloc: Global,
     flows: &[Flow],
-    runs: &[Run],
+    runs: &Runs,
 ) -> Result<Option<ScheduleFault>, NoMemory>
     requires kept { IsKept runs.now }
     requires few { length flows.now ≤ 2 ^ 32 }
@@ -22,8 +23,10 @@ pub(crate) fn find_miscount(
     ensures { IfOk result (λ fault. IsFirstFault flows.now (slots_in runs.now) fault) }
 {
     let mut counts = vec![in alloc; 0u64; flows.len()]?;
-    for run in runs {
-        add_run(&mut counts, run.length, run.flows.as_slice());
+    let mut walk = runs.walk(alloc)?;
+    for place in 0..runs.count() {
+        let slots = walk.enter();
+        add_run(&mut counts, slots, walk.flows());
     }
     let Some(number) = first_miscount(flows, &counts) else {
         return Ok(None);

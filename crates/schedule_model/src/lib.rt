@@ -12,7 +12,7 @@ mod schedule;
 mod strangers;
 mod validity;
 
-pub use ends::{completion, completions, completions_of_runs, cost};
+pub use ends::{completions, completions_of_runs, cost_of};
 pub use fault::ScheduleFault;
 pub use patience::is_patient;
 pub use schedule::Schedule;

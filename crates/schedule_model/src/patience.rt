@@ -16,7 +16,8 @@ use std::alloc::Global;
 /// Tests whether a schedule is patient for an order of coflows: in each slot each flow that has units left is served, or one of its ports serves a coflow no later in the order.
 ///
 /// The numbers in the schedule are flows'. A coflow that is not in the order comes after all that are.
-/// It takes two words of memory for each flow and two for each port number up to the greatest of the flows; `NoMemory` says that these were not to be had.
+/// It takes two words of memory for each flow, two for each port number up to the greatest of the flows, and room for the flows of two runs;
+/// `NoMemory` says that these were not to be had.
 ///
 /// In a run a flow that is not served keeps its units, so the test at the first slot of a run is the test at each of them.
 ///
@@ -36,8 +37,11 @@ pub fn is_patient(
     let mut ingress = vec![in alloc; 0usize; ports]?;
     let mut egress = vec![in alloc; 0usize; ports]?;
     let mut counts = vec![in alloc; 0u64; flows.len()]?;
-    for run in schedule.kept() {
-        let slot = run.flows.as_slice();
+    let runs = schedule.kept();
+    let mut walk = runs.walk(alloc)?;
+    for place in 0..runs.count() {
+        let slots = walk.enter();
+        let slot = walk.flows();
         if !waits_well(
             flows,
             order,
@@ -49,7 +53,7 @@ pub fn is_patient(
         ) {
             return Ok(false);
         }
-        add_run(&mut counts, run.length, slot);
+        add_run(&mut counts, slots, slot);
     }
     Ok(true)
 }

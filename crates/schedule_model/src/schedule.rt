@@ -1,21 +1,19 @@
 //! A schedule as runs of equal slots.
-ghost use Rattle.std.specs.Prelude.{◌≡◌, ◌≢◌, ◌+◌, ◌≤◌, ◌++◌, ℕ, All, List, [], MatchOption, OnErr, OnOk, length, length as count_of, replicate};
+ghost use Rattle.std.specs.Prelude.{◌≡◌, ◌+◌, ◌≤◌, ◌++◌, All, [], OnErr, OnOk, length as count_of, replicate};
 ghost use Rattle.coflow_units.specs.declared.limits.TheConstants.{MAX_SLOT};
-ghost use Rattle.std.specs.List.{slice_index_or};
 ghost use Rattle.std.specs.List.Sorted.{IsStrictlyIncreasing};
-ghost use Rattle.coflow_units.specs.declared.plan.Run.{Run};
 ghost use Rattle.coflow_units.specs.Schedule.{IsRuns};
 ghost use Rattle.schedule_model.specs.RunList.{IsKept, pairs_of, slots_in};
 
-use coflow_units::{Items, NoMemory, Run};
+use coflow_units::NoMemory;
+use run_list::Runs;
 use std::alloc::Global;
 use std::marker::Model;
 
 /// A schedule: a list of slots, each an ascending list of flow numbers. It keeps runs of equal slots, and has at most 2^41 - 1 slots.
 #[derive(Drop)]
 pub struct Schedule {
-    alloc: Global,
-    runs: Vec<Run>,
+    runs: Runs,
 }
 
 impl Model for Schedule {
@@ -24,9 +22,9 @@ impl Model for Schedule {
 
     ghost Value = { List (List ℕ) };
 
-    ghost view = { λ s. slots_in s.runs.items };
+    ghost view = { λ s. slots_in s.runs };
 
-    ghost invariant = { λ s. IsKept s.runs.items };
+    ghost invariant = { λ s. IsKept s.runs };
 }
 
 impl Schedule {
@@ -35,8 +33,7 @@ impl Schedule {
         ensures { result ≡ [] }
     {
         Schedule {
-            alloc,
-            runs: Vec::new(alloc),
+            runs: Runs::new(alloc),
         }
     }
 
@@ -50,20 +47,15 @@ impl Schedule {
         ensures pushed { OnOk result (self.new ≡ self.old ++ replicate length flows.now) }
         ensures refused { OnErr result (self.new ≡ self.old) }
     {
-        if let Some(place) = equal_last(&self.runs, flows) {
-            let last = &mut self.runs[place];
-            last.length += length;
+        if self.runs.ends_with(flows) {
+            self.runs.lengthen(length);
             return Ok(());
         }
-        let flows = Items::from_vec(Vec::from_slice(self.alloc, flows)?);
-        let Ok(()) = self.runs.push(Run { length, flows }) else {
-            return Err(NoMemory);
-        };
-        Ok(())
+        self.runs.push(length, flows)
     }
 
     /// The runs of equal slots, in the order of time. No run is empty, and neighbours differ.
-    pub fn runs(&self) -> &[Run]
+    pub fn runs(&self) -> &Runs
         ensures runs { IsRuns self.now (pairs_of result.now) }
         ensures ascending { All IsStrictlyIncreasing self.now }
         ensures short { count_of self.now ≤ MAX_SLOT }
@@ -72,35 +64,18 @@ impl Schedule {
     }
 
     /// The runs themselves. It takes no memory.
-    pub fn into_runs(self) -> Vec<Run>
-        ensures runs { IsRuns self (pairs_of result.items) }
+    pub fn into_runs(self) -> Runs
+        ensures runs { IsRuns self (pairs_of result) }
     {
-        let Schedule { alloc: _, runs } = self;
+        let Schedule { runs } = self;
         runs
     }
 
     /// The runs as they are kept.
-    pub fn kept(&self) -> &[Run]
+    pub fn kept(&self) -> &Runs
         ensures slots { slots_in result.now ≡ self.now }
         ensures kept { IsKept result.now }
     {
         &self.runs
     }
-}
-
-/// The place of the last run, where it serves these flows.
-fn equal_last(runs: &[Run], flows: &[u32]) -> Option<usize>
-    ensures { MatchOption result ((k : ℕ) (r : Run) → k + 1 ≡ length runs.now →
-        (slice_index_or runs.now k r).flows ≢ flows.now)
-        (λ k. (k + 1 ≡ length runs.now) × ((r : Run) → (slice_index_or runs.now k r).flows ≡ flows.now)) }
-{
-    let count = runs.len();
-    if count == 0 {
-        return None;
-    }
-    let last = &runs[count - 1];
-    if last.flows.as_slice() == flows {
-        return Some(count - 1);
-    }
-    None
 }

@@ -1,25 +1,33 @@
 //! Numbers in a schedule that are no flow's.
-ghost use Rattle.std.specs.Prelude.{◌<◌, ◌≤◌, ℕ, All, Contains, MatchOption, length};
+ghost use Rattle.std.specs.Prelude.{◌<◌, ◌≤◌, ℕ, All, Contains, IfOk, MatchOption, length};
 ghost use Rattle.std.specs.List.Sorted.{IsStrictlyIncreasing};
 ghost use Rattle.schedule_model.specs.RunList.{IsKept, NamesFlows, slots_in};
 ghost use Rattle.schedule_model.specs.Fault.{IsFirstNoFlow};
 
-use coflow_units::{Flow, Run};
+use coflow_units::{Flow, NoMemory};
+use run_list::Runs;
+use std::alloc::Global;
 
 /// The first slot with a number that is no flow's, and the least such number in it.
-pub(crate) fn find_stranger(flows: &[Flow], runs: &[Run]) -> Option<(u64, u32)>
+pub(crate) fn find_stranger(
+    alloc: Global,
+    flows: &[Flow],
+    runs: &Runs,
+) -> Result<Option<(u64, u32)>, NoMemory>
     requires { IsKept runs.now }
-    ensures { MatchOption result (NamesFlows (length flows.now) (slots_in runs.now))
-        (λ p. IsFirstNoFlow flows.now (slots_in runs.now) p.0 p.1) }
+    ensures { IfOk result (λ stranger. MatchOption stranger (NamesFlows (length flows.now) (slots_in runs.now))
+        (λ p. IsFirstNoFlow flows.now (slots_in runs.now) p.0 p.1)) }
 {
+    let mut walk = runs.walk(alloc)?;
     let mut slot = 0;
-    for run in runs {
-        if let Some(flow) = first_from(run.flows.as_slice(), flows.len()) {
-            return Some((slot + 1, flow));
+    for place in 0..runs.count() {
+        let slots = walk.enter();
+        if let Some(flow) = first_from(walk.flows(), flows.len()) {
+            return Ok(Some((slot + 1, flow)));
         }
-        slot += run.length;
+        slot += slots;
     }
-    None
+    Ok(None)
 }
 
 /// The first number of the list that is at least the limit.

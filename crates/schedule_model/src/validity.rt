@@ -9,7 +9,8 @@ use crate::counts::find_miscount;
 use crate::fault::ScheduleFault;
 use crate::schedule::Schedule;
 use crate::strangers::find_stranger;
-use coflow_units::{Flow, NoMemory, Run};
+use coflow_units::{Flow, NoMemory};
+use run_list::Runs;
 use std::alloc::Global;
 
 /// Tests whether a schedule is valid for the flows: each number is a flow's, no two flows of a slot share a port, and each flow stands in as many slots as it has units.
@@ -17,7 +18,8 @@ use std::alloc::Global;
 /// It answers the first fault: `NoFlow` before `Clash` before `Units`, then the least slot, then the least flow number or the first port, ingress ports first.
 /// `None` says that the schedule is valid. There are at most 2^32 flows.
 ///
-/// It takes a word of memory for each flow and two for each port number up to the greatest of the flows; `NoMemory` says that these were not to be had.
+/// It takes a word of memory for each flow, two for each port number up to the greatest of the flows, and room for the flows of two runs;
+/// `NoMemory` says that these were not to be had.
 pub fn find_fault(
     alloc: Global,
     flows: &[Flow],
@@ -35,14 +37,14 @@ pub fn find_fault(
 pub fn find_fault_of_runs(
     alloc: Global,
     flows: &[Flow],
-    runs: &[Run],
+    runs: &Runs,
 ) -> Result<Option<ScheduleFault>, NoMemory>
     requires few { length flows.now ≤ 2 ^ 32 }
     requires kept { IsKept runs.now }
     ensures first { IfOk result (λ fault. IsFirstFault flows.now (slots_in runs.now) fault) }
     ensures valid { IfOk result (λ fault. (fault ≡ None) ↔ IsValid flows.now (slots_in runs.now)) }
 {
-    if let Some((slot, flow)) = find_stranger(flows, runs) {
+    if let Some((slot, flow)) = find_stranger(alloc, flows, runs)? {
         return Ok(Some(ScheduleFault::NoFlow { slot, flow }));
     }
     if let Some((slot, port)) = find_clash(alloc, flows, runs)? {

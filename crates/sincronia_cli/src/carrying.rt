@@ -48,7 +48,7 @@ pub fn carry_out<'a, R: Threads + Wait + Sync, H: Shelf, W: Wire + Send, G: Gate
     requires wires { MAX_PORTS < length wires.old.items }
     requires gates { MAX_CLIENTS ≤ length gates.old.items }
     ensures outcome { IfOk result (λ o. IsOutcome (SendsAll W.runs wires.old.items wires.new.items)
-        (H.told shelf.old) (said_by words.entry) (map (λ b. meaning b) bench.old.items) o.status o.text.items) }
+        (H.told shelf.old) (said_by words.entry) (map (λ b. meaning b) bench.old.items) o.status o.text) }
     ensures few { OnOk result (IfSome (H.told shelf.old)
         (PublishesFew (said_by words.entry).job (said_by words.entry))) }
     ensures empty { OnOk result ((trace : List ℕ) → (said_by words.entry).job ≡ compare_job trace →

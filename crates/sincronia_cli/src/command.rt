@@ -38,11 +38,11 @@ ghost use Rattle.command_files.specs.Turns.{FilesInTurn};
 ghost use Rattle.command_files.specs.WeightsCauses.{IsWeightsForm};
 
 use crate::carrying::carry_out;
-use command_files::Status;
+use command_files::{Outcome, Status};
 use command_words::{WordsFault, read_words};
 use live_rounds::Gate;
 use online_check::laws::yes_bounds_released_schedules;
-use outside::{Failed, Shelf, Sink, Wire, write_all};
+use outside::{Shelf, Sink, Wire};
 use rankers::Ranker;
 use std::alloc::Global;
 use std::sync::Wait;
@@ -262,20 +262,14 @@ pub fn sincronia<R: Threads + Wait + Sync, H: Shelf, K: Sink, W: Wire + Send, G:
         Ok(outcome) => outcome,
         Err(status) => return status,
     };
-    let Ok(()) = write_text(out, outcome.text) else {
+    let Outcome { text, status } = outcome;
+    let Ok(writer) = text.writer(alloc) else {
+        return Status::NoMemory;
+    };
+    let Ok(()) = writer.write_to(out) else {
         return Status::WriteFault { count: 1 };
     };
     // what a yes on an online run says of every schedule
     yes_bounds_released_schedules();
-    outcome.status
-}
-
-/// Writes a text, which is let go.
-fn write_text<K: Sink>(out: &mut K, text: Vec<u8>) -> Result<(), Failed>
-    ensures cause { OnErr result (Rose (K.faults out.old) (K.faults out.new)) }
-    ensures once { OnErr result (RoseOnce (K.faults out.old) (K.faults out.new)) }
-    ensures still { OnOk result (K.faults out.new ≡ K.faults out.old) }
-    ensures taken { TakesText (K.taken out.old) (K.taken out.new) text.items result }
-{
-    write_all(out, &text)
+    status
 }

@@ -10,7 +10,8 @@ fn answer(rt: &impl Abort, alloc: Global, bytes: &[u8]) -> String {
     assert!(rt; bytes.len() <= MAX_TEXT);
     match read_live(alloc, bytes) {
         Ok(live) => {
-            let again = had(rt, write_live(alloc, &live));
+            let text = had(rt, write_live(alloc, live));
+            let again = had(rt, text.bytes(alloc));
             assert!(rt; again.as_slice() == bytes);
             had(rt, String::from_str(alloc, "read"))
         }

@@ -6,6 +6,8 @@
 #[cfg(test)]
 mod journals;
 #[cfg(test)]
+mod long_texts;
+#[cfg(test)]
 mod made;
 #[cfg(test)]
 mod numbers;

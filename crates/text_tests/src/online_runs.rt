@@ -11,7 +11,8 @@ fn answer(rt: &impl Abort, alloc: Global, bytes: &[u8]) -> String {
     assert!(rt; bytes.len() <= MAX_TEXT);
     match read_online(alloc, bytes) {
         Ok(online) => {
-            let again = had(rt, write_online(alloc, &online));
+            let text = had(rt, write_online(alloc, online));
+            let again = had(rt, text.bytes(alloc));
             assert!(rt; again.as_slice() == bytes);
             had(rt, String::from_str(alloc, "read"))
         }

@@ -1,8 +1,9 @@
 //! Texts of reports, of both versions.
 ghost use Rattle.report_text.specs.Report.{HasWeights};
 
-use coflow_units::{Items, MAX_TEXT, Port, Run, Side};
+use coflow_units::{Items, MAX_TEXT, Port, Side};
 use report::{PlaceLine, Report, ReportFault, read_report, write_report};
+use run_list::Runs;
 use std::alloc::Global;
 use std::fmt::Debug;
 use std::process::Abort;
@@ -35,19 +36,11 @@ fn greatest_places() -> [PlaceLine; 2] {
 }
 
 /// Slots that are idle, and slots that are not.
-fn greatest_runs(rt: &impl Abort, alloc: Global) -> Items<Run> {
-    let idle = Run {
-        length: 3,
-        flows: Items::from_vec(Vec::new(alloc)),
-    };
-    let busy = Run {
-        length: 2_199_023_255_548,
-        flows: Items::from_vec(had(rt, Vec::from_slice(alloc, &[0, 7]))),
-    };
-    let Ok(runs) = vec![in alloc; idle, busy] else {
-        panic!(rt; "no memory");
-    };
-    Items::from_vec(runs)
+fn greatest_runs(rt: &impl Abort, alloc: Global) -> Runs {
+    let mut runs = Runs::new(alloc);
+    had(rt, runs.push(3, &[]));
+    had(rt, runs.push(2_199_023_255_548, &[0, 7]));
+    runs
 }
 
 /// A report with the greatest numbers.
@@ -85,8 +78,9 @@ end
 #[test]
 fn writes_and_reads_the_greatest_numbers(rt: HostRuntime) {
     let report = greatest(&rt, rt.alloc());
-    let text = had(&rt, write_report(rt.alloc(), &report));
-    assert!(rt; text.as_slice() == GREATEST.as_bytes());
+    let text = had(&rt, write_report(rt.alloc(), report));
+    let bytes = had(&rt, text.bytes(rt.alloc()));
+    assert!(rt; bytes.as_slice() == GREATEST.as_bytes());
     assert!(rt; refused_at(&rt, rt.alloc(), GREATEST) == 0);
 }
 
@@ -95,8 +89,9 @@ fn refused_at(rt: &impl Abort, alloc: Global, text: &str) -> u32 {
     assert!(rt; text.len() <= MAX_TEXT);
     match read_report(alloc, text.as_bytes()) {
         Ok(report) => {
-            let again = had(rt, write_report(alloc, &report));
-            assert!(rt; again.as_slice() == text.as_bytes());
+            let again = had(rt, write_report(alloc, report));
+            let bytes = had(rt, again.bytes(alloc));
+            assert!(rt; bytes.as_slice() == text.as_bytes());
             0
         }
         Err(ReportFault::BadText { line }) => line,

@@ -1,10 +1,14 @@
 //! Rows of tables, each of them a line, and values that were had. A test that finds no memory stops at once.
+ghost use Rattle.std.specs.Prelude.{◌≡◌, Ok};
+
 use std::alloc::Global;
 use std::fmt::Debug;
 use std::process::Abort;
 
 /// The value of an answer.
-pub(crate) fn had<T, E: Debug + Drop>(rt: &impl Abort, answer: Result<T, E>) -> T {
+pub(crate) fn had<T, E: Debug + Drop>(rt: &impl Abort, answer: Result<T, E>) -> T
+    ensures { answer ≡ Ok result }
+{
     match answer {
         Ok(value) => value,
         Err(fault) => panic!(rt; "{fault:?}"),

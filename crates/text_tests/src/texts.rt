@@ -3,10 +3,11 @@ ghost use Rattle.std.specs.Prelude.{All, IsTrue};
 ghost use Rattle.report_text.specs.Compared.{IsName};
 ghost use Rattle.report_text.specs.declared.compared.RowLine.{RowLine};
 
-use coflow_units::{Items, Run};
+use coflow_units::Items;
 use report::{
     ClassText, Compare, Made, Member, RowLine, RowText, write_classes, write_compare, write_made,
 };
+use run_list::Runs;
 use std::process::Abort;
 
 /// The value of an answer that only want of memory can refuse.
@@ -71,18 +72,17 @@ fn texts_of_classes(rt: HostRuntime) {
     for (class_number, id) in [(1, 2), (2, 1)] {
         had(&rt, members.push(Member { class_number, id }));
     }
-    let mut runs = Vec::new(alloc);
-    for (length, flow) in [(1u64, 1u32), (3, 0)] {
-        let flows = Items::from_vec(had(&rt, Vec::from_slice(alloc, &[flow])));
-        had(&rt, runs.push(Run { length, flows }));
-    }
+    let mut runs = Runs::new(alloc);
+    had(&rt, runs.push(1, &[1]));
+    had(&rt, runs.push(3, &[0]));
     let classes = ClassText {
         members: Items::from_vec(members),
         cap: 6,
         cost: 5,
-        runs: Items::from_vec(runs),
+        runs,
     };
-    let text = had(&rt, write_classes(alloc, &classes));
+    let written = had(&rt, write_classes(alloc, classes));
+    let text = had(&rt, written.bytes(alloc));
     let want =
         b"sincronia classes 1\nmember 1 2\nmember 2 1\ncap 6\ncost 5\nrun 1 1\nrun 3 0\nend\n";
     assert!(rt; text.as_slice() == want.as_slice());

@@ -1,4 +1,4 @@
-use Rattle.std.proofs.Common.{◌≡◌, refl, subst}
+use Rattle.std.proofs.Common.{◌≡◌, ◌∙◌, refl, subst}
 use Rattle.command_words.specs.Jobs.Job.{audit_job}
 use Rattle.command_words.specs.Words.{Said, said_with}
 use Rattle.live_text.specs.Reading.{IsBadAt, IsTextOf}
@@ -100,7 +100,7 @@ returns-clause-outcome g c = (
     verdict = c.in_ok-verdict.verdict;
     audited = c.in_ok-verdict.ensures.audit;
     yes_is = refl;
-    text_is = c.in_ok-text.ensures;
+    text_is = c.of_bytes.ensures ∙ c.in_ok-text.ensures;
   },
 )
 

@@ -89,9 +89,9 @@ returns-clause-outcome g c =
         report = report;
         report_is = any_report_before (g.H.Shelf.told c.args.shelf.now) (g.H.Shelf.told c.read_input.new.shelf) c.args.report.now report
             c.read_input.ensures.keeps c.in-Ok.ensures.report;
-        judged = subst
+        judged = rw c.of_bytes.ensures (subst
             (λ (ws : List ℕ). IsJudged (instance_of table ws) (slice_index (arrivals_in table c.args.options.slot_ms)) table.ids report judged.yes judged.line.items)
-            c.as_slice-weights.ensures c.in_ok-judged.ensures.judged;
+            c.as_slice-weights.ensures c.in_ok-judged.ensures.judged);
       },
     )
 

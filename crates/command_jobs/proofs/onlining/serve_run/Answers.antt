@@ -5,7 +5,7 @@ use Rattle.command_jobs.proofs.onlining.serve_run.Goals as goal
 pub returns-clause-text : goal.returns-clause-text
 returns-clause-text g c =
     subst (λ (weights : List ℕ). IfOk c.served_online.result (λ text.
-    (told : TellsOnline c.args.input.now.table weights c.args.options.slot_ms c.args.options.epoch text.items) ×
+    (told : TellsOnline c.args.input.now.table weights c.args.options.slot_ms c.args.options.epoch text) ×
     SendsAll g.W.Wire.runs c.args.wires.now.items c.served_online.new.wires.items c.args.input.now.table told.online)) c.as_slice.ensures c.served_online.ensures.text
 
 pub returns-clause-stops : goal.returns-clause-stops

@@ -19,7 +19,7 @@ returns-clause-text g c =
     c.in_ok-arrivals.arrivals.items c.deref.result.now c.in_ok-arrivals.ensures.arrivals c.in_ok-arrivals.ensures.each c.in_ok-arrivals.ensures.range c.deref.ensures.value
     c.online_runs_are_one.ensures.too_many c.released_is_bound.ensures.total c.released_ordering_is_feasible.ensures
     (SendsAll g.W.Wire.runs c.args.wires.now.items c.serve_online.new.wires.items c.args.table.now)
-    c.in_ok-online.online c.in_ok-text.text.items c.in_ok-online.ensures.online c.in_ok-text.ensures.text c.in_ok-online.ensures.sent
+    c.in_ok-online.online c.in_ok-text.text c.in_ok-online.ensures.online c.in_ok-text.ensures.text c.in_ok-online.ensures.sent
 
 pub returns-clause-sent : goal.returns-clause-sent
 returns-clause-sent g c =

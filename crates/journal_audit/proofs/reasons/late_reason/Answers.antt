@@ -1,4 +1,4 @@
-use Rattle.std.proofs.Common.{◌≡◌, ◌-◌, ◌<◌, ℕ, List, length, nat_eq, sym, ap, ◌∙◌, subst, true}
+use Rattle.std.proofs.Common.{◌≡◌, ◌-◌, ◌<◌, ◌≤◌, ℕ, List, length, nat_eq, sym, ap, ◌∙◌, subst, true}
 use Rattle.std.specs.Prelude.{All, is_some}
 use Rattle.indexmap.specs.IndexMap.{get}
 use Rattle.journal.specs.Closed.{schedule_of}
@@ -7,7 +7,7 @@ use Rattle.journal.specs.Journal.{version_of}
 use Rattle.journal.specs.Runs.{slots_of as run_slots}
 use Rattle.journal.proofs.Sound.{legal_sound}
 use Rattle.live_text.specs.declared.value.PullLine.{PullLine}
-use Rattle.schedule_model.specs.RunList.{IsKept, slots_in}
+use Rattle.schedule_model.specs.RunList.{slots_in}
 use Rattle.journal_audit.specs.Parted.{IsFirstWrongOrder, IsPartedAt}
 use Rattle.journal_audit.specs.Pulls.{HasVersion, IsFirstWrongRank, IsFirstWrongVersion, real_rank}
 use Rattle.journal_audit.specs.Ranks.{AreRanks}
@@ -65,17 +65,18 @@ returns-in-Some-wrong_version c =
     (c.in-Some-wrong_version.ensures o.table.ids c.requires.coflows)))
 
 pub first_parted_slot-requires-clause-stated : goal.first_parted_slot-requires-clause-stated
-first_parted_slot-requires-clause-stated c = subst IsKept (sym c.as_slice-stated.ensures) (live_kept c.args.live.now c.requires.live)
+first_parted_slot-requires-clause-stated c = live_kept c.args.live.now c.requires.live
 
 pub first_parted_slot-requires-clause-real : goal.first_parted_slot-requires-clause-real
 first_parted_slot-requires-clause-real c =
-    told_kept c.args.replayed.now.schedule c.runs-real.result.now c.runs-real.ensures.runs c.runs-real.ensures.ascending c.runs-real.ensures.short
+    told_kept c.args.replayed.now.schedule c.runs.result.now c.runs.ensures.runs c.runs.ensures.ascending c.runs.ensures.short
 
-pub returns-in_err-slot : goal.returns-in_err-slot
-returns-in_err-slot c =
+pub returns-in_default-2 : goal.returns-in_default-2
+returns-in_default-2 c =
     let o = c.args.master.now.opening in
     let journal = c.args.master.now.journal in
-    rw c.from_residual.ensures (record {
+    let same : slots_in c.args.live.now.runs ≡ slots_in c.runs.result.now = rw c.in_default-2.is at c.in_ok-slot.ensures in
+    record {
       known = c.requires.known;
       legal = c.requires.replayed.replay.legal;
       closed = none_is_open (state_of o journal).run (ap is_some (sym c.open_slots.ensures) ∙ sym c.is_some.ensures ∙ c.if-is_some.false);
@@ -85,14 +86,14 @@ returns-in_err-slot c =
       versions = subst (λ (l : List PullLine). (k : ℕ) → k < length l → HasVersion o.table.ids (version_of journal) l k) c.as_slice-pulls.ensures
           (subst (λ (n : ℕ). (k : ℕ) → k < length c.as_slice-pulls.result.now → HasVersion o.table.ids n c.as_slice-pulls.result.now k) c.version-newest.ensures
           (c.in_default-wrong_version.ensures o.table.ids c.requires.coflows));
-      runs = ap slots_in (sym c.as_slice-stated.ensures) ∙ c.in_err-slot.ensures ∙ c.runs-real.ensures.runs.same
-          ∙ replayed_schedule o journal c.args.replayed.now.schedule c.requires.replayed.replay;
-    })
+      runs = same ∙ c.runs.ensures.runs.same ∙ replayed_schedule o journal c.args.replayed.now.schedule c.requires.replayed.replay;
+    }
 
 pub returns : goal.returns
 returns c =
     let o = c.args.master.now.opening in
     let journal = c.args.master.now.journal in
+    let slot = c.in-Some-2.slot in
     let closed = none_is_open (state_of o journal).run (ap is_some (sym c.open_slots.ensures) ∙ sym c.is_some.ensures ∙ c.if-is_some.false) in
     let orders : c.args.live.now.orders ≡ orders_of o journal = sym c.as_slice-orders.ensures ∙ c.in_default.ensures in
     let ranks = subst (All (λ (p : PullLine). p.rank ≡ real_rank o journal p)) c.as_slice-pulls.ensures
@@ -100,12 +101,9 @@ returns c =
     let versions = subst (λ (l : List PullLine). (k : ℕ) → k < length l → HasVersion o.table.ids (version_of journal) l k) c.as_slice-pulls.ensures
     (subst (λ (n : ℕ). (k : ℕ) → k < length c.as_slice-pulls.result.now → HasVersion o.table.ids n c.as_slice-pulls.result.now k) c.version-newest.ensures
     (c.in_default-wrong_version.ensures o.table.ids c.requires.coflows)) in
-    let real : slots_in c.runs-real.result.now ≡ schedule_of o journal = c.runs-real.ensures.runs.same
+    let real : slots_in c.runs.result.now ≡ schedule_of o journal = c.runs.ensures.runs.same
     ∙ replayed_schedule o journal c.args.replayed.now.schedule c.requires.replayed.replay in
-    let parted = c.in_ok-slot.ensures in
-    first_at o c.args.live.now journal (NoRun c.in_ok-slot.slot) c.requires.journal
-    (before_runs o c.args.live.now journal c.requires.known c.requires.replayed.replay.legal closed orders ranks versions) (
-      parted.0,
-      subst (λ (l : List (List ℕ)). IsPartedAt l (schedule_of o journal) (c.in_ok-slot.slot - 1)) (ap slots_in c.as_slice-stated.ensures)
-          (subst (λ (l : List (List ℕ)). IsPartedAt (slots_in c.as_slice-stated.result.now) l (c.in_ok-slot.slot - 1)) real parted.1),
-    )
+    let parted : (1 ≤ slot) × IsPartedAt (slots_in c.args.live.now.runs) (slots_in c.runs.result.now) (slot - 1) = rw c.in-Some-2.is at c.in_ok-slot.ensures in
+    first_at o c.args.live.now journal (NoRun slot) c.requires.journal
+    (before_runs o c.args.live.now journal c.requires.known c.requires.replayed.replay.legal closed orders ranks versions)
+    (parted.0, subst (λ (l : List (List ℕ)). IsPartedAt (slots_in c.args.live.now.runs) l (slot - 1)) real parted.1)

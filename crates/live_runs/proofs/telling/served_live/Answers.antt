@@ -1,4 +1,4 @@
-use Rattle.std.proofs.Common.{◌≡◌, ℕ, ◌≤◌, ◌<◌, Result, Err, ap, arith, refl, subst, sym}
+use Rattle.std.proofs.Common.{◌≡◌, ℕ, Result, Err, ap, arith, refl, subst, sym}
 use Rattle.std.specs.Result.{IsErrAnd}
 use Rattle.live_model.specs.Clause.{IsLiveRun}
 use Rattle.live_runs.specs.Run.{opening_with}

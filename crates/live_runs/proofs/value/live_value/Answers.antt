@@ -1,7 +1,5 @@
-use Rattle.std.proofs.Common.{ℕ, List, map, sym, subst}
-use Rattle.coflow_units.specs.declared.plan.Run.{Run}
+use Rattle.std.proofs.Common.{ℕ, List, map, subst}
 use Rattle.coflow_units.specs.Schedule.{IsRuns}
-use Rattle.journal.specs.Closed.{schedule_of}
 use Rattle.live_model.specs.Printed.{run_of}
 use Rattle.journal_audit.proofs.EntriesAnew.{replayed_schedule}
 use Rattle.live_runs.proofs.FollowingEntries.{plain_by_words}
@@ -14,6 +12,5 @@ pub returns-clause-runs : goal.returns-clause-runs
 returns-clause-runs c =
     let o = c.args.closed.now.opening in
     let journal = c.args.closed.now.journal in
-    subst (λ (runs : List Run). IsRuns (schedule_of o journal) (map run_of runs)) (sym c.from_vec-3.ensures)
-    (subst (λ (slots : List (List ℕ)). IsRuns slots (map run_of c.into_runs.result.items))
-    (replayed_schedule o journal c.in_ok-orders.field-0.schedule c.in_ok-orders.ensures.replay) c.into_runs.ensures.runs)
+    subst (λ (slots : List (List ℕ)). IsRuns slots (map run_of c.into_runs.result))
+    (replayed_schedule o journal c.in_ok-orders.field-0.schedule c.in_ok-orders.ensures.replay) c.into_runs.ensures.runs

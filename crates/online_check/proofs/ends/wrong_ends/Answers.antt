@@ -1,8 +1,9 @@
 use Rattle.std.proofs.Common.{◌≡◌, ℕ, ◌<◌, length, slice_index, ap, sym, subst, ◌∙◌, arith}
 use Rattle.coflow_units.specs.Completion.{completion}
+use Rattle.coflow_units.specs.Schedule.{IsValid}
 use Rattle.flow_table.specs.Table.{instance_of}
-use Rattle.cert_check.proofs.EndFacts.{cost_along, count_of, ends_are, valid_along}
-use Rattle.schedule_model.specs.RunList.{IsKept, slots_in}
+use Rattle.cert_check.proofs.EndFacts.{cost_is, count_of, ends_are}
+use Rattle.schedule_model.specs.RunList.{slots_in}
 use Rattle.schedule_model.proofs.ValidSteps.{valid_names}
 use Rattle.online_check.specs.Done.{ids_done, slots_done}
 use Rattle.online_check.proofs.DoneSteps.{count_slots, done_at, ends_along, runs_kept, told_end}
@@ -11,14 +12,12 @@ use Rattle.online_check.proofs.Verdicts.{slots_listed}
 use Rattle.online_check.proofs.ends.wrong_ends.Goals as goal
 
 pub completions_of_runs-requires-clause-kept : goal.completions_of_runs-requires-clause-kept
-completions_of_runs-requires-clause-kept c = subst IsKept (sym c.as_slice.ensures) (runs_kept c.args.online.now c.requires.online)
+completions_of_runs-requires-clause-kept c = runs_kept c.args.online.now c.requires.online
 
 pub completions_of_runs-requires-clause-names : goal.completions_of_runs-requires-clause-names
 completions_of_runs-requires-clause-names c =
-    let t = c.args.table.now in
-    valid_names c.flows.result.now (slots_in c.as_slice.result.now)
-    (valid_along c.flows.result.now t.flows (slots_in c.as_slice.result.now) (slots_in c.args.online.now.runs) (sym c.flows.ensures.flows) (ap slots_in (sym c.as_slice.ensures))
-    c.requires.valid)
+    let slots = slots_in c.args.online.now.runs in
+    valid_names c.flows.result.now slots (subst (λ l. IsValid l slots) (sym c.flows.ensures.flows) c.requires.valid)
 
 pub first_wrong_end-requires-clause-each : goal.first_wrong_end-requires-clause-each
 first_wrong_end-requires-clause-each c =
@@ -27,9 +26,8 @@ first_wrong_end-requires-clause-each c =
     let done : c.as_slice-done.result.now ≡ o.done = c.as_slice-done.ensures in
     let listed : ids_done o.done ≡ t.ids = ap ids_done (sym done) ∙ c.in_default.ensures in
     let count = slots_listed t.ids o listed in
-    let slots : slots_in c.as_slice.result.now ≡ slots_in o.runs = ap slots_in c.as_slice.ensures in
-    let of = ends_are t.flows c.flows.result.now (slots_in o.runs) (slots_in c.as_slice.result.now) c.in_ok-ends.ends.items c.deref.result.now
-    (length t.ids) c.coflows.result c.flows.ensures.flows slots c.coflows.ensures.coflows c.deref.ensures.value c.in_ok-ends.ensures in
+    let of = ends_are t.flows c.flows.result.now (slots_in o.runs) c.in_ok-ends.ends.items c.deref.result.now
+    (length t.ids) c.coflows.result c.flows.ensures.flows c.coflows.ensures.coflows c.deref.ensures.value c.in_ok-ends.ensures in
     let real = completion t.flows (slots_in o.runs) in
     omega (arith, count_slots o.done, ap length done, count, count_of c.deref.result.now real (length t.ids) of)
 
@@ -37,9 +35,8 @@ pub first_wrong_end-requires-clause-few : goal.first_wrong_end-requires-clause-f
 first_wrong_end-requires-clause-few c =
     let t = c.args.table.now in
     let o = c.args.online.now in
-    let slots : slots_in c.as_slice.result.now ≡ slots_in o.runs = ap slots_in c.as_slice.ensures in
-    let of = ends_are t.flows c.flows.result.now (slots_in o.runs) (slots_in c.as_slice.result.now) c.in_ok-ends.ends.items c.deref.result.now
-    (length t.ids) c.coflows.result c.flows.ensures.flows slots c.coflows.ensures.coflows c.deref.ensures.value c.in_ok-ends.ensures in
+    let of = ends_are t.flows c.flows.result.now (slots_in o.runs) c.in_ok-ends.ends.items c.deref.result.now
+    (length t.ids) c.coflows.result c.flows.ensures.flows c.coflows.ensures.coflows c.deref.ensures.value c.in_ok-ends.ensures in
     let real = completion t.flows (slots_in o.runs) in
     omega (arith, count_of c.deref.result.now real (length t.ids) of, c.coflows.ensures.table.few_coflows)
 
@@ -50,9 +47,8 @@ index-requires c =
     let done : c.as_slice-done.result.now ≡ o.done = c.as_slice-done.ensures in
     let listed : ids_done o.done ≡ t.ids = ap ids_done (sym done) ∙ c.in_default.ensures in
     let count = slots_listed t.ids o listed in
-    let slots : slots_in c.as_slice.result.now ≡ slots_in o.runs = ap slots_in c.as_slice.ensures in
-    let of = ends_are t.flows c.flows.result.now (slots_in o.runs) (slots_in c.as_slice.result.now) c.in_ok-ends.ends.items c.deref.result.now
-    (length t.ids) c.coflows.result c.flows.ensures.flows slots c.coflows.ensures.coflows c.deref.ensures.value c.in_ok-ends.ensures in
+    let of = ends_are t.flows c.flows.result.now (slots_in o.runs) c.in_ok-ends.ends.items c.deref.result.now
+    (length t.ids) c.coflows.result c.flows.ensures.flows c.coflows.ensures.coflows c.deref.ensures.value c.in_ok-ends.ensures in
     let real = completion t.flows (slots_in o.runs) in
     let inside = c.in-Some-first_wrong_end.ensures.line in
     omega (
@@ -73,9 +69,8 @@ returns-in-Some-first_wrong_end c = λ arrival.
     let done : c.as_slice-done.result.now ≡ o.done = c.as_slice-done.ensures in
     let listed : ids_done o.done ≡ t.ids = ap ids_done (sym done) ∙ c.in_default.ensures in
     let count = slots_listed t.ids o listed in
-    let slots : slots_in c.as_slice.result.now ≡ slots_in o.runs = ap slots_in c.as_slice.ensures in
-    let of = ends_are t.flows c.flows.result.now (slots_in o.runs) (slots_in c.as_slice.result.now) c.in_ok-ends.ends.items c.deref.result.now
-    (length t.ids) c.coflows.result c.flows.ensures.flows slots c.coflows.ensures.coflows c.deref.ensures.value c.in_ok-ends.ensures in
+    let of = ends_are t.flows c.flows.result.now (slots_in o.runs) c.in_ok-ends.ends.items c.deref.result.now
+    (length t.ids) c.coflows.result c.flows.ensures.flows c.coflows.ensures.coflows c.deref.ensures.value c.in_ok-ends.ensures in
     let real = completion t.flows (slots_in o.runs) in
     let coflow = c.in-Some-first_wrong_end.coflow in
     let told = told_end o.done c.as_slice-done.result.now c.deref.result.now c.in_ok-ends.ends.items real (length t.ids) coflow c.index.result.now done
@@ -87,9 +82,8 @@ pub cost_of-real-requires-clause-each : goal.cost_of-real-requires-clause-each
 cost_of-real-requires-clause-each c =
     let t = c.args.table.now in
     let o = c.args.online.now in
-    let slots : slots_in c.as_slice.result.now ≡ slots_in o.runs = ap slots_in c.as_slice.ensures in
-    let of = ends_are t.flows c.flows.result.now (slots_in o.runs) (slots_in c.as_slice.result.now) c.in_ok-ends.ends.items c.deref-2.result.now
-    (length t.ids) c.coflows.result c.flows.ensures.flows slots c.coflows.ensures.coflows c.deref-2.ensures.value c.in_ok-ends.ensures in
+    let of = ends_are t.flows c.flows.result.now (slots_in o.runs) c.in_ok-ends.ends.items c.deref-2.result.now
+    (length t.ids) c.coflows.result c.flows.ensures.flows c.coflows.ensures.coflows c.deref-2.ensures.value c.in_ok-ends.ensures in
     let real = completion t.flows (slots_in o.runs) in
     omega (arith, count_of c.deref-2.result.now real (length t.ids) of, c.requires.weight_each)
 
@@ -100,15 +94,15 @@ returns-then-stated-real c = λ arrival.
     let done : c.as_slice-done.result.now ≡ o.done = c.as_slice-done.ensures in
     let listed : ids_done o.done ≡ t.ids = ap ids_done (sym done) ∙ c.in_default.ensures in
     let count = slots_listed t.ids o listed in
-    let slots : slots_in c.as_slice.result.now ≡ slots_in o.runs = ap slots_in c.as_slice.ensures in
-    let of = ends_are t.flows c.flows.result.now (slots_in o.runs) (slots_in c.as_slice.result.now) c.in_ok-ends.ends.items c.deref.result.now
-    (length t.ids) c.coflows.result c.flows.ensures.flows slots c.coflows.ensures.coflows c.deref.ensures.value c.in_ok-ends.ensures in
+    let of = ends_are t.flows c.flows.result.now (slots_in o.runs) c.in_ok-ends.ends.items c.deref.result.now
+    (length t.ids) c.coflows.result c.flows.ensures.flows c.coflows.ensures.coflows c.deref.ensures.value c.in_ok-ends.ensures in
     let real = completion t.flows (slots_in o.runs) in
     let ends = ends_along (slots_done o.done) c.deref.result.now real (length t.ids) of
     (subst (λ l. (k : ℕ) → k < length c.deref.result.now → slice_index (slots_done l) k ≡ slice_index c.deref.result.now k) done c.in_default-first_wrong_end.ensures) in
-    let lent = ends_are t.flows c.flows.result.now (slots_in o.runs) (slots_in c.as_slice.result.now) c.in_ok-ends.ends.items c.deref-2.result.now
-    (length t.ids) c.coflows.result c.flows.ensures.flows slots c.coflows.ensures.coflows c.deref-2.ensures.value c.in_ok-ends.ensures in
-    let value = c.cost_of-real.ensures ∙ cost_along c.args.weights.now c.deref-2.result.now real (length t.ids) lent c.requires.weight_each in
+    let lent = ends_are t.flows c.flows.result.now (slots_in o.runs) c.in_ok-ends.ends.items c.deref-2.result.now
+    (length t.ids) c.coflows.result c.flows.ensures.flows c.coflows.ensures.coflows c.deref-2.ensures.value c.in_ok-ends.ensures in
+    let value = cost_is t.flows (slots_in o.runs) c.args.weights.now c.deref-2.result.now (length t.ids) c.cost_of-real.result lent c.requires.weight_each
+    (c.cost_of-real.ensures.cost t.flows (slots_in o.runs)) in
     first_wrong_cost (instance_of t c.args.weights.now) arrival t.ids o c.cost_of-real.result listed count ends value c.if-stated-real.true
 
 pub returns : goal.returns
@@ -118,13 +112,13 @@ returns c = λ arrival.
     let done : c.as_slice-done.result.now ≡ o.done = c.as_slice-done.ensures in
     let listed : ids_done o.done ≡ t.ids = ap ids_done (sym done) ∙ c.in_default.ensures in
     let count = slots_listed t.ids o listed in
-    let slots : slots_in c.as_slice.result.now ≡ slots_in o.runs = ap slots_in c.as_slice.ensures in
-    let of = ends_are t.flows c.flows.result.now (slots_in o.runs) (slots_in c.as_slice.result.now) c.in_ok-ends.ends.items c.deref.result.now
-    (length t.ids) c.coflows.result c.flows.ensures.flows slots c.coflows.ensures.coflows c.deref.ensures.value c.in_ok-ends.ensures in
+    let of = ends_are t.flows c.flows.result.now (slots_in o.runs) c.in_ok-ends.ends.items c.deref.result.now
+    (length t.ids) c.coflows.result c.flows.ensures.flows c.coflows.ensures.coflows c.deref.ensures.value c.in_ok-ends.ensures in
     let real = completion t.flows (slots_in o.runs) in
     let ends = ends_along (slots_done o.done) c.deref.result.now real (length t.ids) of
     (subst (λ l. (k : ℕ) → k < length c.deref.result.now → slice_index (slots_done l) k ≡ slice_index c.deref.result.now k) done c.in_default-first_wrong_end.ensures) in
-    let lent = ends_are t.flows c.flows.result.now (slots_in o.runs) (slots_in c.as_slice.result.now) c.in_ok-ends.ends.items c.deref-2.result.now
-    (length t.ids) c.coflows.result c.flows.ensures.flows slots c.coflows.ensures.coflows c.deref-2.ensures.value c.in_ok-ends.ensures in
-    let value = c.cost_of-real.ensures ∙ cost_along c.args.weights.now c.deref-2.result.now real (length t.ids) lent c.requires.weight_each in
+    let lent = ends_are t.flows c.flows.result.now (slots_in o.runs) c.in_ok-ends.ends.items c.deref-2.result.now
+    (length t.ids) c.coflows.result c.flows.ensures.flows c.coflows.ensures.coflows c.deref-2.ensures.value c.in_ok-ends.ensures in
+    let value = cost_is t.flows (slots_in o.runs) c.args.weights.now c.deref-2.result.now (length t.ids) c.cost_of-real.result lent c.requires.weight_each
+    (c.cost_of-real.ensures.cost t.flows (slots_in o.runs)) in
     record { listed = listed; ends = ends; cost_is = c.if-stated-real.false ∙ value }

@@ -1,8 +1,6 @@
 use Rattle.std.proofs.Common.{◌≡◌, ◌++◌, List, [], map, subst}
 use Rattle.std.specs.Prelude.{codes}
 use Rattle.std.specs.List.{flat_map}
-use Rattle.coflow_units.specs.declared.plan.Run.{Run}
-use Rattle.report_text.specs.Text.{run_line}
 use Rattle.coflow_units.specs.Text.{text_of}
 use Rattle.online_text.specs.declared.value.DoneLine.{DoneLine}
 use Rattle.online_text.specs.declared.value.Epoch.{Epoch}
@@ -13,8 +11,8 @@ use Rattle.online_text.proofs.writing.write_online.Goals as goal
 
 pub returns : goal.returns
 returns c =
-    let o = c.args.online.now in
-    let first : c.extend_from_slice.new.self.items ≡ [] ++ codes "sincronia online 2\n" = rw c.new-text.ensures.items at c.in_ok-extend_from_slice.ensures.items in
+    let o = c.args.online in
+    let first : c.extend_from_slice.new.self.items ≡ [] ++ codes "sincronia online 2\n" = rw c.new-head.ensures.items at c.in_ok-extend_from_slice.ensures.items in
     let epochs : c.push_epochs.new.text.items ≡ c.extend_from_slice.new.self.items ++ text_of (flat_map epoch_lines o.epochs) =
     subst (λ (es : List Epoch). c.push_epochs.new.text.items ≡ c.extend_from_slice.new.self.items ++ text_of (flat_map epoch_lines es)) c.as_slice.ensures
     c.in_ok-push_epochs.ensures in
@@ -23,10 +21,7 @@ returns c =
     let release : c.push_certificate.new.text.items ≡ c.push_named.new.text.items ++ text_of (certificate_lines o.release) =
     subst (λ (rs : List ReleaseLine). c.push_certificate.new.text.items ≡ c.push_named.new.text.items ++ text_of (certificate_lines rs)) c.as_slice-3.ensures
     c.in_ok-push_certificate.ensures in
-    let runs : c.push_served.new.text.items ≡ c.push_named-2.new.text.items ++ text_of (map run_line o.runs) =
-    subst (λ (rs : List Run). c.push_served.new.text.items ≡ c.push_named-2.new.text.items ++ text_of (map run_line rs)) c.as_slice-4.ensures c.in_ok-push_served.ensures in
     record {
       text = whole o c.extend_from_slice.new.self.items c.push_epochs.new.text.items c.push_done.new.text.items c.push_named.new.text.items c.push_certificate.new.text.items
-          c.push_named-2.new.text.items c.push_served.new.text.items c.extend_from_slice-2.new.self.items
-          first epochs done c.in_ok-push_named.ensures release c.in_ok-push_named-2.ensures runs c.in_ok-extend_from_slice-2.ensures.items;
+          c.push_named-2.new.text.items c.with_runs.result first epochs done c.in_ok-push_named.ensures release c.in_ok-push_named-2.ensures c.with_runs.ensures;
     }

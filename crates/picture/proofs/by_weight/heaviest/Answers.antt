@@ -1,7 +1,7 @@
-use Rattle.std.proofs.Common.{◌≡◌, subst, sym, ap, ◌∙◌, ◌++◌, ◌+◌, [], ◌∷◌, Some, None, length, arith}
+use Rattle.std.proofs.Common.{◌≡◌, subst, sym, ◌+◌, Some, None, length, arith}
 use Rattle.picture.specs.Heaviest.{IsNext}
 use Rattle.picture.specs.declared.value.TheConstants.{LEGEND}
-use Rattle.picture.proofs.WeightSteps.{HeavySoFar, all_chosen, full, heavy_grows, none_so_far}
+use Rattle.picture.proofs.WeightSteps.{HeavySoFar, all_chosen, full, heavy_grows}
 use Rattle.picture.proofs.by_weight.heaviest.Goals as goal
 
 pub returns-in_default : goal.returns-in_default

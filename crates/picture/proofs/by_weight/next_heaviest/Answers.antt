@@ -1,5 +1,4 @@
 use Rattle.std.proofs.Common.{◌≡◌, true, sym, ◌∙◌}
-use Rattle.std.proofs.Common.{Contains}
 use Rattle.coflow_units.proofs.Sums.{any_has, any_in}
 use Rattle.picture.proofs.WeightSteps.{next_goes_on, next_skips}
 use Rattle.picture.proofs.by_weight.next_heaviest.Goals as goal

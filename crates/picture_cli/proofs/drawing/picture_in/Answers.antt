@@ -1,7 +1,6 @@
 use Rattle.std.proofs.Common.{◌≡◌, ◌≤◌, ◌∙◌, ℕ, List, length, min, refl, ap, sym, subst, arith}
-use Rattle.coflow_units.specs.declared.plan.Run.{Run}
 use Rattle.cert_check.proofs.SlotSteps.{runs_kept}
-use Rattle.schedule_model.specs.RunList.{IsKept, slots_in}
+use Rattle.schedule_model.specs.RunList.{slots_in}
 use Rattle.picture.specs.declared.value.Bar.{Bar}
 use Rattle.picture.specs.declared.value.TheConstants.{MAX_BARS}
 use Rattle.picture.specs.Bars.{bar_count}
@@ -11,42 +10,38 @@ use Rattle.picture_cli.proofs.PictureFacts.{bars_along, bars_inside, clear_along
 use Rattle.picture_cli.proofs.drawing.picture_in.Goals as goal
 
 pub window_in-window-requires : goal.window_in-window-requires
-window_in-window-requires c =
-    subst (λ (rs : List Run). length (slots_in rs) ≤ 2199023255551) (sym c.as_slice-runs.ensures) (slots_short c.args.report.now c.requires.report)
+window_in-window-requires c = slots_short c.args.report.now c.requires.report
 
 pub bars_of-requires-clause-clear : goal.bars_of-requires-clause-clear
 bars_of-requires-clause-clear c =
-    clear_along c.args.input.now.table.flows c.flows.result.now c.args.report.now.runs c.as_slice-runs.result.now c.flows.ensures.flows c.as_slice-runs.ensures
-    c.requires.right.valid.clear
+    clear_along c.args.input.now.table.flows c.flows.result.now (slots_in c.args.report.now.runs) c.flows.ensures.flows c.requires.right.valid.clear
 
 pub bars_of-requires-clause-short : goal.bars_of-requires-clause-short
-bars_of-requires-clause-short c =
-    subst (λ (rs : List Run). length (slots_in rs) ≤ 2199023255551) (sym c.as_slice-runs.ensures) (slots_short c.args.report.now c.requires.report)
+bars_of-requires-clause-short c = slots_short c.args.report.now c.requires.report
 
 pub completions_of_runs-requires-clause-kept : goal.completions_of_runs-requires-clause-kept
-completions_of_runs-requires-clause-kept c = subst (λ (rs : List Run). IsKept rs) (sym c.as_slice-runs.ensures) (runs_kept c.args.report.now c.requires.report)
+completions_of_runs-requires-clause-kept c = runs_kept c.args.report.now c.requires.report
 
 pub completions_of_runs-requires-clause-names : goal.completions_of_runs-requires-clause-names
 completions_of_runs-requires-clause-names c =
-    names_along c.args.input.now.table.flows c.flows-2.result.now c.args.report.now.runs c.as_slice-runs.result.now c.flows-2.ensures.flows c.as_slice-runs.ensures
+    names_along c.args.input.now.table.flows c.flows-2.result.now (slots_in c.args.report.now.runs) c.flows-2.ensures.flows
     (names_flows c.args.input.now.table c.args.input.now.weights c.args.report.now c.requires.right)
 
 pub returns-clause-shows : goal.returns-clause-shows
 returns-clause-shows c =
     let table = c.args.input.now.table in
-    let runs = c.args.report.now.runs in
+    let slots = slots_in c.args.report.now.runs in
     let said = said_by c.args.words in
-    let lent = c.as_slice-runs.result.now in
     record {
-      window_is = window_same c.window_in-window.result said.side said.from (min said.to (length (slots_in runs))) c.window_in-window.ensures.side c.window_in-window.ensures.first
-          (c.window_in-window.ensures.last ∙ ap (λ (rs : List Run). min said.to (length (slots_in rs))) c.as_slice-runs.ensures);
+      window_is = window_same c.window_in-window.result said.side said.from (min said.to (length slots)) c.window_in-window.ensures.side c.window_in-window.ensures.first
+          c.window_in-window.ensures.last;
       some = omega arith;
-      bars = bars_along table.flows c.flows.result.now runs lent table.ports c.ports.result c.window_in-window.result c.in_ok-rows.rows.items c.from_vec.result
-          c.flows.ensures.flows c.as_slice-runs.ensures c.ports.ensures.ports c.from_vec.ensures c.in_ok-rows.ensures.bars;
+      bars = bars_along table.flows c.flows.result.now slots table.ports c.ports.result c.window_in-window.result c.in_ok-rows.rows.items c.from_vec.result
+          c.flows.ensures.flows c.ports.ensures.ports c.from_vec.ensures c.in_ok-rows.ensures.bars;
       few = subst (λ (xs : List (List Bar)). bar_count xs ≤ MAX_BARS) (sym c.from_vec.ensures) c.in_ok-rows.ensures.few;
-      curve = curve_along table.flows c.flows-2.result.now runs lent c.in_ok-ends.ends.items c.deref.result.now (length table.ids) c.coflows.result c.in_ok-steps.steps.items
+      curve = curve_along table.flows c.flows-2.result.now slots c.in_ok-ends.ends.items c.deref.result.now (length table.ids) c.coflows.result c.in_ok-steps.steps.items
           c.from_vec-2.result
-          c.flows-2.ensures.flows c.as_slice-runs.ensures c.coflows.ensures.coflows c.deref.ensures.value c.in_ok-ends.ensures c.from_vec-2.ensures c.in_ok-steps.ensures;
+          c.flows-2.ensures.flows c.coflows.ensures.coflows c.deref.ensures.value c.in_ok-ends.ensures c.from_vec-2.ensures c.in_ok-steps.ensures;
       ids_are = c.in_ok-ids.ensures;
       weights_are = c.in_ok-weights.ensures ∙ c.as_slice.ensures;
       heaviest = subst (IsHeaviest c.args.input.now.weights) (sym c.from_vec-3.ensures)
@@ -59,8 +54,7 @@ pub returns-clause-drawable : goal.returns-clause-drawable
 returns-clause-drawable c =
     let table = c.args.input.now.table in
     let short = slots_short c.args.report.now c.requires.report in
-    let last : c.window_in-window.result.last ≡ min c.args.words.to (length (slots_in c.args.report.now.runs)) =
-    c.window_in-window.ensures.last ∙ ap (λ (rs : List Run). min c.args.words.to (length (slots_in rs))) c.as_slice-runs.ensures in
+    let last : c.window_in-window.result.last ≡ min c.args.words.to (length (slots_in c.args.report.now.runs)) = c.window_in-window.ensures.last in
     let rows : length c.from_vec.result ≡ table.ports = ap (λ (xs : List (List Bar)). length xs) c.from_vec.ensures ∙ c.in_ok-rows.ensures.bars.row_each ∙ c.ports.ensures.ports in
     let heavy : length c.from_vec-3.result ≡ length c.in_ok-heavy.heavy.items = ap (λ (xs : List ℕ). length xs) c.from_vec-3.ensures in
     record {
@@ -69,7 +63,7 @@ returns-clause-drawable c =
       short = omega (arith, last, short);
       has_ports = omega (arith, rows, c.ports.ensures.table.has_ports);
       few_ports = omega (arith, rows, c.ports.ensures.table.few_ports);
-      inside = bars_inside c.flows.result.now (slots_in c.as_slice-runs.result.now) c.ports.result c.window_in-window.result c.in_ok-rows.rows.items c.from_vec.result
+      inside = bars_inside c.flows.result.now (slots_in c.args.report.now.runs) c.ports.result c.window_in-window.result c.in_ok-rows.rows.items c.from_vec.result
           c.from_vec.ensures c.in_ok-rows.ensures.bars;
       few_coflows = omega (arith, heavy, c.in_ok-heavy.ensures.few);
       small_cost = cost_small table c.args.input.now.weights c.args.report.now c.ports.ensures.table c.requires.report c.requires.weights c.requires.right;

@@ -5,12 +5,14 @@ use Rattle.coflow_units.specs.Schedule.{IsClear}
 use Rattle.schedule_model.specs.RunList.{slots_in}
 use Rattle.schedule_model.proofs.clashes.find_clash.Given as goal
 
-abbrev pub invariant-loop-run : goal.invariant-loop-run
-invariant-loop-run l = record {
-  slot_is : l.slot ≡ length (slots_in (take l.run-index l.runs));
+abbrev pub invariant-loop-place : goal.invariant-loop-place
+invariant-loop-place l = record {
+  walk_runs : l.walk.runs ≡ l.runs;
+  walk_place : l.walk.entered ≡ l.place;
+  slot_is : l.slot ≡ length (slots_in (take l.place l.runs));
   ingress_count : length l.ingress.items ≡ l.ports;
   egress_count : length l.egress.items ≡ l.ports;
   ingress_marks : All (λ m. m ≤ l.slot) l.ingress.items;
   egress_marks : All (λ m. m ≤ l.slot) l.egress.items;
-  clear : All (IsClear l.flows) (slots_in (take l.run-index l.runs));
+  clear : All (IsClear l.flows) (slots_in (take l.place l.runs));
 }

@@ -4,8 +4,10 @@ use Rattle.coflow_units.specs.Schedule.{times}
 use Rattle.schedule_model.specs.RunList.{slots_in}
 use Rattle.schedule_model.proofs.counts.find_miscount.Given as goal
 
-abbrev pub invariant-loop-run : goal.invariant-loop-run
-invariant-loop-run l = record {
+abbrev pub invariant-loop-place : goal.invariant-loop-place
+invariant-loop-place l = record {
+  walk_runs : l.walk.runs ≡ l.runs;
+  walk_place : l.walk.entered ≡ l.place;
   count : length l.counts.items ≡ length l.flows;
-  times_are : (f : ℕ) → get_or l.counts.items f 0 ≡ times (slots_in (take l.run-index l.runs)) f;
+  times_are : (f : ℕ) → get_or l.counts.items f 0 ≡ times (slots_in (take l.place l.runs)) f;
 }

@@ -1,7 +1,6 @@
 use Rattle.std.proofs.Common.{◌≡◌, map, subst}
 use Rattle.std.specs.List.{range_with_len}
 use Rattle.coflow_units.specs.Completion.{completion}
-use Rattle.schedule_model.specs.RunList.{NamesFlows}
 use Rattle.schedule_model.proofs.ends.completions.Goals as goal
 
 pub completions_of_runs-requires-clause-names : goal.completions_of_runs-requires-clause-names

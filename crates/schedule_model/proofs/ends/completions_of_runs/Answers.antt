@@ -1,4 +1,4 @@
-use Rattle.std.proofs.Common.{◌≡◌, ◌+◌, ◌∙◌, length, arith, ap}
+use Rattle.std.proofs.Common.{◌≡◌, ◌∙◌, length, arith}
 use Rattle.coflow_units.specs.Completion.{completion}
 use Rattle.schedule_model.specs.RunList.{slots_in}
 use Rattle.schedule_model.proofs.CostSums.{by_place}
@@ -10,4 +10,4 @@ returns c =
     let count : length c.fill_ends.new.ends ≡ c.args.coflows = c.fill_ends.auto.ends ∙ c.deref_mut.ensures.len ∙ c.in_ok-ends.ensures.len in
     refill c.fill_ends.new.ends c.in_ok-ends.ends.items c.in_ok-ends.ends.len (c.fill_ends.auto.ends ∙ c.deref_mut.ensures.len)
     ∙ by_place (λ x. completion c.args.flows.now (slots_in c.args.runs.now) x) c.fill_ends.new.ends c.args.coflows count
-    (λ k lt. c.fill_ends.ensures k (omega (arith, lt, count, c.fill_ends.auto.ends)))
+    (λ k lt. c.in_ok-fill_ends.ensures k (omega (arith, lt, count, c.fill_ends.auto.ends)))

@@ -1,39 +1,48 @@
-use Rattle.std.proofs.Common.{◌+◌, ◌<◌, ◌∙◌, ℕ, List, cond, length, get_or, take, arith, ap, sym, subst}
+use Rattle.std.proofs.Common.{◌+◌, ◌<◌, ◌∙◌, ℕ, cond, length, get_or, take, arith, ap, sym}
 use Rattle.std.specs.Prelude.{All}
 use Rattle.coflow_units.specs.Completion.{holds_coflow}
+use Rattle.run_list.specs.Runs.{run_of}
 use Rattle.schedule_model.specs.RunList.{slots_in}
-use Rattle.schedule_model.proofs.RunSlots.{run_count, run_fits, run_holds}
+use Rattle.schedule_model.proofs.RunSlots.{entered_fits, entered_run, run_count, run_holds}
 use Rattle.schedule_model.proofs.LastSlots.{completion_more}
 use Rattle.schedule_model.proofs.ends.fill_ends.Goals as goal
 
 pub overflow_add-slot : goal.overflow_add-slot
-overflow_add-slot c = omega (
-  arith,
-  c.loop-run.invariant.slot_is,
-  run_fits c.args.runs.now c.loop-run.run-index c.run-item.result c.requires.kept c.loop-run-test.true
-      c.run-item.is,
-)
+overflow_add-slot c =
+    omega (
+      arith,
+      c.loop-place.invariant.slot_is,
+      entered_fits c.args.runs.now c.loop-place.place c.enter-slot.result c.loop-place.walk c.requires.kept (omega arith) c.loop-place.invariant.walk_runs
+          c.loop-place.invariant.walk_place c.enter-slot.ensures.slots,
+    )
 
 pub mark_ends-requires : goal.mark_ends-requires
 mark_ends-requires c =
-    subst (All (λ f. f < length c.args.flows.now)) (sym c.as_slice.ensures)
-    (run_holds (All (λ f. f < length c.args.flows.now)) c.args.runs.now c.loop-run.run-index c.run-item.result c.requires.kept c.loop-run-test.true c.run-item.is c.requires.names)
+    let runs = c.args.runs.now in
+    let k = c.loop-place.place in
+    let r = run_of c.enter-slot.result c.flows.result.now in
+    let is = entered_run runs k c.enter-slot.result c.flows.result.now c.loop-place.walk c.enter-slot.new.self c.loop-place.invariant.walk_runs c.loop-place.invariant.walk_place
+    c.enter-slot.ensures.runs c.enter-slot.ensures.entered c.enter-slot.ensures.slots c.flows.ensures.flows in
+    run_holds (All (λ f. f < length c.args.flows.now)) runs k r c.requires.kept (omega arith) is c.requires.names
 
-pub loop-run-preserved : goal.loop-run-preserved
-loop-run-preserved c =
+pub loop-place-preserved : goal.loop-place-preserved
+loop-place-preserved c =
     let flows = c.args.flows.now in
     let runs = c.args.runs.now in
-    let k = c.loop-run.run-index in
-    let r = c.run-item.result in
-    let from = c.args.from in
+    let k = c.loop-place.place in
+    let r = run_of c.enter-slot.result c.flows.result.now in
+    let lt : k < length runs = omega arith in
+    let is = entered_run runs k c.enter-slot.result c.flows.result.now c.loop-place.walk c.enter-slot.new.self c.loop-place.invariant.walk_runs c.loop-place.invariant.walk_place
+    c.enter-slot.ensures.runs c.enter-slot.ensures.entered c.enter-slot.ensures.slots c.flows.ensures.flows in
     let before = slots_in (take k runs) in
     record {
-      slot_is = ap (λ n. n + r.length) c.loop-run.invariant.slot_is ∙ sym (run_count runs k r c.loop-run-test.true c.run-item.is);
-      ends_are = λ j lt.
-          let in' : j < length c.loop-run.ends = omega (arith, lt, c.mark_ends.auto.ends) in
-          c.mark_ends.ensures j in'
-          ∙ ap (λ (h : List ℕ). cond (holds_coflow flows h (from + j)) (c.loop-run.slot + r.length) (get_or c.loop-run.ends j 0)) c.as_slice.ensures
-          ∙ ap (λ (n : ℕ). cond (holds_coflow flows r.flows (from + j)) (n + r.length) (get_or c.loop-run.ends j 0)) c.loop-run.invariant.slot_is
-          ∙ ap (λ (n : ℕ). cond (holds_coflow flows r.flows (from + j)) (length before + r.length) n) (c.loop-run.invariant.ends_are j in')
-          ∙ sym (completion_more flows runs k r (from + j) c.requires.kept c.loop-run-test.true c.run-item.is);
+      walk_runs = c.enter-slot.ensures.runs ∙ c.loop-place.invariant.walk_runs;
+      walk_place = omega arith;
+      slot_is = ap (λ n. n + r.length) c.loop-place.invariant.slot_is ∙ sym (run_count runs k r lt is);
+      ends_are = λ j in'.
+          let here : j < length c.loop-place.ends = omega (arith, in', c.mark_ends.auto.ends) in
+          c.mark_ends.ensures j here
+          ∙ ap (λ (n : ℕ). cond (holds_coflow flows r.flows j) (n + r.length) (get_or c.loop-place.ends j 0)) c.loop-place.invariant.slot_is
+          ∙ ap (λ (n : ℕ). cond (holds_coflow flows r.flows j) (length before + r.length) n) (c.loop-place.invariant.ends_are j here)
+          ∙ sym (completion_more flows runs k r j c.requires.kept lt is);
     }

@@ -3,7 +3,7 @@ use Rattle.std.specs.Prelude.{map}
 use Rattle.command_words.specs.Jobs.Job.{compare_job}
 use Rattle.command_words.specs.Line.{texts}
 use Rattle.command_words.specs.Words.{Said, said_by}
-use Rattle.command_files.specs.declared.status.Status.TheVariants.{WriteFault}
+use Rattle.command_files.specs.declared.status.Status.TheVariants.{NoMemory, WriteFault}
 use Rattle.hall_plan.specs.Sent.{SendsAll}
 use Rattle.sincronia_cli.specs.Outcome.{HasText}
 use Rattle.command_jobs.specs.Serving.{Sends, Stops}
@@ -42,32 +42,32 @@ pub returns-clause-plan : goal.returns-clause-plan
 returns-clause-plan g c = λ said trace is e.
     plan_written _ (SendsAll g.W.Wire.runs c.args.wires.now.items c.carry_out.new.wires.items) (texts c.args.words.now) (said_by c.in-Ok.words) said
     (g.H.Shelf.told c.args.shelf.now)
-    (map (λ b. (goal.Ranker-dyn g (b.vtable, b.value)).meaning b.value) c.args.bench.now.items) c.in-Ok-carry_out.outcome.status c.in-Ok-carry_out.outcome.text.items
-    c.in-Ok-carry_out.outcome.text.items (g.K.Sink.taken c.args.out.now) (g.K.Sink.taken c.write_text.new.out) c.in-Ok-write_text.field-0 trace
-    c.in-Ok.ensures.said is c.in-Ok-carry_out.ensures.outcome refl c.in-Ok-write_text.ensures.taken
+    (map (λ b. (goal.Ranker-dyn g (b.vtable, b.value)).meaning b.value) c.args.bench.now.items) c.in-Ok-carry_out.outcome.status c.in-Ok-carry_out.outcome.text
+    c.in-Ok-writer.writer (g.K.Sink.taken c.args.out.now) (g.K.Sink.taken c.write_to.new.sink) c.in-Ok-write_to.field-0 trace
+    c.in-Ok.ensures.said is c.in-Ok-carry_out.ensures.outcome c.in-Ok-writer.ensures c.in-Ok-write_to.ensures.taken
 
 pub returns-clause-online : goal.returns-clause-online
 returns-clause-online g c = λ said trace is e.
     online_written _ (SendsAll g.W.Wire.runs c.args.wires.now.items c.carry_out.new.wires.items) (texts c.args.words.now) (said_by c.in-Ok.words) said
     (g.H.Shelf.told c.args.shelf.now)
-    (map (λ b. (goal.Ranker-dyn g (b.vtable, b.value)).meaning b.value) c.args.bench.now.items) c.in-Ok-carry_out.outcome.status c.in-Ok-carry_out.outcome.text.items
-    c.in-Ok-carry_out.outcome.text.items (g.K.Sink.taken c.args.out.now) (g.K.Sink.taken c.write_text.new.out) c.in-Ok-write_text.field-0 trace
-    c.in-Ok.ensures.said is c.in-Ok-carry_out.ensures.outcome refl c.in-Ok-write_text.ensures.taken
+    (map (λ b. (goal.Ranker-dyn g (b.vtable, b.value)).meaning b.value) c.args.bench.now.items) c.in-Ok-carry_out.outcome.status c.in-Ok-carry_out.outcome.text
+    c.in-Ok-writer.writer (g.K.Sink.taken c.args.out.now) (g.K.Sink.taken c.write_to.new.sink) c.in-Ok-write_to.field-0 trace
+    c.in-Ok.ensures.said is c.in-Ok-carry_out.ensures.outcome c.in-Ok-writer.ensures c.in-Ok-write_to.ensures.taken
 
 pub returns-clause-live : goal.returns-clause-live
 returns-clause-live g c = λ said trace script is e.
     live_written _ (SendsAll g.W.Wire.runs c.args.wires.now.items c.carry_out.new.wires.items) (texts c.args.words.now) (said_by c.in-Ok.words) said
     (g.H.Shelf.told c.args.shelf.now)
-    (map (λ b. (goal.Ranker-dyn g (b.vtable, b.value)).meaning b.value) c.args.bench.now.items) c.in-Ok-carry_out.outcome.status c.in-Ok-carry_out.outcome.text.items
-    c.in-Ok-carry_out.outcome.text.items (g.K.Sink.taken c.args.out.now) (g.K.Sink.taken c.write_text.new.out) c.in-Ok-write_text.field-0 trace script
-    c.in-Ok.ensures.said is c.in-Ok-carry_out.ensures.outcome refl c.in-Ok-write_text.ensures.taken
+    (map (λ b. (goal.Ranker-dyn g (b.vtable, b.value)).meaning b.value) c.args.bench.now.items) c.in-Ok-carry_out.outcome.status c.in-Ok-carry_out.outcome.text
+    c.in-Ok-writer.writer (g.K.Sink.taken c.args.out.now) (g.K.Sink.taken c.write_to.new.sink) c.in-Ok-write_to.field-0 trace script
+    c.in-Ok.ensures.said is c.in-Ok-carry_out.ensures.outcome c.in-Ok-writer.ensures c.in-Ok-write_to.ensures.taken
 
 pub returns-in-Err-clause-gates : goal.returns-in-Err-clause-gates
 returns-in-Err-clause-gates g c = λ no.
     c.carry_out.ensures.gates (λ trace script e. no (said_by c.in-Ok.words) trace script (record { words_say = c.in-Ok.ensures.said; job_is = e }))
 
-pub returns-in_default-clause-gates : goal.returns-in_default-clause-gates
-returns-in_default-clause-gates g c = λ no.
+pub returns-in_default-write_to-clause-gates : goal.returns-in_default-write_to-clause-gates
+returns-in_default-write_to-clause-gates g c = λ no.
     c.carry_out.ensures.gates (λ trace script e. no (said_by c.in-Ok.words) trace script (record { words_say = c.in-Ok.ensures.said; job_is = e }))
 
 pub returns-clause-gates : goal.returns-clause-gates
@@ -80,8 +80,8 @@ returns-in-Err-clause-few g c = λ said is text.
     (g.H.Shelf.faults c.args.shelf.now) (g.H.Shelf.faults c.carry_out.new.shelf) (g.H.Shelf.told c.args.shelf.now)
     (g.H.Shelf.told c.carry_out.new.shelf) (said_by c.in-Ok.words) c.in-Err.status c.in-Err.ensures.cause text)
 
-pub returns-in_default-clause-few : goal.returns-in_default-clause-few
-returns-in_default-clause-few g c = λ said is text.
+pub returns-in_default-write_to-clause-few : goal.returns-in_default-write_to-clause-few
+returns-in_default-write_to-clause-few g c = λ said is text.
     few_for (texts c.args.words.now) (said_by c.in-Ok.words) said (g.H.Shelf.told c.args.shelf.now) c.in-Ok.ensures.said is c.in-Ok-carry_out.ensures.few
 
 pub returns-clause-few : goal.returns-clause-few
@@ -99,26 +99,26 @@ pub returns-clause-yes : goal.returns-clause-yes
 returns-clause-yes g c = λ said trace report is e.
     yes_written _ (SendsAll g.W.Wire.runs c.args.wires.now.items c.carry_out.new.wires.items) (texts c.args.words.now) (said_by c.in-Ok.words) said
     (g.H.Shelf.told c.args.shelf.now)
-    (map (λ b. (goal.Ranker-dyn g (b.vtable, b.value)).meaning b.value) c.args.bench.now.items) c.in-Ok-carry_out.outcome.status c.in-Ok-carry_out.outcome.text.items
-    c.in-Ok-carry_out.outcome.text.items (g.K.Sink.taken c.args.out.now) (g.K.Sink.taken c.write_text.new.out) c.in-Ok-write_text.field-0
+    (map (λ b. (goal.Ranker-dyn g (b.vtable, b.value)).meaning b.value) c.args.bench.now.items) c.in-Ok-carry_out.outcome.status c.in-Ok-carry_out.outcome.text
+    c.in-Ok-writer.writer (g.K.Sink.taken c.args.out.now) (g.K.Sink.taken c.write_to.new.sink) c.in-Ok-write_to.field-0
     c.yes_bounds_released_schedules.ensures.total trace report
-    c.in-Ok.ensures.said is c.in-Ok-carry_out.ensures.outcome e refl c.in-Ok-write_text.ensures.taken
+    c.in-Ok.ensures.said is c.in-Ok-carry_out.ensures.outcome e c.in-Ok-writer.ensures c.in-Ok-write_to.ensures.taken
 
 pub returns-clause-audit_yes : goal.returns-clause-audit_yes
 returns-clause-audit_yes g c = λ said trace journal is e.
     sound_written _ (SendsAll g.W.Wire.runs c.args.wires.now.items c.carry_out.new.wires.items) (texts c.args.words.now) (said_by c.in-Ok.words) said
     (g.H.Shelf.told c.args.shelf.now)
-    (map (λ b. (goal.Ranker-dyn g (b.vtable, b.value)).meaning b.value) c.args.bench.now.items) c.in-Ok-carry_out.outcome.status c.in-Ok-carry_out.outcome.text.items
-    c.in-Ok-carry_out.outcome.text.items (g.K.Sink.taken c.args.out.now) (g.K.Sink.taken c.write_text.new.out) c.in-Ok-write_text.field-0 trace journal
-    c.in-Ok.ensures.said is c.in-Ok-carry_out.ensures.outcome e refl c.in-Ok-write_text.ensures.taken
+    (map (λ b. (goal.Ranker-dyn g (b.vtable, b.value)).meaning b.value) c.args.bench.now.items) c.in-Ok-carry_out.outcome.status c.in-Ok-carry_out.outcome.text
+    c.in-Ok-writer.writer (g.K.Sink.taken c.args.out.now) (g.K.Sink.taken c.write_to.new.sink) c.in-Ok-write_to.field-0 trace journal
+    c.in-Ok.ensures.said is c.in-Ok-carry_out.ensures.outcome e c.in-Ok-writer.ensures c.in-Ok-write_to.ensures.taken
 
 pub returns-clause-make : goal.returns-clause-make
 returns-clause-make g c = λ said seed is e.
     made_written _ (SendsAll g.W.Wire.runs c.args.wires.now.items c.carry_out.new.wires.items) (texts c.args.words.now) (said_by c.in-Ok.words) said
     (g.H.Shelf.told c.args.shelf.now)
-    (map (λ b. (goal.Ranker-dyn g (b.vtable, b.value)).meaning b.value) c.args.bench.now.items) c.in-Ok-carry_out.outcome.status c.in-Ok-carry_out.outcome.text.items
-    c.in-Ok-carry_out.outcome.text.items (g.K.Sink.taken c.args.out.now) (g.K.Sink.taken c.write_text.new.out) c.in-Ok-write_text.field-0 seed
-    c.in-Ok.ensures.said is c.in-Ok-carry_out.ensures.outcome refl c.in-Ok-write_text.ensures.taken
+    (map (λ b. (goal.Ranker-dyn g (b.vtable, b.value)).meaning b.value) c.args.bench.now.items) c.in-Ok-carry_out.outcome.status c.in-Ok-carry_out.outcome.text
+    c.in-Ok-writer.writer (g.K.Sink.taken c.args.out.now) (g.K.Sink.taken c.write_to.new.sink) c.in-Ok-write_to.field-0 seed
+    c.in-Ok.ensures.said is c.in-Ok-carry_out.ensures.outcome c.in-Ok-writer.ensures c.in-Ok-write_to.ensures.taken
 
 pub returns-in-Err-Usage-clause-complete : goal.returns-in-Err-Usage-clause-complete
 returns-in-Err-Usage-clause-complete g c = λ said is good shelf sink wires. absurd (c.in-Err-Usage.ensures.usage (ap Err c.in-Err-Usage.field-0-is) said is)
@@ -144,7 +144,7 @@ returns-clause-first g c = λ said cause is x.
     let outcome = c.in-Ok-carry_out.outcome in
     text_ends (SendsAll g.W.Wire.runs c.args.wires.now.items c.carry_out.new.wires.items) (texts c.args.words.now) (said_by c.in-Ok.words) said
     (g.H.Shelf.told c.args.shelf.now)
-    (map (λ b. (goal.Ranker-dyn g (b.vtable, b.value)).meaning b.value) c.args.bench.now.items) outcome.status cause outcome.text.items
+    (map (λ b. (goal.Ranker-dyn g (b.vtable, b.value)).meaning b.value) c.args.bench.now.items) outcome.status cause outcome.text
     c.in-Ok.ensures.said is c.in-Ok-carry_out.ensures.good c.in-Ok-carry_out.ensures.few c.in-Ok-carry_out.ensures.outcome x
 
 pub returns-in-Err-clause-in_turn : goal.returns-in-Err-clause-in_turn
@@ -161,7 +161,7 @@ returns-clause-in_turn g c = λ said is.
     turn_for (texts c.args.words.now) (said_by c.in-Ok.words) said old new outcome.status c.in-Ok.ensures.said is
     (text_in_turn old new (said_by c.in-Ok.words) outcome.status (SendsAll g.W.Wire.runs c.args.wires.now.items c.carry_out.new.wires.items)
     (map (λ b. (goal.Ranker-dyn g (b.vtable, b.value)).meaning b.value) c.args.bench.now.items)
-    outcome.text.items ensures.outcome ensures.good ensures.read_out (λ seed e. (ensures.untouched seed e).0))
+    outcome.text ensures.outcome ensures.good ensures.read_out (λ seed e. (ensures.untouched seed e).0))
 
 pub returns-clause-no : goal.returns-clause-no
 returns-clause-no g c = λ e. (
@@ -170,9 +170,9 @@ returns-clause-no g c = λ e. (
   no_written _ (SendsAll g.W.Wire.runs c.args.wires.now.items c.carry_out.new.wires.items) (texts c.args.words.now) (said_by c.in-Ok.words) (said_by c.in-Ok.words)
       (g.H.Shelf.told c.args.shelf.now)
       (map (λ b. (goal.Ranker-dyn g (b.vtable, b.value)).meaning b.value) c.args.bench.now.items) c.in-Ok-carry_out.outcome.status
-      c.in-Ok-carry_out.outcome.text.items
-      c.in-Ok-carry_out.outcome.text.items (g.K.Sink.taken c.args.out.now) (g.K.Sink.taken c.write_text.new.out) c.in-Ok-write_text.field-0
-      c.in-Ok-carry_out.ensures.outcome e refl c.in-Ok-write_text.ensures.taken,
+      c.in-Ok-carry_out.outcome.text
+      c.in-Ok-writer.writer (g.K.Sink.taken c.args.out.now) (g.K.Sink.taken c.write_to.new.sink) c.in-Ok-write_to.field-0
+      c.in-Ok-carry_out.ensures.outcome e c.in-Ok-writer.ensures c.in-Ok-write_to.ensures.taken,
 )
 
 pub returns-in-Err-clause-read_out : goal.returns-in-Err-clause-read_out
@@ -196,13 +196,13 @@ returns-clause-read_out g c = λ said is text.
     out_for (texts c.args.words.now) (said_by c.in-Ok.words) said (g.H.Shelf.told c.args.shelf.now) (g.H.Shelf.told c.carry_out.new.shelf) c.in-Ok.ensures.said is
     c.in-Ok-carry_out.ensures.read_out
 
-pub returns-in_default-clause-read_out : goal.returns-in_default-clause-read_out
-returns-in_default-clause-read_out g c = λ said is text.
+pub returns-in_default-write_to-clause-read_out : goal.returns-in_default-write_to-clause-read_out
+returns-in_default-write_to-clause-read_out g c = λ said is text.
     out_for (texts c.args.words.now) (said_by c.in-Ok.words) said (g.H.Shelf.told c.args.shelf.now) (g.H.Shelf.told c.carry_out.new.shelf) c.in-Ok.ensures.said is
     c.in-Ok-carry_out.ensures.read_out
 
-pub returns-in_default-clause-in_turn : goal.returns-in_default-clause-in_turn
-returns-in_default-clause-in_turn g c = λ said is.
+pub returns-in_default-write_to-clause-in_turn : goal.returns-in_default-write_to-clause-in_turn
+returns-in_default-write_to-clause-in_turn g c = λ said is.
     let old = g.H.Shelf.told c.args.shelf.now in
     let new = g.H.Shelf.told c.carry_out.new.shelf in
     let by : Said = said_by c.in-Ok.words in
@@ -210,16 +210,16 @@ returns-in_default-clause-in_turn g c = λ said is.
     turn_for (texts c.args.words.now) by said old new (WriteFault 1) c.in-Ok.ensures.said is
     (done_by old new by (WriteFault 1) by.job refl (λ read. read) ensures.good ensures.read_out (λ seed e. (ensures.untouched seed e).0))
 
-pub returns-in_default-clause-beginning : goal.returns-in_default-clause-beginning
-returns-in_default-clause-beginning g c = λ count e. (
+pub returns-in_default-write_to-clause-beginning : goal.returns-in_default-write_to-clause-beginning
+returns-in_default-write_to-clause-beginning g c = λ count e. (
   said_by c.in-Ok.words,
   c.in-Ok.ensures.said,
   record {
-    text = c.in-Ok-carry_out.outcome.text.items;
+    text = c.in-Ok-carry_out.outcome.text;
     status = c.in-Ok-carry_out.outcome.status;
     outcome = c.in-Ok-carry_out.ensures.outcome;
-    written = begun _ (g.K.Sink.taken c.args.out.now) (g.K.Sink.taken c.write_text.new.out) c.in-Ok-carry_out.outcome.text.items c.in-Ok-carry_out.outcome.text.items _
-        refl c.in_default.ensures.taken;
+    written = begun _ (g.K.Sink.taken c.args.out.now) (g.K.Sink.taken c.write_to.new.sink) c.in-Ok-carry_out.outcome.text c.in-Ok-writer.writer _
+        c.in-Ok-writer.ensures c.in_default-write_to.ensures.taken;
   },
 )
 
@@ -227,17 +227,17 @@ pub returns-clause-compare : goal.returns-clause-compare
 returns-clause-compare g c = λ said trace is e.
     comparison_written _ (SendsAll g.W.Wire.runs c.args.wires.now.items c.carry_out.new.wires.items) (texts c.args.words.now) (said_by c.in-Ok.words) said
     (g.H.Shelf.told c.args.shelf.now)
-    (map (λ b. (goal.Ranker-dyn g (b.vtable, b.value)).meaning b.value) c.args.bench.now.items) c.in-Ok-carry_out.outcome.status c.in-Ok-carry_out.outcome.text.items
-    c.in-Ok-carry_out.outcome.text.items (g.K.Sink.taken c.args.out.now) (g.K.Sink.taken c.write_text.new.out) c.in-Ok-write_text.field-0 trace
-    c.in-Ok.ensures.said is c.in-Ok-carry_out.ensures.outcome refl c.in-Ok-write_text.ensures.taken
+    (map (λ b. (goal.Ranker-dyn g (b.vtable, b.value)).meaning b.value) c.args.bench.now.items) c.in-Ok-carry_out.outcome.status c.in-Ok-carry_out.outcome.text
+    c.in-Ok-writer.writer (g.K.Sink.taken c.args.out.now) (g.K.Sink.taken c.write_to.new.sink) c.in-Ok-write_to.field-0 trace
+    c.in-Ok.ensures.said is c.in-Ok-carry_out.ensures.outcome c.in-Ok-writer.ensures c.in-Ok-write_to.ensures.taken
 
 pub returns-clause-classes : goal.returns-clause-classes
 returns-clause-classes g c = λ said trace is e.
     classes_written _ (SendsAll g.W.Wire.runs c.args.wires.now.items c.carry_out.new.wires.items) (texts c.args.words.now) (said_by c.in-Ok.words) said
     (g.H.Shelf.told c.args.shelf.now)
-    (map (λ b. (goal.Ranker-dyn g (b.vtable, b.value)).meaning b.value) c.args.bench.now.items) c.in-Ok-carry_out.outcome.status c.in-Ok-carry_out.outcome.text.items
-    c.in-Ok-carry_out.outcome.text.items (g.K.Sink.taken c.args.out.now) (g.K.Sink.taken c.write_text.new.out) c.in-Ok-write_text.field-0 trace
-    c.in-Ok.ensures.said is c.in-Ok-carry_out.ensures.outcome refl c.in-Ok-write_text.ensures.taken
+    (map (λ b. (goal.Ranker-dyn g (b.vtable, b.value)).meaning b.value) c.args.bench.now.items) c.in-Ok-carry_out.outcome.status c.in-Ok-carry_out.outcome.text
+    c.in-Ok-writer.writer (g.K.Sink.taken c.args.out.now) (g.K.Sink.taken c.write_to.new.sink) c.in-Ok-write_to.field-0 trace
+    c.in-Ok.ensures.said is c.in-Ok-carry_out.ensures.outcome c.in-Ok-writer.ensures c.in-Ok-write_to.ensures.taken
 
 pub returns-in-Err-clause-empty : goal.returns-in-Err-clause-empty
 returns-in-Err-clause-empty g c = λ said trace is text.
@@ -245,8 +245,8 @@ returns-in-Err-clause-empty g c = λ said trace is text.
     (g.H.Shelf.faults c.args.shelf.now) (g.H.Shelf.faults c.carry_out.new.shelf) (g.H.Shelf.told c.args.shelf.now)
     (g.H.Shelf.told c.carry_out.new.shelf) (said_by c.in-Ok.words) c.in-Err.status c.in-Err.ensures.cause text)
 
-pub returns-in_default-clause-empty : goal.returns-in_default-clause-empty
-returns-in_default-clause-empty g c = λ said trace is text.
+pub returns-in_default-write_to-clause-empty : goal.returns-in_default-write_to-clause-empty
+returns-in_default-write_to-clause-empty g c = λ said trace is text.
     c.in-Ok-carry_out.ensures.empty trace (job_of (texts c.args.words.now) (said_by c.in-Ok.words) said (compare_job trace) c.in-Ok.ensures.said is)
 
 pub returns-clause-empty : goal.returns-clause-empty
@@ -258,8 +258,8 @@ returns-in-Err-clause-left g c =
     left_by (λ b f. (goal.Ranker-dyn g (b.vtable, b.value)).answered b.value f) (texts c.args.words.now) (g.H.Shelf.told c.args.shelf.now) (said_by c.in-Ok.words)
     c.args.bench.now.items c.carry_out.new.bench.items c.in-Ok.ensures.said c.carry_out.ensures.left
 
-pub returns-in_default-clause-left : goal.returns-in_default-clause-left
-returns-in_default-clause-left g c =
+pub returns-in_default-write_to-clause-left : goal.returns-in_default-write_to-clause-left
+returns-in_default-write_to-clause-left g c =
     left_by (λ b f. (goal.Ranker-dyn g (b.vtable, b.value)).answered b.value f) (texts c.args.words.now) (g.H.Shelf.told c.args.shelf.now) (said_by c.in-Ok.words)
     c.args.bench.now.items c.carry_out.new.bench.items c.in-Ok.ensures.said c.carry_out.ensures.left
 
@@ -273,14 +273,14 @@ returns-clause-same_bench g c = λ none other.
     absurd {A = c.carry_out.new.bench.items ≡ c.args.bench.now.items}
     (none (outcome_has_text (SendsAll g.W.Wire.runs c.args.wires.now.items c.carry_out.new.wires.items) (g.H.Shelf.told c.args.shelf.now) (said_by c.in-Ok.words)
     (map (λ b. (goal.Ranker-dyn g (b.vtable, b.value)).meaning b.value) c.args.bench.now.items)
-    c.in-Ok-carry_out.outcome.status c.in-Ok-carry_out.outcome.text.items c.in-Ok-carry_out.ensures.outcome))
+    c.in-Ok-carry_out.outcome.status c.in-Ok-carry_out.outcome.text c.in-Ok-carry_out.ensures.outcome))
 
 pub returns-in-Err-clause-others_bench : goal.returns-in-Err-clause-others_bench
 returns-in-Err-clause-others_bench g c = λ no.
     c.carry_out.ensures.others_bench (λ trace e. no (said_by c.in-Ok.words) trace (record { words_say = c.in-Ok.ensures.said; job_is = e }))
 
-pub returns-in_default-clause-others_bench : goal.returns-in_default-clause-others_bench
-returns-in_default-clause-others_bench g c = λ no.
+pub returns-in_default-write_to-clause-others_bench : goal.returns-in_default-write_to-clause-others_bench
+returns-in_default-write_to-clause-others_bench g c = λ no.
     c.carry_out.ensures.others_bench (λ trace e. no (said_by c.in-Ok.words) trace (record { words_say = c.in-Ok.ensures.said; job_is = e }))
 
 pub returns-clause-others_bench : goal.returns-clause-others_bench
@@ -292,8 +292,8 @@ returns-in-Err-clause-wires g c =
     sent_by g.W.Wire.runs c.args.wires.now.items c.carry_out.new.wires.items (texts c.args.words.now) (said_by c.in-Ok.words) (g.H.Shelf.told c.args.shelf.now)
     c.in-Ok.ensures.said c.carry_out.ensures.sent
 
-pub returns-in_default-clause-wires : goal.returns-in_default-clause-wires
-returns-in_default-clause-wires g c =
+pub returns-in_default-write_to-clause-wires : goal.returns-in_default-write_to-clause-wires
+returns-in_default-write_to-clause-wires g c =
     sent_by g.W.Wire.runs c.args.wires.now.items c.carry_out.new.wires.items (texts c.args.words.now) (said_by c.in-Ok.words) (g.H.Shelf.told c.args.shelf.now)
     c.in-Ok.ensures.said c.carry_out.ensures.sent
 
@@ -314,13 +314,13 @@ returns-clause-unsent g c =
     (Sends g.W.Wire.runs c.args.wires.now.items c.carry_out.new.wires.items)
     (g.H.Shelf.told c.args.shelf.now) (said_by c.in-Ok.words)
     (map (λ b. (goal.Ranker-dyn g (b.vtable, b.value)).meaning b.value) c.args.bench.now.items)
-    c.in-Ok-carry_out.outcome.status c.in-Ok-carry_out.outcome.text.items c.in-Ok-carry_out.ensures.outcome c.carry_out.ensures.sent
+    c.in-Ok-carry_out.outcome.status c.in-Ok-carry_out.outcome.text c.in-Ok-carry_out.ensures.outcome c.carry_out.ensures.sent
 
 pub returns-clause-wire : goal.returns-clause-wire
 returns-clause-wire g c = λ port count e.
     absurd (subst HasText e (outcome_has_text (SendsAll g.W.Wire.runs c.args.wires.now.items c.carry_out.new.wires.items) (g.H.Shelf.told c.args.shelf.now) (said_by c.in-Ok.words)
     (map (λ b. (goal.Ranker-dyn g (b.vtable, b.value)).meaning b.value) c.args.bench.now.items)
-    c.in-Ok-carry_out.outcome.status c.in-Ok-carry_out.outcome.text.items c.in-Ok-carry_out.ensures.outcome))
+    c.in-Ok-carry_out.outcome.status c.in-Ok-carry_out.outcome.text c.in-Ok-carry_out.ensures.outcome))
 
 pub returns-in-Err-clause-usage : goal.returns-in-Err-clause-usage
 returns-in-Err-clause-usage g c = λ e said is.
@@ -366,3 +366,25 @@ returns-in-Err-clause-still_sink g c = λ no. refl
 
 pub returns-in-Err-clause-unwritten : goal.returns-in-Err-clause-unwritten
 returns-in-Err-clause-unwritten g c = λ none. refl
+
+pub returns-in_default-clause-gates : goal.returns-in_default-clause-gates
+returns-in_default-clause-gates g c = λ no.
+    c.carry_out.ensures.gates (λ trace script e. no (said_by c.in-Ok.words) trace script (record { words_say = c.in-Ok.ensures.said; job_is = e }))
+
+pub returns-in_default-clause-left : goal.returns-in_default-clause-left
+returns-in_default-clause-left g c =
+    left_by (λ b f. (goal.Ranker-dyn g (b.vtable, b.value)).answered b.value f) (texts c.args.words.now) (g.H.Shelf.told c.args.shelf.now) (said_by c.in-Ok.words)
+    c.args.bench.now.items c.carry_out.new.bench.items c.in-Ok.ensures.said c.carry_out.ensures.left
+
+pub returns-in_default-clause-others_bench : goal.returns-in_default-clause-others_bench
+returns-in_default-clause-others_bench g c = λ no.
+    c.carry_out.ensures.others_bench (λ trace e. no (said_by c.in-Ok.words) trace (record { words_say = c.in-Ok.ensures.said; job_is = e }))
+
+pub returns-in_default-clause-in_turn : goal.returns-in_default-clause-in_turn
+returns-in_default-clause-in_turn g c = λ said is.
+    let old = g.H.Shelf.told c.args.shelf.now in
+    let new = g.H.Shelf.told c.carry_out.new.shelf in
+    let by : Said = said_by c.in-Ok.words in
+    let ensures = c.in-Ok-carry_out.ensures in
+    turn_for (texts c.args.words.now) by said old new NoMemory c.in-Ok.ensures.said is
+    (done_by old new by NoMemory by.job refl (λ read. read) ensures.good ensures.read_out (λ seed e. (ensures.untouched seed e).0))

@@ -1,7 +1,7 @@
-use Rattle.std.proofs.Common.{◌≤◌, ℕ, slice_index, arith}
-use Rattle.schedule_model.proofs.CostSums.{weight_small}
-use Rattle.cert_check.proofs.CostSteps.{cost_fits, cost_more}
-use Rattle.cert_check.proofs.schedule.cost_of.Goals as goal
+use Rattle.std.proofs.Common.{◌≡◌, ◌≤◌, ◌∙◌, ℕ, length, slice_index, sum_by, ap, arith}
+use Rattle.std.specs.List.{range_with_len}
+use Rattle.schedule_model.proofs.CostSums.{cost_by_ends, cost_fits, cost_more, priced, weight_small}
+use Rattle.schedule_model.proofs.ends.cost_of.Goals as goal
 
 pub overflow_add-cost : goal.overflow_add-cost
 overflow_add-cost c =
@@ -18,3 +18,9 @@ overflow_add-cost c =
 pub loop-coflow-preserved : goal.loop-coflow-preserved
 loop-coflow-preserved c = cost_more c.args.weights.now c.args.ends.now c.loop-coflow.coflow c.loop-coflow.cost c.from.result c.from-in-loop-coflow.result c.loop-coflow.invariant
     c.from.ensures c.from-in-loop-coflow.ensures
+
+pub returns-clause-cost : goal.returns-clause-cost
+returns-clause-cost c flows slots are =
+    let last : c.loop-coflow.coflow ≡ length c.args.weights.now = omega arith in
+    c.loop-coflow.invariant ∙ ap (λ n. sum_by (priced c.args.weights.now c.args.ends.now) (range_with_len 0 n)) last ∙
+    cost_by_ends flows slots c.args.weights.now c.args.ends.now (length c.args.weights.now) are
