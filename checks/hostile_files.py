@@ -4,7 +4,7 @@
 Use: checks/hostile_files.py [--long]            The last line is 'N passed, M failed'; the exit code is 0 where none failed.
 
 Each row has the answer as it follows from the formats, worked out by hand, and the greatest peak of memory that it may take, in MiB. With --long also a report of 2^30 bytes is read,
-in which memory runs out: the program is left 4 GiB of addresses.
+for which the program is left 4 GiB of addresses.
 """
 import os
 import subprocess
@@ -167,7 +167,7 @@ def run(row):
 
 
 def run_long_report():
-    """A report of 2^30 bytes of runs, by turns of the first and of the second flow: all of it can be read, but its runs need more than 4 GiB."""
+    """A report of 2^30 bytes of runs, by turns of the first and of the second flow, which is read in less than 4 GiB: the second flow has more slots than units, and so has the first, which is told."""
     head = TWO_TEXT[:TWO_TEXT.index(b"run ")]
     pair, end = b"run 1 1\nrun 1 0\n", b"end\n"
     with tempfile.TemporaryDirectory() as folder:
@@ -178,8 +178,8 @@ def run_long_report():
                 file.write(pair * 2**16)
             file.write(pair * (pairs % 2**16) + end)
         *have, peak = measured(folder, {"t": TWO}, CHECK, 2**32)
-    most = 3200
-    good = have == [11, b"", b"sincronia: no memory\n"] and peak <= most
+    most = 3700
+    good = have == [1, b"no units 0 %d 3\n" % pairs, b""] and peak <= most
     print("%sa report of 2^30 bytes of runs: %r, %d MiB, of at most %d" % ("" if good else "FAILED ", have, peak, most))
     return good
 
