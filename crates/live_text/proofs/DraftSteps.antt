@@ -9,7 +9,7 @@ use Rattle.std.proofs.lemmas.List.Sums.{sum_by-append, sum_by-cons}
 use Rattle.std.specs.declared.vec.Vec.{Vec}
 use Rattle.std.specs.declared.alloc.Global.{Global}
 use Rattle.coflow_units.specs.declared.plan.Run.{Run}
-use Rattle.report_text.specs.Draft.{Differs}
+use Rattle.run_list.specs.Runs.{IsLast}
 use Rattle.report_text.specs.Readers.{IsRun}
 use Rattle.report_text.proofs.DraftText.{slots_in}
 use Rattle.report_text.specs.Text.{run_line}
@@ -186,7 +186,7 @@ abbrev with_runs : Draft → List Run → ℕ → Draft
 with_runs d runs slots = record { stage = d.stage; entries = d.entries; orders = d.orders; pulls = d.pulls; runs = runs; slots = slots }
 
 pub run_taken : (d : Draft) (runs : List Run) (r : Run) (line : List ℕ) → IsDraft d → d.stage ≡ Lines → runs ≡ d.runs ++ (r ∷ []) → IsRun r → line ≡ run_line r →
-    d.slots + r.length ≤ 2 ^ 41 - 1 → Differs d.runs r.flows true →
+    d.slots + r.length ≤ 2 ^ 41 - 1 → IsLast d.runs r.flows false →
     IsDraft (with_runs d runs (d.slots + r.length)) × (draft_lines (with_runs d runs (d.slots + r.length)) ≡ draft_lines d ++ (line ∷ []))
 run_taken d runs r line h stage rs is_run is few other = (draft, lines)
   where
@@ -204,7 +204,7 @@ run_taken d runs r line h stage rs is_run is few other = (draft, lines)
         rising = h.live.rising;
         run = rw rs (All-push IsRun d.runs r h.live.run is_run);
         few_slots = omega (arith, total, few);
-        maximal = rw rs (push_neighbours differ_in_flows d.runs r h.live.maximal other);
+        maximal = rw rs (push_neighbours differ_in_flows d.runs r h.live.maximal (λ x some. other (length d.runs - 1) x (omega (arith, some))));
       };
       slots = sym total;
       nothing = rw stage tt;

@@ -1,12 +1,12 @@
 -- A line that no text has after the lines that were read.
-use Rattle.std.proofs.Common.{◌≡◌, ◌≢◌, ℕ, suc, ◌+◌, ◌-◌, ◌<◌, ◌^◌, List, [], ◌∷◌, ◌++◌, false, None}
+use Rattle.std.proofs.Common.{◌≡◌, ◌≢◌, ℕ, suc, ◌+◌, ◌-◌, ◌<◌, ◌^◌, List, [], ◌∷◌, ◌++◌, false, true, None}
 use Rattle.std.proofs.Common.{append-nil, append_assoc, drop, length, length-append, get_or, refl, sym, ap, subst, ◌∙◌, arith}
 use Rattle.std.specs.Prelude.{All, codes}
 use Rattle.std.proofs.Math.Seq.{get_or-append_seam}
 use Rattle.std.proofs.lemmas.List.{get_or_append_left}
 use Rattle.coflow_units.specs.declared.plan.Run.{Run}
 use Rattle.coflow_units.proofs.Fronts.{head_of}
-use Rattle.report_text.specs.Draft.{Differs}
+use Rattle.run_list.specs.Runs.{IsLast}
 use Rattle.report_text.specs.Readers.{IsRun, IsRunOf}
 use Rattle.report_text.specs.Text.{run_line}
 use Rattle.report_text.proofs.DraftText.{run_unique, slots_grow}
@@ -193,11 +193,12 @@ refuse_long d line run h stage m is_run is long l more hl e =
     let next = run_next d run line l more h stage m is_run is hl e in
     absurd (omega (arith, slots_grow d.runs l.runs next.0 run next.1, h.slots, hl.few_slots, long))
 
-pub refuse_same : (d : Draft) (line : List ℕ) (run : Run) → IsDraft d → d.stage ≡ Lines → mark line ≡ 32 → IsRun run → line ≡ run_line run → Differs d.runs run.flows false →
+pub refuse_same : (d : Draft) (line : List ℕ) (run : Run) → IsDraft d → d.stage ≡ Lines → mark line ≡ 32 → IsRun run → line ≡ run_line run → IsLast d.runs run.flows true →
     Refuses d line
 refuse_same d line run h stage m is_run is same l more hl e =
     let next = run_next d run line l more h stage m is_run is hl e in
-    at_seam d.runs run next.0 l.runs (λ a b. a.flows ≢ b.flows) (same run).0 next.1 hl.maximal (same run).1
+    at_seam d.runs run next.0 l.runs (λ a b. a.flows ≢ b.flows) same.0 next.1 hl.maximal
+    (same.1 (length d.runs - 1) run (omega (arith, same.0)))
 
 -- ---- the other lines
 

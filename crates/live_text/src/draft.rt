@@ -8,7 +8,7 @@ use crate::fields::mark_of;
 use crate::lines::{entry_of, is_first, order_of, pull_of};
 use crate::value::{EntryLine, Live, PullLine};
 use coflow_units::{Items, MAX_SLOT, NoMemory};
-use report_text::{differs, is_end, run_of};
+use report_text::{is_end, run_of};
 use run_list::Runs;
 use std::alloc::Global;
 
@@ -207,7 +207,7 @@ impl Draft {
         if run.length > MAX_SLOT - self.slots {
             return Ok(false);
         }
-        if !differs(&self.runs, run.flows.as_slice()) {
+        if self.runs.ends_with(run.flows.as_slice()) {
             return Ok(false);
         }
         self.slots += run.length;

@@ -8,7 +8,7 @@ use Rattle.std.proofs.lemmas.List.Elements.{All-push}
 use Rattle.std.proofs.lemmas.List.Sums.{sum_by-append, sum_by-cons}
 use Rattle.std.proofs.Math.Seq.{get_or-append_seam}
 use Rattle.coflow_units.specs.declared.plan.Run.{Run}
-use Rattle.report_text.specs.Draft.{Differs}
+use Rattle.run_list.specs.Runs.{IsLast}
 use Rattle.report_text.specs.Readers.{IsRun, IsRunOf}
 use Rattle.report_text.specs.Text.{run_line}
 use Rattle.report_text.proofs.DraftText.{run_unique, slots_grow, slots_in}
@@ -24,7 +24,7 @@ use Rattle.online_text.proofs.StageSteps.{at_stage, draft_at, draft_back, follow
 -- neighbours differ, also with one element more that differs from the last
 apart_push : {X : Type 0} (part : X → List ℕ) (xs : List X) (x : X) →
     ((k : ℕ) (d : X) → k + 1 < length xs → part (get_or xs k d) ≢ part (get_or xs (k + 1) d)) →
-    ((d : X) → 0 < length xs → part (get_or xs (length xs - 1) d) ≢ part x) → (k : ℕ) (d : X) → k + 1 < length (xs ++ (x ∷ [])) →
+    ((k : ℕ) (d : X) → k + 1 ≡ length xs → part (get_or xs k d) ≢ part x) → (k : ℕ) (d : X) → k + 1 < length (xs ++ (x ∷ [])) →
     part (get_or (xs ++ (x ∷ [])) k d) ≢ part (get_or (xs ++ (x ∷ [])) (k + 1) d)
 apart_push {X} part xs x h other k d lt = go (ltb (k + 1) (length xs)) refl
   where
@@ -37,9 +37,8 @@ apart_push {X} part xs x h other k d lt = go (ltb (k + 1) (length xs)) refl
         h k d before (sym (ap part (get_or_append_left xs (x ∷ []) d k (omega arith))) ∙ (same ∙ ap part (get_or_append_left xs (x ∷ []) d (k + 1) before)))
     go false e same =
         let here : length xs ≡ k + 1 = grind (arith, nat_tests, length-append xs (x ∷ [])) in
-        let index : length xs - 1 ≡ k = omega arith in
-        let last : part (get_or xs (length xs - 1) d) ≡ at (xs ++ (x ∷ [])) k = rw index (sym (ap part (get_or_append_left xs (x ∷ []) d k (omega arith)))) in
-        other d (omega arith) (last ∙ (same ∙ ap part (get_or_push xs x d (k + 1) here)))
+        let last : part (get_or xs k d) ≡ at (xs ++ (x ∷ [])) k = sym (ap part (get_or_append_left xs (x ∷ []) d k (omega arith))) in
+        other k d (sym here) (last ∙ (same ∙ ap part (get_or_push xs x d (k + 1) here)))
 
 -- the line of a run is taken, and the online run has the run
 run_both : (runs new : List Run) (run : Run) (line : List ℕ) (o : Online) (more : List (List ℕ)) → IsOnline o → new ≡ runs ++ (run ∷ []) → IsRun run → line ≡ run_line run →
@@ -68,7 +67,7 @@ with_run d runs slots = record {
 }
 
 pub run_taken : (d : Draft) (runs : List Run) (run : Run) (line : List ℕ) → IsDraft d → d.stage ≡ Runs → runs ≡ d.runs ++ (run ∷ []) → IsRun run →
-    line ≡ run_line run → d.slots + run.length ≤ 2 ^ 41 - 1 → Differs d.runs run.flows true →
+    line ≡ run_line run → d.slots + run.length ≤ 2 ^ 41 - 1 → IsLast d.runs run.flows false →
     IsDraft (with_run d runs (d.slots + run.length)) × Follows d (with_run d runs (d.slots + run.length)) line
 run_taken d runs run line h stage grown is_run is few other = (
   draft_back new Runs stage draft,
@@ -114,16 +113,16 @@ long_refused d run line slots stage is_run is long = refuses d Runs line stage (
     let next = run_next d.runs run line o more online is_run is g.1 in
     absurd (omega (arith, slots_grow d.runs o.runs next.0 run next.1, slots, online.few_slots)))
 
-pub same_refused : (d : Draft) (run : Run) (line : List ℕ) → d.stage ≡ Runs → IsRun run → line ≡ run_line run → Differs d.runs run.flows false → Refuses d line
+pub same_refused : (d : Draft) (run : Run) (line : List ℕ) → d.stage ≡ Runs → IsRun run → line ≡ run_line run → IsLast d.runs run.flows true → Refuses d line
 same_refused d run line stage is_run is same = refuses d Runs line stage (λ o more online small g.
     let next = run_next d.runs run line o more online is_run is g.1 in
     let k : ℕ = length d.runs - 1 in
-    let some : 0 < length d.runs = (same run).0 in
+    let some : 1 ≤ length d.runs = same.0 in
     let at : length d.runs ≡ k + 1 = omega arith in
     let last : get_or o.runs k run ≡ get_or d.runs k run = rw next.1 (get_or_append_left d.runs (run ∷ next.0) run k (omega arith)) in
     let here : get_or o.runs (k + 1) run ≡ run = rw (next.1, ← at) (get_or-append_seam d.runs run next.0 run) in
     let lt : k + 1 < length o.runs = omega (arith, ap length next.1, length-append d.runs (run ∷ next.0)) in
-    online.maximal k run lt (ap (λ (x : Run). x.flows) last ∙ ((same run).1 ∙ sym (ap (λ (x : Run). x.flows) here))))
+    online.maximal k run lt (ap (λ (x : Run). x.flows) last ∙ (same.1 k run (sym at) ∙ sym (ap (λ (x : Run). x.flows) here))))
 
 -- ---- the last line
 

@@ -8,7 +8,7 @@ ghost use Rattle.online_text.specs.Readers.{IsDoneOf, IsPlaceOf, IsReleaseOf, Is
 use crate::parts::{done_of, is_first, place_of, release_of, rises, time_of};
 use crate::value::{DoneLine, Epoch, Online, OnlinePlace, ReleaseLine};
 use coflow_units::{Items, MAX_SLOT, NoMemory};
-use report_text::{differs, is_end, run_of, total_of};
+use report_text::{is_end, run_of, total_of};
 use run_list::Runs;
 use std::alloc::Global;
 use std::mem;
@@ -245,7 +245,7 @@ impl Draft {
         if run.length > MAX_SLOT - self.slots {
             return Ok(false);
         }
-        if !differs(&self.runs, run.flows.as_slice()) {
+        if self.runs.ends_with(run.flows.as_slice()) {
             return Ok(false);
         }
         self.slots += run.length;

@@ -12,6 +12,7 @@ use Rattle.std.proofs.lemmas.List.Sums.{sum_by-append, sum_by-cons}
 use Rattle.std.specs.declared.vec.Vec.{Vec}
 use Rattle.std.specs.declared.alloc.Global.{Global}
 use Rattle.coflow_units.specs.declared.plan.Run.{Run}
+use Rattle.run_list.specs.Runs.{IsLast}
 use Rattle.report_text.specs.declared.draft.Draft.{Draft}
 use Rattle.report_text.specs.declared.draft.Stage.TheVariants.{Cost, Places, Runs, Slack}
 use Rattle.report_text.specs.declared.value.PlaceLine.{PlaceLine}
@@ -19,7 +20,7 @@ use Rattle.report_text.specs.declared.value.Report.{Report}
 use Rattle.report_text.specs.Report.{ForEach, IsSmallPlace}
 use Rattle.report_text.specs.Text.{bound_line, slack_line, place_at, place_line, place_line_at, place_lines, run_line, total_lines, version_line, weight_at}
 use Rattle.report_text.specs.Readers.{IsRun, IsWeight, weights_if, weights_list}
-use Rattle.report_text.specs.Draft.{Differs, HasNothingLater, IsDraft, draft_lines, report_of}
+use Rattle.report_text.specs.Draft.{HasNothingLater, IsDraft, draft_lines, report_of}
 use Rattle.report_text.proofs.DraftText.{slots_in}
 use Rattle.report_text.proofs.LineLists.{same_lines}
 
@@ -142,7 +143,7 @@ with_run d runs slots = record {
   slots = slots;
 }
 
-maximal_push : (runs : List Run) (run : Run) → ((k : ℕ) (d : Run) → k + 1 < length runs → (get_or runs k d).flows ≢ (get_or runs (k + 1) d).flows) → Differs runs run.flows true →
+maximal_push : (runs : List Run) (run : Run) → ((k : ℕ) (d : Run) → k + 1 < length runs → (get_or runs k d).flows ≢ (get_or runs (k + 1) d).flows) → IsLast runs run.flows false →
     (k : ℕ) (d : Run) → k + 1 < length (runs ++ (run ∷ [])) → (get_or (runs ++ (run ∷ [])) k d).flows ≢ (get_or (runs ++ (run ∷ [])) (k + 1) d).flows
 maximal_push runs run h other k d lt = go (ltb (k + 1) (length runs)) refl
   where
@@ -156,13 +157,12 @@ maximal_push runs run h other k d lt = go (ltb (k + 1) (length runs)) refl
         (same ∙ ap (λ (x : Run). x.flows) (get_or_append_left runs (run ∷ []) d (k + 1) before)))
     go false e same =
         let here : length runs ≡ k + 1 = grind (arith, nat_tests, length-append runs (run ∷ [])) in
-        let index : length runs - 1 ≡ k = omega arith in
-        let last : (get_or runs (length runs - 1) d).flows ≡ flows_at (runs ++ (run ∷ [])) k =
-        rw index (sym (ap (λ (x : Run). x.flows) (get_or_append_left runs (run ∷ []) d k (omega arith)))) in
-        other d (omega arith) (last ∙ (same ∙ ap (λ (x : Run). x.flows) (get_or_push runs run d (k + 1) here)))
+        let last : (get_or runs k d).flows ≡ flows_at (runs ++ (run ∷ [])) k =
+        sym (ap (λ (x : Run). x.flows) (get_or_append_left runs (run ∷ []) d k (omega arith))) in
+        other k d (sym here) (last ∙ (same ∙ ap (λ (x : Run). x.flows) (get_or_push runs run d (k + 1) here)))
 
 pub run_taken : (d : Draft) (runs : List Run) (run : Run) (line : List ℕ) → IsDraft d → d.stage ≡ Runs → runs ≡ d.runs ++ (run ∷ []) → IsRun run →
-    line ≡ run_line run → d.slots + run.length ≤ 2 ^ 41 - 1 → Differs d.runs run.flows true →
+    line ≡ run_line run → d.slots + run.length ≤ 2 ^ 41 - 1 → IsLast d.runs run.flows false →
     IsDraft (with_run d runs (d.slots + run.length)) × (draft_lines (with_run d runs (d.slots + run.length)) ≡ draft_lines d ++ (line ∷ []))
 run_taken d runs run line h stage rs is_run is few other = (draft, lines)
   where

@@ -8,6 +8,7 @@ use Rattle.std.proofs.Math.Seq.{get_or-append_seam}
 use Rattle.std.proofs.lemmas.List.Sums.{get_or-le-sum_by, sum_by-append, sum_by-cons}
 use Rattle.coflow_units.specs.declared.plan.Run.{Run}
 use Rattle.coflow_units.proofs.Fronts.{head_of}
+use Rattle.run_list.specs.Runs.{IsLast}
 use Rattle.report_text.specs.declared.draft.Draft.{Draft}
 use Rattle.report_text.specs.declared.draft.Stage.{Stage}
 use Rattle.report_text.specs.declared.draft.Stage.TheVariants.{Places, Slack, Cost, Runs, Done}
@@ -16,7 +17,7 @@ use Rattle.report_text.specs.Report.{ForEach, HasSmallNumbers, IsReport}
 use Rattle.report_text.specs.Text.{bound_line, cost_line, place_at, place_line_at, place_lines, report_lines, run_line, slack_line, total_lines, version_line, weight_at}
 use Rattle.coflow_units.specs.Text.{spaced}
 use Rattle.report_text.specs.Readers.{IsPlaceOf, IsRun, IsRunOf, IsTotalOf, IsWeight, weights_if}
-use Rattle.report_text.specs.Draft.{Differs, IsDraft, Refuses, lines_before, report_of}
+use Rattle.report_text.specs.Draft.{IsDraft, Refuses, lines_before, report_of}
 use Rattle.report_text.proofs.FlowText.{goes_on, stops_flows}
 use Rattle.report_text.proofs.NumberText.{spaced_unique}
 use Rattle.report_text.proofs.LineLists.{AllFirst, all_first, both_ended, first, last_lines, lines_behind, lines_nested, next_after, next_place, places_first, regroup, tail_is}
@@ -174,16 +175,16 @@ refuse_long d run line h stage is_run is long r more report small e =
     let next = run_next d run line r more h stage is_run is report small e in
     absurd (omega (arith, slots_grow d.runs r.runs next.0 run next.1, h.slots, report.few_slots))
 
-pub refuse_same : (d : Draft) (run : Run) (line : List ℕ) → IsDraft d → d.stage ≡ Runs → IsRun run → line ≡ run_line run → Differs d.runs run.flows false → Refuses d line
+pub refuse_same : (d : Draft) (run : Run) (line : List ℕ) → IsDraft d → d.stage ≡ Runs → IsRun run → line ≡ run_line run → IsLast d.runs run.flows true → Refuses d line
 refuse_same d run line h stage is_run is same r more report small e =
     let next = run_next d run line r more h stage is_run is report small e in
     let k : ℕ = length d.runs - 1 in
-    let some : 0 < length d.runs = (same run).0 in
+    let some : 1 ≤ length d.runs = same.0 in
     let at : length d.runs ≡ k + 1 = omega arith in
     let last : get_or r.runs k run ≡ get_or d.runs k run = rw next.1 (get_or_append_left d.runs (run ∷ next.0) run k (omega arith)) in
     let here : get_or r.runs (k + 1) run ≡ run = rw (next.1, ← at) (get_or-append_seam d.runs run next.0 run) in
     let lt : k + 1 < length r.runs = omega (arith, ap length next.1, length-append d.runs (run ∷ next.0)) in
-    report.maximal k run lt (ap (λ (x : Run). x.flows) last ∙ ((same run).1 ∙ sym (ap (λ (x : Run). x.flows) here)))
+    report.maximal k run lt (ap (λ (x : Run). x.flows) last ∙ (same.1 k run (sym at) ∙ sym (ap (λ (x : Run). x.flows) here)))
 
 pub refuse_done : (d : Draft) (line : List ℕ) → d.stage ≡ Done → Refuses d line
 refuse_done d line stage r more report small e =

@@ -1,128 +1,73 @@
--- The numbers of flows, written from the last one on.
-use Rattle.std.proofs.Common.{◌≡◌, ℕ, ◌+◌, ◌-◌, ◌<◌, ◌≤◌, ◌^◌, List, [], ◌∷◌, ◌++◌, drop, get_or, length, length-append, replicate, take, min, refl, sym, ap, ◌∙◌, arith}
-use Rattle.std.proofs.Common.{suc}
-use Rattle.std.proofs.Math.Seq.{drop-cons, get_or-append_right}
+-- The numbers of flows, and how many bytes they take.
+use Rattle.std.proofs.Common.{◌≡◌, ℕ, ◌+◌, ◌-◌, ◌*◌, ◌<◌, ◌≤◌, ◌^◌, List, [], ◌∷◌, ◌++◌, append_assoc, append-nil, drop, get_or, length, length-append, min, replicate, set, take}
+use Rattle.std.proofs.Common.{suc, refl, sym, ap, ◌∙◌, arith}
+use Rattle.std.proofs.Math.Seq.{take-add}
 use Rattle.std.proofs.lemmas.Grind.{flat_map-append}
-use Rattle.std.proofs.lemmas.List.{drop_all, get_or-replicate, get_or-take, length-replicate, length-take-le, take-append-drop, take-take, take_all, take_at, take_more}
+use Rattle.std.proofs.lemmas.List.{length-replicate, take-append-drop, take_all, take_at, take_more, take_more_set}
 use Rattle.std.specs.Prelude.{decimal}
 use Rattle.std.specs.List.{flat_map}
-use Rattle.report_text.specs.Text.{HasSpaces}
 use Rattle.coflow_units.specs.Text.{spaced}
+use Rattle.report_text.proofs.DigitText.{is_short}
 
 -- how many bytes the numbers take
 abbrev pub width : List ℕ → ℕ
 width flows = length (flat_map spaced flows)
 
-pub width_more : (flows : List ℕ) (k : ℕ) → k < length flows → width (take (k + 1) flows) ≡ width (take k flows) + 1 + length (decimal (get_or flows k 0))
-width_more flows k lt =
+-- one number more
+pub flows_more : (flows : List ℕ) (k : ℕ) → k < length flows → flat_map spaced (take (k + 1) flows) ≡ flat_map spaced (take k flows) ++ spaced (get_or flows k 0)
+flows_more flows k lt =
     let n = get_or flows k 0 in
-    let parts : flat_map spaced (take (k + 1) flows) ≡ flat_map spaced (take k flows) ++ flat_map spaced (n ∷ []) = ap (flat_map spaced) (take_more flows k 0 lt) ∙
-    flat_map-append spaced (take k flows) (n ∷ []) in
-    omega (
-      arith,
-      ap length parts,
-      length-append (flat_map spaced (take k flows)) (flat_map spaced (n ∷ [])),
-      length-append (spaced n) [],
-    )
+    ap (flat_map spaced) (take_more flows k 0 lt) ∙ (flat_map-append spaced (take k flows) (n ∷ []) ∙ ap (λ x. flat_map spaced (take k flows) ++ x) (append-nil (spaced n)))
 
--- from the number in place `left` on they are written, and the text before them is as it was
-pub record FlowsFrom (before flows first : List ℕ) (left end : ℕ) (text : List ℕ) : Type 0 where
-  pub len : length text ≡ length first
-  pub within : left ≤ length flows
-  pub low : end ≤ length text
-  pub end_is : end ≡ length before + width (take left flows)
-  pub front : take end text ≡ take end first
-  pub back : drop end text ≡ flat_map spaced (drop left flows)
+pub width_more : (flows : List ℕ) (k : ℕ) → k < length flows → width (take (k + 1) flows) ≡ width (take k flows) + 1 + length (decimal (get_or flows k 0))
+width_more flows k lt = omega (arith, ap length (flows_more flows k lt), length-append (flat_map spaced (take k flows)) (spaced (get_or flows k 0)))
 
-pub flows_none : (before flows first : List ℕ) → HasSpaces before flows first → FlowsFrom before flows first (length flows) (length first) first
-flows_none before flows first has = record {
-  len = refl;
-  within = omega arith;
-  low = omega arith;
-  end_is = omega (
-    arith,
-    ap length has,
-    length-append before (replicate (width flows) 32),
-    length-replicate {A = ℕ} (width flows) 32,
-    ap width (take_all (length flows) flows (omega arith)),
-  );
-  front = refl;
-  back = drop_all (length first) first (omega arith) ∙ sym (ap (flat_map spaced) (drop_all (length flows) flows (omega arith)));
-}
+-- the first numbers take no more than all
+pub width_within : (flows : List ℕ) (k : ℕ) → width (take k flows) ≤ width flows
+width_within flows k = omega (
+  arith,
+  ap width (take-append-drop k flows),
+  ap length (flat_map-append spaced (take k flows) (drop k flows)),
+  length-append (flat_map spaced (take k flows)) (flat_map spaced (drop k flows)),
+)
 
--- the space before a number
-space_is : (before flows first : List ℕ) (end at : ℕ) (text buf : List ℕ) → HasSpaces before flows first → length before ≤ at → at + 1 ≤ end → end ≤ length text →
-    length text ≡ length first → take end text ≡ take end first → take (at + 1) buf ≡ take (at + 1) text → get_or buf at 0 ≡ 32
-space_is before flows first end at text buf has from here low len front kept =
-    let inside : at - length before < width flows = omega (
-      arith,
-      low,
-      len,
-      ap length has,
-      length-append before (replicate (width flows) 32),
-      length-replicate {A = ℕ} (width flows) 32,
-      from,
-      here,
-    ) in
-    sym (get_or-take (at + 1) buf at 0 (omega arith)) ∙ ap (λ xs. get_or xs at 0) kept ∙ get_or-take (at + 1) text at 0 (omega arith)
-    ∙ sym (get_or-take end text at 0 (omega (arith, here))) ∙ ap (λ xs. get_or xs at 0) front ∙ get_or-take end first at 0 (omega (arith, here)) ∙ ap (λ xs. get_or xs at 0) has
-    ∙ get_or-append_right before (replicate (width flows) 32) at 0 from ∙ get_or-replicate (width flows) (at - length before) 32 0 inside
+-- a number takes a space and at most ten digits
+pub width_most : (flows : List ℕ) → ((k : ℕ) → get_or flows k 0 < 2 ^ 32) → width flows ≤ 11 * length flows
+width_most [] small = omega arith
+width_most (f ∷ flows) small = omega (arith, length-append (spaced f) (flat_map spaced flows), is_short f (small 0), width_most flows (λ k. small (suc k)))
 
-pub flows_step : (before flows first : List ℕ) (left end start : ℕ) (text buf : List ℕ) → HasSpaces before flows first → left < length flows →
-    FlowsFrom before flows first (left + 1) end text → length buf ≡ length text → start + length (decimal (get_or flows left 0)) ≡ end →
-    drop start buf ≡ decimal (get_or flows left 0) ++ drop end text → take start buf ≡ take start text → FlowsFrom before flows first left (start - 1) buf
-flows_step before flows first left end start text buf has lt so_far len start_is written kept =
-    let n = get_or flows left 0 in
-    let more = width_more flows left lt in
-    let at = start - 1 in
-    let next : start ≡ at + 1 = omega (arith, start_is, so_far.end_is, more) in
-    let place : at ≡ length before + width (take left flows) = omega (arith, start_is, so_far.end_is, more) in
-    let space = space_is before flows first end at text buf has (omega (arith, place)) (omega (arith, next, start_is)) so_far.low so_far.len so_far.front
-    (ap (λ k. take k buf) (sym next) ∙ kept ∙ ap (λ k. take k text) next) in
-    let inside : at < length buf = omega (arith, next, start_is, so_far.low, len) in
-    let follows : suc at ≡ start = omega (arith, next) in
-    let flow : suc left ≡ left + 1 = omega arith in
-    record {
-      len = len ∙ so_far.len;
-      within = omega (arith, lt);
-      low = omega (arith, inside);
-      end_is = place;
-      front = sym (take-take at start buf (omega (arith, next))) ∙ ap (take at) kept ∙ take-take at start text (omega (arith, next))
-          ∙ sym (take-take at end text (omega (arith, next, start_is))) ∙ ap (take at) so_far.front ∙ take-take at end first (omega (arith, next, start_is));
-      back = drop-cons buf at 0 inside ∙ ap (λ x. x ∷ drop (suc at) buf) space ∙ ap (λ k. 32 ∷ drop k buf) follows ∙ ap (λ xs. 32 ∷ xs) written
-          ∙ ap (λ xs. 32 ∷ (decimal n ++ xs)) so_far.back
-          ∙ ap (λ k. 32 ∷ (decimal n ++ flat_map spaced (drop k flows))) (sym flow) ∙ sym (ap (flat_map spaced) (drop-cons flows left 0 lt));
-    }
-
--- room for one more number
-pub flows_room : (before flows first : List ℕ) (left end : ℕ) (text : List ℕ) → left < length flows → FlowsFrom before flows first (left + 1) end text →
-    length (decimal (get_or flows left 0)) + 1 ≤ end
-flows_room before flows first left end text lt so_far = omega (arith, so_far.end_is, width_more flows left lt)
-
-pub flows_all : (before flows first : List ℕ) (end : ℕ) (text : List ℕ) → HasSpaces before flows first → FlowsFrom before flows first 0 end text →
-    text ≡ before ++ flat_map spaced flows
-flows_all before flows first end text has so_far =
-    let place : end ≡ length before = omega (arith, so_far.end_is) in
-    sym (take-append-drop end text) ∙ ap (λ xs. xs ++ drop end text) (so_far.front ∙ ap (λ k. take k first) place ∙ ap (take (length before)) has
-    ∙ take_front before (replicate (width flows) 32)) ∙ ap (λ xs. before ++ xs) so_far.back
+-- a text that grew by as many bytes as the numbers take, unless it is longer than any
+pub grown_by : (text filled flows : List ℕ) (end : ℕ) → filled ≡ take end text ++ replicate {A = ℕ} (end - length text) 0 →
+    end ≡ min (length text + min (width flows) (2 ^ 64 - 1)) (2 ^ 64 - 1) → length filled < 2 ^ 64 - 1 → length text < 2 ^ 64 - 1 →
+    (length filled ≡ length text + width flows) × (take (length text) filled ≡ text)
+grown_by text filled flows end grown is small fits = (
+  omega (arith, is, small, size, length-replicate {A = ℕ} (end - length text) 0, ap length whole),
+  ap (take (length text)) (grown ∙ ap (λ xs. xs ++ replicate (end - length text) 0) whole) ∙ take_at text (replicate (end - length text) 0) (length text) refl,
+)
   where
-    take_front : (xs ys : List ℕ) → take (length xs) (xs ++ ys) ≡ xs
-    take_front xs ys = take_at xs ys (length xs) refl
+    whole : take end text ≡ text
+    whole = take_all end text (omega (arith, is, fits))
 
--- as many spaces as the numbers take, unless the text is longer than any
-pub spaces_grown : (text filled flows : List ℕ) (end : ℕ) → filled ≡ take end text ++ replicate (end - length text) 32 →
-    end ≡ min (length text + min (width flows) (2 ^ 64 - 1)) (2 ^ 64 - 1) → length filled < 2 ^ 64 - 1 → length text < 2 ^ 64 - 1 → HasSpaces text flows filled
-spaces_grown text filled flows end grown is small fits =
-    let size = ap length grown ∙ length-append (take end text) (replicate (end - length text) 32) in
-    let place : end ≡ length text + width flows = omega (
-      arith,
-      is,
-      small,
-      fits,
-      size,
-      length-take-le end text,
-      length-replicate {A = ℕ} (end - length text) 32,
-      ap length (take_all end text (omega (arith, is, fits))),
-    ) in
-    let more : end - length text ≡ width flows = omega (arith, place) in
-    grown ∙ ap (λ xs. xs ++ replicate (end - length text) 32) (take_all end text (omega (arith, place))) ∙ ap (λ k. text ++ replicate k 32) more
+    size : length filled ≡ length (take end text) + length (replicate {A = ℕ} (end - length text) 0)
+    size = ap length grown ∙ length-append (take end text) (replicate {A = ℕ} (end - length text) 0)
+
+-- a space and the digits of a number stand behind the text
+pub number_behind : (n end start last : ℕ) (text new : List ℕ) → end < length text → last ≡ end + (1 + length (decimal n)) → start + length (decimal n) ≡ last →
+    drop start new ≡ decimal n ++ drop last (set text end 32) → take start new ≡ take start (set text end 32) → take last new ≡ take end text ++ spaced n
+number_behind n end start last text new lt last_is start_is written kept =
+    let at : start ≡ end + 1 = omega (arith, last_is, start_is) in
+    let width = length (decimal n) in
+    let digits : take width (drop start new) ≡ decimal n = ap (take width) written ∙ take_at (decimal n) (drop last (set text end 32)) width refl in
+    let front : take start new ≡ take end text ++ (32 ∷ []) = kept ∙ (ap (λ k. take k (set text end 32)) at ∙ take_more_set text end 32 lt) in
+    ap (λ k. take k new) (sym start_is) ∙ (take-add start width new ∙ (ap (λ x. x ++ take width (drop start new)) front
+    ∙ (ap (λ x. (take end text ++ (32 ∷ [])) ++ x) digits ∙ append_assoc (take end text) (32 ∷ []) (decimal n))))
+
+-- the numbers so far, and one more
+pub flows_step : (flows first text new : List ℕ) (k from end start last : ℕ) → k < length flows → end < length text → last ≡ end + (1 + length (decimal (get_or flows k 0))) →
+    start + length (decimal (get_or flows k 0)) ≡ last → drop start new ≡ decimal (get_or flows k 0) ++ drop last (set text end 32) →
+    take start new ≡ take start (set text end 32) →
+    take end text ≡ take from first ++ flat_map spaced (take k flows) → take last new ≡ take from first ++ flat_map spaced (take (k + 1) flows)
+flows_step flows first text new k from end start last lt fits last_is start_is written kept so_far =
+    let n = get_or flows k 0 in
+    number_behind n end start last text new fits last_is start_is written kept ∙ (ap (λ x. x ++ spaced n) so_far
+    ∙ (append_assoc (take from first) (flat_map spaced (take k flows)) (spaced n) ∙ ap (λ x. take from first ++ x) (sym (flows_more flows k lt))))

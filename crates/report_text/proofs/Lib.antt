@@ -20,5 +20,4 @@ pub mod TextLaws
 pub mod TextLengths
 pub mod TextSteps
 pub mod WholeLines
-pub mod WrittenFlows
 pub mod WrittenLines

@@ -1,9 +1,9 @@
 -- A text that grows by a line, or by lines.
-use Rattle.std.proofs.Common.{◌≡◌, ℕ, ◌<◌, ◌≤◌, ◌+◌, Option, List, [], ◌∷◌, ◌++◌, append_assoc, append-nil, length, map, take, get_or, sym, ap, ◌∙◌, zero-add}
+use Rattle.std.proofs.Common.{◌≡◌, ℕ, ◌<◌, ◌+◌, Option, List, [], ◌∷◌, ◌++◌, append_assoc, append-nil, length, map, take, get_or, sym, ap, ◌∙◌, zero-add}
 use Rattle.std.specs.Prelude.{Err, Ok, OnOk, Result, codes}
 use Rattle.std.specs.List.{range_with_len}
 use Rattle.std.proofs.lemmas.Grind.{flat_map-append}
-use Rattle.std.proofs.lemmas.List.{map_more, take_all}
+use Rattle.std.proofs.lemmas.List.{map_more}
 use Rattle.std.proofs.lemmas.List.FromFn.{map-range_with_len_more}
 use Rattle.coflow_units.specs.declared.plan.Run.{Run}
 use Rattle.report_text.specs.declared.value.PlaceLine.{PlaceLine}
@@ -58,11 +58,6 @@ whole r version places totals all v p t e =
     let to_places = lines_more first (place_lines r) version places (v ∙ sym (append-nil (ended (version_line r.weights)))) p in
     let to_totals = lines_more (first ++ place_lines r) (total_lines r) places totals to_places t in
     served (first ++ place_lines r ++ total_lines r) r.runs totals all to_totals e
-
--- the lines of all elements
-pub each_done : {X : Type 0} (line : X → List ℕ) (xs : List X) (k : ℕ) (front text : List ℕ) → length xs ≤ k → text ≡ front ++ text_of (map line (take k xs)) →
-    text ≡ front ++ text_of (map line xs)
-each_done line xs k front text le old = old ∙ ap (λ ys. front ++ text_of (map line ys)) (take_all k xs le)
 
 -- the lines of all places
 pub places_done : (r : Report) (k : ℕ) (front text : List ℕ) → k ≡ length r.places → text ≡ front ++ text_of (map (place_line_at r) (range_with_len 0 k)) →

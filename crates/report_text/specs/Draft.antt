@@ -1,7 +1,6 @@
 -- A report that was read in part.
-use Rattle.std.specs.Prelude.{◌≡◌, ◌≢◌, ℕ, ◌-◌, ◌<◌, ◌++◌, Bool, true, false, List, [], ◌∷◌, Option, Some, None, length}
+use Rattle.std.specs.Prelude.{◌≡◌, ◌≢◌, ℕ, ◌++◌, Bool, true, false, List, [], ◌∷◌, Option, Some, None}
 use Rattle.std.specs.Prelude.{map, sum_by}
-use Rattle.std.specs.List.{slice_index_or}
 use Rattle.coflow_units.specs.declared.plan.Run.{Run}
 use Rattle.report_text.specs.declared.draft.Stage.{Stage}
 use Rattle.report_text.specs.declared.draft.Stage.TheVariants.{Version, Places, Slack, Cost, Runs, Done}
@@ -60,11 +59,6 @@ Refuses d line = (r : Report) (more : List (List ℕ)) → IsReport r → HasSma
 abbrev pub Takes : Draft → Draft → List ℕ → Bool → Type 0
 Takes old new line true = IsDraft new × (draft_lines new ≡ draft_lines old ++ (line ∷ []))
 Takes old new line false = Refuses old line
-
--- the answer tells whether the run's flows differ from those of the last run
-abbrev pub Differs : List Run → List ℕ → Bool → Type 0
-Differs runs flows true = (d : Run) → 0 < length runs → (slice_index_or runs (length runs - 1) d).flows ≢ flows
-Differs runs flows false = (d : Run) → (0 < length runs) × ((slice_index_or runs (length runs - 1) d).flows ≡ flows)
 
 -- the report is finished where its last line was read
 abbrev pub Finishes : Draft → Option Report → Type 0

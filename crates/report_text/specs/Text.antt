@@ -1,6 +1,6 @@
 -- The text of a report, line by line.
 use Rattle.coflow_units.specs.Text.{spaced, text_of}
-use Rattle.std.specs.Prelude.{◌≡◌, ℕ, ◌+◌, ◌++◌, List, [], ◌∷◌, Option, Some, None, length, map, replicate, codes}
+use Rattle.std.specs.Prelude.{ℕ, ◌+◌, ◌++◌, List, [], ◌∷◌, Option, Some, None, length, map, codes}
 use Rattle.std.specs.List.{flat_map, range_with_len, slice_index_or}
 use Rattle.coflow_units.specs.declared.fabric.Side.{Side}
 use Rattle.coflow_units.specs.declared.fabric.Side.TheVariants.{Ingress, Egress}
@@ -87,7 +87,3 @@ report_lines r = (version_line r.weights ∷ []) ++ place_lines r ++ total_lines
 -- the text of a report
 abbrev pub report_text : Report → List ℕ
 report_text r = text_of (report_lines r)
-
--- a text, with as many spaces behind it as the numbers of the flows take, each behind a space
-abbrev pub HasSpaces : List ℕ → List ℕ → List ℕ → Type 0
-HasSpaces before flows text = text ≡ before ++ replicate (length (flat_map spaced flows)) 32

@@ -1,7 +1,7 @@
 //! A report that is read line by line.
 ghost use Rattle.std.specs.Prelude.{◌≡◌, ◌+◌, ◌++◌, [], IfOk, None, OnOk, length};
 ghost use Rattle.report_text.specs.declared.draft.Stage.TheVariants.{Version as AtVersion, Places as AtPlaces, Slack as AtSlack, Cost as AtCost, Runs as AtRuns, Done as AtDone};
-ghost use Rattle.report_text.specs.Draft.{Differs, Finishes, IsDraft, Takes, draft_lines, report_of};
+ghost use Rattle.report_text.specs.Draft.{Finishes, IsDraft, Takes, draft_lines, report_of};
 ghost use Rattle.report_text.specs.Readers.{IsPlaceOf, IsRunOf, weights_list};
 
 use crate::parts::{is_end, place_of, run_of, total_of, version_of};
@@ -191,7 +191,7 @@ impl Draft {
         if run.length > MAX_SLOT - self.slots {
             return Ok(false);
         }
-        if !differs(&self.runs, run.flows.as_slice()) {
+        if self.runs.ends_with(run.flows.as_slice()) {
             return Ok(false);
         }
         self.slots += run.length;
@@ -222,11 +222,4 @@ fn push_weight(weights: &mut Vec<u64>, weight: Option<u64>) -> Result<(), NoMemo
         weights.push(weight)?;
     }
     Ok(())
-}
-
-/// Whether the flows differ from those of the last run, or there is no run.
-pub fn differs(runs: &Runs, flows: &[u32]) -> bool
-    ensures { Differs runs.now flows.now result }
-{
-    !runs.ends_with(flows)
 }

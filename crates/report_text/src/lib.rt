@@ -21,7 +21,6 @@ mod writing;
 
 pub use classed::{ClassText, Member, write_classes};
 pub use compared::{Compare, RowLine, RowText, write_compare};
-pub use draft::differs;
 pub use fault::ReportFault;
 pub use lines::{count_then, line_then, number_then, side_then};
 pub use made::{Made, write_made};

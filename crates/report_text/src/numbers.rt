@@ -1,7 +1,6 @@
 //! Numbers in texts.
-ghost use Rattle.std.specs.Prelude.{◌≡◌, ℕ, ◌-◌, ◌^◌, ◌++◌, List, OnOk, decimal, length, min};
+ghost use Rattle.std.specs.Prelude.{◌≡◌, ◌+◌, ◌-◌, ◌≤◌, ◌^◌, ◌++◌, OnOk, decimal, length, min, take};
 ghost use Rattle.std.specs.List.{flat_map};
-ghost use Rattle.report_text.specs.Text.{HasSpaces};
 ghost use Rattle.coflow_units.specs.Text.{ended, spaced};
 
 use coflow_units::NoMemory;
@@ -27,29 +26,30 @@ pub fn push_named(text: &mut Vec<u8>, name: &[u8], number: u128) -> Result<(), N
     Ok(())
 }
 
-/// Writes the numbers of flows, each behind a space, at the end of the text. The error is want of memory. They are written where they stay: the text grows by spaces, and the digits are written into it from its end on.
+/// Writes the numbers of flows, each behind a space, at the end of the text. The error is want of memory.
 pub fn push_flows(text: &mut Vec<u8>, flows: &[u32]) -> Result<(), NoMemory>
     ensures { OnOk result (text.new.items ≡ text.old.items ++ flat_map spaced flows.now) }
 {
-    let end = text.len().saturating_add(width_of_flows(flows));
-    text.resize(end, b' ')?;
-    write_flows(flows, text);
+    let start = text.len();
+    text.resize(start.saturating_add(width_of_flows(flows)), 0)?;
+    write_flows(flows, text, start);
     Ok(())
 }
 
-/// Writes the numbers of flows to the end of a text that has spaces there.
-fn write_flows(flows: &[u32], text: &mut [u8])
-    requires { (before : List ℕ) × HasSpaces before flows.now text.old }
+/// Writes the numbers of flows, each behind a space, into a text from a place on, and answers where they end.
+pub(crate) fn write_flows(flows: &[u32], text: &mut [u8], start: usize) -> usize
+    requires { start + length (flat_map spaced flows.now) ≤ length text.old }
     ensures len { length text.new ≡ length text.old }
-    ensures text { (before : List ℕ) → HasSpaces before flows.now text.old →
-        text.new ≡ before ++ flat_map spaced flows.now }
+    ensures end { result ≡ start + length (flat_map spaced flows.now) }
+    ensures text { take result text.new ≡ take start text.old ++ flat_map spaced flows.now }
 {
-    let mut end = text.len();
-    let mut left = flows.len();
-    'flows: while left > 0 {
-        left -= 1;
-        end = write_digits(u64::from(flows[left]), text, end) - 1;
+    let mut end = start;
+    for flow in flows {
+        text[end] = b' ';
+        end += 1 + width_of(*flow);
+        write_digits(u64::from(*flow), text, end);
     }
+    end
 }
 
 /// How many bytes the numbers of flows take, each behind a space, or the greatest number where they take more.
@@ -64,7 +64,7 @@ fn width_of_flows(flows: &[u32]) -> usize
 }
 
 /// How many digits a number has.
-pub(crate) fn width_of(number: u32) -> usize
+fn width_of(number: u32) -> usize
     ensures { result ≡ length (decimal number) }
 {
     match number {

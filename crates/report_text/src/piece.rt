@@ -1,5 +1,5 @@
 //! The piece in which the end of a text waits for a sink.
-ghost use Rattle.std.specs.Prelude.{◌≡◌, ◌+◌, ◌*◌, ◌≤◌, ◌++◌, [], IfOk, OnOk, length, take};
+ghost use Rattle.std.specs.Prelude.{◌≡◌, ◌+◌, ◌*◌, ◌≤◌, ◌++◌, [], IfOk, OnOk, length};
 ghost use Rattle.std.specs.List.{flat_map};
 ghost use Rattle.coflow_units.specs.Text.{ended, spaced};
 ghost use Rattle.report_text.specs.declared.piece.TheConstants.{FLOW_BYTES, ROOM};
@@ -7,9 +7,9 @@ ghost use Rattle.report_text.specs.Puts.{Faults, Puts};
 ghost use Rattle.report_text.specs.Text.{run_line};
 ghost use Rattle.run_list.specs.Runs.{run_of};
 
-use crate::numbers::width_of;
+use crate::numbers::write_flows;
 use coflow_units::NoMemory;
-use itoa::{Buffer, write_digits};
+use itoa::Buffer;
 use outside::{Failed, Sink, write_all};
 use std::alloc::Global;
 use std::marker::Model;
@@ -23,7 +23,7 @@ const FLOWS_AT_ONCE: usize = 1_024;
 /// How many bytes a flow has at most: a space and ten digits.
 const FLOW_BYTES: usize = 11;
 
-/// The bytes that wait for a sink. Those that are put go behind them, and where there is no room for more the sink takes them all.
+/// The bytes that wait for a sink. Those that are put go behind them, and where there is no room for more the sink takes them all. `Failed` is the sink's; after it the piece is of no use.
 #[derive(Drop)]
 pub(crate) struct Piece {
     bytes: Vec<u8>,
@@ -146,20 +146,4 @@ impl Piece {
         self.put_flows(sink, flows)?;
         self.put(sink, b"\n")
     }
-}
-
-/// Writes the numbers of flows, each behind a space, into a text from a place on, and answers where they end.
-fn write_flows(flows: &[u32], text: &mut [u8], start: usize) -> usize
-    requires { start + FLOW_BYTES * length flows.now ≤ length text.old }
-    ensures len { length text.new ≡ length text.old }
-    ensures end { result ≤ start + FLOW_BYTES * length flows.now }
-    ensures text { take result text.new ≡ take start text.old ++ flat_map spaced flows.now }
-{
-    let mut end = start;
-    for flow in flows {
-        text[end] = b' ';
-        end += 1 + width_of(*flow);
-        write_digits(u64::from(*flow), text, end);
-    }
-    end
 }

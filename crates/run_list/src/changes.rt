@@ -1,5 +1,6 @@
 //! What changes from the flows of one run to those of the next.
-ghost use Rattle.std.specs.Prelude.{◌≡◌, ◌+◌, ◌<◌, ◌≤◌, ◌^◌, ◌++◌, Ok, false, true, IfOk, OnErr, drop, length, min, take};
+ghost use Rattle.std.specs.Prelude.{◌≡◌, ℕ, ◌+◌, ◌<◌, ◌≤◌, ◌^◌, ◌++◌, Ok, false, true, IfOk, OnErr, drop, length, min, take};
+ghost use Rattle.std.specs.List.{slice_index_or};
 ghost use Rattle.std.specs.List.Sorted.{IsStrictlyIncreasing};
 ghost use Rattle.run_list.specs.Kept.{flows_of, toggled};
 
@@ -90,6 +91,72 @@ fn tell_changes(numbers: &mut Vec<u32>, before: &[u32], flows: &[u32]) -> Result
 
 /// Writes the numbers that stand in just one of two ascending lists to the start of a buffer, ascending, and answers how many they are.
 pub(crate) fn toggle(flows: &[u32], changes: &[u32], into: &mut [u32]) -> usize
+    requires ascending { IsStrictlyIncreasing flows.now }
+    requires room { length (toggled flows.now changes.now) ≤ length into.old }
+    ensures count { result ≡ length (toggled flows.now changes.now) }
+    ensures written { take result into.new ≡ toggled flows.now changes.now }
+{
+    // Where the changes stand close together, a merge is faster than a search for each.
+    if changes.len() < flows.len() / 8 {
+        toggle_few(flows, changes, into)
+    } else {
+        merge(flows, changes, into)
+    }
+}
+
+/// The same where the changes are few: the flows between them are copied as they stand.
+fn toggle_few(flows: &[u32], changes: &[u32], into: &mut [u32]) -> usize
+    requires ascending { IsStrictlyIncreasing flows.now }
+    requires room { length (toggled flows.now changes.now) ≤ length into.old }
+    ensures count { result ≡ length (toggled flows.now changes.now) }
+    ensures written { take result into.new ≡ toggled flows.now changes.now }
+{
+    let mut place = 0;
+    let mut count = 0;
+    for &change in changes {
+        let end = place + count_below(&flows[place..], change);
+        count = append(into, count, &flows[place..end]);
+        place = end;
+        if place < flows.len() && flows[place] == change {
+            place += 1;
+        } else {
+            into[count] = change;
+            count += 1;
+        }
+    }
+    append(into, count, &flows[place..])
+}
+
+/// How many of some ascending numbers are below a bound.
+fn count_below(numbers: &[u32], bound: u32) -> usize
+    requires ascending { IsStrictlyIncreasing numbers.now }
+    ensures within { result ≤ length numbers.now }
+    ensures below { (k : ℕ) → k < result → slice_index_or numbers.now k 0 < bound }
+    ensures rest { result < length numbers.now → bound ≤ slice_index_or numbers.now result 0 }
+{
+    let mut place = leap_below(numbers, bound);
+    while place < numbers.len() && numbers[place] < bound {
+        place += 1;
+    }
+    place
+}
+
+/// As many of some ascending numbers as are below a bound, but for at most 15.
+fn leap_below(numbers: &[u32], bound: u32) -> usize
+    requires ascending { IsStrictlyIncreasing numbers.now }
+    ensures within { result ≤ length numbers.now }
+    ensures below { (k : ℕ) → k < result → slice_index_or numbers.now k 0 < bound }
+    ensures near { result + 16 ≤ length numbers.now → bound ≤ slice_index_or numbers.now (result + 15) 0 }
+{
+    let mut place = 0;
+    while numbers.len() - place >= 16 && numbers[place + 15] < bound {
+        place += 16;
+    }
+    place
+}
+
+/// The same, number by number.
+fn merge(flows: &[u32], changes: &[u32], into: &mut [u32]) -> usize
     requires room { length (toggled flows.now changes.now) ≤ length into.old }
     ensures count { result ≡ length (toggled flows.now changes.now) }
     ensures written { take result into.new ≡ toggled flows.now changes.now }

@@ -1,5 +1,5 @@
 //! A list of runs.
-ghost use Rattle.std.specs.Prelude.{◌≡◌, ◌≢◌, ◌+◌, ◌<◌, ◌≤◌, ◌++◌, ◌^◌, ◌∷◌, ℕ, [], IfOk, OnErr, OnOk, length, slice_set};
+ghost use Rattle.std.specs.Prelude.{◌≡◌, ◌+◌, ◌<◌, ◌≤◌, ◌++◌, ◌^◌, ◌∷◌, ℕ, [], IfOk, OnErr, OnOk, length, slice_set};
 ghost use Rattle.std.specs.List.{slice_index_or};
 ghost use Rattle.std.specs.List.Sorted.{IsStrictlyIncreasing};
 ghost use Rattle.coflow_units.specs.declared.plan.Run.{Run};
@@ -85,7 +85,7 @@ impl Runs {
 
     /// Appends a run of so many slots that serves the flows, whose numbers ascend strictly. What it repeats of the run before it is not kept again.
     ///
-    /// `NoMemory` says that there was no room for the run, and leaves the list as it was.
+    /// `NoMemory` says that there was no room for the run, or that it has 2^32 flows or more, and leaves the list as it was.
     pub fn push(&mut self, slots: u64, flows: &[u32]) -> Result<(), NoMemory>
         requires { IsStrictlyIncreasing flows.now }
         ensures pushed { OnOk result (self.new ≡ self.old ++ run_of slots flows.now ∷ []) }

@@ -106,6 +106,7 @@ fn follow(
     next: &mut Vec<u32>,
 ) -> usize
     requires held { count ≤ length flows.old.items }
+    requires ascending { IsStrictlyIncreasing (take count flows.old.items) }
     requires room { length (told (take count flows.old.items) whole numbers.now) ≤ length flows.old.items }
     requires same { length next.old.items ≡ length flows.old.items }
     ensures told { take result flows.new.items ≡ told (take count flows.old.items) whole numbers.now }

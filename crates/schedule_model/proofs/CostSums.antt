@@ -53,14 +53,14 @@ cost_more weights ends k cost a b is wa eb =
     let product : a * b ≡ priced weights ends k = ap (λ x. x * b) wa ∙ ap (λ x. slice_index weights k * x) eb in
     omega (arith, is, product, range_more (priced weights ends) 0 k, ap (priced weights ends) place, ap (λ n. sum_by (priced weights ends) (range_with_len 0 n)) next)
 
-priced_below : (a b : ℕ) → a ≤ 4294967296 → b ≤ 18446744073709551615 → a * b ≤ 79228162514264337593543950336
+priced_below : (a b : ℕ) → a ≤ 4294967296 → b ≤ 18446744073709551615 → a * b ≤ 79228162514264337589248983040
 priced_below a b la lb = omega (arith, mul-le-mul_left a lb, la)
 
-pub cost_fits : (weights ends : List ℕ) (k cost a b : ℕ) → All (λ w. w ≤ 4294967296) weights → ((c : ℕ) → slice_index ends c ≤ 18446744073709551615) → k ≤ 4096 →
+pub cost_fits : (weights ends : List ℕ) (k cost a b : ℕ) → All (λ w. w ≤ 4294967296) weights → ((c : ℕ) → slice_index ends c ≤ 18446744073709551615) → k < 4294967296 →
     cost ≡ sum_by (priced weights ends) (range_with_len 0 k) → a ≤ 4294967296 → b ≤ 18446744073709551615 →
     cost + a * b < 340282366920938463463374607431768211456
 cost_fits weights ends k cost a b small short few is la lb =
-    let each = sum_below (priced weights ends) 79228162514264337593543950336 0 k
+    let each = sum_below (priced weights ends) 79228162514264337589248983040 0 k
     (λ c. priced_below (slice_index weights c) (slice_index ends c) (weight_small weights c small) (short c)) in
     omega (arith, is, each, priced_below a b la lb, few)
 
@@ -78,4 +78,5 @@ pub by_place : (f : ℕ → ℕ) (xs : List ℕ) (n : ℕ) → length xs ≡ n �
 by_place f xs n count at = same_lists xs (map f (range_with_len 0 n)) (omega (arith, count, length-map (range_with_len 0 n) f, length-range_with_len 0 n)) (λ k d lt.
     let in' : k < n = omega arith in
     let place : 0 + k ≡ k = omega arith in
-    get_or_default xs k d 0 lt ∙ at k in' ∙ sym (get_or-map f (range_with_len 0 n) k 0 d (omega (arith, length-range_with_len 0 n)) ∙ ap f (get_or-range_with_len 0 n k 0 in' ∙ place)))
+    get_or_default xs k d 0 lt ∙ at k in' ∙ sym (get_or-map f (range_with_len 0 n) k 0 d (omega (arith, length-range_with_len 0 n)) ∙
+    ap f (get_or-range_with_len 0 n k 0 in' ∙ place)))

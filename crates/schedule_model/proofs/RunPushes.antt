@@ -121,7 +121,7 @@ module _ (runs new : List Run) (m : ℕ) (flows : List ℕ) (last : IsLast runs 
       ap (λ f. slots_in runs ++ replicate m f) (same last_place (run_of 0 []) is_last)
 
 -- the runs after a run was appended, or was not for want of memory
-pub kept_pushed : {T E : Type 0} (answer : Result T E) (runs new : List Run) (m : ℕ) (flows : List ℕ) → OnOk answer (new ≡ runs ++ run_of m flows ∷ []) → OnErr answer (new ≡ runs) →
-    IsKept runs → IsLast runs flows false → 1 ≤ m → IsStrictlyIncreasing flows → length (slots_in runs) + m ≤ 2199023255551 → IsKept new
+pub kept_pushed : {T E : Type 0} (answer : Result T E) (runs new : List Run) (m : ℕ) (flows : List ℕ) → OnOk answer (new ≡ runs ++ run_of m flows ∷ []) →
+    OnErr answer (new ≡ runs) → IsKept runs → IsLast runs flows false → 1 ≤ m → IsStrictlyIncreasing flows → length (slots_in runs) + m ≤ 2199023255551 → IsKept new
 kept_pushed (Ok x) runs new m flows pushed refused kept differs some up fits = subst IsKept (sym pushed) (kept_push runs (run_of m flows) kept differs some up fits)
 kept_pushed (Err x) runs new m flows pushed refused kept differs some up fits = subst IsKept (sym refused) kept

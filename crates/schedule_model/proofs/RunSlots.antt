@@ -97,8 +97,9 @@ entered_slots : (runs : List Run) (k slots : ℕ) (walk : Walked) (r : Run) → 
 entered_slots runs k slots walk r same place has =
     has r ∙ ap (λ (xs : List Run). (get_or xs walk.entered r).length) same ∙ ap (λ i. (get_or runs i r).length) place
 
-pub entered_run : (runs : List Run) (k slots : ℕ) (flows : List ℕ) (walk after : Walked) → walk.runs ≡ runs → walk.entered ≡ k → after.runs ≡ walk.runs → after.entered ≡ walk.entered + 1 →
-    ((d : Run) → slots ≡ (get_or walk.runs walk.entered d).length) → ((i : ℕ) (d : Run) → i + 1 ≡ after.entered → flows ≡ (get_or after.runs i d).flows) →
+pub entered_run : (runs : List Run) (k slots : ℕ) (flows : List ℕ) (walk after : Walked) → walk.runs ≡ runs → walk.entered ≡ k → after.runs ≡ walk.runs →
+    after.entered ≡ walk.entered + 1 → ((d : Run) → slots ≡ (get_or walk.runs walk.entered d).length) →
+    ((i : ℕ) (d : Run) → i + 1 ≡ after.entered → flows ≡ (get_or after.runs i d).flows) →
     run_of slots flows ≡ get_or runs k (run_of slots flows)
 entered_run runs k slots flows walk after same place still next has_slots has_flows =
     let r = run_of slots flows in

@@ -1,6 +1,6 @@
 //! When coflows end, and what a schedule costs.
-ghost use Rattle.std.specs.Prelude.{◌≡◌, ◌<◌, ◌≤◌, ◌*◌, ℕ, All, List, IfOk, OnOk, if◌then◌else◌, length, map, slice_index, sum_by};
-ghost use Rattle.coflow_units.specs.declared.limits.TheConstants.{MAX_COFLOWS, MAX_WEIGHT};
+ghost use Rattle.std.specs.Prelude.{◌≡◌, ◌<◌, ◌≤◌, ◌*◌, ◌^◌, ℕ, All, List, IfOk, OnOk, if◌then◌else◌, length, map, slice_index, sum_by};
+ghost use Rattle.coflow_units.specs.declared.limits.TheConstants.{MAX_WEIGHT};
 ghost use Rattle.std.specs.List.{range_with_len};
 ghost use Rattle.coflow_units.specs.declared.fabric.Flow.{Flow};
 ghost use Rattle.coflow_units.specs.Completion.{completion, holds_coflow};
@@ -79,10 +79,10 @@ fn mark_ends(flows: &[Flow], numbers: &[u32], slot: u64, ends: &mut [u64])
 }
 
 /// The sum of weight times completion over the coflows, which both lists have by number: the cost of the schedule in which they end so.
-/// There are at most 4096, with weights of at most 2^32.
+/// There are at most 2^32, with weights of at most 2^32.
 pub fn cost_of(weights: &[u64], ends: &[u64]) -> u128
     requires each { length ends.now ≡ length weights.now }
-    requires few { length weights.now ≤ MAX_COFLOWS }
+    requires few { length weights.now ≤ 2 ^ 32 }
     requires small { All (λ w. w ≤ MAX_WEIGHT) weights.now }
     ensures total { result ≡ sum_by (λ c. slice_index weights.now c * slice_index ends.now c)
         (range_with_len 0 (length weights.now)) }

@@ -1,5 +1,5 @@
 //! The program's job, from the words to the written text.
-ghost use Rattle.std.specs.Prelude.{◌≡◌, ◌≢◌, ◌≤◌, ◌<◌, ◌^◌, ◌⊎◌, ℕ, [], All, Err, IfSome, IsSomeAnd, List, OnErr, OnOk, drop, length, map, take};
+ghost use Rattle.std.specs.Prelude.{◌≡◌, ◌≢◌, ◌≤◌, ◌<◌, ◌^◌, ◌⊎◌, ℕ, [], All, Err, IfSome, IsSomeAnd, List, drop, length, map, take};
 ghost use Rattle.coflow_units.specs.declared.limits.TheConstants.{MAX_CLIENTS, MAX_PORTS};
 ghost use Rattle.coflow_units.specs.declared.quantity.Quantity.{Quantity};
 ghost use Rattle.command_words.specs.Jobs.{report_name, script_name};
@@ -7,7 +7,6 @@ ghost use Rattle.command_words.specs.Jobs.Job.{audit_job, check_job, classes_job
 ghost use Rattle.command_words.specs.Line.{texts};
 ghost use Rattle.command_words.specs.Words.{IsWords, Said};
 ghost use Rattle.outside.specs.Rose.{Rose, RoseOnce};
-ghost use Rattle.outside.specs.Sink.{TakesText};
 ghost use Rattle.rankers.specs.FactsTold.{FactsTold};
 ghost use Rattle.trace_reader.specs.declared.fault.TraceFault.{TraceFault};
 ghost use Rattle.weights.specs.declared.fault.WeightsFault.{WeightsFault};
@@ -101,8 +100,8 @@ use std::thread::Threads;
 /// There is a wire for each ingress port that a trace may have, 1025 of them; further ones are left alone. `plan`, `make`,
 /// `online` and `live` alone use them. Where they tell what they accepted, at `Ok` and `WriteFault` each of them has the
 /// units of the schedule that begin at its port, each once, behind what it had. At `WireFault`, `NoMemory` and a `Limit` of
-/// epochs it has some of these, none twice, or none; of an online run none in a slot at or before its coflow's arrival. At
-/// every other status, and for every other command, it is as before.
+/// epochs it has some of these, none twice, or none, or at `NoMemory` all; of an online run none in a slot at or before its
+/// coflow's arrival. At every other status, and for every other command, it is as before.
 ///
 /// There is a gate for each number that a client of a script may have, 64 of them. `live` alone uses them: for every other
 /// command they are as before.
@@ -111,6 +110,9 @@ use std::thread::Threads;
 /// and `WriteFault` of `compare` the bench is empty; at its `NoMemory` those that were not reached are still there, as
 /// they were and in their order; at all other statuses the bench is as before. Each that is gone was asked with the
 /// facts of the table and the weights that the files give.
+///
+/// A text that ends with a schedule is written as its lines are made, in pieces of bounded size. What that needs of memory is
+/// taken before the first byte.
 ///
 /// Files are looked at one after another, and the first fault ends the job: the trace is read, and then its grammar is
 /// tested; so are the weights; then the table of flows is made; then the report, the printed journal or the script is read,

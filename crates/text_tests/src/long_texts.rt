@@ -23,7 +23,7 @@ fn first_of(run: u32) -> u32
     requires { run < RUNS }
     ensures { result ≤ 20000 }
 {
-    10_000 + 100 * run
+    10_000 + 10 * run
 }
 
 /// The flows of a run: so many numbers, from its first flow on.

@@ -65,7 +65,8 @@ loop-place-preserved-then-first-last c =
     let slots = c.enter-slots.result in
     let first = c.max-first.result in
     let last = c.min-last.result in
-    let part : IsPart window before (before + slots) first last (min window.last before) = part_of window before (before + slots) first last c.max-first.ensures c.min-last.ensures in
+    let part : IsPart window before (before + slots) first last (min window.last before) = part_of window before (before + slots) first last c.max-first.ensures
+    c.min-last.ensures in
     record {
       all = c.loop-place.invariant.all;
       keeps = c.loop-place.invariant.keeps;
@@ -112,7 +113,11 @@ returns-clause-bars c =
     let i = c.loop-place.invariant in
     let few : bar_count i.all ≤ 262144 = few_bars (bar_count i.all) c.loop-place.canvas.count i.keeps.counted (omega (arith, c.if-count-gt-MAX_BARS.false)) in
     subst (IsBars c.args.flows.now (slots_in c.args.runs.now) c.args.ports c.args.window) (sym (i.keeps.whole few))
-    (all_drawn c.args.flows.now c.args.runs.now c.args.ports c.loop-place.place c.loop-place.slots c.args.window i.all (omega (arith, c.loop-place-test.false, c.count-place-end.ensures)) i.slots_are i.row_each i.row)
+    (all_drawn c.args.flows.now c.args.runs.now c.args.ports c.loop-place.place c.loop-place.slots c.args.window i.all (omega (
+      arith,
+      c.loop-place-test.false,
+      c.count-place-end.ensures,
+    )) i.slots_are i.row_each i.row)
 
 pub returns-clause-few : goal.returns-clause-few
 returns-clause-few c =
@@ -124,7 +129,11 @@ pub returns-then-count-gt-MAX_BARS-clause-fault : goal.returns-then-count-gt-MAX
 returns-then-count-gt-MAX_BARS-clause-fault c =
     let i = c.loop-place.invariant in (
       i.all,
-      all_drawn c.args.flows.now c.args.runs.now c.args.ports c.loop-place.place c.loop-place.slots c.args.window i.all (omega (arith, c.loop-place-test.false, c.count-place-end.ensures)) i.slots_are i.row_each i.row,
+      all_drawn c.args.flows.now c.args.runs.now c.args.ports c.loop-place.place c.loop-place.slots c.args.window i.all (omega (
+        arith,
+        c.loop-place-test.false,
+        c.count-place-end.ensures,
+      )) i.slots_are i.row_each i.row,
       many_bars (bar_count i.all) c.loop-place.canvas.count i.keeps.counted c.if-count-gt-MAX_BARS.true,
       i.keeps.counted,
     )

@@ -33,7 +33,8 @@ pub returns-in_ok-ends-in-Served-clause-score : goal.returns-in_ok-ends-in-Serve
 returns-in_ok-ends-in-Served-clause-score g c =
     let are = known g (goal.at.returns-in_ok-ends-in-Served-clause-score g c).In_ok-ends-in-Served c.deref-in-Served.result.now c.deref-in-Served.ensures.value in
     judged_score c.args.table.now c.args.weights.now c.args.order.now c.in_ok-schedule.field-0 c.in-Served.schedule c.cost_of.result c.requires.order c.in-Served.is
-    c.in_ok-schedule.ensures (ends_cost c.args.table.now c.args.weights.now c.in-Served.schedule c.deref-in-Served.result.now c.cost_of.result c.requires.count are c.cost_of.ensures.cost)
+    c.in_ok-schedule.ensures (ends_cost c.args.table.now c.args.weights.now c.in-Served.schedule c.deref-in-Served.result.now c.cost_of.result c.requires.count are
+    c.cost_of.ensures.cost)
 
 pub returns-in_ok-ends-in-Served-clause-told : goal.returns-in_ok-ends-in-Served-clause-told
 returns-in_ok-ends-in-Served-clause-told g c =

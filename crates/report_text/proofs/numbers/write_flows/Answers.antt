@@ -1,38 +1,57 @@
-use Rattle.std.proofs.Common.{◌≡◌, ◌+◌, ◌-◌, ◌<◌, length, refl, subst, ap, ◌∙◌, arith}
+use Rattle.std.proofs.Common.{◌+◌, ◌<◌, ◌++◌, append-nil, length, take, refl, sym, ap, ◌∙◌, arith}
 use Rattle.std.specs.Prelude.{decimal}
-use Rattle.report_text.proofs.FlowsText.{FlowsFrom, flows_all, flows_none, flows_room, flows_step}
+use Rattle.std.specs.List.{flat_map}
+use Rattle.std.proofs.lemmas.List.{length-set, take_all}
+use Rattle.coflow_units.specs.Text.{spaced}
+use Rattle.report_text.proofs.FlowsText.{flows_step, width, width_more, width_within}
 use Rattle.report_text.proofs.numbers.write_flows.Goals as goal
 
-pub flows-init : goal.flows-init
-flows-init c = record { len = refl; so_far = λ before has. flows_none before c.args.flows.now c.args.text.now has }
+pub loop-flow-init : goal.loop-flow-init
+loop-flow-init c = record { len = refl; end = omega arith; text = sym (append-nil (take c.args.start c.args.text.now)) }
 
-pub write_digits-end-requires : goal.write_digits-end-requires
-write_digits-end-requires c =
-    let (before, has) = c.requires in
-    let l = c.flows in
-    let left = l.left - 1 in
-    let next : l.left ≡ left + 1 = omega (arith, c.flows-test.true) in
-    let so_far = subst (λ k. FlowsFrom before c.args.flows.now c.args.text.now k l.end l.text) next (l.invariant.so_far before has) in
-    let lt : left < length c.args.flows.now = omega (arith, so_far.within) in
-    (omega (arith, ap (λ n. length (decimal n)) c.from.ensures, flows_room before c.args.flows.now c.args.text.now left l.end l.text lt so_far), so_far.low)
+pub bounds-text-end : goal.bounds-text-end
+bounds-text-end c =
+    let k = c.loop-flow.flow-index in
+    omega (arith, width_more c.args.flows.now k c.loop-flow-test.true, width_within c.args.flows.now (k + 1))
 
-pub flows-preserved : goal.flows-preserved
-flows-preserved c =
-    let l = c.flows in
-    let left = l.left - 1 in
+pub overflow_add-end : goal.overflow_add-end
+overflow_add-end c =
+    let k = c.loop-flow.flow-index in
+    omega (arith, c.width_of.ensures, width_more c.args.flows.now k c.loop-flow-test.true, width_within c.args.flows.now (k + 1))
+
+pub overflow_add-end-in-loop-flow : goal.overflow_add-end-in-loop-flow
+overflow_add-end-in-loop-flow c =
+    let k = c.loop-flow.flow-index in
+    omega (arith, c.width_of.ensures, width_more c.args.flows.now k c.loop-flow-test.true, width_within c.args.flows.now (k + 1))
+
+pub write_digits-requires : goal.write_digits-requires
+write_digits-requires c =
+    let k = c.loop-flow.flow-index in
+    let more = width_more c.args.flows.now k c.loop-flow-test.true in
+    let within = width_within c.args.flows.now (k + 1) in
+    let digits = ap (λ n. length (decimal n)) c.from.ensures in
+    (omega (arith, c.width_of.ensures, digits), omega (arith, c.width_of.ensures, more, within, length-set c.loop-flow.text c.loop-flow.end 32))
+
+pub loop-flow-preserved : goal.loop-flow-preserved
+loop-flow-preserved c =
+    let k = c.loop-flow.flow-index in
     let number = c.from.ensures in
-    let next : l.left ≡ left + 1 = omega (arith, c.flows-test.true) in
+    let more = width_more c.args.flows.now k c.loop-flow-test.true in
+    let fits : c.loop-flow.end < length c.loop-flow.text = omega (arith, more, width_within c.args.flows.now (k + 1)) in
     record {
-      len = c.write_digits-end.auto.buf ∙ l.invariant.len;
-      so_far = λ before has.
-          let so_far = subst (λ k. FlowsFrom before c.args.flows.now c.args.text.now k l.end l.text) next (l.invariant.so_far before has) in
-          let lt : left < length c.args.flows.now = omega (arith, so_far.within) in
-          flows_step before c.args.flows.now c.args.text.now left l.end c.write_digits-end.result l.text c.write_digits-end.new.buf has lt so_far c.write_digits-end.auto.buf
-          (rw number at c.write_digits-end.ensures.start) (rw number at c.write_digits-end.ensures.written) c.write_digits-end.ensures.before;
+      len = c.write_digits.auto.buf ∙ (length-set c.loop-flow.text c.loop-flow.end 32 ∙ c.loop-flow.invariant.len);
+      end = omega (arith, c.width_of.ensures, more);
+      text =
+          flows_step c.args.flows.now c.args.text.now c.loop-flow.text c.write_digits.new.buf k c.args.start c.loop-flow.end c.write_digits.result
+          (c.loop-flow.end + (1 + c.width_of.result)) c.loop-flow-test.true fits
+          (ap (λ w. c.loop-flow.end + (1 + w)) c.width_of.ensures) (rw number at c.write_digits.ensures.start) (rw number at c.write_digits.ensures.written)
+          c.write_digits.ensures.before c.loop-flow.invariant.text;
     }
 
+pub returns-clause-end : goal.returns-clause-end
+returns-clause-end c = c.loop-flow.invariant.end ∙ ap (λ xs. c.args.start + width xs) (take_all c.loop-flow.flow-index c.args.flows.now c.loop-flow-test.false)
+
 pub returns-clause-text : goal.returns-clause-text
-returns-clause-text c = λ before has.
-    let done : c.flows.left ≡ 0 = omega (arith, c.flows-test.false) in
-    flows_all before c.args.flows.now c.args.text.now c.flows.end c.flows.text has
-    (subst (λ k. FlowsFrom before c.args.flows.now c.args.text.now k c.flows.end c.flows.text) done (c.flows.invariant.so_far before has))
+returns-clause-text c =
+    c.loop-flow.invariant.text
+    ∙ ap (λ xs. take c.args.start c.args.text.now ++ flat_map spaced xs) (take_all c.loop-flow.flow-index c.args.flows.now c.loop-flow-test.false)

@@ -20,7 +20,8 @@ least_repeat-requires-clause-names c =
     let runs = c.args.runs.now in
     let k = c.loop-place.place in
     let r = run_of c.enter-slots.result c.flows-numbers.result.now in
-    let is = entered_run runs k c.enter-slots.result c.flows-numbers.result.now c.loop-place.walk c.enter-slots.new.self c.loop-place.invariant.walk_runs c.loop-place.invariant.walk_place
+    let is = entered_run runs k c.enter-slots.result c.flows-numbers.result.now c.loop-place.walk c.enter-slots.new.self c.loop-place.invariant.walk_runs
+    c.loop-place.invariant.walk_place
     c.enter-slots.ensures.runs c.enter-slots.ensures.entered c.enter-slots.ensures.slots c.flows-numbers.ensures.flows in
     run_holds (All (λ f. f < length flows)) runs k r c.requires.kept (omega arith) is c.requires.names
 
@@ -36,7 +37,8 @@ returns-in-Some c =
     let r = run_of c.enter-slots.result c.flows-numbers.result.now in
     let number = c.in-Some.number in
     let before = slots_in (take k runs) in
-    let is = entered_run runs k c.enter-slots.result c.flows-numbers.result.now c.loop-place.walk c.enter-slots.new.self c.loop-place.invariant.walk_runs c.loop-place.invariant.walk_place
+    let is = entered_run runs k c.enter-slots.result c.flows-numbers.result.now c.loop-place.walk c.enter-slots.new.self c.loop-place.invariant.walk_runs
+    c.loop-place.invariant.walk_place
     c.enter-slots.ensures.runs c.enter-slots.ensures.entered c.enter-slots.ensures.slots c.flows-numbers.ensures.flows in
     let split = run_at runs k r c.requires.kept (omega arith) is in
     let (twice, least) = c.in-Some.ensures.least in
@@ -55,7 +57,8 @@ least_repeat-requires-in-loop-place-clause-names c =
     let runs = c.args.runs.now in
     let k = c.loop-place.place in
     let r = run_of c.enter-slots.result c.flows-numbers.result.now in
-    let is = entered_run runs k c.enter-slots.result c.flows-numbers.result.now c.loop-place.walk c.enter-slots.new.self c.loop-place.invariant.walk_runs c.loop-place.invariant.walk_place
+    let is = entered_run runs k c.enter-slots.result c.flows-numbers.result.now c.loop-place.walk c.enter-slots.new.self c.loop-place.invariant.walk_runs
+    c.loop-place.invariant.walk_place
     c.enter-slots.ensures.runs c.enter-slots.ensures.entered c.enter-slots.ensures.slots c.flows-numbers.ensures.flows in
     run_holds (All (λ f. f < length flows)) runs k r c.requires.kept (omega arith) is c.requires.names
 
@@ -71,7 +74,8 @@ returns-in-Some-least_repeat c =
     let r = run_of c.enter-slots.result c.flows-numbers.result.now in
     let number = c.in-Some-least_repeat.number in
     let before = slots_in (take k runs) in
-    let is = entered_run runs k c.enter-slots.result c.flows-numbers.result.now c.loop-place.walk c.enter-slots.new.self c.loop-place.invariant.walk_runs c.loop-place.invariant.walk_place
+    let is = entered_run runs k c.enter-slots.result c.flows-numbers.result.now c.loop-place.walk c.enter-slots.new.self c.loop-place.invariant.walk_runs
+    c.loop-place.invariant.walk_place
     c.enter-slots.ensures.runs c.enter-slots.ensures.entered c.enter-slots.ensures.slots c.flows-numbers.ensures.flows in
     let split = run_at runs k r c.requires.kept (omega arith) is in
     let (twice, least) = c.in-Some-least_repeat.ensures.least in
@@ -100,7 +104,8 @@ loop-place-preserved c =
     let k = c.loop-place.place in
     let r = run_of c.enter-slots.result c.flows-numbers.result.now in
     let lt : k < length runs = omega arith in
-    let is = entered_run runs k c.enter-slots.result c.flows-numbers.result.now c.loop-place.walk c.enter-slots.new.self c.loop-place.invariant.walk_runs c.loop-place.invariant.walk_place
+    let is = entered_run runs k c.enter-slots.result c.flows-numbers.result.now c.loop-place.walk c.enter-slots.new.self c.loop-place.invariant.walk_runs
+    c.loop-place.invariant.walk_place
     c.enter-slots.ensures.runs c.enter-slots.ensures.entered c.enter-slots.ensures.slots c.flows-numbers.ensures.flows in
     let some : 1 ≤ r.length = run_some runs k r c.requires.kept lt is in
     let up : c.loop-place.slot + 1 ≤ c.loop-place.slot + r.length = omega arith in

@@ -20,7 +20,8 @@ waits_well-requires-clause-names c =
     let there : k < length runs = omega (arith, ap length same) in
     let kept : IsKept runs = subst IsKept (sym same) c.kept-runs.ensures.kept in
     let slots : slots_in runs ≡ c.args.schedule.now = ap slots_in same ∙ c.kept-runs.ensures.slots in
-    let is = entered_run runs k c.enter-slots.result c.flows-slot.result.now c.loop-place.walk c.enter-slots.new.self c.loop-place.invariant.walk_runs c.loop-place.invariant.walk_place
+    let is = entered_run runs k c.enter-slots.result c.flows-slot.result.now c.loop-place.walk c.enter-slots.new.self c.loop-place.invariant.walk_runs
+    c.loop-place.invariant.walk_place
     c.enter-slots.ensures.runs c.enter-slots.ensures.entered c.enter-slots.ensures.slots c.flows-slot.ensures.flows in
     let names : NamesFlows (length flows) (slots_in runs) = subst (NamesFlows (length flows)) (sym slots) c.requires in
     run_holds (All (λ f. f < length flows)) runs k r kept there is names
@@ -36,7 +37,8 @@ returns-then-not-waits_well c =
     let there : k < length runs = omega (arith, ap length same) in
     let kept : IsKept runs = subst IsKept (sym same) c.kept-runs.ensures.kept in
     let slots : slots_in runs ≡ c.args.schedule.now = ap slots_in same ∙ c.kept-runs.ensures.slots in
-    let is = entered_run runs k c.enter-slots.result c.flows-slot.result.now c.loop-place.walk c.enter-slots.new.self c.loop-place.invariant.walk_runs c.loop-place.invariant.walk_place
+    let is = entered_run runs k c.enter-slots.result c.flows-slot.result.now c.loop-place.walk c.enter-slots.new.self c.loop-place.invariant.walk_runs
+    c.loop-place.invariant.walk_place
     c.enter-slots.ensures.runs c.enter-slots.ensures.entered c.enter-slots.ensures.slots c.flows-slot.ensures.flows in
     let split = sym slots ∙ run_at runs k r kept there is in
     let counted = λ (f : ℕ). ap (λ (xs : List ℕ). get_or xs f 0) c.deref-in-loop-place.ensures.value ∙ c.loop-place.invariant.times_are f in (
@@ -57,7 +59,8 @@ add_run-requires-clause-names c =
     let there : k < length runs = omega (arith, ap length same) in
     let kept : IsKept runs = subst IsKept (sym same) c.kept-runs.ensures.kept in
     let slots : slots_in runs ≡ c.args.schedule.now = ap slots_in same ∙ c.kept-runs.ensures.slots in
-    let is = entered_run runs k c.enter-slots.result c.flows-slot.result.now c.loop-place.walk c.enter-slots.new.self c.loop-place.invariant.walk_runs c.loop-place.invariant.walk_place
+    let is = entered_run runs k c.enter-slots.result c.flows-slot.result.now c.loop-place.walk c.enter-slots.new.self c.loop-place.invariant.walk_runs
+    c.loop-place.invariant.walk_place
     c.enter-slots.ensures.runs c.enter-slots.ensures.entered c.enter-slots.ensures.slots c.flows-slot.ensures.flows in
     let all : NamesFlows (length flows) (slots_in runs) = subst (NamesFlows (length flows)) (sym slots) c.requires in
     let names : All (λ f. f < length flows) r.flows = run_holds (All (λ f. f < length flows)) runs k r kept there is all in
@@ -75,7 +78,8 @@ add_run-requires-clause-fits c f =
     let there : k < length runs = omega (arith, ap length same) in
     let kept : IsKept runs = subst IsKept (sym same) c.kept-runs.ensures.kept in
     let slots : slots_in runs ≡ c.args.schedule.now = ap slots_in same ∙ c.kept-runs.ensures.slots in
-    let is = entered_run runs k c.enter-slots.result c.flows-slot.result.now c.loop-place.walk c.enter-slots.new.self c.loop-place.invariant.walk_runs c.loop-place.invariant.walk_place
+    let is = entered_run runs k c.enter-slots.result c.flows-slot.result.now c.loop-place.walk c.enter-slots.new.self c.loop-place.invariant.walk_runs
+    c.loop-place.invariant.walk_place
     c.enter-slots.ensures.runs c.enter-slots.ensures.entered c.enter-slots.ensures.slots c.flows-slot.ensures.flows in
     let at : get_or c.deref_mut-in-loop-place-2.result.now f 0 ≡ times (slots_in (take k runs)) f =
     ap (λ (xs : List ℕ). get_or xs f 0) c.deref_mut-in-loop-place-2.ensures.value ∙ c.loop-place.invariant.times_are f in
@@ -92,7 +96,8 @@ loop-place-preserved c =
     let there : k < length runs = omega (arith, ap length same) in
     let kept : IsKept runs = subst IsKept (sym same) c.kept-runs.ensures.kept in
     let slots : slots_in runs ≡ c.args.schedule.now = ap slots_in same ∙ c.kept-runs.ensures.slots in
-    let is = entered_run runs k c.enter-slots.result c.flows-slot.result.now c.loop-place.walk c.enter-slots.new.self c.loop-place.invariant.walk_runs c.loop-place.invariant.walk_place
+    let is = entered_run runs k c.enter-slots.result c.flows-slot.result.now c.loop-place.walk c.enter-slots.new.self c.loop-place.invariant.walk_runs
+    c.loop-place.invariant.walk_place
     c.enter-slots.ensures.runs c.enter-slots.ensures.entered c.enter-slots.ensures.slots c.flows-slot.ensures.flows in
     let ingress = refill c.waits_well.new.ingress c.loop-place.ingress.items c.loop-place.ingress.len (c.waits_well.auto.ingress ∙ c.deref_mut.ensures.len) in
     let egress = refill c.waits_well.new.egress c.loop-place.egress.items c.loop-place.egress.len (c.waits_well.auto.egress ∙ c.deref_mut-in-loop-place.ensures.len) in

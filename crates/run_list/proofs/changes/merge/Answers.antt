@@ -1,8 +1,8 @@
 use Rattle.std.proofs.Common.{◌≤◌, ◌<◌, length, take, ap, arith}
 use Rattle.std.proofs.lemmas.List.{take_rest}
 use Rattle.run_list.proofs.Merging.{IsMerging-end, length-merged}
-use Rattle.run_list.proofs.changes.toggle.Goals as goal
-use Rattle.run_list.proofs.changes.toggle.Goals.{then-loop-place-test+else-next-changes, else-loop-place-test}
+use Rattle.run_list.proofs.changes.merge.Goals as goal
+use Rattle.run_list.proofs.changes.merge.Goals.{then-loop-place-test+else-next-changes, else-loop-place-test}
 
 pub append-count-requires : goal.append-count-requires
 append-count-requires c =

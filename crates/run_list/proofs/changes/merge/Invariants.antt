@@ -1,6 +1,6 @@
 use Rattle.std.proofs.Common.{◌+◌, ◌-◌, ◌≤◌, length, take}
 use Rattle.run_list.proofs.Merging.{IsMerging}
-use Rattle.run_list.proofs.changes.toggle.Given as goal
+use Rattle.run_list.proofs.changes.merge.Given as goal
 
 abbrev pub invariant-loop-place : goal.invariant-loop-place
 invariant-loop-place l = record {
