@@ -5,7 +5,7 @@ Use: bench/run.py [--peer 'PROGRAM WORD ..'] [SHAPE ..]
      bench/run.py picture      draws windows of 1000 slots of a large plan alone; the exit code is 1 where one takes more than its bound
      bench/run.py compare      times a comparison alone, beside the serving of one order
      bench/run.py [--peer 'PROGRAM WORD ..'] online      times online runs alone, and the check of one
-     bench/run.py [--peer 'PROGRAM WORD ..'] slow        runs once each what takes longest within the limits; it asks for 8 GB of memory
+     bench/run.py [--peer 'PROGRAM WORD ..'] slow        runs once each what takes longest within the limits
      bench/run.py [--peer 'PROGRAM WORD ..'] hall        times plans by a hall alone, by one agent and by four, beside `classes`, which serves its order without a hall
 
 First, on each shape of load, the commands `plan` and `check`, output to /dev/null: seconds of the processor, the least of three runs, and the peak of memory. `--peer` names another program
