@@ -1,10 +1,10 @@
 -- Blocks of cells are made and numbers set in them.
-use Rattle.std.proofs.Common.{◌≡◌, ◌≢◌, ℕ, ◌+◌, ◌*◌, ◌/◌, ◌%◌, ◌<◌, ◌≤◌, inl, inr, Bool, true, false, cond, List, [], ◌∷◌, ◌++◌, length, zero, suc, sym, ap, subst, ◌∙◌, ap₂}
+use Rattle.std.proofs.Common.{◌≡◌, ◌≢◌, ℕ, ◌+◌, ◌*◌, ◌/◌, ◌%◌, ◌<◌, ◌≤◌, inl, inr, Bool, true, false, cond, List, [], ◌∷◌, ◌++◌, length, get_or, zero, suc, sym, ap, subst, ◌∙◌, ap₂}
 use Rattle.std.proofs.Common.{arith, length-set, mod-lt, div-lt_iff_lt-mul, div-add-mod'}
 use Rattle.std.specs.Prelude.{◌==◌, map, replicate, slice_index, slice_set, sum_by}
 use Rattle.std.specs.List.{range_with_len}
 use Rattle.std.proofs.lemmas.Bool.{cases_eq, eq-eqb, ne_eqb}
-use Rattle.std.proofs.lemmas.Grind.{same_number_lists}
+use Rattle.std.proofs.lemmas.Grind.{get_or_default_zero, same_number_lists}
 use Rattle.std.proofs.lemmas.List.{append_assoc, get_or-append-add, get_or_append_left, replicate-append-replicate, get_or-replicate, get_or-set_same, get_or-set_other}
 use Rattle.std.proofs.lemmas.List.{length-append, length-replicate}
 use Rattle.std.proofs.lemmas.List.FromFn.{get_or-map-range_with_len, length-map-range_with_len, length-range_with_len}
@@ -191,6 +191,16 @@ cells_set t room row column q v is lr lc there q_is =
           other_cell t.rows t.columns t.blocks t.numbers room row column k v is lr lc there lk ne in
           new ∙ stays ∙ sym (get_or-set_other (map f (range_with_len 0 n)) at k v 0 ne ∙ get_or-map-range_with_len f 0 n k k 0 lk (omega arith))
     ])
+
+-- what is read from a block that is there is the cell
+pub cell_read : (t : CellTable) (room row column q was : ℕ) → IsBlocks t.rows t.columns t.blocks t.numbers room → row < t.rows → column < t.columns →
+    slice_index t.blocks (row * width t.columns + column / 64) ≢ no_block →
+    q ≡ slice_index t.blocks (row * width t.columns + column / 64) * 64 + column % 64 → was ≡ get_or t.numbers q was →
+    was ≡ slice_index (cells_in t) (row * t.columns + column)
+cell_read t room row column q was is lr lc there q_is read_is =
+    let p = row * width t.columns + column / 64 in
+    let block_in = is.inside p (place_in t.rows t.columns t.blocks row column is.blocks_len lr lc) there in
+    read_is ∙ get_or_default_zero t.numbers q was (omega (arith, q_is, block_in)) ∙ ap (slice_index t.numbers) q_is ∙ sym (cell_in_list t row column lr lc)
 
 pub blocks_set : (rows columns : ℕ) (blocks numbers : List ℕ) (room q v : ℕ) → IsBlocks rows columns blocks numbers room → IsBlocks rows columns blocks (slice_set numbers q v) room
 blocks_set rows columns blocks numbers room q v is = record {

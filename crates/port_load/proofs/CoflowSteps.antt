@@ -1,16 +1,21 @@
 -- A table of loads is filled coflow by coflow.
 use Rattle.std.proofs.Common.{◌≡◌, ◌≢◌, ℕ, ◌+◌, ◌-◌, ◌<◌, ◌≤◌, inl, inr, Bool, true, false, List, length, take, take_all, zero, suc, refl, sym, ap, subst, ◌∙◌, arith}
-use Rattle.std.specs.Prelude.{if◌then◌else◌, slice_index, sum, sum_by}
-use Rattle.std.proofs.lemmas.Bool.{both_ways, cases_Bool, cases_eq, cases_lt}
+use Rattle.std.specs.Prelude.{◌==◌, ◌&&◌, if◌then◌else◌, slice_index, sum, sum_by}
+use Rattle.std.proofs.lemmas.Bool.{both_ways, cases_Bool, cases_eq, cases_lt, ne_eqb}
 use Rattle.std.proofs.lemmas.List.Sums.{get_or-le-sum_by, sum_by-take-le}
 use Rattle.coflow_units.specs.declared.fabric.Flow.{Flow}
 use Rattle.coflow_units.specs.declared.fabric.Port.{Port}
+use Rattle.coflow_units.specs.declared.fabric.Side.{Side}
+use Rattle.coflow_units.specs.declared.fabric.Side.TheVariants.{Ingress, Egress}
 use Rattle.coflow_units.specs.Flows.{coflow_of}
 use Rattle.coflow_units.specs.Load.{load, loads}
 use Rattle.coflow_units.specs.Starts.{IsStarts}
+use Rattle.coflow_units.proofs.Sums.{sum_mono}
 use Rattle.coflow_units.proofs.WhatIsLeft.{same_length}
+use Rattle.port_load.specs.declared.filling.Pending.{Pending}
 use Rattle.port_load.specs.LoadTable.{IsSameSize, LoadTable, is_present, load_at, total_at}
-use Rattle.port_load.proofs.FlowSteps.{flows_left, left_more, none_of, other_coflow, owing_at, total_within, units_are_left}
+use Rattle.port_load.specs.Pending.{pending_at, pending_on}
+use Rattle.port_load.proofs.FlowSteps.{flows_left, left_more, none_of, other_coflow, owing_at, port_of, test_both, total_within, units_are_left}
 
 -- ---- the flows before the start of a coflow and behind its end are of other coflows
 
@@ -58,58 +63,99 @@ whole_behind flows left starts c port k is end le =
 
 -- ---- the flows of one coflow, flow by flow
 
-pub record AddedSoFar (old new : LoadTable) (flows : List Flow) (left : List ℕ) (coflow k : ℕ) : Type 0 where
+-- the flows before the place k are counted, each at its egress port, and at its ingress port together with what is pending
+pub record AddedSoFar (old new : LoadTable) (flows : List Flow) (left : List ℕ) (coflow : ℕ) (p : Pending) (k : ℕ) : Type 0 where
   pub within : k ≤ length flows
   pub size : IsSameSize old new
-  pub own : (port : Port) → port.number < old.ports → load_at new coflow port ≡ load (take k (flows_left left flows)) coflow port
+  pub ingress : 0 < p.units → p.ingress < old.ports
+  pub own : (port : Port) → port.number < old.ports →
+      load_at new coflow port + pending_at coflow p coflow port ≡ load (take k (flows_left left flows)) coflow port
   pub others : (other : ℕ) (port : Port) → other < old.coflows → other ≢ coflow → port.number < old.ports → load_at new other port ≡ load_at old other port
 
-pub added_none : (old : LoadTable) (flows : List Flow) (left starts : List ℕ) (coflow : ℕ) → IsStarts flows starts → coflow < length starts →
+nothing_on : (s : Side) (of : ℕ) (p : Pending) (c n : ℕ) → p.units ≡ 0 → pending_on s of p c n ≡ 0
+nothing_on Ingress of p c n none = none_of ((of == c) && (p.ingress == n)) p.units none
+nothing_on Egress of p c n none = refl
+
+pub added_none : (old : LoadTable) (flows : List Flow) (left starts : List ℕ) (coflow : ℕ) (p : Pending) → p.units ≡ 0 → IsStarts flows starts → coflow < length starts →
     ((port : Port) → port.number < old.ports → load_at old coflow port ≡ 0) →
-    AddedSoFar old old flows left coflow (slice_index starts coflow)
-added_none old flows left starts coflow is lt none = record {
+    AddedSoFar old old flows left coflow p (slice_index starts coflow)
+added_none old flows left starts coflow p nothing is lt none = record {
   within = is.within coflow 0 lt;
   size = record { coflows = refl; ports = refl };
-  own = λ port lp. none port lp ∙ sym (none_before flows left starts coflow port is lt);
+  ingress = λ some. absurd (omega (arith, some, nothing));
+  own = λ port lp. omega (arith, none port lp, none_before flows left starts coflow port is lt, nothing_on port.side coflow p coflow port.number nothing);
   others = λ other port lo ne lp. refl;
 }
 
 -- a flow that has nothing left adds nothing
-pub added_paid : (old new : LoadTable) (flows : List Flow) (left : List ℕ) (coflow k : ℕ) → AddedSoFar old new flows left coflow k → k < length flows →
-    slice_index left k ≡ 0 → AddedSoFar old new flows left coflow (k + 1)
-added_paid old new flows left coflow k so_far lt paid = record {
+pub added_paid : (old new : LoadTable) (flows : List Flow) (left : List ℕ) (coflow : ℕ) (p : Pending) (k : ℕ) → AddedSoFar old new flows left coflow p k → k < length flows →
+    slice_index left k ≡ 0 → AddedSoFar old new flows left coflow p (k + 1)
+added_paid old new flows left coflow p k so_far lt paid = record {
   within = omega (arith, lt);
   size = so_far.size;
+  ingress = so_far.ingress;
   own = λ port lp. so_far.own port lp ∙
       omega (arith, left_more flows left k coflow port lt, none_of (loads coflow port (owing_at left flows k)) (slice_index left k) paid);
   others = so_far.others;
 }
 
-pub added_more : (old between new : LoadTable) (flows : List Flow) (left : List ℕ) (coflow k : ℕ) → AddedSoFar old between flows left coflow k → k < length flows →
-    coflow < old.coflows → coflow_of flows k ≡ coflow →
+-- what is pending of another coflow counts nothing
+not_pending_on : (s : Side) (of : ℕ) (p : Pending) (c n : ℕ) → of ≢ c → pending_on s of p c n ≡ 0
+not_pending_on Ingress of p c n ne = ap (λ b. if (b && (p.ingress == n)) then p.units else 0) (ne_eqb of c ne)
+not_pending_on Egress of p c n ne = refl
+
+pub added_more : (old between new : LoadTable) (flows : List Flow) (left : List ℕ) (coflow : ℕ) (p q : Pending) (k : ℕ) → AddedSoFar old between flows left coflow p k →
+    k < length flows → coflow < old.coflows → coflow_of flows k ≡ coflow → q.ingress < between.ports →
     IsSameSize between new → ((c : ℕ) (port : Port) → c < between.coflows → port.number < between.ports →
-    load_at new c port ≡ load_at between c port + (if loads c port (owing_at left flows k) then slice_index left k else 0)) →
-    AddedSoFar old new flows left coflow (k + 1)
-added_more old between new flows left coflow k so_far lt lc of size adds =
+    load_at new c port + pending_at (coflow_of flows k) q c port
+    ≡ load_at between c port + pending_at (coflow_of flows k) p c port + (if loads c port (owing_at left flows k) then slice_index left k else 0)) →
+    AddedSoFar old new flows left coflow q (k + 1)
+added_more old between new flows left coflow p q k so_far lt lc of in' size adds =
     let coflow_in = λ (c : ℕ) (lo : c < old.coflows). subst (λ n. c < n) (sym so_far.size.coflows) lo in
     let port_in = λ (port : Port) (lp : port.number < old.ports). subst (λ n. port.number < n) (sym so_far.size.ports) lp in
     record {
       within = omega (arith, lt);
       size = record { coflows = size.coflows ∙ so_far.size.coflows; ports = size.ports ∙ so_far.size.ports };
-      own = λ port lp. omega (arith, adds coflow port (coflow_in coflow lc) (port_in port lp), so_far.own port lp, left_more flows left k coflow port lt);
+      ingress = λ some. subst (λ n. q.ingress < n) so_far.size.ports in';
+      own = λ port lp.
+          let own_adds = subst (λ o. load_at new coflow port + pending_at o q coflow port
+          ≡ load_at between coflow port + pending_at o p coflow port + (if loads coflow port (owing_at left flows k) then slice_index left k else 0)) of
+          (adds coflow port (coflow_in coflow lc) (port_in port lp)) in
+          omega (arith, own_adds, so_far.own port lp, left_more flows left k coflow port lt);
       others = λ other port lo ne lp.
+          let apart : coflow_of flows k ≢ other = λ e. ne (sym e ∙ of) in
           omega (
             arith,
             adds other port (coflow_in other lo) (port_in port lp),
             so_far.others other port lo ne lp,
-            other_coflow other (slice_index left k) port (owing_at left flows k) (λ e. ne (sym e ∙ of)),
+            other_coflow other (slice_index left k) port (owing_at left flows k) apart,
+            not_pending_on port.side (coflow_of flows k) p other port.number apart,
+            not_pending_on port.side (coflow_of flows k) q other port.number apart,
           );
     }
 
-pub added_all : (old new : LoadTable) (flows : List Flow) (left starts : List ℕ) (coflow k : ℕ) → AddedSoFar old new flows left coflow k → IsStarts flows starts →
-    slice_index starts (coflow + 1) ≤ k →
+-- what a table gains where that which is pending is added
+abbrev pub GainsPending : LoadTable → LoadTable → ℕ → Pending → Type 0
+GainsPending between new coflow p = (c : ℕ) (port : Port) → c < between.coflows → port.number < between.ports →
+    load_at new c port ≡ load_at between c port + pending_at coflow p c port
+
+pub added_all : (old between new : LoadTable) (flows : List Flow) (left starts : List ℕ) (coflow : ℕ) (p : Pending) (k : ℕ) → AddedSoFar old between flows left coflow p k →
+    IsStarts flows starts → slice_index starts (coflow + 1) ≤ k → coflow < old.coflows → GainsPending between new coflow p →
     (port : Port) → port.number < old.ports → load_at new coflow port ≡ load (flows_left left flows) coflow port
-added_all old new flows left starts coflow k so_far is end port lp = so_far.own port lp ∙ whole_behind flows left starts coflow port k is end so_far.within
+added_all old between new flows left starts coflow p k so_far is end lc gains port lp =
+    gains coflow port (subst (λ n. coflow < n) (sym so_far.size.coflows) lc) (subst (λ n. port.number < n) (sym so_far.size.ports) lp)
+    ∙ so_far.own port lp ∙ whole_behind flows left starts coflow port k is end so_far.within
+
+pub added_others : (old between new : LoadTable) (flows : List Flow) (left : List ℕ) (coflow : ℕ) (p : Pending) (k : ℕ) → AddedSoFar old between flows left coflow p k →
+    GainsPending between new coflow p →
+    (other : ℕ) (port : Port) → other < old.coflows → other ≢ coflow → port.number < old.ports → load_at new other port ≡ load_at old other port
+added_others old between new flows left coflow p k so_far gains other port lo ne lp =
+    omega (
+      arith,
+      gains other port (subst (λ n. other < n) (sym so_far.size.coflows) lo) (subst (λ n. port.number < n) (sym so_far.size.ports) lp),
+      so_far.others other port lo ne lp,
+      not_pending_on port.side coflow p other port.number (λ e. ne (sym e)),
+    )
 
 -- ---- the units of the flows bound each total
 
@@ -129,12 +175,16 @@ pub total_at_most : (t : LoadTable) (flows : List Flow) (left : List ℕ) → Ha
 total_at_most t flows left most same port lp =
     omega (arith, total_within (flows_left left flows) t port lp (λ c lc. most c port lc lp), all_units flows left same)
 
+at_most_all : (b : Bool) (u : ℕ) → (if b then u else 0) ≤ u
+at_most_all true u = omega arith
+at_most_all false u = omega arith
+
 pub one_at_most : (left : List ℕ) (k : ℕ) → k < length left → slice_index left k ≤ sum left
 one_at_most left k lt = get_or-le-sum_by (λ n. n) left k 0 lt
 
-pub added_at_most : (old new : LoadTable) (flows : List Flow) (left : List ℕ) (coflow k : ℕ) → AddedSoFar old new flows left coflow k →
+pub added_at_most : (old new : LoadTable) (flows : List Flow) (left : List ℕ) (coflow : ℕ) (p : Pending) (k : ℕ) → AddedSoFar old new flows left coflow p k →
     HasAtMost old flows left → HasAtMost new flows left
-added_at_most old new flows left coflow k so_far most = λ c port lc lp.
+added_at_most old new flows left coflow p k so_far most = λ c port lc lp.
     let lc' = subst (λ n. c < n) so_far.size.coflows lc in
     let lp' = subst (λ n. port.number < n) so_far.size.ports lp in
     elim (cases_eq c coflow) [
@@ -143,6 +193,24 @@ added_at_most old new flows left coflow k so_far most = λ c port lc lp.
           subst (λ j. load_at new j port ≤ load (flows_left left flows) j port) (sym e) (omega (arith, so_far.own port lp', part))
       | inr ne ↦ omega (arith, so_far.others c port lc' ne lp', most c port lc' lp')
     ]
+
+-- what is pending is within the load of its port, and so within the units of all flows
+pub pending_at_most : (old new : LoadTable) (flows : List Flow) (left : List ℕ) (coflow : ℕ) (p : Pending) (k : ℕ) → AddedSoFar old new flows left coflow p k →
+    length left ≡ length flows → p.units ≤ sum left
+pending_at_most old new flows left coflow p k so_far same = elim (cases_lt 0 p.units) [
+  | inl some ↦
+      let here = so_far.own (port_of Ingress p.ingress) (so_far.ingress some) in
+      let f = λ (x : Flow). if loads coflow (port_of Ingress p.ingress) x then x.units else 0 in
+      omega (
+        arith,
+        here,
+        test_both coflow coflow p.ingress p.ingress p.units refl refl,
+        sum_by-take-le f (flows_left left flows) k,
+        sum_mono f (λ (x : Flow). x.units) (flows_left left flows) (λ x has. at_most_all (loads coflow (port_of Ingress p.ingress) x) x.units),
+        all_units flows left same,
+      )
+  | inr none ↦ omega (arith, none)
+]
 
 -- ---- coflow by coflow
 

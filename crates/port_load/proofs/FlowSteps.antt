@@ -34,7 +34,7 @@ other_number Ingress ports m n ne = ne
 other_number Egress ports m n ne = λ e. ne (omega (arith, e))
 
 -- the test of a coflow and a port, where both are so, and where one is not
-test_both : (a c m n u : ℕ) → a ≡ c → m ≡ n → u ≡ (if ((a == c) && (m == n)) then u else 0)
+pub test_both : (a c m n u : ℕ) → a ≡ c → m ≡ n → u ≡ (if ((a == c) && (m == n)) then u else 0)
 test_both a c m n u e f = sym (rw (eq-eqb a c e, eq-eqb m n f) refl)
 
 test_first : (a c m n u : ℕ) → a ≢ c → 0 ≡ (if ((a == c) && (m == n)) then u else 0)

@@ -3,6 +3,7 @@ pub mod KeptSteps
 pub mod LoadSums
 pub mod ColumnSteps
 pub mod FlowSteps
+pub mod PendingSteps
 pub mod CoflowSteps
 pub mod MarkSteps
 pub mod CellSteps

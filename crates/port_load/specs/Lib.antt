@@ -3,3 +3,4 @@ pub mod MarkTable
 pub mod Kept
 pub mod CellTable
 pub mod Bottleneck
+pub mod Pending

@@ -1,5 +1,5 @@
 //! A table of numbers that takes memory only for the blocks in which numbers were set.
-ghost use Rattle.std.specs.Prelude.{◌≡◌, ◌≢◌, ◌+◌, ◌*◌, ◌/◌, ◌<◌, ◌≤◌, IfOk, length, replicate, slice_index, slice_set};
+ghost use Rattle.std.specs.Prelude.{◌≡◌, ◌≢◌, ◌+◌, ◌*◌, ◌/◌, ◌^◌, ◌<◌, ◌≤◌, IfOk, length, replicate, slice_index, slice_set};
 ghost use Rattle.coflow_units.specs.declared.limits.TheConstants.{MAX_COFLOWS};
 ghost use Rattle.port_load.specs.CellTable.{HasSizeOf, cells_in, no_block};
 
@@ -76,6 +76,34 @@ impl Cells {
         let place = row * (self.columns / 64 + 1) + column / 64;
         self.open(place);
         self.set_in(place, row, column, number);
+    }
+
+    /// Adds to a number, and looks its block up once.
+    pub(crate) fn add(&mut self, row: usize, column: usize, units: u64)
+        requires row_in { row < self.old.rows }
+        requires column_in { column < self.old.columns }
+        requires fits { slice_index (cells_in self.old) (row * self.old.columns + column) + units < 2 ^ 64 }
+        ensures size { HasSizeOf self.old self.new }
+        ensures cells { cells_in self.new ≡ slice_set (cells_in self.old) (row * self.old.columns + column)
+            (slice_index (cells_in self.old) (row * self.old.columns + column) + units) }
+    {
+        let place = row * (self.columns / 64 + 1) + column / 64;
+        self.open(place);
+        self.add_in(place, row, column, units);
+    }
+
+    /// Adds to a number in a block that is there.
+    fn add_in(&mut self, place: usize, row: usize, column: usize, units: u64)
+        requires row_in { row < self.old.rows }
+        requires column_in { column < self.old.columns }
+        requires place_is { place ≡ row * (self.old.columns / 64 + 1) + column / 64 }
+        requires there { slice_index self.old.blocks place ≢ no_block }
+        requires fits { slice_index (cells_in self.old) (row * self.old.columns + column) + units < 2 ^ 64 }
+        ensures size { HasSizeOf self.old self.new }
+        ensures cells { cells_in self.new ≡ slice_set (cells_in self.old) (row * self.old.columns + column)
+            (slice_index (cells_in self.old) (row * self.old.columns + column) + units) }
+    {
+        self.numbers[64 * self.blocks[place] as usize + column % 64] += units;
     }
 
     /// Sets a number in a block that is there.

@@ -1,13 +1,21 @@
 //! A table of loads is filled coflow by coflow.
-ghost use Rattle.std.specs.Prelude.{◌≡◌, ◌≢◌, ℕ, ◌+◌, ◌^◌, ◌<◌, ◌≤◌, true, false, length, slice_index, sum};
+ghost use Rattle.std.specs.Prelude.{◌≡◌, ◌≢◌, ℕ, ◌+◌, ◌^◌, ◌<◌, ◌≤◌, true, false, if◌then◌else◌, length, slice_index, sum};
 ghost use Rattle.coflow_units.specs.declared.fabric.Port.{Port};
 ghost use Rattle.coflow_units.specs.Flows.{with_units};
-ghost use Rattle.coflow_units.specs.Load.{load};
+ghost use Rattle.coflow_units.specs.Load.{load, loads};
 ghost use Rattle.coflow_units.specs.Starts.{IsStarts};
 ghost use Rattle.port_load.specs.LoadTable.{IsSameSize, IsWithin, is_present, load_at, total_at};
+ghost use Rattle.port_load.specs.Pending.{pending_at};
 
 use crate::loads::Loads;
-use coflow_units::Flow;
+use coflow_units::{Flow, Port, Side};
+
+/// The units of the flows met last, all at one ingress port, that the table does not have there yet.
+#[derive(Clone, Copy)]
+struct Pending {
+    ingress: u32,
+    units: u64,
+}
 
 impl Loads {
     /// Does what `fill` does, where the flows stand coflow by coflow, those of each coflow from its start on: the flows of coflows that are not present are not looked at.
@@ -35,7 +43,8 @@ impl Loads {
         }
     }
 
-    /// Adds the loads of a coflow that has none yet, from the units that its flows have left.
+    /// Adds the loads of a coflow that has none yet, from the units that its flows have left. Flows that follow each other at one ingress port are added there
+    /// together.
     fn add_coflow(&mut self, flows: &[Flow], starts: &[u32], left: &[u64], coflow: u32)
         requires within { IsWithin flows.now self.old.coflows self.old.ports }
         requires left_len { length left.now ≡ length flows.now }
@@ -54,18 +63,86 @@ impl Loads {
     {
         let first = starts[coflow as usize];
         let end = starts[coflow as usize + 1];
+        let mut pending = Pending {
+            ingress: 0,
+            units: 0,
+        };
         for number in first..end {
             let units = left[number as usize];
             if units == 0 {
                 continue;
             }
             let flow = flows[number as usize];
-            self.add(Flow {
-                coflow: flow.coflow,
-                ingress: flow.ingress,
-                egress: flow.egress,
-                units,
-            });
+            pending = self.add_next(
+                pending,
+                Flow {
+                    coflow: flow.coflow,
+                    ingress: flow.ingress,
+                    egress: flow.egress,
+                    units,
+                },
+            );
         }
+        self.add_pending(coflow, pending);
+    }
+
+    /// Adds the units of a flow at its egress port. At its ingress port they are pending, together with what was pending there; what was pending at another
+    /// port is added.
+    fn add_next(&mut self, pending: Pending, flow: Flow) -> Pending
+        requires coflow_in { flow.coflow < self.old.coflows }
+        requires ingress_in { flow.ingress < self.old.ports }
+        requires egress_in { flow.egress < self.old.ports }
+        requires pending_in { 0 < pending.units → pending.ingress < self.old.ports }
+        requires units { (port : Port) → port.number < self.old.ports →
+            total_at self.old port + pending.units + flow.units < 2 ^ 64 }
+        ensures size { IsSameSize self.old self.new }
+        ensures ingress { result.ingress ≡ flow.ingress }
+        ensures adds { (coflow : ℕ) (port : Port) → coflow < self.old.coflows → port.number < self.old.ports →
+            load_at self.new coflow port + pending_at flow.coflow result coflow port ≡
+            load_at self.old coflow port + pending_at flow.coflow pending coflow port +
+            (if loads coflow port flow then flow.units else 0) }
+    {
+        self.add_at(
+            flow.coflow,
+            Port {
+                side: Side::Egress,
+                number: flow.egress,
+            },
+            flow.units,
+        );
+        if pending.ingress == flow.ingress {
+            return Pending {
+                ingress: flow.ingress,
+                units: pending.units + flow.units,
+            };
+        }
+        self.add_pending(flow.coflow, pending);
+        Pending {
+            ingress: flow.ingress,
+            units: flow.units,
+        }
+    }
+
+    /// Adds what is pending of a coflow.
+    fn add_pending(&mut self, coflow: u32, pending: Pending)
+        requires coflow_in { coflow < self.old.coflows }
+        requires ingress_in { 0 < pending.units → pending.ingress < self.old.ports }
+        requires units { 0 < pending.units →
+            total_at self.old (record { side = Side.Ingress; number = pending.ingress }) + pending.units < 2 ^ 64 }
+        ensures size { IsSameSize self.old self.new }
+        ensures adds { (other : ℕ) (port : Port) → other < self.old.coflows → port.number < self.old.ports →
+            load_at self.new other port ≡ load_at self.old other port + pending_at coflow pending other port }
+    {
+        if pending.units == 0 {
+            return;
+        }
+        self.add_at(
+            coflow,
+            Port {
+                side: Side::Ingress,
+                number: pending.ingress,
+            },
+            pending.units,
+        );
     }
 }

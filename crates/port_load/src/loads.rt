@@ -1,5 +1,5 @@
 //! The table of loads, and its totals.
-ghost use Rattle.std.specs.Prelude.{◌≡◌, ◌≢◌, ℕ, ◌+◌, ◌*◌, ◌^◌, ◌<◌, ◌≤◌, true, false, List, [], ◌∷◌, IfOk, if◌then◌else◌, length, slice_index, sum, sum_by};
+ghost use Rattle.std.specs.Prelude.{◌≡◌, ◌≢◌, ℕ, ◌+◌, ◌*◌, ◌^◌, ◌<◌, ◌≤◌, true, false, All, IsTrue, List, [], ◌∷◌, IfOk, if◌then◌else◌, length, slice_index, sum, sum_by};
 ghost use Rattle.coflow_units.specs.declared.limits.TheConstants.{MAX_COFLOWS, MAX_PORTS};
 ghost use Rattle.coflow_units.specs.declared.fabric.Flow.{Flow};
 ghost use Rattle.coflow_units.specs.declared.fabric.Port.{Port};
@@ -209,8 +209,28 @@ impl Loads {
         })
     }
 
-    /// Takes all loads away, coflow by coflow along its marks, so that the room that was written stays in use.
+    /// Takes all loads away.
     pub(crate) fn clear(&mut self)
+        ensures size { IsSameSize self.old self.new }
+        ensures none { (coflow : ℕ) (port : Port) → coflow < self.old.coflows → port.number < self.old.ports →
+            load_at self.new coflow port ≡ 0 }
+    {
+        if !self.is_empty() {
+            self.drop_all();
+        }
+        self.forget_marks();
+    }
+
+    /// Whether no port has load: then no coflow has.
+    fn is_empty(&self) -> bool
+        ensures { IsTrue result → (coflow : ℕ) (port : Port) → coflow < self.now.coflows →
+            port.number < self.now.ports → load_at self.now coflow port ≡ 0 }
+    {
+        are_zeros(&self.totals)
+    }
+
+    /// Takes the loads of all coflows away, coflow by coflow along its marks, so that the room that was written stays in use.
+    fn drop_all(&mut self)
         ensures size { IsSameSize self.old self.new }
         ensures none { (coflow : ℕ) (port : Port) → coflow < self.old.coflows → port.number < self.old.ports →
             load_at self.new coflow port ≡ 0 }
@@ -218,7 +238,6 @@ impl Loads {
         for coflow in 0..self.coflows {
             self.drop_coflow(coflow);
         }
-        self.forget_marks();
     }
 
     /// Takes the marks away, where no coflow has load.
@@ -260,7 +279,8 @@ impl Loads {
         );
     }
 
-    fn add_at(&mut self, coflow: u32, port: Port, units: u64)
+    /// Adds units to the load of a coflow on a port.
+    pub(crate) fn add_at(&mut self, coflow: u32, port: Port, units: u64)
         requires coflow_in { coflow < self.old.coflows }
         requires port_in { port.number < self.old.ports }
         requires units_fit { total_at self.old port + units < 2 ^ 64 }
@@ -273,12 +293,18 @@ impl Loads {
             load_at self.new other at ≡ load_at self.old other at }
     {
         let row = row_of(port, self.ports);
-        let load = self.cells.get(row, coflow as usize) + units;
-        self.cells.set(row, coflow as usize, load);
+        self.cells.add(row, coflow as usize, units);
         self.totals[row] += units;
         self.by_port.mark(row, coflow as usize);
         self.by_coflow.mark(coflow as usize, row);
     }
+}
+
+/// Whether each number is zero.
+fn are_zeros(numbers: &[u64]) -> bool
+    ensures { IsTrue result → All (λ number. number ≡ 0) numbers.now }
+{
+    numbers.iter().all(|number| *number == 0)
 }
 
 /// The row of a port: its place among all ports, ingress ports before egress ports.

@@ -1,9 +1,4 @@
 use Rattle.std.proofs.Common.{◌<◌, subst, sym}
-use Rattle.coflow_units.specs.declared.fabric.Port.{Port}
-use Rattle.coflow_units.specs.Flows.{with_units}
-use Rattle.coflow_units.specs.Load.{load}
-use Rattle.coflow_units.specs.Starts.{IsStarts}
-use Rattle.port_load.specs.LoadTable.{IsSameSize, IsWithin, is_present, load_at, total_at}
 use Rattle.port_load.proofs.CoflowSteps.{present_at_most, total_at_most}
 use Rattle.port_load.proofs.loads.Loads.fill_by_coflow.Goals as goal
 
