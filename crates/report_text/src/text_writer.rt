@@ -48,7 +48,7 @@ impl<'a> Model for RunLines<'a> {
 }
 
 impl Text {
-    /// A writer of the text. It takes memory for a piece and for the flows of two runs. The error is want of memory.
+    /// A writer of the text. It takes memory for a piece, and four times for the most flows of a run. The error is want of memory.
     pub fn writer(&self, alloc: Global) -> Result<TextWriter<'_>, NoMemory>
         ensures { IfOk result (λ writer. writer ≡ self.now) }
     {

@@ -2,10 +2,10 @@
 use Rattle.std.proofs.Common.{◌≡◌, ℕ, ◌+◌, ◌-◌, ◌≤◌, ◌<◌, List, [], ◌∷◌, ◌++◌, inl, inr, length, get_or, take, drop, refl, sym, ap, ◌∙◌, zero, suc, subst, arith}
 use Rattle.std.specs.List.Sorted.{IsStrictlyIncreasing}
 use Rattle.std.proofs.lemmas.Bool.{cases_lt}
-use Rattle.std.proofs.lemmas.List.{append_assoc, append-nil, drop_all, drop_at, drop-drop, drop_more, get_or-drop}
+use Rattle.std.proofs.lemmas.List.{append_assoc, append-nil, drop_all, drop_at, drop-drop, drop_more, get_or-drop, get_or_default}
 use Rattle.std.proofs.lemmas.List.{length-append, length-drop, length-take-le, take_all, take-append-drop, take_rest}
 use Rattle.run_list.specs.Kept.{toggled}
-use Rattle.run_list.proofs.Toggled.{toggled_above, toggled_below, toggled_same, toggled_twice, toggled-nil}
+use Rattle.run_list.proofs.Toggled.{toggled_above, toggled_ascends, toggled_below, toggled_same, toggled_twice, toggled-nil}
 
 -- what is left to merge, from those places on
 abbrev pub left_of : List ℕ → List ℕ → ℕ → ℕ → List ℕ
@@ -30,12 +30,12 @@ toggled_past [] ys y (suc p) le below = absurd (omega arith)
 toggled_past (x ∷ xs) ys y (suc p) le below =
     toggled_below x y xs ys (below 0 (omega arith)) ∙ ap (λ (zs : List ℕ). x ∷ zs) (toggled_past xs ys y p (omega arith) (λ k lt. below (suc k) (omega arith)))
 
-left_past : (xs ys : List ℕ) (i j p : ℕ) → j < length ys → p ≤ length (drop i xs) → ((k : ℕ) → k < p → get_or (drop i xs) k 0 < get_or ys j 0) →
+pub left_past : (xs ys : List ℕ) (i j p : ℕ) → j < length ys → p ≤ length (drop i xs) → ((k : ℕ) → k < p → get_or (drop i xs) k 0 < get_or ys j 0) →
     left_of xs ys i j ≡ take p (drop i xs) ++ left_of xs ys (i + p) j
 left_past xs ys i j p also le below =
     rw (← drop-drop p i xs, drop_more ys j 0 also) (toggled_past (drop i xs) (drop (j + 1) ys) (get_or ys j 0) p le below)
 
-left_beyond : (xs ys : List ℕ) (i j : ℕ) → j < length ys → (i < length xs → get_or ys j 0 < get_or xs i 0) → left_of xs ys i j ≡ get_or ys j 0 ∷ left_of xs ys i (j + 1)
+pub left_beyond : (xs ys : List ℕ) (i j : ℕ) → j < length ys → (i < length xs → get_or ys j 0 < get_or xs i 0) → left_of xs ys i j ≡ get_or ys j 0 ∷ left_of xs ys i (j + 1)
 left_beyond xs ys i j also above = elim (cases_lt i (length xs)) [
   | inl lt ↦ left_above xs ys i j lt also (above lt)
   | inr le ↦ rw (drop_all i xs le) (drop_more ys j 0 also)
@@ -62,6 +62,9 @@ never_falls xs up (suc j) k le lt = elim (cases_lt k (suc j)) [
       let same : k ≡ suc j = omega arith in
       rw same (omega arith)
 ]
+
+pub last_is_greatest : (xs : List ℕ) → IsStrictlyIncreasing xs → (k d : ℕ) → k < length xs → get_or xs k d ≤ get_or xs (length xs - 1) 0
+last_is_greatest xs up k d lt = omega (arith, get_or_default xs k d 0 lt, never_falls xs up (length xs - 1) k (omega arith) (omega arith))
 
 -- `done` is what was merged up to those places
 pub record IsMerging (xs ys done : List ℕ) (i j : ℕ) : Type 0 where
@@ -159,3 +162,9 @@ told_back before flows olds news n up also told size =
     let behind : drop (length olds) news ≡ toggled before flows = ap (drop (length olds)) told ∙ drop_at olds (toggled before flows) (length olds) refl in
     let all : length (toggled before flows) ≤ n = omega (arith, ap length told, length-append olds (toggled before flows)) in
     rw (behind, take_all n (toggled before flows) all) (toggled_twice before flows up also)
+
+pub told_ascends : (before flows olds news : List ℕ) → IsStrictlyIncreasing before → IsStrictlyIncreasing flows → news ≡ olds ++ toggled before flows →
+    IsStrictlyIncreasing (drop (length olds) news)
+told_ascends before flows olds news up also told =
+    let behind : drop (length olds) news ≡ toggled before flows = ap (drop (length olds)) told ∙ drop_at olds (toggled before flows) (length olds) refl in
+    subst IsStrictlyIncreasing (sym behind) (toggled_ascends before flows up also)

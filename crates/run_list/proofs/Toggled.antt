@@ -1,16 +1,16 @@
 -- The numbers that stand in just one of two ascending lists.
-use Rattle.std.proofs.Common.{◌≡◌, ℕ, ◌+◌, ◌≤◌, ◌<◌, ◌⊎◌, inl, inr, List, [], ◌∷◌, length, get_or, suc, refl, sym, ap, subst, ◌∙◌, arith}
+use Rattle.std.proofs.Common.{◌≡◌, ℕ, ◌+◌, ◌≤◌, ◌<◌, ◌⊎◌, inl, inr, List, [], ◌∷◌, length, get_or, zero, suc, refl, sym, ap, subst, ◌∙◌, arith}
 use Rattle.std.specs.List.Sorted.{IsStrictlyIncreasing}
 use Rattle.std.proofs.lemmas.Bool.{cases_lt}
 use Rattle.std.proofs.lemmas.Bool.Decides.{nat_tests}
 use Rattle.run_list.specs.Kept.{toggled_from, toggled}
 
 -- the numbers ascend strictly, and none is below the bound
-abbrev Rises : ℕ → List ℕ → Type 0
+abbrev pub Rises : ℕ → List ℕ → Type 0
 Rises low [] = Unit {0}
 Rises low (x ∷ xs) = (low ≤ x) × Rises (x + 1) xs
 
-Rises-lower : (low high : ℕ) (xs : List ℕ) → low ≤ high → Rises high xs → Rises low xs
+pub Rises-lower : (low high : ℕ) (xs : List ℕ) → low ≤ high → Rises high xs → Rises low xs
 Rises-lower low high [] le up = tt
 Rises-lower low high (x ∷ xs) le up = (omega arith, up.1)
 
@@ -46,7 +46,7 @@ from_rises x rest on low (y ∷ ys) le up = elim (order x y) [
       subst (Rises low) (sym (from_above x y rest ys lt)) (up.0, from_rises x rest on (y + 1) ys (omega arith) up.1)
 ]
 
-toggled_rises : (low : ℕ) (xs ys : List ℕ) → Rises low xs → Rises low ys → Rises low (toggled xs ys)
+pub toggled_rises : (low : ℕ) (xs ys : List ℕ) → Rises low xs → Rises low ys → Rises low (toggled xs ys)
 toggled_rises low [] ys up also = also
 toggled_rises low (x ∷ xs) ys up also = from_rises x (toggled xs) (λ zs more. toggled_rises (x + 1) xs zs up.1 more) low ys up.0 also
 
@@ -69,7 +69,7 @@ twice low [] ys up also = refl
 twice low (x ∷ xs) ys up also =
     from_twice x (toggled xs) (λ zs more. toggled_rises (x + 1) xs zs up.1 more) (λ zs more. twice (x + 1) xs zs up.1 more) low ys up.0 also
 
-rises : (low : ℕ) (xs : List ℕ) → (0 < length xs → low ≤ get_or xs 0 0) → IsStrictlyIncreasing xs → Rises low xs
+pub rises : (low : ℕ) (xs : List ℕ) → (0 < length xs → low ≤ get_or xs 0 0) → IsStrictlyIncreasing xs → Rises low xs
 rises low [] above up = tt
 rises low (x ∷ xs) above up = (
   above (omega arith),
@@ -81,6 +81,18 @@ rises low (x ∷ xs) above up = (
 -- what tells one ascending list beside another tells it back
 pub toggled_twice : (xs ys : List ℕ) → IsStrictlyIncreasing xs → IsStrictlyIncreasing ys → toggled xs (toggled xs ys) ≡ ys
 toggled_twice xs ys up also = twice 0 xs ys (rises 0 xs (λ some. omega arith) up) (rises 0 ys (λ some. omega arith) also)
+
+-- numbers that rise are ascending
+pub ascending : (low : ℕ) (xs : List ℕ) → Rises low xs → IsStrictlyIncreasing xs
+ascending low [] up i lt = absurd (omega arith)
+ascending low (x ∷ []) up i lt = absurd (omega arith)
+ascending low (x ∷ (y ∷ ys)) up zero lt = omega (arith, up.1.0)
+ascending low (x ∷ (y ∷ ys)) up (suc i) lt =
+    let e : suc i + 1 ≡ suc (i + 1) = omega arith in
+    subst (λ n. get_or (y ∷ ys) i 0 < get_or (x ∷ (y ∷ ys)) n 0) (sym e) (ascending (x + 1) (y ∷ ys) up.1 i (omega arith))
+
+pub toggled_ascends : (xs ys : List ℕ) → IsStrictlyIncreasing xs → IsStrictlyIncreasing ys → IsStrictlyIncreasing (toggled xs ys)
+toggled_ascends xs ys up also = ascending 0 (toggled xs ys) (toggled_rises 0 xs ys (rises 0 xs (λ some. omega arith) up) (rises 0 ys (λ some. omega arith) also))
 
 pub toggled_below : (x y : ℕ) (xs ys : List ℕ) → x < y → toggled (x ∷ xs) (y ∷ ys) ≡ x ∷ toggled xs (y ∷ ys)
 toggled_below x y xs ys lt = from_below x y (toggled xs) ys lt

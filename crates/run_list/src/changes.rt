@@ -1,10 +1,11 @@
 //! What changes from the flows of one run to those of the next.
-ghost use Rattle.std.specs.Prelude.{◌≡◌, ℕ, ◌+◌, ◌<◌, ◌≤◌, ◌^◌, ◌++◌, Ok, false, true, IfOk, OnErr, drop, length, min, take};
+ghost use Rattle.std.specs.Prelude.{◌≡◌, ℕ, ◌+◌, ◌<◌, ◌≤◌, ◌^◌, ◌++◌, [], Ok, false, true, IfOk, OnErr, drop, length, min, take, vec_capacity};
 ghost use Rattle.std.specs.List.{slice_index_or};
 ghost use Rattle.std.specs.List.Sorted.{IsStrictlyIncreasing};
-ghost use Rattle.run_list.specs.Kept.{flows_of, toggled};
+ghost use Rattle.run_list.specs.Kept.{HasRoom, IsTurn, flows_of, toggled};
 
 use crate::mark::Mark;
+use crate::turnover::{Turnover, push_all};
 use coflow_units::NoMemory;
 
 /// Appends the numbers that tell the flows of a run, and answers its mark. They are what changes from the flows of the run before it, or the flows where these are no more.
@@ -26,6 +27,7 @@ pub(crate) fn tell(
     ensures size { IfOk result (λ mark. length numbers.old.items + mark.size ≡ length numbers.new.items) }
     ensures told { IfOk result (λ mark.
         flows_of before.now mark (drop (length numbers.old.items) numbers.new.items) ≡ flows.now) }
+    ensures ascending { IfOk result (λ _. IsStrictlyIncreasing (drop (length numbers.old.items) numbers.new.items)) }
     ensures refused { OnErr result (numbers.new.items ≡ numbers.old.items) }
 {
     let start = numbers.len();
@@ -89,27 +91,45 @@ fn tell_changes(numbers: &mut Vec<u32>, before: &[u32], flows: &[u32]) -> Result
     Ok(true)
 }
 
-/// Writes the numbers that stand in just one of two ascending lists to the start of a buffer, ascending, and answers how many they are.
-pub(crate) fn toggle(flows: &[u32], changes: &[u32], into: &mut [u32]) -> usize
+/// Writes the numbers that stand in just one of two ascending lists to the start of a buffer, ascending, and answers how many they are. The changes that are flows are gone, and the others come.
+pub(crate) fn toggle(
+    flows: &[u32],
+    changes: &[u32],
+    into: &mut [u32],
+    turnover: &mut Turnover,
+) -> usize
     requires ascending { IsStrictlyIncreasing flows.now }
+    requires changes { IsStrictlyIncreasing changes.now }
     requires room { length (toggled flows.now changes.now) ≤ length into.old }
+    requires turnover { HasRoom turnover.old (length flows.now) (length (toggled flows.now changes.now)) }
     ensures count { result ≡ length (toggled flows.now changes.now) }
     ensures written { take result into.new ≡ toggled flows.now changes.now }
+    ensures turn { IsTurn turnover.new flows.now (toggled flows.now changes.now) }
+    ensures gone_room { vec_capacity turnover.new.gone ≡ vec_capacity turnover.old.gone }
+    ensures come_room { vec_capacity turnover.new.come ≡ vec_capacity turnover.old.come }
 {
+    turnover.clear();
     // Where the changes stand close together, a merge is faster than a search for each.
     if changes.len() < flows.len() / 8 {
-        toggle_few(flows, changes, into)
+        toggle_few(flows, changes, into, turnover)
     } else {
-        merge(flows, changes, into)
+        merge(flows, changes, into, turnover)
     }
 }
 
 /// The same where the changes are few: the flows between them are copied as they stand.
-fn toggle_few(flows: &[u32], changes: &[u32], into: &mut [u32]) -> usize
+fn toggle_few(flows: &[u32], changes: &[u32], into: &mut [u32], turnover: &mut Turnover) -> usize
     requires ascending { IsStrictlyIncreasing flows.now }
+    requires changes { IsStrictlyIncreasing changes.now }
     requires room { length (toggled flows.now changes.now) ≤ length into.old }
+    requires none_gone { turnover.old.gone.items ≡ [] }
+    requires none_come { turnover.old.come.items ≡ [] }
+    requires turnover { HasRoom turnover.old (length flows.now) (length (toggled flows.now changes.now)) }
     ensures count { result ≡ length (toggled flows.now changes.now) }
     ensures written { take result into.new ≡ toggled flows.now changes.now }
+    ensures turn { IsTurn turnover.new flows.now (toggled flows.now changes.now) }
+    ensures gone_room { vec_capacity turnover.new.gone ≡ vec_capacity turnover.old.gone }
+    ensures come_room { vec_capacity turnover.new.come ≡ vec_capacity turnover.old.come }
 {
     let mut place = 0;
     let mut count = 0;
@@ -118,8 +138,10 @@ fn toggle_few(flows: &[u32], changes: &[u32], into: &mut [u32]) -> usize
         count = append(into, count, &flows[place..end]);
         place = end;
         if place < flows.len() && flows[place] == change {
+            turnover.gone.push_reserved(change);
             place += 1;
         } else {
+            turnover.come.push_reserved(change);
             into[count] = change;
             count += 1;
         }
@@ -156,10 +178,18 @@ fn leap_below(numbers: &[u32], bound: u32) -> usize
 }
 
 /// The same, number by number.
-fn merge(flows: &[u32], changes: &[u32], into: &mut [u32]) -> usize
+fn merge(flows: &[u32], changes: &[u32], into: &mut [u32], turnover: &mut Turnover) -> usize
+    requires ascending { IsStrictlyIncreasing flows.now }
+    requires changes { IsStrictlyIncreasing changes.now }
     requires room { length (toggled flows.now changes.now) ≤ length into.old }
+    requires none_gone { turnover.old.gone.items ≡ [] }
+    requires none_come { turnover.old.come.items ≡ [] }
+    requires turnover { HasRoom turnover.old (length flows.now) (length (toggled flows.now changes.now)) }
     ensures count { result ≡ length (toggled flows.now changes.now) }
     ensures written { take result into.new ≡ toggled flows.now changes.now }
+    ensures turn { IsTurn turnover.new flows.now (toggled flows.now changes.now) }
+    ensures gone_room { vec_capacity turnover.new.gone ≡ vec_capacity turnover.old.gone }
+    ensures come_room { vec_capacity turnover.new.come ≡ vec_capacity turnover.old.come }
 {
     let mut place = 0;
     let mut next = 0;
@@ -168,6 +198,7 @@ fn merge(flows: &[u32], changes: &[u32], into: &mut [u32]) -> usize
         let flow = flows[place];
         let change = changes[next];
         if flow == change {
+            turnover.gone.push_reserved(change);
             place += 1;
             next += 1;
         } else if flow < change {
@@ -175,11 +206,13 @@ fn merge(flows: &[u32], changes: &[u32], into: &mut [u32]) -> usize
             place += 1;
             count += 1;
         } else {
+            turnover.come.push_reserved(change);
             into[count] = change;
             next += 1;
             count += 1;
         }
     }
+    push_all(&mut turnover.come, &changes[next..]);
     let count = append(into, count, &flows[place..]);
     append(into, count, &changes[next..])
 }

@@ -4,8 +4,7 @@
 mod changes;
 mod mark;
 mod runs;
-#[cfg(test)]
-mod tests;
+mod turnover;
 mod walk;
 
 pub use runs::Runs;

@@ -1,5 +1,5 @@
 //! A list of runs.
-ghost use Rattle.std.specs.Prelude.{◌≡◌, ◌+◌, ◌<◌, ◌≤◌, ◌++◌, ◌^◌, ◌∷◌, ℕ, [], IfOk, OnErr, OnOk, length, slice_set};
+ghost use Rattle.std.specs.Prelude.{◌≡◌, ◌+◌, ◌<◌, ◌≤◌, ◌++◌, ◌^◌, ◌∷◌, ℕ, [], All, IfOk, OnErr, OnOk, length, slice_set};
 ghost use Rattle.std.specs.List.{slice_index_or};
 ghost use Rattle.std.specs.List.Sorted.{IsStrictlyIncreasing};
 ghost use Rattle.coflow_units.specs.declared.plan.Run.{Run};
@@ -27,6 +27,8 @@ pub struct Runs {
     spare: Vec<u32>,
     /// The most flows that a run has.
     widest: usize,
+    /// One more than the greatest flow, or 0 where there is none.
+    bound: u64,
 }
 
 impl Model for Runs {
@@ -38,7 +40,7 @@ impl Model for Runs {
 
     ghost view = { λ s. runs_of [] s.marks.items s.numbers.items };
 
-    ghost invariant = { λ s. IsKept s.marks.items s.numbers.items s.last.items s.widest };
+    ghost invariant = { λ s. IsKept s.marks.items s.numbers.items s.last.items s.widest s.bound };
 }
 
 impl Runs {
@@ -52,6 +54,7 @@ impl Runs {
             last: Vec::new(alloc),
             spare: Vec::new(alloc),
             widest: 0,
+            bound: 0,
         }
     }
 
@@ -68,6 +71,13 @@ impl Runs {
         ensures { (r : Run) → result ≡ (slice_index_or self.now place r).length }
     {
         self.marks[place].slots
+    }
+
+    /// A number that is above all flows of all runs: one more than the greatest of them, or 0 where no run has a flow.
+    pub fn bound(&self) -> u64
+        ensures { All (λ (r : Run). All (λ f. f < result) r.flows) self.now }
+    {
+        self.bound
     }
 
     /// Whether there is a last run and it serves these flows.
@@ -102,6 +112,7 @@ impl Runs {
         self.marks.push_reserved(mark);
         mem::swap(&mut self.last, &mut self.spare);
         self.widest = self.widest.max(flows.len());
+        self.bound = self.bound.max(bound_of(flows));
         Ok(())
     }
 
@@ -117,10 +128,21 @@ impl Runs {
         self.marks[last].slots += slots;
     }
 
-    /// A walk over the runs, before the first of them. It takes room for the flows of two runs. The error is want of memory.
+    /// A walk over the runs, before the first of them. It takes room for the most flows that a run has, four times. The error is want of memory.
     pub fn walk(&self, alloc: Global) -> Result<Walk<'_>, NoMemory>
         ensures { IfOk result (λ walk. walk ≡ record { runs = self.now; entered = 0 }) }
     {
         Walk::over(alloc, &self.marks, &self.numbers, self.widest)
+    }
+}
+
+/// One more than the last of some ascending numbers, or 0 where there is none.
+fn bound_of(numbers: &[u32]) -> u64
+    requires { IsStrictlyIncreasing numbers.now }
+    ensures { All (λ number. number < result) numbers.now }
+{
+    match numbers.last() {
+        Some(last) => u64::from(*last) + 1,
+        None => 0,
     }
 }

@@ -1,13 +1,14 @@
 //! A walk over a list of runs.
-ghost use Rattle.std.specs.Prelude.{◌≡◌, ◌+◌, ◌<◌, ◌≤◌, ℕ, [], IfOk, length, take};
+ghost use Rattle.std.specs.Prelude.{◌≡◌, ◌+◌, ◌<◌, ◌≤◌, ℕ, [], IfOk, length, take, vec_capacity};
 ghost use Rattle.std.specs.List.{slice_index_or};
 ghost use Rattle.std.specs.List.Sorted.{IsStrictlyIncreasing};
 ghost use Rattle.coflow_units.specs.declared.plan.Run.{Run};
-ghost use Rattle.run_list.specs.Kept.{IsTold, runs_of, told};
-ghost use Rattle.run_list.specs.Runs.{Walked};
+ghost use Rattle.run_list.specs.Kept.{HasRoom, IsTold, IsTurn, runs_of, told};
+ghost use Rattle.run_list.specs.Runs.{Walked, flows_before, without};
 
 use crate::changes::{append, toggle};
 use crate::mark::Mark;
+use crate::turnover::{Turnover, compare};
 use coflow_units::NoMemory;
 use std::alloc::Global;
 use std::marker::Model;
@@ -27,6 +28,8 @@ pub struct Walk<'a> {
     count: usize,
     /// Room for the flows of the next run.
     next: Vec<u32>,
+    /// What changed with the run that was entered last.
+    turnover: Turnover,
 }
 
 impl<'a> Model for Walk<'a> {
@@ -38,7 +41,8 @@ impl<'a> Model for Walk<'a> {
 
     ghost view = { λ s. record { runs = runs_of [] s.marks.now s.numbers.now; entered = s.entered } };
 
-    ghost invariant = { λ s. IsWalk s.marks.now s.numbers.now s.entered s.read s.flows.items s.count s.next.items };
+    ghost invariant = { λ s. IsWalk s.marks.now s.numbers.now s.entered s.read s.flows.items s.count s.next.items
+        s.turnover };
 }
 
 impl<'a> Walk<'a> {
@@ -54,6 +58,7 @@ impl<'a> Walk<'a> {
     {
         let flows = vec![in alloc; 0; widest]?;
         let next = vec![in alloc; 0; widest]?;
+        let turnover = Turnover::with_room(alloc, widest)?;
         Ok(Walk {
             marks,
             numbers,
@@ -62,6 +67,7 @@ impl<'a> Walk<'a> {
             flows,
             count: 0,
             next,
+            turnover,
         })
     }
 
@@ -81,19 +87,41 @@ impl<'a> Walk<'a> {
             mark.whole,
             numbers,
             &mut self.next,
+            &mut self.turnover,
         );
         self.read = end;
         self.entered += 1;
         mark.slots
     }
 
-    /// The flows of the run that was entered last, ascending.
+    /// The flows of the run that was entered last, ascending. Before the first run there are none.
     pub fn flows(&self) -> &[u32]
         ensures flows { (k : ℕ) (r : Run) → k + 1 ≡ self.now.entered →
             result.now ≡ (slice_index_or self.now.runs k r).flows }
+        ensures before { self.now.entered ≡ 0 → result.now ≡ [] }
         ensures ascending { IsStrictlyIncreasing result.now }
     {
         &self.flows[..self.count]
+    }
+
+    /// The flows of the run before that the run entered last does not serve any longer, ascending. Before the first run there are none.
+    pub fn gone(&self) -> &[u32]
+        ensures flows { (k : ℕ) (r : Run) → k + 1 ≡ self.now.entered →
+            result.now ≡ without (flows_before self.now.runs k) (slice_index_or self.now.runs k r).flows }
+        ensures before { self.now.entered ≡ 0 → result.now ≡ [] }
+        ensures ascending { IsStrictlyIncreasing result.now }
+    {
+        &self.turnover.gone
+    }
+
+    /// The flows that the run entered last serves and the run before it does not, ascending. Before the first run there are none.
+    pub fn come(&self) -> &[u32]
+        ensures flows { (k : ℕ) (r : Run) → k + 1 ≡ self.now.entered →
+            result.now ≡ without (slice_index_or self.now.runs k r).flows (flows_before self.now.runs k) }
+        ensures before { self.now.entered ≡ 0 → result.now ≡ [] }
+        ensures ascending { IsStrictlyIncreasing result.now }
+    {
+        &self.turnover.come
     }
 }
 
@@ -104,20 +132,31 @@ fn follow(
     whole: bool,
     numbers: &[u32],
     next: &mut Vec<u32>,
+    turnover: &mut Turnover,
 ) -> usize
     requires held { count ≤ length flows.old.items }
     requires ascending { IsStrictlyIncreasing (take count flows.old.items) }
+    requires numbers { IsStrictlyIncreasing numbers.now }
     requires room { length (told (take count flows.old.items) whole numbers.now) ≤ length flows.old.items }
     requires same { length next.old.items ≡ length flows.old.items }
+    requires turnover { HasRoom turnover.old (length flows.old.items) (length flows.old.items) }
     ensures told { take result flows.new.items ≡ told (take count flows.old.items) whole numbers.now }
     ensures held { result ≤ length flows.new.items }
     ensures room { length flows.new.items ≡ length flows.old.items }
     ensures same { length next.new.items ≡ length flows.old.items }
+    ensures turn { IsTurn turnover.new (take count flows.old.items)
+        (told (take count flows.old.items) whole numbers.now) }
+    ensures gone_room { vec_capacity turnover.new.gone ≡ vec_capacity turnover.old.gone }
+    ensures come_room { vec_capacity turnover.new.come ≡ vec_capacity turnover.old.come }
 {
+    let before = &flows[..count];
     if whole {
-        return append(flows, 0, numbers);
+        compare(before, numbers, turnover);
+        let count = append(next, 0, numbers);
+        mem::swap(flows, next);
+        return count;
     }
-    let count = toggle(&flows[..count], numbers, next);
+    let count = toggle(before, numbers, next, turnover);
     mem::swap(flows, next);
     count
 }

@@ -1,9 +1,11 @@
 pub mod Ascending
+pub mod Changes
 pub mod ClashSteps
 pub mod CoflowEnds
 pub mod CostSums
 pub mod LastSlots
 pub mod ParallelLaw
+pub mod PortMarks
 pub mod RepeatSteps
 pub mod RunPushes
 pub mod RunSlots

@@ -23,7 +23,7 @@ slots_parts (suc k) [] = refl
 slots_parts (suc k) (r ∷ rs) = ap (λ x. replicate r.length r.flows ++ x) (slots_parts k rs) ∙
     sym (append_assoc (replicate r.length r.flows) (slots_in (take k rs)) (slots_in (drop k rs)))
 
-replicate_first : {X : Type 0} (n : ℕ) (h : X) → 1 ≤ n → replicate n h ≡ h ∷ replicate (n - 1) h
+pub replicate_first : {X : Type 0} (n : ℕ) (h : X) → 1 ≤ n → replicate n h ≡ h ∷ replicate (n - 1) h
 replicate_first zero h some = absurd (omega arith)
 replicate_first {X} (suc n) h some = let e : n ≡ suc n - 1 = omega arith in ap {B = List X} (λ m. h ∷ replicate m h) e
 
@@ -92,8 +92,8 @@ all_runs runs k le = ap slots_in (take_all k runs le)
 run_is : (slots : ℕ) (flows : List ℕ) (r : Run) → slots ≡ r.length → flows ≡ r.flows → run_of slots flows ≡ r
 run_is slots flows r e f = ap (λ n. run_of n flows) e ∙ ap (run_of r.length) f
 
-entered_slots : (runs : List Run) (k slots : ℕ) (walk : Walked) (r : Run) → walk.runs ≡ runs → walk.entered ≡ k → ((d : Run) → slots ≡ (get_or walk.runs walk.entered d).length) →
-    slots ≡ (get_or runs k r).length
+pub entered_slots : (runs : List Run) (k slots : ℕ) (walk : Walked) (r : Run) → walk.runs ≡ runs → walk.entered ≡ k →
+    ((d : Run) → slots ≡ (get_or walk.runs walk.entered d).length) → slots ≡ (get_or runs k r).length
 entered_slots runs k slots walk r same place has =
     has r ∙ ap (λ (xs : List Run). (get_or xs walk.entered r).length) same ∙ ap (λ i. (get_or runs i r).length) place
 

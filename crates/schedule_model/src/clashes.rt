@@ -1,11 +1,12 @@
 //! Ports that two flows of one slot use.
-ghost use Rattle.std.specs.Prelude.{◌<◌, ◌≤◌, ◌≡◌, ◌⊎◌, ℕ, All, IfOk, MatchOption, List, length};
+ghost use Rattle.std.specs.Prelude.{◌<◌, ◌≤◌, ◌≡◌, ◌⊎◌, ◌↔◌, ℕ, All, IfOk, IsTrue, List, MatchOption, false, length};
+ghost use Rattle.std.specs.List.{slice_index_or};
 ghost use Rattle.std.specs.List.Sorted.{IsStrictlyIncreasing};
 ghost use Rattle.coflow_units.specs.declared.fabric.Flow.{Flow};
 ghost use Rattle.coflow_units.specs.Flows.{end_at};
 ghost use Rattle.coflow_units.specs.Schedule.{IsClear};
 ghost use Rattle.schedule_model.specs.RunList.{IsKept, NamesFlows, slots_in};
-ghost use Rattle.schedule_model.specs.Repeat.{Repeats};
+ghost use Rattle.schedule_model.specs.Repeat.{Follows, IsTaken, Marks, Repeats, Uses};
 ghost use Rattle.schedule_model.specs.Fault.{IsFirstClash};
 
 use crate::ports::{port_at, port_count};
@@ -14,6 +15,8 @@ use run_list::Runs;
 use std::alloc::Global;
 
 /// The first slot in which two flows use one port, and the first such port in it.
+///
+/// From run to run the tables of used ports change only at those of the flows that left and of the new ones.
 pub(crate) fn find_clash(
     alloc: Global,
     flows: &[Flow],
@@ -25,18 +28,19 @@ pub(crate) fn find_clash(
         (λ p. IsFirstClash flows.now (slots_in runs.now) p.0 p.1)) }
 {
     let ports = port_count(flows);
-    let mut ingress = vec![in alloc; 0u64; ports]?;
-    let mut egress = vec![in alloc; 0u64; ports]?;
+    let mut ingress = vec![in alloc; false; ports]?;
+    let mut egress = vec![in alloc; false; ports]?;
     let mut walk = runs.walk(alloc)?;
     let mut slot = 0;
     for place in 0..runs.count() {
         let slots = walk.enter();
-        let numbers = walk.flows();
-        if let Some(number) = least_repeat(flows, numbers, Side::Ingress, slot + 1, &mut ingress) {
+        let left = walk.gone();
+        let new = walk.come();
+        if let Some(number) = least_repeat(flows, left, new, Side::Ingress, &mut ingress) {
             let side = Side::Ingress;
             return Ok(Some((slot + 1, Port { side, number })));
         }
-        if let Some(number) = least_repeat(flows, numbers, Side::Egress, slot + 1, &mut egress) {
+        if let Some(number) = least_repeat(flows, left, new, Side::Egress, &mut egress) {
             let side = Side::Egress;
             return Ok(Some((slot + 1, Port { side, number })));
         }
@@ -45,30 +49,62 @@ pub(crate) fn find_clash(
     Ok(None)
 }
 
-/// The least number of a port that two flows of the slot use on the side. The mark is new to the table, in which it marks the ports that were seen.
+/// The least number of a port that two flows of a slot use on the side. The table has the ports that are used in the slot before it, and then those that are used in it.
 fn least_repeat(
     flows: &[Flow],
-    slot: &[u32],
+    left: &[u32],
+    new: &[u32],
     side: Side,
-    mark: u64,
-    marks: &mut [u64],
+    used: &mut [bool],
 ) -> Option<u32>
-    requires ascending { IsStrictlyIncreasing slot.now }
-    requires names { All (λ f. f < length flows.now) slot.now }
-    requires ports { All (λ (x : Flow). end_at side x < length marks.old) flows.now }
-    requires new_mark { All (λ m. m < mark) marks.old }
-    ensures marks { All (λ m. m ≤ mark) marks.new }
-    ensures least { MatchOption result ((p : ℕ) → Repeats flows.now side slot.now p →
-        ⊥) (λ p. Repeats flows.now side slot.now p × ((q : ℕ) → Repeats flows.now side slot.now q → p ≤ q)) }
+    requires ascending { IsStrictlyIncreasing new.now }
+    requires left { All (λ f. f < length flows.now) left.now }
+    requires new { All (λ f. f < length flows.now) new.now }
+    requires ports { All (λ (x : Flow). end_at side x < length used.old) flows.now }
+    ensures used { (before slot : List ℕ) → Follows flows.now side before slot left.now new.now used.old →
+        Marks flows.now side slot used.new }
+    ensures least { (before slot : List ℕ) → Follows flows.now side before slot left.now new.now used.old →
+        MatchOption result ((p : ℕ) → Repeats flows.now side slot p →
+        ⊥) (λ p. Repeats flows.now side slot p × ((q : ℕ) → Repeats flows.now side slot q → p ≤ q)) }
+{
+    free_ports(flows, left, side, used);
+    take_ports(flows, new, side, used)
+}
+
+/// Takes the marks from the ports that the flows use on the side.
+fn free_ports(flows: &[Flow], left: &[u32], side: Side, used: &mut [bool])
+    requires names { All (λ f. f < length flows.now) left.now }
+    requires ports { All (λ (x : Flow). end_at side x < length used.old) flows.now }
+    ensures { (p : ℕ) → p < length used.old →
+        IsTrue (slice_index_or used.new p false)
+        ↔ (IsTrue (slice_index_or used.old p false) × (Uses flows.now side left.now p → ⊥)) }
+{
+    for flow in left {
+        let number = port_at(side, &flows[*flow as usize]);
+        used[number as usize] = false;
+    }
+}
+
+/// Marks the ports that the flows use on the side, and answers the least of them that had a mark already.
+fn take_ports(flows: &[Flow], new: &[u32], side: Side, used: &mut [bool]) -> Option<u32>
+    requires ascending { IsStrictlyIncreasing new.now }
+    requires names { All (λ f. f < length flows.now) new.now }
+    requires ports { All (λ (x : Flow). end_at side x < length used.old) flows.now }
+    ensures used { (p : ℕ) → p < length used.old →
+        IsTrue (slice_index_or used.new p false)
+        ↔ (IsTrue (slice_index_or used.old p false) ⊎ Uses flows.now side new.now p) }
+    ensures least { MatchOption result ((p : ℕ) → IsTaken flows.now side used.old new.now p → ⊥)
+        (λ p. IsTaken flows.now side used.old new.now p × ((q : ℕ) → IsTaken flows.now side used.old new.now q →
+        p ≤ q)) }
 {
     let mut least = None;
-    for flow in slot {
+    for flow in new {
         let number = port_at(side, &flows[*flow as usize]);
-        if marks[number as usize] < mark {
-            marks[number as usize] = mark;
+        if used[number as usize] {
+            least = Some(lesser(least, number));
             continue;
         }
-        least = Some(lesser(least, number));
+        used[number as usize] = true;
     }
     least
 }

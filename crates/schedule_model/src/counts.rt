@@ -1,5 +1,5 @@
 //! In how many slots each flow stands.
-ghost use Rattle.std.specs.Prelude.{◌≡◌, ◌≢◌, ◌<◌, ◌≤◌, ◌+◌, ◌^◌, ℕ, All, IfOk, MatchOption, if◌then◌else◌, length, slice_index};
+ghost use Rattle.std.specs.Prelude.{◌≡◌, ◌≢◌, ◌<◌, ◌≤◌, ◌+◌, ◌-◌, ◌^◌, ℕ, All, IfOk, MatchOption, if◌then◌else◌, length, slice_index};
 ghost use Rattle.std.specs.List.Sorted.{IsStrictlyIncreasing};
 ghost use Rattle.coflow_units.specs.Flows.{units_of};
 ghost use Rattle.coflow_units.specs.Schedule.{IsClear, holds};
@@ -12,6 +12,8 @@ use run_list::Runs;
 use std::alloc::Global;
 
 /// The first flow that stands in another number of slots than it has units.
+///
+/// A flow is counted when it is gone, by the slots since it came.
 pub(crate) fn find_miscount(
     alloc: Global,
     flows: &[Flow],
@@ -23,11 +25,16 @@ pub(crate) fn find_miscount(
     ensures { IfOk result (λ fault. IsFirstFault flows.now (slots_in runs.now) fault) }
 {
     let mut counts = vec![in alloc; 0u64; flows.len()]?;
+    let mut since = vec![in alloc; 0u64; flows.len()]?;
     let mut walk = runs.walk(alloc)?;
+    let mut slot = 0;
     for place in 0..runs.count() {
         let slots = walk.enter();
-        add_run(&mut counts, slots, walk.flows());
+        add_since(&mut counts, &since, slot, walk.gone());
+        note_since(&mut since, slot, walk.come());
+        slot += slots;
     }
+    add_since(&mut counts, &since, slot, walk.flows());
     let Some(number) = first_miscount(flows, &counts) else {
         return Ok(None);
     };
@@ -36,6 +43,31 @@ pub(crate) fn find_miscount(
         have: counts[number],
         want: flows[number].units,
     }))
+}
+
+/// Adds to the count of each of the flows the slots from the one since which it stands up to this one.
+fn add_since(counts: &mut [u64], since: &[u64], slot: u64, flows: &[u32])
+    requires ascending { IsStrictlyIncreasing flows.now }
+    requires names { All (λ f. f < length counts.old) flows.now }
+    requires same { length since.now ≡ length counts.old }
+    requires past { (f : ℕ) → slice_index since.now f ≤ slot }
+    requires fits { (f : ℕ) → slice_index counts.old f + slot < 2 ^ 64 }
+    ensures { (f : ℕ) → slice_index counts.new f ≡
+        slice_index counts.old f + (if holds flows.now f then slot - slice_index since.now f else 0) }
+{
+    for flow in flows {
+        counts[*flow as usize] += slot - since[*flow as usize];
+    }
+}
+
+/// Writes the slot as the one since which each of the flows stands.
+fn note_since(since: &mut [u64], slot: u64, flows: &[u32])
+    requires { All (λ f. f < length since.old) flows.now }
+    ensures { (f : ℕ) → slice_index since.new f ≡ (if holds flows.now f then slot else slice_index since.old f) }
+{
+    for flow in flows {
+        since[*flow as usize] = slot;
+    }
 }
 
 /// Adds the number of slots to the count of each of the flows.

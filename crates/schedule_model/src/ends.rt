@@ -14,7 +14,7 @@ use std::alloc::Global;
 
 /// The completions of the coflows with the numbers from 0 to `coflows` less 1, by one pass over the runs.
 ///
-/// The numbers in the schedule are flows'. It takes room for the answer and for the flows of two runs; `NoMemory` says that it was not to be had.
+/// The numbers in the schedule are flows'. It takes room for the answer and, four times, for the most flows that a run has; `NoMemory` says that it was not to be had.
 pub fn completions(
     alloc: Global,
     flows: &[Flow],
@@ -46,7 +46,7 @@ pub fn completions_of_runs(
     Ok(ends)
 }
 
-/// Writes the completions of the coflows, each at its number.
+/// Writes the completions of the coflows, each at its number: a coflow ends with the last of its flows that is gone.
 fn fill_ends(alloc: Global, flows: &[Flow], runs: &Runs, ends: &mut [u64]) -> Result<(), NoMemory>
     requires kept { IsKept runs.now }
     requires names { NamesFlows (length flows.now) (slots_in runs.now) }
@@ -57,9 +57,11 @@ fn fill_ends(alloc: Global, flows: &[Flow], runs: &Runs, ends: &mut [u64]) -> Re
     let mut walk = runs.walk(alloc)?;
     let mut slot = 0;
     for place in 0..runs.count() {
-        slot += walk.enter();
-        mark_ends(flows, walk.flows(), slot, ends);
+        let slots = walk.enter();
+        mark_ends(flows, walk.gone(), slot, ends);
+        slot += slots;
     }
+    mark_ends(flows, walk.flows(), slot, ends);
     Ok(())
 }
 

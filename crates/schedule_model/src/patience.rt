@@ -16,7 +16,7 @@ use std::alloc::Global;
 /// Tests whether a schedule is patient for an order of coflows: in each slot each flow that has units left is served, or one of its ports serves a coflow no later in the order.
 ///
 /// The numbers in the schedule are flows'. A coflow that is not in the order comes after all that are.
-/// It takes two words of memory for each flow, two for each port number up to the greatest of the flows, and room for the flows of two runs;
+/// It takes two words of memory for each flow, two for each port number up to the greatest of the flows, and room for the most flows that a run has, four times;
 /// `NoMemory` says that these were not to be had.
 ///
 /// In a run a flow that is not served keeps its units, so the test at the first slot of a run is the test at each of them.

@@ -9,6 +9,8 @@ use run_list::Runs;
 use std::alloc::Global;
 
 /// The first slot with a number that is no flow's, and the least such number in it.
+///
+/// Where all numbers are below the number of flows there is none, and no walk is made.
 pub(crate) fn find_stranger(
     alloc: Global,
     flows: &[Flow],
@@ -18,11 +20,15 @@ pub(crate) fn find_stranger(
     ensures { IfOk result (λ stranger. MatchOption stranger (NamesFlows (length flows.now) (slots_in runs.now))
         (λ p. IsFirstNoFlow flows.now (slots_in runs.now) p.0 p.1)) }
 {
+    if runs.bound() <= flows.len() as u64 {
+        return Ok(None);
+    }
     let mut walk = runs.walk(alloc)?;
     let mut slot = 0;
     for place in 0..runs.count() {
         let slots = walk.enter();
-        if let Some(flow) = first_from(walk.flows(), flows.len()) {
+        // No run before had such a number, so each one of this run came with it.
+        if let Some(flow) = first_from(walk.come(), flows.len()) {
             return Ok(Some((slot + 1, flow)));
         }
         slot += slots;

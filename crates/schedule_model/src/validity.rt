@@ -18,7 +18,7 @@ use std::alloc::Global;
 /// It answers the first fault: `NoFlow` before `Clash` before `Units`, then the least slot, then the least flow number or the first port, ingress ports first.
 /// `None` says that the schedule is valid. There are at most 2^32 flows.
 ///
-/// It takes a word of memory for each flow, two for each port number up to the greatest of the flows, and room for the flows of two runs;
+/// It takes two words of memory for each flow, two bytes for each port number up to the greatest of the flows, and room for the most flows that a run has, four times;
 /// `NoMemory` says that these were not to be had.
 pub fn find_fault(
     alloc: Global,

@@ -6,11 +6,11 @@ pub overflow_add-counts : goal.overflow_add-counts
 overflow_add-counts c =
     omega (
       arith,
-      add_fits c.loop-flow.counts c.args.counts.now c.args.flows.now c.args.slots c.loop-flow.flow-index c.requires.ascending c.loop-flow-test.true c.loop-flow.invariant,
+      add_fits c.loop-flow.counts c.args.counts.now c.args.flows.now (λ _. c.args.slots) c.loop-flow.flow-index c.requires.ascending c.loop-flow-test.true c.loop-flow.invariant,
       c.requires.fits (get_or c.args.flows.now c.loop-flow.flow-index 0),
     )
 
 pub loop-flow-preserved : goal.loop-flow-preserved
 loop-flow-preserved c =
-    add_more c.loop-flow.counts c.args.counts.now c.args.flows.now c.args.slots c.loop-flow.flow-index c.requires.ascending
+    add_more c.loop-flow.counts c.args.counts.now c.args.flows.now (λ _. c.args.slots) c.loop-flow.flow-index c.requires.ascending
     (λ k d lt. omega (arith, c.requires.names k d lt, c.loop-flow.auto.counts)) c.loop-flow-test.true c.loop-flow.invariant

@@ -12,14 +12,14 @@ returns-then-eq c =
     let same = (slice_eq-Decides Decides-eqb c.as_slice.result.now c.args.flows.now c.eq.result c.eq.ensures).0 c.if-eq.true in (
       grind arith,
       λ k r e.
-          last_flows kept.marks.items kept.numbers.items kept.last.items kept.widest c.args.self.now k r c.self.invariant c.self.view_is e
+          last_flows kept.marks.items kept.numbers.items kept.last.items kept.widest kept.bound c.args.self.now k r c.self.invariant c.self.view_is e
           ∙ sym c.as_slice.ensures.value ∙ same,
     )
 
 pub returns : goal.returns
 returns c = λ k r e same.
     let kept = c.self.inside in
-    let last = last_flows kept.marks.items kept.numbers.items kept.last.items kept.widest c.args.self.now k r c.self.invariant c.self.view_is e in
+    let last = last_flows kept.marks.items kept.numbers.items kept.last.items kept.widest kept.bound c.args.self.now k r c.self.invariant c.self.view_is e in
     let decides = slice_eq-Decides Decides-eqb c.as_slice.result.now c.args.flows.now c.eq.result c.eq.ensures in
     let equal = decides.1 (c.as_slice.ensures.value ∙ sym last ∙ same) in
     cc

@@ -25,7 +25,7 @@ invariant_of-self c =
     let seen = ap length c.self.view_is in
     let counted = length-runs_of [] kept.marks.items kept.numbers.items in
     let mark = c.index_mut.result.now in
-    IsKept-lengthened kept.marks.items kept.numbers.items kept.last.items kept.widest last mark c.args.slots c.self.invariant (omega arith) c.index_mut.ensures.value
+    IsKept-lengthened kept.marks.items kept.numbers.items kept.last.items kept.widest kept.bound last mark c.args.slots c.self.invariant (omega arith) c.index_mut.ensures.value
 
 pub returns : goal.returns
 returns c = λ k r e.
