@@ -2,7 +2,7 @@
 use Rattle.std.proofs.Common.{ℕ, ◌<◌, ◌≤◌, inl, List, length, get_or, map, Option, Some, None, sym, ◌∙◌, arith}
 use Rattle.std.specs.Prelude.{All, Contains}
 use Rattle.std.proofs.lemmas.List.{get_or-map, length-map}
-use Rattle.std.proofs.lemmas.List.Elements.{All-contains, All-map, All-nil, Contains-get_or}
+use Rattle.std.proofs.lemmas.List.Elements.{All-contains, All-map, Contains-get_or}
 use Rattle.std.proofs.lemmas.List.Kept.{AllPairs-from_increasing}
 use Rattle.coflow_units.specs.declared.fabric.Flow.{Flow}
 use Rattle.coflow_units.specs.Flows.{ingress_of, IsDistinct}
@@ -49,11 +49,3 @@ pub few_granted : (o : Opening) (journal : List Entry) → IsOpening o → IsLeg
 few_granted o journal within legal ok =
     let s = state_of o journal in
     few_in o s.sent s.next s.run within (legal_sound o journal legal ok).open_run
-
-known_in : (o : Opening) (sent : ℕ → ℕ) (next : ℕ) (run : Option Run) → OnRun run (IsOpenRun o.table.flows sent next) → All (λ f. f < length o.table.flows) (flows_granted run)
-known_in o sent next None sound = All-nil (λ f. f < length o.table.flows)
-known_in o sent next (Some r) sound = sound.clear.flow
-
--- they are flows of the table
-pub known_granted : (o : Opening) (journal : List Entry) → IsLegal o journal → InRange o journal → All (λ f. f < length o.table.flows) (all_granted o journal)
-known_granted o journal legal ok = let s = state_of o journal in known_in o s.sent s.next s.run (legal_sound o journal legal ok).open_run

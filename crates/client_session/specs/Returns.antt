@@ -1,5 +1,5 @@
 -- What is left of a driver and of sessions that end.
-use Rattle.std.specs.Prelude.{◌≡◌, ◌<◌, ◌≤◌, false, List, [], ◌∷◌, All, length, Some}
+use Rattle.std.specs.Prelude.{◌≡◌, ◌<◌, false, List, [], ◌∷◌, All, length, Some}
 use Rattle.journal.specs.declared.command.Entry.{Entry}
 use Rattle.rank_board.specs.declared.pulls.Pull.{Pull}
 use Rattle.turnstile.specs.declared.view.Returned.{Returned}

@@ -4,9 +4,9 @@ ghost use Rattle.coflow_units.specs.declared.fabric.Flow.{Flow};
 ghost use Rattle.coflow_units.specs.Flows.{ingress_of};
 ghost use Rattle.journal.specs.Runs.{grant_in};
 ghost use Rattle.rank_board.specs.Models.{first_publisher, new_seat};
-ghost use Rattle.std.specs.Prelude.{◌≡◌, ◌==◌, ◌<◌, ◌≤◌, All, List, [], IfOk, length, map, position, vec_capacity};
+ghost use Rattle.std.specs.Prelude.{◌≡◌, ◌==◌, ◌≤◌, List, [], IfOk, length, map, position, vec_capacity};
 
-use coflow_units::{Flow, NoMemory};
+use coflow_units::NoMemory;
 use master_core::Master;
 use rank_board::{Publisher, RankBoard, RankSeat};
 use std::alloc::Global;
@@ -88,7 +88,7 @@ impl Granted {
         ensures flows { to.new.items ≡ self.now.flows }
         ensures room { vec_capacity to.new ≡ vec_capacity to.old }
     {
-        copy_flows(&self.flows, to);
+        write_over(&self.flows, to);
     }
 
     /// Becomes what a master's open run grants.
@@ -97,10 +97,8 @@ impl Granted {
         ensures granted { TellsGrants master.now.opening master.now.journal self.new }
     {
         let _legal = master.journal();
-        let flows = master.table().flows();
-        let granted = master.granted_flows();
-        copy_flows(granted, &mut self.flows);
-        copy_ingresses(flows, granted, &mut self.ingresses);
+        copy_numbers(master.granted_flows(), &mut self.flows);
+        copy_numbers(master.granted_ports(), &mut self.ingresses);
     }
 }
 
@@ -111,28 +109,29 @@ fn find_place(ports: &[u32], port: u32) -> Option<usize>
     ports.iter().position(|p| *p == port)
 }
 
-// Makes the list the ingress ports of these flows, for which it has room.
-fn copy_ingresses(flows: &[Flow], granted: &[u32], to: &mut Vec<u32>)
-    requires flows { All (λ f. f < length flows.now) granted.now }
-    requires room { length granted.now ≤ vec_capacity to.old }
-    ensures ingresses { to.new.items ≡ map (ingress_of flows.now) granted.now }
-    ensures room { vec_capacity to.new ≡ vec_capacity to.old }
+// Makes the list the same as these numbers, for which it has room.
+fn copy_numbers(from: &[u32], to: &mut Vec<u32>)
+    requires room { length from.now ≤ vec_capacity to.old }
+    ensures numbers { to.new.items ≡ from.now }
+    ensures room { vec_capacity to.old ≤ vec_capacity to.new }
 {
     to.clear();
-    for flow in granted {
-        to.push_reserved(flows[*flow as usize].ingress);
-    }
+    let Ok(()) = to.extend_from_slice(from) else {
+        unreachable!();
+    };
 }
 
-// Makes the list the same as these flows, for which it has room.
-fn copy_flows(from: &[u32], to: &mut Vec<u32>)
+// The same, with no more room than before. What the list had is written over.
+fn write_over(from: &[u32], to: &mut Vec<u32>)
     requires room { length from.now ≤ vec_capacity to.old }
-    ensures flows { to.new.items ≡ from.now }
+    ensures numbers { to.new.items ≡ from.now }
     ensures room { vec_capacity to.new ≡ vec_capacity to.old }
 {
-    to.clear();
-    for flow in from {
-        to.push_reserved(*flow);
+    let over = from.len().min(to.len());
+    to.truncate(over);
+    to.copy_from_slice(&from[..over]);
+    for number in &from[over..] {
+        to.push_reserved(*number);
     }
 }
 

@@ -49,6 +49,13 @@ pub paid_along : (flows : List Flow) (new old g granted : List ℕ) (n noted : L
 paid_along flows new old g granted n noted slots same notes paid f =
     ap (λ l. get_or new f 0 + credit_of flows l noted slots f) (sym same) ∙ ap (λ l. get_or new f 0 + credit_of flows g l slots f) (sym notes) ∙ paid f
 
+-- where nothing was noted, each granted flow is credited with a unit for each slot
+pub paid_equally : (flows : List Flow) (new old g granted : List ℕ) (noted : List (Option ℕ)) (slots : ℕ) → g ≡ granted → ((ingress : ℕ) → note_at noted ingress ≡ None) →
+    ((f : ℕ) → get_or new f 0 + (if has g f then slots else 0) ≡ get_or old f 0) → (f : ℕ) → get_or new f 0 + credit_of flows granted noted slots f ≡ get_or old f 0
+paid_equally flows new old g granted noted slots same quiet paid f =
+    ap (λ n. get_or new f 0 + (if has granted f then unwrap_or n slots else 0)) (quiet (ingress_of flows f))
+    ∙ ap (λ (l : List ℕ). get_or new f 0 + (if has l f then slots else 0)) (sym same) ∙ paid f
+
 -- where nothing was noted, each granted flow has lost a unit for each slot
 pub run_less : (flows : List Flow) (new old granted : List ℕ) (noted : List (Option ℕ)) (slots : ℕ) → ((ingress : ℕ) → note_at noted ingress ≡ None) →
     ((f : ℕ) → get_or new f 0 + credit_of flows granted noted slots f ≡ get_or old f 0) → IsRunLess (λ f. get_or old f 0) (λ f. get_or new f 0) granted slots

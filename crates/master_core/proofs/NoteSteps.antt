@@ -34,4 +34,5 @@ fits_noted flows owed (Some x) p units n h e = record {
   flow = h.flow;
   each_owes = h.each_owes;
   notes = λ q. set_within x.noted x.slots p n q (note_within x.slots units n (granted_at x.tables p) e) (h.notes q);
+  settled = h.settled;
 }

@@ -104,4 +104,5 @@ begun_fits flows ports line' left first most k low h =
       flow = h.grants.flow;
       each_owes = all_of_members (λ f. k.slots ≤ slice_index left f) k.granted (λ f in'. omega (arith, h.slots_is, least_each (λ f. slice_index left f) k.granted m f in'));
       notes = λ ingress. subst (λ n. unwrap_or n k.slots ≤ k.slots) (sym (h.noted ingress)) (omega arith);
+      settled = (line', h.settled);
     }

@@ -7,10 +7,10 @@ use Rattle.coflow_units.specs.declared.fabric.Flow.{Flow}
 use Rattle.journal.specs.declared.command.Reply.{Reply}
 use Rattle.journal.specs.declared.command.Reply.TheVariants.{NotGranted, Noted}
 use Rattle.journal.specs.State.{Run}
-use Rattle.journal.specs.Runs.{flow_at, grant_in, note_in, noted_at}
+use Rattle.journal.specs.Runs.{flow_at, flows_granted, grant_in, note_in, noted_at}
 use Rattle.journal.specs.Fold.{noted_in}
 use Rattle.journal.specs.Answer.{noted, on_run}
-use Rattle.master_core.specs.OpenRun.{KeptRun, flow_kept, granted_at, kept_note, note_at, note_of, number_noted, with_note}
+use Rattle.master_core.specs.OpenRun.{KeptRun, flow_kept, flows_kept, granted_at, kept_note, note_at, note_of, number_noted, with_note}
 use Rattle.master_core.proofs.GrantSteps.{grant_told}
 use Rattle.master_core.specs.Standing.{TellsOpen, TellsRun}
 
@@ -21,6 +21,12 @@ flow_told flows ports None None p t = refl
 flow_told flows ports None (Some x) p t = absurd t
 flow_told flows ports (Some r) None p t = absurd t
 flow_told flows ports (Some r) (Some x) p t = sym (grant_told flows r.granted x.tables p t.at)
+
+pub flows_told : (flows : List Flow) (ports : ℕ) (r : Option Run) (x : Option KeptRun) → TellsRun flows ports r x → flows_kept x ≡ flows_granted r
+flows_told flows ports None None t = refl
+flows_told flows ports None (Some x) t = absurd t
+flows_told flows ports (Some r) None t = absurd t
+flows_told flows ports (Some r) (Some x) t = t.granted
 
 -- ---- notes
 

@@ -57,6 +57,7 @@ pub record IsBegun (flows : List Flow) (ports : ℕ) (line : List ℕ) (left : �
   pub slots_is : r.slots ≡ least_of left r.granted (min most (slot_end - first))
   pub grants : IsGrants flows line left r.granted
   pub at : TellsIngresses flows r.granted r.tables
+  pub settled : IsSettled flows line left r.tables
   pub noted_len : length r.noted ≡ ports
   pub noted : (ingress : ℕ) → note_at r.noted ingress ≡ None
 
@@ -100,13 +101,14 @@ abbrev pub kept_credit : List Flow → KeptRun → ℕ → ℕ
 kept_credit flows r f = credit_of flows r.granted r.noted r.slots f
 
 -- The flows of the open run are the table's, each once, and each owes a unit for each slot; no note is above its
--- length.
+-- length. Its tables are those of a line of coflows and of what is owed.
 pub record FitsRun (flows : List Flow) (owed : List ℕ) (r : KeptRun) : Type 0 where
   pub ends : r.first + r.slots ≤ slot_end
   pub ascending : IsStrictlyIncreasing r.granted
   pub flow : All (λ f. f < length flows) r.granted
   pub each_owes : All (λ f. r.slots ≤ slice_index owed f) r.granted
   pub notes : (ingress : ℕ) → unwrap_or (note_at r.noted ingress) r.slots ≤ r.slots
+  pub settled : (line : List ℕ) × IsSettled flows line (λ f. slice_index owed f) r.tables
 
 abbrev pub FitsOpen : List Flow → List ℕ → Option KeptRun → Type 0
 FitsOpen flows owed None = Unit {0}

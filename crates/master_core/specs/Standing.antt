@@ -1,5 +1,5 @@
 -- What is kept beside a journal, so as not to read it again, and what it tells of the state.
-use Rattle.std.specs.Prelude.{◌≡◌, ℕ, ◌+◌, ◌<◌, ◌≤◌, ◌&&◌, Bool, true, false, not, nat_lt, List, All, Contains}
+use Rattle.std.specs.Prelude.{◌≡◌, ℕ, ◌+◌, ◌<◌, ◌≤◌, ◌&&◌, true, not, List, All, Contains}
 use Rattle.std.specs.Prelude.{length, map, slice_index, Option, Some, None}
 use Rattle.coflow_units.specs.declared.limits.TheConstants.{MAX_WEIGHT}
 use Rattle.coflow_units.specs.declared.fabric.Flow.{Flow}

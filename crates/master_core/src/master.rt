@@ -1,8 +1,8 @@
 //! The master.
-ghost use Rattle.std.specs.Prelude.{◌≡◌, ℕ, ◌+◌, ◌^◌, ◌<◌, ◌≤◌, ◌&&◌, [], All, IfOk, IsTrue, length, nat_le, nat_lt, slice_index};
+ghost use Rattle.std.specs.Prelude.{◌≡◌, ℕ, ◌+◌, ◌^◌, ◌<◌, ◌≤◌, ◌&&◌, [], All, IfOk, IsTrue, length, map, nat_le, nat_lt, slice_index};
 ghost use Rattle.coflow_units.specs.declared.limits.TheConstants.{MAX_PORTS, MAX_WEIGHT};
 ghost use Rattle.coflow_units.specs.declared.plan.Place.{Place};
-ghost use Rattle.coflow_units.specs.Flows.{Instance, IsDistinct};
+ghost use Rattle.coflow_units.specs.Flows.{Instance, IsDistinct, ingress_of};
 ghost use Rattle.bssi_order.specs.Order.{IsOrder};
 ghost use Rattle.journal.specs.Answer.{IsInRange, in_range, reply_of, room};
 ghost use Rattle.journal.specs.Fold.{state_of};
@@ -144,6 +144,14 @@ impl Master {
         ensures { result.now ≡ flows_granted (state_of self.now.opening self.now.journal).run }
     {
         self.standing.runs.flows()
+    }
+
+    /// The ingress port of each flow that is granted in the open run, in the order of `granted_flows`. There are none where no run is open. It takes no memory.
+    pub fn granted_ports(&self) -> &[u32]
+        ensures { result.now ≡ map (ingress_of self.now.opening.table.flows)
+            (flows_granted (state_of self.now.opening self.now.journal).run) }
+    {
+        self.standing.runs.ports()
     }
 
     /// How many slots the open run has; its first is the next slot. None comes exactly where no run is open.

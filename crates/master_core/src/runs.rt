@@ -1,9 +1,9 @@
 //! The grants that are kept from run to run, and the open run with its notes.
-ghost use Rattle.std.specs.Prelude.{◌≡◌, ℕ, ◌+◌, ◌-◌, ◌<◌, ◌≤◌, List, [], true, false, None, Some, All, IfOk, IsTrue, MatchOption, length, slice_index, unwrap_or};
+ghost use Rattle.std.specs.Prelude.{◌≡◌, ℕ, ◌+◌, ◌-◌, ◌<◌, ◌≤◌, List, [], true, false, None, Some, All, IfOk, IsTrue, MatchOption, if◌then◌else◌, length, map, slice_index, unwrap_or};
 ghost use Rattle.std.specs.List.Sorted.{IsStrictlyIncreasing};
 ghost use Rattle.coflow_units.specs.declared.fabric.Flow.{Flow};
-ghost use Rattle.coflow_units.specs.Flows.{IsDistinct};
-ghost use Rattle.journal.specs.State.{slot_end};
+ghost use Rattle.coflow_units.specs.Flows.{IsDistinct, ingress_of};
+ghost use Rattle.journal.specs.State.{has, slot_end};
 ghost use Rattle.matching.specs.Matching.{IsSettled, listed_in, room_of};
 ghost use Rattle.master_core.specs.OpenRun.{FitsOpen, IsBegun, KeepsGrants, KeptRun, credit_of, flow_kept, flows_kept, kept_credit, kept_note, note_at, number_noted, with_note};
 
@@ -146,6 +146,17 @@ impl Runs {
         }
     }
 
+    /// The ingress port of each flow that is granted in the open run, in the order of `flows`. There are none where no run is open.
+    pub fn ports(&self) -> &[u32]
+        ensures { (flows : List Flow) (owed : List ℕ) → FitsOpen flows owed self.now.run →
+            result.now ≡ map (ingress_of flows) (flows_kept self.now.run) }
+    {
+        match self.current {
+            Some(_) => self.grants.ports(),
+            None => &[],
+        }
+    }
+
     /// What was noted last at an ingress in the open run. None comes exactly where no run is open, or nothing was noted there in it.
     pub fn noted(&self, ingress: u32) -> Option<u64>
         requires { ingress < self.now.ports }
@@ -224,12 +235,13 @@ impl Runs {
         let Some(run) = self.current else {
             return None;
         };
-        credit_all(ledger, flows, self.grants.flows(), &self.noted, run.slots);
         self.current = None;
         if self.has_notes {
+            credit_all(ledger, flows, self.grants.flows(), &self.noted, run.slots);
             self.fresh = false;
             return Some(run);
         }
+        credit_equally(ledger, self.grants.flows(), run.slots);
         self.grants.take_run(run.slots);
         self.grants.repair();
         Some(run)
@@ -272,5 +284,21 @@ fn credit_all(
         let ingress = flows[*flow as usize].ingress;
         let units = noted[ingress as usize].unwrap_or(slots);
         ledger.credit(*flow, units);
+    }
+}
+
+/// Credits each granted flow with a unit for each slot.
+fn credit_equally(ledger: &mut Ledger, granted: &[u32], slots: u64)
+    requires ascending { IsStrictlyIncreasing granted.now }
+    requires flow { All (λ f. f < length ledger.old.units) granted.now }
+    requires owed_len { length ledger.old.owed ≡ length ledger.old.units }
+    requires owed { All (λ f. slots ≤ slice_index ledger.old.owed f) granted.now }
+    ensures units { ledger.new.units ≡ ledger.old.units }
+    ensures owed_len { length ledger.new.owed ≡ length ledger.old.owed }
+    ensures owed { (f : ℕ) → slice_index ledger.new.owed f + (if has granted.now f then slots else 0) ≡
+        slice_index ledger.old.owed f }
+{
+    for flow in granted {
+        ledger.credit(*flow, slots);
     }
 }

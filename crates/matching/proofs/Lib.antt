@@ -1,10 +1,10 @@
+pub mod AnewSteps
 pub mod BitSteps
 pub mod BoardSteps
 pub mod EndSteps
 pub mod FreeSteps
 pub mod HeadSteps
 pub mod KeptSteps
-pub mod ListSteps
 pub mod LookSteps
 pub mod MatchingSteps
 pub mod PassSteps
@@ -13,5 +13,6 @@ pub mod RoomSteps
 pub mod RowSteps
 pub mod RunSteps
 pub mod SettleSteps
+pub mod ShownSteps
 pub mod SourceSteps
 pub mod WaitSteps

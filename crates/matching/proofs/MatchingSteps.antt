@@ -1,18 +1,18 @@
 -- The grants that are kept, from the flows of a line to the list of those that are granted.
-use Rattle.std.proofs.Common.{◌≡◌, ◌≢◌, ℕ, ◌+◌, ◌^◌, ◌≤◌, ◌<◌, inl, inr, List, length, get_or, take, Contains, refl, sym, ap, subst, ◌∙◌, arith}
+use Rattle.std.proofs.Common.{◌≡◌, ◌≢◌, ℕ, ◌+◌, ◌^◌, ◌≤◌, ◌<◌, inl, inr, List, length, get_or, map, take, Contains, sym, ap, subst, ◌∙◌, arith}
 use Rattle.std.specs.Prelude.{All}
-use Rattle.std.specs.List.Sorted.{IsStrictlyIncreasing}
-use Rattle.std.proofs.lemmas.List.{get_or-take, length-take, length-take-le}
+use Rattle.std.proofs.lemmas.List.{ext_get_or, get_or-map, get_or-take, get_or_default, length-map, length-take, length-take-le}
+use Rattle.std.proofs.lemmas.List.Elements.{Contains-get_or}
 use Rattle.coflow_units.specs.declared.fabric.Flow.{Flow}
-use Rattle.coflow_units.specs.Flows.{coflow_of}
+use Rattle.coflow_units.specs.Flows.{coflow_of, ingress_of}
 use Rattle.coflow_units.specs.Grants.{place_in, ComesBefore}
 use Rattle.coflow_units.proofs.LinePlaces.{place_of_member, at_place, not_itself}
 use Rattle.matching.specs.declared.ranks.Ranks.{Ranks}
 use Rattle.matching.specs.declared.tables.Tables.{Tables}
 use Rattle.matching.specs.Kept.{IsLined, IsTold}
 use Rattle.matching.specs.Board.{no_rank, first_of, graph_of, IsRanks, IsBoard, Stands}
-use Rattle.matching.specs.Listing.{IsFirstSide, IsListing}
-use Rattle.matching.specs.Matching.{IsBegun, IsMatching}
+use Rattle.matching.specs.Listing.{IsFirstSide, IsListed, IsShown}
+use Rattle.matching.specs.Matching.{IsBegun, IsMatching, listed_in, ports_listed_in}
 use Rattle.matching.specs.Ranking.{number_of, IsRanking}
 use Rattle.matching.specs.Sound.{IsSound, left_at}
 use Rattle.matching.proofs.BoardSteps.{stands_at}
@@ -32,23 +32,42 @@ first_side ranks at k b = λ p lt.
       | inr (known, inr second) ↦ absurd (omega (arith, second, low, k.graph.second_from (get_or at p 0) known))
     ]
 
-pub listed_told : (ranks : Ranks) (at told : List ℕ) → IsRanks ranks → IsBoard ranks.ports (graph_of ranks) at → IsStrictlyIncreasing told →
-    IsListing ranks (take ranks.ports at) (λ p. p < length (take ranks.ports at)) told → IsTold (number_of ranks) (Stands (graph_of ranks) at) told
-listed_told ranks at told k b up l =
-    let size : length (take ranks.ports at) ≡ ranks.ports = length-take-le ranks.ports at (omega (arith, b.size)) in
-    record {
-      ascending = up;
-      from = λ f has.
-          let (p, lt, known, e) = l.from f has in
-          let low : p < ranks.ports = omega (arith, lt, size) in
-          let same = get_or-take ranks.ports at p 0 low in
-          let some : get_or at p 0 ≢ no_rank = λ x. omega (arith, x, same, known, k.graph.few) in
-          (get_or at p 0, (stands_at ranks.ports (graph_of ranks) at p (get_or at p 0) b (omega (arith, low)) some refl).0, ap (number_of ranks) (sym same) ∙ e);
-      all = λ r (lr, at_r).
-          let low = k.graph.first r lr in
-          let same : get_or (take ranks.ports at) (first_of ranks r) 0 ≡ r = get_or-take ranks.ports at (first_of ranks r) 0 low ∙ at_r in
-          subst (λ x. Contains told (number_of ranks x)) same (l.all (first_of ranks r) (omega (arith, low, size)) (omega (arith, same, lr)));
-    }
+-- what is shown is what stands, so the list tells it
+pub shown_told : (ranks : Ranks) (at shown flows ports : List ℕ) → IsRanks ranks → IsBoard ranks.ports (graph_of ranks) at → shown ≡ take ranks.ports at →
+    IsShown ranks shown flows ports → IsTold (number_of ranks) (Stands (graph_of ranks) at) flows
+shown_told ranks at shown flows ports k b is s = record {
+  ascending = λ j lt. s.rises j (j + 1) (omega arith) lt;
+  from = λ f (j, lt, e).
+      let r = get_or shown (get_or ports j 0) 0 in
+      let low : get_or ports j 0 < ranks.ports = omega (arith, s.low j lt, size) in
+      let same : get_or at (get_or ports j 0) 0 ≡ r = sym (seen (get_or ports j 0) low) in
+      let some : r ≢ no_rank = λ x. omega (arith, x, s.known j lt, k.graph.few) in
+      (r, (stands_at ranks.ports (graph_of ranks) at (get_or ports j 0) r b (omega (arith, low)) some same).0, s.number j lt ∙ sym (get_or_default flows j f 0 lt) ∙ e);
+  all = λ r (lr, at_r).
+      let low = k.graph.first r lr in
+      let here : get_or shown (first_of ranks r) 0 ≡ r = seen (first_of ranks r) low ∙ at_r in
+      let (j, lt, at_j) = s.all (first_of ranks r) (omega (arith, low, size)) (omega (arith, here, lr)) in
+      let number : get_or flows j 0 ≡ number_of ranks r = sym (s.number j lt) ∙ ap (λ p. number_of ranks (get_or shown p 0)) at_j ∙ ap (number_of ranks) here in
+      subst (λ n. Contains flows n) number (Contains-get_or flows j 0 lt);
+} where
+  size : length shown ≡ ranks.ports
+  size = ap (λ (xs : List ℕ). length xs) is ∙ length-take-le ranks.ports at (omega (arith, b.size))
+
+  seen : (p : ℕ) → p < ranks.ports → get_or shown p 0 ≡ get_or at p 0
+  seen p low = ap (λ xs. get_or xs p 0) is ∙ get_or-take ranks.ports at p 0 low
+
+-- the ports beside the list are those at which its flows begin
+pub ports_are : (flows : List Flow) (line : List ℕ) (left : ℕ → ℕ) (m : Tables) → m.ranks.count ≤ no_rank → IsListed m.ranks m.listing → IsMatching flows line left m →
+    ports_listed_in m ≡ map (ingress_of flows) (listed_in m)
+ports_are flows line left m few s at =
+    ext_get_or 0 (ports_listed_in m) (map (ingress_of flows) (listed_in m)) (omega (arith, s.size, length-map (listed_in m) (ingress_of flows))) (λ j lt.
+    let lj : j < length (listed_in m) = omega (arith, lt, s.size) in
+    let p = get_or (ports_listed_in m) j 0 in
+    let r = get_or m.listing.shown.items p 0 in
+    elim (s.side p (s.low j lj)) [
+      | inl none ↦ absurd (omega (arith, none, s.known j lj, few))
+      | inr (known, first) ↦ sym first ∙ at.lined.first_is r known ∙ ap (ingress_of flows) (s.number j lj) ∙ sym (get_or-map (ingress_of flows) (listed_in m) j 0 0 lj)
+    ])
 
 -- ---- the beginning
 

@@ -3,7 +3,7 @@ use Rattle.std.proofs.Common.{◌≡◌, ◌≢◌, ℕ, ◌+◌, ◌≤◌, ◌
 use Rattle.std.specs.Prelude.{All}
 use Rattle.std.specs.List.{range_with_len}
 use Rattle.std.proofs.Math.Dec.{eqb}
-use Rattle.std.proofs.lemmas.Bool.{cases_lt, eqb-true}
+use Rattle.std.proofs.lemmas.Bool.{cases_eq, cases_lt, eqb-true}
 use Rattle.std.proofs.lemmas.Bool.Decides.{Decides-eqb}
 use Rattle.std.proofs.lemmas.Grind.{get_or-set_at}
 use Rattle.std.proofs.lemmas.List.{get_or-set_other, get_or-map}
@@ -19,7 +19,7 @@ use Rattle.coflow_units.proofs.LinePlaces.{at_place_zero, in_front, not_itself, 
 use Rattle.coflow_units.proofs.Lists.{any_where}
 use Rattle.matching.specs.declared.ranks.Ranked.{Ranked}
 use Rattle.matching.specs.declared.ranks.Ranks.{Ranks}
-use Rattle.matching.specs.Board.{ranked_at}
+use Rattle.matching.specs.Board.{ranked_at, IsRanks}
 use Rattle.matching.specs.Ranking.{number_of, IsCoflowAt, IsRanking}
 use Rattle.matching.specs.Waits.{IsPushed}
 
@@ -40,6 +40,16 @@ distinct_below number count bound low apart =
       length-le_from_distinct_below xs bound (IsDistinct-from_AllPairs Decides-eqb xs once) (λ q e. let (x, has, same) = any_where (eqb q) xs e in
           subst (λ n. n < bound) (sym (eqb-true q x same)) (All-contains (λ n. n < bound) xs x all has)),
     )
+
+-- the numbers of two ranks are different
+pub one_number : (ranks : Ranks) (q r : ℕ) → IsRanks ranks → q < ranks.count → r < ranks.count → number_of ranks q ≡ number_of ranks r → q ≡ r
+one_number ranks q r k lq lr e = elim (cases_eq q r) [
+  | inl same ↦ same
+  | inr ne ↦ elim (cases_lt q r) [
+    | inl low ↦ absurd (k.apart q r low lr e)
+    | inr high ↦ absurd (k.apart r q (omega (arith, high, ne)) lq (sym e))
+  ]
+]
 
 -- ---- one flow more
 

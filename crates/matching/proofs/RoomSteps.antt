@@ -1,13 +1,15 @@
 -- The tables keep their lengths.
-use Rattle.std.proofs.Common.{◌≡◌, ℕ, ◌+◌, ◌*◌, ◌^◌, ◌≤◌, ◌<◌, inl, List, length, get_or, replicate, Contains, ap, ◌∙◌, arith}
+use Rattle.std.proofs.Common.{◌≡◌, ℕ, ◌+◌, ◌*◌, ◌^◌, ◌<◌, inl, List, length, get_or, replicate, Contains, sym, ap, subst, ◌∙◌, arith}
 use Rattle.std.proofs.lemmas.List.{get_or-replicate, length-replicate}
 use Rattle.std.proofs.lemmas.Nat.{mul-add-lt}
 use Rattle.matching.specs.declared.tables.Tables.{Tables}
 use Rattle.matching.specs.Board.{graph_of, no_rank}
+use Rattle.matching.specs.Listing.{HasListingRoom, IsListed, IsNothingListed}
 use Rattle.matching.specs.Matching.{HasRoom, IsSameRoom, IsWhole}
 use Rattle.matching.specs.Rows.{IsBlank, IsShaped}
 use Rattle.matching.specs.Sound.{IsSound, left_at}
 use Rattle.matching.proofs.RowSteps.{blank_holds, no_rows}
+use Rattle.matching.proofs.ShownSteps.{nothing_shown}
 
 pub room_again : (old mid new : Tables) → IsSameRoom old mid → IsSameRoom mid new → IsSameRoom old new
 room_again old mid new a b = record {
@@ -15,7 +17,7 @@ room_again old mid new a b = record {
   ranked = b.ranked ∙ a.ranked;
   lefts = b.lefts ∙ a.lefts;
   nexts = b.nexts ∙ a.nexts;
-  listed = b.listed ∙ a.listed;
+  listing = λ n has. b.listing n (a.listing n has);
 }
 
 pub room_stays : (old new : Tables) → IsSameRoom old new → HasRoom old → HasRoom new
@@ -24,12 +26,16 @@ room_stays old new s r = record {
   few = omega (arith, r.few, s.lefts);
   ranked = omega (arith, r.ranked, s.ranked, s.lefts);
   nexts = omega (arith, r.nexts, s.nexts, s.lefts);
-  listed = omega (arith, r.listed, s.listed, s.ports);
+  listing = subst (λ n. HasListingRoom n new.listing) (sym s.ports) (s.listing old.ranks.ports r.listing);
 }
 
-pub whole_again : (old new : Tables) → IsWhole old → IsSameRoom old new → new.granted ≤ length new.listed.items → IsSound new (λ p. Contains new.board.waiting.ports p) →
-    IsWhole new
-whole_again old new w s within sound = record { sound = sound; room = room_stays old new s w.room; within = within }
+pub whole_again : (old new : Tables) → IsWhole old → IsSameRoom old new → new.ranks ≡ old.ranks → new.listing ≡ old.listing →
+    IsSound new (λ p. Contains new.board.waiting.ports p) → IsWhole new
+whole_again old new w s same kept sound = record {
+  sound = sound;
+  room = room_stays old new s w.room;
+  listing = subst (λ x. IsListed x new.listing) (sym same) (subst (λ x. IsListed old.ranks x) (sym kept) w.listing);
+}
 
 -- there is room for so many flows and for the ports
 pub record HasRoomFor (m : Tables) (flows : ℕ) : Type 0 where
@@ -40,7 +46,7 @@ pub record HasRoomFor (m : Tables) (flows : ℕ) : Type 0 where
   pub lefts : length m.left.items ≡ flows
   pub nexts : length m.heads.next.items ≡ flows
   pub waiting : m.board.waiting.room ≡ m.ranks.ports + m.ranks.ports
-  pub listed : length m.listed.items ≡ m.ranks.ports
+  pub listing : HasListingRoom m.ranks.ports m.listing
 
 -- the rows of heads hold no rank
 pub record HasNoRows (m : Tables) : Type 0 where
@@ -52,7 +58,7 @@ pub record HasNoRows (m : Tables) : Type 0 where
 -- no flow owes
 pub record IsEmpty (m : Tables) (flows : ℕ) : Type 0 where
   pub none : m.ranks.count ≡ 0
-  pub granted : m.granted ≡ 0
+  pub listed : IsNothingListed m.listing
   pub heads : m.heads.least.items ≡ replicate ((m.ranks.ports + m.ranks.ports) * m.ranks.ports) no_rank
   pub board : m.board.at.items ≡ replicate (m.ranks.ports + m.ranks.ports) no_rank
   pub room : HasRoomFor m flows
@@ -109,9 +115,9 @@ empty_whole m flows e = record {
     few = omega (arith, e.room.few, e.room.lefts);
     ranked = omega (arith, e.room.ranked, e.room.lefts);
     nexts = omega (arith, e.room.nexts, e.room.lefts);
-    listed = omega (arith, e.room.listed);
+    listing = e.room.listing;
   };
-  within = omega (arith, e.granted);
+  listing = nothing_shown m.ranks m.listing (omega (arith, e.none)) e.listed;
 } where
   ports : ℕ
   ports = m.ranks.ports

@@ -14,6 +14,7 @@ use Rattle.matching.specs.Matching.{IsGrantedAt, IsLess, IsMatching, IsRankTaken
 use Rattle.matching.specs.Ranking.{number_of}
 use Rattle.matching.specs.Sound.{left_at, rank_at}
 use Rattle.matching.proofs.BoardSteps.{stands_at}
+use Rattle.matching.proofs.RankSteps.{one_number}
 use Rattle.matching.proofs.SourceSteps.{IsOneMore}
 
 -- ---- what is granted at an ingress
@@ -151,16 +152,6 @@ least_is flows line left m done least all k b s l = record {
       (st, granted.2, all (rank f) st.0)
 
 -- ---- one flow is taken
-
--- the numbers of two ranks are different
-pub one_number : (ranks : Ranks) (q r : ℕ) → IsRanks ranks → q < ranks.count → r < ranks.count → number_of ranks q ≡ number_of ranks r → q ≡ r
-one_number ranks q r k lq lr e = elim (cases_eq q r) [
-  | inl same ↦ same
-  | inr ne ↦ elim (cases_lt q r) [
-    | inl low ↦ absurd (k.apart q r low lr e)
-    | inr high ↦ absurd (k.apart r q (omega (arith, high, ne)) lq (sym e))
-  ]
-]
 
 pub lined_again : (flows : List Flow) (line : List ℕ) (left lower : ℕ → ℕ) (ports : ℕ) (number : ℕ → ℕ) (g : Graph) → ((f : ℕ) → lower f ≤ left f) →
     IsLined flows line left ports number g → IsLined flows line lower ports number g

@@ -1,6 +1,5 @@
 -- The grants that are kept, as they are for the flows of a line and the units that they have left.
 use Rattle.std.specs.Prelude.{◌≡◌, ℕ, ◌+◌, ◌-◌, ◌^◌, ◌<◌, ◌≤◌, ◌==◌, ◌≢◌, ◌↔◌, if◌then◌else◌, List, Contains, length}
-use Rattle.std.specs.Prelude.{take}
 use Rattle.coflow_units.specs.declared.fabric.Flow.{Flow}
 use Rattle.coflow_units.specs.Flows.{ingress_of}
 use Rattle.coflow_units.specs.Grants.{IsGrants}
@@ -9,6 +8,7 @@ use Rattle.matching.specs.declared.tables.Tables.{Tables}
 use Rattle.matching.specs.Kept.{IsLined}
 use Rattle.matching.specs.Board.{IsRanks, first_of, graph_of, no_rank}
 use Rattle.matching.specs.Heads.{IsChain, IsHeads}
+use Rattle.matching.specs.Listing.{HasListingRoom, IsListed, IsNothingListed}
 use Rattle.matching.specs.Ranking.{IsRanking, number_of}
 use Rattle.matching.specs.Rows.{IsRows}
 use Rattle.matching.specs.Sound.{IsSound, left_at, rank_at}
@@ -23,7 +23,11 @@ ports_of m = m.ranks.ports
 
 -- the granted flows, as they were listed last
 abbrev pub listed_in : Tables → List ℕ
-listed_in m = take m.granted m.listed.items
+listed_in m = m.listing.flows.items
+
+-- the ingress port of each of them
+abbrev pub ports_listed_in : Tables → List ℕ
+ports_listed_in m = m.listing.ports.items
 
 -- the flow is granted now, and begins at the ingress
 abbrev pub IsGrantedAt : Tables → ℕ → ℕ → Type 0
@@ -63,6 +67,7 @@ pub record IsBegun (flows : List Flow) (line : List ℕ) (left : ℕ → ℕ) (m
   pub none : (p : ℕ) → p < m.ranks.ports + m.ranks.ports → rank_at m p ≡ no_rank
   pub room : m.board.waiting.room ≡ m.ranks.ports + m.ranks.ports
   pub all : (p : ℕ) → p < m.ranks.ports + m.ranks.ports → Contains m.board.waiting.ports p
+  pub listed : IsNothingListed m.listing
 
 -- one rank has lost so many units, or all that it had, and at other ports stands what stood there
 pub record IsRankTaken (old new : Tables) (rank units : ℕ) : Type 0 where
@@ -75,7 +80,7 @@ pub record IsSameRoom (old new : Tables) : Type 0 where
   pub ranked : length new.ranks.flows.items ≡ length old.ranks.flows.items
   pub lefts : length new.left.items ≡ length old.left.items
   pub nexts : length new.heads.next.items ≡ length old.heads.next.items
-  pub listed : length new.listed.items ≡ length old.listed.items
+  pub listing : (n : ℕ) → HasListingRoom n old.listing → HasListingRoom n new.listing
 
 -- each table has room for all flows and all ports
 pub record HasRoom (m : Tables) : Type 0 where
@@ -83,10 +88,10 @@ pub record HasRoom (m : Tables) : Type 0 where
   pub few : room_of m < 2 ^ 32
   pub ranked : room_of m ≤ length m.ranks.flows.items
   pub nexts : room_of m ≤ length m.heads.next.items
-  pub listed : ports_of m ≤ length m.listed.items
+  pub listing : HasListingRoom (ports_of m) m.listing
 
 -- the tables fit one another
 pub record IsWhole (m : Tables) : Type 0 where
   pub sound : IsSound m (λ p. Contains m.board.waiting.ports p)
   pub room : HasRoom m
-  pub within : m.granted ≤ length m.listed.items
+  pub listing : IsListed m.ranks m.listing

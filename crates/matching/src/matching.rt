@@ -1,10 +1,10 @@
 //! The grants that are kept.
-ghost use Rattle.std.specs.Prelude.{◌≡◌, ◌≢◌, ℕ, ◌+◌, ◌<◌, ◌≤◌, ◌^◌, ◌↔◌, List, [], All, Contains, IfOk, Some, length, slice_index};
+ghost use Rattle.std.specs.Prelude.{◌≡◌, ◌≢◌, ℕ, ◌+◌, ◌<◌, ◌≤◌, ◌^◌, ◌↔◌, List, [], All, Contains, IfOk, Some, length, map, slice_index};
 ghost use Rattle.coflow_units.specs.declared.fabric.Flow.{Flow};
-ghost use Rattle.coflow_units.specs.Flows.{IsDistinct};
+ghost use Rattle.coflow_units.specs.Flows.{IsDistinct, ingress_of};
 ghost use Rattle.coflow_units.specs.LeastLeft.{IsLeastLeft};
 ghost use Rattle.coflow_units.specs.Starts.{IsStarts};
-ghost use Rattle.matching.specs.Matching.{IsGrantedAt, IsLess, IsMatching, IsRunLess, IsSettled, listed_in, ports_of, room_of};
+ghost use Rattle.matching.specs.Matching.{IsGrantedAt, IsLess, IsMatching, IsRunLess, IsSettled, listed_in, ports_listed_in, ports_of, room_of};
 
 use crate::tables::Tables;
 use coflow_units::{Flow, NoMemory};
@@ -71,14 +71,26 @@ impl Matching {
     pub fn flows(&self) -> &[u32]
         ensures { result.now ≡ listed_in self.now }
     {
-        &self.tables.listed[..self.tables.granted as usize]
+        &self.tables.listing.flows
+    }
+
+    /// The ingress port of each granted flow, in the order of `flows`, as they were after the last `begin` or `repair`.
+    pub fn ports(&self) -> &[u32]
+        ensures ports { (flows : List Flow) (line : List ℕ) (left : ℕ → ℕ) → IsSettled flows line left self.now →
+            result.now ≡ map (ingress_of flows) (listed_in self.now) }
+        ensures count { length result.now ≡ length (listed_in self.now) }
+        ensures listed { result.now ≡ ports_listed_in self.now }
+        ensures taken { (flows : List Flow) (line : List ℕ) (left : ℕ → ℕ) → IsMatching flows line left self.now →
+            ports_listed_in self.now ≡ map (ingress_of flows) (listed_in self.now) }
+    {
+        &self.tables.listing.ports
     }
 
     /// How many flows `flows` has.
     pub fn count(&self) -> u32
         ensures { result ≡ length (listed_in self.now) }
     {
-        self.tables.granted
+        self.tables.listing.flows.len() as u32
     }
 
     /// The flow that is granted at an ingress. None comes exactly where none is granted there, or the ingress is none of the fabric's.

@@ -55,7 +55,7 @@ impl Tables {
         ensures ranks { self.new.ranks ≡ self.old.ranks }
         ensures left { self.new.left ≡ self.old.left }
         ensures heads { self.new.heads ≡ self.old.heads }
-        ensures listed { self.new.listed ≡ self.old.listed }
+        ensures listing { self.new.listing ≡ self.old.listing }
     {
         let mut free = [0u64; WORDS];
         self.board.keep_below(self.settled);
@@ -87,7 +87,7 @@ impl Tables {
         ensures ranks { self.new.ranks ≡ self.old.ranks }
         ensures left { self.new.left ≡ self.old.left }
         ensures heads { self.new.heads ≡ self.old.heads }
-        ensures listed { self.new.listed ≡ self.old.listed }
+        ensures listing { self.new.listing ≡ self.old.listing }
         ensures settled { self.new.settled ≡ self.old.settled }
     {
         let first = self.heads.rows.first[row as usize];

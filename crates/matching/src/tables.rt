@@ -5,13 +5,14 @@ ghost use Rattle.coflow_units.specs.Flows.{IsDistinct};
 ghost use Rattle.coflow_units.specs.Starts.{IsStarts};
 ghost use Rattle.coflow_units.specs.LeastLeft.{IsLeastLeft};
 ghost use Rattle.matching.specs.Board.{Stands, first_of, graph_of};
+ghost use Rattle.matching.specs.Listing.{HasListingRoom, IsListed};
 ghost use Rattle.matching.specs.Ranking.{number_of};
 ghost use Rattle.matching.specs.Matching.{IsBegun, IsGrantedAt, IsLess, IsMatching, IsRankTaken, IsRunLess, IsSameRoom, IsSettled, IsWhole, listed_in, ports_of, room_of};
 ghost use Rattle.matching.specs.Sound.{IsSound, budget, left_at, rank_at};
 
 use crate::board::Board;
 use crate::heads::Heads;
-use crate::listing::list_granted;
+use crate::listing::Listing;
 use crate::ranks::{NONE, Ranks};
 use coflow_units::{Flow, NoMemory};
 use std::alloc::Global;
@@ -24,9 +25,7 @@ pub struct Tables {
     pub left: Vec<u64>,
     pub heads: Heads,
     pub board: Board,
-    /// The numbers of the granted flows, ascending, in the first `granted` places.
-    pub listed: Vec<u32>,
-    pub granted: u32,
+    pub listing: Listing,
     /// Each rank below this that owes is granted, or shares a port with a granted one that comes before it.
     pub settled: u32,
 }
@@ -45,7 +44,7 @@ impl Tables {
             drop(left);
             return Err(NoMemory);
         };
-        let Ok(listed) = vec![in alloc; 0u32; ports as usize] else {
+        let Ok(listing) = Listing::with_room(alloc, ports) else {
             drop(left);
             drop(board);
             return Err(NoMemory);
@@ -53,13 +52,13 @@ impl Tables {
         let Ok(ranks) = Ranks::with_room(alloc, flows, ports) else {
             drop(left);
             drop(board);
-            drop(listed);
+            drop(listing);
             return Err(NoMemory);
         };
         let Ok(heads) = Heads::with_room(alloc, flows, ports) else {
             drop(left);
             drop(board);
-            drop(listed);
+            drop(listing);
             drop(ranks);
             return Err(NoMemory);
         };
@@ -68,8 +67,7 @@ impl Tables {
             left,
             heads,
             board,
-            listed,
-            granted: 0,
+            listing,
             settled: 0,
         })
     }
@@ -110,6 +108,7 @@ impl Tables {
         self.copy_left(left);
         self.heads.fill(&self.ranks);
         self.board.clear();
+        self.listing.clear();
         self.settled = 0;
     }
 
@@ -121,7 +120,7 @@ impl Tables {
         ensures ranks { self.new.ranks ≡ self.old.ranks }
         ensures heads { self.new.heads ≡ self.old.heads }
         ensures board { self.new.board ≡ self.old.board }
-        ensures listed { self.new.listed ≡ self.old.listed }
+        ensures listing { self.new.listing ≡ self.old.listing }
         ensures len { length self.new.left.items ≡ length self.old.left.items }
         ensures left { (r : ℕ) → r < self.old.ranks.count →
             left_at self.new r ≡ slice_index left.now (number_of self.old.ranks r) }
@@ -134,17 +133,18 @@ impl Tables {
     /// Repairs the grants, and lists them.
     pub fn repair(&mut self)
         requires sound { IsSound self.old (λ p. Contains self.old.board.waiting.ports p) }
-        requires listed { self.old.ranks.ports ≤ length self.old.listed.items }
+        requires listing { IsListed self.old.ranks self.old.listing }
+        requires few { self.old.ranks.ports < 2 ^ 32 }
+        requires listing_room { HasListingRoom self.old.ranks.ports self.old.listing }
         ensures sound { IsSound self.new (λ p. Contains self.new.board.waiting.ports p) }
         ensures room { IsSameRoom self.old self.new }
-        ensures within { self.new.granted ≤ length self.new.listed.items }
+        ensures listing { IsListed self.new.ranks self.new.listing }
         ensures settled { (flows : List Flow) (line : List ℕ) (left : ℕ → ℕ) → IsMatching flows line left self.old →
             IsSettled flows line left self.new }
     {
         self.settle();
         let ports = self.ranks.ports as usize;
-        let granted = list_granted(&self.ranks, &self.board.at[..ports], &mut self.listed);
-        self.granted = granted;
+        self.listing.update(&self.ranks, &self.board.at[..ports]);
     }
 
     /// The flow that is granted at the ingress, if one is.
@@ -228,7 +228,7 @@ impl Tables {
         ensures sound { IsSound self.new (λ p. Contains self.new.board.waiting.ports p) }
         ensures room { IsSameRoom self.old self.new }
         ensures ranks { self.new.ranks ≡ self.old.ranks }
-        ensures granted { self.new.granted ≡ self.old.granted }
+        ensures listing { self.new.listing ≡ self.old.listing }
         ensures taken { IsRankTaken self.old self.new rank units }
     {
         let left = self.left[rank as usize];
@@ -246,8 +246,7 @@ impl Tables {
         ensures sound { IsSound self.new (λ p. Contains self.new.board.waiting.ports p) }
         ensures room { IsSameRoom self.old self.new }
         ensures ranks { self.new.ranks ≡ self.old.ranks }
-        ensures listed { self.new.listed ≡ self.old.listed }
-        ensures granted { self.new.granted ≡ self.old.granted }
+        ensures listing { self.new.listing ≡ self.old.listing }
         ensures left { self.new.left.items ≡ slice_set self.old.left.items rank 0 }
         ensures others { (p : ℕ) → p < self.old.ranks.ports → p ≢ first_of self.old.ranks rank →
             rank_at self.new p ≡ rank_at self.old p }
@@ -270,7 +269,7 @@ impl Tables {
         ensures ranks { self.new.ranks ≡ self.old.ranks }
         ensures left { self.new.left ≡ self.old.left }
         ensures heads { self.new.heads ≡ self.old.heads }
-        ensures listed { self.new.listed ≡ self.old.listed }
+        ensures listing { self.new.listing ≡ self.old.listing }
     {
         if self.favours_pass() {
             self.pass();
@@ -288,7 +287,7 @@ impl Tables {
         ensures ranks { self.new.ranks ≡ self.old.ranks }
         ensures left { self.new.left ≡ self.old.left }
         ensures heads { self.new.heads ≡ self.old.heads }
-        ensures listed { self.new.listed ≡ self.old.listed }
+        ensures listing { self.new.listing ≡ self.old.listing }
     {
         self.settled = 0;
         self.turn_to_first();
@@ -305,7 +304,7 @@ impl Tables {
         ensures ranks { self.new.ranks ≡ self.old.ranks }
         ensures left { self.new.left ≡ self.old.left }
         ensures heads { self.new.heads ≡ self.old.heads }
-        ensures listed { self.new.listed ≡ self.old.listed }
+        ensures listing { self.new.listing ≡ self.old.listing }
     {
         let ports = self.ranks.ports;
         if !self.board.waiting.favours_first(ports) {
@@ -325,7 +324,7 @@ impl Tables {
         ensures ranks { self.new.ranks ≡ self.old.ranks }
         ensures left { self.new.left ≡ self.old.left }
         ensures heads { self.new.heads ≡ self.old.heads }
-        ensures listed { self.new.listed ≡ self.old.listed }
+        ensures listing { self.new.listing ≡ self.old.listing }
     {
         let rank = self.heads.look(&self.ranks, &self.board, port);
         if rank < self.board.at[port as usize] {

@@ -27,6 +27,7 @@ returns-clause-begun c =
                 least_is left granted c.least_left-least.result c.args.most room g (c.least_left-least.ensures flows line left h') there;
             grants = h'.grants;
             at = settled_at flows line left m h';
+            settled = h';
             noted_len = ap (λ (l : List (Option ℕ)). length l) back ∙ same ∙ c.self.invariant.noted_len ∙ ap (λ (v : KeptRuns). v.ports) c.self.view_is;
             noted = λ ingress. ap (λ (l : List (Option ℕ)). note_at l ingress) back ∙ c.clear_notes.ensures.none ingress;
           },

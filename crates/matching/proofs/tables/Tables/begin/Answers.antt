@@ -1,6 +1,6 @@
 use Rattle.std.proofs.Common.{ℕ, get_or}
 use Rattle.matching.proofs.MatchingSteps.{begun_sound, begun_matching}
-use Rattle.matching.proofs.RoomSteps.{room_again, whole_again}
+use Rattle.matching.proofs.RoomSteps.{room_again, room_stays}
 use Rattle.matching.proofs.tables.Tables.begin.Goals as goal
 
 pub repair-requires-clause-sound : goal.repair-requires-clause-sound
@@ -13,5 +13,10 @@ returns-clause-settled c =
 
 pub returns-clause-whole : goal.returns-clause-whole
 returns-clause-whole c =
-    whole_again c.args.self.now c.repair.new.self c.requires.whole (room_again c.args.self.now c.lay_out.new.self c.repair.new.self c.lay_out.ensures.room c.repair.ensures.room)
-    c.repair.ensures.within c.repair.ensures.sound
+    let old = c.args.self.now in
+    let new = c.repair.new.self in
+    record {
+      sound = c.repair.ensures.sound;
+      room = room_stays old new (room_again old c.lay_out.new.self new c.lay_out.ensures.room c.repair.ensures.room) c.requires.whole.room;
+      listing = c.repair.ensures.listing;
+    }

@@ -8,7 +8,7 @@ invariant-loop-rank l = record {
   ranks : l.self.ranks ≡ l.fn.self.ranks;
   heads : l.self.heads ≡ l.fn.self.heads;
   board : l.self.board ≡ l.fn.self.board;
-  listed : l.self.listed ≡ l.fn.self.listed;
+  listing : l.self.listing ≡ l.fn.self.listing;
   len : length l.self.left.items ≡ length l.fn.self.left.items;
   left : (r : ℕ) → r < l.rank → get_or l.self.left.items r 0 ≡ get_or l.left (number_of l.fn.self.ranks r) 0;
 }

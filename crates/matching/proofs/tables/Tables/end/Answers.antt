@@ -90,7 +90,7 @@ returns-clause-room c = record {
   ranked = refl;
   lefts = length-set c.args.self.now.left.items c.args.rank 0;
   nexts = ap (λ x. length x.items) c.replace.ensures.next;
-  listed = refl;
+  listing = λ n has. has;
 }
 
 pub end-requires-clause-rows : goal.end-requires-clause-rows

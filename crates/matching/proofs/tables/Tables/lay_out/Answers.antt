@@ -93,4 +93,5 @@ returns-clause-begun c =
       none = λ p lt. c.clear.ensures.none p (omega (arith, lt, size));
       room = omega (arith, c.clear.ensures.room, ap (λ (x : Board). x.waiting.room) c.copy_left.ensures.board, c.requires.whole.sound.room, ports);
       all = λ p lt. c.clear.ensures.all p (omega (arith, lt, size));
+      listed = c.clear-2.ensures.none;
     }

@@ -49,7 +49,7 @@ loop-port-init c =
       ranks = turned.ranks;
       left = turned.left;
       heads = turned.heads;
-      listed = turned.listed;
+      listing = turned.listing;
       settled = turned.settled;
     }
 
@@ -62,7 +62,7 @@ loop-port-preserved c =
       ranks = looked.ranks ∙ before.ranks;
       left = looked.left ∙ before.left;
       heads = looked.heads ∙ before.heads;
-      listed = looked.listed ∙ before.listed;
+      listing = looked.listing ∙ before.listing;
       settled = looked.settled;
     }
 

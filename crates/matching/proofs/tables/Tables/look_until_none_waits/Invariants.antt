@@ -9,7 +9,7 @@ invariant-loop-port l = record {
   ranks : l.self.ranks ≡ l.fn.self.ranks;
   left : l.self.left ≡ l.fn.self.left;
   heads : l.self.heads ≡ l.fn.self.heads;
-  listed : l.self.listed ≡ l.fn.self.listed;
+  listing : l.self.listing ≡ l.fn.self.listing;
   settled : l.self.settled ≡ 0;
 }
 

@@ -44,7 +44,7 @@ loop-row-init c =
       ranks = refl;
       left = refl;
       heads = refl;
-      listed = refl;
+      listing = refl;
       settled = refl;
     }
 
@@ -68,7 +68,7 @@ loop-row-preserved c =
       ranks = e.ranks ∙ i.ranks;
       left = e.left ∙ i.left;
       heads = e.heads ∙ i.heads;
-      listed = e.listed ∙ i.listed;
+      listing = e.listing ∙ i.listing;
       settled = e.settled ∙ i.settled;
     }
 

@@ -3,20 +3,19 @@ use Rattle.coflow_units.proofs.Sums.{nothing_in}
 use Rattle.matching.specs.declared.heads.Heads.{Heads}
 use Rattle.matching.specs.declared.ranks.Ranks.{Ranks}
 use Rattle.matching.specs.Board.{graph_of, Stands}
-use Rattle.matching.specs.Kept.{IsLined, IsTold}
-use Rattle.matching.specs.Listing.{IsFirstSide, IsListing}
+use Rattle.matching.specs.Kept.{IsLined}
+use Rattle.matching.specs.Listing.{HasListingRoom, IsFirstSide}
 use Rattle.matching.specs.Ranking.{number_of}
 use Rattle.matching.specs.Sound.{left_at}
 use Rattle.matching.proofs.EndSteps.{same_kept}
 use Rattle.matching.proofs.RowSteps.{IsSameOwing}
 use Rattle.matching.proofs.KeptSteps.{kept_is_granted}
-use Rattle.coflow_units.proofs.Fronts.{written_back}
-use Rattle.matching.proofs.MatchingSteps.{first_side, listed_told}
+use Rattle.matching.proofs.MatchingSteps.{first_side, shown_told}
 use Rattle.matching.proofs.RunSteps.{told_at}
 use Rattle.matching.proofs.tables.Tables.repair.Goals as goal
 
-pub list_granted-granted-requires-clause-side : goal.list_granted-granted-requires-clause-side
-list_granted-granted-requires-clause-side c =
+pub update-requires-clause-side : goal.update-requires-clause-side
+update-requires-clause-side c =
     let m = c.settle.new.self in
     subst (λ (xs : List ℕ). IsFirstSide m.ranks (take m.ranks.ports xs)) (sym c.deref.ensures.value)
     (first_side m.ranks m.board.at.items c.settle.ensures.sound.ranks c.settle.ensures.sound.board)
@@ -26,16 +25,11 @@ returns-clause-settled c = λ flows line left m.
     let now = c.settle.new.self in
     let g = graph_of now.ranks in
     let s = c.settle.ensures.sound in
-    let l = c.list_granted-granted.ensures in
-    let n = c.list_granted-granted.result in
-    let listed = c.list_granted-granted.new.listed in
+    let listing = c.update.new.self in
     let at = now.board.at.items in
     let e = c.settle.ensures.ranks in
-    let listing = subst (λ (xs : List ℕ). IsListing now.ranks (take now.ranks.ports xs) (λ p. p < length (take now.ranks.ports xs))
-    (take n listed)) c.deref.ensures.value l.listing in
-    let back = written_back now.listed.len listed now.listed.items (l.len ∙ c.deref_mut.ensures.len) in
-    let told = subst (λ (xs : List ℕ). IsTold (number_of now.ranks) (Stands g at) (take n xs)) (sym back)
-    (listed_told now.ranks at (take n listed) s.ranks s.board l.ascending listing) in
+    let shown = c.update.ensures.shown ∙ ap (λ (xs : List ℕ). take now.ranks.ports xs) c.deref.ensures.value in
+    let told = shown_told now.ranks at listing.shown.items listing.flows.items listing.ports.items s.ranks s.board shown c.update.ensures.listed in
     let lined = subst (λ (x : Ranks). IsLined flows line left x.ports (number_of x) (graph_of x)) (sym e) m.lined in
     let units : (r : ℕ) → r < now.ranks.count → left_at now r ≡ left (number_of now.ranks r) =
     λ r lt. ap (λ x. get_or x.items r 0) c.settle.ensures.left ∙ m.units r (omega (arith, lt, ap (λ (x : Ranks). x.count) e)) ∙ ap (λ (x : Ranks). left (number_of x r)) (sym e) in
@@ -56,13 +50,7 @@ returns-clause-room c =
       ranked = ap (λ (x : Ranks). length x.flows.items) e;
       lefts = ap (λ x. length x.items) c.settle.ensures.left;
       nexts = ap (λ (x : Heads). length x.next.items) c.settle.ensures.heads;
-      listed = omega (
-        arith,
-        ap (λ (xs : List ℕ). length xs)
-            (written_back c.settle.new.self.listed.len c.list_granted-granted.new.listed c.settle.new.self.listed.items
-            (c.list_granted-granted.ensures.len ∙ c.deref_mut.ensures.len)),
-        c.list_granted-granted.ensures.len,
-        c.deref_mut.ensures.len,
-        ap (λ x. length x.items) c.settle.ensures.listed,
-      );
+      listing = λ n has.
+          let size : c.settle.new.self.ranks.ports ≡ n = omega (arith, ap (λ (x : Ranks). x.ports) e, c.requires.listing_room.shown, has.shown) in
+          subst (λ k. HasListingRoom k c.update.new.self) size c.update.ensures.room;
     }

@@ -28,8 +28,8 @@ returns-clause-others c = λ i f ne granted.
 
 pub returns-clause-whole : goal.returns-clause-whole
 returns-clause-whole c =
-    whole_again c.args.self.now c.take_rank.new.self c.requires.whole c.take_rank.ensures.room
-    (omega (arith, c.requires.whole.within, c.take_rank.ensures.granted, c.take_rank.ensures.room.listed)) c.take_rank.ensures.sound
+    whole_again c.args.self.now c.take_rank.new.self c.requires.whole c.take_rank.ensures.room c.take_rank.ensures.ranks
+    c.take_rank.ensures.listing c.take_rank.ensures.sound
 
 pub take_rank-requires-clause-granted : goal.take_rank-requires-clause-granted
 take_rank-requires-clause-granted c =

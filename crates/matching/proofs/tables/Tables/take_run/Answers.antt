@@ -17,9 +17,9 @@ loop-source-init c =
     record {
       low = omega (arith, c.count-source.ensures);
       sound = c.requires.whole.sound;
-      room = record { ports = refl; ranked = refl; lefts = refl; nexts = refl; listed = refl };
+      room = record { ports = refl; ranked = refl; lefts = refl; nexts = refl; listing = λ n has. has };
       ranks = refl;
-      granted = refl;
+      listing = refl;
       taken = run_begins m (IsAmongLast xs c.count-source.result) c.args.units (λ p. none_last xs c.count-source.result p (omega (arith, c.count-source.ensures)));
     }
 
@@ -53,7 +53,7 @@ loop-source-preserved-then-rank c =
       sound = before.sound;
       room = before.room;
       ranks = before.ranks;
-      granted = before.granted;
+      listing = before.listing;
       taken = run_skips first l.self (IsAmongLast xs (k + 1)) (IsAmongLast xs k) n c.args.units one low c.requires.whole.sound.ranks (sym rank_is ∙ c.if-rank.true) taken;
     }
 
@@ -115,7 +115,7 @@ loop-source-preserved c =
       sound = t.sound;
       room = room_again first l.self c.take_rank.new.self before.room t.room;
       ranks = t.ranks ∙ before.ranks;
-      granted = t.granted ∙ before.granted;
+      listing = t.listing ∙ before.listing;
       taken = run_takes first l.self c.take_rank.new.self (IsAmongLast xs (k + 1)) (IsAmongLast xs k) n c.args.units one c.requires.whole.sound.ranks
           c.requires.whole.sound.board before.ranks low
           (λ x. c.if-rank.false (rank_is ∙ x)) (subst (λ x. IsRankTaken l.self c.take_rank.new.self x c.args.units) rank_is t.taken) taken;
@@ -134,4 +134,4 @@ returns-clause-matching c = λ flows line left lower s less.
 pub returns-clause-whole : goal.returns-clause-whole
 returns-clause-whole c =
     let before = c.loop-source.invariant in
-    whole_again c.args.self.now c.loop-source.self c.requires.whole before.room (omega (arith, c.requires.whole.within, before.granted, before.room.listed)) before.sound
+    whole_again c.args.self.now c.loop-source.self c.requires.whole before.room before.ranks before.listing before.sound

@@ -12,7 +12,7 @@ invariant-loop-source l = record {
   sound : IsSound l.self (λ p. Contains l.self.board.waiting.ports p);
   room : IsSameRoom l.fn.self l.self;
   ranks : l.self.ranks ≡ l.fn.self.ranks;
-  granted : l.self.granted ≡ l.fn.self.granted;
+  listing : l.self.listing ≡ l.fn.self.listing;
   taken : IsRunTaken l.fn.self l.self (IsAmongLast l.fn.self.ranks.sources.ports l.source) l.units;
 }
 
