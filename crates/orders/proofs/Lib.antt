@@ -1,0 +1,5 @@
+pub mod Places
+pub mod LineParts
+pub mod LineLists
+pub mod Once
+pub mod Whole
