@@ -7,8 +7,8 @@ use Rattle.std.proofs.lemmas.List.Elements.{All-contains}
 use Rattle.coflow_units.specs.declared.plan.Place.{Place}
 use Rattle.coflow_units.specs.Certificate.{Entry, entry_of, front}
 use Rattle.coflow_units.specs.Flows.{IsDistinct}
-use Rattle.coflow_units.proofs.Lists.{number_below, number_in, reverse-cons, in_reverse, into_reverse}
-use Rattle.coflow_units.proofs.Sums.{Apart, all_of_members, apart_from_pairs, apart_snoc, in_first, in_tail, pairs_from_apart}
+use Rattle.coflow_units.proofs.Lists.{number_below, reverse-cons, into_reverse}
+use Rattle.coflow_units.proofs.Sums.{Apart, apart_from_pairs, apart_snoc, in_first, in_tail, pairs_from_apart}
 use Rattle.port_load.specs.LoadTable.{HasLoads, LoadTable}
 use Rattle.bssi_order.specs.Order.{IsOrder, entries_of}
 use Rattle.coflow_units.proofs.OrderingLaws.{ordering_feasible}
@@ -46,15 +46,6 @@ places_within table weights places order c has =
           (All-contains (Contains (range_with_len 0 (length table.ids))) (front (entries_of places)) c order.ordering.certificate.coflow
           (subst (λ l. Contains l c) (sym (front_of_places places)) (into_reverse (coflows_of places) c has))),
     )
-
--- each coflow with a weight has a place
-pub places_all : (table : TableFacts) (weights : List ℕ) (places : List Place) → IsOrder (instance_of table weights) places → (c : ℕ) → c < length table.ids →
-    Contains (coflows_of places) c
-places_all table weights places order c lt =
-    in_reverse (coflows_of places) c
-    (subst (λ l. Contains l c) (front_of_places places)
-    (All-contains (Contains (front (entries_of places))) (range_with_len 0 (length table.ids)) c order.ordering.certificate.all
-    (number_in 0 (length table.ids) c (omega arith) (omega arith))))
 
 coflow_in : (places : List Place) (k : ℕ) (d : Place) → k < length places → Contains (coflows_of places) (get_or places k d).coflow
 coflow_in [] k d lt = absurd (omega arith)
@@ -102,9 +93,3 @@ in_budget table weights places t order n loads = record {
   has_weights = λ c has. refl;
   feasible = ordering_feasible (instance_of table weights) (entries_of places) order.ordering;
 }
-
--- ---- the places as an order to be served
-
--- each coflow of the table has a place, and each place is of a coflow of the table
-pub places_known : (table : TableFacts) (weights : List ℕ) (places : List Place) → IsOrder (instance_of table weights) places → All (λ c. c < length table.ids) (coflows_of places)
-places_known table weights places order = all_of_members (λ c. c < length table.ids) (coflows_of places) (places_within table weights places order)

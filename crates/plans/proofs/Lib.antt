@@ -3,10 +3,13 @@ pub mod CertificateFacts
 pub mod PlanSteps
 pub mod PlanLaw
 pub mod PlanSlack
+pub mod AsServed
 pub mod PlanTotals
 pub mod NoPriceFacts
-pub mod PlannedRuns
+pub mod ServedRuns
 pub mod PlannedPlaces
+pub mod ServedSound
 pub mod PlanSound
-pub mod PlanReportFacts
+pub mod ServedFacts
+pub mod ReadBack
 pub mod PlanLengths

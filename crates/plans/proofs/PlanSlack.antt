@@ -1,4 +1,4 @@
--- The slack of a plan.
+-- The slack of an ordering certificate, and of the reports that have it.
 use Rattle.std.proofs.Common.{ℕ, ◌*◌, ◌^◌, ◌<◌, ◌≤◌, List, length, arith, le_trans}
 use Rattle.std.specs.Prelude.{Contains, sum_by}
 use Rattle.std.specs.List.{range_with_len}
@@ -19,7 +19,7 @@ use Rattle.dual_cert.proofs.SlackLaw.{slack_by_fronts, slack_two_each}
 use Rattle.flow_table.specs.Table.{TableFacts, instance_of}
 use Rattle.flow_table.proofs.Shares.{sum_ones}
 use Rattle.report_text.specs.declared.value.Report.{Report}
-use Rattle.plans.specs.PlanReport.{IsPlanOf}
+use Rattle.plans.specs.ServedReport.{IsServedReport}
 use Rattle.plans.specs.Weighed.{IsWeighed}
 
 -- the coflows of the places are among those of the instance, each once, so they have no more of anything
@@ -43,15 +43,16 @@ twice_the_fronts i entries ordering few =
     let c = ordering.certificate in
     slack_by_fronts i entries c (ordering_rests i entries ordering) (λ port lt. le_trans (within_units i.flows (front entries) port (apart_from_pairs (front entries) c.once)) few)
 
-pub plan_slack : (t : TableFacts) (weights : List ℕ) (r : Report) → IsWeighed t weights → IsPlanOf (instance_of t weights) t.ids r →
+-- the slack of a report is that of the plan's certificate, whichever line is served
+pub served_slack : (t : TableFacts) (weights line : List ℕ) (r : Report) → IsWeighed t weights → IsServedReport (instance_of t weights) t.ids line r →
     (entries : List Entry) × IsOrdering (instance_of t weights) entries × (r.slack ≤ 2 * front_loads t.flows entries)
     × (((port : Port) → port.number < t.ports → load_of_all t.flows (range_with_len 0 (length t.ids)) port ≤ 2 ^ 20) → r.slack ≤ 2 * length t.ids)
-plan_slack t weights r h plan =
+served_slack t weights line r h s =
     let i = instance_of t weights in
-    let entries = entries_of plan.order in
-    let ordering = plan.ordering.ordering in (
+    let entries = entries_of s.order in
+    let ordering = s.ordering.ordering in (
       entries,
       ordering,
-      omega (arith, plan.slack_is, twice_the_fronts i entries ordering h.table.few_units),
-      (λ cap. omega (arith, plan.slack_is, two_for_each i entries ordering cap, length-range_with_len 0 (length t.ids))),
+      omega (arith, s.slack_is, twice_the_fronts i entries ordering h.table.few_units),
+      (λ cap. omega (arith, s.slack_is, two_for_each i entries ordering cap, length-range_with_len 0 (length t.ids))),
     )

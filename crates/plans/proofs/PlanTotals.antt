@@ -1,4 +1,4 @@
--- What the laws say of the totals of a plan.
+-- What the laws say of the totals of a plan, and of the report of any line that is served.
 use Rattle.std.proofs.Common.{◌≡◌, ℕ, ◌≤◌, List, reverse, sym, ap, subst, ◌∙◌, arith}
 use Rattle.std.proofs.lemmas.List.{reverse-reverse}
 use Rattle.coflow_units.specs.declared.plan.Place.{Place}
@@ -10,16 +10,22 @@ use Rattle.coflow_units.specs.Served.{IsServed}
 use Rattle.bssi_order.specs.Order.{entries_of}
 use Rattle.report_text.specs.declared.value.Report.{Report}
 use Rattle.plans.specs.PlanReport.{IsPlanOf, coflows_of}
+use Rattle.plans.specs.ServedReport.{IsServedReport}
 use Rattle.plans.specs.Totals.{BoundsEverySchedule, IsPlanBound, IsWithinFour}
+use Rattle.plans.proofs.AsServed.{as_served}
 use Rattle.plans.proofs.CertificateFacts.{front_of_places}
 use Rattle.plans.proofs.PlanLaw.{plan_bound, plan_four}
 
 same_order : (places : List Place) → order_of (entries_of places) ≡ coflows_of places
 same_order places = ap reverse (front_of_places places) ∙ reverse-reverse (coflows_of places)
 
+-- the bound is that of the plan's certificate, whichever line is served
+pub served_bounds : (i : Instance) (ids line : List ℕ) (report : Report) → IsServedReport i ids line report → BoundsEverySchedule i report
+served_bounds i ids line report s =
+    λ slots valid. subst (λ n. n ≤ cost i.flows i.weight i.coflows slots) (sym s.bound_is) (plan_bound i (entries_of s.order) slots s.ordering.ordering valid)
+
 pub plan_bounds : (i : Instance) (ids : List ℕ) (report : Report) → IsPlanOf i ids report → BoundsEverySchedule i report
-plan_bounds i ids report p =
-    λ slots valid. subst (λ n. n ≤ cost i.flows i.weight i.coflows slots) (sym p.bound_is) (plan_bound i (entries_of p.order) slots p.ordering.ordering valid)
+plan_bounds i ids report p = served_bounds i ids (coflows_of p.order) report (as_served i ids report p)
 
 pub plan_within : (i : Instance) (ids : List ℕ) (report : Report) → IsInstance i → IsPlanOf i ids report → IsWithinFour report
 plan_within i ids report inst p =

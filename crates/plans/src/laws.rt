@@ -1,5 +1,5 @@
-//! Laws of plans, joined from those of schedules, certificates and orders.
-ghost use Rattle.std.specs.Prelude.{◌≡◌, ℕ, ◌+◌, ◌*◌, ◌<◌, ◌≤◌, ◌^◌, All, Err, List, [], ◌∷◌, Ok, length, sum_by};
+//! Laws of plans, and of the reports of orders that are given, joined from those of schedules, certificates and orders.
+ghost use Rattle.std.specs.Prelude.{◌≡◌, ℕ, ◌+◌, ◌*◌, ◌<◌, ◌≤◌, ◌^◌, ◌⊎◌, All, Err, List, [], ◌∷◌, Ok, length, sum_by};
 ghost use Rattle.coflow_units.specs.declared.limits.TheConstants.{MAX_UNITS};
 ghost use Rattle.std.specs.List.{range_with_len};
 ghost use Rattle.coflow_units.specs.declared.fabric.Flow.{Flow};
@@ -22,12 +22,15 @@ ghost use Rattle.report_text.specs.declared.value.Report.{Report};
 ghost use Rattle.report_text.specs.Reading.{GivesReport};
 ghost use Rattle.report_text.specs.Report.{HasSmallNumbers, IsReport};
 ghost use Rattle.report_text.specs.Text.{report_text};
+ghost use Rattle.cert_check.specs.declared.verdict.Reason.TheVariants.{RatioBroken};
 ghost use Rattle.cert_check.specs.declared.verdict.Verdict.{Verdict};
-ghost use Rattle.cert_check.specs.declared.verdict.Verdict.TheVariants.{Yes};
+ghost use Rattle.cert_check.specs.declared.verdict.Verdict.TheVariants.{No, Yes};
 ghost use Rattle.cert_check.specs.Reasons.{IsVerdict};
 ghost use Rattle.cert_check.specs.Sound.{IsSound};
 ghost use Rattle.plans.specs.NoPrices.{no_prices};
 ghost use Rattle.plans.specs.PlanReport.{IsPlanOf};
+ghost use Rattle.plans.specs.ServedReport.{IsServedReport};
+ghost use Rattle.plans.specs.Totals.{BoundsEverySchedule, IsWithinFour};
 ghost use Rattle.plans.specs.Weighed.{IsWeighed};
 
 /// No valid schedule costs less than the bound of the ordering certificate, and the schedule that serves its order costs at most four times that bound and the slack.
@@ -101,4 +104,35 @@ pub fn plan_text_is_short()
     ensures { (t : TableFacts) (weights : List ℕ) (r : Report) → IsWeighed t weights → All (λ id. id < 2 ^ 32) t.ids →
         IsPlanOf (instance_of t weights) t.ids r →
         length (report_text r) ≤ 200 + 200 * length t.ids + 50 * sum_by (λ (x : Flow). x.units) t.flows }
+{}
+
+/// No valid schedule costs less than the bound of the report of a given order.
+pub fn served_report_bounds_every_schedule()
+    ensures { (i : Instance) (ids line : List ℕ) (r : Report) → IsServedReport i ids line r → BoundsEverySchedule i r }
+{}
+
+/// Where ids differ, a checker finds the report of a given order right but for the ratio: its verdict is yes, or that the cost is more than four times the bound and the slack.
+/// Where the cost is no more than that, it is yes.
+pub fn served_report_is_right_but_for_the_ratio()
+    ensures verdict { (t : TableFacts) (weights line : List ℕ) (r : Report) (verdict : Verdict) → IsWeighed t weights →
+        IsDistinct t.ids → IsServedReport (instance_of t weights) t.ids line r →
+        IsVerdict (instance_of t weights) t.ids r verdict →
+        (verdict ≡ Yes) ⊎ (verdict ≡ No (RatioBroken r.cost (4 * r.bound + r.slack))) }
+    ensures yes { (t : TableFacts) (weights line : List ℕ) (r : Report) (verdict : Verdict) → IsDistinct t.ids →
+        IsServedReport (instance_of t weights) t.ids line r → IsWithinFour r →
+        IsVerdict (instance_of t weights) t.ids r verdict → verdict ≡ Yes }
+{}
+
+/// The report of a given order is one that a text can have, and its numbers fit their types where the ids do. So a reader of its text answers it, where there is memory.
+pub fn served_report_is_read_back()
+    ensures report { (t : TableFacts) (weights line : List ℕ) (r : Report) → IsWeighed t weights →
+        IsServedReport (instance_of t weights) t.ids line r → IsReport r }
+    ensures small { (t : TableFacts) (weights line : List ℕ) (r : Report) → IsWeighed t weights →
+        All (λ id. id < 2 ^ 32) t.ids → IsServedReport (instance_of t weights) t.ids line r → HasSmallNumbers r }
+    ensures same { (t : TableFacts) (weights line : List ℕ) (r read : Report) → IsWeighed t weights →
+        All (λ id. id < 2 ^ 32) t.ids → IsServedReport (instance_of t weights) t.ids line r →
+        GivesReport (report_text r) (Ok read) → read ≡ r }
+    ensures taken { (t : TableFacts) (weights line : List ℕ) (r : Report) (bad : ℕ) → IsWeighed t weights →
+        All (λ id. id < 2 ^ 32) t.ids → IsServedReport (instance_of t weights) t.ids line r →
+        GivesReport (report_text r) (Err (BadText bad)) → ⊥ }
 {}

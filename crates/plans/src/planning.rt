@@ -1,5 +1,5 @@
 //! The report of a plan, and what the certificate of its order proves.
-ghost use Rattle.std.specs.Prelude.{◌≡◌, ◌≤◌, All, IfOk, length};
+ghost use Rattle.std.specs.Prelude.{◌≡◌, ◌≤◌, ℕ, All, IfOk, List, length};
 ghost use Rattle.coflow_units.specs.declared.limits.TheConstants.{MAX_WEIGHT};
 ghost use Rattle.coflow_units.specs.Certificate.{bound, slack};
 ghost use Rattle.coflow_units.specs.Served.{IsServed};
@@ -7,6 +7,7 @@ ghost use Rattle.bssi_order.specs.Order.{IsOrder, entries_of};
 ghost use Rattle.flow_table.specs.Table.{instance_of};
 ghost use Rattle.report_text.specs.Report.{HasSmallNumbers, HasWeights, IsReport};
 ghost use Rattle.plans.specs.PlanReport.{IsPlanOf, coflows_of};
+ghost use Rattle.plans.specs.ServedReport.{IsServedReport};
 ghost use Rattle.plans.specs.Totals.{IsPlanBound};
 
 use crate::order::{loads_of, order_of};
@@ -36,6 +37,30 @@ pub fn report_of(
     requires served { IsServed table.now.flows (coflows_of places.now) schedule }
     ensures plan { IfOk result (λ report.
         (planned : IsPlanOf (instance_of table.now weights.now) table.now.ids report) × (planned.slots ≡ schedule)) }
+    ensures weights { IfOk result HasWeights }
+    ensures report { IfOk result IsReport }
+    ensures small { IfOk result HasSmallNumbers }
+{
+    let report = report_from(alloc, table, weights, places, schedule)?;
+    Ok(report)
+}
+
+/// The report of the places of a plan and of a schedule, which is that of each line that the schedule serves.
+pub(crate) fn report_from(
+    alloc: Global,
+    table: &Table,
+    weights: &[u64],
+    places: &[Place],
+    schedule: Schedule,
+) -> Result<Report, NoMemory>
+    requires count { length weights.now ≡ length table.now.ids }
+    requires least { All (λ w. 1 ≤ w) weights.now }
+    requires weights { All (λ w. w ≤ MAX_WEIGHT) weights.now }
+    requires order { IsOrder (instance_of table.now weights.now) places.now }
+    requires served { (line : List ℕ) × IsServed table.now.flows line schedule }
+    ensures served { IfOk result (λ report. (line : List ℕ) → IsServed table.now.flows line schedule →
+        (served : IsServedReport (instance_of table.now weights.now) table.now.ids line report) ×
+        (served.order ≡ places.now) × (served.slots ≡ schedule)) }
     ensures weights { IfOk result HasWeights }
     ensures report { IfOk result IsReport }
     ensures small { IfOk result HasSmallNumbers }

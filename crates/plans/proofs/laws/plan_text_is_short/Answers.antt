@@ -1,8 +1,12 @@
-use Rattle.plans.proofs.PlanLengths.{plan_text_short}
-use Rattle.plans.proofs.PlanReportFacts.{ids_are_small, plan_is_report, plan_is_small}
+use Rattle.flow_table.specs.Table.{instance_of}
+use Rattle.plans.specs.PlanReport.{coflows_of}
+use Rattle.plans.proofs.AsServed.{as_served}
+use Rattle.plans.proofs.ReadBack.{has_small_numbers, served_text_short}
+use Rattle.plans.proofs.ServedFacts.{served_is_report}
 use Rattle.plans.proofs.laws.plan_text_is_short.Goals as goal
 
 pub returns : goal.returns
 returns c = λ t weights r is ids p.
-    plan_text_short t weights r is.table (plan_is_report t weights r is.table is.count is.least is.most p)
-    (plan_is_small t weights r is.table is.count is.least is.most (ids_are_small t weights r ids p) p) p
+    let line = coflows_of p.order in
+    let served = as_served (instance_of t weights) t.ids r p in
+    served_text_short t weights line r served (served_is_report t weights line r served is) (has_small_numbers t weights line r served is ids)
