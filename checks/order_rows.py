@@ -1,5 +1,5 @@
-"""What the built program prints of comparisons and of classes: rows for checks/program_runs.py, whose bytes were worked out by hand."""
-from program_rows import READ_FAULT, TOO_MANY, TWO, USAGE
+"""What the built program prints of comparisons, of classes and of given orders: rows for checks/program_runs.py, whose bytes were worked out by hand."""
+from program_rows import READ_FAULT, TOO_MANY, TWO, TWO_TEXT, USAGE
 
 
 def comparison(bound, bssi, sebf, fifo, first, second):
@@ -93,4 +93,70 @@ CLASS_ROWS = [
 COSTS = [
     (b"2 2\n1 1 1 0 1 1:1\n2 0 1 0 1 1:3\n", b"1 1\n2 10\n", (34, 41, 34, 41, 41)),
     (b"2 4\n1 20 2 1 2 1 2:6\n2 30 1 2 2 0:1 2:2\n3 10 1 0 1 2:2\n4 0 1 0 1 0:2\n", b"", (19, 20, 24, 27, 26)),
+]
+
+GIVEN = ["serve", "t", "r"]
+# The plan of the trace of three jobs serves 2, 1, 3. Served 3, 2, 1 the flows are 2 and 3, then 0 and 4 for two slots, then 1 for two: the coflows end in slots 3, 1 and 5.
+THREE = b"2 3\n1 0 2 1 2 1 1:4\n2 0 1 1 1 2:1\n3 0 1 2 2 1:1 2:2\n"
+THREE_GIVEN = b"""sincronia 2
+place 1 2 in 1 1099511627776 1 1
+place 2 1 out 1 91625968981 5 1
+place 3 3 in 2 366503875925 3 1
+bound 9
+slack 1
+cost 9
+run 1 2 3
+run 2 0 4
+run 2 1
+end
+"""
+# Two flows of one port, the longer one first.
+TWO_GIVEN = b"""sincronia 2
+place 1 2 in 0 733007751851 4 1
+place 2 1 in 0 366503875925 3 1
+bound 5
+slack 1
+cost 7
+run 3 0
+run 1 1
+end
+"""
+# Coflow 1 has 64 units and weight 1, coflow 2 one unit and weight 10. The last place is that of coflow 1 and pays a 64th of a weight of 1 for each unit, the first one pays 10 less that.
+# So the bound is half of 2 * (10 - 1/64) + (65 * 65 + 64 * 64 + 1) / 64, which is 75. With coflow 1 first the cost is 64 + 10 * 65, which is above four times that.
+LONG = b"2 2\n1 0 1 0 1 1:64\n2 0 1 0 1 1:1\n"
+LONG_GIVEN = b"""sincronia 2
+place 1 2 in 0 10977936408576 65 10
+place 2 1 in 0 17179869184 64 1
+bound 75
+slack 0
+cost 714
+run 64 0
+run 1 1
+end
+"""
+
+# name, bytes of the trace `t`, of the weights `w` and of the order `r`, words, code, standard output, standard error
+ORDER_ROWS = [
+    ("three jobs in another order", THREE, None, b"3\n2\n1\n", GIVEN, 0, THREE_GIVEN, b""),
+    ("a report of another order", THREE, None, THREE_GIVEN, ["check", "t", "r"], 0, b"yes bound 9 slack 1 cost 9\n", b""),
+    ("the longer flow first", TWO, None, b"1\n2\n", GIVEN, 0, TWO_GIVEN, b""),
+    ("blank lines, zeros and no last line feed", TWO, None, b"\n 01\t\r\n\n2", GIVEN, 0, TWO_GIVEN, b""),
+    ("the order of the plan", TWO, None, b"2\n1\n", GIVEN, 0, TWO_TEXT, b""),
+    ("an order with weights", LONG, b"2 10\n", b"1\n2\n", GIVEN + ["--weights", "w"], 0, LONG_GIVEN, b""),
+    ("an order that is far from the best", LONG, b"2 10\n", LONG_GIVEN, ["check", "t", "r", "--weights", "w"], 1, b"no ratio 714 300\n", b""),
+    ("an order of no coflow", b"2 0\n", None, b"", GIVEN, 0, b"sincronia 2\nbound 0\nslack 0\ncost 0\nend\n", b""),
+    ("an order of a word", TWO, None, b"1\nx\n", GIVEN, 12, b"", b"sincronia: order: line 2 field 1\n"),
+    ("two ids in a line", TWO, None, b"1 2\n", GIVEN, 12, b"", b"sincronia: order: line 1 field 2\n"),
+    ("an id of no coflow", TWO, None, b"1\n\n9 1\n", GIVEN, 12, b"", b"sincronia: order: line 3 unknown id 9\n"),
+    ("an id above 2^64 - 1", TWO, None, b"18446744073709551616\n", GIVEN, 12, b"", b"sincronia: order: line 1 unknown id 18446744073709551615\n"),
+    ("an id twice", TWO, None, b"1\n1 2\n", GIVEN, 12, b"", b"sincronia: order: line 2 repeats id 1\n"),
+    ("an order of a line too few", TWO, None, b"1\n", GIVEN, 12, b"", b"sincronia: order: have 1 lines, want 2\n"),
+    ("an empty order", TWO, None, b"", GIVEN, 12, b"", b"sincronia: order: have 0 lines, want 2\n"),
+    ("no order", TWO, None, None, GIVEN, 8, b"", READ_FAULT),
+    ("an order of 2^26 + 1 bytes", TWO, None, b"1" * (2**26 + 1), GIVEN, 7, b"", b"sincronia: limit: text 67108865\n"),
+    ("a bad order of too many units", TOO_MANY, None, b"x", GIVEN, 7, b"", b"sincronia: limit: units 1099511627777\n"),
+    ("a bad order and a bad trace", b"", None, b"x", GIVEN, 3, b"", b"sincronia: trace: bad header\n"),
+    ("a bad order and bad weights", TWO, b"9 1", b"x", GIVEN + ["--weights", "w"], 4, b"", b"sincronia: weights: line 1 unknown id 9\n"),
+    ("an order without a name", TWO, None, None, ["serve", "t"], 2, b"", USAGE),
+    ("an order and a name", TWO, None, b"1\n2\n", GIVEN + ["r"], 2, b"", USAGE),
 ]

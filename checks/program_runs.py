@@ -10,7 +10,7 @@ import sys
 import tempfile
 
 sys.dont_write_bytecode = True
-from order_rows import CLASSES, CLASS_ROWS, COMPARE, COMPARE_ROWS, COSTS, comparison
+from order_rows import CLASSES, CLASS_ROWS, COMPARE, COMPARE_ROWS, COSTS, ORDER_ROWS, comparison
 from program_rows import AUDIT, AUDIT_ROWS, CHECK, CHECK_ROWS, CROSSED, ONLINE_ROWS, ROWS, SERVE, SERVED_ROWS, TABLE_ROWS, TOO_MANY, TWO, WEIGHED_ROWS, WRITE_FAULT
 import verdict_rows
 
@@ -68,7 +68,7 @@ def run_check(row, trace=TWO):
 
 
 def run_judged(row):
-    """A row of a report or of a printed journal, with weights."""
+    """A row of a report, of a printed journal or of an order, with weights."""
     name, trace, weights, judged, words, *want = row
     with tempfile.TemporaryDirectory() as folder:
         return same(name, started(folder, {"t": trace, "w": weights, "r": judged}, words), tuple(want))
@@ -178,16 +178,16 @@ def main():
     results = [run(row) for row in ROWS + COMPARE_ROWS + CLASS_ROWS] + [run_check(row) for row in CHECK_ROWS]
     results += [good for row in ROWS if row[4] == 0 and not any("agents" in word for word in row[3]) for good in run_by_agents(row)]
     results += [run_check((name, *rest), trace) for name, trace, *rest in TABLE_ROWS + ONLINE_ROWS]
-    results += [run_judged(row) for row in WEIGHED_ROWS + AUDIT_ROWS]
+    results += [run_judged(row) for row in WEIGHED_ROWS + AUDIT_ROWS + ORDER_ROWS]
     results += [run_long_report("a long report", CHECK, TWO, b"text 1073741825"), run_long_report("a long journal", AUDIT, TWO, b"text 1073741825"),
                 run_long_report("a long report of too many units", CHECK, TOO_MANY, b"units 1099511627777")]
     results += [run(row) for row in SERVED_ROWS] + run_verdicts() + [run_certificate(*row) for row in verdict_rows.CERTIFICATES]
     results += [run_costs(*row) for row in COSTS]
     results += [run_shuffle(), run_made(), run_served()]
     with open("/dev/full", "wb") as full:
-        results += [run(("a full device for " + words[0], TWO, None, words, 9, b"", WRITE_FAULT), full) for words in (["plan", "t"], COMPARE, CLASSES, SERVE)]
+        results += [run(("a full device for " + words[0], TWO, b"1\n2\n", words, 9, b"", WRITE_FAULT), full) for words in (["plan", "t"], COMPARE, CLASSES, SERVE, ["serve", "t", "w"])]
     results += [run(("no memory for the text of " + words[0], b"\n" * 2**26, None, words, 11, b"", b"sincronia: no memory\n"), before=little_memory)
-                for words in (["plan", "t"], COMPARE, CLASSES, SERVE)]
+                for words in (["plan", "t"], COMPARE, CLASSES, SERVE, ["serve", "t", "w"])]
     print("%d passed, %d failed" % (results.count(True), results.count(False)))
     return 0 if all(results) else 1
 

@@ -58,6 +58,7 @@ SERIES = [
     ("compare", ["compare", "t", "--weights", "w"]),
     ("classes", ["classes", "t", "--weights", "w"]),
     ("audit", ["audit", "t", "j"]),
+    ("serve", ["serve", "t", "g", "--weights", "w"]),
     ("online", ["online", "l", "--epoch", "4"]),
     ("online by one agent", ["online", "l", "--agents", "1"]),
     ("live", ["live", "t", "s", "--run", "4"]),
@@ -122,7 +123,7 @@ def main():
         return 1
     passed, failed = 0, 0
     with tempfile.TemporaryDirectory() as folder:
-        for name, content in (("t", TWO), ("w", b"1 1\n"), ("r", TWO_TEXT), ("l", LATE), ("o", ONLINE), ("j", JOURNAL), ("s", SCRIPT)):
+        for name, content in (("t", TWO), ("w", b"1 1\n"), ("r", TWO_TEXT), ("l", LATE), ("o", ONLINE), ("j", JOURNAL), ("s", SCRIPT), ("g", b"1\n2\n")):
             with open(os.path.join(folder, name), "wb") as file:
                 file.write(content)
         make_library(folder)

@@ -1,9 +1,10 @@
 -- The causes of the statuses of a command that reads files, and that its files are read to their ends.
-use Rattle.std.proofs.Common.{◌≡◌, ◌≢◌, ℕ, ◌^◌, ◌≤◌, List, Option, Some, None, length, sym, subst, ◌∙◌}
+use Rattle.std.proofs.Common.{◌≡◌, ◌≢◌, ℕ, ◌^◌, ◌≤◌, List, Option, Some, None, length, refl, sym, subst, ◌∙◌}
 use Rattle.std.specs.Prelude.{IfSome}
-use Rattle.command_words.specs.Jobs.{report_name, script_name, trace_name}
-use Rattle.command_words.specs.Jobs.Job.{check_job}
+use Rattle.command_words.specs.Jobs.{Job, order_name, report_name, script_name, trace_name}
+use Rattle.command_words.specs.Jobs.Job.{audit_job, check_job, classes_job, compare_job, live_job, make_job, online_job, plan_job, serve_job}
 use Rattle.command_words.specs.Words.{Said}
+use Rattle.coflow_units.specs.declared.limits.TheConstants.{MAX_REPORT}
 use Rattle.coflow_units.specs.declared.quantity.Quantity.{Quantity}
 use Rattle.outside.specs.declared.shelf.Place4.{Place4}
 use Rattle.outside.specs.declared.shelf.Place4.TheVariants as place
@@ -15,6 +16,7 @@ use Rattle.command_files.specs.Causes.FileFailed.{at_input, at_report}
 use Rattle.command_files.specs.Causes.FilesLimit.{in_input, in_report}
 use Rattle.command_files.specs.FileCauses.{NameFailed, NameFailedIf}
 use Rattle.command_files.specs.InputCauses.{HasInputCause, InputFailed, LimitCause}
+use Rattle.command_files.specs.Limits.{most_bytes}
 use Rattle.command_files.specs.ReportCauses.{IsBadReport, IsReportCause, ReportLimit}
 use Rattle.command_files.specs.Shelves.{AllReadOut, AreReadOut, IsAsBefore, IsReadOut, IsReadOutIf, KeepsFiles, KeepsOthers, OfBoth, ReadsOut}
 use Rattle.command_files.specs.Inputs.{bytes_if}
@@ -40,6 +42,7 @@ input_cause IsBad before now old new said status.No h = absurd h
 input_cause IsBad before now old new said status.Usage h = absurd h
 input_cause IsBad before now old new said (status.BadReport line) h = absurd h
 input_cause IsBad before now old new said (status.BadScript line field) h = absurd h
+input_cause IsBad before now old new said (status.BadOrder fault) h = absurd h
 input_cause IsBad before now old new said (status.WriteFault count) h = absurd h
 input_cause IsBad before now old new said (status.WireFault port count) h = absurd h
 
@@ -99,43 +102,65 @@ checked_out old mid new said trace name is none keeps out script others report =
     (subst (λ o. OfBoth old new (IsReadOutIf place.Report o)) (sym is) (later_out old mid new place.Report name keeps report))
     (subst (λ o. OfBoth old new (IsReadOutIf place.Script o)) (sym none) (still_before old mid new place.Script place.Report script_not_report script others))
 
+-- a job that reads no order reads a report of at most 2^30 bytes, if any
+report_bytes : (k : Job) → order_name k ≡ None → most_bytes k ≡ MAX_REPORT
+report_bytes (plan_job trace) none = refl
+report_bytes (check_job trace report) none = refl
+report_bytes (make_job seed) none = refl
+report_bytes (compare_job trace) none = refl
+report_bytes (classes_job trace) none = refl
+report_bytes (audit_job trace journal) none = refl
+report_bytes (online_job trace) none = refl
+report_bytes (live_job trace script) none = refl
+report_bytes (serve_job trace order) none = let clash : Some order ≡ None = none in cc
+
+-- the other file of a job, which is longer than those that are read
+pub long_other : (old mid : Option Told) (said : Said) (name : List ℕ) (which : Quantity) (count : ℕ) → report_name said.job ≡ Some name → KeepsFiles old mid →
+    IfSome old (FilesGiveTable said) → IfSome mid (λ t. ReportLimit (most_bytes said.job) (Some (bytes_of t name)) which count) → IfSome old (FilesLimit said which count)
+long_other old mid said name which count is keeps table h =
+    with_both old (FilesGiveTable said) (λ t. ReportLimit (most_bytes said.job) (bytes_if t (Some name)) which count) (FilesLimit said which count)
+    (λ t gives long. in_report gives (subst (λ (o : Option (List ℕ)). ReportLimit (most_bytes said.job) (bytes_if t o) which count) (sym is) long)) table
+    (told_before old mid (Some name) (λ b. ReportLimit (most_bytes said.job) b which count) keeps h)
+
+-- the same of one whose reading failed
+pub other_failed : (old mid new : Option Told) (said : Said) (name : List ℕ) → report_name said.job ≡ Some name → KeepsFiles old mid → IfSome old (FilesGiveTable said) →
+    OfBoth mid new (NameFailed name) → OfBoth old new (FileFailed said)
+other_failed old mid new said name is keeps table failed =
+    both_and old new (FilesGiveTable said) (NameFailedIf (report_name said.job)) (FileFailed said) (λ a b gives f. at_report gives f) table
+    (subst (λ o. OfBoth old new (NameFailedIf o)) (sym is)
+    (named_before old mid new (Some name) keeps (of_both mid new (NameFailed name) (NameFailedIf (Some name)) (λ a b h. h) failed)))
+
 module _ (IsBad : List ℕ → ℕ → Type 0) (before mid_count now : ℕ) (old mid new : Option Told) (said : Said) (name : List ℕ) where
-  bad_report : (line : ℕ) → report_name said.job ≡ Some name → KeepsFiles old mid → IfSome old (FilesGiveTable said) →
-      IfSome mid (λ t. IsBadReport IsBad (Some (bytes_of t name)) line) → IsGiven (report_name said.job) × IfSome old (FilesBadReport IsBad said line)
-  bad_report line is keeps table h = (
+  bad_report : (line : ℕ) → report_name said.job ≡ Some name → order_name said.job ≡ None → KeepsFiles old mid → IfSome old (FilesGiveTable said) →
+      IfSome mid (λ t. IsBadReport IsBad (Some (bytes_of t name)) line) → HasCauseInFiles IsBad before now old new said (status.BadReport line)
+  bad_report line is none keeps table h = (
     subst IsGiven (sym is) tt,
+    none,
     with_both old (FilesGiveTable said) (λ t. IsBadReport IsBad (bytes_if t (Some name)) line) (FilesBadReport IsBad said line)
         (λ t gives bad. (gives, subst (λ (o : Option (List ℕ)). IsBadReport IsBad (bytes_if t o) line) (sym is) bad)) table
         (told_before old mid (Some name) (λ b. IsBadReport IsBad b line) keeps h),
   )
 
-  long_report : (which : Quantity) (count : ℕ) → report_name said.job ≡ Some name → KeepsFiles old mid → IfSome old (FilesGiveTable said) →
-      IfSome mid (λ t. ReportLimit (Some (bytes_of t name)) which count) → IfSome old (FilesLimit said which count)
-  long_report which count is keeps table h =
-      with_both old (FilesGiveTable said) (λ t. ReportLimit (bytes_if t (Some name)) which count) (FilesLimit said which count)
-      (λ t gives long. in_report gives (subst (λ (o : Option (List ℕ)). ReportLimit (bytes_if t o) which count) (sym is) long)) table
-      (told_before old mid (Some name) (λ b. ReportLimit b which count) keeps h)
-
-  report_failed : report_name said.job ≡ Some name → KeepsFiles old mid → IfSome old (FilesGiveTable said) → OfBoth mid new (NameFailed name) → OfBoth old new (FileFailed said)
-  report_failed is keeps table failed =
-      both_and old new (FilesGiveTable said) (NameFailedIf (report_name said.job)) (FileFailed said) (λ a b gives f. at_report gives f) table
-      (subst (λ o. OfBoth old new (NameFailedIf o)) (sym is)
-      (named_before old mid new (Some name) keeps (of_both mid new (NameFailed name) (NameFailedIf (Some name)) (λ a b h. h) failed)))
-
-  pub from_report : (s : Status) → report_name said.job ≡ Some name → before ≤ mid_count → KeepsFiles old mid → IfSome old (FilesGiveTable said) →
+  pub from_report : (s : Status) → report_name said.job ≡ Some name → order_name said.job ≡ None → before ≤ mid_count → KeepsFiles old mid → IfSome old (FilesGiveTable said) →
       IsReportCause IsBad mid_count now mid new name s → HasCauseInFiles IsBad before now old new said s
-  from_report (status.BadReport line) is le keeps table h = bad_report line is keeps table h
-  from_report (status.Limit which count) is le keeps table (may, h) = (may said.job, long_report which count is keeps table h)
-  from_report (status.ReadFault count) is le keeps table (one, rose, failed) = (one, rose_before before mid_count now le rose, report_failed is keeps table failed)
-  from_report status.NoMemory is le keeps table h = tt
-  from_report status.Ok is le keeps table h = absurd h
-  from_report status.No is le keeps table h = absurd h
-  from_report status.Usage is le keeps table h = absurd h
-  from_report (status.BadTrace fault) is le keeps table h = absurd h
-  from_report (status.BadWeights fault) is le keeps table h = absurd h
-  from_report (status.BadScript line field) is le keeps table h = absurd h
-  from_report (status.WriteFault count) is le keeps table h = absurd h
-  from_report (status.WireFault port count) is le keeps table h = absurd h
+  from_report (status.BadReport line) is none le keeps table h = bad_report line is none keeps table h
+  from_report (status.Limit which count) is none le keeps table (may, h) = (
+    may said.job,
+    long_other old mid said name which count is keeps table
+        (subst (λ (n : ℕ). IfSome mid (λ t. ReportLimit n (Some (bytes_of t name)) which count)) (sym (report_bytes said.job none)) h),
+  )
+  from_report (status.ReadFault count) is none le keeps table (one, rose, failed) =
+      (one, rose_before before mid_count now le rose, other_failed old mid new said name is keeps table failed)
+  from_report status.NoMemory is none le keeps table h = tt
+  from_report status.Ok is none le keeps table h = absurd h
+  from_report status.No is none le keeps table h = absurd h
+  from_report status.Usage is none le keeps table h = absurd h
+  from_report (status.BadTrace fault) is none le keeps table h = absurd h
+  from_report (status.BadWeights fault) is none le keeps table h = absurd h
+  from_report (status.BadScript line field) is none le keeps table h = absurd h
+  from_report (status.BadOrder fault) is none le keeps table h = absurd h
+  from_report (status.WriteFault count) is none le keeps table h = absurd h
+  from_report (status.WireFault port count) is none le keeps table h = absurd h
 
 -- the files give a table, and the other one has the text of a report
 pub text_good : {R : Type 0} (IsText : List ℕ → R → Type 0) (old mid : Option Told) (said : Said) (name : List ℕ) (report : R) → report_name said.job ≡ Some name →

@@ -2,7 +2,7 @@
 use Rattle.std.proofs.Common.{◌≡◌, ℕ, List, Option, Some, None, refl, sym, subst, ◌∙◌}
 use Rattle.std.specs.Prelude.{IfSome}
 use Rattle.command_words.specs.Jobs.{Job, report_name, script_name, trace_name}
-use Rattle.command_words.specs.Jobs.Job.{audit_job, check_job, classes_job, compare_job, live_job, make_job, online_job, plan_job}
+use Rattle.command_words.specs.Jobs.Job.{audit_job, check_job, classes_job, compare_job, live_job, make_job, online_job, plan_job, serve_job}
 use Rattle.command_words.specs.Words.{Said}
 use Rattle.outside.specs.declared.shelf.Place4.TheVariants as place
 use Rattle.outside.specs.Shelf.{Told}
@@ -59,6 +59,26 @@ report_alone (classes_job trace) name is = refl
 report_alone (audit_job trace journal) name is = refl
 report_alone (online_job trace) name is = refl
 report_alone (live_job trace script) name is = cc
+report_alone (serve_job trace order) name is = refl
+
+-- a file that is read in the place of the report after trace and weights
+pub other_in_turn : (old mid new : Option Told) (said : Said) (name : List ℕ) (s : Status) → report_name said.job ≡ Some name → KeepsFiles old mid →
+    IfSome old (FilesGiveTable said) → OfBoth old mid (AreReadOut (trace_name said.job) said.weights) → OfBoth old mid (IsAsBefore place.Script) →
+    OfBoth mid new (KeepsOthers place.Report) → ((count : ℕ) → s ≡ status.ReadFault count → OfBoth mid new (NameFailed name)) → OfBoth old new (FilesInTurn said s)
+other_in_turn old mid new said name s is keeps table out script others failed =
+    past_input old new said s (report_alone said.job name is) table left
+    (λ count e. subst (λ o. OfBoth old new (NameFailedIf o)) (sym is)
+    (named_before old mid new (Some name) keeps (of_both mid new (NameFailed name) (NameFailedIf (Some name)) (λ a b h. h) (failed count e))))
+  where
+    named : report_name said.job ≡ None → ⊥
+    named none = let clash : Some name ≡ None = sym is ∙ none in cc
+
+    left : OfBoth old new (IsLeft said)
+    left =
+        of_both old new (λ a b. AreReadOut (trace_name said.job) said.weights a b × IsAsBefore place.Script a b) (IsLeft said)
+        (λ a b (both, untouched). (both, (λ none. absurd (named none), untouched)))
+        (both_joined old new (AreReadOut (trace_name said.job) said.weights) (IsAsBefore place.Script) (still_both_out old mid new said out others)
+        (still_before old mid new place.Script place.Report script_not_report script others))
 
 module _ (IsBad : List ℕ → ℕ → Type 0) (old mid new : Option Told) (said : Said) (name : List ℕ) (s : Status) where
   pub report_in_turn : (mid_count now : ℕ) → report_name said.job ≡ Some name → KeepsFiles old mid → IfSome old (FilesGiveTable said) →
@@ -66,23 +86,11 @@ module _ (IsBad : List ℕ → ℕ → Type 0) (old mid new : Option Told) (said
       IsReportCause IsBad mid_count now mid new name s →
       OfBoth old new (FilesInTurn said s)
   report_in_turn mid_count now is keeps table out script others cause =
-      past_input old new said s (report_alone said.job name is) table left
+      other_in_turn old mid new said name s is keeps table out script others
       (λ count e. failed count (subst (λ (x : Status). IsReportCause IsBad mid_count now mid new name x) e cause))
     where
-      named : report_name said.job ≡ None → ⊥
-      named none = let clash : Some name ≡ None = sym is ∙ none in cc
-
-      left : OfBoth old new (IsLeft said)
-      left =
-          of_both old new (λ a b. AreReadOut (trace_name said.job) said.weights a b × IsAsBefore place.Script a b) (IsLeft said)
-          (λ a b (both, untouched). (both, (λ none. absurd (named none), untouched)))
-          (both_joined old new (AreReadOut (trace_name said.job) said.weights) (IsAsBefore place.Script) (still_both_out old mid new said out others)
-          (still_before old mid new place.Script place.Report script_not_report script others))
-
-      failed : (count : ℕ) → IsReportCause IsBad mid_count now mid new name (status.ReadFault count) → OfBoth old new (NameFailedIf (report_name said.job))
-      failed count (one, rose, named) =
-          subst (λ o. OfBoth old new (NameFailedIf o)) (sym is)
-          (named_before old mid new (Some name) keeps (of_both mid new (NameFailed name) (NameFailedIf (Some name)) (λ a b h. h) named))
+      failed : (count : ℕ) → IsReportCause IsBad mid_count now mid new name (status.ReadFault count) → OfBoth mid new (NameFailed name)
+      failed count (one, rose, named) = named
 
 -- where nothing is looked at
 pub untouched_in_turn : (told : Option Told) (said : Said) (s : Status) → (IsReadFault s → ⊥) → OfBoth told told (FilesInTurn said s)

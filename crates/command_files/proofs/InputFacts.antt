@@ -105,6 +105,7 @@ from_trace before now old new name file unit status.Usage cause = absurd cause
 from_trace before now old new name file unit status.No cause = absurd cause
 from_trace before now old new name file unit (status.BadReport line) cause = absurd cause
 from_trace before now old new name file unit (status.BadScript line field) cause = absurd cause
+from_trace before now old new name file unit (status.BadOrder fault) cause = absurd cause
 from_trace before now old new name file unit (status.BadWeights fault) cause = absurd cause
 from_trace before now old new name file unit (status.WriteFault count) cause = absurd cause
 from_trace before now old new name file unit (status.WireFault port count) cause = absurd cause
@@ -143,6 +144,7 @@ module _ (before mid_count now : â„•) (old mid new : Option Told) (name : List â
   from_weights status.No le keeps read h = absurd h
   from_weights (status.BadReport line) le keeps read h = absurd h
   from_weights (status.BadScript line field) le keeps read h = absurd h
+  from_weights (status.BadOrder fault) le keeps read h = absurd h
   from_weights (status.BadTrace fault) le keeps read h = absurd h
   from_weights (status.WriteFault count) le keeps read h = absurd h
   from_weights (status.WireFault port count) le keeps read h = absurd h

@@ -1,9 +1,8 @@
 -- Trace and weights in turn, and that the shelf's count of faults stays.
-use Rattle.std.proofs.Common.{◌≡◌, ◌≢◌, IsErrAnd, ℕ, List, Option, Some, None, Result, Ok, Err, refl, sym, subst, ◌∙◌}
+use Rattle.std.proofs.Common.{◌≡◌, ◌≢◌, IsErrAnd, ℕ, List, Option, Some, None, Result, Ok, Err, refl, sym, subst}
 use Rattle.coflow_units.specs.declared.trace.Trace.{Trace}
 use Rattle.flow_table.specs.declared.fault.TableFault.{TableFault}
 use Rattle.flow_table.specs.declared.fault.TableFault.TheVariants as table_fault
-use Rattle.outside.specs.declared.shelf.Place4.{Place4}
 use Rattle.outside.specs.declared.shelf.Place4.TheVariants as place
 use Rattle.outside.specs.Rose.{RoseOnce}
 use Rattle.outside.specs.Shelf.{Told}
@@ -19,7 +18,7 @@ use Rattle.command_files.specs.Turns.{FailsAt, InputInTurn}
 use Rattle.command_files.specs.Turns.InputInTurn.{at_trace, at_weights}
 use Rattle.command_files.specs.WeightsCauses.{IsWeightsCause}
 use Rattle.command_files.proofs.InputFacts.{ReadAs, by_name}
-use Rattle.command_files.proofs.ShelfFacts.{as_before, as_before_through, both_and, both_joined, both_through, named_before, of_both, still_out}
+use Rattle.command_files.proofs.ShelfFacts.{as_before, as_before_through, both_and, both_joined, named_before, of_both, still_out}
 
 -- ---- the count of the shelf
 
@@ -86,6 +85,7 @@ fails_if old new name Q (status.BadTrace fault) q h = of_both old new Q (λ a b.
 fails_if old new name Q (status.BadWeights fault) q h = of_both old new Q (λ a b. FailsAt name (status.BadWeights fault) a b × Q a b) (λ a b x. (tt, x)) q
 fails_if old new name Q (status.BadReport line) q h = of_both old new Q (λ a b. FailsAt name (status.BadReport line) a b × Q a b) (λ a b x. (tt, x)) q
 fails_if old new name Q (status.BadScript line field) q h = of_both old new Q (λ a b. FailsAt name (status.BadScript line field) a b × Q a b) (λ a b x. (tt, x)) q
+fails_if old new name Q (status.BadOrder fault) q h = of_both old new Q (λ a b. FailsAt name (status.BadOrder fault) a b × Q a b) (λ a b x. (tt, x)) q
 fails_if old new name Q (status.Limit which count) q h = of_both old new Q (λ a b. FailsAt name (status.Limit which count) a b × Q a b) (λ a b x. (tt, x)) q
 fails_if old new name Q (status.WriteFault count) q h = of_both old new Q (λ a b. FailsAt name (status.WriteFault count) a b × Q a b) (λ a b x. (tt, x)) q
 fails_if old new name Q (status.WireFault port count) q h = of_both old new Q (λ a b. FailsAt name (status.WireFault port count) a b × Q a b) (λ a b x. (tt, x)) q

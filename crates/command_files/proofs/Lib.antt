@@ -7,6 +7,8 @@ pub mod JobFacts
 pub mod LimitFacts
 mod LiveCauses
 pub mod LiveTurns
+pub mod OrderFacts
+pub mod OrderFiles
 pub mod ReportFacts
 pub mod ScriptFacts
 pub mod ShelfFacts

@@ -22,7 +22,7 @@ use Rattle.command_files.specs.Scripts.{HasMoreUnits, HasScriptText, IsScriptOf,
 use Rattle.command_files.specs.Shelves.{AreReadOut, IsAsBefore, IsReadOut, IsReadOutIf, KeepsFiles, KeepsOthers, OfBoth, ReadsOut}
 use Rattle.command_files.proofs.CauseFacts.{all_out, still_both}
 use Rattle.command_files.proofs.LimitFacts.{job_may}
-use Rattle.command_files.proofs.ShelfFacts.{both_and, both_joined, if_some, later_out, named_before, of_both, rose_before, still_before, told_before, with_both}
+use Rattle.command_files.proofs.ShelfFacts.{both_and, if_some, later_out, named_before, of_both, rose_before, still_before, told_before, with_both}
 
 trace_not_script : place.Trace ≢ place.Script
 trace_not_script e = cc
@@ -125,6 +125,7 @@ module _ (IsBad : List ℕ → ℕ → Type 0) (before mid_count now : ℕ) (old
   from_script (status.BadTrace fault) le h = absurd h
   from_script (status.BadWeights fault) le h = absurd h
   from_script (status.BadReport line) le h = absurd h
+  from_script (status.BadOrder fault) le h = absurd h
   from_script (status.WriteFault count) le h = absurd h
   from_script (status.WireFault port count) le h = absurd h
 

@@ -76,7 +76,7 @@ any_report_cause before now old new name bytes lent fault s has e short bad is =
 pub file_to_report : (IsBad : List ℕ → ℕ → Type 0) (before now : ℕ) (old new : Option Told) (name : List ℕ) (s : Status) → IsFileCause 1073741824 before now old new name s →
     IsReportCause IsBad before now old new name s
 file_to_report IsBad before now old new name (status.Limit which count) (text, number, long) = (text_may which text, go old long) where
-  go : (o : Option Told) → IfSome o (λ t. 1073741824 < length (bytes_of t name)) → IfSome o (λ t. ReportLimit (Some (bytes_of t name)) which count)
+  go : (o : Option Told) → IfSome o (λ t. 1073741824 < length (bytes_of t name)) → IfSome o (λ t. ReportLimit 1073741824 (Some (bytes_of t name)) which count)
   go None h = tt
   go (Some t) h = (text, number, h)
 file_to_report IsBad before now old new name (status.ReadFault count) h = h
@@ -88,6 +88,7 @@ file_to_report IsBad before now old new name (status.BadTrace fault) h = absurd 
 file_to_report IsBad before now old new name (status.BadWeights fault) h = absurd h
 file_to_report IsBad before now old new name (status.BadReport line) h = absurd h
 file_to_report IsBad before now old new name (status.BadScript line field) h = absurd h
+file_to_report IsBad before now old new name (status.BadOrder fault) h = absurd h
 file_to_report IsBad before now old new name (status.WriteFault count) h = absurd h
 file_to_report IsBad before now old new name (status.WireFault port count) h = absurd h
 

@@ -79,5 +79,6 @@ module _ (ids : List ℕ) (before now : ℕ) (old new : Option Told) (name : Lis
   file_to_script (status.BadWeights fault) h = absurd h
   file_to_script (status.BadReport line) h = absurd h
   file_to_script (status.BadScript line field) h = absurd h
+  file_to_script (status.BadOrder fault) h = absurd h
   file_to_script (status.WriteFault count) h = absurd h
   file_to_script (status.WireFault port count) h = absurd h

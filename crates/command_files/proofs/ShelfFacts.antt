@@ -1,5 +1,5 @@
 -- What calls to a shelf do, where it tells its files.
-use Rattle.std.proofs.Common.{◌≡◌, ◌≢◌, IsErrAnd, IfErr, ℕ, ◌≤◌, ◌<◌, List, Option, Some, None, Result, Ok, Err, length, refl, sym, ap, subst, ◌∙◌, arith}
+use Rattle.std.proofs.Common.{◌≡◌, ◌≢◌, IsErrAnd, IfErr, ℕ, ◌≤◌, List, Option, Some, None, Result, Ok, Err, refl, sym, ap, subst, ◌∙◌, arith}
 use Rattle.std.specs.Prelude.{IfSome}
 use Rattle.std.specs.declared.vec.Vec.{Vec}
 use Rattle.std.specs.declared.alloc.Global.{Global}

@@ -70,6 +70,7 @@ file_to_trace before now old new name status.Usage cause = absurd cause
 file_to_trace before now old new name status.No cause = absurd cause
 file_to_trace before now old new name (status.BadReport line) cause = absurd cause
 file_to_trace before now old new name (status.BadScript line field) cause = absurd cause
+file_to_trace before now old new name (status.BadOrder fault) cause = absurd cause
 file_to_trace before now old new name (status.BadTrace fault) cause = absurd cause
 file_to_trace before now old new name (status.BadWeights fault) cause = absurd cause
 file_to_trace before now old new name (status.WriteFault count) cause = absurd cause

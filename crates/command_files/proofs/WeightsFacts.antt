@@ -68,6 +68,7 @@ file_to_weights before now old new name coflows status.Usage cause = absurd caus
 file_to_weights before now old new name coflows status.No cause = absurd cause
 file_to_weights before now old new name coflows (status.BadReport line) cause = absurd cause
 file_to_weights before now old new name coflows (status.BadScript line field) cause = absurd cause
+file_to_weights before now old new name coflows (status.BadOrder fault) cause = absurd cause
 file_to_weights before now old new name coflows (status.BadTrace fault) cause = absurd cause
 file_to_weights before now old new name coflows (status.BadWeights fault) cause = absurd cause
 file_to_weights before now old new name coflows (status.WriteFault count) cause = absurd cause

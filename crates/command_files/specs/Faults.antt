@@ -4,6 +4,8 @@ use Rattle.flow_table.specs.declared.fault.TableFault.{TableFault}
 use Rattle.flow_table.specs.declared.fault.TableFault.TheVariants as table_fault
 use Rattle.hall_plan.specs.declared.answer.PlanFault.{PlanFault}
 use Rattle.hall_plan.specs.declared.answer.PlanFault.TheVariants as plan_fault
+use Rattle.orders.specs.declared.fault.OrderFault.{OrderFault}
+use Rattle.orders.specs.declared.fault.OrderFault.TheVariants as order_fault
 use Rattle.report_text.specs.declared.fault.ReportFault.{ReportFault}
 use Rattle.report_text.specs.declared.fault.ReportFault.TheVariants as report_fault
 use Rattle.workload.specs.declared.fault.ScriptFault.{ScriptFault}
@@ -13,7 +15,7 @@ use Rattle.trace_reader.specs.declared.fault.TraceFault.TheVariants as trace_fau
 use Rattle.weights.specs.declared.fault.WeightsFault.{WeightsFault}
 use Rattle.weights.specs.declared.fault.WeightsFault.TheVariants as weights_fault
 use Rattle.command_files.specs.declared.status.Status.{Status}
-use Rattle.command_files.specs.declared.status.Status.TheVariants.{BadReport, BadScript, BadTrace, BadWeights, Limit, NoMemory, WireFault}
+use Rattle.command_files.specs.declared.status.Status.TheVariants.{BadOrder, BadReport, BadScript, BadTrace, BadWeights, Limit, NoMemory, WireFault}
 
 -- the status says the fault of a trace
 abbrev pub IsStatusOfTrace : TraceFault → Status → Type 0
@@ -41,6 +43,11 @@ IsStatusOfPlan plan_fault.NoMemory status = status ≡ NoMemory
 abbrev pub IsStatusOfReport : ReportFault → Status → Type 0
 IsStatusOfReport (report_fault.BadText line) status = status ≡ BadReport line
 IsStatusOfReport report_fault.NoMemory status = status ≡ NoMemory
+
+-- the status says the fault of an order
+abbrev pub IsStatusOfOrder : OrderFault → Status → Type 0
+IsStatusOfOrder order_fault.NoMemory status = status ≡ NoMemory
+IsStatusOfOrder fault status = status ≡ BadOrder fault
 
 -- the status says the fault of a script
 abbrev pub IsStatusOfScript : ScriptFault → Status → Type 0

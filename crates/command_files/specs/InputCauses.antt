@@ -1,5 +1,5 @@
 -- Why trace and weights gave no table. They are looked at in this order: the trace, the weights, the table.
-use Rattle.std.specs.Prelude.{◌≡◌, ℕ, List, Option, IfSome}
+use Rattle.std.specs.Prelude.{ℕ, List, Option, IfSome}
 use Rattle.coflow_units.specs.declared.quantity.Quantity.{Quantity}
 use Rattle.flow_table.specs.declared.fault.TableFault.TheVariants as table_fault
 use Rattle.flow_table.specs.Causes.{HasCause}

@@ -10,6 +10,8 @@ pub mod Inputs
 pub mod JobCauses
 pub mod Limits
 pub mod Messages
+pub mod OrderCauses
+pub mod Orders
 pub mod ReportCauses
 pub mod Reports
 pub mod ScriptCauses

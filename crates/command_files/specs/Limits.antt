@@ -1,7 +1,8 @@
 -- Which quantities a command may find outside their ranges.
 use Rattle.std.specs.Prelude.{List, ℕ}
 use Rattle.command_words.specs.Jobs.{Job}
-use Rattle.command_words.specs.Jobs.Job.{live_job, online_job}
+use Rattle.command_words.specs.Jobs.Job.{live_job, online_job, serve_job}
+use Rattle.coflow_units.specs.declared.limits.TheConstants.{MAX_REPORT, MAX_TEXT}
 use Rattle.coflow_units.specs.declared.quantity.Quantity.{Quantity}
 use Rattle.coflow_units.specs.declared.quantity.Quantity.TheVariants.{Clients, Commands, Epochs}
 
@@ -30,3 +31,8 @@ EachMayLimit which = (job : Job) → MayLimit job which
 -- each command that runs a script may do so
 abbrev pub ClientsMayLimit : Quantity → Type 0
 ClientsMayLimit which = (trace script : List ℕ) → MayLimit (live_job trace script) which
+
+-- how many bytes the report, the printed journal or the order of a job has at most
+abbrev pub most_bytes : Job → ℕ
+most_bytes (serve_job trace order) = MAX_TEXT
+most_bytes job = MAX_REPORT

@@ -3,12 +3,14 @@
 use Rattle.std.specs.Prelude.{ℕ, ◌++◌, List, [], codes, decimal}
 use Rattle.coflow_units.specs.declared.quantity.Quantity.{Quantity}
 use Rattle.coflow_units.specs.declared.quantity.Quantity.TheVariants as quantity
+use Rattle.orders.specs.declared.fault.OrderFault.{OrderFault}
+use Rattle.orders.specs.declared.fault.OrderFault.TheVariants as order
 use Rattle.trace_reader.specs.declared.fault.TraceFault.{TraceFault}
 use Rattle.trace_reader.specs.declared.fault.TraceFault.TheVariants as trace
 use Rattle.weights.specs.declared.fault.WeightsFault.{WeightsFault}
 use Rattle.weights.specs.declared.fault.WeightsFault.TheVariants as weight
 use Rattle.command_files.specs.declared.status.Status.{Status}
-use Rattle.command_files.specs.declared.status.Status.TheVariants.{Ok, No, Usage, BadTrace, BadWeights, BadReport, BadScript, Limit, ReadFault, WriteFault, WireFault, NoMemory}
+use Rattle.command_files.specs.declared.status.Status.TheVariants.{Ok, No, Usage, BadTrace, BadWeights, BadReport, BadScript, Limit, ReadFault, WriteFault, WireFault, NoMemory, BadOrder}
 
 -- the name of a quantity
 abbrev pub name_of : Quantity → List ℕ
@@ -53,6 +55,14 @@ weights_text (weight.DuplicateId line id) =
 weights_text (weight.Limit line which count) = limit_text which count
 weights_text weight.NoMemory = codes "no memory"
 
+-- what is wrong with an order
+abbrev pub order_text : OrderFault → List ℕ
+order_text (order.BadLine line field) = codes "order: line " ++ decimal line ++ codes " field " ++ decimal field
+order_text (order.UnknownId line id) = codes "order: line " ++ (decimal line ++ (codes " unknown id " ++ decimal id))
+order_text (order.DuplicateId line id) = codes "order: line " ++ (decimal line ++ (codes " repeats id " ++ decimal id))
+order_text (order.Missing have want) = codes "order: have " ++ decimal have ++ codes " lines, want " ++ decimal want
+order_text order.NoMemory = codes "no memory"
+
 -- what a status says behind the program's name
 abbrev pub status_text : Status → List ℕ
 status_text Ok = []
@@ -67,3 +77,4 @@ status_text (ReadFault count) = codes "read fault"
 status_text (WriteFault count) = codes "write fault"
 status_text (WireFault port count) = codes "wire fault at port " ++ decimal port
 status_text NoMemory = codes "no memory"
+status_text (BadOrder fault) = order_text fault

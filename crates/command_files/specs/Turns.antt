@@ -25,9 +25,10 @@ pub data InputInTurn (trace : List ℕ) (weights : Option (List ℕ)) (status : 
       IsAsBeforeUnless place.Weights weights old new → FailsAt weights status old new →
       InputInTurn trace weights status old new
 
--- All files in turn. Either the report, the printed journal and the script were not looked at, or trace and weights were
--- read to their ends and give a table within its limits. Before a script is looked at, it is one that clients may share
--- live. In the place of the script no file is looked at but for a job that names one, and so it is with the report.
+-- All files in turn. Either the report, the printed journal, the order and the script were not looked at, or trace and
+-- weights were read to their ends and give a table within its limits. Before a script is looked at, it is one that
+-- clients may share live. In the place of the script no file is looked at but for a job that names one, and so it is
+-- with the report. A printed journal and an order are looked at in the place of the report.
 pub data FilesInTurn (said : Said) (status : Status) (old new : Told) : Type 0 where
   at_input : InputInTurn (trace_name said.job) said.weights status old new → IsAsBefore place.Report old new →
       IsAsBefore place.Script old new → FilesInTurn said status old new

@@ -1,4 +1,4 @@
-//! The files of a command: the trace, the weights of its coflows, and a report, a printed journal or a script.
+//! The files of a command: the trace, the weights of its coflows, and a report, a printed journal, an order or a script.
 ghost use Rattle.std.specs.Prelude.{◌≡◌, ◌≤◌, ℕ, None, IfErr, IfOk, IfSome, OnOk, length, option_map, replicate};
 ghost use Rattle.coflow_units.specs.declared.limits.TheConstants.{MAX_REPORT};
 ghost use Rattle.coflow_units.specs.Trace.{IsTrace};
@@ -13,6 +13,8 @@ ghost use Rattle.command_files.specs.Ends.{CountsFault};
 ghost use Rattle.command_files.specs.FileCauses.{IsFileCause};
 ghost use Rattle.command_files.specs.InputCauses.{GiveTable, HasInputCause};
 ghost use Rattle.command_files.specs.Inputs.{IsInput, IsTraceOf, IsWeightsOf, bytes_if};
+ghost use Rattle.command_files.specs.OrderCauses.{IsOrderCause};
+ghost use Rattle.command_files.specs.Orders.{IsOrderOf};
 ghost use Rattle.command_files.specs.ReportCauses.{IsReportCause};
 ghost use Rattle.command_files.specs.ScriptCauses.{IsScriptCause};
 ghost use Rattle.command_files.specs.Scripts.{IsScriptOf};
@@ -26,6 +28,7 @@ use coflow_units::{Items, MAX_REPORT, MAX_TEXT, NoMemory, Quantity, Trace, UnitS
 use flow_table::{Table, TableFault};
 use live_text::{Live, read_live};
 use online_check::{AnyReport, read_any_report};
+use orders::{OrderFault, read_order};
 use outside::{Place4, ReadStop, Shelf, read_all};
 use report_text::{Report, ReportFault, read_report};
 use std::alloc::Global;
@@ -177,6 +180,27 @@ pub fn read_journal_file<H: Shelf>(alloc: Global, name: &str, shelf: &mut H) -> 
     let bytes = read_file(alloc, Place4::Report, name, MAX_REPORT, shelf)?;
     let live = read_live(alloc, &bytes)?;
     Ok(live)
+}
+
+/// Reads the order under a name, of the coflows of a table: their numbers, first served first. The error is the status that says
+/// why there is none.
+pub fn read_order_file<H: Shelf>(
+    alloc: Global,
+    name: &str,
+    table: &Table,
+    shelf: &mut H,
+) -> Result<Items<u32>, Status>
+    ensures order { IfOk result (IsOrderOf (H.told shelf.old) name.now table.now.ids) }
+    ensures read_out { OnOk result (OfBoth (H.told shelf.old) (H.told shelf.new) (IsReadOut Place4.Report name.now)) }
+    ensures others { OfBoth (H.told shelf.old) (H.told shelf.new) (KeepsOthers Place4.Report) }
+    ensures keeps { KeepsFiles (H.told shelf.old) (H.told shelf.new) }
+    ensures counts { CountsFault (H.faults shelf.old) (H.faults shelf.new) result }
+    ensures cause { IfErr result (IsOrderCause table.now.ids (H.faults shelf.old) (H.faults shelf.new)
+        (H.told shelf.old) (H.told shelf.new) name.now) }
+{
+    let bytes = read_file(alloc, Place4::Report, name, MAX_TEXT, shelf)?;
+    let order = read_order(alloc, &bytes, table)?;
+    Ok(order)
 }
 
 /// Reads the script under a name, over the coflows of a table. The error is the status that says why there is none.

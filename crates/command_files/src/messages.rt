@@ -1,10 +1,11 @@
 //! The line on standard error.
 ghost use Rattle.std.specs.Prelude.{◌≡◌};
 ghost use Rattle.std.specs.Fmt.{WritesOnOk};
-ghost use Rattle.command_files.specs.Messages.{limit_text, name_of, trace_text, weights_text};
+ghost use Rattle.command_files.specs.Messages.{limit_text, name_of, order_text, trace_text, weights_text};
 
 use crate::status::Status;
 use coflow_units::Quantity;
+use orders::OrderFault;
 use std::fmt;
 use trace_reader::TraceFault;
 use weights::WeightsFault;
@@ -29,6 +30,7 @@ impl fmt::Display for Status {
             Status::WriteFault { count: _ } => f.write_str("write fault"),
             Status::WireFault { port, count: _ } => write!(f, "wire fault at port {port}"),
             Status::NoMemory => f.write_str("no memory"),
+            Status::BadOrder(fault) => write_order_fault(f, *fault),
         }
     }
 }
@@ -71,6 +73,19 @@ fn write_weights_fault<W: fmt::Write>(f: &mut fmt::Formatter<W>, fault: WeightsF
             count,
         } => write_limit(f, which, count),
         WeightsFault::NoMemory => f.write_str("no memory"),
+    }
+}
+
+/// What is wrong with an order.
+fn write_order_fault<W: fmt::Write>(f: &mut fmt::Formatter<W>, fault: OrderFault) -> fmt::Result
+    ensures { WritesOnOk W.write_str_gives f.old result (order_text fault) f.new }
+{
+    match fault {
+        OrderFault::BadLine { line, field } => write!(f, "order: line {line} field {field}"),
+        OrderFault::UnknownId { line, id } => write!(f, "order: line {line} unknown id {id}"),
+        OrderFault::DuplicateId { line, id } => write!(f, "order: line {line} repeats id {id}"),
+        OrderFault::Missing { have, want } => write!(f, "order: have {have} lines, want {want}"),
+        OrderFault::NoMemory => f.write_str("no memory"),
     }
 }
 

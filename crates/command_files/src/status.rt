@@ -5,6 +5,7 @@ ghost use Rattle.std.specs.Prelude.{◌≡◌};
 use coflow_units::{NoMemory, Quantity};
 use flow_table::TableFault;
 use hall_plan::PlanFault;
+use orders::OrderFault;
 use report_text::{ReportFault, Text};
 use trace_reader::TraceFault;
 use weights::WeightsFault;
@@ -42,6 +43,8 @@ pub enum Status {
     WireFault { port: u32, count: u32 },
     /// No memory was to be had.
     NoMemory,
+    /// The file is no order of the trace's coflows. The fault is the first in reading order, and one of form.
+    BadOrder(OrderFault),
 }
 
 impl Status {
@@ -62,6 +65,7 @@ impl Status {
             Status::WriteFault { count: _ } => 9,
             Status::WireFault { port: _, count: _ } => 10,
             Status::NoMemory => 11,
+            Status::BadOrder(_) => 12,
         }
     }
 }
@@ -147,6 +151,19 @@ impl From<ReportFault> for Status {
         match fault {
             ReportFault::BadText { line } => Status::BadReport { line },
             ReportFault::NoMemory => Status::NoMemory,
+        }
+    }
+}
+
+impl From<OrderFault> for Status {
+    ghost use Rattle.command_files.specs.Faults.{IsStatusOfOrder};
+
+    ghost from_gives = { λ fault status. IsStatusOfOrder fault status };
+
+    fn from(fault: OrderFault) -> Status {
+        match fault {
+            OrderFault::NoMemory => Status::NoMemory,
+            fault => Status::BadOrder(fault),
         }
     }
 }

@@ -6,5 +6,6 @@ pub mod LiveFacts
 pub mod MadeInput
 pub mod MadePlan
 pub mod OnlineFacts
+pub mod OrderedFacts
 pub mod PlanFacts
 pub mod WireFacts

@@ -2,7 +2,7 @@
 use Rattle.std.proofs.Common.{◌≡◌, ◌∙◌, ℕ, inl, inr, List, refl, subst, sym}
 use Rattle.std.specs.Prelude.{◌⊎◌, IfSome, None, Option, Some}
 use Rattle.command_words.specs.Jobs.{Job, trace_name}
-use Rattle.command_words.specs.Jobs.Job.{audit_job, check_job, classes_job, compare_job, live_job, make_job, online_job, plan_job}
+use Rattle.command_words.specs.Jobs.Job.{audit_job, check_job, classes_job, compare_job, live_job, make_job, online_job, plan_job, serve_job}
 use Rattle.command_words.specs.Line.{Text}
 use Rattle.command_words.specs.Words.{IsWords, Said}
 use Rattle.command_words.proofs.OneMeaning.{words_one}
@@ -100,6 +100,7 @@ module _ (said : Said) (t : Told) where
   over_is (classes_job trace) count over = absurd over
   over_is (audit_job trace journal) count over = absurd over
   over_is (live_job trace script) count over = absurd over
+  over_is (serve_job trace order) count over = absurd over
 
   pub over_one : (k : Job) (m n : ℕ) → PublishesOver k said m t → PublishesOver k said n t → m ≡ n
   over_one k m n x y =

@@ -36,6 +36,7 @@ input_no_wire before now old new trace file unit (status.BadTrace fault) cause w
 input_no_wire before now old new trace file unit (status.BadWeights fault) cause wire = wire
 input_no_wire before now old new trace file unit (status.BadReport line) cause wire = wire
 input_no_wire before now old new trace file unit (status.BadScript line field) cause wire = wire
+input_no_wire before now old new trace file unit (status.BadOrder fault) cause wire = wire
 input_no_wire before now old new trace file unit (status.Limit which count) cause wire = wire
 input_no_wire before now old new trace file unit (status.ReadFault count) cause wire = wire
 input_no_wire before now old new trace file unit (status.WriteFault count) cause wire = wire
@@ -55,6 +56,7 @@ files_no_wire before now old new said (status.BadTrace fault) cause wire = wire
 files_no_wire before now old new said (status.BadWeights fault) cause wire = wire
 files_no_wire before now old new said (status.BadReport line) cause wire = wire
 files_no_wire before now old new said (status.BadScript line field) cause wire = wire
+files_no_wire before now old new said (status.BadOrder fault) cause wire = wire
 files_no_wire before now old new said (status.Limit which count) cause wire = wire
 files_no_wire before now old new said (status.ReadFault count) cause wire = wire
 files_no_wire before now old new said (status.WriteFault count) cause wire = wire

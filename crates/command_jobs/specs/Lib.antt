@@ -5,5 +5,6 @@ pub mod Compare
 pub mod Live
 pub mod Make
 pub mod Online
+pub mod Ordered
 pub mod Plan
 pub mod Serving

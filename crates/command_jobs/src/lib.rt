@@ -9,6 +9,7 @@ mod comparing;
 mod living;
 mod making;
 mod onlining;
+mod ordering;
 mod planning;
 mod serving;
 
@@ -19,4 +20,5 @@ pub use comparing::compare_rankers;
 pub use living::run_clients;
 pub use making::make_workload;
 pub use onlining::run_online;
+pub use ordering::serve_order;
 pub use planning::plan_trace;

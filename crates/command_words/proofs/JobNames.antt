@@ -4,7 +4,7 @@ use Rattle.std.specs.Prelude.{if◌then◌else◌, option_map}
 use Rattle.std.specs.Str.{bytes_eq}
 use Rattle.std.proofs.lemmas.Slice.Eq.{bytes_eq-Decides}
 use Rattle.command_words.specs.Jobs.{Job, alone, audit_job, both_in, check_job, classes_job, compare_job, file_in, file_job, file_of, files_job, job_of}
-use Rattle.command_words.specs.Jobs.{live_job, make_job, online_job, plan_job, seed_of}
+use Rattle.command_words.specs.Jobs.{live_job, make_job, online_job, plan_job, seed_of, serve_job}
 use Rattle.command_words.specs.Line.{Text}
 
 -- The table by what FIRST and SECOND give.
@@ -17,7 +17,8 @@ table file seed second other name = if bytes_eq name (codes "plan") then option_
     else (if bytes_eq name (codes "audit") then both_in audit_job file other
     else (if bytes_eq name (codes "online") then option_map online_job (alone file second)
     else (if bytes_eq name (codes "live") then both_in live_job file other
-    else None)))))))
+    else (if bytes_eq name (codes "serve") then both_in serve_job file other
+    else None))))))))
 
 -- What holds of each command's name and of a name that is none of these.
 record OfEach (P : Text → Type 0) : Type 0 where
@@ -29,28 +30,31 @@ record OfEach (P : Text → Type 0) : Type 0 where
   audit : P (codes "audit")
   online : P (codes "online")
   live : P (codes "live")
+  serve : P (codes "serve")
   other : (name : Text) → bytes_eq name (codes "plan") ≡ false → bytes_eq name (codes "check") ≡ false → bytes_eq name (codes "make") ≡ false →
       bytes_eq name (codes "compare") ≡ false → bytes_eq name (codes "classes") ≡ false → bytes_eq name (codes "audit") ≡ false → bytes_eq name (codes "online") ≡ false →
-      bytes_eq name (codes "live") ≡ false → P name
+      bytes_eq name (codes "live") ≡ false → bytes_eq name (codes "serve") ≡ false → P name
 
 same_name : (P : Text → Type 0) (name o : Text) → P o → bytes_eq name o ≡ true → P name
 same_name P name o h e = subst P (sym ((bytes_eq-Decides name o).0 e)) h
 
 of_name : (P : Text → Type 0) → OfEach P → (name : Text) → P name
 of_name P h n = by (bytes_eq n (codes "plan")) (bytes_eq n (codes "check")) (bytes_eq n (codes "make")) (bytes_eq n (codes "compare")) (bytes_eq n (codes "classes"))
-    (bytes_eq n (codes "audit")) (bytes_eq n (codes "online")) (bytes_eq n (codes "live")) refl refl refl refl refl refl refl refl
+    (bytes_eq n (codes "audit")) (bytes_eq n (codes "online")) (bytes_eq n (codes "live"))
+    (bytes_eq n (codes "serve")) refl refl refl refl refl refl refl refl refl
   where
-    by : (a b c d e f g i : Bool) → bytes_eq n (codes "plan") ≡ a → bytes_eq n (codes "check") ≡ b → bytes_eq n (codes "make") ≡ c → bytes_eq n (codes "compare") ≡ d →
-        bytes_eq n (codes "classes") ≡ e → bytes_eq n (codes "audit") ≡ f → bytes_eq n (codes "online") ≡ g → bytes_eq n (codes "live") ≡ i → P n
-    by true b c d e f g i p q r s t u v w = same_name P n (codes "plan") h.plan p
-    by false true c d e f g i p q r s t u v w = same_name P n (codes "check") h.check q
-    by false false true d e f g i p q r s t u v w = same_name P n (codes "make") h.make r
-    by false false false true e f g i p q r s t u v w = same_name P n (codes "compare") h.compare s
-    by false false false false true f g i p q r s t u v w = same_name P n (codes "classes") h.classes t
-    by false false false false false true g i p q r s t u v w = same_name P n (codes "audit") h.audit u
-    by false false false false false false true i p q r s t u v w = same_name P n (codes "online") h.online v
-    by false false false false false false false true p q r s t u v w = same_name P n (codes "live") h.live w
-    by false false false false false false false false p q r s t u v w = h.other n p q r s t u v w
+    by : (a b c d e f g i j : Bool) → bytes_eq n (codes "plan") ≡ a → bytes_eq n (codes "check") ≡ b → bytes_eq n (codes "make") ≡ c → bytes_eq n (codes "compare") ≡ d →
+        bytes_eq n (codes "classes") ≡ e → bytes_eq n (codes "audit") ≡ f → bytes_eq n (codes "online") ≡ g → bytes_eq n (codes "live") ≡ i → bytes_eq n (codes "serve") ≡ j → P n
+    by true b c d e f g i j p q r s t u v w x = same_name P n (codes "plan") h.plan p
+    by false true c d e f g i j p q r s t u v w x = same_name P n (codes "check") h.check q
+    by false false true d e f g i j p q r s t u v w x = same_name P n (codes "make") h.make r
+    by false false false true e f g i j p q r s t u v w x = same_name P n (codes "compare") h.compare s
+    by false false false false true f g i j p q r s t u v w x = same_name P n (codes "classes") h.classes t
+    by false false false false false true g i j p q r s t u v w x = same_name P n (codes "audit") h.audit u
+    by false false false false false false true i j p q r s t u v w x = same_name P n (codes "online") h.online v
+    by false false false false false false false true j p q r s t u v w x = same_name P n (codes "live") h.live w
+    by false false false false false false false false true p q r s t u v w x = same_name P n (codes "serve") h.serve x
+    by false false false false false false false false false p q r s t u v w x = h.other n p q r s t u v w x
 
 -- The name is not `make`.
 abbrev pub IsOther : Text → Type 0
@@ -70,7 +74,8 @@ no_first seed None other = of_name (λ n. IsOther n → table None seed None oth
   audit = λ m. refl;
   online = λ m. refl;
   live = λ m. refl;
-  other = λ name p q r s t u v w m. rw (p, q, r, s, t, u, v, w) refl;
+  serve = λ m. refl;
+  other = λ name p q r s t u v w x m. rw (p, q, r, s, t, u, v, w, x) refl;
 })
 no_first seed (Some x) other = of_name (λ n. IsOther n → table None seed (Some x) other n ≡ None) (record {
   plan = λ m. refl;
@@ -81,7 +86,8 @@ no_first seed (Some x) other = of_name (λ n. IsOther n → table None seed (Som
   audit = λ m. refl;
   online = λ m. refl;
   live = λ m. refl;
-  other = λ name p q r s t u v w m. rw (p, q, r, s, t, u, v, w) refl;
+  serve = λ m. refl;
+  other = λ name p q r s t u v w x m. rw (p, q, r, s, t, u, v, w, x) refl;
 })
 
 -- FIRST is not the name of a file.
@@ -98,7 +104,8 @@ one seed trace = of_name (λ n. IsOther n → table (Some trace) seed None None 
   audit = λ m. refl;
   online = λ m. refl;
   live = λ m. refl;
-  other = λ name p q r s t u v w m. rw (p, q, r, s, t, u, v, w) refl;
+  serve = λ m. refl;
+  other = λ name p q r s t u v w x m. rw (p, q, r, s, t, u, v, w, x) refl;
 })
 
 pub one_file : (name first trace : Text) → IsOther name → file_of first ≡ Some trace → job_of name first None ≡ file_job name trace
@@ -114,7 +121,8 @@ no_second seed trace second = of_name (λ n. table (Some trace) seed (Some secon
   audit = refl;
   online = refl;
   live = refl;
-  other = λ name p q r s t u v w. rw (p, q, r, s, t, u, v, w) refl;
+  serve = refl;
+  other = λ name p q r s t u v w x. rw (p, q, r, s, t, u, v, w, x) refl;
 })
 
 -- SECOND is not the name of a file.
@@ -131,7 +139,8 @@ two seed trace second other = of_name (λ n. table (Some trace) seed (Some secon
   audit = refl;
   online = refl;
   live = refl;
-  other = λ name p q r s t u v w. rw (p, q, r, s, t, u, v, w) refl;
+  serve = refl;
+  other = λ name p q r s t u v w x. rw (p, q, r, s, t, u, v, w, x) refl;
 })
 
 pub two_files : (name first trace second other : Text) → file_of first ≡ Some trace → file_of second ≡ Some other → job_of name first (Some second) ≡ files_job name trace other

@@ -5,7 +5,7 @@ use Rattle.std.specs.Str.{bytes_eq}
 use Rattle.text_fields.specs.Numbers.{is_number, number}
 use Rattle.command_words.specs.Line.{Text}
 use Rattle.command_words.specs.declared.job.Job.{Job as JobWords}
-use Rattle.command_words.specs.declared.job.Job.TheVariants.{Audit, Check, Classes, Compare, Live, Make, Online, Plan}
+use Rattle.command_words.specs.declared.job.Job.TheVariants.{Audit, Check, Classes, Compare, Live, Make, Online, Plan, Serve}
 
 -- What the program is asked to do: a command, with the names of files or the number behind it.
 pub data Job : Type 0 where
@@ -25,6 +25,8 @@ pub data Job : Type 0 where
   online_job : Text → Job
   -- the names of a trace and of a script
   live_job : Text → Text → Job
+  -- the names of a trace and of an order
+  serve_job : Text → Text → Job
 
 -- the job of words that were read
 abbrev pub job_by : JobWords → Job
@@ -36,6 +38,7 @@ job_by (Classes trace) = classes_job trace.now
 job_by (Audit trace journal) = audit_job trace.now journal.now
 job_by (Online trace) = online_job trace.now
 job_by (Live trace script) = live_job trace.now script.now
+job_by (Serve trace order) = serve_job trace.now order.now
 
 -- The name of a file is not empty and is not `-`.
 abbrev pub is_file_name : Text → Bool
@@ -78,7 +81,8 @@ job_of name first second = if bytes_eq name (codes "plan") then option_map plan_
     else (if bytes_eq name (codes "audit") then both_in audit_job (file_of first) (file_in second)
     else (if bytes_eq name (codes "online") then option_map online_job (alone (file_of first) second)
     else (if bytes_eq name (codes "live") then both_in live_job (file_of first) (file_in second)
-    else None)))))))
+    else (if bytes_eq name (codes "serve") then both_in serve_job (file_of first) (file_in second)
+    else None))))))))
 
 -- The job of a command that takes one file, and none where the name is no such command's.
 abbrev pub file_job : Text → Text → Option Job
@@ -93,7 +97,8 @@ abbrev pub files_job : Text → Text → Text → Option Job
 files_job name trace other = if bytes_eq name (codes "check") then Some (check_job trace other)
     else (if bytes_eq name (codes "audit") then Some (audit_job trace other)
     else (if bytes_eq name (codes "live") then Some (live_job trace other)
-    else None))
+    else (if bytes_eq name (codes "serve") then Some (serve_job trace other)
+    else None)))
 
 -- the job of the names by their places, where COMMAND and FIRST stand
 abbrev pub job_in : Option Text → Option Text → Option Text → Option Job
@@ -110,8 +115,9 @@ trace_name (classes_job trace) = trace
 trace_name (audit_job trace journal) = trace
 trace_name (online_job trace) = trace
 trace_name (live_job trace script) = trace
+trace_name (serve_job trace order) = trace
 
--- the name of the report or of the printed journal that a job reads, if it reads one
+-- the name of the report, the printed journal or the order that a job reads, if it reads one
 abbrev pub report_name : Job → Option Text
 report_name (plan_job trace) = None
 report_name (check_job trace report) = Some report
@@ -121,6 +127,7 @@ report_name (classes_job trace) = None
 report_name (audit_job trace journal) = Some journal
 report_name (online_job trace) = None
 report_name (live_job trace script) = None
+report_name (serve_job trace order) = Some order
 
 -- the name of the script that a job reads, if it reads one
 abbrev pub script_name : Job → Option Text
@@ -132,3 +139,9 @@ script_name (classes_job trace) = None
 script_name (audit_job trace journal) = None
 script_name (online_job trace) = None
 script_name (live_job trace script) = Some script
+script_name (serve_job trace order) = None
+
+-- the name of the order that a job reads, if it reads one
+abbrev pub order_name : Job → Option Text
+order_name (serve_job trace order) = Some order
+order_name job = None

@@ -23,6 +23,8 @@ pub enum Job<'a> {
     Online { trace: &'a str },
     /// `live TRACE SCRIPT` carries out a script of clients over a trace.
     Live { trace: &'a str, script: &'a str },
+    /// `serve TRACE ORDER` serves the coflows of a trace in a given order.
+    Serve { trace: &'a str, order: &'a str },
 }
 
 /// The job of the command of this name and the words behind it. `None` where there is no such command, or it does not take them.
@@ -69,6 +71,10 @@ fn job_of_files<'a>(name: &str, trace: &'a str, other: &'a str) -> Option<Job<'a
         "live" => Some(Job::Live {
             trace,
             script: other,
+        }),
+        "serve" => Some(Job::Serve {
+            trace,
+            order: other,
         }),
         _ => None,
     }

@@ -20,7 +20,7 @@ use Rattle.report_text.proofs.TextLaws.{reports_are_one}
 use Rattle.report_text.specs.declared.value.Report.{Report}
 use Rattle.report_text.specs.Reading.{IsBadAt, IsTextOf}
 use Rattle.schedule_model.specs.RunList.{slots_in}
-use Rattle.command_files.proofs.GoodFacts.{files_end, no_script, text_is_good}
+use Rattle.command_files.proofs.GoodFacts.{files_end, no_order, no_script, text_is_good}
 use Rattle.command_files.proofs.InputFacts.{weights_one}
 use Rattle.command_files.proofs.ShelfFacts.{if_some}
 use Rattle.command_files.proofs.FileTurns.{done_in_turn}
@@ -172,7 +172,8 @@ files_past : (before now : ℕ) (t : Told) (new : Option Told) (said : PictureSa
     AreGoodFiles said t → IsStill before now → s ≡ status.NoMemory
 files_past before now t new said s cause (table, report) still =
     files_end before now t new (check_of said) s cause table
-    (text_is_good IsTextOf IsBadAt (λ bytes r line is bad. bad.no_text r is) (bytes_if t (Some said.report)) report) (no_script (check_of said) t refl) still
+    (text_is_good IsTextOf IsBadAt (λ bytes r line is bad. bad.no_text r is) (bytes_if t (Some said.report)) report) (no_script (check_of said) t refl)
+    (no_order (check_of said) t refl) still
 
 pub ends_at_files : (before now : ℕ) (old new : Option Told) (by said : PictureSaid) (s : Status) (answer : PictureStatus) → by ≡ said →
     HasCauseInFiles IsBadAt before now old new (check_of by) s → IsSomeAnd old (CallFor said answer) → IsStill before now → (Ended s ≡ answer) ⊎ (Ended s ≡ Ended status.NoMemory)

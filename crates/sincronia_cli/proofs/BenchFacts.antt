@@ -1,7 +1,7 @@
 -- What a command does to the bench: whether there is a text decides it, and the job of the words.
 use Rattle.std.proofs.Common.{◌≡◌, ℕ, inl, inr, List, Option, ap, drop, subst, sym, take, ◌∙◌}
 use Rattle.command_words.specs.Jobs.{Job}
-use Rattle.command_words.specs.Jobs.Job.{audit_job, check_job, classes_job, compare_job, live_job, make_job, online_job, plan_job}
+use Rattle.command_words.specs.Jobs.Job.{audit_job, check_job, classes_job, compare_job, live_job, make_job, online_job, plan_job, serve_job}
 use Rattle.command_words.specs.Line.{Text}
 use Rattle.command_words.specs.Words.{IsWords, Said}
 use Rattle.command_words.proofs.OneMeaning.{words_one}
@@ -46,6 +46,7 @@ text_by S (check_job trace report) told said bench s text (answer, is, checks) =
 text_by S (make_job seed) told said bench s text outcome = subst HasText (sym outcome.0) tt
 text_by S (compare_job trace) told said bench s text outcome = subst HasText (sym outcome.0) tt
 text_by S (classes_job trace) told said bench s text outcome = subst HasText (sym outcome.0) tt
+text_by S (serve_job trace order) told said bench s text outcome = subst HasText (sym outcome.0) tt
 text_by S (online_job trace) told said bench s text outcome = subst HasText (sym outcome.0) tt
 text_by S (live_job trace script) told said bench s text outcome = subst HasText (sym outcome.0) tt
 text_by S (audit_job trace journal) told said bench s text (answer, is, audits) = of_answer answer s is
@@ -64,6 +65,7 @@ no_text before now old new said (status.BadTrace fault) cause text = text
 no_text before now old new said (status.BadWeights fault) cause text = text
 no_text before now old new said (status.BadReport line) cause text = text
 no_text before now old new said (status.BadScript line field) cause text = text
+no_text before now old new said (status.BadOrder fault) cause text = text
 no_text before now old new said (status.Limit which count) cause text = text
 no_text before now old new said (status.ReadFault count) cause text = text
 no_text before now old new said (status.WriteFault count) cause text = cause
@@ -81,6 +83,7 @@ none_by F (make_job seed) before now old new said s cause text =
     of_served (λ port. Serves (F port) (make_job seed) old said) (λ (x : Status). HasText x → ⊥) s (λ t. t) (λ port count t. t) cause text
 none_by F (compare_job trace) before now old new said s cause text = no_text before now old new said s cause text
 none_by F (classes_job trace) before now old new said s cause text = no_text before now old new said s cause text
+none_by F (serve_job trace order) before now old new said s cause text = no_text before now old new said s cause text
 none_by F (online_job trace) before now old new said s (inl cause) text = no_text before now old new said s cause text
 none_by F (online_job trace) before now old new said s (inr (inl cause)) text =
     let (port, count, is, p) = by_wire (λ port. Serves (F port) (online_job trace) old said) s cause in

@@ -2,7 +2,7 @@
 use Rattle.std.proofs.Common.{◌≡◌, ℕ, inl, inr, subst}
 use Rattle.std.specs.Prelude.{Option}
 use Rattle.command_words.specs.Jobs.{Job}
-use Rattle.command_words.specs.Jobs.Job.{audit_job, check_job, classes_job, compare_job, live_job, make_job, online_job, plan_job}
+use Rattle.command_words.specs.Jobs.Job.{audit_job, check_job, classes_job, compare_job, live_job, make_job, online_job, plan_job, serve_job}
 use Rattle.command_words.specs.Words.{Said}
 use Rattle.outside.specs.Shelf.{Told}
 use Rattle.trace_reader.specs.declared.fault.TraceFault.{TraceFault}
@@ -27,6 +27,7 @@ usage_by F (make_job seed) before now old new said (inl h) = absurd h
 usage_by F (make_job seed) before now old new said (inr h) = absurd h
 usage_by F (compare_job trace) before now old new said h = h
 usage_by F (classes_job trace) before now old new said h = h
+usage_by F (serve_job trace order) before now old new said h = h
 usage_by F (online_job trace) before now old new said (inl h) = h
 usage_by F (online_job trace) before now old new said (inr (inl h)) = absurd h
 usage_by F (online_job trace) before now old new said (inr (inr h)) = absurd h
@@ -50,6 +51,7 @@ bad_trace_by F (make_job seed) before now old new said fault (inl h) = absurd h
 bad_trace_by F (make_job seed) before now old new said fault (inr h) = absurd h
 bad_trace_by F (compare_job trace) before now old new said fault h = (tt, h)
 bad_trace_by F (classes_job trace) before now old new said fault h = (tt, h)
+bad_trace_by F (serve_job trace order) before now old new said fault h = (tt, h)
 bad_trace_by F (online_job trace) before now old new said fault (inl h) = (tt, h)
 bad_trace_by F (online_job trace) before now old new said fault (inr (inl h)) = absurd h
 bad_trace_by F (online_job trace) before now old new said fault (inr (inr h)) = absurd h
@@ -73,6 +75,7 @@ bad_weights_by F (make_job seed) before now old new said fault (inl h) = absurd 
 bad_weights_by F (make_job seed) before now old new said fault (inr h) = absurd h
 bad_weights_by F (compare_job trace) before now old new said fault h = (tt, h)
 bad_weights_by F (classes_job trace) before now old new said fault h = (tt, h)
+bad_weights_by F (serve_job trace order) before now old new said fault h = (tt, h)
 bad_weights_by F (online_job trace) before now old new said fault (inl h) = (tt, h)
 bad_weights_by F (online_job trace) before now old new said fault (inr (inl h)) = absurd h
 bad_weights_by F (online_job trace) before now old new said fault (inr (inr h)) = absurd h
@@ -96,6 +99,7 @@ read_fault_by F (make_job seed) before now old new said count (inl h) = absurd h
 read_fault_by F (make_job seed) before now old new said count (inr h) = absurd h
 read_fault_by F (compare_job trace) before now old new said count h = (tt, h)
 read_fault_by F (classes_job trace) before now old new said count h = (tt, h)
+read_fault_by F (serve_job trace order) before now old new said count h = (tt, h)
 read_fault_by F (online_job trace) before now old new said count (inl h) = (tt, h)
 read_fault_by F (online_job trace) before now old new said count (inr (inl h)) = absurd h
 read_fault_by F (online_job trace) before now old new said count (inr (inr h)) = absurd h
@@ -118,6 +122,7 @@ has_text (status.BadTrace a) is = absurd is
 has_text (status.BadWeights a) is = absurd is
 has_text (status.BadReport a) is = absurd is
 has_text (status.BadScript a b) is = absurd is
+has_text (status.BadOrder a) is = absurd is
 has_text (status.Limit a b) is = absurd is
 has_text (status.ReadFault a) is = absurd is
 has_text (status.WriteFault a) is = tt

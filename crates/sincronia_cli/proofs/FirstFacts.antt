@@ -1,13 +1,13 @@
 -- What the files of a command call for is one, and the command ends by it.
 use Rattle.std.proofs.Common.{◌≡◌, ◌+◌, ℕ, inl, inr, List, Option, Some, None, refl, sym, subst, ◌∙◌, ap, arith}
 use Rattle.std.specs.Prelude.{◌⊎◌, IfSome, IsSomeAnd}
-use Rattle.coflow_units.specs.declared.limits.TheConstants.{MAX_REPORT, MAX_TEXT}
+use Rattle.coflow_units.specs.declared.limits.TheConstants.{MAX_TEXT}
 use Rattle.coflow_units.specs.declared.quantity.Quantity.{Quantity}
 use Rattle.coflow_units.specs.declared.quantity.Quantity.TheVariants as quantity
 use Rattle.coflow_units.specs.declared.trace.CoflowLine.{CoflowLine}
 use Rattle.coflow_units.specs.declared.trace.Trace.{Trace}
 use Rattle.command_words.specs.Jobs.{Job, report_name, script_name, trace_name}
-use Rattle.command_words.specs.Jobs.Job.{audit_job, check_job, classes_job, compare_job, live_job, make_job, online_job, plan_job}
+use Rattle.command_words.specs.Jobs.Job.{audit_job, check_job, classes_job, compare_job, live_job, make_job, online_job, plan_job, serve_job}
 use Rattle.command_words.specs.Line.{Text}
 use Rattle.command_words.specs.Words.{IsWords, Said}
 use Rattle.command_words.proofs.OneMeaning.{words_one}
@@ -34,15 +34,16 @@ use Rattle.command_files.specs.InputCauses.{GiveTable, LimitCause}
 use Rattle.command_files.specs.InputCauses.LimitCause.{in_table, in_trace, in_weights}
 use Rattle.command_files.specs.Inputs.{GiveWeights, IsTraceText, bytes_if}
 use Rattle.sincronia_cli.specs.Outcome.{IsOutcome}
+use Rattle.command_files.specs.Limits.{most_bytes}
 use Rattle.command_files.specs.ReportCauses.{IsBadReport, IsLongReport}
 use Rattle.command_jobs.specs.Online.{FilesPublishMore, PublishesFew, PublishesOver}
 use Rattle.command_jobs.specs.Serving.{Serves, Service}
 use Rattle.command_files.specs.TraceCauses.{HasTraceFault, IsTooLong, IsTraceForm}
 use Rattle.command_files.specs.WeightsCauses.{AreTooLong, IsFaultOf, IsWeightsForm}
-use Rattle.command_files.proofs.JobFacts.{bad_line_one}
+use Rattle.command_files.proofs.JobFacts.{bad_bytes, bad_line_one}
 use Rattle.command_jobs.proofs.EndCauses.{by_epochs, by_wire}
-use Rattle.sincronia_cli.proofs.BeyondFacts.{Beyond, ScriptStops, alone_is_good, beyond_one, is_given, nothing_beyond}
-use Rattle.sincronia_cli.proofs.BeyondFacts.Beyond.{in_script, too_much, too_often}
+use Rattle.sincronia_cli.proofs.BeyondFacts.{Beyond, ScriptStops, alone_is_good, beyond_one, is_given, nothing_beyond, order_fault_short}
+use Rattle.sincronia_cli.proofs.BeyondFacts.Beyond.{in_order, in_script, too_much, too_often}
 use Rattle.sincronia_cli.proofs.BeyondFacts.ScriptStops.{bad_script, long_script}
 use Rattle.command_jobs.proofs.OnlineFacts.{over_is}
 use Rattle.command_files.proofs.GoodFacts.{HasNoFault, trace_is_good, weights_are_good}
@@ -71,9 +72,9 @@ data WeightsStop (file : Option (List ℕ)) (coflows : List CoflowLine) (s : Sta
 data TableStops (trace : Trace) (unit : ℕ) (s : Status) : Type 0 where
   over : (which : Quantity) (count : ℕ) → ExceedsLimit trace unit which count → s ≡ status.Limit which count → TableStops trace unit s
 
--- the report of this job, or its printed journal
+-- the report of this job, its printed journal or its order
 data ReportStops (k : Job) (report : Option (List ℕ)) (s : Status) : Type 0 where
-  long_report : IsLongReport report → s ≡ status.Limit quantity.Text (MAX_REPORT + 1) → ReportStops k report s
+  long_report : IsLongReport (most_bytes k) report → s ≡ status.Limit quantity.Text (most_bytes k + 1) → ReportStops k report s
   bad_report : (line : ℕ) → IsBadReport (IsBadFor k) report line → s ≡ status.BadReport line → ReportStops k report s
 
 -- ---- each step has one
@@ -114,8 +115,8 @@ report_one : (k : Job) (report : Option (List ℕ)) (a b : Status) → ReportSto
 report_one k None a b (long_report x e) y = absurd x
 report_one k None a b (bad_report m x e) y = absurd x
 report_one k (Some text) a b (long_report x e) (long_report y f) = e ∙ sym f
-report_one k (Some text) a b (long_report x e) (bad_report m (short, bad) f) = absurd (omega (arith, x, short))
-report_one k (Some text) a b (bad_report m (short, bad) f) (long_report x e) = absurd (omega (arith, x, short))
+report_one k (Some text) a b (long_report x e) (bad_report m (short, bad) f) = absurd (omega (arith, x, short, bad_bytes k text m bad))
+report_one k (Some text) a b (bad_report m (short, bad) f) (long_report x e) = absurd (omega (arith, x, short, bad_bytes k text m bad))
 report_one k (Some text) a b (bad_report m (short, bad) e) (bad_report n (low, wrong) f) =
     let one : m ≡ n = bad_line_one k text m n bad wrong in
     e ∙ ap (λ k. status.BadReport k) one ∙ sym f
@@ -134,9 +135,9 @@ weights_end file coflows list a (bad_weights f h e) good = weights_are_good file
 table_ends : (trace : List ℕ) (file : Option (List ℕ)) (unit : ℕ) (a : Status) → TableStops (trace_of trace) unit a → GiveTable trace file unit → ⊥
 table_ends trace file unit a (over which count x e) good = good.fits which count x
 
-report_ends : (k : Job) (report : Option (List ℕ)) (a : Status) → ReportStops k report a → HasNoFault (IsBadFor k) report → ⊥
+report_ends : (k : Job) (report : Option (List ℕ)) (a : Status) → ReportStops k report a → HasNoFault (IsBadFor k) (most_bytes k) report → ⊥
 report_ends k None a (long_report x e) good = x
-report_ends k (Some text) a (long_report x e) good = good.fits quantity.Text (MAX_REPORT + 1) (refl, refl, x)
+report_ends k (Some text) a (long_report x e) good = good.fits quantity.Text (most_bytes k + 1) (refl, refl, x)
 report_ends k report a (bad_report line x e) good = good.line line x
 
 -- ---- the steps in turn; the last one is what the job finds beyond trace, weights, table and report, and this holds of its status
@@ -146,8 +147,8 @@ data Stops (k : Job) (trace : List ℕ) (file : Option (List ℕ)) (unit : ℕ) 
   at_weights : IsTraceText trace → WeightsStop file (trace_of trace).coflows s → Stops k trace file unit report More s
   at_table : IsTraceText trace → (list : List ℕ) → GiveWeights file (trace_of trace).coflows list → TableStops (trace_of trace) unit s → Stops k trace file unit report More s
   at_report : GiveTable trace file unit → ReportStops k report s → Stops k trace file unit report More s
-  beyond : GiveTable trace file unit → HasNoFault (IsBadFor k) report → More s → Stops k trace file unit report More s
-  at_end : GiveTable trace file unit → HasNoFault (IsBadFor k) report → ((t : Status) → More t → ⊥) → s ≡ status.Ok → Stops k trace file unit report More s
+  beyond : GiveTable trace file unit → HasNoFault (IsBadFor k) (most_bytes k) report → More s → Stops k trace file unit report More s
+  at_end : GiveTable trace file unit → HasNoFault (IsBadFor k) (most_bytes k) report → ((t : Status) → More t → ⊥) → s ≡ status.Ok → Stops k trace file unit report More s
 
 module _ (k : Job) (trace : List ℕ) (file : Option (List ℕ)) (unit : ℕ) (report : Option (List ℕ)) (More : Status → Type 0) (one : (a b : Status) → More a → More b → a ≡ b) where
   abbrev coflows : List CoflowLine
@@ -226,6 +227,7 @@ stops_of words said t (status.BadReport line) is (table, bad) = at_report table 
 stops_of words said t (status.BadScript line field) is (x, bad) =
     let stops : ScriptStops x.given.table.ids (bytes_if t (script_name said.job)) (status.BadScript line field) = bad_script (script_fault.Bad line field) bad refl in
     beyond x.given (alone_is_good said t (is_given said t (script_name said.job) x.given.table.ids (status.BadScript line field) stops)) (in_script x stops)
+stops_of words said t (status.BadOrder f) is (form, (g, bad)) = beyond g (order_fault_short said t g.table.ids f bad) (in_order g f bad refl)
 stops_of words said t (status.Limit which count) is (inr (epochs, many)) =
     let (trace, same, more) = over_is said t said.job count many in
     beyond more.given (other_is_good said t (online_job trace) same more.given) (too_often count many (ap (λ w. status.Limit w count) epochs))
@@ -261,8 +263,9 @@ files_end_by : (words : List Text) (said : Said) (before now : ℕ) (t : Told) (
     HasFilesCause before now (Some t) new said s → IsFirstCause said t cause → EndsBy said.job cause s ⊎ IsInterrupted s
 files_end_by words said before now t new (status.BadTrace f) cause is why x = by_cause words said t (status.BadTrace f) cause is why x refl
 files_end_by words said before now t new (status.BadWeights f) cause is why x = by_cause words said t (status.BadWeights f) cause is why x refl
-files_end_by words said before now t new (status.BadReport line) cause is why x = by_cause words said t (status.BadReport line) cause is why.1 x refl
+files_end_by words said before now t new (status.BadReport line) cause is why x = by_cause words said t (status.BadReport line) cause is why.2 x refl
 files_end_by words said before now t new (status.BadScript line field) cause is why x = by_cause words said t (status.BadScript line field) cause is why.1 x refl
+files_end_by words said before now t new (status.BadOrder f) cause is why x = by_cause words said t (status.BadOrder f) cause is (why.0, why.2) x refl
 files_end_by words said before now t new (status.Limit which count) cause is why x = by_cause words said t (status.Limit which count) cause is (inl why.1) x refl
 files_end_by words said before now t new (status.ReadFault count) cause is why x = inr tt
 files_end_by words said before now t new status.NoMemory cause is why x = inr tt
@@ -295,6 +298,7 @@ of_files F (check_job trace report) before now old new said s reads why = inl wh
 of_files F (make_job seed) before now old new said s reads why = absurd reads
 of_files F (compare_job trace) before now old new said s reads why = inl why
 of_files F (classes_job trace) before now old new said s reads why = inl why
+of_files F (serve_job trace order) before now old new said s reads why = inl why
 of_files F (audit_job trace journal) before now old new said s reads why = inl why
 
 pub first_ends : (F : ℕ → Service → Type 0) (words : List Text) (by said : Said) (before now : ℕ) (old new : Option Told) (s cause : Status) → IsWords words by →

@@ -1,20 +1,22 @@
 -- What is to be written, by the command of the words.
 use Rattle.std.proofs.Common.{◌≡◌, ℕ, inl, inr, List, refl, subst, sym}
 use Rattle.std.specs.Prelude.{IfSome, None, Option, Some}
-use Rattle.command_words.specs.Jobs.{Job, report_name, script_name}
-use Rattle.command_words.specs.Jobs.Job.{audit_job, check_job, classes_job, compare_job, live_job, make_job, online_job, plan_job}
+use Rattle.command_words.specs.Jobs.{Job, order_name, report_name, script_name}
+use Rattle.command_words.specs.Jobs.Job.{audit_job, check_job, classes_job, compare_job, live_job, make_job, online_job, plan_job, serve_job}
 use Rattle.command_words.specs.Line.{Text}
 use Rattle.command_words.specs.Words.{IsWords, Said}
 use Rattle.command_words.proofs.OneMeaning.{words_one}
 use Rattle.flow_table.specs.Table.{TableFacts}
+use Rattle.orders.specs.declared.fault.OrderFault.{OrderFault}
 use Rattle.outside.specs.Shelf.{Told}
 use Rattle.rankers.specs.Meaning.{Meaning}
 use Rattle.command_files.specs.declared.status.Status.{Status}
 use Rattle.command_files.specs.declared.status.Status.TheVariants as status
 use Rattle.sincronia_cli.specs.Causes.{CauseBy, HasCauseOf}
 use Rattle.command_files.specs.JobCauses.{FilesReportFault, HasFilesCause}
-use Rattle.command_files.specs.Causes.{FilesBadScript, FilesLimit, IsGiven}
+use Rattle.command_files.specs.Causes.{FilesBadOrder, FilesBadScript, FilesLimit, IsGiven}
 use Rattle.command_files.specs.Limits.{MayLimit}
+use Rattle.command_files.specs.OrderCauses.{IsOrderForm}
 use Rattle.coflow_units.specs.declared.quantity.Quantity.{Quantity}
 use Rattle.command_jobs.specs.Online.{CommandLimit, FilesPublishMore, PublishesOver}
 use Rattle.sincronia_cli.specs.Command.{IsCommand, ReadsFiles}
@@ -40,6 +42,7 @@ of_files F (make_job seed) before now old new said line (inl h) = absurd h
 of_files F (make_job seed) before now old new said line (inr h) = absurd h
 of_files F (compare_job trace) before now old new said line h = h
 of_files F (classes_job trace) before now old new said line h = h
+of_files F (serve_job trace order) before now old new said line h = h
 of_files F (online_job trace) before now old new said line (inl h) = h
 of_files F (online_job trace) before now old new said line (inr (inl h)) = absurd h
 of_files F (online_job trace) before now old new said line (inr (inr h)) = absurd h
@@ -58,6 +61,7 @@ script_of_files F (make_job seed) before now old new said line field (inl h) = a
 script_of_files F (make_job seed) before now old new said line field (inr h) = absurd h
 script_of_files F (compare_job trace) before now old new said line field h = h
 script_of_files F (classes_job trace) before now old new said line field h = h
+script_of_files F (serve_job trace order) before now old new said line field h = h
 script_of_files F (online_job trace) before now old new said line field (inl h) = h
 script_of_files F (online_job trace) before now old new said line field (inr (inl h)) = absurd h
 script_of_files F (online_job trace) before now old new said line field (inr (inr h)) = absurd h
@@ -69,6 +73,30 @@ pub bad_script_given : (F : ℕ → Service → Type 0) (said : Said) (before no
     HasCauseOf F before now old new said s → s ≡ status.BadScript line field → IsGiven (script_name said.job) × IfSome old (FilesBadScript said line field)
 bad_script_given F said before now old new line field s cause is =
     script_of_files F said.job before now old new said line field (subst (λ (x : Status). HasCauseOf F before now old new said x) is cause)
+
+-- ---- an order that is bad
+
+order_of_files : (F : ℕ → Service → Type 0) (k : Job) (before now : ℕ) (old new : Option Told) (said : Said) (fault : OrderFault) →
+    CauseBy F k before now old new said (status.BadOrder fault) → HasFilesCause before now old new said (status.BadOrder fault)
+order_of_files F (plan_job trace) before now old new said fault (inl h) = h
+order_of_files F (plan_job trace) before now old new said fault (inr h) = absurd h
+order_of_files F (check_job trace report) before now old new said fault h = h
+order_of_files F (make_job seed) before now old new said fault (inl h) = absurd h
+order_of_files F (make_job seed) before now old new said fault (inr h) = absurd h
+order_of_files F (compare_job trace) before now old new said fault h = h
+order_of_files F (classes_job trace) before now old new said fault h = h
+order_of_files F (online_job trace) before now old new said fault (inl h) = h
+order_of_files F (online_job trace) before now old new said fault (inr (inl h)) = absurd h
+order_of_files F (online_job trace) before now old new said fault (inr (inr h)) = absurd h
+order_of_files F (live_job trace script) before now old new said fault (inl h) = h
+order_of_files F (live_job trace script) before now old new said fault (inr h) = absurd h
+order_of_files F (audit_job trace journal) before now old new said fault h = h
+order_of_files F (serve_job trace order) before now old new said fault h = h
+
+pub bad_order_given : (F : ℕ → Service → Type 0) (said : Said) (before now : ℕ) (old new : Option Told) (fault : OrderFault) (s : Status) →
+    HasCauseOf F before now old new said s → s ≡ status.BadOrder fault → IsOrderForm fault × IsGiven (order_name said.job) × IfSome old (FilesBadOrder said fault)
+bad_order_given F said before now old new fault s cause is =
+    order_of_files F said.job before now old new said fault (subst (λ (x : Status). HasCauseOf F before now old new said x) is cause)
 
 -- ---- a quantity that is outside its range
 
@@ -101,6 +129,8 @@ limit_by F (online_job trace) before now old new said which count same (inr (inr
 limit_by F (live_job trace script) before now old new said which count same (inl (may, limit)) =
     (tt, subst (λ (j : Job). MayLimit j which) same may, limited old said which count limit)
 limit_by F (live_job trace script) before now old new said which count same (inr h) = absurd h
+limit_by F (serve_job trace order) before now old new said which count same (may, limit) =
+    (tt, subst (λ (j : Job). MayLimit j which) same may, limited old said which count limit)
 limit_by F (audit_job trace journal) before now old new said which count same (may, limit) =
     (tt, subst (λ (j : Job). MayLimit j which) same may, limited old said which count limit)
 
@@ -112,6 +142,7 @@ limit_given F said before now old new which count s cause is =
 -- ---- a report or a printed journal that is bad, by what is said
 
 pub bad_report_given : (F : ℕ → Service → Type 0) (said : Said) (before now : ℕ) (old new : Option Told) (line : ℕ) (s : Status) →
-    HasCauseOf F before now old new said s → s ≡ status.BadReport line → IsGiven (report_name said.job) × IfSome old (FilesReportFault said line)
+    HasCauseOf F before now old new said s → s ≡ status.BadReport line →
+    IsGiven (report_name said.job) × (order_name said.job ≡ None) × IfSome old (FilesReportFault said line)
 bad_report_given F said before now old new line s cause is =
     of_files F said.job before now old new said line (subst (λ (x : Status). HasCauseOf F before now old new said x) is cause)

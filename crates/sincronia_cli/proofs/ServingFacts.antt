@@ -2,7 +2,7 @@
 use Rattle.std.proofs.Common.{◌≡◌, ℕ, ◌<◌, inl, inr, List, [], ◌∷◌, length, subst, sym, arith}
 use Rattle.std.specs.Prelude.{◌⊎◌, Option}
 use Rattle.command_words.specs.Jobs.{Job}
-use Rattle.command_words.specs.Jobs.Job.{audit_job, check_job, classes_job, compare_job, live_job, make_job, online_job, plan_job}
+use Rattle.command_words.specs.Jobs.Job.{audit_job, check_job, classes_job, compare_job, live_job, make_job, online_job, plan_job, serve_job}
 use Rattle.command_words.specs.Line.{Text}
 use Rattle.command_words.specs.Words.{IsWords, Said}
 use Rattle.flow_table.specs.Table.{TableFacts}
@@ -30,6 +30,7 @@ past_without (status.BadTrace fault) none past = past
 past_without (status.BadWeights fault) none past = past
 past_without (status.BadReport line) none past = past
 past_without (status.BadScript line field) none past = past
+past_without (status.BadOrder fault) none past = past
 past_without (status.Limit which count) none past = past
 past_without (status.ReadFault count) none past = past
 past_without status.NoMemory none past = past
@@ -58,6 +59,7 @@ module _ {W : Type 0} (before after : List W) (S : TableFacts → List (List ℕ
   unsent_by (check_job trace report) told said bench s text outcome (inr serves) none = absurd serves
   unsent_by (compare_job trace) told said bench s text (is, compares) sent none = well s is none
   unsent_by (classes_job trace) told said bench s text (is, classes) sent none = well s is none
+  unsent_by (serve_job trace order) told said bench s text (is, serves) sent none = well s is none
   unsent_by (online_job trace) told said bench s text (is, run) sent none = well s is none
   unsent_by (live_job trace script) told said bench s text (is, run) sent none = well s is none
   unsent_by (audit_job trace journal) told said bench s text outcome (inl same) none = same
@@ -93,6 +95,7 @@ module _ {W : Type 0} (faults : W → ℕ) (runs : W → Option (List (ℕ × �
     of_job (check_job trace report) none = absurd none
     of_job (compare_job trace) none = absurd none
     of_job (classes_job trace) none = absurd none
+    of_job (serve_job trace order) none = absurd none
     of_job (audit_job trace journal) none = absurd none
     of_job (online_job trace) (inl none) = absurd none
     of_job (online_job trace) (inr (inl why)) = why

@@ -2,7 +2,7 @@
 use Rattle.std.proofs.Common.{◌≡◌, IfErr, ℕ, List, Option, Result, Ok, Err, ap, refl, sym, subst}
 use Rattle.std.specs.Prelude.{◌⊎◌, Bool, IfSome, false, true}
 use Rattle.command_words.specs.Jobs.{Job, report_name, script_name}
-use Rattle.command_words.specs.Jobs.Job.{audit_job, check_job, classes_job, compare_job, live_job, make_job, online_job, plan_job}
+use Rattle.command_words.specs.Jobs.Job.{audit_job, check_job, classes_job, compare_job, live_job, make_job, online_job, plan_job, serve_job}
 use Rattle.command_words.specs.Line.{Text}
 use Rattle.command_words.specs.Words.{IsWords, Said}
 use Rattle.command_words.proofs.OneMeaning.{words_one}
@@ -51,6 +51,7 @@ text_reads S (check_job trace report) told said bench s text (answer, is, checks
 text_reads S (make_job seed) told said bench s text (is, made) read = subst IsReadFault is read
 text_reads S (compare_job trace) told said bench s text (is, compares) read = subst IsReadFault is read
 text_reads S (classes_job trace) told said bench s text (is, classes) read = subst IsReadFault is read
+text_reads S (serve_job trace order) told said bench s text (is, serves) read = subst IsReadFault is read
 text_reads S (online_job trace) told said bench s text (is, run) read = subst IsReadFault is read
 text_reads S (live_job trace script) told said bench s text (is, run) read = subst IsReadFault is read
 text_reads S (audit_job trace journal) told said bench s text (answer, is, audits) read = answer_reads answer s is read
@@ -72,6 +73,9 @@ module _ (old new : Option Told) (said : Said) (s : Status) where
   done_by (audit_job trace journal) is other good out same =
       done_in_turn old new said s (ap script_name is) other
       (if_some old (HasGoodFiles (audit_job trace journal) said) (FilesGiveTable said) (λ t (gives, text). gives) good) out
+  done_by (serve_job trace order) is other good out same =
+      done_in_turn old new said s (ap script_name is) other
+      (if_some old (HasGoodFiles (serve_job trace order) said) (FilesGiveTable said) (λ t (gives, text). gives) good) out
   done_by (make_job seed) is other good out same = subst (λ n. OfBoth old n (FilesInTurn said s)) (sym (same seed refl)) (untouched_in_turn old said s other)
 
   pub text_in_turn : (S : TableFacts → List (List ℕ) → Type 0) (bench : List Meaning) (text : List ℕ) → IsOutcome S old said bench s text →

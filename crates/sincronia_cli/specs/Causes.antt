@@ -1,7 +1,7 @@
 -- Why a command wrote nothing: what is wrong with its files, a wire that failed, or too many publishings.
 use Rattle.std.specs.Prelude.{ℕ, ◌⊎◌, Option, IfSome}
 use Rattle.command_words.specs.Jobs.{Job}
-use Rattle.command_words.specs.Jobs.Job.{audit_job, check_job, classes_job, compare_job, live_job, make_job, online_job, plan_job}
+use Rattle.command_words.specs.Jobs.Job.{audit_job, check_job, classes_job, compare_job, live_job, make_job, online_job, plan_job, serve_job}
 use Rattle.command_words.specs.Words.{Said}
 use Rattle.outside.specs.Shelf.{Told}
 use Rattle.command_files.specs.declared.status.Status.{Status}
@@ -30,6 +30,7 @@ CauseBy F (online_job trace) before now old new said status =
 CauseBy F (live_job trace script) before now old new said status =
     HasFilesCause before now old new said status
     ⊎ IsWireCause (λ port. Serves (F port) (live_job trace script) old said) status
+CauseBy F (serve_job trace order) before now old new said status = HasFilesCause before now old new said status
 
 -- what is said has this cause of the status
 abbrev pub HasCauseOf : (ℕ → Service → Type 0) → ℕ → ℕ → Option Told → Option Told → Said → Status → Type 0

@@ -1,7 +1,7 @@
 -- The words of each command.
 use Rattle.std.specs.Prelude.{◌≡◌, List}
 use Rattle.command_words.specs.Jobs.{Job}
-use Rattle.command_words.specs.Jobs.Job.{audit_job, check_job, classes_job, compare_job, live_job, make_job, online_job, plan_job}
+use Rattle.command_words.specs.Jobs.Job.{audit_job, check_job, classes_job, compare_job, live_job, make_job, online_job, plan_job, serve_job}
 use Rattle.command_words.specs.Line.{Text}
 use Rattle.command_words.specs.Words.{IsWords, Said}
 
@@ -20,6 +20,7 @@ ReadsFiles (classes_job trace) = Unit {0}
 ReadsFiles (audit_job trace journal) = Unit {0}
 ReadsFiles (online_job trace) = Unit {0}
 ReadsFiles (live_job trace script) = Unit {0}
+ReadsFiles (serve_job trace order) = Unit {0}
 
 -- the words are those of a command that reads files
 pub record IsOfFiles (words : List Text) (said : Said) : Type 0 where

@@ -1,7 +1,7 @@
 -- When a command ends well.
 use Rattle.std.specs.Prelude.{◌≡◌, ◌⊎◌, Option, IsSomeAnd}
 use Rattle.command_words.specs.Jobs.{Job}
-use Rattle.command_words.specs.Jobs.Job.{audit_job, check_job, classes_job, compare_job, live_job, make_job, online_job, plan_job}
+use Rattle.command_words.specs.Jobs.Job.{audit_job, check_job, classes_job, compare_job, live_job, make_job, online_job, plan_job, serve_job}
 use Rattle.command_words.specs.Words.{Said}
 use Rattle.outside.specs.Shelf.{Told}
 use Rattle.command_files.specs.declared.status.Status.{Status}
@@ -20,6 +20,7 @@ AreGood (audit_job trace journal) said told = IsSomeAnd told (HasGoodFiles (audi
 AreGood (online_job trace) said told =
     IsSomeAnd told (λ t. HasGoodFiles (online_job trace) said t × PublishesFew (online_job trace) said t)
 AreGood (live_job trace script) said told = IsSomeAnd told (HasGoodFiles (live_job trace script) said)
+AreGood (serve_job trace order) said told = IsSomeAnd told (HasGoodFiles (serve_job trace order) said)
 
 -- the job of the command was done, and its text was written whole
 abbrev pub EndsWell : Job → Status → Type 0
@@ -31,3 +32,4 @@ EndsWell (classes_job trace) status = status ≡ Ok
 EndsWell (audit_job trace journal) status = (status ≡ Ok) ⊎ (status ≡ No)
 EndsWell (online_job trace) status = status ≡ Ok
 EndsWell (live_job trace script) status = status ≡ Ok
+EndsWell (serve_job trace order) status = status ≡ Ok

@@ -4,12 +4,13 @@ use Rattle.command_words.specs.Jobs.{Job}
 use Rattle.command_words.specs.Words.{Said}
 use Rattle.outside.specs.Shelf.{Told}
 use Rattle.command_files.specs.declared.status.Status.{Status}
-use Rattle.command_files.specs.declared.status.Status.TheVariants.{BadReport, BadScript, BadTrace, BadWeights, Limit, NoMemory, Ok, ReadFault, WireFault, WriteFault}
-use Rattle.command_files.specs.Causes.{FilesBadScript, FilesTraceFault, FilesWeightsFault}
+use Rattle.command_files.specs.declared.status.Status.TheVariants.{BadOrder, BadReport, BadScript, BadTrace, BadWeights, Limit, NoMemory, Ok, ReadFault, WireFault, WriteFault}
+use Rattle.command_files.specs.Causes.{FilesBadOrder, FilesBadScript, FilesTraceFault, FilesWeightsFault}
 use Rattle.command_files.specs.JobCauses.{FilesReportFault}
 use Rattle.sincronia_cli.specs.Complete.{EndsWell}
 use Rattle.command_files.specs.GoodFiles.{HasGoodFiles}
 use Rattle.command_jobs.specs.Online.{CommandLimit, PublishesFew}
+use Rattle.command_files.specs.OrderCauses.{IsOrderForm}
 use Rattle.command_files.specs.TraceCauses.{IsTraceForm}
 use Rattle.command_files.specs.WeightsCauses.{IsWeightsForm}
 
@@ -21,6 +22,7 @@ IsFirstCause said t (BadWeights fault) = IsWeightsForm fault × FilesWeightsFaul
 IsFirstCause said t (Limit which count) = CommandLimit said which count t
 IsFirstCause said t (BadReport line) = FilesReportFault said line t
 IsFirstCause said t (BadScript line field) = FilesBadScript said line field t
+IsFirstCause said t (BadOrder fault) = IsOrderForm fault × FilesBadOrder said fault t
 IsFirstCause said t Ok = HasGoodFiles said.job said t × PublishesFew said.job said t
 IsFirstCause said t status = ⊥
 

@@ -1,7 +1,7 @@
 -- What each command has to write, and with which status its job ends then.
 use Rattle.std.specs.Prelude.{◌≡◌, ℕ, Bool, List, Option}
 use Rattle.command_words.specs.Jobs.{Job}
-use Rattle.command_words.specs.Jobs.Job.{audit_job, check_job, classes_job, compare_job, live_job, make_job, online_job, plan_job}
+use Rattle.command_words.specs.Jobs.Job.{audit_job, check_job, classes_job, compare_job, live_job, make_job, online_job, plan_job, serve_job}
 use Rattle.command_words.specs.Words.{Said}
 use Rattle.flow_table.specs.Table.{TableFacts}
 use Rattle.outside.specs.Shelf.{Told}
@@ -16,6 +16,7 @@ use Rattle.command_jobs.specs.Make.{MadeOf}
 use Rattle.command_files.specs.Written.{AppendsBeginning}
 use Rattle.command_jobs.specs.Live.{LiveOf}
 use Rattle.command_jobs.specs.Online.{OnlineOf}
+use Rattle.command_jobs.specs.Ordered.{ServedOf}
 use Rattle.command_jobs.specs.Plan.{PlanOf}
 
 module _ (Sent : TableFacts → List (List ℕ) → Type 0) where
@@ -32,6 +33,7 @@ module _ (Sent : TableFacts → List (List ℕ) → Type 0) where
       (yes : Bool) × (status ≡ status_for yes) × AuditOf told said yes text
   OutcomeBy (online_job trace) told said bench status text = (status ≡ Ok) × OnlineOf Sent told said text
   OutcomeBy (live_job trace script) told said bench status text = (status ≡ Ok) × LiveOf Sent told said text
+  OutcomeBy (serve_job trace order) told said bench status text = (status ≡ Ok) × ServedOf told said text
 
   -- what is said has this text and this status
   abbrev pub IsOutcome : Option Told → Said → List Meaning → Status → List ℕ → Type 0

@@ -18,7 +18,7 @@ ghost use Rattle.command_files.specs.Turns.{FilesInTurn};
 use command_files::{Outcome, Status};
 use command_jobs::{
     audit_journal, check_report, compare_rankers, list_classes, make_workload, plan_trace,
-    run_clients, run_online,
+    run_clients, run_online, serve_order,
 };
 use command_words::{Job, Words};
 use live_rounds::Gate;
@@ -96,5 +96,6 @@ pub fn carry_out<'a, R: Threads + Wait + Sync, H: Shelf, W: Wire + Send, G: Gate
             wires,
             gates,
         ),
+        Job::Serve { trace, order } => serve_order(alloc, trace, order, words.options, shelf),
     }
 }

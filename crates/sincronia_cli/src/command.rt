@@ -1,17 +1,18 @@
 //! The program's job, from the words to the written text.
-ghost use Rattle.std.specs.Prelude.{◌≡◌, ◌≢◌, ◌≤◌, ◌<◌, ◌^◌, ◌⊎◌, ℕ, [], All, Err, IfSome, IsSomeAnd, List, drop, length, map, take};
+ghost use Rattle.std.specs.Prelude.{◌≡◌, ◌≢◌, ◌≤◌, ◌<◌, ◌^◌, ◌⊎◌, ℕ, [], All, Err, IfSome, IsSomeAnd, List, None, drop, length, map, take};
 ghost use Rattle.coflow_units.specs.declared.limits.TheConstants.{MAX_CLIENTS, MAX_PORTS};
 ghost use Rattle.coflow_units.specs.declared.quantity.Quantity.{Quantity};
-ghost use Rattle.command_words.specs.Jobs.{report_name, script_name};
-ghost use Rattle.command_words.specs.Jobs.Job.{audit_job, check_job, classes_job, compare_job, live_job, make_job, online_job, plan_job};
+ghost use Rattle.command_words.specs.Jobs.{order_name, report_name, script_name};
+ghost use Rattle.command_words.specs.Jobs.Job.{audit_job, check_job, classes_job, compare_job, live_job, make_job, online_job, plan_job, serve_job};
 ghost use Rattle.command_words.specs.Line.{texts};
 ghost use Rattle.command_words.specs.Words.{IsWords, Said};
+ghost use Rattle.orders.specs.declared.fault.OrderFault.{OrderFault};
 ghost use Rattle.outside.specs.Rose.{Rose, RoseOnce};
 ghost use Rattle.rankers.specs.FactsTold.{FactsTold};
 ghost use Rattle.trace_reader.specs.declared.fault.TraceFault.{TraceFault};
 ghost use Rattle.weights.specs.declared.fault.WeightsFault.{WeightsFault};
 ghost use Rattle.hall_plan.specs.Sent.{SendsAll};
-ghost use Rattle.command_files.specs.Causes.{FileFailed, FilesBadScript, FilesTraceFault, FilesWeightsFault, IsGiven};
+ghost use Rattle.command_files.specs.Causes.{FileFailed, FilesBadOrder, FilesBadScript, FilesTraceFault, FilesWeightsFault, IsGiven};
 ghost use Rattle.command_files.specs.JobCauses.{FilesReportFault};
 ghost use Rattle.command_files.specs.Limits.{MayLimit};
 ghost use Rattle.sincronia_cli.specs.Command.{IsCommand, IsOfFiles};
@@ -28,10 +29,12 @@ ghost use Rattle.command_jobs.specs.Compare.{IsFactsOfFiles, WritesComparison};
 ghost use Rattle.command_jobs.specs.Live.{WritesLive};
 ghost use Rattle.command_jobs.specs.Make.{WritesMade};
 ghost use Rattle.command_jobs.specs.Online.{WritesOnline};
+ghost use Rattle.command_jobs.specs.Ordered.{WritesServed};
 ghost use Rattle.command_jobs.specs.Plan.{WritesPlan};
 ghost use Rattle.command_jobs.specs.Audit.{WritesSound};
 ghost use Rattle.command_jobs.specs.Check.{WritesYes};
 ghost use Rattle.command_files.specs.Shelves.{KeepsFiles, OfBoth, ReadsOut};
+ghost use Rattle.command_files.specs.OrderCauses.{IsOrderForm};
 ghost use Rattle.command_files.specs.TraceCauses.{IsTraceForm};
 ghost use Rattle.command_files.specs.Turns.{FilesInTurn};
 ghost use Rattle.command_files.specs.WeightsCauses.{IsWeightsForm};
@@ -97,6 +100,12 @@ use std::thread::Threads;
 ///   a port with a served flow no later in the line; no flow stands twice in a slot, nor in more slots than it has units.
 ///   It says nothing of who asked, nor of when.
 ///
+/// - `serve TRACE ORDER` reads an order of the trace's coflows, one id a line, and writes a report of version 2. Its places,
+///   bound and slack are those of `plan`, so the bound is at most the cost of every valid schedule, and its completions,
+///   cost and runs are those of the schedule that serves the coflows in that order. `--weights` and `--unit` are as for
+///   `plan`. Nothing is sent. A `check` of the report answers `no ratio` where the cost is above four times the bound and
+///   the slack.
+///
 /// There is a wire for each ingress port that a trace may have, 1025 of them; further ones are left alone. `plan`, `make`,
 /// `online` and `live` alone use them. Where they tell what they accepted, at `Ok` and `WriteFault` each of them has the
 /// units of the schedule that begin at its port, each once, behind what it had. At `WireFault`, `NoMemory` and a `Limit` of
@@ -115,12 +124,12 @@ use std::thread::Threads;
 /// taken before the first byte.
 ///
 /// Files are looked at one after another, and the first fault ends the job: the trace is read, and then its grammar is
-/// tested; so are the weights; then the table of flows is made; then the report, the printed journal or the script is read,
-/// and its grammar is tested. A file is started only where nothing that is looked at before it is wrong, and in the place of a
-/// weights file, a report or a script that the words do not name none is started. No call that failed is tried again: the
-/// shelf's count of faults rises by one at `ReadFault`, the sink's at `WriteFault`, each up to 2^64 - 1, where it stops,
-/// and neither does at any other status. After a unit that a wire did not accept the run is closed and no further one is
-/// opened.
+/// tested; so are the weights; then the table of flows is made; then the report, the printed journal, the order or the
+/// script is read, and its grammar is tested. A file is started only where nothing that is looked at before it is
+/// wrong, and in the place of a weights file, a report, an order or a script that the words do not name none is
+/// started. No call that failed is tried again: the shelf's count of faults rises by one at `ReadFault`, the sink's at
+/// `WriteFault`, each up to 2^64 - 1, where it stops, and neither does at any other status. After a unit that a wire
+/// did not accept the run is closed and no further one is opened.
 ///
 /// What is said here of the bytes of files, of the files that are looked at and of what is written holds where shelf and
 /// sink tell it, as those in memory do. The others tell their counts of faults alone.
@@ -137,13 +146,15 @@ use std::thread::Threads;
 ///   lines before it.
 /// - `BadScript`: trace and weights give a table within its limits, of at most 2^20 units, and the file is no script over its
 ///   coflows. The fault is its first in reading order, told by its line and field.
+/// - `BadOrder`: trace and weights give a table within its limits, and the file is no order of its coflows. The fault is its
+///   first in reading order.
 /// - `Limit`: a quantity of the files is outside its range, and nothing that is looked at before it is wrong. It does
 ///   not come for `make`. For `live` the units are at most 2^20, which is looked at before the script is read. Those of
 ///   clients and of commands come for `live` alone. That of epochs comes for `online` alone, where nothing is wrong with
 ///   the files and more than 8192 orders would be published; its count is 8193.
 /// - `ReadFault`: a call to the shelf failed, and its count of faults rose. `count` is 1. The file is the trace, or the
-///   weights where the trace has no fault, or the report, the printed journal or the script where trace and weights give a
-///   table within its limits.
+///   weights where the trace has no fault, or the report, the printed journal, the order or the script where trace and
+///   weights give a table within its limits.
 /// - `WriteFault`: a call to the sink failed, and its count of faults rose. `count` is 1. A beginning of the text was
 ///   written, which is shorter than the text.
 /// - `WireFault`: in `plan`, `make`, `online` or `live` the wire of this ingress port did not accept a unit, and its count of
@@ -205,6 +216,8 @@ pub fn sincronia<R: Threads + Wait + Sync, H: Shelf, K: Sink, W: Wire + Send, G:
         bench.new.items ≡ bench.old.items }
     ensures classes { (said : Said) (trace : List ℕ) → IsCommand (classes_job trace) (texts words.now) said →
         result ≡ Status.Ok → WritesClasses (H.told shelf.old) said (K.taken out.old) (K.taken out.new) }
+    ensures serve { (said : Said) (trace order : List ℕ) → IsCommand (serve_job trace order) (texts words.now) said →
+        result ≡ Status.Ok → WritesServed (H.told shelf.old) said (K.taken out.old) (K.taken out.new) }
     ensures complete { (said : Said) → IsWords (texts words.now) said →
         AreGood said.job said (H.told shelf.old) → IsStill (H.faults shelf.old) (H.faults shelf.new) →
         IsStill (K.faults out.old) (K.faults out.new) → AreStill W.faults wires.old.items wires.new.items →
@@ -228,10 +241,13 @@ pub fn sincronia<R: Threads + Wait + Sync, H: Shelf, K: Sink, W: Wire + Send, G:
         IfSome (H.told shelf.old) (FilesWeightsFault said fault) }
     ensures bad_report { (line : ℕ) → result ≡ Status.BadReport line →
         (said : Said) × IsWords (texts words.now) said × IsGiven (report_name said.job) ×
-        IfSome (H.told shelf.old) (FilesReportFault said line) }
+        (order_name said.job ≡ None) × IfSome (H.told shelf.old) (FilesReportFault said line) }
     ensures bad_script { (line field : ℕ) → result ≡ Status.BadScript line field →
         (said : Said) × IsWords (texts words.now) said × IsGiven (script_name said.job) ×
         IfSome (H.told shelf.old) (FilesBadScript said line field) }
+    ensures bad_order { (fault : OrderFault) → result ≡ Status.BadOrder fault →
+        (said : Said) × IsWords (texts words.now) said × IsGiven (order_name said.job) × IsOrderForm fault ×
+        IfSome (H.told shelf.old) (FilesBadOrder said fault) }
     ensures limit { (which : Quantity) (count : ℕ) → result ≡ Status.Limit which count →
         (said : Said) × IsOfFiles (texts words.now) said × MayLimit said.job which ×
         IfSome (H.told shelf.old) (CommandLimit said which count) }

@@ -1,5 +1,6 @@
 //! Tables of texts of one kind, and what is told of each.
 use crate::numbers::{decimal_told, number_told};
+use crate::order_rows::order_told;
 use crate::rows::{is_told, parts_of};
 use crate::scripts::script_told;
 use crate::traces::trace_told;
@@ -14,6 +15,7 @@ pub(crate) enum Kind {
     Decimals,
     Traces,
     Weights,
+    Orders,
     Scripts,
 }
 
@@ -24,6 +26,7 @@ fn answer(rt: &impl Abort, alloc: Global, kind: Kind, text: &[u8]) -> String {
         Kind::Decimals => decimal_told(rt, alloc, text),
         Kind::Traces => trace_told(rt, alloc, text),
         Kind::Weights => weights_told(rt, alloc, text),
+        Kind::Orders => order_told(rt, alloc, text),
         Kind::Scripts => script_told(rt, alloc, text),
     }
 }

@@ -54,6 +54,7 @@ fn tell_job(rt: &impl Abort, text: &mut String, job: Job<'_>) {
         Job::Audit { trace, journal } => tell_names(rt, text, "Audit", trace, journal),
         Job::Online { trace } => tell_names(rt, text, "Online", trace, "-"),
         Job::Live { trace, script } => tell_names(rt, text, "Live", trace, script),
+        Job::Serve { trace, order } => tell_names(rt, text, "Serve", trace, order),
     }
 }
 
@@ -143,7 +144,10 @@ live t s => Live t s - 1 4 1024 1 8 8
 live t s --run 4 => Live t s - 1 4 1024 4 8 8
 --run=1099511627776 live --weights w t --agents 64 s --unit 2 => Live t s w 2 64 1024 1099511627776 8 8
 live -- -t -s => Live -t -s - 1 4 1024 1 8 8
-live t s --epoch 5 --slot-ms 6 --classes 7 => Live t s - 1 4 5 1 6 7";
+live t s --epoch 5 --slot-ms 6 --classes 7 => Live t s - 1 4 5 1 6 7
+serve a b => Serve a b - 1 4 1024 1 8 8
+--unit 2 serve a --weights=w b => Serve a b w 2 4 1024 1 8 8
+serve -- -a -b => Serve -a -b - 1 4 1024 1 8 8";
 
 #[test]
 fn lines_that_are_read(rt: HostRuntime) {
@@ -261,7 +265,14 @@ live t s --run 1099511627777
 live t s --run 1 --run 1
 live t s --agents 65
 live t s --epoch 0
-lives t s";
+lives t s
+serve
+serve a
+serve a b c
+serve a -
+serve - b
+serve a b --unit 0
+server a b";
 
 #[test]
 fn lines_that_are_refused(rt: HostRuntime) {

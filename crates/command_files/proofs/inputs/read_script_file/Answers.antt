@@ -1,7 +1,7 @@
 use Rattle.std.proofs.Common.{◌≡◌}
 use Rattle.workload.specs.Script.{script_of}
 use Rattle.command_files.specs.Faults.{IsStatusOfScript}
-use Rattle.command_files.proofs.ScriptFacts.{script_cause, script_of_file}
+use Rattle.command_files.proofs.ScriptFacts.{script_cause}
 use Rattle.command_files.proofs.ShelfFacts.{passed_as}
 use Rattle.command_files.proofs.inputs.read_script_file.Goals as goal
 

@@ -1,4 +1,4 @@
-use Rattle.std.proofs.Common.{◌≡◌, refl, subst}
+use Rattle.std.proofs.Common.{refl, subst}
 use Rattle.command_words.specs.Jobs.Job.{live_job}
 use Rattle.command_words.specs.Words.{Said, said_with}
 use Rattle.online_check.specs.AnyReport.{IsAnyBadAt}

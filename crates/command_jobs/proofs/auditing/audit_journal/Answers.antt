@@ -51,7 +51,7 @@ returns-in-Err-clause-cause g c =
     (g.H.Shelf.told c.args.shelf.now) (g.H.Shelf.told c.read_input.new.shelf) (g.H.Shelf.told c.read_journal_file.new.shelf)
     (said_with (audit_job c.args.trace.now c.args.journal.now) c.args.options) c.args.journal.now
     c.in-Err.status
-    refl c.read_input.ensures.later c.read_input.ensures.keeps c.in_ok-input.ensures.table c.in-Err.ensures.cause)
+    refl refl c.read_input.ensures.later c.read_input.ensures.keeps c.in_ok-input.ensures.table c.in-Err.ensures.cause)
 
 pub returns-in-Err-clause-in_turn : goal.returns-in-Err-clause-in_turn
 returns-in-Err-clause-in_turn g c =

@@ -47,7 +47,7 @@ returns-in-Err-clause-cause g c =
     (g.H.Shelf.told c.args.shelf.now) (g.H.Shelf.told c.read_input.new.shelf) (g.H.Shelf.told c.read_any_report_file.new.shelf)
     (said_with (check_job c.args.trace.now c.args.report.now) c.args.options) c.args.report.now
     c.in-Err.status
-    refl c.read_input.ensures.later c.read_input.ensures.keeps c.in_ok-input.ensures.table c.in-Err.ensures.cause)
+    refl refl c.read_input.ensures.later c.read_input.ensures.keeps c.in_ok-input.ensures.table c.in-Err.ensures.cause)
 
 pub returns-in-Err-clause-in_turn : goal.returns-in-Err-clause-in_turn
 returns-in-Err-clause-in_turn g c =

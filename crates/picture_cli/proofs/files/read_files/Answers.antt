@@ -27,7 +27,7 @@ returns-in_err-report-clause-cause g c =
     (from_report IsBadAt (g.H.Shelf.faults c.args.shelf.now) (g.H.Shelf.faults c.read_input.new.shelf) (g.H.Shelf.faults c.read_report_file.new.shelf)
     (g.H.Shelf.told c.args.shelf.now) (g.H.Shelf.told c.read_input.new.shelf) (g.H.Shelf.told c.read_report_file.new.shelf) (check_of (said_by c.args.words))
     c.args.words.report.now c.in_err-report.field-0.0
-    refl c.read_input.ensures.later c.read_input.ensures.keeps c.in_ok-input.ensures.table c.in_err-report.ensures.cause)
+    refl refl c.read_input.ensures.later c.read_input.ensures.keeps c.in_ok-input.ensures.table c.in_err-report.ensures.cause)
 
 pub returns-in_err-report-clause-in_turn : goal.returns-in_err-report-clause-in_turn
 returns-in_err-report-clause-in_turn g c =

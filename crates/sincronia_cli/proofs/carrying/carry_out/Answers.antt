@@ -43,3 +43,6 @@ returns-in-Online-clause-left g c = (0, refl, λ k d lt. absurd (omega (arith, l
 
 pub returns-in-Live-clause-left : goal.returns-in-Live-clause-left
 returns-in-Live-clause-left g c = (0, refl, λ k d lt. absurd (omega (arith, lt)))
+
+pub returns-in-Serve-clause-left : goal.returns-in-Serve-clause-left
+returns-in-Serve-clause-left g c = (0, refl, λ k d lt. absurd (omega (arith, lt)))

@@ -11,12 +11,12 @@ use Rattle.sincronia_cli.proofs.BenchFacts.{cause_has_no_text, job_of, left_by, 
 use Rattle.sincronia_cli.proofs.CompleteFacts.{good_files_end}
 use Rattle.sincronia_cli.proofs.FirstFacts.{first_ends, text_ends}
 use Rattle.command_jobs.proofs.OnlineFacts.{few_for}
-use Rattle.sincronia_cli.proofs.OutcomeFacts.{bad_report_given, bad_script_given, limit_given}
+use Rattle.sincronia_cli.proofs.OutcomeFacts.{bad_order_given, bad_report_given, bad_script_given, limit_given}
 use Rattle.command_files.proofs.SinkFacts.{begun}
 use Rattle.sincronia_cli.proofs.ServingFacts.{none_failed, past_by_wire, sent_by, unsent_for, wire_failed}
 use Rattle.sincronia_cli.proofs.TurnFacts.{done_by, out_for, text_in_turn, turn_for}
 use Rattle.sincronia_cli.proofs.WrittenFacts.{classes_written, comparison_written, live_written, made_written, no_written}
-use Rattle.sincronia_cli.proofs.WrittenFacts.{online_written, plan_written, sound_written, yes_written}
+use Rattle.sincronia_cli.proofs.WrittenFacts.{online_written, plan_written, served_written, sound_written, yes_written}
 use Rattle.command_files.specs.Ends.{IsWriteFault}
 use Rattle.sincronia_cli.proofs.FilesCauses.{bad_trace_given, bad_weights_given, no_write_fault, read_fault_given, usage_given}
 use Rattle.sincronia_cli.proofs.command.sincronia.Goals as goal
@@ -29,7 +29,14 @@ returns-in-Err-clause-bad_report g c = λ line e.
     let bad = bad_report_given (Stops g.W.Wire.faults g.W.Wire.runs c.args.wires.now.items c.carry_out.new.wires.items)
     (said_by c.in-Ok.words) (g.H.Shelf.faults c.args.shelf.now) (g.H.Shelf.faults c.carry_out.new.shelf)
     (g.H.Shelf.told c.args.shelf.now) (g.H.Shelf.told c.carry_out.new.shelf) line c.in-Err.status c.in-Err.ensures.cause e in
-    (said_by c.in-Ok.words, c.in-Ok.ensures.said, bad.0, bad.1)
+    (said_by c.in-Ok.words, c.in-Ok.ensures.said, bad.0, bad.1, bad.2)
+
+pub returns-in-Err-clause-bad_order : goal.returns-in-Err-clause-bad_order
+returns-in-Err-clause-bad_order g c = λ fault e.
+    let bad = bad_order_given (Stops g.W.Wire.faults g.W.Wire.runs c.args.wires.now.items c.carry_out.new.wires.items)
+    (said_by c.in-Ok.words) (g.H.Shelf.faults c.args.shelf.now) (g.H.Shelf.faults c.carry_out.new.shelf)
+    (g.H.Shelf.told c.args.shelf.now) (g.H.Shelf.told c.carry_out.new.shelf) fault c.in-Err.status c.in-Err.ensures.cause e in
+    (said_by c.in-Ok.words, c.in-Ok.ensures.said, bad.1, bad.0, bad.2)
 
 pub returns-in-Err-clause-bad_script : goal.returns-in-Err-clause-bad_script
 returns-in-Err-clause-bad_script g c = λ line field e.
@@ -41,25 +48,22 @@ returns-in-Err-clause-bad_script g c = λ line field e.
 pub returns-clause-plan : goal.returns-clause-plan
 returns-clause-plan g c = λ said trace is e.
     plan_written _ (SendsAll g.W.Wire.runs c.args.wires.now.items c.carry_out.new.wires.items) (texts c.args.words.now) (said_by c.in-Ok.words) said
-    (g.H.Shelf.told c.args.shelf.now)
-    (map (λ b. (goal.Ranker-dyn g (b.vtable, b.value)).meaning b.value) c.args.bench.now.items) c.in-Ok-carry_out.outcome.status c.in-Ok-carry_out.outcome.text
-    c.in-Ok-writer.writer (g.K.Sink.taken c.args.out.now) (g.K.Sink.taken c.write_to.new.sink) c.in-Ok-write_to.field-0 trace
+    (g.H.Shelf.told c.args.shelf.now) (map (λ b. (goal.Ranker-dyn g (b.vtable, b.value)).meaning b.value) c.args.bench.now.items) c.in-Ok-carry_out.outcome.status
+    c.in-Ok-carry_out.outcome.text c.in-Ok-writer.writer (g.K.Sink.taken c.args.out.now) (g.K.Sink.taken c.write_to.new.sink) c.in-Ok-write_to.field-0 trace
     c.in-Ok.ensures.said is c.in-Ok-carry_out.ensures.outcome c.in-Ok-writer.ensures c.in-Ok-write_to.ensures.taken
 
 pub returns-clause-online : goal.returns-clause-online
 returns-clause-online g c = λ said trace is e.
     online_written _ (SendsAll g.W.Wire.runs c.args.wires.now.items c.carry_out.new.wires.items) (texts c.args.words.now) (said_by c.in-Ok.words) said
-    (g.H.Shelf.told c.args.shelf.now)
-    (map (λ b. (goal.Ranker-dyn g (b.vtable, b.value)).meaning b.value) c.args.bench.now.items) c.in-Ok-carry_out.outcome.status c.in-Ok-carry_out.outcome.text
-    c.in-Ok-writer.writer (g.K.Sink.taken c.args.out.now) (g.K.Sink.taken c.write_to.new.sink) c.in-Ok-write_to.field-0 trace
+    (g.H.Shelf.told c.args.shelf.now) (map (λ b. (goal.Ranker-dyn g (b.vtable, b.value)).meaning b.value) c.args.bench.now.items) c.in-Ok-carry_out.outcome.status
+    c.in-Ok-carry_out.outcome.text c.in-Ok-writer.writer (g.K.Sink.taken c.args.out.now) (g.K.Sink.taken c.write_to.new.sink) c.in-Ok-write_to.field-0 trace
     c.in-Ok.ensures.said is c.in-Ok-carry_out.ensures.outcome c.in-Ok-writer.ensures c.in-Ok-write_to.ensures.taken
 
 pub returns-clause-live : goal.returns-clause-live
 returns-clause-live g c = λ said trace script is e.
     live_written _ (SendsAll g.W.Wire.runs c.args.wires.now.items c.carry_out.new.wires.items) (texts c.args.words.now) (said_by c.in-Ok.words) said
-    (g.H.Shelf.told c.args.shelf.now)
-    (map (λ b. (goal.Ranker-dyn g (b.vtable, b.value)).meaning b.value) c.args.bench.now.items) c.in-Ok-carry_out.outcome.status c.in-Ok-carry_out.outcome.text
-    c.in-Ok-writer.writer (g.K.Sink.taken c.args.out.now) (g.K.Sink.taken c.write_to.new.sink) c.in-Ok-write_to.field-0 trace script
+    (g.H.Shelf.told c.args.shelf.now) (map (λ b. (goal.Ranker-dyn g (b.vtable, b.value)).meaning b.value) c.args.bench.now.items) c.in-Ok-carry_out.outcome.status
+    c.in-Ok-carry_out.outcome.text c.in-Ok-writer.writer (g.K.Sink.taken c.args.out.now) (g.K.Sink.taken c.write_to.new.sink) c.in-Ok-write_to.field-0 trace script
     c.in-Ok.ensures.said is c.in-Ok-carry_out.ensures.outcome c.in-Ok-writer.ensures c.in-Ok-write_to.ensures.taken
 
 pub returns-in-Err-clause-gates : goal.returns-in-Err-clause-gates
@@ -98,26 +102,23 @@ returns-in-Err-clause-limit g c = λ which count e.
 pub returns-clause-yes : goal.returns-clause-yes
 returns-clause-yes g c = λ said trace report is e.
     yes_written _ (SendsAll g.W.Wire.runs c.args.wires.now.items c.carry_out.new.wires.items) (texts c.args.words.now) (said_by c.in-Ok.words) said
-    (g.H.Shelf.told c.args.shelf.now)
-    (map (λ b. (goal.Ranker-dyn g (b.vtable, b.value)).meaning b.value) c.args.bench.now.items) c.in-Ok-carry_out.outcome.status c.in-Ok-carry_out.outcome.text
-    c.in-Ok-writer.writer (g.K.Sink.taken c.args.out.now) (g.K.Sink.taken c.write_to.new.sink) c.in-Ok-write_to.field-0
+    (g.H.Shelf.told c.args.shelf.now) (map (λ b. (goal.Ranker-dyn g (b.vtable, b.value)).meaning b.value) c.args.bench.now.items) c.in-Ok-carry_out.outcome.status
+    c.in-Ok-carry_out.outcome.text c.in-Ok-writer.writer (g.K.Sink.taken c.args.out.now) (g.K.Sink.taken c.write_to.new.sink) c.in-Ok-write_to.field-0
     c.yes_bounds_released_schedules.ensures.total trace report
     c.in-Ok.ensures.said is c.in-Ok-carry_out.ensures.outcome e c.in-Ok-writer.ensures c.in-Ok-write_to.ensures.taken
 
 pub returns-clause-audit_yes : goal.returns-clause-audit_yes
 returns-clause-audit_yes g c = λ said trace journal is e.
     sound_written _ (SendsAll g.W.Wire.runs c.args.wires.now.items c.carry_out.new.wires.items) (texts c.args.words.now) (said_by c.in-Ok.words) said
-    (g.H.Shelf.told c.args.shelf.now)
-    (map (λ b. (goal.Ranker-dyn g (b.vtable, b.value)).meaning b.value) c.args.bench.now.items) c.in-Ok-carry_out.outcome.status c.in-Ok-carry_out.outcome.text
-    c.in-Ok-writer.writer (g.K.Sink.taken c.args.out.now) (g.K.Sink.taken c.write_to.new.sink) c.in-Ok-write_to.field-0 trace journal
+    (g.H.Shelf.told c.args.shelf.now) (map (λ b. (goal.Ranker-dyn g (b.vtable, b.value)).meaning b.value) c.args.bench.now.items) c.in-Ok-carry_out.outcome.status
+    c.in-Ok-carry_out.outcome.text c.in-Ok-writer.writer (g.K.Sink.taken c.args.out.now) (g.K.Sink.taken c.write_to.new.sink) c.in-Ok-write_to.field-0 trace journal
     c.in-Ok.ensures.said is c.in-Ok-carry_out.ensures.outcome e c.in-Ok-writer.ensures c.in-Ok-write_to.ensures.taken
 
 pub returns-clause-make : goal.returns-clause-make
 returns-clause-make g c = λ said seed is e.
     made_written _ (SendsAll g.W.Wire.runs c.args.wires.now.items c.carry_out.new.wires.items) (texts c.args.words.now) (said_by c.in-Ok.words) said
-    (g.H.Shelf.told c.args.shelf.now)
-    (map (λ b. (goal.Ranker-dyn g (b.vtable, b.value)).meaning b.value) c.args.bench.now.items) c.in-Ok-carry_out.outcome.status c.in-Ok-carry_out.outcome.text
-    c.in-Ok-writer.writer (g.K.Sink.taken c.args.out.now) (g.K.Sink.taken c.write_to.new.sink) c.in-Ok-write_to.field-0 seed
+    (g.H.Shelf.told c.args.shelf.now) (map (λ b. (goal.Ranker-dyn g (b.vtable, b.value)).meaning b.value) c.args.bench.now.items) c.in-Ok-carry_out.outcome.status
+    c.in-Ok-carry_out.outcome.text c.in-Ok-writer.writer (g.K.Sink.taken c.args.out.now) (g.K.Sink.taken c.write_to.new.sink) c.in-Ok-write_to.field-0 seed
     c.in-Ok.ensures.said is c.in-Ok-carry_out.ensures.outcome c.in-Ok-writer.ensures c.in-Ok-write_to.ensures.taken
 
 pub returns-in-Err-Usage-clause-complete : goal.returns-in-Err-Usage-clause-complete
@@ -226,17 +227,22 @@ returns-in_default-write_to-clause-beginning g c = λ count e. (
 pub returns-clause-compare : goal.returns-clause-compare
 returns-clause-compare g c = λ said trace is e.
     comparison_written _ (SendsAll g.W.Wire.runs c.args.wires.now.items c.carry_out.new.wires.items) (texts c.args.words.now) (said_by c.in-Ok.words) said
-    (g.H.Shelf.told c.args.shelf.now)
-    (map (λ b. (goal.Ranker-dyn g (b.vtable, b.value)).meaning b.value) c.args.bench.now.items) c.in-Ok-carry_out.outcome.status c.in-Ok-carry_out.outcome.text
-    c.in-Ok-writer.writer (g.K.Sink.taken c.args.out.now) (g.K.Sink.taken c.write_to.new.sink) c.in-Ok-write_to.field-0 trace
+    (g.H.Shelf.told c.args.shelf.now) (map (λ b. (goal.Ranker-dyn g (b.vtable, b.value)).meaning b.value) c.args.bench.now.items) c.in-Ok-carry_out.outcome.status
+    c.in-Ok-carry_out.outcome.text c.in-Ok-writer.writer (g.K.Sink.taken c.args.out.now) (g.K.Sink.taken c.write_to.new.sink) c.in-Ok-write_to.field-0 trace
     c.in-Ok.ensures.said is c.in-Ok-carry_out.ensures.outcome c.in-Ok-writer.ensures c.in-Ok-write_to.ensures.taken
 
 pub returns-clause-classes : goal.returns-clause-classes
 returns-clause-classes g c = λ said trace is e.
     classes_written _ (SendsAll g.W.Wire.runs c.args.wires.now.items c.carry_out.new.wires.items) (texts c.args.words.now) (said_by c.in-Ok.words) said
-    (g.H.Shelf.told c.args.shelf.now)
-    (map (λ b. (goal.Ranker-dyn g (b.vtable, b.value)).meaning b.value) c.args.bench.now.items) c.in-Ok-carry_out.outcome.status c.in-Ok-carry_out.outcome.text
-    c.in-Ok-writer.writer (g.K.Sink.taken c.args.out.now) (g.K.Sink.taken c.write_to.new.sink) c.in-Ok-write_to.field-0 trace
+    (g.H.Shelf.told c.args.shelf.now) (map (λ b. (goal.Ranker-dyn g (b.vtable, b.value)).meaning b.value) c.args.bench.now.items) c.in-Ok-carry_out.outcome.status
+    c.in-Ok-carry_out.outcome.text c.in-Ok-writer.writer (g.K.Sink.taken c.args.out.now) (g.K.Sink.taken c.write_to.new.sink) c.in-Ok-write_to.field-0 trace
+    c.in-Ok.ensures.said is c.in-Ok-carry_out.ensures.outcome c.in-Ok-writer.ensures c.in-Ok-write_to.ensures.taken
+
+pub returns-clause-serve : goal.returns-clause-serve
+returns-clause-serve g c = λ said trace order is e.
+    served_written _ (SendsAll g.W.Wire.runs c.args.wires.now.items c.carry_out.new.wires.items) (texts c.args.words.now) (said_by c.in-Ok.words) said
+    (g.H.Shelf.told c.args.shelf.now) (map (λ b. (goal.Ranker-dyn g (b.vtable, b.value)).meaning b.value) c.args.bench.now.items) c.in-Ok-carry_out.outcome.status
+    c.in-Ok-carry_out.outcome.text c.in-Ok-writer.writer (g.K.Sink.taken c.args.out.now) (g.K.Sink.taken c.write_to.new.sink) c.in-Ok-write_to.field-0 trace order
     c.in-Ok.ensures.said is c.in-Ok-carry_out.ensures.outcome c.in-Ok-writer.ensures c.in-Ok-write_to.ensures.taken
 
 pub returns-in-Err-clause-empty : goal.returns-in-Err-clause-empty
