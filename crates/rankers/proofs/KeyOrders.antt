@@ -1,8 +1,9 @@
 -- Numbers by a key, and those of one key by number.
-use Rattle.std.proofs.Common.{◌≡◌, ◌≢◌, ℕ, ◌≤◌, ◌<◌, ◌⊎◌, inl, inr, Bool, true, false, List, [], ◌∷◌, length, get_or, Contains, refl, sym, subst, arith, zero, suc}
+use Rattle.std.proofs.Common.{◌≡◌, ◌≢◌, ℕ, ◌+◌, ◌*◌, ◌≤◌, ◌<◌, ◌⊎◌, inl, inr, Bool, true, false, List, [], ◌∷◌, length, get_or, Contains, refl, sym, ap, subst, arith, zero, suc}
 use Rattle.std.specs.Prelude.{All, AllPairs, if◌then◌else◌, nat_lt}
 use Rattle.std.specs.List.{range_with_len}
 use Rattle.std.specs.List.Sorted.{IsNonDecreasingBy, IsPermutation}
+use Rattle.std.proofs.Math.Nat.{mul-le-mul_right}
 use Rattle.std.proofs.lemmas.Bool.{cases_lt, ltb-false, ltb-true}
 use Rattle.std.proofs.lemmas.List.{ext_get_or}
 use Rattle.std.proofs.lemmas.List.Elements.{Contains-get_or}
@@ -14,30 +15,33 @@ use Rattle.coflow_units.proofs.Sums.{all_of_members, first_or_tail, in_first, in
 use Rattle.class_rates.specs.Classes.{ClassBefore}
 use Rattle.class_rates.proofs.ClassOrders.{before_as, head_before, no_later, order_is_one, tail_sorted}
 use Rattle.rankers.proofs.Moved.{moved_apart}
-use Rattle.rankers.specs.ByKey.{IsByKey, by_key, key_then_number, put_by_key}
+use Rattle.rankers.specs.ByKey.{IsByKey, by_key, put_by_key}
 
 -- ---- sorted by a number that holds the key and the number
 
-keys_before : (key : ℕ → ℕ) (x y : ℕ) → x < 4294967296 → y < 4294967296 → x ≢ y → key_then_number (key x) x ≤ key_then_number (key y) y → ClassBefore key x y
-keys_before key x y lx ly ne le = elim (cases_lt (key x) (key y)) [
+keys_before : (base : ℕ) (key : ℕ → ℕ) (x y : ℕ) → x < base → y < base → x ≢ y → key x * base + x ≤ key y * base + y → ClassBefore key x y
+keys_before base key x y lx ly ne le = elim (cases_lt (key x) (key y)) [
   | inl lt ↦ inl lt
-  | inr ge ↦
-      let e : key x ≡ key y = omega (arith, le, ge, lx, ly) in
-      elim (cases_lt x y) [
-        | inl lt ↦ inr (e, lt)
-        | inr down ↦ absurd (ne (omega (arith, le, e, down)))
-      ]
+  | inr ge ↦ elim (cases_lt (key y) (key x)) [
+    | inl gt ↦ absurd (omega (arith, le, ly, mul-le-mul_right {m = key y + 1} {n = key x} base (omega (arith, gt))))
+    | inr up ↦
+        let e : key x ≡ key y = omega (arith, ge, up) in
+        elim (cases_lt x y) [
+          | inl lt ↦ inr (e, lt)
+          | inr down ↦ absurd (ne (omega (arith, le, ap (λ k. k * base) e, down)))
+        ]
+  ]
 ]
 
-pub sorted_by_key : (key : ℕ → ℕ) (n : ℕ) (out : List ℕ) → n ≤ 4294967296 → IsPermutation (range_with_len 0 n) out →
-    IsNonDecreasingBy (λ c. key_then_number (key c) c) out → IsByKey key n out
-sorted_by_key key n out few moved rises =
+sorted_by : (base : ℕ) (key : ℕ → ℕ) (n : ℕ) (out : List ℕ) → n ≤ base → IsPermutation (range_with_len 0 n) out → IsNonDecreasingBy (λ c. key c * base + c) out →
+    IsByKey key n out
+sorted_by base key n out few moved rises =
     let range = range_with_len 0 n in
     let back = λ (c : ℕ) (has : Contains out c). Contains-permutation out range c (IsPermutation-sym range out moved) has in
     let low = λ (k d : ℕ) (lt : k < length out). number_below 0 n (get_or out k d) (back (get_or out k d) (Contains-get_or out k d lt)) in
     let apart : AllPairs (λ x y. x ≢ y) out = moved_apart range out moved (pairs_from_apart range (numbers_apart 0 n)) in
     record {
-      sorted = λ i j d lt in'. keys_before key (get_or out i d) (get_or out j d) (omega (arith, few, low i d (omega (arith, lt, in')))) (omega (arith, few, low j d in'))
+      sorted = λ i j d lt in'. keys_before base key (get_or out i d) (get_or out j d) (omega (arith, few, low i d (omega (arith, lt, in')))) (omega (arith, few, low j d in'))
           (apart i j d lt in') (rises i j d (omega (arith, lt)) in');
       coflow = all_of_members (Contains range) out back;
       all = λ c has. Contains-permutation range out c moved has;
@@ -137,6 +141,12 @@ by_key_is key n = record {
 
 pub by_key_one : (key : ℕ → ℕ) (n : ℕ) (order : List ℕ) → IsByKey key n order → order ≡ by_key key n
 by_key_one key n order is = order_is_one (range_with_len 0 n) key order (by_key key n) is (by_key_is key n)
+
+-- the list that was sorted by a number that holds the key and the number
+pub sorted_is : (base : ℕ) (key : ℕ → ℕ) (n : ℕ) (before out : List ℕ) → n ≤ base → before ≡ range_with_len 0 n → IsPermutation before out →
+    IsNonDecreasingBy (λ c. key c * base + c) out → out ≡ by_key key n
+sorted_is base key n before out few numbered moved rises =
+    by_key_one key n out (sorted_by base key n out few (subst (λ (xs : List ℕ). IsPermutation xs out) numbered moved) rises)
 
 pub by_key_below : (key : ℕ → ℕ) (n most : ℕ) (order : List ℕ) → order ≡ by_key key n → n ≤ most → All (λ c. c < most) order
 by_key_below key n most order is le =

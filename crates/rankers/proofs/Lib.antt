@@ -8,6 +8,7 @@ pub mod OneRow
 pub mod OrderPermutations
 pub mod Permutations
 pub mod PlaceOrders
+pub mod RatioOrders
 pub mod RowFacts
 pub mod ServedOrders
 pub mod TableEnds

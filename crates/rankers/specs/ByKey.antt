@@ -24,3 +24,7 @@ key_in keys number = slice_index_or keys number 0
 -- a number that compares as the key, and then as the number below 2^32
 abbrev pub key_then_number : ℕ → ℕ → ℕ
 key_then_number key number = key * 2 ^ 32 + number
+
+-- a number that compares as the key, and then as the number of the coflow below 2^12
+abbrev pub key_then_coflow : ℕ → ℕ → ℕ
+key_then_coflow key coflow = key * 2 ^ 12 + coflow

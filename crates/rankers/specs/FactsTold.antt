@@ -1,7 +1,7 @@
 -- What a ranker is told of the coflows of a table.
 use Rattle.std.specs.Prelude.{◌≡◌, ℕ, ◌<◌, ◌≤◌, ◌^◌, List, All, length}
 use Rattle.std.specs.List.{slice_index_or}
-use Rattle.coflow_units.specs.declared.limits.TheConstants.{MAX_COFLOWS}
+use Rattle.coflow_units.specs.declared.limits.TheConstants.{MAX_COFLOWS, MAX_UNITS, MAX_WEIGHT}
 use Rattle.coflow_units.specs.Certificate.{Entry, order_of}
 use Rattle.coflow_units.specs.Ordering.{IsOrdering}
 use Rattle.class_rates.specs.Classes.{IsPermutation}
@@ -25,11 +25,13 @@ coflows_in f = length f.weights
 -- there is one of each for each coflow, and the numbers are within their limits
 pub record IsFacts (f : FactsTold) : Type 0 where
   pub few : coflows_in f ≤ MAX_COFLOWS
+  pub weight : All (λ w. w ≤ MAX_WEIGHT) f.weights
   pub arrivals_len : length f.arrivals ≡ coflows_in f
   pub arrival : All (λ a. a < 2 ^ 32) f.arrivals
   pub coflows : f.loads.coflows ≡ coflows_in f
   pub bottlenecks_len : length f.bottlenecks ≡ coflows_in f
   pub bottleneck : (c : ℕ) → c < coflows_in f → IsBottleneck f.loads c (slice_index_or f.bottlenecks c 0)
+  pub units : All (λ b. b ≤ MAX_UNITS) f.bottlenecks
   pub order_len : length f.order ≡ coflows_in f
   pub order_is : IsPermutation f.order
 

@@ -2,7 +2,7 @@
 use Rattle.std.specs.Prelude.{◌≡◌, ◌==◌, if◌then◌else◌, [], ◌∷◌}
 use Rattle.rankers.specs.FactsTold.{FactsTold}
 use Rattle.rankers.specs.ByKey.{by_key, key_in}
-use Rattle.rankers.specs.Kinds.{attained, bssi, fifo, sebf}
+use Rattle.rankers.specs.Kinds.{attained, bssi, fifo, sebf, wsebf}
 use Rattle.rankers.specs.Meaning.{Meaning, after_notes, after_question, answer_of}
 use Rattle.rankers.specs.Scores.{IsFirstUnfit}
 
@@ -22,6 +22,10 @@ three = record {
   order = 2 ∷ 1 ∷ 0 ∷ [];
 }
 
+-- the same coflows with ratios of a half, a half and 2
+abbrev pub weighted : FactsTold
+weighted = record three { weights = 8 ∷ 4 ∷ 1 ∷ [] }
+
 -- one that was asked, and told that the coflows ended in the slots 8, 2 and 6
 abbrev pub told : Meaning → Meaning
 told m = after_notes (after_question m three) (λ c. if c == 0 then 8 else (if c == 1 then 2 else 6)) (1 ∷ 2 ∷ 0 ∷ [])
@@ -30,6 +34,8 @@ told m = after_notes (after_question m three) (λ c. if c == 0 then 8 else (if c
 pub record Answers : Type 0 where
   pub of_bssi : answer_of bssi three ≡ 2 ∷ 1 ∷ 0 ∷ []
   pub of_sebf : answer_of sebf three ≡ 1 ∷ 2 ∷ 0 ∷ []
+  pub of_wsebf : answer_of wsebf three ≡ 1 ∷ 2 ∷ 0 ∷ []
+  pub of_wsebf_weighted : answer_of wsebf weighted ≡ 0 ∷ 1 ∷ 2 ∷ []
   pub of_fifo : answer_of fifo three ≡ 0 ∷ 2 ∷ 1 ∷ []
   pub of_attained : answer_of (attained (0 ∷ 0 ∷ 0 ∷ [])) three ≡ 0 ∷ 1 ∷ 2 ∷ []
   pub fifo_told : answer_of (told fifo) three ≡ 0 ∷ 2 ∷ 1 ∷ []

@@ -4,7 +4,39 @@ ghost use Rattle.std.specs.List.{range_with_len};
 ghost use Rattle.std.specs.List.Sorted.{IsNonDecreasingBy, IsPermutation};
 ghost use Rattle.rankers.specs.ByKey.{by_key, key_in, key_then_number};
 
-/// Fills `out` with the numbers from 0 on, by their keys, and those of one key by number. A number past the end of the keys has the key 0.
+/// Fills `out` with the numbers from 0 on, by their keys, and those of one key by number.
+///
+/// It is for rankers of one's own that go by one number of each coflow, the least first: `rank` fills its `out` with it. `keys` has the key of each coflow by number. A coflow past the end of the keys has the key 0,
+/// and keys past the last coflow are not looked at. `out` has one place for each coflow; what stood there is written over. It takes no memory. Contracts call such an order `by_key`.
+///
+/// A ranker that puts the first deadline first:
+///
+/// ```text
+/// #[derive(Drop)]
+/// pub struct Deadlines {
+///     slots: Vec<u64>,
+/// }
+///
+/// impl Ranker for Deadlines {
+///     ghost use Rattle.std.specs.Prelude.{codes};
+///     ghost use Rattle.rankers.specs.ByKey.{by_key, key_in};
+///     ghost use Rattle.rankers.specs.FactsTold.{coflows_in};
+///     ghost use Rattle.rankers.specs.Kinds.{fixed};
+///
+///     ghost meaning = { λ s. fixed (codes "deadlines") (λ facts. by_key (key_in s.slots.items) (coflows_in facts)) };
+///
+///     fn name(&self) -> &str {
+///         "deadlines"
+///     }
+///
+///     fn rank(&mut self, facts: &Facts, out: &mut [u32]) {
+///         let _few = facts.coflows(); // tells the proof that there are at most 4096
+///         fill_by_key(&self.slots, out);
+///     }
+///
+///     fn note(&mut self, _coflow: u32, _slot: u64) {}
+/// }
+/// ```
 pub fn fill_by_key(keys: &[u64], out: &mut [u32])
     requires { length out.old ≤ 2 ^ 32 }
     ensures order { out.new ≡ by_key (key_in keys.now) (length out.old) }
@@ -15,7 +47,7 @@ pub fn fill_by_key(keys: &[u64], out: &mut [u32])
 }
 
 /// Numbers the places from 0 on.
-fn number(out: &mut [u32])
+pub(crate) fn number(out: &mut [u32])
     requires { length out.old ≤ 2 ^ 32 }
     ensures { out.new ≡ range_with_len 0 (length out.old) }
 {
@@ -33,7 +65,7 @@ fn sort_by_key(keys: &[u64], numbers: &mut [u32])
 }
 
 /// The key of a number, 0 where it is past the end of the keys.
-fn key_in(keys: &[u64], number: u32) -> u64
+pub(crate) fn key_in(keys: &[u64], number: u32) -> u64
     ensures { result ≡ key_in keys.now number }
 {
     match keys.get(number as usize) {

@@ -2,18 +2,25 @@
 ghost use Rattle.std.specs.Prelude.{◌≡◌, ◌-◌, ◌^◌, ◌<◌, ◌≤◌, ℕ, All, IfOk, OnOk, length};
 ghost use Rattle.std.specs.List.{slice_index_or};
 ghost use Rattle.coflow_units.specs.declared.fabric.Port.{Port};
-ghost use Rattle.coflow_units.specs.declared.limits.TheConstants.{MAX_WEIGHT};
+ghost use Rattle.coflow_units.specs.declared.limits.TheConstants.{MAX_UNITS, MAX_WEIGHT};
 ghost use Rattle.flow_table.specs.Table.{IsTable};
 ghost use Rattle.port_load.specs.LoadTable.{HasLoads, load_at};
 ghost use Rattle.port_load.specs.Bottleneck.{IsBottleneck};
 ghost use Rattle.rankers.specs.FactsTold.{IsBssiOrder, IsFacts, IsFactsOf, coflows_in};
+ghost use Rattle.rankers.specs.Kinds.{ratio_in};
 
+use crate::by_key::key_in;
 use crate::order::{coflows_of, loads_of, order_of};
 use coflow_units::{NoMemory, Port};
 use flow_table::Table;
 use port_load::{Loads, bottleneck};
 use std::alloc::Global;
 use std::marker::Model;
+
+/// The parts of a ratio of 1: 2^64.
+const PARTS: u128 = 18_446_744_073_709_551_616;
+/// The ratio of a coflow of weight 0, above that of each coflow that has a weight: 2^105.
+const NO_RATIO: u128 = 40_564_819_207_303_340_847_894_502_572_032;
 
 /// What is known of the coflows of a table: their weights, arrivals and loads, and their order by bottleneck, select, scale, iterate. Coflows have the numbers from 0 on.
 #[derive(Drop)]
@@ -110,6 +117,18 @@ impl Facts {
         self.bottlenecks[coflow as usize]
     }
 
+    /// The greatest load of a coflow over its weight, in parts of 2^64, rounded down. A coflow of weight 0 has 2^105, and so has a number that is no coflow's.
+    pub(crate) fn ratio(&self, coflow: u32) -> u128
+        ensures ratio { result ≡ ratio_in self.now coflow }
+        ensures within { result ≤ 2 ^ 105 }
+    {
+        let weight = key_in(&self.weights, coflow);
+        if weight == 0 {
+            return NO_RATIO;
+        }
+        u128::from(key_in(&self.bottlenecks, coflow)) * PARTS / u128::from(weight)
+    }
+
     /// The coflow at a place of the order by bottleneck, select, scale, iterate; places count from 1.
     pub fn bssi(&self, place: u32) -> u32
         requires counted { 1 ≤ place }
@@ -162,6 +181,7 @@ fn measured(alloc: Global, table: &Table) -> Result<(Loads, Vec<u64>), NoMemory>
     ensures length { IfOk result (λ m. length m.1.items ≡ length table.now.ids) }
     ensures greatest { IfOk result (λ m. (c : ℕ) → c < length table.now.ids →
         IsBottleneck m.0 c (slice_index_or m.1.items c 0)) }
+    ensures small { IfOk result (λ m. All (λ b. b ≤ MAX_UNITS) m.1.items) }
 {
     let loads = loads_of(alloc, table)?;
     let bottlenecks = bottlenecks_of(alloc, &loads)?;

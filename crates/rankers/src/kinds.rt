@@ -3,6 +3,7 @@ ghost use Rattle.std.specs.Prelude.{◌≡◌, IfOk, replicate};
 ghost use Rattle.rankers.specs.Kinds.{attained};
 
 use crate::by_key::fill_by_key;
+use crate::by_ratio::fill_by_ratio;
 use crate::facts::Facts;
 use crate::ranker::Ranker;
 use coflow_units::NoMemory;
@@ -46,6 +47,28 @@ impl Ranker for Sebf {
     fn rank(&mut self, facts: &Facts, out: &mut [u32]) {
         let _few = facts.coflows();
         fill_by_key(facts.bottlenecks(), out);
+    }
+
+    fn note(&mut self, _coflow: u32, _slot: u64) {}
+}
+
+/// The smallest bottleneck over weight first, exactly, and equal ones by number: Varys' smallest effective bottleneck (Chowdhury, Zhong and Stoica, SIGCOMM 2014) for weighted coflows, as Smith's rule orders
+/// jobs of one machine (Smith, "Various optimizers for single-stage production", Naval Research Logistics Quarterly 3, 1956). A coflow of weight 0 comes after all others. Its name is `wsebf`.
+#[derive(Drop)]
+pub struct Wsebf;
+
+impl Ranker for Wsebf {
+    ghost use Rattle.rankers.specs.Kinds.{wsebf};
+
+    ghost meaning = { λ s. wsebf };
+
+    fn name(&self) -> &str {
+        "wsebf"
+    }
+
+    fn rank(&mut self, facts: &Facts, out: &mut [u32]) {
+        let _few = facts.coflows();
+        fill_by_ratio(facts, out);
     }
 
     fn note(&mut self, _coflow: u32, _slot: u64) {}

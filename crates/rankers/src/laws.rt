@@ -5,14 +5,15 @@ ghost use Rattle.coflow_units.specs.Schedule.{IsValid};
 ghost use Rattle.flow_table.specs.Table.{TableFacts, instance_of};
 ghost use Rattle.rankers.specs.ByKey.{IsByKey, by_key};
 ghost use Rattle.rankers.specs.Comparison.{IsBelowCosts, IsComparison};
-ghost use Rattle.rankers.specs.FactsTold.{FactsTold};
-ghost use Rattle.rankers.specs.Meaning.{Meaning};
+ghost use Rattle.rankers.specs.FactsTold.{FactsTold, IsFacts};
+ghost use Rattle.rankers.specs.Kinds.{GoesByRatio, wsebf};
+ghost use Rattle.rankers.specs.Meaning.{Meaning, answer_of};
 ghost use Rattle.rankers.specs.Rounds.{IsRounds, IsRowsFrom};
 ghost use Rattle.rankers.specs.Rows.{Answers, ByKeys, UnfitRows};
 ghost use Rattle.rankers.specs.declared.row.Row.{Row};
 ghost use Rattle.rankers.specs.declared.row.Scored.{Scored};
 ghost use Rattle.report_text.specs.declared.compared.Compare.{Compare};
-ghost use Rattle.std.specs.Prelude.{◌≡◌, ℕ, List, ◌≤◌};
+ghost use Rattle.std.specs.Prelude.{◌≡◌, ℕ, All, List, ◌≤◌};
 
 /// What the rounds of a ranker are worth depends on its own meaning and the facts alone: not on its place, nor on the other rankers.
 pub fn rounds_are_one()
@@ -34,6 +35,12 @@ pub fn by_key_is_one()
 pub fn rows_hold()
     ensures by_key { ByKeys }
     ensures answers { Answers }
+{}
+
+/// The answer of `wsebf` goes by bottleneck over weight exactly, where each coflow has a weight: the rounding of its keys changes no order.
+pub fn wsebf_goes_by_ratio()
+    ensures { (facts : FactsTold) → IsFacts facts → All (λ w. 1 ≤ w) facts.weights →
+        GoesByRatio facts (answer_of wsebf facts) }
 {}
 
 /// Each cost of a comparison is that of a valid schedule. So where the bound is at most the cost of every valid schedule, no cost of a row is below it.

@@ -2,6 +2,7 @@
 #![tactic(auto)]
 
 mod by_key;
+mod by_ratio;
 mod classing;
 mod comparing;
 mod facts;
@@ -14,10 +15,11 @@ mod rounds;
 mod row;
 mod scoring;
 
+pub use by_key::fill_by_key;
 pub use classing::classes_text;
 pub use comparing::compare;
 pub use facts::Facts;
-pub use kinds::{Attained, Bssi0, Fifo, Sebf};
+pub use kinds::{Attained, Bssi0, Fifo, Sebf, Wsebf};
 pub use order::{loads_of, order_of};
 pub use ranker::Ranker;
 pub use reporting::comparison_text;

@@ -12,6 +12,8 @@ pub returns-clause-answers : goal.returns-clause-answers
 returns-clause-answers c = record {
   of_bssi = refl;
   of_sebf = refl;
+  of_wsebf = refl;
+  of_wsebf_weighted = refl;
   of_fifo = refl;
   of_attained = refl;
   fifo_told = refl;

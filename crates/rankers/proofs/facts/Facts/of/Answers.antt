@@ -1,4 +1,5 @@
-use Rattle.std.proofs.Common.{◌≡◌, length, ap, sym, ◌∙◌, arith}
+use Rattle.std.proofs.Common.{◌≡◌, ◌≤◌, length, ap, sym, subst, ◌∙◌, arith}
+use Rattle.std.specs.Prelude.{All}
 use Rattle.rankers.proofs.Permutations.{bssi_permutation}
 use Rattle.rankers.proofs.facts.Facts.of.Goals as goal
 
@@ -9,11 +10,13 @@ invariant_of-result c =
     let weights : length c.in_ok-weights.weights.items ≡ length c.args.table.now.ids = ap (λ xs. length xs) c.in_ok-weights.ensures.items ∙ c.requires.count in
     record {
       few = omega (arith, weights, table.few_coflows);
+      weight = subst (All (λ w. w ≤ 4294967296)) (sym c.in_ok-weights.ensures.items) c.requires.weights;
       arrivals_len = ap (λ xs. length xs) c.in_ok-arrivals.ensures.arrivals ∙ table.arrivals ∙ sym weights;
       arrival = c.in_ok-arrivals.ensures.small;
       coflows = c.in_ok-loads.ensures.coflows_are ∙ sym weights;
       bottlenecks_len = c.in_ok-loads.ensures.length ∙ sym weights;
       bottleneck = λ k lt. c.in_ok-loads.ensures.greatest k (omega (arith, lt, weights));
+      units = c.in_ok-loads.ensures.small;
       order_len = count ∙ sym weights;
       order_is = whole;
     }
