@@ -1,5 +1,5 @@
 //! Rankers of the tests.
-use rankers::{Facts, Fifo, Ranker};
+use rankers::{Facts, Fifo, Ranker, fill_by_key};
 use std::cell::Cell;
 use std::rc::Rc;
 
@@ -59,4 +59,30 @@ impl Ranker for Counting {
     fn note(&mut self, _coflow: u32, _slot: u64) {
         raise(&self.tally.told);
     }
+}
+
+/// The first deadline first, as the comment of `fill_by_key` has it.
+#[derive(Drop)]
+pub(crate) struct Deadlines {
+    pub(crate) slots: Vec<u64>,
+}
+
+impl Ranker for Deadlines {
+    ghost use Rattle.std.specs.Prelude.{codes};
+    ghost use Rattle.rankers.specs.ByKey.{by_key, key_in};
+    ghost use Rattle.rankers.specs.FactsTold.{coflows_in};
+    ghost use Rattle.rankers.specs.Kinds.{fixed};
+
+    ghost meaning = { λ s. fixed (codes "deadlines") (λ facts. by_key (key_in s.slots.items) (coflows_in facts)) };
+
+    fn name(&self) -> &str {
+        "deadlines"
+    }
+
+    fn rank(&mut self, facts: &Facts, out: &mut [u32]) {
+        let _few = facts.coflows(); // tells the proof that there are at most 4096
+        fill_by_key(&self.slots, out);
+    }
+
+    fn note(&mut self, _coflow: u32, _slot: u64) {}
 }

@@ -1,5 +1,5 @@
-//! Tests of tables, schedules, served orders, rankers and epochs. That their definitions give what was worked out by hand is
-//! said by laws for some rows; here are more of them, and that a call that may answer want of memory answers where memory is
+//! Tests of tables, runs, schedules, served orders, rankers and epochs. That their definitions give what was worked out by hand
+//! is said by laws for some rows; here are more of them, and that a call that may answer want of memory answers where memory is
 //! there. Flows are told by their traces.
 #![tactic(auto)]
 
@@ -16,9 +16,15 @@ mod inputs;
 #[cfg(test)]
 mod limits;
 #[cfg(test)]
+mod orders;
+#[cfg(test)]
+mod run_lists;
+#[cfg(test)]
 mod schedules;
 #[cfg(test)]
 mod served;
+#[cfg(test)]
+mod stats;
 #[cfg(test)]
 mod table_inputs;
 #[cfg(test)]

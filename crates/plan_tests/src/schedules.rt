@@ -11,7 +11,7 @@ use std::alloc::Global;
 use std::process::Abort;
 
 /// Appends a run of so many slots.
-fn push(rt: &impl Abort, schedule: &mut Schedule, slots: u64, flows: &[u32])
+pub(crate) fn push(rt: &impl Abort, schedule: &mut Schedule, slots: u64, flows: &[u32])
     requires some { 1 ≤ slots }
     requires ascending { IsStrictlyIncreasing flows.now }
     requires short { length schedule.old + slots ≤ MAX_SLOT }
@@ -23,7 +23,7 @@ fn push(rt: &impl Abort, schedule: &mut Schedule, slots: u64, flows: &[u32])
 }
 
 /// The schedule that serves three coflows in the order 0, 2, 1. Its run of two slots is appended in two parts.
-fn worked(rt: &impl Abort, alloc: Global) -> Schedule {
+pub(crate) fn worked(rt: &impl Abort, alloc: Global) -> Schedule {
     let mut schedule = Schedule::new(alloc);
     push(rt, &mut schedule, 1, &[0, 1, 5]);
     push(rt, &mut schedule, 1, &[1, 3]);
@@ -36,7 +36,7 @@ fn worked(rt: &impl Abort, alloc: Global) -> Schedule {
 }
 
 /// The schedule that serves the shorter one of two coflows in the first slot, or in the slot behind it.
-fn shorter_first(rt: &impl Abort, alloc: Global, idle: bool) -> Schedule {
+pub(crate) fn shorter_first(rt: &impl Abort, alloc: Global, idle: bool) -> Schedule {
     let mut schedule = Schedule::new(alloc);
     if idle {
         push(rt, &mut schedule, 1, &[]);

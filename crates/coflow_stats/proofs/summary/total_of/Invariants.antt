@@ -1,0 +1,6 @@
+-- the sum so far
+use Rattle.std.proofs.Common.{◌≡◌, sum, take}
+use Rattle.coflow_stats.proofs.summary.total_of.Given as goal
+
+abbrev pub invariant-loop-number : goal.invariant-loop-number
+invariant-loop-number l = l.total ≡ sum (take l.number-index l.numbers)
