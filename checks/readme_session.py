@@ -3,8 +3,8 @@
 
 Use: checks/readme_session.py            The last line is 'N passed, M failed'; the exit code is 0 where none failed.
 
-A command stands in an indented block behind `    $ `, and what it prints is in the lines below it. The commands run in turn, in a new folder that has the built program
-as `sincronia` and the folder `traces`.
+A command stands in an indented block behind `    $ `, and what it prints is in the lines below it. The commands run in turn, in a new folder that has the built programs
+as `sincronia`, `sincronia_stats` and the folder `traces`.
 """
 import os
 import subprocess
@@ -12,7 +12,7 @@ import sys
 import tempfile
 
 sys.dont_write_bytecode = True
-from program_runs import PROGRAM, TOP, build
+from program_runs import TOP, build
 
 
 def session(text):
@@ -38,7 +38,8 @@ def main():
         commands = session(it.read())
     passed = failed = 0
     with tempfile.TemporaryDirectory() as room:
-        os.symlink(PROGRAM, os.path.join(room, "sincronia"))
+        for name in ("sincronia", "sincronia_stats"):
+            os.symlink(os.path.join(TOP, "crates", name, "out", name), os.path.join(room, name))
         os.symlink(os.path.join(TOP, "traces"), os.path.join(room, "traces"))
         for command, shown in commands:
             ran = subprocess.run(["sh", "-c", command], cwd=room, stdout=subprocess.PIPE, stderr=subprocess.STDOUT, text=True, timeout=60)

@@ -1,0 +1,5 @@
+pub mod AnswerFacts
+pub mod FirstFacts
+pub mod NumberFacts
+pub mod RatioFacts
+pub mod WordFacts

@@ -1,0 +1,118 @@
+use Rattle.std.proofs.Common.{ap, inl, subst, Err}
+use Rattle.command_words.specs.Line.{texts}
+use Rattle.command_files.proofs.SinkFacts.{appended, begun}
+use Rattle.command_files.specs.declared.status.Status.TheVariants as status
+use Rattle.command_files.specs.Shelves.{OfBoth, ReadsOut}
+use Rattle.command_files.specs.Turns.{FilesInTurn}
+use Rattle.stats_cli.specs.Numbers.{check_of}
+use Rattle.stats_cli.specs.Status.{as_check}
+use Rattle.stats_cli.specs.Words.{StatsSaid, said_by}
+use Rattle.stats_cli.proofs.AnswerFacts.{ends_at_files, ends_at_verdict, ends_told, past_in_turn}
+use Rattle.stats_cli.proofs.NumberFacts.{cause_by, tells_by, verdict_calls}
+use Rattle.stats_cli.proofs.WordFacts.{one_words}
+use Rattle.stats_cli.proofs.command.sincronia_stats.Goals as goal
+
+pub returns-in-Err-Usage-clause-usage : goal.returns-in-Err-Usage-clause-usage
+returns-in-Err-Usage-clause-usage g c = λ e said is. c.in-Err-Usage.ensures.usage (ap Err c.in-Err-Usage.field-0-is) said is
+
+pub returns-in-Err-clause-complete : goal.returns-in-Err-clause-complete
+returns-in-Err-clause-complete g c = λ said answer is call shelf sink.
+    ends_at_files (g.H.Shelf.faults c.args.shelf.now) (g.H.Shelf.faults c.read_files.new.shelf) (g.H.Shelf.told c.args.shelf.now) (g.H.Shelf.told c.read_files.new.shelf)
+    (said_by c.in-Ok.words) said c.in-Err.status answer (one_words (texts c.args.words.now) (said_by c.in-Ok.words) said c.in-Ok.ensures.said is) c.in-Err.ensures.cause call shelf
+
+-- ---- no numbers were told
+
+pub returns-in-Err-told-clause-complete : goal.returns-in-Err-told-clause-complete
+returns-in-Err-told-clause-complete g c = λ said answer is call shelf sink.
+    let files = c.in-Ok-read_files.files in
+    let ensures = c.in-Ok-read_files.ensures in
+    ends_at_verdict (g.H.Shelf.faults c.args.shelf.now) (g.H.Shelf.faults c.read_files.new.shelf) (g.H.Shelf.told c.args.shelf.now) (g.H.Shelf.told c.read_files.new.shelf)
+    (said_by c.in-Ok.words) said files.input.table files.input.weights files.report c.in-Err-told.status answer
+    (one_words (texts c.args.words.now) (said_by c.in-Ok.words) said c.in-Ok.ensures.said is) ensures.input ensures.report c.in-Err-told.ensures.cause call
+
+pub returns-in-Err-told-clause-read_out : goal.returns-in-Err-told-clause-read_out
+returns-in-Err-told-clause-read_out g c = λ said is past.
+    subst (λ (x : StatsSaid). OfBoth (g.H.Shelf.told c.args.shelf.now) (g.H.Shelf.told c.read_files.new.shelf) (ReadsOut (check_of x).job (check_of x)))
+    (one_words (texts c.args.words.now) (said_by c.in-Ok.words) said c.in-Ok.ensures.said is) c.in-Ok-read_files.ensures.read_out
+
+pub returns-in-Err-told-clause-in_turn : goal.returns-in-Err-told-clause-in_turn
+returns-in-Err-told-clause-in_turn g c = λ said is.
+    let old = g.H.Shelf.told c.args.shelf.now in
+    let new = g.H.Shelf.told c.read_files.new.shelf in
+    let files = c.in-Ok-read_files.files in
+    let s = c.in-Err-told.status in
+    subst (λ (x : StatsSaid). OfBoth old new (FilesInTurn (check_of x) (as_check s)))
+    (one_words (texts c.args.words.now) (said_by c.in-Ok.words) said c.in-Ok.ensures.said is)
+    (past_in_turn old new (said_by c.in-Ok.words) (as_check s)
+    (verdict_calls files.input.table files.input.weights (said_by c.in-Ok.words) files.report s c.in-Err-told.ensures.cause).0
+    c.in-Ok-read_files.ensures.good c.in-Ok-read_files.ensures.read_out)
+
+pub returns-in-Err-told-clause-cause : goal.returns-in-Err-told-clause-cause
+returns-in-Err-told-clause-cause g c = λ words memory none.
+    let files = c.in-Ok-read_files.files in
+    let ensures = c.in-Ok-read_files.ensures in (
+      said_by c.in-Ok.words,
+      c.in-Ok.ensures.said,
+      cause_by (g.H.Shelf.faults c.args.shelf.now) (g.H.Shelf.faults c.read_files.new.shelf) (g.H.Shelf.told c.args.shelf.now) (g.H.Shelf.told c.read_files.new.shelf)
+          (said_by c.in-Ok.words) files.input.table files.input.weights files.report c.in-Err-told.status ensures.input ensures.report c.in-Err-told.ensures.cause,
+    )
+
+-- ---- the text was not written whole
+
+pub returns-in_default-clause-in_turn : goal.returns-in_default-clause-in_turn
+returns-in_default-clause-in_turn g c = λ said is.
+    let old = g.H.Shelf.told c.args.shelf.now in
+    let new = g.H.Shelf.told c.read_files.new.shelf in
+    subst (λ (x : StatsSaid). OfBoth old new (FilesInTurn (check_of x) (status.WriteFault 1)))
+    (one_words (texts c.args.words.now) (said_by c.in-Ok.words) said c.in-Ok.ensures.said is)
+    (past_in_turn old new (said_by c.in-Ok.words) (status.WriteFault 1) (λ f. f) c.in-Ok-read_files.ensures.good c.in-Ok-read_files.ensures.read_out)
+
+pub returns-in_default-clause-beginning : goal.returns-in_default-clause-beginning
+returns-in_default-clause-beginning g c = λ count e.
+    let files = c.in-Ok-read_files.files in
+    let ensures = c.in-Ok-read_files.ensures in
+    let text = c.in-Ok-told.text.items in (
+      said_by c.in-Ok.words,
+      c.in-Ok.ensures.said,
+      record {
+        text = text;
+        tells = tells_by (g.H.Shelf.told c.args.shelf.now) (said_by c.in-Ok.words) files.input.table files.input.weights files.report text ensures.input ensures.report
+            c.in-Ok-told.ensures.numbers;
+        written = begun _ (g.K.Sink.taken c.args.out.now) (g.K.Sink.taken c.write_all.new.sink) text c.deref.result.now _ c.deref.ensures.value c.in_default.ensures.taken;
+      },
+    )
+
+-- ---- the text was written
+
+pub returns-clause-stats : goal.returns-clause-stats
+returns-clause-stats g c = λ e.
+    let files = c.in-Ok-read_files.files in
+    let ensures = c.in-Ok-read_files.ensures in
+    let text = c.in-Ok-told.text.items in (
+      said_by c.in-Ok.words,
+      c.in-Ok.ensures.said,
+      record {
+        text = text;
+        tells = tells_by (g.H.Shelf.told c.args.shelf.now) (said_by c.in-Ok.words) files.input.table files.input.weights files.report text ensures.input ensures.report
+            c.in-Ok-told.ensures.numbers;
+        written = appended _ (g.K.Sink.taken c.args.out.now) (g.K.Sink.taken c.write_all.new.sink) text c.deref.result.now c.in-Ok-write_all.field-0 c.deref.ensures.value
+            c.in-Ok-write_all.ensures.taken;
+      },
+    )
+
+pub returns-clause-complete : goal.returns-clause-complete
+returns-clause-complete g c = λ said answer is call shelf sink.
+    let files = c.in-Ok-read_files.files in
+    let ensures = c.in-Ok-read_files.ensures in
+    let told = g.H.Shelf.told c.args.shelf.now in
+    let text = c.in-Ok-told.text.items in
+    inl (ends_told told (said_by c.in-Ok.words) said text answer (one_words (texts c.args.words.now) (said_by c.in-Ok.words) said c.in-Ok.ensures.said is)
+    (tells_by told (said_by c.in-Ok.words) files.input.table files.input.weights files.report text ensures.input ensures.report c.in-Ok-told.ensures.numbers) call)
+
+pub returns-clause-in_turn : goal.returns-clause-in_turn
+returns-clause-in_turn g c = λ said is.
+    let old = g.H.Shelf.told c.args.shelf.now in
+    let new = g.H.Shelf.told c.read_files.new.shelf in
+    subst (λ (x : StatsSaid). OfBoth old new (FilesInTurn (check_of x) status.Ok))
+    (one_words (texts c.args.words.now) (said_by c.in-Ok.words) said c.in-Ok.ensures.said is)
+    (past_in_turn old new (said_by c.in-Ok.words) status.Ok (λ f. f) c.in-Ok-read_files.ensures.good c.in-Ok-read_files.ensures.read_out)
