@@ -139,7 +139,7 @@ WORKED = [(1, "1.000", 1, 1, 1), (2, "1.500", 1, 2, 2), (20, "10.500", 10, 19, 2
 
 def worked_fault(folder, count, mean, median, p95, p99):
     """What is wrong with what is told of so many coflows that end in the slots from 1 on, or None."""
-    write(folder, "trace", "0 %d\n" % count + "".join("%d 0 1 0 1 0:1\n" % c for c in range(count)))
+    write(folder, "trace", "1 %d\n" % count + "".join("%d 0 1 0 1 0:1\n" % c for c in range(count)))
     write(folder, "order", "".join("%d\n" % c for c in range(count)))
     write(folder, "report", ran(folder, ["serve", "trace", "order"])[1])
     want = "slots all %d mean %s median %d p95 %d p99 %d" % (count, mean, median, p95, p99)

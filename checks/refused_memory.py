@@ -63,6 +63,14 @@ SERIES = [
     ("online by one agent", ["online", "l", "--agents", "1"]),
     ("live", ["live", "t", "s", "--run", "4"]),
 ]
+# the same of the program that tells numbers
+STATS = os.path.join(TOP, "crates", "sincronia_stats", "out", "sincronia_stats")
+STATS_NO_MEMORY = (11, b"", b"sincronia_stats: no memory\n")
+STATS_SERIES = [
+    ("numbers of a plan", ["t", "r", "--slot-ms", "8"]),
+    ("numbers of an online run", ["l", "o"]),
+    ("rows of a plan", ["t", "r", "--csv"]),
+]
 # how many runs are started before their answers are looked at
 BATCH = 64
 
@@ -86,13 +94,13 @@ def refusing(folder, program, words, first, last):
     return (done.returncode, out, err), refused
 
 
-def refusals(folder, words, last_of):
+def refusals(folder, program, words, last_of):
     """For each allocation in turn, its number and what the run in which it was refused ended with."""
     first = 1
     with ThreadPoolExecutor(os.cpu_count()) as pool:
         while True:
             numbers = range(first, first + BATCH)
-            runs = pool.map(lambda number: refusing(folder, PROGRAM, words, number, last_of(number)), numbers)
+            runs = pool.map(lambda number: refusing(folder, program, words, number, last_of(number)), numbers)
             for number, (have, refused) in zip(numbers, runs):
                 if refused == 0:
                     return
@@ -100,14 +108,15 @@ def refusals(folder, words, last_of):
             first += BATCH
 
 
-def series(folder, name, words, last_of):
+def series(folder, program, name, words, last_of):
     """How many runs ended as they should, and how many did not."""
-    whole, _ = refusing(folder, PROGRAM, words, 0, 0)
+    whole, _ = refusing(folder, program, words, 0, 0)
     passed, failed, over = 0, 0, []
-    for number, have in refusals(folder, words, last_of):
+    no_memory = NO_MEMORY if program == PROGRAM else STATS_NO_MEMORY
+    for number, have in refusals(folder, program, words, last_of):
         if have == whole:
             over.append(number)
-        if have == NO_MEMORY or (have == whole and whole[0] == 0):
+        if have == no_memory or (have == whole and whole[0] == 0):
             passed += 1
         else:
             failed += 1
@@ -127,9 +136,9 @@ def main():
             with open(os.path.join(folder, name), "wb") as file:
                 file.write(content)
         make_library(folder)
-        for name, words in SERIES:
+        for program, name, words in [(PROGRAM, *row) for row in SERIES] + [(STATS, *row) for row in STATS_SERIES]:
             for kind, last_of in (("alone", lambda number: number), ("and later ones", lambda number: 10**9)):
-                good, bad = series(folder, name + " " + kind, words, last_of)
+                good, bad = series(folder, program, name + " " + kind, words, last_of)
                 passed += good
                 failed += bad
     print("%d passed, %d failed" % (passed, failed))

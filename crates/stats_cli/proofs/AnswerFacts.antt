@@ -81,7 +81,8 @@ files_past before now t new said s cause (table, report) still =
     (no_order (check_of said) t refl) still
 
 pub ends_at_files : (before now : ℕ) (old new : Option Told) (by said : StatsSaid) (s : Status) (answer : StatsStatus) → by ≡ said →
-    HasCauseInFiles IsAnyBadAt before now old new (check_of by) s → IsSomeAnd old (CallFor said answer) → IsStill before now → (Ended s ≡ answer) ⊎ (Ended s ≡ Ended status.NoMemory)
+    HasCauseInFiles IsAnyBadAt before now old new (check_of by) s → IsSomeAnd old (CallFor said answer) → IsStill before now →
+    (Ended s ≡ answer) ⊎ (Ended s ≡ Ended status.NoMemory)
 ends_at_files before now None new by said s answer same cause call still = absurd call
 ends_at_files before now (Some t) new by said s answer same cause (good, is) still =
     inr (ap Ended (files_past before now t new said s (subst (λ (x : StatsSaid). HasCauseInFiles IsAnyBadAt before now (Some t) new (check_of x) s) same cause) good still))

@@ -137,7 +137,8 @@ module _ (flows : List Flow) (slots : List (List ℕ)) where
 
   no_clashes : NamesFlows (length flows) slots → ((slot : ℕ) (p : Port) → IsFirstClash flows slots slot p → ⊥) → (slot : ℕ) (p : Port) → ClashesAt flows slots slot p → ⊥
   no_clashes names never slot p clash =
-      none_at_all (λ s. (q : Port) × ClashesAt flows slots s q) (λ s (q, is) before. no_port names never s (λ m lt k other. before m lt (k, other)) q.side q.number is) slot (p, clash)
+      none_at_all (λ s. (q : Port) × ClashesAt flows slots s q) (λ s (q, is) before. no_port names never s (λ m lt k other. before m lt (k, other)) q.side q.number is) slot
+      (p, clash)
 
   clashing : (slot f g : ℕ) (side : Side) → f ≢ g → StandsIn slots slot f → StandsIn slots slot g → end_at side (flow_at flows f) ≡ end_at side (flow_at flows g) →
       At slot side (end_at side (flow_at flows f))

@@ -1,5 +1,5 @@
 -- Where only the ratio speaks against a report, its schedule, its cost and its bound are right.
-use Rattle.std.proofs.Common.{◌≡◌, ℕ, ◌+◌, ◌-◌, ◌≤◌, ◌<◌, ◌⊎◌, inl, inr, cond, List, [], length, map, take, get_or, refl, sym, subst, arith, zero, suc}
+use Rattle.std.proofs.Common.{◌≡◌, ℕ, ◌+◌, ◌-◌, ◌≤◌, ◌<◌, inl, inr, cond, List, [], length, map, take, get_or, refl, sym, subst, arith, zero, suc}
 use Rattle.std.specs.Prelude.{◌==◌, All, None, Option, Some, slice_index}
 use Rattle.std.specs.List.{list_any}
 use Rattle.std.specs.List.Sorted.{IsStrictlyIncreasing}
@@ -29,12 +29,12 @@ use Rattle.stats_cli.proofs.FirstFacts.{all_served, clear_slots, names_flows, no
 
 -- ---- either a place is the first wrong one, or all coflows are named
 
-new_or_not : (ids stated : List ℕ) (k : ℕ) → IsNew ids stated k ⊎ IsNotNew ids stated k
-new_or_not ids stated k = go (cond (list_any (λ x. x == slice_index stated k) (take k stated)) None (found ids (slice_index stated k))) refl
+new_unless_not : (ids stated : List ℕ) (k : ℕ) → (IsNotNew ids stated k → ⊥) → IsNew ids stated k
+new_unless_not ids stated k never = go (cond (list_any (λ x. x == slice_index stated k) (take k stated)) None (found ids (slice_index stated k))) refl
   where
-    go : (o : Option ℕ) → o ≡ cond (list_any (λ x. x == slice_index stated k) (take k stated)) None (found ids (slice_index stated k)) → IsNew ids stated k ⊎ IsNotNew ids stated k
-    go (Some coflow) e = inl (is_new ids stated k (Some coflow) coflow (list_any (λ x. x == slice_index stated k) (take k stated)) refl e refl).0
-    go None e = inr (is_not_new ids stated k None (list_any (λ x. x == slice_index stated k) (take k stated)) refl e refl)
+    go : (o : Option ℕ) → o ≡ cond (list_any (λ x. x == slice_index stated k) (take k stated)) None (found ids (slice_index stated k)) → IsNew ids stated k
+    go (Some coflow) e = (is_new ids stated k (Some coflow) coflow (list_any (λ x. x == slice_index stated k) (take k stated)) refl e refl).0
+    go None e = absurd (never (is_not_new ids stated k None (list_any (λ x. x == slice_index stated k) (take k stated)) refl e refl))
 
 abbrev NoneWrong : List ℕ → List ℕ → Type 0
 NoneWrong ids stated = (place : ℕ) → IsFirstWrong ids stated place → ⊥
@@ -47,14 +47,11 @@ all_new ids stated (suc k) none le j lt =
       | inl earlier ↦ new j earlier
       | inr upto ↦
           let e : k ≡ j = omega arith in
-          subst (λ n. IsNew ids stated n) e (elim (new_or_not ids stated k) [
-            | inl here ↦ here
-            | inr not_new ↦
-                let at : k ≡ k + 1 - 1 = omega arith in
-                let wrong : IsFirstWrong ids stated (k + 1) =
-                record { counted = omega arith; wrong = subst (λ n. IsWrong ids stated n) at (inl (omega arith, not_new)); before = λ j lt. new j (omega arith) } in
-                absurd (none (k + 1) wrong)
-          ])
+          subst (λ n. IsNew ids stated n) e (new_unless_not ids stated k (λ not_new.
+          let at : k ≡ k + 1 - 1 = omega arith in
+          let wrong : IsFirstWrong ids stated (k + 1) =
+          record { counted = omega arith; wrong = subst (λ n. IsWrong ids stated n) at (inl (omega arith, not_new)); before = λ j lt. new j (omega arith) } in
+          none (k + 1) wrong))
     ]
 
 all_named : (ids stated : List ℕ) → NoneWrong ids stated → NamesEach (length ids) (map (coflow_with ids) stated)
@@ -103,7 +100,9 @@ ports_within ports places never k d lt =
 
 within_budgets : (i : Instance) (ids : List ℕ) (r : Report) → ((coflow : ℕ) → HasReason i ids r (Infeasible coflow) → ⊥) → IsFeasible i.flows i.weight (certificate_in ids r.places)
 within_budgets i ids r never coflow = elim (cases_lt (budget i.weight coflow) (used i.flows (certificate_in ids r.places) coflow)) [
-  | inl above ↦ absurd (none_at_all (λ c. budget i.weight c < used i.flows (certificate_in ids r.places) c) (λ c here less. never c (record { above = here; least = lower less })) coflow above)
+  | inl above ↦
+      absurd (none_at_all (λ c. budget i.weight c < used i.flows (certificate_in ids r.places) c) (λ c here less. never c (record { above = here; least = lower less })) coflow
+      above)
   | inr within ↦ within
 ]
   where

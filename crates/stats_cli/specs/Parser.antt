@@ -13,8 +13,8 @@ empty_app = on_top (λ s. record s { disable_help_flag = true; disable_version_f
     (new_app (codes "sincronia_stats"))
 
 -- Two names by their places, both needed.
-abbrev pub app_with_names : App
-app_with_names = with_rule (with_rule empty_app (needed_rule (codes "TRACE"))) (needed_rule (codes "REPORT"))
+abbrev pub with_names : App → App
+with_names a = with_rule (with_rule a (needed_rule (codes "TRACE"))) (needed_rule (codes "REPORT"))
 
 -- An option without a value.
 abbrev pub flag_rule : Text → Rule
@@ -23,7 +23,7 @@ flag_rule id = record (new_rule id) { action = Some SetTrue; long = Some id }
 -- The command, with options of one value each and a flag. An option and a flag stand once at most.
 abbrev pub app : App
 app = with_rule
-    (with_option (with_option (with_option app_with_names (codes "weights")) (codes "unit")) (codes "slot-ms"))
+    (with_option (with_option (with_option (with_names empty_app) (codes "weights")) (codes "unit")) (codes "slot-ms"))
     (flag_rule (codes "csv"))
 
 -- The parser accepts the words, and what was found is what they give each argument.

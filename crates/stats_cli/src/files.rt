@@ -40,8 +40,8 @@ pub(crate) fn read_files<'a, H: Shelf>(
         (FilesInTurn (check_of (said_by words.entry)) status)) }
     ensures keeps { KeepsFiles (H.told shelf.old) (H.told shelf.new) }
     ensures counts { CountsFault (H.faults shelf.old) (H.faults shelf.new) result }
-    ensures cause { IfErr result (HasCauseInFiles IsAnyBadAt (H.faults shelf.old) (H.faults shelf.new) (H.told shelf.old)
-        (H.told shelf.new) (check_of (said_by words.entry))) }
+    ensures cause { IfErr result (HasCauseInFiles IsAnyBadAt (H.faults shelf.old) (H.faults shelf.new)
+        (H.told shelf.old) (H.told shelf.new) (check_of (said_by words.entry))) }
 {
     let input = read_input(alloc, words.trace, words.weights, words.unit, shelf)?;
     let report = read_any_report_file(alloc, words.report, shelf)?;

@@ -3,7 +3,7 @@ ghost use Rattle.std.specs.Prelude.{◌≡◌, ◌≢◌, Err, IfOk, [], false};
 ghost use Rattle.clap.specs.Words.{app_of, fault_of, found_of, rule_of};
 ghost use Rattle.command_words.specs.Line.{texts};
 ghost use Rattle.command_words.specs.declared.fault.WordsFault.TheVariants.{Usage};
-ghost use Rattle.stats_cli.specs.Parser.{IsFound, app, app_with_names, empty_app, flag_rule};
+ghost use Rattle.stats_cli.specs.Parser.{IsFound, app, empty_app, flag_rule, with_names};
 
 use clap::{Arg, ArgAction, ArgMatches, Command};
 use command_words::{WordsFault, fault_by, needed_name, option_named, with_arg};
@@ -38,7 +38,7 @@ fn stats_command<'a>(alloc: Global) -> Result<Command<'a>, AllocError>
 }
 
 fn command_with_names<'a>(alloc: Global) -> Result<Command<'a>, AllocError>
-    ensures { IfOk result (λ c. app_of c ≡ app_with_names) }
+    ensures { IfOk result (λ c. app_of c ≡ with_names empty_app) }
 {
     let command = with_arg(Ok(empty_command(alloc)), needed_name(alloc, "TRACE"));
     with_arg(command, needed_name(alloc, "REPORT"))

@@ -32,16 +32,13 @@ returns-in-Ok-try_get_matches_from-clause-found c =
     let rows = (c.in-Ok-try_get_matches_from.ensures.matches (ap is_simple same ∙ simple)).0 in
     finds words _ none (rows ∙ ap (λ (a : App). rows_on a (texts words)) same)
 
-memory : (ks : Kinds) (e : Error) → ks ≡ [] → HasKind ks e → kind_of e ≡ kind.OutOfMemory
-memory ks e none has = by (subst (λ (k : Kinds). HasKind k e) none has)
-  where
-    by : HasKind [] e → kind_of e ≡ kind.OutOfMemory
-    by (inl m) = m
-    by (inr none) = absurd none
+of_no_kind : (e : Error) → HasKind [] e → kind_of e ≡ kind.OutOfMemory
+of_no_kind e (inl m) = m
+of_no_kind e (inr none) = absurd none
 
 pub returns-in-Err-clause-usage : goal.returns-in-Err-clause-usage
 returns-in-Err-clause-usage c = λ usage none.
     let same : app_of c.in-Ok.command ≡ app = c.in-Ok.ensures in
     let words = c.args.words.now in
     let has = subst (λ (a : App). HasKind (fault_of a (texts words)) c.in-Err.error) same (c.in-Err.ensures.kinds (ap is_simple_and_free same ∙ free)) in
-    c.fault_by.ensures.0 (cc) (c.kind.ensures ∙ memory _ c.in-Err.error none has)
+    c.fault_by.ensures.0 (cc) (c.kind.ensures ∙ of_no_kind c.in-Err.error (subst (λ (k : Kinds). HasKind k c.in-Err.error) none has))
