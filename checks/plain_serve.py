@@ -4,8 +4,9 @@
 Use: checks/plain_serve.py [TRACES]     The last line is 'N passed, M failed'; the exit code is 0 where none failed.
 
 Each printed report is checked by the built program too: the answer is yes, or that the cost is above four times the bound and the slack, and nothing else. Of each order a drawn fault is made,
-and the line on standard error is that of the first fault that a plain reader finds.
+and the line on standard error is that of the first fault that a plain reader finds. `examples/own_schedule.py` makes the same report from the plan and the runs, which are cut at drawn slots.
 """
+import os
 import random
 import re
 import subprocess
@@ -14,7 +15,11 @@ import tempfile
 
 sys.dont_write_bytecode = True  # the folder stays as it is
 
-from plain_plan import KINDS, PROGRAM, bound_and_slack, certificate, completions, drawn, flows_of, ran, served, trace_text, weights_text, write
+from plain_plan import KINDS, PROGRAM, TOP, bound_and_slack, certificate, completions, drawn, flows_of, plan_of, ran, served, trace_text, weights_text, write
+
+sys.path.append(os.path.join(TOP, "examples"))
+
+import own_schedule  # noqa: E402
 
 BLANKS = re.compile("[\t\r ]+")  # what parts the fields of a line
 GREATEST = 2**64 - 1  # a greater id is told as this
@@ -105,6 +110,15 @@ def spoiled(text, r):
 # The comparison
 
 
+def cut(runs, r):
+    """The same schedule, in which a drawn part of the runs are two, and flows stand in any order."""
+    parts = []
+    for length, flows in runs:
+        first = r.randint(1, length) if r.random() < 0.5 else length
+        parts += [(part, r.sample(flows, len(flows))) for part in (first, length - first) if part > 0]
+    return parts
+
+
 def refusal_of(folder, options):
     """The exit code, the output and the line on standard error of the built program that serves the order in the folder."""
     ended = subprocess.run([PROGRAM, "serve", "trace", "order", *options], cwd=folder, stdin=subprocess.DEVNULL, capture_output=True, timeout=60)
@@ -126,6 +140,9 @@ def fault_of(folder, ports, coflows, unit, r):
     write(folder, "report", text)
     if ran(folder, ["check", "trace", "report", *options]) != verdict_of(bound, slack, cost):
         return "another verdict is printed"
+    runs = cut([(int(words[1]), [int(word) for word in words[2:]]) for words in map(str.split, text.splitlines()) if words[0] == "run"], r)
+    if own_schedule.report_of(trace_text(ports, coflows), plan_of(ports, coflows, unit).text, runs, unit) != text:
+        return "the example makes another report"
     changed = spoiled(given, r)
     fault = fault_in(changed, idents)
     if fault:
