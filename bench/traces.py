@@ -57,10 +57,10 @@ def many_locations():
 # Shapes of load
 
 
-def hour(scale=1, count=526, spread_out=False):
+def hour(scale=1, count=526, spread_out=False, seed=1):
     """A trace of the shape of the public one-hour trace: 150 ports and 526 coflows, most of them short or narrow, and nearly all bytes in the long and wide ones. Sizes are multiplied by the scale.
-    With a lesser count it has the first ones of these coflows. All of them arrive at 0, or else over an hour."""
-    r = random.Random(1)
+    With a lesser count it has the first ones of these coflows. All of them arrive at 0, or else over an hour. Each seed gives another one."""
+    r = random.Random(seed)
 
     def between(low, high):
         return low * (high / low) ** r.random()

@@ -1,0 +1,187 @@
+#!/usr/bin/env python3
+"""Prints the tables of docs/RESULTS.md: how far the orders of policies are from the best, as certified, and when their coflows end. The programs are the built ones.
+
+Use: bench/results.py            prints all tables, within a few minutes
+     bench/results.py --small    prints the tables of the two small workloads of the repository alone
+     bench/results.py --check    compares these with the page; the last line is 'N passed, M failed'
+     bench/results.py --trace SEED    writes the trace of the public shape with this seed, whose coflows arrive over an hour
+     bench/results.py --weights SEED  writes drawn weights from 1 to 100 for its 526 coflows
+
+A ratio is a cost over the bound, rounded up. Orders that `compare` does not have are made from the rows of `sincronia_stats --csv`, and served.
+"""
+import os
+import random
+import re
+import subprocess
+import sys
+import tempfile
+
+sys.dont_write_bytecode = True  # the folder stays as it is
+
+import traces  # noqa: E402
+
+TOP = os.path.dirname(os.path.dirname(os.path.abspath(__file__)))
+PAGE = os.path.join(TOP, "docs", "RESULTS.md")
+PLANNER = os.path.join(TOP, "crates", "sincronia", "out", "sincronia")
+STATS = os.path.join(TOP, "crates", "sincronia_stats", "out", "sincronia_stats")
+
+SEEDS = range(1, 6)
+CLASSES = [1, 2, 4, 8, 16, 32, 64]
+POLICIES = ["bssi", "sebf", "wsebf", "fifo"]
+TIMED = ["bssi", "sebf", "fifo"]  # without weights `wsebf` is `sebf`
+GROUPS = ["all", "short-narrow", "long-narrow", "short-wide", "long-wide"]
+SMALL = ["four-jobs", "shuffle-24x40"]
+
+
+def weights(seed, count=526):
+    """A weight from 1 to 100 for each of the ids from 1 on."""
+    r = random.Random(seed)
+    return "".join("%d %d\n" % (ident, r.randint(1, 100)) for ident in range(1, count + 1)).encode()
+
+
+class Workload:
+    """A trace with its weights, if it has any, in a folder."""
+
+    def __init__(self, name, folder, trace, weighed=None):
+        self.name, self.folder = name, folder
+        self.options = ["--weights", "weights"] if weighed else []
+        for file, content in (("trace", trace), ("weights", weighed)):
+            if content:
+                with open(os.path.join(folder, file), "wb") as it:
+                    it.write(content)
+
+    def ran(self, program, words):
+        """What the program prints, with the options of this workload."""
+        return subprocess.run([program, *words, *self.options], cwd=self.folder, stdout=subprocess.PIPE, check=True, text=True).stdout
+
+    def report(self, command, words):
+        """The report of a command, put into the file `report`."""
+        with open(os.path.join(self.folder, "report"), "w", encoding="ascii") as it:
+            subprocess.run([PLANNER, command, "trace", *words, *self.options], cwd=self.folder, stdout=it, check=True)
+
+    def rows(self):
+        """The rows of all coflows: id, arrival, bottleneck and weight. Arrivals are those of the trace."""
+        lines = self.ran(STATS, ["trace", "report", "--csv"]).splitlines()[1:]
+        with open(os.path.join(self.folder, "trace"), encoding="ascii") as it:
+            arrivals = [int(line.split(None, 2)[1]) for line in it.read().splitlines()[1:]]
+        fields = [line.split(",") for line in lines]
+        return [(int(f[0]), arrival, int(f[4]), int(f[5])) for f, arrival in zip(fields, arrivals)]
+
+    def serve(self, policy):
+        """Puts the report of a policy into the file `report`."""
+        self.report("plan", [])
+        if policy == "bssi":
+            return
+        keys = {
+            "sebf": lambda row: row[2],
+            "wsebf": lambda row: row[2] * 2**64 // row[3],
+            "fifo": lambda row: row[1],
+        }
+        rows = sorted(enumerate(self.rows()), key=lambda it: (keys[policy](it[1]), it[0]))
+        with open(os.path.join(self.folder, "order"), "w", encoding="ascii") as it:
+            it.writelines("%d\n" % row[0] for _, row in rows)
+        self.report("serve", ["order"])
+
+
+def ratio(cost, bound):
+    """The cost over the bound, in thousandths that are rounded up."""
+    return "-" if bound == 0 else "%.3f" % (-(-1000 * cost // bound) / 1000)
+
+
+def number(text, name):
+    return int(re.search(r"^%s (\d+)$" % name, text, re.MULTILINE).group(1))
+
+
+def table(heads, rows):
+    lines = [" | ".join(["", *row, ""]).strip() for row in [heads, ["---"] * len(heads), *rows]]
+    return "\n".join(lines) + "\n"
+
+
+def policy_row(work):
+    """The ratios of the policies."""
+    cells = []
+    for policy in POLICIES:
+        work.serve(policy)
+        text = work.ran(STATS, ["trace", "report"])
+        cells.append(ratio(number(text, "cost"), number(text, "bound")))
+    return [work.name, *cells]
+
+
+def class_row(work):
+    """The ratios of the orders of so many classes."""
+    work.report("plan", [])
+    bound = number(work.ran(STATS, ["trace", "report"]), "bound")
+    costs = [number(work.ran(PLANNER, ["classes", "trace", "--classes", str(count)]), "cost") for count in CLASSES]
+    return [work.name, *[ratio(cost, bound) for cost in costs]]
+
+
+def time_rows(work):
+    """For each policy and group the completion times in slots."""
+    rows = []
+    for policy in TIMED:
+        work.serve(policy)
+        found = dict(re.findall(r"^slots (\S+) (.*)$", work.ran(STATS, ["trace", "report"]), re.MULTILINE))
+        for group in GROUPS:
+            words = found[group].split()
+            rows.append([policy, group, *(words[::2] if len(words) > 1 else [words[0], "-", "-", "-", "-"])])
+    return rows
+
+
+def tables_of(works, timed):
+    """The three tables of these workloads; times are told of one alone."""
+    yield table(["workload", *POLICIES], [policy_row(work) for work in works])
+    yield table(["workload", *["%d" % count for count in CLASSES]], [class_row(work) for work in works])
+    yield table(["policy", "group", "coflows", "mean", "median", "95 %", "99 %"], time_rows(timed))
+
+
+def small_works(room):
+    for name in SMALL:
+        folder = os.path.join(room, name)
+        os.mkdir(folder)
+        with open(os.path.join(TOP, "traces", name + ".txt"), "rb") as it:
+            yield Workload("`traces/%s.txt`" % name, folder, it.read())
+
+
+def large_works(room):
+    shapes = [("public shape, seed %d" % seed, traces.hour(spread_out=True, seed=seed), None) for seed in SEEDS]
+    shapes += [(name + ", weights", trace, weights(seed)) for seed, (name, trace, _) in zip(SEEDS, shapes)]
+    shapes += [("wide", traces.wide(), None), ("narrow", traces.narrow(), None)]
+    for place, (name, trace, weighed) in enumerate(shapes):
+        folder = os.path.join(room, str(place))
+        os.mkdir(folder)
+        yield Workload(name, folder, trace, weighed)
+
+
+def made(small):
+    with tempfile.TemporaryDirectory() as room:
+        works = list(small_works(room) if small else large_works(room))
+        return list(tables_of(works, works[-1] if small else works[0]))
+
+
+def check():
+    """Whether the page has the tables of the small workloads."""
+    with open(PAGE, encoding="utf-8") as it:
+        page = it.read()
+    missing = [text for text in made(True) if text not in page]
+    for text in missing:
+        print("the page has not:\n" + text)
+    print("%d passed, %d failed" % (3 - len(missing), len(missing)))
+    return 1 if missing else 0
+
+
+def main():
+    words = sys.argv[1:]
+    if words[:1] == ["--trace"]:
+        sys.stdout.buffer.write(traces.hour(spread_out=True, seed=int(words[1])))
+        return 0
+    if words[:1] == ["--weights"]:
+        sys.stdout.buffer.write(weights(int(words[1])))
+        return 0
+    if words == ["--check"]:
+        return check()
+    print("\n".join(made(words == ["--small"])), end="")
+    return 0
+
+
+if __name__ == "__main__":
+    sys.exit(main())
