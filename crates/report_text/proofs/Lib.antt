@@ -3,6 +3,7 @@ pub mod BenchText
 pub mod DigitText
 pub mod DraftSteps
 pub mod DraftText
+pub mod FirstFeed
 pub mod FlowText
 pub mod FlowsText
 pub mod LastLine

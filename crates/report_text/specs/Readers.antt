@@ -106,6 +106,11 @@ abbrev pub IsFlowsOf : List ℕ → Option (List ℕ) → Type 0
 IsFlowsOf bytes (Some flows) = AreFlows flows × (bytes ≡ flat_map spaced flows)
 IsFlowsOf bytes None = (flows : List ℕ) → AreFlows flows → bytes ≡ flat_map spaced flows → ⊥
 
+-- the run of so many slots that serves the flows, or none
+abbrev pub run_if : Option ℕ → List ℕ → Option Run
+run_if (Some length) flows = Some (record { length = length; flows = flows })
+run_if None flows = None
+
 -- a run of 1 to 2^41 - 1 slots
 abbrev pub IsRun : Run → Type 0
 IsRun run = (1 ≤ run.length) × (run.length ≤ MAX_SLOT) × AreFlows run.flows

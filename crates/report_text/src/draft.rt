@@ -4,7 +4,7 @@ ghost use Rattle.report_text.specs.declared.draft.Stage.TheVariants.{Version as 
 ghost use Rattle.report_text.specs.Draft.{Finishes, IsDraft, Takes, draft_lines, report_of};
 ghost use Rattle.report_text.specs.Readers.{IsPlaceOf, IsRunOf, weights_list};
 
-use crate::parts::{is_end, place_of, run_of, total_of, version_of};
+use crate::parts::{is_end, place_of, read_run, total_of, version_of};
 use crate::value::{PlaceLine, Report};
 use coflow_units::{Items, MAX_SLOT, NoMemory};
 use run_list::Runs;
@@ -92,8 +92,8 @@ impl Draft {
         }
     }
 
-    /// Takes the next line, or tells that no report has it here.
-    pub(crate) fn accept(&mut self, alloc: Global, line: &[u8]) -> Result<bool, NoMemory>
+    /// Takes the next line, or tells that no report has it here. The list is room for the flows of a run.
+    pub(crate) fn accept(&mut self, line: &[u8], flows: &mut Vec<u32>) -> Result<bool, NoMemory>
         requires { IsDraft self.old }
         ensures { IfOk result (λ taken. Takes self.old self.new line.now taken) }
     {
@@ -102,7 +102,7 @@ impl Draft {
             Stage::Places => self.take_place(line),
             Stage::Slack => Ok(self.take_slack(line)),
             Stage::Cost => Ok(self.take_cost(line)),
-            Stage::Runs => self.take_run(alloc, line),
+            Stage::Runs => self.take_run(line, flows),
             Stage::Done => Ok(false),
         }
     }
@@ -180,22 +180,22 @@ impl Draft {
     }
 
     /// Takes the line of a run, or the last one.
-    fn take_run(&mut self, alloc: Global, line: &[u8]) -> Result<bool, NoMemory>
+    fn take_run(&mut self, line: &[u8], flows: &mut Vec<u32>) -> Result<bool, NoMemory>
         requires draft { IsDraft self.old }
         requires stage { self.old.stage ≡ AtRuns }
         ensures { IfOk result (λ taken. Takes self.old self.new line.now taken) }
     {
-        let Some(run) = run_of(alloc, line)? else {
+        let Some(length) = read_run(line, flows)? else {
             return Ok(self.take_end(line));
         };
-        if run.length > MAX_SLOT - self.slots {
+        if length > MAX_SLOT - self.slots {
             return Ok(false);
         }
-        if self.runs.ends_with(run.flows.as_slice()) {
+        if self.runs.ends_with(flows) {
             return Ok(false);
         }
-        self.slots += run.length;
-        self.runs.push(run.length, run.flows.as_slice())?;
+        self.slots += length;
+        self.runs.push(length, flows)?;
         Ok(true)
     }
 

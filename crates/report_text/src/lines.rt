@@ -6,6 +6,7 @@ ghost use Rattle.report_text.specs.Readers.{IsLeading, IsLineThen, IsNumberThen,
 
 use coflow_units::Side;
 use itoa::Buffer;
+use memchr::memchr;
 use std::str;
 
 /// The line that the bytes begin with, without its line feed, and the bytes behind it.
@@ -19,19 +20,12 @@ pub fn line_then(bytes: &[u8]) -> Option<(&[u8], &[u8])>
     Some((line, rest))
 }
 
-/// The place of the first line feed.
-fn first_feed(bytes: &[u8]) -> Option<usize>
-    ensures { result ≡ position (λ b. b == 10) bytes.now }
-{
-    bytes.iter().position(|b| *b == b'\n')
-}
-
 /// How many bytes stand before the first line feed.
 fn line_length(bytes: &[u8]) -> usize
     ensures line { result ≡ position_or_len (λ b. b == 10) bytes.now }
     ensures inside { result ≤ length bytes.now }
 {
-    match first_feed(bytes) {
+    match memchr(b'\n', bytes) {
         Some(place) => place,
         None => bytes.len(),
     }

@@ -1,6 +1,6 @@
 //! What a line of a report says.
-ghost use Rattle.std.specs.Prelude.{◌==◌, ◌≡◌, ◌↔◌, IfOk, IsTrue, codes, count_by};
-ghost use Rattle.report_text.specs.Readers.{IsChargeThen, IsFlowsOf, IsPlaceOf, IsRunOf, IsTotalOf, IsVersionOf, IsWeightWord, Rises, Stops};
+ghost use Rattle.std.specs.Prelude.{◌≡◌, ◌↔◌, IfOk, IsTrue, None, Some, codes, if◌then◌else◌};
+ghost use Rattle.report_text.specs.Readers.{IsChargeThen, IsFlowsOf, IsPlaceOf, IsRunOf, IsTotalOf, IsVersionOf, IsWeightWord, Rises, Stops, run_if};
 
 use crate::lines::{count_then, number_then, side_then};
 use crate::value::PlaceLine;
@@ -123,36 +123,30 @@ fn rises(flows: &[u32], flow: u32) -> bool
     }
 }
 
-/// How many spaces the bytes have.
-fn spaces_in(bytes: &[u8]) -> usize
-    ensures { result ≡ count_by (λ b. b == 32) bytes.now }
-{
-    bytes.iter().filter(|b| **b == b' ').count()
-}
-
-/// The ascending flow numbers that the bytes are, each behind a space.
-fn flows_of(alloc: Global, bytes: &[u8]) -> Result<Option<Items<u32>>, NoMemory>
+/// Reads the ascending flow numbers that the bytes are, each behind a space, in place of those of a list, and answers whether they are such.
+fn read_flows(bytes: &[u8], flows: &mut Vec<u32>) -> Result<bool, NoMemory>
     requires { Stops bytes.now }
-    ensures { IfOk result (λ v. IsFlowsOf bytes.now v) }
+    ensures { IfOk result (λ read. IsFlowsOf bytes.now (if read then Some flows.new.items else None)) }
 {
-    let mut flows = Vec::with_capacity(alloc, spaces_in(bytes))?;
+    flows.clear();
     let mut rest = bytes;
     while !rest.is_empty() {
         let Some((flow, behind)) = count_then(rest, u64::from(u32::MAX)) else {
-            return Ok(None);
+            return Ok(false);
         };
-        if !rises(&flows, flow as u32) {
-            return Ok(None);
+        if !rises(flows, flow as u32) {
+            return Ok(false);
         }
         flows.push(flow as u32)?;
         rest = behind;
     }
-    Ok(Some(Items::from_vec(flows)))
+    Ok(true)
 }
 
-/// The run of the line, or none where the line is that of no run. The error is want of memory.
-pub fn run_of(alloc: Global, line: &[u8]) -> Result<Option<Run>, NoMemory>
-    ensures { IfOk result (λ v. IsRunOf line.now v) }
+/// Reads the flows of the run of the line in place of those of a list, and answers how many slots the run has, or none where the line is that of no run.
+/// The error is want of memory.
+pub(crate) fn read_run(line: &[u8], flows: &mut Vec<u32>) -> Result<Option<u64>, NoMemory>
+    ensures { IfOk result (λ slots. IsRunOf line.now (run_if slots flows.new.items)) }
 {
     let Some(rest) = line.strip_prefix(b"run") else {
         return Ok(None);
@@ -163,8 +157,20 @@ pub fn run_of(alloc: Global, line: &[u8]) -> Result<Option<Run>, NoMemory>
     if length == 0 {
         return Ok(None);
     }
-    let Some(flows) = flows_of(alloc, rest)? else {
+    if !read_flows(rest, flows)? {
+        return Ok(None);
+    }
+    Ok(Some(length))
+}
+
+/// The run of the line, or none where the line is that of no run. The error is want of memory.
+pub fn run_of(alloc: Global, line: &[u8]) -> Result<Option<Run>, NoMemory>
+    ensures { IfOk result (λ v. IsRunOf line.now v) }
+{
+    let mut flows = Vec::new(alloc);
+    let Some(length) = read_run(line, &mut flows)? else {
         return Ok(None);
     };
+    let flows = Items::from_vec(flows);
     Ok(Some(Run { length, flows }))
 }

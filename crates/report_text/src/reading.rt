@@ -20,13 +20,14 @@ pub fn read_report(alloc: Global, bytes: &[u8]) -> Result<Report, ReportFault>
     ensures report { GivesReport bytes.now result }
 {
     let mut draft = Draft::new(alloc);
+    let mut flows = Vec::new(alloc);
     let mut rest = bytes;
     let mut line_number: u32 = 1;
     while !rest.is_empty() {
         let Some((line, behind)) = line_then(rest) else {
             return Err(ReportFault::BadText { line: line_number });
         };
-        if !draft.accept(alloc, line)? {
+        if !draft.accept(line, &mut flows)? {
             return Err(ReportFault::BadText { line: line_number });
         }
         rest = behind;

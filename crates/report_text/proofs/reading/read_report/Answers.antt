@@ -54,8 +54,8 @@ loop-rest-preserved c =
           taken.1 (draft_begins new taken.0) c.in-Some.ensures.0 c.in-Some.ensures.1,
     )
 
-pub returns-in-None : goal.returns-in-None
-returns-in-None c =
+pub returns : goal.returns
+returns c =
     let bytes = c.args.bytes.now in
     let rest = c.loop-rest.rest.now in
     let d = c.loop-rest.draft in

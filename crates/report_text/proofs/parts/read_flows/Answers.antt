@@ -4,7 +4,7 @@ use Rattle.std.specs.List.Sorted.{IsStrictlyIncreasing}
 use Rattle.coflow_units.specs.Text.{spaced}
 use Rattle.report_text.proofs.PartText.{empty_is, not_empty}
 use Rattle.report_text.proofs.FlowText.{flows_read, next_flow, none_yet, one_more, same_flow, shorter, stops_flows}
-use Rattle.report_text.proofs.parts.flows_of.Goals as goal
+use Rattle.report_text.proofs.parts.read_flows.Goals as goal
 
 pub returns-in_default : goal.returns-in_default
 returns-in_default c = λ ys h e.
@@ -29,11 +29,10 @@ loop-rest-preserved c =
     c.in-Some.ensures.1 c.in-Some.ensures.2 after)
 
 pub loop-rest-init : goal.loop-rest-init
-loop-rest-init c = none_yet c.args.bytes.now c.in_ok-flows.flows.items c.in_ok-flows.ensures.items c.requires
+loop-rest-init c = none_yet c.args.bytes.now c.clear.new.self.items c.clear.ensures.items c.requires
 
 pub loop-rest-smaller : goal.loop-rest-smaller
 loop-rest-smaller c = shorter c.loop-rest.rest.now c.in-Some.behind.now c.in-Some.flow c.in-Some.ensures.1
 
 pub returns : goal.returns
-returns c =
-    rw c.from_vec.ensures (flows_read c.args.bytes.now c.loop-rest.rest.now c.loop-rest.flows.items c.loop-rest.invariant (empty_is c.loop-rest.rest.now c.loop-rest-test.ensures))
+returns c = flows_read c.args.bytes.now c.loop-rest.rest.now c.loop-rest.flows.items c.loop-rest.invariant (empty_is c.loop-rest.rest.now c.loop-rest-test.ensures)
