@@ -75,7 +75,7 @@ def texts_of(ports, coflows, unit, arrivals, report, slot_ms):
     bound, cost = value_in(report, "total" if online else "bound"), value_in(report, "cost")
     lines = ["sincronia stats 1", "coflows %d" % len(coflows), "bound %d" % bound, "cost %d" % cost, "ratio " + ratio(cost, bound)]
     if online:
-        weighted = sum(coflow.weight * arrival for coflow, arrival in zip(coflows, arrivals))
+        weighted = sum(coflow.weight * arrival for coflow, arrival, own in zip(coflows, arrivals, owns) if own)
         net_bound, net_cost = max(bound - weighted, 0), max(cost - weighted, 0)
         lines += ["arrivals %d" % weighted, "net-bound %d" % net_bound, "net-cost %d" % net_cost, "net-ratio " + ratio(net_cost, net_bound)]
     lines.append("makespan %d" % sum(length for length, _ in runs))

@@ -1,5 +1,5 @@
 -- The numbers of a schedule.
-use Rattle.std.specs.Prelude.{◌≡◌, ℕ, ◌*◌, ◌≤◌, ◌^◌, Bool, if◌then◌else◌, List, Option, Some, None, OnSome, length, map, sum_by}
+use Rattle.std.specs.Prelude.{◌≡◌, ℕ, ◌*◌, ◌≤◌, ◌^◌, ◌==◌, Bool, if◌then◌else◌, List, Option, Some, None, OnSome, length, map, sum_by}
 use Rattle.coflow_stats.specs.declared.value.Finished.{Finished}
 use Rattle.coflow_stats.specs.declared.value.Group.{Group}
 use Rattle.coflow_stats.specs.declared.value.Group.TheVariants.{ShortNarrow, LongNarrow, ShortWide, LongWide}
@@ -9,9 +9,13 @@ use Rattle.coflow_stats.specs.declared.value.Totals.{Totals}
 use Rattle.coflow_stats.specs.Groups.{duration, durations_of}
 use Rattle.coflow_stats.specs.Summary.{IsSummary}
 
--- the sum of weight times arrival
+-- what the arrival of a coflow costs every schedule: its weight times its arrival, and nothing where it has no units
+abbrev pub weighted_arrival : Finished → ℕ
+weighted_arrival x = if x.units == 0 then 0 else x.weight * x.arrival
+
+-- what arrivals cost every schedule
 abbrev pub weighted_arrivals : List Finished → ℕ
-weighted_arrivals xs = sum_by (λ (x : Finished). x.weight * x.arrival) xs
+weighted_arrivals xs = sum_by weighted_arrival xs
 
 -- the same of an online run; of a plan there is none
 abbrev pub arrivals_if : Bool → List Finished → Option ℕ

@@ -4,7 +4,7 @@ ghost use Rattle.coflow_units.specs.declared.limits.TheConstants.{MAX_COFLOWS, M
 ghost use Rattle.schedule_model.specs.RunList.{slots_in};
 ghost use Rattle.coflow_stats.specs.declared.value.Finished.{Finished};
 ghost use Rattle.coflow_stats.specs.Groups.{duration, durations_of};
-ghost use Rattle.coflow_stats.specs.Stats.{IsSmall, IsStats, IsWritable, arrivals_if, weighted_arrivals};
+ghost use Rattle.coflow_stats.specs.Stats.{IsSmall, IsStats, IsWritable, arrivals_if, weighted_arrival, weighted_arrivals};
 ghost use Rattle.coflow_stats.specs.Summary.{IsSummary};
 
 use crate::groups::{duration, durations_of};
@@ -75,7 +75,7 @@ fn summary_of_group(
     summary_of(alloc, &durations)
 }
 
-/// The sum of weight times arrival, of an online run alone.
+/// What arrivals cost every schedule, of an online run alone.
 fn arrivals_if(online: bool, coflows: &[Finished]) -> Option<u128>
     requires few { length coflows.now ≤ MAX_COFLOWS }
     requires weights { All (λ (x : Finished). x.weight ≤ MAX_WEIGHT) coflows.now }
@@ -87,7 +87,7 @@ fn arrivals_if(online: bool, coflows: &[Finished]) -> Option<u128>
     Some(weighted_arrivals(coflows))
 }
 
-/// The sum of weight times arrival.
+/// The sum of weight times arrival, of the coflows that have units.
 fn weighted_arrivals(coflows: &[Finished]) -> u128
     requires few { length coflows.now ≤ MAX_COFLOWS }
     requires weights { All (λ (x : Finished). x.weight ≤ MAX_WEIGHT) coflows.now }
@@ -95,18 +95,21 @@ fn weighted_arrivals(coflows: &[Finished]) -> u128
 {
     let mut total = 0;
     for coflow in coflows {
-        total += weighted_arrival(coflow.weight, coflow.arrival);
+        total += weighted_arrival(coflow);
     }
     total
 }
 
-/// Weight times arrival.
-fn weighted_arrival(weight: u64, arrival: u64) -> u128
-    requires { weight ≤ MAX_WEIGHT }
-    ensures product { result ≡ weight * arrival }
+/// Weight times arrival, or 0 where the coflow has no units.
+fn weighted_arrival(coflow: &Finished) -> u128
+    requires { coflow.now.weight ≤ MAX_WEIGHT }
+    ensures product { result ≡ weighted_arrival coflow.now }
     ensures small { result ≤ 2 ^ 96 }
 {
-    u128::from(weight) * u128::from(arrival)
+    if coflow.units == 0 {
+        return 0;
+    }
+    u128::from(coflow.weight) * u128::from(coflow.arrival)
 }
 
 /// How many slots the runs have.

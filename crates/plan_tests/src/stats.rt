@@ -134,7 +134,7 @@ const NUMBERS: &[Numbers] = &[
             },
         },
         &[(1, 2, 3, 5), (1, 2, 4, 6), (0, 0, 9, 0)],
-        "sincronia stats 1\ncoflows 3\nbound 100\ncost 130\nratio 1.3000\narrivals 32\nnet-bound 68\nnet-cost 98\nnet-ratio 1.4412\nmakespan 4\nslots all 3 mean 1.333 median 2 p95 2 p99 2\nslots short-narrow 3 mean 1.333 median 2 p95 2 p99 2\nslots long-narrow 0\nslots short-wide 0\nslots long-wide 0\nms all 3 mean 10.666 median 16 p95 16 p99 16\nms short-narrow 3 mean 10.666 median 16 p95 16 p99 16\nms long-narrow 0\nms short-wide 0\nms long-wide 0\nend\n",
+        "sincronia stats 1\ncoflows 3\nbound 100\ncost 130\nratio 1.3000\narrivals 14\nnet-bound 86\nnet-cost 116\nnet-ratio 1.3489\nmakespan 4\nslots all 3 mean 1.333 median 2 p95 2 p99 2\nslots short-narrow 3 mean 1.333 median 2 p95 2 p99 2\nslots long-narrow 0\nslots short-wide 0\nslots long-wide 0\nms all 3 mean 10.666 median 16 p95 16 p99 16\nms short-narrow 3 mean 10.666 median 16 p95 16 p99 16\nms long-narrow 0\nms short-wide 0\nms long-wide 0\nend\n",
     ),
     (
         Telling {
@@ -147,7 +147,7 @@ const NUMBERS: &[Numbers] = &[
             },
         },
         &[(1, 3, 3, 5), (1, 3, 4, 6), (0, 0, 9, 0)],
-        "sincronia stats 1\ncoflows 3\nbound 10\ncost 40\nratio 4.0000\narrivals 32\nnet-bound 0\nnet-cost 8\nnet-ratio -\nmakespan 4\nslots all 3 mean 1.333 median 2 p95 2 p99 2\nslots short-narrow 1 mean 0.000 median 0 p95 0 p99 0\nslots long-narrow 2 mean 2.000 median 2 p95 2 p99 2\nslots short-wide 0\nslots long-wide 0\nend\n",
+        "sincronia stats 1\ncoflows 3\nbound 10\ncost 40\nratio 4.0000\narrivals 14\nnet-bound 0\nnet-cost 26\nnet-ratio -\nmakespan 4\nslots all 3 mean 1.333 median 2 p95 2 p99 2\nslots short-narrow 1 mean 0.000 median 0 p95 0 p99 0\nslots long-narrow 2 mean 2.000 median 2 p95 2 p99 2\nslots short-wide 0\nslots long-wide 0\nend\n",
     ),
 ];
 
