@@ -1,3 +1,5 @@
 mod NextStops
 mod OneAction
 mod ScanLoops
+pub mod Searching
+pub mod Actions

@@ -28,7 +28,7 @@ use Rattle.client_session.specs.Models.{HallModel}
 use Rattle.slot_runner.specs.Models.{RunnerModel}
 use Rattle.online_runs.specs.Deeds.{commands_of, course_of, Deed, IsOnlineSoFar, journal_of, owed_after, time_of}
 use Rattle.online_runs.specs.Value.{epoch_at, epochs_of}
-use Rattle.online_runs.proofs.Actions.{skip_none_owes}
+use Rattle.epochs.proofs.Actions.{skip_none_owes}
 use Rattle.online_runs.proofs.Along.{arrival_fits, course_more, Holds, holds_so_far, journal_snoc, so_far_more}
 use Rattle.online_runs.proofs.Counts.{few_entries}
 use Rattle.online_runs.proofs.Owed.{owes_as_flows, same_owes}

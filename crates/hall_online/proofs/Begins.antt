@@ -31,7 +31,7 @@ use Rattle.online_runs.specs.Input.{IsOnlineInput, online_limit, online_opening}
 use Rattle.online_runs.specs.Value.{IsOnlineOf, release_line, done_lines}
 use Rattle.online_runs.proofs.Along.{holds_first}
 use Rattle.online_runs.proofs.AtTheEnd.{run_serves}
-use Rattle.online_runs.proofs.Marks.{none_marked}
+use Rattle.epochs.proofs.Actions.{none_marked}
 use Rattle.online_runs.specs.declared.progress.Progress.{Progress}
 use Rattle.hall_online.specs.Halls.{IsReady}
 use Rattle.hall_online.specs.Serving.{EndsAs, HaveSent, HaveServed, IsUnderWay}

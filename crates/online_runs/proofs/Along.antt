@@ -22,9 +22,8 @@ use Rattle.journal.proofs.Legal.{legal_front}
 use Rattle.online_runs.specs.Deeds.{AreDoneFrom, commands_of, course_from, course_of, Deed, IsDone, IsOnlineSoFar, journal_of, owed_after, time_of}
 use Rattle.online_runs.specs.Input.{IsOnlineInput}
 use Rattle.online_runs.specs.Value.{epoch_at, epochs_of}
-use Rattle.online_runs.proofs.Actions.{run_not_due, skip_none_owes}
+use Rattle.epochs.proofs.Actions.{none_marked, run_not_due, skip_none_owes}
 use Rattle.online_runs.proofs.Counts.{AreFew, few_joins, few_leaves, few_publishes, few_runs, few_skips}
-use Rattle.online_runs.proofs.Marks.{none_marked}
 use Rattle.online_runs.proofs.Rising.{epochs_more, no_epoch, one_epoch, Rises, rises_first, rises_on, rises_same}
 use Rattle.online_runs.proofs.Shapes.{none_asked, run_entries}
 use Rattle.online_runs.proofs.Standing.{below, joins_by, joins_more, leaves_by, leaves_more, publishes_by, publishes_more, runs_by, runs_more, skip_goes, skips_by}

@@ -22,7 +22,7 @@ use Rattle.journal.proofs.ScheduleTimes.{slots_clear, times_is_sent}
 use Rattle.journal.proofs.Sound.{legal_sound}
 use Rattle.online_runs.specs.Deeds.{course_from, course_of, Deed, DoesNext, IsOnlineRun, IsOnlineSoFar, IsServedOnline, journal_of, owed_after, time_of}
 use Rattle.online_runs.specs.Input.{IsOnlineInput}
-use Rattle.online_runs.proofs.Actions.{end_none_owes, end_none_waits}
+use Rattle.epochs.proofs.Actions.{end_none_owes, end_none_waits}
 use Rattle.online_runs.proofs.Along.{Holds, holds_so_far}
 use Rattle.online_runs.proofs.Counts.{few_entries}
 use Rattle.online_runs.proofs.Owed.{owes_by_flow}

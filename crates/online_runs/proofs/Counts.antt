@@ -32,7 +32,7 @@ use Rattle.journal.proofs.Counting.{opened_grant}
 use Rattle.journal.proofs.Ending.{few_flows}
 use Rattle.journal.proofs.ServingRuns.{ends_a_flow}
 use Rattle.online_runs.specs.Deeds.{owed_after, time_of}
-use Rattle.online_runs.proofs.Actions.{run_not_due}
+use Rattle.epochs.proofs.Actions.{run_not_due}
 use Rattle.online_runs.proofs.Marks.{marked, one_marked}
 use Rattle.online_runs.proofs.Owed.{owes_at, owes_by_flow, same_owes}
 use Rattle.online_runs.proofs.Shapes.{drive_of, run_entries, run_is_driven}

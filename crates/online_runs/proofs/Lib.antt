@@ -1,4 +1,3 @@
-pub mod Actions
 pub mod Along
 pub mod AtTheEnd
 pub mod Bounds
@@ -10,7 +9,6 @@ pub mod Owed
 pub mod Releases
 pub mod Right
 pub mod Rising
-pub mod Searching
 pub mod Shapes
 pub mod Standing
 pub mod Tallying

@@ -8,17 +8,12 @@ use Rattle.std.proofs.lemmas.List.Folds.{list_any-append}
 use Rattle.std.proofs.lemmas.List.Sums.{sum_by-set}
 use Rattle.coflow_units.proofs.Bools.{or_not}
 use Rattle.epochs.specs.Course.{is_marked}
+use Rattle.epochs.proofs.Actions.{none_marked}
 use Rattle.journal.specs.State.{has}
 
 -- the list has the coflows that are marked, and no others
 abbrev pub HasMarked : List ℕ → List Bool → Type 0
 HasMarked xs marks = (c : ℕ) → has xs c ≡ is_marked marks c
-
-pub none_marked : (n c : ℕ) → is_marked (replicate n false) c ≡ false
-none_marked n c = elim (cases_lt c n) [
-  | inl lt ↦ get_or-replicate n c false false lt
-  | inr past ↦ get_or_past (replicate n false) c false (omega (arith, past, length-replicate n false))
-]
 
 pub marks_none : (n : ℕ) → HasMarked [] (replicate n false)
 marks_none n c = sym (none_marked n c)

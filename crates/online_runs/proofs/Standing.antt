@@ -45,7 +45,7 @@ use Rattle.journal.proofs.Sound.{legal_sound}
 use Rattle.journal.proofs.UnderWay.{close_reply}
 use Rattle.online_runs.specs.Deeds.{commands_of, IsDone, owed_after, time_of}
 use Rattle.online_runs.specs.Input.{IsOnlineInput}
-use Rattle.online_runs.proofs.Actions.{marked_below, skip_none_owes}
+use Rattle.epochs.proofs.Actions.{marked_below, skip_none_owes}
 use Rattle.online_runs.proofs.Marks.{HasMarked, marks_more, marks_none}
 use Rattle.online_runs.proofs.Owed.{flow_owes, owes_by_flow, OwesBy}
 use Rattle.online_runs.proofs.Shapes.{drive_of, goes_on_so, none_asked, one_asked, run_entries, run_is_driven, two_asked}

@@ -26,7 +26,7 @@ use Rattle.journal.proofs.Driving.{driven_even}
 use Rattle.journal.proofs.Present.{line_present}
 use Rattle.journal.proofs.Schedules.{schedule_length}
 use Rattle.online_runs.specs.Deeds.{coflow_owes, owed_after, time_of}
-use Rattle.online_runs.proofs.Actions.{marked_below}
+use Rattle.epochs.proofs.Actions.{marked_below}
 use Rattle.online_runs.proofs.Owed.{owes_at, owes_by_flow, OwesBy}
 use Rattle.online_runs.proofs.Shapes.{drive_of, run_entries}
 use Rattle.online_runs.proofs.Standing.{few_slots, next_some, parts_here, run_goes, Stands}

@@ -17,7 +17,7 @@ use coflow_units::{Items, NoMemory};
 use flow_table::Table;
 use online_text::{DoneLine, Online, ReleaseLine};
 use port_load::Loads;
-use release_bound::{ReleaseBssi, ReleasePlace, released_total};
+use release_bound::{ReleaseBssi, ReleasePlace, Threshold, released_total};
 use schedule_model::{Schedule, completions, cost_of};
 use std::alloc::Global;
 
@@ -159,7 +159,7 @@ fn release_order(
 {
     let mut loads = Loads::of(alloc, table.flows(), table.coflows(), table.ports())?;
     let mut order = ReleaseBssi::with_room(alloc, table.coflows(), table.ports())?;
-    order.run(&mut loads, weights, arrivals);
+    order.run(&mut loads, weights, arrivals, Threshold::One);
     Ok(order)
 }
 

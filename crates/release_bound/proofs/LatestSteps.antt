@@ -1,5 +1,5 @@
 -- The waiting coflow that arrives last, and the place that is chosen with it.
-use Rattle.std.proofs.Common.{◌≡◌, ℕ, ◌+◌, ◌<◌, ◌≤◌, ◌⊎◌, inl, inr, Bool, true, false, List, length, max, refl, sym, ap, subst, ◌∙◌, arith, true≢false}
+use Rattle.std.proofs.Common.{◌≡◌, ℕ, ◌+◌, ◌<◌, ◌≤◌, ◌⊎◌, inl, inr, Bool, true, false, List, length, refl, sym, ap, subst, ◌∙◌, arith, true≢false}
 use Rattle.std.specs.Prelude.{count_by, slice_index}
 use Rattle.std.proofs.lemmas.Bool.{cases_eq}
 use Rattle.coflow_units.specs.declared.plan.Place.{Place}
@@ -8,6 +8,7 @@ use Rattle.bssi_order.specs.Step.{IsChosen}
 use Rattle.bssi_order.proofs.TableSteps.{at_most_of, either_way, one_is_marked, present_below}
 use Rattle.release_bound.specs.ReleaseOrder.{IsLate}
 use Rattle.release_bound.specs.ReleaseStep.{IsLatestWaiting, IsReleaseChosen}
+use Rattle.release_bound.proofs.Lateness.{has_load}
 
 -- `last` is the arrival of `latest`; where none of the first coflows waits, it is 0
 abbrev pub HasFound : List Bool → List ℕ → ℕ → ℕ → ℕ → Type 0
@@ -96,31 +97,29 @@ latest_of waiting arrivals latest last so_far some =
 
 -- ---- the choice
 
-not_late : (load arrival : ℕ) → max arrival 1 ≤ load → IsLate load arrival → ⊥
-not_late load arrival le (inl none) = omega arith
-not_late load arrival le (inr less) = omega arith
+pub chosen_late : (quarters : ℕ) (t : LoadTable) (arrivals residuals : List ℕ) (waiting : List Bool) (x : Place) (m : ℕ) → IsChosen t residuals waiting x →
+    IsLatestWaiting waiting arrivals m → IsLate quarters x.load (slice_index arrivals m) →
+    IsReleaseChosen quarters t arrivals residuals waiting (record { coflow = m; port = x.port; y = 0; z = slice_index residuals m })
+chosen_late quarters t arrivals residuals waiting x m chosen latest late =
+    let late' = subst (λ n. IsLate quarters n (slice_index arrivals m)) chosen.load late in
+    record {
+      port = chosen.port;
+      waits = latest.waits;
+      latest = m;
+      is_latest = latest;
+      late_coflow = λ late. refl;
+      late_y = λ late. refl;
+      early_coflow = λ early. absurd (early late');
+      early_y = λ early. absurd (early late');
+      z_is = omega arith;
+    }
 
-pub chosen_late : (t : LoadTable) (arrivals residuals : List ℕ) (waiting : List Bool) (x : Place) (m : ℕ) → IsChosen t residuals waiting x → IsLatestWaiting waiting arrivals m →
-    x.load < max (slice_index arrivals m) 1 →
-    IsReleaseChosen t arrivals residuals waiting (record { coflow = m; port = x.port; y = 0; z = slice_index residuals m })
-chosen_late t arrivals residuals waiting x m chosen latest less = record {
-  port = chosen.port;
-  waits = latest.waits;
-  latest = m;
-  is_latest = latest;
-  late_coflow = λ late. refl;
-  late_y = λ late. refl;
-  early_coflow = λ some le. absurd (omega (arith, some, le, less, chosen.load));
-  early_y = λ some le. absurd (omega (arith, some, le, less, chosen.load));
-  z_is = omega arith;
-}
-
-pub chosen_early : (t : LoadTable) (arrivals residuals : List ℕ) (waiting : List Bool) (x : Place) (m : ℕ) → IsChosen t residuals waiting x → IsLatestWaiting waiting arrivals m →
-    max (slice_index arrivals m) 1 ≤ x.load →
-    IsReleaseChosen t arrivals residuals waiting (record { coflow = x.coflow; port = x.port; y = x.y; z = x.rest })
-chosen_early t arrivals residuals waiting x m chosen latest le =
-    let out = λ (late : IsLate (total_at t x.port) (slice_index arrivals m)). not_late (total_at t x.port) (slice_index arrivals m)
-    (subst (λ n. max (slice_index arrivals m) 1 ≤ n) chosen.load le) late in
+pub chosen_early : (quarters : ℕ) (t : LoadTable) (arrivals residuals : List ℕ) (waiting : List Bool) (x : Place) (m : ℕ) → IsChosen t residuals waiting x →
+    IsLatestWaiting waiting arrivals m → (IsLate quarters x.load (slice_index arrivals m) → ⊥) →
+    IsReleaseChosen quarters t arrivals residuals waiting (record { coflow = x.coflow; port = x.port; y = x.y; z = x.rest })
+chosen_early quarters t arrivals residuals waiting x m chosen latest early =
+    let out = λ (late : IsLate quarters (total_at t x.port) (slice_index arrivals m)). early (subst (λ n. IsLate quarters n (slice_index arrivals m)) (sym chosen.load) late) in
+    let some : 0 < total_at t x.port = has_load quarters (total_at t x.port) (slice_index arrivals m) out in
     record {
       port = chosen.port;
       waits = chosen.waits;
@@ -128,7 +127,7 @@ chosen_early t arrivals residuals waiting x m chosen latest le =
       is_latest = latest;
       late_coflow = λ late. absurd (out late);
       late_y = λ late. absurd (out late);
-      early_coflow = λ some later. chosen.busy_coflow some;
-      early_y = λ some later. chosen.busy_y some;
+      early_coflow = λ early. chosen.busy_coflow some;
+      early_y = λ early. chosen.busy_y some;
       z_is = chosen.rest;
     }

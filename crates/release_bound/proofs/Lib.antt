@@ -2,8 +2,11 @@ mod LateLaw
 mod LateSlots
 mod ReleasedLaw
 mod SizeLaw
+mod Lateness
 mod LatestSteps
 mod ReleaseSteps
+mod ZeroLaw
+mod OneCertificate
 mod ChargeSteps
 mod ArrivalSteps
 mod TotalSteps

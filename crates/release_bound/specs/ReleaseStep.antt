@@ -14,17 +14,17 @@ pub record IsLatestWaiting (waiting : List Bool) (arrivals : List ℕ) (coflow :
       ((slice_index arrivals other ≡ slice_index arrivals coflow) × (other ≤ coflow))
 
 -- the place that comes before those that are there
-pub record IsReleaseChosen (t : LoadTable) (arrivals residuals : List ℕ) (waiting : List Bool) (x : ReleasePlace) :
-    Type 0 where
+pub record IsReleaseChosen (quarters : ℕ) (t : LoadTable) (arrivals residuals : List ℕ) (waiting : List Bool)
+    (x : ReleasePlace) : Type 0 where
   pub port : IsGreatestPort t x.port
   pub waits : is_present waiting x.coflow ≡ true
   pub latest : ℕ
   pub is_latest : IsLatestWaiting waiting arrivals latest
-  pub late_coflow : IsLate (total_at t x.port) (slice_index arrivals latest) → x.coflow ≡ latest
-  pub late_y : IsLate (total_at t x.port) (slice_index arrivals latest) → x.y ≡ 0
-  pub early_coflow : 0 < total_at t x.port → slice_index arrivals latest ≤ total_at t x.port →
+  pub late_coflow : IsLate quarters (total_at t x.port) (slice_index arrivals latest) → x.coflow ≡ latest
+  pub late_y : IsLate quarters (total_at t x.port) (slice_index arrivals latest) → x.y ≡ 0
+  pub early_coflow : (IsLate quarters (total_at t x.port) (slice_index arrivals latest) → ⊥) →
       IsLeastRatio t residuals x.port x.coflow
-  pub early_y : 0 < total_at t x.port → slice_index arrivals latest ≤ total_at t x.port →
+  pub early_y : (IsLate quarters (total_at t x.port) (slice_index arrivals latest) → ⊥) →
       x.y ≡ slice_index residuals x.coflow / load_at t x.coflow x.port
   pub z_is : x.z ≡ slice_index residuals x.coflow - x.y * load_at t x.coflow x.port
 

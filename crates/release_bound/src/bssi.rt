@@ -5,20 +5,21 @@ ghost use Rattle.coflow_units.specs.declared.fabric.Port.{Port};
 ghost use Rattle.coflow_units.specs.Flows.{Instance};
 ghost use Rattle.port_load.specs.LoadTable.{IsSameSize, total_at};
 ghost use Rattle.release_bound.specs.Release.{IsReleasedFeasible};
-ghost use Rattle.release_bound.specs.ReleaseOrder.{IsReleasedOrdering};
+ghost use Rattle.release_bound.specs.ReleaseOrder.{IsReleasedBy};
 ghost use Rattle.release_bound.specs.ReleaseTable.{IsOfTable};
 
 use crate::place::ReleasePlace;
 use crate::step;
+use crate::threshold::Threshold;
 use bssi_order::give_budgets;
 use coflow_units::{NoMemory, Port, Side};
 use port_load::Loads;
 use std::alloc::Global;
 use std::marker::Model;
 
-/// Makes the certificate whose total is printed for schedules that serve nobody before its arrival: bottleneck, select, scale, iterate (Agarwal, Rajakrishnan,
+/// Makes a certificate whose total is printed for schedules that serve nobody before its arrival: bottleneck, select, scale, iterate (Agarwal, Rajakrishnan,
 /// Narayan, Agarwal, Shmoys and Vahdat, "Sincronia: near-optimal network design for coflows", SIGCOMM 2018), where a coflow that arrives late pays for its earliest
-/// end. It holds the room that a run needs, and the places of the last run.
+/// end. A threshold says from when on that is. It holds the room that a run needs, and the places of the last run.
 ///
 /// Contracts see a `ReleaseBssi` as the number of coflows that it has room for, and its places.
 #[derive(Drop)]
@@ -68,16 +69,16 @@ impl ReleaseBssi {
         })
     }
 
-    /// Makes the certificate of all coflows of the loads, with one weight, at most 2^32, and one arrival, a time in slots, for each of them. The loads are used up:
+    /// Makes the certificate by this threshold of all coflows of the loads, with one weight, at most 2^32, and one arrival, a time in slots, for each of them. The loads are used up:
     /// what they hold afterwards is not told.
-    pub fn run(&mut self, loads: &mut Loads, weights: &[u64], arrivals: &[u64])
+    pub fn run(&mut self, loads: &mut Loads, weights: &[u64], arrivals: &[u64], by: Threshold)
         requires room { loads.old.coflows ≤ self.old.room }
         requires weights_len { length weights.now ≡ loads.old.coflows }
         requires arrivals_len { length arrivals.now ≡ loads.old.coflows }
         requires weights_fit { All (λ w. w ≤ MAX_WEIGHT) weights.now }
         requires totals_fit { (port : Port) → port.number < loads.old.ports → total_at loads.old port ≤ MAX_UNITS }
         ensures order { (i : Instance) (arrival : ℕ → ℕ) → IsOfTable i arrival loads.old weights.now arrivals.now →
-            IsReleasedOrdering i arrival (reverse self.new.places) }
+            IsReleasedBy by i arrival (reverse self.new.places) }
         ensures feasible { (i : Instance) (arrival : ℕ → ℕ) → IsOfTable i arrival loads.old weights.now arrivals.now →
             IsReleasedFeasible i.flows i.weight (reverse self.new.places) }
         ensures count { length self.new.places ≡ loads.old.coflows }
@@ -91,6 +92,7 @@ impl ReleaseBssi {
             loads,
             weights,
             arrivals,
+            by,
         );
     }
 
@@ -110,6 +112,7 @@ fn order(
     loads: &mut Loads,
     weights: &[u64],
     arrivals: &[u64],
+    by: Threshold,
 ) -> usize
     requires room { loads.old.coflows ≤ length places.old }
     requires residuals_len { loads.old.coflows ≤ length residuals.old }
@@ -119,7 +122,7 @@ fn order(
     requires weights_fit { All (λ w. w ≤ MAX_WEIGHT) weights.now }
     requires totals_fit { (port : Port) → port.number < loads.old.ports → total_at loads.old port ≤ MAX_UNITS }
     ensures order { (i : Instance) (arrival : ℕ → ℕ) → IsOfTable i arrival loads.old weights.now arrivals.now →
-        IsReleasedOrdering i arrival (reverse (take result places.new)) }
+        IsReleasedBy by i arrival (reverse (take result places.new)) }
     ensures count { result ≡ loads.old.coflows }
     ensures size { IsSameSize loads.old loads.new }
 {
@@ -128,6 +131,13 @@ fn order(
     let waiting = &mut waiting[..coflows];
     waiting.fill(true);
     give_budgets(residuals, weights);
-    step::place_all(&mut places[..coflows], loads, arrivals, residuals, waiting);
+    step::place_all(
+        &mut places[..coflows],
+        loads,
+        arrivals,
+        residuals,
+        waiting,
+        by,
+    );
     coflows
 }

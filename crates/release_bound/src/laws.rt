@@ -1,5 +1,5 @@
 //! Laws of released certificates. Each says something of every set of flows, arrivals, certificate and schedule.
-ghost use Rattle.std.specs.Prelude.{◌≡◌, ℕ, ◌+◌, ◌*◌, ◌<◌, ◌≤◌, List, Contains, sum_by};
+ghost use Rattle.std.specs.Prelude.{◌≡◌, ℕ, ◌+◌, ◌*◌, ◌<◌, ◌≤◌, List, All, Contains, sum_by};
 ghost use Rattle.coflow_units.specs.declared.fabric.Flow.{Flow};
 ghost use Rattle.coflow_units.specs.declared.fabric.Port.{Port};
 ghost use Rattle.coflow_units.specs.Flows.{Instance, IsDistinct};
@@ -9,7 +9,9 @@ ghost use Rattle.coflow_units.specs.Certificate.{budget, front, scale};
 ghost use Rattle.release_bound.specs.declared.place.ReleasePlace.{ReleasePlace};
 ghost use Rattle.release_bound.specs.Release.{IsReleased, IsReleasedCertificate, IsReleasedFeasible, earliest_end};
 ghost use Rattle.release_bound.specs.Release.{entries_of, front_value, released_total, released_value};
-ghost use Rattle.release_bound.specs.ReleaseOrder.{IsReleasedOrdering};
+ghost use Rattle.release_bound.specs.ReleaseOrder.{IsReleasedBy};
+ghost use Rattle.release_bound.specs.declared.threshold.Threshold.{Threshold};
+ghost use Rattle.release_bound.specs.declared.threshold.Threshold.TheVariants.{Zero};
 ghost use Rattle.release_bound.specs.Rows.{both_are_late, long_after_short, long_and_short, long_and_short_alike, one_part_more, short_is_late};
 
 /// The parallel inequality with arrivals: where nobody is served before its arrival, twice the sum of load times completion
@@ -67,8 +69,25 @@ pub fn late_row_is_feasible()
         10 ≤ cost long_and_short long_and_short_alike.weight long_and_short_alike.coflows slots }
 {}
 
-/// The released certificate is feasible: no coflow pays more than its budget.
+/// The released certificate by each threshold is feasible: no coflow pays more than its budget. So each total is at most the cost of every schedule that serves nobody before its arrival.
 pub fn released_ordering_is_feasible()
-    ensures { (i : Instance) (arrival : ℕ → ℕ) (places : List ReleasePlace) → IsReleasedOrdering i arrival places →
-        IsReleasedFeasible i.flows i.weight places }
+    ensures feasible { (by : Threshold) (i : Instance) (arrival : ℕ → ℕ) (places : List ReleasePlace) →
+        IsReleasedBy by i arrival places → IsReleasedFeasible i.flows i.weight places }
+    ensures total { (by : Threshold) (i : Instance) (arrival : ℕ → ℕ) (places : List ReleasePlace)
+        (slots : List (List ℕ)) → IsReleasedBy by i arrival places → IsReleased i.flows arrival slots →
+        released_total i.flows arrival i.ports places ≤ cost i.flows i.weight i.coflows slots }
+{}
+
+/// Where every arrival is late, each coflow pays with its whole budget for its earliest end, and nothing for load.
+pub fn zero_is_trivial()
+    ensures y { (i : Instance) (arrival : ℕ → ℕ) (places : List ReleasePlace) → IsReleasedBy Zero i arrival places →
+        All (λ (r : ReleasePlace). r.y ≡ 0) places }
+    ensures z { (i : Instance) (arrival : ℕ → ℕ) (places : List ReleasePlace) → IsReleasedBy Zero i arrival places →
+        All (λ (r : ReleasePlace). r.z ≡ budget i.weight r.coflow) places }
+{}
+
+/// There is one certificate by a threshold at most.
+pub fn released_ordering_is_one()
+    ensures { (by : Threshold) (i : Instance) (arrival : ℕ → ℕ) (a b : List ReleasePlace) →
+        IsReleasedBy by i arrival a → IsReleasedBy by i arrival b → a ≡ b }
 {}

@@ -6,7 +6,9 @@ mod certificate;
 pub mod laws;
 mod place;
 mod step;
+mod threshold;
 
 pub use bssi::ReleaseBssi;
 pub use certificate::{released_infeasible, released_total};
 pub use place::ReleasePlace;
+pub use threshold::Threshold;

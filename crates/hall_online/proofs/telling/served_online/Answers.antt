@@ -1,4 +1,5 @@
 use Rattle.std.proofs.Common.{◌≡◌, ◌∙◌, Err, length, sym, ap}
+use Rattle.release_bound.specs.declared.threshold.Threshold.TheVariants.{One}
 use Rattle.hall_online.specs.declared.answer.OnlineFault.TheVariants.{TooMany, WireFault}
 use Rattle.hall_online.proofs.HandedOn.{carried}
 use Rattle.hall_online.specs.Told.{SendsAll}
@@ -17,7 +18,7 @@ returns-clause-text g c =
     told_of c.args.table.now c.args.weights.now c.args.slot_ms c.args.every
     (may_serve _ _ c.args.slot_ms _ c.coflows-within.ensures.table c.requires.weight_each c.requires.weight_range c.requires.epoch_some c.requires.epoch_fits)
     c.in_ok-arrivals.arrivals.items c.deref.result.now c.in_ok-arrivals.ensures.arrivals c.in_ok-arrivals.ensures.each c.in_ok-arrivals.ensures.range c.deref.ensures.value
-    c.online_runs_are_one.ensures.too_many c.released_is_bound.ensures.total c.released_ordering_is_feasible.ensures
+    c.online_runs_are_one.ensures.too_many c.released_is_bound.ensures.total (c.released_ordering_is_feasible.ensures.feasible One)
     (SendsAll g.W.Wire.runs c.args.wires.now.items c.serve_online.new.wires.items c.args.table.now)
     c.in_ok-online.online c.in_ok-text.text c.in_ok-online.ensures.online c.in_ok-text.ensures.text c.in_ok-online.ensures.sent
 

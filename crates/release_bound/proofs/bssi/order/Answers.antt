@@ -2,7 +2,7 @@ use Rattle.std.proofs.Common.{◌≡◌, [], drop, length-take-le, reverse, true
 use Rattle.std.specs.Prelude.{replicate}
 use Rattle.bssi_order.specs.Step.{Stands}
 use Rattle.bssi_order.proofs.BeginSteps.{length_part, take_front}
-use Rattle.release_bound.specs.ReleaseOrder.{IsReleasedOrdering}
+use Rattle.release_bound.specs.ReleaseOrder.{IsReleasedBy}
 use Rattle.release_bound.proofs.ReleaseSteps.{stands_first}
 use Rattle.release_bound.proofs.bssi.order.Goals as goal
 
@@ -18,4 +18,4 @@ returns-clause-order c = λ i arrival of.
     (λ k lt. of.arrives k (omega (arith, lt, c.requires.arrivals_len))) in
     let filled = take_front c.coflows-coflows.result c.place_all.new.places (drop c.coflows-coflows.result c.args.places.now)
     (length_part c.coflows-coflows.result c.place_all.new.places c.args.places.now c.place_all.auto.places (omega (arith, n, c.requires.room))) in
-    subst (λ l. IsReleasedOrdering i arrival (reverse l)) (sym filled) order
+    subst (λ l. IsReleasedBy c.args.by i arrival (reverse l)) (sym filled) order

@@ -1,10 +1,10 @@
 -- Which actions apply: what is known where one is the first that does.
 use Rattle.std.proofs.Common.{◌≡◌, ℕ, ◌+◌, ◌-◌, ◌*◌, ◌/◌, ◌%◌, ◌<◌, ◌≤◌, ◌⊎◌, inl, inr, Bool, true, false, true≢false, List, get_or, length, Contains, refl, sym, ap, subst}
 use Rattle.std.proofs.Common.{◌∙◌, arith, suc, zero}
-use Rattle.std.specs.Prelude.{◌==◌, ◌&&◌, ◌||◌, not, nat_le, nat_lt, slice_index}
+use Rattle.std.specs.Prelude.{◌==◌, ◌&&◌, ◌||◌, not, nat_le, nat_lt, replicate, slice_index}
 use Rattle.std.specs.List.{list_any}
 use Rattle.std.proofs.lemmas.Bool.{and_from, and_parts, cases_lt, eq-eqb, eqb-true, le-leb, leb-true, lt-ltb, ltb-true, not-true, not_from_false, or_cases, or_left, or_right}
-use Rattle.std.proofs.lemmas.List.{get_or_default, get_or_past}
+use Rattle.std.proofs.lemmas.List.{get_or_default, get_or_past, get_or-replicate, length-replicate}
 use Rattle.std.proofs.lemmas.List.Elements.{Contains-get_or}
 use Rattle.std.proofs.lemmas.Nat.{div-add-mod', mod_below}
 use Rattle.std.proofs.Math.Nat.{add-mod_right, mul-mod_left}
@@ -15,7 +15,7 @@ use Rattle.epochs.specs.declared.action.Action.{Action}
 use Rattle.epochs.specs.declared.action.Action.TheVariants.{End, Publish, Register, Run, Skip, TooMany, Withdraw}
 use Rattle.epochs.specs.Choice.{Applies, IsDue, IsFirstAction, place}
 use Rattle.epochs.specs.Course.{Course, IsArrival, IsNextArrival, IsNextStop, IsPresent, IsStop, IsWaiting, SomeOwes, Waits, arrival_of, is_marked}
-use Rattle.online_runs.proofs.Searching.{first_true, IsFirstTrue, IsLeastTrue, least_true, NoLater}
+use Rattle.epochs.proofs.Searching.{first_true, IsFirstTrue, IsLeastTrue, least_true, NoLater}
 
 -- ---- marks
 
@@ -23,6 +23,12 @@ pub marked_below : (marks : List Bool) (c : ℕ) → is_marked marks c ≡ true 
 marked_below marks c is = elim (cases_lt c (length marks)) [
   | inl lt ↦ lt
   | inr past ↦ absurd (true≢false (sym is ∙ get_or_past marks c false past))
+]
+
+pub none_marked : (n c : ℕ) → is_marked (replicate n false) c ≡ false
+none_marked n c = elim (cases_lt c n) [
+  | inl lt ↦ get_or-replicate n c false false lt
+  | inr past ↦ get_or_past (replicate n false) c false (omega (arith, past, length-replicate n false))
 ]
 
 abbrev is_here : Course → ℕ → Bool
