@@ -37,6 +37,42 @@ end
 FORK = b"2 2\n1 0 1 0 2 1:1 2:4\n2 0 1 1 1 1:1\n"
 # Ports 0 and 1, and a coflow on each: they do not meet. The last coflow has no units.
 APART = b"1 3\n5 0 1 0 1 0:2\n9 0 1 1 1 1:2\n7 0 1 0 0\n"
+# One class. The cap of coflow 1 is 4 + 4 - 3, and that of coflow 2 is 4 + 4 - 1.
+ONE_CLASS = b"sincronia classes 1\nmember 1 1\nmember 1 2\ncap 12\ncost 7\nrun 3 0\nrun 1 1\nend\n"
+NO_CLASS = b"sincronia classes 1\ncap 0\ncost 0\nend\n"
+# The order of the plan of TWO is 2, 1, and coflow 1 begins behind 1 of 4 units: in the first half or third, in the second quarter, in the third eighth, and in the 17th of 64 parts.
+# That of APART is 7, 9, 5, and coflow 5 begins behind 2 of 4 units, in the second third.
+BY_LOAD = CLASSES + ["--fold", "load", "--classes"]
+# The order of the plan is 4, 2, 3, 1, and the bottlenecks are 2, 3, 2 and 6. So the coflows begin behind 0, 2, 5 and 7 of 13 units: by quarters in the first, the first, the second and the third.
+# In class 1 coflow 2 has a cap of 3 + 3 - 1 by its flow to port 0, and coflow 4 one of 2 + 3 - 2; then comes coflow 3 with 4 + 4 - 2, and coflow 1 with 6 + 10 - 3 by its flow from port 2.
+FOUR = b"2 4\n1 20 2 1 2 1 2:6\n2 30 1 2 2 0:1 2:2\n3 10 1 0 1 2:2\n4 0 1 0 1 0:2\n"
+FOUR_CLASSES = b"""sincronia classes 1
+member 1 2
+member 1 4
+member 2 3
+member 3 1
+cap 27
+cost 20
+run 1 2 4
+run 2 3 5
+run 1 4
+run 3 0
+run 3 1
+end
+"""
+# Coflow 1 sends a unit on each of four flows between two ports a side: its bottleneck is 2, and that of coflow 2 is 3. The order of the plan is 1, 2, and coflow 2 begins behind 2 of 5 units.
+# Counted by all their units it would begin behind 4 of 7. In one class the caps are 5 + 5 - 1 and 5 + 5 - 3.
+WIDE = b"2 2\n1 0 2 0 1 2 0:2 1:2\n2 0 1 0 1 0:3\n"
+WIDE_CLASSES = b"""sincronia classes 1
+member 1 1
+member 1 2
+cap 16
+cost 7
+run 1 0 3
+run 1 1 2
+run 3 4
+end
+"""
 
 # rows as above
 COMPARE_ROWS = [
@@ -61,18 +97,18 @@ COMPARE_ROWS = [
 ]
 CLASS_ROWS = [
     ("two classes", TWO, None, CLASSES + ["--classes", "2"], 0, TWO_CLASSES, b""),
-    ("one class", TWO, None, CLASSES + ["--classes", "1"], 0,
-     b"sincronia classes 1\nmember 1 1\nmember 1 2\ncap 12\ncost 7\nrun 3 0\nrun 1 1\nend\n", b""),
+    ("one class", TWO, None, CLASSES + ["--classes", "1"], 0, ONE_CLASS, b""),
     ("eight classes, as none are said", TWO, None, CLASSES, 0, TWO_CLASSES.replace(b"member 2 1", b"member 5 1"), b""),
     ("as many classes as there may be", TWO, None, ["--classes=64"] + CLASSES, 0, TWO_CLASSES.replace(b"member 2 1", b"member 33 1"), b""),
     ("classes with leading zeros", TWO, None, CLASSES + ["--classes", "002"], 0, TWO_CLASSES, b""),
-    ("classes of no coflow", b"2 0\n", None, CLASSES, 0, b"sincronia classes 1\ncap 0\ncost 0\nend\n", b""),
+    ("classes of no coflow", b"2 0\n", None, CLASSES, 0, NO_CLASS, b""),
     ("classes of coflows that do not meet", APART, None, CLASSES + ["--classes", "1"], 0,
      b"sincronia classes 1\nmember 1 5\nmember 1 9\nmember 1 7\ncap 4\ncost 4\nrun 2 0 1\nend\n", b""),
     ("classes of weights", TWO, b"1 5\n2 1\n", CLASSES + ["--weights", "w", "--classes", "2"], 0,
      b"sincronia classes 1\nmember 1 1\nmember 2 2\ncap 22\ncost 19\nrun 3 0\nrun 1 1\nend\n", b""),
     ("classes of two megabytes to a unit", TWO, None, CLASSES + ["--unit", "2", "--classes", "2"], 0,
      b"sincronia classes 1\nmember 1 2\nmember 2 1\ncap 5\ncost 4\nrun 1 1\nrun 2 0\nend\n", b""),
+    ("classes by count", TWO, None, CLASSES + ["--classes", "2", "--fold", "count"], 0, TWO_CLASSES, b""),
     ("no class", TWO, None, CLASSES + ["--classes", "0"], 2, b"", USAGE),
     ("too many classes", TWO, None, CLASSES + ["--classes", "65"], 2, b"", USAGE),
     ("classes that are no number", TWO, None, CLASSES + ["--classes", "x"], 2, b"", USAGE),
@@ -86,6 +122,33 @@ CLASS_ROWS = [
     ("classes of too many units", TOO_MANY, None, CLASSES, 7, b"", b"sincronia: limit: units 1099511627777\n"),
     ("classes of no such file", None, None, CLASSES, 8, b"", READ_FAULT),
     ("classes of no such weights", TWO, None, CLASSES + ["--weights", "w"], 8, b"", READ_FAULT),
+    ("two classes by load", TWO, None, BY_LOAD + ["2"], 0, ONE_CLASS, b""),
+    ("three classes by load", TWO, None, BY_LOAD + ["3"], 0, ONE_CLASS, b""),
+    ("four classes by load", TWO, None, BY_LOAD + ["4"], 0, TWO_CLASSES, b""),
+    ("eight classes by load, as none are said", TWO, None, CLASSES + ["--fold", "load"], 0, TWO_CLASSES.replace(b"member 2 1", b"member 3 1"), b""),
+    ("as many classes by load as there may be", TWO, None, BY_LOAD + ["64"], 0, TWO_CLASSES.replace(b"member 2 1", b"member 17 1"), b""),
+    ("a fold before the command", TWO, None, ["--fold=load"] + CLASSES + ["--classes=4"], 0, TWO_CLASSES, b""),
+    ("classes by load of four coflows", FOUR, None, BY_LOAD + ["4"], 0, FOUR_CLASSES, b""),
+    ("classes by the bottleneck, not by all units", WIDE, None, BY_LOAD + ["2"], 0, WIDE_CLASSES, b""),
+    ("classes by load of weights", TWO, b"1 5\n2 1\n", BY_LOAD + ["2", "--weights", "w"], 0,
+     b"sincronia classes 1\nmember 1 1\nmember 2 2\ncap 22\ncost 19\nrun 3 0\nrun 1 1\nend\n", b""),
+    ("classes by load of two megabytes to a unit", TWO, None, BY_LOAD + ["3", "--unit", "2"], 0,
+     b"sincronia classes 1\nmember 1 2\nmember 2 1\ncap 5\ncost 4\nrun 1 1\nrun 2 0\nend\n", b""),
+    ("classes by load of a coflow without load", APART, None, BY_LOAD + ["3"], 0,
+     b"sincronia classes 1\nmember 1 9\nmember 1 7\nmember 2 5\ncap 4\ncost 4\nrun 2 0 1\nend\n", b""),
+    ("classes by load where none has load", b"1 2\n5 0 1 0 0\n9 0 1 1 0\n", None, BY_LOAD + ["2"], 0, b"sincronia classes 1\nmember 1 5\nmember 1 9\ncap 0\ncost 0\nend\n", b""),
+    ("classes by count where none has load", b"1 2\n5 0 1 0 0\n9 0 1 1 0\n", None, CLASSES + ["--fold=count", "--classes=2"], 0,
+     b"sincronia classes 1\nmember 1 5\nmember 2 9\ncap 0\ncost 0\nend\n", b""),
+    ("classes by load of no coflow", b"2 0\n", None, BY_LOAD + ["2"], 0, NO_CLASS, b""),
+    ("classes by load of one coflow", b"2 1\n1 0 1 0 1 1:3\n", None, BY_LOAD + ["2"], 0, b"sincronia classes 1\nmember 1 1\ncap 3\ncost 3\nrun 3 0\nend\n", b""),
+    ("a fold that is not used", TWO, None, ["--fold", "load", "plan", "t"], 0, TWO_TEXT, b""),
+    ("a fold of another name", TWO, None, CLASSES + ["--fold", "x"], 2, b"", USAGE),
+    ("a fold in capitals", TWO, None, CLASSES + ["--fold", "LOAD"], 2, b"", USAGE),
+    ("a fold without a value", TWO, None, CLASSES + ["--fold"], 2, b"", USAGE),
+    ("an empty fold", TWO, None, CLASSES + ["--fold="], 2, b"", USAGE),
+    ("a fold twice", TWO, None, CLASSES + ["--fold=load", "--fold", "load"], 2, b"", USAGE),
+    ("two folds", TWO, None, ["--fold=count"] + CLASSES + ["--fold", "load"], 2, b"", USAGE),
+    ("a fold that is not used, of another name", TWO, None, ["plan", "t", "--fold", "x"], 2, b"", USAGE),
 ]
 
 # a trace, the weights of its coflows, and what the orders of the rankers cost: of the last one before and after it is told. In the first the second coflow is worth ten times as much by its weight, and its

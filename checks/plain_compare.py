@@ -4,7 +4,7 @@
 Use: checks/plain_compare.py [TRACES]     The last line is 'N passed, M failed'; the exit code is 0 where none failed.
      checks/plain_compare.py --plain      compares the plain program with worked texts and with those of the pages alone; no built program is needed.
 
-The traces are drawn: their weights, arrivals, sizes of a unit and numbers of classes too. Of each, no row is below the bound, the schedule that serves the class order keeps the classes slot by slot,
+The traces are drawn: their weights, arrivals, sizes of a unit, numbers of classes and ways to fold too. Of each, no row is below the bound, the schedule that serves the class order keeps the classes slot by slot,
 and its cost is at most the cap. Then come worked texts, and the commands that docs/COMPARE.md and docs/FORMATS.md show.
 """
 import os
@@ -112,12 +112,25 @@ def compared(ports, coflows, arrivals, unit):
 # Classes
 
 
-def folded(order, classes):
+def folded_by_count(order, classes):
     """The class of each coflow. Of n coflows the one at place r of the order, counted from 0, has the class 1 + r * classes / n, rounded down."""
     numbers = [0] * len(order)
     for place, coflow in enumerate(order):
         numbers[coflow] = 1 + place * classes // len(order)
     return numbers
+
+
+def folded_by_load(order, classes, loads):
+    """The class of each coflow. Where the bottlenecks before a coflow sum to b and all to s, it has the class 1 + b * classes / s, rounded down, and at most the last one. Where s is 0 it has class 1."""
+    numbers = [1] * len(order)
+    for place, coflow in enumerate(order):
+        if any(loads):
+            numbers[coflow] = min(classes, 1 + sum(loads[other] for other in order[:place]) * classes // sum(loads))
+    return numbers
+
+
+def folded(fold, order, classes, loads):
+    return folded_by_load(order, classes, loads) if fold == "load" else folded_by_count(order, classes)
 
 
 def cap_of(flows, weights, classes):
@@ -144,10 +157,10 @@ def keeps_classes(flows, classes, runs):
     return not any(left)
 
 
-def classed(ports, coflows, unit, count):
+def classed(ports, coflows, unit, count, fold):
     """Whether classes are kept and the cost is at most the cap, and the text of the classes."""
     flows, weights = flows_of(coflows, unit), [coflow.weight for coflow in coflows]
-    classes = folded([entry.coflow for entry in certificate(flows, weights, ports)], count)
+    classes = folded(fold, [entry.coflow for entry in certificate(flows, weights, ports)], count, bottlenecks(flows, ports, len(weights)))
     order = by_key(classes)
     runs, cap, cost = served(flows, order), cap_of(flows, weights, classes), cost_of(flows, weights, order)[0]
     lines = ["sincronia classes 1"] + ["member %d %d" % (classes[coflow], coflows[coflow].ident) for coflow in order]
@@ -171,19 +184,23 @@ WORKED = [
     (["classes", "--classes", "2"], TWO, "sincronia classes 1\nmember 1 2\nmember 2 1\ncap 6\ncost 5\nrun 1 1\nrun 3 0\nend\n"),
     (["classes", "--classes", "1"], TWO, "sincronia classes 1\nmember 1 1\nmember 1 2\ncap 12\ncost 7\nrun 3 0\nrun 1 1\nend\n"),
     (["classes"], "2 0\n", "sincronia classes 1\ncap 0\ncost 0\nend\n"),
+    (["classes", "--fold", "load"], "2 0\n", "sincronia classes 1\ncap 0\ncost 0\nend\n"),
+    (["classes", "--classes", "2", "--fold", "count"], TWO, "sincronia classes 1\nmember 1 2\nmember 2 1\ncap 6\ncost 5\nrun 1 1\nrun 3 0\nend\n"),
+    (["classes", "--classes", "2", "--fold", "load"], TWO, "sincronia classes 1\nmember 1 1\nmember 1 2\ncap 12\ncost 7\nrun 3 0\nrun 1 1\nend\n"),
+    (["classes", "--classes", "4", "--fold", "load"], TWO, "sincronia classes 1\nmember 1 2\nmember 2 1\ncap 6\ncost 5\nrun 1 1\nrun 3 0\nend\n"),
 ]
 
 
 def text_of(words, trace):
-    """What the plain program prints to a command, the options of which are `--classes` and `--unit`. To `cat` it is the trace."""
+    """What the plain program prints to a command, the options of which are `--classes`, `--fold` and `--unit`. To `cat` it is the trace."""
     if words[0] == "cat":
         return trace
     ports, coflows, arrivals = read_trace(trace)
-    options = dict(zip(words[1::2], map(int, words[2::2])))
-    unit = options.get("--unit", 1)
+    options = dict(zip(words[1::2], words[2::2]))
+    unit = int(options.get("--unit", 1))
     if words[0] == "compare":
         return compared(ports, coflows, arrivals, unit)[2]
-    return classed(ports, coflows, unit, options.get("--classes", FIRST_CLASSES))[1]
+    return classed(ports, coflows, unit, int(options.get("--classes", FIRST_CLASSES)), options.get("--fold", "count"))[1]
 
 
 def shown(page):
@@ -229,7 +246,8 @@ def fault_of(folder, ports, coflows, unit, r):
     bound, rows, text = compared(ports, coflows, arrivals, unit)
     if any(cost < bound for _, costs in rows for cost in costs):
         return "a row is below the bound"
-    kept, classes = classed(ports, coflows, unit, count)
+    fold = r.choice(("count", "load"))
+    kept, classes = classed(ports, coflows, unit, count, fold)
     if not kept:
         return "the class order does not keep its classes, or costs more than the cap"
     write(folder, "trace", arriving(trace_text(ports, coflows), arrivals))
@@ -237,7 +255,7 @@ def fault_of(folder, ports, coflows, unit, r):
     options = ["--weights", "weights", "--unit", str(unit)]
     if ran(folder, ["compare", "trace", *options]) != (0, text):
         return "another comparison is printed"
-    if ran(folder, ["classes", "trace", "--classes", str(count), *options]) != (0, classes):
+    if ran(folder, ["classes", "trace", "--classes", str(count), "--fold", fold, *options]) != (0, classes):
         return "other classes are printed"
     return None
 

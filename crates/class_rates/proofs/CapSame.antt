@@ -10,7 +10,7 @@ use Rattle.coflow_units.specs.Patient.{egress_port, ingress_port}
 use Rattle.coflow_units.proofs.Lists.{filter_same, number_below}
 use Rattle.coflow_units.proofs.Sums.{in_first, in_tail, sum_same}
 use Rattle.class_rates.specs.Cap.{cap, cap_of_coflow, cap_of_flow, greatest, up_to_class}
-use Rattle.class_rates.specs.Classes.{ClassFacts, IsFolded, IsPermutation, class_in, class_of}
+use Rattle.class_rates.specs.Classes.{ClassFacts, IsFolded, IsPermutation, class_by, class_of}
 
 greatest_same : (value other : ℕ → ℕ) (xs : List ℕ) → ((x : ℕ) → Contains xs x → value x ≡ other x) → greatest value xs ≡ greatest other xs
 greatest_same value other [] same = refl
@@ -53,8 +53,9 @@ cap_same flows weight coflows class other same =
     sum_same (λ c. weight c * cap_of_coflow flows coflows class c) (λ c. weight c * cap_of_coflow flows coflows other c) coflows
     (λ c has. ap (λ n. weight c * n) (coflow_same flows coflows class other c has same))
 
-pub cap_folded : (flows : List Flow) (weight : ℕ → ℕ) (order : List ℕ) (classes : ℕ) (t : ClassFacts) → IsPermutation order → IsFolded order classes t →
-    cap flows weight (range_with_len 0 (length order)) (class_of t) ≡ cap flows weight (range_with_len 0 (length order)) (class_in order classes)
-cap_folded flows weight order classes t permutation folded =
-    cap_same flows weight (range_with_len 0 (length order)) (class_of t) (class_in order classes)
+pub cap_folded : (size : ℕ → ℕ) (flows : List Flow) (weight : ℕ → ℕ) (order : List ℕ) (classes : ℕ) (t : ClassFacts) → IsPermutation order →
+    IsFolded size order classes t →
+    cap flows weight (range_with_len 0 (length order)) (class_of t) ≡ cap flows weight (range_with_len 0 (length order)) (class_by size order classes)
+cap_folded size flows weight order classes t permutation folded =
+    cap_same flows weight (range_with_len 0 (length order)) (class_of t) (class_by size order classes)
     (λ c has. folded.class_is c (permutation.all c (omega (arith, number_below 0 (length order) c has))))

@@ -1,23 +1,32 @@
 -- Classes along orders, and the class orders of two coflows.
-use Rattle.std.proofs.Common.{◌≡◌, ℕ, ◌*◌, ◌/◌, ◌≤◌, ◌<◌, ◌⊎◌, inl, inr, List, [], ◌∷◌, length, Contains, refl, subst, arith}
-use Rattle.std.proofs.Math.Nat.{div-mul-le_self, mul-le-mul_right}
-use Rattle.std.proofs.lemmas.Nat.{le-div}
+use Rattle.std.proofs.Common.{◌≡◌, ℕ, ◌≤◌, ◌<◌, ◌⊎◌, inl, inr, List, [], ◌∷◌, length, take, Contains, refl, subst, ap, ◌∙◌, arith, min}
+use Rattle.std.specs.Prelude.{sum_by}
+use Rattle.std.proofs.lemmas.List.{length-take-le, take-take}
+use Rattle.std.proofs.lemmas.List.Sums.{sum_by-take-le}
 use Rattle.coflow_units.specs.Grants.{place_in}
-use Rattle.coflow_units.proofs.Sums.{all_of_members, first_or_tail, in_first, in_tail, nothing_in}
-use Rattle.class_rates.specs.Classes.{ClassBefore, IsClassOrder, RisesAlong, class_in}
+use Rattle.coflow_units.proofs.LinePlaces.{place_of_member}
+use Rattle.coflow_units.proofs.Sums.{all_of_members, first_or_tail, in_first, in_tail, nothing_in, sum_ones}
+use Rattle.class_rates.specs.Classes.{ClassBefore, IsClassOrder, RisesAlong, class_behind, class_by, class_in, size_before}
 use Rattle.class_rates.specs.Rows.{ClassOrders, folded}
 use Rattle.class_rates.proofs.PairLists.{pairs_cons}
+use Rattle.class_rates.proofs.Parts.{behind_before_the_end, behind_rises}
 
--- a greater number has no smaller quotient
-quotients_rise : (a b n : ℕ) → a ≤ b → 0 < n → a / n ≤ b / n
-quotients_rise a b n le some = le-div (a / n) b n some (omega (arith, le, div-mul-le_self a n))
+-- what comes later has as much before it, or more
+before_rises : (size : ℕ → ℕ) (order : List ℕ) (a b : ℕ) → a ≤ b → sum_by size (take a order) ≤ sum_by size (take b order)
+before_rises size order a b le =
+    omega (arith, ap (sum_by size) (take-take a b order le), sum_by-take-le size (take b order) a)
 
-pub rise_law : (order : List ℕ) (classes : ℕ) → RisesAlong (class_in order classes) order
-rise_law order classes c d (k, lt, at) has le =
-    let some : 0 < length order = omega (arith, lt) in
-    let less : place_in order c * classes ≤ place_in order d * classes = mul-le-mul_right classes le in
-    let up : (place_in order c * classes) / length order ≤ (place_in order d * classes) / length order = quotients_rise _ _ (length order) less some in
-    omega (arith, up)
+pub rise_law : (size : ℕ → ℕ) (order : List ℕ) (classes : ℕ) → RisesAlong (class_by size order classes) order
+rise_law size order classes c d has_c has_d le =
+    behind_rises (sum_by size order) classes (size_before size order c) (size_before size order d) (before_rises size order (place_in order c) (place_in order d) le)
+
+-- by count the coflows before one are as many as its place says
+pub count_law : (order : List ℕ) (classes coflow : ℕ) → 1 ≤ classes → Contains order coflow → class_by (λ c. 1) order classes coflow ≡ class_in order classes coflow
+count_law order classes coflow some has =
+    let lt = place_of_member order coflow has in
+    let before : size_before (λ c. 1) order coflow ≡ place_in order coflow = sum_ones (take (place_in order coflow) order) ∙ length-take-le (place_in order coflow) order (omega arith) in
+    ap (λ n. class_behind n classes (size_before (λ c. 1) order coflow)) (sum_ones order) ∙ ap (class_behind (length order) classes) before ∙
+    behind_before_the_end (length order) classes (place_in order coflow) lt some
 
 only : (y c : ℕ) → Contains (y ∷ []) c → y ≡ c
 only y c has = elim (first_or_tail y [] c has) [

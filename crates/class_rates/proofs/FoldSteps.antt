@@ -1,41 +1,34 @@
 -- The classes of an order, place by place, and their class order, class by class.
-use Rattle.std.proofs.Common.{◌≡◌, ◌≢◌, ℕ, ◌+◌, ◌*◌, ◌/◌, ◌≤◌, ◌<◌, inl, inr, Bool, true, false}
-use Rattle.std.proofs.Common.{List, [], ◌∷◌, ◌++◌, length, get_or, Contains, sym, ap, ◌∙◌, arith, append_assoc, append-nil}
-use Rattle.std.specs.Prelude.{All, AllPairs, ◌==◌, set, if◌then◌else◌}
+use Rattle.std.proofs.Common.{◌≡◌, ◌≢◌, ℕ, ◌+◌, ◌≤◌, ◌<◌, inl, inr, Bool, true, false}
+use Rattle.std.proofs.Common.{List, [], ◌∷◌, ◌++◌, length, get_or, take, Contains, sym, ap, ◌∙◌, arith, append_assoc, append-nil}
+use Rattle.std.specs.Prelude.{All, AllPairs, ◌==◌, ◌^◌, set, sum_by, if◌then◌else◌}
 use Rattle.std.specs.List.{filter, range_with_len}
-use Rattle.std.proofs.Math.Nat.{div-lt_iff_lt-mul, mul-le-mul_left}
 use Rattle.std.proofs.lemmas.Bool.{cases_lt, eq-eqb, eqb-true, ne_eqb}
 use Rattle.std.proofs.lemmas.List.{get_or-set_other, get_or-set_same, get_or_default}
 use Rattle.std.proofs.lemmas.List.Elements.{All-contains, Contains-append_cases, Contains-append_left, Contains-append_right, filter-append}
 use Rattle.std.proofs.lemmas.List.FromFn.{get_or-range_with_len, length-range_with_len}
 use Rattle.coflow_units.specs.Grants.{place_in}
-use Rattle.coflow_units.proofs.LinePlaces.{at_place, place_of_member}
+use Rattle.coflow_units.proofs.LinePlaces.{at_place_zero, place_of_member}
 use Rattle.coflow_units.proofs.Lists.{filter_in, keeps, number_below, number_in}
 use Rattle.coflow_units.proofs.Sums.{all_of_members, nothing_in}
 use Rattle.slot_switch.proofs.Ranges.{range_more}
-use Rattle.class_rates.specs.Classes.{ClassBefore, IsClassOrder, IsPermutation, class_at, class_in}
+use Rattle.class_rates.specs.Classes.{ClassBefore, IsClassOrder, IsPermutation, class_behind, class_by, size_before}
 use Rattle.class_rates.proofs.ClassOrders.{before_as}
 use Rattle.class_rates.proofs.PairLists.{filter_pairs, pairs_append, pairs_weaker}
+use Rattle.class_rates.proofs.Parts.{behind_within}
 
--- the class of a place is one of the classes
-share_below : (n classes place : ℕ) → place < n → 1 ≤ classes → (place * classes) / n < classes
-share_below n classes place lt some =
-    let grown : classes * (place + 1) ≤ classes * n = mul-le-mul_left classes (omega (arith, lt)) in
-    let less : place * classes < classes * n = omega (arith, grown, some) in
-    let pos : 0 < n = omega (arith, lt) in
-    (div-lt_iff_lt-mul pos).1 less
-
-pub class_within : (n classes place : ℕ) → place < n → 1 ≤ classes → (1 ≤ class_at n classes place) × (class_at n classes place ≤ classes)
-class_within n classes place lt some = (omega arith, omega (arith, share_below n classes place lt some))
+-- the class at a place of an order that is folded by these sizes
+abbrev pub class_of_place : (ℕ → ℕ) → List ℕ → ℕ → ℕ → ℕ
+class_of_place size order classes place = class_behind (sum_by size order) classes (sum_by size (take place order))
 
 -- the classes of the first places are written at their coflows
-abbrev pub HasClassesUpTo : List ℕ → ℕ → List ℕ → ℕ → Type 0
-HasClassesUpTo order classes numbers n = (k : ℕ) → k < n → get_or numbers (get_or order k 0) 0 ≡ class_at (length order) classes k
+abbrev pub HasClassesUpTo : (ℕ → ℕ) → List ℕ → ℕ → List ℕ → ℕ → Type 0
+HasClassesUpTo size order classes numbers n = (k : ℕ) → k < n → get_or numbers (get_or order k 0) 0 ≡ class_of_place size order classes k
 
-pub class_more : (order numbers : List ℕ) (classes place at class : ℕ) → IsPermutation order → length numbers ≡ length order → place < length order →
-    at ≡ get_or order place 0 → class ≡ class_at (length order) classes place → HasClassesUpTo order classes numbers place →
-    HasClassesUpTo order classes (set numbers at class) (place + 1)
-class_more order numbers classes place at class permutation long lt here is so_far k low = elim (cases_lt k place) [
+pub class_more : (size : ℕ → ℕ) (order numbers : List ℕ) (classes place at class : ℕ) → IsPermutation order → length numbers ≡ length order → place < length order →
+    at ≡ get_or order place 0 → class ≡ class_of_place size order classes place → HasClassesUpTo size order classes numbers place →
+    HasClassesUpTo size order classes (set numbers at class) (place + 1)
+class_more size order numbers classes place at class permutation long lt here is so_far k low = elim (cases_lt k place) [
   | inl before ↦
       let other : get_or order k 0 ≢ at = λ e. permutation.distinct k place 0 before lt (e ∙ here) in
       get_or-set_other numbers at (get_or order k 0) class 0 other ∙ so_far k before
@@ -43,29 +36,27 @@ class_more order numbers classes place at class permutation long lt here is so_f
       let same : k ≡ place = omega (arith, low, upto) in
       let inside : at < length numbers = omega (arith, here, long, permutation.known place 0 lt) in
       ap (λ j. get_or (set numbers at class) (get_or order j 0) 0) same ∙ ap (λ j. get_or (set numbers at class) j 0) (sym here) ∙
-      get_or-set_same numbers at class 0 inside ∙ is ∙ ap (class_at (length order) classes) (sym same)
+      get_or-set_same numbers at class 0 inside ∙ is ∙ ap (class_of_place size order classes) (sym same)
 ]
 
 -- the class of a coflow by its number and by its place
-pub class_at_place : (order numbers : List ℕ) (classes c : ℕ) → HasClassesUpTo order classes numbers (length order) → Contains order c →
-    get_or numbers c 0 ≡ class_in order classes c
-class_at_place order numbers classes c written has =
+pub class_at_place : (size : ℕ → ℕ) (order numbers : List ℕ) (classes c : ℕ) → HasClassesUpTo size order classes numbers (length order) → Contains order c →
+    get_or numbers c 0 ≡ class_by size order classes c
+class_at_place size order numbers classes c written has =
     let lt = place_of_member order c has in
-    let at : get_or order (place_in order c) 0 ≡ c = get_or_default order (place_in order c) 0 c lt ∙ at_place order c lt in
-    ap (λ j. get_or numbers j 0) (sym at) ∙ written (place_in order c) lt
+    ap (λ j. get_or numbers j 0) (sym (at_place_zero order c lt)) ∙ written (place_in order c) lt
 
-pub all_within : (order numbers : List ℕ) (classes : ℕ) → IsPermutation order → 1 ≤ classes → length numbers ≡ length order →
-    HasClassesUpTo order classes numbers (length order) → All (λ q. (1 ≤ q) × (q ≤ classes)) numbers
-all_within order numbers classes permutation some long written k d lt =
-    let has = permutation.all k (omega (arith, lt, long)) in
-    let is : get_or numbers k d ≡ class_in order classes k = get_or_default numbers k d 0 lt ∙ class_at_place order numbers classes k written has in
-    let (low, high) = class_within (length order) classes (place_in order k) (place_of_member order k has) some in
+pub all_within : (size : ℕ → ℕ) (order numbers : List ℕ) (classes : ℕ) → IsPermutation order → 1 ≤ classes → length numbers ≡ length order →
+    ((c : ℕ) → Contains order c → get_or numbers c 0 ≡ class_by size order classes c) → All (λ q. (1 ≤ q) × (q ≤ classes)) numbers
+all_within size order numbers classes permutation some long written k d lt =
+    let is : get_or numbers k d ≡ class_by size order classes k = get_or_default numbers k d 0 lt ∙ written k (permutation.all k (omega (arith, lt, long))) in
+    let (low, high) = behind_within (sum_by size order) classes (size_before size order k) some in
     (omega (arith, is, low), omega (arith, is, high))
 
 -- the numbers of a type of 32 bits are few
-pub few_numbers : (order : List ℕ) → IsPermutation order → ((k : ℕ) (d : ℕ) → k < length order → get_or order k d < 4294967296) → length order ≤ 4294967296
+pub few_numbers : (order : List ℕ) → IsPermutation order → ((k : ℕ) → get_or order k 0 < 2 ^ 32) → length order ≤ 2 ^ 32
 few_numbers order permutation small = elim (cases_lt 4294967296 (length order)) [
-  | inl many ↦ let (k, lt, at) = permutation.all 4294967296 many in absurd (omega (arith, at, small k 4294967296 lt))
+  | inl many ↦ let (k, lt, at) = permutation.all 4294967296 many in absurd (omega (arith, at, get_or_default order k 4294967296 0 lt, small k))
   | inr few ↦ few
 ]
 
@@ -143,15 +134,15 @@ all_ordered numbers order n classes within le done = record {
 }
 
 -- the class order by numbers is that of the order
-pub order_folded : (order numbers by : List ℕ) (classes : ℕ) → IsPermutation order → length numbers ≡ length order → HasClassesUpTo order classes numbers (length order) →
-    IsClassOrder (range_with_len 0 (length numbers)) (λ c. get_or numbers c 0) by → IsClassOrder order (class_in order classes) by
-order_folded order numbers by classes permutation long written is =
+pub order_folded : (order numbers by : List ℕ) (class : ℕ → ℕ) → IsPermutation order → length numbers ≡ length order →
+    ((c : ℕ) → Contains order c → get_or numbers c 0 ≡ class c) →
+    IsClassOrder (range_with_len 0 (length numbers)) (λ c. get_or numbers c 0) by → IsClassOrder order class by
+order_folded order numbers by class permutation long written is =
     let known = λ (c : ℕ) (has : Contains by c).
     permutation.all c (omega (arith, long, number_below 0 (length numbers) c (All-contains (Contains (range_with_len 0 (length numbers))) by c is.coflow has))) in
     record {
-      sorted = pairs_weaker (ClassBefore (λ c. get_or numbers c 0)) (ClassBefore (class_in order classes)) by
-          (λ x y hx hy. before_as (λ c. get_or numbers c 0) (class_in order classes) x y (class_at_place order numbers classes x written (known x hx))
-          (class_at_place order numbers classes y written (known y hy)))
+      sorted = pairs_weaker (ClassBefore (λ c. get_or numbers c 0)) (ClassBefore class) by
+          (λ x y hx hy. before_as (λ c. get_or numbers c 0) class x y (written x (known x hx)) (written y (known y hy)))
           is.sorted;
       coflow = all_of_members (Contains order) by known;
       all = λ c has. is.all c (number_in 0 (length numbers) c (omega arith) (omega (arith, long, All-contains (λ x. x < length order) order c permutation.known has)));

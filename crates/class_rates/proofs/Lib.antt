@@ -5,3 +5,4 @@ pub mod ClassOrders
 mod ClassRows
 mod FoldSteps
 mod PairLists
+mod Parts

@@ -1,16 +1,37 @@
 -- An order of coflows folded into classes, for switches that have few priorities. Classes count from 1, and they rise
 -- along the order.
-use Rattle.std.specs.Prelude.{◌≡◌, ℕ, ◌+◌, ◌*◌, ◌/◌, ◌<◌, ◌≤◌, ◌⊎◌, List, All, AllPairs, Contains, length}
+use Rattle.std.specs.Prelude.{◌≡◌, ℕ, ◌+◌, ◌*◌, ◌/◌, ◌<◌, ◌≤◌, ◌⊎◌, ◌==◌, if◌then◌else◌, min}
+use Rattle.std.specs.Prelude.{List, All, AllPairs, Contains, length, sum_by, take}
 use Rattle.std.specs.List.{range_with_len, slice_index_or}
 use Rattle.coflow_units.specs.Flows.{IsDistinct}
 use Rattle.coflow_units.specs.Grants.{place_in}
 use Rattle.class_rates.specs.declared.classes.TheConstants.{MAX_CLASSES}
+use Rattle.class_rates.specs.declared.fold.Fold.{Fold}
+use Rattle.class_rates.specs.declared.fold.Fold.TheVariants.{Count, Load}
 
--- the class at a place of an order of n coflows; places count from 0
+-- what a coflow counts for where an order is folded: 1, or its load
+abbrev pub size_by : Fold → (ℕ → ℕ) → ℕ → ℕ
+size_by Count load coflow = 1
+size_by Load load coflow = load coflow
+
+-- the sum of the sizes of the coflows before a coflow in an order
+abbrev pub size_before : (ℕ → ℕ) → List ℕ → ℕ → ℕ
+size_before size order coflow = sum_by size (take (place_in order coflow) order)
+
+-- the class of a coflow behind others of these sizes together, of so many in all: the number of the part in which it
+-- begins, where all is cut into as many equal parts as there are classes, and the last one where it begins at the end
+abbrev pub class_behind : ℕ → ℕ → ℕ → ℕ
+class_behind all classes before = if all == 0 then 1 else min classes (1 + before * classes / all)
+
+-- the class of a coflow of an order that is folded by these sizes
+abbrev pub class_by : (ℕ → ℕ) → List ℕ → ℕ → ℕ → ℕ
+class_by size order classes coflow = class_behind (sum_by size order) classes (size_before size order coflow)
+
+-- the class at a place of an order of n coflows that is folded by count; places count from 0
 abbrev pub class_at : ℕ → ℕ → ℕ → ℕ
 class_at n classes place = 1 + (place * classes) / n
 
--- the class of a coflow of an order
+-- the class of a coflow of an order that is folded by count
 abbrev pub class_in : List ℕ → ℕ → ℕ → ℕ
 class_in order classes coflow = class_at (length order) classes (place_in order coflow)
 
@@ -52,9 +73,9 @@ pub record IsClasses (t : ClassFacts) : Type 0 where
   pub class : All (λ q. (1 ≤ q) × (q ≤ t.count)) t.numbers
   pub order_is : IsClassOrder (range_with_len 0 (length t.numbers)) (class_of t) t.order
 
--- these are the classes of an order, folded into so many
-pub record IsFolded (order : List ℕ) (classes : ℕ) (t : ClassFacts) : Type 0 where
+-- these are the classes of an order that is folded by these sizes into so many
+pub record IsFolded (size : ℕ → ℕ) (order : List ℕ) (classes : ℕ) (t : ClassFacts) : Type 0 where
   pub count_is : t.count ≡ classes
   pub length_is : length t.numbers ≡ length order
-  pub class_is : (c : ℕ) → Contains order c → class_of t c ≡ class_in order classes c
-  pub order_is : IsClassOrder order (class_in order classes) t.order
+  pub class_is : (c : ℕ) → Contains order c → class_of t c ≡ class_by size order classes c
+  pub order_is : IsClassOrder order (class_by size order classes) t.order

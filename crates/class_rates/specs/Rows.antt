@@ -1,10 +1,10 @@
 -- Classes, caps and schedules of small instances, worked out by hand.
-use Rattle.std.specs.Prelude.{◌≡◌, ℕ, List, [], ◌∷◌, map}
-use Rattle.std.specs.List.{range_with_len}
+use Rattle.std.specs.Prelude.{◌≡◌, ℕ, List, [], ◌∷◌, length, map}
+use Rattle.std.specs.List.{range_with_len, slice_index_or}
 use Rattle.coflow_units.specs.Flows.{Instance}
 use Rattle.coflow_units.specs.Rows.{all_ties, equal_weights, realistic, unequal_weights}
 use Rattle.class_rates.specs.Cap.{cap}
-use Rattle.class_rates.specs.Classes.{IsClassOrder, class_at, class_in}
+use Rattle.class_rates.specs.Classes.{IsClassOrder, class_at, class_by, class_in}
 
 -- the shorter one of the two coflows comes first
 abbrev pub short_first : List ℕ
@@ -31,6 +31,20 @@ pub record ClassesAlong : Type 0 where
   pub three : classes_along 3 2 ≡ 1 ∷ 1 ∷ 2 ∷ []
   pub five : classes_along 5 3 ≡ 1 ∷ 1 ∷ 2 ∷ 2 ∷ 3 ∷ []
   pub two : classes_along 2 8 ≡ 1 ∷ 5 ∷ []
+
+-- the classes of coflows of these loads, which are folded by load along the order of their numbers
+abbrev pub classes_by_load : List ℕ → ℕ → List ℕ
+classes_by_load loads classes =
+    map (class_by (λ c. slice_index_or loads c 0) (range_with_len 0 (length loads)) classes)
+    (range_with_len 0 (length loads))
+
+-- half of the load is the first coflow's; two coflows without load, at the end and alone; and one coflow
+pub record ClassesByLoad : Type 0 where
+  pub in_two : classes_by_load (5 ∷ 1 ∷ 1 ∷ 1 ∷ 2 ∷ []) 2 ≡ 1 ∷ 2 ∷ 2 ∷ 2 ∷ 2 ∷ []
+  pub in_three : classes_by_load (5 ∷ 1 ∷ 1 ∷ 1 ∷ 2 ∷ []) 3 ≡ 1 ∷ 2 ∷ 2 ∷ 3 ∷ 3 ∷ []
+  pub at_the_end : classes_by_load (2 ∷ 0 ∷ []) 2 ≡ 1 ∷ 2 ∷ []
+  pub no_load : classes_by_load (0 ∷ 0 ∷ []) 8 ≡ 1 ∷ 1 ∷ []
+  pub one : classes_by_load (7 ∷ []) 4 ≡ 1 ∷ []
 
 -- the shorter coflow first: two classes keep that order, and one class has the coflows by number
 pub record ClassOrders : Type 0 where

@@ -1,24 +1,35 @@
 //! The folding of an order into classes.
-ghost use Rattle.std.specs.Prelude.{◌≡◌, ℕ, ◌+◌, ◌<◌, ◌≤◌, ◌^◌, ◌==◌, ◌++◌, All, Contains, IfOk, OnOk, length};
+ghost use Rattle.std.specs.Prelude.{◌≡◌, ℕ, ◌+◌, ◌*◌, ◌<◌, ◌≤◌, ◌^◌, ◌==◌, ◌++◌, All, Contains, IfOk, OnOk, length, sum_by};
 ghost use Rattle.std.specs.List.{filter, range_with_len, slice_index_or};
 ghost use Rattle.class_rates.specs.declared.classes.TheConstants.{MAX_CLASSES};
-ghost use Rattle.class_rates.specs.Classes.{IsClassOrder, IsFolded, IsPermutation, class_at};
+ghost use Rattle.class_rates.specs.Classes.{IsClassOrder, IsFolded, IsPermutation, class_behind, class_by, size_by};
 
 use crate::classes::Classes;
+use crate::fold::Fold;
 use coflow_units::NoMemory;
 use std::alloc::Global;
 
 /// The classes of an order of coflows, as a switch with so many priorities can serve it.
 ///
-/// `order` has each coflow once: the numbers from 0 on. There may be from 1 to 64 classes. Of n coflows the one at place r, counted from 0, has the
-/// class `1 + r * classes / n`, rounded down. So classes do not fall along the order. The error is want of memory.
-pub fn fold(alloc: Global, order: &[u32], classes: u32) -> Result<Classes, NoMemory>
+/// `order` has each coflow once: the numbers from 0 on. `loads` has the load of each coflow, by number. There may be from 1 to 64 classes. The order is cut into as many parts as there are classes, of equal
+/// count or of equal load, and a coflow has the class of the part in which it begins. So classes do not fall along the order. By count, of n coflows the one at place r, counted from 0, has the
+/// class `1 + r * classes / n`, rounded down; by load it is `1 + before * classes / all`, where `before` is the load of the coflows before it and `all` that of all, and at most the last class. Where no
+/// coflow has load, all have class 1. The error is want of memory.
+pub fn fold_order(
+    alloc: Global,
+    order: &[u32],
+    loads: &[u64],
+    by: Fold,
+    classes: u32,
+) -> Result<Classes, NoMemory>
     requires permutation { IsPermutation order.now }
+    requires loads { length loads.now ≡ length order.now }
     requires some { 1 ≤ classes }
     requires few { classes ≤ MAX_CLASSES }
-    ensures { IfOk result (λ folded. IsFolded order.now classes folded) }
+    ensures { IfOk result (λ folded.
+        IsFolded (size_by by (λ c. slice_index_or loads.now c 0)) order.now classes folded) }
 {
-    let numbers = numbers_of(alloc, order, classes)?;
+    let numbers = numbers_of(alloc, order, loads, by, classes)?;
     let by_class = class_order_of(alloc, &numbers, classes)?;
     Ok(Classes {
         count: classes,
@@ -28,29 +39,67 @@ pub fn fold(alloc: Global, order: &[u32], classes: u32) -> Result<Classes, NoMem
 }
 
 /// The class of each coflow, by number.
-fn numbers_of(alloc: Global, order: &[u32], classes: u32) -> Result<Vec<u32>, NoMemory>
+fn numbers_of(
+    alloc: Global,
+    order: &[u32],
+    loads: &[u64],
+    by: Fold,
+    classes: u32,
+) -> Result<Vec<u32>, NoMemory>
     requires permutation { IsPermutation order.now }
+    requires loads { length loads.now ≡ length order.now }
     requires some { 1 ≤ classes }
     requires few { classes ≤ MAX_CLASSES }
     ensures length { IfOk result (λ numbers. length numbers.items ≡ length order.now) }
-    ensures class { IfOk result (λ numbers. (k : ℕ) → k < length order.now →
-        slice_index_or numbers.items (slice_index_or order.now k 0) 0 ≡ class_at (length order.now) classes k) }
+    ensures class { IfOk result (λ numbers. (c : ℕ) → Contains order.now c → slice_index_or numbers.items c 0 ≡
+        class_by (size_by by (λ c. slice_index_or loads.now c 0)) order.now classes c) }
 {
     let mut numbers = vec![in alloc; 0u32; order.len()]?;
-    for place in 0..order.len() {
-        numbers[order[place] as usize] = class_at(place, order.len(), classes);
+    let all = size_of_all(order, loads, by);
+    let mut before: u128 = 0;
+    for coflow in order {
+        numbers[*coflow as usize] = class_behind(all, classes, before);
+        before += size_of(loads, by, *coflow);
     }
     Ok(numbers)
 }
 
-/// The class of a place, counted from 0, of so many.
-fn class_at(place: usize, places: usize, classes: u32) -> u32
-    requires within { place < places }
-    requires few { classes ≤ MAX_CLASSES }
-    ensures { result ≡ class_at places classes place }
+/// The sizes of the coflows of an order, at most 2^32 of them, together.
+fn size_of_all(order: &[u32], loads: &[u64], by: Fold) -> u128
+    requires few { length order.now ≤ 2 ^ 32 }
+    requires known { All (λ c. c < length loads.now) order.now }
+    ensures { result ≡ sum_by (size_by by (λ c. slice_index_or loads.now c 0)) order.now }
 {
-    let before = place as u128 * u128::from(classes) / places as u128;
-    1 + before as u32
+    let mut all: u128 = 0;
+    for coflow in order {
+        all += size_of(loads, by, *coflow);
+    }
+    all
+}
+
+/// What a coflow counts for.
+fn size_of(loads: &[u64], by: Fold, coflow: u32) -> u128
+    requires { coflow < length loads.now }
+    ensures { result ≡ size_by by (λ c. slice_index_or loads.now c 0) coflow }
+{
+    match by {
+        Fold::Count => 1,
+        Fold::Load => u128::from(loads[coflow as usize]),
+    }
+}
+
+/// The class of a coflow behind others of these sizes together, of so many in all.
+fn class_behind(all: u128, classes: u32, before: u128) -> u32
+    requires within { before ≤ all }
+    requires small { all ≤ 2 ^ 96 }
+    requires few { classes ≤ MAX_CLASSES }
+    ensures { result ≡ class_behind all classes before }
+{
+    if all == 0 {
+        return 1;
+    }
+    let part = before * u128::from(classes) / all;
+    classes.min(1 + part as u32)
 }
 
 /// The numbers of coflows, at most 2^32 of them, by their class, and those of a class ascending.

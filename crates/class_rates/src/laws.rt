@@ -9,8 +9,9 @@ ghost use Rattle.coflow_units.specs.Schedule.{IsValid};
 ghost use Rattle.coflow_units.specs.Served.{IsServed};
 ghost use Rattle.class_rates.specs.Cap.{cap, cap_of_coflow, cap_of_flow};
 ghost use Rattle.class_rates.specs.ClassPatient.{IsClassPatient};
-ghost use Rattle.class_rates.specs.Classes.{ClassFacts, IsClassOrder, IsFolded, IsPermutation, RisesAlong, class_in, class_of};
-ghost use Rattle.class_rates.specs.Rows.{Caps, ClassOrders, ClassesAlong, cap_of_two, folded};
+ghost use Rattle.class_rates.specs.Classes.{ClassFacts, IsClassOrder, IsFolded, IsPermutation, RisesAlong};
+ghost use Rattle.class_rates.specs.Classes.{class_by, class_in, class_of};
+ghost use Rattle.class_rates.specs.Rows.{Caps, ClassOrders, ClassesAlong, ClassesByLoad, cap_of_two, folded};
 
 /// In a valid schedule that keeps classes and leaves no port idle that could serve, each flow ends no later than its cap: the loads of its two ports over the coflows of
 /// its class and of those before it, less its own units. So each coflow ends by its cap, and the schedule costs at most the sum of weight times cap, whichever
@@ -43,15 +44,21 @@ pub fn cap_is_of_the_order()
     ensures classes { (flows : List Flow) (weight : ℕ → ℕ) (coflows : List ℕ) (class other : ℕ → ℕ) →
         ((c : ℕ) → Contains coflows c → class c ≡ other c) →
         cap flows weight coflows class ≡ cap flows weight coflows other }
-    ensures folded { (flows : List Flow) (weight : ℕ → ℕ) (order : List ℕ) (classes : ℕ) (t : ClassFacts) →
-        IsPermutation order → IsFolded order classes t →
+    ensures folded { (size : ℕ → ℕ) (flows : List Flow) (weight : ℕ → ℕ) (order : List ℕ) (classes : ℕ)
+        (t : ClassFacts) → IsPermutation order → IsFolded size order classes t →
         cap flows weight (range_with_len 0 (length order)) (class_of t) ≡
-        cap flows weight (range_with_len 0 (length order)) (class_in order classes) }
+        cap flows weight (range_with_len 0 (length order)) (class_by size order classes) }
 {}
 
-/// Classes do not fall along the order that was folded.
+/// Classes do not fall along the order that was folded, whatever the sizes of its coflows are.
 pub fn classes_rise()
-    ensures { (order : List ℕ) (classes : ℕ) → RisesAlong (class_in order classes) order }
+    ensures { (size : ℕ → ℕ) (order : List ℕ) (classes : ℕ) → RisesAlong (class_by size order classes) order }
+{}
+
+/// An order that is folded by count gives the classes of its places.
+pub fn count_goes_by_places()
+    ensures { (order : List ℕ) (classes coflow : ℕ) → 1 ≤ classes → Contains order coflow →
+        class_by (λ c. 1) order classes coflow ≡ class_in order classes coflow }
 {}
 
 /// A schedule that is patient for an order along which classes do not fall keeps these classes. So does one that is patient for the class order, and the served schedule of the class order.
@@ -73,6 +80,7 @@ pub fn class_order_keeps_classes()
 /// worked out by hand.
 pub fn rows_hold()
     ensures along { ClassesAlong }
+    ensures loads { ClassesByLoad }
     ensures orders { ClassOrders }
     ensures caps { Caps }
     ensures first { folded 2 1 ≡ 1 }

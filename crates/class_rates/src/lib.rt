@@ -3,9 +3,11 @@
 
 mod caps;
 mod classes;
+mod fold;
 mod folding;
 pub mod laws;
 
 pub use caps::cap;
 pub use classes::{Classes, MAX_CLASSES};
-pub use folding::fold;
+pub use fold::Fold;
+pub use folding::fold_order;

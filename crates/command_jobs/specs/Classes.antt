@@ -10,13 +10,13 @@ use Rattle.report_text.specs.Classed.{class_text}
 use Rattle.command_files.specs.Inputs.{IsInput}
 use Rattle.command_files.specs.Written.{Appends}
 
--- the instance that the files give, its coflows in as many classes as are said, and the text of these classes
+-- the instance that the files give, its coflows in as many classes as are said, folded as is said, and the text of these classes
 pub record ClassesOf (told : Option Told) (said : Said) (text : List ℕ) : Type 0 where
   pub table : TableFacts
   pub weights : List ℕ
   pub input : IsInput told (trace_name said.job) said.weights said.unit table weights
   pub list : ClassText
-  pub classes : IsClassList table weights said.classes list
+  pub classes : IsClassList table weights said.fold said.classes list
   pub text_is : text ≡ class_text list
 
 -- the text of the classes was written

@@ -41,6 +41,7 @@ pub fn list_classes<'a, H: Shelf>(
         alloc,
         &input.table,
         input.weights.as_slice(),
+        options.fold,
         options.classes as u32,
     );
     drop(input);

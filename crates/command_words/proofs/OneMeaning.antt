@@ -1,6 +1,6 @@
 -- Words say one thing at most.
 use Rattle.std.proofs.Common.{◌≡◌, ℕ, List, Option, Some, None, sym, ◌∙◌, subst}
-use Rattle.command_words.specs.Jobs.{Job}
+use Rattle.std.proofs.lemmas.Option.{same_Some}
 use Rattle.command_words.specs.Line.{Text, Use, value_of}
 use Rattle.command_words.specs.Words.{IsSaid, IsSetting, IsWords, Said}
 
@@ -8,12 +8,9 @@ one_setting : (most default : ℕ) (value : Option Text) (m n : ℕ) → IsSetti
 one_setting most default None m n p q = p ∙ sym q
 one_setting most default (Some text) m n p q = p.3 ∙ sym q.3
 
-one_job : (o : Option Job) (a b : Job) → o ≡ Some a → o ≡ Some b → a ≡ b
-one_job o a b p q = cc
-
 one_said : (v : Text → Option Text) (a b : Said) → IsSaid v a → IsSaid v b → a ≡ b
 one_said v a b p q =
-    let job = one_job _ _ _ p.job q.job in
+    let job = same_Some _ _ (sym p.job ∙ q.job) in
     let weights = sym p.weights ∙ q.weights in
     let unit = one_setting _ _ _ _ _ p.unit q.unit in
     let agents = one_setting _ _ _ _ _ p.agents q.agents in
@@ -21,6 +18,7 @@ one_said v a b p q =
     let run = one_setting _ _ _ _ _ p.run q.run in
     let slot_ms = one_setting _ _ _ _ _ p.slot_ms q.slot_ms in
     let classes = one_setting _ _ _ _ _ p.classes q.classes in
+    let fold = same_Some _ _ (sym p.fold ∙ q.fold) in
     λ i. record {
       job = job i;
       weights = weights i;
@@ -30,6 +28,7 @@ one_said v a b p q =
       run = run i;
       slot_ms = slot_ms i;
       classes = classes i;
+      fold = fold i;
     }
 
 pub words_one : (words : List Text) (a b : Said) → IsWords words a → IsWords words b → a ≡ b

@@ -1,5 +1,8 @@
 -- The words of a command line.
-use Rattle.std.specs.Prelude.{◌≡◌, ℕ, ◌≤◌, true, List, Option, Some, None, IfSome, codes, drop, option_map}
+use Rattle.std.specs.Prelude.{◌≡◌, ℕ, ◌≤◌, true, if◌then◌else◌, List, Option, Some, None, IfSome, codes, drop, option_map}
+use Rattle.std.specs.Str.{bytes_eq}
+use Rattle.class_rates.specs.declared.fold.Fold.{Fold}
+use Rattle.class_rates.specs.declared.fold.Fold.TheVariants.{Count, Load}
 use Rattle.coflow_units.specs.declared.limits.TheConstants.{MAX_OPTION_SLOTS, MAX_SLOT_MS, MAX_UNIT}
 use Rattle.text_fields.specs.Numbers.{is_number, number}
 use Rattle.command_words.specs.Line.{IsOnce, Text, Use, uses, value_of}
@@ -18,6 +21,7 @@ pub record Said : Type 0 where
   pub run : ℕ
   pub slot_ms : ℕ
   pub classes : ℕ
+  pub fold : Fold
 
 -- what is said by a job with these options
 abbrev pub said_with : Job → Options → Said
@@ -30,6 +34,7 @@ said_with job o = record {
   run = o.run;
   slot_ms = o.slot_ms;
   classes = o.classes;
+  fold = o.fold;
 }
 
 -- what words that were read say
@@ -42,6 +47,12 @@ IsSetting most default None n = n ≡ default
 IsSetting most default (Some text) n = (is_number text ≡ true) × (1 ≤ number text) × (number text ≤ most) ×
     (n ≡ number text)
 
+-- the way to fold that an option is given: by count where it is not used, and none where its value is no way
+abbrev pub fold_of : Option Text → Option Fold
+fold_of None = Some Count
+fold_of (Some text) = if bytes_eq text (codes "count") then Some Count
+    else (if bytes_eq text (codes "load") then Some Load else None)
+
 -- What is said is what the arguments have as their values, and each value fits.
 pub record IsSaid (value : Text → Option Text) (said : Said) : Type 0 where
   pub job : job_in (value (codes "COMMAND")) (value (codes "FIRST")) (value (codes "SECOND")) ≡ Some said.job
@@ -52,6 +63,7 @@ pub record IsSaid (value : Text → Option Text) (said : Said) : Type 0 where
   pub run : IsSetting MAX_OPTION_SLOTS 1 (value (codes "run")) said.run
   pub slot_ms : IsSetting MAX_SLOT_MS 8 (value (codes "slot-ms")) said.slot_ms
   pub classes : IsSetting MAX_OPTION_CLASSES 8 (value (codes "classes")) said.classes
+  pub fold : fold_of (value (codes "fold")) ≡ Some said.fold
   pub weights_fit : IfSome said.weights IsFileName
 
 -- The words behind the program's name use each argument at most once, and say this.

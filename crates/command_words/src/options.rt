@@ -3,6 +3,7 @@ ghost use Rattle.coflow_units.specs.declared.limits.TheConstants.{MAX_OPTION_SLO
 ghost use Rattle.command_words.specs.declared.options.TheConstants.{MAX_OPTION_AGENTS, MAX_OPTION_CLASSES};
 ghost use Rattle.std.specs.Prelude.{◌≤◌};
 
+use class_rates::Fold;
 use coflow_units::UnitSize;
 
 /// The value of each option, or its default. Each number is within its range.
@@ -21,6 +22,8 @@ pub struct Options<'a> {
     pub slot_ms: u64,
     /// The classes that an order is folded into, from 1 to 64.
     pub classes: u64,
+    /// By what it is folded.
+    pub fold: Fold,
     pub ghost some_agents: { 1 ≤ agents },
     pub ghost few_agents: { agents ≤ MAX_OPTION_AGENTS },
     pub ghost some_epoch: { 1 ≤ epoch },

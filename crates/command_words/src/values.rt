@@ -2,8 +2,9 @@
 ghost use Rattle.std.specs.Prelude.{◌≡◌, ◌<◌, ◌≤◌, ◌-◌, ◌^◌, ℕ, IfNone, IfSome, option_map};
 ghost use Rattle.coflow_units.specs.declared.limits.TheConstants.{MAX_UNIT};
 ghost use Rattle.command_words.specs.Jobs.{file_of, is_file_name, seed_of};
-ghost use Rattle.command_words.specs.Words.{IsSetting};
+ghost use Rattle.command_words.specs.Words.{IsSetting, fold_of};
 
+use class_rates::Fold;
 use coflow_units::{MAX_UNIT, UnitSize};
 use text_fields::{is_number, number_of};
 
@@ -59,4 +60,18 @@ pub fn unit_of(text: Option<&str>) -> Option<UnitSize>
 {
     let megabytes = setting_of(text, MAX_UNIT, 1)?;
     Some(UnitSize { megabytes })
+}
+
+/// The way to fold that an option is given, `count` or `load`, or by count where the option is not used. `None` for another text.
+pub(crate) fn fold_of(text: Option<&str>) -> Option<Fold>
+    ensures { result ≡ fold_of (option_map (λ s. s.now) text.entry) }
+{
+    let Some(text) = text else {
+        return Some(Fold::Count);
+    };
+    match text {
+        "count" => Some(Fold::Count),
+        "load" => Some(Fold::Load),
+        _ => None,
+    }
 }

@@ -11,7 +11,7 @@ use crate::fault::WordsFault;
 use crate::job::{Job, job_of};
 use crate::options::{MAX_OPTION_AGENTS, MAX_OPTION_CLASSES, Options};
 use crate::parser::matches_of;
-use crate::values::{is_file_name, setting_of, unit_of};
+use crate::values::{fold_of, is_file_name, setting_of, unit_of};
 use clap::ArgMatches;
 use coflow_units::{MAX_OPTION_SLOTS, MAX_SLOT_MS};
 use std::alloc::Global;
@@ -26,8 +26,8 @@ pub struct Words<'a> {
 /// Reads the words of a command line, the first of which is the program's name.
 ///
 /// The others are `COMMAND FIRST` or `COMMAND FIRST SECOND`, as the command wants it, and options before, between or behind them: `--weights FILE`, `--unit MEGABYTES`,
-/// `--agents NUMBER`, `--epoch SLOTS`, `--run SLOTS`, `--slot-ms MILLISECONDS` and `--classes NUMBER`, each at most once. An option's value is the next word, which may then not begin with a dash,
-/// or stands behind an equals sign. A word `--` ends the options. A name of a file is not empty and is not `-`, and a number is one or more decimal digits.
+/// `--agents NUMBER`, `--epoch SLOTS`, `--run SLOTS`, `--slot-ms MILLISECONDS`, `--classes NUMBER` and `--fold count` or `--fold load`, each at most once. An option's value is the next word, which may
+/// then not begin with a dash, or stands behind an equals sign. A word `--` ends the options. A name of a file is not empty and is not `-`, and a number is one or more decimal digits.
 /// An option that the command does not use is read and tested all the same.
 ///
 /// `Usage` comes exactly where the words are not such, and `NoMemory` where no memory was to be had.
@@ -78,6 +78,7 @@ fn options_of<'a>(matches: &ArgMatches<'a>) -> Option<Options<'a>>
     let run = setting_of(matches.get_str("run"), MAX_OPTION_SLOTS, 1)?;
     let slot_ms = setting_of(matches.get_str("slot-ms"), MAX_SLOT_MS, 8)?;
     let classes = setting_of(matches.get_str("classes"), MAX_OPTION_CLASSES, 8)?;
+    let fold = fold_of(matches.get_str("fold"))?;
     Some(Options {
         weights,
         unit,
@@ -86,6 +87,7 @@ fn options_of<'a>(matches: &ArgMatches<'a>) -> Option<Options<'a>>
         run,
         slot_ms,
         classes,
+        fold,
     })
 }
 

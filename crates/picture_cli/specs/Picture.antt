@@ -6,6 +6,7 @@ use Rattle.coflow_units.specs.Flows.{Instance}
 use Rattle.coflow_units.specs.Schedule.{IsValid}
 use Rattle.flow_table.specs.Table.{TableFacts, instance_of}
 use Rattle.outside.specs.Shelf.{Told}
+use Rattle.class_rates.specs.declared.fold.Fold.TheVariants.{Count}
 use Rattle.cert_check.specs.declared.verdict.Verdict.{Verdict}
 use Rattle.cert_check.specs.declared.verdict.Verdict.TheVariants as verdict
 use Rattle.cert_check.specs.declared.verdict.Reason.{Reason}
@@ -46,6 +47,7 @@ check_of said = record {
   run = 1;
   slot_ms = 8;
   classes = 8;
+  fold = Count;
 }
 
 -- the window that is drawn: its last slot is at most the last one of the schedule

@@ -1,7 +1,9 @@
+pub mod AllMarked
 pub mod Benches
 pub mod ClassFacts
 pub mod Greatest
 pub mod KeyOrders
+pub mod LeftLoads
 pub mod Moved
 pub mod Noted
 pub mod OneRow

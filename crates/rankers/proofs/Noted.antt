@@ -12,7 +12,7 @@ use Rattle.rankers.specs.Meaning.{Meaning, after_note, after_notes}
 use Rattle.rankers.specs.Rounds.{after_completions}
 use Rattle.rankers.proofs.KeyOrders.{by_key_low, keys_agree}
 
-ends_agree : (m : Meaning) (end other : ℕ → ℕ) (cs : List ℕ) → ((c : ℕ) → Contains cs c → end c ≡ other c) → after_notes m end cs ≡ after_notes m other cs
+pub ends_agree : (m : Meaning) (end other : ℕ → ℕ) (cs : List ℕ) → ((c : ℕ) → Contains cs c → end c ≡ other c) → after_notes m end cs ≡ after_notes m other cs
 ends_agree m end other [] same = refl
 ends_agree m end other (c ∷ cs) same =
     ap (λ n. after_notes (after_note m c n) end cs) (same c (in_first c cs)) ∙

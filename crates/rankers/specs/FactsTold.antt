@@ -3,6 +3,7 @@ use Rattle.std.specs.Prelude.{◌≡◌, ℕ, ◌<◌, ◌≤◌, ◌^◌, List,
 use Rattle.std.specs.List.{slice_index_or}
 use Rattle.coflow_units.specs.declared.limits.TheConstants.{MAX_COFLOWS, MAX_UNITS, MAX_WEIGHT}
 use Rattle.coflow_units.specs.Certificate.{Entry, order_of}
+use Rattle.coflow_units.specs.Flows.{with_units}
 use Rattle.coflow_units.specs.Ordering.{IsOrdering}
 use Rattle.class_rates.specs.Classes.{IsPermutation}
 use Rattle.flow_table.specs.Table.{TableFacts, instance_of}
@@ -48,3 +49,13 @@ pub record IsFactsOf (t : TableFacts) (weights : List ℕ) (f : FactsTold) : Typ
   pub ports_are : f.loads.ports ≡ t.ports
   pub loads_are : HasLoads t.flows f.loads
   pub order_is : IsBssiOrder t weights f.order
+
+-- the table with the units that its flows have left
+abbrev pub with_left : TableFacts → (ℕ → ℕ) → TableFacts
+with_left t left = record {
+  flows = with_units left t.flows;
+  starts = t.starts;
+  ports = t.ports;
+  ids = t.ids;
+  arrivals = t.arrivals;
+}

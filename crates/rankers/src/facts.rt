@@ -1,17 +1,20 @@
 //! What rankers are told.
-ghost use Rattle.std.specs.Prelude.{◌≡◌, ◌-◌, ◌^◌, ◌<◌, ◌≤◌, ℕ, All, IfOk, OnOk, length};
+ghost use Rattle.std.specs.Prelude.{◌≡◌, ◌-◌, ◌^◌, ◌<◌, ◌≤◌, ℕ, true, if◌then◌else◌, All, IfOk, OnOk, length, map, slice_index, sum};
 ghost use Rattle.std.specs.List.{slice_index_or};
 ghost use Rattle.coflow_units.specs.declared.fabric.Port.{Port};
 ghost use Rattle.coflow_units.specs.declared.limits.TheConstants.{MAX_UNITS, MAX_WEIGHT};
 ghost use Rattle.flow_table.specs.Table.{IsTable};
-ghost use Rattle.port_load.specs.LoadTable.{HasLoads, load_at};
+ghost use Rattle.coflow_units.specs.declared.plan.Place.{Place};
+ghost use Rattle.coflow_units.specs.Flows.{coflow_of};
+ghost use Rattle.port_load.specs.LoadTable.{HasLoads, is_present, load_at};
 ghost use Rattle.port_load.specs.Bottleneck.{IsBottleneck};
-ghost use Rattle.rankers.specs.FactsTold.{IsBssiOrder, IsFacts, IsFactsOf, coflows_in};
+ghost use Rattle.rankers.specs.FactsTold.{IsBssiOrder, IsFacts, IsFactsOf, coflows_in, with_left};
 ghost use Rattle.rankers.specs.Kinds.{ratio_in};
 
 use crate::by_key::key_in;
 use crate::order::{coflows_of, loads_of, order_of};
-use coflow_units::{NoMemory, Port};
+use bssi_order::Bssi;
+use coflow_units::{NoMemory, Place, Port};
 use flow_table::Table;
 use port_load::{Loads, bottleneck};
 use std::alloc::Global;
@@ -73,6 +76,39 @@ impl Facts {
             loads,
             order,
         })
+    }
+
+    /// The facts anew, where the flows of a table have so many units left and these coflows are present: the loads of the others are 0, and weights and arrivals stay. `everyone` has the mark `true` for
+    /// each coflow, and `ordering` has room for all of them.
+    pub fn refill(
+        &mut self,
+        table: &Table,
+        left: &[u64],
+        present: &[bool],
+        everyone: &[bool],
+        ordering: &mut Bssi,
+    )
+        requires coflows { coflows_in self.old ≡ length table.now.ids }
+        requires ports { self.old.loads.ports ≡ table.now.ports }
+        requires each_left { length left.now ≡ length table.now.flows }
+        requires units { sum left.now ≤ MAX_UNITS }
+        requires each_present { length present.now ≡ length table.now.ids }
+        requires each_mark { length everyone.now ≡ length table.now.ids }
+        requires marked { All (λ mark. mark ≡ true) everyone.now }
+        requires room { length table.now.ids ≤ ordering.old.room }
+        requires arrivals { self.old.arrivals ≡ table.now.arrivals }
+        ensures facts { (present_left : ℕ → ℕ) → ((f : ℕ) → f < length table.now.flows → present_left f ≡
+            (if is_present present.now (coflow_of table.now.flows f) then slice_index left.now f else 0)) →
+            IsFactsOf (with_left table.now present_left) self.old.weights self.new }
+        ensures room { ordering.new.room ≡ ordering.old.room }
+    {
+        self.loads
+            .fill_by_coflow(table.flows(), table.starts(), left, present);
+        ordering.run(&mut self.loads, &self.weights, everyone);
+        copy_coflows(ordering.places(), &mut self.order);
+        self.loads
+            .fill_by_coflow(table.flows(), table.starts(), left, present);
+        fill_bottlenecks(&self.loads, &mut self.bottlenecks);
     }
 
     /// The number of coflows.
@@ -212,4 +248,26 @@ fn bottlenecks_of(alloc: Global, loads: &Loads) -> Result<Vec<u64>, NoMemory>
         bottlenecks.push(bottleneck(loads, coflow))?;
     }
     Ok(bottlenecks)
+}
+
+/// Writes the coflows of the places, in their order.
+fn copy_coflows(places: &[Place], order: &mut [u32])
+    requires { length places.now ≡ length order.old }
+    ensures { order.new ≡ map (λ (x : Place). x.coflow) places.now }
+{
+    for place in 0..order.len() {
+        order[place] = places[place].coflow;
+    }
+}
+
+/// Writes the greatest load of each coflow, by number.
+fn fill_bottlenecks(loads: &Loads, bottlenecks: &mut [u64])
+    requires { length bottlenecks.old ≡ loads.now.coflows }
+    ensures length { length bottlenecks.new ≡ loads.now.coflows }
+    ensures greatest { (c : ℕ) → c < loads.now.coflows →
+        IsBottleneck loads.now c (slice_index_or bottlenecks.new c 0) }
+{
+    for coflow in 0..loads.coflows() {
+        bottlenecks[coflow as usize] = bottleneck(loads, coflow);
+    }
 }

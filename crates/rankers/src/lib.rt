@@ -24,3 +24,4 @@ pub use order::{loads_of, order_of};
 pub use ranker::Ranker;
 pub use reporting::comparison_text;
 pub use row::{Row, Scored};
+pub use scoring::first_unfit;

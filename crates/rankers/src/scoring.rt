@@ -55,7 +55,7 @@ pub fn score(
 }
 
 /// The first place, counted from 1, whose number is that of no coflow, or stood earlier. There are as many places as coflows.
-fn first_unfit(alloc: Global, order: &[u32], coflows: u32) -> Result<Option<u32>, NoMemory>
+pub fn first_unfit(alloc: Global, order: &[u32], coflows: u32) -> Result<Option<u32>, NoMemory>
     requires { length order.now ≡ coflows }
     ensures { IfOk result (λ place.
         MatchOption place (IsPermutation order.now) (λ k. IsFirstUnfit coflows order.now k)) }

@@ -89,9 +89,10 @@ use std::thread::Threads;
 /// - `compare TRACE` asks the rankers of the bench for orders of the trace's coflows, one ranker after another, and
 ///   writes the bound of `plan` and two rows for each: what its first answer costs, and what its second one does, after
 ///   it was told the slots in which the coflows ended. `--weights` and `--unit` are as for `plan`.
-/// - `classes TRACE` folds the order of `plan` into as many classes as `--classes` says, from 1 to 64, and else 8, and
-///   writes the class of each coflow, and the schedule that serves the class order with its cost, which is at most the
-///   cap. `--weights` and `--unit` are as for `plan`.
+/// - `classes TRACE` folds the order of `plan` into as many classes as `--classes` says, from 1 to 64, and else 8, by count
+///   or, with `--fold load`, by the greatest loads of the coflows on a port, and writes the class of each coflow, and the
+///   schedule that serves the class order with its cost, which is at most the cap. `--weights` and `--unit` are as for
+///   `plan`.
 /// - `audit TRACE JOURNAL` reads a printed journal of a hall over that trace, by whomever made, and writes one line: yes
 ///   with the numbers of its entries, orders and slots where all that it says of them is right, and else no with the first
 ///   reason. `--weights` and `--unit` are as for `plan`. A master with the table and the weights answers its entries one

@@ -2,6 +2,7 @@
 use Rattle.std.specs.Prelude.{◌≡◌, ℕ, Bool, false, true, List, Option, slice_index}
 use Rattle.flow_table.specs.Table.{TableFacts, instance_of}
 use Rattle.outside.specs.Shelf.{Told}
+use Rattle.class_rates.specs.declared.fold.Fold.TheVariants.{Count}
 use Rattle.cert_check.specs.declared.verdict.Reason.TheVariants.{RatioBroken}
 use Rattle.cert_check.specs.declared.verdict.Verdict.{Verdict}
 use Rattle.cert_check.specs.declared.verdict.Verdict.TheVariants as verdict
@@ -42,6 +43,7 @@ check_of said = record {
   run = 1;
   slot_ms = said.slot_ms;
   classes = 8;
+  fold = Count;
 }
 
 -- the slot after which each coflow may be served, where a slot takes so many milliseconds; a plan knows no arrivals

@@ -71,7 +71,7 @@ fn tell_name(rt: &impl Abort, text: &mut String, name: &str) {
     had(rt, text.push_str(" "));
 }
 
-/// Adds the weights, `-` where there are none, and the values of `--unit`, `--agents`, `--epoch`, `--run`, `--slot-ms` and `--classes`.
+/// Adds the weights, `-` where there are none, and the values of `--unit`, `--agents`, `--epoch`, `--run`, `--slot-ms`, `--classes` and `--fold`.
 fn tell_options(rt: &impl Abort, text: &mut String, options: Options<'_>) {
     had(rt, text.push_str(options.weights.unwrap_or("-")));
     tell_value(rt, text, options.unit.megabytes);
@@ -80,6 +80,7 @@ fn tell_options(rt: &impl Abort, text: &mut String, options: Options<'_>) {
     tell_value(rt, text, options.run);
     tell_value(rt, text, options.slot_ms);
     tell_value(rt, text, options.classes);
+    had(rt, write!(text, " {:?}", options.fold));
 }
 
 /// Adds a value behind a space.
@@ -96,58 +97,62 @@ fn try_line(rt: &impl Abort, alloc: Global, line: &str, want: &str) {
 }
 
 /// Lines and what they say.
-const READ: &str = "plan t => Plan t - - 1 4 1024 1 8 8
---weights w plan t => Plan t - w 1 4 1024 1 8 8
-plan --weights w t => Plan t - w 1 4 1024 1 8 8
-plan t --weights w => Plan t - w 1 4 1024 1 8 8
-plan t --weights=w => Plan t - w 1 4 1024 1 8 8
-plan t --weights=-x => Plan t - -x 1 4 1024 1 8 8
-plan t --weights=-- => Plan t - -- 1 4 1024 1 8 8
-plan t --weights=a=b => Plan t - a=b 1 4 1024 1 8 8
-plan t --weights a=b => Plan t - a=b 1 4 1024 1 8 8
-plan t --weights =b => Plan t - =b 1 4 1024 1 8 8
-plan t --weights==b => Plan t - =b 1 4 1024 1 8 8
-plan t --unit 01 => Plan t - - 1 4 1024 1 8 8
-plan t --unit 1048576 => Plan t - - 1048576 4 1024 1 8 8
-plan t --agents=1 => Plan t - - 1 1 1024 1 8 8
-plan t --agents 64 => Plan t - - 1 64 1024 1 8 8
-plan t --epoch 1099511627776 => Plan t - - 1 4 1099511627776 1 8 8
-plan t --run 1099511627776 => Plan t - - 1 4 1024 1099511627776 8 8
-plan t --slot-ms 1048576 => Plan t - - 1 4 1024 1 1048576 8
---slot-ms 6 plan --run 5 --epoch=4 t --agents 3 --weights=w --unit 2 => Plan t - w 2 3 4 5 6 8
-check t r => Check t r - 1 4 1024 1 8 8
-check --unit=1 t --run 1 r -- => Check t r - 1 4 1024 1 8 8
-check -- -t -- => Check -t -- - 1 4 1024 1 8 8
-check t -- --unit => Check t --unit - 1 4 1024 1 8 8
-make 007 => Make 7 - - 1 4 1024 1 8 8
-make 18446744073709551615 => Make 18446744073709551615 - - 1 4 1024 1 8 8
-make 0 --epoch 5 => Make 0 - - 1 4 5 1 8 8
-plan help => Plan help - - 1 4 1024 1 8 8
-plan plan => Plan plan - - 1 4 1024 1 8 8
-plan -- -x => Plan -x - - 1 4 1024 1 8 8
-plan -- -- => Plan -- - - 1 4 1024 1 8 8
--- plan t => Plan t - - 1 4 1024 1 8 8
-plan -- t => Plan t - - 1 4 1024 1 8 8
-plan t -- => Plan t - - 1 4 1024 1 8 8
-compare t => Compare t - - 1 4 1024 1 8 8
-classes t => Classes t - - 1 4 1024 1 8 8
-classes t --classes 1 => Classes t - - 1 4 1024 1 8 1
---classes=64 classes t --weights w => Classes t - w 1 4 1024 1 8 64
-plan t --classes 02 => Plan t - - 1 4 1024 1 8 2
-audit t j => Audit t j - 1 4 1024 1 8 8
---unit 2 audit t --weights=w j --agents 3 => Audit t j w 2 3 1024 1 8 8
-audit -- -t -j => Audit -t -j - 1 4 1024 1 8 8
-online t => Online t - - 1 4 1024 1 8 8
-online t --epoch 4 => Online t - - 1 4 4 1 8 8
---slot-ms=20 online --epoch 1099511627776 t --weights w --unit 3 --agents 64 => Online t - w 3 64 1099511627776 1 20 8
-live t s => Live t s - 1 4 1024 1 8 8
-live t s --run 4 => Live t s - 1 4 1024 4 8 8
---run=1099511627776 live --weights w t --agents 64 s --unit 2 => Live t s w 2 64 1024 1099511627776 8 8
-live -- -t -s => Live -t -s - 1 4 1024 1 8 8
-live t s --epoch 5 --slot-ms 6 --classes 7 => Live t s - 1 4 5 1 6 7
-serve a b => Serve a b - 1 4 1024 1 8 8
---unit 2 serve a --weights=w b => Serve a b w 2 4 1024 1 8 8
-serve -- -a -b => Serve -a -b - 1 4 1024 1 8 8";
+const READ: &str = "plan t => Plan t - - 1 4 1024 1 8 8 Count
+--weights w plan t => Plan t - w 1 4 1024 1 8 8 Count
+plan --weights w t => Plan t - w 1 4 1024 1 8 8 Count
+plan t --weights w => Plan t - w 1 4 1024 1 8 8 Count
+plan t --weights=w => Plan t - w 1 4 1024 1 8 8 Count
+plan t --weights=-x => Plan t - -x 1 4 1024 1 8 8 Count
+plan t --weights=-- => Plan t - -- 1 4 1024 1 8 8 Count
+plan t --weights=a=b => Plan t - a=b 1 4 1024 1 8 8 Count
+plan t --weights a=b => Plan t - a=b 1 4 1024 1 8 8 Count
+plan t --weights =b => Plan t - =b 1 4 1024 1 8 8 Count
+plan t --weights==b => Plan t - =b 1 4 1024 1 8 8 Count
+plan t --unit 01 => Plan t - - 1 4 1024 1 8 8 Count
+plan t --unit 1048576 => Plan t - - 1048576 4 1024 1 8 8 Count
+plan t --agents=1 => Plan t - - 1 1 1024 1 8 8 Count
+plan t --agents 64 => Plan t - - 1 64 1024 1 8 8 Count
+plan t --epoch 1099511627776 => Plan t - - 1 4 1099511627776 1 8 8 Count
+plan t --run 1099511627776 => Plan t - - 1 4 1024 1099511627776 8 8 Count
+plan t --slot-ms 1048576 => Plan t - - 1 4 1024 1 1048576 8 Count
+--slot-ms 6 plan --run 5 --epoch=4 t --agents 3 --weights=w --unit 2 => Plan t - w 2 3 4 5 6 8 Count
+check t r => Check t r - 1 4 1024 1 8 8 Count
+check --unit=1 t --run 1 r -- => Check t r - 1 4 1024 1 8 8 Count
+check -- -t -- => Check -t -- - 1 4 1024 1 8 8 Count
+check t -- --unit => Check t --unit - 1 4 1024 1 8 8 Count
+make 007 => Make 7 - - 1 4 1024 1 8 8 Count
+make 18446744073709551615 => Make 18446744073709551615 - - 1 4 1024 1 8 8 Count
+make 0 --epoch 5 => Make 0 - - 1 4 5 1 8 8 Count
+plan help => Plan help - - 1 4 1024 1 8 8 Count
+plan plan => Plan plan - - 1 4 1024 1 8 8 Count
+plan -- -x => Plan -x - - 1 4 1024 1 8 8 Count
+plan -- -- => Plan -- - - 1 4 1024 1 8 8 Count
+-- plan t => Plan t - - 1 4 1024 1 8 8 Count
+plan -- t => Plan t - - 1 4 1024 1 8 8 Count
+plan t -- => Plan t - - 1 4 1024 1 8 8 Count
+compare t => Compare t - - 1 4 1024 1 8 8 Count
+classes t => Classes t - - 1 4 1024 1 8 8 Count
+classes t --classes 1 => Classes t - - 1 4 1024 1 8 1 Count
+--classes=64 classes t --weights w => Classes t - w 1 4 1024 1 8 64 Count
+plan t --classes 02 => Plan t - - 1 4 1024 1 8 2 Count
+classes t --fold count => Classes t - - 1 4 1024 1 8 8 Count
+classes t --fold load => Classes t - - 1 4 1024 1 8 8 Load
+--fold=load classes --classes 3 t => Classes t - - 1 4 1024 1 8 3 Load
+plan --fold load t => Plan t - - 1 4 1024 1 8 8 Load
+audit t j => Audit t j - 1 4 1024 1 8 8 Count
+--unit 2 audit t --weights=w j --agents 3 => Audit t j w 2 3 1024 1 8 8 Count
+audit -- -t -j => Audit -t -j - 1 4 1024 1 8 8 Count
+online t => Online t - - 1 4 1024 1 8 8 Count
+online t --epoch 4 => Online t - - 1 4 4 1 8 8 Count
+--slot-ms=20 online --epoch 1099511627776 t --weights w --unit 3 --agents 64 => Online t - w 3 64 1099511627776 1 20 8 Count
+live t s => Live t s - 1 4 1024 1 8 8 Count
+live t s --run 4 => Live t s - 1 4 1024 4 8 8 Count
+--run=1099511627776 live --weights w t --agents 64 s --unit 2 => Live t s w 2 64 1024 1099511627776 8 8 Count
+live -- -t -s => Live -t -s - 1 4 1024 1 8 8 Count
+live t s --epoch 5 --slot-ms 6 --classes 7 => Live t s - 1 4 5 1 6 7 Count
+serve a b => Serve a b - 1 4 1024 1 8 8 Count
+--unit 2 serve a --weights=w b => Serve a b w 2 4 1024 1 8 8 Count
+serve -- -a -b => Serve -a -b - 1 4 1024 1 8 8 Count";
 
 #[test]
 fn lines_that_are_read(rt: HostRuntime) {
@@ -242,6 +247,17 @@ classes t --classes 0
 classes t --classes 65
 classes t --classes 1 --classes 1
 plan t --classes 65
+classes t --fold
+classes t --fold=
+classes t --fold x
+classes t --fold Load
+classes t --fold loads
+classes t --fold count,load
+classes t --fold load count
+classes t --fold load --fold load
+--fold=count classes t --fold load
+classes t --folds load
+plan t --fold x
 audit
 audit t
 audit t j x

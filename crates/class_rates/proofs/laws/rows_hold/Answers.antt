@@ -9,6 +9,15 @@ returns-clause-along c = record {
   two = refl;
 }
 
+pub returns-clause-loads : goal.returns-clause-loads
+returns-clause-loads c = record {
+  in_two = refl;
+  in_three = refl;
+  at_the_end = refl;
+  no_load = refl;
+  one = refl;
+}
+
 pub returns-clause-orders : goal.returns-clause-orders
 returns-clause-orders c = orders_hold
 

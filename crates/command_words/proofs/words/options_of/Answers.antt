@@ -1,8 +1,9 @@
-use Rattle.std.proofs.Common.{◌≡◌, IfNone, None, Option, sym, subst}
+use Rattle.std.proofs.Common.{◌≡◌, ◌∙◌, IfNone, None, Option, ap, sym, subst}
+use Rattle.std.proofs.lemmas.Option.{none-some}
 use Rattle.coflow_units.specs.declared.limits.TheConstants.{MAX_OPTION_SLOTS, MAX_SLOT_MS, MAX_UNIT}
 use Rattle.clap.specs.Words.{first_value, found_of}
 use Rattle.clap.specs.declared.parser.matches.Found.{Found}
-use Rattle.command_words.specs.Words.{IsSaid, IsSetting, Said}
+use Rattle.command_words.specs.Words.{IsSaid, IsSetting, Said, fold_of}
 use Rattle.command_words.specs.declared.options.TheConstants.{MAX_OPTION_AGENTS, MAX_OPTION_CLASSES}
 use Rattle.command_words.specs.declared.options.Options.{Options}
 use Rattle.command_words.proofs.words.options_of.Goals as goal
@@ -42,6 +43,11 @@ returns-in_err-classes-clause-none c =
     none_of (found_of c.args.matches.now) _ c.from_residual-in_err-classes.ensures
     (λ said is. c.in_err-classes.ensures.none said.classes (subst (λ v. IsSetting MAX_OPTION_CLASSES 8 v said.classes) (sym c.get_str-6.ensures) is.classes))
 
+pub returns-in_err-fold-clause-none : goal.returns-in_err-fold-clause-none
+returns-in_err-fold-clause-none c =
+    none_of (found_of c.args.matches.now) _ c.from_residual-in_err-fold.ensures
+    (λ said is. none-some said.fold (c.in_err-fold.ensures ∙ ap fold_of c.get_str-7.ensures ∙ is.fold))
+
 pub returns-clause-some : goal.returns-clause-some
 returns-clause-some c = λ job is. record {
   job = is;
@@ -52,5 +58,6 @@ returns-clause-some c = λ job is. record {
   run = subst (λ v. IsSetting MAX_OPTION_SLOTS 1 v c.in_ok-run.run') c.get_str-4.ensures c.in_ok-run.ensures.some;
   slot_ms = subst (λ v. IsSetting MAX_SLOT_MS 8 v c.in_ok-slot_ms.slot_ms) c.get_str-5.ensures c.in_ok-slot_ms.ensures.some;
   classes = subst (λ v. IsSetting MAX_OPTION_CLASSES 8 v c.in_ok-classes.classes) c.get_str-6.ensures c.in_ok-classes.ensures.some;
+  fold = ap fold_of (sym c.get_str-7.ensures) ∙ sym c.in_ok-fold.ensures;
   weights_fit = c.is_optional_name.ensures.0 (cc);
 }
