@@ -26,6 +26,7 @@ PLANNER = os.path.join(TOP, "crates", "sincronia", "out", "sincronia")
 STATS = os.path.join(TOP, "crates", "sincronia_stats", "out", "sincronia_stats")
 
 SEEDS = range(1, 6)
+FOLDS = ["count", "load"]
 CLASSES = [1, 2, 4, 8, 16, 32, 64]
 POLICIES = ["bssi", "sebf", "wsebf", "fifo"]
 TIMED = ["bssi", "sebf", "fifo"]  # without weights `wsebf` is `sebf`
@@ -107,11 +108,11 @@ def policy_row(work):
     return [work.name, *cells]
 
 
-def class_row(work):
-    """The ratios of the orders of so many classes."""
+def class_row(work, fold):
+    """The ratios of the order of `plan` in so many classes, folded by count or by load."""
     work.report("plan", [])
     bound = number(work.ran(STATS, ["trace", "report"]), "bound")
-    costs = [number(work.ran(PLANNER, ["classes", "trace", "--classes", str(count)]), "cost") for count in CLASSES]
+    costs = [number(work.ran(PLANNER, ["classes", "trace", "--classes", str(count), "--fold", fold]), "cost") for count in CLASSES]
     return [work.name, *[ratio(cost, bound) for cost in costs]]
 
 
@@ -128,9 +129,10 @@ def time_rows(work):
 
 
 def tables_of(works, timed):
-    """The three tables of these workloads; times are told of one alone."""
+    """The four tables of these workloads; times are told of one alone."""
     yield table(["workload", *POLICIES], [policy_row(work) for work in works])
-    yield table(["workload", *["%d" % count for count in CLASSES]], [class_row(work) for work in works])
+    for fold in FOLDS:
+        yield table(["workload", *["%d" % count for count in CLASSES]], [class_row(work, fold) for work in works])
     yield table(["policy", "group", "coflows", "mean", "median", "95 %", "99 %"], time_rows(timed))
 
 
@@ -165,7 +167,7 @@ def check():
     missing = [text for text in made(True) if text not in page]
     for text in missing:
         print("the page has not:\n" + text)
-    print("%d passed, %d failed" % (3 - len(missing), len(missing)))
+    print("%d passed, %d failed" % (4 - len(missing), len(missing)))
     return 1 if missing else 0
 
 

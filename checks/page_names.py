@@ -1,6 +1,7 @@
 #!/usr/bin/env python3
 """Looks up each name that the pages cite: calls, clauses and definitions of docs/PROVED.md and docs/HALL.md, edits of docs/PLANTED.md, functions of files, and the files that
-the pages link to. It also looks whether docs/PROVED.md names each clause of the top call, and whether docs/ARCHITECTURE.md has a row for each crate.
+the pages link to. It also looks whether docs/PROVED.md names each clause of the top call, whether docs/ARCHITECTURE.md has a row for each crate, and whether docs/LIBRARY.md shows code and output of the
+examples as they stand.
 
 Use: checks/page_names.py            The last line is 'N passed, M failed'; the exit code is 0 where none failed.
      checks/page_names.py --list CRATE   Prints each public call of the crate with the names of its clauses, file by file.
@@ -9,7 +10,7 @@ docs/PROVED.md: a heading '### ..' names crates. Where the first cell of a row b
 clauses of the heading's first crate. A clause is named as `call: clause`, as `call`, or as a clause of the call named before it in the cell. `Type::call` is a call of that type or trait, and
 `file::call` a call of that file.
 
-docs/HALL.md and docs/PROVED.md: the last cells of tables whose last column is 'said by' name clauses or definitions of any crate. In docs/HALL.md the sections '## What a hall promises ..' have such
+docs/HALL.md, docs/LIBRARY.md and docs/PROVED.md: the last cells of tables whose last column is 'said by' name clauses or definitions of any crate. In docs/HALL.md the sections '## What a hall promises ..' have such
 tables.
 
 docs/PLANTED.md: an edit is named as edit `NAME`. Its crate is the one of the row's first cell, else of the heading '### ..', and edit `NAME` of `CRATE` names another one. It stands in the crate's
@@ -169,7 +170,7 @@ def said_names():
     for crate in all_crates():
         for call, clauses in clauses_of(crate).items():
             calls.setdefault(call, set()).update(clauses)
-    for page, cell in ((page, cell) for page in ("docs/HALL.md", "docs/PROVED.md") for cell in said_by(page)):
+    for page, cell in ((page, cell) for page in ("docs/HALL.md", "docs/LIBRARY.md", "docs/PROVED.md") for cell in said_by(page)):
         before = None
         for name in re.findall(NAME, cell):
             is_call = "::" in name or name.split(":")[0] in calls or name in calls.get(before, ())
@@ -233,6 +234,22 @@ def linked_files():
             yield f"{page}: {link}{'#' + title if title else ''}", well and (not title or title in titles_of(file))
 
 
+def shown_examples():
+    """Each block of docs/LIBRARY.md, and whether an example has it: code as lines of its source, text as its stored output; and each example, and whether the page shows both."""
+    page = "docs/LIBRARY.md"
+    blocks = re.findall(r"^```(rust|text)\n(.*?)^```$", read(page), re.M | re.S)
+    has = {it: {kind for kind, block in blocks if is_of(it, kind, block)} for it in all_crates() if it.endswith("_example")}
+    for kind, block in blocks:
+        yield f"{page}: {kind} of an example: {block.partition(chr(10))[0]}", any(is_of(it, kind, block) for it in has)
+    for crate, kinds in has.items():
+        yield f"{page}: code and output of {crate}", len(kinds) == 2
+
+
+def is_of(crate, kind, block):
+    """Whether the lines of code stand so in the crate, or the text is what the crate is to print."""
+    return any("\n" + block in "\n" + text for _, text in files_of(crate)) if kind == "rust" else os.path.isfile(os.path.join(TOP, "crates", crate, "stdout")) and block == read("crates", crate, "stdout")
+
+
 def crates_told():
     """Each crate, and whether docs/ARCHITECTURE.md has a row of it."""
     firsts = {it for line in read("docs", "ARCHITECTURE.md").split("\n") if line.startswith("| ") for it in re.findall(r"`(\w+)`", line.split(" | ")[0])}
@@ -248,7 +265,7 @@ def main():
         return 0
     if sys.argv[1:]:
         sys.exit(__doc__)
-    results = [*proved_names(), *top_told(), *said_names(), *hall_sections(), *planted_names(), *file_names(), *linked_files(), *crates_told()]
+    results = [*proved_names(), *top_told(), *said_names(), *hall_sections(), *planted_names(), *file_names(), *linked_files(), *crates_told(), *shown_examples()]
     for name, well in results:
         if not well:
             print(f"not there: {name}")
