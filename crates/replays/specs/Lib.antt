@@ -1,0 +1,6 @@
+pub mod Acting
+pub mod Moments
+pub mod Replayed
+pub mod Kept
+pub mod Publishing
+pub mod Best

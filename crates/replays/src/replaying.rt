@@ -1,0 +1,80 @@
+//! The replay of one ranker.
+ghost use Rattle.std.specs.Prelude.{◌≡◌, ◌≤◌, ◌^◌, ℕ, All, Err, IfOk, length};
+ghost use Rattle.coflow_units.specs.declared.limits.TheConstants.{MAX_COFLOWS, MAX_OPTION_SLOTS};
+ghost use Rattle.epochs.specs.Course.{at_first};
+ghost use Rattle.rankers.specs.Meaning.{Meaning};
+ghost use Rattle.replays.specs.declared.rows.ReplayFault.TheVariants.{TooMany};
+ghost use Rattle.replays.specs.Kept.{Reaches, input_of};
+ghost use Rattle.replays.specs.Moments.{Input};
+ghost use Rattle.replays.specs.Replayed.{IsInput, IsReplayed, IsTooManyFor};
+
+use crate::acting::act;
+use crate::kept::Kept;
+use crate::rows::{ReplayFault, Replayed};
+use coflow_units::NoMemory;
+use epochs::Epochs;
+use flow_table::Table;
+use rankers::Ranker;
+use std::alloc::Global;
+
+/// Serves the coflows of a table as they arrive, by the orders of a ranker: at each multiple of `every` slots the coflows that owe nothing leave, and the ranker is asked to order those that are present; who
+/// joins later stands behind them. In each slot the line is served greedily. There is a weight and an arrival, in slots, for each coflow. The ranker is dropped at the end.
+pub fn replay(
+    alloc: Global,
+    table: &Table,
+    weights: &[u64],
+    arrivals: &[u64],
+    every: u64,
+    ranker: Box<dyn Ranker>,
+) -> Result<Replayed, ReplayFault>
+    requires input { IsInput record { table = table.now; weights = weights.now; arrivals = arrivals.now; every = every } }
+    ensures replayed { IfOk result (λ replayed. IsReplayed
+        record { table = table.now; weights = weights.now; arrivals = arrivals.now; every = every }
+        (meaning ranker) replayed) }
+    ensures too_many { (count : ℕ) → result ≡ Err (TooMany count) → IsTooManyFor
+        record { table = table.now; weights = weights.now; arrivals = arrivals.now; every = every }
+        (meaning ranker) count }
+{
+    let mut course = course_of(alloc, arrivals, every)?;
+    let mut kept = Kept::first(alloc, table, weights)?;
+    let mut ranker = ranker;
+    serve(alloc, table, weights, &mut course, &mut kept, &mut ranker)
+}
+
+/// The course over coflows that arrive at these times, before the first action. The error is want of memory.
+fn course_of(alloc: Global, arrivals: &[u64], every: u64) -> Result<Epochs, NoMemory>
+    requires coflows { length arrivals.now ≤ MAX_COFLOWS }
+    requires arrivals_fit { All (λ a. a ≤ 2 ^ 32) arrivals.now }
+    requires epoch_some { 1 ≤ every }
+    requires epoch_fits { every ≤ MAX_OPTION_SLOTS }
+    ensures { IfOk result (λ course. course ≡ at_first arrivals.now every) }
+{
+    let arrivals = Vec::from_slice(alloc, arrivals)?;
+    let course = Epochs::new(alloc, arrivals, every)?;
+    Ok(course)
+}
+
+/// Carries out one action after another, up to the end of the replay, or to an answer that is no order.
+fn serve(
+    alloc: Global,
+    table: &Table,
+    weights: &[u64],
+    course: &mut Epochs,
+    kept: &mut Kept,
+    ranker: &mut Box<dyn Ranker>,
+) -> Result<Replayed, ReplayFault>
+    requires input { IsInput (input_of table.now weights.now course.old) }
+    requires reaches { Reaches (input_of table.now weights.now course.old) (meaning ranker.old) course.old kept.old
+        (meaning ranker.old) }
+    ensures replayed { IfOk result (λ replayed. IsReplayed (input_of table.now weights.now course.old)
+        (meaning ranker.old) replayed) }
+    ensures too_many { (count : ℕ) → result ≡ Err (TooMany count) →
+        IsTooManyFor (input_of table.now weights.now course.old) (meaning ranker.old) count }
+{
+    'actions: loop {
+        let action = course.next(kept.progress.time, &kept.progress.owed);
+        if let Some(replayed) = act(alloc, table, weights, kept, ranker, action)? {
+            return Ok(replayed);
+        }
+    }
+}

@@ -1,0 +1,99 @@
+//! The rows of a bench of rankers.
+ghost use Rattle.std.specs.Prelude.{◌≡◌, ◌<◌, ◌≤◌, ◌^◌, ℕ, [], ◌∷◌, All, Contains, Err, IfOk, OnOk, drop, length, map};
+ghost use Rattle.rankers.specs.Meaning.{Meaning};
+ghost use Rattle.replays.specs.declared.rows.ReplayFault.TheVariants.{TooMany};
+ghost use Rattle.replays.specs.Moments.{Input};
+ghost use Rattle.replays.specs.Replayed.{AreRowsFrom, IsInput, IsTooManyFor};
+
+use crate::replaying::replay;
+use coflow_units::NoMemory;
+use flow_table::Table;
+use rankers::Ranker;
+use std::alloc::{AllocFailed, Global};
+
+/// One row: a ranker by its place on the bench, from 1, and what its replay comes to.
+#[derive(Clone, Copy, Debug, PartialEq, Eq)]
+pub struct ReplayRow {
+    pub index: u32,
+    pub result: Replayed,
+}
+
+/// What the replay of a ranker comes to.
+#[derive(Clone, Copy, Debug, PartialEq, Eq)]
+pub enum Replayed {
+    /// Each answer was an order of the coflows: the sum of weight times completion, in slots.
+    Cost(u128),
+    /// One was none: the number of its publishing, from 1, and the first place, from 1, whose number is not a coflow's or stood earlier.
+    Unfit { epoch: u32, place: u32 },
+}
+
+/// Why there are no rows.
+#[derive(Clone, Copy, Debug, PartialEq, Eq)]
+pub enum ReplayFault {
+    NoMemory,
+    /// More orders would be published than may be. This would have been the number of the next one.
+    TooMany { count: u64 },
+}
+
+impl From<NoMemory> for ReplayFault {
+    ghost use Rattle.std.specs.Prelude.{◌≡◌};
+    ghost use Rattle.replays.specs.declared.rows.ReplayFault.TheVariants.{NoMemory};
+
+    ghost from_gives = { λ _ e. e ≡ NoMemory };
+
+    fn from(_error: NoMemory) -> ReplayFault {
+        ReplayFault::NoMemory
+    }
+}
+
+impl<T: Drop> From<AllocFailed<T>> for ReplayFault {
+    ghost use Rattle.std.specs.Prelude.{◌≡◌};
+    ghost use Rattle.replays.specs.declared.rows.ReplayFault.TheVariants.{NoMemory};
+
+    ghost from_gives = { λ _ e. e ≡ NoMemory };
+
+    fn from(_error: AllocFailed<T>) -> ReplayFault {
+        ReplayFault::NoMemory
+    }
+}
+
+/// A row for each ranker of a bench, from its own replay alone. There is a weight and an arrival, in slots, for each coflow of the table, an epoch has `every` slots, and there are fewer than 2^32 rankers.
+///
+/// Each ranker in turn is taken off the bench, replayed and dropped, so on success the bench is empty. After an error the rankers that were not reached are still there, as they were and in their order.
+pub fn replay_all(
+    alloc: Global,
+    table: &Table,
+    weights: &[u64],
+    arrivals: &[u64],
+    every: u64,
+    bench: &mut Vec<Box<dyn Ranker>>,
+) -> Result<Vec<ReplayRow>, ReplayFault>
+    requires input { IsInput record { table = table.now; weights = weights.now; arrivals = arrivals.now; every = every } }
+    requires few { length bench.old.items < 2 ^ 32 }
+    ensures rows { IfOk result (λ rows. AreRowsFrom
+        record { table = table.now; weights = weights.now; arrivals = arrivals.now; every = every } 1
+        (map (λ b. meaning b) bench.old.items) rows.items) }
+    ensures empty { OnOk result (bench.new.items ≡ []) }
+    ensures left { (reached : ℕ) × (bench.new.items ≡ drop reached bench.old.items) }
+    ensures too_many { (count : ℕ) → result ≡ Err (TooMany count) →
+        (ranker : Meaning) × Contains (map (λ b. meaning b) bench.old.items) ranker × IsTooManyFor
+        record { table = table.now; weights = weights.now; arrivals = arrivals.now; every = every } ranker count }
+{
+    let mut rows = Vec::new(alloc);
+    let mut index = 0;
+    'rankers: while !bench.is_empty() {
+        let ranker = take_first(bench);
+        index += 1;
+        let result = replay(alloc, table, weights, arrivals, every, ranker)?;
+        rows.push(ReplayRow { index, result })?;
+    }
+    Ok(rows)
+}
+
+/// Takes the first ranker off the bench.
+fn take_first(bench: &mut Vec<Box<dyn Ranker>>) -> Box<dyn Ranker>
+    requires { 0 < length bench.old.items }
+    ensures { bench.old.items ≡ result ∷ bench.new.items }
+{
+    bench.remove(0)
+}
