@@ -1,20 +1,16 @@
 -- What is kept after an action tells the moment after it.
-use Rattle.std.proofs.Common.{◌≡◌, ℕ, ◌+◌, ◌-◌, ◌<◌, ◌≤◌, Bool, true, false, List, [], ◌∷◌, ◌++◌, length, replicate, Contains, refl, sym, ap, subst, ◌∙◌, arith}
-use Rattle.std.specs.Prelude.{All, ◌==◌, ◌&&◌, if◌then◌else◌, filter, map, min, not, slice_index, slice_set}
-use Rattle.std.specs.List.{range_with_len}
+use Rattle.std.proofs.Common.{◌≡◌, ℕ, ◌+◌, ◌-◌, ◌<◌, ◌≤◌, Bool, true, false, List, [], ◌∷◌, ◌++◌, length, replicate, refl, sym, ap, subst, ◌∙◌, arith}
+use Rattle.std.specs.Prelude.{All, ◌==◌, ◌&&◌, filter, map, not, slice_index, slice_set}
 use Rattle.std.proofs.Math.Path.{fun_ext}
 use Rattle.std.proofs.lemmas.Bool.{both_ways}
-use Rattle.std.proofs.lemmas.List.{get_or-replicate, length-map, length-replicate, length-set}
+use Rattle.std.proofs.lemmas.List.{length-replicate, length-set}
 use Rattle.coflow_units.specs.declared.fabric.Flow.{Flow}
-use Rattle.coflow_units.specs.Completion.{completion, holds_coflow}
 use Rattle.coflow_units.specs.Flows.{IsDistinct}
-use Rattle.coflow_units.specs.Grants.{IsGrants}
-use Rattle.coflow_units.specs.Schedule.{holds}
 use Rattle.coflow_units.specs.Served.{left_after}
 use Rattle.coflow_units.proofs.Sums.{all_of_members}
-use Rattle.epochs.specs.declared.action.Action.TheVariants.{Publish, Register, Run, Skip, Withdraw}
+use Rattle.epochs.specs.declared.action.Action.TheVariants.{Register, Skip, Withdraw}
 use Rattle.epochs.specs.Course.{is_marked}
-use Rattle.matching.specs.declared.tables.Tables.{Tables}
+use Rattle.epochs.proofs.Actions.{marked_below, none_marked}
 use Rattle.matching.specs.Matching.{IsRunLess, IsSettled, listed_in, ports_of, room_of}
 use Rattle.rankers.specs.Meaning.{Meaning}
 use Rattle.slot_switch.proofs.RunSteps.{all_left, left_after_run}
@@ -22,14 +18,14 @@ use Rattle.replays.specs.declared.kept.Kept.{Kept}
 use Rattle.replays.specs.declared.line.Line.{Line}
 use Rattle.replays.specs.declared.news.Marks.{Marks}
 use Rattle.replays.specs.declared.progress.Progress.{Progress}
-use Rattle.replays.specs.Kept.{FitsTable, HasMarks, HasSameRoom, Holds, IsAt, IsTallied, Tells, TellsLine, TellsMarks, TellsProgress}
-use Rattle.replays.specs.Moments.{DoesNext, Input, IsServedFor, Moment, first_moment, is_here, joined_at, left_the_line, served_at, time_at}
+use Rattle.replays.specs.Kept.{FitsTable, HasSameRoom, IsAt, IsTallied, Tells, TellsLine, TellsMarks, TellsProgress}
+use Rattle.replays.specs.Moments.{DoesNext, Input, Moment, first_moment, is_here, joined_at, left_the_line, served_at}
 use Rattle.replays.specs.Replayed.{IsInput}
 use Rattle.replays.proofs.Holding.{longer}
-use Rattle.replays.proofs.Marks.{here_parts, marked_below, none_marked}
+use Rattle.replays.proofs.Marks.{here_parts}
 use Rattle.replays.proofs.Publishings.{same_marks}
-use Rattle.replays.proofs.Remaining.{few_left, skip_time}
-use Rattle.replays.proofs.Running.{IsRunOf, run_less, served_progress}
+use Rattle.replays.proofs.Remaining.{skip_time}
+use Rattle.replays.proofs.Running.{run_less}
 use Rattle.replays.proofs.Telling.{completion_on, here_joined, here_left, same_progress, stale_line}
 
 -- ---- a coflow joins
@@ -50,7 +46,8 @@ joined_tells x m coflow old new at does progress joined present told line stale 
       marks = record {
         joined_are = joined ∙ ap (λ l. slice_set l coflow true) t.marks.joined_are;
         present_are = λ c. ap (λ l. is_marked l c) present ∙
-            here_joined x m old.marks.present.items coflow at.holds (omega (arith, low, at.holds.registered)) (omega (arith, low, t.each.present)) does.applies.waits.waits t.marks.present_are c;
+            here_joined x m old.marks.present.items coflow at.holds (omega (arith, low, at.holds.registered)) (omega (arith, low, t.each.present))
+            does.applies.waits.waits t.marks.present_are c;
         told_are = ap (λ v. v.items) told ∙ t.marks.told_are;
       };
       each = record {
@@ -159,7 +156,8 @@ line_is_known x m old at =
     (λ c has. omega (arith, marked_below m.course.registered c (here_parts m c (at.holds.stands c has)).0, at.holds.registered)))
 
 -- the grants after the run are those of the moment after it
-pub ran_line : (x : Input) (m : Moment) (granted : List ℕ) (n : ℕ) (old between new : Line) → TellsLine x m old → between.coflows ≡ old.coflows → HasSameRoom old.grants between.grants →
+pub ran_line : (x : Input) (m : Moment) (granted : List ℕ) (n : ℕ) (old between new : Line) → TellsLine x m old →
+    between.coflows ≡ old.coflows → HasSameRoom old.grants between.grants →
     IsSettled x.table.flows m.line (left_after x.table.flows m.slots) between.grants → granted ≡ listed_in between.grants →
     new.coflows ≡ between.coflows → HasSameRoom between.grants new.grants →
     ((flows : List Flow) (line : List ℕ) (left lower : ℕ → ℕ) → IsSettled flows line left between.grants → IsRunLess left lower (listed_in between.grants) n →
@@ -173,7 +171,8 @@ ran_line x m granted n old between new t first room settled listed second later 
 }
 
 pub ran_tells : (x : Input) (m : Moment) (granted : List ℕ) (n : ℕ) (old new : Kept) → IsAt x m old → TellsProgress x (served_at m n granted) new.progress →
-    TellsLine x (served_at m n granted) new.line → length new.progress.owed.items ≡ length old.progress.owed.items → length new.progress.ends.items ≡ length old.progress.ends.items →
+    TellsLine x (served_at m n granted) new.line →
+    length new.progress.owed.items ≡ length old.progress.owed.items → length new.progress.ends.items ≡ length old.progress.ends.items →
     new.marks ≡ old.marks → new.questions ≡ old.questions → Tells x (served_at m n granted) new
 ran_tells x m granted n old new at progress line owed ends marks questions =
     let t = at.tells in

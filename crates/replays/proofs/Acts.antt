@@ -1,8 +1,7 @@
 -- What becomes of an action, action by action.
-use Rattle.std.proofs.Common.{◌≡◌, ℕ, ◌+◌, ◌-◌, ◌<◌, ◌≤◌, List, [], length, Option, None, Some, refl, sym, ap, subst, ◌∙◌, arith}
-use Rattle.std.specs.Prelude.{All, map, slice_index, sum_by, ◌*◌}
+use Rattle.std.proofs.Common.{◌≡◌, ℕ, ◌+◌, ◌-◌, List, [], length, Option, None, Some, refl, sym, ap, subst, ◌∙◌, arith}
+use Rattle.std.specs.Prelude.{map, slice_index}
 use Rattle.std.specs.List.{range_with_len}
-use Rattle.std.proofs.lemmas.List.{ext_get_or}
 use Rattle.std.proofs.lemmas.List.FromFn.{fill_by_all}
 use Rattle.coflow_units.specs.declared.fabric.Flow.{Flow}
 use Rattle.coflow_units.specs.Completion.{completion, cost}
@@ -12,13 +11,12 @@ use Rattle.epochs.specs.declared.action.Action.TheVariants.{End, Publish, Regist
 use Rattle.flow_table.specs.Table.{TableFacts}
 use Rattle.rankers.specs.Meaning.{Meaning}
 use Rattle.replays.specs.declared.kept.Kept.{Kept}
-use Rattle.replays.specs.declared.rows.Replayed.{Replayed}
 use Rattle.replays.specs.declared.rows.Replayed.TheVariants.{Cost, Unfit}
 use Rattle.replays.specs.Acting.{EndsAs, GoesOnFrom, MayAct}
 use Rattle.replays.specs.Kept.{IsAt, MayDo, MayDoOf, Tells}
-use Rattle.replays.specs.Moments.{DoesNext, Input, IsMoment, IsNext, IsServedFor, Moment, joined_at, left_the_line, served_at}
+use Rattle.replays.specs.Moments.{DoesNext, Input, IsNext, IsServedFor, Moment, joined_at, left_the_line, served_at}
 use Rattle.replays.specs.Publishing.{BecomesOf, IsPublishing}
-use Rattle.replays.specs.Replayed.{IsReplay, IsReplayed, IsUnfitAt, cost_of_slots}
+use Rattle.replays.specs.Replayed.{cost_of_slots}
 
 pub may : (table : TableFacts) (weights : List ℕ) (kept : Kept) (action own : Action) → MayAct table weights kept action → action ≡ own → MayDo kept own
 may table weights kept action own (x, m, at, same, weights_are, does) is = (x, m, at, subst (DoesNext x m) is does)

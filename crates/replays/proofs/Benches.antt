@@ -1,7 +1,7 @@
 -- A bench, and the rows of the rankers that were taken off it.
 use Rattle.std.proofs.Common.{◌≡◌, ℕ, ◌+◌, ◌<◌, List, [], ◌∷◌, ◌++◌, Contains, append_assoc, append-nil, refl, sym, ap, subst, ◌∙◌, arith, drop, get_or, length}
 use Rattle.std.specs.Prelude.{map}
-use Rattle.std.proofs.lemmas.List.{drop-drop, get_or-drop, get_or-map, length-drop, length-map}
+use Rattle.std.proofs.lemmas.List.{get_or-drop, get_or-map, length-drop, length-map}
 use Rattle.rankers.specs.Meaning.{Meaning}
 use Rattle.replays.specs.declared.rows.Replayed.{Replayed}
 use Rattle.replays.specs.declared.rows.ReplayRow.{ReplayRow}

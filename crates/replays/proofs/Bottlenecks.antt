@@ -1,6 +1,6 @@
 -- A coflow of a table has load exactly where it has flows.
-use Rattle.std.proofs.Common.{◌≡◌, ℕ, ◌+◌, ◌*◌, ◌<◌, ◌≤◌, inl, inr, Bool, true, false, cond, List, [], ◌∷◌, get_or, length, map, refl, sym, ap, subst, ◌∙◌, arith, zero, suc}
-use Rattle.std.specs.Prelude.{◌==◌, ◌&&◌, if◌then◌else◌, Contains, slice_index, sum_by}
+use Rattle.std.proofs.Common.{◌≡◌, ℕ, ◌+◌, ◌*◌, ◌<◌, ◌≤◌, inl, inr, true, List, [], ◌∷◌, length, map, refl, ap, ◌∙◌, arith}
+use Rattle.std.specs.Prelude.{◌==◌, if◌then◌else◌, Contains, slice_index, sum_by}
 use Rattle.std.specs.List.{range_with_len}
 use Rattle.std.proofs.lemmas.Bool.{and_from, and_parts, cases_Bool, eq-eqb, eqb-true, ne_eqb}
 use Rattle.std.proofs.lemmas.List.{get_or_default}
@@ -9,11 +9,11 @@ use Rattle.std.proofs.lemmas.List.Sums.{sum_by-cons}
 use Rattle.coflow_units.specs.declared.fabric.Flow.{Flow}
 use Rattle.coflow_units.specs.declared.fabric.Port.{Port}
 use Rattle.coflow_units.specs.declared.fabric.Side.TheVariants.{Egress, Ingress}
-use Rattle.coflow_units.specs.Flows.{coflow_of, flow_at, Instance, uses}
+use Rattle.coflow_units.specs.Flows.{coflow_of, flow_at, uses}
 use Rattle.coflow_units.specs.Load.{load, loads}
 use Rattle.coflow_units.proofs.Ranges.{sum_next}
-use Rattle.coflow_units.proofs.Sums.{first_or_tail, in_first, in_tail, nothing_in, sum_same, sum_zero}
-use Rattle.flow_table.specs.Table.{instance_of, IsTable, TableFacts}
+use Rattle.coflow_units.proofs.Sums.{first_or_tail, in_tail, nothing_in, sum_same, sum_zero}
+use Rattle.flow_table.specs.Table.{IsTable, TableFacts}
 use Rattle.port_load.proofs.Grid.{below_in}
 use Rattle.release_bound.specs.Release.{all_ports, bottleneck, greatest_of}
 
@@ -57,7 +57,8 @@ has_load : (flows : List Flow) (ports c f : ℕ) → f < length flows → coflow
 has_load flows ports c f lt of in' some =
     let x = flow_at flows f in
     let port : Port = record { side = Ingress; number = x.ingress } in
-    let at = Contains-append_left (map (λ k. record { side = Ingress; number = k }) (range_with_len 0 ports)) (map (λ k. record { side = Egress; number = k }) (range_with_len 0 ports)) port
+    let at = Contains-append_left (map (λ k. record { side = Ingress; number = k }) (range_with_len 0 ports))
+    (map (λ k. record { side = Egress; number = k }) (range_with_len 0 ports)) port
     (mapped (λ (k : ℕ). record { side = Ingress; number = k }) (range_with_len 0 ports) x.ingress (below_in ports x.ingress in')) in
     let yes' : loads c port x ≡ true = and_from (x.coflow == c) (x.ingress == x.ingress) (eq-eqb x.coflow c of) (eq-eqb x.ingress x.ingress refl) in
     let here : part c port x ≡ x.units = ap {B = ℕ} (λ b. if b then x.units else 0) yes' in

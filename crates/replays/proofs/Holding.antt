@@ -1,35 +1,32 @@
 -- What holds of each moment of a replay.
-use Rattle.std.proofs.Common.{◌≡◌, ℕ, ◌+◌, ◌-◌, ◌^◌, ◌<◌, ◌≤◌, inl, inr, Bool, true, false, true≢false, cond, List, [], ◌∷◌, ◌++◌, length, get_or, replicate, Contains}
-use Rattle.std.proofs.Common.{refl, sym, ap, subst, ◌∙◌, arith, length-append, zero, suc}
-use Rattle.std.specs.Prelude.{All, AllPairs, ◌==◌, ◌||◌, ◌≢◌, if◌then◌else◌, filter, map, not, slice_index, slice_set, sum_by}
+use Rattle.std.proofs.Common.{◌≡◌, ℕ, ◌+◌, ◌<◌, ◌≤◌, inl, inr, Bool, true, false, true≢false, cond, List, [], ◌∷◌, ◌++◌, length, replicate, Contains}
+use Rattle.std.proofs.Common.{refl, sym, ap, subst, ◌∙◌, arith, length-append}
+use Rattle.std.specs.Prelude.{◌==◌, ◌||◌, ◌≢◌, if◌then◌else◌, map, not, slice_set}
 use Rattle.std.specs.List.{range_with_len}
-use Rattle.std.proofs.lemmas.Bool.{both_ways, cases_Bool, cases_eq, cases_lt, eq-eqb, eqb-true, ne_eqb, not-true, not_from_false}
+use Rattle.std.proofs.lemmas.Bool.{both_ways, cases_Bool, cases_eq, eq-eqb, ne_eqb, not-true, not_from_false}
 use Rattle.std.proofs.lemmas.List.{length-replicate, length-set}
 use Rattle.std.proofs.lemmas.List.Elements.{All-contains, Contains-append_left, Contains-get_or, Contains-push, Contains-push_cases}
 use Rattle.std.proofs.lemmas.List.FromFn.{length-map-range_with_len}
 use Rattle.std.proofs.lemmas.List.Kept.{AllPairs-filter}
 use Rattle.std.proofs.lemmas.List.Quantifiers.{all_pairs_push}
 use Rattle.coflow_units.specs.declared.fabric.Flow.{Flow}
-use Rattle.coflow_units.specs.Flows.{IsDistinct, coflow_of}
-use Rattle.coflow_units.specs.Grants.{IsGrants, IsRunLength}
+use Rattle.coflow_units.specs.Grants.{IsGrants}
 use Rattle.coflow_units.specs.Schedule.{holds}
 use Rattle.coflow_units.specs.Served.{left_after}
 use Rattle.coflow_units.proofs.GrantsExist.{numbers_of}
 use Rattle.coflow_units.proofs.Lists.{filter_in, keeps, number_in, numbers_apart}
 use Rattle.coflow_units.proofs.ServedExists.{left_sum}
 use Rattle.coflow_units.proofs.Sums.{any_in, nothing_in, picked_one, sum_add, sum_mono, sum_same}
-use Rattle.class_rates.specs.Classes.{IsPermutation}
-use Rattle.epochs.specs.declared.action.Action.{Action}
-use Rattle.epochs.specs.declared.action.Action.TheVariants.{End, Publish, Register, Run, Skip, TooMany, Withdraw}
-use Rattle.epochs.specs.Choice.{Registers, Skips, Withdraws}
+use Rattle.epochs.specs.Choice.{Registers}
 use Rattle.epochs.specs.Course.{is_marked}
-use Rattle.rankers.specs.FactsTold.{FactsTold}
+use Rattle.epochs.proofs.Actions.{marked_below, none_marked}
 use Rattle.rankers.specs.Meaning.{Meaning, answer_of}
 use Rattle.slot_switch.proofs.RunSteps.{left_after_run, units_in_all}
 use Rattle.replays.specs.Kept.{Holds}
-use Rattle.replays.specs.Moments.{DoesNext, Input, IsNext, IsPublished, IsServedFor, Moment, asked_at, first_moment, is_here, is_news, joined_at, left_the_line, owed_at, published_at, served_at, time_at, told_at}
+use Rattle.replays.specs.Moments.{Input, IsPublished, Moment, asked_at, first_moment, is_here, is_news}
+use Rattle.replays.specs.Moments.{joined_at, left_the_line, published_at, served_at, time_at, told_at}
 use Rattle.replays.specs.Replayed.{IsInput}
-use Rattle.replays.proofs.Marks.{here_from, here_parts, is_now_marked, marked_again, marked_below, none_marked, others_stay, stays_marked}
+use Rattle.replays.proofs.Marks.{here_from, here_parts, is_now, marked_again, others_stay, stays_marked}
 
 pub holds_first : (x : Input) (ranker : Meaning) → IsInput x → Holds x (first_moment x ranker)
 holds_first x ranker input =
@@ -59,7 +56,7 @@ holds_joined x m coflow h input does =
       | inl away ↦ absurd (both_ways (is_marked m.course.registered coflow) none (h.gone coflow away))
       | inr here ↦ here
     ] in
-    let new : is_here next coflow ≡ true = here_from next coflow (is_now_marked m.course.registered coflow low) stays in
+    let new : is_here next coflow ≡ true = here_from next coflow (is_now m.course.registered coflow true low) stays in
     let out = λ (has : Contains m.line coflow). both_ways (is_marked m.course.registered coflow) none (here_parts m coflow (h.stands coflow has)).0 in
     record {
       arrivals_are = h.arrivals_are;
@@ -108,7 +105,7 @@ holds_left x m coflow h joined =
       lined = λ c is.
           let (here, present) = here_parts next c is in
           let other : c ≢ coflow = λ e. both_ways (is_marked (slice_set m.course.withdrawn coflow true) c) present
-          (ap (is_marked (slice_set m.course.withdrawn coflow true)) e ∙ is_now_marked m.course.withdrawn coflow low) in
+          (ap (is_marked (slice_set m.course.withdrawn coflow true)) e ∙ is_now m.course.withdrawn coflow true low) in
           keeps test m.line c (h.lined c (here_from m c here (sym (others_stay m.course.withdrawn coflow c true other) ∙ present)))
           (not_from_false (c == coflow) (ne_eqb c coflow other));
       short = h.short;
@@ -162,8 +159,8 @@ holds_served x m count granted h short = record {
   short = omega (arith, short, longer m count granted);
 }
 
-pub run_takes : (flows : List Flow) (line : List ℕ) (slots : List (List ℕ)) (granted : List ℕ) (n g : ℕ) → IsGrants flows line (left_after flows slots) granted → Contains granted g →
-    n ≤ left_after flows slots g →
+pub run_takes : (flows : List Flow) (line : List ℕ) (slots : List (List ℕ)) (granted : List ℕ) (n g : ℕ) →
+    IsGrants flows line (left_after flows slots) granted → Contains granted g → n ≤ left_after flows slots g →
     left_sum flows (slots ++ replicate n granted) + n ≤ left_sum flows slots
 run_takes flows line slots granted n g grants has long =
     let ns = numbers_of flows in
@@ -190,4 +187,5 @@ run_takes flows line slots granted n g grants has long =
 
 -- slots in which nobody is served leave what is left
 pub skip_leaves : (flows : List Flow) (slots : List (List ℕ)) (n : ℕ) → left_sum flows (slots ++ replicate n []) ≡ left_sum flows slots
-skip_leaves flows slots n = sum_same (left_after flows (slots ++ replicate n [])) (left_after flows slots) (numbers_of flows) (λ f has. omega (arith, left_after_run flows slots [] n f))
+skip_leaves flows slots n = sum_same (left_after flows (slots ++ replicate n [])) (left_after flows slots) (numbers_of flows)
+    (λ f has. omega (arith, left_after_run flows slots [] n f))

@@ -1,25 +1,14 @@
 -- Marks of coflows, and who is present.
-use Rattle.std.proofs.Common.{◌≡◌, ℕ, ◌<◌, ◌≤◌, ◌⊎◌, inl, inr, Bool, true, false, true≢false, List, get_or, length, set, refl, sym, ap, ◌∙◌, arith}
-use Rattle.std.specs.Prelude.{◌&&◌, not, replicate, slice_set, sum_by, if◌then◌else◌}
+use Rattle.std.proofs.Common.{◌≡◌, ℕ, ◌<◌, ◌⊎◌, inl, inr, Bool, true, false, List, get_or, length, sym, ap, ◌∙◌, arith}
+use Rattle.std.specs.Prelude.{not, slice_set, sum_by, if◌then◌else◌}
 use Rattle.std.specs.List.{range_with_len}
-use Rattle.std.proofs.lemmas.Bool.{and_from, and_parts, cases_eq, cases_lt, not-true, not_from_false}
-use Rattle.std.proofs.lemmas.List.{get_or_past, get_or-replicate, get_or-set_other, get_or-set_same, length-replicate}
+use Rattle.std.proofs.lemmas.Bool.{and_from, and_parts, cases_eq, not-true, not_from_false}
+use Rattle.std.proofs.lemmas.List.{get_or-set_other, get_or-set_same}
 use Rattle.coflow_units.proofs.Lists.{number_in}
 use Rattle.coflow_units.proofs.Sums.{sum_less}
-use Rattle.epochs.specs.Course.{Course, is_marked}
+use Rattle.epochs.specs.Course.{is_marked}
+use Rattle.epochs.proofs.Actions.{marked_below}
 use Rattle.replays.specs.Moments.{Moment, is_here}
-
-pub none_marked : (n c : ℕ) → is_marked (replicate n false) c ≡ false
-none_marked n c = elim (cases_lt c n) [
-  | inl lt ↦ get_or-replicate n c false false lt
-  | inr past ↦ get_or_past (replicate n false) c false (omega (arith, past, length-replicate n false))
-]
-
-pub marked_below : (marks : List Bool) (c : ℕ) → is_marked marks c ≡ true → c < length marks
-marked_below marks c is = elim (cases_lt c (length marks)) [
-  | inl lt ↦ lt
-  | inr past ↦ absurd (true≢false (sym is ∙ get_or_past marks c false past))
-]
 
 pub marked_again : (marks : List Bool) (c d : ℕ) → is_marked (slice_set marks c true) d ≡ true → (d ≡ c) ⊎ (is_marked marks d ≡ true)
 marked_again marks c d is = elim (cases_eq d c) [
@@ -34,9 +23,6 @@ stays_marked marks c d is = elim (cases_eq d c) [
       ap (λ i. get_or (slice_set marks c true) i false) same ∙ get_or-set_same marks c true false low
   | inr other ↦ get_or-set_other marks c d true false other ∙ is
 ]
-
-pub is_now_marked : (marks : List Bool) (c : ℕ) → c < length marks → is_marked (slice_set marks c true) c ≡ true
-is_now_marked marks c lt = get_or-set_same marks c true false lt
 
 pub others_stay : (marks : List Bool) (c d : ℕ) (mark : Bool) → (d ≡ c → ⊥) → is_marked (slice_set marks c mark) d ≡ is_marked marks d
 others_stay marks c d mark other = get_or-set_other marks c d mark false other
@@ -65,7 +51,7 @@ fewer_unmarked n marks c lt low none =
     let old = λ (d : ℕ). if is_marked marks d then 0 else 1 in
     let new = λ (d : ℕ). if is_marked (slice_set marks c true) d then 0 else 1 in
     let is_old : old c ≡ 1 = ap {B = ℕ} (λ b. if b then 0 else 1) none in
-    let is_new : new c ≡ 0 = ap {B = ℕ} (λ b. if b then 0 else 1) (is_now_marked marks c low) in
+    let is_new : new c ≡ 0 = ap {B = ℕ} (λ b. if b then 0 else 1) (is_now marks c true low) in
     sum_less new old (range_with_len 0 n) c
     (λ d. elim (cases_eq d c) [
       | inl same ↦ omega (arith, ap new same, is_new)

@@ -1,8 +1,7 @@
 -- The ranker is told the news.
-use Rattle.std.proofs.Common.{◌≡◌, ℕ, ◌<◌, ◌≤◌, Bool, true, false, List, [], ◌∷◌, length, Contains, refl, sym, ap, subst, ◌∙◌, arith}
+use Rattle.std.proofs.Common.{◌≡◌, ℕ, ◌<◌, Bool, false, List, [], ◌∷◌, length, Contains, refl, sym, ap, subst, ◌∙◌}
 use Rattle.std.specs.Prelude.{◌==◌, ◌&&◌, ◌||◌, if◌then◌else◌, filter, map, not, slice_index}
 use Rattle.std.specs.List.{range_with_len}
-use Rattle.std.proofs.lemmas.List.FromFn.{length-map-range_with_len}
 use Rattle.coflow_units.specs.Completion.{completion}
 use Rattle.coflow_units.proofs.Lists.{filter_in, filter_same}
 use Rattle.coflow_units.proofs.Ranges.{in_range}
@@ -13,11 +12,9 @@ use Rattle.rankers.specs.Meaning.{Meaning, after_notes}
 use Rattle.rankers.proofs.KeyOrders.{by_key_low, keys_agree}
 use Rattle.rankers.proofs.Noted.{ends_agree}
 use Rattle.replays.specs.declared.kept.Kept.{Kept}
-use Rattle.replays.specs.declared.news.Marks.{Marks}
-use Rattle.replays.specs.Kept.{Holds, IsAt, Tells, TellsMarks, TellsProgress, is_untold}
+use Rattle.replays.specs.Kept.{Tells, is_untold}
 use Rattle.replays.specs.Moments.{Input, Moment, asked_at, is_news, news, owes, told_at}
-use Rattle.replays.specs.Publishing.{told_moment}
-use Rattle.replays.proofs.Telling.{owes_is, same_progress}
+use Rattle.replays.proofs.Telling.{owes_is}
 
 map_same : {Y : Type 0} (f g : ℕ → Y) (xs : List ℕ) → ((x : ℕ) → Contains xs x → f x ≡ g x) → map f xs ≡ map g xs
 map_same f g [] same = refl
@@ -47,7 +44,8 @@ notes_are x m kept before t =
     ap (after_notes before key) (filter_same (is_untold kept.marks kept.progress) (is_news x m) (by_key end n) (λ c has. untold_is x m kept c t (low c has))) ∙
     ends_agree before key end (news x m) (λ c has. at c (low c (filter_in (is_news x m) (by_key end n) c has).0))
 
-pub asked_is : (x : Input) (m : Moment) (kept : Kept) (n : ℕ) (before later : Meaning) → Tells x m kept → m.ranker ≡ before → (m.course.published == 0) ≡ false → n ≡ length x.table.ids →
+pub asked_is : (x : Input) (m : Moment) (kept : Kept) (n : ℕ) (before later : Meaning) → Tells x m kept → m.ranker ≡ before →
+    (m.course.published == 0) ≡ false → n ≡ length x.table.ids →
     later ≡ after_notes before (key_in kept.progress.ends.items) (filter (is_untold kept.marks kept.progress) (by_key (key_in kept.progress.ends.items) n)) → later ≡ asked_at x m
 asked_is x m kept n before later t is some count notes =
     notes ∙ ap (λ k. after_notes before (key_in kept.progress.ends.items) (filter (is_untold kept.marks kept.progress) (by_key (key_in kept.progress.ends.items) k))) count ∙

@@ -1,6 +1,6 @@
 -- What is kept after a publishing.
-use Rattle.std.proofs.Common.{◌≡◌, ℕ, ◌+◌, ◌<◌, ◌≤◌, Option, None, Some, Bool, true, false, List, [], ◌∷◌, length, refl, sym, ap, subst, ◌∙◌, arith}
-use Rattle.std.specs.Prelude.{All, MatchOption, if◌then◌else◌, filter, map, not, ◌&&◌, slice_index}
+use Rattle.std.proofs.Common.{◌≡◌, ℕ, ◌+◌, ◌<◌, ◌≤◌, Option, None, Some, Bool, true, List, length, refl, sym, ap, subst, ◌∙◌}
+use Rattle.std.specs.Prelude.{All, MatchOption, if◌then◌else◌, filter, not, ◌&&◌, slice_index}
 use Rattle.coflow_units.specs.Flows.{coflow_of}
 use Rattle.coflow_units.specs.Served.{left_after}
 use Rattle.coflow_units.proofs.Lists.{filter_same}
@@ -8,13 +8,13 @@ use Rattle.class_rates.specs.Classes.{IsPermutation}
 use Rattle.epochs.specs.Course.{is_marked}
 use Rattle.flow_table.specs.Table.{TableFacts}
 use Rattle.rankers.specs.FactsTold.{FactsTold, IsFacts, IsFactsOf, with_left}
-use Rattle.rankers.specs.Meaning.{Meaning, after_question, answer_of}
+use Rattle.rankers.specs.Meaning.{Meaning, answer_of}
 use Rattle.rankers.specs.Scores.{IsFirstUnfit}
 use Rattle.replays.specs.declared.kept.Kept.{Kept}
 use Rattle.replays.specs.declared.line.Line.{Line}
 use Rattle.replays.specs.declared.news.Marks.{Marks}
 use Rattle.replays.specs.declared.questions.Questions.{Questions}
-use Rattle.replays.specs.Kept.{FitsTable, HasMarks, Holds, IsAt, Tells, TellsLine, TellsMarks, TellsProgress}
+use Rattle.replays.specs.Kept.{FitsTable, Tells, TellsMarks}
 use Rattle.replays.specs.Moments.{Input, IsAsked, IsPublished, Moment, asked_at, is_here, left_here, published_at}
 use Rattle.replays.specs.Publishing.{told_moment}
 use Rattle.replays.proofs.Telling.{same_progress, stale_line}

@@ -1,5 +1,5 @@
 -- What is kept of a replay, from action to action.
-use Rattle.std.proofs.Common.{◌≡◌, ℕ, ◌+◌, ◌-◌, ◌<◌, ◌≤◌, List, [], ◌∷◌, length, refl, sym, ap, subst, ◌∙◌, arith}
+use Rattle.std.proofs.Common.{◌≡◌, ℕ, ◌<◌, ◌≤◌, List, length, refl, sym, ap, subst, ◌∙◌, arith}
 use Rattle.std.specs.Prelude.{slice_index, sum_by}
 use Rattle.std.specs.List.{range_with_len}
 use Rattle.coflow_units.specs.Served.{left_after}
@@ -11,8 +11,8 @@ use Rattle.epochs.specs.Choice.{IsFirstAction}
 use Rattle.epochs.specs.Course.{Course, after, at_first}
 use Rattle.rankers.specs.Meaning.{Meaning}
 use Rattle.replays.specs.declared.kept.Kept.{Kept}
-use Rattle.replays.specs.Kept.{Holds, IsAt, MayDo, MayDoOf, Reaches, Tells}
-use Rattle.replays.specs.Moments.{DoesNext, Input, IsMoment, IsNext, IsPublished, Moment, first_moment, owed_at, time_at}
+use Rattle.replays.specs.Kept.{MayDo, MayDoOf, Reaches, Tells}
+use Rattle.replays.specs.Moments.{DoesNext, Input, IsNext, Moment, first_moment, owed_at, time_at}
 use Rattle.replays.specs.Replayed.{IsInput, IsTooManyFor}
 use Rattle.replays.proofs.Holding.{holds_first}
 use Rattle.replays.proofs.Remaining.{goes_on, remaining, remaining_at}
@@ -59,7 +59,8 @@ pub may_do : (x : Input) (ranker : Meaning) (course : Course) (kept : Kept) (now
     MayDo kept action
 may_do x ranker course kept now r action does = (x, r.moment, r.at, does)
 
-pub may_do_of : (x : Input) (ranker : Meaning) (course : Course) (kept : Kept) (now : Meaning) (r : Reaches x ranker course kept now) (action : Action) → DoesNext x r.moment action →
+pub may_do_of : (x : Input) (ranker : Meaning) (course : Course) (kept : Kept) (now : Meaning) (r : Reaches x ranker course kept now) (action : Action) →
+    DoesNext x r.moment action →
     MayDoOf x.table kept action
 may_do_of x ranker course kept now r action does = (x, r.moment, r.at, refl, does)
 
@@ -103,7 +104,8 @@ pub too_many : (x : Input) (ranker : Meaning) (course : Course) (kept : Kept) (n
 too_many x ranker course kept now r count does = record { moment = r.moment; reached = r.reached; next = does }
 
 -- what is asked of the next action
-pub next_fits : (x : Input) (ranker : Meaning) (course : Course) (kept : Kept) (now : Meaning) (r : Reaches x ranker course kept now) (owed : List ℕ) → owed ≡ kept.progress.owed.items →
+pub next_fits : (x : Input) (ranker : Meaning) (course : Course) (kept : Kept) (now : Meaning) (r : Reaches x ranker course kept now) (owed : List ℕ) →
+    owed ≡ kept.progress.owed.items →
     (length owed ≡ length course.arrivals) × (kept.progress.time ≤ 2199023255552)
 next_fits x ranker course kept now r owed lent =
     let t = r.at.tells in

@@ -1,14 +1,15 @@
 -- The schedule of a replay serves all units, and serves nobody before its arrival.
-use Rattle.std.proofs.Common.{◌≡◌, ℕ, ◌+◌, ◌*◌, ◌-◌, ◌<◌, ◌≤◌, ◌⊎◌, inl, inr, Bool, true, false, true≢false, cond, List, [], ◌∷◌, ◌++◌, get_or, length, replicate, set, take, refl, sym, ap, subst}
+use Rattle.std.proofs.Common.{◌≡◌, ℕ, ◌+◌, ◌*◌, ◌-◌, ◌<◌, ◌≤◌, ◌⊎◌, inl, inr, Bool, true, false, true≢false, cond, List, [], ◌∷◌, ◌++◌, get_or, length, replicate, set, take}
+use Rattle.std.proofs.Common.{refl, sym, ap, subst}
 use Rattle.std.proofs.Common.{◌∙◌, arith, Contains}
 use Rattle.std.proofs.Common.{length-append, length-set}
-use Rattle.std.specs.Prelude.{◌==◌, if◌then◌else◌, not, All, filter, slice_index, sum_by}
+use Rattle.std.specs.Prelude.{◌==◌, if◌then◌else◌, not, All, slice_index}
 use Rattle.std.specs.List.{range_with_len}
 use Rattle.std.proofs.lemmas.Bool.{and_parts, cases_Bool, cases_eq, cases_lt, eq-eqb, eqb-true, false_from_ne_true}
-use Rattle.std.proofs.lemmas.List.{get_or_append_left, get_or-append_right, get_or_default, get_or_past, get_or-replicate, get_or-set_other, get_or-set_same, get_or-take, length-replicate, length-take}
+use Rattle.std.proofs.lemmas.List.{get_or_append_left, get_or-append_right, get_or_default, get_or_past, get_or-replicate, get_or-set_other, get_or-set_same, get_or-take}
+use Rattle.std.proofs.lemmas.List.{length-replicate, length-take}
 use Rattle.std.proofs.lemmas.List.Elements.{All-append, All-contains, All-nil, All-replicate, Contains-push_cases}
 use Rattle.std.proofs.lemmas.List.Folds.{sum_by-replicate}
-use Rattle.std.proofs.lemmas.List.FromFn.{get_or-map-range_with_len}
 use Rattle.coflow_units.specs.Completion.{holds_coflow}
 use Rattle.coflow_units.specs.Flows.{coflow_of, units_of}
 use Rattle.coflow_units.specs.Schedule.{holds, IsClear, times}
@@ -26,8 +27,10 @@ use Rattle.epochs.proofs.Actions.{end_none_owes, end_none_waits, marked_below, n
 use Rattle.rankers.specs.FactsTold.{FactsTold}
 use Rattle.rankers.specs.Meaning.{answer_of, Meaning}
 use Rattle.release_bound.specs.Release.{IsReleased}
-use Rattle.replays.specs.Moments.{AreStepsFrom, asked_at, DoesNext, first_moment, Input, is_here, IsNext, joined_at, left_the_line, Moment, moment_after, owed_at, owes, published_at, served_at, Step, time_at}
+use Rattle.replays.specs.Moments.{AreStepsFrom, asked_at, DoesNext, first_moment, Input, is_here, IsNext, joined_at, left_the_line, Moment, moment_after}
+use Rattle.replays.specs.Moments.{owed_at, owes, published_at, served_at, Step, time_at}
 use Rattle.replays.specs.Replayed.{IsInput, IsReplay}
+use Rattle.replays.proofs.Remaining.{owed_is}
 
 -- What holds at each moment. Those in the line joined, so they have arrived. The slots are clear; nobody is served before
 -- its arrival, and no flow for more units than it has. Who left is served.
@@ -146,9 +149,6 @@ module _ (x : Input) (m : Moment) (c : ℕ) (st : Stands x m) (joins : Registers
 abbrev share : Input → Moment → ℕ → ℕ → ℕ
 share x m c f = if coflow_of x.table.flows f == c then left_after x.table.flows m.slots f else 0
 
-owed_of : (x : Input) (m : Moment) (c : ℕ) → c < length x.table.ids → slice_index (owed_at x m) c ≡ owes x m c
-owed_of x m c lt = get_or-map-range_with_len (owes x m) 0 (length x.table.ids) c c 0 lt (omega arith)
-
 owes_all : (x : Input) (m : Moment) (c f : ℕ) → f < length x.table.flows → coflow_of x.table.flows f ≡ c → left_after x.table.flows m.slots f ≤ owes x m c
 owes_all x m c f lt of =
     let here = ap {B = ℕ} (λ b. if b then left_after x.table.flows m.slots f else 0) (eq-eqb (coflow_of x.table.flows f) c of) in
@@ -167,7 +167,7 @@ stands_left x m c input st leaves = record {
   served = λ f lt gone. elim (cases_eq (coflow_of x.table.flows f) c) [
     | inl same ↦
         let low : c < length x.table.ids = omega (arith, marked_below m.course.registered c leaves.served.is_present.joined, st.each_mark, input.each_arrival) in
-        omega (arith, st.within f, owes_all x m c f lt same, owed_of x m c low, leaves.served.served)
+        omega (arith, st.within f, owes_all x m c f lt same, owed_is x m c low, leaves.served.served)
     | inr other ↦ st.served f lt (sym (get_or-set_other m.course.withdrawn c (coflow_of x.table.flows f) true false other) ∙ gone)
   ];
 }
@@ -233,8 +233,9 @@ module _ (x : Input) (m : Moment) (input : IsInput x) (st : Stands x m) (ends : 
         | inr stays ↦ elim (zero_or_more (left_after x.table.flows m.slots f)) [
           | inl nought ↦ omega (arith, nought, st.within f)
           | inr some ↦
-              let owing : 0 < slice_index (owed_at x m) c = omega (arith, some, owes_all x m c f lt refl, owed_of x m c low) in
-              absurd (end_none_owes m.course (time_at m) (owed_at x m) (omega (arith, input.some, st.every_is)) ends (c, record { joined = all_joined c low; stays = stays }, owing))
+              let owing : 0 < slice_index (owed_at x m) c = omega (arith, some, owes_all x m c f lt refl, owed_is x m c low) in
+              absurd (end_none_owes m.course (time_at m) (owed_at x m) (omega (arith, input.some, st.every_is)) ends
+              (c, record { joined = all_joined c low; stays = stays }, owing))
         ]
       ]
 

@@ -1,11 +1,10 @@
 -- What remains to be done at a moment of a replay falls with each action.
-use Rattle.std.proofs.Common.{◌≡◌, ℕ, ◌+◌, ◌-◌, ◌^◌, ◌<◌, ◌≤◌, ◌⊎◌, inl, inr, Bool, true, false, cond, List, [], ◌∷◌, ◌++◌, length, get_or, replicate, Contains}
-use Rattle.std.proofs.Common.{refl, sym, ap, subst, ◌∙◌, arith}
-use Rattle.std.specs.Prelude.{◌==◌, if◌then◌else◌, slice_index, sum_by}
+use Rattle.std.proofs.Common.{◌≡◌, ℕ, ◌+◌, ◌-◌, ◌<◌, ◌≤◌, inl, inr, Bool, true, false, cond, List, [], length, get_or, Contains}
+use Rattle.std.proofs.Common.{refl, sym, ap, subst, arith}
+use Rattle.std.specs.Prelude.{◌==◌, if◌then◌else◌, slice_index}
 use Rattle.std.specs.List.{range_with_len}
 use Rattle.std.proofs.lemmas.Bool.{cases_lt, eqb-true}
 use Rattle.std.proofs.lemmas.List.{get_or_past}
-use Rattle.std.proofs.lemmas.List.Elements.{All-get_or}
 use Rattle.std.proofs.lemmas.List.FromFn.{get_or-map-range_with_len, length-map-range_with_len}
 use Rattle.coflow_units.specs.declared.limits.TheConstants.{MAX_PUBLISHINGS}
 use Rattle.coflow_units.specs.Flows.{coflow_of}
@@ -20,11 +19,12 @@ use Rattle.slot_switch.proofs.RunSteps.{units_in_all}
 use Rattle.epochs.specs.declared.action.Action.{Action}
 use Rattle.epochs.specs.declared.action.Action.TheVariants.{End, Publish, Register, Run, Skip, TooMany, Withdraw}
 use Rattle.epochs.specs.Choice.{Registers, Runs, Skips, Withdraws}
-use Rattle.epochs.specs.Course.{Course, IsNextArrival, SomeOwes, is_marked}
+use Rattle.epochs.specs.Course.{Course, SomeOwes}
+use Rattle.epochs.proofs.Actions.{marked_below}
 use Rattle.replays.specs.Kept.{Holds}
-use Rattle.replays.specs.Moments.{DoesNext, Input, IsNext, IsPublished, IsServedFor, Moment, is_here, joined_at, left_the_line, owed_at, owes, published_at, served_at, time_at}
+use Rattle.replays.specs.Moments.{DoesNext, Input, IsNext, IsPublished, Moment, joined_at, left_the_line, owed_at, owes, published_at, served_at, time_at}
 use Rattle.replays.specs.Replayed.{IsInput}
-use Rattle.replays.proofs.Marks.{fewer_unmarked, here_from, marked_below, unmarked}
+use Rattle.replays.proofs.Marks.{fewer_unmarked, here_from, unmarked}
 use Rattle.replays.proofs.Holding.{holds_joined, holds_left, holds_published, holds_served, longer, run_takes, skip_leaves}
 
 -- the coflows that may still join and leave, the orders that may still be published, the units that are left, and the
@@ -69,7 +69,7 @@ some_share : (b : Bool) (n : ℕ) → 0 < cond {A = ℕ} b n 0 → (b ≡ true) 
 some_share true n lt = (refl, lt)
 some_share false n lt = absurd (omega (arith, lt))
 
-owed_is : (x : Input) (m : Moment) (c : ℕ) → c < length x.table.ids → slice_index (owed_at x m) c ≡ owes x m c
+pub owed_is : (x : Input) (m : Moment) (c : ℕ) → c < length x.table.ids → slice_index (owed_at x m) c ≡ owes x m c
 owed_is x m c lt = get_or-map-range_with_len (owes x m) 0 (length x.table.ids) c c 0 lt (omega arith)
 
 -- a coflow that owes a unit has a flow that does
@@ -78,7 +78,8 @@ pub some_owed : (x : Input) (m : Moment) (c : ℕ) → 0 < slice_index (owed_at 
 some_owed x m c some = elim (cases_lt c (length x.table.ids)) [
   | inl lt ↦
       let flows = x.table.flows in
-      let (f, has, share) = some_term (λ f. if coflow_of flows f == c then left_after flows m.slots f else 0) (range_with_len 0 (length flows)) (omega (arith, some, owed_is x m c lt)) in
+      let (f, has, share) = some_term (λ f. if coflow_of flows f == c then left_after flows m.slots f else 0) (range_with_len 0 (length flows))
+      (omega (arith, some, owed_is x m c lt)) in
       let (is, more) = some_share (coflow_of flows f == c) (left_after flows m.slots f) share in
       (f, omega (arith, number_below 0 (length flows) f has), eqb-true (coflow_of flows f) c is, more)
   | inr past ↦ absurd (omega (arith, some, get_or_past (owed_at x m) c 0 (omega (arith, past, length-map-range_with_len (owes x m) 0 (length x.table.ids)))))

@@ -1,15 +1,14 @@
 -- A run of a replay.
-use Rattle.std.proofs.Common.{◌≡◌, ℕ, ◌+◌, ◌-◌, ◌^◌, ◌<◌, ◌≤◌, ◌⊎◌, inl, inr, false, cond, List, [], ◌∷◌, ◌++◌, length, get_or, replicate, Contains}
-use Rattle.std.proofs.Common.{refl, sym, ap, subst, ◌∙◌, arith, length-append}
-use Rattle.std.specs.Prelude.{All, if◌then◌else◌, min, slice_index, sum, sum_by}
+use Rattle.std.proofs.Common.{◌≡◌, ℕ, ◌+◌, ◌-◌, ◌<◌, ◌≤◌, ◌⊎◌, inl, inr, false, List, ◌++◌, length, replicate, Contains}
+use Rattle.std.proofs.Common.{sym, ap, subst, ◌∙◌, arith}
+use Rattle.std.specs.Prelude.{if◌then◌else◌, min, slice_index, sum, sum_by}
 use Rattle.std.specs.List.{range_with_len}
 use Rattle.coflow_units.proofs.Lists.{by_number}
 use Rattle.coflow_units.proofs.ServedExists.{left_sum}
 use Rattle.std.proofs.Math.Path.{fun_ext}
-use Rattle.std.proofs.lemmas.List.{length-replicate}
 use Rattle.std.proofs.lemmas.List.Elements.{All-contains}
 use Rattle.coflow_units.specs.declared.fabric.Flow.{Flow}
-use Rattle.coflow_units.specs.Completion.{completion, holds_coflow}
+use Rattle.coflow_units.specs.Completion.{holds_coflow}
 use Rattle.coflow_units.specs.Grants.{IsGrants, IsRunLength}
 use Rattle.coflow_units.specs.LeastLeft.{IsLeastLeft}
 use Rattle.coflow_units.specs.Schedule.{holds}
@@ -22,10 +21,9 @@ use Rattle.matching.specs.declared.tables.Tables.{Tables}
 use Rattle.replays.specs.declared.kept.Kept.{Kept}
 use Rattle.matching.specs.Matching.{IsRunLess, IsSettled, listed_in}
 use Rattle.slot_switch.proofs.RunSteps.{left_after_run}
-use Rattle.replays.specs.declared.line.Line.{Line}
 use Rattle.replays.specs.declared.progress.Progress.{Progress}
-use Rattle.replays.specs.Kept.{Holds, IsAt, IsTallied, TellsLine, TellsProgress}
-use Rattle.replays.specs.Moments.{DoesNext, Input, IsServedFor, Moment, owed_at, served_at, time_at}
+use Rattle.replays.specs.Kept.{Holds, IsAt, IsTallied, TellsProgress}
+use Rattle.replays.specs.Moments.{DoesNext, Input, Moment, owed_at, served_at, time_at}
 use Rattle.replays.proofs.Holding.{longer, run_takes}
 use Rattle.replays.specs.Replayed.{IsInput}
 use Rattle.replays.proofs.Remaining.{few_left, some_is_granted, some_slot}
@@ -102,7 +100,8 @@ settled_kept x m kept table left at same lent fresh =
     (subst (λ (l : ℕ → ℕ). IsSettled x.table.flows kept.line.coflows.items l kept.line.grants) (sym (left_same x m kept.progress at.tells.progress))
     (subst (λ l. IsSettled x.table.flows l (left_after x.table.flows m.slots) kept.line.grants) (sym at.tells.line.coflows_are) (at.tells.line.settled fresh))))
 
-pub settled_moment : (x : Input) (m : Moment) (kept : Kept) (table : TableFacts) (left : List ℕ) (grants : Tables) → IsAt x m kept → x.table ≡ table → left ≡ kept.progress.left.items →
+pub settled_moment : (x : Input) (m : Moment) (kept : Kept) (table : TableFacts) (left : List ℕ) (grants : Tables) → IsAt x m kept → x.table ≡ table →
+    left ≡ kept.progress.left.items →
     IsSettled table.flows kept.line.coflows.items (λ f. slice_index left f) grants → IsSettled x.table.flows m.line (left_after x.table.flows m.slots) grants
 settled_moment x m kept table left grants at same lent settled =
     subst (λ l. IsSettled x.table.flows l (left_after x.table.flows m.slots) grants) at.tells.line.coflows_are

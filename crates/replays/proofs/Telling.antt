@@ -1,10 +1,10 @@
 -- What is kept tells the next moment.
-use Rattle.std.proofs.Common.{◌≡◌, ℕ, ◌+◌, ◌-◌, ◌<◌, ◌≤◌, inl, inr, Bool, true, false, true≢false, cond, List, [], ◌∷◌, ◌++◌, length, get_or, replicate, Contains}
+use Rattle.std.proofs.Common.{◌≡◌, ℕ, ◌+◌, ◌<◌, ◌≤◌, inl, inr, Bool, true, false, cond, List, [], ◌∷◌, ◌++◌, length, replicate}
 use Rattle.std.proofs.Common.{refl, sym, ap, subst, ◌∙◌, arith, length-append, append-nil, append_assoc, zero, suc}
-use Rattle.std.specs.Prelude.{◌==◌, ◌&&◌, if◌then◌else◌, map, not, slice_index, slice_set, sum_by}
+use Rattle.std.specs.Prelude.{◌==◌, ◌&&◌, if◌then◌else◌, not, slice_index, slice_set}
 use Rattle.std.specs.List.{range_with_len}
-use Rattle.std.proofs.lemmas.Bool.{both_ways, cases_Bool, cases_eq, cases_lt}
-use Rattle.std.proofs.lemmas.List.{ext_get_or, length-replicate}
+use Rattle.std.proofs.lemmas.Bool.{both_ways, cases_Bool, cases_eq}
+use Rattle.std.proofs.lemmas.List.{ext_get_or}
 use Rattle.std.proofs.lemmas.List.FromFn.{get_or-map-range_with_len, length-map-range_with_len}
 use Rattle.coflow_units.specs.declared.fabric.Flow.{Flow}
 use Rattle.coflow_units.specs.Completion.{completion, holds_coflow, last_where}
@@ -16,8 +16,8 @@ use Rattle.matching.specs.Matching.{ports_of, room_of}
 use Rattle.schedule_model.proofs.LastSlots.{last_push}
 use Rattle.replays.specs.declared.line.Line.{Line}
 use Rattle.replays.specs.declared.progress.Progress.{Progress}
-use Rattle.replays.specs.Kept.{Holds, IsTallied, TellsLine, TellsProgress, left_of}
-use Rattle.replays.specs.Moments.{Input, Moment, is_here, joined_at, left_the_line, owed_at, owes, served_at, time_at}
+use Rattle.replays.specs.Kept.{Holds, TellsLine, TellsProgress}
+use Rattle.replays.specs.Moments.{Input, Moment, is_here, joined_at, left_the_line, owed_at, owes}
 use Rattle.replays.proofs.Marks.{is_now, others_stay}
 
 -- ---- what coflows owe

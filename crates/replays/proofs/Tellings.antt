@@ -1,16 +1,14 @@
 -- What is kept once the ranker was told the news.
-use Rattle.std.proofs.Common.{◌≡◌, ◌≢◌, ℕ, ◌<◌, Bool, true, false, List, length, refl, sym, ap, subst, ◌∙◌, arith}
+use Rattle.std.proofs.Common.{◌≡◌, ◌≢◌, ℕ, Bool, true, false, List, length, refl, sym, ap, subst, ◌∙◌}
 use Rattle.std.specs.Prelude.{◌==◌, ◌||◌, if◌then◌else◌, filter, map}
 use Rattle.std.specs.List.{range_with_len}
 use Rattle.std.proofs.lemmas.Bool.{eq-eqb, ne_eqb}
-use Rattle.std.proofs.lemmas.List.FromFn.{length-map-range_with_len}
 use Rattle.coflow_units.specs.Completion.{completion}
 use Rattle.epochs.specs.Course.{is_marked}
 use Rattle.rankers.specs.ByKey.{by_key, key_in}
 use Rattle.rankers.specs.Meaning.{Meaning, after_notes}
 use Rattle.replays.specs.declared.kept.Kept.{Kept}
 use Rattle.replays.specs.declared.progress.Progress.{Progress}
-use Rattle.replays.specs.declared.questions.Questions.{Questions}
 use Rattle.replays.specs.Kept.{FitsTable, Holds, IsAt, Tells, TellsLine, TellsProgress, is_untold}
 use Rattle.replays.specs.Moments.{Input, Moment, asked_at, is_news, news, told_at}
 use Rattle.replays.specs.Publishing.{told_moment}

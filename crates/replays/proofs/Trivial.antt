@@ -1,7 +1,6 @@
 -- Where every arrival is late, the total is the sum of weight times earliest end, and that is at least what arrivals cost.
-use Rattle.std.proofs.Common.{◌≡◌, ℕ, ◌+◌, ◌-◌, ◌*◌, ◌<◌, ◌≤◌, inl, inr, Bool, true, false, List, [], ◌∷◌, refl, sym, ap, subst, ◌∙◌, arith}
+use Rattle.std.proofs.Common.{◌≡◌, ℕ, ◌+◌, ◌-◌, ◌*◌, ◌<◌, ◌≤◌, Bool, true, false, List, [], ◌∷◌, ap, arith}
 use Rattle.std.specs.Prelude.{◌==◌, if◌then◌else◌, All, Contains, sum_by}
-use Rattle.std.proofs.lemmas.Bool.{cases_Bool}
 use Rattle.std.proofs.lemmas.List.Elements.{All-contains, All-head, All-tail}
 use Rattle.std.proofs.lemmas.List.Sums.{sum_by-cons}
 use Rattle.std.proofs.lemmas.Nat.{le-div}
@@ -14,7 +13,7 @@ use Rattle.release_bound.specs.declared.place.ReleasePlace.{ReleasePlace}
 use Rattle.release_bound.specs.declared.threshold.Threshold.TheVariants.{Zero}
 use Rattle.release_bound.specs.Release.{bottleneck, earliest_end, entries_of, front_value, released_total, released_value}
 use Rattle.release_bound.specs.ReleaseOrder.{IsReleasedBy}
-use Rattle.replays.specs.Best.{arrivals_cost, IsBestReleased}
+use Rattle.replays.specs.Best.{arrivals_cost}
 
 -- the sum of weight times earliest end
 abbrev ends_cost : List Flow → (ℕ → ℕ) → (ℕ → ℕ) → ℕ → List ℕ → ℕ

@@ -1,6 +1,6 @@
 -- What is kept of a replay, and how it tells the moment.
 use Rattle.std.specs.Prelude.{◌≡◌, ℕ, ◌+◌, ◌<◌, ◌≤◌, ◌^◌, ◌==◌, ◌&&◌, not, if◌then◌else◌, Bool, true, false, List, All}
-use Rattle.std.specs.Prelude.{Contains, length, map, slice_index, sum_by}
+use Rattle.std.specs.Prelude.{Contains, length, slice_index, sum_by}
 use Rattle.std.specs.List.{range_with_len}
 use Rattle.coflow_units.specs.declared.fabric.Flow.{Flow}
 use Rattle.coflow_units.specs.declared.limits.TheConstants.{MAX_UNITS}

@@ -27,7 +27,8 @@ pub fn replay(
     every: u64,
     ranker: Box<dyn Ranker>,
 ) -> Result<Replayed, ReplayFault>
-    requires input { IsInput record { table = table.now; weights = weights.now; arrivals = arrivals.now; every = every } }
+    requires input { IsInput
+        record { table = table.now; weights = weights.now; arrivals = arrivals.now; every = every } }
     ensures replayed { IfOk result (λ replayed. IsReplayed
         record { table = table.now; weights = weights.now; arrivals = arrivals.now; every = every }
         (meaning ranker) replayed) }

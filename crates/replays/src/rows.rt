@@ -68,7 +68,8 @@ pub fn replay_all(
     every: u64,
     bench: &mut Vec<Box<dyn Ranker>>,
 ) -> Result<Vec<ReplayRow>, ReplayFault>
-    requires input { IsInput record { table = table.now; weights = weights.now; arrivals = arrivals.now; every = every } }
+    requires input { IsInput
+        record { table = table.now; weights = weights.now; arrivals = arrivals.now; every = every } }
     requires few { length bench.old.items < 2 ^ 32 }
     ensures rows { IfOk result (λ rows. AreRowsFrom
         record { table = table.now; weights = weights.now; arrivals = arrivals.now; every = every } 1

@@ -1,6 +1,6 @@
-use Rattle.std.proofs.Common.{◌≡◌, ℕ, ◌+◌, ◌<◌, ◌≤◌, List, length, refl, sym, ap, subst, ◌∙◌, arith}
+use Rattle.std.proofs.Common.{◌≡◌, ℕ, ◌+◌, ◌≤◌, List, length, refl, sym, ap, subst, ◌∙◌, arith}
 use Rattle.std.specs.Prelude.{All}
-use Rattle.epochs.specs.declared.action.Action.TheVariants.{End, Publish, Register, Run, Skip, TooMany, Withdraw}
+use Rattle.epochs.specs.declared.action.Action.TheVariants.{Publish, Register, Run, Skip, Withdraw}
 use Rattle.replays.specs.declared.rows.Replayed.TheVariants.{Cost, Unfit}
 use Rattle.replays.specs.Acting.{EndsAs}
 use Rattle.replays.proofs.Acts.{cost_listed, ends_served, ends_unfit, goes_joined, goes_left, goes_published, goes_run, goes_skipped, may, may_of}

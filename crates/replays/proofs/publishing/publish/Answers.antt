@@ -1,4 +1,4 @@
-use Rattle.std.proofs.Common.{◌≡◌, ℕ, ◌+◌, ◌<◌, ◌≤◌, Bool, List, length, get_or, refl, sym, ap, subst, ◌∙◌, arith}
+use Rattle.std.proofs.Common.{◌≡◌, ℕ, ◌+◌, ◌<◌, Bool, List, length, get_or, refl, sym, ap, subst, ◌∙◌, arith}
 use Rattle.std.specs.Prelude.{sum}
 use Rattle.flow_table.specs.Table.{TableFacts}
 use Rattle.epochs.specs.Course.{is_marked}
@@ -42,7 +42,8 @@ returns-in-Some g c = λ x m at same does is.
     let t = told.tells in (
       facts,
       asked_facts x m c.args.table.now c.tell.new.kept.questions.facts.weights c.deref.result.now c.deref-2.result.now facts same t.fits.weights_are c.ask.ensures.facts
-          (λ f. ap (λ l. get_or l f 0) c.deref.ensures.value ∙ t.progress.left_is f) (λ d. ap (λ l. is_marked l d) c.deref-2.ensures.value ∙ t.marks.present_are d) c.ask.ensures.told,
+          (λ f. ap (λ l. get_or l f 0) c.deref.ensures.value ∙ t.progress.left_is f)
+          (λ d. ap (λ l. is_marked l d) c.deref-2.ensures.value ∙ t.marks.present_are d) c.ask.ensures.told,
       unfit_at c.in_ok-place.field-0 c.in-Some.place c.coflows-coflows.result (length x.table.ids) c.deref-3.result.now _ c.in_ok-place.ensures c.in-Some.is
           (c.coflows-coflows.ensures.coflows ∙ ap (λ (t : TableFacts). length t.ids) (sym same))
           (c.deref-3.ensures.value ∙ c.ask.ensures.answer ∙ ap (λ (r : Meaning). r.answer r.held facts) (asks is)),

@@ -1,4 +1,4 @@
-use Rattle.std.proofs.Common.{◌≡◌, ℕ, List, length, refl, ap, ◌∙◌}
+use Rattle.std.proofs.Common.{ℕ, List, length, refl, ap, ◌∙◌}
 use Rattle.coflow_units.proofs.Fronts.{written_back}
 use Rattle.replays.proofs.Tellings.{told_on}
 use Rattle.replays.proofs.publishing.tell.Goals as goal
@@ -18,6 +18,7 @@ returns g c = λ x m at.
       each_mark = fits.each_mark;
       marked = fits.marked;
       room = fits.room;
-      each_place = ap (λ (l : List ℕ). length l) (written_back old.questions.answer.len c.tell_news.new.order old.questions.answer.items (c.tell_news.auto.order ∙ c.deref_mut.ensures.len))
+      each_place = ap (λ (l : List ℕ). length l) (written_back old.questions.answer.len c.tell_news.new.order old.questions.answer.items
+          (c.tell_news.auto.order ∙ c.deref_mut.ensures.len))
           ∙ c.tell_news.auto.order ∙ count;
     }) refl

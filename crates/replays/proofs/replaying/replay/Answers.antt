@@ -1,4 +1,4 @@
-use Rattle.std.proofs.Common.{◌≡◌, ℕ, refl, sym, subst}
+use Rattle.std.proofs.Common.{refl, sym, subst}
 use Rattle.std.specs.Prelude.{IfOk}
 use Rattle.epochs.specs.Course.{Course, at_first}
 use Rattle.rankers.specs.Meaning.{Meaning}
@@ -23,7 +23,8 @@ serve-requires-clause-reaches g c =
 pub returns-clause-replayed : goal.returns-clause-replayed
 returns-clause-replayed g c =
     let ranker : Meaning = (goal.Ranker-dyn g (c.args.ranker.vtable, c.args.ranker.value)).meaning c.args.ranker.value in
-    subst (λ (s : Course). IfOk c.serve.result (λ (r : Replayed). IsReplayed (input_of c.args.table.now c.args.weights.now s) ranker r)) c.in_ok-course.ensures c.serve.ensures.replayed
+    subst (λ (s : Course). IfOk c.serve.result (λ (r : Replayed). IsReplayed (input_of c.args.table.now c.args.weights.now s) ranker r))
+    c.in_ok-course.ensures c.serve.ensures.replayed
 
 pub returns-clause-too_many : goal.returns-clause-too_many
 returns-clause-too_many g c = λ count e.

@@ -1,6 +1,6 @@
-use Rattle.std.proofs.Common.{◌≡◌, ℕ, ◌<◌, Err, Ok, length, refl, sym, ap, subst, ◌∙◌, arith}
+use Rattle.std.proofs.Common.{◌≡◌, Err, Ok, refl, sym, ap, subst}
 use Rattle.replays.specs.declared.rows.ReplayFault.TheVariants.{TooMany}
-use Rattle.replays.specs.Kept.{Reaches, input_of}
+use Rattle.replays.specs.Kept.{input_of}
 use Rattle.replays.specs.Moments.{DoesNext}
 use Rattle.replays.proofs.HandedOn.{carried}
 use Rattle.replays.proofs.Reaching.{does_next, next_fits, reaches_on, too_many}
@@ -18,7 +18,8 @@ pub act-requires : goal.act-requires
 act-requires g c =
     let x = input_of c.args.table.now c.args.weights.now c.args.course.now in
     let r = c.actions.invariant in
-    let does = does_next x _ c.actions.course c.actions.kept _ r c.deref.result.now c.next-action.result c.next-action.result c.deref.ensures.value c.next-action.ensures.first refl in
+    let does = does_next x _ c.actions.course c.actions.kept _ r c.deref.result.now c.next-action.result c.next-action.result
+    c.deref.ensures.value c.next-action.ensures.first refl in
     record { may = (x, r.moment, r.at, refl, refl, does) }
 
 pub actions-smaller : goal.actions-smaller
@@ -43,14 +44,16 @@ pub returns-in-Some-clause-replayed : goal.returns-in-Some-clause-replayed
 returns-in-Some-clause-replayed g c =
     let x = input_of c.args.table.now c.args.weights.now c.args.course.now in
     let r = c.actions.invariant in
-    let does = does_next x _ c.actions.course c.actions.kept _ r c.deref.result.now c.next-action.result c.next-action.result c.deref.ensures.value c.next-action.ensures.first refl in
+    let does = does_next x _ c.actions.course c.actions.kept _ r c.deref.result.now c.next-action.result c.next-action.result
+    c.deref.ensures.value c.next-action.ensures.first refl in
     c.in_ok-replayed.ensures.ends c.in-Some.replayed (ap Ok c.in-Some.is) x r.moment _ r.reached r.at refl refl does r.ranker_is
 
 pub returns-in_err-replayed-clause-too_many : goal.returns-in_err-replayed-clause-too_many
 returns-in_err-replayed-clause-too_many g c = λ count e.
     let x = input_of c.args.table.now c.args.weights.now c.args.course.now in
     let r = c.actions.invariant in
-    let does = does_next x _ c.actions.course c.actions.kept _ r c.deref.result.now c.next-action.result c.next-action.result c.deref.ensures.value c.next-action.ensures.first refl in
+    let does = does_next x _ c.actions.course c.actions.kept _ r c.deref.result.now c.next-action.result c.next-action.result
+    c.deref.ensures.value c.next-action.ensures.first refl in
     let came : TooMany count ≡ c.in_err-replayed.field-0.0 = carried _ _ (TooMany count) c.from_residual.ensures.1 e in
     too_many x _ c.actions.course c.actions.kept _ r count (subst (DoesNext x r.moment) (c.in_err-replayed.ensures.too_many count (ap Err (sym came))) does)
 

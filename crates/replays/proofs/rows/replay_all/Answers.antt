@@ -1,4 +1,4 @@
-use Rattle.std.proofs.Common.{◌≡◌, ◌+◌, ◌∙◌, [], Err, length, ap, sym, arith}
+use Rattle.std.proofs.Common.{◌≡◌, ◌+◌, [], Err, length, ap, sym, arith}
 use Rattle.std.proofs.lemmas.Grind.{common_steps}
 use Rattle.rankers.proofs.Benches.{next_left}
 use Rattle.replays.specs.declared.rows.ReplayFault.TheVariants.{TooMany}
@@ -45,7 +45,8 @@ pub returns-in_err-result-clause-too_many : goal.returns-in_err-result-clause-to
 returns-in_err-result-clause-too_many g c = λ count e.
     let came : TooMany count ≡ c.in_err-result.field-0.0 = carried _ _ (TooMany count) c.from_residual.ensures.1 e in (
       _,
-      reached_on_bench (λ b. (goal.Ranker-dyn g (b.vtable, b.value)).meaning b.value) c.args.bench.now.items c.rankers.bench.items c.take_first-ranker.new.bench.items c.rankers.index
+      reached_on_bench (λ b. (goal.Ranker-dyn g (b.vtable, b.value)).meaning b.value) c.args.bench.now.items c.rankers.bench.items
+          c.take_first-ranker.new.bench.items c.rankers.index
           c.take_first-ranker.result c.rankers.invariant.left c.take_first-ranker.ensures,
       c.in_err-result.ensures.too_many count (ap Err (sym came)),
     )

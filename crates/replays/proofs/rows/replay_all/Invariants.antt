@@ -2,7 +2,6 @@
 use Rattle.std.proofs.Common.{◌≡◌, ◌+◌, ◌<◌, List, ◌++◌, drop, length}
 use Rattle.std.specs.Prelude.{map}
 use Rattle.replays.specs.declared.rows.ReplayRow.{ReplayRow}
-use Rattle.replays.specs.Moments.{Input}
 use Rattle.replays.specs.Replayed.{AreRowsFrom}
 use Rattle.replays.proofs.rows.replay_all.Given as goal
 

@@ -1,11 +1,11 @@
-use Rattle.std.proofs.Common.{◌≡◌, ℕ, ◌+◌, ◌≤◌, ◌<◌, List, length, refl, sym, ap, subst, ◌∙◌, arith}
+use Rattle.std.proofs.Common.{◌≡◌, ℕ, ◌+◌, ◌<◌, List, length, refl, sym, ap, subst, ◌∙◌, arith}
 use Rattle.std.specs.Prelude.{All, if◌then◌else◌, slice_index}
 use Rattle.coflow_units.specs.declared.fabric.Flow.{Flow}
 use Rattle.coflow_units.specs.Completion.{holds_coflow}
 use Rattle.flow_table.specs.Table.{TableFacts}
 use Rattle.replays.specs.Kept.{IsTallied}
 use Rattle.replays.specs.Moments.{served_at}
-use Rattle.replays.proofs.ActionSteps.{line_is_distinct, line_is_known, ran_line, ran_tells}
+use Rattle.replays.proofs.ActionSteps.{line_is_known, ran_line, ran_tells}
 use Rattle.replays.proofs.Running.{IsRunOf, run_kept, settled_kept, settled_moment, served_progress}
 use Rattle.replays.proofs.kept.Kept.run.Goals as goal
 
@@ -42,7 +42,8 @@ returns c = λ x m at same does.
     (λ d lt. c.serve.ensures.ends d (omega (arith, lt, at.tells.each.ends)) ∙
     ap {B = ℕ} (λ (fs : List Flow). if holds_coflow fs granted d then old.progress.time + n else slice_index old.progress.ends.items d) flows) in
     let line = ran_line x m granted n old.line c.grant.new.self c.pass.new.self at.tells.line c.grant.ensures.line c.grant.ensures.room
-    (settled_moment x m old table left grants at same c.deref.ensures.value c.grant.ensures.settled) c.flows-2.ensures c.pass.ensures.line c.pass.ensures.room c.pass.ensures.settled in (
+    (settled_moment x m old table left grants at same c.deref.ensures.value c.grant.ensures.settled) c.flows-2.ensures
+    c.pass.ensures.line c.pass.ensures.room c.pass.ensures.settled in (
       served_at m n granted,
       record { granted = granted; count = n; grants = run.grants; run = run.run; next_is = refl },
       ran_tells x m granted n old _ at progress line c.serve.ensures.each c.serve.ensures.each_end refl refl,

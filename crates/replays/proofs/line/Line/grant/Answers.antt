@@ -1,4 +1,4 @@
-use Rattle.std.proofs.Common.{ℕ, List, get_or, subst}
+use Rattle.std.proofs.Common.{List, get_or, subst}
 use Rattle.coflow_units.specs.declared.fabric.Flow.{Flow}
 use Rattle.matching.specs.Matching.{IsSettled}
 use Rattle.replays.proofs.line.Line.grant.Goals as goal

@@ -1,4 +1,4 @@
-use Rattle.std.proofs.Common.{◌≡◌, ℕ, List, length, refl, ap, ◌∙◌, arith}
+use Rattle.std.proofs.Common.{ℕ, List, length, refl, ap, ◌∙◌, arith}
 use Rattle.coflow_units.proofs.Fronts.{written_back}
 use Rattle.rankers.proofs.LeftLoads.{left_of_present}
 use Rattle.replays.proofs.questions.Questions.ask.Goals as goal
@@ -20,6 +20,7 @@ returns-clause-fits g c =
       each_mark = fits.each_mark;
       marked = fits.marked;
       room = omega (arith, fits.room, c.refill.ensures.room);
-      each_place = ap (λ (l : List ℕ). length l) (written_back c.args.self.now.answer.len c.ask.new.answer c.args.self.now.answer.items (c.ask.auto.answer ∙ c.deref_mut.ensures.len))
+      each_place = ap (λ (l : List ℕ). length l) (written_back c.args.self.now.answer.len c.ask.new.answer c.args.self.now.answer.items
+          (c.ask.auto.answer ∙ c.deref_mut.ensures.len))
           ∙ c.ask.auto.answer ∙ ap (λ (l : List ℕ). length l) c.deref_mut.ensures.value ∙ fits.each_place;
     }
