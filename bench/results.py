@@ -7,7 +7,8 @@ Use: bench/results.py            prints all tables, within a few minutes
      bench/results.py --trace SEED    writes the trace of the public shape with this seed, whose coflows arrive over an hour
      bench/results.py --weights SEED  writes drawn weights from 1 to 100 for its 526 coflows
 
-A ratio is a cost over the bound, rounded up. Orders that `compare` does not have are made from the rows of `sincronia_stats --csv`, and served.
+A ratio is a cost over the bound, rounded up. Workloads of one name have one row, with the least ratio and the greatest. Orders that `compare` does not have are made from the rows of
+`sincronia_stats --csv`, and served.
 """
 import os
 import random
@@ -98,6 +99,20 @@ def table(heads, rows):
     return "\n".join(lines) + "\n"
 
 
+def span(ratios):
+    """The least ratio and the greatest, or the one that they all are."""
+    least, greatest = min(ratios, key=float), max(ratios, key=float)
+    return least if least == greatest else f"{least}-{greatest}"
+
+
+def spanned(rows):
+    """One row for each name, in the order of the first ones: a row that is alone as it is, and else the spans of its cells."""
+    by_name = {}
+    for name, *cells in rows:
+        by_name.setdefault(name, []).append(cells)
+    return [[name, *(cells[0] if len(cells) == 1 else map(span, zip(*cells)))] for name, cells in by_name.items()]
+
+
 def policy_row(work):
     """The ratios of the policies."""
     cells = []
@@ -128,12 +143,25 @@ def time_rows(work):
     return rows
 
 
+def time_table(work):
+    """The completion times in slots, a row for each policy and group."""
+    return table(["policy", "group", "coflows", "mean", "median", "95 %", "99 %"], time_rows(work))
+
+
+def mean_table(work):
+    """The mean completion times and those of 99 %, a row for each group."""
+    rows = time_rows(work)
+    heads = ["group", "coflows", *[f"{policy} {kind}" for kind in ("mean", "99 %") for policy in TIMED]]
+    by_group = [rows[place :: len(GROUPS)] for place in range(len(GROUPS))]
+    return table(heads, [[*of[0][1:3], *[row[3] for row in of], *[row[6] for row in of]] for of in by_group])
+
+
 def tables_of(works, timed):
-    """The four tables of these workloads; times are told of one alone."""
-    yield table(["workload", *POLICIES], [policy_row(work) for work in works])
+    """The four tables of these workloads; times are told by the last."""
+    yield table(["workload", *POLICIES], spanned(policy_row(work) for work in works))
     for fold in FOLDS:
-        yield table(["workload", *["%d" % count for count in CLASSES]], [class_row(work, fold) for work in works])
-    yield table(["policy", "group", "coflows", "mean", "median", "95 %", "99 %"], time_rows(timed))
+        yield table(["workload", *["%d" % count for count in CLASSES]], spanned(class_row(work, fold) for work in works))
+    yield timed
 
 
 def small_works(room):
@@ -145,7 +173,7 @@ def small_works(room):
 
 
 def large_works(room):
-    shapes = [("public shape, seed %d" % seed, traces.hour(spread_out=True, seed=seed), None) for seed in SEEDS]
+    shapes = [("public shape", traces.hour(spread_out=True, seed=seed), None) for seed in SEEDS]
     shapes += [(name + ", weights", trace, weights(seed)) for seed, (name, trace, _) in zip(SEEDS, shapes)]
     shapes += [("wide", traces.wide(), None), ("narrow", traces.narrow(), None)]
     for place, (name, trace, weighed) in enumerate(shapes):
@@ -157,7 +185,7 @@ def large_works(room):
 def made(small):
     with tempfile.TemporaryDirectory() as room:
         works = list(small_works(room) if small else large_works(room))
-        return list(tables_of(works, works[-1] if small else works[0]))
+        return list(tables_of(works, time_table(works[-1]) if small else mean_table(works[0])))
 
 
 def check():
