@@ -1,10 +1,10 @@
 -- Which actions apply: what is known where one is the first that does.
 use Rattle.std.proofs.Common.{◌≡◌, ℕ, ◌+◌, ◌-◌, ◌*◌, ◌/◌, ◌%◌, ◌<◌, ◌≤◌, ◌⊎◌, inl, inr, Bool, true, false, true≢false, List, get_or, length, Contains, refl, sym, ap, subst}
 use Rattle.std.proofs.Common.{◌∙◌, arith, suc, zero}
-use Rattle.std.specs.Prelude.{◌==◌, ◌&&◌, ◌||◌, not, nat_le, nat_lt, replicate, slice_index}
+use Rattle.std.specs.Prelude.{◌==◌, ◌&&◌, ◌||◌, not, nat_le, nat_lt, replicate, slice_index, slice_set}
 use Rattle.std.specs.List.{list_any}
-use Rattle.std.proofs.lemmas.Bool.{and_from, and_parts, cases_lt, eq-eqb, eqb-true, le-leb, leb-true, lt-ltb, ltb-true, not-true, not_from_false, or_cases, or_left, or_right}
-use Rattle.std.proofs.lemmas.List.{get_or_default, get_or_past, get_or-replicate, length-replicate}
+use Rattle.std.proofs.lemmas.Bool.{and_from, and_parts, cases_eq, cases_lt, eq-eqb, eqb-true, le-leb, leb-true, lt-ltb, ltb-true, not-true, not_from_false, or_cases, or_left, or_right}
+use Rattle.std.proofs.lemmas.List.{get_or_default, get_or_past, get_or-replicate, get_or-set_other, get_or-set_same, length-replicate}
 use Rattle.std.proofs.lemmas.List.Elements.{Contains-get_or}
 use Rattle.std.proofs.lemmas.Nat.{div-add-mod', mod_below}
 use Rattle.std.proofs.Math.Nat.{add-mod_right, mul-mod_left}
@@ -208,3 +208,19 @@ end_none_owes s time owed some h owes = let (most, applies) = owing_runs s time 
 
 pub end_none_waits : (s : Course) (time : ℕ) (owed : List ℕ) (c : ℕ) → IsFirstAction s time owed End → Waits s c → ⊥
 end_none_waits s time owed c h w = let (a, applies, le) = waiting_acts s time owed c w in omega (arith, h.first a applies, le)
+
+-- ---- one mark more
+
+pub marked_again : (marks : List Bool) (c d : ℕ) → is_marked (slice_set marks c true) d ≡ true → (d ≡ c) ⊎ (is_marked marks d ≡ true)
+marked_again marks c d is = elim (cases_eq d c) [
+  | inl same ↦ inl same
+  | inr other ↦ inr (sym (get_or-set_other marks c d true false other) ∙ is)
+]
+
+pub stays_marked : (marks : List Bool) (c d : ℕ) → is_marked marks d ≡ true → is_marked (slice_set marks c true) d ≡ true
+stays_marked marks c d is = elim (cases_eq d c) [
+  | inl same ↦
+      let low : c < length marks = omega (arith, marked_below marks d is, same) in
+      ap (λ i. get_or (slice_set marks c true) i false) same ∙ get_or-set_same marks c true false low
+  | inr other ↦ get_or-set_other marks c d true false other ∙ is
+]

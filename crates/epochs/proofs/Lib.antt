@@ -3,3 +3,4 @@ mod OneAction
 mod ScanLoops
 pub mod Searching
 pub mod Actions
+pub mod Tallying

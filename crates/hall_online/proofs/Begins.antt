@@ -36,7 +36,7 @@ use Rattle.online_runs.specs.declared.progress.Progress.{Progress}
 use Rattle.hall_online.specs.Halls.{IsReady}
 use Rattle.hall_online.specs.Serving.{EndsAs, HaveSent, HaveServed, IsUnderWay}
 use Rattle.online_runs.specs.Tells.{TellsRun}
-use Rattle.online_runs.specs.Tallies.{IsTallied}
+use Rattle.epochs.specs.Tallies.{IsTallied}
 use Rattle.hall_online.proofs.RunSteps.{tallied_owed}
 
 abbrev opening : TableFacts → List ℕ → ℕ → Opening

@@ -47,7 +47,7 @@ use Rattle.online_runs.proofs.Times.{run_schedule, run_time, time_is}
 use Rattle.online_runs.specs.declared.progress.Progress.{Progress}
 use Rattle.hall_online.specs.Serving.{ComesFirst, HaveSent, HaveServed, IsOnlineBegun, IsUnderWay}
 use Rattle.online_runs.specs.Tells.{TellsRun}
-use Rattle.online_runs.specs.Tallies.{IsTallied, left_of}
+use Rattle.epochs.specs.Tallies.{IsTallied, left_of}
 use Rattle.hall_online.proofs.Actions.{first_here, first_there, goes_on, journal_now, now_holds, short_journal, so_far_now}
 use Rattle.hall_online.proofs.OwnRuns.{granted_is, legal_whole, none_earlier, one_run, ready_after, sent_part}
 

@@ -12,8 +12,9 @@ ghost use Rattle.hall_online.specs.Serving.{ComesFirst, HaveSent, HaveServed, Is
 
 use crate::answer::OnlineFault;
 use client_session::Hall;
+use epochs::spend;
 use flow_table::Table;
-use online_runs::{Progress, spend};
+use online_runs::Progress;
 use outside::Wire;
 use slot_runner::{Crew, Ran, Site};
 use std::sync::Wait;

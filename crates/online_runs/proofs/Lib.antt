@@ -11,5 +11,4 @@ pub mod Right
 pub mod Rising
 pub mod Shapes
 pub mod Standing
-pub mod Tallying
 pub mod Times

@@ -14,6 +14,7 @@ use Rattle.journal.specs.State.{owed, State}
 use Rattle.journal.specs.Closed.{LeavesSlots}
 use Rattle.journal.specs.Fold.{state_of}
 use Rattle.journal.proofs.Ranges.{range_same}
+use Rattle.epochs.proofs.Tallying.{some_share}
 use Rattle.online_runs.specs.Deeds.{coflow_owes, owed_after}
 
 pub owes_at : (o : Opening) (j : List Entry) (c : ℕ) → c < length o.table.ids → slice_index (owed_after o j) c ≡ coflow_owes o (state_of o j) c
@@ -30,10 +31,6 @@ pub record OwesBy (o : Opening) (j : List Entry) (c f : ℕ) : Type 0 where
 
 abbrev share : Opening → State → ℕ → ℕ → ℕ
 share o s c f = if coflow_of o.table.flows f == c then owed o s f else 0
-
-some_share : (b : Bool) (n : ℕ) → 0 < cond {A = ℕ} b n 0 → (b ≡ true) × (0 < n)
-some_share true n lt = (refl, lt)
-some_share false n lt = absurd (omega (arith, lt))
 
 pub flow_owes : (o : Opening) (j : List Entry) (c : ℕ) → 0 < slice_index (owed_after o j) c → (f : ℕ) × OwesBy o j c f
 flow_owes o j c some = elim (cases_lt c (length o.table.ids)) [

@@ -26,7 +26,7 @@ use Rattle.journal.proofs.Driving.{driven_even}
 use Rattle.journal.proofs.Present.{line_present}
 use Rattle.journal.proofs.Schedules.{schedule_length}
 use Rattle.online_runs.specs.Deeds.{coflow_owes, owed_after, time_of}
-use Rattle.epochs.proofs.Actions.{marked_below}
+use Rattle.epochs.proofs.Actions.{marked_again, marked_below, stays_marked}
 use Rattle.online_runs.proofs.Owed.{owes_at, owes_by_flow, OwesBy}
 use Rattle.online_runs.proofs.Shapes.{drive_of, run_entries}
 use Rattle.online_runs.proofs.Standing.{few_slots, next_some, parts_here, run_goes, Stands}
@@ -45,20 +45,6 @@ same_time o j k l = ap (λ n. n - 1) l.next
 
 pub same_owed : (o : Opening) (j k : List Entry) (f : ℕ) → LeavesSlots o j k → owed o (state_of o k) f ≡ owed o (state_of o j) f
 same_owed o j k f l = ap (λ n. units_of o.table.flows f - n) (l.sent f)
-
-marked_again : (marks : List Bool) (c d : ℕ) → is_marked (slice_set marks c true) d ≡ true → (d ≡ c) ⊎ (is_marked marks d ≡ true)
-marked_again marks c d is = elim (cases_eq d c) [
-  | inl same ↦ inl same
-  | inr other ↦ inr (sym (get_or-set_other marks c d true false other) ∙ is)
-]
-
-stays_marked : (marks : List Bool) (c d : ℕ) → is_marked marks d ≡ true → is_marked (slice_set marks c true) d ≡ true
-stays_marked marks c d is = elim (cases_eq d c) [
-  | inl same ↦
-      let low : c < length marks = omega (arith, marked_below marks d is, same) in
-      ap (λ i. get_or (slice_set marks c true) i false) same ∙ get_or-set_same marks c true false low
-  | inr other ↦ get_or-set_other marks c d true false other ∙ is
-]
 
 module _ (o : Opening) (s : Course) (j k : List Entry) (h : KeepsTime o s j) (l : LeavesSlots o j k) where
   late_still : (c i : ℕ) → holds_coflow o.table.flows (get_or (schedule_of o k) i []) c ≡ true → arrival_of s c ≤ i

@@ -1,5 +1,4 @@
 pub mod Deeds
 pub mod Input
-pub mod Tallies
 pub mod Tells
 pub mod Value

@@ -8,7 +8,7 @@ ghost use Rattle.flow_table.specs.Table.{instance_of, TableFacts};
 ghost use Rattle.schedule_model.specs.RunList.{NamesFlows, pairs_of};
 ghost use Rattle.online_text.specs.declared.value.DoneLine.{DoneLine};
 ghost use Rattle.release_bound.specs.declared.place.ReleasePlace.{ReleasePlace};
-ghost use Rattle.release_bound.specs.Release.{IsReleasedFeasible, released_total};
+ghost use Rattle.release_bound.specs.Release.{released_total};
 ghost use Rattle.release_bound.specs.ReleaseOrder.{IsReleasedOrdering};
 ghost use Rattle.online_runs.specs.Value.{release_line};
 
@@ -16,8 +16,7 @@ use crate::progress::Progress;
 use coflow_units::{Items, NoMemory};
 use flow_table::Table;
 use online_text::{DoneLine, Online, ReleaseLine};
-use port_load::Loads;
-use release_bound::{ReleaseBssi, ReleasePlace, Threshold, released_total};
+use release_bound::{ReleasePlace, Threshold, released_by};
 use schedule_model::{Schedule, completions, cost_of};
 use std::alloc::Global;
 
@@ -114,7 +113,7 @@ fn done_lines(alloc: Global, table: &Table, ends: &[u64]) -> Result<Vec<DoneLine
 
 /// A released certificate as lines, with its total.
 #[derive(Drop)]
-struct Released {
+struct ReleasedLines {
     lines: Vec<ReleaseLine>,
     total: u128,
 }
@@ -125,7 +124,7 @@ fn released_of(
     table: &Table,
     weights: &[u64],
     arrivals: &[u64],
-) -> Result<Released, NoMemory>
+) -> Result<ReleasedLines, NoMemory>
     requires weight_each { length weights.now ≡ length table.now.ids }
     requires weight_range { All (λ w. w ≤ MAX_WEIGHT) weights.now }
     requires arrival_each { length arrivals.now ≡ length table.now.ids }
@@ -135,55 +134,12 @@ fn released_of(
         × (r.lines.items ≡ map (release_line table.now.ids) (reverse places))
         × (r.total ≡ released_total table.now.flows (slice_index arrivals.now) table.now.ports places)) }
 {
-    let order = release_order(alloc, table, weights, arrivals)?;
-    let total = release_total(alloc, table, weights, arrivals, order.places())?;
-    let lines = release_lines(alloc, table, order.places())?;
-    Ok(Released { lines, total })
-}
-
-/// The places of the released certificate, the first place first.
-fn release_order(
-    alloc: Global,
-    table: &Table,
-    weights: &[u64],
-    arrivals: &[u64],
-) -> Result<ReleaseBssi, NoMemory>
-    requires weight_each { length weights.now ≡ length table.now.ids }
-    requires weight_range { All (λ w. w ≤ MAX_WEIGHT) weights.now }
-    requires arrival_each { length arrivals.now ≡ length table.now.ids }
-    requires arrival_range { All (λ a. a ≤ MAX_ARRIVAL + 1) arrivals.now }
-    ensures order { IfOk result (λ order. IsReleasedOrdering (instance_of table.now weights.now)
-        (slice_index arrivals.now) (reverse order.places)) }
-    ensures feasible { IfOk result (λ order. IsReleasedFeasible table.now.flows (slice_index weights.now)
-        (reverse order.places)) }
-{
-    let mut loads = Loads::of(alloc, table.flows(), table.coflows(), table.ports())?;
-    let mut order = ReleaseBssi::with_room(alloc, table.coflows(), table.ports())?;
-    order.run(&mut loads, weights, arrivals, Threshold::One);
-    Ok(order)
-}
-
-/// The total of the released certificate that has these places.
-fn release_total(
-    alloc: Global,
-    table: &Table,
-    weights: &[u64],
-    arrivals: &[u64],
-    places: &[ReleasePlace],
-) -> Result<u128, NoMemory>
-    requires weight_each { length weights.now ≡ length table.now.ids }
-    requires weight_range { All (λ w. w ≤ MAX_WEIGHT) weights.now }
-    requires arrival_each { length arrivals.now ≡ length table.now.ids }
-    requires arrival_range { All (λ a. a ≤ MAX_ARRIVAL + 1) arrivals.now }
-    requires order { IsReleasedOrdering (instance_of table.now weights.now) (slice_index arrivals.now)
-        (reverse places.now) }
-    requires feasible { IsReleasedFeasible table.now.flows (slice_index weights.now) (reverse places.now) }
-    ensures { IfOk result (λ total. total
-        ≡ released_total table.now.flows (slice_index arrivals.now) table.now.ports (reverse places.now)) }
-{
-    let loads = Loads::of(alloc, table.flows(), table.coflows(), table.ports())?;
-    let total = released_total(&loads, arrivals, weights, places);
-    Ok(total)
+    let released = released_by(alloc, table, weights, arrivals, Threshold::One)?;
+    let lines = release_lines(alloc, table, &released.places)?;
+    Ok(ReleasedLines {
+        lines,
+        total: released.total,
+    })
 }
 
 /// What a line says of each place.

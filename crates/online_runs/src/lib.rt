@@ -9,4 +9,4 @@ mod progress;
 
 pub use ending::told;
 pub use orders::epoch_of;
-pub use progress::{Progress, no_progress, spend};
+pub use progress::{Progress, no_progress};

@@ -4,6 +4,7 @@ pub mod ClassFacts
 pub mod Greatest
 pub mod KeyOrders
 pub mod LeftLoads
+pub mod LoadCells
 pub mod Moved
 pub mod Noted
 pub mod OneRow

@@ -1,6 +1,6 @@
 -- What a ranker is told of the coflows of a table.
-use Rattle.std.specs.Prelude.{◌≡◌, ℕ, ◌<◌, ◌≤◌, ◌^◌, List, All, length}
-use Rattle.std.specs.List.{slice_index_or}
+use Rattle.std.specs.Prelude.{◌≡◌, ℕ, ◌+◌, ◌*◌, ◌<◌, ◌≤◌, ◌^◌, List, All, length, map, slice_index}
+use Rattle.std.specs.List.{range_with_len, slice_index_or}
 use Rattle.coflow_units.specs.declared.limits.TheConstants.{MAX_COFLOWS, MAX_UNITS, MAX_WEIGHT}
 use Rattle.coflow_units.specs.Certificate.{Entry, order_of}
 use Rattle.coflow_units.specs.Flows.{with_units}
@@ -19,6 +19,14 @@ pub record FactsTold : Type 0 where
   pub loads : LoadTable
   pub order : List ℕ
 
+-- the table with a cell for each port and coflow, and no other one
+abbrev pub cells_of : LoadTable → LoadTable
+cells_of t = record {
+  coflows = t.coflows;
+  ports = t.ports;
+  cells = map (slice_index t.cells) (range_with_len 0 ((t.ports + t.ports) * t.coflows));
+}
+
 -- how many coflows there are; they have the numbers from 0 on
 abbrev pub coflows_in : FactsTold → ℕ
 coflows_in f = length f.weights
@@ -30,6 +38,7 @@ pub record IsFacts (f : FactsTold) : Type 0 where
   pub arrivals_len : length f.arrivals ≡ coflows_in f
   pub arrival : All (λ a. a < 2 ^ 32) f.arrivals
   pub coflows : f.loads.coflows ≡ coflows_in f
+  pub cells_len : length f.loads.cells ≡ (f.loads.ports + f.loads.ports) * f.loads.coflows
   pub bottlenecks_len : length f.bottlenecks ≡ coflows_in f
   pub bottleneck : (c : ℕ) → c < coflows_in f → IsBottleneck f.loads c (slice_index_or f.bottlenecks c 0)
   pub units : All (λ b. b ≤ MAX_UNITS) f.bottlenecks

@@ -37,7 +37,7 @@ pub struct Facts {
 }
 
 impl Model for Facts {
-    ghost use Rattle.rankers.specs.FactsTold.{FactsTold, IsFacts};
+    ghost use Rattle.rankers.specs.FactsTold.{FactsTold, IsFacts, cells_of};
 
     ghost Value = { FactsTold };
 
@@ -45,7 +45,7 @@ impl Model for Facts {
       weights = s.weights.items;
       arrivals = s.arrivals.items;
       bottlenecks = s.bottlenecks.items;
-      loads = s.loads;
+      loads = cells_of s.loads;
       order = s.order.items;
     } };
 
@@ -53,7 +53,7 @@ impl Model for Facts {
       weights = s.weights.items;
       arrivals = s.arrivals.items;
       bottlenecks = s.bottlenecks.items;
-      loads = s.loads;
+      loads = cells_of s.loads;
       order = s.order.items;
     } };
 }

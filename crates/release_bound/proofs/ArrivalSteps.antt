@@ -165,7 +165,7 @@ first_is t charges place arrivals (Some a) certificate ((k, lk, has_k, is), leas
 
 -- ---- the earliest end
 
-greatest_above : (xs : List ℕ) (n : ℕ) → Contains xs n → n ≤ greatest_of xs
+pub greatest_above : (xs : List ℕ) (n : ℕ) → Contains xs n → n ≤ greatest_of xs
 greatest_above [] n has = absurd (nothing_in n has)
 greatest_above (x ∷ xs) n has = elim (first_or_tail x xs n has) [
   | inl e ↦ omega (arith, e)

@@ -37,7 +37,7 @@ take_more (suc a) (suc b) (y ∷ ys) x le has = elim (first_or_tail y (take a ys
 ]
 
 -- a slot's part is within the sum over the slots
-member_within_sums : {X : Type 0} (w : X → ℕ) (xs : List X) (x : X) → Contains xs x → w x ≤ sum_by w xs
+pub member_within_sums : {X : Type 0} (w : X → ℕ) (xs : List X) (x : X) → Contains xs x → w x ≤ sum_by w xs
 member_within_sums w [] x has = absurd (nothing_in x has)
 member_within_sums w (y ∷ ys) x has = elim (first_or_tail y ys x has) [
   | inl e ↦ omega (arith, sum_by-cons w y ys, ap w e)

@@ -11,3 +11,7 @@ mod ChargeSteps
 mod ArrivalSteps
 mod TotalSteps
 mod LateRow
+mod Bottlenecks
+mod ReleasedTables
+mod Thresholds
+mod Trivial

@@ -3,3 +3,4 @@ pub mod ReleaseOrder
 pub mod ReleaseStep
 pub mod ReleaseTable
 pub mod Rows
+pub mod Best

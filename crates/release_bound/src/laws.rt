@@ -9,7 +9,8 @@ ghost use Rattle.coflow_units.specs.Certificate.{budget, front, scale};
 ghost use Rattle.release_bound.specs.declared.place.ReleasePlace.{ReleasePlace};
 ghost use Rattle.release_bound.specs.Release.{IsReleased, IsReleasedCertificate, IsReleasedFeasible, earliest_end};
 ghost use Rattle.release_bound.specs.Release.{entries_of, front_value, released_total, released_value};
-ghost use Rattle.release_bound.specs.ReleaseOrder.{IsReleasedBy};
+ghost use Rattle.release_bound.specs.Best.{IsBestReleased, arrivals_cost};
+ghost use Rattle.release_bound.specs.ReleaseOrder.{IsReleasedBy, IsReleasedOrdering};
 ghost use Rattle.release_bound.specs.declared.threshold.Threshold.{Threshold};
 ghost use Rattle.release_bound.specs.declared.threshold.Threshold.TheVariants.{Zero};
 ghost use Rattle.release_bound.specs.Rows.{both_are_late, long_after_short, long_and_short, long_and_short_alike, one_part_more, short_is_late};
@@ -91,3 +92,26 @@ pub fn released_ordering_is_one()
     ensures { (by : Threshold) (i : Instance) (arrival : ℕ → ℕ) (a b : List ReleasePlace) →
         IsReleasedBy by i arrival a → IsReleasedBy by i arrival b → a ≡ b }
 {}
+
+/// The greatest total of the released certificates is at most the cost of every schedule that serves nobody before its
+/// arrival. It is at least the total that an online run prints.
+pub fn best_is_bound()
+    ensures bound { (i : Instance) (arrival : ℕ → ℕ) (places : List ReleasePlace) (total : ℕ)
+        (slots : List (List ℕ)) → IsBestReleased i arrival places total → IsReleased i.flows arrival slots →
+        total ≤ cost i.flows i.weight i.coflows slots }
+    ensures online { (i : Instance) (arrival : ℕ → ℕ) (places printed : List ReleasePlace) (total : ℕ) →
+        IsBestReleased i arrival places total → IsReleasedOrdering i arrival printed →
+        released_total i.flows arrival i.ports printed ≤ total }
+{
+    released_ordering_is_feasible();
+    released_ordering_is_one();
+}
+
+/// What arrivals cost is at most the greatest total. So with it taken off both, the cost of a schedule over that total
+/// tells how far from the best it can be.
+pub fn arrivals_are_below()
+    ensures { (i : Instance) (arrival : ℕ → ℕ) (places : List ReleasePlace) (total : ℕ) → IsDistinct i.coflows →
+        IsBestReleased i arrival places total → arrivals_cost i arrival ≤ total }
+{
+    zero_is_trivial();
+}

@@ -18,7 +18,8 @@ use Rattle.replays.specs.declared.kept.Kept.{Kept}
 use Rattle.replays.specs.declared.line.Line.{Line}
 use Rattle.replays.specs.declared.news.Marks.{Marks}
 use Rattle.replays.specs.declared.progress.Progress.{Progress}
-use Rattle.replays.specs.Kept.{FitsTable, HasSameRoom, IsAt, IsTallied, Tells, TellsLine, TellsMarks, TellsProgress}
+use Rattle.epochs.specs.Tallies.{IsTallied}
+use Rattle.replays.specs.Kept.{FitsTable, HasSameRoom, IsAt, Tells, TellsLine, TellsMarks, TellsProgress}
 use Rattle.replays.specs.Moments.{DoesNext, Input, Moment, first_moment, is_here, joined_at, left_the_line, served_at}
 use Rattle.replays.specs.Replayed.{IsInput}
 use Rattle.replays.proofs.Holding.{longer}

@@ -11,15 +11,16 @@ use Rattle.replays.specs.Replayed.{AreRowsFrom, IsReplayed}
 row_pushed : (rows more tail : List ReplayRow) (r : ReplayRow) → more ≡ rows ++ r ∷ [] → more ++ tail ≡ rows ++ (r ∷ tail)
 row_pushed rows more tail r e = ap (λ xs. xs ++ tail) e ∙ append_assoc rows (r ∷ []) tail
 
-pub bench_step : {X : Type 0} (meaning : X → Meaning) (x : Input) (index : ℕ) (all now new : List X) (b : X) (rows more : List ReplayRow) (result : Replayed) →
+pub bench_step : {X : Type 0} (meaning : X → Meaning) (x : Input) (index : ℕ) (all now new : List X) (b : X) (rows more : List ReplayRow) (name : List ℕ) (result : Replayed) →
     now ≡ b ∷ new → IsReplayed x (meaning b) result →
     ((tail : List ReplayRow) → AreRowsFrom x index (map meaning now) tail → AreRowsFrom x 1 (map meaning all) (rows ++ tail)) →
-    more ≡ rows ++ record { index = index; result = result } ∷ [] →
+    more ≡ rows ++ record { index = index; name = name; result = result } ∷ [] → name ≡ (meaning b).name →
     (tail : List ReplayRow) → AreRowsFrom x (index + 1) (map meaning new) tail → AreRowsFrom x 1 (map meaning all) (more ++ tail)
-bench_step meaning x index all now new b rows more result taken replayed goes_on e tail rest =
-    let row : ReplayRow = record { index = index; result = result } in
+bench_step meaning x index all now new b rows more name result taken replayed goes_on e named tail rest =
+    let row : ReplayRow = record { index = index; name = name; result = result } in
+    let same = ap (λ (n : List ℕ). record { index = index; name = n; result = result } ∷ tail) named in
     subst (AreRowsFrom x 1 (map meaning all)) (sym (row_pushed rows more tail row e))
-    (goes_on (row ∷ tail) (subst (λ xs. AreRowsFrom x index (map meaning xs) (row ∷ tail)) (sym taken) (result, tail, replayed, refl, rest)))
+    (goes_on (row ∷ tail) (subst (λ xs. AreRowsFrom x index (map meaning xs) (row ∷ tail)) (sym taken) (result, tail, replayed, same, rest)))
 
 pub bench_done : {X : Type 0} (meaning : X → Meaning) (x : Input) (index : ℕ) (all now : List X) (rows : List ReplayRow) → now ≡ [] →
     ((tail : List ReplayRow) → AreRowsFrom x index (map meaning now) tail → AreRowsFrom x 1 (map meaning all) (rows ++ tail)) → AreRowsFrom x 1 (map meaning all) rows

@@ -26,7 +26,8 @@ use Rattle.replays.specs.Kept.{Holds}
 use Rattle.replays.specs.Moments.{Input, IsPublished, Moment, asked_at, first_moment, is_here, is_news}
 use Rattle.replays.specs.Moments.{joined_at, left_the_line, published_at, served_at, time_at, told_at}
 use Rattle.replays.specs.Replayed.{IsInput}
-use Rattle.replays.proofs.Marks.{here_from, here_parts, is_now, marked_again, others_stay, stays_marked}
+use Rattle.epochs.proofs.Actions.{marked_again, stays_marked}
+use Rattle.replays.proofs.Marks.{here_from, here_parts, is_now, others_stay}
 
 pub holds_first : (x : Input) (ranker : Meaning) → IsInput x → Holds x (first_moment x ranker)
 holds_first x ranker input =

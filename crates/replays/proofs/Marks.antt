@@ -1,5 +1,5 @@
 -- Marks of coflows, and who is present.
-use Rattle.std.proofs.Common.{◌≡◌, ℕ, ◌<◌, ◌⊎◌, inl, inr, Bool, true, false, List, get_or, length, sym, ap, ◌∙◌, arith}
+use Rattle.std.proofs.Common.{◌≡◌, ℕ, ◌<◌, inl, inr, Bool, true, false, List, length, ap, arith}
 use Rattle.std.specs.Prelude.{not, slice_set, sum_by, if◌then◌else◌}
 use Rattle.std.specs.List.{range_with_len}
 use Rattle.std.proofs.lemmas.Bool.{and_from, and_parts, cases_eq, not-true, not_from_false}
@@ -7,22 +7,7 @@ use Rattle.std.proofs.lemmas.List.{get_or-set_other, get_or-set_same}
 use Rattle.coflow_units.proofs.Lists.{number_in}
 use Rattle.coflow_units.proofs.Sums.{sum_less}
 use Rattle.epochs.specs.Course.{is_marked}
-use Rattle.epochs.proofs.Actions.{marked_below}
 use Rattle.replays.specs.Moments.{Moment, is_here}
-
-pub marked_again : (marks : List Bool) (c d : ℕ) → is_marked (slice_set marks c true) d ≡ true → (d ≡ c) ⊎ (is_marked marks d ≡ true)
-marked_again marks c d is = elim (cases_eq d c) [
-  | inl same ↦ inl same
-  | inr other ↦ inr (sym (get_or-set_other marks c d true false other) ∙ is)
-]
-
-pub stays_marked : (marks : List Bool) (c d : ℕ) → is_marked marks d ≡ true → is_marked (slice_set marks c true) d ≡ true
-stays_marked marks c d is = elim (cases_eq d c) [
-  | inl same ↦
-      let low : c < length marks = omega (arith, marked_below marks d is, same) in
-      ap (λ i. get_or (slice_set marks c true) i false) same ∙ get_or-set_same marks c true false low
-  | inr other ↦ get_or-set_other marks c d true false other ∙ is
-]
 
 pub others_stay : (marks : List Bool) (c d : ℕ) (mark : Bool) → (d ≡ c → ⊥) → is_marked (slice_set marks c mark) d ≡ is_marked marks d
 others_stay marks c d mark other = get_or-set_other marks c d mark false other

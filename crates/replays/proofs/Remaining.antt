@@ -1,6 +1,6 @@
 -- What remains to be done at a moment of a replay falls with each action.
-use Rattle.std.proofs.Common.{◌≡◌, ℕ, ◌+◌, ◌-◌, ◌<◌, ◌≤◌, inl, inr, Bool, true, false, cond, List, [], length, get_or, Contains}
-use Rattle.std.proofs.Common.{refl, sym, ap, subst, arith}
+use Rattle.std.proofs.Common.{◌≡◌, ℕ, ◌+◌, ◌-◌, ◌<◌, ◌≤◌, inl, inr, List, [], length, get_or, Contains}
+use Rattle.std.proofs.Common.{sym, ap, subst, arith}
 use Rattle.std.specs.Prelude.{◌==◌, if◌then◌else◌, slice_index}
 use Rattle.std.specs.List.{range_with_len}
 use Rattle.std.proofs.lemmas.Bool.{cases_lt, eqb-true}
@@ -21,6 +21,7 @@ use Rattle.epochs.specs.declared.action.Action.TheVariants.{End, Publish, Regist
 use Rattle.epochs.specs.Choice.{Registers, Runs, Skips, Withdraws}
 use Rattle.epochs.specs.Course.{Course, SomeOwes}
 use Rattle.epochs.proofs.Actions.{marked_below}
+use Rattle.epochs.proofs.Tallying.{some_share}
 use Rattle.replays.specs.Kept.{Holds}
 use Rattle.replays.specs.Moments.{DoesNext, Input, IsNext, IsPublished, Moment, joined_at, left_the_line, owed_at, owes, published_at, served_at, time_at}
 use Rattle.replays.specs.Replayed.{IsInput}
@@ -64,10 +65,6 @@ on_published x m next h few is =
     record { holds = holds_published x m next h is; less = subst (λ t. remaining_at x t < remaining_at x m) (sym is.next_is) made }
 
 -- ---- runs
-
-some_share : (b : Bool) (n : ℕ) → 0 < cond {A = ℕ} b n 0 → (b ≡ true) × (0 < n)
-some_share true n lt = (refl, lt)
-some_share false n lt = absurd (omega (arith, lt))
 
 pub owed_is : (x : Input) (m : Moment) (c : ℕ) → c < length x.table.ids → slice_index (owed_at x m) c ≡ owes x m c
 owed_is x m c lt = get_or-map-range_with_len (owes x m) 0 (length x.table.ids) c c 0 lt (omega arith)

@@ -22,7 +22,8 @@ use Rattle.replays.specs.declared.kept.Kept.{Kept}
 use Rattle.matching.specs.Matching.{IsRunLess, IsSettled, listed_in}
 use Rattle.slot_switch.proofs.RunSteps.{left_after_run}
 use Rattle.replays.specs.declared.progress.Progress.{Progress}
-use Rattle.replays.specs.Kept.{Holds, IsAt, IsTallied, TellsProgress}
+use Rattle.epochs.specs.Tallies.{IsTallied}
+use Rattle.replays.specs.Kept.{Holds, IsAt, TellsProgress}
 use Rattle.replays.specs.Moments.{DoesNext, Input, Moment, owed_at, served_at, time_at}
 use Rattle.replays.proofs.Holding.{longer, run_takes}
 use Rattle.replays.specs.Replayed.{IsInput}

@@ -1,14 +1,14 @@
 -- What is kept of a replay, and how it tells the moment.
-use Rattle.std.specs.Prelude.{◌≡◌, ℕ, ◌+◌, ◌<◌, ◌≤◌, ◌^◌, ◌==◌, ◌&&◌, not, if◌then◌else◌, Bool, true, false, List, All}
+use Rattle.std.specs.Prelude.{◌≡◌, ℕ, ◌+◌, ◌<◌, ◌≤◌, ◌^◌, ◌==◌, ◌&&◌, not, Bool, true, false, List, All}
 use Rattle.std.specs.Prelude.{Contains, length, slice_index, sum_by}
 use Rattle.std.specs.List.{range_with_len}
-use Rattle.coflow_units.specs.declared.fabric.Flow.{Flow}
 use Rattle.coflow_units.specs.declared.limits.TheConstants.{MAX_UNITS}
 use Rattle.coflow_units.specs.Completion.{completion}
-use Rattle.coflow_units.specs.Flows.{IsDistinct, coflow_of}
+use Rattle.coflow_units.specs.Flows.{IsDistinct}
 use Rattle.coflow_units.specs.Served.{left_after}
 use Rattle.epochs.specs.declared.action.Action.{Action}
 use Rattle.epochs.specs.Course.{Course, is_marked}
+use Rattle.epochs.specs.Tallies.{IsTallied}
 use Rattle.flow_table.specs.Table.{TableFacts}
 use Rattle.matching.specs.declared.tables.Tables.{Tables}
 use Rattle.matching.specs.Matching.{IsSettled, ports_of, room_of}
@@ -20,16 +20,6 @@ use Rattle.replays.specs.declared.questions.Questions.{Questions}
 use Rattle.rankers.specs.Meaning.{Meaning}
 use Rattle.replays.specs.Moments.{DoesNext, Input, IsMoment, Moment, is_here, time_at}
 use Rattle.replays.specs.Replayed.{IsInput}
-
--- the units that the flows of the coflow have left
-abbrev pub left_of : List Flow → List ℕ → ℕ → ℕ
-left_of flows left coflow =
-    sum_by (λ f. if coflow_of flows f == coflow then slice_index left f else 0) (range_with_len 0 (length flows))
-
--- there is a number for each flow, and each coflow owes what its flows have left
-pub record IsTallied (flows : List Flow) (left owed : List ℕ) : Type 0 where
-  pub each_flow : length left ≡ length flows
-  pub each_coflow : (c : ℕ) → c < length owed → slice_index owed c ≡ left_of flows left c
 
 -- there is room for as many flows and ports
 pub record HasSameRoom (old new : Tables) : Type 0 where

@@ -3,4 +3,5 @@ pub mod Moments
 pub mod Replayed
 pub mod Kept
 pub mod Publishing
-pub mod Best
+pub mod Reported
+pub mod Text

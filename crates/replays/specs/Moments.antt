@@ -1,5 +1,5 @@
--- The moments of a replay. Coflows join as they arrive, at each epoch a ranker orders those that are present, and in each
--- slot the line is served.
+-- The moments of a replay. Coflows join as they arrive, at each epoch a ranker orders all coflows, and those that are present
+-- stand in its order; in each slot the line is served.
 use Rattle.std.specs.Prelude.{◌≡◌, ℕ, ◌-◌, ◌==◌, ◌&&◌, ◌||◌, not, if◌then◌else◌, Bool, List, [], ◌∷◌, ◌++◌}
 use Rattle.std.specs.Prelude.{filter, length, map, replicate, sum_by, false}
 use Rattle.std.specs.List.{range_with_len}
@@ -76,7 +76,8 @@ is_news x m coflow =
 abbrev pub news : Input → Moment → List ℕ
 news x m = filter (is_news x m) (by_key (completion x.table.flows m.slots) (length x.table.ids))
 
--- the ranker as it is asked: before each question but the first it is told the news
+-- the ranker as it is asked: before each question but the first it is told of each coflow that has ended and of which it was
+-- not told, also of those that ended before the first question
 abbrev pub asked_at : Input → Moment → Meaning
 asked_at x m = if m.course.published == 0 then m.ranker
     else after_notes m.ranker (completion x.table.flows m.slots) (news x m)

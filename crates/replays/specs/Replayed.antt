@@ -56,8 +56,8 @@ IsReplayed x ranker (Cost total) =
     (slots : List (List ℕ)) × IsReplay x ranker slots × (total ≡ cost_of_slots x slots)
 IsReplayed x ranker (Unfit epoch place) = IsUnfitAt x ranker epoch place
 
--- the rows of rankers with the numbers from the index on, each from its own ranker alone
+-- the rows of rankers with the numbers from the index on, each with the name of its own ranker and from it alone
 abbrev pub AreRowsFrom : Input → ℕ → List Meaning → List ReplayRow → Type 0
 AreRowsFrom x index [] rows = rows ≡ []
 AreRowsFrom x index (m ∷ ms) rows = (result : Replayed) × (rest : List ReplayRow) × IsReplayed x m result ×
-    (rows ≡ record { index = index; result = result } ∷ rest) × AreRowsFrom x (index + 1) ms rest
+    (rows ≡ record { index = index; name = m.name; result = result } ∷ rest) × AreRowsFrom x (index + 1) ms rest

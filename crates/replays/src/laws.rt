@@ -1,19 +1,17 @@
 //! Laws of replays. Each says something of every table, weights and arrivals, and of every ranker.
-ghost use Rattle.std.specs.Prelude.{◌≡◌, ℕ, ◌≤◌, List, slice_index};
-ghost use Rattle.coflow_units.specs.Completion.{cost};
-ghost use Rattle.coflow_units.specs.Flows.{Instance, IsDistinct};
+ghost use Rattle.std.specs.Prelude.{◌≡◌, ◌+◌, ℕ, ◌≤◌, List, slice_index};
+ghost use Rattle.coflow_units.specs.declared.limits.TheConstants.{MAX_PUBLISHINGS};
 ghost use Rattle.flow_table.specs.Table.{instance_of};
 ghost use Rattle.rankers.specs.Meaning.{Meaning};
 ghost use Rattle.release_bound.specs.declared.place.ReleasePlace.{ReleasePlace};
-ghost use Rattle.release_bound.specs.Release.{IsReleased, released_total};
-ghost use Rattle.release_bound.specs.ReleaseOrder.{IsReleasedOrdering};
-ghost use Rattle.replays.specs.Best.{IsBestReleased, arrivals_cost};
+ghost use Rattle.release_bound.specs.Best.{IsBestReleased};
+ghost use Rattle.release_bound.specs.Release.{IsReleased};
 ghost use Rattle.replays.specs.Moments.{Input};
-ghost use Rattle.replays.specs.Replayed.{IsInput, IsReplay, cost_of_slots};
+ghost use Rattle.replays.specs.declared.rows.Replayed.{Replayed};
+ghost use Rattle.replays.specs.Replayed.{IsInput, IsReplay, IsReplayed, IsTooManyFor, cost_of_slots};
 
-use release_bound::laws::{
-    released_ordering_is_feasible, released_ordering_is_one, zero_is_trivial,
-};
+use epochs::laws::action_is_one;
+use release_bound::laws::best_is_bound;
 
 /// The schedule of a replay serves all units and serves nobody before its arrival.
 pub fn replays_are_released()
@@ -21,28 +19,28 @@ pub fn replays_are_released()
         IsReleased x.table.flows (slice_index x.arrivals) slots }
 {}
 
-/// The greatest total is at most the cost of every schedule that serves nobody before its arrival, so at most that of each replay. It is at least the total that an online run prints.
-pub fn best_is_bound()
-    ensures bound { (i : Instance) (arrival : ℕ → ℕ) (places : List ReleasePlace) (total : ℕ)
-        (slots : List (List ℕ)) → IsBestReleased i arrival places total → IsReleased i.flows arrival slots →
-        total ≤ cost i.flows i.weight i.coflows slots }
-    ensures replays { (x : Input) (ranker : Meaning) (slots : List (List ℕ)) (places : List ReleasePlace) (total : ℕ) →
+/// The greatest total of released certificates is at most the cost of each replay.
+pub fn totals_bound_replays()
+    ensures { (x : Input) (ranker : Meaning) (slots : List (List ℕ)) (places : List ReleasePlace) (total : ℕ) →
         IsInput x → IsReplay x ranker slots →
         IsBestReleased (instance_of x.table x.weights) (slice_index x.arrivals) places total →
         total ≤ cost_of_slots x slots }
-    ensures online { (i : Instance) (arrival : ℕ → ℕ) (places printed : List ReleasePlace) (total : ℕ) →
-        IsBestReleased i arrival places total → IsReleasedOrdering i arrival printed →
-        released_total i.flows arrival i.ports printed ≤ total }
 {
-    released_ordering_is_feasible();
-    released_ordering_is_one();
+    best_is_bound();
     replays_are_released();
 }
 
-/// What arrivals cost is at most the greatest total. So with it taken off both, the cost of a replay over that total tells how far from the best it can be.
-pub fn arrivals_are_below()
-    ensures { (i : Instance) (arrival : ℕ → ℕ) (places : List ReleasePlace) (total : ℕ) → IsDistinct i.coflows →
-        IsBestReleased i arrival places total → arrivals_cost i arrival ≤ total }
+/// The replay of a ranker comes to one thing at most, with one schedule, and where it comes to anything, it publishes no more
+/// orders than may be. Where it would, the number of the next one is 8193.
+pub fn replays_are_one()
+    ensures slots { (x : Input) (ranker : Meaning) (a b : List (List ℕ)) → IsInput x → IsReplay x ranker a →
+        IsReplay x ranker b → a ≡ b }
+    ensures one { (x : Input) (ranker : Meaning) (a b : Replayed) → IsInput x → IsReplayed x ranker a →
+        IsReplayed x ranker b → a ≡ b }
+    ensures too_many { (x : Input) (ranker : Meaning) (result : Replayed) (count : ℕ) → IsInput x →
+        IsReplayed x ranker result → IsTooManyFor x ranker count → ⊥ }
+    ensures count { (x : Input) (ranker : Meaning) (count : ℕ) → IsTooManyFor x ranker count →
+        count ≡ MAX_PUBLISHINGS + 1 }
 {
-    zero_is_trivial();
+    action_is_one();
 }

@@ -1,8 +1,8 @@
-//! Policies under arrivals: coflows join as they arrive, a ranker orders them at each epoch, and what its schedule costs stands beside the greatest total that is certified for every schedule.
+//! Policies under arrivals: coflows join as they arrive, a ranker is asked for an order at each epoch, and each row says what
+//! its schedule costs.
 #![tactic(auto)]
 
 mod acting;
-mod best;
 mod kept;
 pub mod laws;
 mod line;
@@ -11,8 +11,11 @@ mod progress;
 mod publishing;
 mod questions;
 mod replaying;
+mod reporting;
 mod rows;
+mod writing;
 
-pub use best::{Best, arrivals_cost, best_released};
 pub use replaying::replay;
+pub use reporting::replays_text;
 pub use rows::{ReplayFault, ReplayRow, Replayed, replay_all};
+pub use writing::{ReplayReport, write_replay};

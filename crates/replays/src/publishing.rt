@@ -11,8 +11,8 @@ use flow_table::Table;
 use rankers::{Ranker, first_unfit};
 use std::alloc::Global;
 
-/// Asks the ranker for an order of the coflows that are present, before each question but the first with the news. Where the answer is no order, it gives the first place, from 1, from which on it is none.
-/// The error is want of memory.
+/// Tells the ranker the news, before each question but the first, and asks it for an order of all coflows, with the loads that those
+/// present owe. Where the answer is no order, it gives the first place, from 1, from which on it is none. The error is want of memory.
 pub(crate) fn publish(
     alloc: Global,
     table: &Table,

@@ -17,8 +17,13 @@ use flow_table::Table;
 use rankers::Ranker;
 use std::alloc::Global;
 
-/// Serves the coflows of a table as they arrive, by the orders of a ranker: at each multiple of `every` slots the coflows that owe nothing leave, and the ranker is asked to order those that are present; who
-/// joins later stands behind them. In each slot the line is served greedily. There is a weight and an arrival, in slots, for each coflow. The ranker is dropped at the end.
+/// Serves the coflows of a table as they arrive, by the orders of a ranker: at each multiple of `every` slots the coflows that owe
+/// nothing leave, and the ranker is asked for an order of all coflows, with the loads that those present owe. Before each question but
+/// the first it is told which coflows ended. Those present are served in its order, and who joins later stands behind them. In each slot
+/// the line is served greedily.
+///
+/// There is a weight, at most 2^32, and an arrival, at most 2^32 slots, for each coflow, and an epoch has from 1 to 2^40 slots. The
+/// ranker is dropped at the end. The error is want of memory, or that more than 8192 orders would be published.
 pub fn replay(
     alloc: Global,
     table: &Table,

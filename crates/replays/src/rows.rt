@@ -1,20 +1,23 @@
 //! The rows of a bench of rankers.
 ghost use Rattle.std.specs.Prelude.{◌≡◌, ◌<◌, ◌≤◌, ◌^◌, ℕ, [], ◌∷◌, All, Contains, Err, IfOk, OnOk, drop, length, map};
 ghost use Rattle.rankers.specs.Meaning.{Meaning};
+ghost use Rattle.report_text.specs.Compared.{IsName};
 ghost use Rattle.replays.specs.declared.rows.ReplayFault.TheVariants.{TooMany};
+ghost use Rattle.replays.specs.declared.rows.ReplayRow.{ReplayRow};
 ghost use Rattle.replays.specs.Moments.{Input};
 ghost use Rattle.replays.specs.Replayed.{AreRowsFrom, IsInput, IsTooManyFor};
 
 use crate::replaying::replay;
-use coflow_units::NoMemory;
+use coflow_units::{Items, NoMemory};
 use flow_table::Table;
 use rankers::Ranker;
 use std::alloc::{AllocFailed, Global};
 
-/// One row: a ranker by its place on the bench, from 1, and what its replay comes to.
-#[derive(Clone, Copy, Debug, PartialEq, Eq)]
+/// One row: a ranker by its place on the bench, from 1, its name, and what its replay comes to.
+#[derive(Drop)]
 pub struct ReplayRow {
     pub index: u32,
+    pub name: Items<u8>,
     pub result: Replayed,
 }
 
@@ -57,9 +60,12 @@ impl<T: Drop> From<AllocFailed<T>> for ReplayFault {
     }
 }
 
-/// A row for each ranker of a bench, from its own replay alone. There is a weight and an arrival, in slots, for each coflow of the table, an epoch has `every` slots, and there are fewer than 2^32 rankers.
+/// A row for each ranker of a bench, from its own replay alone. There is a weight, at most 2^32, and an arrival, at most 2^32 slots,
+/// for each coflow of the table; an epoch has `every` slots, from 1 to 2^40; and there are fewer than 2^32 rankers.
 ///
-/// Each ranker in turn is taken off the bench, replayed and dropped, so on success the bench is empty. After an error the rankers that were not reached are still there, as they were and in their order.
+/// Each ranker in turn is taken off the bench, replayed and dropped, so on success the bench is empty. The error is want of memory, or
+/// that a replay would publish more than 8192 orders. Then the rankers that were not reached are still there, as they were and in
+/// their order.
 pub fn replay_all(
     alloc: Global,
     table: &Table,
@@ -74,6 +80,7 @@ pub fn replay_all(
     ensures rows { IfOk result (λ rows. AreRowsFrom
         record { table = table.now; weights = weights.now; arrivals = arrivals.now; every = every } 1
         (map (λ b. meaning b) bench.old.items) rows.items) }
+    ensures names { IfOk result (λ rows. All (λ (row : ReplayRow). IsName row.name) rows.items) }
     ensures empty { OnOk result (bench.new.items ≡ []) }
     ensures left { (reached : ℕ) × (bench.new.items ≡ drop reached bench.old.items) }
     ensures too_many { (count : ℕ) → result ≡ Err (TooMany count) →
@@ -85,8 +92,13 @@ pub fn replay_all(
     'rankers: while !bench.is_empty() {
         let ranker = take_first(bench);
         index += 1;
+        let name = name_of(alloc, &ranker)?;
         let result = replay(alloc, table, weights, arrivals, every, ranker)?;
-        rows.push(ReplayRow { index, result })?;
+        rows.push(ReplayRow {
+            index,
+            name,
+            result,
+        })?;
     }
     Ok(rows)
 }
@@ -97,4 +109,13 @@ fn take_first(bench: &mut Vec<Box<dyn Ranker>>) -> Box<dyn Ranker>
     ensures { bench.old.items ≡ result ∷ bench.new.items }
 {
     bench.remove(0)
+}
+
+/// The name of a ranker.
+fn name_of(alloc: Global, ranker: &Box<dyn Ranker>) -> Result<Items<u8>, NoMemory>
+    ensures name { IfOk result (λ name. name ≡ (meaning ranker.now).name) }
+    ensures letters { IfOk result IsName }
+{
+    let name = Vec::from_slice(alloc, ranker.name().as_bytes())?;
+    Ok(Items::from_vec(name))
 }

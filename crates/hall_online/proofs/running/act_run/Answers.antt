@@ -8,7 +8,7 @@ use Rattle.slot_runner.specs.Cuts.{HaveStopped}
 use Rattle.hall_online.specs.declared.answer.OnlineFault.{OnlineFault}
 use Rattle.hall_online.specs.declared.answer.OnlineFault.TheVariants.{WireFault}
 use Rattle.hall_online.specs.Serving.{IsOnlineBegun}
-use Rattle.online_runs.specs.Tallies.{IsTallied}
+use Rattle.epochs.specs.Tallies.{IsTallied}
 use Rattle.hall_online.proofs.RunSteps.{granted_flows, granted_rises, is_tallied, never_full, never_late, never_nothing, never_spent, owed_length, ran_enough, ran_fits}
 use Rattle.hall_online.proofs.RunSteps.{ran_more, ran_on, ran_some, ran_time, run_fell, sent_more, served_more, some, stops_there}
 use Rattle.hall_online.proofs.Besides.{stays_at}

@@ -3,7 +3,7 @@ use Rattle.std.specs.Prelude.{All, sum}
 use Rattle.std.proofs.lemmas.List.{length-map}
 use Rattle.std.proofs.lemmas.List.Sums.{sum-map}
 use Rattle.coflow_units.specs.declared.fabric.Flow.{Flow}
-use Rattle.online_runs.specs.Tallies.{IsTallied}
+use Rattle.epochs.specs.Tallies.{IsTallied}
 use Rattle.online_runs.proofs.progress.no_progress.Goals as goal
 
 pub units_of_coflows-requires-clause-len : goal.units_of_coflows-requires-clause-len

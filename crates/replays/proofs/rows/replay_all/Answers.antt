@@ -1,4 +1,8 @@
-use Rattle.std.proofs.Common.{◌≡◌, ◌+◌, [], Err, length, ap, sym, arith}
+use Rattle.std.proofs.Common.{◌≡◌, ◌+◌, [], Err, length, ap, sym, subst, arith}
+use Rattle.std.specs.Prelude.{All}
+use Rattle.std.proofs.lemmas.List.Elements.{All-push}
+use Rattle.report_text.specs.Compared.{IsName}
+use Rattle.replays.specs.declared.rows.ReplayRow.{ReplayRow}
 use Rattle.std.proofs.lemmas.Grind.{common_steps}
 use Rattle.rankers.proofs.Benches.{next_left}
 use Rattle.replays.specs.declared.rows.ReplayFault.TheVariants.{TooMany}
@@ -14,7 +18,10 @@ rankers-preserved g c = record {
   rows = bench_step (λ b. (goal.Ranker-dyn g (b.vtable, b.value)).meaning b.value)
       (record { table = c.args.table.now; weights = c.args.weights.now; arrivals = c.args.arrivals.now; every = c.args.every }) (c.rankers.index + 1)
       c.args.bench.now.items c.rankers.bench.items c.take_first-ranker.new.bench.items c.take_first-ranker.result c.rankers.rows.items c.push.new.self.items
-      c.in_ok-result.result c.take_first-ranker.ensures c.in_ok-result.ensures.replayed c.rankers.invariant.rows c.in_ok-push.ensures.items;
+      c.in_ok-name.name c.in_ok-result.result c.take_first-ranker.ensures c.in_ok-result.ensures.replayed c.rankers.invariant.rows c.in_ok-push.ensures.items
+      c.in_ok-name.ensures.name;
+  names = subst (All (λ (row : ReplayRow). IsName row.name)) (sym c.in_ok-push.ensures.items)
+      (All-push (λ (row : ReplayRow). IsName row.name) c.rankers.rows.items _ c.rankers.invariant.names c.in_ok-name.ensures.letters);
 }
 
 pub returns-clause-rows : goal.returns-clause-rows
@@ -34,6 +41,13 @@ returns-in_err-result-clause-left g c = (
       c.rankers.invariant.left c.take_first-ranker.ensures,
 )
 
+pub returns-in_err-name-clause-left : goal.returns-in_err-name-clause-left
+returns-in_err-name-clause-left g c = (
+  c.rankers.index + 1,
+  next_left c.args.bench.now.items c.rankers.bench.items c.take_first-ranker.new.bench.items c.rankers.index c.take_first-ranker.result
+      c.rankers.invariant.left c.take_first-ranker.ensures,
+)
+
 pub returns-in_err-push-clause-left : goal.returns-in_err-push-clause-left
 returns-in_err-push-clause-left g c = (
   c.rankers.index + 1,
@@ -43,7 +57,7 @@ returns-in_err-push-clause-left g c = (
 
 pub returns-in_err-result-clause-too_many : goal.returns-in_err-result-clause-too_many
 returns-in_err-result-clause-too_many g c = λ count e.
-    let came : TooMany count ≡ c.in_err-result.field-0.0 = carried _ _ (TooMany count) c.from_residual.ensures.1 e in (
+    let came : TooMany count ≡ c.in_err-result.field-0.0 = carried _ _ (TooMany count) c.from_residual-in_err-result.ensures.1 e in (
       _,
       reached_on_bench (λ b. (goal.Ranker-dyn g (b.vtable, b.value)).meaning b.value) c.args.bench.now.items c.rankers.bench.items
           c.take_first-ranker.new.bench.items c.rankers.index

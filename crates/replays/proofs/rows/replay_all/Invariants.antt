@@ -1,6 +1,7 @@
 -- the rows so far are those of the rankers that were reached, and the others are on the bench
 use Rattle.std.proofs.Common.{◌≡◌, ◌+◌, ◌<◌, List, ◌++◌, drop, length}
-use Rattle.std.specs.Prelude.{map}
+use Rattle.std.specs.Prelude.{All, map}
+use Rattle.report_text.specs.Compared.{IsName}
 use Rattle.replays.specs.declared.rows.ReplayRow.{ReplayRow}
 use Rattle.replays.specs.Replayed.{AreRowsFrom}
 use Rattle.replays.proofs.rows.replay_all.Given as goal
@@ -14,6 +15,7 @@ invariant-rankers g l = record {
       (map (λ b. (goal.Ranker-dyn g (b.vtable, b.value)).meaning b.value) l.bench.items) tail →
       AreRowsFrom (record { table = l.table; weights = l.weights; arrivals = l.arrivals; every = l.every }) 1
       (map (λ b. (goal.Ranker-dyn g (b.vtable, b.value)).meaning b.value) l.fn.bench.items) (l.rows.items ++ tail);
+  names : All (λ (row : ReplayRow). IsName row.name) l.rows.items;
 }
 
 abbrev pub decreases-rankers : goal.decreases-rankers

@@ -9,6 +9,7 @@ use Rattle.flow_table.specs.Table.{TableFacts}
 use Rattle.port_load.specs.Bottleneck.{IsBottleneck}
 use Rattle.rankers.specs.FactsTold.{FactsTold, IsBssiOrder, with_left}
 use Rattle.rankers.proofs.AllMarked.{count_marked}
+use Rattle.rankers.proofs.LoadCells.{cells_count, same_bottleneck, same_has_loads}
 use Rattle.rankers.proofs.LeftLoads.{HasLoadsOfPresent, few_units_left, left_of_present, loads_of_present, order_of_present}
 use Rattle.rankers.proofs.Permutations.{bssi_permutation}
 use Rattle.rankers.proofs.facts.Facts.refill.Goals as goal
@@ -60,8 +61,11 @@ invariant_of-self c =
       arrivals_len = c.self.invariant.arrivals_len;
       arrival = c.self.invariant.arrival;
       coflows = in_second ∙ sym coflows;
+      cells_len = cells_count loads;
       bottlenecks_len = ap (λ (l : List ℕ). length l) greatest ∙ c.fill_bottlenecks.ensures.length ∙ in_second ∙ sym coflows;
-      bottleneck = λ k lt. subst (λ l. IsBottleneck loads k (get_or l k 0)) (sym greatest) (c.fill_bottlenecks.ensures.greatest k (omega (arith, lt, coflows, in_second)));
+      bottleneck = λ k lt.
+          let low : k < loads.coflows = omega (arith, lt, coflows, in_second) in
+          same_bottleneck loads k _ low (subst (λ l. IsBottleneck loads k (get_or l k 0)) (sym greatest) (c.fill_bottlenecks.ensures.greatest k low));
       units = subst (All (λ b. b ≤ 1099511627776)) (sym greatest)
           (few_units_left loads c.fill_bottlenecks.new.bottlenecks left c.fill_bottlenecks.ensures.length c.fill_bottlenecks.ensures.greatest
           (λ port low. c.fill_by_coflow-2.ensures.totals_within port (omega (arith, low, c.fill_by_coflow-2.ensures.size.ports))) c.requires.units);
@@ -97,7 +101,7 @@ returns-clause-facts c = λ units units_are.
       weights_are = ap (λ (f : FactsTold). f.weights) c.self.view_is;
       arrivals_are = ap (λ (f : FactsTold). f.arrivals) c.self.view_is ∙ c.requires.arrivals;
       ports_are = c.fill_by_coflow-2.ensures.size.ports ∙ c.run.ensures.size.ports ∙ wide;
-      loads_are = loads_of_present c.run.new.loads loads t.flows left present units second units_are;
+      loads_are = same_has_loads (with_left t units).flows loads (loads_of_present c.run.new.loads loads t.flows left present units second units_are);
       order_is = subst (IsBssiOrder (with_left t units) c.args.self.now.weights) (sym ordered)
           (subst (λ w. IsBssiOrder (with_left t units) w c.copy_coflows.new.order) (ap (λ (f : FactsTold). f.weights) c.self.view_is) bssi);
     }

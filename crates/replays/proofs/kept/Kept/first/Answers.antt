@@ -2,7 +2,8 @@ use Rattle.std.proofs.Common.{◌≡◌, false, length, replicate, sym, ap, subs
 use Rattle.std.specs.Prelude.{map}
 use Rattle.coflow_units.specs.declared.fabric.Flow.{Flow}
 use Rattle.flow_table.specs.Table.{TableFacts}
-use Rattle.replays.specs.Kept.{FitsTable, IsTallied}
+use Rattle.epochs.specs.Tallies.{IsTallied}
+use Rattle.replays.specs.Kept.{FitsTable}
 use Rattle.replays.proofs.ActionSteps.{first_tells}
 use Rattle.replays.proofs.kept.Kept.first.Goals as goal
 

@@ -3,7 +3,7 @@ use Rattle.std.specs.Prelude.{All, if◌then◌else◌, slice_index}
 use Rattle.coflow_units.specs.declared.fabric.Flow.{Flow}
 use Rattle.coflow_units.specs.Completion.{holds_coflow}
 use Rattle.flow_table.specs.Table.{TableFacts}
-use Rattle.replays.specs.Kept.{IsTallied}
+use Rattle.epochs.specs.Tallies.{IsTallied}
 use Rattle.replays.specs.Moments.{served_at}
 use Rattle.replays.proofs.ActionSteps.{line_is_known, ran_line, ran_tells}
 use Rattle.replays.proofs.Running.{IsRunOf, run_kept, settled_kept, settled_moment, served_progress}

@@ -1,9 +1,0 @@
-use Rattle.std.proofs.Common.{◌≤◌, length}
-use Rattle.online_runs.proofs.Tallying.{TalliedTo}
-use Rattle.online_runs.proofs.progress.units_of_coflows.Given as goal
-
-abbrev pub invariant-flows : goal.invariant-flows
-invariant-flows l = record {
-  so_far : TalliedTo l.flows l.left l.owed.items l.coflows l.number;
-  within : l.number ≤ length l.flows;
-}
