@@ -2,7 +2,7 @@
 use Rattle.std.proofs.Common.{◌≡◌, ◌≢◌, ℕ, ◌^◌, ◌≤◌, List, Option, Some, None, length, refl, sym, subst, ◌∙◌}
 use Rattle.std.specs.Prelude.{IfSome}
 use Rattle.command_words.specs.Jobs.{Job, order_name, report_name, script_name, trace_name}
-use Rattle.command_words.specs.Jobs.Job.{audit_job, check_job, classes_job, compare_job, live_job, make_job, online_job, plan_job, serve_job}
+use Rattle.command_words.specs.Jobs.Job.{audit_job, check_job, classes_job, compare_job, live_job, make_job, online_job, plan_job, replay_job, serve_job}
 use Rattle.command_words.specs.Words.{Said}
 use Rattle.coflow_units.specs.declared.limits.TheConstants.{MAX_REPORT}
 use Rattle.coflow_units.specs.declared.quantity.Quantity.{Quantity}
@@ -113,6 +113,7 @@ report_bytes (audit_job trace journal) none = refl
 report_bytes (online_job trace) none = refl
 report_bytes (live_job trace script) none = refl
 report_bytes (serve_job trace order) none = let clash : Some order ≡ None = none in cc
+report_bytes (replay_job trace) none = refl
 
 -- the other file of a job, which is longer than those that are read
 pub long_other : (old mid : Option Told) (said : Said) (name : List ℕ) (which : Quantity) (count : ℕ) → report_name said.job ≡ Some name → KeepsFiles old mid →

@@ -8,4 +8,6 @@ pub mod MadePlan
 pub mod OnlineFacts
 pub mod OrderedFacts
 pub mod PlanFacts
+pub mod PublishingFacts
+pub mod ReplayFacts
 pub mod WireFacts

@@ -1,11 +1,8 @@
 -- What holds of an online run whose text was written, and of one that has none.
-use Rattle.std.proofs.Common.{◌≡◌, ◌∙◌, ℕ, inl, inr, List, refl, subst, sym}
+use Rattle.std.proofs.Common.{◌≡◌, ℕ, inl, inr, List, refl, subst, sym}
 use Rattle.std.specs.Prelude.{◌⊎◌, IfSome, None, Option, Some}
-use Rattle.command_words.specs.Jobs.{Job, trace_name}
-use Rattle.command_words.specs.Jobs.Job.{audit_job, check_job, classes_job, compare_job, live_job, make_job, online_job, plan_job, serve_job}
-use Rattle.command_words.specs.Line.{Text}
-use Rattle.command_words.specs.Words.{IsWords, Said}
-use Rattle.command_words.proofs.OneMeaning.{words_one}
+use Rattle.command_words.specs.Jobs.{trace_name}
+use Rattle.command_words.specs.Words.{Said}
 use Rattle.flow_table.specs.Table.{TableFacts}
 use Rattle.flow_table.proofs.TablesOne.{tables_one}
 use Rattle.hall_online.specs.declared.answer.OnlineFault.{OnlineFault}
@@ -21,7 +18,7 @@ use Rattle.command_files.specs.Ends.{IsReadFault}
 use Rattle.command_files.specs.Inputs.{Gives, IsInput, bytes_if}
 use Rattle.command_files.specs.WireCauses.{IsWireCause}
 use Rattle.command_files.specs.Written.{Appends}
-use Rattle.command_jobs.specs.Online.{FilesPublishMore, IsEpochsCause, IsStatusOfOnline, OnlineOf, PublishesFew, PublishesOver, WritesOnline}
+use Rattle.command_jobs.specs.Online.{FilesPublishMore, IsEpochsCause, IsStatusOfOnline, OnlineOf, WritesOnline}
 use Rattle.command_jobs.specs.Serving.{MayHaveSent}
 
 pub writes_online : (S : TableFacts → List (List ℕ) → Type 0) (told : Option Told) (said : Said) (old new : Option (List ℕ)) (text : List ℕ) → OnlineOf S told said text →
@@ -54,11 +51,12 @@ online_cause online_fault.NoMemory s Q P E is none wire many = subst (λ (x : St
 
 module _ (told : Option Told) (said : Said) (table : TableFacts) (weights : List ℕ) (input : IsInput told (trace_name said.job) said.weights said.unit table weights) where
   -- where the table's run does not publish too many orders, that of the files does not
-  pub publishes_few : (trace : Text) → ((count : ℕ) → PublishesMore table weights said.slot_ms said.epoch count → ⊥) → IfSome told (PublishesFew (online_job trace) said)
-  publishes_few trace few = by told input.gives
+  pub publishes_few : ((count : ℕ) → PublishesMore table weights said.slot_ms said.epoch count → ⊥) →
+      IfSome told (λ t. (count : ℕ) → FilesPublishMore said count t → ⊥)
+  publishes_few few = by told input.gives
     where
       by : (t : Option Told) → IfSome t (λ s. Gives (bytes_of s (trace_name said.job)) (bytes_if s said.weights) said.unit table weights) →
-          IfSome t (PublishesFew (online_job trace) said)
+          IfSome t (λ t. (count : ℕ) → FilesPublishMore said count t → ⊥)
       by None gives = tt
       by (Some t) gives = λ count over.
           let file = bytes_if t said.weights in
@@ -82,28 +80,3 @@ module _ (told : Option Told) (said : Said) (table : TableFacts) (weights : List
         fits = input.table_fits;
         more = more;
       }
-
--- what holds for the words holds for all that they say
-pub few_for : (words : List Text) (by said : Said) (told : Option Told) → IsWords words by → IsWords words said → IfSome told (PublishesFew by.job by) →
-    IfSome told (PublishesFew said.job said)
-few_for words by said told reads is few = subst (λ (x : Said). IfSome told (PublishesFew x.job x)) (words_one words by said reads is) few
-
--- ---- only an online run publishes too many orders
-
-module _ (said : Said) (t : Told) where
-  pub over_is : (k : Job) (count : ℕ) → PublishesOver k said count t → (trace : Text) × (k ≡ online_job trace) × FilesPublishMore said count t
-  over_is (online_job trace) count over = (trace, refl, over)
-  over_is (plan_job trace) count over = absurd over
-  over_is (check_job trace report) count over = absurd over
-  over_is (make_job seed) count over = absurd over
-  over_is (compare_job trace) count over = absurd over
-  over_is (classes_job trace) count over = absurd over
-  over_is (audit_job trace journal) count over = absurd over
-  over_is (live_job trace script) count over = absurd over
-  over_is (serve_job trace order) count over = absurd over
-
-  pub over_one : (k : Job) (m n : ℕ) → PublishesOver k said m t → PublishesOver k said n t → m ≡ n
-  over_one k m n x y =
-      let (trace, same, more) = over_is k m x in
-      let (other, alike, beyond) = over_is k n y in
-      more.more.count_is ∙ sym beyond.more.count_is

@@ -7,4 +7,6 @@ pub mod Make
 pub mod Online
 pub mod Ordered
 pub mod Plan
+pub mod Publishing
+pub mod Replay
 pub mod Serving

@@ -1,9 +1,7 @@
 -- What `online` reads and writes.
-use Rattle.std.specs.Prelude.{◌≡◌, ℕ, ◌⊎◌, List, Option}
-use Rattle.coflow_units.specs.declared.quantity.Quantity.{Quantity}
+use Rattle.std.specs.Prelude.{◌≡◌, ℕ, List, Option}
 use Rattle.coflow_units.specs.declared.quantity.Quantity.TheVariants.{Epochs}
-use Rattle.command_words.specs.Jobs.{Job, trace_name}
-use Rattle.command_words.specs.Jobs.Job.{online_job}
+use Rattle.command_words.specs.Jobs.{trace_name}
 use Rattle.command_words.specs.Words.{Said}
 use Rattle.flow_table.specs.Table.{IsTable, TableFacts, instance_of}
 use Rattle.hall_online.specs.declared.answer.OnlineFault.{OnlineFault}
@@ -14,7 +12,7 @@ use Rattle.schedule_model.specs.RunList.{slots_in}
 use Rattle.hall_online.specs.Told.{PublishesMore, TellsOnline}
 use Rattle.command_files.specs.declared.status.Status.{Status}
 use Rattle.command_files.specs.declared.status.Status.TheVariants.{Limit, NoMemory, WireFault}
-use Rattle.command_files.specs.Causes.{FilesGiveTable, FilesLimit}
+use Rattle.command_files.specs.Causes.{FilesGiveTable}
 use Rattle.command_files.specs.Inputs.{IsInput}
 use Rattle.command_files.specs.Written.{Appends}
 use Rattle.command_files.specs.Arrivals.{arrival_of}
@@ -48,20 +46,6 @@ pub record FilesPublishMore (said : Said) (count : ℕ) (t : Told) : Type 0 wher
   pub given : FilesGiveTable said t
   pub fits : IsTable given.table
   pub more : PublishesMore given.table given.list said.slot_ms said.epoch count
-
--- the job is an online run, and it would publish more orders than may be published
-abbrev pub PublishesOver : Job → Said → ℕ → Told → Type 0
-PublishesOver (online_job trace) said count t = FilesPublishMore said count t
-PublishesOver job said count t = ⊥
-
--- the job does not do so
-abbrev pub PublishesFew : Job → Said → Told → Type 0
-PublishesFew job said t = (count : ℕ) → PublishesOver job said count t → ⊥
-
--- a quantity of the files is outside its range, or an online run would publish more orders than may be published
-abbrev pub CommandLimit : Said → Quantity → ℕ → Told → Type 0
-CommandLimit said which count t =
-    FilesLimit said which count t ⊎ ((which ≡ Epochs) × PublishesOver said.job said count t)
 
 -- the cause of a limit of epochs: this holds of the number of the next publishing
 abbrev pub IsEpochsCause : (ℕ → Type 0) → Status → Type 0

@@ -11,6 +11,7 @@ mod making;
 mod onlining;
 mod ordering;
 mod planning;
+mod replaying;
 mod serving;
 
 pub use auditing::audit_journal;
@@ -22,3 +23,4 @@ pub use making::make_workload;
 pub use onlining::run_online;
 pub use ordering::serve_order;
 pub use planning::plan_trace;
+pub use replaying::replay_rankers;

@@ -13,7 +13,7 @@ ghost use Rattle.command_files.specs.Turns.{FilesInTurn};
 ghost use Rattle.command_files.specs.WireCauses.{IsWireCause};
 ghost use Rattle.command_files.specs.JobCauses.{HasFilesCause};
 ghost use Rattle.command_files.specs.GoodFiles.{HasGoodFiles};
-ghost use Rattle.command_jobs.specs.Online.{FilesPublishMore, IsEpochsCause, IsStatusOfOnline, OnlineOf, PublishesFew};
+ghost use Rattle.command_jobs.specs.Online.{FilesPublishMore, IsEpochsCause, IsStatusOfOnline, OnlineOf};
 ghost use Rattle.command_jobs.specs.Serving.{MayHaveSent, Sends, Serves, Stops};
 
 use coflow_units::Quantity;
@@ -39,8 +39,8 @@ pub fn run_online<'a, R: Threads + Wait + Sync, H: Shelf, W: Wire + Send>(
     ensures outcome { IfOk result (λ o. (o.status ≡ Status.Ok) ×
         OnlineOf (SendsAll W.runs wires.old.items wires.new.items) (H.told shelf.old)
         (said_with (online_job trace.now) options.entry) o.text) }
-    ensures few { OnOk result (IfSome (H.told shelf.old) (PublishesFew (online_job trace.now)
-        (said_with (online_job trace.now) options.entry))) }
+    ensures few { OnOk result (IfSome (H.told shelf.old) (λ t. (count : ℕ) →
+        FilesPublishMore (said_with (online_job trace.now) options.entry) count t → ⊥)) }
     ensures sent { (wires.new.items ≡ wires.old.items) ⊎
         Serves (Sends W.runs wires.old.items wires.new.items) (online_job trace.now) (H.told shelf.old)
         (said_with (online_job trace.now) options.entry) }

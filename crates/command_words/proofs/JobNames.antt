@@ -4,7 +4,7 @@ use Rattle.std.specs.Prelude.{if◌then◌else◌, option_map}
 use Rattle.std.specs.Str.{bytes_eq}
 use Rattle.std.proofs.lemmas.Slice.Eq.{bytes_eq-Decides}
 use Rattle.command_words.specs.Jobs.{Job, alone, audit_job, both_in, check_job, classes_job, compare_job, file_in, file_job, file_of, files_job, job_of}
-use Rattle.command_words.specs.Jobs.{live_job, make_job, online_job, plan_job, seed_of, serve_job}
+use Rattle.command_words.specs.Jobs.{live_job, make_job, online_job, plan_job, replay_job, seed_of, serve_job}
 use Rattle.command_words.specs.Line.{Text}
 
 -- The table by what FIRST and SECOND give.
@@ -18,7 +18,8 @@ table file seed second other name = if bytes_eq name (codes "plan") then option_
     else (if bytes_eq name (codes "online") then option_map online_job (alone file second)
     else (if bytes_eq name (codes "live") then both_in live_job file other
     else (if bytes_eq name (codes "serve") then both_in serve_job file other
-    else None))))))))
+    else (if bytes_eq name (codes "replay") then option_map replay_job (alone file second)
+    else None)))))))))
 
 -- What holds of each command's name and of a name that is none of these.
 record OfEach (P : Text → Type 0) : Type 0 where
@@ -31,9 +32,10 @@ record OfEach (P : Text → Type 0) : Type 0 where
   online : P (codes "online")
   live : P (codes "live")
   serve : P (codes "serve")
+  replay : P (codes "replay")
   other : (name : Text) → bytes_eq name (codes "plan") ≡ false → bytes_eq name (codes "check") ≡ false → bytes_eq name (codes "make") ≡ false →
       bytes_eq name (codes "compare") ≡ false → bytes_eq name (codes "classes") ≡ false → bytes_eq name (codes "audit") ≡ false → bytes_eq name (codes "online") ≡ false →
-      bytes_eq name (codes "live") ≡ false → bytes_eq name (codes "serve") ≡ false → P name
+      bytes_eq name (codes "live") ≡ false → bytes_eq name (codes "serve") ≡ false → bytes_eq name (codes "replay") ≡ false → P name
 
 same_name : (P : Text → Type 0) (name o : Text) → P o → bytes_eq name o ≡ true → P name
 same_name P name o h e = subst P (sym ((bytes_eq-Decides name o).0 e)) h
@@ -41,20 +43,22 @@ same_name P name o h e = subst P (sym ((bytes_eq-Decides name o).0 e)) h
 of_name : (P : Text → Type 0) → OfEach P → (name : Text) → P name
 of_name P h n = by (bytes_eq n (codes "plan")) (bytes_eq n (codes "check")) (bytes_eq n (codes "make")) (bytes_eq n (codes "compare")) (bytes_eq n (codes "classes"))
     (bytes_eq n (codes "audit")) (bytes_eq n (codes "online")) (bytes_eq n (codes "live"))
-    (bytes_eq n (codes "serve")) refl refl refl refl refl refl refl refl refl
+    (bytes_eq n (codes "serve")) (bytes_eq n (codes "replay")) refl refl refl refl refl refl refl refl refl refl
   where
-    by : (a b c d e f g i j : Bool) → bytes_eq n (codes "plan") ≡ a → bytes_eq n (codes "check") ≡ b → bytes_eq n (codes "make") ≡ c → bytes_eq n (codes "compare") ≡ d →
-        bytes_eq n (codes "classes") ≡ e → bytes_eq n (codes "audit") ≡ f → bytes_eq n (codes "online") ≡ g → bytes_eq n (codes "live") ≡ i → bytes_eq n (codes "serve") ≡ j → P n
-    by true b c d e f g i j p q r s t u v w x = same_name P n (codes "plan") h.plan p
-    by false true c d e f g i j p q r s t u v w x = same_name P n (codes "check") h.check q
-    by false false true d e f g i j p q r s t u v w x = same_name P n (codes "make") h.make r
-    by false false false true e f g i j p q r s t u v w x = same_name P n (codes "compare") h.compare s
-    by false false false false true f g i j p q r s t u v w x = same_name P n (codes "classes") h.classes t
-    by false false false false false true g i j p q r s t u v w x = same_name P n (codes "audit") h.audit u
-    by false false false false false false true i j p q r s t u v w x = same_name P n (codes "online") h.online v
-    by false false false false false false false true j p q r s t u v w x = same_name P n (codes "live") h.live w
-    by false false false false false false false false true p q r s t u v w x = same_name P n (codes "serve") h.serve x
-    by false false false false false false false false false p q r s t u v w x = h.other n p q r s t u v w x
+    by : (a b c d e f g i j k : Bool) → bytes_eq n (codes "plan") ≡ a → bytes_eq n (codes "check") ≡ b → bytes_eq n (codes "make") ≡ c → bytes_eq n (codes "compare") ≡ d →
+        bytes_eq n (codes "classes") ≡ e → bytes_eq n (codes "audit") ≡ f → bytes_eq n (codes "online") ≡ g → bytes_eq n (codes "live") ≡ i → bytes_eq n (codes "serve") ≡ j →
+        bytes_eq n (codes "replay") ≡ k → P n
+    by true b c d e f g i j k p q r s t u v w x y = same_name P n (codes "plan") h.plan p
+    by false true c d e f g i j k p q r s t u v w x y = same_name P n (codes "check") h.check q
+    by false false true d e f g i j k p q r s t u v w x y = same_name P n (codes "make") h.make r
+    by false false false true e f g i j k p q r s t u v w x y = same_name P n (codes "compare") h.compare s
+    by false false false false true f g i j k p q r s t u v w x y = same_name P n (codes "classes") h.classes t
+    by false false false false false true g i j k p q r s t u v w x y = same_name P n (codes "audit") h.audit u
+    by false false false false false false true i j k p q r s t u v w x y = same_name P n (codes "online") h.online v
+    by false false false false false false false true j k p q r s t u v w x y = same_name P n (codes "live") h.live w
+    by false false false false false false false false true k p q r s t u v w x y = same_name P n (codes "serve") h.serve x
+    by false false false false false false false false false true p q r s t u v w x y = same_name P n (codes "replay") h.replay y
+    by false false false false false false false false false false p q r s t u v w x y = h.other n p q r s t u v w x y
 
 -- The name is not `make`.
 abbrev pub IsOther : Text → Type 0
@@ -75,7 +79,8 @@ no_first seed None other = of_name (λ n. IsOther n → table None seed None oth
   online = λ m. refl;
   live = λ m. refl;
   serve = λ m. refl;
-  other = λ name p q r s t u v w x m. rw (p, q, r, s, t, u, v, w, x) refl;
+  replay = λ m. refl;
+  other = λ name p q r s t u v w x y m. rw (p, q, r, s, t, u, v, w, x, y) refl;
 })
 no_first seed (Some x) other = of_name (λ n. IsOther n → table None seed (Some x) other n ≡ None) (record {
   plan = λ m. refl;
@@ -87,7 +92,8 @@ no_first seed (Some x) other = of_name (λ n. IsOther n → table None seed (Som
   online = λ m. refl;
   live = λ m. refl;
   serve = λ m. refl;
-  other = λ name p q r s t u v w x m. rw (p, q, r, s, t, u, v, w, x) refl;
+  replay = λ m. refl;
+  other = λ name p q r s t u v w x y m. rw (p, q, r, s, t, u, v, w, x, y) refl;
 })
 
 -- FIRST is not the name of a file.
@@ -105,7 +111,8 @@ one seed trace = of_name (λ n. IsOther n → table (Some trace) seed None None 
   online = λ m. refl;
   live = λ m. refl;
   serve = λ m. refl;
-  other = λ name p q r s t u v w x m. rw (p, q, r, s, t, u, v, w, x) refl;
+  replay = λ m. refl;
+  other = λ name p q r s t u v w x y m. rw (p, q, r, s, t, u, v, w, x, y) refl;
 })
 
 pub one_file : (name first trace : Text) → IsOther name → file_of first ≡ Some trace → job_of name first None ≡ file_job name trace
@@ -122,7 +129,8 @@ no_second seed trace second = of_name (λ n. table (Some trace) seed (Some secon
   online = refl;
   live = refl;
   serve = refl;
-  other = λ name p q r s t u v w x. rw (p, q, r, s, t, u, v, w, x) refl;
+  replay = refl;
+  other = λ name p q r s t u v w x y. rw (p, q, r, s, t, u, v, w, x, y) refl;
 })
 
 -- SECOND is not the name of a file.
@@ -140,7 +148,8 @@ two seed trace second other = of_name (λ n. table (Some trace) seed (Some secon
   online = refl;
   live = refl;
   serve = refl;
-  other = λ name p q r s t u v w x. rw (p, q, r, s, t, u, v, w, x) refl;
+  replay = refl;
+  other = λ name p q r s t u v w x y. rw (p, q, r, s, t, u, v, w, x, y) refl;
 })
 
 pub two_files : (name first trace second other : Text) → file_of first ≡ Some trace → file_of second ≡ Some other → job_of name first (Some second) ≡ files_job name trace other

@@ -5,7 +5,7 @@ use Rattle.std.specs.Str.{bytes_eq}
 use Rattle.text_fields.specs.Numbers.{is_number, number}
 use Rattle.command_words.specs.Line.{Text}
 use Rattle.command_words.specs.declared.job.Job.{Job as JobWords}
-use Rattle.command_words.specs.declared.job.Job.TheVariants.{Audit, Check, Classes, Compare, Live, Make, Online, Plan, Serve}
+use Rattle.command_words.specs.declared.job.Job.TheVariants.{Audit, Check, Classes, Compare, Live, Make, Online, Plan, Replay, Serve}
 
 -- What the program is asked to do: a command, with the names of files or the number behind it.
 pub data Job : Type 0 where
@@ -27,6 +27,8 @@ pub data Job : Type 0 where
   live_job : Text → Text → Job
   -- the names of a trace and of an order
   serve_job : Text → Text → Job
+  -- the name of a trace
+  replay_job : Text → Job
 
 -- the job of words that were read
 abbrev pub job_by : JobWords → Job
@@ -39,6 +41,7 @@ job_by (Audit trace journal) = audit_job trace.now journal.now
 job_by (Online trace) = online_job trace.now
 job_by (Live trace script) = live_job trace.now script.now
 job_by (Serve trace order) = serve_job trace.now order.now
+job_by (Replay trace) = replay_job trace.now
 
 -- The name of a file is not empty and is not `-`.
 abbrev pub is_file_name : Text → Bool
@@ -82,7 +85,8 @@ job_of name first second = if bytes_eq name (codes "plan") then option_map plan_
     else (if bytes_eq name (codes "online") then option_map online_job (alone (file_of first) second)
     else (if bytes_eq name (codes "live") then both_in live_job (file_of first) (file_in second)
     else (if bytes_eq name (codes "serve") then both_in serve_job (file_of first) (file_in second)
-    else None))))))))
+    else (if bytes_eq name (codes "replay") then option_map replay_job (alone (file_of first) second)
+    else None)))))))))
 
 -- The job of a command that takes one file, and none where the name is no such command's.
 abbrev pub file_job : Text → Text → Option Job
@@ -90,7 +94,8 @@ file_job name trace = if bytes_eq name (codes "plan") then Some (plan_job trace)
     else (if bytes_eq name (codes "compare") then Some (compare_job trace)
     else (if bytes_eq name (codes "classes") then Some (classes_job trace)
     else (if bytes_eq name (codes "online") then Some (online_job trace)
-    else None)))
+    else (if bytes_eq name (codes "replay") then Some (replay_job trace)
+    else None))))
 
 -- The job of a command that takes two files.
 abbrev pub files_job : Text → Text → Text → Option Job
@@ -116,6 +121,7 @@ trace_name (audit_job trace journal) = trace
 trace_name (online_job trace) = trace
 trace_name (live_job trace script) = trace
 trace_name (serve_job trace order) = trace
+trace_name (replay_job trace) = trace
 
 -- the name of the report, the printed journal or the order that a job reads, if it reads one
 abbrev pub report_name : Job → Option Text
@@ -128,6 +134,7 @@ report_name (audit_job trace journal) = Some journal
 report_name (online_job trace) = None
 report_name (live_job trace script) = None
 report_name (serve_job trace order) = Some order
+report_name (replay_job trace) = None
 
 -- the name of the script that a job reads, if it reads one
 abbrev pub script_name : Job → Option Text
@@ -140,6 +147,7 @@ script_name (audit_job trace journal) = None
 script_name (online_job trace) = None
 script_name (live_job trace script) = Some script
 script_name (serve_job trace order) = None
+script_name (replay_job trace) = None
 
 -- the name of the order that a job reads, if it reads one
 abbrev pub order_name : Job → Option Text

@@ -25,6 +25,8 @@ pub enum Job<'a> {
     Live { trace: &'a str, script: &'a str },
     /// `serve TRACE ORDER` serves the coflows of a trace in a given order.
     Serve { trace: &'a str, order: &'a str },
+    /// `replay TRACE` serves a trace as its coflows arrive, by each ranker of a bench.
+    Replay { trace: &'a str },
 }
 
 /// The job of the command of this name and the words behind it. `None` where there is no such command, or it does not take them.
@@ -51,6 +53,7 @@ fn job_of_file<'a>(name: &str, trace: &'a str) -> Option<Job<'a>>
         "compare" => Some(Job::Compare { trace }),
         "classes" => Some(Job::Classes { trace }),
         "online" => Some(Job::Online { trace }),
+        "replay" => Some(Job::Replay { trace }),
         _ => None,
     }
 }

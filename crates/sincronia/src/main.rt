@@ -6,9 +6,10 @@ ghost use Rattle.coflow_units.specs.declared.limits.TheConstants.{MAX_CLIENTS, M
 
 use coflow_units::{MAX_CLIENTS, MAX_COFLOWS, MAX_PORTS, NoMemory};
 use command_files::Status;
+use command_words::{Job, WordsFault, read_words};
 use live_rounds::OpenGate;
 use outside::{CountWire, DiskShelf, Shelf, Sink, StdSink};
-use rankers::{Attained, Bssi0, Fifo, Ranker, Sebf};
+use rankers::{Attained, Bssi0, Fifo, Ranker, Sebf, Wsebf};
 use sincronia_cli::sincronia;
 use std::alloc::Global;
 use std::env;
@@ -60,8 +61,8 @@ fn run<R: Threads + Wait + Sync, H: Shelf, K: Sink>(
     }
 }
 
-/// Does what the words ask for, with the rankers of `compare` on the bench. The error is want of memory for the bench, the
-/// wires or the gates.
+/// Does what the words ask for, with the rankers of `compare` on the bench, and one more where the words ask for `replay`. The
+/// error is want of memory for the bench, the wires or the gates.
 fn with_bench<R: Threads + Wait + Sync, H: Shelf, K: Sink>(
     rt: &R,
     alloc: Global,
@@ -69,17 +70,42 @@ fn with_bench<R: Threads + Wait + Sync, H: Shelf, K: Sink>(
     shelf: &mut H,
     out: &mut K,
 ) -> Result<Status, NoMemory> {
+    let replays = ask_for_replay(alloc, words)?;
     let mut bench: Vec<Box<dyn Ranker>> = Vec::new(alloc);
     bench.push(Box::new(alloc, Bssi0)?)?;
     bench.push(Box::new(alloc, Sebf)?)?;
     bench.push(Box::new(alloc, Fifo)?)?;
     bench.push(Box::new(alloc, Attained::new(alloc, MAX_COFLOWS)?)?)?;
+    if replays {
+        bench.push(Box::new(alloc, Wsebf)?)?;
+    }
+    with_wires(rt, alloc, words, shelf, out, &mut bench)
+}
+
+/// Does what the words ask for, with these rankers. The error is want of memory for the wires or the gates.
+fn with_wires<R: Threads + Wait + Sync, H: Shelf, K: Sink>(
+    rt: &R,
+    alloc: Global,
+    words: &[String],
+    shelf: &mut H,
+    out: &mut K,
+    bench: &mut Vec<Box<dyn Ranker>>,
+) -> Result<Status, NoMemory>
+    requires few { length bench.old.items ≤ 5 }
+{
     let mut wires = wires(alloc)?;
     let mut gates = gates(alloc)?;
-    let status = sincronia(
-        rt, alloc, words, shelf, out, &mut wires, &mut gates, &mut bench,
-    );
+    let status = sincronia(rt, alloc, words, shelf, out, &mut wires, &mut gates, bench);
     Ok(status)
+}
+
+/// Whether the words are a command line that asks for `replay`.
+fn ask_for_replay(alloc: Global, words: &[String]) -> Result<bool, NoMemory> {
+    match read_words(alloc, words) {
+        Ok(words) => Ok(matches!(words.job, Job::Replay { .. })),
+        Err(WordsFault::Usage) => Ok(false),
+        Err(WordsFault::NoMemory) => Err(NoMemory),
+    }
 }
 
 /// A wire for each ingress port that a trace may have.

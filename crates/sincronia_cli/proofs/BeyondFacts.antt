@@ -1,17 +1,18 @@
--- What a job finds beyond trace, weights, table and report: too many orders of an online run, too many units to be shared live, or the first fault of a script or
+-- What a job finds beyond trace, weights, table and report: too many orders of an online run or of a replay, too many units to be shared live, or the first fault of a script or
 -- of a given order. It finds one.
-use Rattle.std.proofs.Common.{◌≡◌, ℕ, ◌+◌, List, Option, Some, None, refl, sym, subst, ◌∙◌, ap, arith}
+use Rattle.std.proofs.Common.{◌≡◌, ℕ, ◌+◌, inl, inr, List, Option, Some, None, refl, sym, subst, ◌∙◌, ap, arith}
 use Rattle.coflow_units.specs.declared.fabric.Flow.{Flow}
 use Rattle.coflow_units.specs.declared.limits.TheConstants.{MAX_TEXT}
 use Rattle.coflow_units.specs.declared.quantity.Quantity.TheVariants as quantity
-use Rattle.std.specs.Prelude.{sum_by}
+use Rattle.std.specs.Prelude.{◌⊎◌, sum_by}
 use Rattle.command_words.specs.Jobs.{Job, order_name, report_name, script_name, trace_name}
-use Rattle.command_words.specs.Jobs.Job.{audit_job, check_job, classes_job, compare_job, live_job, make_job, online_job, plan_job, serve_job}
+use Rattle.command_words.specs.Jobs.Job.{audit_job, check_job, classes_job, compare_job, live_job, make_job, online_job, plan_job, replay_job, serve_job}
 use Rattle.command_words.specs.Words.{Said}
 use Rattle.flow_table.specs.Sent.{sent}
 use Rattle.flow_table.proofs.FlowsOne.{flows_one}
 use Rattle.orders.specs.declared.fault.OrderFault.{OrderFault}
 use Rattle.outside.specs.Shelf.{Told, bytes_of}
+use Rattle.rankers.specs.Meaning.{Meaning}
 use Rattle.workload.specs.declared.fault.ScriptFault.{ScriptFault}
 use Rattle.workload.specs.declared.fault.ScriptFault.TheVariants as script_fault
 use Rattle.trace_reader.specs.Trace.{trace_of}
@@ -26,10 +27,12 @@ use Rattle.command_files.specs.Scripts.{HasMoreUnits, HasScriptText, table_units
 use Rattle.command_files.specs.WeightsCauses.{AreTooLong}
 use Rattle.command_files.specs.JobCauses.{IsBadFor}
 use Rattle.command_files.specs.GoodFiles.{HasGoodFiles}
-use Rattle.command_jobs.specs.Online.{PublishesFew, PublishesOver}
+use Rattle.command_jobs.specs.Online.{FilesPublishMore}
+use Rattle.command_jobs.specs.Publishing.{PublishesFew, PublishesOver}
+use Rattle.command_jobs.specs.Replay.{ReplaysPublishMore}
 use Rattle.command_files.proofs.GoodFacts.{HasNoFault, order_is_good}
 use Rattle.sincronia_cli.proofs.CompleteFacts.{no_report_of}
-use Rattle.command_jobs.proofs.OnlineFacts.{over_is, over_one}
+use Rattle.command_jobs.proofs.PublishingFacts.{over_is, over_one}
 
 -- ---- the status of a fault of a script
 
@@ -64,11 +67,11 @@ script_ends ids (Some text) s (bad_script f (short, first) e) good = let clash :
 
 -- ---- what a job finds
 
-pub data Beyond (said : Said) (t : Told) (s : Status) : Type 0 where
-  too_often : (count : ℕ) → PublishesOver said.job said count t → s ≡ status.Limit quantity.Epochs count → Beyond said t s
-  too_much : IsGiven (script_name said.job) → (g : FilesGiveTable said t) → (count : ℕ) → HasMoreUnits g.table count → s ≡ status.Limit quantity.Units count → Beyond said t s
-  in_script : (x : FilesGiveShared said t) → ScriptStops x.given.table.ids (bytes_if t (script_name said.job)) s → Beyond said t s
-  in_order : (g : FilesGiveTable said t) → (f : OrderFault) → HasOrderFault g.table.ids (bytes_if t (order_name said.job)) f → s ≡ status.BadOrder f → Beyond said t s
+pub data Beyond (bench : List Meaning) (said : Said) (t : Told) (s : Status) : Type 0 where
+  too_often : (count : ℕ) → PublishesOver bench said.job said count t → s ≡ status.Limit quantity.Epochs count → Beyond bench said t s
+  too_much : IsGiven (script_name said.job) → (g : FilesGiveTable said t) → (count : ℕ) → HasMoreUnits g.table count → s ≡ status.Limit quantity.Units count → Beyond bench said t s
+  in_script : (x : FilesGiveShared said t) → ScriptStops x.given.table.ids (bytes_if t (script_name said.job)) s → Beyond bench said t s
+  in_order : (g : FilesGiveTable said t) → (f : OrderFault) → HasOrderFault g.table.ids (bytes_if t (order_name said.job)) f → s ≡ status.BadOrder f → Beyond bench said t s
 
 -- ---- only `serve` has an order
 
@@ -82,6 +85,7 @@ order_alone (classes_job trace) given = absurd given
 order_alone (audit_job trace journal) given = absurd given
 order_alone (online_job trace) given = absurd given
 order_alone (live_job trace script) given = absurd given
+order_alone (replay_job trace) given = absurd given
 
 fault_given : (t : Told) (name : Option (List ℕ)) (ids : List ℕ) (f : OrderFault) → HasOrderFault ids (bytes_if t name) f → IsGiven name
 fault_given t None ids f bad = bad
@@ -91,7 +95,7 @@ order_one : (ids : List ℕ) (file : Option (List ℕ)) (f g : OrderFault) → H
 order_one ids None f g bad wrong = absurd bad
 order_one ids (Some text) f g (short, first) (low, is) = let same : Some f ≡ Some g = sym first ∙ is in cc
 
-module _ (said : Said) (t : Told) where
+module _ (bench : List Meaning) (said : Said) (t : Told) where
   units_one : (a b : FilesGiveTable said t) → table_units a.table ≡ table_units b.table
   units_one a b =
       ap (λ (fs : List Flow). sum_by (λ (x : Flow). x.units) fs)
@@ -100,16 +104,21 @@ module _ (said : Said) (t : Told) where
   ids_one : (a b : FilesGiveTable said t) → a.table.ids ≡ b.table.ids
   ids_one a b = a.gives.table_is.ids ∙ sym b.gives.table_is.ids
 
-  -- an online run has no script
-  online_has_none : (count : ℕ) → PublishesOver said.job said count t → script_name said.job ≡ None
-  online_has_none count over = let (trace, same, more) = over_is said t said.job count over in ap script_name same
+  -- an online run and a replay have no script
+  has_no_script : (count : ℕ) → PublishesOver bench said.job said count t → script_name said.job ≡ None
+  has_no_script count over = none (over_is bench said t said.job count over)
+    where
+      none : ((trace : List ℕ) × (said.job ≡ online_job trace) × FilesPublishMore said count t)
+          ⊎ ((trace : List ℕ) × (said.job ≡ replay_job trace) × ReplaysPublishMore bench said count t) → script_name said.job ≡ None
+      none (inl (trace, same, more)) = ap script_name same
+      none (inr (trace, same, more)) = ap script_name same
 
-  over_given : (count : ℕ) → PublishesOver said.job said count t → IsGiven (script_name said.job) → ⊥
-  over_given count over given = subst IsGiven (online_has_none count over) given
+  over_given : (count : ℕ) → PublishesOver bench said.job said count t → IsGiven (script_name said.job) → ⊥
+  over_given count over given = subst IsGiven (has_no_script count over) given
 
-  over_script : (count : ℕ) (ids : List ℕ) (s : Status) → PublishesOver said.job said count t → ScriptStops ids (bytes_if t (script_name said.job)) s → ⊥
+  over_script : (count : ℕ) (ids : List ℕ) (s : Status) → PublishesOver bench said.job said count t → ScriptStops ids (bytes_if t (script_name said.job)) s → ⊥
   over_script count ids s over stops =
-      no_script ids s (subst (λ (n : Option (List ℕ)). ScriptStops ids (bytes_if t n) s) (online_has_none count over) stops)
+      no_script ids s (subst (λ (n : Option (List ℕ)). ScriptStops ids (bytes_if t n) s) (has_no_script count over) stops)
 
   few_and_many : (a : FilesGiveTable said t) (count : ℕ) → HasMoreUnits a.table count → (x : FilesGiveShared said t) → ⊥
   few_and_many a count (is, many) x = absurd (omega (arith, many, x.shared, units_one a x.given))
@@ -121,15 +130,15 @@ module _ (said : Said) (t : Told) where
   order_or_script : (ids : List ℕ) (f : OrderFault) → HasOrderFault ids (bytes_if t (order_name said.job)) f → IsGiven (script_name said.job) → ⊥
   order_or_script ids f bad given = let (trace, name, same) = order_job ids f bad in subst (λ (k : Job). IsGiven (script_name k)) same given
 
-  order_or_often : (ids : List ℕ) (f : OrderFault) (count : ℕ) → HasOrderFault ids (bytes_if t (order_name said.job)) f → PublishesOver said.job said count t → ⊥
-  order_or_often ids f count bad over = let (trace, name, same) = order_job ids f bad in subst (λ (k : Job). PublishesOver k said count t) same over
+  order_or_often : (ids : List ℕ) (f : OrderFault) (count : ℕ) → HasOrderFault ids (bytes_if t (order_name said.job)) f → PublishesOver bench said.job said count t → ⊥
+  order_or_often ids f count bad over = let (trace, name, same) = order_job ids f bad in subst (λ (k : Job). PublishesOver bench k said count t) same over
 
   pub is_given : (n : Option (List ℕ)) (ids : List ℕ) (s : Status) → ScriptStops ids (bytes_if t n) s → IsGiven n
   is_given None ids s stops = no_script ids s stops
   is_given (Some name) ids s stops = tt
 
-  pub beyond_one : (a b : Status) → Beyond said t a → Beyond said t b → a ≡ b
-  beyond_one a b (too_often m over e) (too_often n beyond f) = e ∙ ap (λ c. status.Limit quantity.Epochs c) (over_one said t said.job m n over beyond) ∙ sym f
+  pub beyond_one : (a b : Status) → Beyond bench said t a → Beyond bench said t b → a ≡ b
+  beyond_one a b (too_often m over e) (too_often n beyond f) = e ∙ ap (λ c. status.Limit quantity.Epochs c) (over_one bench said t said.job m n over beyond) ∙ sym f
   beyond_one a b (too_often m over e) (too_much given g n more f) = absurd (over_given m over given)
   beyond_one a b (too_often m over e) (in_script x stops) = absurd (over_script m x.given.table.ids b over stops)
   beyond_one a b (too_much given g m more e) (too_often n over f) = absurd (over_given n over given)
@@ -164,13 +173,14 @@ module _ (said : Said) (t : Told) where
   script_good (compare_job trace) good given = absurd given
   script_good (classes_job trace) good given = absurd given
   script_good (serve_job trace order) good given = absurd given
+  script_good (replay_job trace) good given = absurd given
   script_good (audit_job trace journal) good given = absurd given
   script_good (online_job trace) good given = absurd given
 
   order_good : (k : Job) → HasGoodFiles k said t → IsGiven (order_name k) → FilesGiveOrder said t
   order_good k good given = let (trace, name, same) = order_alone k given in subst (λ (j : Job). HasGoodFiles j said t) same good
 
-  pub nothing_beyond : HasGoodFiles said.job said t → PublishesFew said.job said t → (s : Status) → Beyond said t s → ⊥
+  pub nothing_beyond : HasGoodFiles said.job said t → PublishesFew bench said.job said t → (s : Status) → Beyond bench said t s → ⊥
   nothing_beyond good few s (too_often count over e) = few count over
   nothing_beyond good few s (too_much given g count more e) =
       let (shared, text) = script_good said.job good given in
@@ -202,6 +212,7 @@ script_alone (make_job seed) given = absurd given
 script_alone (compare_job trace) given = absurd given
 script_alone (classes_job trace) given = absurd given
 script_alone (serve_job trace order) given = absurd given
+script_alone (replay_job trace) given = absurd given
 script_alone (audit_job trace journal) given = absurd given
 script_alone (online_job trace) given = absurd given
 

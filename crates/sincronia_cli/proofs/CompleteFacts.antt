@@ -2,7 +2,7 @@
 use Rattle.std.proofs.Common.{◌≡◌, ℕ, inl, inr, List, Option, Some, None, ap, refl, sym, subst, ◌∙◌}
 use Rattle.std.specs.Prelude.{◌⊎◌, Bool, false, true}
 use Rattle.command_words.specs.Jobs.{Job, order_name, report_name, script_name}
-use Rattle.command_words.specs.Jobs.Job.{audit_job, check_job, classes_job, compare_job, live_job, make_job, online_job, plan_job, serve_job}
+use Rattle.command_words.specs.Jobs.Job.{audit_job, check_job, classes_job, compare_job, live_job, make_job, online_job, plan_job, replay_job, serve_job}
 use Rattle.coflow_units.specs.declared.limits.TheConstants.{MAX_TEXT}
 use Rattle.command_words.specs.Line.{Text}
 use Rattle.command_words.specs.Words.{IsWords, Said}
@@ -24,6 +24,7 @@ use Rattle.command_files.specs.Ends.{IsStill}
 use Rattle.command_files.specs.Inputs.{bytes_if}
 use Rattle.sincronia_cli.specs.Outcome.{IsOutcome, OutcomeBy}
 use Rattle.command_jobs.specs.Online.{FilesPublishMore}
+use Rattle.command_jobs.specs.Replay.{ReplaysPublishMore}
 use Rattle.command_jobs.specs.Serving.{Serves, Service}
 use Rattle.command_jobs.specs.Serving.Service.{online_of, plan_of, script_of}
 use Rattle.command_jobs.proofs.EndCauses.{by_epochs, by_made, by_wire}
@@ -49,6 +50,7 @@ module _ (said : Said) (t : Told) where
   other_is_good (compare_job trace) same good = no_report_of (compare_job trace) same refl
   other_is_good (classes_job trace) same good = no_report_of (classes_job trace) same refl
   other_is_good (online_job trace) same good = no_report_of (online_job trace) same refl
+  other_is_good (replay_job trace) same good = no_report_of (replay_job trace) same refl
   other_is_good (live_job trace script) same good = no_report_of (live_job trace script) same refl
   other_is_good (audit_job trace journal) same (table, text) = good_of (audit_job trace journal) same (journal_is_good (bytes_if t (report_name said.job)) text)
   other_is_good (serve_job trace order) same (table, text) =
@@ -64,6 +66,7 @@ module _ (said : Said) (t : Told) where
   table_is_good (compare_job trace) reads table = table
   table_is_good (classes_job trace) reads table = table
   table_is_good (online_job trace) reads table = table
+  table_is_good (replay_job trace) reads table = table
   table_is_good (live_job trace script) reads good = good.0.given
   table_is_good (audit_job trace journal) reads (table, text) = table
   table_is_good (serve_job trace order) reads (table, text) = table
@@ -81,61 +84,68 @@ ends_without k before now t new said s same script order cause table good still 
     files_end before now t new said s cause table (other_is_good said t k same good) (no_script said t (ap script_name same ∙ script))
     (no_order said t (ap order_name same ∙ order)) still
 
-by_command : (F : ℕ → Service → Type 0) (k : Job) (before now : ℕ) (old new : Option Told) (said : Said) (s : Status) → said.job ≡ k →
-    CauseBy F k before now old new said s → AreGood k said old → IsStill before now → NoneFailed F → s ≡ status.NoMemory
-by_command F (plan_job trace) before now None new said s same cause good still wires = absurd good
-by_command F (plan_job trace) before now (Some t) new said s same (inl cause) good still wires =
+by_command : (F : ℕ → Service → Type 0) (bench : List Meaning) (k : Job) (before now : ℕ) (old new : Option Told) (said : Said) (s : Status) → said.job ≡ k →
+    CauseBy F bench k before now old new said s → AreGood bench k said old → IsStill before now → NoneFailed F → s ≡ status.NoMemory
+by_command F bench (plan_job trace) before now None new said s same cause good still wires = absurd good
+by_command F bench (plan_job trace) before now (Some t) new said s same (inl cause) good still wires =
     ends_without (plan_job trace) before now t new said s same refl refl cause good good still
-by_command F (plan_job trace) before now (Some t) new said s same (inr cause) good still wires =
+by_command F bench (plan_job trace) before now (Some t) new said s same (inr cause) good still wires =
     let (port, count, is, serves) = by_wire (λ port. Serves (F port) (plan_job trace) (Some t) said) s cause in
     let (table, list, input, f) = serves in
     absurd (wires port (plan_of table list) f)
-by_command F (check_job trace report) before now None new said s same cause good still wires = absurd good
-by_command F (check_job trace report) before now (Some t) new said s same cause good still wires =
+by_command F bench (check_job trace report) before now None new said s same cause good still wires = absurd good
+by_command F bench (check_job trace report) before now (Some t) new said s same cause good still wires =
     ends_without (check_job trace report) before now t new said s same refl refl cause good.0 good still
-by_command F (make_job seed) before now old new said s same (inl cause) good still wires = by_made s cause
-by_command F (make_job seed) before now old new said s same (inr cause) good still wires =
+by_command F bench (make_job seed) before now old new said s same (inl cause) good still wires = by_made s cause
+by_command F bench (make_job seed) before now old new said s same (inr cause) good still wires =
     let (port, count, is, serves) = by_wire (λ port. Serves (F port) (make_job seed) old said) s cause in
     let (table, list, gives, f) = serves in
     absurd (wires port (plan_of table list) f)
-by_command F (compare_job trace) before now None new said s same cause good still wires = absurd good
-by_command F (compare_job trace) before now (Some t) new said s same cause good still wires =
+by_command F bench (compare_job trace) before now None new said s same cause good still wires = absurd good
+by_command F bench (compare_job trace) before now (Some t) new said s same cause good still wires =
     ends_without (compare_job trace) before now t new said s same refl refl cause good good still
-by_command F (classes_job trace) before now None new said s same cause good still wires = absurd good
-by_command F (classes_job trace) before now (Some t) new said s same cause good still wires =
+by_command F bench (classes_job trace) before now None new said s same cause good still wires = absurd good
+by_command F bench (classes_job trace) before now (Some t) new said s same cause good still wires =
     ends_without (classes_job trace) before now t new said s same refl refl cause good good still
-by_command F (online_job trace) before now None new said s same cause good still wires = absurd good
-by_command F (online_job trace) before now (Some t) new said s same (inl cause) good still wires =
+by_command F bench (online_job trace) before now None new said s same cause good still wires = absurd good
+by_command F bench (online_job trace) before now (Some t) new said s same (inl cause) good still wires =
     ends_without (online_job trace) before now t new said s same refl refl cause good.0 good.0 still
-by_command F (online_job trace) before now (Some t) new said s same (inr (inl cause)) good still wires =
+by_command F bench (online_job trace) before now (Some t) new said s same (inr (inl cause)) good still wires =
     let (port, count, is, serves) = by_wire (λ port. Serves (F port) (online_job trace) (Some t) said) s cause in
     let (table, list, input, f) = serves in
     absurd (wires port (online_of table list said.slot_ms said.epoch) f)
-by_command F (online_job trace) before now (Some t) new said s same (inr (inr cause)) good still wires =
+by_command F bench (online_job trace) before now (Some t) new said s same (inr (inr cause)) good still wires =
     let (count, is, more) = by_epochs (λ count. FilesPublishMore said count t) s cause in
     absurd (good.1 count more)
-by_command F (live_job trace script) before now None new said s same cause good still wires = absurd good
-by_command F (live_job trace script) before now (Some t) new said s same (inl cause) good still wires =
+by_command F bench (replay_job trace) before now None new said s same cause good still wires = absurd good
+by_command F bench (replay_job trace) before now (Some t) new said s same (inl cause) good still wires =
+    ends_without (replay_job trace) before now t new said s same refl refl cause good.0 good.0 still
+by_command F bench (replay_job trace) before now (Some t) new said s same (inr cause) good still wires =
+    let (count, is, more) = by_epochs (λ count. ReplaysPublishMore bench said count t) s cause in
+    absurd (good.1 count more)
+by_command F bench (live_job trace script) before now None new said s same cause good still wires = absurd good
+by_command F bench (live_job trace script) before now (Some t) new said s same (inl cause) good still wires =
     files_end before now t new said s cause good.0.given (other_is_good said t (live_job trace script) same good) (script_is_good said t good)
     (no_order said t (ap order_name same)) still
-by_command F (live_job trace script) before now (Some t) new said s same (inr cause) good still wires =
+by_command F bench (live_job trace script) before now (Some t) new said s same (inr cause) good still wires =
     let (port, count, is, serves) = by_wire (λ port. Serves (F port) (live_job trace script) (Some t) said) s cause in
     let (table, list, input, asked, reads, f) = serves in
     absurd (wires port (script_of table list asked) f)
-by_command F (audit_job trace journal) before now None new said s same cause good still wires = absurd good
-by_command F (audit_job trace journal) before now (Some t) new said s same cause good still wires =
+by_command F bench (audit_job trace journal) before now None new said s same cause good still wires = absurd good
+by_command F bench (audit_job trace journal) before now (Some t) new said s same cause good still wires =
     ends_without (audit_job trace journal) before now t new said s same refl refl cause good.0 good still
-by_command F (serve_job trace order) before now None new said s same cause good still wires = absurd good
-by_command F (serve_job trace order) before now (Some t) new said s same cause good still wires =
+by_command F bench (serve_job trace order) before now None new said s same cause good still wires = absurd good
+by_command F bench (serve_job trace order) before now (Some t) new said s same cause good still wires =
     files_end before now t new said s cause good.0 (other_is_good said t (serve_job trace order) same good) (no_script said t (ap script_name same))
     (order_is_good said t good) still
 
-pub good_files_end : (F : ℕ → Service → Type 0) (words : List Text) (by said : Said) (before now : ℕ) (old new : Option Told) (s : Status) → IsWords words by →
-    IsWords words said → HasCauseOf F before now old new by s → AreGood said.job said old → IsStill before now → NoneFailed F →
+pub good_files_end : (F : ℕ → Service → Type 0) (bench : List Meaning) (words : List Text) (by said : Said) (before now : ℕ) (old new : Option Told) (s : Status) →
+    IsWords words by →
+    IsWords words said → HasCauseOf F bench before now old new by s → AreGood bench said.job said old → IsStill before now → NoneFailed F →
     EndsWell said.job s ⊎ (s ≡ status.NoMemory)
-good_files_end F words by said before now old new s reads is cause good still wires =
-    inr (by_command F said.job before now old new said s refl
-    (subst (λ (x : Said). HasCauseOf F before now old new x s) (words_one words by said reads is) cause) good still wires)
+good_files_end F bench words by said before now old new s reads is cause good still wires =
+    inr (by_command F bench said.job before now old new said s refl
+    (subst (λ (x : Said). HasCauseOf F bench before now old new x s) (words_one words by said reads is) cause) good still wires)
 
 -- ---- and where its text was written it ended well
 
@@ -151,6 +161,7 @@ written_by S (make_job seed) told said bench s text outcome = outcome.0
 written_by S (compare_job trace) told said bench s text outcome = outcome.0
 written_by S (classes_job trace) told said bench s text outcome = outcome.0
 written_by S (online_job trace) told said bench s text outcome = outcome.0
+written_by S (replay_job trace) told said bench s text outcome = outcome.0
 written_by S (live_job trace script) told said bench s text outcome = outcome.0
 written_by S (serve_job trace order) told said bench s text outcome = outcome.0
 written_by S (audit_job trace journal) told said bench s text (answer, is, audits) = answer_ends answer s is

@@ -1,10 +1,11 @@
 -- The causes of a status for which a command wrote nothing.
-use Rattle.std.proofs.Common.{◌≡◌, ℕ, inl, inr, subst}
+use Rattle.std.proofs.Common.{◌≡◌, ℕ, inl, inr, List, subst}
 use Rattle.std.specs.Prelude.{Option}
 use Rattle.command_words.specs.Jobs.{Job}
-use Rattle.command_words.specs.Jobs.Job.{audit_job, check_job, classes_job, compare_job, live_job, make_job, online_job, plan_job, serve_job}
+use Rattle.command_words.specs.Jobs.Job.{audit_job, check_job, classes_job, compare_job, live_job, make_job, online_job, plan_job, replay_job, serve_job}
 use Rattle.command_words.specs.Words.{Said}
 use Rattle.outside.specs.Shelf.{Told}
+use Rattle.rankers.specs.Meaning.{Meaning}
 use Rattle.trace_reader.specs.declared.fault.TraceFault.{TraceFault}
 use Rattle.weights.specs.declared.fault.WeightsFault.{WeightsFault}
 use Rattle.command_files.specs.declared.status.Status.{Status}
@@ -18,99 +19,107 @@ use Rattle.sincronia_cli.proofs.BenchFacts.{cause_has_no_text}
 
 -- ---- words that are no command line
 
-usage_by : (F : ℕ → _ → Type 0) (k : Job) (before now : ℕ) (old new : Option Told) (said : Said) →
-    CauseBy F k before now old new said status.Usage → ⊥
-usage_by F (plan_job trace) before now old new said (inl h) = h
-usage_by F (plan_job trace) before now old new said (inr h) = absurd h
-usage_by F (check_job trace report) before now old new said h = h
-usage_by F (make_job seed) before now old new said (inl h) = absurd h
-usage_by F (make_job seed) before now old new said (inr h) = absurd h
-usage_by F (compare_job trace) before now old new said h = h
-usage_by F (classes_job trace) before now old new said h = h
-usage_by F (serve_job trace order) before now old new said h = h
-usage_by F (online_job trace) before now old new said (inl h) = h
-usage_by F (online_job trace) before now old new said (inr (inl h)) = absurd h
-usage_by F (online_job trace) before now old new said (inr (inr h)) = absurd h
-usage_by F (live_job trace script) before now old new said (inl h) = h
-usage_by F (live_job trace script) before now old new said (inr h) = absurd h
-usage_by F (audit_job trace journal) before now old new said h = h
+usage_by : (F : ℕ → _ → Type 0) (bench : List Meaning) (k : Job) (before now : ℕ) (old new : Option Told) (said : Said) →
+    CauseBy F bench k before now old new said status.Usage → ⊥
+usage_by F bench (plan_job trace) before now old new said (inl h) = h
+usage_by F bench (plan_job trace) before now old new said (inr h) = absurd h
+usage_by F bench (check_job trace report) before now old new said h = h
+usage_by F bench (make_job seed) before now old new said (inl h) = absurd h
+usage_by F bench (make_job seed) before now old new said (inr h) = absurd h
+usage_by F bench (compare_job trace) before now old new said h = h
+usage_by F bench (classes_job trace) before now old new said h = h
+usage_by F bench (serve_job trace order) before now old new said h = h
+usage_by F bench (online_job trace) before now old new said (inl h) = h
+usage_by F bench (online_job trace) before now old new said (inr (inl h)) = absurd h
+usage_by F bench (online_job trace) before now old new said (inr (inr h)) = absurd h
+usage_by F bench (replay_job trace) before now old new said (inl h) = h
+usage_by F bench (replay_job trace) before now old new said (inr h) = absurd h
+usage_by F bench (live_job trace script) before now old new said (inl h) = h
+usage_by F bench (live_job trace script) before now old new said (inr h) = absurd h
+usage_by F bench (audit_job trace journal) before now old new said h = h
 
-pub usage_given : (F : ℕ → _ → Type 0) (said : Said) (before now : ℕ) (old new : Option Told) (s : Status) →
-    HasCauseOf F before now old new said s → s ≡ status.Usage → ⊥
-usage_given F said before now old new s cause is =
-    usage_by F said.job before now old new said (subst (λ (x : Status). HasCauseOf F before now old new said x) is cause)
+pub usage_given : (F : ℕ → _ → Type 0) (bench : List Meaning) (said : Said) (before now : ℕ) (old new : Option Told) (s : Status) →
+    HasCauseOf F bench before now old new said s → s ≡ status.Usage → ⊥
+usage_given F bench said before now old new s cause is =
+    usage_by F bench said.job before now old new said (subst (λ (x : Status). HasCauseOf F bench before now old new said x) is cause)
 
 -- ---- a file that is no trace
 
-bad_trace_by : (F : ℕ → _ → Type 0) (k : Job) (before now : ℕ) (old new : Option Told) (said : Said) (fault : TraceFault) →
-    CauseBy F k before now old new said (status.BadTrace fault) → ReadsFiles k × HasFilesCause before now old new said (status.BadTrace fault)
-bad_trace_by F (plan_job trace) before now old new said fault (inl h) = (tt, h)
-bad_trace_by F (plan_job trace) before now old new said fault (inr h) = absurd h
-bad_trace_by F (check_job trace report) before now old new said fault h = (tt, h)
-bad_trace_by F (make_job seed) before now old new said fault (inl h) = absurd h
-bad_trace_by F (make_job seed) before now old new said fault (inr h) = absurd h
-bad_trace_by F (compare_job trace) before now old new said fault h = (tt, h)
-bad_trace_by F (classes_job trace) before now old new said fault h = (tt, h)
-bad_trace_by F (serve_job trace order) before now old new said fault h = (tt, h)
-bad_trace_by F (online_job trace) before now old new said fault (inl h) = (tt, h)
-bad_trace_by F (online_job trace) before now old new said fault (inr (inl h)) = absurd h
-bad_trace_by F (online_job trace) before now old new said fault (inr (inr h)) = absurd h
-bad_trace_by F (live_job trace script) before now old new said fault (inl h) = (tt, h)
-bad_trace_by F (live_job trace script) before now old new said fault (inr h) = absurd h
-bad_trace_by F (audit_job trace journal) before now old new said fault h = (tt, h)
+bad_trace_by : (F : ℕ → _ → Type 0) (bench : List Meaning) (k : Job) (before now : ℕ) (old new : Option Told) (said : Said) (fault : TraceFault) →
+    CauseBy F bench k before now old new said (status.BadTrace fault) → ReadsFiles k × HasFilesCause before now old new said (status.BadTrace fault)
+bad_trace_by F bench (plan_job trace) before now old new said fault (inl h) = (tt, h)
+bad_trace_by F bench (plan_job trace) before now old new said fault (inr h) = absurd h
+bad_trace_by F bench (check_job trace report) before now old new said fault h = (tt, h)
+bad_trace_by F bench (make_job seed) before now old new said fault (inl h) = absurd h
+bad_trace_by F bench (make_job seed) before now old new said fault (inr h) = absurd h
+bad_trace_by F bench (compare_job trace) before now old new said fault h = (tt, h)
+bad_trace_by F bench (classes_job trace) before now old new said fault h = (tt, h)
+bad_trace_by F bench (serve_job trace order) before now old new said fault h = (tt, h)
+bad_trace_by F bench (online_job trace) before now old new said fault (inl h) = (tt, h)
+bad_trace_by F bench (online_job trace) before now old new said fault (inr (inl h)) = absurd h
+bad_trace_by F bench (online_job trace) before now old new said fault (inr (inr h)) = absurd h
+bad_trace_by F bench (replay_job trace) before now old new said fault (inl h) = (tt, h)
+bad_trace_by F bench (replay_job trace) before now old new said fault (inr h) = absurd h
+bad_trace_by F bench (live_job trace script) before now old new said fault (inl h) = (tt, h)
+bad_trace_by F bench (live_job trace script) before now old new said fault (inr h) = absurd h
+bad_trace_by F bench (audit_job trace journal) before now old new said fault h = (tt, h)
 
-pub bad_trace_given : (F : ℕ → _ → Type 0) (said : Said) (before now : ℕ) (old new : Option Told) (fault : TraceFault) (s : Status) →
-    HasCauseOf F before now old new said s → s ≡ (status.BadTrace fault) → ReadsFiles said.job × HasFilesCause before now old new said (status.BadTrace fault)
-bad_trace_given F said before now old new fault s cause is =
-    bad_trace_by F said.job before now old new said fault (subst (λ (x : Status). HasCauseOf F before now old new said x) is cause)
+pub bad_trace_given : (F : ℕ → _ → Type 0) (bench : List Meaning) (said : Said) (before now : ℕ) (old new : Option Told) (fault : TraceFault) (s : Status) →
+    HasCauseOf F bench before now old new said s → s ≡ (status.BadTrace fault) → ReadsFiles said.job × HasFilesCause before now old new said (status.BadTrace fault)
+bad_trace_given F bench said before now old new fault s cause is =
+    bad_trace_by F bench said.job before now old new said fault (subst (λ (x : Status). HasCauseOf F bench before now old new said x) is cause)
 
 -- ---- a file that is no weights
 
-bad_weights_by : (F : ℕ → _ → Type 0) (k : Job) (before now : ℕ) (old new : Option Told) (said : Said) (fault : WeightsFault) →
-    CauseBy F k before now old new said (status.BadWeights fault) → ReadsFiles k × HasFilesCause before now old new said (status.BadWeights fault)
-bad_weights_by F (plan_job trace) before now old new said fault (inl h) = (tt, h)
-bad_weights_by F (plan_job trace) before now old new said fault (inr h) = absurd h
-bad_weights_by F (check_job trace report) before now old new said fault h = (tt, h)
-bad_weights_by F (make_job seed) before now old new said fault (inl h) = absurd h
-bad_weights_by F (make_job seed) before now old new said fault (inr h) = absurd h
-bad_weights_by F (compare_job trace) before now old new said fault h = (tt, h)
-bad_weights_by F (classes_job trace) before now old new said fault h = (tt, h)
-bad_weights_by F (serve_job trace order) before now old new said fault h = (tt, h)
-bad_weights_by F (online_job trace) before now old new said fault (inl h) = (tt, h)
-bad_weights_by F (online_job trace) before now old new said fault (inr (inl h)) = absurd h
-bad_weights_by F (online_job trace) before now old new said fault (inr (inr h)) = absurd h
-bad_weights_by F (live_job trace script) before now old new said fault (inl h) = (tt, h)
-bad_weights_by F (live_job trace script) before now old new said fault (inr h) = absurd h
-bad_weights_by F (audit_job trace journal) before now old new said fault h = (tt, h)
+bad_weights_by : (F : ℕ → _ → Type 0) (bench : List Meaning) (k : Job) (before now : ℕ) (old new : Option Told) (said : Said) (fault : WeightsFault) →
+    CauseBy F bench k before now old new said (status.BadWeights fault) → ReadsFiles k × HasFilesCause before now old new said (status.BadWeights fault)
+bad_weights_by F bench (plan_job trace) before now old new said fault (inl h) = (tt, h)
+bad_weights_by F bench (plan_job trace) before now old new said fault (inr h) = absurd h
+bad_weights_by F bench (check_job trace report) before now old new said fault h = (tt, h)
+bad_weights_by F bench (make_job seed) before now old new said fault (inl h) = absurd h
+bad_weights_by F bench (make_job seed) before now old new said fault (inr h) = absurd h
+bad_weights_by F bench (compare_job trace) before now old new said fault h = (tt, h)
+bad_weights_by F bench (classes_job trace) before now old new said fault h = (tt, h)
+bad_weights_by F bench (serve_job trace order) before now old new said fault h = (tt, h)
+bad_weights_by F bench (online_job trace) before now old new said fault (inl h) = (tt, h)
+bad_weights_by F bench (online_job trace) before now old new said fault (inr (inl h)) = absurd h
+bad_weights_by F bench (online_job trace) before now old new said fault (inr (inr h)) = absurd h
+bad_weights_by F bench (replay_job trace) before now old new said fault (inl h) = (tt, h)
+bad_weights_by F bench (replay_job trace) before now old new said fault (inr h) = absurd h
+bad_weights_by F bench (live_job trace script) before now old new said fault (inl h) = (tt, h)
+bad_weights_by F bench (live_job trace script) before now old new said fault (inr h) = absurd h
+bad_weights_by F bench (audit_job trace journal) before now old new said fault h = (tt, h)
 
-pub bad_weights_given : (F : ℕ → _ → Type 0) (said : Said) (before now : ℕ) (old new : Option Told) (fault : WeightsFault) (s : Status) →
-    HasCauseOf F before now old new said s → s ≡ (status.BadWeights fault) → ReadsFiles said.job × HasFilesCause before now old new said (status.BadWeights fault)
-bad_weights_given F said before now old new fault s cause is =
-    bad_weights_by F said.job before now old new said fault (subst (λ (x : Status). HasCauseOf F before now old new said x) is cause)
+pub bad_weights_given : (F : ℕ → _ → Type 0) (bench : List Meaning) (said : Said) (before now : ℕ) (old new : Option Told) (fault : WeightsFault) (s : Status) →
+    HasCauseOf F bench before now old new said s → s ≡ (status.BadWeights fault) → ReadsFiles said.job × HasFilesCause before now old new said (status.BadWeights fault)
+bad_weights_given F bench said before now old new fault s cause is =
+    bad_weights_by F bench said.job before now old new said fault (subst (λ (x : Status). HasCauseOf F bench before now old new said x) is cause)
 
 -- ---- a call to the shelf that failed
 
-read_fault_by : (F : ℕ → _ → Type 0) (k : Job) (before now : ℕ) (old new : Option Told) (said : Said) (count : ℕ) →
-    CauseBy F k before now old new said (status.ReadFault count) → ReadsFiles k × HasFilesCause before now old new said (status.ReadFault count)
-read_fault_by F (plan_job trace) before now old new said count (inl h) = (tt, h)
-read_fault_by F (plan_job trace) before now old new said count (inr h) = absurd h
-read_fault_by F (check_job trace report) before now old new said count h = (tt, h)
-read_fault_by F (make_job seed) before now old new said count (inl h) = absurd h
-read_fault_by F (make_job seed) before now old new said count (inr h) = absurd h
-read_fault_by F (compare_job trace) before now old new said count h = (tt, h)
-read_fault_by F (classes_job trace) before now old new said count h = (tt, h)
-read_fault_by F (serve_job trace order) before now old new said count h = (tt, h)
-read_fault_by F (online_job trace) before now old new said count (inl h) = (tt, h)
-read_fault_by F (online_job trace) before now old new said count (inr (inl h)) = absurd h
-read_fault_by F (online_job trace) before now old new said count (inr (inr h)) = absurd h
-read_fault_by F (live_job trace script) before now old new said count (inl h) = (tt, h)
-read_fault_by F (live_job trace script) before now old new said count (inr h) = absurd h
-read_fault_by F (audit_job trace journal) before now old new said count h = (tt, h)
+read_fault_by : (F : ℕ → _ → Type 0) (bench : List Meaning) (k : Job) (before now : ℕ) (old new : Option Told) (said : Said) (count : ℕ) →
+    CauseBy F bench k before now old new said (status.ReadFault count) → ReadsFiles k × HasFilesCause before now old new said (status.ReadFault count)
+read_fault_by F bench (plan_job trace) before now old new said count (inl h) = (tt, h)
+read_fault_by F bench (plan_job trace) before now old new said count (inr h) = absurd h
+read_fault_by F bench (check_job trace report) before now old new said count h = (tt, h)
+read_fault_by F bench (make_job seed) before now old new said count (inl h) = absurd h
+read_fault_by F bench (make_job seed) before now old new said count (inr h) = absurd h
+read_fault_by F bench (compare_job trace) before now old new said count h = (tt, h)
+read_fault_by F bench (classes_job trace) before now old new said count h = (tt, h)
+read_fault_by F bench (serve_job trace order) before now old new said count h = (tt, h)
+read_fault_by F bench (online_job trace) before now old new said count (inl h) = (tt, h)
+read_fault_by F bench (online_job trace) before now old new said count (inr (inl h)) = absurd h
+read_fault_by F bench (online_job trace) before now old new said count (inr (inr h)) = absurd h
+read_fault_by F bench (replay_job trace) before now old new said count (inl h) = (tt, h)
+read_fault_by F bench (replay_job trace) before now old new said count (inr h) = absurd h
+read_fault_by F bench (live_job trace script) before now old new said count (inl h) = (tt, h)
+read_fault_by F bench (live_job trace script) before now old new said count (inr h) = absurd h
+read_fault_by F bench (audit_job trace journal) before now old new said count h = (tt, h)
 
-pub read_fault_given : (F : ℕ → _ → Type 0) (said : Said) (before now : ℕ) (old new : Option Told) (count : ℕ) (s : Status) →
-    HasCauseOf F before now old new said s → s ≡ (status.ReadFault count) → ReadsFiles said.job × HasFilesCause before now old new said (status.ReadFault count)
-read_fault_given F said before now old new count s cause is =
-    read_fault_by F said.job before now old new said count (subst (λ (x : Status). HasCauseOf F before now old new said x) is cause)
+pub read_fault_given : (F : ℕ → _ → Type 0) (bench : List Meaning) (said : Said) (before now : ℕ) (old new : Option Told) (count : ℕ) (s : Status) →
+    HasCauseOf F bench before now old new said s → s ≡ (status.ReadFault count) → ReadsFiles said.job × HasFilesCause before now old new said (status.ReadFault count)
+read_fault_given F bench said before now old new count s cause is =
+    read_fault_by F bench said.job before now old new said count (subst (λ (x : Status). HasCauseOf F bench before now old new said x) is cause)
 
 -- ---- a call to the sink that failed
 
@@ -129,6 +138,6 @@ has_text (status.WriteFault a) is = tt
 has_text (status.WireFault a b) is = absurd is
 has_text status.NoMemory is = absurd is
 
-pub no_write_fault : (F : ℕ → _ → Type 0) (said : Said) (before now : ℕ) (old new : Option Told) (s : Status) →
-    HasCauseOf F before now old new said s → IsWriteFault s → ⊥
-no_write_fault F said before now old new s cause is = cause_has_no_text F before now old new said s cause (has_text s is)
+pub no_write_fault : (F : ℕ → _ → Type 0) (bench : List Meaning) (said : Said) (before now : ℕ) (old new : Option Told) (s : Status) →
+    HasCauseOf F bench before now old new said s → IsWriteFault s → ⊥
+no_write_fault F bench said before now old new s cause is = cause_has_no_text F bench before now old new said s cause (has_text s is)

@@ -7,7 +7,7 @@ use Rattle.coflow_units.specs.declared.quantity.Quantity.TheVariants as quantity
 use Rattle.coflow_units.specs.declared.trace.CoflowLine.{CoflowLine}
 use Rattle.coflow_units.specs.declared.trace.Trace.{Trace}
 use Rattle.command_words.specs.Jobs.{Job, report_name, script_name, trace_name}
-use Rattle.command_words.specs.Jobs.Job.{audit_job, check_job, classes_job, compare_job, live_job, make_job, online_job, plan_job, serve_job}
+use Rattle.command_words.specs.Jobs.Job.{audit_job, check_job, classes_job, compare_job, live_job, make_job, online_job, plan_job, replay_job, serve_job}
 use Rattle.command_words.specs.Line.{Text}
 use Rattle.command_words.specs.Words.{IsWords, Said}
 use Rattle.command_words.proofs.OneMeaning.{words_one}
@@ -36,7 +36,9 @@ use Rattle.command_files.specs.Inputs.{GiveWeights, IsTraceText, bytes_if}
 use Rattle.sincronia_cli.specs.Outcome.{IsOutcome}
 use Rattle.command_files.specs.Limits.{most_bytes}
 use Rattle.command_files.specs.ReportCauses.{IsBadReport, IsLongReport}
-use Rattle.command_jobs.specs.Online.{FilesPublishMore, PublishesFew, PublishesOver}
+use Rattle.command_jobs.specs.Online.{FilesPublishMore}
+use Rattle.command_jobs.specs.Publishing.{PublishesFew, PublishesOver}
+use Rattle.command_jobs.specs.Replay.{ReplaysPublishMore}
 use Rattle.command_jobs.specs.Serving.{Serves, Service}
 use Rattle.command_files.specs.TraceCauses.{HasTraceFault, IsTooLong, IsTraceForm}
 use Rattle.command_files.specs.WeightsCauses.{AreTooLong, IsFaultOf, IsWeightsForm}
@@ -45,7 +47,7 @@ use Rattle.command_jobs.proofs.EndCauses.{by_epochs, by_wire}
 use Rattle.sincronia_cli.proofs.BeyondFacts.{Beyond, ScriptStops, alone_is_good, beyond_one, is_given, nothing_beyond, order_fault_short}
 use Rattle.sincronia_cli.proofs.BeyondFacts.Beyond.{in_order, in_script, too_much, too_often}
 use Rattle.sincronia_cli.proofs.BeyondFacts.ScriptStops.{bad_script, long_script}
-use Rattle.command_jobs.proofs.OnlineFacts.{over_is}
+use Rattle.command_jobs.proofs.PublishingFacts.{over_is}
 use Rattle.command_files.proofs.GoodFacts.{HasNoFault, trace_is_good, weights_are_good}
 use Rattle.sincronia_cli.proofs.CompleteFacts.{other_is_good, table_is_good, written_by}
 
@@ -219,112 +221,125 @@ by_limit k trace file unit report More which count (in_weights text (inl (is, to
 by_limit k trace file unit report More which count (in_weights text (inr (line, bad))) = at_weights text (bad_weights _ bad refl)
 by_limit k trace file unit report More which count (in_table text list give cause) = at_table text list give (over which count cause refl)
 
-stops_of : (words : List Text) (said : Said) (t : Told) (s : Status) → IsOfFiles words said → IsFirstCause said t s →
-    Stops said.job (bytes_of t (trace_name said.job)) (bytes_if t said.weights) said.unit (bytes_if t (report_name said.job)) (Beyond said t) s
-stops_of words said t (status.BadTrace f) is (form, bad) = at_trace (bad_trace f bad (sym (by_trace f form)))
-stops_of words said t (status.BadWeights f) is (form, (text, bad)) = at_weights text (bad_weights f bad (sym (by_weights f form)))
-stops_of words said t (status.BadReport line) is (table, bad) = at_report table (bad_report line bad refl)
-stops_of words said t (status.BadScript line field) is (x, bad) =
+stops_of : (bench : List Meaning) (words : List Text) (said : Said) (t : Told) (s : Status) → IsOfFiles words said → IsFirstCause bench said t s →
+    Stops said.job (bytes_of t (trace_name said.job)) (bytes_if t said.weights) said.unit (bytes_if t (report_name said.job)) (Beyond bench said t) s
+stops_of bench words said t (status.BadTrace f) is (form, bad) = at_trace (bad_trace f bad (sym (by_trace f form)))
+stops_of bench words said t (status.BadWeights f) is (form, (text, bad)) = at_weights text (bad_weights f bad (sym (by_weights f form)))
+stops_of bench words said t (status.BadReport line) is (table, bad) = at_report table (bad_report line bad refl)
+stops_of bench words said t (status.BadScript line field) is (x, bad) =
     let stops : ScriptStops x.given.table.ids (bytes_if t (script_name said.job)) (status.BadScript line field) = bad_script (script_fault.Bad line field) bad refl in
-    beyond x.given (alone_is_good said t (is_given said t (script_name said.job) x.given.table.ids (status.BadScript line field) stops)) (in_script x stops)
-stops_of words said t (status.BadOrder f) is (form, (g, bad)) = beyond g (order_fault_short said t g.table.ids f bad) (in_order g f bad refl)
-stops_of words said t (status.Limit which count) is (inr (epochs, many)) =
-    let (trace, same, more) = over_is said t said.job count many in
-    beyond more.given (other_is_good said t (online_job trace) same more.given) (too_often count many (ap (λ w. status.Limit w count) epochs))
-stops_of words said t (status.Limit which count) is (inl (in_input cause)) = by_limit said.job _ _ said.unit _ _ which count cause
-stops_of words said t (status.Limit which count) is (inl (in_report table (text, told, long))) = at_report table (long_report long (rw (text, told) refl))
-stops_of words said t (status.Limit which count) is (inl (in_shared given table units more)) =
+    beyond x.given (alone_is_good said t (is_given bench said t (script_name said.job) x.given.table.ids (status.BadScript line field) stops)) (in_script x stops)
+stops_of bench words said t (status.BadOrder f) is (form, (g, bad)) = beyond g (order_fault_short bench said t g.table.ids f bad) (in_order g f bad refl)
+stops_of bench words said t (status.Limit which count) is (inr (epochs, many)) = by (over_is bench said t said.job count many)
+  where
+    by : ((trace : List ℕ) × (said.job ≡ online_job trace) × FilesPublishMore said count t)
+        ⊎ ((trace : List ℕ) × (said.job ≡ replay_job trace) × ReplaysPublishMore bench said count t) →
+        Stops said.job (bytes_of t (trace_name said.job)) (bytes_if t said.weights) said.unit (bytes_if t (report_name said.job)) (Beyond bench said t)
+        (status.Limit which count)
+    by (inl (trace, same, more)) =
+        beyond more.given (other_is_good said t (online_job trace) same more.given) (too_often count many (ap (λ w. status.Limit w count) epochs))
+    by (inr (trace, same, more)) =
+        beyond more.given (other_is_good said t (replay_job trace) same more.given) (too_often count many (ap (λ w. status.Limit w count) epochs))
+stops_of bench words said t (status.Limit which count) is (inl (in_input cause)) = by_limit said.job _ _ said.unit _ _ which count cause
+stops_of bench words said t (status.Limit which count) is (inl (in_report table (text, told, long))) = at_report table (long_report long (rw (text, told) refl))
+stops_of bench words said t (status.Limit which count) is (inl (in_shared given table units more)) =
     beyond table (alone_is_good said t given) (too_much given table count more (ap (λ w. status.Limit w count) units))
-stops_of words said t (status.Limit which count) is (inl (in_script_of x (inl (text, told, long)))) =
+stops_of bench words said t (status.Limit which count) is (inl (in_script_of x (inl (text, told, long)))) =
     let stops : ScriptStops x.given.table.ids (bytes_if t (script_name said.job)) (status.Limit which count) = long_script long (rw (text, told) refl) in
-    beyond x.given (alone_is_good said t (is_given said t (script_name said.job) x.given.table.ids (status.Limit which count) stops)) (in_script x stops)
-stops_of words said t (status.Limit which count) is (inl (in_script_of x (inr bad))) =
+    beyond x.given (alone_is_good said t (is_given bench said t (script_name said.job) x.given.table.ids (status.Limit which count) stops)) (in_script x stops)
+stops_of bench words said t (status.Limit which count) is (inl (in_script_of x (inr bad))) =
     let stops : ScriptStops x.given.table.ids (bytes_if t (script_name said.job)) (status.Limit which count) = bad_script (script_fault.Limit which count) bad refl in
-    beyond x.given (alone_is_good said t (is_given said t (script_name said.job) x.given.table.ids (status.Limit which count) stops)) (in_script x stops)
-stops_of words said t status.Ok is good =
-    at_end (table_is_good said t said.job is.reads good.0) (other_is_good said t said.job refl good.0) (nothing_beyond said t good.0 good.1) refl
-stops_of words said t status.No is cause = absurd cause
-stops_of words said t status.Usage is cause = absurd cause
-stops_of words said t (status.ReadFault count) is cause = absurd cause
-stops_of words said t (status.WriteFault count) is cause = absurd cause
-stops_of words said t (status.WireFault port count) is cause = absurd cause
-stops_of words said t status.NoMemory is cause = absurd cause
+    beyond x.given (alone_is_good said t (is_given bench said t (script_name said.job) x.given.table.ids (status.Limit which count) stops)) (in_script x stops)
+stops_of bench words said t status.Ok is good =
+    at_end (table_is_good said t said.job is.reads good.0) (other_is_good said t said.job refl good.0) (nothing_beyond bench said t good.0 good.1) refl
+stops_of bench words said t status.No is cause = absurd cause
+stops_of bench words said t status.Usage is cause = absurd cause
+stops_of bench words said t (status.ReadFault count) is cause = absurd cause
+stops_of bench words said t (status.WriteFault count) is cause = absurd cause
+stops_of bench words said t (status.WireFault port count) is cause = absurd cause
+stops_of bench words said t status.NoMemory is cause = absurd cause
 
-pub first_cause_one : (words : List Text) (said : Said) (t : Told) (a b : Status) → IsOfFiles words said → IsFirstCause said t a → IsFirstCause said t b → a ≡ b
-first_cause_one words said t a b is x y = stops_one said.job _ _ _ _ (Beyond said t) (beyond_one said t) a b (stops_of words said t a is x) (stops_of words said t b is y)
+pub first_cause_one : (bench : List Meaning) (words : List Text) (said : Said) (t : Told) (a b : Status) → IsOfFiles words said → IsFirstCause bench said t a →
+    IsFirstCause bench said t b → a ≡ b
+first_cause_one bench words said t a b is x y = stops_one said.job _ _ _ _ (Beyond bench said t) (beyond_one bench said t) a b (stops_of bench words said t a is x)
+    (stops_of bench words said t b is y)
 
 -- ---- so a command that reads files ends by it
 
-by_cause : (words : List Text) (said : Said) (t : Told) (s cause : Status) → IsOfFiles words said → IsFirstCause said t s → IsFirstCause said t cause →
+by_cause : (bench : List Meaning) (words : List Text) (said : Said) (t : Told) (s cause : Status) → IsOfFiles words said → IsFirstCause bench said t s →
+    IsFirstCause bench said t cause →
     EndsBy said.job s s → EndsBy said.job cause s ⊎ IsInterrupted s
-by_cause words said t s cause is this x ends = inl (subst (λ (c : Status). EndsBy said.job c s) (first_cause_one words said t s cause is this x) ends)
+by_cause bench words said t s cause is this x ends = inl (subst (λ (c : Status). EndsBy said.job c s) (first_cause_one bench words said t s cause is this x) ends)
 
-files_end_by : (words : List Text) (said : Said) (before now : ℕ) (t : Told) (new : Option Told) (s cause : Status) → IsOfFiles words said →
-    HasFilesCause before now (Some t) new said s → IsFirstCause said t cause → EndsBy said.job cause s ⊎ IsInterrupted s
-files_end_by words said before now t new (status.BadTrace f) cause is why x = by_cause words said t (status.BadTrace f) cause is why x refl
-files_end_by words said before now t new (status.BadWeights f) cause is why x = by_cause words said t (status.BadWeights f) cause is why x refl
-files_end_by words said before now t new (status.BadReport line) cause is why x = by_cause words said t (status.BadReport line) cause is why.2 x refl
-files_end_by words said before now t new (status.BadScript line field) cause is why x = by_cause words said t (status.BadScript line field) cause is why.1 x refl
-files_end_by words said before now t new (status.BadOrder f) cause is why x = by_cause words said t (status.BadOrder f) cause is (why.0, why.2) x refl
-files_end_by words said before now t new (status.Limit which count) cause is why x = by_cause words said t (status.Limit which count) cause is (inl why.1) x refl
-files_end_by words said before now t new (status.ReadFault count) cause is why x = inr tt
-files_end_by words said before now t new status.NoMemory cause is why x = inr tt
-files_end_by words said before now t new status.Ok cause is why x = absurd why
-files_end_by words said before now t new status.No cause is why x = absurd why
-files_end_by words said before now t new status.Usage cause is why x = absurd why
-files_end_by words said before now t new (status.WriteFault count) cause is why x = absurd why
-files_end_by words said before now t new (status.WireFault port count) cause is why x = absurd why
+files_end_by : (bench : List Meaning) (words : List Text) (said : Said) (before now : ℕ) (t : Told) (new : Option Told) (s cause : Status) → IsOfFiles words said →
+    HasFilesCause before now (Some t) new said s → IsFirstCause bench said t cause → EndsBy said.job cause s ⊎ IsInterrupted s
+files_end_by bench words said before now t new (status.BadTrace f) cause is why x = by_cause bench words said t (status.BadTrace f) cause is why x refl
+files_end_by bench words said before now t new (status.BadWeights f) cause is why x = by_cause bench words said t (status.BadWeights f) cause is why x refl
+files_end_by bench words said before now t new (status.BadReport line) cause is why x = by_cause bench words said t (status.BadReport line) cause is why.2 x refl
+files_end_by bench words said before now t new (status.BadScript line field) cause is why x = by_cause bench words said t (status.BadScript line field) cause is why.1 x refl
+files_end_by bench words said before now t new (status.BadOrder f) cause is why x = by_cause bench words said t (status.BadOrder f) cause is (why.0, why.2) x refl
+files_end_by bench words said before now t new (status.Limit which count) cause is why x = by_cause bench words said t (status.Limit which count) cause is (inl why.1) x refl
+files_end_by bench words said before now t new (status.ReadFault count) cause is why x = inr tt
+files_end_by bench words said before now t new status.NoMemory cause is why x = inr tt
+files_end_by bench words said before now t new status.Ok cause is why x = absurd why
+files_end_by bench words said before now t new status.No cause is why x = absurd why
+files_end_by bench words said before now t new status.Usage cause is why x = absurd why
+files_end_by bench words said before now t new (status.WriteFault count) cause is why x = absurd why
+files_end_by bench words said before now t new (status.WireFault port count) cause is why x = absurd why
 
 -- where the files are good the job was interrupted, or it publishes too many orders
-abbrev Goes : Option Told → Said → Job → Status → Type 0
-Goes old said k s = IsInterrupted s ⊎ ((count : ℕ) × (s ≡ status.Limit quantity.Epochs count) × IfSome old (PublishesOver k said count))
+abbrev Goes : List Meaning → Option Told → Said → Job → Status → Type 0
+Goes bench old said k s = IsInterrupted s ⊎ ((count : ℕ) × (s ≡ status.Limit quantity.Epochs count) × IfSome old (PublishesOver bench k said count))
 
-of_files : (F : ℕ → Service → Type 0) (k : Job) (before now : ℕ) (old new : Option Told) (said : Said) (s : Status) → ReadsFiles k →
-    CauseBy F k before now old new said s → HasFilesCause before now old new said s ⊎ Goes old said k s
-of_files F (plan_job trace) before now old new said s reads (inl why) = inl why
-of_files F (plan_job trace) before now old new said s reads (inr why) =
+of_files : (F : ℕ → Service → Type 0) (bench : List Meaning) (k : Job) (before now : ℕ) (old new : Option Told) (said : Said) (s : Status) → ReadsFiles k →
+    CauseBy F bench k before now old new said s → HasFilesCause before now old new said s ⊎ Goes bench old said k s
+of_files F bench (plan_job trace) before now old new said s reads (inl why) = inl why
+of_files F bench (plan_job trace) before now old new said s reads (inr why) =
     let (port, count, is, p) = by_wire (λ port. Serves (F port) (plan_job trace) old said) s why in
     inr (inl (subst IsInterrupted (sym is) tt))
-of_files F (online_job trace) before now old new said s reads (inl why) = inl why
-of_files F (online_job trace) before now old new said s reads (inr (inl why)) =
+of_files F bench (online_job trace) before now old new said s reads (inl why) = inl why
+of_files F bench (online_job trace) before now old new said s reads (inr (inl why)) =
     let (port, count, is, p) = by_wire (λ port. Serves (F port) (online_job trace) old said) s why in
     inr (inl (subst IsInterrupted (sym is) tt))
-of_files F (online_job trace) before now old new said s reads (inr (inr why)) = inr (inr (by_epochs (λ count. IfSome old (FilesPublishMore said count)) s why))
-of_files F (live_job trace script) before now old new said s reads (inl why) = inl why
-of_files F (live_job trace script) before now old new said s reads (inr why) =
+of_files F bench (online_job trace) before now old new said s reads (inr (inr why)) = inr (inr (by_epochs (λ count. IfSome old (FilesPublishMore said count)) s why))
+of_files F bench (replay_job trace) before now old new said s reads (inl why) = inl why
+of_files F bench (replay_job trace) before now old new said s reads (inr why) = inr (inr (by_epochs (λ count. IfSome old (ReplaysPublishMore bench said count)) s why))
+of_files F bench (live_job trace script) before now old new said s reads (inl why) = inl why
+of_files F bench (live_job trace script) before now old new said s reads (inr why) =
     let (port, count, is, p) = by_wire (λ port. Serves (F port) (live_job trace script) old said) s why in
     inr (inl (subst IsInterrupted (sym is) tt))
-of_files F (check_job trace report) before now old new said s reads why = inl why
-of_files F (make_job seed) before now old new said s reads why = absurd reads
-of_files F (compare_job trace) before now old new said s reads why = inl why
-of_files F (classes_job trace) before now old new said s reads why = inl why
-of_files F (serve_job trace order) before now old new said s reads why = inl why
-of_files F (audit_job trace journal) before now old new said s reads why = inl why
+of_files F bench (check_job trace report) before now old new said s reads why = inl why
+of_files F bench (make_job seed) before now old new said s reads why = absurd reads
+of_files F bench (compare_job trace) before now old new said s reads why = inl why
+of_files F bench (classes_job trace) before now old new said s reads why = inl why
+of_files F bench (serve_job trace order) before now old new said s reads why = inl why
+of_files F bench (audit_job trace journal) before now old new said s reads why = inl why
 
-pub first_ends : (F : ℕ → Service → Type 0) (words : List Text) (by said : Said) (before now : ℕ) (old new : Option Told) (s cause : Status) → IsWords words by →
-    IsOfFiles words said → HasCauseOf F before now old new by s → IsSomeAnd old (λ t. IsFirstCause said t cause) → EndsBy said.job cause s ⊎ IsInterrupted s
-first_ends F words by said before now old new s cause read is why x = go old here x
+pub first_ends : (F : ℕ → Service → Type 0) (bench : List Meaning) (words : List Text) (by said : Said) (before now : ℕ) (old new : Option Told) (s cause : Status) →
+    IsWords words by →
+    IsOfFiles words said → HasCauseOf F bench before now old new by s → IsSomeAnd old (λ t. IsFirstCause bench said t cause) → EndsBy said.job cause s ⊎ IsInterrupted s
+first_ends F bench words by said before now old new s cause read is why x = go old here x
   where
-    here : HasFilesCause before now old new said s ⊎ Goes old said said.job s
+    here : HasFilesCause before now old new said s ⊎ Goes bench old said said.job s
     here =
-        of_files F said.job before now old new said s is.reads
-        (subst (λ (y : Said). HasCauseOf F before now old new y s) (words_one words by said read is.words_say) why)
+        of_files F bench said.job before now old new said s is.reads
+        (subst (λ (y : Said). HasCauseOf F bench before now old new y s) (words_one words by said read is.words_say) why)
 
-    go : (told : Option Told) → HasFilesCause before now told new said s ⊎ Goes told said said.job s → IsSomeAnd told (λ t. IsFirstCause said t cause) →
+    go : (told : Option Told) → HasFilesCause before now told new said s ⊎ Goes bench told said said.job s → IsSomeAnd told (λ t. IsFirstCause bench said t cause) →
         EndsBy said.job cause s ⊎ IsInterrupted s
     go None why x = absurd x
-    go (Some t) (inl why) x = files_end_by words said before now t new s cause is why x
+    go (Some t) (inl why) x = files_end_by bench words said before now t new s cause is why x
     go (Some t) (inr (inl interrupted)) x = inr interrupted
     go (Some t) (inr (inr (count, same, many))) x =
         subst (λ (y : Status). EndsBy said.job cause y ⊎ IsInterrupted y) (sym same)
-        (by_cause words said t (status.Limit quantity.Epochs count) cause is (inr (refl, many)) x refl)
+        (by_cause bench words said t (status.Limit quantity.Epochs count) cause is (inr (refl, many)) x refl)
 
 pub text_ends : (S : TableFacts → List (List ℕ) → Type 0) (words : List Text) (by said : Said) (old : Option Told) (bench : List Meaning) (s cause : Status) (text : List ℕ) →
-    IsWords words by → IsOfFiles words said → IfSome old (HasGoodFiles by.job by) → IfSome old (PublishesFew by.job by) → IsOutcome S old by bench s text →
-    IsSomeAnd old (λ t. IsFirstCause said t cause) →
+    IsWords words by → IsOfFiles words said → IfSome old (HasGoodFiles by.job by) → IfSome old (PublishesFew bench by.job by) → IsOutcome S old by bench s text →
+    IsSomeAnd old (λ t. IsFirstCause bench said t cause) →
     EndsBy said.job cause s ⊎ IsInterrupted s
 text_ends S words by said old bench s cause text read is good few outcome x =
-    go old (subst (λ (y : Said). IfSome old (HasGoodFiles y.job y)) same good) (subst (λ (y : Said). IfSome old (PublishesFew y.job y)) same few) x
+    go old (subst (λ (y : Said). IfSome old (HasGoodFiles y.job y)) same good) (subst (λ (y : Said). IfSome old (PublishesFew bench y.job y)) same few) x
   where
     same : by ≡ said
     same = words_one words by said read is.words_say
@@ -332,9 +347,9 @@ text_ends S words by said old bench s cause text read is good few outcome x =
     ends : EndsWell said.job s
     ends = written_by S said.job old said bench s text (subst (λ (y : Said). IsOutcome S old y bench s text) same outcome)
 
-    go : (told : Option Told) → IfSome told (HasGoodFiles said.job said) → IfSome told (PublishesFew said.job said) →
-        IsSomeAnd told (λ t. IsFirstCause said t cause) → EndsBy said.job cause s ⊎ IsInterrupted s
+    go : (told : Option Told) → IfSome told (HasGoodFiles said.job said) → IfSome told (PublishesFew bench said.job said) →
+        IsSomeAnd told (λ t. IsFirstCause bench said t cause) → EndsBy said.job cause s ⊎ IsInterrupted s
     go None good few x = absurd x
     go (Some t) good few x =
-        let one : status.Ok ≡ cause = first_cause_one words said t status.Ok cause is (good, few) x in
+        let one : status.Ok ≡ cause = first_cause_one bench words said t status.Ok cause is (good, few) x in
         inl (subst (λ (c : Status). EndsBy said.job c s) one ends)

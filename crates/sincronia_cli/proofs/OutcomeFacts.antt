@@ -2,7 +2,7 @@
 use Rattle.std.proofs.Common.{◌≡◌, ℕ, inl, inr, List, refl, subst, sym}
 use Rattle.std.specs.Prelude.{IfSome, None, Option, Some}
 use Rattle.command_words.specs.Jobs.{Job, order_name, report_name, script_name}
-use Rattle.command_words.specs.Jobs.Job.{audit_job, check_job, classes_job, compare_job, live_job, make_job, online_job, plan_job, serve_job}
+use Rattle.command_words.specs.Jobs.Job.{audit_job, check_job, classes_job, compare_job, live_job, make_job, online_job, plan_job, replay_job, serve_job}
 use Rattle.command_words.specs.Line.{Text}
 use Rattle.command_words.specs.Words.{IsWords, Said}
 use Rattle.command_words.proofs.OneMeaning.{words_one}
@@ -18,7 +18,9 @@ use Rattle.command_files.specs.Causes.{FilesBadOrder, FilesBadScript, FilesLimit
 use Rattle.command_files.specs.Limits.{MayLimit}
 use Rattle.command_files.specs.OrderCauses.{IsOrderForm}
 use Rattle.coflow_units.specs.declared.quantity.Quantity.{Quantity}
-use Rattle.command_jobs.specs.Online.{CommandLimit, FilesPublishMore, PublishesOver}
+use Rattle.command_jobs.specs.Online.{FilesPublishMore}
+use Rattle.command_jobs.specs.Publishing.{CommandLimit, PublishesOver}
+use Rattle.command_jobs.specs.Replay.{ReplaysPublishMore}
 use Rattle.sincronia_cli.specs.Command.{IsCommand, ReadsFiles}
 use Rattle.command_jobs.specs.Serving.{Service}
 use Rattle.sincronia_cli.specs.Outcome.{IsOutcome, OutcomeBy}
@@ -33,116 +35,131 @@ outcome_by S words by said k told bench status text reads is outcome =
 
 -- ---- a report or a printed journal that is bad
 
-of_files : (F : ℕ → Service → Type 0) (k : Job) (before now : ℕ) (old new : Option Told) (said : Said) (line : ℕ) →
-    CauseBy F k before now old new said (status.BadReport line) → HasFilesCause before now old new said (status.BadReport line)
-of_files F (plan_job trace) before now old new said line (inl h) = h
-of_files F (plan_job trace) before now old new said line (inr h) = absurd h
-of_files F (check_job trace report) before now old new said line h = h
-of_files F (make_job seed) before now old new said line (inl h) = absurd h
-of_files F (make_job seed) before now old new said line (inr h) = absurd h
-of_files F (compare_job trace) before now old new said line h = h
-of_files F (classes_job trace) before now old new said line h = h
-of_files F (serve_job trace order) before now old new said line h = h
-of_files F (online_job trace) before now old new said line (inl h) = h
-of_files F (online_job trace) before now old new said line (inr (inl h)) = absurd h
-of_files F (online_job trace) before now old new said line (inr (inr h)) = absurd h
-of_files F (live_job trace script) before now old new said line (inl h) = h
-of_files F (live_job trace script) before now old new said line (inr h) = absurd h
-of_files F (audit_job trace journal) before now old new said line h = h
+of_files : (F : ℕ → Service → Type 0) (bench : List Meaning) (k : Job) (before now : ℕ) (old new : Option Told) (said : Said) (line : ℕ) →
+    CauseBy F bench k before now old new said (status.BadReport line) → HasFilesCause before now old new said (status.BadReport line)
+of_files F bench (plan_job trace) before now old new said line (inl h) = h
+of_files F bench (plan_job trace) before now old new said line (inr h) = absurd h
+of_files F bench (check_job trace report) before now old new said line h = h
+of_files F bench (make_job seed) before now old new said line (inl h) = absurd h
+of_files F bench (make_job seed) before now old new said line (inr h) = absurd h
+of_files F bench (compare_job trace) before now old new said line h = h
+of_files F bench (classes_job trace) before now old new said line h = h
+of_files F bench (serve_job trace order) before now old new said line h = h
+of_files F bench (online_job trace) before now old new said line (inl h) = h
+of_files F bench (online_job trace) before now old new said line (inr (inl h)) = absurd h
+of_files F bench (online_job trace) before now old new said line (inr (inr h)) = absurd h
+of_files F bench (replay_job trace) before now old new said line (inl h) = h
+of_files F bench (replay_job trace) before now old new said line (inr h) = absurd h
+of_files F bench (live_job trace script) before now old new said line (inl h) = h
+of_files F bench (live_job trace script) before now old new said line (inr h) = absurd h
+of_files F bench (audit_job trace journal) before now old new said line h = h
 
 -- ---- a script that is bad
 
-script_of_files : (F : ℕ → Service → Type 0) (k : Job) (before now : ℕ) (old new : Option Told) (said : Said) (line field : ℕ) →
-    CauseBy F k before now old new said (status.BadScript line field) → HasFilesCause before now old new said (status.BadScript line field)
-script_of_files F (plan_job trace) before now old new said line field (inl h) = h
-script_of_files F (plan_job trace) before now old new said line field (inr h) = absurd h
-script_of_files F (check_job trace report) before now old new said line field h = h
-script_of_files F (make_job seed) before now old new said line field (inl h) = absurd h
-script_of_files F (make_job seed) before now old new said line field (inr h) = absurd h
-script_of_files F (compare_job trace) before now old new said line field h = h
-script_of_files F (classes_job trace) before now old new said line field h = h
-script_of_files F (serve_job trace order) before now old new said line field h = h
-script_of_files F (online_job trace) before now old new said line field (inl h) = h
-script_of_files F (online_job trace) before now old new said line field (inr (inl h)) = absurd h
-script_of_files F (online_job trace) before now old new said line field (inr (inr h)) = absurd h
-script_of_files F (live_job trace script) before now old new said line field (inl h) = h
-script_of_files F (live_job trace script) before now old new said line field (inr h) = absurd h
-script_of_files F (audit_job trace journal) before now old new said line field h = h
+script_of_files : (F : ℕ → Service → Type 0) (bench : List Meaning) (k : Job) (before now : ℕ) (old new : Option Told) (said : Said) (line field : ℕ) →
+    CauseBy F bench k before now old new said (status.BadScript line field) → HasFilesCause before now old new said (status.BadScript line field)
+script_of_files F bench (plan_job trace) before now old new said line field (inl h) = h
+script_of_files F bench (plan_job trace) before now old new said line field (inr h) = absurd h
+script_of_files F bench (check_job trace report) before now old new said line field h = h
+script_of_files F bench (make_job seed) before now old new said line field (inl h) = absurd h
+script_of_files F bench (make_job seed) before now old new said line field (inr h) = absurd h
+script_of_files F bench (compare_job trace) before now old new said line field h = h
+script_of_files F bench (classes_job trace) before now old new said line field h = h
+script_of_files F bench (serve_job trace order) before now old new said line field h = h
+script_of_files F bench (online_job trace) before now old new said line field (inl h) = h
+script_of_files F bench (online_job trace) before now old new said line field (inr (inl h)) = absurd h
+script_of_files F bench (online_job trace) before now old new said line field (inr (inr h)) = absurd h
+script_of_files F bench (replay_job trace) before now old new said line field (inl h) = h
+script_of_files F bench (replay_job trace) before now old new said line field (inr h) = absurd h
+script_of_files F bench (live_job trace script) before now old new said line field (inl h) = h
+script_of_files F bench (live_job trace script) before now old new said line field (inr h) = absurd h
+script_of_files F bench (audit_job trace journal) before now old new said line field h = h
 
-pub bad_script_given : (F : ℕ → Service → Type 0) (said : Said) (before now : ℕ) (old new : Option Told) (line field : ℕ) (s : Status) →
-    HasCauseOf F before now old new said s → s ≡ status.BadScript line field → IsGiven (script_name said.job) × IfSome old (FilesBadScript said line field)
-bad_script_given F said before now old new line field s cause is =
-    script_of_files F said.job before now old new said line field (subst (λ (x : Status). HasCauseOf F before now old new said x) is cause)
+pub bad_script_given : (F : ℕ → Service → Type 0) (bench : List Meaning) (said : Said) (before now : ℕ) (old new : Option Told) (line field : ℕ) (s : Status) →
+    HasCauseOf F bench before now old new said s → s ≡ status.BadScript line field → IsGiven (script_name said.job) × IfSome old (FilesBadScript said line field)
+bad_script_given F bench said before now old new line field s cause is =
+    script_of_files F bench said.job before now old new said line field (subst (λ (x : Status). HasCauseOf F bench before now old new said x) is cause)
 
 -- ---- an order that is bad
 
-order_of_files : (F : ℕ → Service → Type 0) (k : Job) (before now : ℕ) (old new : Option Told) (said : Said) (fault : OrderFault) →
-    CauseBy F k before now old new said (status.BadOrder fault) → HasFilesCause before now old new said (status.BadOrder fault)
-order_of_files F (plan_job trace) before now old new said fault (inl h) = h
-order_of_files F (plan_job trace) before now old new said fault (inr h) = absurd h
-order_of_files F (check_job trace report) before now old new said fault h = h
-order_of_files F (make_job seed) before now old new said fault (inl h) = absurd h
-order_of_files F (make_job seed) before now old new said fault (inr h) = absurd h
-order_of_files F (compare_job trace) before now old new said fault h = h
-order_of_files F (classes_job trace) before now old new said fault h = h
-order_of_files F (online_job trace) before now old new said fault (inl h) = h
-order_of_files F (online_job trace) before now old new said fault (inr (inl h)) = absurd h
-order_of_files F (online_job trace) before now old new said fault (inr (inr h)) = absurd h
-order_of_files F (live_job trace script) before now old new said fault (inl h) = h
-order_of_files F (live_job trace script) before now old new said fault (inr h) = absurd h
-order_of_files F (audit_job trace journal) before now old new said fault h = h
-order_of_files F (serve_job trace order) before now old new said fault h = h
+order_of_files : (F : ℕ → Service → Type 0) (bench : List Meaning) (k : Job) (before now : ℕ) (old new : Option Told) (said : Said) (fault : OrderFault) →
+    CauseBy F bench k before now old new said (status.BadOrder fault) → HasFilesCause before now old new said (status.BadOrder fault)
+order_of_files F bench (plan_job trace) before now old new said fault (inl h) = h
+order_of_files F bench (plan_job trace) before now old new said fault (inr h) = absurd h
+order_of_files F bench (check_job trace report) before now old new said fault h = h
+order_of_files F bench (make_job seed) before now old new said fault (inl h) = absurd h
+order_of_files F bench (make_job seed) before now old new said fault (inr h) = absurd h
+order_of_files F bench (compare_job trace) before now old new said fault h = h
+order_of_files F bench (classes_job trace) before now old new said fault h = h
+order_of_files F bench (online_job trace) before now old new said fault (inl h) = h
+order_of_files F bench (online_job trace) before now old new said fault (inr (inl h)) = absurd h
+order_of_files F bench (online_job trace) before now old new said fault (inr (inr h)) = absurd h
+order_of_files F bench (replay_job trace) before now old new said fault (inl h) = h
+order_of_files F bench (replay_job trace) before now old new said fault (inr h) = absurd h
+order_of_files F bench (live_job trace script) before now old new said fault (inl h) = h
+order_of_files F bench (live_job trace script) before now old new said fault (inr h) = absurd h
+order_of_files F bench (audit_job trace journal) before now old new said fault h = h
+order_of_files F bench (serve_job trace order) before now old new said fault h = h
 
-pub bad_order_given : (F : ℕ → Service → Type 0) (said : Said) (before now : ℕ) (old new : Option Told) (fault : OrderFault) (s : Status) →
-    HasCauseOf F before now old new said s → s ≡ status.BadOrder fault → IsOrderForm fault × IsGiven (order_name said.job) × IfSome old (FilesBadOrder said fault)
-bad_order_given F said before now old new fault s cause is =
-    order_of_files F said.job before now old new said fault (subst (λ (x : Status). HasCauseOf F before now old new said x) is cause)
+pub bad_order_given : (F : ℕ → Service → Type 0) (bench : List Meaning) (said : Said) (before now : ℕ) (old new : Option Told) (fault : OrderFault) (s : Status) →
+    HasCauseOf F bench before now old new said s → s ≡ status.BadOrder fault → IsOrderForm fault × IsGiven (order_name said.job) × IfSome old (FilesBadOrder said fault)
+bad_order_given F bench said before now old new fault s cause is =
+    order_of_files F bench said.job before now old new said fault (subst (λ (x : Status). HasCauseOf F bench before now old new said x) is cause)
 
 -- ---- a quantity that is outside its range
 
-limited : (told : Option Told) (said : Said) (which : Quantity) (count : ℕ) → IfSome told (FilesLimit said which count) → IfSome told (CommandLimit said which count)
-limited None said which count limit = tt
-limited (Some t) said which count limit = inl limit
+limited : (bench : List Meaning) (told : Option Told) (said : Said) (which : Quantity) (count : ℕ) → IfSome told (FilesLimit said which count) →
+    IfSome told (CommandLimit bench said which count)
+limited bench None said which count limit = tt
+limited bench (Some t) said which count limit = inl limit
 
-limit_by : (F : ℕ → Service → Type 0) (k : Job) (before now : ℕ) (old new : Option Told) (said : Said) (which : Quantity) (count : ℕ) → said.job ≡ k →
-    CauseBy F k before now old new said (status.Limit which count) → ReadsFiles k × MayLimit k which × IfSome old (CommandLimit said which count)
-limit_by F (plan_job trace) before now old new said which count same (inl (may, limit)) =
-    (tt, subst (λ (j : Job). MayLimit j which) same may, limited old said which count limit)
-limit_by F (plan_job trace) before now old new said which count same (inr h) = absurd h
-limit_by F (check_job trace report) before now old new said which count same (may, limit) =
-    (tt, subst (λ (j : Job). MayLimit j which) same may, limited old said which count limit)
-limit_by F (make_job seed) before now old new said which count same (inl h) = absurd h
-limit_by F (make_job seed) before now old new said which count same (inr h) = absurd h
-limit_by F (compare_job trace) before now old new said which count same (may, limit) =
-    (tt, subst (λ (j : Job). MayLimit j which) same may, limited old said which count limit)
-limit_by F (classes_job trace) before now old new said which count same (may, limit) =
-    (tt, subst (λ (j : Job). MayLimit j which) same may, limited old said which count limit)
-limit_by F (online_job trace) before now old new said which count same (inl (may, limit)) =
-    (tt, subst (λ (j : Job). MayLimit j which) same may, limited old said which count limit)
-limit_by F (online_job trace) before now old new said which count same (inr (inl h)) = absurd h
-limit_by F (online_job trace) before now old new said which count same (inr (inr (epochs, more))) =
+limit_by : (F : ℕ → Service → Type 0) (bench : List Meaning) (k : Job) (before now : ℕ) (old new : Option Told) (said : Said) (which : Quantity) (count : ℕ) → said.job ≡ k →
+    CauseBy F bench k before now old new said (status.Limit which count) → ReadsFiles k × MayLimit k which × IfSome old (CommandLimit bench said which count)
+limit_by F bench (plan_job trace) before now old new said which count same (inl (may, limit)) =
+    (tt, subst (λ (j : Job). MayLimit j which) same may, limited bench old said which count limit)
+limit_by F bench (plan_job trace) before now old new said which count same (inr h) = absurd h
+limit_by F bench (check_job trace report) before now old new said which count same (may, limit) =
+    (tt, subst (λ (j : Job). MayLimit j which) same may, limited bench old said which count limit)
+limit_by F bench (make_job seed) before now old new said which count same (inl h) = absurd h
+limit_by F bench (make_job seed) before now old new said which count same (inr h) = absurd h
+limit_by F bench (compare_job trace) before now old new said which count same (may, limit) =
+    (tt, subst (λ (j : Job). MayLimit j which) same may, limited bench old said which count limit)
+limit_by F bench (classes_job trace) before now old new said which count same (may, limit) =
+    (tt, subst (λ (j : Job). MayLimit j which) same may, limited bench old said which count limit)
+limit_by F bench (online_job trace) before now old new said which count same (inl (may, limit)) =
+    (tt, subst (λ (j : Job). MayLimit j which) same may, limited bench old said which count limit)
+limit_by F bench (online_job trace) before now old new said which count same (inr (inl h)) = absurd h
+limit_by F bench (online_job trace) before now old new said which count same (inr (inr (epochs, more))) =
     (tt, subst (MayLimit (online_job trace)) (sym epochs) tt, over old more)
   where
-    over : (told : Option Told) → IfSome told (FilesPublishMore said count) → IfSome told (CommandLimit said which count)
+    over : (told : Option Told) → IfSome told (FilesPublishMore said count) → IfSome told (CommandLimit bench said which count)
     over None more = tt
-    over (Some t) more = inr (epochs, subst (λ (j : Job). PublishesOver j said count t) (sym same) more)
-limit_by F (live_job trace script) before now old new said which count same (inl (may, limit)) =
-    (tt, subst (λ (j : Job). MayLimit j which) same may, limited old said which count limit)
-limit_by F (live_job trace script) before now old new said which count same (inr h) = absurd h
-limit_by F (serve_job trace order) before now old new said which count same (may, limit) =
-    (tt, subst (λ (j : Job). MayLimit j which) same may, limited old said which count limit)
-limit_by F (audit_job trace journal) before now old new said which count same (may, limit) =
-    (tt, subst (λ (j : Job). MayLimit j which) same may, limited old said which count limit)
+    over (Some t) more = inr (epochs, subst (λ (j : Job). PublishesOver bench j said count t) (sym same) more)
+limit_by F bench (replay_job trace) before now old new said which count same (inl (may, limit)) =
+    (tt, subst (λ (j : Job). MayLimit j which) same may, limited bench old said which count limit)
+limit_by F bench (replay_job trace) before now old new said which count same (inr (epochs, more)) =
+    (tt, subst (MayLimit (replay_job trace)) (sym epochs) tt, over old more)
+  where
+    over : (told : Option Told) → IfSome told (ReplaysPublishMore bench said count) → IfSome told (CommandLimit bench said which count)
+    over None more = tt
+    over (Some t) more = inr (epochs, subst (λ (j : Job). PublishesOver bench j said count t) (sym same) more)
+limit_by F bench (live_job trace script) before now old new said which count same (inl (may, limit)) =
+    (tt, subst (λ (j : Job). MayLimit j which) same may, limited bench old said which count limit)
+limit_by F bench (live_job trace script) before now old new said which count same (inr h) = absurd h
+limit_by F bench (serve_job trace order) before now old new said which count same (may, limit) =
+    (tt, subst (λ (j : Job). MayLimit j which) same may, limited bench old said which count limit)
+limit_by F bench (audit_job trace journal) before now old new said which count same (may, limit) =
+    (tt, subst (λ (j : Job). MayLimit j which) same may, limited bench old said which count limit)
 
-pub limit_given : (F : ℕ → Service → Type 0) (said : Said) (before now : ℕ) (old new : Option Told) (which : Quantity) (count : ℕ) (s : Status) →
-    HasCauseOf F before now old new said s → s ≡ status.Limit which count → ReadsFiles said.job × MayLimit said.job which × IfSome old (CommandLimit said which count)
-limit_given F said before now old new which count s cause is =
-    limit_by F said.job before now old new said which count refl (subst (λ (x : Status). HasCauseOf F before now old new said x) is cause)
+pub limit_given : (F : ℕ → Service → Type 0) (bench : List Meaning) (said : Said) (before now : ℕ) (old new : Option Told) (which : Quantity) (count : ℕ) (s : Status) →
+    HasCauseOf F bench before now old new said s → s ≡ status.Limit which count → ReadsFiles said.job × MayLimit said.job which × IfSome old (CommandLimit bench said which count)
+limit_given F bench said before now old new which count s cause is =
+    limit_by F bench said.job before now old new said which count refl (subst (λ (x : Status). HasCauseOf F bench before now old new said x) is cause)
 
 -- ---- a report or a printed journal that is bad, by what is said
 
-pub bad_report_given : (F : ℕ → Service → Type 0) (said : Said) (before now : ℕ) (old new : Option Told) (line : ℕ) (s : Status) →
-    HasCauseOf F before now old new said s → s ≡ status.BadReport line →
+pub bad_report_given : (F : ℕ → Service → Type 0) (bench : List Meaning) (said : Said) (before now : ℕ) (old new : Option Told) (line : ℕ) (s : Status) →
+    HasCauseOf F bench before now old new said s → s ≡ status.BadReport line →
     IsGiven (report_name said.job) × (order_name said.job ≡ None) × IfSome old (FilesReportFault said line)
-bad_report_given F said before now old new line s cause is =
-    of_files F said.job before now old new said line (subst (λ (x : Status). HasCauseOf F before now old new said x) is cause)
+bad_report_given F bench said before now old new line s cause is =
+    of_files F bench said.job before now old new said line (subst (λ (x : Status). HasCauseOf F bench before now old new said x) is cause)

@@ -2,7 +2,7 @@
 use Rattle.std.proofs.Common.{◌≡◌, ℕ, ◌<◌, inl, inr, List, [], ◌∷◌, length, subst, sym, arith}
 use Rattle.std.specs.Prelude.{◌⊎◌, Option}
 use Rattle.command_words.specs.Jobs.{Job}
-use Rattle.command_words.specs.Jobs.Job.{audit_job, check_job, classes_job, compare_job, live_job, make_job, online_job, plan_job, serve_job}
+use Rattle.command_words.specs.Jobs.Job.{audit_job, check_job, classes_job, compare_job, live_job, make_job, online_job, plan_job, replay_job, serve_job}
 use Rattle.command_words.specs.Line.{Text}
 use Rattle.command_words.specs.Words.{IsWords, Said}
 use Rattle.flow_table.specs.Table.{TableFacts}
@@ -35,9 +35,10 @@ past_without (status.Limit which count) none past = past
 past_without (status.ReadFault count) none past = past
 past_without status.NoMemory none past = past
 
-pub past_by_wire : (F : ℕ → Service → Type 0) (before now : ℕ) (old new : Option Told) (said : Said) (s : Status) → HasCauseOf F before now old new said s →
+pub past_by_wire : (F : ℕ → Service → Type 0) (bench : List Meaning) (before now : ℕ) (old new : Option Told) (said : Said) (s : Status) →
+    HasCauseOf F bench before now old new said s →
     IsPastFiles s → IsWireFault s
-past_by_wire F before now old new said s cause past = past_without s (cause_has_no_text F before now old new said s cause) past
+past_by_wire F bench before now old new said s cause past = past_without s (cause_has_no_text F bench before now old new said s cause) past
 
 -- ---- by the words
 
@@ -61,6 +62,7 @@ module _ {W : Type 0} (before after : List W) (S : TableFacts → List (List ℕ
   unsent_by (classes_job trace) told said bench s text (is, classes) sent none = well s is none
   unsent_by (serve_job trace order) told said bench s text (is, serves) sent none = well s is none
   unsent_by (online_job trace) told said bench s text (is, run) sent none = well s is none
+  unsent_by (replay_job trace) told said bench s text (is, replays) sent none = well s is none
   unsent_by (live_job trace script) told said bench s text (is, run) sent none = well s is none
   unsent_by (audit_job trace journal) told said bench s text outcome (inl same) none = same
   unsent_by (audit_job trace journal) told said bench s text outcome (inr serves) none = absurd serves
@@ -85,8 +87,8 @@ module _ {W : Type 0} (faults : W → ℕ) (runs : W → Option (List (ℕ × �
       let w = some_of before port stops.wire in
       still port w w stops.wire (stops.rose w w)
 
-  module _ (words : List Text) (said : Said) (count_before count_now : ℕ) (old new : Option Told) (port count : ℕ) where
-    of_job : (k : Job) → CauseBy (Stops faults runs before after) k count_before count_now old new said (status.WireFault port count) →
+  module _ (bench : List Meaning) (words : List Text) (said : Said) (count_before count_now : ℕ) (old new : Option Told) (port count : ℕ) where
+    of_job : (k : Job) → CauseBy (Stops faults runs before after) bench k count_before count_now old new said (status.WireFault port count) →
         (count ≡ 1) × Serves (Stops faults runs before after port) k old said
     of_job (plan_job trace) (inl none) = absurd none
     of_job (plan_job trace) (inr why) = why
@@ -100,11 +102,13 @@ module _ {W : Type 0} (faults : W → ℕ) (runs : W → Option (List (ℕ × �
     of_job (online_job trace) (inl none) = absurd none
     of_job (online_job trace) (inr (inl why)) = why
     of_job (online_job trace) (inr (inr none)) = absurd none
+    of_job (replay_job trace) (inl none) = absurd none
+    of_job (replay_job trace) (inr none) = absurd none
     of_job (live_job trace script) (inl none) = absurd none
     of_job (live_job trace script) (inr why) = why
 
-    pub wire_failed : (s : Status) → IsWords words said → HasCauseOf (Stops faults runs before after) count_before count_now old new said s →
+    pub wire_failed : (s : Status) → IsWords words said → HasCauseOf (Stops faults runs before after) bench count_before count_now old new said s →
         s ≡ status.WireFault port count → WireFailed faults runs before after old words port count
     wire_failed s is cause e =
-        let (one, serves) = of_job said.job (subst (λ (x : Status). HasCauseOf (Stops faults runs before after) count_before count_now old new said x) e cause) in
+        let (one, serves) = of_job said.job (subst (λ (x : Status). HasCauseOf (Stops faults runs before after) bench count_before count_now old new said x) e cause) in
         (one, said, is, serves)

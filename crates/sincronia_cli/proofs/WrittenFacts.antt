@@ -2,7 +2,7 @@
 use Rattle.std.proofs.Common.{◌≡◌, ℕ, List, refl, sym, subst, ◌∙◌}
 use Rattle.std.specs.Prelude.{Bool, Option, Ok, false, true}
 use Rattle.command_words.specs.Jobs.{Job}
-use Rattle.command_words.specs.Jobs.Job.{audit_job, check_job, classes_job, compare_job, live_job, make_job, online_job, plan_job, serve_job}
+use Rattle.command_words.specs.Jobs.Job.{audit_job, check_job, classes_job, compare_job, live_job, make_job, online_job, plan_job, replay_job, serve_job}
 use Rattle.command_words.specs.Line.{Text}
 use Rattle.command_words.specs.Words.{IsWords, Said}
 use Rattle.flow_table.specs.Table.{TableFacts}
@@ -22,6 +22,7 @@ use Rattle.sincronia_cli.specs.Outcome.{IsOutcome, OutcomeBy, WritesNoBy}
 use Rattle.command_jobs.specs.Online.{WritesOnline}
 use Rattle.command_jobs.specs.Ordered.{WritesServed}
 use Rattle.command_jobs.specs.Plan.{WritesPlan}
+use Rattle.command_jobs.specs.Replay.{WritesReplay}
 use Rattle.command_jobs.proofs.AuditFacts.{sure_sound}
 use Rattle.command_jobs.proofs.CheckFacts.{OnlineLaw, sure_yes}
 use Rattle.command_jobs.proofs.CompareFacts.{writes_comparison}
@@ -30,6 +31,7 @@ use Rattle.command_files.proofs.SinkFacts.{appended}
 use Rattle.command_jobs.proofs.OnlineFacts.{writes_online}
 use Rattle.command_jobs.proofs.OrderedFacts.{writes_served}
 use Rattle.command_jobs.proofs.PlanFacts.{writes_plan}
+use Rattle.command_jobs.proofs.ReplayFacts.{writes_replay}
 
 module _ {X : Type 0} (E : Type 0) (S : TableFacts → List (List ℕ) → Type 0) (words : List Text) (by said : Said) (told : Option Told) (bench : List Meaning) (s : Status)
     (text lent : List ℕ) (old new : Option (List ℕ)) (x : X) where
@@ -68,6 +70,11 @@ module _ {X : Type 0} (E : Type 0) (S : TableFacts → List (List ℕ) → Type 
   served_written trace order reads is outcome e takes =
       writes_served told said old new text (outcome_by S words by said (serve_job trace order) told bench s text reads is outcome).1 (appended E old new text lent x e takes)
 
+  pub replay_written : (trace : Text) → IsWords words by → IsCommand (replay_job trace) words said → IsOutcome S told by bench s text → lent ≡ text →
+      TakesText {E = E} old new lent (Ok x) → WritesReplay told said bench old new
+  replay_written trace reads is outcome e takes =
+      writes_replay told said bench old new text (outcome_by S words by said (replay_job trace) told bench s text reads is outcome).1 (appended E old new text lent x e takes)
+
   yes_for : (answer : Bool) → s ≡ status_for answer → s ≡ status.Ok → answer ≡ true
   yes_for true is ok = refl
   yes_for false is ok = let bad : status.Ok ≡ status.No = sym ok ∙ is in cc
@@ -104,6 +111,7 @@ module _ {X : Type 0} (E : Type 0) (S : TableFacts → List (List ℕ) → Type 
       by_job (compare_job trace) (is, compares) = let bad : status.Ok ≡ status.No = sym is ∙ wrong in cc
       by_job (classes_job trace) (is, classes) = let bad : status.Ok ≡ status.No = sym is ∙ wrong in cc
       by_job (serve_job trace order) (is, serves) = let bad : status.Ok ≡ status.No = sym is ∙ wrong in cc
+      by_job (replay_job trace) (is, replays) = let bad : status.Ok ≡ status.No = sym is ∙ wrong in cc
       by_job (live_job trace script) (is, run) = let bad : status.Ok ≡ status.No = sym is ∙ wrong in cc
       by_job (online_job trace) (is, run) = let bad : status.Ok ≡ status.No = sym is ∙ wrong in cc
       by_job (audit_job trace journal) (answer, is, audits) = by_verdict answer is audits

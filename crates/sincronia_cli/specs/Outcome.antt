@@ -1,7 +1,7 @@
 -- What each command has to write, and with which status its job ends then.
 use Rattle.std.specs.Prelude.{◌≡◌, ℕ, Bool, List, Option}
 use Rattle.command_words.specs.Jobs.{Job}
-use Rattle.command_words.specs.Jobs.Job.{audit_job, check_job, classes_job, compare_job, live_job, make_job, online_job, plan_job, serve_job}
+use Rattle.command_words.specs.Jobs.Job.{audit_job, check_job, classes_job, compare_job, live_job, make_job, online_job, plan_job, replay_job, serve_job}
 use Rattle.command_words.specs.Words.{Said}
 use Rattle.flow_table.specs.Table.{TableFacts}
 use Rattle.outside.specs.Shelf.{Told}
@@ -18,6 +18,7 @@ use Rattle.command_jobs.specs.Live.{LiveOf}
 use Rattle.command_jobs.specs.Online.{OnlineOf}
 use Rattle.command_jobs.specs.Ordered.{ServedOf}
 use Rattle.command_jobs.specs.Plan.{PlanOf}
+use Rattle.command_jobs.specs.Replay.{ReplayOf}
 
 module _ (Sent : TableFacts → List (List ℕ) → Type 0) where
   -- The text of the command and the status that it ends with, where the bench has these rankers. Where a plan, an
@@ -34,6 +35,7 @@ module _ (Sent : TableFacts → List (List ℕ) → Type 0) where
   OutcomeBy (online_job trace) told said bench status text = (status ≡ Ok) × OnlineOf Sent told said text
   OutcomeBy (live_job trace script) told said bench status text = (status ≡ Ok) × LiveOf Sent told said text
   OutcomeBy (serve_job trace order) told said bench status text = (status ≡ Ok) × ServedOf told said text
+  OutcomeBy (replay_job trace) told said bench status text = (status ≡ Ok) × ReplayOf told said bench text
 
   -- what is said has this text and this status
   abbrev pub IsOutcome : Option Told → Said → List Meaning → Status → List ℕ → Type 0

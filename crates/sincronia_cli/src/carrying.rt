@@ -1,15 +1,17 @@
 //! What a job comes to: the text to be written, or why there is none.
 ghost use Rattle.std.specs.Prelude.{◌≡◌, ◌≢◌, ◌≤◌, ◌<◌, ◌^◌, ◌⊎◌, ℕ, [], All, IfErr, IfOk, IfSome, List, OnOk, drop, length, map, take};
 ghost use Rattle.coflow_units.specs.declared.limits.TheConstants.{MAX_CLIENTS, MAX_PORTS};
-ghost use Rattle.command_words.specs.Jobs.Job.{compare_job, live_job, make_job};
+ghost use Rattle.coflow_units.specs.declared.quantity.Quantity.TheVariants.{Epochs};
+ghost use Rattle.command_words.specs.Jobs.Job.{live_job, make_job, replay_job};
 ghost use Rattle.command_words.specs.Words.{said_by};
 ghost use Rattle.rankers.specs.FactsTold.{FactsTold};
 ghost use Rattle.hall_plan.specs.Sent.{SendsAll};
 ghost use Rattle.sincronia_cli.specs.Causes.{HasCauseOf};
+ghost use Rattle.sincronia_cli.specs.Command.{AsksBench};
 ghost use Rattle.command_files.specs.GoodFiles.{HasGoodFiles};
 ghost use Rattle.command_files.specs.Ends.{CountsFault, IfPastFiles};
 ghost use Rattle.command_jobs.specs.Compare.{IsFactsOfFiles};
-ghost use Rattle.command_jobs.specs.Online.{PublishesFew};
+ghost use Rattle.command_jobs.specs.Publishing.{PublishesFew};
 ghost use Rattle.sincronia_cli.specs.Outcome.{IsOutcome};
 ghost use Rattle.command_jobs.specs.Serving.{MayHaveSent, Sends, Serves, Stops};
 ghost use Rattle.command_files.specs.Shelves.{KeepsFiles, OfBoth, ReadsOut};
@@ -18,7 +20,7 @@ ghost use Rattle.command_files.specs.Turns.{FilesInTurn};
 use command_files::{Outcome, Status};
 use command_jobs::{
     audit_journal, check_report, compare_rankers, list_classes, make_workload, plan_trace,
-    run_clients, run_online, serve_order,
+    replay_rankers, run_clients, run_online, serve_order,
 };
 use command_words::{Job, Words};
 use live_rounds::Gate;
@@ -34,7 +36,7 @@ use std::thread::Threads;
 /// fewer than 2^32 rankers.
 ///
 /// The error is the status of why there is nothing to write: what is wrong first with the files, in the order in which they are read; a call to the shelf that failed, by which
-/// its count of faults rose; the wire that did not accept a unit; too many publishings of an online run; or that no memory was to be had.
+/// its count of faults rose; the wire that did not accept a unit; too many publishings of an online run or of a replay; or that no memory was to be had.
 pub fn carry_out<'a, R: Threads + Wait + Sync, H: Shelf, W: Wire + Send, G: Gate + Send>(
     rt: &R,
     alloc: Global,
@@ -50,15 +52,15 @@ pub fn carry_out<'a, R: Threads + Wait + Sync, H: Shelf, W: Wire + Send, G: Gate
     ensures outcome { IfOk result (λ o. IsOutcome (SendsAll W.runs wires.old.items wires.new.items)
         (H.told shelf.old) (said_by words.entry) (map (λ b. meaning b) bench.old.items) o.status o.text) }
     ensures few { OnOk result (IfSome (H.told shelf.old)
-        (PublishesFew (said_by words.entry).job (said_by words.entry))) }
-    ensures empty { OnOk result ((trace : List ℕ) → (said_by words.entry).job ≡ compare_job trace →
-        bench.new.items ≡ []) }
+        (PublishesFew (map (λ b. meaning b) bench.old.items) (said_by words.entry).job (said_by words.entry))) }
+    ensures empty { OnOk result (AsksBench (said_by words.entry).job → bench.new.items ≡ []) }
     ensures left { (reached : ℕ) × (bench.new.items ≡ drop reached bench.old.items) ×
+        (((trace : List ℕ) → (said_by words.entry).job ≡ replay_job trace → ⊥) →
         All (λ b. (facts : FactsTold) × IsFactsOfFiles (H.told shelf.old) (said_by words.entry) facts ×
-        answered b facts) (take reached bench.old.items) }
-    ensures same_bench { IfErr result (λ status. status ≢ Status.NoMemory → bench.new.items ≡ bench.old.items) }
-    ensures others_bench { ((trace : List ℕ) → (said_by words.entry).job ≡ compare_job trace → ⊥) →
-        bench.new.items ≡ bench.old.items }
+        answered b facts) (take reached bench.old.items)) }
+    ensures same_bench { IfErr result (λ status. status ≢ Status.NoMemory →
+        ((count : ℕ) → status ≢ Status.Limit Epochs count) → bench.new.items ≡ bench.old.items) }
+    ensures others_bench { (AsksBench (said_by words.entry).job → ⊥) → bench.new.items ≡ bench.old.items }
     ensures gates { ((trace script : List ℕ) → (said_by words.entry).job ≡ live_job trace script → ⊥) →
         gates.new.items ≡ gates.old.items }
     ensures sent { (wires.new.items ≡ wires.old.items) ⊎ Serves (Sends W.runs wires.old.items wires.new.items)
@@ -71,8 +73,8 @@ pub fn carry_out<'a, R: Threads + Wait + Sync, H: Shelf, W: Wire + Send, G: Gate
     ensures in_turn { IfErr result (λ status. OfBoth (H.told shelf.old) (H.told shelf.new)
         (FilesInTurn (said_by words.entry) status)) }
     ensures cause { IfErr result
-        (HasCauseOf (Stops W.faults W.runs wires.old.items wires.new.items) (H.faults shelf.old)
-        (H.faults shelf.new) (H.told shelf.old) (H.told shelf.new) (said_by words.entry)) }
+        (HasCauseOf (Stops W.faults W.runs wires.old.items wires.new.items) (map (λ b. meaning b) bench.old.items)
+        (H.faults shelf.old) (H.faults shelf.new) (H.told shelf.old) (H.told shelf.new) (said_by words.entry)) }
     ensures keeps { KeepsFiles (H.told shelf.old) (H.told shelf.new) }
     ensures counts { CountsFault (H.faults shelf.old) (H.faults shelf.new) result }
     ensures untouched { (seed : ℕ) → (said_by words.entry).job ≡ make_job seed →
@@ -97,5 +99,6 @@ pub fn carry_out<'a, R: Threads + Wait + Sync, H: Shelf, W: Wire + Send, G: Gate
             gates,
         ),
         Job::Serve { trace, order } => serve_order(alloc, trace, order, words.options, shelf),
+        Job::Replay { trace } => replay_rankers(alloc, trace, words.options, shelf, bench),
     }
 }

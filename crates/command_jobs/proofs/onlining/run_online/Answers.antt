@@ -31,7 +31,7 @@ returns-in_err-input-clause-in_turn g c =
 pub returns-in-Ok-clause-few : goal.returns-in-Ok-clause-few
 returns-in-Ok-clause-few g c =
     publishes_few (g.H.Shelf.told c.args.shelf.now) (said_with (online_job c.args.trace.now) c.args.options) c.in_ok-input.input.table c.in_ok-input.input.weights
-    c.in_ok-input.ensures.input c.args.trace.now c.in-Ok.ensures.text.0.few
+    c.in_ok-input.ensures.input c.in-Ok.ensures.text.0.few
 
 pub returns-in-Err-clause-cause : goal.returns-in-Err-clause-cause
 returns-in-Err-clause-cause g c =
